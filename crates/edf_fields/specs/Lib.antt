@@ -1,0 +1,6 @@
+pub mod Numbers
+pub mod Parts
+pub mod Sinks
+pub mod SliceSink
+pub mod SliceSource
+pub mod Sources

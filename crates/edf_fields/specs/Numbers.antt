@@ -1,0 +1,114 @@
+-- Which texts spell a number, and which number.
+use Rattle.std.specs.Prelude.{◌≡◌, ℕ, ℤ, Bool, Option, Some, None, nat_le, nat_lt, ◌&&◌, ◌||◌, ◌==◌, ◌+◌, ◌-◌, ◌*◌, ◌^◌, ◌<◌, ◌≤◌, pos, neg_ℤ, List, [], ◌∷◌, length, slice_index, drop, if◌then◌else◌}
+use Rattle.std.specs.List.{list_all, before_first, after_first}
+use Rattle.edf_fields.specs.Parts.{text_of}
+
+-- each byte is a decimal digit
+abbrev pub AreDigits : List ℕ → Type 0
+AreDigits ds = (k : ℕ) → k < length ds → (48 ≤ slice_index ds k) × (slice_index ds k ≤ 57)
+
+-- the sum of each digit times its power of ten
+abbrev pub weight : List ℕ → ℕ
+weight [] = 0
+weight (c ∷ cs) = (c - 48) * 10 ^ length cs + weight cs
+
+-- the text begins with a minus
+abbrev pub has_minus : List ℕ → Bool
+has_minus t = slice_index t 0 == 45
+
+-- what stands behind a sign, or the whole text where there is none
+abbrev pub unsigned : List ℕ → List ℕ
+unsigned t = if has_minus t || (slice_index t 0 == 43) then drop 1 t else t
+
+-- the number with the sign that the text begins with
+abbrev pub signed : Bool → ℕ → ℤ
+signed minus n = if minus then neg_ℤ (pos n) else pos n
+
+-- the byte is a dot, the decimal separator (EDF+, "Additional specifications in EDF+")
+abbrev pub is_dot : ℕ → Bool
+is_dot b = b == 46
+
+-- what stands before the first dot, or the whole text where there is none
+abbrev pub before_dot : List ℕ → List ℕ
+before_dot u = before_first is_dot u
+
+-- what stands behind the first dot, or nothing where there is none
+abbrev pub behind_dot : List ℕ → List ℕ
+behind_dot u = after_first is_dot u
+
+-- the digits behind the sign and before the dot
+abbrev pub whole_part : List ℕ → List ℕ
+whole_part t = before_dot (unsigned t)
+
+-- the digits behind the dot
+abbrev pub fraction_part : List ℕ → List ℕ
+fraction_part t = behind_dot (unsigned t)
+
+-- whole digits w and fraction digits f, of which there are at most k, in units of 10^-k
+abbrev pub decimal : ℕ → List ℕ → List ℕ → ℕ
+decimal k w f = weight w * 10 ^ k + weight f * 10 ^ (k - length f)
+
+-- the text is an optional sign and at least one digit, and has this value
+abbrev pub SpellsWhole : List ℕ → ℤ → Type 0
+SpellsWhole t v =
+    AreDigits (unsigned t)
+    × (0 < length (unsigned t))
+    × (v ≡ signed (has_minus t) (weight (unsigned t)))
+
+-- the text with no sign is digits, and maybe a dot and digits, with at least one digit in all
+abbrev pub IsDecimal : List ℕ → Type 0
+IsDecimal u =
+    AreDigits (before_dot u)
+    × AreDigits (behind_dot u)
+    × (0 < length (before_dot u) + length (behind_dot u))
+
+-- the text is an optional sign and a decimal, and has this value in units of 10^-k
+abbrev pub SpellsDecimal : ℕ → List ℕ → ℤ → Type 0
+SpellsDecimal k t v =
+    IsDecimal (unsigned t) × (v ≡ signed (has_minus t) (decimal k (whole_part t) (fraction_part t)))
+
+-- a field of at most 8 bytes whose text is a decimal, in units of 10^-7 (EDF, "Header record": physical minimum and maximum, duration of a data record; which forms spell a number is this project's profile)
+abbrev pub SpellsHeaderNumber : List ℕ → ℤ → Type 0
+SpellsHeaderNumber field v = (length field ≤ 8) × SpellsDecimal 7 (text_of field) v
+
+-- a field of at most 8 bytes whose text is a whole number (EDF, "Header record": all counts, digital minimum and maximum; which forms spell a number is this project's profile)
+abbrev pub SpellsWholeNumber : List ℕ → ℤ → Type 0
+SpellsWholeNumber field v = (length field ≤ 8) × SpellsWhole (text_of field) v
+
+-- the byte is a decimal digit
+abbrev pub is_digit : ℕ → Bool
+is_digit b = nat_le 48 b && nat_le b 57
+
+-- the text is an optional sign and at least one digit
+abbrev pub is_whole : List ℕ → Bool
+is_whole t = list_all is_digit (unsigned t) && nat_lt 0 (length (unsigned t))
+
+-- the text is an optional sign, digits, and maybe a dot and digits, with at least one digit in all
+abbrev pub is_decimal : List ℕ → Bool
+is_decimal t =
+    list_all is_digit (whole_part t)
+    && (list_all is_digit (fraction_part t) && nat_lt 0 (length (whole_part t) + length (fraction_part t)))
+
+-- the number that a field spells by `SpellsHeaderNumber`, or none
+unfoldable pub header_number_of : List ℕ → Option ℤ
+header_number_of field =
+    if nat_le (length field) 8 && is_decimal (text_of field)
+    then Some (signed (has_minus (text_of field)) (decimal 7 (whole_part (text_of field)) (fraction_part (text_of field))))
+    else None
+
+-- the number that a field spells by `SpellsWholeNumber`, or none
+unfoldable pub whole_number_of : List ℕ → Option ℤ
+whole_number_of field =
+    if nat_le (length field) 8 && is_whole (text_of field)
+    then Some (signed (has_minus (text_of field)) (weight (unsigned (text_of field))))
+    else None
+
+-- a field spells at most one header number
+abbrev pub SpellsOneHeaderNumber : Type 0
+SpellsOneHeaderNumber =
+    (field : List ℕ) (v w : ℤ) → SpellsHeaderNumber field v → SpellsHeaderNumber field w → v ≡ w
+
+-- a field spells at most one whole number
+abbrev pub SpellsOneWholeNumber : Type 0
+SpellsOneWholeNumber =
+    (field : List ℕ) (v w : ℤ) → SpellsWholeNumber field v → SpellsWholeNumber field w → v ≡ w

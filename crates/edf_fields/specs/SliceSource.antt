@@ -1,0 +1,15 @@
+-- What a source over bytes in memory has left.
+use Rattle.std.specs.Prelude.{ℕ, Bool, true, List}
+use Rattle.edf_fields.specs.declared.source.SliceSource.{SliceSource}
+
+-- the bytes that the source still gives
+abbrev pub left_of : SliceSource → List ℕ
+left_of source = source.rest.now
+
+-- no read of it ever fails
+abbrev pub failures_of : SliceSource → ℕ
+failures_of source = 0
+
+-- what the source has left is always known
+abbrev pub is_known : SliceSource → Bool
+is_known source = true

@@ -1,0 +1,8 @@
+//! Laws of the definitions, each the contract of a function that does nothing.
+ghost use Rattle.edf_fields.specs.Numbers.{SpellsOneHeaderNumber, SpellsOneWholeNumber};
+
+/// A field spells at most one number, as a header number and as a whole number.
+pub fn fields_spell_one_number()
+    ensures header { SpellsOneHeaderNumber }
+    ensures whole { SpellsOneWholeNumber }
+{}

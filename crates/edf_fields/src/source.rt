@@ -1,0 +1,200 @@
+//! Where bytes come from: anything that gives them from front to back.
+//!
+//! A source's bytes are known to the proofs where the source is honest. Of a file or a pipe
+//! nothing is known but that its failures are counted.
+ghost use Rattle.std.specs.Prelude.{◌≡◌, ℕ, ◌<◌, ◌≤◌, min, List, [], length, take, drop, Ok, IfOk, OnOk, OnErr, IsTrue, Bool, true};
+ghost use Rattle.edf_fields.specs.Sources.{Rises, Takes};
+
+/// A read failed. Which bytes it took is not known.
+#[derive(Debug, Clone, Copy, PartialEq, Eq, Drop)]
+pub struct ReadFault;
+
+/// A source of bytes, read from front to back.
+///
+/// In contracts `left` is the bytes that are still to come, `failures` counts the reads that
+/// failed so far, up to `u64::MAX`, and `is_honest` says that `left` is to be relied on.
+pub trait Source {
+    ghost left: { Self → List ℕ };
+
+    ghost failures: { Self → ℕ };
+
+    ghost is_honest: { Self → Bool };
+
+    /// Reads into the front of `buf`, and answers how many bytes it gave. `Ok(0)` says that
+    /// nothing is left; fewer bytes than `buf` has room for say nothing of the kind.
+    ///
+    /// An `Err` is a failed read, and is counted as one. It is never tried again here.
+    fn read(&mut self, buf: &mut [u8]) -> Result<usize, ReadFault>
+        requires { 0 < length buf.old }
+        ensures within { IfOk result (λ k. k ≤ length buf.old) }
+        ensures failures { OnOk result (failures self.new ≡ failures self.old) }
+        ensures honesty { OnOk result (IsTrue (is_honest self.old) → IsTrue (is_honest self.new)) }
+        ensures bytes { IfOk result (λ k. IsTrue (is_honest self.old) → Takes (left self.old) (left self.new) k buf.new) }
+        ensures ends { IfOk result (λ k. IsTrue (is_honest self.old) → k ≡ 0 → left self.old ≡ []) }
+        ensures fails { OnErr result (Rises (failures self.old) (failures self.new)) };
+}
+
+/// A source over bytes in memory. It is honest, and a read of it never fails.
+#[derive(Drop)]
+pub struct SliceSource<'a> {
+    rest: &'a [u8],
+}
+
+impl<'a> SliceSource<'a> {
+    /// A source that gives `bytes`.
+    pub fn new(bytes: &'a [u8]) -> SliceSource<'a>
+        ensures left { ⟦<SliceSource<'a> as Source>⟧.left result ≡ bytes.entry.now }
+        ensures failures { ⟦<SliceSource<'a> as Source>⟧.failures result ≡ 0 }
+        ensures honest { ⟦<SliceSource<'a> as Source>⟧.is_honest result ≡ true }
+    {
+        SliceSource { rest: bytes }
+    }
+}
+
+impl<'a> Source for SliceSource<'a> {
+    ghost use Rattle.edf_fields.specs.SliceSource.{left_of, failures_of, is_known};
+
+    ghost left = { left_of };
+
+    ghost failures = { failures_of };
+
+    ghost is_honest = { is_known };
+
+    fn read(&mut self, buf: &mut [u8]) -> Result<usize, ReadFault>
+        requires { 0 < length buf.old }
+
+        // As for every source.
+        ensures within { IfOk result (λ k. k ≤ length buf.old) }
+        ensures failures { OnOk result (failures_of self.new ≡ failures_of self.old) }
+        ensures honesty { OnOk result (IsTrue (is_known self.old) → IsTrue (is_known self.new)) }
+        ensures bytes { IfOk result (λ k. IsTrue (is_known self.old) → Takes (left_of self.old) (left_of self.new) k buf.new) }
+        ensures ends { IfOk result (λ k. IsTrue (is_known self.old) → k ≡ 0 → left_of self.old ≡ []) }
+        ensures fails { OnErr result (Rises (failures_of self.old) (failures_of self.new)) }
+
+        // A read gives as many bytes as there are and fit.
+        ensures count { result ≡ Ok (min (length buf.old) (length (left_of self.old))) }
+    {
+        let count = buf.len().min(self.rest.len());
+        let (front, back) = self.rest.split_at(count);
+        buf[..count].copy_from_slice(front);
+        self.rest = back;
+        Ok(count)
+    }
+}
+
+/// Reads until `buf` is full or the source has nothing left, and answers how many bytes now
+/// stand at the front of `buf`. Fewer than its length are all that the source had.
+///
+/// An `Err` comes only from a read that failed, and then at once. For an empty `buf` nothing is
+/// read.
+pub fn fill<S: Source>(source: &mut S, buf: &mut [u8]) -> Result<usize, ReadFault>
+    ensures within { IfOk result (λ k. k ≤ length buf.old) }
+    ensures failures { OnOk result (S.failures source.new ≡ S.failures source.old) }
+    ensures fails { OnErr result (Rises (S.failures source.old) (S.failures source.new)) }
+    ensures empty { length buf.old ≡ 0 → (result ≡ Ok 0) × (source.new ≡ source.old) }
+
+    // What an honest source gives.
+    ensures honesty { OnOk result (IsTrue (S.is_honest source.old) → IsTrue (S.is_honest source.new)) }
+    ensures bytes { IfOk result (λ k. IsTrue (S.is_honest source.old) → Takes (S.left source.old) (S.left source.new) k buf.new) }
+    ensures ends { IfOk result (λ k. IsTrue (S.is_honest source.old) → k < length buf.old → S.left source.new ≡ []) }
+    ensures front { IfOk result (λ k. IsTrue (S.is_honest source.old) → take k buf.new ≡ take (length buf.old) (S.left source.old)) }
+    ensures behind { OnOk result (IsTrue (S.is_honest source.old) → S.left source.new ≡ drop (length buf.old) (S.left source.old)) }
+{
+    let mut done = 0;
+    while done < buf.len() {
+        let got = source.read(&mut buf[done..])?;
+        if got == 0 {
+            break;
+        }
+        done += got;
+    }
+    Ok(done)
+}
+
+#[cfg(test)]
+mod tests {
+    use super::*;
+
+    /// Gives one byte a read.
+    #[derive(Drop)]
+    struct Drip<'a> {
+        rest: &'a [u8],
+    }
+
+    impl<'a> Source for Drip<'a> {
+        ghost left = { λ s. s.rest.now };
+
+        ghost failures = { λ _. 0 };
+
+        ghost is_honest = { λ _. true };
+
+        fn read(&mut self, buf: &mut [u8]) -> Result<usize, ReadFault> {
+            let count = self.rest.len().min(1);
+            let (first, others) = self.rest.split_at(count);
+            buf[..count].copy_from_slice(first);
+            self.rest = others;
+            Ok(count)
+        }
+    }
+
+    /// Gives some zeros, one a read, and then fails.
+    #[derive(Drop)]
+    struct Breaks {
+        zeros: u32,
+        failures: u64,
+    }
+
+    impl Source for Breaks {
+        ghost use Rattle.std.specs.Prelude.{false};
+
+        ghost left = { λ _. [] };
+
+        ghost failures = { λ s. s.failures };
+
+        ghost is_honest = { λ _. false };
+
+        fn read(&mut self, buf: &mut [u8]) -> Result<usize, ReadFault> {
+            if self.zeros == 0 {
+                self.failures = self.failures.saturating_add(1);
+                return Err(ReadFault);
+            }
+            self.zeros -= 1;
+            buf[0] = 0;
+            Ok(1)
+        }
+    }
+
+    #[test]
+    fn fills_from_a_slice(rt: HostRuntime) {
+        let mut source = SliceSource::new(b"0       record");
+        let mut version = [0; 8];
+        assert_eq!(rt; fill(&mut source, &mut version), Ok(8));
+        assert_eq!(rt; &version[..], "0       ".as_bytes());
+        assert_eq!(rt; fill(&mut source, &mut version), Ok(6));
+        assert_eq!(rt; &version[..], "record  ".as_bytes());
+        assert_eq!(rt; fill(&mut source, &mut version), Ok(0));
+    }
+
+    #[test]
+    fn fills_from_single_bytes(rt: HostRuntime) {
+        let mut source = Drip { rest: b"abcde" };
+        let mut buf = [0; 3];
+        assert_eq!(rt; fill(&mut source, &mut buf), Ok(3));
+        assert_eq!(rt; &buf[..], "abc".as_bytes());
+        assert_eq!(rt; fill(&mut source, &mut buf), Ok(2));
+        assert_eq!(rt; &buf[..], "dec".as_bytes());
+    }
+
+    #[test]
+    fn stops_at_a_failed_read(rt: HostRuntime) {
+        let mut source = Breaks {
+            zeros: 5,
+            failures: 0,
+        };
+        let mut buf = [1; 3];
+        assert_eq!(rt; fill(&mut source, &mut buf), Ok(3));
+        assert_eq!(rt; fill(&mut source, &mut []), Ok(0));
+        assert_eq!(rt; fill(&mut source, &mut buf), Err(ReadFault));
+        assert_eq!(rt; source.failures, 1);
+    }
+}

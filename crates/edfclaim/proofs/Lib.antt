@@ -1,0 +1,9 @@
+pub mod FractionFacts
+pub mod DifferenceFacts
+pub mod AppendFacts
+pub mod FirstFacts
+pub mod ColumnFacts
+pub mod JudgeFacts
+pub mod HeaderFacts
+pub mod BehindFacts
+pub mod FileFacts

@@ -1,0 +1,91 @@
+use Rattle.std.specs.Prelude.{◌≡◌, ◌≢◌, ◌↔◌, ◌++◌, ℕ, ◌<◌, ℤ, ◌<ℤ◌, List, [], ◌∷◌, Option, Some, None, ◌⊎◌, if◌then◌else◌}
+use Rattle.std.specs.Option.{option_or}
+use Rattle.std.specs.Ordering.{int_eq}
+use Rattle.edfclaim.specs.declared.instant.Instant.{Instant}
+use Rattle.edfclaim.specs.declared.sample.Sample.{Sample}
+use Rattle.edfclaim.specs.declared.difference.Mismatch.{Mismatch}
+use Rattle.edfclaim.specs.declared.difference.Mismatch.TheVariants.{Missing, Extra, Value}
+use Rattle.edfclaim.specs.declared.difference.SampleDifference.{SampleDifference}
+use Rattle.edfclaim.specs.Instants.{IsBefore, IsNotBefore, IsSame, is_before}
+
+-- where a sample of a channel with n samples a record stands
+abbrev pub instant : ℕ → Sample → Instant
+instant n x = record { num = x.num; den = n }
+
+-- x stands in the list
+abbrev pub Has : List Sample → Sample → Type 0
+Has [] x = ⊥
+Has (y ∷ ys) x = (y ≡ x) ⊎ Has ys x
+
+-- each numerator is below all that follow it
+abbrev pub IsAscending : List Sample → Type 0
+IsAscending [] = Unit {0}
+IsAscending (x ∷ xs) = ((y : Sample) → Has xs y → x.num <ℤ y.num) × IsAscending xs
+
+-- there is a sample with this value at this instant
+abbrev pub HasValue : ℕ → List Sample → Instant → ℤ → Type 0
+HasValue n xs t v = (x : Sample) × Has xs x × IsSame (instant n x) t × (x.value ≡ v)
+
+-- there is no sample at this instant
+abbrev pub HasNone : ℕ → List Sample → Instant → Type 0
+HasNone n xs t = (x : Sample) → Has xs x → IsSame (instant n x) t → ⊥
+
+-- each sample of the first list has a partner in the second: at the same instant, of the same value
+abbrev pub AreIn : ℕ → List Sample → ℕ → List Sample → Type 0
+AreIn n xs m ys = (x : Sample) → Has xs x → HasValue m ys (instant n x) x.value
+
+abbrev pub Match : ℕ → List Sample → ℕ → List Sample → Type 0
+Match n xs m ys = AreIn n xs m ys × AreIn m ys n xs
+
+-- what the two lists have at an instant
+abbrev pub Differ : ℕ → List Sample → ℕ → List Sample → Instant → Mismatch → Type 0
+Differ n xs m ys t Missing = ((v : ℤ) × HasValue n xs t v) × HasNone m ys t
+Differ n xs m ys t Extra = ((w : ℤ) × HasValue m ys t w) × HasNone n xs t
+Differ n xs m ys t (Value v w) = HasValue n xs t v × HasValue m ys t w × (v ≢ w)
+
+abbrev pub IsDifference : ℕ → List Sample → ℕ → List Sample → SampleDifference → Type 0
+IsDifference n xs m ys d = (0 < d.at.den) × Differ n xs m ys d.at d.mismatch
+
+abbrev pub IsLeastDifference : ℕ → List Sample → ℕ → List Sample → SampleDifference → Type 0
+IsLeastDifference n xs m ys d = IsDifference n xs m ys d × ((e : SampleDifference) → IsDifference n xs m ys e → IsBefore e.at d.at → ⊥)
+
+abbrev pub missing : ℕ → Sample → SampleDifference
+missing n x = record { at = instant n x; mismatch = Missing }
+
+abbrev pub extra : ℕ → Sample → SampleDifference
+extra m y = record { at = instant m y; mismatch = Extra }
+
+abbrev pub other : ℕ → Sample → Sample → SampleDifference
+other n x y = record { at = instant n x; mismatch = Value x.value y.value }
+
+-- the difference of two heads
+abbrev pub heads : ℕ → Sample → ℕ → Sample → Option SampleDifference
+heads n x m y =
+    if is_before (instant n x) (instant m y) then Some (missing n x)
+    else (if is_before (instant m y) (instant n x) then Some (extra m y)
+    else (if int_eq x.value y.value then None else Some (other n x y)))
+
+-- the first difference, read from the left
+abbrev pub diff : ℕ → List Sample → ℕ → List Sample → Option SampleDifference
+diff n [] m [] = None
+diff n [] m (y ∷ ys) = Some (extra m y)
+diff n (x ∷ xs) m [] = Some (missing n x)
+diff n (x ∷ xs) m (y ∷ ys) = option_or (heads n x m y) (diff n xs m ys)
+
+-- each member is before t
+abbrev pub AreBefore : ℕ → List Sample → Instant → Type 0
+AreBefore n xs t = (x : Sample) → Has xs x → IsBefore (instant n x) t
+
+-- no member is before t
+abbrev pub AreFrom : ℕ → List Sample → Instant → Type 0
+AreFrom n xs t = (x : Sample) → Has xs x → IsNotBefore (instant n x) t
+
+abbrev pub MatchExactly : Type 0
+MatchExactly = (n m : ℕ) (xs ys : List Sample) → 0 < n → 0 < m → IsAscending xs → IsAscending ys → (diff n xs m ys ≡ None) ↔ Match n xs m ys
+
+abbrev pub DiffIsLeast : Type 0
+DiffIsLeast = (n m : ℕ) (xs ys : List Sample) → 0 < n → 0 < m → IsAscending xs → IsAscending ys → (d : SampleDifference) → diff n xs m ys ≡ Some d → IsLeastDifference n xs m ys d
+
+abbrev pub DiffSplits : Type 0
+DiffSplits = (n m : ℕ) (xs xs' ys ys' : List Sample) (t : Instant) → 0 < n → 0 < m → 0 < t.den → AreBefore n xs t → AreBefore m ys t → AreFrom n xs' t → AreFrom m ys' t →
+    diff n (xs ++ xs') m (ys ++ ys') ≡ option_or (diff n xs m ys) (diff n xs' m ys')

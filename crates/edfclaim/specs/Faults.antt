@@ -1,0 +1,149 @@
+-- The tests that a file has to pass, in their written order, and the first that fails.
+use Rattle.std.specs.Prelude.{◌≡◌, ℕ, zero, suc, ℤ, pos, ◌+◌, ◌*◌, ◌*ℤ◌, ◌^◌, nat_le, nat_lt, int_lt, if◌then◌else◌, List, [], ◌∷◌, ◌++◌, length, take, Option, Some, None, codes}
+use Rattle.std.specs.List.{list_any, list_all}
+use Rattle.std.specs.Ordering.{int_eq}
+use Rattle.std.specs.Str.{bytes_eq}
+use Rattle.edf_fields.specs.Numbers.{whole_number_of, header_number_of}
+use Rattle.edfclaim.specs.declared.fault.Fault.{Fault}
+use Rattle.edfclaim.specs.declared.fault.Place.{Place}
+use Rattle.edfclaim.specs.declared.fault.Place.TheVariants.{AtField, AtSignal, AtRecord, AtEnd}
+use Rattle.edfclaim.specs.declared.fault.Cause.{Cause}
+use Rattle.edfclaim.specs.declared.fault.Cause.TheVariants.{Truncated, BadHeaderSize, NotEdfPlus, BadNumber, BadRange, NoAnnotationSignal, NoOrdinarySignal, RecordTooLarge, TrailingBytes}
+use Rattle.edfclaim.specs.declared.layout.FixedField.{FixedField}
+use Rattle.edfclaim.specs.declared.layout.FixedField.TheVariants as fixed
+use Rattle.edfclaim.specs.declared.layout.SignalField.{SignalField}
+use Rattle.edfclaim.specs.declared.layout.SignalField.TheVariants as signal
+use Rattle.edfclaim.specs.Layout.{fixed_from, fixed_bytes, fixed_fields, fixed_field, column_before, column_width, columns, signal_field}
+use Rattle.edfclaim.specs.Heads.{SignalHead, Head, signals_of, head_of, is_annotations, samples_together, header_bytes, record_bytes}
+
+-- the first test that fails: each test is none, or the fault that it finds
+abbrev pub first : List (Option Fault) → Option Fault
+first [] = None
+first (None ∷ tests) = first tests
+first (Some fault ∷ tests) = Some fault
+
+abbrev pub fault : Place → Cause → Option Fault
+fault place cause = Some (record { place = place; cause = cause })
+
+-- a file of this length has the bytes up to this end
+unfoldable pub truncated : Place → ℕ → ℕ → Option Fault
+truncated place end len = if nat_le end len then None else fault place Truncated
+
+-- a number is spelled
+abbrev pub no_number : Place → Option ℤ → Option Fault
+no_number place None = fault place BadNumber
+no_number place (Some v) = None
+
+-- a number of at least 1 is spelled
+abbrev pub no_positive : Place → Option ℤ → Option Fault
+no_positive place None = fault place BadNumber
+no_positive place (Some v) = if int_lt v (pos 1) then fault place BadRange else None
+
+-- this number is spelled; another one is out of range
+abbrev pub not_equal : Place → Cause → ℕ → Option ℤ → Option Fault
+not_equal place cause n None = fault place BadNumber
+not_equal place cause n (Some v) = if int_eq v (pos n) then None else fault place cause
+
+unfoldable pub header_bytes_fault : List ℕ → Option Fault
+header_bytes_fault field = no_number (AtField fixed.HeaderBytes) (whole_number_of field)
+
+unfoldable pub reserved_fault : List ℕ → Option Fault
+reserved_fault field = if bytes_eq (take 5 field) (codes "EDF+C") then None else fault (AtField fixed.Reserved) NotEdfPlus
+
+unfoldable pub records_fault : List ℕ → Option Fault
+records_fault field = no_positive (AtField fixed.Records) (whole_number_of field)
+
+unfoldable pub duration_fault : List ℕ → Option Fault
+duration_fault field = no_positive (AtField fixed.Duration) (header_number_of field)
+
+unfoldable pub signals_fault : List ℕ → Option Fault
+signals_fault field = not_equal (AtField fixed.Signals) BadRange 2 (whole_number_of field)
+
+unfoldable pub header_size_fault : ℕ → List ℕ → Option Fault
+header_size_fault signals field = not_equal (AtField fixed.HeaderBytes) BadHeaderSize (256 * (signals + 1)) (whole_number_of field)
+
+unfoldable pub samples_fault : ℕ → List ℕ → Option Fault
+samples_fault s field = no_positive (AtSignal s signal.Samples) (whole_number_of field)
+
+-- no byte of a field of the fixed part is missing
+abbrev pub fixed_missing : List FixedField → ℕ → List (Option Fault)
+fixed_missing [] len = []
+fixed_missing (field ∷ fields) len = truncated (AtField field) (fixed_from field + fixed_bytes field) len ∷ fixed_missing fields len
+
+-- the tests of the fixed part
+abbrev pub fixed_faults : List ℕ → List (Option Fault)
+fixed_faults file =
+    header_bytes_fault (fixed_field file fixed.HeaderBytes)
+    ∷ reserved_fault (fixed_field file fixed.Reserved)
+    ∷ records_fault (fixed_field file fixed.Records)
+    ∷ duration_fault (fixed_field file fixed.Duration)
+    ∷ signals_fault (fixed_field file fixed.Signals)
+    ∷ header_size_fault (signals_of file) (fixed_field file fixed.HeaderBytes)
+    ∷ []
+
+-- no byte of this field is missing, of the m signals from signal s on, of n
+abbrev pub column_missing : SignalField → ℕ → ℕ → ℕ → ℕ → List (Option Fault)
+column_missing field n s zero len = []
+column_missing field n s (suc m) len =
+    truncated (AtSignal s field) (256 + column_before field * n + column_width field * (s + 1)) len
+    ∷ column_missing field n (s + 1) m len
+
+-- no byte of these columns is missing, of n signals
+abbrev pub columns_missing : List SignalField → ℕ → ℕ → List (Option Fault)
+columns_missing [] n len = []
+columns_missing (field ∷ fields) n len = column_missing field n 0 n len ++ columns_missing fields n len
+
+-- the tests of the m signals from signal s on, of n
+abbrev pub signals_faults : List ℕ → ℕ → ℕ → ℕ → List (Option Fault)
+signals_faults file n s zero = []
+signals_faults file n s (suc m) = samples_fault s (signal_field file n s signal.Samples) ∷ signals_faults file n (s + 1) m
+
+unfoldable pub no_annotation_signal : List SignalHead → Option Fault
+no_annotation_signal signals =
+    if list_any (λ signal. is_annotations signal.label) signals then None else fault (AtField fixed.Signals) NoAnnotationSignal
+
+unfoldable pub no_ordinary_signal : List SignalHead → Option Fault
+no_ordinary_signal signals =
+    if list_all (λ signal. is_annotations signal.label) signals then fault (AtField fixed.Signals) NoOrdinarySignal else None
+
+-- the data records last 10^9 s at the most
+unfoldable pub too_long : Head → Option Fault
+too_long h = if int_lt (pos (10 ^ 21)) (pos h.records *ℤ h.duration) then fault (AtField fixed.Duration) BadRange else None
+
+unfoldable pub record_too_large : Head → Option Fault
+record_too_large h = if nat_lt 16777216 (record_bytes h) then fault (AtField fixed.Signals) RecordTooLarge else None
+
+-- the tests of the signals together
+abbrev pub joint_faults : Head → List (Option Fault)
+joint_faults h = no_annotation_signal h.signals ∷ no_ordinary_signal h.signals ∷ too_long h ∷ record_too_large h ∷ []
+
+-- no byte of the m data records from record k on is missing
+abbrev pub records_missing : Head → ℕ → ℕ → ℕ → List (Option Fault)
+records_missing h k zero len = []
+records_missing h k (suc m) len = truncated (AtRecord k) (header_bytes h + (k + 1) * record_bytes h) len ∷ records_missing h (k + 1) m len
+
+-- the file ends with its last data record
+unfoldable pub trailing_bytes : Head → ℕ → Option Fault
+trailing_bytes h len = if nat_le len (header_bytes h + h.records * record_bytes h) then None else fault AtEnd TrailingBytes
+
+-- the tests by stages: each stage reads what those before it have found to be there
+abbrev pub fixed_stage : List ℕ → List (Option Fault)
+fixed_stage file = fixed_missing fixed_fields (length file) ++ fixed_faults file
+
+abbrev pub columns_stage : ℕ → List ℕ → List (Option Fault)
+columns_stage n file = columns_missing columns n (length file) ++ signals_faults file n 0 n
+
+abbrev pub records_stage : Head → ℕ → List (Option Fault)
+records_stage h len = records_missing h 0 h.records len ++ (trailing_bytes h len ∷ [])
+
+-- the tests of the header, in their order
+abbrev pub header_tests : List ℕ → List (Option Fault)
+header_tests file = fixed_stage file ++ (columns_stage (signals_of file) file ++ joint_faults (head_of file))
+
+-- all tests of a file, in their order
+abbrev pub file_tests : List ℕ → List (Option Fault)
+file_tests file = header_tests file ++ records_stage (head_of file) (length file)
+
+-- the first fault of a file, or none where it passes every test
+unfoldable pub first_fault : List ℕ → Option Fault
+first_fault file = first (file_tests file)

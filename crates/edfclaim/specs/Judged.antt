@@ -1,0 +1,41 @@
+-- What the parts of a header say that passed their tests.
+use Rattle.std.specs.Prelude.{◌≡◌, ℕ, pos, ◌*ℤ◌, ◌≤◌, ◌<◌, ◌≤ℤ◌, ◌^◌, List, length, map, Some, unsigned_abs}
+use Rattle.std.specs.List.{All}
+use Rattle.edf_fields.specs.Numbers.{whole_number_of}
+use Rattle.edfclaim.specs.declared.judge.Fixed.{Fixed}
+use Rattle.edfclaim.specs.declared.header.Signal.{Signal}
+use Rattle.edfclaim.specs.declared.header.Header.{Header}
+use Rattle.edfclaim.specs.declared.layout.FixedField.TheVariants as fixed
+use Rattle.edfclaim.specs.Layout.{fixed_field}
+use Rattle.edfclaim.specs.Heads.{SignalHead, signals_of, duration_of, signals_from, record_bytes}
+use Rattle.edfclaim.specs.Views.{signal_view, header_view}
+
+-- the fixed part says this
+pub record SaysFixed (file : List ℕ) (v : Fixed) : Type 0 where
+  pub records : whole_number_of (fixed_field file fixed.Records) ≡ Some (pos v.records)
+  pub duration : duration_of file ≡ v.duration_ps
+  pub signals : signals_of file ≡ v.signals
+  pub some_records : 1 ≤ v.records
+  pub few_records : v.records < 10 ^ 8
+  pub some_time : pos 1 ≤ℤ v.duration_ps
+  pub little_time : unsigned_abs v.duration_ps < 10 ^ 20
+  pub two_signals : v.signals ≡ 2
+
+-- the columns of n signals say these
+pub record SaysSignals (file : List ℕ) (n : ℕ) (signals : List Signal) : Type 0 where
+  pub views : map signal_view signals ≡ signals_from file n 0 n
+  pub count : length signals ≡ n
+  pub some_samples : All (λ s. 1 ≤ s.samples) signals
+  pub few_samples : All (λ s. s.samples < 10 ^ 8) signals
+
+-- what the tests of a header give
+pub record IsModest (h : Header) : Type 0 where
+  pub some_records : 1 ≤ h.records
+  pub few_records : h.records < 10 ^ 8
+  pub some_time : pos 1 ≤ℤ h.duration_ps
+  pub little_time : unsigned_abs h.duration_ps < 10 ^ 20
+  pub whole_time : (pos h.records *ℤ h.duration_ps) ≤ℤ pos (10 ^ 21)
+  pub two_signals : length h.signals.items ≡ 2
+  pub some_samples : All (λ s. 1 ≤ s.samples) h.signals.items
+  pub few_samples : All (λ s. s.samples < 10 ^ 8) h.signals.items
+  pub small_record : record_bytes (header_view h) ≤ 16777216

@@ -1,0 +1,12 @@
+pub mod Instants
+pub mod Differences
+pub mod Lanes
+pub mod Keeps
+pub mod Claims
+pub mod Layout
+pub mod Heads
+pub mod Records
+pub mod Faults
+pub mod Stops
+pub mod Views
+pub mod Judged

@@ -1,0 +1,42 @@
+//! Why a file is no file of the profile, and where.
+
+use crate::layout::{FixedField, SignalField};
+
+/// Where a fault stands. Signals and data records count from 0.
+#[derive(Debug, Clone, Copy, PartialEq, Eq)]
+pub enum Place {
+    AtField(FixedField),
+    AtSignal(u16, SignalField),
+    AtRecord(u32),
+    AtEnd,
+}
+
+/// What is wrong there.
+#[derive(Debug, Clone, Copy, PartialEq, Eq)]
+pub enum Cause {
+    /// The file ends before the byte that is wanted.
+    Truncated,
+    /// The header's size isn't 256 bytes and 256 more for each signal.
+    BadHeaderSize,
+    /// The reserved field doesn't begin with `EDF+C`.
+    NotEdfPlus,
+    /// The field doesn't spell a number.
+    BadNumber,
+    /// The number is none that may stand here.
+    BadRange,
+    /// No signal has the label `EDF Annotations`.
+    NoAnnotationSignal,
+    /// Every signal has the label `EDF Annotations`.
+    NoOrdinarySignal,
+    /// A data record has more than 16,777,216 bytes.
+    RecordTooLarge,
+    /// A byte stands behind the last data record.
+    TrailingBytes,
+}
+
+/// The first fault of a file in the written order of tests.
+#[derive(Debug, Clone, Copy, PartialEq, Eq)]
+pub struct Fault {
+    pub place: Place,
+    pub cause: Cause,
+}

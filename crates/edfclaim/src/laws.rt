@@ -1,0 +1,19 @@
+//! Laws over the definitions alone: each is the contract of a function that does nothing.
+
+ghost use Rattle.edfclaim.specs.Differences.{MatchExactly, DiffIsLeast, DiffSplits};
+
+/// Two rising lists have no difference exactly where their samples match, both ways.
+pub fn matches_exactly()
+    ensures { MatchExactly }
+{}
+
+/// The difference that is read from the left is the one at the least instant.
+pub fn is_least()
+    ensures { DiffIsLeast }
+{}
+
+/// Two pairs of lists, the first pair before an instant and the second from it on: the difference of
+/// the wholes is that of the first pair, or else that of the second.
+pub fn splits()
+    ensures { DiffSplits }
+{}
