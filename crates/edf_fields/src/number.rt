@@ -11,7 +11,8 @@ ghost use Rattle.edf_fields.specs.Numbers.{AreDigits, IsDecimal, weight, decimal
 /// The `count` bytes from place `at` on.
 pub fn part(bytes: &[u8], at: usize, count: usize) -> &[u8]
     requires { at + count ≤ length bytes.now }
-    ensures { result.now ≡ part bytes.entry.now at count }
+    ensures value { result.now ≡ part bytes.entry.now at count }
+    ensures len { length result.now ≡ count }
 {
     &bytes[at..][..count]
 }

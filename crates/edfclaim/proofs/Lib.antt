@@ -7,3 +7,6 @@ pub mod JudgeFacts
 pub mod HeaderFacts
 pub mod BehindFacts
 pub mod FileFacts
+pub mod SignalFacts
+pub mod SampleFacts
+pub mod EarliestFacts

@@ -6,16 +6,12 @@ use Rattle.edfclaim.specs.declared.sample.Sample.{Sample}
 use Rattle.edfclaim.specs.declared.difference.Mismatch.{Mismatch}
 use Rattle.edfclaim.specs.declared.difference.Mismatch.TheVariants.{Missing, Extra, Value}
 use Rattle.edfclaim.specs.declared.difference.SampleDifference.{SampleDifference}
+use Rattle.edfclaim.specs.Lists.{Has}
 use Rattle.edfclaim.specs.Instants.{IsBefore, IsNotBefore, IsSame, is_before}
 
 -- where a sample of a channel with n samples a record stands
 abbrev pub instant : ℕ → Sample → Instant
 instant n x = record { num = x.num; den = n }
-
--- x stands in the list
-abbrev pub Has : List Sample → Sample → Type 0
-Has [] x = ⊥
-Has (y ∷ ys) x = (y ≡ x) ⊎ Has ys x
 
 -- each numerator is below all that follow it
 abbrev pub IsAscending : List Sample → Type 0

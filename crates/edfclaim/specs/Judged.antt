@@ -1,13 +1,14 @@
 -- What the parts of a header say that passed their tests.
-use Rattle.std.specs.Prelude.{◌≡◌, ℕ, pos, ◌*ℤ◌, ◌≤◌, ◌<◌, ◌≤ℤ◌, ◌^◌, List, length, map, Some, unsigned_abs}
+use Rattle.std.specs.Prelude.{◌≡◌, ℕ, ◌+◌, ◌*◌, pos, ◌*ℤ◌, ◌≤◌, ◌<◌, ◌≤ℤ◌, ◌^◌, List, length, map, Some, unsigned_abs}
 use Rattle.std.specs.List.{All}
 use Rattle.edf_fields.specs.Numbers.{whole_number_of}
 use Rattle.edfclaim.specs.declared.judge.Fixed.{Fixed}
 use Rattle.edfclaim.specs.declared.header.Signal.{Signal}
 use Rattle.edfclaim.specs.declared.header.Header.{Header}
+use Rattle.edfclaim.specs.declared.file.EdfFile.{EdfFile}
 use Rattle.edfclaim.specs.declared.layout.FixedField.TheVariants as fixed
 use Rattle.edfclaim.specs.Layout.{fixed_field}
-use Rattle.edfclaim.specs.Heads.{SignalHead, signals_of, duration_of, signals_from, record_bytes}
+use Rattle.edfclaim.specs.Heads.{SignalHead, signals_of, duration_of, signals_from, header_bytes, record_bytes}
 use Rattle.edfclaim.specs.Views.{signal_view, header_view}
 
 -- the fixed part says this
@@ -39,3 +40,8 @@ pub record IsModest (h : Header) : Type 0 where
   pub some_samples : All (λ s. 1 ≤ s.samples) h.signals.items
   pub few_samples : All (λ s. s.samples < 10 ^ 8) h.signals.items
   pub small_record : record_bytes (header_view h) ≤ 16777216
+
+-- a file that was read whole, and whose header passed its tests
+pub record IsLoaded (file : EdfFile) : Type 0 where
+  pub modest : IsModest file.header
+  pub size : length file.bytes.items ≡ header_bytes (header_view file.header) + file.header.records * record_bytes (header_view file.header)

@@ -1,3 +1,4 @@
+pub mod Lists
 pub mod Instants
 pub mod Differences
 pub mod Lanes
@@ -10,3 +11,9 @@ pub mod Faults
 pub mod Stops
 pub mod Views
 pub mod Judged
+pub mod Samples
+pub mod Channels
+pub mod Exports
+pub mod Earliest
+pub mod Compare
+pub mod Loaded

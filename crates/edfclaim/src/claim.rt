@@ -3,7 +3,7 @@
 ghost use Rattle.std.specs.Prelude.{◌≡◌, ℕ, ◌<◌, ◌≤◌, ◌^◌, ◌*ℤ◌, ◌≤ℤ◌, ◌<ℤ◌, ◌↔◌, pos, length, map, IfOk, IsTrue, [], ◌∷◌, List, nat_eq, unsigned_abs};
 ghost use Rattle.std.specs.List.{All, IsDistinct};
 ghost use Rattle.std.specs.Str.{bytes_eq};
-ghost use Rattle.edfclaim.specs.Keeps.{IsWithin, is_within, KeepsInstant};
+ghost use Rattle.edfclaim.specs.Keeps.{IsWithin, is_within, KeepsInstant, keeps_instant};
 ghost use Rattle.edfclaim.specs.Claims.{Terms};
 
 use std::alloc::{AllocError, Global};
@@ -45,19 +45,19 @@ pub struct Claim {
 }
 
 impl Model for Claim {
-    ghost use Rattle.std.specs.Prelude.{map, pos, [], ◌∷◌, ◌<◌, ◌^◌, unsigned_abs};
+    ghost use Rattle.std.specs.Prelude.{map, [], ◌∷◌, ◌<◌, ◌^◌, unsigned_abs};
     ghost use Rattle.edfclaim.specs.Claims.{Terms};
 
     ghost Value = { Terms };
 
-    ghost view = { λ c. record { channels = map (λ label. label.items) c.channels.items; keep = c.interval ∷ []; shift = pos 0 } };
+    ghost view = { λ c. record { channels = map (λ label. label.items) c.channels.items; keep = c.interval ∷ [] } };
 
     ghost invariant = { λ c. (unsigned_abs c.interval.from_ps < 2 ^ 100) × (unsigned_abs c.interval.to_ps < 2 ^ 100) };
 }
 
 impl Claim {
     /// A claim that keeps the channels of these labels from `from_ps` (included) to `to_ps`
-    /// (excluded), in picoseconds after the original's start, with no shift.
+    /// (excluded), in picoseconds after the original's start. Nothing moves in time.
     ///
     /// The error is want of memory.
     pub fn plain(
@@ -72,7 +72,7 @@ impl Claim {
         requires from { pos 0 ≤ℤ from_ps }
         requires order { from_ps <ℤ to_ps }
         requires to { to_ps <ℤ pos (10 ^ 21) }
-        ensures { IfOk result (λ claim. claim ≡ record { channels = map (λ label. label.now) labels.now; keep = record { from_ps = from_ps; to_ps = to_ps } ∷ []; shift = pos 0 }) }
+        ensures { IfOk result (λ claim. claim ≡ record { channels = map (λ label. label.now) labels.now; keep = record { from_ps = from_ps; to_ps = to_ps } ∷ [] }) }
     {
         let mut channels = Vec::with_capacity(alloc, labels.len())?;
         for label in labels {
@@ -82,12 +82,20 @@ impl Claim {
         Ok(Claim { channels, interval })
     }
 
+    /// The labels of the claimed channels, in the claim's order.
+    pub fn channels(&self) -> &[Vec<u8>]
+        ensures { map (λ label. label.items) result.now ≡ self.entry.now.channels }
+    {
+        &self.channels
+    }
+
     /// Whether the claim keeps what stands at the instant `num / den` picoseconds after the
     /// original's start.
     pub fn keeps_instant(&self, num: i128, den: u32) -> bool
         requires low { 1 ≤ den }
         requires high { den ≤ 8388608 }
-        ensures { IsTrue result ↔ KeepsInstant self.now.keep num den }
+        ensures keeps { IsTrue result ↔ KeepsInstant self.now.keep num den }
+        ensures value { result ≡ keeps_instant self.now.keep num den }
     {
         self.interval.contains(num, den)
     }

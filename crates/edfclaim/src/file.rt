@@ -6,7 +6,7 @@ ghost use Rattle.edfclaim.specs.Stops.{Stops};
 ghost use Rattle.edfclaim.specs.Heads.{head_of, header_bytes, record_bytes};
 ghost use Rattle.edfclaim.specs.Views.{signal_view, header_view};
 ghost use Rattle.edfclaim.specs.Faults.{first, first_fault, fixed_stage, columns_stage, header_tests, records_stage};
-ghost use Rattle.edfclaim.specs.Judged.{SaysFixed, SaysSignals, IsModest};
+ghost use Rattle.edfclaim.specs.Judged.{SaysFixed, SaysSignals, IsModest, IsLoaded};
 
 use crate::append::append;
 use crate::fault::{Cause, Fault, Place};
@@ -151,8 +151,7 @@ pub fn read_file<S: Source>(alloc: Global, source: &mut S) -> Result<EdfFile, St
     ensures end { OnOk result (IsTrue (S.is_honest source.old) → S.left source.new ≡ []) }
     ensures head { IfOk result (λ file. IsTrue (S.is_honest source.old) → head_of (S.left source.old) ≡ header_view file.header) }
     ensures passed { OnOk result (IsTrue (S.is_honest source.old) → first_fault (S.left source.old) ≡ None) }
-    ensures modest { IfOk result (λ file. IsModest file.header) }
-    ensures size { IfOk result (λ file. length file.bytes.items ≡ header_bytes (header_view file.header) + file.header.records * record_bytes (header_view file.header)) }
+    ensures loaded { IfOk result IsLoaded }
     ensures stop { IfErr result (Stops (λ f. IsTrue (S.is_honest source.old) → first_fault (S.left source.old) ≡ Some f) (Rises (S.failures source.old) (S.failures source.new))) }
 {
     let mut bytes = Vec::new(alloc);

@@ -1,6 +1,7 @@
 //! Laws over the definitions alone: each is the contract of a function that does nothing.
 
 ghost use Rattle.edfclaim.specs.Differences.{MatchExactly, DiffIsLeast, DiffSplits};
+ghost use Rattle.edfclaim.specs.Earliest.{EarliestIsLeast};
 
 /// Two rising lists have no difference exactly where their samples match, both ways.
 pub fn matches_exactly()
@@ -16,4 +17,9 @@ pub fn is_least()
 /// the wholes is that of the first pair, or else that of the second.
 pub fn splits()
     ensures { DiffSplits }
+{}
+
+/// The earliest difference of several channels is the least by instant, and then by place.
+pub fn earliest_is_least()
+    ensures { EarliestIsLeast }
 {}

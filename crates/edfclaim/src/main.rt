@@ -2,8 +2,11 @@
 #![tactic(auto)]
 
 pub mod append;
+pub mod channels;
 pub mod claim;
+pub mod compare;
 pub mod difference;
+pub mod earliest;
 pub mod fault;
 pub mod file;
 pub mod header;
@@ -13,6 +16,10 @@ pub mod laws;
 pub mod layout;
 pub mod number_field;
 pub mod sample;
+pub mod samples;
 pub mod stop;
+pub mod timeline;
+pub mod value;
+pub mod verdict;
 
 fn main() {}

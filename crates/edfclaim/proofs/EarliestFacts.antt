@@ -1,0 +1,103 @@
+-- The earliest difference of several channels is the least.
+use Rattle.std.proofs.Common.{slice_get, zero, suc, ◌≤◌, MatchOption, ◌≡◌, ℕ, ◌+◌, ◌<◌, Bool, true, false, cond, List, [], ◌∷◌, Option, Some, None, IfSome, refl, subst, arith, length, map, drop, get_or, sym, ap, ◌∙◌, add-one}
+use Rattle.std.proofs.Math.Seq.{drop-cons}
+use Rattle.std.specs.Option.{option_map}
+use Rattle.std.proofs.lemmas.Int.{ints}
+use Rattle.edfclaim.specs.declared.instant.Instant.{Instant}
+use Rattle.edfclaim.specs.declared.difference.SampleDifference.{SampleDifference}
+use Rattle.edfclaim.specs.declared.earliest.Found.{Found}
+use Rattle.edfclaim.specs.Instants.{IsBefore, IsNotBefore, IsSame, is_before}
+use Rattle.edfclaim.specs.Earliest.{found, earlier, earliest, IsEarliest, AreInstants, EarliestIsLeast}
+use Rattle.edfclaim.proofs.FractionFacts.{before_below, is_before-true, is_before-false, before_same_back, from_below}
+
+-- `IsEarliest`, where the first place is that of channel k
+record IsEarliestFrom (k : ℕ) (ds : List (Option SampleDifference)) (f : Found) : Type 0 where
+  place : ℕ
+  channel : f.channel ≡ place + k
+  is_there : slice_get ds place ≡ Some (Some f.difference)
+  positive : 0 < f.difference.at.den
+  first : (j : ℕ) (d : SampleDifference) → slice_get ds j ≡ Some (Some d) → IsNotBefore d.at f.difference.at
+  least : (j : ℕ) (d : SampleDifference) → slice_get ds j ≡ Some (Some d) → IsSame d.at f.difference.at → place ≤ j
+
+abbrev NoneThere : List (Option SampleDifference) → Type 0
+NoneThere ds = (j : ℕ) (d : SampleDifference) → slice_get ds j ≡ Some (Some d) → ⊥
+
+-- what holds of the head and of the rest
+every : (o : Option SampleDifference) (ds : List (Option SampleDifference)) (Q : ℕ → SampleDifference → Type 0) → ((d : SampleDifference) → o ≡ Some d → Q 0 d) →
+    ((j : ℕ) (d : SampleDifference) → slice_get ds j ≡ Some (Some d) → Q (suc j) d) → (j : ℕ) (d : SampleDifference) → slice_get (o ∷ ds) j ≡ Some (Some d) → Q j d
+every o ds Q h t zero d e = h d (let i : Some o ≡ Some (Some d) = e in cc)
+every o ds Q h t (suc j) d e = t j d e
+
+at_head : (a : SampleDifference) (P : SampleDifference → Type 0) → P a → (d : SampleDifference) → Some a ≡ Some d → P d
+at_head a P h d e = let i : a ≡ d = cc in subst P i h
+
+self : (t : Instant) → IsNotBefore t t
+self t = omega (arith, ints)
+
+head_alone : (k : ℕ) (a : SampleDifference) (ds : List (Option SampleDifference)) → 0 < a.at.den → ((j : ℕ) (d : SampleDifference) → slice_get ds j ≡ Some (Some d) → IsNotBefore d.at a.at) → IsEarliestFrom k (Some a ∷ ds) (found k a)
+head_alone k a ds pa above = record {
+  place = 0;
+  channel = omega arith;
+  is_there = refl;
+  positive = pa;
+  first = every (Some a) ds (λ j d. IsNotBefore d.at a.at) (at_head a (λ d. IsNotBefore d.at a.at) (self a.at)) above;
+  least = λ j d e s. omega arith;
+}
+
+after : (o : Option SampleDifference) (f : Found) → IfSome o (λ a. IsBefore f.difference.at a.at) → (d : SampleDifference) → o ≡ Some d → IsBefore f.difference.at d.at
+after o f h d e = let P : Option SampleDifference → Type 0 = λ p. IfSome p (λ a. IsBefore f.difference.at a.at) in subst P e h
+
+-- the earliest of the rest, where the head is after it or none
+rest_is : (k : ℕ) (o : Option SampleDifference) (ds : List (Option SampleDifference)) (f : Found) → IfSome o (λ a. IsBefore f.difference.at a.at) → IsEarliestFrom (k + 1) ds f → IsEarliestFrom k (o ∷ ds) f
+rest_is k o ds f h r = record {
+  place = suc r.place;
+  channel = (let c = r.channel in omega arith);
+  is_there = r.is_there;
+  positive = r.positive;
+  first = every o ds (λ j d. IsNotBefore d.at f.difference.at) (λ d e. before_below f.difference.at d.at (after o f h d e)) r.first;
+  least = every o ds (λ j d. IsSame d.at f.difference.at → suc r.place ≤ j)
+      (λ d e s. absurd (before_same_back f.difference.at d.at (after o f h d e) s))
+      (λ j d e s. let l : r.place ≤ j = r.least j d e s in omega arith);
+}
+
+Answer : ℕ → List (Option SampleDifference) → Option Found → Type 0
+Answer k ds o = MatchOption o (NoneThere ds) (IsEarliestFrom k ds)
+
+both_there : (k : ℕ) (a : SampleDifference) (ds : List (Option SampleDifference)) (b : Found) (t : Bool) → is_before b.difference.at a.at ≡ t → 0 < a.at.den → IsEarliestFrom (k + 1) ds b →
+    Answer k (Some a ∷ ds) (cond t (Some b) (Some (found k a)))
+unfolding Answer
+both_there k a ds b true e pa r = rest_is k (Some a) ds b (is_before-true b.difference.at a.at e) r
+both_there k a ds b false e pa r =
+    head_alone k a ds pa (λ j d h. from_below d.at b.difference.at a.at r.positive (r.first j d h) (is_before-false b.difference.at a.at e))
+
+joined : (k : ℕ) (o : Option SampleDifference) (ds : List (Option SampleDifference)) (r : Option Found) → IfSome o (λ d. 0 < d.at.den) → Answer (k + 1) ds r → Answer k (o ∷ ds) (earlier (option_map (found k) o) r)
+unfolding Answer
+joined k None ds None p h = every None ds (λ j d. ⊥) (λ d e. cc) h
+joined k None ds (Some f) p h = rest_is k None ds f tt h
+joined k (Some a) ds None p h = head_alone k a ds p (λ j d e. absurd (h j d e))
+joined k (Some a) ds (Some b) p h = both_there k a ds b (is_before b.difference.at a.at) refl p h
+
+answers : (k : ℕ) (ds : List (Option SampleDifference)) → AreInstants ds → Answer k ds (earliest k ds)
+unfolding Answer
+answers k [] p = λ j d e. cc
+answers k (o ∷ ds) p = joined k o ds (earliest (k + 1) ds) p.0 (answers (k + 1) ds p.1)
+
+from_zero : (ds : List (Option SampleDifference)) (o : Option Found) → Answer 0 ds o → MatchOption o (NoneThere ds) (IsEarliest ds)
+unfolding Answer
+from_zero ds None h = h
+from_zero ds (Some f) h =
+    let e : f.channel ≡ h.place = (let c = h.channel in omega arith) in
+    (rw e h.is_there, h.first, λ j d i s. rw e (h.least j d i s))
+
+pub earliest-is-least : EarliestIsLeast
+earliest-is-least ds p = from_zero ds (earliest 0 ds) (answers 0 ds p)
+
+-- one more channel, before those that were compared
+pub earliest-step : {X : Type 0} (f : X → Option SampleDifference) (xs : List X) (i k : ℕ) (x : X) (next : Option SampleDifference) (here held result : Option Found)
+    → i ≡ k + 1 → k < length xs → x ≡ get_or xs k x → next ≡ f x → here ≡ option_map (found k) next → result ≡ earlier here held
+    → held ≡ earliest i (map f (drop i xs)) → result ≡ earliest k (map f (drop k xs))
+earliest-step f xs i k x next here held result ei lt ex en eh er before =
+    let cut : drop k xs ≡ x ∷ drop (k + 1) xs = drop-cons xs k x lt ∙ ap (λ y. y ∷ drop (suc k) xs) (sym ex) ∙ ap (λ j. x ∷ drop j xs) (sym (add-one k)) in
+    er ∙ ap (λ o. earlier o held) (eh ∙ ap (option_map (found k)) en)
+    ∙ ap (earlier (option_map (found k) (f x))) (before ∙ ap (λ j. earliest j (map f (drop j xs))) ei)
+    ∙ ap (λ ys. earliest k (map f ys)) (sym cut)

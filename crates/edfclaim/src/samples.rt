@@ -1,0 +1,88 @@
+//! The samples of one channel, taken from a file in memory.
+
+ghost use Rattle.std.specs.Prelude.{◌≡◌, ◌+◌, ◌*◌, ◌<◌, ◌≤◌, ◌^◌, ◌++◌, ◌*ℤ◌, ◌+ℤ◌, pos, length, IfOk, OnOk, unsigned_abs, vec_len};
+ghost use Rattle.std.specs.List.{All};
+ghost use Rattle.edfclaim.specs.Heads.{samples_at};
+ghost use Rattle.edfclaim.specs.Records.{lane_at};
+ghost use Rattle.edfclaim.specs.Lanes.{digital_value, lane_samples};
+ghost use Rattle.edfclaim.specs.Samples.{samples_of, counted};
+ghost use Rattle.edfclaim.specs.Views.{header_view};
+ghost use Rattle.edfclaim.specs.Judged.{IsLoaded};
+
+use crate::file::EdfFile;
+use crate::header::samples_together;
+use crate::sample::Sample;
+use crate::timeline::{Grid, record_grid};
+use crate::value::sample_value;
+use edf_fields::number::part;
+use std::alloc::{AllocError, Global};
+
+/// The lane of a signal in data record `k`: the bytes of its samples.
+fn lane(file: &EdfFile, k: u32, signal: usize) -> &[u8]
+    requires loaded { IsLoaded file.now }
+    requires k { k < file.now.header.records }
+    requires signal { signal < vec_len file.now.header.signals }
+    ensures value { result.now ≡ lane_at file.entry.now.bytes.items (header_view file.entry.now.header) k signal }
+    ensures len { length result.now ≡ 2 * samples_at (header_view file.entry.now.header) signal }
+{
+    let signals = file.header.signals.as_slice();
+    let together = samples_together(signals) as usize;
+    let before = samples_together(&signals[..signal]) as usize;
+    let count = signals[signal].samples as usize;
+    let start = 256 * (signals.len() + 1) + k as usize * (2 * together);
+    let record = part(&file.bytes, start, 2 * together);
+    part(record, 2 * before, 2 * count)
+}
+
+/// The sample at a place of a lane.
+fn sample_of(grid: Grid, lane: &[u8], place: usize) -> Sample
+    requires start { unsigned_abs grid.start < 2 ^ 96 }
+    requires step { unsigned_abs grid.step < 2 ^ 72 }
+    requires few { place < 2 ^ 24 }
+    requires place { 2 * place + 1 < length lane.now }
+    ensures num { result.num ≡ grid.start +ℤ pos place *ℤ grid.step }
+    ensures value { result.value ≡ digital_value lane.now place }
+    ensures small { unsigned_abs result.num < 2 ^ 98 }
+{
+    Sample {
+        num: grid.numerator(place),
+        value: sample_value(lane, place),
+    }
+}
+
+/// Puts the samples of a lane behind `samples`.
+fn push_lane(samples: &mut Vec<Sample>, grid: Grid, lane: &[u8]) -> Result<(), AllocError>
+    requires start { unsigned_abs grid.start < 2 ^ 96 }
+    requires step { unsigned_abs grid.step < 2 ^ 72 }
+    requires lane { length lane.now < 2 ^ 25 }
+    requires small { All (λ x. unsigned_abs x.num < 2 ^ 98) samples.old.items }
+    ensures value { OnOk result (samples.new.items ≡ samples.old.items ++ lane_samples grid.start grid.step lane.now) }
+    ensures small { OnOk result (All (λ x. unsigned_abs x.num < 2 ^ 98) samples.new.items) }
+{
+    for place in 0..lane.len() / 2 {
+        samples.push(sample_of(grid, lane, place))?;
+    }
+    Ok(())
+}
+
+/// All samples of a signal, in file order, of a file whose data records follow one another.
+///
+/// The error is want of memory.
+pub fn channel_samples(
+    alloc: Global,
+    file: &EdfFile,
+    signal: usize,
+) -> Result<Vec<Sample>, AllocError>
+    requires loaded { IsLoaded file.now }
+    requires signal { signal < vec_len file.now.header.signals }
+    ensures value { IfOk result (λ v. v.items ≡ samples_of file.now.bytes.items (header_view file.now.header) (counted file.now.header.duration_ps) signal) }
+    ensures small { IfOk result (λ v. All (λ x. unsigned_abs x.num < 2 ^ 98) v.items) }
+{
+    let den = file.header.signals[signal].samples;
+    let mut samples = Vec::new(alloc);
+    for k in 0..file.header.records {
+        let grid = record_grid(&file.header, k, den);
+        push_lane(&mut samples, grid, lane(file, k, signal))?;
+    }
+    Ok(samples)
+}
