@@ -1,5 +1,5 @@
 -- The earliest difference of several channels is the least.
-use Rattle.std.proofs.Common.{slice_get, zero, suc, ◌≤◌, MatchOption, ◌≡◌, ℕ, ◌+◌, ◌<◌, Bool, true, false, cond, List, [], ◌∷◌, Option, Some, None, IfSome, refl, subst, arith, length, map, drop, get_or, sym, ap, ◌∙◌, add-one}
+use Rattle.std.proofs.Common.{slice_get, zero, suc, ◌≤◌, MatchOption, ◌≡◌, ℕ, ◌+◌, ◌<◌, Bool, true, false, cond, List, [], ◌∷◌, Option, Some, None, IfSome, refl, subst, arith, length, map, drop, get_or, sym, ap, ◌∙◌, add-one, ◌⊎◌, inl, inr, ⊎_elim}
 use Rattle.std.proofs.Math.Seq.{drop-cons}
 use Rattle.std.specs.Option.{option_map}
 use Rattle.std.proofs.lemmas.Int.{ints}
@@ -7,6 +7,7 @@ use Rattle.edfclaim.specs.declared.instant.Instant.{Instant}
 use Rattle.edfclaim.specs.declared.difference.SampleDifference.{SampleDifference}
 use Rattle.edfclaim.specs.declared.earliest.Found.{Found}
 use Rattle.edfclaim.specs.Instants.{IsBefore, IsNotBefore, IsSame, is_before}
+use Rattle.edfclaim.specs.Lists.{Has}
 use Rattle.edfclaim.specs.Earliest.{found, earlier, earliest, IsEarliest, AreInstants, EarliestIsLeast}
 use Rattle.edfclaim.proofs.FractionFacts.{before_below, is_before-true, is_before-false, before_same_back, from_below}
 
@@ -101,3 +102,45 @@ earliest-step f xs i k x next here held result ei lt ex en eh er before =
     er ∙ ap (λ o. earlier o held) (eh ∙ ap (option_map (found k)) en)
     ∙ ap (earlier (option_map (found k) (f x))) (before ∙ ap (λ j. earliest j (map f (drop j xs))) ei)
     ∙ ap (λ ys. earliest k (map f ys)) (sym cut)
+
+earlier_is : (a b : Option Found) (f : Found) → earlier a b ≡ Some f → (a ≡ Some f) ⊎ (b ≡ Some f)
+earlier_is None b f e = inr e
+earlier_is (Some a) None f e = inl e
+earlier_is (Some a) (Some b) f e = which (is_before b.difference.at a.difference.at) a b f e
+  where
+    which : (t : Bool) (a b f : Found) → cond t (Some b) (Some a) ≡ Some f → (Some a ≡ Some f) ⊎ (Some b ≡ Some f)
+    which true a b f e = inr e
+    which false a b f e = inl e
+
+earlier_none : (a b : Option Found) → earlier a b ≡ None → (a ≡ None) × (b ≡ None)
+earlier_none None b e = (refl, e)
+earlier_none (Some a) None e = absurd (let h : Some a ≡ None = e in cc)
+earlier_none (Some a) (Some b) e = absurd (which (is_before b.difference.at a.difference.at) a b e)
+  where
+    which : (t : Bool) (a b : Found) → cond t (Some b) (Some a) ≡ None → ⊥
+    which true a b e = let h : Some b ≡ None = e in cc
+    which false a b e = let h : Some a ≡ None = e in cc
+
+-- the earliest is the difference of some channel
+pub earliest-some : (k : ℕ) (ds : List (Option SampleDifference)) (f : Found) → earliest k ds ≡ Some f → (i : ℕ) × (f.channel ≡ k + i) × (slice_get ds i ≡ Some (Some f.difference))
+earliest-some k [] f e = absurd (let h : None ≡ Some f = e in cc)
+earliest-some k (d ∷ ds) f e =
+    ⊎_elim
+    (λ h. let r = here d h in (0, (let c = r.0 in omega arith), ap Some r.1))
+    (λ h. let r = earliest-some (k + 1) ds f h in (suc r.0, (let c = r.1 in omega arith), r.2))
+    (earlier_is (option_map (found k) d) (earliest (k + 1) ds) f e)
+  where
+    here : (d : Option SampleDifference) → option_map (found k) d ≡ Some f → (f.channel ≡ k) × (d ≡ Some f.difference)
+    here None h = absurd (let i : None ≡ Some f = h in cc)
+    here (Some x) h = let i : found k x ≡ f = (let j : Some (found k x) ≡ Some f = h in cc) in (ap (λ (g : Found). g.channel) (sym i), ap (λ (g : Found). Some g.difference) i)
+
+-- where there is no earliest, no channel has a difference
+pub earliest-none : (k : ℕ) (ds : List (Option SampleDifference)) → earliest k ds ≡ None → (d : Option SampleDifference) → Has ds d → d ≡ None
+earliest-none k [] e d h = absurd h
+earliest-none k (x ∷ ds) e d h =
+    let both = earlier_none (option_map (found k) x) (earliest (k + 1) ds) e in
+    ⊎_elim (λ i. sym i ∙ gone x both.0) (λ i. earliest-none (k + 1) ds both.1 d i) h
+  where
+    gone : (y : Option SampleDifference) → option_map (found k) y ≡ None → y ≡ None
+    gone None h = refl
+    gone (Some z) h = absurd (let j : Some (found k z) ≡ None = h in cc)

@@ -10,3 +10,10 @@ pub mod FileFacts
 pub mod SignalFacts
 pub mod SampleFacts
 pub mod EarliestFacts
+pub mod ListFacts
+pub mod MemberFacts
+pub mod RisingFacts
+pub mod ChannelFacts
+pub mod LoadedFacts
+pub mod BridgeFacts
+pub mod FindFacts

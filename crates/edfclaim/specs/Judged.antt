@@ -1,6 +1,6 @@
 -- What the parts of a header say that passed their tests.
-use Rattle.std.specs.Prelude.{◌≡◌, ℕ, ◌+◌, ◌*◌, pos, ◌*ℤ◌, ◌≤◌, ◌<◌, ◌≤ℤ◌, ◌^◌, List, length, map, Some, unsigned_abs}
-use Rattle.std.specs.List.{All}
+use Rattle.std.specs.Prelude.{◌≡◌, ℕ, ◌+◌, ◌*◌, pos, ◌*ℤ◌, ◌≤◌, ◌<◌, ◌≤ℤ◌, ◌^◌, List, length, map, true, Some, unsigned_abs}
+use Rattle.std.specs.List.{All, list_any}
 use Rattle.edf_fields.specs.Numbers.{whole_number_of}
 use Rattle.edfclaim.specs.declared.judge.Fixed.{Fixed}
 use Rattle.edfclaim.specs.declared.header.Signal.{Signal}
@@ -8,7 +8,7 @@ use Rattle.edfclaim.specs.declared.header.Header.{Header}
 use Rattle.edfclaim.specs.declared.file.EdfFile.{EdfFile}
 use Rattle.edfclaim.specs.declared.layout.FixedField.TheVariants as fixed
 use Rattle.edfclaim.specs.Layout.{fixed_field}
-use Rattle.edfclaim.specs.Heads.{SignalHead, signals_of, duration_of, signals_from, header_bytes, record_bytes}
+use Rattle.edfclaim.specs.Heads.{SignalHead, is_annotations, signals_of, duration_of, signals_from, header_bytes, record_bytes}
 use Rattle.edfclaim.specs.Views.{signal_view, header_view}
 
 -- the fixed part says this
@@ -37,6 +37,7 @@ pub record IsModest (h : Header) : Type 0 where
   pub little_time : unsigned_abs h.duration_ps < 10 ^ 20
   pub whole_time : (pos h.records *ℤ h.duration_ps) ≤ℤ pos (10 ^ 21)
   pub two_signals : length h.signals.items ≡ 2
+  pub annotated : list_any (λ s. is_annotations s.label) (map signal_view h.signals.items) ≡ true
   pub some_samples : All (λ s. 1 ≤ s.samples) h.signals.items
   pub few_samples : All (λ s. s.samples < 10 ^ 8) h.signals.items
   pub small_record : record_bytes (header_view h) ≤ 16777216

@@ -1,5 +1,5 @@
 -- The layout of a header: EDF (1992), "Header record".
-use Rattle.std.specs.Prelude.{◌≡◌, ℕ, ◌+◌, ◌*◌, List, [], ◌∷◌}
+use Rattle.std.specs.Prelude.{◌≡◌, ℕ, ◌+◌, ◌*◌, List, [], ◌∷◌, codes}
 use Rattle.edf_fields.specs.Parts.{part}
 use Rattle.edfclaim.specs.declared.layout.FixedField.{FixedField}
 use Rattle.edfclaim.specs.declared.layout.FixedField.TheVariants as fixed
@@ -87,3 +87,29 @@ AreAdjacent (field ∷ fields) = (column_before field + column_width field ≡ n
 -- the bytes of a field of signal s, in a header of n signals
 abbrev pub signal_field : List ℕ → ℕ → ℕ → SignalField → List ℕ
 signal_field file n s field = part file (256 + column_before field * n + column_width field * s) (column_width field)
+
+-- the name of a field of the fixed part
+abbrev pub fixed_field_name : FixedField → List ℕ
+fixed_field_name fixed.Version = codes "version"
+fixed_field_name fixed.Patient = codes "patient"
+fixed_field_name fixed.Recording = codes "recording"
+fixed_field_name fixed.Startdate = codes "startdate"
+fixed_field_name fixed.Starttime = codes "starttime"
+fixed_field_name fixed.HeaderBytes = codes "header-bytes"
+fixed_field_name fixed.Reserved = codes "reserved"
+fixed_field_name fixed.Records = codes "records"
+fixed_field_name fixed.Duration = codes "duration"
+fixed_field_name fixed.Signals = codes "signals"
+
+-- the name of a field of a signal
+abbrev pub signal_field_name : SignalField → List ℕ
+signal_field_name signal.Label = codes "label"
+signal_field_name signal.Transducer = codes "transducer"
+signal_field_name signal.Dimension = codes "dimension"
+signal_field_name signal.PhysicalMinimum = codes "physical-minimum"
+signal_field_name signal.PhysicalMaximum = codes "physical-maximum"
+signal_field_name signal.DigitalMinimum = codes "digital-minimum"
+signal_field_name signal.DigitalMaximum = codes "digital-maximum"
+signal_field_name signal.Prefilter = codes "prefilter"
+signal_field_name signal.Samples = codes "samples"
+signal_field_name signal.Reserved = codes "reserved"

@@ -16,4 +16,8 @@ pub mod Channels
 pub mod Exports
 pub mod Earliest
 pub mod Compare
+pub mod Verdicts
 pub mod Loaded
+pub mod FaultTexts
+pub mod Quotes
+pub mod Lines

@@ -119,7 +119,8 @@ pub fn sample_difference(
 ) -> Result<Option<Found>, AllocError>
     requires original { IsLoaded original.now }
     requires export { IsLoaded export.now }
-    ensures { IfOk result (λ d. d ≡ earliest 0 (map (λ label. label_difference claim.now.keep (timed_view original.now) (timed_view export.now) label.items) labels.now)) }
+    ensures value { IfOk result (λ d. d ≡ earliest 0 (map (λ label. label_difference claim.now.keep (timed_view original.now) (timed_view export.now) label.items) labels.now)) }
+    ensures small { IfOk result (λ d. IfSome d (λ f. IsSmall f.difference.at)) }
 {
     let mut held = None;
     let mut i = labels.len();

@@ -1,14 +1,14 @@
 //! Judging the bytes of a header, apart from reading them.
 
-ghost use Rattle.std.specs.Prelude.{◌≡◌, ◌+◌, ◌*◌, ◌≤◌, ◌<◌, ◌≤ℤ◌, ◌^◌, ◌*ℤ◌, pos, length, map, vec_len, unsigned_abs, None, Some, MatchOption, MatchResult, IfOk, IfErr};
+ghost use Rattle.std.specs.Prelude.{◌≡◌, ◌+◌, ◌*◌, ◌≤◌, ◌<◌, ◌≤ℤ◌, ◌^◌, ◌*ℤ◌, pos, length, map, vec_len, unsigned_abs, true, None, Some, MatchOption, MatchResult, IfOk, IfErr};
 ghost use Rattle.edfclaim.specs.declared.fault.Place.TheVariants.{AtField, AtSignal};
 ghost use Rattle.edfclaim.specs.declared.fault.Cause.TheVariants.{Truncated};
 ghost use Rattle.edfclaim.specs.Layout.{fixed_fields, columns, next_before, AreAdjacent};
 ghost use Rattle.edfclaim.specs.Judged.{SaysFixed, SaysSignals};
 ghost use Rattle.edfclaim.specs.Stops.{Stops};
-ghost use Rattle.edfclaim.specs.Heads.{record_bytes};
+ghost use Rattle.edfclaim.specs.Heads.{is_annotations, record_bytes};
 ghost use Rattle.edfclaim.specs.Views.{signal_view, header_view};
-ghost use Rattle.std.specs.List.{All};
+ghost use Rattle.std.specs.List.{All, list_any};
 ghost use Rattle.edfclaim.specs.Faults.{first, fixed_missing, fixed_faults, fixed_stage, reserved_fault, columns_missing, columns_stage, signals_faults, no_annotation_signal, no_ordinary_signal, too_long, record_too_large, joint_faults};
 
 use crate::fault::{Cause, Fault, Place};
@@ -176,7 +176,7 @@ pub fn judge_columns(alloc: Global, signals: u16, file: &[u8]) -> Result<Vec<Sig
 /// Whether one signal at least holds annotations.
 #[tactic(auto, unfolding(crate::specs::Faults::no_annotation_signal))]
 fn annotation_signal(signals: &[Signal]) -> Result<(), Fault>
-    ensures { MatchResult result (λ _. no_annotation_signal (map signal_view signals.now) ≡ None) (λ f. no_annotation_signal (map signal_view signals.now) ≡ Some f) }
+    ensures { MatchResult result (λ _. (no_annotation_signal (map signal_view signals.now) ≡ None) × (list_any (λ s. is_annotations s.label) (map signal_view signals.now) ≡ true)) (λ f. no_annotation_signal (map signal_view signals.now) ≡ Some f) }
 {
     if any_annotations(signals) {
         Ok(())
@@ -254,7 +254,7 @@ pub fn judge_together(header: &Header) -> Result<(), Fault>
     requires small { All (λ s. s.samples < 10 ^ 8) header.now.signals.items }
     requires duration { unsigned_abs header.now.duration_ps < 10 ^ 20 }
     ensures { MatchResult result
-        (λ _. (first (joint_faults (header_view header.now)) ≡ None) × ((pos header.now.records *ℤ header.now.duration_ps) ≤ℤ pos (10 ^ 21)) × (record_bytes (header_view header.now) ≤ 16777216))
+        (λ _. (first (joint_faults (header_view header.now)) ≡ None) × (list_any (λ s. is_annotations s.label) (map signal_view header.now.signals.items) ≡ true) × ((pos header.now.records *ℤ header.now.duration_ps) ≤ℤ pos (10 ^ 21)) × (record_bytes (header_view header.now) ≤ 16777216))
         (λ f. first (joint_faults (header_view header.now)) ≡ Some f) }
 {
     annotation_signal(&header.signals)?;

@@ -1,7 +1,7 @@
 //! The layout of a header: EDF (1992), "Header record".
 
 ghost use Rattle.std.specs.Prelude.{◌≡◌, ◌+◌, ◌*◌, ◌≤◌, ◌<◌, ◌^◌, length};
-ghost use Rattle.edfclaim.specs.Layout.{fixed_from, fixed_bytes, fixed_field as fixed_field_of, column_before, column_width, signal_field as signal_field_of};
+ghost use Rattle.edfclaim.specs.Layout.{fixed_from, fixed_bytes, fixed_field as fixed_field_of, fixed_field_name, column_before, column_width, signal_field as signal_field_of, signal_field_name};
 
 use edf_fields::number::part;
 
@@ -22,7 +22,9 @@ pub enum FixedField {
 
 impl FixedField {
     /// The field's name as the EDF text has it, in one word.
-    pub fn name(self) -> &'static str {
+    pub fn name(self) -> &'static str
+        ensures { result.now ≡ fixed_field_name self }
+    {
         match self {
             FixedField::Version => "version",
             FixedField::Patient => "patient",
@@ -100,7 +102,9 @@ pub const COLUMNS: [SignalField; 10] = [
 
 impl SignalField {
     /// The field's name as the EDF text has it, in one word.
-    pub fn name(self) -> &'static str {
+    pub fn name(self) -> &'static str
+        ensures { result.now ≡ signal_field_name self }
+    {
         match self {
             SignalField::Label => "label",
             SignalField::Transducer => "transducer",

@@ -4,7 +4,7 @@ use crate::difference::Mismatch;
 use crate::fault::Fault;
 
 /// What a check says.
-#[derive(Debug, PartialEq, Drop)]
+#[derive(Debug, Drop, PartialEq, Eq)]
 pub enum Verdict {
     /// The export keeps what is claimed: so many channels, samples and annotations were compared.
     Yes {
@@ -17,7 +17,7 @@ pub enum Verdict {
 }
 
 /// Why an export doesn't keep what is claimed.
-#[derive(Debug, PartialEq, Drop)]
+#[derive(Debug, Drop, PartialEq, Eq)]
 pub enum Difference {
     /// The original is no file of the profile.
     OriginalFault(Fault),

@@ -1,0 +1,129 @@
+-- Channels found by their labels.
+use Rattle.std.proofs.Common.{◌≡◌, ℕ, zero, suc, ◌+◌, ◌<◌, ◌≤◌, Bool, true, false, not, cond, ◌&&◌, ◌||◌, List, [], ◌∷◌, length, Option, Some, None, is_none, slice_get, unwrap_or, option_map, ◌⊎◌, inl, inr, ⊎_elim, refl, sym, ap, ◌∙◌, subst, arith}
+use Rattle.std.specs.List.{position_from, list_any}
+use Rattle.std.specs.Str.{bytes_eq}
+use Rattle.std.proofs.lemmas.Slice.Eq.{bytes_eq-Decides}
+use Rattle.edfclaim.specs.Lists.{Has}
+use Rattle.edfclaim.specs.Heads.{SignalHead, Head, is_annotations, samples_at}
+use Rattle.edfclaim.specs.Samples.{IsChannel}
+use Rattle.edfclaim.specs.Channels.{HasChannel, is_channel_of, channel_place, first_absent, is_listed, is_unlisted, first_unlisted}
+use Rattle.edfclaim.specs.Exports.{SameChannels}
+use Rattle.edfclaim.proofs.ListFacts.{has-at, at-has, find-none, find-some, and-true, not-true}
+
+place_chosen : (b : Bool) (k : ℕ) (o : Option ℕ) (P : Option ℕ → Type 0) → (b ≡ true → P (Some k)) → (b ≡ false → P o) → P (cond b (Some k) o)
+place_chosen true k o P f g = f refl
+place_chosen false k o P f g = g refl
+
+-- the signal at a place passes the test
+pub record PassesAt (p : SignalHead → Bool) (signals : List SignalHead) (i : ℕ) : Type 0 where
+  pub signal : SignalHead
+  pub there : slice_get signals i ≡ Some signal
+  pub passes : p signal ≡ true
+
+pub place-some : (p : SignalHead → Bool) (signals : List SignalHead) (k s : ℕ) → position_from p k signals ≡ Some s → (i : ℕ) × (s ≡ k + i) × PassesAt p signals i
+place-some p [] k s e = absurd (let i : None ≡ Some s = e in cc)
+place-some p (x ∷ signals) k s e =
+    place_chosen (p x) k (position_from p (k + 1) signals) (λ o. o ≡ Some s → (i : ℕ) × (s ≡ k + i) × PassesAt p (x ∷ signals) i)
+    (λ t j. let q : k ≡ s = (let z : Some k ≡ Some s = j in cc) in (0, omega arith, record { signal = x; there = refl; passes = t }))
+    (λ f j.
+    let r = place-some p signals (k + 1) s j in
+    (suc r.0, (let q = r.1 in omega arith), record { signal = (r.2).signal; there = (r.2).there; passes = (r.2).passes })) e
+
+pub place-none : (p : SignalHead → Bool) (signals : List SignalHead) (k : ℕ) → position_from p k signals ≡ None → (x : SignalHead) → Has signals x → p x ≡ false
+place-none p [] k e x h = absurd h
+place-none p (z ∷ signals) k e x h =
+    place_chosen (p z) k (position_from p (k + 1) signals) (λ o. o ≡ None → p x ≡ false)
+    (λ t j. absurd (let i : Some k ≡ None = j in cc))
+    (λ f j. ⊎_elim (λ q. let P : SignalHead → Type 0 = λ y. p y ≡ false in subst P q f) (λ i. place-none p signals (k + 1) j x i) h) e
+
+-- the signal is a channel of the label, by the test
+pub channel-tested : (label : List ℕ) (x : SignalHead) → is_channel_of label x ≡ true → (x.label ≡ label) × (is_annotations label ≡ false)
+channel-tested label x h =
+    let both = and-true (bytes_eq x.label label) (not (is_annotations x.label)) h in
+    let same : x.label ≡ label = (bytes_eq-Decides x.label label).0 both.0 in
+    (same, ap is_annotations (sym same) ∙ not-true (is_annotations x.label) both.1)
+
+pub tested-channel : (label : List ℕ) (x : SignalHead) → x.label ≡ label → is_annotations label ≡ false → is_channel_of label x ≡ true
+tested-channel label x e f =
+    ap (λ b. b && not (is_annotations x.label)) ((bytes_eq-Decides x.label label).1 e) ∙ ap (λ l. not (is_annotations l)) e ∙ ap not f
+
+-- how many samples the signal has that was looked up
+abbrev samples_of : Option SignalHead → ℕ
+samples_of o = unwrap_or (option_map (λ (x : SignalHead). x.samples) o) 0
+
+pub channel-found : (h : Head) (label : List ℕ) (s : ℕ) → channel_place label h.signals ≡ Some s → IsChannel h s label (samples_at h s)
+channel-found h label s e =
+    let r = place-some (is_channel_of label) h.signals 0 s e in
+    let at : s ≡ r.0 = (let q = r.1 in omega arith) in
+    let t = channel-tested label (r.2).signal (r.2).passes in
+    let there : slice_get h.signals s ≡ Some (r.2).signal = ap (slice_get h.signals) at ∙ (r.2).there in
+    let count : samples_at h s ≡ ((r.2).signal).samples = ap samples_of there in
+    let make : List ℕ → ℕ → Option SignalHead = λ l n. Some (record { label = l; samples = n }) in
+    (there ∙ ap (λ l. make l ((r.2).signal).samples) t.0 ∙ ap (make label) (sym count), t.1)
+
+pub channel-samples : (h : Head) (s : ℕ) (label : List ℕ) (n : ℕ) → IsChannel h s label n → n ≡ samples_at h s
+channel-samples h s label n c = sym (ap samples_of c.0)
+
+pub has-place : (h : Head) (label : List ℕ) → HasChannel h label → (s : ℕ) × (channel_place label h.signals ≡ Some s)
+has-place h label c = cases (channel_place label h.signals) refl
+  where
+    cases : (o : Option ℕ) → channel_place label h.signals ≡ o → (s : ℕ) × (channel_place label h.signals ≡ Some s)
+    cases (Some s) e = (s, e)
+    cases None e =
+        let x : SignalHead = record { label = label; samples = c.1 } in
+        let f : is_channel_of label x ≡ false = place-none (is_channel_of label) h.signals 0 e x (has-at h.signals c.0 x (c.2).0) in
+        absurd (let t : true ≡ false = sym (tested-channel label x refl (c.2).1) ∙ f in cc)
+
+pub absent-none : (signals : List SignalHead) (labels : List (List ℕ)) (label : List ℕ) → first_absent signals labels ≡ None → Has labels label → (s : ℕ) × (channel_place label signals ≡ Some s)
+absent-none signals labels label e h = cases (channel_place label signals) refl
+  where
+    cases : (o : Option ℕ) → channel_place label signals ≡ o → (s : ℕ) × (channel_place label signals ≡ Some s)
+    cases (Some s) q = (s, q)
+    cases None q =
+        let f : is_none (channel_place label signals) ≡ false = find-none (λ l. is_none (channel_place l signals)) labels e label h in
+        absurd (let t : true ≡ false = sym (ap is_none q) ∙ f in cc)
+
+pub listed-has : (labels : List (List ℕ)) (label : List ℕ) → is_listed labels label ≡ true → Has labels label
+listed-has [] label h = absurd (let f : false ≡ true = h in cc)
+listed-has (l ∷ labels) label h = cases (bytes_eq l label) refl (λ t. listed-has labels label t)
+  where
+    cases : (b : Bool) → bytes_eq l label ≡ b → (is_listed labels label ≡ true → Has labels label) → Has (l ∷ labels) label
+    cases true e rest = inl ((bytes_eq-Decides l label).0 e)
+    cases false e rest = inr (rest (ap (λ b. b || is_listed labels label) (sym e) ∙ h))
+
+pub has-listed : (labels : List (List ℕ)) (label : List ℕ) → Has labels label → is_listed labels label ≡ true
+has-listed [] label h = absurd h
+has-listed (l ∷ labels) label (inl e) = ap (λ b. b || is_listed labels label) ((bytes_eq-Decides l label).1 e)
+has-listed (l ∷ labels) label (inr h) = or-true (bytes_eq l label) (is_listed labels label) (has-listed labels label h)
+  where
+    or-true : (a b : Bool) → b ≡ true → (a || b) ≡ true
+    or-true true b e = refl
+    or-true false b e = e
+
+pub unlisted-none : (labels : List (List ℕ)) (h : Head) (label : List ℕ) → first_unlisted labels h.signals ≡ None → HasChannel h label → Has labels label
+unlisted-none labels h label e c =
+    let x : SignalHead = record { label = label; samples = c.1 } in
+    let f : is_unlisted labels x ≡ false = find-none (is_unlisted labels) h.signals e x (has-at h.signals c.0 x (c.2).0) in
+    listed-has labels label (listed (is_listed labels label) (is_annotations label) (c.2).1 f)
+  where
+    listed : (a b : Bool) → b ≡ false → (not a && not b) ≡ false → a ≡ true
+    listed true b p q = refl
+    listed false true p q = absurd (let t : true ≡ false = p in cc)
+    listed false false p q = absurd (let t : true ≡ false = q in cc)
+
+pub unlisted-some : (labels : List (List ℕ)) (h : Head) (x : SignalHead) → first_unlisted labels h.signals ≡ Some x → HasChannel h x.label × (Has labels x.label → ⊥)
+unlisted-some labels h x e =
+    let r = find-some (is_unlisted labels) h.signals x e in
+    let both = and-true (not (is_listed labels x.label)) (not (is_annotations x.label)) r.1 in
+    let at = at-has h.signals x r.0 in (
+      (at.0, x.samples, (at.1, not-true (is_annotations x.label) both.1)),
+      λ i. let t : true ≡ false = sym (has-listed labels x.label i) ∙ not-true (is_listed labels x.label) both.0 in absurd (cc),
+    )
+
+-- nothing is absent and nothing else is there
+pub same-channels : (o e : Head) (labels : List (List ℕ)) → first_absent o.signals labels ≡ None → first_absent e.signals labels ≡ None → first_unlisted labels e.signals ≡ None → SameChannels o e labels
+same-channels o e labels ao ae ue = record {
+  in_original = λ label h. let r = absent-none o.signals labels label ao h in (r.0, samples_at o r.0, channel-found o label r.0 r.1);
+  in_export = λ label h. let r = absent-none e.signals labels label ae h in (r.0, samples_at e r.0, channel-found e label r.0 r.1);
+  no_other = λ label c. unlisted-none labels e label ue c;
+}

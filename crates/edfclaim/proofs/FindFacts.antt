@@ -1,0 +1,169 @@
+-- From what was found in two files in memory to the verdict on them.
+use Rattle.std.proofs.Common.{◌≡◌, ℕ, ℤ, pos, ◌+◌, ◌<◌, List, [], ◌∷◌, length, map, get_or, Option, Some, None, slice_get, MatchOption, refl, sym, ap, ◌∙◌, subst, arith}
+use Rattle.std.specs.Global.{Vec}
+use Rattle.edfclaim.specs.declared.file.EdfFile.{EdfFile}
+use Rattle.edfclaim.specs.declared.header.Signal.{Signal}
+use Rattle.edfclaim.specs.declared.earliest.Found.{Found}
+use Rattle.edfclaim.specs.declared.difference.SampleDifference.{SampleDifference}
+use Rattle.edfclaim.specs.declared.difference.Mismatch.{Mismatch}
+use Rattle.edfclaim.specs.declared.verdict.Verdict.{Verdict}
+use Rattle.edfclaim.specs.declared.verdict.Verdict.TheVariants.{Yes, No}
+use Rattle.edfclaim.specs.declared.verdict.Difference.{Difference}
+use Rattle.edfclaim.specs.declared.verdict.Difference.TheVariants.{OriginalFault, ExportFault, UnknownChannel, MissingChannel, ExtraChannel, Sample}
+use Rattle.edfclaim.specs.Lists.{Has}
+use Rattle.edfclaim.specs.Heads.{SignalHead, Head}
+use Rattle.edfclaim.specs.Claims.{Terms}
+use Rattle.edfclaim.specs.Channels.{HasChannel, channel_place, first_unlisted}
+use Rattle.edfclaim.specs.Exports.{SameChannels, SameSamples, DifferAt, floor_of}
+use Rattle.edfclaim.specs.Earliest.{earliest}
+use Rattle.edfclaim.specs.Compare.{Timed, label_difference}
+use Rattle.edfclaim.specs.Views.{header_view}
+use Rattle.edfclaim.specs.Judged.{IsModest, IsLoaded}
+use Rattle.edfclaim.specs.Loaded.{timed_view, IsYesOf, IsSampleNo, IsSampleVerdict}
+use Rattle.edfclaim.specs.Verdicts.{IsExport, IsFound, HasDifference, samples_in, kept_in}
+use Rattle.edfclaim.proofs.ListFacts.{has-at, get-within, has-map, map-has, map-get, get-index}
+use Rattle.edfclaim.proofs.EarliestFacts.{earliest-some, earliest-none}
+use Rattle.edfclaim.proofs.ChannelFacts.{channel-found, has-place, unlisted-some}
+use Rattle.edfclaim.proofs.LoadedFacts.{loaded-timely, loaded-some, loaded-distinct, length-view}
+use Rattle.edfclaim.proofs.BridgeFacts.{IsChannelOf, IsPair, PairMatch, PairLeast, pair-exact, pair-kept, pair-exported, pair-differ}
+
+-- a channel of a file in memory
+loaded-channel : (f : EdfFile) (label : List ℕ) (s : ℕ) (d : Signal) → IsLoaded f → channel_place label (header_view f.header).signals ≡ Some s → IsChannelOf (timed_view f) label s
+loaded-channel f label s d l e =
+    let c = channel-found (header_view f.header) label s e in
+    let lt : s < length f.header.signals.items = (let w = get-within ((header_view f.header).signals) s _ c.0 in omega (arith, w, length-view f.header.signals.items)) in
+    record {
+      channel = c;
+      timely = loaded-timely f s l lt;
+      some = loaded-some f s d l lt;
+      distinct = loaded-distinct f.header l.modest;
+    }
+
+-- the channels of a claimed label in both files
+pub record Pair (o e : EdfFile) (claim : Terms) (label : List ℕ) : Type 0 where
+  pub here : ℕ
+  pub there : ℕ
+  pub pair : IsPair (timed_view o) (timed_view e) claim label here there
+
+some_signal : (f : EdfFile) → IsLoaded f → Signal
+some_signal f l = first f.header.signals.items (l.modest).two_signals
+  where
+    first : (xs : List Signal) → length xs ≡ 2 → Signal
+    first [] h = absurd (omega arith)
+    first (x ∷ xs) h = x
+
+pub pair-of : (o e : EdfFile) (claim : Terms) (label : List ℕ) → IsLoaded o → IsLoaded e → SameChannels (header_view o.header) (header_view e.header) claim.channels → Has claim.channels label → Pair o e claim label
+pair-of o e claim label lo le same h =
+    let po = has-place (header_view o.header) label (same.in_original label h) in
+    let pe = has-place (header_view e.header) label (same.in_export label h) in
+    record {
+      here = po.0;
+      there = pe.0;
+      pair = record {
+        claimed = h;
+        original = loaded-channel o label po.0 (some_signal o lo) lo po.1;
+        export = loaded-channel e label pe.0 (some_signal e le) le pe.1;
+        original_place = po.1;
+        export_place = pe.1;
+      };
+    }
+
+-- the first differences of the labels' channels, in the claim's order
+abbrev differences : EdfFile → EdfFile → Terms → List (Vec ℕ) → List (Option SampleDifference)
+differences o e claim labels = map (λ label. label_difference claim.keep (timed_view o) (timed_view e) label.items) labels
+
+none_found : (o e : EdfFile) (claim : Terms) (labels : List (Vec ℕ)) → map (λ label. label.items) labels ≡ claim.channels → earliest 0 (differences o e claim labels) ≡ None
+    → (label : List ℕ) → Has claim.channels label → label_difference claim.keep (timed_view o) (timed_view e) label ≡ None
+none_found o e claim labels same none label h =
+    let r = map-has (λ (l : Vec ℕ). l.items) labels label (subst (λ (ls : List (List ℕ)). Has ls label) (sym same) h) in
+    let d = earliest-none 0 (differences o e claim labels) none _ (has-map (λ (l : Vec ℕ). label_difference claim.keep (timed_view o) (timed_view e) l.items) labels r.0 r.1) in
+    ap (label_difference claim.keep (timed_view o) (timed_view e)) (sym r.2) ∙ d
+
+matched : (o e : EdfFile) (claim : Terms) (label : List ℕ) (p : Pair o e claim label) → label_difference claim.keep (timed_view o) (timed_view e) label ≡ None → PairMatch (timed_view o) (timed_view e) claim p.here p.there
+matched o e claim label p none =
+    let P : Option SampleDifference → Type 0 = λ d. MatchOption d (PairMatch (timed_view o) (timed_view e) claim p.here p.there) (PairLeast (timed_view o) (timed_view e) claim p.here p.there) in
+    subst P none (pair-exact (timed_view o) (timed_view e) claim label p.here p.there p.pair)
+
+-- nothing was found to differ: the file is the export
+pub yes-export : (o e : EdfFile) (claim : Terms) (labels : List (Vec ℕ)) → IsLoaded o → IsLoaded e → SameChannels (header_view o.header) (header_view e.header) claim.channels
+    → map (λ label. label.items) labels ≡ claim.channels → earliest 0 (differences o e claim labels) ≡ None → IsExport (timed_view o) (timed_view e) claim
+yes-export o e claim labels lo le same listed none = record {
+  channels = same;
+  samples = record {
+    all_kept = λ label num den value i.
+        let p = pair-of o e claim label lo le same i.channel in
+        pair-kept (timed_view o) (timed_view e) claim label p.here p.there p.pair (matched o e claim label p (none_found o e claim labels listed none label i.channel)) num den value i;
+    none_else = λ label num den value i.
+        let h = same.no_other label (i.signal, den, i.channel) in
+        let p = pair-of o e claim label lo le same h in
+        pair-exported (timed_view o) (timed_view e) claim label p.here p.there p.pair (matched o e claim label p (none_found o e claim labels listed none label h)) num den value i;
+  };
+}
+
+pub yes-found : (o e : EdfFile) (claim : Terms) (v : Verdict) → IsYesOf (header_view e.header) v → IsExport (timed_view o) (timed_view e) claim → IsFound (timed_view o) (timed_view e) claim v
+yes-found o e claim (Yes channels samples annotations) counts export = (export, counts)
+yes-found o e claim (No d) counts export = absurd counts
+
+-- what was found, at the place of its label
+pub record FoundAt (o e : EdfFile) (claim : Terms) (labels : List (Vec ℕ)) (f : Found) : Type 0 where
+  pub label : Vec ℕ
+  pub there : slice_get labels f.channel ≡ Some label
+  pub difference : label_difference claim.keep (timed_view o) (timed_view e) label.items ≡ Some f.difference
+
+pub found-at : (o e : EdfFile) (claim : Terms) (labels : List (Vec ℕ)) (f : Found) → earliest 0 (differences o e claim labels) ≡ Some f → FoundAt o e claim labels f
+found-at o e claim labels f h =
+    let r = earliest-some 0 (differences o e claim labels) f h in
+    let g = map-get (λ (l : Vec ℕ). label_difference claim.keep (timed_view o) (timed_view e) l.items) labels r.0 (Some f.difference) r.2 in
+    let at : r.0 ≡ f.channel = (let c = r.1 in omega arith) in
+    record { label = g.0; there = ap (slice_get labels) (sym at) ∙ g.1; difference = g.2 }
+
+least : (o e : EdfFile) (claim : Terms) (label : List ℕ) (d : SampleDifference) (p : Pair o e claim label) → label_difference claim.keep (timed_view o) (timed_view e) label ≡ Some d
+    → PairLeast (timed_view o) (timed_view e) claim p.here p.there d
+least o e claim label d p some =
+    let P : Option SampleDifference → Type 0 = λ x. MatchOption x (PairMatch (timed_view o) (timed_view e) claim p.here p.there) (PairLeast (timed_view o) (timed_view e) claim p.here p.there) in
+    subst P some (pair-exact (timed_view o) (timed_view e) claim label p.here p.there p.pair)
+
+pub found-positive : (o e : EdfFile) (claim : Terms) (label : List ℕ) (d : SampleDifference) → IsLoaded o → IsLoaded e → SameChannels (header_view o.header) (header_view e.header) claim.channels
+    → Has claim.channels label → label_difference claim.keep (timed_view o) (timed_view e) label ≡ Some d → 0 < d.at.den
+found-positive o e claim label d lo le same h some =
+    let p = pair-of o e claim label lo le same h in
+    (least o e claim label d p some).0.0
+
+pub found-differ : (o e : EdfFile) (claim : Terms) (label : List ℕ) (d : SampleDifference) → IsLoaded o → IsLoaded e → SameChannels (header_view o.header) (header_view e.header) claim.channels
+    → Has claim.channels label → label_difference claim.keep (timed_view o) (timed_view e) label ≡ Some d
+    → DifferAt (kept_in (timed_view o) claim) (samples_in (timed_view e)) label d.at d.mismatch
+found-differ o e claim label d lo le same h some =
+    let p = pair-of o e claim label lo le same h in
+    pair-differ (timed_view o) (timed_view e) claim label p.here p.there p.pair d.at d.mismatch (least o e claim label d p some).0.1
+
+-- the verdict on a difference that was found
+pub sample-found : (o e : EdfFile) (claim : Terms) (label : List ℕ) (d : SampleDifference) (v : Verdict) → IsLoaded o → IsLoaded e → SameChannels (header_view o.header) (header_view e.header) claim.channels
+    → Has claim.channels label → label_difference claim.keep (timed_view o) (timed_view e) label ≡ Some d → IsSampleVerdict label d v → IsFound (timed_view o) (timed_view e) claim v
+sample-found o e claim label d (Yes channels samples annotations) lo le same h some i = absurd i
+sample-found o e claim label d (No (OriginalFault fault)) lo le same h some i = absurd i
+sample-found o e claim label d (No (ExportFault fault)) lo le same h some i = absurd i
+sample-found o e claim label d (No (UnknownChannel other)) lo le same h some i = absurd i
+sample-found o e claim label d (No (MissingChannel other)) lo le same h some i = absurd i
+sample-found o e claim label d (No (ExtraChannel other)) lo le same h some i = absurd i
+sample-found o e claim label d (No (Sample other at_ps mismatch)) lo le same h some i = record {
+  channels = same;
+  claimed = subst (λ (l : List ℕ). Has claim.channels l) (sym i.0) h;
+  at = d.at;
+  positive = found-positive o e claim label d lo le same h some;
+  floor = i.1;
+  differ =
+      let K = kept_in (timed_view o) claim in
+      let E = samples_in (timed_view e) in
+      subst (λ (l : List ℕ). DifferAt K E l d.at mismatch) (sym i.0)
+      (subst (λ (m : Mismatch). DifferAt K E label d.at m) (sym i.2) (found-differ o e claim label d lo le same h some));
+}
+
+-- a channel of the export that isn't claimed, by the label that was copied
+pub extra-found : (labels : List (List ℕ)) (h : Head) (x : SignalHead) (label : List ℕ) → first_unlisted labels h.signals ≡ Some x → label ≡ x.label → HasChannel h label × (Has labels label → ⊥)
+extra-found labels h x label e same =
+    let r = unlisted-some labels h x e in
+    (subst (HasChannel h) (sym same) r.0, λ i. r.1 (subst (Has labels) same i))
+
+pub found-claimed : (o e : EdfFile) (claim : Terms) (labels : List (Vec ℕ)) (f : Found) → map (λ label. label.items) labels ≡ claim.channels → (a : FoundAt o e claim labels f) → Has claim.channels (a.label).items
+found-claimed o e claim labels f same a =
+    subst (λ (ls : List (List ℕ)). Has ls (a.label).items) same (has-map (λ (l : Vec ℕ). l.items) labels a.label (has-at labels f.channel a.label a.there))

@@ -1,0 +1,84 @@
+-- What is known of the definitions' words for a file that was read whole.
+use Rattle.std.proofs.Common.{◌≡◌, ℕ, zero, suc, ℤ, pos, ◌+◌, ◌-◌, ◌*◌, ◌<◌, ◌≤◌, ◌<ℤ◌, Bool, true, false, ◌||◌, List, [], ◌∷◌, length, map, take, drop, get_or, Some, None, slice_get, refl, sym, ap, ◌∙◌, subst, arith, length-take, length-drop}
+use Rattle.std.proofs.Math.Nat.{mul-le-mul_right}
+use Rattle.std.proofs.lemmas.Int.{ints}
+use Rattle.std.specs.List.{list_any, All}
+use Rattle.edf_fields.specs.Parts.{part}
+use Rattle.edfclaim.specs.declared.file.EdfFile.{EdfFile}
+use Rattle.edfclaim.specs.declared.header.Header.{Header}
+use Rattle.edfclaim.specs.declared.header.Signal.{Signal}
+use Rattle.edfclaim.specs.Heads.{SignalHead, Head, is_annotations, header_bytes, record_bytes, samples_together, samples_at}
+use Rattle.edfclaim.specs.Records.{record_at, lane_at}
+use Rattle.edfclaim.specs.Samples.{IsChannel, counted}
+use Rattle.edfclaim.specs.Channels.{HasDistinctChannels}
+use Rattle.edfclaim.specs.Views.{signal_view, header_view}
+use Rattle.edfclaim.specs.Judged.{IsModest, IsLoaded}
+use Rattle.edfclaim.proofs.SignalFacts.{samples-here}
+use Rattle.edfclaim.proofs.RisingFacts.{IsTimely, counted-rising}
+
+pub part-length : (b : List ℕ) (at n : ℕ) → at + n ≤ length b → length (part b at n) ≡ n
+part-length b at n h = length-take n (drop at b) ∙ (let e = length-drop at b in omega arith)
+
+together-within : (signals : List SignalHead) (s : ℕ) (h : Head) → h.signals ≡ signals → s < length signals → samples_together (take s signals) + samples_at h s ≤ samples_together signals
+together-within signals s h e lt = rw (ap (λ xs. samples_at (record { records = 0; duration = pos 0; signals = xs }) s) e) (here signals s lt)
+  where
+    here : (signals : List SignalHead) (s : ℕ) → s < length signals
+        → samples_together (take s signals) + samples_at (record { records = 0; duration = pos 0; signals = signals }) s ≤ samples_together signals
+    here [] s lt = absurd (omega arith)
+    here (x ∷ signals) zero lt = omega arith
+    here (x ∷ signals) (suc s) lt = omega (arith, here signals s (omega arith))
+
+-- a lane has all its bytes
+pub lane-length : (file : List ℕ) (h : Head) (k s : ℕ) → header_bytes h + h.records * record_bytes h ≤ length file → k < h.records → s < length h.signals
+    → length (lane_at file h k s) ≡ 2 * samples_at h s
+lane-length file h k s size lt ls =
+    let r : (k + 1) * record_bytes h ≤ h.records * record_bytes h = mul-le-mul_right (record_bytes h) (let q : k + 1 ≤ h.records = omega arith in q) in
+    let record_there : length (record_at file h k) ≡ record_bytes h = part-length file (header_bytes h + k * record_bytes h) (record_bytes h) (omega arith) in
+    let within = together-within h.signals s h refl ls in
+    part-length (record_at file h k) (2 * samples_together (take s h.signals)) (2 * samples_at h s) (omega (arith, within, record_there))
+
+pub length-view : (signals : List Signal) → length (map signal_view signals) ≡ length signals
+length-view [] = refl
+length-view (x ∷ signals) = ap suc (length-view signals)
+
+pub loaded-timely : (f : EdfFile) (s : ℕ) → IsLoaded f → s < length f.header.signals.items → IsTimely f.bytes.items (header_view f.header) (counted f.header.duration_ps) s
+loaded-timely f s l lt = record {
+  some_time = (let t = (l.modest).some_time in omega (arith, ints));
+  rising = counted-rising f.header.duration_ps f.header.records;
+  full = λ k ltk. lane-length f.bytes.items (header_view f.header) k s (omega (arith, l.size)) ltk (omega (arith, length-view f.header.signals.items));
+}
+
+pub loaded-some : (f : EdfFile) (s : ℕ) (d : Signal) → IsLoaded f → s < length f.header.signals.items → 0 < samples_at (header_view f.header) s
+loaded-some f s d l lt =
+    let here = samples-here f.header s d lt in
+    let some : 1 ≤ (get_or f.header.signals.items s d).samples = (l.modest).some_samples s d lt in
+    omega (arith, here, some)
+
+none : (x y : SignalHead) (label : List ℕ) (n m : ℕ) → Some x ≡ Some (record { label = label; samples = n }) → Some y ≡ Some (record { label = label; samples = m }) → is_annotations label ≡ false
+    → (is_annotations x.label || (is_annotations y.label || false)) ≡ true → ⊥
+none x y label n m ex ey f any =
+    let hx : SignalHead = record { label = label; samples = n } in
+    let hy : SignalHead = record { label = label; samples = m } in
+    let px : x ≡ hx = cc in
+    let py : y ≡ hy = cc in
+    let fx : is_annotations x.label ≡ false = ap (λ (z : SignalHead). is_annotations z.label) px ∙ f in
+    let fy : is_annotations y.label ≡ false = ap (λ (z : SignalHead). is_annotations z.label) py ∙ f in
+    let e : false ≡ true = ap (λ b. false || (b || false)) (sym fy) ∙ ap (λ b. b || (is_annotations y.label || false)) (sym fx) ∙ any in
+    cc
+
+two-distinct : (signals : List SignalHead) → length signals ≡ 2 → list_any (λ x. is_annotations x.label) signals ≡ true → (s t : ℕ) (label : List ℕ) (n m : ℕ)
+    → slice_get signals s ≡ Some (record { label = label; samples = n }) → slice_get signals t ≡ Some (record { label = label; samples = m }) → is_annotations label ≡ false → s ≡ t
+two-distinct [] two any s t label n m es et f = absurd (omega arith)
+two-distinct (x ∷ []) two any s t label n m es et f = absurd (omega arith)
+two-distinct (x ∷ y ∷ z ∷ more) two any s t label n m es et f = absurd (omega arith)
+two-distinct (x ∷ y ∷ []) two any zero zero label n m es et f = refl
+two-distinct (x ∷ y ∷ []) two any zero (suc zero) label n m es et f = absurd (none x y label n m es et f any)
+two-distinct (x ∷ y ∷ []) two any (suc zero) zero label n m es et f = absurd (none x y label m n et es f any)
+two-distinct (x ∷ y ∷ []) two any (suc zero) (suc zero) label n m es et f = refl
+two-distinct (x ∷ y ∷ []) two any (suc (suc s)) t label n m es et f = absurd (let e : None ≡ Some (record { label = label; samples = n }) = es in cc)
+two-distinct (x ∷ y ∷ []) two any zero (suc (suc t)) label n m es et f = absurd (let e : None ≡ Some (record { label = label; samples = m }) = et in cc)
+two-distinct (x ∷ y ∷ []) two any (suc zero) (suc (suc t)) label n m es et f = absurd (let e : None ≡ Some (record { label = label; samples = m }) = et in cc)
+
+pub loaded-distinct : (h : Header) → IsModest h → HasDistinctChannels (header_view h)
+loaded-distinct h i s t label n m cs ct =
+    two-distinct (map signal_view h.signals.items) (length-view h.signals.items ∙ i.two_signals) i.annotated s t label n m cs.0 ct.0 cs.1

@@ -1,0 +1,128 @@
+//! The verdict on two files that passed their tests.
+
+ghost use Rattle.std.specs.Prelude.{◌≡◌, ◌*◌, ◌<◌, ◌≤◌, ◌^◌, length, map, pos, IfOk, MatchOption};
+ghost use Rattle.edfclaim.specs.Exports.{floor_of, SameChannels};
+ghost use Rattle.edfclaim.specs.Views.{header_view};
+ghost use Rattle.edfclaim.specs.Judged.{IsLoaded};
+ghost use Rattle.edfclaim.specs.Loaded.{timed_view, IsYesOf, IsSampleVerdict};
+ghost use Rattle.edfclaim.specs.Verdicts.{IsFound};
+
+use crate::channels::{channel_count, channel_samples_together, first_absent, first_unlisted};
+use crate::claim::Claim;
+use crate::compare::sample_difference;
+use crate::difference::SampleDifference;
+use crate::file::EdfFile;
+use crate::instant::Instant;
+use crate::verdict::{Difference, Verdict};
+use std::alloc::{AllocError, Global};
+
+impl Instant {
+    /// The whole picoseconds of the instant, rounded down.
+    pub fn floor(self) -> i128
+        requires { 0 < self.den }
+        ensures { result ≡ floor_of self }
+    {
+        self.num.div_euclid(i128::from(self.den))
+    }
+}
+
+/// The verdict Yes, with the export's counts.
+fn yes(export: &EdfFile) -> Verdict
+    requires { IsLoaded export.now }
+    ensures { IsYesOf (header_view export.now.header) result }
+{
+    let signals = export.header.signals.as_slice();
+    Verdict::Yes {
+        channels: channel_count(signals),
+        samples: u64::from(export.header.records) * channel_samples_together(signals),
+        annotations: 0,
+    }
+}
+
+/// The verdict on a difference of samples.
+///
+/// The error is want of memory.
+fn sample_verdict(
+    alloc: Global,
+    label: &[u8],
+    difference: SampleDifference,
+) -> Result<Verdict, AllocError>
+    requires { 0 < difference.at.den }
+    ensures { IfOk result (IsSampleVerdict label.now difference) }
+{
+    Ok(Verdict::No(Difference::Sample {
+        label: Vec::from_slice(alloc, label)?,
+        at_ps: difference.at.floor(),
+        mismatch: difference.mismatch,
+    }))
+}
+
+/// The verdict on the channels of two files, or none where they are as claimed: every claimed label is
+/// a channel of both, and the export has no other.
+///
+/// The error is want of memory.
+fn channel_verdict(
+    alloc: Global,
+    original: &EdfFile,
+    export: &EdfFile,
+    claim: &Claim,
+) -> Result<Option<Verdict>, AllocError>
+    ensures { IfOk result (λ v. MatchOption v
+        (SameChannels (header_view original.now.header) (header_view export.now.header) claim.now.channels)
+        (IsFound (timed_view original.now) (timed_view export.now) claim.now)) }
+{
+    let claimed = claim.channels();
+    if let Some(label) = first_absent(&original.header.signals, claimed) {
+        let label = Vec::from_slice(alloc, label)?;
+        return Ok(Some(Verdict::No(Difference::UnknownChannel(label))));
+    }
+    if let Some(label) = first_absent(&export.header.signals, claimed) {
+        let label = Vec::from_slice(alloc, label)?;
+        return Ok(Some(Verdict::No(Difference::MissingChannel(label))));
+    }
+    if let Some(signal) = first_unlisted(claimed, &export.header.signals) {
+        let label = Vec::from_slice(alloc, &signal.label)?;
+        return Ok(Some(Verdict::No(Difference::ExtraChannel(label))));
+    }
+    Ok(None)
+}
+
+/// The verdict on the samples of two files whose channels are as claimed.
+///
+/// The error is want of memory.
+fn samples_verdict(
+    alloc: Global,
+    original: &EdfFile,
+    export: &EdfFile,
+    claim: &Claim,
+) -> Result<Verdict, AllocError>
+    requires original { IsLoaded original.now }
+    requires export { IsLoaded export.now }
+    requires channels { SameChannels (header_view original.now.header) (header_view export.now.header) claim.now.channels }
+    ensures { IfOk result (IsFound (timed_view original.now) (timed_view export.now) claim.now) }
+{
+    let claimed = claim.channels();
+    match sample_difference(alloc, original, export, claim, claimed)? {
+        Some(found) => sample_verdict(alloc, &claimed[found.channel], found.difference),
+        None => Ok(yes(export)),
+    }
+}
+
+/// The verdict on two files that passed their tests.
+///
+/// The error is want of memory.
+pub fn find_verdict(
+    alloc: Global,
+    original: &EdfFile,
+    export: &EdfFile,
+    claim: &Claim,
+) -> Result<Verdict, AllocError>
+    requires original { IsLoaded original.now }
+    requires export { IsLoaded export.now }
+    ensures { IfOk result (IsFound (timed_view original.now) (timed_view export.now) claim.now) }
+{
+    match channel_verdict(alloc, original, export, claim)? {
+        Some(verdict) => Ok(verdict),
+        None => samples_verdict(alloc, original, export, claim),
+    }
+}
