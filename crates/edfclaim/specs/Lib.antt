@@ -18,6 +18,7 @@ pub mod Earliest
 pub mod Compare
 pub mod Verdicts
 pub mod Loaded
+pub mod Checks
 pub mod FaultTexts
 pub mod Quotes
 pub mod Lines

@@ -3,6 +3,7 @@
 
 pub mod append;
 pub mod channels;
+pub mod check;
 pub mod claim;
 pub mod compare;
 pub mod difference;
@@ -21,6 +22,7 @@ pub mod number_field;
 pub mod quote;
 pub mod sample;
 pub mod samples;
+pub mod side;
 pub mod stop;
 pub mod timeline;
 pub mod value;
