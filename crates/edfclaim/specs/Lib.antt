@@ -22,3 +22,5 @@ pub mod Checks
 pub mod FaultTexts
 pub mod Quotes
 pub mod Lines
+pub mod Vectors
+pub mod Statuses

@@ -1,8 +1,8 @@
 //! What an export is claimed to keep of its original.
 
 ghost use Rattle.std.specs.Prelude.{◌≡◌, ℕ, ◌<◌, ◌≤◌, ◌^◌, ◌*ℤ◌, ◌≤ℤ◌, ◌<ℤ◌, ◌↔◌, pos, length, map, IfOk, IsTrue, [], ◌∷◌, List, nat_eq, unsigned_abs};
-ghost use Rattle.std.specs.List.{All, IsDistinct};
-ghost use Rattle.std.specs.Str.{bytes_eq};
+ghost use Rattle.std.specs.List.{All};
+ghost use Rattle.edfclaim.specs.Lists.{AreDistinct};
 ghost use Rattle.edfclaim.specs.Keeps.{IsWithin, is_within, KeepsInstant, keeps_instant};
 ghost use Rattle.edfclaim.specs.Claims.{Terms};
 
@@ -67,7 +67,7 @@ impl Claim {
         to_ps: i128,
     ) -> Result<Claim, AllocError>
         requires some { 0 < length labels.now }
-        requires distinct { IsDistinct bytes_eq (map (λ label. label.now) labels.now) }
+        requires distinct { AreDistinct (map (λ label. label.now) labels.now) }
         requires short { All (λ label. length label.now ≤ 16) labels.now }
         requires from { pos 0 ≤ℤ from_ps }
         requires order { from_ps <ℤ to_ps }

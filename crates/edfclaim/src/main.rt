@@ -1,5 +1,12 @@
-//! The program.
+//! `edfclaim`: checks whether an exported sleep recording is the original night, cut as a claim says, and
+//! nothing else.
+//!
+//! The check is `check::check`; what its Yes means is the first clause of its contract. The program knows
+//! the command `vectors`, which checks files that it builds in memory and prints the lines.
 #![tactic(auto)]
+
+ghost use Rattle.std.specs.Prelude.{◌≡◌};
+ghost use Rattle.edfclaim.specs.Statuses.{status_of};
 
 pub mod append;
 pub mod channels;
@@ -20,12 +27,57 @@ pub mod layout;
 pub mod line;
 pub mod number_field;
 pub mod quote;
+pub mod report;
 pub mod sample;
 pub mod samples;
 pub mod side;
 pub mod stop;
 pub mod timeline;
 pub mod value;
+pub mod vectors;
 pub mod verdict;
 
-fn main() {}
+use crate::report::{Outcome, ReportStop};
+use crate::vectors::vectors_to;
+use edf_fields::sink::WriteSink;
+use std::env;
+use std::io;
+use std::process::ExitCode;
+use std::rt::Env;
+
+/// The status of a command: 0 for Yes, 1 for No, 2 where it stopped.
+fn status(ended: Result<Outcome, ReportStop>) -> u8
+    ensures { result ≡ status_of ended }
+{
+    match ended {
+        Ok(Outcome::Yes) => 0,
+        Ok(Outcome::No) => 1,
+        Err(_) => 2,
+    }
+}
+
+/// Writes the worked rows to standard output; a failed flush is a failed write.
+fn print_vectors(rt: &(impl Print + AllocGlobal)) -> Result<Outcome, ReportStop> {
+    let mut sink = WriteSink::new(io::writer(rt));
+    let outcome = vectors_to(rt.alloc(), &mut sink)?;
+    sink.flush()?;
+    Ok(outcome)
+}
+
+/// Runs the command that the words name: `vectors` alone. Any other line has status 2.
+fn run(rt: &(impl Env + Print + AllocGlobal)) -> u8 {
+    let Ok(mut words) = env::args(rt) else {
+        return 2;
+    };
+    let _name = words.next();
+    let is_vectors = words.next().is_some_and(|word| word.as_str() == "vectors");
+    if is_vectors && words.next().is_none() {
+        status(print_vectors(rt))
+    } else {
+        2
+    }
+}
+
+fn main(rt: HostRuntime) -> ExitCode {
+    ExitCode::from(run(&rt))
+}
