@@ -1,19 +1,19 @@
 -- What a header says stands in its own bytes: bytes behind it change nothing.
-use Rattle.std.proofs.Common.{◌≡◌, ℕ, zero, suc, pos, ℤ, ◌+◌, ◌-◌, ◌*◌, ◌<◌, ◌≤◌, List, [], ◌∷◌, ◌++◌, length, take, Option, Some, None, refl, sym, ap, ◌∙◌, arith, lit≤, length-append, append-nil, unwrap_or, ◌*ℤ◌, ◌⊎◌, inl, inr, Bool, true, false}
+use Rattle.std.proofs.Common.{◌≡◌, ℕ, zero, suc, pos, ◌+◌, ◌*◌, ◌<◌, ◌≤◌, List, [], ◌∷◌, ◌++◌, length, Option, None, refl, sym, ap, ◌∙◌, arith, lit≤, length-append, append-nil, unwrap_or, ◌*ℤ◌, ◌⊎◌, inl, inr, Bool, true, false}
 use Rattle.std.specs.Bool.{MatchBool}
 use Rattle.std.proofs.Math.Nat.{mul-le-mul_right, mul-le-mul_left}
-use Rattle.edf_fields.specs.Parts.{part, text_of}
+use Rattle.edf_fields.specs.Parts.{text_of}
 use Rattle.edf_fields.specs.Numbers.{whole_number_of, header_number_of}
 use Rattle.edf_fields.proofs.PartFacts.{part-append}
 use Rattle.edfclaim.specs.declared.fault.Fault.{Fault}
-use Rattle.edfclaim.specs.declared.fault.Place.TheVariants.{AtField, AtSignal, AtRecord}
+use Rattle.edfclaim.specs.declared.fault.Place.TheVariants.{AtField}
 use Rattle.edfclaim.specs.declared.layout.FixedField.{FixedField}
 use Rattle.edfclaim.specs.declared.layout.FixedField.TheVariants as fixed
 use Rattle.edfclaim.specs.declared.layout.SignalField.{SignalField}
 use Rattle.edfclaim.specs.declared.layout.SignalField.TheVariants as signal
 use Rattle.edfclaim.specs.declared.judge.Fixed.{Fixed}
 use Rattle.edfclaim.specs.Layout.{fixed_from, fixed_bytes, fixed_fields, fixed_field, column_before, column_width, columns, signal_field}
-use Rattle.edfclaim.specs.Heads.{SignalHead, Head, count_of, signals_of, duration_of, signal_of, signals_from}
+use Rattle.edfclaim.specs.Heads.{SignalHead, count_of, signal_of, signals_from}
 use Rattle.edfclaim.specs.Faults.{first, truncated, fixed_missing, fixed_faults, fixed_stage, header_bytes_fault, reserved_fault, records_fault, duration_fault, signals_fault, header_size_fault, samples_fault, column_missing, columns_missing, signals_faults, columns_stage}
 use Rattle.edfclaim.specs.Judged.{SaysFixed}
 use Rattle.edfclaim.proofs.FirstFacts.{first-passed}

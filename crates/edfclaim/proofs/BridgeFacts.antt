@@ -1,31 +1,29 @@
 -- From lists of samples to the samples of files: what a comparison of the lists says of the files.
-use Rattle.std.proofs.Common.{◌≡◌, ◌≢◌, ℕ, zero, suc, ℤ, pos, ◌+◌, ◌*◌, ◌<◌, ◌≤◌, ◌+ℤ◌, ◌-ℤ◌, ◌*ℤ◌, ◌≤ℤ◌, ◌<ℤ◌, int_le, int_lt, Bool, true, false, ◌&&◌, ◌||◌, List, [], ◌∷◌, length, filter, Option, Some, None, slice_get, MatchOption, ◌⊎◌, inl, inr, ⊎_elim, refl, sym, ap, ◌∙◌, subst, arith}
+use Rattle.std.proofs.Common.{◌≡◌, ℕ, ℤ, pos, ◌+◌, ◌*◌, ◌<◌, ◌+ℤ◌, ◌-ℤ◌, ◌*ℤ◌, int_le, int_lt, Bool, true, false, ◌&&◌, ◌||◌, List, [], ◌∷◌, length, Option, Some, MatchOption, ◌⊎◌, inl, inr, ⊎_elim, refl, sym, ap, ◌∙◌, subst, arith}
 use Rattle.std.proofs.lemmas.Int.{ints}
 use borrow.Author.Differences.{true_is_le, true_is_lt}
-use Rattle.std.specs.List.{list_any}
 use Rattle.edfclaim.specs.declared.instant.Instant.{Instant}
 use Rattle.edfclaim.specs.declared.claim.Interval.{Interval}
 use Rattle.edfclaim.specs.declared.sample.Sample.{Sample}
 use Rattle.edfclaim.specs.declared.difference.Mismatch.{Mismatch}
 use Rattle.edfclaim.specs.declared.difference.Mismatch.TheVariants.{Missing, Extra, Value}
 use Rattle.edfclaim.specs.declared.difference.SampleDifference.{SampleDifference}
-use Rattle.edfclaim.specs.Instants.{IsSame}
 use Rattle.edfclaim.specs.Lists.{Has}
-use Rattle.edfclaim.specs.Heads.{Head, samples_at}
+use Rattle.edfclaim.specs.Heads.{samples_at}
 use Rattle.edfclaim.specs.Records.{lane_at}
 use Rattle.edfclaim.specs.Lanes.{digital_value}
-use Rattle.edfclaim.specs.Samples.{IsChannel, IsSample}
+use Rattle.edfclaim.specs.Samples.{IsChannel}
 use Rattle.edfclaim.specs.Keeps.{IsWithin, KeepsInstant, is_within, keeps_instant}
 use Rattle.edfclaim.specs.Claims.{Terms}
-use Rattle.edfclaim.specs.Channels.{HasChannel, HasDistinctChannels, channel_place}
-use Rattle.edfclaim.specs.Differences.{instant, HasValue, HasNone, Match, Differ, diff, IsAscending, IsLeastDifference}
-use Rattle.edfclaim.specs.Exports.{SameChannels, SameSamples, IsKept, StandsAt, NoneAt, DifferAt}
+use Rattle.edfclaim.specs.Channels.{HasDistinctChannels, channel_place}
+use Rattle.edfclaim.specs.Differences.{HasValue, HasNone, Match, Differ, diff, IsAscending, IsLeastDifference}
+use Rattle.edfclaim.specs.Exports.{StandsAt, NoneAt, DifferAt}
 use Rattle.edfclaim.specs.Compare.{Timed, all_samples, kept_samples, difference_at, label_difference}
 use Rattle.edfclaim.specs.Verdicts.{samples_in, kept_in}
 use Rattle.edfclaim.proofs.ListFacts.{has-filtered, filtered-has, and-true}
-use Rattle.edfclaim.proofs.MemberFacts.{InLane, InRecords, lane-has, has-lane, records-has, has-records}
+use Rattle.edfclaim.proofs.MemberFacts.{has-lane, records-has, has-records}
 use Rattle.edfclaim.proofs.RisingFacts.{IsTimely, records-ascending, filter-ascending}
-use Rattle.edfclaim.proofs.ChannelFacts.{channel-found, channel-samples, has-place}
+use Rattle.edfclaim.proofs.ChannelFacts.{channel-samples}
 use Rattle.edfclaim.proofs.DifferenceFacts.{exact}
 
 -- an interval's test
@@ -100,9 +98,11 @@ file-list f label s c num den value i =
     let count : den ≡ n = channel-samples f.head i.signal label den i.channel ∙ ap (samples_at f.head) at in
     let k = i.data_record in
     let place : 2 * i.place + 1 < length (lane_at f.file f.head k s) = omega (arith, i.in_lane, count, (c.timely).full k i.in_file) in
-    let inst : x.num ≡ (pos n *ℤ f.starts k) +ℤ (pos i.place *ℤ (f.head).duration) = i.instant ∙ ap (λ m. (pos m *ℤ f.starts k) +ℤ (pos i.place *ℤ (f.head).duration)) count in
-    (count, has-records f.file f.head f.starts s 0 (f.head).records x k (omega arith) (omega (arith, i.in_file))
-      (has-lane (pos n *ℤ f.starts k) (f.head).duration (lane_at f.file f.head k s) x i.place place inst (i.value_is ∙ ap (λ j. digital_value (lane_at f.file f.head k j) i.place) at)))
+    let inst : x.num ≡ (pos n *ℤ f.starts k) +ℤ (pos i.place *ℤ (f.head).duration) = i.instant ∙ ap (λ m. (pos m *ℤ f.starts k) +ℤ (pos i.place *ℤ (f.head).duration)) count in (
+      count,
+      has-records f.file f.head f.starts s 0 (f.head).records x k (omega arith) (omega (arith, i.in_file))
+          (has-lane (pos n *ℤ f.starts k) (f.head).duration (lane_at f.file f.head k s) x i.place place inst (i.value_is ∙ ap (λ j. digital_value (lane_at f.file f.head k j) i.place) at)),
+    )
 
 pub list-kept : (f : Timed) (claim : Terms) (label : List ℕ) (s : ℕ) → IsChannelOf f label s → Has claim.channels label → (x : Sample) → Has (kept_samples claim.keep f s) x
     → kept_in f claim label x.num (samples_at f.head s) x.value

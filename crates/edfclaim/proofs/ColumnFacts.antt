@@ -1,10 +1,9 @@
 -- Which byte of the columns is missing first.
-use Rattle.std.proofs.Common.{◌≡◌, ℕ, zero, suc, ◌+◌, ◌-◌, ◌*◌, ◌/◌, ◌<◌, ◌≤◌, List, [], ◌∷◌, ◌++◌, Option, Some, None, refl, sym, ap, ◌∙◌, arith, inl, inr, length, get_or, drop, subst, add-one}
+use Rattle.std.proofs.Common.{◌≡◌, ℕ, zero, suc, ◌+◌, ◌-◌, ◌*◌, ◌/◌, ◌<◌, ◌≤◌, List, [], ◌∷◌, None, refl, sym, ap, ◌∙◌, arith, inl, inr, length, get_or, drop, subst, add-one}
 use Rattle.std.proofs.lemmas.Bool.{cases_lt}
 use Rattle.std.proofs.lemmas.Bool.Decides.{nat_tests}
 use Rattle.std.proofs.Math.Nat.{div-eq_of_lt-le}
 use Rattle.std.proofs.Math.Seq.{drop-cons}
-use Rattle.edfclaim.specs.declared.fault.Fault.{Fault}
 use Rattle.edfclaim.specs.declared.fault.Place.{Place}
 use Rattle.edfclaim.specs.declared.fault.Place.TheVariants.{AtSignal}
 use Rattle.edfclaim.specs.declared.fault.Cause.TheVariants.{Truncated}

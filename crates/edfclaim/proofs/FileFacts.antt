@@ -1,17 +1,15 @@
 -- From what was read to the whole file.
-use Rattle.std.proofs.Common.{◌≡◌, ℕ, zero, suc, pos, ℤ, ◌+◌, ◌-◌, ◌*◌, ◌<◌, ◌≤◌, List, [], ◌∷◌, ◌++◌, length, map, Option, Some, None, refl, sym, ap, ◌∙◌, arith, inl, inr, subst}
+use Rattle.std.proofs.Common.{◌≡◌, ℕ, zero, suc, ℤ, ◌+◌, ◌*◌, ◌<◌, ◌≤◌, List, [], ◌∷◌, ◌++◌, length, map, Some, None, refl, sym, ap, ◌∙◌, arith, inl, inr, subst}
 use Rattle.std.proofs.Math.Nat.{mul-le-mul_right}
 use Rattle.std.proofs.lemmas.Bool.{cases_lt}
 use Rattle.std.proofs.lemmas.Bool.Decides.{nat_tests}
-use Rattle.edf_fields.specs.Numbers.{whole_number_of}
 use Rattle.edfclaim.specs.declared.fault.Fault.{Fault}
 use Rattle.edfclaim.specs.declared.fault.Place.TheVariants.{AtRecord, AtEnd}
 use Rattle.edfclaim.specs.declared.fault.Cause.TheVariants.{Truncated, TrailingBytes}
 use Rattle.edfclaim.specs.declared.judge.Fixed.{Fixed}
 use Rattle.edfclaim.specs.declared.header.Header.{Header}
-use Rattle.edfclaim.specs.declared.header.Signal.{Signal}
 use Rattle.edfclaim.specs.Heads.{SignalHead, Head, count_of, signals_of, duration_of, signals_from, head_of, header_bytes, record_bytes}
-use Rattle.edfclaim.specs.Faults.{first, fault, truncated, fixed_stage, columns_stage, joint_faults, header_tests, records_missing, trailing_bytes, records_stage, file_tests, first_fault}
+use Rattle.edfclaim.specs.Faults.{first, fault, truncated, fixed_stage, columns_stage, joint_faults, header_tests, records_missing, trailing_bytes, records_stage, first_fault}
 use Rattle.edfclaim.specs.Views.{signal_view, header_view}
 use Rattle.edfclaim.specs.Judged.{SaysFixed, SaysSignals}
 use Rattle.edfclaim.proofs.FirstFacts.{first-passed, first-found}

@@ -1,5 +1,5 @@
 -- From what was found in two files in memory to the verdict on them.
-use Rattle.std.proofs.Common.{◌≡◌, ℕ, ℤ, pos, ◌+◌, ◌<◌, List, [], ◌∷◌, length, map, get_or, Option, Some, None, slice_get, MatchOption, refl, sym, ap, ◌∙◌, subst, arith}
+use Rattle.std.proofs.Common.{◌≡◌, ℕ, ◌<◌, List, [], ◌∷◌, length, map, Option, Some, None, slice_get, MatchOption, sym, ap, ◌∙◌, subst, arith}
 use Rattle.std.specs.Global.{Vec}
 use Rattle.edfclaim.specs.declared.file.EdfFile.{EdfFile}
 use Rattle.edfclaim.specs.declared.header.Signal.{Signal}
@@ -8,20 +8,19 @@ use Rattle.edfclaim.specs.declared.difference.SampleDifference.{SampleDifference
 use Rattle.edfclaim.specs.declared.difference.Mismatch.{Mismatch}
 use Rattle.edfclaim.specs.declared.verdict.Verdict.{Verdict}
 use Rattle.edfclaim.specs.declared.verdict.Verdict.TheVariants.{Yes, No}
-use Rattle.edfclaim.specs.declared.verdict.Difference.{Difference}
 use Rattle.edfclaim.specs.declared.verdict.Difference.TheVariants.{OriginalFault, ExportFault, UnknownChannel, MissingChannel, ExtraChannel, Sample}
 use Rattle.edfclaim.specs.Lists.{Has}
 use Rattle.edfclaim.specs.Heads.{SignalHead, Head}
 use Rattle.edfclaim.specs.Claims.{Terms}
 use Rattle.edfclaim.specs.Channels.{HasChannel, channel_place, first_unlisted}
-use Rattle.edfclaim.specs.Exports.{SameChannels, SameSamples, DifferAt, floor_of}
+use Rattle.edfclaim.specs.Exports.{SameChannels, DifferAt}
 use Rattle.edfclaim.specs.Earliest.{earliest}
-use Rattle.edfclaim.specs.Compare.{Timed, label_difference}
+use Rattle.edfclaim.specs.Compare.{label_difference}
 use Rattle.edfclaim.specs.Views.{header_view}
-use Rattle.edfclaim.specs.Judged.{IsModest, IsLoaded}
-use Rattle.edfclaim.specs.Loaded.{timed_view, IsYesOf, IsSampleNo, IsSampleVerdict}
-use Rattle.edfclaim.specs.Verdicts.{IsExport, IsFound, HasDifference, samples_in, kept_in}
-use Rattle.edfclaim.proofs.ListFacts.{has-at, get-within, has-map, map-has, map-get, get-index}
+use Rattle.edfclaim.specs.Judged.{IsLoaded}
+use Rattle.edfclaim.specs.Loaded.{timed_view, IsYesOf, IsSampleVerdict}
+use Rattle.edfclaim.specs.Verdicts.{IsExport, IsFound, samples_in, kept_in}
+use Rattle.edfclaim.proofs.ListFacts.{has-at, get-within, has-map, map-has, map-get}
 use Rattle.edfclaim.proofs.EarliestFacts.{earliest-some, earliest-none}
 use Rattle.edfclaim.proofs.ChannelFacts.{channel-found, has-place, unlisted-some}
 use Rattle.edfclaim.proofs.LoadedFacts.{loaded-timely, loaded-some, loaded-distinct, length-view}

@@ -1,5 +1,5 @@
 -- Which samples stand in a file's lists: those at each place of each data record, and no others.
-use Rattle.std.proofs.Common.{◌≡◌, ℕ, zero, suc, ℤ, pos, ◌+◌, ◌-◌, ◌*◌, ◌<◌, ◌≤◌, ◌+ℤ◌, ◌*ℤ◌, List, [], ◌∷◌, ◌++◌, length, get_or, ◌⊎◌, inl, inr, ⊎_elim, refl, sym, ap, ◌∙◌, subst, arith}
+use Rattle.std.proofs.Common.{◌≡◌, ℕ, zero, suc, ℤ, pos, ◌+◌, ◌*◌, ◌<◌, ◌≤◌, ◌+ℤ◌, ◌*ℤ◌, List, [], ◌∷◌, length, get_or, inl, inr, ⊎_elim, sym, ap, ◌∙◌, subst, arith}
 use Rattle.std.proofs.lemmas.Int.{ints}
 use Rattle.std.proofs.lemmas.Bool.{cases_lt}
 use Rattle.edfclaim.specs.declared.sample.Sample.{Sample}
@@ -7,7 +7,7 @@ use Rattle.edfclaim.specs.Lists.{Has}
 use Rattle.edfclaim.specs.Heads.{Head, samples_at}
 use Rattle.edfclaim.specs.Records.{lane_at}
 use Rattle.edfclaim.specs.Lanes.{digital, digital_value, lane_samples}
-use Rattle.edfclaim.specs.Samples.{samples_from, samples_of}
+use Rattle.edfclaim.specs.Samples.{samples_from}
 use Rattle.edfclaim.proofs.ListFacts.{has-append, has-front, has-back}
 
 -- a sample at some place of a lane

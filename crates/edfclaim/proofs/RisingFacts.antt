@@ -1,5 +1,5 @@
 -- The samples of a channel rise in time.
-use Rattle.std.proofs.Common.{◌≡◌, ℕ, zero, suc, ℤ, pos, ◌+◌, ◌-◌, ◌*◌, ◌<◌, ◌≤◌, ◌+ℤ◌, ◌*ℤ◌, ◌≤ℤ◌, ◌<ℤ◌, Bool, true, false, cond, List, [], ◌∷◌, ◌++◌, length, filter, inl, inr, ⊎_elim, refl, sym, ap, ◌∙◌, subst, arith}
+use Rattle.std.proofs.Common.{◌≡◌, ℕ, zero, suc, ℤ, pos, ◌+◌, ◌*◌, ◌<◌, ◌≤◌, ◌+ℤ◌, ◌*ℤ◌, ◌≤ℤ◌, ◌<ℤ◌, Bool, true, false, cond, List, [], ◌∷◌, ◌++◌, length, filter, inl, inr, ⊎_elim, refl, arith}
 use Rattle.std.proofs.lemmas.Int.{ints}
 use Rattle.std.proofs.lemmas.Bool.{cases_lt}
 use Rattle.edfclaim.specs.declared.sample.Sample.{Sample}
@@ -63,10 +63,10 @@ lane-ascending a d [] p = tt
 lane-ascending a d (byte ∷ []) p = tt
 lane-ascending a d (low ∷ high ∷ rest) p = (
   λ y h.
-  let r = lane-has (a +ℤ d) d rest y h in
-  let s : (pos 0 *ℤ d) ≤ℤ (pos r.place *ℤ d) = steps-mono 0 r.place d (omega (arith, ints)) (omega arith) in
-  let n = r.num in
-  omega (arith, ints),
+      let r = lane-has (a +ℤ d) d rest y h in
+      let s : (pos 0 *ℤ d) ≤ℤ (pos r.place *ℤ d) = steps-mono 0 r.place d (omega (arith, ints)) (omega arith) in
+      let n = r.num in
+      omega (arith, ints),
   lane-ascending (a +ℤ d) d rest p,
 )
 

@@ -2,7 +2,7 @@
 use Rattle.std.proofs.Common.{◌≡◌, ℕ, zero, suc, ◌+◌, ◌<◌, ◌≤◌, List, [], ◌∷◌, length, map, take, get_or, arith, refl, pos}
 use Rattle.edfclaim.specs.declared.header.Signal.{Signal}
 use Rattle.edfclaim.specs.declared.header.Header.{Header}
-use Rattle.edfclaim.specs.Heads.{SignalHead, Head, samples_together, samples_at}
+use Rattle.edfclaim.specs.Heads.{samples_together, samples_at}
 use Rattle.edfclaim.specs.Views.{signal_view, header_view}
 
 -- a signal's samples stand behind those of the signals before it, and within those of all

@@ -1,10 +1,9 @@
 -- The channels of a header, which are its ordinary signals, found by their labels.
-use Rattle.std.specs.Prelude.{◌≡◌, ℕ, ◌+◌, Bool, not, ◌&&◌, cond, List, [], ◌∷◌, Option, is_none, find, if◌then◌else◌}
+use Rattle.std.specs.Prelude.{◌≡◌, ℕ, ◌+◌, Bool, not, ◌&&◌, List, [], ◌∷◌, Option, is_none, find, if◌then◌else◌}
 use Rattle.std.specs.List.{list_any, position_from}
 use Rattle.std.specs.Str.{bytes_eq}
 use Rattle.edfclaim.specs.Heads.{SignalHead, Head, is_annotations}
 use Rattle.edfclaim.specs.Samples.{IsChannel}
-use Rattle.edfclaim.specs.Lists.{Has}
 
 -- the header has a channel of this label
 abbrev pub HasChannel : Head → List ℕ → Type 0

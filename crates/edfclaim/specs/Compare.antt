@@ -1,5 +1,5 @@
 -- The first difference between what a claim keeps of an original and an export, channel by channel.
-use Rattle.std.specs.Prelude.{ℕ, ℤ, List, map, filter, Option, Some, None}
+use Rattle.std.specs.Prelude.{ℕ, ℤ, List, filter, Option, Some, None}
 use Rattle.edfclaim.specs.declared.sample.Sample.{Sample}
 use Rattle.edfclaim.specs.declared.claim.Interval.{Interval}
 use Rattle.edfclaim.specs.declared.difference.SampleDifference.{SampleDifference}

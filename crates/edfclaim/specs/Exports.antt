@@ -1,6 +1,6 @@
 -- When a file is the export of an original under a claim, as far as channels and samples go. All by
 -- exact fractions and in both directions.
-use Rattle.std.specs.Prelude.{◌≡◌, ◌≢◌, ℕ, ℤ, pos, ◌+◌, ◌<◌, ◌+ℤ◌, ◌-ℤ◌, ◌*ℤ◌, List}
+use Rattle.std.specs.Prelude.{◌≡◌, ◌≢◌, ℕ, ℤ, pos, ◌+ℤ◌, ◌-ℤ◌, ◌*ℤ◌, List}
 use Rattle.std.specs.Int.{int_div_euclid}
 use Rattle.edfclaim.specs.declared.instant.Instant.{Instant}
 use Rattle.edfclaim.specs.declared.claim.Interval.{Interval}

@@ -1,5 +1,5 @@
 -- The tests that a file has to pass, in their written order, and the first that fails.
-use Rattle.std.specs.Prelude.{◌≡◌, ℕ, zero, suc, ℤ, pos, ◌+◌, ◌*◌, ◌*ℤ◌, ◌^◌, nat_le, nat_lt, int_lt, if◌then◌else◌, List, [], ◌∷◌, ◌++◌, length, take, Option, Some, None, codes}
+use Rattle.std.specs.Prelude.{ℕ, zero, suc, ℤ, pos, ◌+◌, ◌*◌, ◌*ℤ◌, ◌^◌, nat_le, nat_lt, int_lt, if◌then◌else◌, List, [], ◌∷◌, ◌++◌, length, take, Option, Some, None, codes}
 use Rattle.std.specs.List.{list_any, list_all}
 use Rattle.std.specs.Ordering.{int_eq}
 use Rattle.std.specs.Str.{bytes_eq}
@@ -14,7 +14,7 @@ use Rattle.edfclaim.specs.declared.layout.FixedField.TheVariants as fixed
 use Rattle.edfclaim.specs.declared.layout.SignalField.{SignalField}
 use Rattle.edfclaim.specs.declared.layout.SignalField.TheVariants as signal
 use Rattle.edfclaim.specs.Layout.{fixed_from, fixed_bytes, fixed_fields, fixed_field, column_before, column_width, columns, signal_field}
-use Rattle.edfclaim.specs.Heads.{SignalHead, Head, signals_of, head_of, is_annotations, samples_together, header_bytes, record_bytes}
+use Rattle.edfclaim.specs.Heads.{SignalHead, Head, signals_of, head_of, is_annotations, header_bytes, record_bytes}
 
 -- the first test that fails: each test is none, or the fault that it finds
 abbrev pub first : List (Option Fault) → Option Fault

@@ -1,7 +1,7 @@
 -- What a header says, as far as this profile uses it. EDF (1992), "Header record".
-use Rattle.std.specs.Prelude.{◌≡◌, ℕ, zero, suc, ℤ, pos, negsuc, ◌+◌, ◌*◌, ◌*ℤ◌, Bool, List, [], ◌∷◌, length, take, Option, Some, None, slice_get, unwrap_or, option_map, codes, sum_by}
+use Rattle.std.specs.Prelude.{ℕ, zero, suc, ℤ, pos, negsuc, ◌+◌, ◌*◌, ◌*ℤ◌, Bool, List, [], ◌∷◌, length, Option, Some, None, slice_get, unwrap_or, option_map, codes}
 use Rattle.std.specs.Str.{bytes_eq}
-use Rattle.edf_fields.specs.Parts.{part, text_of}
+use Rattle.edf_fields.specs.Parts.{text_of}
 use Rattle.edf_fields.specs.Numbers.{whole_number_of, header_number_of}
 use Rattle.edfclaim.specs.declared.layout.FixedField.TheVariants as fixed
 use Rattle.edfclaim.specs.declared.layout.SignalField.TheVariants as signal

@@ -8,7 +8,7 @@ use Rattle.edfclaim.specs.declared.header.Header.{Header}
 use Rattle.edfclaim.specs.declared.file.EdfFile.{EdfFile}
 use Rattle.edfclaim.specs.declared.layout.FixedField.TheVariants as fixed
 use Rattle.edfclaim.specs.Layout.{fixed_field}
-use Rattle.edfclaim.specs.Heads.{SignalHead, is_annotations, signals_of, duration_of, signals_from, header_bytes, record_bytes}
+use Rattle.edfclaim.specs.Heads.{is_annotations, signals_of, duration_of, signals_from, header_bytes, record_bytes}
 use Rattle.edfclaim.specs.Views.{signal_view, header_view}
 
 -- the fixed part says this

@@ -1,6 +1,6 @@
 -- The samples of one signal in one data record. EDF (1992), "Data record": each sample is a 2-byte
 -- integer in two's complement, the low byte first.
-use Rattle.std.specs.Prelude.{◌≡◌, ℕ, ℤ, ◌+◌, ◌*◌, pos, ◌+ℤ◌, ◌-ℤ◌, nat_lt, if◌then◌else◌, List, [], ◌∷◌, slice_index}
+use Rattle.std.specs.Prelude.{ℕ, ℤ, ◌+◌, ◌*◌, pos, ◌+ℤ◌, ◌-ℤ◌, nat_lt, if◌then◌else◌, List, [], ◌∷◌, slice_index}
 use Rattle.edfclaim.specs.declared.sample.Sample.{Sample}
 
 -- the number that two bytes give

@@ -1,5 +1,5 @@
 -- A file in memory, in the words of the definitions.
-use Rattle.std.specs.Prelude.{ℕ, ℤ, ◌≡◌}
+use Rattle.std.specs.Prelude.{ℕ, ◌≡◌}
 use Rattle.edfclaim.specs.declared.file.EdfFile.{EdfFile}
 use Rattle.edfclaim.specs.declared.difference.SampleDifference.{SampleDifference}
 use Rattle.edfclaim.specs.declared.verdict.Verdict.{Verdict}

@@ -1,8 +1,8 @@
 -- The samples of a file, each at its exact instant. EDF (1992), "Data record"; EDF+ (2003), "Time
 -- keeping of data records". Times are picoseconds.
-use Rattle.std.specs.Prelude.{◌≡◌, ℕ, zero, suc, ℤ, pos, ◌+◌, ◌<◌, ◌+ℤ◌, ◌*ℤ◌, Bool, false, List, [], ◌∷◌, ◌++◌, Some, slice_get}
+use Rattle.std.specs.Prelude.{◌≡◌, ℕ, zero, suc, ℤ, pos, ◌+◌, ◌<◌, ◌+ℤ◌, ◌*ℤ◌, false, List, [], ◌++◌, Some, slice_get}
 use Rattle.edfclaim.specs.declared.sample.Sample.{Sample}
-use Rattle.edfclaim.specs.Heads.{SignalHead, Head, is_annotations, samples_at}
+use Rattle.edfclaim.specs.Heads.{Head, is_annotations, samples_at}
 use Rattle.edfclaim.specs.Lanes.{digital_value, lane_samples}
 use Rattle.edfclaim.specs.Records.{lane_at}
 

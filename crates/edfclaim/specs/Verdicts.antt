@@ -1,11 +1,9 @@
 -- When a verdict applies to an original, an export and a claim.
 use Rattle.std.specs.Prelude.{◌≡◌, ℕ, ℤ, pos, ◌*◌, ◌<◌, List, None, Some}
 use Rattle.edfclaim.specs.declared.instant.Instant.{Instant}
-use Rattle.edfclaim.specs.declared.fault.Fault.{Fault}
 use Rattle.edfclaim.specs.declared.difference.Mismatch.{Mismatch}
 use Rattle.edfclaim.specs.declared.verdict.Verdict.{Verdict}
 use Rattle.edfclaim.specs.declared.verdict.Verdict.TheVariants.{Yes, No}
-use Rattle.edfclaim.specs.declared.verdict.Difference.{Difference}
 use Rattle.edfclaim.specs.declared.verdict.Difference.TheVariants.{OriginalFault, ExportFault, UnknownChannel, MissingChannel, ExtraChannel, Sample}
 use Rattle.edfclaim.specs.Lists.{Has}
 use Rattle.edfclaim.specs.Heads.{Head, head_of}

@@ -40,10 +40,9 @@ pub mod verdict;
 use crate::report::{Outcome, ReportStop};
 use crate::vectors::vectors_to;
 use edf_fields::sink::WriteSink;
-use std::env;
-use std::io;
 use std::process::ExitCode;
 use std::rt::Env;
+use std::{env, io};
 
 /// The status of a command: 0 for Yes, 1 for No, 2 where it stopped.
 fn status(ended: Result<Outcome, ReportStop>) -> u8

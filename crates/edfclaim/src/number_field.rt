@@ -57,10 +57,7 @@ fn equal(place: Place, cause: Cause, wanted: u32, value: Option<i64>) -> Result<
 pub fn header_bytes(field: &[u8]) -> Result<(), Fault>
     ensures { MatchResult result (λ _. header_bytes_fault field.now ≡ None) (λ f. header_bytes_fault field.now ≡ Some f) }
 {
-    some_number(
-        Place::AtField(FixedField::HeaderBytes),
-        header_whole(field),
-    )?;
+    some_number(Place::AtField(FixedField::HeaderBytes), header_whole(field))?;
     Ok(())
 }
 
@@ -104,10 +101,7 @@ pub fn duration(field: &[u8]) -> Result<i64, Fault>
         (λ v. (duration_fault field.now ≡ None) × (unwrap_or (header_number_of field.now) (pos 0) ≡ v) × (pos 1 ≤ℤ v) × (unsigned_abs v < 10 ^ 15))
         (λ f. duration_fault field.now ≡ Some f) }
 {
-    positive(
-        Place::AtField(FixedField::Duration),
-        header_number(field),
-    )
+    positive(Place::AtField(FixedField::Duration), header_number(field))
 }
 
 /// How many signals there are: 2, a channel and an annotation signal.

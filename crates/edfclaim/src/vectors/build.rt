@@ -45,12 +45,7 @@ impl<'a> SignalText<'a> {
 }
 
 /// Puts the text behind the file, and copies of `fill` up to `width` bytes in all.
-fn push_padded(
-    file: &mut Vec<u8>,
-    text: &[u8],
-    fill: u8,
-    width: usize,
-) -> Result<(), AllocError> {
+fn push_padded(file: &mut Vec<u8>, text: &[u8], fill: u8, width: usize) -> Result<(), AllocError> {
     file.extend_from_slice(text)?;
     for _ in text.len()..width {
         file.push(fill)?;

@@ -1,8 +1,6 @@
 //! The files of the worked rows.
 
-use crate::vectors::build::{
-    HeaderText, SignalText, push_annotations, push_header, push_values,
-};
+use crate::vectors::build::{HeaderText, SignalText, push_annotations, push_header, push_values};
 use std::alloc::{AllocError, Global};
 
 /// A channel `Temp` with so many samples in a data record.

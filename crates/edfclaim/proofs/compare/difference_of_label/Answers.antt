@@ -1,7 +1,7 @@
-use Rattle.std.proofs.Common.{◌≡◌, ◌∙◌, ap, sym, map, Some}
+use Rattle.std.proofs.Common.{◌≡◌, ◌∙◌, ap, map, Some}
 use Rattle.edfclaim.specs.Heads.{samples_at}
 use Rattle.edfclaim.specs.Channels.{channel_place}
-use Rattle.edfclaim.specs.Views.{signal_view, header_view}
+use Rattle.edfclaim.specs.Views.{signal_view}
 use Rattle.edfclaim.specs.Differences.{diff}
 use Rattle.edfclaim.specs.Compare.{label_difference, difference_at, kept_samples, all_samples}
 use Rattle.edfclaim.specs.Loaded.{timed_view}

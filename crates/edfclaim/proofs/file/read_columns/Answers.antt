@@ -1,4 +1,4 @@
-use Rattle.std.proofs.Common.{◌≡◌, ◌++◌, ◌≤◌, ◌+◌, ◌*◌, ◌⊎◌, [], List, ℕ, Some, IsTrue, length, ap, ◌∙◌, sym, arith, inl, inr}
+use Rattle.std.proofs.Common.{◌≡◌, ◌++◌, ◌≤◌, ◌+◌, ◌*◌, ◌⊎◌, [], Some, IsTrue, length, ap, ◌∙◌, sym, arith, inl, inr}
 use Rattle.std.proofs.lemmas.Result.{err_from_is_err_and}
 use Rattle.edf_fields.specs.Sources.{Rises}
 use Rattle.edfclaim.specs.Faults.{first, columns_stage}

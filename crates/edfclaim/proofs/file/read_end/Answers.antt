@@ -1,5 +1,4 @@
-use Rattle.std.proofs.Common.{◌≡◌, ◌++◌, ◌+◌, ◌*◌, ◌<◌, [], length, ap, ◌∙◌, arith, length-append, append-nil}
-use Rattle.edfclaim.specs.Heads.{header_bytes, record_bytes}
+use Rattle.std.proofs.Common.{◌≡◌, ◌++◌, ◌+◌, [], length, ap, ◌∙◌, arith, length-append, append-nil}
 use Rattle.edfclaim.specs.Views.{header_view}
 use Rattle.edfclaim.proofs.FileFacts.{records-go_on, records-end}
 use Rattle.edfclaim.proofs.file.read_end.Goals as goal

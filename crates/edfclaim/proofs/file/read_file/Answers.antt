@@ -1,4 +1,4 @@
-use Rattle.std.proofs.Common.{◌≡◌, ◌++◌, ◌∙◌, sym, ap, Some, None, List, ℕ, IsTrue, length}
+use Rattle.std.proofs.Common.{◌≡◌, ◌++◌, ◌∙◌, sym, Some, IsTrue, length}
 use Rattle.std.proofs.lemmas.Result.{err_from_is_err_and}
 use Rattle.edf_fields.specs.Sources.{Rises}
 use Rattle.edfclaim.specs.Views.{header_view}

@@ -1,4 +1,4 @@
-use Rattle.std.proofs.Common.{◌≡◌, ◌++◌, ◌≤◌, ◌+◌, ◌⊎◌, [], List, ℕ, Some, IsTrue, length, ap, ◌∙◌, sym, arith}
+use Rattle.std.proofs.Common.{◌≡◌, ◌++◌, ◌≤◌, ◌+◌, ◌⊎◌, [], IsTrue, length, ap, ◌∙◌, sym, arith}
 use Rattle.std.proofs.lemmas.Result.{err_from_is_err_and}
 use Rattle.edfclaim.specs.Faults.{first, fixed_stage}
 use Rattle.edfclaim.proofs.BehindFacts.{came-or-ended, came-at_most, fixed_stage-read}

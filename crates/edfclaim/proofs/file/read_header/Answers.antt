@@ -1,11 +1,9 @@
-use Rattle.std.proofs.Common.{◌≡◌, ◌++◌, ◌∙◌, sym, ap, Some, None, List, ℕ, IsTrue, subst}
+use Rattle.std.proofs.Common.{◌≡◌, ◌++◌, ◌∙◌, sym, Some, IsTrue, subst}
 use Rattle.std.specs.Global.{Vec}
 use Rattle.edfclaim.specs.declared.header.Signal.{Signal}
 use Rattle.edfclaim.specs.Judged.{SaysSignals}
 use Rattle.std.proofs.lemmas.Result.{err_from_is_err_and}
 use Rattle.edf_fields.specs.Sources.{Rises}
-use Rattle.edfclaim.specs.Heads.{head_of}
-use Rattle.edfclaim.specs.Views.{header_view}
 use Rattle.edfclaim.specs.Faults.{first, columns_stage, header_tests}
 use Rattle.edfclaim.proofs.FirstFacts.{stops-weaker}
 use Rattle.edfclaim.proofs.FileFacts.{header-found, head-is, header-together}

@@ -1,5 +1,5 @@
-use Rattle.std.proofs.Common.{◌≡◌, ◌++◌, ◌+◌, ◌*◌, ◌<◌, ◌≤◌, [], length, map, ap, ◌∙◌, arith, append-nil}
-use Rattle.edfclaim.specs.Heads.{header_bytes, record_bytes, samples_together}
+use Rattle.std.proofs.Common.{◌≡◌, ◌++◌, ◌*◌, [], length, map, ap, ◌∙◌, arith, append-nil}
+use Rattle.edfclaim.specs.Heads.{record_bytes, samples_together}
 use Rattle.edfclaim.specs.Views.{signal_view, header_view}
 use Rattle.edfclaim.proofs.FileFacts.{record-broken}
 use Rattle.edfclaim.proofs.file.read_records.Goals as goal

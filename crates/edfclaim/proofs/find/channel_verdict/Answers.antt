@@ -1,6 +1,5 @@
-use Rattle.std.proofs.Common.{◌≡◌, ◌∙◌, ap, sym, map, None, Some, List, ℕ}
-use Rattle.edfclaim.specs.Channels.{HasChannel, first_absent, first_unlisted}
-use Rattle.edfclaim.specs.Lists.{Has}
+use Rattle.std.proofs.Common.{◌≡◌, ◌∙◌, ap, sym, map, None, Some}
+use Rattle.edfclaim.specs.Channels.{first_absent, first_unlisted}
 use Rattle.edfclaim.specs.Views.{signal_view, header_view}
 use Rattle.edfclaim.proofs.FindFacts.{extra-found}
 use Rattle.edfclaim.proofs.ChannelFacts.{same-channels}

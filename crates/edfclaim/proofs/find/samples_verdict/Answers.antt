@@ -1,11 +1,9 @@
-use Rattle.std.proofs.Common.{◌≡◌, ◌∙◌, ◌<◌, ap, sym, arith, map, length, None, Some, List, ℕ}
+use Rattle.std.proofs.Common.{◌≡◌, ◌∙◌, ◌<◌, ap, sym, arith, length, ℕ}
 use Rattle.std.proofs.lemmas.Grind.{common_steps}
 use Rattle.std.proofs.lemmas.Result.{IfOk-weaker}
 use Rattle.std.specs.Global.{Vec}
-use Rattle.edfclaim.specs.declared.verdict.Verdict.{Verdict}
-use Rattle.edfclaim.specs.Loaded.{IsSampleVerdict}
 use Rattle.edfclaim.proofs.ListFacts.{get-within, get-index}
-use Rattle.edfclaim.proofs.FindFacts.{FoundAt, found-at, found-claimed, found-positive, sample-found, yes-export, yes-found}
+use Rattle.edfclaim.proofs.FindFacts.{found-at, found-claimed, found-positive, sample-found, yes-export, yes-found}
 use Rattle.edfclaim.proofs.find.samples_verdict.Goals as goal
 
 pub bounds-claimed-found : goal.bounds-claimed-found

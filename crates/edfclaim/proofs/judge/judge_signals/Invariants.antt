@@ -1,4 +1,4 @@
-use Rattle.std.proofs.Common.{◌≡◌, ◌+◌, ◌-◌, ◌*◌, ◌^◌, ◌<◌, ◌≤◌, ◌++◌, length, map}
+use Rattle.std.proofs.Common.{◌≡◌, ◌-◌, ◌^◌, ◌<◌, ◌≤◌, ◌++◌, length, map}
 use Rattle.std.specs.List.{All}
 use Rattle.edfclaim.specs.Heads.{signals_from}
 use Rattle.edfclaim.specs.Faults.{first, signals_faults}

@@ -1,4 +1,4 @@
-use Rattle.std.proofs.Common.{◌≡◌, ◌<◌, ◌≤◌, ◌^◌, length, unsigned_abs, lit<, arith}
+use Rattle.std.proofs.Common.{◌≤◌, ◌^◌, length, lit<, arith}
 use Rattle.std.proofs.Math.Nat.{pow-le-pow_right}
 use Rattle.std.proofs.lemmas.Int.{ints}
 use Rattle.edfclaim.proofs.number_field.positive_count.Goals as goal

@@ -1,8 +1,8 @@
-use Rattle.std.proofs.Common.{◌≡◌, ◌<◌, length, get_or, sym, ap, ◌∙◌, pos, ◌*ℤ◌, arith}
+use Rattle.std.proofs.Common.{◌≡◌, ◌<◌, length, sym, ap, ◌∙◌, pos, ◌*ℤ◌, arith}
 use Rattle.std.proofs.lemmas.Grind.{common_steps}
 use Rattle.edfclaim.specs.Heads.{samples_at}
 use Rattle.edfclaim.specs.Views.{header_view}
-use Rattle.edfclaim.specs.Samples.{samples_of, counted}
+use Rattle.edfclaim.specs.Samples.{counted}
 use Rattle.edfclaim.proofs.SampleFacts.{record-more}
 use Rattle.edfclaim.proofs.SignalFacts.{samples-here}
 use Rattle.edfclaim.proofs.samples.channel_samples.Goals as goal

@@ -1,15 +1,18 @@
-use Rattle.std.proofs.Common.{◌≡◌, ◌+◌, ◌*◌, ◌<◌, ◌≤◌, take, map, length, sym, ap, ◌∙◌, arith, vec_len, get_or}
+use Rattle.std.proofs.Common.{◌<◌, length, ap, arith, get_or}
 use Rattle.std.proofs.lemmas.Grind.{common_steps}
-use Rattle.edfclaim.specs.Heads.{samples_at}
-use Rattle.edfclaim.specs.Views.{header_view}
 use Rattle.edfclaim.proofs.SignalFacts.{together-at, samples-here}
 use Rattle.edfclaim.proofs.samples.lane.Goals as goal
 
 pub part-requires : goal.part-requires
 part-requires c =
     let lt : c.args.signal < length c.as_slice-signals.result.now = grind (arith, common_steps) in
-    omega (arith, c.samples_together-before.ensures.value, c.samples_together-together.ensures.value, c.part-record.ensures.len,
-    together-at c.as_slice-signals.result.now c.args.signal c.index-signals-signal.result lt)
+    omega (
+      arith,
+      c.samples_together-before.ensures.value,
+      c.samples_together-together.ensures.value,
+      c.part-record.ensures.len,
+      together-at c.as_slice-signals.result.now c.args.signal c.index-signals-signal.result lt,
+    )
 
 pub returns-clause-len : goal.returns-clause-len
 returns-clause-len c =

@@ -1,4 +1,4 @@
-use Rattle.std.proofs.Common.{◌≡◌, ◌+◌, ◌*◌, ◌<◌, ◌^◌, ◌++◌, ◌+ℤ◌, ◌*ℤ◌, pos, drop, unsigned_abs}
+use Rattle.std.proofs.Common.{◌≡◌, ◌*◌, ◌<◌, ◌^◌, ◌++◌, ◌+ℤ◌, ◌*ℤ◌, pos, drop, unsigned_abs}
 use Rattle.std.specs.List.{All}
 use Rattle.edfclaim.specs.Lanes.{lane_samples}
 use Rattle.edfclaim.proofs.samples.push_lane.Given as goal
