@@ -17,3 +17,5 @@ pub mod ChannelFacts
 pub mod LoadedFacts
 pub mod BridgeFacts
 pub mod FindFacts
+pub mod PartnerFacts
+pub mod SlowFacts

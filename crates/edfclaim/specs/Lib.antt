@@ -24,3 +24,4 @@ pub mod Quotes
 pub mod Lines
 pub mod Vectors
 pub mod Statuses
+pub mod Slow

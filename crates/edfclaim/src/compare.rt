@@ -21,7 +21,7 @@ use crate::samples::channel_samples;
 use std::alloc::{AllocError, Global};
 
 /// How many samples a signal has in a data record.
-fn samples_per_record(file: &EdfFile, signal: usize) -> u32
+pub fn samples_per_record(file: &EdfFile, signal: usize) -> u32
     requires loaded { IsLoaded file.now }
     requires signal { signal < vec_len file.now.header.signals }
     ensures value { result ≡ samples_at (header_view file.now.header) signal }
@@ -62,8 +62,10 @@ fn kept_of(
     Ok(kept)
 }
 
-/// The samples of a signal that a claim keeps.
-fn kept_samples(
+/// The samples of a signal that a claim keeps, in file order.
+///
+/// The error is want of memory.
+pub fn kept_samples(
     alloc: Global,
     file: &EdfFile,
     signal: usize,

@@ -1,6 +1,7 @@
 //! Instants as exact fractions of a picosecond.
 
 ghost use Rattle.std.specs.Prelude.{◌≡◌, ◌<◌, ◌^◌, ◌*ℤ◌, pos, unsigned_abs};
+ghost use Rattle.std.specs.Ordering.{int_eq};
 ghost use Rattle.edfclaim.specs.Instants.{is_before};
 
 /// The instant `num / den` picoseconds after an origin.
@@ -32,5 +33,16 @@ impl Instant {
         ensures { result ≡ is_before self other }
     {
         scaled(self.num, other.den) < scaled(other.num, self.den)
+    }
+
+    /// Whether both are one instant, by exact products.
+    pub fn is_same(self, other: Instant) -> bool
+        requires this { unsigned_abs self.num < 2 ^ 103 }
+        requires that { unsigned_abs other.num < 2 ^ 103 }
+        requires this_den { self.den < 2 ^ 24 }
+        requires that_den { other.den < 2 ^ 24 }
+        ensures { result ≡ int_eq (self.num *ℤ pos other.den) (other.num *ℤ pos self.den) }
+    {
+        scaled(self.num, other.den) == scaled(other.num, self.den)
     }
 }

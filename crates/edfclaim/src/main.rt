@@ -31,6 +31,7 @@ pub mod report;
 pub mod sample;
 pub mod samples;
 pub mod side;
+pub mod slow;
 pub mod stop;
 pub mod timeline;
 pub mod value;
