@@ -7,7 +7,7 @@ run:
 
 # The same, and leaves the program at crates/edfclaim/out/edfclaim.
 build:
-	@cd crates/edfclaim && rt run -- vectors > out.txt && rm out.txt
+	@cd crates/edfclaim && rt run -- vectors > /dev/null
 	@echo "built crates/edfclaim/out/edfclaim"
 
 # Each growth of memory refused in turn in the built program, then the whole gate.
