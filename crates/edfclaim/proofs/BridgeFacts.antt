@@ -1,5 +1,5 @@
 -- From lists of samples to the samples of files: what a comparison of the lists says of the files.
-use Rattle.std.proofs.Common.{◌≡◌, ℕ, ℤ, pos, ◌+◌, ◌*◌, ◌<◌, ◌+ℤ◌, ◌-ℤ◌, ◌*ℤ◌, int_le, int_lt, Bool, true, false, ◌&&◌, ◌||◌, List, [], ◌∷◌, length, Option, Some, MatchOption, ◌⊎◌, inl, inr, ⊎_elim, refl, sym, ap, ◌∙◌, subst, arith}
+use Rattle.std.proofs.Common.{◌≡◌, ℕ, ℤ, pos, ◌+◌, ◌*◌, ◌<◌, ◌+ℤ◌, ◌-ℤ◌, ◌*ℤ◌, int_le, int_lt, Bool, true, false, ◌&&◌, ◌||◌, List, [], ◌∷◌, length, Option, Some, None, MatchOption, ◌⊎◌, inl, inr, ⊎_elim, refl, sym, ap, ◌∙◌, subst, arith}
 use Rattle.std.proofs.lemmas.Int.{ints}
 use borrow.Author.Differences.{true_is_le, true_is_lt}
 use Rattle.edfclaim.specs.declared.instant.Instant.{Instant}
@@ -8,6 +8,7 @@ use Rattle.edfclaim.specs.declared.sample.Sample.{Sample}
 use Rattle.edfclaim.specs.declared.difference.Mismatch.{Mismatch}
 use Rattle.edfclaim.specs.declared.difference.Mismatch.TheVariants.{Missing, Extra, Value}
 use Rattle.edfclaim.specs.declared.difference.SampleDifference.{SampleDifference}
+use Rattle.edfclaim.specs.Instants.{IsBefore}
 use Rattle.edfclaim.specs.Lists.{Has}
 use Rattle.edfclaim.specs.Heads.{samples_at}
 use Rattle.edfclaim.specs.Records.{lane_at}
@@ -17,19 +18,16 @@ use Rattle.edfclaim.specs.Keeps.{IsWithin, KeepsInstant, is_within, keeps_instan
 use Rattle.edfclaim.specs.Claims.{Terms}
 use Rattle.edfclaim.specs.Channels.{HasDistinctChannels, channel_place}
 use Rattle.edfclaim.specs.Differences.{HasValue, HasNone, Match, Differ, diff, IsAscending, IsLeastDifference}
-use Rattle.edfclaim.specs.Exports.{StandsAt, NoneAt, DifferAt}
+use Rattle.edfclaim.specs.Exports.{SameChannels, StandsAt, NoneAt, DifferAt}
 use Rattle.edfclaim.specs.Compare.{Timed, all_samples, kept_samples, difference_at, label_difference}
 use Rattle.edfclaim.specs.Verdicts.{samples_in, kept_in}
-use Rattle.edfclaim.proofs.ListFacts.{has-filtered, filtered-has, and-true}
+use Rattle.edfclaim.proofs.ListFacts.{has-filtered, filtered-has, and-true, both-true, or-cases, or-true}
 use Rattle.edfclaim.proofs.MemberFacts.{has-lane, records-has, has-records}
 use Rattle.edfclaim.proofs.RisingFacts.{IsTimely, records-ascending, filter-ascending}
 use Rattle.edfclaim.proofs.ChannelFacts.{channel-samples}
-use Rattle.edfclaim.proofs.DifferenceFacts.{exact}
+use Rattle.edfclaim.proofs.DifferenceFacts.{exact, match_not_differ}
 
 -- an interval's test
-both-true : (a b : Bool) → a ≡ true → b ≡ true → (a && b) ≡ true
-both-true a b p q = cc
-
 pub within-tested : (i : Interval) (num : ℤ) (den : ℕ) → IsWithin i num den → is_within i num den ≡ true
 within-tested i num den h =
     both-true (int_le (i.from_ps *ℤ pos den) num) (int_lt num (i.to_ps *ℤ pos den))
@@ -39,14 +37,6 @@ pub tested-within : (i : Interval) (num : ℤ) (den : ℕ) → is_within i num d
 tested-within i num den h =
     let both = and-true (int_le (i.from_ps *ℤ pos den) num) (int_lt num (i.to_ps *ℤ pos den)) h in
     ((let p = both.0 in omega (arith, ints)), (let p = both.1 in omega (arith, ints)))
-
-or-cases : (a b : Bool) → (a || b) ≡ true → (a ≡ true) ⊎ (b ≡ true)
-or-cases true b h = inl refl
-or-cases false b h = inr h
-
-or-true : (a b : Bool) → b ≡ true → (a || b) ≡ true
-or-true true b e = refl
-or-true false b e = e
 
 pub keeps-tested : (keep : List Interval) (num : ℤ) (den : ℕ) → KeepsInstant keep num den → keeps_instant keep num den ≡ true
 keeps-tested [] num den h = absurd h
@@ -62,7 +52,7 @@ tested-keeps (i ∷ keep) num den h =
 unstarted : (num : ℤ) (den : ℕ) → num -ℤ (pos den *ℤ pos 0) ≡ num
 unstarted num den = omega (arith, ints)
 
-unshifted : (num : ℤ) (den : ℕ) → num +ℤ (pos den *ℤ pos 0) ≡ num
+pub unshifted : (num : ℤ) (den : ℕ) → num +ℤ (pos den *ℤ pos 0) ≡ num
 unshifted num den = omega (arith, ints)
 
 -- a file and one channel of it: the lanes are full, the records rise, and the label is that of this channel alone
@@ -216,3 +206,49 @@ pub pair-differ : (o e : Timed) (claim : Terms) (label : List ℕ) (s t : ℕ) �
 pair-differ o e claim label s t p at Missing d = ((d.0.0, stands-kept o e claim label s t p at d.0.0 d.0.1), none-exported o e claim label s t p at d.1)
 pair-differ o e claim label s t p at Extra d = ((d.0.0, stands-exported o e claim label s t p at d.0.0 d.0.1), none-kept o e claim label s t p at d.1)
 pair-differ o e claim label s t p at (Value v w) d = (stands-kept o e claim label s t p at v d.0, stands-exported o e claim label s t p at w d.1, d.2)
+
+-- and back: what stands in the export stands in its list
+exported-value : (o e : Timed) (claim : Terms) (label : List ℕ) (s t : ℕ) → IsPair o e claim label s t → (at : Instant) (v : ℤ) → StandsAt (samples_in e) label at v → HasValue (samples_at e.head t) (all_samples e t) at v
+exported-value o e claim label s t p at v h =
+    let r = file-list e label t p.export h.0 h.1 v h.2 in
+    (record { num = h.0; value = v }, r.1, h.3 ∙ ap (λ j. at.num *ℤ pos j) r.0, refl)
+
+kept-value : (o e : Timed) (claim : Terms) (label : List ℕ) (s t : ℕ) → IsPair o e claim label s t → (at : Instant) (v : ℤ) → StandsAt (kept_in o claim) label at v → HasValue (samples_at o.head s) (kept_samples claim.keep o s) at v
+kept-value o e claim label s t p at v h =
+    let r = kept-list o claim label s p.original h.0 h.1 v h.2 in
+    (record { num = h.0; value = v }, r.1, h.3 ∙ ap (λ j. at.num *ℤ pos j) r.0, refl)
+
+exported-none : (o e : Timed) (claim : Terms) (label : List ℕ) (s t : ℕ) → IsPair o e claim label s t → (at : Instant) → NoneAt (samples_in e) label at → HasNone (samples_at e.head t) (all_samples e t) at
+exported-none o e claim label s t p at h x i same = h x.num (samples_at e.head t) x.value (list-file e label t p.export x i) same
+
+kept-none : (o e : Timed) (claim : Terms) (label : List ℕ) (s t : ℕ) → IsPair o e claim label s t → (at : Instant) → NoneAt (kept_in o claim) label at → HasNone (samples_at o.head s) (kept_samples claim.keep o s) at
+kept-none o e claim label s t p at h x i same = h x.num (samples_at o.head s) x.value (list-kept o claim label s p.original p.claimed x i) same
+
+-- a difference of the files is one of the lists
+pub differ-pair : (o e : Timed) (claim : Terms) (label : List ℕ) (s t : ℕ) → IsPair o e claim label s t → (at : Instant) (mismatch : Mismatch)
+    → DifferAt (kept_in o claim) (samples_in e) label at mismatch → Differ (samples_at o.head s) (kept_samples claim.keep o s) (samples_at e.head t) (all_samples e t) at mismatch
+differ-pair o e claim label s t p at Missing d = ((d.0.0, kept-value o e claim label s t p at d.0.0 d.0.1), exported-none o e claim label s t p at d.1)
+differ-pair o e claim label s t p at Extra d = ((d.0.0, exported-value o e claim label s t p at d.0.0 d.0.1), kept-none o e claim label s t p at d.1)
+differ-pair o e claim label s t p at (Value v w) d = (kept-value o e claim label s t p at v d.0, exported-value o e claim label s t p at w d.1, d.2)
+
+-- the files differ only at a claimed channel
+pub differ-claimed : (o e : Timed) (claim : Terms) (label : List ℕ) (at : Instant) (mismatch : Mismatch) → SameChannels o.head e.head claim.channels → DifferAt (kept_in o claim) (samples_in e) label at mismatch → Has claim.channels label
+differ-claimed o e claim label at Missing same d = let i = d.0.1.2 in i.channel
+differ-claimed o e claim label at Extra same d = let i = d.0.1.2 in same.no_other label (i.signal, d.0.1.1, i.channel)
+differ-claimed o e claim label at (Value v w) same d = let i = d.0.2 in i.channel
+
+-- a difference of the files is not before the one that the comparison of the lists finds
+pub pair-least : (o e : Timed) (claim : Terms) (label : List ℕ) (s t : ℕ) → IsPair o e claim label s t → (at : Instant) (mismatch : Mismatch) → 0 < at.den
+    → DifferAt (kept_in o claim) (samples_in e) label at mismatch → (d : SampleDifference) × (label_difference claim.keep o e label ≡ Some d) × (0 < d.at.den) × (IsBefore at d.at → ⊥)
+pair-least o e claim label s t p at mismatch positive differ =
+    found (label_difference claim.keep o e label) refl (pair-exact o e claim label s t p)
+  where
+    within : Differ (samples_at o.head s) (kept_samples claim.keep o s) (samples_at e.head t) (all_samples e t) at mismatch
+    within = differ-pair o e claim label s t p at mismatch differ
+    rising : IsAscending (all_samples e t)
+    rising = records-ascending e.file e.head e.starts t 0 (e.head).records (p.export).timely (omega arith)
+    found : (x : Option SampleDifference) → label_difference claim.keep o e label ≡ x → MatchOption x (PairMatch o e claim s t) (PairLeast o e claim s t)
+        → (d : SampleDifference) × (label_difference claim.keep o e label ≡ Some d) × (0 < d.at.den) × (IsBefore at d.at → ⊥)
+    found None is match =
+        absurd (match_not_differ (samples_at o.head s) (kept_samples claim.keep o s) (samples_at e.head t) (all_samples e t) at mismatch (p.original).some (p.export).some positive rising match within)
+    found (Some d) is least = (d, is, least.0.0, least.1 (record { at = at; mismatch = mismatch }) (positive, within))

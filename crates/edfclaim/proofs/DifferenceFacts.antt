@@ -221,7 +221,7 @@ partner_at n xs m ys t v pn pm pt i h =
     let p : HasValue m ys (instant n h.0) (h.0).value = i h.0 h.1 in
     (p.0, p.1, same_through (instant m p.0) (instant n h.0) t pm pn pt p.2 h.2, p.3 ∙ h.3)
 
-match_not_differ : (n : ℕ) (xs : List Sample) (m : ℕ) (ys : List Sample) (t : Instant) (k : Mismatch) → 0 < n → 0 < m → 0 < t.den → IsAscending ys → Match n xs m ys → Differ n xs m ys t k → ⊥
+pub match_not_differ : (n : ℕ) (xs : List Sample) (m : ℕ) (ys : List Sample) (t : Instant) (k : Mismatch) → 0 < n → 0 < m → 0 < t.den → IsAscending ys → Match n xs m ys → Differ n xs m ys t k → ⊥
 match_not_differ n xs m ys t Missing pn pm pt a i d =
     let p : HasValue m ys t d.0.0 = partner_at n xs m ys t d.0.0 pn pm pt i.0 d.0.1 in d.1 p.0 p.1 p.2
 match_not_differ n xs m ys t Extra pn pm pt a i d =

@@ -1,6 +1,7 @@
 -- From what was found in two files in memory to the verdict on them.
-use Rattle.std.proofs.Common.{◌≡◌, ℕ, ◌<◌, List, [], ◌∷◌, length, map, Option, Some, None, slice_get, MatchOption, sym, ap, ◌∙◌, subst, arith}
+use Rattle.std.proofs.Common.{◌≡◌, ℕ, ◌<◌, List, [], ◌∷◌, length, map, Option, Some, None, slice_get, MatchOption, IfSome, inl, inr, refl, sym, ap, ◌∙◌, subst, arith}
 use Rattle.std.specs.Global.{Vec}
+use Rattle.std.specs.List.{AllByRecursion}
 use Rattle.edfclaim.specs.declared.file.EdfFile.{EdfFile}
 use Rattle.edfclaim.specs.declared.header.Signal.{Signal}
 use Rattle.edfclaim.specs.declared.earliest.Found.{Found}
@@ -14,17 +15,18 @@ use Rattle.edfclaim.specs.Heads.{SignalHead, Head}
 use Rattle.edfclaim.specs.Claims.{Terms}
 use Rattle.edfclaim.specs.Channels.{HasChannel, channel_place, first_unlisted}
 use Rattle.edfclaim.specs.Exports.{SameChannels, DifferAt}
-use Rattle.edfclaim.specs.Earliest.{earliest}
+use Rattle.edfclaim.specs.Earliest.{earliest, IsEarliest, AreInstants}
 use Rattle.edfclaim.specs.Compare.{label_difference}
 use Rattle.edfclaim.specs.Views.{header_view}
 use Rattle.edfclaim.specs.Judged.{IsLoaded}
 use Rattle.edfclaim.specs.Loaded.{timed_view, IsYesOf, IsSampleVerdict}
-use Rattle.edfclaim.specs.Verdicts.{IsExport, IsFound, samples_in, kept_in}
-use Rattle.edfclaim.proofs.ListFacts.{has-at, get-within, has-map, map-has, map-get}
-use Rattle.edfclaim.proofs.EarliestFacts.{earliest-some, earliest-none}
+use Rattle.edfclaim.specs.Verdicts.{IsExport, IsFound, NoneBefore, samples_in, kept_in}
+use Rattle.edfclaim.proofs.ListFacts.{has-at, at-has, get-within, has-map, map-has, map-get}
+use Rattle.edfclaim.proofs.EarliestFacts.{earliest-some, earliest-none, earliest-is-least}
+use Rattle.edfclaim.proofs.FractionFacts.{before-not_before}
 use Rattle.edfclaim.proofs.ChannelFacts.{channel-found, has-place, unlisted-some}
 use Rattle.edfclaim.proofs.LoadedFacts.{loaded-timely, loaded-some, loaded-distinct, length-view}
-use Rattle.edfclaim.proofs.BridgeFacts.{IsChannelOf, IsPair, PairMatch, PairLeast, pair-exact, pair-kept, pair-exported, pair-differ}
+use Rattle.edfclaim.proofs.BridgeFacts.{IsChannelOf, IsPair, PairMatch, PairLeast, pair-exact, pair-kept, pair-exported, pair-differ, pair-least, differ-claimed}
 
 -- a channel of a file in memory
 loaded-channel : (f : EdfFile) (label : List ℕ) (s : ℕ) (d : Signal) → IsLoaded f → channel_place label (header_view f.header).signals ≡ Some s → IsChannelOf (timed_view f) label s
@@ -135,16 +137,50 @@ found-differ o e claim label d lo le same h some =
     let p = pair-of o e claim label lo le same h in
     pair-differ (timed_view o) (timed_view e) claim label p.here p.there p.pair d.at d.mismatch (least o e claim label d p some).0.1
 
+all-recursed : {X : Type 0} (P : X → Type 0) (xs : List X) → ((x : X) → Has xs x → P x) → AllByRecursion P xs
+all-recursed P [] h = tt
+all-recursed P (x ∷ xs) h = (h x (inl refl), all-recursed P xs (λ y i. h y (inr i)))
+
+-- each difference of the labels' channels stands at an instant
+are-instants : (o e : EdfFile) (claim : Terms) (labels : List (Vec ℕ)) → IsLoaded o → IsLoaded e → SameChannels (header_view o.header) (header_view e.header) claim.channels
+    → map (λ label. label.items) labels ≡ claim.channels → AreInstants (differences o e claim labels)
+are-instants o e claim labels lo le same listed =
+    all-recursed (λ x. IfSome x (λ d. 0 < d.at.den)) (differences o e claim labels)
+    (λ x i.
+    let r = map-has (λ (l : Vec ℕ). label_difference claim.keep (timed_view o) (timed_view e) l.items) labels x i in
+    let h : Has claim.channels (r.0).items = subst (λ (ls : List (List ℕ)). Has ls (r.0).items) listed (has-map (λ (l : Vec ℕ). l.items) labels r.0 r.1) in
+    positive (r.0).items h x r.2)
+  where
+    positive : (label : List ℕ) → Has claim.channels label → (x : Option SampleDifference) → label_difference claim.keep (timed_view o) (timed_view e) label ≡ x → IfSome x (λ d. 0 < d.at.den)
+    positive label h None is = tt
+    positive label h (Some d) is = found-positive o e claim label d lo le same h is
+
+-- no difference of the files stands before the earliest
+pub found-first : (o e : EdfFile) (claim : Terms) (labels : List (Vec ℕ)) (f : Found) → IsLoaded o → IsLoaded e → SameChannels (header_view o.header) (header_view e.header) claim.channels
+    → map (λ label. label.items) labels ≡ claim.channels → earliest 0 (differences o e claim labels) ≡ Some f → NoneBefore (timed_view o) (timed_view e) claim f.difference.at
+found-first o e claim labels f lo le same listed some label t mismatch positive differ before =
+    let ds = differences o e claim labels in
+    let h = differ-claimed (timed_view o) (timed_view e) claim label t mismatch same differ in
+    let p = pair-of o e claim label lo le same h in
+    let least = pair-least (timed_view o) (timed_view e) claim label p.here p.there p.pair t mismatch positive differ in
+    let r = map-has (λ (l : Vec ℕ). l.items) labels label (subst (λ (ls : List (List ℕ)). Has ls label) (sym listed) h) in
+    let D : Vec ℕ → Option SampleDifference = λ l. label_difference claim.keep (timed_view o) (timed_view e) l.items in
+    let there : Has ds (Some least.0) = subst (Has ds) (ap (label_difference claim.keep (timed_view o) (timed_view e)) r.2 ∙ least.1) (has-map D labels r.0 r.1) in
+    let at = at-has ds (Some least.0) there in
+    let P : Option Found → Type 0 = λ x. MatchOption x ((j : ℕ) (d : SampleDifference) → slice_get ds j ≡ Some (Some d) → ⊥) (IsEarliest ds) in
+    let first : IsEarliest ds f = subst P some (earliest-is-least ds (are-instants o e claim labels lo le same listed)) in
+    least.3 (before-not_before t f.difference.at (least.0).at least.2 before (first.1 at.0 least.0 at.1))
+
 -- the verdict on a difference that was found
 pub sample-found : (o e : EdfFile) (claim : Terms) (label : List ℕ) (d : SampleDifference) (v : Verdict) → IsLoaded o → IsLoaded e → SameChannels (header_view o.header) (header_view e.header) claim.channels
-    → Has claim.channels label → label_difference claim.keep (timed_view o) (timed_view e) label ≡ Some d → IsSampleVerdict label d v → IsFound (timed_view o) (timed_view e) claim v
-sample-found o e claim label d (Yes channels samples annotations) lo le same h some i = absurd i
-sample-found o e claim label d (No (OriginalFault fault)) lo le same h some i = absurd i
-sample-found o e claim label d (No (ExportFault fault)) lo le same h some i = absurd i
-sample-found o e claim label d (No (UnknownChannel other)) lo le same h some i = absurd i
-sample-found o e claim label d (No (MissingChannel other)) lo le same h some i = absurd i
-sample-found o e claim label d (No (ExtraChannel other)) lo le same h some i = absurd i
-sample-found o e claim label d (No (Sample other at_ps mismatch)) lo le same h some i = record {
+    → Has claim.channels label → NoneBefore (timed_view o) (timed_view e) claim d.at → label_difference claim.keep (timed_view o) (timed_view e) label ≡ Some d → IsSampleVerdict label d v → IsFound (timed_view o) (timed_view e) claim v
+sample-found o e claim label d (Yes channels samples annotations) lo le same h first some i = absurd i
+sample-found o e claim label d (No (OriginalFault fault)) lo le same h first some i = absurd i
+sample-found o e claim label d (No (ExportFault fault)) lo le same h first some i = absurd i
+sample-found o e claim label d (No (UnknownChannel other)) lo le same h first some i = absurd i
+sample-found o e claim label d (No (MissingChannel other)) lo le same h first some i = absurd i
+sample-found o e claim label d (No (ExtraChannel other)) lo le same h first some i = absurd i
+sample-found o e claim label d (No (Sample other at_ps mismatch)) lo le same h first some i = record {
   channels = same;
   claimed = subst (λ (l : List ℕ). Has claim.channels l) (sym i.0) h;
   at = d.at;
@@ -155,6 +191,7 @@ sample-found o e claim label d (No (Sample other at_ps mismatch)) lo le same h s
       let E = samples_in (timed_view e) in
       subst (λ (l : List ℕ). DifferAt K E l d.at mismatch) (sym i.0)
       (subst (λ (m : Mismatch). DifferAt K E label d.at m) (sym i.2) (found-differ o e claim label d lo le same h some));
+  none_before = first;
 }
 
 -- a channel of the export that isn't claimed, by the label that was copied

@@ -7,10 +7,7 @@ use Rattle.edfclaim.specs.Instants.{IsSame}
 use Rattle.edfclaim.specs.Lists.{Has}
 use Rattle.edfclaim.specs.Differences.{instant, HasValue, AreIn, Match}
 use Rattle.edfclaim.specs.Slow.{are_partners, has_partner, have_partners, match_test}
-use Rattle.edfclaim.proofs.ListFacts.{and-true}
-
-both-true : (a b : Bool) → a ≡ true → b ≡ true → (a && b) ≡ true
-both-true a b p q = cc
+use Rattle.edfclaim.proofs.ListFacts.{and-true, both-true, or-cases, or-true}
 
 partners : (n : ℕ) (x : Sample) (m : ℕ) (y : Sample) → are_partners n x m y ≡ true → IsSame (instant m y) (instant n x) × (y.value ≡ x.value)
 partners n x m y h =
@@ -20,14 +17,6 @@ partners n x m y h =
 are-partners : (n : ℕ) (x : Sample) (m : ℕ) (y : Sample) → IsSame (instant m y) (instant n x) → y.value ≡ x.value → are_partners n x m y ≡ true
 are-partners n x m y s e =
     both-true (int_eq (y.num *ℤ pos n) (x.num *ℤ pos m)) (int_eq y.value x.value) ((Decides-int_eq (y.num *ℤ pos n) (x.num *ℤ pos m)).1 s) ((Decides-int_eq y.value x.value).1 e)
-
-or-cases : (a b : Bool) → (a || b) ≡ true → (a ≡ true) ⊎ (b ≡ true)
-or-cases true b h = inl refl
-or-cases false b h = inr h
-
-or-true : (a b : Bool) → b ≡ true → (a || b) ≡ true
-or-true true b e = refl
-or-true false b e = e
 
 partner-found : (n : ℕ) (x : Sample) (m : ℕ) (ys : List Sample) → has_partner n x m ys ≡ true → HasValue m ys (instant n x) x.value
 partner-found n x m [] h = absurd (let f : false ≡ true = h in cc)

@@ -15,9 +15,9 @@ use Rattle.edfclaim.specs.Judged.{IsLoaded}
 use Rattle.edfclaim.specs.Loaded.{timed_view}
 use Rattle.edfclaim.specs.Verdicts.{kept_in, samples_in}
 use Rattle.edfclaim.specs.Slow.{match_test, test_at, label_test}
-use Rattle.edfclaim.proofs.ListFacts.{and-true}
+use Rattle.edfclaim.proofs.ListFacts.{and-true, both-true}
 use Rattle.edfclaim.proofs.PartnerFacts.{match-tested}
-use Rattle.edfclaim.proofs.BridgeFacts.{IsPair, PairMatch, list-file, file-list, list-kept, kept-list, pair-kept, pair-exported}
+use Rattle.edfclaim.proofs.BridgeFacts.{IsPair, PairMatch, unshifted, list-file, file-list, list-kept, kept-list, pair-kept, pair-exported}
 use Rattle.edfclaim.proofs.FindFacts.{Pair, pair-of}
 
 list_all-has : {X : Type 0} (p : X → Bool) (xs : List X) → list_all p xs ≡ true → (x : X) → Has xs x → p x ≡ true
@@ -26,15 +26,9 @@ list_all-has {X} p (z ∷ xs) h x i =
     let both = and-true (p z) (list_all p xs) h in
     ⊎_elim (λ e. let P : X → Type 0 = λ y. p y ≡ true in subst P e both.0) (λ j. list_all-has p xs both.1 x j) i
 
-both-true : (a b : Bool) → a ≡ true → b ≡ true → (a && b) ≡ true
-both-true a b p q = cc
-
 has-list_all : {X : Type 0} (p : X → Bool) (xs : List X) → ((x : X) → Has xs x → p x ≡ true) → list_all p xs ≡ true
 has-list_all p [] h = refl
 has-list_all p (z ∷ xs) h = both-true (p z) (list_all p xs) (h z (inl refl)) (has-list_all p xs (λ x i. h x (inr i)))
-
-unshifted : (num : ℤ) (den : ℕ) → num +ℤ (pos den *ℤ pos 0) ≡ num
-unshifted num den = omega (arith, ints)
 
 -- where the samples are the same, the lists of a pair match
 same-match : (o e : Timed) (claim : Terms) (label : List ℕ) (s t : ℕ) → IsPair o e claim label s t → SameSamples (kept_in o claim) (samples_in e) (pos 0) → PairMatch o e claim s t

@@ -5,6 +5,7 @@ use Rattle.edfclaim.specs.declared.difference.Mismatch.{Mismatch}
 use Rattle.edfclaim.specs.declared.verdict.Verdict.{Verdict}
 use Rattle.edfclaim.specs.declared.verdict.Verdict.TheVariants.{Yes, No}
 use Rattle.edfclaim.specs.declared.verdict.Difference.TheVariants.{OriginalFault, ExportFault, UnknownChannel, MissingChannel, ExtraChannel, Sample}
+use Rattle.edfclaim.specs.Instants.{IsBefore}
 use Rattle.edfclaim.specs.Lists.{Has}
 use Rattle.edfclaim.specs.Heads.{Head, head_of}
 use Rattle.edfclaim.specs.Samples.{IsSample, counted}
@@ -52,7 +53,13 @@ IsExtra original export claim label =
     (first_absent (original.head).signals claim.channels ≡ None) × (first_absent (export.head).signals claim.channels ≡ None)
     × HasChannel export.head label × (Has claim.channels label → ⊥)
 
--- what is kept and what is exported differ at an instant of a channel, whose floor is this; the channels are as claimed
+-- what is kept and what is exported differ at no instant before this one, in any channel
+abbrev pub NoneBefore : Timed → Timed → Terms → Instant → Type 0
+NoneBefore original export claim at =
+    (label : List ℕ) (t : Instant) (mismatch : Mismatch) → 0 < t.den → DifferAt (kept_in original claim) (samples_in export) label t mismatch → IsBefore t at → ⊥
+
+-- what is kept and what is exported differ at an instant of a channel, whose floor is this, and at none
+-- before it; the channels are as claimed
 pub record HasDifference (original export : Timed) (claim : Terms) (label : List ℕ) (at_ps : ℤ) (mismatch : Mismatch) : Type 0 where
   pub channels : SameChannels original.head export.head claim.channels
   pub claimed : Has claim.channels label
@@ -60,6 +67,7 @@ pub record HasDifference (original export : Timed) (claim : Terms) (label : List
   pub positive : 0 < at.den
   pub floor : at_ps ≡ floor_of at
   pub differ : DifferAt (kept_in original claim) (samples_in export) label at mismatch
+  pub none_before : NoneBefore original export claim at
 
 -- the verdict on two files that pass their tests
 abbrev pub IsFound : Timed → Timed → Terms → Verdict → Type 0

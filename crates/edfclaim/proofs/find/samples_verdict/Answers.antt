@@ -3,7 +3,7 @@ use Rattle.std.proofs.lemmas.Grind.{common_steps}
 use Rattle.std.proofs.lemmas.Result.{IfOk-weaker}
 use Rattle.std.specs.Global.{Vec}
 use Rattle.edfclaim.proofs.ListFacts.{get-within, get-index}
-use Rattle.edfclaim.proofs.FindFacts.{found-at, found-claimed, found-positive, sample-found, yes-export, yes-found}
+use Rattle.edfclaim.proofs.FindFacts.{found-at, found-claimed, found-first, found-positive, sample-found, yes-export, yes-found}
 use Rattle.edfclaim.proofs.find.samples_verdict.Goals as goal
 
 pub bounds-claimed-found : goal.bounds-claimed-found
@@ -39,7 +39,9 @@ returns-in-Some c =
     c.deref.ensures.value ∙ ap (λ (l : Vec ℕ). l.items) (c.index-claimed-found.is ∙ get-index labels c.in-Some.found.channel at.label c.index-claimed-found.result at.there) in
     IfOk-weaker c.sample_verdict.result _ _
     (λ v p. sample-found o e c.args.claim.now at.label.items d v c.requires.original c.requires.export c.requires.channels
-    (found-claimed o e c.args.claim.now labels c.in-Some.found c.channels-claimed.ensures at) at.difference
+    (found-claimed o e c.args.claim.now labels c.in-Some.found c.channels-claimed.ensures at)
+    (found-first o e c.args.claim.now labels c.in-Some.found c.requires.original c.requires.export c.requires.channels c.channels-claimed.ensures (sym c.in_ok-found.ensures.value ∙ c.in-Some.is))
+    at.difference
     (rw same at p))
     c.sample_verdict.ensures
 
