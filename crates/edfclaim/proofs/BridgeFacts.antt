@@ -1,5 +1,5 @@
 -- From lists of samples to the samples of files: what a comparison of the lists says of the files.
-use Rattle.std.proofs.Common.{◌≡◌, ℕ, ℤ, pos, ◌+◌, ◌*◌, ◌<◌, ◌+ℤ◌, ◌-ℤ◌, ◌*ℤ◌, int_le, int_lt, Bool, true, false, ◌&&◌, ◌||◌, List, [], ◌∷◌, length, Option, Some, None, MatchOption, ◌⊎◌, inl, inr, ⊎_elim, refl, sym, ap, ◌∙◌, subst, arith}
+use Rattle.std.proofs.Common.{◌≡◌, ℕ, ℤ, pos, ◌+◌, ◌*◌, ◌<◌, ◌+ℤ◌, ◌-ℤ◌, ◌*ℤ◌, int_le, int_lt, true, false, ◌||◌, List, [], ◌∷◌, length, Option, Some, None, MatchOption, inl, inr, ⊎_elim, refl, sym, ap, ◌∙◌, subst, arith}
 use Rattle.std.proofs.lemmas.Int.{ints}
 use borrow.Author.Differences.{true_is_le, true_is_lt}
 use Rattle.edfclaim.specs.declared.instant.Instant.{Instant}
@@ -245,8 +245,10 @@ pair-least o e claim label s t p at mismatch positive differ =
   where
     within : Differ (samples_at o.head s) (kept_samples claim.keep o s) (samples_at e.head t) (all_samples e t) at mismatch
     within = differ-pair o e claim label s t p at mismatch differ
+
     rising : IsAscending (all_samples e t)
     rising = records-ascending e.file e.head e.starts t 0 (e.head).records (p.export).timely (omega arith)
+
     found : (x : Option SampleDifference) → label_difference claim.keep o e label ≡ x → MatchOption x (PairMatch o e claim s t) (PairLeast o e claim s t)
         → (d : SampleDifference) × (label_difference claim.keep o e label ≡ Some d) × (0 < d.at.den) × (IsBefore at d.at → ⊥)
     found None is match =

@@ -1,10 +1,9 @@
 -- Partners by tests and by the definition.
-use Rattle.std.proofs.Common.{◌≡◌, ◌↔◌, ℕ, ◌<◌, ℤ, pos, ◌*ℤ◌, Bool, true, false, ◌&&◌, ◌||◌, List, [], ◌∷◌, IsTrue, ◌⊎◌, inl, inr, ⊎_elim, refl, sym, ap, ◌∙◌, subst}
+use Rattle.std.proofs.Common.{◌≡◌, ◌↔◌, ℕ, pos, ◌*ℤ◌, Bool, true, false, ◌||◌, List, [], ◌∷◌, IsTrue, inl, inr, ⊎_elim, refl, sym, ap, ◌∙◌, subst}
 use Rattle.std.proofs.lemmas.Bool.Decides.{Decides-int_eq}
 use Rattle.std.specs.Ordering.{int_eq}
 use Rattle.edfclaim.specs.declared.sample.Sample.{Sample}
 use Rattle.edfclaim.specs.Instants.{IsSame}
-use Rattle.edfclaim.specs.Lists.{Has}
 use Rattle.edfclaim.specs.Differences.{instant, HasValue, AreIn, Match}
 use Rattle.edfclaim.specs.Slow.{are_partners, has_partner, have_partners, match_test}
 use Rattle.edfclaim.proofs.ListFacts.{and-true, both-true, or-cases, or-true}

@@ -1,8 +1,6 @@
 -- Samples looked up one by one in two files in memory.
-use Rattle.std.proofs.Common.{◌≡◌, ◌↔◌, ℕ, ◌<◌, ℤ, pos, ◌+ℤ◌, ◌*ℤ◌, Bool, true, false, ◌&&◌, List, [], ◌∷◌, IsTrue, Option, Some, None, inl, inr, ⊎_elim, refl, sym, ap, ◌∙◌, subst, arith}
-use Rattle.std.proofs.lemmas.Int.{ints}
+use Rattle.std.proofs.Common.{◌≡◌, ◌↔◌, ℕ, pos, ◌*ℤ◌, Bool, true, List, [], ◌∷◌, IsTrue, Some, inl, inr, ⊎_elim, refl, sym, ap, ◌∙◌, subst}
 use Rattle.std.specs.List.{list_all}
-use Rattle.edfclaim.specs.declared.sample.Sample.{Sample}
 use Rattle.edfclaim.specs.declared.file.EdfFile.{EdfFile}
 use Rattle.edfclaim.specs.Lists.{Has}
 use Rattle.edfclaim.specs.Heads.{samples_at}
@@ -34,19 +32,19 @@ has-list_all p (z ∷ xs) h = both-true (p z) (list_all p xs) (h z (inl refl)) (
 same-match : (o e : Timed) (claim : Terms) (label : List ℕ) (s t : ℕ) → IsPair o e claim label s t → SameSamples (kept_in o claim) (samples_in e) (pos 0) → PairMatch o e claim s t
 same-match o e claim label s t p same = (
   λ x i.
-  let n = samples_at o.head s in
-  let k = samples_at e.head t in
-  let h = same.all_kept label x.num n x.value (list-kept o claim label s p.original p.claimed x i) in
-  let r = file-list e label t p.export h.0 h.1 x.value h.2 in
-  let eq : h.0 *ℤ pos n ≡ x.num *ℤ pos k = sym h.3 ∙ ap (λ z. z *ℤ pos h.1) (unshifted x.num n) ∙ ap (λ j. x.num *ℤ pos j) r.0 in
-  (record { num = h.0; value = x.value }, r.1, eq, refl),
+      let n = samples_at o.head s in
+      let k = samples_at e.head t in
+      let h = same.all_kept label x.num n x.value (list-kept o claim label s p.original p.claimed x i) in
+      let r = file-list e label t p.export h.0 h.1 x.value h.2 in
+      let eq : h.0 *ℤ pos n ≡ x.num *ℤ pos k = sym h.3 ∙ ap (λ z. z *ℤ pos h.1) (unshifted x.num n) ∙ ap (λ j. x.num *ℤ pos j) r.0 in
+      (record { num = h.0; value = x.value }, r.1, eq, refl),
   λ y i.
-  let n = samples_at o.head s in
-  let k = samples_at e.head t in
-  let h = same.none_else label y.num k y.value (list-file e label t p.export y i) in
-  let r = kept-list o claim label s p.original h.0 h.1 y.value h.2 in
-  let eq : h.0 *ℤ pos k ≡ y.num *ℤ pos n = ap (λ z. z *ℤ pos k) (sym (unshifted h.0 h.1)) ∙ h.3 ∙ ap (λ j. y.num *ℤ pos j) r.0 in
-  (record { num = h.0; value = y.value }, r.1, eq, refl),
+      let n = samples_at o.head s in
+      let k = samples_at e.head t in
+      let h = same.none_else label y.num k y.value (list-file e label t p.export y i) in
+      let r = kept-list o claim label s p.original h.0 h.1 y.value h.2 in
+      let eq : h.0 *ℤ pos k ≡ y.num *ℤ pos n = ap (λ z. z *ℤ pos k) (sym (unshifted h.0 h.1)) ∙ h.3 ∙ ap (λ j. y.num *ℤ pos j) r.0 in
+      (record { num = h.0; value = y.value }, r.1, eq, refl),
 )
 
 label-tested : (o e : Timed) (claim : Terms) (label : List ℕ) (s t : ℕ) → IsPair o e claim label s t
@@ -59,23 +57,23 @@ pub samples-tested : (o e : EdfFile) (claim : Terms) (b : Bool) → IsLoaded o �
     → IsTrue b ↔ SameSamples (kept_in (timed_view o) claim) (samples_in (timed_view e)) (pos 0)
 samples-tested o e claim b lo le same is = (
   λ t.
-  let all = list_all-has (label_test claim.keep (timed_view o) (timed_view e)) claim.channels (sym is ∙ t) in
-  let matched : (label : List ℕ) → Has claim.channels label → (p : Pair o e claim label) → PairMatch (timed_view o) (timed_view e) claim p.here p.there = λ label h p.
-  (match-tested (label_test claim.keep (timed_view o) (timed_view e) label) (samples_at (header_view o.header) p.here) (kept_samples claim.keep (timed_view o) p.here) (samples_at (header_view e.header) p.there) (all_samples (timed_view e) p.there)
-  (label-tested (timed_view o) (timed_view e) claim label p.here p.there p.pair)).0 (all label h) in
-  record {
-    all_kept = λ label num den value i.
-        let p = pair-of o e claim label lo le same i.channel in
-        pair-kept (timed_view o) (timed_view e) claim label p.here p.there p.pair (matched label i.channel p) num den value i;
-    none_else = λ label num den value i.
-        let h = same.no_other label (i.signal, den, i.channel) in
-        let p = pair-of o e claim label lo le same h in
-        pair-exported (timed_view o) (timed_view e) claim label p.here p.there p.pair (matched label h p) num den value i;
-  },
+      let all = list_all-has (label_test claim.keep (timed_view o) (timed_view e)) claim.channels (sym is ∙ t) in
+      let matched : (label : List ℕ) → Has claim.channels label → (p : Pair o e claim label) → PairMatch (timed_view o) (timed_view e) claim p.here p.there = λ label h p.
+      (match-tested (label_test claim.keep (timed_view o) (timed_view e) label) (samples_at (header_view o.header) p.here) (kept_samples claim.keep (timed_view o) p.here) (samples_at (header_view e.header) p.there) (all_samples (timed_view e) p.there)
+      (label-tested (timed_view o) (timed_view e) claim label p.here p.there p.pair)).0 (all label h) in
+      record {
+        all_kept = λ label num den value i.
+            let p = pair-of o e claim label lo le same i.channel in
+            pair-kept (timed_view o) (timed_view e) claim label p.here p.there p.pair (matched label i.channel p) num den value i;
+        none_else = λ label num den value i.
+            let h = same.no_other label (i.signal, den, i.channel) in
+            let p = pair-of o e claim label lo le same h in
+            pair-exported (timed_view o) (timed_view e) claim label p.here p.there p.pair (matched label h p) num den value i;
+      },
   λ ss.
-  is ∙ has-list_all (label_test claim.keep (timed_view o) (timed_view e)) claim.channels
-  (λ label h.
-  let p = pair-of o e claim label lo le same h in
-  (match-tested (label_test claim.keep (timed_view o) (timed_view e) label) (samples_at (header_view o.header) p.here) (kept_samples claim.keep (timed_view o) p.here) (samples_at (header_view e.header) p.there) (all_samples (timed_view e) p.there)
-  (label-tested (timed_view o) (timed_view e) claim label p.here p.there p.pair)).1 (same-match (timed_view o) (timed_view e) claim label p.here p.there p.pair ss)),
+      is ∙ has-list_all (label_test claim.keep (timed_view o) (timed_view e)) claim.channels
+      (λ label h.
+      let p = pair-of o e claim label lo le same h in
+      (match-tested (label_test claim.keep (timed_view o) (timed_view e) label) (samples_at (header_view o.header) p.here) (kept_samples claim.keep (timed_view o) p.here) (samples_at (header_view e.header) p.there) (all_samples (timed_view e) p.there)
+      (label-tested (timed_view o) (timed_view e) claim label p.here p.there p.pair)).1 (same-match (timed_view o) (timed_view e) claim label p.here p.there p.pair ss)),
 )

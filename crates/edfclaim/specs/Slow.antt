@@ -1,5 +1,5 @@
 -- Samples looked up one by one.
-use Rattle.std.specs.Prelude.{ℕ, ℤ, pos, ◌*ℤ◌, Bool, true, ◌&&◌, List, Option, Some, None}
+use Rattle.std.specs.Prelude.{ℕ, pos, ◌*ℤ◌, Bool, true, ◌&&◌, List, Option, Some, None}
 use Rattle.std.specs.List.{list_any, list_all}
 use Rattle.std.specs.Ordering.{int_eq}
 use Rattle.edfclaim.specs.declared.sample.Sample.{Sample}
