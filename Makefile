@@ -12,5 +12,9 @@ build:
 
 # Each growth of memory refused in turn in the built program, then the whole gate.
 test: build
-	@tools/failing.sh crates/edfclaim/out/edfclaim
+	@if command -v "$${CC:-cc}" > /dev/null; then \
+		tools/failing.sh crates/edfclaim/out/edfclaim; \
+	else \
+		echo "no C compiler: tools/failing.sh is left out"; \
+	fi
 	@rt ci

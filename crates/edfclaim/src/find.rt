@@ -61,7 +61,7 @@ fn sample_verdict(
 /// a channel of both, and the export has no other.
 ///
 /// The error is want of memory.
-fn channel_verdict(
+pub fn channel_verdict(
     alloc: Global,
     original: &EdfFile,
     export: &EdfFile,

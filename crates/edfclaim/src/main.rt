@@ -33,6 +33,8 @@ pub mod samples;
 pub mod side;
 pub mod slow;
 pub mod stop;
+#[cfg(test)]
+mod tests;
 pub mod timeline;
 pub mod value;
 pub mod vectors;

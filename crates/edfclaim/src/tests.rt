@@ -1,0 +1,11 @@
+//! What no contract says: the exact lines of given files, the order of the faults in one file, and
+//! what a check does where a source, a sink or memory gives out.
+
+mod differences;
+mod faults;
+mod rows;
+mod samples;
+mod scarce;
+mod slow;
+mod sources;
+mod support;

@@ -1,0 +1,137 @@
+//! Samples, instants, intervals and differences by hand.
+
+use crate::claim::Interval;
+use crate::difference::{Mismatch, SampleDifference, channel_difference};
+use crate::instant::Instant;
+use crate::sample::Sample;
+use crate::tests::support::temp_claim;
+use crate::value::sample_value;
+use std::test::Fail;
+
+#[test]
+fn reads_two_bytes_the_low_one_first(rt: HostRuntime) {
+    for (bytes, want) in [
+        ([0x00u8, 0x00], 0i16),
+        ([0xff, 0x7f], 32767),
+        ([0x00, 0x80], -32768),
+        ([0xff, 0xff], -1),
+        ([0xf9, 0xff], -7),
+        ([0x96, 0x00], 150),
+    ] {
+        assert_eq!(rt; sample_value(&bytes, 0), want);
+    }
+    let lane = [0x07, 0x00, 0xf9, 0xff, 0x00, 0x80, 0x01];
+    assert_eq!(rt; sample_value(&lane, 1), -7);
+    assert_eq!(rt; sample_value(&lane, 2), -32768);
+}
+
+#[test]
+fn rounds_instants_down(rt: HostRuntime) {
+    for (num, den, want) in [
+        (-1i128, 2u32, -1i128),
+        (1, 2, 0),
+        (-4, 2, -2),
+        (-5, 2, -3),
+        (0, 8_388_608, 0),
+        (1_000_000_000_000, 3, 333_333_333_333),
+        (-1, 8_388_608, -1),
+        (
+            1_000_000_000_000_000_000_000,
+            1,
+            1_000_000_000_000_000_000_000,
+        ),
+    ] {
+        assert_eq!(rt;
+            Instant {
+                num,
+                den: den.max(1)
+            }
+            .floor(),
+            want,
+            "of {num} / {den}"
+        );
+    }
+}
+
+#[test]
+fn keeps_the_first_bound_and_not_the_last(rt: HostRuntime) -> Result<(), Fail> {
+    let interval = Interval {
+        from_ps: 1_000_000_000_000,
+        to_ps: 4_000_000_000_000,
+    };
+    let claim = temp_claim(rt.alloc(), 1_000_000_000_000, 4_000_000_000_000)?;
+    for (num, den, want) in [
+        (999_999_999_999i128, 1u32, false),
+        (1_999_999_999_999, 2, false),
+        (1_000_000_000_000, 1, true),
+        (2_000_000_000_000, 2, true),
+        (3_999_999_999_999, 1, true),
+        (7_999_999_999_999, 2, true),
+        (8_000_000_000_000, 2, false),
+        (4_000_000_000_000, 1, false),
+        (4_000_000_000_001, 1, false),
+        (-1, 1, false),
+    ] {
+        let den = den.clamp(1, 2);
+        assert_eq!(rt; interval.contains(num, den), want, "at {num} / {den}");
+        assert_eq!(rt; claim.keeps_instant(num, den), want, "at {num} / {den}");
+    }
+    Ok(())
+}
+
+fn found(num: i128, den: u32, mismatch: Mismatch) -> Option<SampleDifference> {
+    Some(SampleDifference {
+        at: Instant { num, den },
+        mismatch,
+    })
+}
+
+/// Samples at 0 and 5 against lists of other numbers of samples a data record.
+#[test]
+fn finds_the_first_difference(rt: HostRuntime) {
+    let halves = [Sample { num: 0, value: 7 }, Sample { num: 10, value: -7 }];
+    let wholes = [Sample { num: 0, value: 7 }, Sample { num: 5, value: -7 }];
+    let quarters = [
+        Sample { num: 0, value: 7 },
+        Sample { num: 10, value: 1 },
+        Sample { num: 20, value: -7 },
+    ];
+    let other = [Sample { num: 0, value: 7 }, Sample { num: 10, value: -8 }];
+    let both = [Sample { num: 0, value: 8 }, Sample { num: 10, value: -8 }];
+    assert_eq!(rt; channel_difference(&[], 1, &[], 1), None);
+    assert_eq!(rt; channel_difference(&halves, 2, &halves, 2), None);
+    assert_eq!(rt; channel_difference(&halves, 2, &wholes, 1), None);
+    assert_eq!(rt; channel_difference(&wholes, 1, &halves, 2), None);
+    assert_eq!(rt;
+        channel_difference(&halves, 2, &other, 2),
+        found(10, 2, Mismatch::Value(-7, -8))
+    );
+    assert_eq!(rt;
+        channel_difference(&both, 2, &halves, 2),
+        found(0, 2, Mismatch::Value(8, 7))
+    );
+    assert_eq!(rt;
+        channel_difference(&halves, 2, &wholes[..1], 1),
+        found(10, 2, Mismatch::Missing)
+    );
+    assert_eq!(rt;
+        channel_difference(&wholes[..1], 1, &halves, 2),
+        found(10, 2, Mismatch::Extra)
+    );
+    assert_eq!(rt;
+        channel_difference(&halves, 2, &quarters, 4),
+        found(10, 4, Mismatch::Extra)
+    );
+    assert_eq!(rt;
+        channel_difference(&quarters, 4, &halves, 2),
+        found(10, 4, Mismatch::Missing)
+    );
+    assert_eq!(rt;
+        channel_difference(&[], 2, &wholes, 1),
+        found(0, 1, Mismatch::Extra)
+    );
+    assert_eq!(rt;
+        channel_difference(&wholes[1..], 1, &wholes, 1),
+        found(0, 1, Mismatch::Extra)
+    );
+}

@@ -1,0 +1,258 @@
+//! A check of sources that give single bytes, fail, have no end, or count their reads.
+
+ghost use Rattle.std.specs.Prelude.{[], true, false};
+
+use crate::check::check;
+use crate::claim::Claim;
+use crate::side::{CheckStop, Side};
+use crate::tests::support::{LABEL_0, edited, six_seconds, small_file};
+use edf_fields::source::{ReadFault, SliceSource, Source};
+use std::alloc::Global;
+use std::test::Fail;
+
+/// Gives one byte a read.
+#[derive(Drop)]
+struct Drip<'a> {
+    rest: &'a [u8],
+}
+
+impl<'a> Source for Drip<'a> {
+    ghost left = { λ s. s.rest.now };
+
+    ghost failures = { λ _. 0 };
+
+    ghost is_honest = { λ _. true };
+
+    fn read(&mut self, buf: &mut [u8]) -> Result<usize, ReadFault> {
+        let count = self.rest.len().min(1);
+        let (first, others) = self.rest.split_at(count);
+        buf[..count].copy_from_slice(first);
+        self.rest = others;
+        Ok(count)
+    }
+}
+
+/// Fills each buffer as far as its bytes go, and fails after some reads.
+#[derive(Drop)]
+struct Breaks<'a> {
+    rest: &'a [u8],
+    reads: u32,
+    failures: u64,
+}
+
+impl<'a> Source for Breaks<'a> {
+    ghost left = { λ s. s.rest.now };
+
+    ghost failures = { λ s. s.failures };
+
+    ghost is_honest = { λ _. true };
+
+    fn read(&mut self, buf: &mut [u8]) -> Result<usize, ReadFault> {
+        if self.reads == 0 {
+            self.failures = self.failures.saturating_add(1);
+            return Err(ReadFault);
+        }
+        self.reads -= 1;
+        let count = buf.len().min(self.rest.len());
+        let (first, others) = self.rest.split_at(count);
+        buf[..count].copy_from_slice(first);
+        self.rest = others;
+        Ok(count)
+    }
+}
+
+/// Gives its bytes and then zeros without end, so that no list holds what is left.
+#[derive(Drop)]
+struct Endless<'a> {
+    rest: &'a [u8],
+}
+
+impl<'a> Source for Endless<'a> {
+    ghost left = { λ _. [] };
+
+    ghost failures = { λ _. 0 };
+
+    ghost is_honest = { λ _. false };
+
+    fn read(&mut self, buf: &mut [u8]) -> Result<usize, ReadFault> {
+        let count = buf.len().min(self.rest.len());
+        let (first, others) = self.rest.split_at(count);
+        buf.fill(0);
+        buf[..count].copy_from_slice(first);
+        self.rest = others;
+        Ok(buf.len())
+    }
+}
+
+/// Counts its reads.
+#[derive(Drop)]
+struct Counts<'a> {
+    rest: &'a [u8],
+    reads: u64,
+}
+
+impl<'a> Source for Counts<'a> {
+    ghost left = { λ s. s.rest.now };
+
+    ghost failures = { λ _. 0 };
+
+    ghost is_honest = { λ _. true };
+
+    fn read(&mut self, buf: &mut [u8]) -> Result<usize, ReadFault> {
+        self.reads = self.reads.saturating_add(1);
+        let count = buf.len().min(self.rest.len());
+        let (first, others) = self.rest.split_at(count);
+        buf[..count].copy_from_slice(first);
+        self.rest = others;
+        Ok(count)
+    }
+}
+
+/// The line of a check, without its end.
+fn line_from<O: Source, E: Source>(
+    alloc: Global,
+    original: &mut O,
+    export: &mut E,
+    claim: &Claim,
+) -> Result<String, Fail> {
+    let verdict = check(alloc, original, export, claim)?;
+    Ok(String::from_utf8(verdict.line(alloc)?)?)
+}
+
+const YES: &str = "YES channels 1 samples 2 annotations 0\n";
+
+#[test]
+fn reads_byte_by_byte(rt: HostRuntime) -> Result<(), Fail> {
+    let alloc = rt.alloc();
+    let file = small_file(alloc)?;
+    let flow = edited(alloc, &file, &[(LABEL_0, "Flow")])?;
+    let mut longer = Vec::from_slice(alloc, &file)?;
+    longer.push(0)?;
+    let mut lower = Vec::from_slice(alloc, &file)?;
+    if let Some(slot) = lower.get_mut(770) {
+        *slot = 0xf8;
+    }
+    let claim = six_seconds(alloc)?;
+    for (export, want) in [
+        (&file[..], YES),
+        (
+            &lower[..],
+            "NO 10 sample \"Temp\" at 500000000000 ps original -7 export -8\n",
+        ),
+        (
+            &file[..file.len().saturating_sub(1)],
+            "NO 2 export fault: Truncated at record 0\n",
+        ),
+        (&longer[..], "NO 2 export fault: TrailingBytes at end\n"),
+        (&flow[..], "NO 4 missing channel \"Temp\"\n"),
+        (
+            b"",
+            "NO 2 export fault: Truncated at header field version\n",
+        ),
+    ] {
+        let mut first = Drip { rest: &file };
+        let mut second = Drip { rest: export };
+        let line = line_from(alloc, &mut first, &mut second, &claim)?;
+        assert_eq!(rt; line.as_str(), want);
+    }
+    let mut first = Drip { rest: &longer };
+    let mut second = SliceSource::new(&file);
+    let line = line_from(alloc, &mut first, &mut second, &claim)?;
+    assert_eq!(rt;
+        line.as_str(),
+        "NO 1 original fault: TrailingBytes at end\n"
+    );
+    Ok(())
+}
+
+#[test]
+fn answers_each_failed_read(rt: HostRuntime) -> Result<(), Fail> {
+    let alloc = rt.alloc();
+    let file = small_file(alloc)?;
+    let claim = six_seconds(alloc)?;
+    for reads in 0..4u32 {
+        let mut failing = Breaks {
+            rest: &file,
+            reads,
+            failures: 0,
+        };
+        let mut whole = SliceSource::new(&file);
+        let found = check(alloc, &mut failing, &mut whole, &claim);
+        assert!(rt;
+            matches!(&found, Err(CheckStop::ReadFailed(Side::Original))),
+            "after {reads} reads"
+        );
+        assert_eq!(rt; failing.failures, 1);
+        let mut whole = SliceSource::new(&file);
+        let mut failing = Breaks {
+            rest: &file,
+            reads,
+            failures: 0,
+        };
+        let found = check(alloc, &mut whole, &mut failing, &claim);
+        assert!(rt;
+            matches!(&found, Err(CheckStop::ReadFailed(Side::Export))),
+            "after {reads} reads"
+        );
+        assert_eq!(rt; failing.failures, 1);
+    }
+    let mut first = Breaks {
+        rest: &file,
+        reads: 4,
+        failures: 0,
+    };
+    let mut second = Breaks {
+        rest: &file,
+        reads: 4,
+        failures: 0,
+    };
+    let line = line_from(alloc, &mut first, &mut second, &claim)?;
+    assert_eq!(rt; line.as_str(), YES);
+    assert_eq!(rt; (first.failures, second.failures), (0, 0));
+    Ok(())
+}
+
+#[test]
+fn asks_for_one_byte_behind_the_end(rt: HostRuntime) -> Result<(), Fail> {
+    let alloc = rt.alloc();
+    let file = small_file(alloc)?;
+    let claim = six_seconds(alloc)?;
+    let mut first = SliceSource::new(&file);
+    let mut second = Endless { rest: &file };
+    let line = line_from(alloc, &mut first, &mut second, &claim)?;
+    assert_eq!(rt; line.as_str(), "NO 2 export fault: TrailingBytes at end\n");
+    let mut first = Endless { rest: &file };
+    let mut second = SliceSource::new(&file);
+    let line = line_from(alloc, &mut first, &mut second, &claim)?;
+    assert_eq!(rt;
+        line.as_str(),
+        "NO 1 original fault: TrailingBytes at end\n"
+    );
+    let mut first = Endless { rest: b"" };
+    let line = line_from(alloc, &mut first, &mut SliceSource::new(&file), &claim)?;
+    assert_eq!(rt;
+        line.as_str(),
+        "NO 1 original fault: BadNumber at header field header-bytes\n"
+    );
+    Ok(())
+}
+
+#[test]
+fn reads_no_export_of_a_bad_original(rt: HostRuntime) -> Result<(), Fail> {
+    let alloc = rt.alloc();
+    let file = small_file(alloc)?;
+    let mut longer = Vec::from_slice(alloc, &file)?;
+    longer.push(0)?;
+    let claim = six_seconds(alloc)?;
+    for (original, reads) in [(&b""[..], 0u64), (&longer[..], 0), (&file[..], 4)] {
+        let mut first = SliceSource::new(original);
+        let mut second = Counts {
+            rest: &file,
+            reads: 0,
+        };
+        let found = check(alloc, &mut first, &mut second, &claim)?;
+        drop(found);
+        assert_eq!(rt; second.reads, reads);
+    }
+    Ok(())
+}

@@ -1,0 +1,211 @@
+//! Small files in memory, written apart from those of the worked rows.
+
+ghost use Rattle.std.specs.Prelude.{◌<ℤ◌, ◌≤ℤ◌, ◌^◌, pos};
+
+use crate::check::check;
+use crate::claim::Claim;
+use edf_fields::source::SliceSource;
+use std::alloc::{AllocError, Global};
+use std::test::Fail;
+
+/// A field of a header: where it begins, and how many bytes it has.
+#[derive(Clone, Copy)]
+pub struct Field {
+    pub from: usize,
+    pub bytes: usize,
+}
+
+pub const HEADER_BYTES: Field = Field {
+    from: 184,
+    bytes: 8,
+};
+
+pub const RESERVED: Field = Field {
+    from: 192,
+    bytes: 44,
+};
+
+pub const RECORDS: Field = Field {
+    from: 236,
+    bytes: 8,
+};
+
+pub const DURATION: Field = Field {
+    from: 244,
+    bytes: 8,
+};
+
+pub const SIGNALS: Field = Field {
+    from: 252,
+    bytes: 4,
+};
+
+pub const LABEL_0: Field = Field {
+    from: 256,
+    bytes: 16,
+};
+
+pub const LABEL_1: Field = Field {
+    from: 272,
+    bytes: 16,
+};
+
+pub const SAMPLES_0: Field = Field {
+    from: 688,
+    bytes: 8,
+};
+
+pub const SAMPLES_1: Field = Field {
+    from: 696,
+    bytes: 8,
+};
+
+/// How the samples of a channel `Temp` are cut into data records.
+#[derive(Clone, Copy)]
+pub struct Cut<'a> {
+    pub records: &'a str,
+    pub duration: &'a str,
+    pub samples: &'a str,
+    /// The values of each data record and the onset of its start.
+    pub parts: &'a [(&'a [i16], &'a str)],
+    /// Whether the annotation signal comes first.
+    pub is_lane_first: bool,
+}
+
+/// Puts the text behind the file, and `fill` up to `width` bytes in all.
+fn push_field(file: &mut Vec<u8>, text: &[u8], fill: u8, width: usize) -> Result<(), AllocError> {
+    file.extend_from_slice(text)?;
+    for _ in text.len()..width {
+        file.push(fill)?;
+    }
+    Ok(())
+}
+
+/// Puts the header of a file with a channel `Temp` behind `file`.
+fn push_header(file: &mut Vec<u8>, cut: Cut) -> Result<(), AllocError> {
+    for (text, width) in [
+        ("0", 8usize),
+        ("MCH-0234567 F 02-MAY-1951 Haagse_Harry", 80),
+        ("Startdate 02-MAR-2002 PSG-1234/2002 NN Telemetry03", 80),
+        ("02.03.02", 8),
+        ("22.00.00", 8),
+        ("768", 8),
+        ("EDF+C", 44),
+        (cut.records, 8),
+        (cut.duration, 8),
+        ("2", 4),
+    ] {
+        push_field(file, text.as_bytes(), b' ', width)?;
+    }
+    for (channel, notes, width) in [
+        ("Temp", "EDF Annotations", 16usize),
+        ("", "", 80),
+        ("degC", "", 8),
+        ("30", "-1", 8),
+        ("40", "1", 8),
+        ("-2048", "-32768", 8),
+        ("2047", "32767", 8),
+        ("", "", 80),
+        (cut.samples, "16", 8),
+        ("", "", 32),
+    ] {
+        let (first, second) = if cut.is_lane_first {
+            (notes, channel)
+        } else {
+            (channel, notes)
+        };
+        push_field(file, first.as_bytes(), b' ', width)?;
+        push_field(file, second.as_bytes(), b' ', width)?;
+    }
+    Ok(())
+}
+
+/// Puts the samples of a data record behind the file.
+fn push_values(file: &mut Vec<u8>, values: &[i16]) -> Result<(), AllocError> {
+    for value in values {
+        file.extend_from_slice(&value.to_le_bytes())?;
+    }
+    Ok(())
+}
+
+/// Puts a lane of 32 bytes that only tells when its data record starts behind the file.
+fn push_start(file: &mut Vec<u8>, onset: &str) -> Result<(), AllocError> {
+    file.extend_from_slice(onset.as_bytes())?;
+    push_field(file, b"\x14\x14", 0, 32usize.saturating_sub(onset.len()))
+}
+
+/// A file with a channel `Temp` and an annotation signal.
+pub fn temp_file(alloc: Global, cut: Cut) -> Result<Vec<u8>, AllocError> {
+    let mut file = Vec::new(alloc);
+    push_header(&mut file, cut)?;
+    for (values, onset) in cut.parts {
+        if cut.is_lane_first {
+            push_start(&mut file, onset)?;
+            push_values(&mut file, values)?;
+        } else {
+            push_values(&mut file, values)?;
+            push_start(&mut file, onset)?;
+        }
+    }
+    Ok(file)
+}
+
+/// One data record of 1 s with two samples, 7 and -7.
+pub const SMALL: Cut<'static> = Cut {
+    records: "1",
+    duration: "1",
+    samples: "2",
+    parts: &[(&[7, -7], "+0")],
+    is_lane_first: false,
+};
+
+/// The file M, which is cut so: 804 bytes.
+pub fn small_file(alloc: Global) -> Result<Vec<u8>, AllocError> {
+    temp_file(alloc, SMALL)
+}
+
+/// The file with other texts in some of its fields.
+pub fn edited(alloc: Global, file: &[u8], edits: &[(Field, &str)]) -> Result<Vec<u8>, AllocError> {
+    let mut other = Vec::from_slice(alloc, file)?;
+    for (field, text) in edits {
+        for place in 0..field.bytes {
+            let byte = text.as_bytes().get(place).copied().unwrap_or(b' ');
+            if let Some(slot) = other.get_mut(field.from.saturating_add(place)) {
+                *slot = byte;
+            }
+        }
+    }
+    Ok(other)
+}
+
+/// The first `count` bytes of the file, or all where it has fewer.
+pub fn front(file: &[u8], count: usize) -> &[u8] {
+    &file[..count.min(file.len())]
+}
+
+/// The claim that keeps the channel `Temp` from `from_ps` to `to_ps`.
+pub fn temp_claim(alloc: Global, from_ps: i128, to_ps: i128) -> Result<Claim, AllocError>
+    requires from { pos 0 ≤ℤ from_ps }
+    requires order { from_ps <ℤ to_ps }
+    requires to { to_ps <ℤ pos (10 ^ 21) }
+{
+    Claim::plain(alloc, &[b"Temp"], from_ps, to_ps)
+}
+
+/// The claim that keeps the channel `Temp` for 6 s.
+pub fn six_seconds(alloc: Global) -> Result<Claim, AllocError> {
+    temp_claim(alloc, 0, 6_000_000_000_000)
+}
+
+/// The line of the check of two files, without its end.
+pub fn line_of(
+    alloc: Global,
+    original: &[u8],
+    export: &[u8],
+    claim: &Claim,
+) -> Result<String, Fail> {
+    let mut first = SliceSource::new(original);
+    let mut second = SliceSource::new(export);
+    let verdict = check(alloc, &mut first, &mut second, claim)?;
+    Ok(String::from_utf8(verdict.line(alloc)?)?)
+}
