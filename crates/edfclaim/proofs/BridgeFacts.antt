@@ -17,7 +17,7 @@ use Rattle.edfclaim.specs.Samples.{IsChannel}
 use Rattle.edfclaim.specs.Keeps.{IsWithin, KeepsInstant, is_within, keeps_instant}
 use Rattle.edfclaim.specs.Claims.{Terms}
 use Rattle.edfclaim.specs.Channels.{HasDistinctChannels, channel_place}
-use Rattle.edfclaim.specs.Differences.{HasValue, HasNone, Match, Differ, diff, IsAscending, IsLeastDifference}
+use Rattle.edfclaim.specs.Differences.{HasValue, HasNone, Match, Differ, first_difference_of, IsAscending, IsLeastDifference}
 use Rattle.edfclaim.specs.Exports.{SameChannels, StandsAt, NoneAt, DifferAt}
 use Rattle.edfclaim.specs.Compare.{Timed, all_samples, kept_samples, difference_at, label_difference}
 use Rattle.edfclaim.specs.Verdicts.{samples_in, kept_in}
@@ -126,7 +126,7 @@ pub record IsPair (o e : Timed) (claim : Terms) (label : List ℕ) (s t : ℕ) :
 
 -- the lists of the pair, as compared
 abbrev pub pair_difference : Timed → Timed → Terms → ℕ → ℕ → Option SampleDifference
-pair_difference o e claim s t = diff (samples_at o.head s) (kept_samples claim.keep o s) (samples_at e.head t) (all_samples e t)
+pair_difference o e claim s t = first_difference_of (samples_at o.head s) (kept_samples claim.keep o s) (samples_at e.head t) (all_samples e t)
 
 pub label-pair : (o e : Timed) (claim : Terms) (label : List ℕ) (s t : ℕ) → IsPair o e claim label s t → label_difference claim.keep o e label ≡ pair_difference o e claim s t
 unfolding label_difference

@@ -12,7 +12,7 @@ use Rattle.edfclaim.specs.declared.difference.Mismatch.TheVariants.{Missing, Ext
 use Rattle.edfclaim.specs.declared.difference.SampleDifference.{SampleDifference}
 use Rattle.edfclaim.specs.Instants.{IsBefore, IsNotBefore, IsSame, is_before}
 use Rattle.edfclaim.specs.Lists.{Has}
-use Rattle.edfclaim.specs.Differences.{instant, IsAscending, HasValue, HasNone, AreIn, Match, Differ, IsDifference, IsLeastDifference, diff, missing, extra, other, heads, AreBefore, AreFrom, MatchExactly, DiffIsLeast, DiffSplits}
+use Rattle.edfclaim.specs.Differences.{instant, IsAscending, HasValue, HasNone, AreIn, Match, Differ, IsDifference, IsLeastDifference, first_difference_of, missing, extra, other, heads, AreBefore, AreFrom, MatchExactly, DifferenceIsLeast, DifferenceSplits}
 use Rattle.edfclaim.proofs.FractionFacts.{before-not_before, same_below, same_above, before_below, before_same, before_same_back, is_before-true, is_before-false, true-is_before, false-is_before, both_same, before_over, same_through, same_before, same_back}
 
 -- what a test gives, by its two cases
@@ -20,14 +20,14 @@ pub tested : {X : Type 0} (b : Bool) (u v : X) (Q : X → Type 0) → (b ≡ tru
 tested true u v Q f g = f refl
 tested false u v Q f g = g refl
 
-pub diff_cases : (n : ℕ) (x : Sample) (xs : List Sample) (m : ℕ) (y : Sample) (ys : List Sample) (Q : Option SampleDifference → Type 0) →
+pub difference_cases : (n : ℕ) (x : Sample) (xs : List Sample) (m : ℕ) (y : Sample) (ys : List Sample) (Q : Option SampleDifference → Type 0) →
     (IsBefore (instant n x) (instant m y) → Q (Some (missing n x))) →
     (IsBefore (instant m y) (instant n x) → Q (Some (extra m y))) →
-    (IsSame (instant n x) (instant m y) → x.value ≡ y.value → Q (diff n xs m ys)) →
+    (IsSame (instant n x) (instant m y) → x.value ≡ y.value → Q (first_difference_of n xs m ys)) →
     (IsSame (instant n x) (instant m y) → x.value ≢ y.value → Q (Some (other n x y))) →
-    Q (diff n (x ∷ xs) m (y ∷ ys))
-diff_cases n x xs m y ys Q first second same differs =
-    let R : Option SampleDifference → Type 0 = λ o. Q (option_or o (diff n xs m ys)) in
+    Q (first_difference_of n (x ∷ xs) m (y ∷ ys))
+difference_cases n x xs m y ys Q first second same differs =
+    let R : Option SampleDifference → Type 0 = λ o. Q (option_or o (first_difference_of n xs m ys)) in
     tested (is_before (instant n x) (instant m y)) _ _ R
     (λ e. first (is_before-true (instant n x) (instant m y) e))
     (λ e. tested (is_before (instant m y) (instant n x)) _ _ R
@@ -180,14 +180,14 @@ empty_above n t x h = absurd h
 
 -- none where the lists match, else the least difference
 pub exact : (n : ℕ) (xs : List Sample) (m : ℕ) (ys : List Sample) → 0 < n → 0 < m → IsAscending xs → IsAscending ys →
-    MatchOption (diff n xs m ys) (Match n xs m ys) (IsLeastDifference n xs m ys)
+    MatchOption (first_difference_of n xs m ys) (Match n xs m ys) (IsLeastDifference n xs m ys)
 exact n [] m [] pn pm ax ay = (λ x h. absurd h, λ y h. absurd h)
 exact n [] m (y ∷ ys) pn pm ax ay =
     least_here n [] m (y ∷ ys) (extra m y) pn pm (pm, ((y.value, (y, inl refl, refl, refl)), λ x h s. h)) (empty_above n (instant m y)) (head_above m y ys pm ay)
 exact n (x ∷ xs) m [] pn pm ax ay =
     least_here n (x ∷ xs) m [] (missing n x) pn pm (pn, ((x.value, (x, inl refl, refl, refl)), λ y h s. h)) (head_above n x xs pn ax) (empty_above m (instant n x))
 exact n (x ∷ xs) m (y ∷ ys) pn pm ax ay =
-    diff_cases n x xs m y ys (λ o. MatchOption o (Match n (x ∷ xs) m (y ∷ ys)) (IsLeastDifference n (x ∷ xs) m (y ∷ ys)))
+    difference_cases n x xs m y ys (λ o. MatchOption o (Match n (x ∷ xs) m (y ∷ ys)) (IsLeastDifference n (x ∷ xs) m (y ∷ ys)))
     (λ b. let after = after_head m y ys (instant n x) pm ay b in
     least_here n (x ∷ xs) m (y ∷ ys) (missing n x) pn pm
     (pn, ((x.value, (x, inl refl, refl, refl)), none_at m (y ∷ ys) (instant n x) after))
@@ -196,7 +196,7 @@ exact n (x ∷ xs) m (y ∷ ys) pn pm ax ay =
     least_here n (x ∷ xs) m (y ∷ ys) (extra m y) pn pm
     (pm, ((y.value, (y, inl refl, refl, refl)), none_at n (x ∷ xs) (instant m y) after))
     (after-above n (x ∷ xs) (instant m y) after) (head_above m y ys pm ay))
-    (λ s e. mapped (diff n xs m ys) (match_whole n x xs m y ys s e) (least_whole n x xs m y ys pn pm ax ay s e) (exact n xs m ys pn pm ax.1 ay.1))
+    (λ s e. mapped (first_difference_of n xs m ys) (match_whole n x xs m y ys s e) (least_whole n x xs m y ys pn pm ax ay s e) (exact n xs m ys pn pm ax.1 ay.1))
     (λ s e. least_here n (x ∷ xs) m (y ∷ ys) (other n x y) pn pm
     (pn, ((x, inl refl, refl, refl), (y, inl refl, same_back (instant n x) (instant m y) s, refl), e))
     (head_above n x xs pn ax)
@@ -239,52 +239,52 @@ none_of n xs m ys pn pm a i (Some d) h = absurd (match_not_differ n xs m ys d.at
 pub match_exactly : MatchExactly
 match_exactly n m xs ys pn pm ax ay = (
   λ e. let P : Option SampleDifference → Type 0 = λ o. MatchOption o (Match n xs m ys) (IsLeastDifference n xs m ys) in subst P e (exact n xs m ys pn pm ax ay),
-  λ i. none_of n xs m ys pn pm ay i (diff n xs m ys) (exact n xs m ys pn pm ax ay),
+  λ i. none_of n xs m ys pn pm ay i (first_difference_of n xs m ys) (exact n xs m ys pn pm ax ay),
 )
 
-pub diff_is_least : DiffIsLeast
-diff_is_least n m xs ys pn pm ax ay d e =
+pub difference_is_least : DifferenceIsLeast
+difference_is_least n m xs ys pn pm ax ay d e =
     let P : Option SampleDifference → Type 0 = λ o. MatchOption o (Match n xs m ys) (IsLeastDifference n xs m ys) in subst P e (exact n xs m ys pn pm ax ay)
 
-diff-missing : (n : ℕ) (x : Sample) (xs : List Sample) (m : ℕ) (y : Sample) (ys : List Sample) → IsBefore (instant n x) (instant m y) → diff n (x ∷ xs) m (y ∷ ys) ≡ Some (missing n x)
-diff-missing n x xs m y ys b = rw (true-is_before (instant n x) (instant m y) b)
+difference-missing : (n : ℕ) (x : Sample) (xs : List Sample) (m : ℕ) (y : Sample) (ys : List Sample) → IsBefore (instant n x) (instant m y) → first_difference_of n (x ∷ xs) m (y ∷ ys) ≡ Some (missing n x)
+difference-missing n x xs m y ys b = rw (true-is_before (instant n x) (instant m y) b)
 
-diff-extra : (n : ℕ) (x : Sample) (xs : List Sample) (m : ℕ) (y : Sample) (ys : List Sample) → IsBefore (instant m y) (instant n x) → diff n (x ∷ xs) m (y ∷ ys) ≡ Some (extra m y)
-diff-extra n x xs m y ys b = rw (false-is_before (instant n x) (instant m y) (before_below (instant m y) (instant n x) b), true-is_before (instant m y) (instant n x) b)
+difference-extra : (n : ℕ) (x : Sample) (xs : List Sample) (m : ℕ) (y : Sample) (ys : List Sample) → IsBefore (instant m y) (instant n x) → first_difference_of n (x ∷ xs) m (y ∷ ys) ≡ Some (extra m y)
+difference-extra n x xs m y ys b = rw (false-is_before (instant n x) (instant m y) (before_below (instant m y) (instant n x) b), true-is_before (instant m y) (instant n x) b)
 
 or_assoc : {A : Type 0} (a b c : Option A) → option_or a (option_or b c) ≡ option_or (option_or a b) c
 or_assoc None b c = refl
 or_assoc (Some x) b c = refl
 
-pub diff_splits : DiffSplits
-diff_splits n m [] xs' [] ys' t pn pm pt bx by' fx fy = refl
-diff_splits n m [] [] (y ∷ ys) ys' t pn pm pt bx by' fx fy = refl
-diff_splits n m [] (x ∷ xs') (y ∷ ys) ys' t pn pm pt bx by' fx fy =
-    diff-extra n x xs' m y (ys ++ ys') (before-not_before (instant m y) t (instant n x) pn (by' y (inl refl)) (fx x (inl refl)))
-diff_splits n m (x ∷ xs) xs' [] [] t pn pm pt bx by' fx fy = refl
-diff_splits n m (x ∷ xs) xs' [] (y ∷ ys') t pn pm pt bx by' fx fy =
-    diff-missing n x (xs ++ xs') m y ys' (before-not_before (instant n x) t (instant m y) pm (bx x (inl refl)) (fy y (inl refl)))
-diff_splits n m (x ∷ xs) xs' (y ∷ ys) ys' t pn pm pt bx by' fx fy =
-    ap (option_or (heads n x m y)) (diff_splits n m xs xs' ys ys' t pn pm pt (λ z h. bx z (inr h)) (λ z h. by' z (inr h)) fx fy)
-    ∙ or_assoc (heads n x m y) (diff n xs m ys) (diff n xs' m ys')
+pub difference_splits : DifferenceSplits
+difference_splits n m [] xs' [] ys' t pn pm pt bx by' fx fy = refl
+difference_splits n m [] [] (y ∷ ys) ys' t pn pm pt bx by' fx fy = refl
+difference_splits n m [] (x ∷ xs') (y ∷ ys) ys' t pn pm pt bx by' fx fy =
+    difference-extra n x xs' m y (ys ++ ys') (before-not_before (instant m y) t (instant n x) pn (by' y (inl refl)) (fx x (inl refl)))
+difference_splits n m (x ∷ xs) xs' [] [] t pn pm pt bx by' fx fy = refl
+difference_splits n m (x ∷ xs) xs' [] (y ∷ ys') t pn pm pt bx by' fx fy =
+    difference-missing n x (xs ++ xs') m y ys' (before-not_before (instant n x) t (instant m y) pm (bx x (inl refl)) (fy y (inl refl)))
+difference_splits n m (x ∷ xs) xs' (y ∷ ys) ys' t pn pm pt bx by' fx fy =
+    ap (option_or (heads n x m y)) (difference_splits n m xs xs' ys ys' t pn pm pt (λ z h. bx z (inr h)) (λ z h. by' z (inr h)) fx fy)
+    ∙ or_assoc (heads n x m y) (first_difference_of n xs m ys) (first_difference_of n xs' m ys')
 
 -- the difference of what is before t is before t
-pub diff-before : (n : ℕ) (xs : List Sample) (m : ℕ) (ys : List Sample) (t : Instant) → AreBefore n xs t → AreBefore m ys t → IfSome (diff n xs m ys) (λ d. IsBefore d.at t)
-diff-before n [] m [] t bx by' = tt
-diff-before n [] m (y ∷ ys) t bx by' = by' y (inl refl)
-diff-before n (x ∷ xs) m [] t bx by' = bx x (inl refl)
-diff-before n (x ∷ xs) m (y ∷ ys) t bx by' =
-    diff_cases n x xs m y ys (λ o. IfSome o (λ d. IsBefore d.at t))
+pub difference-before : (n : ℕ) (xs : List Sample) (m : ℕ) (ys : List Sample) (t : Instant) → AreBefore n xs t → AreBefore m ys t → IfSome (first_difference_of n xs m ys) (λ d. IsBefore d.at t)
+difference-before n [] m [] t bx by' = tt
+difference-before n [] m (y ∷ ys) t bx by' = by' y (inl refl)
+difference-before n (x ∷ xs) m [] t bx by' = bx x (inl refl)
+difference-before n (x ∷ xs) m (y ∷ ys) t bx by' =
+    difference_cases n x xs m y ys (λ o. IfSome o (λ d. IsBefore d.at t))
     (λ b. bx x (inl refl)) (λ b. by' y (inl refl))
-    (λ s e. diff-before n xs m ys t (λ z h. bx z (inr h)) (λ z h. by' z (inr h)))
+    (λ s e. difference-before n xs m ys t (λ z h. bx z (inr h)) (λ z h. by' z (inr h)))
     (λ s e. bx x (inl refl))
 
-pub diff-from : (n : ℕ) (xs : List Sample) (m : ℕ) (ys : List Sample) (t : Instant) → 0 < n → 0 < m → AreFrom n xs t → AreFrom m ys t → IfSome (diff n xs m ys) (λ d. (0 < d.at.den) × IsNotBefore d.at t)
-diff-from n [] m [] t pn pm bx by' = tt
-diff-from n [] m (y ∷ ys) t pn pm bx by' = (pm, by' y (inl refl))
-diff-from n (x ∷ xs) m [] t pn pm bx by' = (pn, bx x (inl refl))
-diff-from n (x ∷ xs) m (y ∷ ys) t pn pm bx by' =
-    diff_cases n x xs m y ys (λ o. IfSome o (λ d. (0 < d.at.den) × IsNotBefore d.at t))
+pub difference-from : (n : ℕ) (xs : List Sample) (m : ℕ) (ys : List Sample) (t : Instant) → 0 < n → 0 < m → AreFrom n xs t → AreFrom m ys t → IfSome (first_difference_of n xs m ys) (λ d. (0 < d.at.den) × IsNotBefore d.at t)
+difference-from n [] m [] t pn pm bx by' = tt
+difference-from n [] m (y ∷ ys) t pn pm bx by' = (pm, by' y (inl refl))
+difference-from n (x ∷ xs) m [] t pn pm bx by' = (pn, bx x (inl refl))
+difference-from n (x ∷ xs) m (y ∷ ys) t pn pm bx by' =
+    difference_cases n x xs m y ys (λ o. IfSome o (λ d. (0 < d.at.den) × IsNotBefore d.at t))
     (λ b. (pn, bx x (inl refl))) (λ b. (pm, by' y (inl refl)))
-    (λ s e. diff-from n xs m ys t pn pm (λ z h. bx z (inr h)) (λ z h. by' z (inr h)))
+    (λ s e. difference-from n xs m ys t pn pm (λ z h. bx z (inr h)) (λ z h. by' z (inr h)))
     (λ s e. (pn, bx x (inl refl)))

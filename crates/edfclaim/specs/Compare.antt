@@ -7,7 +7,7 @@ use Rattle.edfclaim.specs.Heads.{Head, samples_at}
 use Rattle.edfclaim.specs.Keeps.{keeps_instant}
 use Rattle.edfclaim.specs.Samples.{samples_of}
 use Rattle.edfclaim.specs.Channels.{channel_place}
-use Rattle.edfclaim.specs.Differences.{diff}
+use Rattle.edfclaim.specs.Differences.{first_difference_of}
 
 -- a file, its header, and the instant at which each of its data records starts
 pub record Timed : Type 0 where
@@ -27,7 +27,7 @@ kept_samples keep f s = filter (λ x. keeps_instant keep x.num (samples_at f.hea
 abbrev pub difference_at : List Interval → Timed → Timed → Option ℕ → Option ℕ → Option SampleDifference
 difference_at keep o e None t = None
 difference_at keep o e (Some s) None = None
-difference_at keep o e (Some s) (Some t) = diff (samples_at o.head s) (kept_samples keep o s) (samples_at e.head t) (all_samples e t)
+difference_at keep o e (Some s) (Some t) = first_difference_of (samples_at o.head s) (kept_samples keep o s) (samples_at e.head t) (all_samples e t)
 
 -- the first difference of the channels of this label
 unfoldable pub label_difference : List Interval → Timed → Timed → List ℕ → Option SampleDifference

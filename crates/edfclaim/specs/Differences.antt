@@ -1,3 +1,4 @@
+-- Where two lists of samples differ, and the first difference of two rising lists.
 use Rattle.std.specs.Prelude.{◌≡◌, ◌≢◌, ◌↔◌, ◌++◌, ℕ, ◌<◌, ℤ, ◌<ℤ◌, List, [], ◌∷◌, Option, Some, None, if◌then◌else◌}
 use Rattle.std.specs.Option.{option_or}
 use Rattle.std.specs.Ordering.{int_eq}
@@ -30,6 +31,7 @@ HasNone n xs t = (x : Sample) → Has xs x → IsSame (instant n x) t → ⊥
 abbrev pub AreIn : ℕ → List Sample → ℕ → List Sample → Type 0
 AreIn n xs m ys = (x : Sample) → Has xs x → HasValue m ys (instant n x) x.value
 
+-- the same in both directions
 abbrev pub Match : ℕ → List Sample → ℕ → List Sample → Type 0
 Match n xs m ys = AreIn n xs m ys × AreIn m ys n xs
 
@@ -39,18 +41,23 @@ Differ n xs m ys t Missing = ((v : ℤ) × HasValue n xs t v) × HasNone m ys t
 Differ n xs m ys t Extra = ((w : ℤ) × HasValue m ys t w) × HasNone n xs t
 Differ n xs m ys t (Value v w) = HasValue n xs t v × HasValue m ys t w × (v ≢ w)
 
+-- a difference, and the instant at which it is
 abbrev pub IsDifference : ℕ → List Sample → ℕ → List Sample → SampleDifference → Type 0
 IsDifference n xs m ys d = (0 < d.at.den) × Differ n xs m ys d.at d.mismatch
 
+-- a difference, and none is before it
 abbrev pub IsLeastDifference : ℕ → List Sample → ℕ → List Sample → SampleDifference → Type 0
 IsLeastDifference n xs m ys d = IsDifference n xs m ys d × ((e : SampleDifference) → IsDifference n xs m ys e → IsBefore e.at d.at → ⊥)
 
+-- the sample of the first list has no partner
 abbrev pub missing : ℕ → Sample → SampleDifference
 missing n x = record { at = instant n x; mismatch = Missing }
 
+-- the sample of the second list has no partner
 abbrev pub extra : ℕ → Sample → SampleDifference
 extra m y = record { at = instant m y; mismatch = Extra }
 
+-- two samples at one instant have two values
 abbrev pub other : ℕ → Sample → Sample → SampleDifference
 other n x y = record { at = instant n x; mismatch = Value x.value y.value }
 
@@ -62,11 +69,11 @@ heads n x m y =
     else (if int_eq x.value y.value then None else Some (other n x y)))
 
 -- the first difference, read from the left
-abbrev pub diff : ℕ → List Sample → ℕ → List Sample → Option SampleDifference
-diff n [] m [] = None
-diff n [] m (y ∷ ys) = Some (extra m y)
-diff n (x ∷ xs) m [] = Some (missing n x)
-diff n (x ∷ xs) m (y ∷ ys) = option_or (heads n x m y) (diff n xs m ys)
+abbrev pub first_difference_of : ℕ → List Sample → ℕ → List Sample → Option SampleDifference
+first_difference_of n [] m [] = None
+first_difference_of n [] m (y ∷ ys) = Some (extra m y)
+first_difference_of n (x ∷ xs) m [] = Some (missing n x)
+first_difference_of n (x ∷ xs) m (y ∷ ys) = option_or (heads n x m y) (first_difference_of n xs m ys)
 
 -- each member is before t
 abbrev pub AreBefore : ℕ → List Sample → Instant → Type 0
@@ -76,12 +83,15 @@ AreBefore n xs t = (x : Sample) → Has xs x → IsBefore (instant n x) t
 abbrev pub AreFrom : ℕ → List Sample → Instant → Type 0
 AreFrom n xs t = (x : Sample) → Has xs x → IsNotBefore (instant n x) t
 
+-- two rising lists have no first difference exactly where they match
 abbrev pub MatchExactly : Type 0
-MatchExactly = (n m : ℕ) (xs ys : List Sample) → 0 < n → 0 < m → IsAscending xs → IsAscending ys → (diff n xs m ys ≡ None) ↔ Match n xs m ys
+MatchExactly = (n m : ℕ) (xs ys : List Sample) → 0 < n → 0 < m → IsAscending xs → IsAscending ys → (first_difference_of n xs m ys ≡ None) ↔ Match n xs m ys
 
-abbrev pub DiffIsLeast : Type 0
-DiffIsLeast = (n m : ℕ) (xs ys : List Sample) → 0 < n → 0 < m → IsAscending xs → IsAscending ys → (d : SampleDifference) → diff n xs m ys ≡ Some d → IsLeastDifference n xs m ys d
+-- the first difference of two rising lists is the least
+abbrev pub DifferenceIsLeast : Type 0
+DifferenceIsLeast = (n m : ℕ) (xs ys : List Sample) → 0 < n → 0 < m → IsAscending xs → IsAscending ys → (d : SampleDifference) → first_difference_of n xs m ys ≡ Some d → IsLeastDifference n xs m ys d
 
-abbrev pub DiffSplits : Type 0
-DiffSplits = (n m : ℕ) (xs xs' ys ys' : List Sample) (t : Instant) → 0 < n → 0 < m → 0 < t.den → AreBefore n xs t → AreBefore m ys t → AreFrom n xs' t → AreFrom m ys' t →
-    diff n (xs ++ xs') m (ys ++ ys') ≡ option_or (diff n xs m ys) (diff n xs' m ys')
+-- the first difference of two lists that are cut at one instant is that of the fronts, else that of the rests
+abbrev pub DifferenceSplits : Type 0
+DifferenceSplits = (n m : ℕ) (xs xs' ys ys' : List Sample) (t : Instant) → 0 < n → 0 < m → 0 < t.den → AreBefore n xs t → AreBefore m ys t → AreFrom n xs' t → AreFrom m ys' t →
+    first_difference_of n (xs ++ xs') m (ys ++ ys') ≡ option_or (first_difference_of n xs m ys) (first_difference_of n xs' m ys')

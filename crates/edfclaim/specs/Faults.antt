@@ -22,6 +22,7 @@ first [] = None
 first (None ∷ tests) = first tests
 first (Some fault ∷ tests) = Some fault
 
+-- a test that found this
 abbrev pub fault : Place → Cause → Option Fault
 fault place cause = Some (record { place = place; cause = cause })
 
@@ -44,24 +45,31 @@ abbrev pub not_equal : Place → Cause → ℕ → Option ℤ → Option Fault
 not_equal place cause n None = fault place BadNumber
 not_equal place cause n (Some v) = if int_eq v (pos n) then None else fault place cause
 
+-- the size of the header is a whole number
 unfoldable pub header_bytes_fault : List ℕ → Option Fault
 header_bytes_fault field = no_number (AtField fixed.HeaderBytes) (whole_number_of field)
 
+-- the file is a contiguous EDF+ file. EDF+ (2003), "The EDF+ header"
 unfoldable pub reserved_fault : List ℕ → Option Fault
 reserved_fault field = if bytes_eq (take 5 field) (codes "EDF+C") then None else fault (AtField fixed.Reserved) NotEdfPlus
 
+-- there is a data record
 unfoldable pub records_fault : List ℕ → Option Fault
 records_fault field = no_positive (AtField fixed.Records) (whole_number_of field)
 
+-- a data record lasts
 unfoldable pub duration_fault : List ℕ → Option Fault
 duration_fault field = no_positive (AtField fixed.Duration) (header_number_of field)
 
+-- there are two signals
 unfoldable pub signals_fault : List ℕ → Option Fault
 signals_fault field = not_equal (AtField fixed.Signals) BadRange 2 (whole_number_of field)
 
+-- the header has 256 bytes, and 256 more for each signal
 unfoldable pub header_size_fault : ℕ → List ℕ → Option Fault
 header_size_fault signals field = not_equal (AtField fixed.HeaderBytes) BadHeaderSize (256 * (signals + 1)) (whole_number_of field)
 
+-- a signal has a sample in a data record
 unfoldable pub samples_fault : ℕ → List ℕ → Option Fault
 samples_fault s field = no_positive (AtSignal s signal.Samples) (whole_number_of field)
 
@@ -98,10 +106,12 @@ abbrev pub signals_faults : List ℕ → ℕ → ℕ → ℕ → List (Option Fa
 signals_faults file n s zero = []
 signals_faults file n s (suc m) = samples_fault s (signal_field file n s signal.Samples) ∷ signals_faults file n (s + 1) m
 
+-- a signal holds annotations
 unfoldable pub no_annotation_signal : List SignalHead → Option Fault
 no_annotation_signal signals =
     if list_any (λ signal. is_annotations signal.label) signals then None else fault (AtField fixed.Signals) NoAnnotationSignal
 
+-- a signal is a channel
 unfoldable pub no_ordinary_signal : List SignalHead → Option Fault
 no_ordinary_signal signals =
     if list_all (λ signal. is_annotations signal.label) signals then fault (AtField fixed.Signals) NoOrdinarySignal else None
@@ -110,6 +120,7 @@ no_ordinary_signal signals =
 unfoldable pub too_long : Head → Option Fault
 too_long h = if int_lt (pos (10 ^ 21)) (pos h.records *ℤ h.duration) then fault (AtField fixed.Duration) BadRange else None
 
+-- a data record has 16,777,216 bytes at the most
 unfoldable pub record_too_large : Head → Option Fault
 record_too_large h = if nat_lt 16777216 (record_bytes h) then fault (AtField fixed.Signals) RecordTooLarge else None
 
@@ -130,9 +141,11 @@ trailing_bytes h len = if nat_le len (header_bytes h + h.records * record_bytes 
 abbrev pub fixed_stage : List ℕ → List (Option Fault)
 fixed_stage file = fixed_missing fixed_fields (length file) ++ fixed_faults file
 
+-- those of the columns of n signals
 abbrev pub columns_stage : ℕ → List ℕ → List (Option Fault)
 columns_stage n file = columns_missing columns n (length file) ++ signals_faults file n 0 n
 
+-- those of the data records and of the end
 abbrev pub records_stage : Head → ℕ → List (Option Fault)
 records_stage h len = records_missing h 0 h.records len ++ (trailing_bytes h len ∷ [])
 

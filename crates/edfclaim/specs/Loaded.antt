@@ -32,6 +32,7 @@ IsSampleNo label d (MissingChannel other) = ⊥
 IsSampleNo label d (ExtraChannel other) = ⊥
 IsSampleNo label d (Sample other at_ps mismatch) = (other.items ≡ label) × (at_ps ≡ floor_of d.at) × (mismatch ≡ d.mismatch)
 
+-- the verdict that it gives
 abbrev pub IsSampleVerdict : List ℕ → SampleDifference → Verdict → Type 0
 IsSampleVerdict label d (Yes channels samples annotations) = ⊥
 IsSampleVerdict label d (No difference) = IsSampleNo label d difference

@@ -6,10 +6,6 @@ use Rattle.edfclaim.specs.Heads.{Head, is_annotations, samples_at}
 use Rattle.edfclaim.specs.Lanes.{digital_value, lane_samples}
 use Rattle.edfclaim.specs.Records.{lane_at}
 
--- the instant of each data record: where the file starts, and how long after that the record starts
-abbrev pub starts_from : ℤ → (ℕ → ℤ) → ℕ → ℤ
-starts_from start begins k = start +ℤ begins k
-
 -- data records one after the other, each as long as the others
 abbrev pub counted : ℤ → ℕ → ℤ
 counted duration k = pos k *ℤ duration
@@ -19,8 +15,8 @@ abbrev pub IsChannel : Head → ℕ → List ℕ → ℕ → Type 0
 IsChannel h s label n = (slice_get h.signals s ≡ Some (record { label = label; samples = n })) × (is_annotations label ≡ false)
 
 -- the file has a channel of this label, with a sample at the instant num / den of this value: it stands
--- at some place of the channel's lane in some data record, at the record's start and i times the
--- distance of two samples, which is the duration of a data record over den
+-- at some place of the channel's lane in some data record, at the record's start and `place` times
+-- the distance of two samples, which is the duration of a data record over den
 pub record IsSample (file : List ℕ) (h : Head) (starts : ℕ → ℤ) (label : List ℕ) (num : ℤ) (den : ℕ) (value : ℤ) : Type 0 where
   pub signal : ℕ
   pub data_record : ℕ

@@ -2,7 +2,7 @@
 
 ghost use Rattle.std.specs.Prelude.{◌≡◌, ◌<◌, ◌^◌, ◌⊎◌, length, IfSome, MatchOption, unsigned_abs};
 ghost use Rattle.std.specs.List.{All};
-ghost use Rattle.edfclaim.specs.Differences.{diff, heads, IsAscending, Match, IsLeastDifference};
+ghost use Rattle.edfclaim.specs.Differences.{first_difference_of, heads, IsAscending, Match, IsLeastDifference};
 ghost use Rattle.edfclaim.specs.Instants.{IsSmall};
 
 use crate::instant::Instant;
@@ -64,7 +64,7 @@ fn end_difference(xs: &[Sample], n: u32, ys: &[Sample], m: u32) -> Option<Sample
     requires ys { All (λ y. unsigned_abs y.num < 2 ^ 103) ys.now }
     requires n { n < 2 ^ 24 }
     requires m { m < 2 ^ 24 }
-    ensures value { result ≡ diff n xs.now m ys.now }
+    ensures value { result ≡ first_difference_of n xs.now m ys.now }
     ensures small { IfSome result (λ d. IsSmall d.at) }
 {
     if let [x, ..] = xs {
@@ -88,7 +88,7 @@ fn first_difference(xs: &[Sample], n: u32, ys: &[Sample], m: u32) -> Option<Samp
     requires ys { All (λ y. unsigned_abs y.num < 2 ^ 103) ys.now }
     requires n { n < 2 ^ 24 }
     requires m { m < 2 ^ 24 }
-    ensures value { result ≡ diff n xs.now m ys.now }
+    ensures value { result ≡ first_difference_of n xs.now m ys.now }
     ensures small { IfSome result (λ d. IsSmall d.at) }
 {
     let both = xs.len().min(ys.len());
@@ -109,7 +109,7 @@ pub fn channel_difference(xs: &[Sample], n: u32, ys: &[Sample], m: u32) -> Optio
     requires ys { All (λ y. unsigned_abs y.num < 2 ^ 103) ys.now }
     requires n { n < 2 ^ 24 }
     requires m { m < 2 ^ 24 }
-    ensures value { result ≡ diff n xs.now m ys.now }
+    ensures value { result ≡ first_difference_of n xs.now m ys.now }
     ensures small { IfSome result (λ d. IsSmall d.at) }
     ensures least { 0 < n → 0 < m → IsAscending xs.now → IsAscending ys.now → MatchOption result (Match n xs.now m ys.now) (IsLeastDifference n xs.now m ys.now) }
 {

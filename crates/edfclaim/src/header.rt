@@ -37,7 +37,7 @@ impl Signal {
     }
 }
 
-/// The same test over the signals as they are held.
+/// Whether one of the signals holds annotations, as a test of the signals themselves.
 fn one_annotates(signals: &[Signal]) -> bool
     ensures { result ≡ list_any (λ s. is_annotations s.label.items) signals.now }
 {
@@ -51,7 +51,7 @@ pub fn any_annotations(signals: &[Signal]) -> bool
     one_annotates(signals)
 }
 
-/// The same test over the signals as they are held.
+/// Whether all of the signals hold annotations, as a test of the signals themselves.
 fn each_annotates(signals: &[Signal]) -> bool
     ensures { result ≡ list_all (λ s. is_annotations s.label.items) signals.now }
 {

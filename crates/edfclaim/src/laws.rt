@@ -1,6 +1,6 @@
 //! Laws over the definitions alone: each is the contract of a function that does nothing.
 
-ghost use Rattle.edfclaim.specs.Differences.{MatchExactly, DiffIsLeast, DiffSplits};
+ghost use Rattle.edfclaim.specs.Differences.{MatchExactly, DifferenceIsLeast, DifferenceSplits};
 ghost use Rattle.edfclaim.specs.Earliest.{EarliestIsLeast};
 
 /// Two rising lists have no difference exactly where their samples match, both ways.
@@ -10,13 +10,13 @@ pub fn matches_exactly()
 
 /// The difference that is read from the left is the one at the least instant.
 pub fn is_least()
-    ensures { DiffIsLeast }
+    ensures { DifferenceIsLeast }
 {}
 
 /// Two pairs of lists, the first pair before an instant and the second from it on: the difference of
 /// the wholes is that of the first pair, or else that of the second.
 pub fn splits()
-    ensures { DiffSplits }
+    ensures { DifferenceSplits }
 {}
 
 /// The earliest difference of several channels is the least by instant, and then by place.

@@ -14,7 +14,7 @@ use crate::check::check;
 use crate::claim::Claim;
 use crate::report::{Outcome, ReportStop};
 use crate::side::CheckStop;
-use crate::vectors::files::file_m;
+use crate::vectors::files::small_file;
 use crate::verdict::Verdict;
 use edf_fields::sink::{Sink, put_all};
 use edf_fields::source::SliceSource;
@@ -83,13 +83,12 @@ fn write_row<K: Sink>(alloc: Global, row: Row, sink: &mut K) -> Result<Outcome, 
 /// Writes, for each worked row, its number, a space and the line of its verdict.
 ///
 /// The outcome is `Yes` where every line is the stored one. The error is want of memory, or a failure of
-/// the sink, which then holds a part of the text from its front; the files stand in memory, so that no
-/// read fails.
+/// the sink; the files stand in memory, so that no read fails.
 pub fn vectors_to<K: Sink>(alloc: Global, sink: &mut K) -> Result<Outcome, ReportStop>
     ensures written { IfOk result (λ outcome. IsTrue (K.is_honest sink.old) → AreRowsWritten (K.held sink.old) (K.held sink.new) outcome) }
     ensures stop { IfErr result (RowStops (Rises (K.failures sink.old) (K.failures sink.new))) }
 {
-    let file = file_m(alloc)?;
+    let file = small_file(alloc)?;
     let claim = Claim::plain(alloc, &[b"Temp"], 0, 6_000_000_000_000)?;
     let row = Row {
         number: 1,

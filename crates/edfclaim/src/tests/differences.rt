@@ -20,7 +20,7 @@ fn line_of_cuts(alloc: Global, original: Cut, export: Cut, claim: &Claim) -> Res
     line_of(alloc, &original, &export, claim)
 }
 
-/// The line of the check of two files like M whose channels have these labels.
+/// The line of the check of two small files whose channels have these labels.
 fn line_of_labels(
     alloc: Global,
     original: &str,
@@ -394,7 +394,7 @@ fn takes_the_annotation_signal_first(rt: HostRuntime) -> Result<(), Fail> {
     Ok(())
 }
 
-/// Whether the tests of a file look at the byte at this place of the file M.
+/// Whether the tests of a file look at the byte at this place of the small file.
 fn is_judged(place: usize) -> bool {
     matches!(place, 184..=196 | 236..=287 | 688..=703 | 768..=771)
 }

@@ -54,7 +54,7 @@ fn compare_both(
     }
 }
 
-/// Two data records of half a second with a sample each, the values of M.
+/// Two data records of half a second with a sample each, the values of the small file.
 const HALVES: Cut<'static> = Cut {
     records: "2",
     duration: "0.5",
@@ -63,14 +63,14 @@ const HALVES: Cut<'static> = Cut {
     is_lane_first: false,
 };
 
-/// The values of M with two more, in half the distance.
+/// The values of the small file, each twice, at half the distance.
 const QUARTERS: Cut<'static> = Cut {
     samples: "4",
     parts: &[(&[7, 7, -7, -7], "+0")],
     ..SMALL
 };
 
-/// One sample of M.
+/// The first sample of the small file alone.
 const WHOLE: Cut<'static> = Cut {
     samples: "1",
     parts: &[(&[7], "+0")],

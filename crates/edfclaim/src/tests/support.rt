@@ -159,7 +159,7 @@ pub const SMALL: Cut<'static> = Cut {
     is_lane_first: false,
 };
 
-/// The file M, which is cut so: 804 bytes.
+/// The small file, which is cut so: 804 bytes.
 pub fn small_file(alloc: Global) -> Result<Vec<u8>, AllocError> {
     temp_file(alloc, SMALL)
 }

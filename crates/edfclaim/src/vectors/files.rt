@@ -29,8 +29,8 @@ fn annotation_signal() -> SignalText<'static> {
     }
 }
 
-/// File M: one data record of 1 s with two samples of a channel `Temp`, 7 and -7; 804 bytes.
-pub fn file_m(alloc: Global) -> Result<Vec<u8>, AllocError> {
+/// A small file: one data record of 1 s with two samples of a channel `Temp`, 7 and -7; 804 bytes.
+pub fn small_file(alloc: Global) -> Result<Vec<u8>, AllocError> {
     let mut file = Vec::new(alloc);
     let header = HeaderText {
         header_bytes: "768",

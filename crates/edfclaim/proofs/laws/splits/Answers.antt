@@ -1,5 +1,5 @@
-use Rattle.edfclaim.proofs.DifferenceFacts.{diff_splits}
+use Rattle.edfclaim.proofs.DifferenceFacts.{difference_splits}
 use Rattle.edfclaim.proofs.laws.splits.Goals as goal
 
 pub returns : goal.returns
-returns c = diff_splits
+returns c = difference_splits
