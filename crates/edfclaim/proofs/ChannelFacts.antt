@@ -6,9 +6,9 @@ use Rattle.std.proofs.lemmas.Slice.Eq.{bytes_eq-Decides}
 use Rattle.edfclaim.specs.Lists.{Has}
 use Rattle.edfclaim.specs.Heads.{SignalHead, Head, is_annotations, samples_at}
 use Rattle.edfclaim.specs.Samples.{IsChannel}
-use Rattle.edfclaim.specs.Channels.{HasChannel, is_channel_of, channel_place, first_absent, is_listed, is_unlisted, first_unlisted}
+use Rattle.edfclaim.specs.Channels.{HasChannel, HasAll, IsFirstAbsent, is_channel_of, channel_place, first_absent, is_listed, is_unlisted, first_unlisted}
 use Rattle.edfclaim.specs.Exports.{SameChannels}
-use Rattle.edfclaim.proofs.ListFacts.{has-at, at-has, find-none, find-some, and-true, not-true}
+use Rattle.edfclaim.proofs.ListFacts.{has-at, at-has, find-none, find-some, find-first, and-true, or-true, not-true}
 
 place_chosen : (b : Bool) (k : ℕ) (o : Option ℕ) (P : Option ℕ → Type 0) → (b ≡ true → P (Some k)) → (b ≡ false → P o) → P (cond b (Some k) o)
 place_chosen true k o P f g = f refl
@@ -74,14 +74,36 @@ has-place h label c = cases (channel_place label h.signals) refl
         let f : is_channel_of label x ≡ false = place-none (is_channel_of label) h.signals 0 e x (has-at h.signals c.0 x (c.2).0) in
         absurd (let t : true ≡ false = sym (tested-channel label x refl (c.2).1) ∙ f in cc)
 
-pub absent-none : (signals : List SignalHead) (labels : List (List ℕ)) (label : List ℕ) → first_absent signals labels ≡ None → Has labels label → (s : ℕ) × (channel_place label signals ≡ Some s)
-absent-none signals labels label e h = cases (channel_place label signals) refl
+some-place : (signals : List SignalHead) (label : List ℕ) → is_none (channel_place label signals) ≡ false → (s : ℕ) × (channel_place label signals ≡ Some s)
+some-place signals label f = cases (channel_place label signals) refl
   where
     cases : (o : Option ℕ) → channel_place label signals ≡ o → (s : ℕ) × (channel_place label signals ≡ Some s)
     cases (Some s) q = (s, q)
-    cases None q =
-        let f : is_none (channel_place label signals) ≡ false = find-none (λ l. is_none (channel_place l signals)) labels e label h in
-        absurd (let t : true ≡ false = sym (ap is_none q) ∙ f in cc)
+    cases None q = absurd (let t : true ≡ false = sym (ap is_none q) ∙ f in cc)
+
+pub absent-none : (signals : List SignalHead) (labels : List (List ℕ)) (label : List ℕ) → first_absent signals labels ≡ None → Has labels label → (s : ℕ) × (channel_place label signals ≡ Some s)
+absent-none signals labels label e h = some-place signals label (find-none (λ l. is_none (channel_place l signals)) labels e label h)
+
+no-place : (h : Head) (label : List ℕ) → is_none (channel_place label h.signals) ≡ true → HasChannel h label → ⊥
+no-place h label t c =
+    let r = has-place h label c in
+    let f : false ≡ true = sym (ap is_none r.1) ∙ t in
+    cc
+
+-- the first label that isn't found is the first that no channel has
+pub absent-first : (h : Head) (labels : List (List ℕ)) (label : List ℕ) → first_absent h.signals labels ≡ Some label → IsFirstAbsent h labels label
+absent-first h labels label e =
+    let r = find-first (λ l. is_none (channel_place l h.signals)) labels label e in
+    record {
+      place = r.0;
+      there = r.1;
+      absent = no-place h label r.2;
+      first = λ j other lt g. let p = some-place h.signals other (r.3 j other lt g) in (p.0, samples_at h p.0, channel-found h other p.0 p.1);
+    }
+
+-- where none is absent, all are channels
+pub absent-all : (h : Head) (labels : List (List ℕ)) → first_absent h.signals labels ≡ None → HasAll h labels
+absent-all h labels e label i = let r = absent-none h.signals labels label e i in (r.0, samples_at h r.0, channel-found h label r.0 r.1)
 
 pub listed-has : (labels : List (List ℕ)) (label : List ℕ) → is_listed labels label ≡ true → Has labels label
 listed-has [] label h = absurd (let f : false ≡ true = h in cc)
@@ -95,10 +117,6 @@ pub has-listed : (labels : List (List ℕ)) (label : List ℕ) → Has labels la
 has-listed [] label h = absurd h
 has-listed (l ∷ labels) label (inl e) = ap (λ b. b || is_listed labels label) ((bytes_eq-Decides l label).1 e)
 has-listed (l ∷ labels) label (inr h) = or-true (bytes_eq l label) (is_listed labels label) (has-listed labels label h)
-  where
-    or-true : (a b : Bool) → b ≡ true → (a || b) ≡ true
-    or-true true b e = refl
-    or-true false b e = e
 
 pub unlisted-none : (labels : List (List ℕ)) (h : Head) (label : List ℕ) → first_unlisted labels h.signals ≡ None → HasChannel h label → Has labels label
 unlisted-none labels h label e c =
@@ -123,7 +141,7 @@ unlisted-some labels h x e =
 -- nothing is absent and nothing else is there
 pub same-channels : (o e : Head) (labels : List (List ℕ)) → first_absent o.signals labels ≡ None → first_absent e.signals labels ≡ None → first_unlisted labels e.signals ≡ None → SameChannels o e labels
 same-channels o e labels ao ae ue = record {
-  in_original = λ label h. let r = absent-none o.signals labels label ao h in (r.0, samples_at o r.0, channel-found o label r.0 r.1);
-  in_export = λ label h. let r = absent-none e.signals labels label ae h in (r.0, samples_at e r.0, channel-found e label r.0 r.1);
+  in_original = absent-all o labels ao;
+  in_export = absent-all e labels ae;
   no_other = λ label c. unlisted-none labels e label ue c;
 }

@@ -16,11 +16,12 @@ use Rattle.edfclaim.specs.Claims.{Terms}
 use Rattle.edfclaim.specs.Channels.{HasChannel, channel_place, first_unlisted}
 use Rattle.edfclaim.specs.Exports.{SameChannels, DifferAt}
 use Rattle.edfclaim.specs.Earliest.{earliest, IsEarliest, AreInstants}
-use Rattle.edfclaim.specs.Compare.{label_difference}
+use Rattle.edfclaim.specs.Compare.{Timed, label_difference}
 use Rattle.edfclaim.specs.Views.{header_view}
 use Rattle.edfclaim.specs.Judged.{IsLoaded}
 use Rattle.edfclaim.specs.Loaded.{timed_view, IsYesOf, IsSampleVerdict}
-use Rattle.edfclaim.specs.Verdicts.{IsExport, IsFound, NoneBefore, samples_in, kept_in}
+use Rattle.edfclaim.specs.Verdicts.{IsExport, IsFound, BothPass, Applies, NoneBefore, timed_file, samples_in, kept_in}
+use Rattle.edfclaim.specs.Checks.{IsReadAs}
 use Rattle.edfclaim.proofs.ListFacts.{has-at, at-has, get-within, has-map, map-has, map-get}
 use Rattle.edfclaim.proofs.EarliestFacts.{earliest-some, earliest-none, earliest-is-least}
 use Rattle.edfclaim.proofs.FractionFacts.{before-not_before}
@@ -203,3 +204,22 @@ extra-found labels h x label e same =
 pub found-claimed : (o e : EdfFile) (claim : Terms) (labels : List (Vec ℕ)) (f : Found) → map (λ label. label.items) labels ≡ claim.channels → (a : FoundAt o e claim labels f) → Has claim.channels (a.label).items
 found-claimed o e claim labels f same a =
     subst (λ (ls : List (List ℕ)). Has ls (a.label).items) same (has-map (λ (l : Vec ℕ). l.items) labels a.label (has-at labels f.channel a.label a.there))
+
+-- the verdict on the files as they were read is one on their bytes
+as-read : (original export : List ℕ) (first second : EdfFile) (claim : Terms) (v : Verdict) → IsReadAs original first → IsReadAs export second → IsFound (timed_view first) (timed_view second) claim v
+    → BothPass original export claim v
+as-read original export first second claim v o e found =
+    let P : Timed → Type 0 = λ f. IsFound f (timed_view second) claim v in
+    let Q : Timed → Type 0 = λ f. IsFound (timed_file original) f claim v in
+    (o.passed, e.passed, subst Q e.is_read (subst P o.is_read found))
+
+-- the verdict on the files as they were read applies
+pub found_applies : (original export : List ℕ) (first second : EdfFile) (claim : Terms) (v : Verdict) → IsReadAs original first → IsReadAs export second → IsFound (timed_view first) (timed_view second) claim v
+    → Applies original export claim v
+found_applies original export first second claim (Yes channels samples annotations) o e found = as-read original export first second claim (Yes channels samples annotations) o e found
+found_applies original export first second claim (No (OriginalFault fault)) o e found = absurd found
+found_applies original export first second claim (No (ExportFault fault)) o e found = absurd found
+found_applies original export first second claim (No (UnknownChannel label)) o e found = as-read original export first second claim (No (UnknownChannel label)) o e found
+found_applies original export first second claim (No (MissingChannel label)) o e found = as-read original export first second claim (No (MissingChannel label)) o e found
+found_applies original export first second claim (No (ExtraChannel label)) o e found = as-read original export first second claim (No (ExtraChannel label)) o e found
+found_applies original export first second claim (No (Sample label at_ps mismatch)) o e found = as-read original export first second claim (No (Sample label at_ps mismatch)) o e found

@@ -69,6 +69,23 @@ find-some {X} p (z ∷ xs) x e =
     (λ t i. let q : z ≡ x = (let j : Some z ≡ Some x = i in cc) in (inl q, let P : X → Type 0 = λ y. p y ≡ true in subst P q t))
     (λ f i. let r = find-some p xs x i in (inr r.0, r.1)) e
 
+-- what is found stands before all else that passes
+pub find-first : {X : Type 0} (p : X → Bool) (xs : List X) (x : X) → find p xs ≡ Some x
+    → (k : ℕ) × (slice_get xs k ≡ Some x) × (p x ≡ true) × ((j : ℕ) (y : X) → j < k → slice_get xs j ≡ Some y → p y ≡ false)
+find-first p [] x e = absurd (let i : None ≡ Some x = e in cc)
+find-first {X} p (z ∷ xs) x e =
+    find_chosen (p z) z (find p xs) (λ o. o ≡ Some x → (k : ℕ) × (slice_get (z ∷ xs) k ≡ Some x) × (p x ≡ true) × ((j : ℕ) (y : X) → j < k → slice_get (z ∷ xs) j ≡ Some y → p y ≡ false))
+    (λ t i.
+    let q : z ≡ x = (let j : Some z ≡ Some x = i in cc) in
+    let P : X → Type 0 = λ y. p y ≡ true in
+    (0, ap Some q, subst P q t, λ j y lt g. absurd (omega (arith, lt))))
+    (λ f i. let r = find-first p xs x i in (suc r.0, r.1, r.2, later p z xs r.0 f r.3)) e
+  where
+    later : {X : Type 0} (p : X → Bool) (z : X) (xs : List X) (k : ℕ) → p z ≡ false → ((j : ℕ) (y : X) → j < k → slice_get xs j ≡ Some y → p y ≡ false)
+        → (j : ℕ) (y : X) → j < suc k → slice_get (z ∷ xs) j ≡ Some y → p y ≡ false
+    later {X} p z xs k f rest zero y lt g = let q : z ≡ y = (let i : Some z ≡ Some y = g in cc) in let P : X → Type 0 = λ w. p w ≡ false in subst P q f
+    later p z xs k f rest (suc j) y lt g = rest j y (omega (arith, lt)) g
+
 pub and-true : (a b : Bool) → (a && b) ≡ true → (a ≡ true) × (b ≡ true)
 and-true true b h = (refl, h)
 and-true false b h = absurd (let f : false ≡ true = h in cc)

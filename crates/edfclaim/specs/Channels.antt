@@ -1,13 +1,25 @@
 -- The channels of a header, which are its ordinary signals, found by their labels.
-use Rattle.std.specs.Prelude.{◌≡◌, ℕ, ◌+◌, Bool, not, ◌&&◌, List, [], ◌∷◌, Option, is_none, find, if◌then◌else◌}
+use Rattle.std.specs.Prelude.{◌≡◌, ℕ, ◌+◌, ◌<◌, Bool, not, ◌&&◌, List, [], ◌∷◌, Option, Some, slice_get, is_none, find, if◌then◌else◌}
 use Rattle.std.specs.List.{list_any, position_from}
 use Rattle.std.specs.Str.{bytes_eq}
+use Rattle.edfclaim.specs.Lists.{Has}
 use Rattle.edfclaim.specs.Heads.{SignalHead, Head, is_annotations}
 use Rattle.edfclaim.specs.Samples.{IsChannel}
 
 -- the header has a channel of this label
 abbrev pub HasChannel : Head → List ℕ → Type 0
 HasChannel h label = (s : ℕ) × (n : ℕ) × IsChannel h s label n
+
+-- every label is one of a channel
+abbrev pub HasAll : Head → List (List ℕ) → Type 0
+HasAll h labels = (label : List ℕ) → Has labels label → HasChannel h label
+
+-- the first of the labels that no channel has
+pub record IsFirstAbsent (h : Head) (labels : List (List ℕ)) (label : List ℕ) : Type 0 where
+  pub place : ℕ
+  pub there : slice_get labels place ≡ Some label
+  pub absent : HasChannel h label → ⊥
+  pub first : (earlier : ℕ) (other : List ℕ) → earlier < place → slice_get labels earlier ≡ Some other → HasChannel h other
 
 -- no two channels have one label
 abbrev pub HasDistinctChannels : Head → Type 0

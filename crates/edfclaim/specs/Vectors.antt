@@ -31,6 +31,6 @@ RowStops failed WriteFailed = failed
 abbrev pub temp_claim : Terms
 temp_claim = record { channels = codes "Temp" ∷ []; keep = record { from_ps = pos 0; to_ps = pos (6 * 10 ^ 12) } ∷ [] }
 
--- row 1 was written: some file, checked against itself
+-- row 1 was written: some file, checked against itself; which file it is, the tests show
 abbrev pub AreRowsWritten : List ℕ → List ℕ → Outcome → Type 0
 AreRowsWritten old new outcome = (file : List ℕ) × IsRowWritten 1 file file temp_claim (codes "YES channels 1 samples 2 annotations 0" ++ (10 ∷ [])) old new outcome

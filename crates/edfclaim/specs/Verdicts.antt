@@ -9,7 +9,7 @@ use Rattle.edfclaim.specs.Instants.{IsBefore}
 use Rattle.edfclaim.specs.Lists.{Has}
 use Rattle.edfclaim.specs.Heads.{Head, head_of}
 use Rattle.edfclaim.specs.Samples.{IsSample, counted}
-use Rattle.edfclaim.specs.Channels.{HasChannel, first_absent, channel_count, channel_samples_together}
+use Rattle.edfclaim.specs.Channels.{HasChannel, HasAll, IsFirstAbsent, channel_count, channel_samples_together}
 use Rattle.edfclaim.specs.Claims.{Terms}
 use Rattle.edfclaim.specs.Exports.{SameChannels, SameSamples, IsKept, DifferAt, floor_of}
 use Rattle.edfclaim.specs.Compare.{Timed}
@@ -40,18 +40,16 @@ pub record AreCounts (export : Head) (channels samples annotations : ℕ) : Type
 
 -- a claimed label that is no channel of the original, the first of the claim
 abbrev pub IsUnknown : Timed → Timed → Terms → List ℕ → Type 0
-IsUnknown original export claim label = first_absent (original.head).signals claim.channels ≡ Some label
+IsUnknown original export claim label = IsFirstAbsent original.head claim.channels label
 
 -- a claimed label that is no channel of the export, the first of the claim; none is unknown
 abbrev pub IsMissing : Timed → Timed → Terms → List ℕ → Type 0
-IsMissing original export claim label =
-    (first_absent (original.head).signals claim.channels ≡ None) × (first_absent (export.head).signals claim.channels ≡ Some label)
+IsMissing original export claim label = HasAll original.head claim.channels × IsFirstAbsent export.head claim.channels label
 
 -- a channel of the export that isn't claimed; none is unknown or missing
 abbrev pub IsExtra : Timed → Timed → Terms → List ℕ → Type 0
 IsExtra original export claim label =
-    (first_absent (original.head).signals claim.channels ≡ None) × (first_absent (export.head).signals claim.channels ≡ None)
-    × HasChannel export.head label × (Has claim.channels label → ⊥)
+    HasAll original.head claim.channels × HasAll export.head claim.channels × HasChannel export.head label × (Has claim.channels label → ⊥)
 
 -- what is kept and what is exported differ at no instant before this one, in any channel
 abbrev pub NoneBefore : Timed → Timed → Terms → Instant → Type 0

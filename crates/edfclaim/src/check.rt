@@ -42,6 +42,7 @@ fn read_side<S: Source>(
 /// only where the original passed its tests. A `Yes` is the theorem `headline`; a `No` is a verdict that
 /// applies. The error is want of memory, or a failure of one of the sources; on an error nothing is said
 /// of the files, and the sources are made anew before another check.
+#[tactic(auto, using(crate::proofs::FindFacts::found_applies))]
 pub fn check<O: Source, E: Source>(
     alloc: Global,
     original: &mut O,

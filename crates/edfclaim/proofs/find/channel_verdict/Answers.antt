@@ -1,9 +1,30 @@
-use Rattle.std.proofs.Common.{◌≡◌, ◌∙◌, ap, sym, map, None, Some}
-use Rattle.edfclaim.specs.Channels.{first_absent, first_unlisted}
+use Rattle.std.proofs.Common.{◌≡◌, ◌∙◌, ap, sym, subst, map, None, Some}
+use Rattle.edfclaim.specs.Channels.{IsFirstAbsent, first_absent, first_unlisted}
 use Rattle.edfclaim.specs.Views.{signal_view, header_view}
 use Rattle.edfclaim.proofs.FindFacts.{extra-found}
-use Rattle.edfclaim.proofs.ChannelFacts.{same-channels}
+use Rattle.edfclaim.proofs.ChannelFacts.{absent-first, absent-all, same-channels}
 use Rattle.edfclaim.proofs.find.channel_verdict.Goals as goal
+
+pub returns-in-Some : goal.returns-in-Some
+returns-in-Some c =
+    let labels = c.args.claim.now.channels in
+    let o = header_view c.args.original.now.header in
+    let absent : first_absent o.signals labels ≡ Some c.in-Some.label.now.items =
+    ap (λ ls. first_absent o.signals ls) (sym c.channels-claimed.ensures) ∙ ap (λ xs. first_absent (map signal_view xs) (map (λ label. label.items) c.channels-claimed.result.now)) (sym c.deref.ensures.value) ∙ sym c.in-Some.ensures in
+    let label : c.in_ok-label.label.items ≡ c.in-Some.label.now.items = c.in_ok-label.ensures.items ∙ c.deref-in-Some.ensures.value in
+    subst (IsFirstAbsent o labels) (sym label) (absent-first o labels c.in-Some.label.now.items absent)
+
+pub returns-in-Some-first_absent : goal.returns-in-Some-first_absent
+returns-in-Some-first_absent c =
+    let labels = c.args.claim.now.channels in
+    let o = header_view c.args.original.now.header in
+    let e = header_view c.args.export.now.header in
+    let original : first_absent o.signals labels ≡ None =
+    ap (λ ls. first_absent o.signals ls) (sym c.channels-claimed.ensures) ∙ ap (λ xs. first_absent (map signal_view xs) (map (λ label. label.items) c.channels-claimed.result.now)) (sym c.deref.ensures.value) ∙ sym c.in_default.ensures in
+    let absent : first_absent e.signals labels ≡ Some c.in-Some-first_absent.label.now.items =
+    ap (λ ls. first_absent e.signals ls) (sym c.channels-claimed.ensures) ∙ ap (λ xs. first_absent (map signal_view xs) (map (λ label. label.items) c.channels-claimed.result.now)) (sym c.deref-2.ensures.value) ∙ sym c.in-Some-first_absent.ensures in
+    let label : c.in_ok-label-2.label.items ≡ c.in-Some-first_absent.label.now.items = c.in_ok-label-2.ensures.items ∙ c.deref-in-Some-first_absent.ensures.value in
+    (absent-all o labels original, subst (IsFirstAbsent e labels) (sym label) (absent-first e labels c.in-Some-first_absent.label.now.items absent))
 
 pub returns-in-Some-first_unlisted : goal.returns-in-Some-first_unlisted
 returns-in-Some-first_unlisted c =
@@ -18,7 +39,7 @@ returns-in-Some-first_unlisted c =
     ap (λ ls. first_unlisted ls e.signals) (sym c.channels-claimed.ensures) ∙ ap (λ xs. first_unlisted (map (λ label. label.items) c.channels-claimed.result.now) (map signal_view xs)) (sym c.deref-3.ensures.value) ∙ sym c.in-Some-first_unlisted.ensures in
     let label : c.in_ok-label-3.label.items ≡ c.in-Some-first_unlisted.signal.now.label.items = c.in_ok-label-3.ensures.items ∙ c.deref-in-Some-first_unlisted.ensures.value in
     let r = extra-found labels e (signal_view c.in-Some-first_unlisted.signal.now) c.in_ok-label-3.label.items unlisted label in
-    (original, export, r.0, r.1)
+    (absent-all o labels original, absent-all e labels export, r.0, r.1)
 
 pub returns : goal.returns
 returns c =
