@@ -22,6 +22,7 @@ pub mod Checks
 pub mod FaultTexts
 pub mod Quotes
 pub mod Lines
+pub mod Built
 pub mod Vectors
 pub mod Statuses
 pub mod Slow

@@ -9,6 +9,7 @@ use Rattle.edfclaim.specs.declared.verdict.Verdict.{Verdict}
 use Rattle.edfclaim.specs.Claims.{Terms}
 use Rattle.edfclaim.specs.Verdicts.{Applies}
 use Rattle.edfclaim.specs.Lines.{verdict_line}
+use Rattle.edfclaim.specs.Built.{small_file}
 
 -- a row's number, a space, and the line of its verdict
 unfoldable pub row_text : ℕ → Verdict → List ℕ
@@ -31,6 +32,6 @@ RowStops failed WriteFailed = failed
 abbrev pub temp_claim : Terms
 temp_claim = record { channels = codes "Temp" ∷ []; keep = record { from_ps = pos 0; to_ps = pos (6 * 10 ^ 12) } ∷ [] }
 
--- row 1 was written: some file, checked against itself; which file it is, the tests show
+-- row 1 was written: the small file, checked against itself
 abbrev pub AreRowsWritten : List ℕ → List ℕ → Outcome → Type 0
-AreRowsWritten old new outcome = (file : List ℕ) × IsRowWritten 1 file file temp_claim (codes "YES channels 1 samples 2 annotations 0" ++ (10 ∷ [])) old new outcome
+AreRowsWritten old new outcome = IsRowWritten 1 small_file small_file temp_claim (codes "YES channels 1 samples 2 annotations 0" ++ (10 ∷ [])) old new outcome

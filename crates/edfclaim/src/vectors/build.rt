@@ -1,5 +1,9 @@
 //! Building small EDF+ files in memory.
 
+ghost use Rattle.std.specs.Prelude.{◌≡◌, ◌<◌, ◌*◌, ◌^◌, ◌++◌, OnOk};
+ghost use Rattle.edfclaim.specs.Built.{padded, signal_text, column_text, columns_text, values_bytes, fixed_text, header_text, file_bytes};
+ghost use Rattle.std.specs.List.{All, flat_map};
+
 use crate::layout::{COLUMNS, SignalField};
 use std::alloc::AllocError;
 
@@ -28,7 +32,9 @@ pub struct SignalText<'a> {
 
 impl<'a> SignalText<'a> {
     /// The text of a field.
-    fn text(&self, field: SignalField) -> &'a str {
+    fn text(&self, field: SignalField) -> &'a str
+        ensures { result.now ≡ signal_text self.now field }
+    {
         match field {
             SignalField::Label => self.label,
             SignalField::Transducer => self.transducer,
@@ -45,12 +51,13 @@ impl<'a> SignalText<'a> {
 }
 
 /// Puts the text behind the file, and copies of `fill` up to `width` bytes in all.
-fn push_padded(file: &mut Vec<u8>, text: &[u8], fill: u8, width: usize) -> Result<(), AllocError> {
+fn push_padded(file: &mut Vec<u8>, text: &[u8], fill: u8, width: usize) -> Result<(), AllocError>
+    requires { width < 2 ^ 32 }
+    ensures { OnOk result (file.new.items ≡ file.old.items ++ padded text.now fill width) }
+{
     file.extend_from_slice(text)?;
-    for _ in text.len()..width {
-        file.push(fill)?;
-    }
-    Ok(())
+    let end = file.len() + width.saturating_sub(text.len());
+    file.resize(end, fill)
 }
 
 /// Puts a column of the header behind the file.
@@ -58,7 +65,9 @@ fn push_column(
     file: &mut Vec<u8>,
     signals: &[SignalText],
     field: SignalField,
-) -> Result<(), AllocError> {
+) -> Result<(), AllocError>
+    ensures { OnOk result (file.new.items ≡ file.old.items ++ column_text signals.now field) }
+{
     let (_, width) = field.column();
     for signal in signals {
         push_padded(file, signal.text(field).as_bytes(), b' ', width)?;
@@ -66,27 +75,66 @@ fn push_column(
     Ok(())
 }
 
-/// Puts a header behind the file.
-pub fn push_header(file: &mut Vec<u8>, header: &HeaderText) -> Result<(), AllocError> {
-    push_padded(file, b"0", b' ', 8)?;
-    push_padded(file, b"MCH-0234567 F 02-MAY-1951 Haagse_Harry", b' ', 80)?;
-    let recording = b"Startdate 02-MAR-2002 PSG-1234/2002 NN Telemetry03";
-    push_padded(file, recording, b' ', 80)?;
-    push_padded(file, b"02.03.02", b' ', 8)?;
-    push_padded(file, b"22.00.00", b' ', 8)?;
-    push_padded(file, header.header_bytes.as_bytes(), b' ', 8)?;
-    push_padded(file, header.reserved.as_bytes(), b' ', 44)?;
-    push_padded(file, header.records.as_bytes(), b' ', 8)?;
-    push_padded(file, header.duration.as_bytes(), b' ', 8)?;
-    push_padded(file, header.count.as_bytes(), b' ', 4)?;
-    for field in COLUMNS {
-        push_column(file, header.signals, field)?;
+/// Puts these columns of the header behind the file.
+fn push_columns(
+    file: &mut Vec<u8>,
+    signals: &[SignalText],
+    fields: &[SignalField],
+) -> Result<(), AllocError>
+    ensures { OnOk result (file.new.items ≡ file.old.items ++ columns_text signals.now fields.now) }
+{
+    for field in fields {
+        push_column(file, signals, *field)?;
     }
     Ok(())
 }
 
+/// Puts texts behind the file, each with spaces up to its width.
+fn push_texts(file: &mut Vec<u8>, texts: &[(&str, usize)]) -> Result<(), AllocError>
+    requires { All (λ text. text.1 < 2 ^ 32) texts.now }
+    ensures { OnOk result (file.new.items ≡ file.old.items ++ flat_map (λ text. padded text.0.now 32 text.1) texts.now) }
+{
+    for (text, width) in texts {
+        push_padded(file, text.as_bytes(), b' ', *width)?;
+    }
+    Ok(())
+}
+
+/// Puts the fixed part of a header behind the file.
+fn push_fixed(file: &mut Vec<u8>, header: &HeaderText) -> Result<(), AllocError>
+    ensures { OnOk result (file.new.items ≡ file.old.items ++ fixed_text header.now) }
+{
+    let recording = "Startdate 02-MAR-2002 PSG-1234/2002 NN Telemetry03";
+    push_texts(
+        file,
+        &[
+            ("0", 8),
+            ("MCH-0234567 F 02-MAY-1951 Haagse_Harry", 80),
+            (recording, 80),
+            ("02.03.02", 8),
+            ("22.00.00", 8),
+            (header.header_bytes, 8),
+            (header.reserved, 44),
+            (header.records, 8),
+            (header.duration, 8),
+            (header.count, 4),
+        ],
+    )
+}
+
+/// Puts a header behind the file.
+fn push_header(file: &mut Vec<u8>, header: &HeaderText) -> Result<(), AllocError>
+    ensures { OnOk result (file.new.items ≡ file.old.items ++ header_text header.now) }
+{
+    push_fixed(file, header)?;
+    push_columns(file, header.signals, &COLUMNS)?;
+    Ok(())
+}
+
 /// Puts samples behind the file, two bytes each, the low one first.
-pub fn push_values(file: &mut Vec<u8>, values: &[i16]) -> Result<(), AllocError> {
+fn push_values(file: &mut Vec<u8>, values: &[i16]) -> Result<(), AllocError>
+    ensures { OnOk result (file.new.items ≡ file.old.items ++ values_bytes values.now) }
+{
     for value in values {
         file.extend_from_slice(&value.to_le_bytes())?;
     }
@@ -94,6 +142,24 @@ pub fn push_values(file: &mut Vec<u8>, values: &[i16]) -> Result<(), AllocError>
 }
 
 /// Puts the lane of an annotation signal with `samples` samples behind the file: the text, then zeros.
-pub fn push_annotations(file: &mut Vec<u8>, text: &[u8], samples: u16) -> Result<(), AllocError> {
+fn push_annotations(file: &mut Vec<u8>, text: &[u8], samples: u16) -> Result<(), AllocError>
+    ensures { OnOk result (file.new.items ≡ file.old.items ++ padded text.now 0 (2 * samples)) }
+{
     push_padded(file, text, 0, 2 * usize::from(samples))
+}
+
+/// Puts a file of one data record behind `file`: a header, the samples of the channels, and the lane of
+/// an annotation signal with 16 samples.
+pub fn push_file(
+    file: &mut Vec<u8>,
+    header: &HeaderText,
+    values: &[i16],
+    annotations: &[u8],
+) -> Result<(), AllocError>
+    ensures { OnOk result (file.new.items ≡ file.old.items ++ file_bytes header.now values.now annotations.now) }
+{
+    push_header(file, header)?;
+    push_values(file, values)?;
+    push_annotations(file, annotations, 16)?;
+    Ok(())
 }
