@@ -1,6 +1,9 @@
 pub mod DigitFacts
 pub mod DotFacts
 pub mod NumberFacts
+pub mod OnsetByteFacts
+pub mod OnsetFacts
 pub mod PartFacts
 pub mod ReadFacts
 pub mod ValueFacts
+pub mod ZeroFacts

@@ -1,4 +1,5 @@
 pub mod Numbers
+pub mod Onsets
 pub mod Parts
 pub mod Sinks
 pub mod SliceSink

@@ -1,8 +1,10 @@
 //! The lowest layer of a checker of EDF+ files (sleep and other recordings): where bytes come
-//! from, where they go, and the numbers and texts that the fields of a header spell.
+//! from, where they go, the numbers and texts that the fields of a header spell, and the times of
+//! annotations.
 #![tactic(auto)]
 
 pub mod laws;
 pub mod number;
+pub mod onset;
 pub mod sink;
 pub mod source;

@@ -38,7 +38,7 @@ pub fn text(field: &[u8]) -> &[u8]
 }
 
 /// The number that digits spell; none where a byte is no digit. No digits spell 0.
-fn digits(bytes: &[u8]) -> Option<u64>
+pub(crate) fn digits(bytes: &[u8]) -> Option<u64>
     requires { length bytes.now ≤ 18 }
     ensures { MatchOption result (¬ AreDigits bytes.now)
         (λ v. AreDigits bytes.now × (v ≡ weight bytes.now) × (v < 10 ^ length bytes.now)) }
@@ -76,7 +76,7 @@ fn dot_place(text: &[u8]) -> Option<usize>
 
 /// What stands before the first dot, and what stands behind it.
 #[tactic(auto, using(crate::proofs::DotFacts::before_dot_at, crate::proofs::DotFacts::behind_dot_at, crate::proofs::DotFacts::before_no_dot, crate::proofs::DotFacts::behind_no_dot))]
-fn split_dot(text: &[u8]) -> (&[u8], &[u8])
+pub(crate) fn split_dot(text: &[u8]) -> (&[u8], &[u8])
     ensures whole { result.0.now ≡ before_dot text.entry.now }
     ensures fraction { result.1.now ≡ behind_dot text.entry.now }
     ensures within { length result.0.now + length result.1.now ≤ length text.entry.now }
