@@ -10,8 +10,10 @@ build:
 	@cd crates/edfclaim && rt run -- vectors > /dev/null
 	@echo "built crates/edfclaim/out/edfclaim"
 
-# Each growth of memory refused in turn in the built program, then the whole gate.
+# The built program on command lines that it doesn't know, and with each growth of memory refused in
+# turn; then the whole gate.
 test: build
+	@tools/statuses.sh crates/edfclaim/out/edfclaim
 	@if command -v "$${CC:-cc}" > /dev/null; then \
 		tools/failing.sh crates/edfclaim/out/edfclaim; \
 	else \
