@@ -4,6 +4,7 @@ pub mod NumberFacts
 pub mod OnsetByteFacts
 pub mod OnsetFacts
 pub mod PartFacts
+pub mod PlaceFacts
 pub mod ReadFacts
 pub mod ValueFacts
 pub mod ZeroFacts

@@ -83,7 +83,8 @@ says-behind xs ys v h s = record {
   few_records = s.few_records;
   some_time = s.some_time;
   little_time = s.little_time;
-  two_signals = s.two_signals;
+  some_signals = s.some_signals;
+  few_signals = s.few_signals;
 }
 
 -- the last byte of a field of a signal is in the header

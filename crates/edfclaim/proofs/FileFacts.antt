@@ -1,5 +1,5 @@
 -- From what was read to the whole file.
-use Rattle.std.proofs.Common.{◌≡◌, ℕ, zero, suc, ℤ, ◌+◌, ◌*◌, ◌<◌, ◌≤◌, List, [], ◌∷◌, ◌++◌, length, map, Some, None, refl, sym, ap, ◌∙◌, arith, inl, inr, subst}
+use Rattle.std.proofs.Common.{◌≡◌, ℕ, zero, suc, ℤ, ◌+◌, ◌*◌, ◌-◌, ◌<◌, ◌≤◌, Option, length-append, List, [], ◌∷◌, ◌++◌, length, map, Some, None, refl, sym, ap, ◌∙◌, arith, inl, inr, subst}
 use Rattle.std.proofs.Math.Nat.{mul-le-mul_right}
 use Rattle.std.proofs.lemmas.Bool.{cases_lt}
 use Rattle.std.proofs.lemmas.Bool.Decides.{nat_tests}
@@ -9,10 +9,13 @@ use Rattle.edfclaim.specs.declared.fault.Cause.TheVariants.{Truncated, TrailingB
 use Rattle.edfclaim.specs.declared.judge.Fixed.{Fixed}
 use Rattle.edfclaim.specs.declared.header.Header.{Header}
 use Rattle.edfclaim.specs.Heads.{SignalHead, Head, count_of, signals_of, duration_of, signals_from, head_of, header_bytes, record_bytes}
-use Rattle.edfclaim.specs.Faults.{first, fault, truncated, fixed_stage, columns_stage, joint_faults, header_tests, records_missing, trailing_bytes, records_stage, first_fault}
+use Rattle.edfclaim.specs.Faults.{first, fault, truncated, fixed_stage, columns_stage, joint_faults, header_tests, due, start_faults, record_faults, records_faults, trailing_bytes, records_stage, first_fault}
+use Rattle.edfclaim.specs.Records.{record_at}
+use Rattle.edfclaim.specs.Timekeeping.{start_of}
 use Rattle.edfclaim.specs.Views.{signal_view, header_view}
 use Rattle.edfclaim.specs.Judged.{SaysFixed, SaysSignals}
-use Rattle.edfclaim.proofs.FirstFacts.{first-passed, first-found}
+use Rattle.edfclaim.proofs.TimeFacts.{record-behind, due-behind}
+use Rattle.edfclaim.proofs.FirstFacts.{first-passed, first-found, alone}
 use Rattle.edfclaim.proofs.ColumnFacts.{there, not_there}
 use Rattle.edfclaim.proofs.BehindFacts.{says-behind, signals_from-behind}
 
@@ -27,32 +30,33 @@ head-says file v found s e =
     ∙ ap (λ n. make v.records v.duration_ps (signals_from file n 0 n)) s.signals
     ∙ ap (make v.records v.duration_ps) (sym e)
 
--- all data records are there, of the m from record k on
-pub records-there : (h : Head) (k m len : ℕ) → header_bytes h + (k + m) * record_bytes h ≤ len → first (records_missing h k m len) ≡ None
-records-there h k zero len le = refl
-records-there h k (suc m) len le =
-    let here : header_bytes h + (k + 1) * record_bytes h ≤ len = omega arith in
-    first-passed (truncated (AtRecord k) (header_bytes h + (k + 1) * record_bytes h) len ∷ []) (records_missing h (k + 1) m len)
-    (ap (λ t. first (t ∷ [])) (there (AtRecord k) (header_bytes h + (k + 1) * record_bytes h) len here))
-    ∙ records-there h (k + 1) m len (omega arith)
+-- the tests of data record k before those of the records behind it
+pub record-passed : (b : List ℕ) (h : Head) (k n : ℕ) → k < n → first (record_faults b h k) ≡ None
+    → first (records_faults b h k (n - k)) ≡ first (records_faults b h (k + 1) (n - (k + 1)))
+record-passed b h k n lt passed =
+    let next : n - k ≡ suc (n - (k + 1)) = omega arith in
+    ap (λ m. first (records_faults b h k m)) next ∙ first-passed (record_faults b h k) (records_faults b h (k + 1) (n - (k + 1))) passed
 
--- the record of the first missing byte
-pub records-broken : (h : Head) (k m j len : ℕ) → k ≤ j → j < k + m → header_bytes h + j * record_bytes h ≤ len → len < header_bytes h + (j + 1) * record_bytes h
-    → first (records_missing h k m len) ≡ fault (AtRecord j) Truncated
-records-broken h k zero j len low high from short = absurd (omega arith)
-records-broken h k (suc m) j len low high from short =
-    elim (cases_lt k j) [
-      | inl lt ↦
-          let here : header_bytes h + (k + 1) * record_bytes h ≤ len = omega (arith, mul-le-mul_right (record_bytes h) (let q : k + 1 ≤ j = omega arith in q)) in
-          first-passed (truncated (AtRecord k) (header_bytes h + (k + 1) * record_bytes h) len ∷ []) (records_missing h (k + 1) m len)
-          (ap (λ t. first (t ∷ [])) (there (AtRecord k) (header_bytes h + (k + 1) * record_bytes h) len here))
-          ∙ records-broken h (k + 1) m j len (omega arith) (omega arith) from short
-      | inr le ↦
-          let at : k ≡ j = omega arith in
-          let broken : len < header_bytes h + (k + 1) * record_bytes h = let P : ℕ → Type 0 = λ i. len < header_bytes h + (i + 1) * record_bytes h in subst P (sym at) short in
-          first-found (truncated (AtRecord k) (header_bytes h + (k + 1) * record_bytes h) len ∷ []) (records_missing h (k + 1) m len) _
-          (ap (λ t. first (t ∷ [])) (not_there (AtRecord k) (header_bytes h + (k + 1) * record_bytes h) len broken) ∙ ap (λ i. fault (AtRecord i) Truncated) at)
-    ]
+pub record-found : (b : List ℕ) (h : Head) (k n : ℕ) (f : Fault) → k < n → first (record_faults b h k) ≡ Some f → first (records_faults b h k (n - k)) ≡ Some f
+record-found b h k n f lt found =
+    let next : n - k ≡ suc (n - (k + 1)) = omega arith in
+    ap (λ m. first (records_faults b h k m)) next ∙ first-found (record_faults b h k) (records_faults b h (k + 1) (n - (k + 1))) f found
+
+-- a data record of which a byte is missing
+pub record-broken : (b : List ℕ) (h : Head) (k : ℕ) → length b < header_bytes h + (k + 1) * record_bytes h → first (record_faults b h k) ≡ fault (AtRecord k) Truncated
+record-broken b h k short =
+    first-found (truncated (AtRecord k) (header_bytes h + (k + 1) * record_bytes h) (length b) ∷ []) (start_faults k (due b h k) (start_of h (record_at b h k))) _
+    (ap (λ t. first (t ∷ [])) (not_there (AtRecord k) (header_bytes h + (k + 1) * record_bytes h) (length b) short))
+
+-- a data record that was read is judged by its start
+pub record-judged : (b xs ys : List ℕ) (h : Head) (k : ℕ) → b ≡ xs ++ ys → header_bytes h + (k + 1) * record_bytes h ≤ length xs
+    → first (record_faults b h k) ≡ first (start_faults k (due xs h k) (start_of h (record_at xs h k)))
+record-judged b xs ys h k e size =
+    ap (λ zs. first (record_faults zs h k)) e
+    ∙ first-passed (truncated (AtRecord k) (header_bytes h + (k + 1) * record_bytes h) (length (xs ++ ys)) ∷ []) (start_faults k (due (xs ++ ys) h k) (start_of h (record_at (xs ++ ys) h k)))
+    (ap (λ t. first (t ∷ [])) (there (AtRecord k) (header_bytes h + (k + 1) * record_bytes h) (length (xs ++ ys)) (omega (arith, length-append xs ys))))
+    ∙ ap (λ d. first (start_faults k d (start_of h (record_at (xs ++ ys) h k)))) (due-behind xs ys h k (omega arith))
+    ∙ ap (λ r. first (start_faults k (due xs h k) (start_of h r))) (record-behind xs ys h k size)
 
 pub ends : (h : Head) (len : ℕ) → len ≤ header_bytes h + h.records * record_bytes h → trailing_bytes h len ≡ None
 unfolding trailing_bytes
@@ -61,20 +65,6 @@ ends h len le = grind (arith, nat_tests)
 pub goes_on : (h : Head) (len : ℕ) → header_bytes h + h.records * record_bytes h < len → trailing_bytes h len ≡ fault AtEnd TrailingBytes
 unfolding trailing_bytes
 goes_on h len lt = grind (arith, nat_tests)
-
-pub record-broken : (h : Head) (k len : ℕ) → k < h.records → header_bytes h + k * record_bytes h ≤ len → len < header_bytes h + (k + 1) * record_bytes h
-    → first (records_stage h len) ≡ fault (AtRecord k) Truncated
-record-broken h k len lt from short = first-found (records_missing h 0 h.records len) (trailing_bytes h len ∷ []) _ (records-broken h 0 h.records k len (omega arith) (omega arith) from short)
-
-pub records-end : (h : Head) (len : ℕ) → len ≡ header_bytes h + h.records * record_bytes h → first (records_stage h len) ≡ None
-records-end h len e =
-    first-passed (records_missing h 0 h.records len) (trailing_bytes h len ∷ []) (records-there h 0 h.records len (omega arith))
-    ∙ ap (λ t. first (t ∷ [])) (ends h len (omega arith))
-
-pub records-go_on : (h : Head) (len : ℕ) → header_bytes h + h.records * record_bytes h < len → first (records_stage h len) ≡ fault AtEnd TrailingBytes
-records-go_on h len lt =
-    first-passed (records_missing h 0 h.records len) (trailing_bytes h len ∷ []) (records-there h 0 h.records len (omega arith))
-    ∙ ap (λ t. first (t ∷ [])) (goes_on h len lt)
 
 -- the first fault of a header whose fixed part passes is that of its columns
 pub header-columns : (b xs ys : List ℕ) (v : Fixed) → b ≡ xs ++ ys → length xs ≡ 256 → SaysFixed xs v → first (fixed_stage b) ≡ None
@@ -110,11 +100,24 @@ header-together b xs ys v h e size s passed passed' head =
 -- the first fault of a file, by its header and its records
 pub file-header : (b : List ℕ) (f : Fault) → first (header_tests b) ≡ Some f → first_fault b ≡ Some f
 unfolding first_fault
-file-header b f found = first-found (header_tests b) (records_stage (head_of b) (length b)) f found
+file-header b f found = first-found (header_tests b) (records_stage b (head_of b)) f found
 
-pub file-records : (b xs : List ℕ) (h : Header) → first (header_tests b) ≡ None → head_of b ≡ header_view h → b ≡ xs → first_fault b ≡ first (records_stage (header_view h) (length xs))
+file-stage : (b xs : List ℕ) (h : Header) → first (header_tests b) ≡ None → head_of b ≡ header_view h → b ≡ xs → first_fault b ≡ first (records_stage xs (header_view h))
 unfolding first_fault
-file-records b xs h passed head e =
-    first-passed (header_tests b) (records_stage (head_of b) (length b)) passed
-    ∙ ap (λ k. first (records_stage k (length b))) head
-    ∙ ap (λ zs. first (records_stage (header_view h) (length zs))) e
+file-stage b xs h passed head e =
+    first-passed (header_tests b) (records_stage b (head_of b)) passed
+    ∙ ap (λ k. first (records_stage b k)) head
+    ∙ ap (λ zs. first (records_stage zs (header_view h))) e
+
+pub file-records : (b xs : List ℕ) (h : Header) (f : Fault) → first (header_tests b) ≡ None → head_of b ≡ header_view h → b ≡ xs
+    → first (records_faults xs (header_view h) 0 h.records) ≡ Some f → first_fault b ≡ Some f
+file-records b xs h f passed head e found =
+    file-stage b xs h passed head e ∙ first-found (records_faults xs (header_view h) 0 h.records) (trailing_bytes (header_view h) (length xs) ∷ []) f found
+
+pub file-end : (b xs ys : List ℕ) (h : Header) → first (header_tests b) ≡ None → head_of b ≡ header_view h → b ≡ xs → first (records_faults xs (header_view h) 0 h.records) ≡ None → xs ≡ ys
+    → first_fault b ≡ trailing_bytes (header_view h) (length ys)
+file-end b xs ys h passed head e records e' =
+    file-stage b xs h passed head e
+    ∙ first-passed (records_faults xs (header_view h) 0 h.records) (trailing_bytes (header_view h) (length xs) ∷ []) records
+    ∙ ap (λ zs. first (trailing_bytes (header_view h) (length zs) ∷ [])) e'
+    ∙ alone (trailing_bytes (header_view h) (length ys))

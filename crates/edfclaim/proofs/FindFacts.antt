@@ -1,5 +1,5 @@
 -- From what was found in two files in memory to the verdict on them.
-use Rattle.std.proofs.Common.{◌≡◌, ℕ, ◌<◌, List, [], ◌∷◌, length, map, Option, Some, None, slice_get, MatchOption, IfSome, inl, inr, refl, sym, ap, ◌∙◌, subst, arith}
+use Rattle.std.proofs.Common.{◌≡◌, ℕ, ◌<◌, ◌≤◌, List, [], ◌∷◌, length, map, Option, Some, None, slice_get, MatchOption, IfSome, inl, inr, refl, sym, ap, ◌∙◌, subst, arith}
 use Rattle.std.specs.Global.{Vec}
 use Rattle.std.specs.List.{AllByRecursion}
 use Rattle.edfclaim.specs.declared.file.EdfFile.{EdfFile}
@@ -26,7 +26,8 @@ use Rattle.edfclaim.proofs.ListFacts.{has-at, at-has, get-within, has-map, map-h
 use Rattle.edfclaim.proofs.EarliestFacts.{earliest-some, earliest-none, earliest-is-least}
 use Rattle.edfclaim.proofs.FractionFacts.{before-not_before}
 use Rattle.edfclaim.proofs.ChannelFacts.{channel-found, has-place, unlisted-some}
-use Rattle.edfclaim.proofs.LoadedFacts.{loaded-timely, loaded-some, loaded-distinct, length-view}
+use Rattle.edfclaim.proofs.LoadedFacts.{loaded-timely, loaded-some, loaded-distinct}
+use Rattle.edfclaim.proofs.SignalFacts.{length-view}
 use Rattle.edfclaim.proofs.BridgeFacts.{IsChannelOf, IsPair, PairMatch, PairLeast, pair-exact, pair-kept, pair-exported, pair-differ, pair-least, differ-claimed}
 
 -- a channel of a file in memory
@@ -48,9 +49,9 @@ pub record Pair (o e : EdfFile) (claim : Terms) (label : List ℕ) : Type 0 wher
   pub pair : IsPair (timed_view o) (timed_view e) claim label here there
 
 some_signal : (f : EdfFile) → IsLoaded f → Signal
-some_signal f l = first f.header.signals.items (l.modest).two_signals
+some_signal f l = first f.header.signals.items (l.modest).some_signals
   where
-    first : (xs : List Signal) → length xs ≡ 2 → Signal
+    first : (xs : List Signal) → 2 ≤ length xs → Signal
     first [] h = absurd (omega arith)
     first (x ∷ xs) h = x
 

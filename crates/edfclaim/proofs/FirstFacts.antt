@@ -23,3 +23,8 @@ pub stops-weaker : (P Q : Fault → Type 0) (A B : Type 0) → ((f : Fault) → 
 stops-weaker P Q A B faults failed stops.OutOfMemory h = tt
 stops-weaker P Q A B faults failed stops.ReadFailed h = failed h
 stops-weaker P Q A B faults failed (stops.Fault f) h = faults f h
+
+-- one test
+pub alone : (o : Option Fault) → first (o ∷ []) ≡ o
+alone None = refl
+alone (Some f) = refl

@@ -19,3 +19,8 @@ pub mod BridgeFacts
 pub mod FindFacts
 pub mod PartnerFacts
 pub mod SlowFacts
+pub mod EndFacts
+pub mod KeepsFacts
+pub mod StartFacts
+pub mod TimeFacts
+pub mod LabelFacts

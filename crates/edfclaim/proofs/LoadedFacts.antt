@@ -9,12 +9,13 @@ use Rattle.edfclaim.specs.declared.header.Header.{Header}
 use Rattle.edfclaim.specs.declared.header.Signal.{Signal}
 use Rattle.edfclaim.specs.Heads.{SignalHead, Head, is_annotations, header_bytes, record_bytes, samples_together, samples_at}
 use Rattle.edfclaim.specs.Records.{record_at, lane_at}
-use Rattle.edfclaim.specs.Samples.{counted}
+use Rattle.edfclaim.specs.Timekeeping.{start_at}
 use Rattle.edfclaim.specs.Channels.{HasDistinctChannels}
 use Rattle.edfclaim.specs.Views.{signal_view, header_view}
 use Rattle.edfclaim.specs.Judged.{IsModest, IsLoaded}
-use Rattle.edfclaim.proofs.SignalFacts.{samples-here}
-use Rattle.edfclaim.proofs.RisingFacts.{IsTimely, counted-rising}
+use Rattle.edfclaim.proofs.SignalFacts.{samples-here, length-view}
+use Rattle.edfclaim.proofs.RisingFacts.{IsTimely}
+use Rattle.edfclaim.proofs.TimeFacts.{contiguous-rising}
 
 pub part-length : (b : List ℕ) (at n : ℕ) → at + n ≤ length b → length (part b at n) ≡ n
 part-length b at n h = length-take n (drop at b) ∙ (let e = length-drop at b in omega arith)
@@ -37,14 +38,10 @@ lane-length file h k s size lt ls =
     let within = together-within h.signals s h refl ls in
     part-length (record_at file h k) (2 * samples_together (take s h.signals)) (2 * samples_at h s) (omega (arith, within, record_there))
 
-pub length-view : (signals : List Signal) → length (map signal_view signals) ≡ length signals
-length-view [] = refl
-length-view (x ∷ signals) = ap suc (length-view signals)
-
-pub loaded-timely : (f : EdfFile) (s : ℕ) → IsLoaded f → s < length f.header.signals.items → IsTimely f.bytes.items (header_view f.header) (counted f.header.duration_ps) s
+pub loaded-timely : (f : EdfFile) (s : ℕ) → IsLoaded f → s < length f.header.signals.items → IsTimely f.bytes.items (header_view f.header) (start_at f.bytes.items (header_view f.header)) s
 loaded-timely f s l lt = record {
   some_time = (let t = (l.modest).some_time in omega (arith, ints));
-  rising = counted-rising f.header.duration_ps f.header.records;
+  rising = contiguous-rising f.bytes.items (header_view f.header) f.first_start_ps f.header.records l.contiguous;
   full = λ k ltk. lane-length f.bytes.items (header_view f.header) k s (omega (arith, l.size)) ltk (omega (arith, length-view f.header.signals.items));
 }
 
@@ -54,31 +51,5 @@ loaded-some f s d l lt =
     let some : 1 ≤ (get_or f.header.signals.items s d).samples = (l.modest).some_samples s d lt in
     omega (arith, here, some)
 
-none : (x y : SignalHead) (label : List ℕ) (n m : ℕ) → Some x ≡ Some (record { label = label; samples = n }) → Some y ≡ Some (record { label = label; samples = m }) → is_annotations label ≡ false
-    → (is_annotations x.label || (is_annotations y.label || false)) ≡ true → ⊥
-none x y label n m ex ey f any =
-    let hx : SignalHead = record { label = label; samples = n } in
-    let hy : SignalHead = record { label = label; samples = m } in
-    let px : x ≡ hx = cc in
-    let py : y ≡ hy = cc in
-    let fx : is_annotations x.label ≡ false = ap (λ (z : SignalHead). is_annotations z.label) px ∙ f in
-    let fy : is_annotations y.label ≡ false = ap (λ (z : SignalHead). is_annotations z.label) py ∙ f in
-    let e : false ≡ true = ap (λ b. false || (b || false)) (sym fy) ∙ ap (λ b. b || (is_annotations y.label || false)) (sym fx) ∙ any in
-    cc
-
-two-distinct : (signals : List SignalHead) → length signals ≡ 2 → list_any (λ x. is_annotations x.label) signals ≡ true → (s t : ℕ) (label : List ℕ) (n m : ℕ)
-    → slice_get signals s ≡ Some (record { label = label; samples = n }) → slice_get signals t ≡ Some (record { label = label; samples = m }) → is_annotations label ≡ false → s ≡ t
-two-distinct [] two any s t label n m es et f = absurd (omega arith)
-two-distinct (x ∷ []) two any s t label n m es et f = absurd (omega arith)
-two-distinct (x ∷ y ∷ z ∷ more) two any s t label n m es et f = absurd (omega arith)
-two-distinct (x ∷ y ∷ []) two any zero zero label n m es et f = refl
-two-distinct (x ∷ y ∷ []) two any zero (suc zero) label n m es et f = absurd (none x y label n m es et f any)
-two-distinct (x ∷ y ∷ []) two any (suc zero) zero label n m es et f = absurd (none x y label m n et es f any)
-two-distinct (x ∷ y ∷ []) two any (suc zero) (suc zero) label n m es et f = refl
-two-distinct (x ∷ y ∷ []) two any (suc (suc s)) t label n m es et f = absurd (let e : None ≡ Some (record { label = label; samples = n }) = es in cc)
-two-distinct (x ∷ y ∷ []) two any zero (suc (suc t)) label n m es et f = absurd (let e : None ≡ Some (record { label = label; samples = m }) = et in cc)
-two-distinct (x ∷ y ∷ []) two any (suc zero) (suc (suc t)) label n m es et f = absurd (let e : None ≡ Some (record { label = label; samples = m }) = et in cc)
-
 pub loaded-distinct : (h : Header) → IsModest h → HasDistinctChannels (header_view h)
-loaded-distinct h i s t label n m cs ct =
-    two-distinct (map signal_view h.signals.items) (length-view h.signals.items ∙ i.two_signals) i.annotated s t label n m cs.0 ct.0 cs.1
+loaded-distinct h i = i.distinct

@@ -7,7 +7,7 @@ use Rattle.edfclaim.specs.Lists.{Has}
 use Rattle.edfclaim.specs.Heads.{Head, samples_at}
 use Rattle.edfclaim.specs.Records.{lane_at}
 use Rattle.edfclaim.specs.Lanes.{lane_samples}
-use Rattle.edfclaim.specs.Samples.{samples_from, counted}
+use Rattle.edfclaim.specs.Samples.{samples_from}
 use Rattle.edfclaim.specs.Differences.{IsAscending}
 use Rattle.edfclaim.proofs.ListFacts.{has-append, has-filtered}
 use Rattle.edfclaim.proofs.MemberFacts.{InLane, InRecords, lane-has, records-has}
@@ -35,9 +35,6 @@ steps-below i j d p h =
 -- each data record starts where the one before ends, or later, up to record r
 abbrev pub AreRising : (ℕ → ℤ) → ℤ → ℕ → Type 0
 AreRising starts d r = (k : ℕ) → k + 1 < r → (starts k +ℤ d) ≤ℤ starts (k + 1)
-
-pub counted-rising : (d : ℤ) (r : ℕ) → AreRising (counted d) d r
-counted-rising d r k lt = omega (arith, ints)
 
 pub starts-mono : (starts : ℕ → ℤ) (d : ℤ) (r k j : ℕ) → pos 0 ≤ℤ d → AreRising starts d r → k ≤ j → j < r → starts k ≤ℤ starts j
 starts-mono starts d r k zero p rising h lt = let e : k ≡ 0 = omega arith in rw e (omega (arith, ints))

@@ -1,6 +1,7 @@
 -- The channels of a header, which are its ordinary signals, found by their labels.
-use Rattle.std.specs.Prelude.{◌≡◌, ℕ, ◌+◌, ◌<◌, Bool, not, ◌&&◌, List, [], ◌∷◌, Option, Some, slice_get, is_none, find, if◌then◌else◌}
+use Rattle.std.specs.Prelude.{◌≡◌, ℕ, ◌+◌, ◌<◌, Bool, not, ◌&&◌, List, [], ◌∷◌, Option, Some, slice_get, unwrap_or, option_map, take, is_none, find, if◌then◌else◌}
 use Rattle.std.specs.List.{list_any, position_from}
+use Rattle.std.specs.Option.{is_some}
 use Rattle.std.specs.Str.{bytes_eq}
 use Rattle.edfclaim.specs.Lists.{Has}
 use Rattle.edfclaim.specs.Heads.{SignalHead, Head, is_annotations}
@@ -32,6 +33,14 @@ is_channel_of label signal = bytes_eq signal.label label && not (is_annotations 
 -- the place of the first channel of this label among the signals
 abbrev pub channel_place : List ℕ → List SignalHead → Option ℕ
 channel_place label signals = position_from (is_channel_of label) 0 signals
+
+-- the label of signal s
+abbrev pub label_at : List SignalHead → ℕ → List ℕ
+label_at signals s = unwrap_or (option_map (λ signal. signal.label) (slice_get signals s)) []
+
+-- an earlier channel has the label of signal s
+abbrev pub is_repeated : List SignalHead → ℕ → Bool
+is_repeated signals s = is_some (channel_place (label_at signals s) (take s signals))
 
 -- the first of these labels that no channel has
 abbrev pub first_absent : List SignalHead → List (List ℕ) → Option (List ℕ)

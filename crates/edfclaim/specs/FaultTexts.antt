@@ -5,7 +5,7 @@ use Rattle.edfclaim.specs.declared.fault.Fault.{Fault}
 use Rattle.edfclaim.specs.declared.fault.Place.{Place}
 use Rattle.edfclaim.specs.declared.fault.Place.TheVariants.{AtField, AtSignal, AtRecord, AtEnd}
 use Rattle.edfclaim.specs.declared.fault.Cause.{Cause}
-use Rattle.edfclaim.specs.declared.fault.Cause.TheVariants.{Truncated, BadHeaderSize, NotEdfPlus, BadNumber, BadRange, NoAnnotationSignal, NoOrdinarySignal, RecordTooLarge, TrailingBytes}
+use Rattle.edfclaim.specs.declared.fault.Cause.TheVariants.{Truncated, BadHeaderSize, NotEdfPlus, BadNumber, BadRange, NoAnnotationSignal, NoOrdinarySignal, DuplicateLabel, RecordTooLarge, NoTimekeeping, BadFirstStart, NotContiguous, TrailingBytes}
 use Rattle.edfclaim.specs.Layout.{fixed_field_name, signal_field_name}
 
 -- the cause's name
@@ -17,7 +17,11 @@ cause_name BadNumber = codes "BadNumber"
 cause_name BadRange = codes "BadRange"
 cause_name NoAnnotationSignal = codes "NoAnnotationSignal"
 cause_name NoOrdinarySignal = codes "NoOrdinarySignal"
+cause_name DuplicateLabel = codes "DuplicateLabel"
 cause_name RecordTooLarge = codes "RecordTooLarge"
+cause_name NoTimekeeping = codes "NoTimekeeping"
+cause_name BadFirstStart = codes "BadFirstStart"
+cause_name NotContiguous = codes "NotContiguous"
 cause_name TrailingBytes = codes "TrailingBytes"
 
 -- where the fault stands

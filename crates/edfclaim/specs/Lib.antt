@@ -7,12 +7,14 @@ pub mod Claims
 pub mod Layout
 pub mod Heads
 pub mod Records
+pub mod Timekeeping
+pub mod Samples
+pub mod Channels
 pub mod Faults
 pub mod Stops
 pub mod Views
 pub mod Judged
-pub mod Samples
-pub mod Channels
+pub mod Followed
 pub mod Exports
 pub mod Earliest
 pub mod Compare

@@ -8,15 +8,15 @@ use Rattle.edfclaim.specs.declared.verdict.Difference.{Difference}
 use Rattle.edfclaim.specs.declared.verdict.Difference.TheVariants.{OriginalFault, ExportFault, UnknownChannel, MissingChannel, ExtraChannel, Sample}
 use Rattle.std.specs.Prelude.{List}
 use Rattle.edfclaim.specs.Heads.{Head}
-use Rattle.edfclaim.specs.Samples.{counted}
+use Rattle.edfclaim.specs.Timekeeping.{start_at}
 use Rattle.edfclaim.specs.Views.{header_view}
 use Rattle.edfclaim.specs.Compare.{Timed}
 use Rattle.edfclaim.specs.Exports.{floor_of}
 use Rattle.edfclaim.specs.Verdicts.{AreCounts}
 
--- its bytes, its header, and its data records one after the other
+-- its bytes, its header, and its data records where they say that they start
 abbrev pub timed_view : EdfFile → Timed
-timed_view f = record { file = f.bytes.items; head = header_view f.header; starts = counted f.header.duration_ps }
+timed_view f = record { file = f.bytes.items; head = header_view f.header; starts = start_at f.bytes.items (header_view f.header) }
 
 -- a Yes with the counts of an export
 abbrev pub IsYesOf : Head → Verdict → Type 0

@@ -7,6 +7,10 @@ use Rattle.edfclaim.specs.Heads.{Head, header_bytes, record_bytes, samples_toget
 abbrev pub record_at : List ℕ → Head → ℕ → List ℕ
 record_at file h k = part file (header_bytes h + k * record_bytes h) (record_bytes h)
 
--- the lane of signal s in data record k: its samples stand behind those of the signals before it
+-- the lane of signal s in the bytes of a data record: its samples stand behind those of the signals before it
+abbrev pub lane_in : Head → List ℕ → ℕ → List ℕ
+lane_in h bytes s = part bytes (2 * samples_together (take s h.signals)) (2 * samples_at h s)
+
+-- the lane of signal s in data record k
 abbrev pub lane_at : List ℕ → Head → ℕ → ℕ → List ℕ
-lane_at file h k s = part (record_at file h k) (2 * samples_together (take s h.signals)) (2 * samples_at h s)
+lane_at file h k s = lane_in h (record_at file h k) s

@@ -6,10 +6,6 @@ use Rattle.edfclaim.specs.Heads.{Head, is_annotations, samples_at}
 use Rattle.edfclaim.specs.Lanes.{digital_value, lane_samples}
 use Rattle.edfclaim.specs.Records.{lane_at}
 
--- data records one after the other, each as long as the others
-abbrev pub counted : ℤ → ℕ → ℤ
-counted duration k = pos k *ℤ duration
-
 -- signal s is a channel of this label with n samples in a data record
 abbrev pub IsChannel : Head → ℕ → List ℕ → ℕ → Type 0
 IsChannel h s label n = (slice_get h.signals s ≡ Some (record { label = label; samples = n })) × (is_annotations label ≡ false)

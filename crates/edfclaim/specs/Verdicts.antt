@@ -8,16 +8,17 @@ use Rattle.edfclaim.specs.declared.verdict.Difference.TheVariants.{OriginalFault
 use Rattle.edfclaim.specs.Instants.{IsBefore}
 use Rattle.edfclaim.specs.Lists.{Has}
 use Rattle.edfclaim.specs.Heads.{Head, head_of}
-use Rattle.edfclaim.specs.Samples.{IsSample, counted}
+use Rattle.edfclaim.specs.Samples.{IsSample}
+use Rattle.edfclaim.specs.Timekeeping.{start_at}
 use Rattle.edfclaim.specs.Channels.{HasChannel, HasAll, IsFirstAbsent, channel_count, channel_samples_together}
 use Rattle.edfclaim.specs.Claims.{Terms}
 use Rattle.edfclaim.specs.Exports.{SameChannels, SameSamples, IsKept, DifferAt, floor_of}
 use Rattle.edfclaim.specs.Compare.{Timed}
 use Rattle.edfclaim.specs.Faults.{first_fault}
 
--- a file with the header that its bytes spell, its data records one after the other from instant 0 on
+-- a file with the header that its bytes spell, and its data records where they say that they start
 abbrev pub timed_file : List ℕ → Timed
-timed_file file = record { file = file; head = head_of file; starts = counted (head_of file).duration }
+timed_file file = record { file = file; head = head_of file; starts = start_at file (head_of file) }
 
 -- the samples of a file
 abbrev pub samples_in : Timed → List ℕ → ℤ → ℕ → ℤ → Type 0

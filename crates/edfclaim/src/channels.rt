@@ -4,7 +4,7 @@ ghost use Rattle.std.specs.Prelude.{◌≡◌, ◌+◌, ◌<◌, ◌≤◌, ◌*
 ghost use Rattle.std.specs.List.{All};
 ghost use Rattle.std.specs.Str.{bytes_eq};
 ghost use Rattle.edfclaim.specs.Heads.{is_annotations};
-ghost use Rattle.edfclaim.specs.Channels.{is_channel_of, channel_place, first_absent, is_listed, is_unlisted, first_unlisted, channel_count, channel_samples_together};
+ghost use Rattle.edfclaim.specs.Channels.{is_channel_of, is_repeated, channel_place, first_absent, is_listed, is_unlisted, first_unlisted, channel_count, channel_samples_together};
 ghost use Rattle.edfclaim.specs.Views.{signal_view};
 
 use crate::header::Signal;
@@ -29,6 +29,14 @@ pub fn find_channel(signals: &[Signal], label: &[u8]) -> Option<usize>
         }
     }
     None
+}
+
+/// Whether an earlier channel has the label of signal `s`.
+pub fn is_repeated(signals: &[Signal], s: usize) -> bool
+    requires { s < length signals.now }
+    ensures { result ≡ is_repeated (map signal_view signals.now) s }
+{
+    find_channel(&signals[..s], &signals[s].label).is_some()
 }
 
 /// The first of these labels that no channel has.

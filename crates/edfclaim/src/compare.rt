@@ -17,19 +17,8 @@ use crate::difference::{SampleDifference, channel_difference};
 use crate::earliest::{Found, earlier, found_in};
 use crate::file::EdfFile;
 use crate::sample::Sample;
-use crate::samples::channel_samples;
+use crate::samples::{channel_samples, samples_per_record};
 use std::alloc::{AllocError, Global};
-
-/// How many samples a signal has in a data record.
-pub fn samples_per_record(file: &EdfFile, signal: usize) -> u32
-    requires loaded { IsLoaded file.now }
-    requires signal { signal < vec_len file.now.header.signals }
-    ensures value { result ≡ samples_at (header_view file.now.header) signal }
-    ensures low { 1 ≤ result }
-    ensures high { result ≤ 8388608 }
-{
-    file.header.signals[signal].samples
-}
 
 /// Whether a claim keeps a sample.
 fn is_kept(claim: &Claim, sample: Sample, den: u32) -> bool

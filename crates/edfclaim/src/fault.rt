@@ -28,8 +28,16 @@ pub enum Cause {
     NoAnnotationSignal,
     /// Every signal has the label `EDF Annotations`.
     NoOrdinarySignal,
+    /// A channel has the label of an earlier one.
+    DuplicateLabel,
     /// A data record has more than 16,777,216 bytes.
     RecordTooLarge,
+    /// A data record doesn't say when it starts.
+    NoTimekeeping,
+    /// The first data record starts before 0 s, or not before 1 s.
+    BadFirstStart,
+    /// A data record doesn't start where the one before ends.
+    NotContiguous,
     /// A byte stands behind the last data record.
     TrailingBytes,
 }

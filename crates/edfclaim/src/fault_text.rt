@@ -18,7 +18,11 @@ impl fmt::Display for Cause {
             Cause::BadRange => "BadRange",
             Cause::NoAnnotationSignal => "NoAnnotationSignal",
             Cause::NoOrdinarySignal => "NoOrdinarySignal",
+            Cause::DuplicateLabel => "DuplicateLabel",
             Cause::RecordTooLarge => "RecordTooLarge",
+            Cause::NoTimekeeping => "NoTimekeeping",
+            Cause::BadFirstStart => "BadFirstStart",
+            Cause::NotContiguous => "NotContiguous",
             Cause::TrailingBytes => "TrailingBytes",
         };
         write!(f, "{name}")

@@ -5,21 +5,24 @@ ghost use Rattle.edf_fields.specs.Sources.{Rises};
 ghost use Rattle.edfclaim.specs.Stops.{Stops};
 ghost use Rattle.edfclaim.specs.Heads.{head_of, header_bytes, record_bytes};
 ghost use Rattle.edfclaim.specs.Views.{signal_view, header_view};
-ghost use Rattle.edfclaim.specs.Faults.{first, first_fault, fixed_stage, columns_stage, header_tests, records_stage};
-ghost use Rattle.edfclaim.specs.Judged.{SaysFixed, SaysSignals, IsModest, IsLoaded};
+ghost use Rattle.edfclaim.specs.Faults.{first, first_fault, fixed_stage, columns_stage, header_tests, records_faults, trailing_bytes};
+ghost use Rattle.edfclaim.specs.Judged.{SaysFixed, SaysSignals, IsModest, IsContiguous, IsLoaded};
 
 use crate::append::append;
 use crate::fault::{Cause, Fault, Place};
 use crate::header::{Header, Signal, samples_together};
+use crate::judge_record::{Progress, judge_record};
 use crate::judge::{Fixed, judge_columns, judge_fixed, judge_together};
 use crate::stop::Stop;
 use edf_fields::source::Source;
 use std::alloc::Global;
 
-/// A file that passed every test: its header, and all its bytes.
+/// A file that passed every test: its header, where its first data record starts, and all its bytes.
 #[derive(Drop)]
 pub struct EdfFile {
     pub header: Header,
+    /// In picoseconds; each further data record starts where the one before ends.
+    pub first_start_ps: i128,
     pub bytes: Vec<u8>,
 }
 
@@ -97,26 +100,36 @@ fn read_header<S: Source>(
     Ok(header)
 }
 
-/// Reads the data records behind the header that `bytes` holds.
-fn read_records<S: Source>(source: &mut S, header: &Header, bytes: &mut Vec<u8>) -> Result<(), Stop>
+/// Reads the data records behind the header that `bytes` holds, and answers when the first one starts,
+/// in picoseconds.
+fn read_records<S: Source>(
+    source: &mut S,
+    header: &Header,
+    bytes: &mut Vec<u8>,
+) -> Result<i128, Stop>
     requires modest { IsModest header.now }
     requires size { length bytes.old.items ≡ header_bytes (header_view header.now) }
     ensures honesty { OnOk result (IsTrue (S.is_honest source.old) → IsTrue (S.is_honest source.new)) }
     ensures failures { OnOk result (S.failures source.new ≡ S.failures source.old) }
     ensures whole { OnOk result (IsTrue (S.is_honest source.old) → bytes.old.items ++ S.left source.old ≡ bytes.new.items ++ S.left source.new) }
     ensures size { OnOk result (length bytes.new.items ≡ header_bytes (header_view header.now) + header.now.records * record_bytes (header_view header.now)) }
-    ensures stop { IfErr result (Stops (λ f. IsTrue (S.is_honest source.old) → first (records_stage (header_view header.now) (length (bytes.old.items ++ S.left source.old))) ≡ Some f) (Rises (S.failures source.old) (S.failures source.new))) }
+    ensures contiguous { IfOk result (λ first. IsContiguous bytes.new.items (header_view header.now) first header.now.records) }
+    ensures passed { OnOk result (IsTrue (S.is_honest source.old) → first (records_faults (bytes.old.items ++ S.left source.old) (header_view header.now) 0 header.now.records) ≡ None) }
+    ensures stop { IfErr result (Stops (λ f. IsTrue (S.is_honest source.old) → first (records_faults (bytes.old.items ++ S.left source.old) (header_view header.now) 0 header.now.records) ≡ Some f) (Rises (S.failures source.old) (S.failures source.new))) }
 {
     let size = 2 * samples_together(&header.signals) as usize;
+    let mut progress = Progress::new();
     for k in 0..header.records {
+        let from = bytes.len();
         if !append(source, bytes, size)? {
             return Err(Stop::Fault(Fault {
                 place: Place::AtRecord(k),
                 cause: Cause::Truncated,
             }));
         }
+        progress = judge_record(header, k, progress, &bytes[from..])?;
     }
-    Ok(())
+    Ok(progress.first_ps)
 }
 
 /// Asks for a byte behind the last data record.
@@ -125,11 +138,11 @@ fn read_end<S: Source>(source: &mut S, header: &Header, bytes: &mut Vec<u8>) -> 
     requires size { length bytes.old.items ≡ header_bytes (header_view header.now) + header.now.records * record_bytes (header_view header.now) }
     ensures honesty { OnOk result (IsTrue (S.is_honest source.old) → IsTrue (S.is_honest source.new)) }
     ensures failures { OnOk result (S.failures source.new ≡ S.failures source.old) }
-    ensures whole { OnOk result (IsTrue (S.is_honest source.old) → bytes.old.items ++ S.left source.old ≡ bytes.new.items) }
-    ensures end { OnOk result (IsTrue (S.is_honest source.old) → S.left source.new ≡ []) }
-    ensures size { OnOk result (length bytes.new.items ≡ length bytes.old.items) }
-    ensures passed { OnOk result (IsTrue (S.is_honest source.old) → first (records_stage (header_view header.now) (length (bytes.old.items ++ S.left source.old))) ≡ None) }
-    ensures stop { IfErr result (Stops (λ f. IsTrue (S.is_honest source.old) → first (records_stage (header_view header.now) (length (bytes.old.items ++ S.left source.old))) ≡ Some f) (Rises (S.failures source.old) (S.failures source.new))) }
+    ensures kept { OnOk result (bytes.new.items ≡ bytes.old.items) }
+    ensures end { OnOk result (IsTrue (S.is_honest source.old) → S.left source.old ≡ []) }
+    ensures ended { OnOk result (IsTrue (S.is_honest source.old) → S.left source.new ≡ []) }
+    ensures passed { OnOk result (IsTrue (S.is_honest source.old) → trailing_bytes (header_view header.now) (length (bytes.old.items ++ S.left source.old)) ≡ None) }
+    ensures stop { IfErr result (Stops (λ f. IsTrue (S.is_honest source.old) → trailing_bytes (header_view header.now) (length (bytes.old.items ++ S.left source.old)) ≡ Some f) (Rises (S.failures source.old) (S.failures source.new))) }
 {
     if append(source, bytes, 1)? {
         return Err(Stop::Fault(Fault {
@@ -156,7 +169,11 @@ pub fn read_file<S: Source>(alloc: Global, source: &mut S) -> Result<EdfFile, St
 {
     let mut bytes = Vec::new(alloc);
     let header = read_header(alloc, source, &mut bytes)?;
-    read_records(source, &header, &mut bytes)?;
+    let first_start_ps = read_records(source, &header, &mut bytes)?;
     read_end(source, &header, &mut bytes)?;
-    Ok(EdfFile { header, bytes })
+    Ok(EdfFile {
+        header,
+        first_start_ps,
+        bytes,
+    })
 }

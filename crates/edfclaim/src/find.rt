@@ -27,6 +27,7 @@ impl Instant {
 }
 
 /// The verdict Yes, with the export's counts.
+#[tactic(auto, using(crate::proofs::SignalFacts::channels_fit))]
 fn yes(export: &EdfFile) -> Verdict
     requires { IsLoaded export.now }
     ensures { IsYesOf (header_view export.now.header) result }

@@ -6,11 +6,13 @@ ghost use Rattle.edfclaim.specs.declared.fault.Cause.TheVariants.{Truncated};
 ghost use Rattle.edfclaim.specs.Layout.{fixed_fields, columns, next_before, AreAdjacent};
 ghost use Rattle.edfclaim.specs.Judged.{SaysFixed, SaysSignals};
 ghost use Rattle.edfclaim.specs.Stops.{Stops};
-ghost use Rattle.edfclaim.specs.Heads.{is_annotations, record_bytes};
+ghost use Rattle.edfclaim.specs.Heads.{record_bytes};
+ghost use Rattle.edfclaim.specs.Channels.{HasDistinctChannels};
 ghost use Rattle.edfclaim.specs.Views.{signal_view, header_view};
-ghost use Rattle.std.specs.List.{All, list_any};
-ghost use Rattle.edfclaim.specs.Faults.{first, fixed_missing, fixed_faults, fixed_stage, reserved_fault, columns_missing, columns_stage, signals_faults, no_annotation_signal, no_ordinary_signal, too_long, record_too_large, joint_faults};
+ghost use Rattle.std.specs.List.{All};
+ghost use Rattle.edfclaim.specs.Faults.{first, fixed_missing, fixed_faults, fixed_stage, reserved_fault, columns_missing, columns_stage, signals_faults, no_annotation_signal, no_ordinary_signal, labels_faults, record_too_large, joint_faults};
 
+use crate::channels::is_repeated;
 use crate::fault::{Cause, Fault, Place};
 use crate::header::{Header, Signal, all_annotations, any_annotations, samples_together};
 use crate::layout::{COLUMNS, FixedField, SignalField, fixed_field, signal_field};
@@ -176,7 +178,7 @@ pub fn judge_columns(alloc: Global, signals: u16, file: &[u8]) -> Result<Vec<Sig
 /// Whether one signal at least holds annotations.
 #[tactic(auto, unfolding(crate::specs::Faults::no_annotation_signal))]
 fn annotation_signal(signals: &[Signal]) -> Result<(), Fault>
-    ensures { MatchResult result (λ _. (no_annotation_signal (map signal_view signals.now) ≡ None) × (list_any (λ s. is_annotations s.label) (map signal_view signals.now) ≡ true)) (λ f. no_annotation_signal (map signal_view signals.now) ≡ Some f) }
+    ensures { MatchResult result (λ _. no_annotation_signal (map signal_view signals.now) ≡ None) (λ f. no_annotation_signal (map signal_view signals.now) ≡ Some f) }
 {
     if any_annotations(signals) {
         Ok(())
@@ -203,30 +205,23 @@ fn ordinary_signal(signals: &[Signal]) -> Result<(), Fault>
     }
 }
 
-/// The duration of all data records together.
-fn whole_duration(records: u32, duration_ps: i128) -> i128
-    requires { unsigned_abs duration_ps < 10 ^ 20 }
-    ensures { result ≡ pos records *ℤ duration_ps }
-{
-    i128::from(records) * duration_ps
-}
-
-/// Whether the data records last 10^9 s at the most.
-#[tactic(auto, unfolding(crate::specs::Faults::too_long))]
-fn short_enough(header: &Header) -> Result<(), Fault>
-    requires { unsigned_abs header.now.duration_ps < 10 ^ 20 }
+/// Whether no channel has the label of an earlier one.
+#[tactic(auto, unfolding(crate::specs::Faults::label_fault))]
+fn distinct_labels(signals: &[Signal]) -> Result<(), Fault>
+    requires { length signals.now < 2 ^ 16 }
     ensures { MatchResult result
-        (λ _. (too_long (header_view header.now) ≡ None) × ((pos header.now.records *ℤ header.now.duration_ps) ≤ℤ pos (10 ^ 21)))
-        (λ f. too_long (header_view header.now) ≡ Some f) }
+        (λ _. first (labels_faults (map signal_view signals.now) 0 (length signals.now)) ≡ None)
+        (λ f. first (labels_faults (map signal_view signals.now) 0 (length signals.now)) ≡ Some f) }
 {
-    if whole_duration(header.records, header.duration_ps) > 1_000_000_000_000_000_000_000 {
-        Err(Fault {
-            place: Place::AtField(FixedField::Duration),
-            cause: Cause::BadRange,
-        })
-    } else {
-        Ok(())
+    for s in 0..signals.len() {
+        if is_repeated(signals, s) {
+            return Err(Fault {
+                place: Place::AtSignal(s as u16, SignalField::Label),
+                cause: Cause::DuplicateLabel,
+            });
+        }
     }
+    Ok(())
 }
 
 /// Whether a data record has 16,777,216 bytes at the most.
@@ -252,13 +247,12 @@ fn small_enough(header: &Header) -> Result<(), Fault>
 pub fn judge_together(header: &Header) -> Result<(), Fault>
     requires few { vec_len header.now.signals < 2 ^ 16 }
     requires small { All (λ s. s.samples < 10 ^ 8) header.now.signals.items }
-    requires duration { unsigned_abs header.now.duration_ps < 10 ^ 20 }
     ensures { MatchResult result
-        (λ _. (first (joint_faults (header_view header.now)) ≡ None) × (list_any (λ s. is_annotations s.label) (map signal_view header.now.signals.items) ≡ true) × ((pos header.now.records *ℤ header.now.duration_ps) ≤ℤ pos (10 ^ 21)) × (record_bytes (header_view header.now) ≤ 16777216))
+        (λ _. (first (joint_faults (header_view header.now)) ≡ None) × HasDistinctChannels (header_view header.now) × (record_bytes (header_view header.now) ≤ 16777216))
         (λ f. first (joint_faults (header_view header.now)) ≡ Some f) }
 {
     annotation_signal(&header.signals)?;
     ordinary_signal(&header.signals)?;
-    short_enough(header)?;
+    distinct_labels(&header.signals)?;
     small_enough(header)
 }

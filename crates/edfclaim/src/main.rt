@@ -22,6 +22,7 @@ pub mod find;
 pub mod header;
 pub mod instant;
 pub mod judge;
+pub mod judge_record;
 pub mod laws;
 pub mod layout;
 pub mod line;
@@ -35,6 +36,7 @@ pub mod slow;
 pub mod stop;
 #[cfg(test)]
 mod tests;
+pub mod timekeeping;
 pub mod timeline;
 pub mod value;
 pub mod vectors;

@@ -2,7 +2,7 @@
 
 ghost use Rattle.std.specs.Prelude.{◌≡◌, ◌*◌, ◌+◌, ◌≤◌, ◌<◌, ◌^◌, ◌≤ℤ◌, ◌<ℤ◌, ◌*ℤ◌, pos, length, None, Some, MatchResult, unwrap_or, unsigned_abs};
 ghost use Rattle.edf_fields.specs.Numbers.{whole_number_of, header_number_of};
-ghost use Rattle.edfclaim.specs.Faults.{no_number, no_positive, not_equal, header_bytes_fault, records_fault, duration_fault, signals_fault, header_size_fault, samples_fault};
+ghost use Rattle.edfclaim.specs.Faults.{no_number, too_small, not_equal, header_bytes_fault, records_fault, duration_fault, signals_fault, header_size_fault, samples_fault};
 
 use crate::fault::{Cause, Fault, Place};
 use crate::layout::{FixedField, SignalField};
@@ -21,12 +21,12 @@ fn some_number(place: Place, value: Option<i64>) -> Result<i64, Fault>
     }
 }
 
-/// The number that is spelled, where it is at least 1.
-fn positive(place: Place, value: Option<i64>) -> Result<i64, Fault>
-    ensures { MatchResult result (λ v. (no_positive place value ≡ None) × (value ≡ Some v) × (pos 1 ≤ℤ v)) (λ f. no_positive place value ≡ Some f) }
+/// The number that is spelled, where it is `least` or more.
+fn at_least(place: Place, least: u16, value: Option<i64>) -> Result<i64, Fault>
+    ensures { MatchResult result (λ v. (too_small place least value ≡ None) × (value ≡ Some v) × (pos least ≤ℤ v)) (λ f. too_small place least value ≡ Some f) }
 {
     match value {
-        Some(number) if number >= 1 => Ok(number),
+        Some(number) if number >= i64::from(least) => Ok(number),
         Some(_) => Err(Fault {
             place,
             cause: Cause::BadRange,
@@ -76,10 +76,10 @@ fn as_count(number: i64) -> u32
 fn positive_count(place: Place, field: &[u8]) -> Result<u32, Fault>
     requires { length field.now ≤ 8 }
     ensures { MatchResult result
-        (λ v. (no_positive place (whole_number_of field.now) ≡ None) × (whole_number_of field.now ≡ Some (pos v)) × (1 ≤ v) × (v < 10 ^ 8))
-        (λ f. no_positive place (whole_number_of field.now) ≡ Some f) }
+        (λ v. (too_small place 1 (whole_number_of field.now) ≡ None) × (whole_number_of field.now ≡ Some (pos v)) × (1 ≤ v) × (v < 10 ^ 8))
+        (λ f. too_small place 1 (whole_number_of field.now) ≡ Some f) }
 {
-    let number = positive(place, header_whole(field))?;
+    let number = at_least(place, 1, header_whole(field))?;
     Ok(as_count(number))
 }
 
@@ -101,23 +101,23 @@ pub fn duration(field: &[u8]) -> Result<i64, Fault>
         (λ v. (duration_fault field.now ≡ None) × (unwrap_or (header_number_of field.now) (pos 0) ≡ v) × (pos 1 ≤ℤ v) × (unsigned_abs v < 10 ^ 15))
         (λ f. duration_fault field.now ≡ Some f) }
 {
-    positive(Place::AtField(FixedField::Duration), header_number(field))
+    at_least(Place::AtField(FixedField::Duration), 1, header_number(field))
 }
 
-/// How many signals there are: 2, a channel and an annotation signal.
+/// How many signals there are: a whole number from 2 on, for a channel and an annotation signal.
 #[tactic(auto, unfolding(crate::specs::Faults::signals_fault))]
 pub fn signals(field: &[u8]) -> Result<u16, Fault>
+    requires { length field.now ≤ 4 }
     ensures { MatchResult result
-        (λ v. (signals_fault field.now ≡ None) × (whole_number_of field.now ≡ Some (pos v)) × (v ≡ 2))
+        (λ v. (signals_fault field.now ≡ None) × (whole_number_of field.now ≡ Some (pos v)) × (2 ≤ v) × (v < 10 ^ 4))
         (λ f. signals_fault field.now ≡ Some f) }
 {
-    equal(
+    let number = at_least(
         Place::AtField(FixedField::Signals),
-        Cause::BadRange,
         2,
         header_whole(field),
     )?;
-    Ok(2)
+    Ok(number as u16)
 }
 
 /// Whether the header has the size that its signals need.

@@ -2,36 +2,56 @@
 
 ghost use Rattle.std.specs.Prelude.{◌≡◌, ◌+◌, ◌*◌, ◌<◌, ◌≤◌, ◌^◌, ◌++◌, ◌*ℤ◌, ◌+ℤ◌, pos, length, IfOk, OnOk, unsigned_abs, vec_len};
 ghost use Rattle.std.specs.List.{All};
-ghost use Rattle.edfclaim.specs.Heads.{samples_at};
-ghost use Rattle.edfclaim.specs.Records.{lane_at};
+ghost use Rattle.edfclaim.specs.Heads.{samples_at, record_bytes};
+ghost use Rattle.edfclaim.specs.Records.{record_at, lane_in};
 ghost use Rattle.edfclaim.specs.Lanes.{digital_value, lane_samples};
-ghost use Rattle.edfclaim.specs.Samples.{samples_of, counted};
+ghost use Rattle.edfclaim.specs.Samples.{samples_of};
+ghost use Rattle.edfclaim.specs.Timekeeping.{start_at};
 ghost use Rattle.edfclaim.specs.Views.{header_view};
-ghost use Rattle.edfclaim.specs.Judged.{IsLoaded};
+ghost use Rattle.edfclaim.specs.Judged.{IsModest, IsLoaded};
 
 use crate::file::EdfFile;
-use crate::header::samples_together;
+use crate::header::{Header, samples_together};
 use crate::sample::Sample;
-use crate::timeline::{Grid, record_grid};
+use crate::timeline::Grid;
 use crate::value::sample_value;
 use edf_fields::number::part;
 use std::alloc::{AllocError, Global};
 
-/// The lane of a signal in data record `k`: the bytes of its samples.
-fn lane(file: &EdfFile, k: u32, signal: usize) -> &[u8]
+/// How many samples a signal has in a data record.
+pub fn samples_per_record(file: &EdfFile, signal: usize) -> u32
+    requires loaded { IsLoaded file.now }
+    requires signal { signal < vec_len file.now.header.signals }
+    ensures value { result ≡ samples_at (header_view file.now.header) signal }
+    ensures low { 1 ≤ result }
+    ensures high { result ≤ 8388608 }
+{
+    file.header.signals[signal].samples
+}
+
+/// The bytes of data record `k`.
+fn data_record(file: &EdfFile, k: u32) -> &[u8]
     requires loaded { IsLoaded file.now }
     requires k { k < file.now.header.records }
-    requires signal { signal < vec_len file.now.header.signals }
-    ensures value { result.now ≡ lane_at file.entry.now.bytes.items (header_view file.entry.now.header) k signal }
-    ensures len { length result.now ≡ 2 * samples_at (header_view file.entry.now.header) signal }
+    ensures value { result.now ≡ record_at file.entry.now.bytes.items (header_view file.entry.now.header) k }
+    ensures len { length result.now ≡ record_bytes (header_view file.entry.now.header) }
 {
-    let signals = file.header.signals.as_slice();
-    let together = samples_together(signals) as usize;
-    let before = samples_together(&signals[..signal]) as usize;
-    let count = signals[signal].samples as usize;
-    let start = 256 * (signals.len() + 1) + k as usize * (2 * together);
-    let record = part(&file.bytes, start, 2 * together);
-    part(record, 2 * before, 2 * count)
+    let size = 2 * samples_together(&file.header.signals) as usize;
+    let start = 256 * (file.header.signals.len() + 1) + k as usize * size;
+    part(&file.bytes, start, size)
+}
+
+/// The lane of a signal in the bytes of a data record: the bytes of its samples.
+fn lane<'a>(header: &Header, bytes: &'a [u8], signal: usize) -> &'a [u8]
+    requires modest { IsModest header.now }
+    requires size { length bytes.now ≡ record_bytes (header_view header.now) }
+    requires signal { signal < vec_len header.now.signals }
+    ensures value { result.now ≡ lane_in (header_view header.now) bytes.entry.now signal }
+    ensures len { length result.now ≡ 2 * samples_at (header_view header.now) signal }
+{
+    let before = samples_together(&header.signals[..signal]) as usize;
+    let count = header.signals[signal].samples as usize;
+    part(bytes, 2 * before, 2 * count)
 }
 
 /// The sample at a place of a lane.
@@ -65,7 +85,7 @@ fn push_lane(samples: &mut Vec<Sample>, grid: Grid, lane: &[u8]) -> Result<(), A
     Ok(())
 }
 
-/// All samples of a signal, in file order, of a file whose data records follow one another.
+/// All samples of a signal, in file order, each data record where it says that it starts.
 ///
 /// The error is want of memory.
 pub fn channel_samples(
@@ -75,14 +95,14 @@ pub fn channel_samples(
 ) -> Result<Vec<Sample>, AllocError>
     requires loaded { IsLoaded file.now }
     requires signal { signal < vec_len file.now.header.signals }
-    ensures value { IfOk result (λ v. v.items ≡ samples_of file.now.bytes.items (header_view file.now.header) (counted file.now.header.duration_ps) signal) }
+    ensures value { IfOk result (λ v. v.items ≡ samples_of file.now.bytes.items (header_view file.now.header) (start_at file.now.bytes.items (header_view file.now.header)) signal) }
     ensures small { IfOk result (λ v. All (λ x. unsigned_abs x.num < 2 ^ 98) v.items) }
 {
-    let den = file.header.signals[signal].samples;
+    let den = samples_per_record(file, signal);
     let mut samples = Vec::new(alloc);
     for k in 0..file.header.records {
-        let grid = record_grid(&file.header, k, den);
-        push_lane(&mut samples, grid, lane(file, k, signal))?;
+        let grid = file.record_grid(k, den);
+        push_lane(&mut samples, grid, lane(&file.header, data_record(file, k), signal))?;
     }
     Ok(samples)
 }

@@ -15,11 +15,11 @@ ghost use Rattle.edfclaim.specs.Views.{header_view};
 
 use crate::channels::find_channel;
 use crate::claim::Claim;
-use crate::compare::{kept_samples, samples_per_record};
+use crate::compare::kept_samples;
 use crate::file::EdfFile;
 use crate::instant::Instant;
 use crate::sample::Sample;
-use crate::samples::channel_samples;
+use crate::samples::{channel_samples, samples_per_record};
 use std::alloc::{AllocError, Global};
 
 /// Whether both samples stand at one instant and have one value.

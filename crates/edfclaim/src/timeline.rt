@@ -1,20 +1,11 @@
 //! Where data records and samples stand in time, in exact numerators.
 
 ghost use Rattle.std.specs.Prelude.{◌≡◌, ◌<◌, ◌≤◌, ◌^◌, ◌*ℤ◌, ◌+ℤ◌, pos, unsigned_abs};
-ghost use Rattle.edfclaim.specs.Samples.{counted};
-ghost use Rattle.edfclaim.specs.Judged.{IsModest};
+ghost use Rattle.edfclaim.specs.Timekeeping.{start_at};
+ghost use Rattle.edfclaim.specs.Views.{header_view};
+ghost use Rattle.edfclaim.specs.Judged.{IsLoaded};
 
-use crate::header::Header;
-
-/// The start of data record `k`, where each is as long as the others, in picoseconds.
-pub fn record_start(k: u32, duration_ps: i128) -> i128
-    requires k { k < 2 ^ 27 }
-    requires duration { unsigned_abs duration_ps < 2 ^ 67 }
-    ensures value { result ≡ counted duration_ps k }
-    ensures small { unsigned_abs result < 2 ^ 94 }
-{
-    i128::from(k) * duration_ps
-}
+use crate::file::EdfFile;
 
 /// A start in units of 1 / den picoseconds.
 pub fn start_numerator(start_ps: i128, den: u32) -> i128
@@ -57,19 +48,30 @@ impl Grid {
     }
 }
 
-/// The grid of a lane with `den` samples in data record `k` of a file whose data records follow one
-/// another.
-pub fn record_grid(header: &Header, k: u32, den: u32) -> Grid
-    requires modest { IsModest header.now }
-    requires k { k < header.now.records }
-    requires den { den < 2 ^ 24 }
-    ensures start { result.start ≡ pos den *ℤ counted header.now.duration_ps k }
-    ensures step { result.step ≡ header.now.duration_ps }
-    ensures small_start { unsigned_abs result.start < 2 ^ 96 }
-    ensures small_step { unsigned_abs result.step < 2 ^ 72 }
-{
-    Grid {
-        start: start_numerator(record_start(k, header.duration_ps), den),
-        step: header.duration_ps,
+impl EdfFile {
+    /// Where data record `k` starts, in picoseconds.
+    pub fn record_start(&self, k: u32) -> i128
+        requires loaded { IsLoaded self.now }
+        requires k { k < self.now.header.records }
+        ensures value { result ≡ start_at self.now.bytes.items (header_view self.now.header) k }
+        ensures small { unsigned_abs result < 2 ^ 72 }
+    {
+        self.first_start_ps + i128::from(k) * self.header.duration_ps
+    }
+
+    /// The grid of a lane with `den` samples in data record `k`.
+    pub fn record_grid(&self, k: u32, den: u32) -> Grid
+        requires loaded { IsLoaded self.now }
+        requires k { k < self.now.header.records }
+        requires den { den < 2 ^ 24 }
+        ensures start { result.start ≡ pos den *ℤ start_at self.now.bytes.items (header_view self.now.header) k }
+        ensures step { result.step ≡ self.now.header.duration_ps }
+        ensures small_start { unsigned_abs result.start < 2 ^ 96 }
+        ensures small_step { unsigned_abs result.step < 2 ^ 72 }
+    {
+        Grid {
+            start: start_numerator(self.record_start(k), den),
+            step: self.header.duration_ps,
+        }
     }
 }

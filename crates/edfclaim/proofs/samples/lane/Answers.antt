@@ -1,23 +1,41 @@
-use Rattle.std.proofs.Common.{◌<◌, length, ap, arith, get_or}
+use Rattle.std.proofs.Common.{◌≡◌, ◌<◌, ◌*◌, length, map, take, sym, ap, ◌∙◌, arith}
 use Rattle.std.proofs.lemmas.Grind.{common_steps}
+use Rattle.std.proofs.lemmas.List.{take-map}
+use Rattle.edf_fields.specs.Parts.{part}
+use Rattle.edfclaim.specs.Heads.{samples_together, samples_at}
+use Rattle.edfclaim.specs.Views.{signal_view, header_view}
 use Rattle.edfclaim.proofs.SignalFacts.{together-at, samples-here}
 use Rattle.edfclaim.proofs.samples.lane.Goals as goal
 
 pub part-requires : goal.part-requires
 part-requires c =
-    let lt : c.args.signal < length c.as_slice-signals.result.now = grind (arith, common_steps) in
-    omega (
-      arith,
-      c.samples_together-before.ensures.value,
-      c.samples_together-together.ensures.value,
-      c.part-record.ensures.len,
-      together-at c.as_slice-signals.result.now c.args.signal c.index-signals-signal.result lt,
-    )
+    let items = c.args.header.now.signals.items in
+    let s = c.args.signal in
+    let lt : s < length items = grind (arith, common_steps) in
+    let before : c.samples_together-before.result ≡ samples_together (map signal_view (take s items)) =
+    c.samples_together-before.ensures.value ∙ ap (λ xs. samples_together (map signal_view (take s xs))) c.deref.ensures.value in
+    let count : c.index.result.now.samples ≡ samples_at (header_view c.args.header.now) s = ap (λ x. x.samples) c.index.ensures ∙ sym (samples-here c.args.header.now s c.index.result.now lt) in
+    let here = samples-here c.args.header.now s c.index.result.now lt in
+    let fits = together-at items s c.index.result.now lt in
+    omega (arith, before, count, here, fits, c.requires.size)
+
+pub returns-clause-value : goal.returns-clause-value
+returns-clause-value c =
+    let header = c.args.header.now in
+    let items = header.signals.items in
+    let s = c.args.signal in
+    let bytes = c.args.bytes.now in
+    let lt : s < length items = grind (arith, common_steps) in
+    let before : c.samples_together-before.result ≡ samples_together (take s (map signal_view items)) =
+    c.samples_together-before.ensures.value ∙ ap (λ xs. samples_together (map signal_view (take s xs))) c.deref.ensures.value ∙ ap samples_together (sym (take-map signal_view s items)) in
+    let count : c.index.result.now.samples ≡ samples_at (header_view header) s = ap (λ x. x.samples) c.index.ensures ∙ sym (samples-here header s c.index.result.now lt) in
+    c.part.ensures.value
+    ∙ ap (λ n. part bytes (2 * n) (2 * c.index.result.now.samples)) before
+    ∙ ap (λ n. part bytes (2 * samples_together (take s (map signal_view items))) (2 * n)) count
 
 pub returns-clause-len : goal.returns-clause-len
 returns-clause-len c =
-    let header = c.args.file.now.header in
+    let header = c.args.header.now in
     let lt : c.args.signal < length header.signals.items = grind (arith, common_steps) in
-    let here = samples-here header c.args.signal c.index-signals-signal.result lt in
-    let same = ap (λ xs. (get_or xs c.args.signal c.index-signals-signal.result).samples) c.as_slice-signals.ensures.value in
-    omega (arith, c.part.ensures.len, here, same)
+    let count : c.index.result.now.samples ≡ samples_at (header_view header) c.args.signal = ap (λ x. x.samples) c.index.ensures ∙ sym (samples-here header c.args.signal c.index.result.now lt) in
+    c.part.ensures.len ∙ ap (λ n. 2 * n) count
