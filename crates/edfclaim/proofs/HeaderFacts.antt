@@ -9,7 +9,7 @@ use Rattle.edfclaim.specs.Channels.{HasDistinctChannels}
 use Rattle.edfclaim.specs.Faults.{first, no_annotation_signal, no_ordinary_signal, labels_faults, record_too_large, joint_faults}
 use Rattle.edfclaim.specs.Views.{signal_view, header_view}
 use Rattle.edfclaim.proofs.FirstFacts.{first-passed, first-found, alone}
-use Rattle.edfclaim.proofs.LabelFacts.{labels-distinct}
+use Rattle.edfclaim.proofs.RepeatFacts.{labels-distinct}
 use Rattle.edfclaim.proofs.SignalFacts.{length-view}
 
 pub any-view : (signals : List Signal) → list_any (λ s. is_annotations s.label) (map signal_view signals) ≡ list_any (λ s. is_annotations s.label.items) signals
@@ -32,9 +32,9 @@ together-labels h a o =
 pub labels-view : (h : Header) → first (labels_faults (header_view h).signals 0 (length (header_view h).signals)) ≡ first (labels_faults (header_view h).signals 0 (length h.signals.items))
 labels-view h = ap (λ n. first (labels_faults (header_view h).signals 0 n)) (length-view h.signals.items)
 
-pub labels-found : (h : Header) (f : Fault) → no_annotation_signal (header_view h).signals ≡ None → no_ordinary_signal (header_view h).signals ≡ None
+pub labels_found : (h : Header) (f : Fault) → no_annotation_signal (header_view h).signals ≡ None → no_ordinary_signal (header_view h).signals ≡ None
     → first (labels_faults (header_view h).signals 0 (length h.signals.items)) ≡ Some f → first (joint_faults (header_view h)) ≡ Some f
-labels-found h f a o found =
+labels_found h f a o found =
     together-labels h a o
     ∙ first-found (labels_faults (header_view h).signals 0 (length (header_view h).signals)) (record_too_large (header_view h) ∷ []) f (labels-view h ∙ found)
 
@@ -45,9 +45,9 @@ size-left h a o passed =
     ∙ first-passed (labels_faults (header_view h).signals 0 (length (header_view h).signals)) (record_too_large (header_view h) ∷ []) (labels-view h ∙ passed)
     ∙ alone (record_too_large (header_view h))
 
-pub together-judged : (r : Result (Unit {0}) Fault) (h : Header) → no_annotation_signal (header_view h).signals ≡ None → no_ordinary_signal (header_view h).signals ≡ None
+pub together_judged : (r : Result (Unit {0}) Fault) (h : Header) → no_annotation_signal (header_view h).signals ≡ None → no_ordinary_signal (header_view h).signals ≡ None
     → first (labels_faults (header_view h).signals 0 (length h.signals.items)) ≡ None
     → MatchResult r (λ x. (record_too_large (header_view h) ≡ None) × (record_bytes (header_view h) ≤ 16777216)) (λ f. record_too_large (header_view h) ≡ Some f)
     → MatchResult r (λ x. (first (joint_faults (header_view h)) ≡ None) × HasDistinctChannels (header_view h) × (record_bytes (header_view h) ≤ 16777216)) (λ f. first (joint_faults (header_view h)) ≡ Some f)
-together-judged (Ok x) h a o passed j = (size-left h a o passed ∙ j.0, labels-distinct (header_view h) (labels-view h ∙ passed), j.1)
-together-judged (Err f) h a o passed j = size-left h a o passed ∙ j
+together_judged (Ok x) h a o passed j = (size-left h a o passed ∙ j.0, labels-distinct (header_view h) (labels-view h ∙ passed), j.1)
+together_judged (Err f) h a o passed j = size-left h a o passed ∙ j

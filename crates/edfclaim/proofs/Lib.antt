@@ -23,4 +23,4 @@ pub mod EndFacts
 pub mod KeepsFacts
 pub mod StartFacts
 pub mod TimeFacts
-pub mod LabelFacts
+pub mod RepeatFacts

@@ -32,6 +32,7 @@ pub fn find_channel(signals: &[Signal], label: &[u8]) -> Option<usize>
 }
 
 /// Whether an earlier channel has the label of signal `s`.
+#[tactic(auto, using(crate::proofs::RepeatFacts::repeated_here))]
 pub fn is_repeated(signals: &[Signal], s: usize) -> bool
     requires { s < length signals.now }
     ensures { result ≡ is_repeated (map signal_view signals.now) s }

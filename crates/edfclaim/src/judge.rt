@@ -206,7 +206,7 @@ fn ordinary_signal(signals: &[Signal]) -> Result<(), Fault>
 }
 
 /// Whether no channel has the label of an earlier one.
-#[tactic(auto, unfolding(crate::specs::Faults::label_fault))]
+#[tactic(auto, using(crate::proofs::RepeatFacts::label_passed, crate::proofs::RepeatFacts::label_found))]
 fn distinct_labels(signals: &[Signal]) -> Result<(), Fault>
     requires { length signals.now < 2 ^ 16 }
     ensures { MatchResult result

@@ -1,6 +1,7 @@
 //! What no contract says: the exact lines of given files, the order of the faults in one file, and
 //! what a check does where a source, a sink or memory gives out.
 
+mod channels;
 mod differences;
 mod faults;
 mod rows;
@@ -9,3 +10,4 @@ mod scarce;
 mod slow;
 mod sources;
 mod support;
+mod timekeeping;

@@ -209,3 +209,132 @@ pub fn line_of(
     let verdict = check(alloc, &mut first, &mut second, claim)?;
     Ok(String::from_utf8(verdict.line(alloc)?)?)
 }
+
+/// A signal of a file, by what its column says and this profile reads.
+#[derive(Clone, Copy)]
+pub struct Column<'a> {
+    pub label: &'a str,
+    pub dimension: &'a str,
+    pub physical: (&'a str, &'a str),
+    pub digital: (&'a str, &'a str),
+    pub samples: &'a str,
+}
+
+/// What a signal has in a data record.
+#[derive(Clone, Copy)]
+pub enum Lane<'a> {
+    /// Samples.
+    Values(&'a [i16]),
+    /// A text, then zeros up to so many bytes in all.
+    Text(&'a [u8], usize),
+}
+
+/// A file with any signals.
+#[derive(Clone, Copy)]
+pub struct Shape<'a> {
+    pub header_bytes: &'a str,
+    pub records: &'a str,
+    pub duration: &'a str,
+    pub count: &'a str,
+    pub columns: &'a [Column<'a>],
+    /// The lanes of all data records, one behind the other.
+    pub lanes: &'a [Lane<'a>],
+}
+
+/// A channel with this many samples in a data record.
+pub const fn channel<'a>(label: &'a str, samples: &'a str) -> Column<'a> {
+    Column {
+        label,
+        dimension: "degC",
+        physical: ("30", "40"),
+        digital: ("-2048", "2047"),
+        samples,
+    }
+}
+
+/// An annotation signal with this many samples in a data record.
+pub const fn annotations<'a>(samples: &'a str) -> Column<'a> {
+    Column {
+        label: "EDF Annotations",
+        dimension: "",
+        physical: ("-1", "1"),
+        digital: ("-32768", "32767"),
+        samples,
+    }
+}
+
+/// The text of a column's field: the first is the label.
+fn column_text<'a>(column: &Column<'a>, field: u8) -> &'a str {
+    match field {
+        0 => column.label,
+        2 => column.dimension,
+        3 => column.physical.0,
+        4 => column.physical.1,
+        5 => column.digital.0,
+        6 => column.digital.1,
+        8 => column.samples,
+        _ => "",
+    }
+}
+
+/// Puts one field of each signal behind the file.
+fn push_column(
+    file: &mut Vec<u8>,
+    columns: &[Column],
+    field: u8,
+    width: usize,
+) -> Result<(), AllocError> {
+    for column in columns {
+        push_field(file, column_text(column, field).as_bytes(), b' ', width)?;
+    }
+    Ok(())
+}
+
+/// Puts the header of a file of this shape behind `file`.
+fn push_shape_header(file: &mut Vec<u8>, shape: Shape) -> Result<(), AllocError> {
+    for (text, width) in [
+        ("0", 8usize),
+        ("MCH-0234567 F 02-MAY-1951 Haagse_Harry", 80),
+        ("Startdate 02-MAR-2002 PSG-1234/2002 NN Telemetry03", 80),
+        ("02.03.02", 8),
+        ("22.00.00", 8),
+        (shape.header_bytes, 8),
+        ("EDF+C", 44),
+        (shape.records, 8),
+        (shape.duration, 8),
+        (shape.count, 4),
+    ] {
+        push_field(file, text.as_bytes(), b' ', width)?;
+    }
+    for (field, width) in [
+        (0u8, 16usize),
+        (1, 80),
+        (2, 8),
+        (3, 8),
+        (4, 8),
+        (5, 8),
+        (6, 8),
+        (7, 80),
+        (8, 8),
+        (9, 32),
+    ] {
+        push_column(file, shape.columns, field, width)?;
+    }
+    Ok(())
+}
+
+/// A file of this shape.
+pub fn file_of(alloc: Global, shape: Shape) -> Result<Vec<u8>, AllocError> {
+    let mut file = Vec::new(alloc);
+    push_shape_header(&mut file, shape)?;
+    for lane in shape.lanes {
+        match lane {
+            Lane::Values(values) => push_values(&mut file, values)?,
+            Lane::Text(text, bytes) => push_field(&mut file, text, 0, *bytes)?,
+        }
+    }
+    Ok(file)
+}
+
+/// A lane of 32 bytes that says that its data record starts at 0 s.
+pub const AT_ZERO: Lane<'static> = Lane::Text(b"+0\x14\x14", 32);

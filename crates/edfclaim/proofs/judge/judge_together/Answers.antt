@@ -1,5 +1,5 @@
 use Rattle.std.proofs.lemmas.Result.{err_from_is_err_and}
-use Rattle.edfclaim.proofs.HeaderFacts.{labels-found, together-judged}
+use Rattle.edfclaim.proofs.HeaderFacts.{labels_found, together_judged}
 use Rattle.edfclaim.proofs.judge.judge_together.Goals as goal
 
 pub returns-in_err-distinct_labels : goal.returns-in_err-distinct_labels
@@ -8,11 +8,11 @@ returns-in_err-distinct_labels c =
     let annotated = rw c.deref.ensures.value at c.in_ok-annotation_signal.ensures in
     let ordinary = rw c.deref-2.ensures.value at c.in_ok-ordinary_signal.ensures in
     let found = rw c.deref-3.ensures.value at c.in_err-distinct_labels.ensures in
-    rw (p.1, p.2) (labels-found c.args.header.now c.in_err-distinct_labels.field-0.0 annotated ordinary found)
+    rw (p.1, p.2) (labels_found c.args.header.now c.in_err-distinct_labels.field-0.0 annotated ordinary found)
 
 pub returns : goal.returns
 returns c =
     let annotated = rw c.deref.ensures.value at c.in_ok-annotation_signal.ensures in
     let ordinary = rw c.deref-2.ensures.value at c.in_ok-ordinary_signal.ensures in
     let passed = rw c.deref-3.ensures.value at c.in_ok-distinct_labels.ensures in
-    together-judged c.small_enough.result c.args.header.now annotated ordinary passed c.small_enough.ensures
+    together_judged c.small_enough.result c.args.header.now annotated ordinary passed c.small_enough.ensures

@@ -2,6 +2,7 @@
 use Rattle.std.proofs.Common.{◌≡◌, ℕ, zero, suc, ◌+◌, ◌<◌, ◌≤◌, List, [], ◌∷◌, ◌++◌, length, map, take, get_or, Option, Some, None, slice_get, ◌-◌, Bool, true, false, cond, unwrap_or, option_map, refl, sym, ap, ◌∙◌, arith, inl, inr}
 use Rattle.std.specs.Option.{is_some}
 use Rattle.std.proofs.lemmas.Bool.{cases_lt}
+use Rattle.std.proofs.lemmas.List.{take-map}
 use Rattle.edfclaim.specs.declared.header.Signal.{Signal}
 use Rattle.edfclaim.specs.declared.fault.Fault.{Fault}
 use Rattle.edfclaim.specs.declared.fault.Place.TheVariants.{AtSignal}
@@ -23,17 +24,25 @@ label_here [] s d lt = absurd (omega arith)
 label_here (x ∷ signals) zero d lt = refl
 label_here (x ∷ signals) (suc s) d lt = label_here signals s d (omega arith)
 
+-- whether a label is repeated, by what the code holds of it
+pub repeated_here : (signals : List Signal) (s : ℕ) (d : Signal) (o : Option ℕ) → s < length signals → o ≡ channel_place (get_or signals s d).label.items (map signal_view (take s signals))
+    → is_some o ≡ is_repeated (map signal_view signals) s
+repeated_here signals s d o lt e =
+    ap is_some (e
+    ∙ ap (λ l. channel_place l (map signal_view (take s signals))) (sym (label_here signals s d lt))
+    ∙ ap (channel_place (label_at (map signal_view signals) s)) (sym (take-map signal_view s signals)))
+
 -- the test of one label before those of the labels behind it
-pub label-passed : (signals : List SignalHead) (s n : ℕ) → s < n → is_repeated signals s ≡ false → first (labels_faults signals s (n - s)) ≡ first (labels_faults signals (s + 1) (n - (s + 1)))
+pub label_passed : (signals : List SignalHead) (s n : ℕ) → s < n → is_repeated signals s ≡ false → first (labels_faults signals s (n - s)) ≡ first (labels_faults signals (s + 1) (n - (s + 1)))
 unfolding label_fault
-label-passed signals s n lt passed =
+label_passed signals s n lt passed =
     let next : n - s ≡ suc (n - (s + 1)) = omega arith in
     ap (λ m. first (labels_faults signals s m)) next
     ∙ first-passed (label_fault signals s ∷ []) (labels_faults signals (s + 1) (n - (s + 1))) (ap (λ b. first (cond b (fault (AtSignal s signal.Label) DuplicateLabel) None ∷ [])) passed)
 
-pub label-found : (signals : List SignalHead) (s n : ℕ) → s < n → is_repeated signals s ≡ true → first (labels_faults signals s (n - s)) ≡ fault (AtSignal s signal.Label) DuplicateLabel
+pub label_found : (signals : List SignalHead) (s n : ℕ) → s < n → is_repeated signals s ≡ true → first (labels_faults signals s (n - s)) ≡ fault (AtSignal s signal.Label) DuplicateLabel
 unfolding label_fault
-label-found signals s n lt found =
+label_found signals s n lt found =
     let next : n - s ≡ suc (n - (s + 1)) = omega arith in
     ap (λ m. first (labels_faults signals s m)) next
     ∙ first-found (label_fault signals s ∷ []) (labels_faults signals (s + 1) (n - (s + 1))) _ (ap (λ b. first (cond b (fault (AtSignal s signal.Label) DuplicateLabel) None ∷ [])) found)

@@ -1,0 +1,308 @@
+//! Files with several channels, and with several annotation signals.
+
+use crate::claim::Claim;
+use crate::tests::support::{
+    AT_ZERO, Column, Lane, Shape, annotations, channel, file_of, line_of, six_seconds, small_file,
+};
+use std::alloc::{AllocError, Global};
+use std::test::Fail;
+
+/// A file of one data record of 1 s with two channels and an annotation signal behind them.
+const fn two_channels<'a>(columns: &'a [Column<'a>], lanes: &'a [Lane<'a>]) -> Shape<'a> {
+    Shape {
+        header_bytes: "1024",
+        records: "1",
+        duration: "1",
+        count: "3",
+        columns,
+        lanes,
+    }
+}
+
+/// The small file with a channel `Flow` of one sample in front: 1,062 bytes.
+fn flow_file(alloc: Global) -> Result<Vec<u8>, AllocError> {
+    let flow = Column {
+        label: "Flow",
+        dimension: "L/s",
+        physical: ("-1", "1"),
+        digital: ("-2048", "2047"),
+        samples: "1",
+    };
+    file_of(
+        alloc,
+        two_channels(
+            &[flow, channel("Temp", "2"), annotations("16")],
+            &[Lane::Values(&[5]), Lane::Values(&[7, -7]), AT_ZERO],
+        ),
+    )
+}
+
+#[test]
+fn finds_every_claimed_channel(rt: HostRuntime) -> Result<(), Fail> {
+    let alloc = rt.alloc();
+    let temp = small_file(alloc)?;
+    let both = flow_file(alloc)?;
+    assert_eq!(rt; both.len(), 1062);
+    let only_temp = six_seconds(alloc)?;
+    let temp_flow = Claim::plain(alloc, &[b"Temp", b"Flow"], 0, 6_000_000_000_000)?;
+    let flow_temp = Claim::plain(alloc, &[b"Flow", b"Temp"], 0, 6_000_000_000_000)?;
+    let unknown = Claim::plain(
+        alloc,
+        &[b"Temp", b"Pulse", b"Flow", b"Acc"],
+        0,
+        6_000_000_000_000,
+    )?;
+    for (original, export, claim, want) in [
+        (
+            &both,
+            &both,
+            &temp_flow,
+            "YES channels 2 samples 3 annotations 0\n",
+        ),
+        (
+            &both,
+            &both,
+            &flow_temp,
+            "YES channels 2 samples 3 annotations 0\n",
+        ),
+        (
+            &both,
+            &both,
+            &only_temp,
+            "NO 5 extra channel \"Flow\"\n",
+        ),
+        (
+            &temp,
+            &both,
+            &temp_flow,
+            "NO 3 unknown channel \"Flow\"\n",
+        ),
+        (
+            &both,
+            &temp,
+            &temp_flow,
+            "NO 4 missing channel \"Flow\"\n",
+        ),
+        (
+            &both,
+            &temp,
+            &only_temp,
+            "YES channels 1 samples 2 annotations 0\n",
+        ),
+        (
+            &both,
+            &both,
+            &unknown,
+            "NO 3 unknown channel \"Pulse\"\n",
+        ),
+    ] {
+        assert_eq!(rt; line_of(alloc, original, export, claim)?.as_str(), want);
+    }
+    Ok(())
+}
+
+/// A file with three channels of these labels and one sample each.
+fn three_labels(alloc: Global, labels: [&str; 3], values: [i16; 3]) -> Result<Vec<u8>, AllocError> {
+    let [a, b, c] = labels;
+    let [x, y, z] = values;
+    file_of(
+        alloc,
+        Shape {
+            header_bytes: "1280",
+            records: "1",
+            duration: "1",
+            count: "4",
+            columns: &[
+                channel(a, "1"),
+                channel(b, "1"),
+                annotations("16"),
+                channel(c, "1"),
+            ],
+            lanes: &[
+                Lane::Values(&[x]),
+                Lane::Values(&[y]),
+                AT_ZERO,
+                Lane::Values(&[z]),
+            ],
+        },
+    )
+}
+
+#[test]
+fn names_the_least_label(rt: HostRuntime) -> Result<(), Fail> {
+    let alloc = rt.alloc();
+    let original = three_labels(alloc, ["b", "ab", "B"], [1, 2, 3])?;
+    let others = three_labels(alloc, ["b", "ab", "B"], [0, 0, 0])?;
+    let moved = three_labels(alloc, ["B", "b", "ab"], [0, 0, 0])?;
+    let two = three_labels(alloc, ["ab", "b", "B"], [0, 0, 3])?;
+    let all = Claim::plain(alloc, &[b"b", b"ab", b"B"], 0, 6_000_000_000_000)?;
+    let one = Claim::plain(alloc, &[b"ab"], 0, 6_000_000_000_000)?;
+    let other = Claim::plain(alloc, &[b"B"], 0, 6_000_000_000_000)?;
+    for (export, claim, want) in [
+        (
+            &original,
+            &all,
+            "YES channels 3 samples 3 annotations 0\n",
+        ),
+        (
+            &others,
+            &all,
+            "NO 10 sample \"B\" at 0 ps original 3 export 0\n",
+        ),
+        (
+            &moved,
+            &all,
+            "NO 10 sample \"B\" at 0 ps original 3 export 0\n",
+        ),
+        (
+            &two,
+            &all,
+            "NO 10 sample \"ab\" at 0 ps original 2 export 0\n",
+        ),
+        (&original, &one, "NO 5 extra channel \"B\"\n"),
+        (&moved, &one, "NO 5 extra channel \"B\"\n"),
+        (&original, &other, "NO 5 extra channel \"ab\"\n"),
+        (&moved, &other, "NO 5 extra channel \"ab\"\n"),
+    ] {
+        assert_eq!(rt; line_of(alloc, &original, export, claim)?.as_str(), want);
+    }
+    Ok(())
+}
+
+/// A file with a channel `slow` of 2 and a channel `fast` of 3 samples a data record.
+fn two_rates(alloc: Global, slow: [i16; 2], fast: [i16; 3]) -> Result<Vec<u8>, AllocError> {
+    file_of(
+        alloc,
+        two_channels(
+            &[channel("slow", "2"), channel("fast", "3"), annotations("16")],
+            &[Lane::Values(&slow), Lane::Values(&fast), AT_ZERO],
+        ),
+    )
+}
+
+#[test]
+fn names_the_earliest_instant_of_all_channels(rt: HostRuntime) -> Result<(), Fail> {
+    let alloc = rt.alloc();
+    let claim = Claim::plain(alloc, &[b"slow", b"fast"], 0, 6_000_000_000_000)?;
+    let original = two_rates(alloc, [1, 2], [3, 4, 5])?;
+    for (slow, fast, want) in [
+        (
+            [1, 2],
+            [3, 4, 5],
+            "YES channels 2 samples 5 annotations 0\n",
+        ),
+        (
+            [1, 0],
+            [3, 0, 5],
+            "NO 10 sample \"fast\" at 333333333333 ps original 4 export 0\n",
+        ),
+        (
+            [1, 0],
+            [3, 4, 0],
+            "NO 10 sample \"slow\" at 500000000000 ps original 2 export 0\n",
+        ),
+        (
+            [0, 2],
+            [3, 0, 5],
+            "NO 10 sample \"slow\" at 0 ps original 1 export 0\n",
+        ),
+        (
+            [0, 2],
+            [0, 4, 5],
+            "NO 10 sample \"fast\" at 0 ps original 3 export 0\n",
+        ),
+        (
+            [1, 2],
+            [3, 4, 0],
+            "NO 10 sample \"fast\" at 666666666666 ps original 5 export 0\n",
+        ),
+    ] {
+        let export = two_rates(alloc, slow, fast)?;
+        assert_eq!(rt; line_of(alloc, &original, &export, &claim)?.as_str(), want);
+    }
+    Ok(())
+}
+
+/// A file whose four signals have these labels; each annotation lane says that its record starts at 0 s,
+/// or nothing.
+fn four_labels(alloc: Global, labels: [&str; 4], samples: &str) -> Result<Vec<u8>, AllocError> {
+    let [a, b, c, d] = labels;
+    file_of(
+        alloc,
+        Shape {
+            header_bytes: "1280",
+            records: "1",
+            duration: "1",
+            count: "4",
+            columns: &[
+                channel(a, "1"),
+                channel(b, "1"),
+                channel(c, samples),
+                channel(d, "1"),
+            ],
+            lanes: &[],
+        },
+    )
+}
+
+#[test]
+fn refuses_the_first_repeated_label(rt: HostRuntime) -> Result<(), Fail> {
+    let alloc = rt.alloc();
+    let file = small_file(alloc)?;
+    let claim = six_seconds(alloc)?;
+    for (labels, samples, fault) in [
+        (
+            ["a", "a", "EDF Annotations", "b"],
+            "16",
+            "DuplicateLabel at signal 1 field label",
+        ),
+        (
+            ["a", "EDF Annotations", "b", "a"],
+            "16",
+            "DuplicateLabel at signal 3 field label",
+        ),
+        (
+            ["a", "b", "EDF Annotations", "b"],
+            "99999999",
+            "DuplicateLabel at signal 3 field label",
+        ),
+        (
+            ["a", "b", "a", "b"],
+            "16",
+            "NoAnnotationSignal at header field signals",
+        ),
+        (
+            ["", "EDF Annotations", "", "a"],
+            "16",
+            "DuplicateLabel at signal 2 field label",
+        ),
+        (
+            ["a", "EDF Annotations", "EDF Annotations", "A"],
+            "16",
+            "Truncated at record 0",
+        ),
+        (
+            ["EDF Annotations", "a", "b", "EDF Annotations"],
+            "99999999",
+            "RecordTooLarge at header field signals",
+        ),
+        (
+            [
+                "EDF Annotations",
+                "EDF Annotations",
+                "EDF Annotations",
+                "EDF Annotations",
+            ],
+            "16",
+            "NoOrdinarySignal at header field signals",
+        ),
+    ] {
+        let export = four_labels(alloc, labels, samples)?;
+        let want = format!(in alloc; "NO 2 export fault: {fault}\n")?;
+        assert_eq!(rt;
+            line_of(alloc, &file, &export, &claim)?.as_str(),
+            want.as_str()
+        );
+    }
+    Ok(())
+}
