@@ -22,6 +22,7 @@ pub mod find;
 pub mod header;
 pub mod instant;
 pub mod judge;
+pub mod labels;
 pub mod laws;
 pub mod layout;
 pub mod line;
