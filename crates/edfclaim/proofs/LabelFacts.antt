@@ -93,7 +93,7 @@ not_below label other h =
 
 -- sorted labels rise
 pub sorted_rising : (labels : List (Bor (List ℕ))) → IsSorted (λ x y. slice_cmp nat_cmp x.now y.now) labels → AreRising (map (λ label. label.now) labels)
-sorted_rising labels up i j label other le a b = 
+sorted_rising labels up i j label other le a b =
     let p = map-get (λ (l : Bor (List ℕ)). l.now) labels i label a in
     let q = map-get (λ (l : Bor (List ℕ)). l.now) labels j other b in
     let below : Bor (List ℕ) → Bor (List ℕ) → Bool = λ x y. is_lt (slice_cmp nat_cmp x.now y.now) in

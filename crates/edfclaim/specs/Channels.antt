@@ -52,7 +52,7 @@ is_listed labels label = list_any (λ other. bytes_eq other label) labels
 abbrev pub is_unlisted : List (List ℕ) → SignalHead → Bool
 is_unlisted labels signal = not (is_listed labels signal.label) && not (is_annotations signal.label)
 
--- the labels of those signals
+-- the labels of the channels whose label isn't one of these, in file order
 abbrev pub unlisted_labels : List (List ℕ) → List SignalHead → List (List ℕ)
 unlisted_labels labels signals = map (λ signal. signal.label) (filter (is_unlisted labels) signals)
 

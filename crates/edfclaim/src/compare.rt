@@ -109,7 +109,7 @@ fn difference_of_label(
     Ok(channel_difference(&kept, n, &samples, m))
 }
 
-/// The earliest difference of the channels of these labels.
+/// The earliest difference of the channels of these labels, at one instant that of the first label.
 ///
 /// The error is want of memory.
 pub fn sample_difference(

@@ -8,6 +8,7 @@ use std::alloc::{AllocError, Global};
 
 /// Whether the first label isn't above the second one: it begins it, or has the smaller byte where they
 /// first differ.
+#[tactic(auto, using(crate::proofs::LabelFacts::tested, crate::proofs::LabelFacts::means))]
 pub fn is_not_above(label: &[u8], other: &[u8]) -> bool
     ensures value { result ≡ is_not_above label.now other.now }
     ensures means { IsTrue result ↔ IsNotAbove label.now other.now }
@@ -28,7 +29,7 @@ pub fn lower<'a>(other: Option<&'a [u8]>, label: &'a [u8]) -> &'a [u8]
 /// The labels, borrowed one by one.
 ///
 /// The error is want of memory.
-fn borrow_each(alloc: Global, labels: &[Vec<u8>]) -> Result<Vec<&[u8]>, AllocError>
+pub fn borrow_each(alloc: Global, labels: &[Vec<u8>]) -> Result<Vec<&[u8]>, AllocError>
     ensures { IfOk result (λ borrowed. map (λ label. label.now) borrowed.items ≡ map (λ label. label.items) labels.entry.now) }
 {
     let mut borrowed = Vec::with_capacity(alloc, labels.len())?;

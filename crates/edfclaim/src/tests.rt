@@ -3,6 +3,7 @@
 
 mod differences;
 mod faults;
+mod labels;
 mod rows;
 mod samples;
 mod scarce;
