@@ -1,14 +1,20 @@
 -- Channels found by their labels.
-use Rattle.std.proofs.Common.{◌≡◌, ℕ, suc, ◌+◌, Bool, true, false, not, cond, ◌&&◌, ◌||◌, List, [], ◌∷◌, Option, Some, None, is_none, slice_get, unwrap_or, option_map, inl, inr, ⊎_elim, refl, sym, ap, ◌∙◌, subst, arith}
+use Rattle.std.proofs.Common.{◌≡◌, ℕ, suc, ◌+◌, Bool, true, false, not, cond, Bor, length, map, drop, ◌≤◌, MatchOption, ◌&&◌, ◌||◌, List, [], ◌∷◌, Option, Some, None, is_none, filter, slice_get, unwrap_or, option_map, inl, inr, ⊎_elim, refl, sym, ap, ◌∙◌, subst, arith}
 use Rattle.std.specs.List.{position_from}
 use Rattle.std.specs.Str.{bytes_eq}
 use Rattle.std.proofs.lemmas.Slice.Eq.{bytes_eq-Decides}
 use Rattle.edfclaim.specs.Lists.{Has}
+use Rattle.edfclaim.specs.Labels.{IsLeast}
 use Rattle.edfclaim.specs.Heads.{SignalHead, Head, is_annotations, samples_at}
 use Rattle.edfclaim.specs.Samples.{IsChannel}
-use Rattle.edfclaim.specs.Channels.{HasChannel, HasAll, IsFirstAbsent, is_channel_of, channel_place, first_absent, is_listed, is_unlisted, first_unlisted}
+use Rattle.edfclaim.specs.Channels.{HasChannel, HasAll, IsFirstAbsent, IsLeastUnlisted, is_channel_of, channel_place, first_absent, is_listed, is_unlisted, unlisted_labels}
 use Rattle.edfclaim.specs.Exports.{SameChannels}
-use Rattle.edfclaim.proofs.ListFacts.{has-at, at-has, find-none, find-some, find-first, and-true, or-true, not-true}
+use Rattle.std.proofs.lemmas.List.{drop_all}
+use Rattle.std.specs.Global.{Vec}
+use Rattle.edfclaim.specs.declared.header.Signal.{Signal}
+use Rattle.edfclaim.specs.Views.{signal_view}
+use Rattle.edfclaim.proofs.LabelFacts.{least_of, least-found}
+use Rattle.edfclaim.proofs.ListFacts.{has-at, at-has, has-map, map-has, has-filtered, filtered-has, find-none, find-first, and-true, both-true, or-true, not-true}
 
 place_chosen : (b : Bool) (k : ℕ) (o : Option ℕ) (P : Option ℕ → Type 0) → (b ≡ true → P (Some k)) → (b ≡ false → P o) → P (cond b (Some k) o)
 place_chosen true k o P f g = f refl
@@ -118,28 +124,56 @@ has-listed [] label h = absurd h
 has-listed (l ∷ labels) label (inl e) = ap (λ b. b || is_listed labels label) ((bytes_eq-Decides l label).1 e)
 has-listed (l ∷ labels) label (inr h) = or-true (bytes_eq l label) (is_listed labels label) (has-listed labels label h)
 
-pub unlisted-none : (labels : List (List ℕ)) (h : Head) (label : List ℕ) → first_unlisted labels h.signals ≡ None → HasChannel h label → Has labels label
-unlisted-none labels h label e c =
+-- a channel that isn't listed, by the tests
+has-unlisted : (labels : List (List ℕ)) (h : Head) (label : List ℕ) → HasChannel h label → is_listed labels label ≡ false → Has (unlisted_labels labels h.signals) label
+has-unlisted labels h label c f =
     let x : SignalHead = record { label = label; samples = c.1 } in
-    let f : is_unlisted labels x ≡ false = find-none (is_unlisted labels) h.signals e x (has-at h.signals c.0 x (c.2).0) in
-    listed-has labels label (listed (is_listed labels label) (is_annotations label) (c.2).1 f)
-  where
-    listed : (a b : Bool) → b ≡ false → (not a && not b) ≡ false → a ≡ true
-    listed true b p q = refl
-    listed false true p q = absurd (let t : true ≡ false = p in cc)
-    listed false false p q = absurd (let t : true ≡ false = q in cc)
+    let t : is_unlisted labels x ≡ true = both-true (not (is_listed labels label)) (not (is_annotations label)) (ap not f) (ap not (c.2).1) in
+    has-map (λ (s : SignalHead). s.label) (filter (is_unlisted labels) h.signals) x (filtered-has (is_unlisted labels) h.signals x (has-at h.signals c.0 x (c.2).0) t)
 
-pub unlisted-some : (labels : List (List ℕ)) (h : Head) (x : SignalHead) → first_unlisted labels h.signals ≡ Some x → HasChannel h x.label × (Has labels x.label → ⊥)
-unlisted-some labels h x e =
-    let r = find-some (is_unlisted labels) h.signals x e in
+unlisted-has : (labels : List (List ℕ)) (h : Head) (label : List ℕ) → Has (unlisted_labels labels h.signals) label → HasChannel h label × (Has labels label → ⊥)
+unlisted-has labels h label i =
+    let m = map-has (λ (s : SignalHead). s.label) (filter (is_unlisted labels) h.signals) label i in
+    let x = m.0 in
+    let r = has-filtered (is_unlisted labels) h.signals x m.1 in
     let both = and-true (not (is_listed labels x.label)) (not (is_annotations x.label)) r.1 in
-    let at = at-has h.signals x r.0 in (
-      (at.0, x.samples, (at.1, not-true (is_annotations x.label) both.1)),
-      λ i. let t : true ≡ false = sym (has-listed labels x.label i) ∙ not-true (is_listed labels x.label) both.0 in absurd (cc),
-    )
+    let at = at-has h.signals x r.0 in
+    let there : HasChannel h x.label = (at.0, x.samples, (at.1, not-true (is_annotations x.label) both.1)) in
+    let unlisted : Has labels x.label → ⊥ = λ j. let t : true ≡ false = sym (has-listed labels x.label j) ∙ not-true (is_listed labels x.label) both.0 in cc in
+    subst (λ l. HasChannel h l × (Has labels l → ⊥)) m.2 (there, unlisted)
+
+pub unlisted-none : (labels : List (List ℕ)) (h : Head) (label : List ℕ) → unlisted_labels labels h.signals ≡ [] → HasChannel h label → Has labels label
+unlisted-none labels h label e c = cases (is_listed labels label) refl
+  where
+    cases : (b : Bool) → is_listed labels label ≡ b → Has labels label
+    cases true t = listed-has labels label t
+    cases false f = absurd (subst (λ ls. Has ls label) e (has-unlisted labels h label c f))
+
+-- the least of the labels of the channels that aren't listed
+pub unlisted-least : (labels : List (List ℕ)) (h : Head) (label : List ℕ) → IsLeast (unlisted_labels labels h.signals) label → IsLeastUnlisted h labels label
+unlisted-least labels h label l =
+    let r = unlisted-has labels h label l.0 in
+    record {
+      there = r.0;
+      unlisted = r.1;
+      least = λ other c out. l.1 other (has-unlisted labels h other c (unlisted (is_listed labels other) other refl out));
+    }
+  where
+    unlisted : (b : Bool) (other : List ℕ) → is_listed labels other ≡ b → (Has labels other → ⊥) → is_listed labels other ≡ false
+    unlisted true other t out = absurd (out (listed-has labels other t))
+    unlisted false other f out = f
+
+-- what is held once all signals were seen
+pub least-held : (labels : List (Vec ℕ)) (signals : List Signal) (held : Option (Bor (List ℕ))) (i : ℕ) → length signals ≤ i
+    → least_of (option_map (λ label. label.now) held) (unlisted_labels (map (λ label. label.items) labels) (map signal_view (drop i signals)))
+    ≡ least_of None (unlisted_labels (map (λ label. label.items) labels) (map signal_view signals))
+    → MatchOption held (unlisted_labels (map (λ label. label.items) labels) (map signal_view signals) ≡ []) (λ label. IsLeast (unlisted_labels (map (λ label. label.items) labels) (map signal_view signals)) label.now)
+least-held labels signals held i seen same =
+    let of : List Signal → List (List ℕ) = λ left. unlisted_labels (map (λ (label : Vec ℕ). label.items) labels) (map signal_view left) in
+    least-found (of signals) held (ap (λ left. least_of (option_map (λ (label : Bor (List ℕ)). label.now) held) (of left)) (sym (drop_all i signals seen)) ∙ same)
 
 -- nothing is absent and nothing else is there
-pub same-channels : (o e : Head) (labels : List (List ℕ)) → first_absent o.signals labels ≡ None → first_absent e.signals labels ≡ None → first_unlisted labels e.signals ≡ None → SameChannels o e labels
+pub same-channels : (o e : Head) (labels : List (List ℕ)) → first_absent o.signals labels ≡ None → first_absent e.signals labels ≡ None → unlisted_labels labels e.signals ≡ [] → SameChannels o e labels
 same-channels o e labels ao ae ue = record {
   in_original = absent-all o labels ao;
   in_export = absent-all e labels ae;

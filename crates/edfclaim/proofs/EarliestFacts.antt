@@ -95,12 +95,12 @@ earliest-is-least ds p = from_zero ds (earliest 0 ds) (answers 0 ds p)
 
 -- one more channel, before those that were compared
 pub earliest-step : {X : Type 0} (f : X → Option SampleDifference) (xs : List X) (i k : ℕ) (x : X) (next : Option SampleDifference) (here held result : Option Found)
-    → i ≡ k + 1 → k < length xs → x ≡ get_or xs k x → next ≡ f x → here ≡ option_map (found k) next → result ≡ earlier here held
+    → i ≡ k + 1 → k < length xs → next ≡ f (get_or xs k x) → here ≡ option_map (found k) next → result ≡ earlier here held
     → held ≡ earliest i (map f (drop i xs)) → result ≡ earliest k (map f (drop k xs))
-earliest-step f xs i k x next here held result ei lt ex en eh er before =
-    let cut : drop k xs ≡ x ∷ drop (k + 1) xs = drop-cons xs k x lt ∙ ap (λ y. y ∷ drop (suc k) xs) (sym ex) ∙ ap (λ j. x ∷ drop j xs) (sym (add-one k)) in
+earliest-step f xs i k x next here held result ei lt en eh er before =
+    let cut : drop k xs ≡ get_or xs k x ∷ drop (k + 1) xs = drop-cons xs k x lt ∙ ap (λ j. get_or xs k x ∷ drop j xs) (sym (add-one k)) in
     er ∙ ap (λ o. earlier o held) (eh ∙ ap (option_map (found k)) en)
-    ∙ ap (earlier (option_map (found k) (f x))) (before ∙ ap (λ j. earliest j (map f (drop j xs))) ei)
+    ∙ ap (earlier (option_map (found k) (f (get_or xs k x)))) (before ∙ ap (λ j. earliest j (map f (drop j xs))) ei)
     ∙ ap (λ ys. earliest k (map f ys)) (sym cut)
 
 earlier_is : (a b : Option Found) (f : Found) → earlier a b ≡ Some f → (a ≡ Some f) ⊎ (b ≡ Some f)

@@ -11,6 +11,7 @@ pub mod SignalFacts
 pub mod SampleFacts
 pub mod EarliestFacts
 pub mod ListFacts
+pub mod LabelFacts
 pub mod MemberFacts
 pub mod RisingFacts
 pub mod ChannelFacts

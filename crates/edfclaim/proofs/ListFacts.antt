@@ -1,5 +1,8 @@
 -- What stands in a list.
 use Rattle.std.proofs.Common.{◌≡◌, ℕ, zero, suc, Bool, true, false, cond, List, [], ◌∷◌, ◌++◌, filter, Option, Some, None, slice_get, ◌⊎◌, inl, inr, ⊎_elim, refl, sym, subst, ap, ◌∙◌, ◌&&◌, ◌||◌, not, find, map, length, get_or, ◌<◌, arith}
+use Rattle.std.specs.List.{Contains}
+use Rattle.std.specs.List.Sorted.{IsPermutation}
+use Rattle.std.proofs.lemmas.List.Sorted.{Contains-permutation}
 use Rattle.edfclaim.specs.Lists.{Has}
 
 pub has-append : {X : Type 0} (xs ys : List X) (x : X) → Has (xs ++ ys) x → Has xs x ⊎ Has ys x
@@ -125,7 +128,24 @@ map-get f [] i y e = absurd (let h : None ≡ Some y = e in cc)
 map-get f (z ∷ xs) zero y e = (z, refl, (let h : Some (f z) ≡ Some y = e in cc))
 map-get f (z ∷ xs) (suc i) y e = map-get f xs i y e
 
+pub get-map : {X Y : Type 0} (f : X → Y) (xs : List X) (i : ℕ) (x : X) → slice_get xs i ≡ Some x → slice_get (map f xs) i ≡ Some (f x)
+get-map f [] i x e = absurd (let h : None ≡ Some x = e in cc)
+get-map f (z ∷ xs) zero x e = ap Some (ap f (let h : Some z ≡ Some x = e in cc))
+get-map f (z ∷ xs) (suc i) x e = get-map f xs i x e
+
 pub get-index : {X : Type 0} (xs : List X) (i : ℕ) (x d : X) → slice_get xs i ≡ Some x → get_or xs i d ≡ x
 get-index [] i x d e = absurd (let h : None ≡ Some x = e in cc)
 get-index (z ∷ xs) zero x d e = (let h : Some z ≡ Some x = e in cc)
 get-index (z ∷ xs) (suc i) x d e = get-index xs i x d e
+
+contains-has : {X : Type 0} (xs : List X) (x : X) → Contains xs x → Has xs x
+contains-has xs x c = has-at xs c.0 x (there xs c.0 x c.1 ∙ ap Some c.2)
+  where
+    there : {X : Type 0} (xs : List X) (k : ℕ) (d : X) → k < length xs → slice_get xs k ≡ Some (get_or xs k d)
+    there [] k d lt = absurd (omega (arith, lt))
+    there (z ∷ xs) zero d lt = refl
+    there (z ∷ xs) (suc k) d lt = there xs k d (omega (arith, lt))
+
+-- what stands in a list stands in its rearrangement
+pub has-permutation : {X : Type 0} (xs ys : List X) (x : X) → IsPermutation xs ys → Has xs x → Has ys x
+has-permutation xs ys x p h = let r = at-has xs x h in contains-has ys x (Contains-permutation xs ys x p (r.0, get-within xs r.0 x r.1, get-index xs r.0 x x r.1))

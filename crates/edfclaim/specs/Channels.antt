@@ -1,9 +1,10 @@
 -- The channels of a header, which are its ordinary signals, found by their labels.
-use Rattle.std.specs.Prelude.{◌≡◌, ℕ, ◌+◌, ◌<◌, Bool, not, ◌&&◌, List, [], ◌∷◌, Option, Some, slice_get, unwrap_or, option_map, take, is_none, find, if◌then◌else◌}
+use Rattle.std.specs.Prelude.{◌≡◌, ℕ, ◌+◌, ◌<◌, Bool, not, ◌&&◌, List, [], ◌∷◌, Option, Some, slice_get, unwrap_or, option_map, take, is_none, find, filter, map, if◌then◌else◌}
 use Rattle.std.specs.List.{list_any, position_from}
 use Rattle.std.specs.Option.{is_some}
 use Rattle.std.specs.Str.{bytes_eq}
 use Rattle.edfclaim.specs.Lists.{Has}
+use Rattle.edfclaim.specs.Labels.{IsNotAbove}
 use Rattle.edfclaim.specs.Heads.{SignalHead, Head, is_annotations}
 use Rattle.edfclaim.specs.Samples.{IsChannel}
 
@@ -21,6 +22,12 @@ pub record IsFirstAbsent (h : Head) (labels : List (List ℕ)) (label : List ℕ
   pub there : slice_get labels place ≡ Some label
   pub absent : HasChannel h label → ⊥
   pub first : (earlier : ℕ) (other : List ℕ) → earlier < place → slice_get labels earlier ≡ Some other → HasChannel h other
+
+-- of the channels whose label isn't one of these, the least label in the order of bytes
+pub record IsLeastUnlisted (h : Head) (labels : List (List ℕ)) (label : List ℕ) : Type 0 where
+  pub there : HasChannel h label
+  pub unlisted : Has labels label → ⊥
+  pub least : (other : List ℕ) → HasChannel h other → (Has labels other → ⊥) → IsNotAbove label other
 
 -- no two channels have one label
 abbrev pub HasDistinctChannels : Head → Type 0
@@ -54,9 +61,9 @@ is_listed labels label = list_any (λ other. bytes_eq other label) labels
 abbrev pub is_unlisted : List (List ℕ) → SignalHead → Bool
 is_unlisted labels signal = not (is_listed labels signal.label) && not (is_annotations signal.label)
 
--- the first channel whose label isn't one of these
-abbrev pub first_unlisted : List (List ℕ) → List SignalHead → Option SignalHead
-first_unlisted labels signals = find (is_unlisted labels) signals
+-- the labels of the channels whose label isn't one of these, in file order
+abbrev pub unlisted_labels : List (List ℕ) → List SignalHead → List (List ℕ)
+unlisted_labels labels signals = map (λ signal. signal.label) (filter (is_unlisted labels) signals)
 
 -- how many channels there are
 abbrev pub channel_count : List SignalHead → ℕ

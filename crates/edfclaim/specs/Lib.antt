@@ -1,4 +1,5 @@
 pub mod Lists
+pub mod Labels
 pub mod Instants
 pub mod Differences
 pub mod Lanes

@@ -5,12 +5,13 @@ use Rattle.edfclaim.specs.declared.difference.Mismatch.{Mismatch}
 use Rattle.edfclaim.specs.declared.verdict.Verdict.{Verdict}
 use Rattle.edfclaim.specs.declared.verdict.Verdict.TheVariants.{Yes, No}
 use Rattle.edfclaim.specs.declared.verdict.Difference.TheVariants.{OriginalFault, ExportFault, UnknownChannel, MissingChannel, ExtraChannel, Sample}
-use Rattle.edfclaim.specs.Instants.{IsBefore}
+use Rattle.edfclaim.specs.Instants.{IsBefore, IsSame}
 use Rattle.edfclaim.specs.Lists.{Has}
+use Rattle.edfclaim.specs.Labels.{IsNotAbove}
 use Rattle.edfclaim.specs.Heads.{Head, head_of}
 use Rattle.edfclaim.specs.Samples.{IsSample}
 use Rattle.edfclaim.specs.Timekeeping.{start_at}
-use Rattle.edfclaim.specs.Channels.{HasChannel, HasAll, IsFirstAbsent, channel_count, channel_samples_together}
+use Rattle.edfclaim.specs.Channels.{HasAll, IsFirstAbsent, IsLeastUnlisted, channel_count, channel_samples_together}
 use Rattle.edfclaim.specs.Claims.{Terms}
 use Rattle.edfclaim.specs.Exports.{SameChannels, SameSamples, IsKept, DifferAt, floor_of}
 use Rattle.edfclaim.specs.Compare.{Timed}
@@ -47,18 +48,24 @@ IsUnknown original export claim label = IsFirstAbsent original.head claim.channe
 abbrev pub IsMissing : Timed → Timed → Terms → List ℕ → Type 0
 IsMissing original export claim label = HasAll original.head claim.channels × IsFirstAbsent export.head claim.channels label
 
--- a channel of the export that isn't claimed; none is unknown or missing
+-- of the channels of the export that aren't claimed, the least label; none is unknown or missing
 abbrev pub IsExtra : Timed → Timed → Terms → List ℕ → Type 0
 IsExtra original export claim label =
-    HasAll original.head claim.channels × HasAll export.head claim.channels × HasChannel export.head label × (Has claim.channels label → ⊥)
+    HasAll original.head claim.channels × HasAll export.head claim.channels × IsLeastUnlisted export.head claim.channels label
 
 -- what is kept and what is exported differ at no instant before this one, in any channel
 abbrev pub NoneBefore : Timed → Timed → Terms → Instant → Type 0
 NoneBefore original export claim at =
     (label : List ℕ) (t : Instant) (mismatch : Mismatch) → 0 < t.den → DifferAt (kept_in original claim) (samples_in export) label t mismatch → IsBefore t at → ⊥
 
--- what is kept and what is exported differ at an instant of a channel, whose floor is this, and at none
--- before it; the channels are as claimed
+-- where what is kept and what is exported differ at this very instant in a channel, this label isn't above
+-- the channel's
+abbrev pub NoneBelow : Timed → Timed → Terms → Instant → List ℕ → Type 0
+NoneBelow original export claim at label =
+    (other : List ℕ) (t : Instant) (mismatch : Mismatch) → 0 < t.den → IsSame t at → DifferAt (kept_in original claim) (samples_in export) other t mismatch → IsNotAbove label other
+
+-- what is kept and what is exported differ at an instant of a channel, whose floor is this, at none before
+-- it, and at it in no channel of a lower label; the channels are as claimed
 pub record HasDifference (original export : Timed) (claim : Terms) (label : List ℕ) (at_ps : ℤ) (mismatch : Mismatch) : Type 0 where
   pub channels : SameChannels original.head export.head claim.channels
   pub claimed : Has claim.channels label
@@ -67,6 +74,7 @@ pub record HasDifference (original export : Timed) (claim : Terms) (label : List
   pub floor : at_ps ≡ floor_of at
   pub differ : DifferAt (kept_in original claim) (samples_in export) label at mismatch
   pub none_before : NoneBefore original export claim at
+  pub none_below : NoneBelow original export claim at label
 
 -- the verdict on two files that pass their tests
 abbrev pub IsFound : Timed → Timed → Terms → Verdict → Type 0

@@ -1,13 +1,15 @@
 //! The channels of a header, found by their labels.
 
-ghost use Rattle.std.specs.Prelude.{◌≡◌, ◌+◌, ◌<◌, ◌≤◌, ◌*◌, ◌^◌, length, map, IfSome, option_map};
+ghost use Rattle.std.specs.Prelude.{◌≡◌, ◌+◌, ◌<◌, ◌≤◌, ◌*◌, ◌^◌, length, map, IfSome, MatchOption, option_map, []};
 ghost use Rattle.std.specs.List.{All};
 ghost use Rattle.std.specs.Str.{bytes_eq};
+ghost use Rattle.edfclaim.specs.Labels.{IsLeast};
 ghost use Rattle.edfclaim.specs.Heads.{is_annotations};
-ghost use Rattle.edfclaim.specs.Channels.{is_channel_of, is_repeated, channel_place, first_absent, is_listed, is_unlisted, first_unlisted, channel_count, channel_samples_together};
+ghost use Rattle.edfclaim.specs.Channels.{is_channel_of, is_repeated, channel_place, first_absent, is_listed, unlisted_labels, channel_count, channel_samples_together};
 ghost use Rattle.edfclaim.specs.Views.{signal_view};
 
 use crate::header::Signal;
+use crate::labels::lower;
 
 impl Signal {
     /// Whether the signal is a channel of this label.
@@ -64,16 +66,18 @@ fn is_listed(labels: &[Vec<u8>], label: &[u8]) -> bool
     false
 }
 
-/// The first channel whose label isn't one of these.
-pub fn first_unlisted<'a>(labels: &[Vec<u8>], signals: &'a [Signal]) -> Option<&'a Signal>
-    ensures { option_map (λ signal. signal_view signal.now) result ≡ first_unlisted (map (λ label. label.items) labels.now) (map signal_view signals.entry.now) }
+/// The least label, in the order of bytes, of the channels whose label isn't one of these.
+pub fn least_unlisted<'a>(labels: &[Vec<u8>], signals: &'a [Signal]) -> Option<&'a [u8]>
+    ensures { let unlisted = unlisted_labels (map (λ label. label.items) labels.now) (map signal_view signals.entry.now) in
+        MatchOption result (unlisted ≡ []) (λ label. IsLeast unlisted label.now) }
 {
+    let mut least = None;
     for signal in signals {
         if !is_listed(labels, &signal.label) && !signal.is_annotations() {
-            return Some(signal);
+            least = Some(lower(least, &signal.label));
         }
     }
-    None
+    least
 }
 
 /// How many channels there are.

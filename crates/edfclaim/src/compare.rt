@@ -98,7 +98,7 @@ fn difference_of_label(
     Ok(channel_difference(&kept, n, &samples, m))
 }
 
-/// The earliest difference of the channels of these labels.
+/// The earliest difference of the channels of these labels, at one instant that of the first label.
 ///
 /// The error is want of memory.
 pub fn sample_difference(
@@ -106,18 +106,18 @@ pub fn sample_difference(
     original: &EdfFile,
     export: &EdfFile,
     claim: &Claim,
-    labels: &[Vec<u8>],
+    labels: &[&[u8]],
 ) -> Result<Option<Found>, AllocError>
     requires original { IsLoaded original.now }
     requires export { IsLoaded export.now }
-    ensures value { IfOk result (λ d. d ≡ earliest 0 (map (λ label. label_difference claim.now.keep (timed_view original.now) (timed_view export.now) label.items) labels.now)) }
+    ensures value { IfOk result (λ d. d ≡ earliest 0 (map (λ label. label_difference claim.now.keep (timed_view original.now) (timed_view export.now) label.now) labels.now)) }
     ensures small { IfOk result (λ d. IfSome d (λ f. IsSmall f.difference.at)) }
 {
     let mut held = None;
     let mut i = labels.len();
     while i > 0 {
         i -= 1;
-        let next = difference_of_label(alloc, original, export, claim, &labels[i])?;
+        let next = difference_of_label(alloc, original, export, claim, labels[i])?;
         held = earlier(found_in(i, next), held);
     }
     Ok(held)

@@ -1,18 +1,21 @@
 //! The verdict on two files that passed their tests.
 
 ghost use Rattle.std.specs.Prelude.{◌≡◌, ◌*◌, ◌<◌, ◌≤◌, ◌^◌, length, map, pos, IfOk, MatchOption};
+ghost use Rattle.std.specs.List.Sorted.{IsPermutation};
+ghost use Rattle.edfclaim.specs.Labels.{AreRising};
 ghost use Rattle.edfclaim.specs.Exports.{floor_of, SameChannels};
 ghost use Rattle.edfclaim.specs.Views.{header_view};
 ghost use Rattle.edfclaim.specs.Judged.{IsLoaded};
 ghost use Rattle.edfclaim.specs.Loaded.{timed_view, IsYesOf, IsSampleVerdict};
 ghost use Rattle.edfclaim.specs.Verdicts.{IsFound};
 
-use crate::channels::{channel_count, channel_samples_together, first_absent, first_unlisted};
+use crate::channels::{channel_count, channel_samples_together, first_absent, least_unlisted};
 use crate::claim::Claim;
 use crate::compare::sample_difference;
 use crate::difference::SampleDifference;
 use crate::file::EdfFile;
 use crate::instant::Instant;
+use crate::labels::in_order;
 use crate::verdict::{Difference, Verdict};
 use std::alloc::{AllocError, Global};
 
@@ -81,11 +84,35 @@ pub fn channel_verdict(
         let label = Vec::from_slice(alloc, label)?;
         return Ok(Some(Verdict::No(Difference::MissingChannel(label))));
     }
-    if let Some(signal) = first_unlisted(claimed, &export.header.signals) {
-        let label = Vec::from_slice(alloc, &signal.label)?;
+    if let Some(label) = least_unlisted(claimed, &export.header.signals) {
+        let label = Vec::from_slice(alloc, label)?;
         return Ok(Some(Verdict::No(Difference::ExtraChannel(label))));
     }
     Ok(None)
+}
+
+/// The verdict on the samples of two files whose channels are as claimed, by the claimed labels in the
+/// order of their bytes.
+///
+/// The error is want of memory.
+fn verdict_by_labels(
+    alloc: Global,
+    original: &EdfFile,
+    export: &EdfFile,
+    claim: &Claim,
+    labels: &[&[u8]],
+) -> Result<Verdict, AllocError>
+    requires original { IsLoaded original.now }
+    requires export { IsLoaded export.now }
+    requires channels { SameChannels (header_view original.now.header) (header_view export.now.header) claim.now.channels }
+    requires rearranged { IsPermutation claim.now.channels (map (λ label. label.now) labels.now) }
+    requires rising { AreRising (map (λ label. label.now) labels.now) }
+    ensures { IfOk result (IsFound (timed_view original.now) (timed_view export.now) claim.now) }
+{
+    match sample_difference(alloc, original, export, claim, labels)? {
+        Some(found) => sample_verdict(alloc, labels[found.channel], found.difference),
+        None => Ok(yes(export)),
+    }
 }
 
 /// The verdict on the samples of two files whose channels are as claimed.
@@ -102,11 +129,8 @@ fn samples_verdict(
     requires channels { SameChannels (header_view original.now.header) (header_view export.now.header) claim.now.channels }
     ensures { IfOk result (IsFound (timed_view original.now) (timed_view export.now) claim.now) }
 {
-    let claimed = claim.channels();
-    match sample_difference(alloc, original, export, claim, claimed)? {
-        Some(found) => sample_verdict(alloc, &claimed[found.channel], found.difference),
-        None => Ok(yes(export)),
-    }
+    let labels = in_order(alloc, claim.channels())?;
+    verdict_by_labels(alloc, original, export, claim, &labels)
 }
 
 /// The verdict on two files that passed their tests.

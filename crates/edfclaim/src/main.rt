@@ -23,6 +23,7 @@ pub mod header;
 pub mod instant;
 pub mod judge;
 pub mod judge_record;
+pub mod labels;
 pub mod laws;
 pub mod layout;
 pub mod line;

@@ -4,6 +4,7 @@
 mod channels;
 mod differences;
 mod faults;
+mod labels;
 mod rows;
 mod samples;
 mod scarce;

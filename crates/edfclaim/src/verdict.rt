@@ -27,9 +27,11 @@ pub enum Difference {
     UnknownChannel(Vec<u8>),
     /// A channel with this label is claimed, but is not in the export.
     MissingChannel(Vec<u8>),
-    /// A channel with this label is in the export, but is not claimed.
+    /// A channel with this label is in the export, but is not claimed; no such channel has a lower label
+    /// in the order of bytes.
     ExtraChannel(Vec<u8>),
-    /// At one instant of a channel a sample is missing, extra or has two values.
+    /// At one instant of a channel a sample is missing, extra or has two values. It is the earliest such
+    /// instant of all channels, and no channel of a lower label differs at it.
     Sample {
         label: Vec<u8>,
         /// The floor of the instant, in picoseconds after the original's start.
