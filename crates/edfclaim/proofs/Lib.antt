@@ -19,3 +19,4 @@ pub mod BridgeFacts
 pub mod FindFacts
 pub mod PartnerFacts
 pub mod SlowFacts
+pub mod VectorsFacts
