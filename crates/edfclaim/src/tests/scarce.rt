@@ -19,7 +19,7 @@ type Blocks = Vec<Vec<u8>>;
 const BLOCKS: usize = 250_000;
 
 /// The most steps.
-const STEPS: usize = 1000;
+const STEPS: usize = 2000;
 
 /// The size of the region that a step gives back, of which it leaves a part.
 const REGION: usize = 1 << 15;
