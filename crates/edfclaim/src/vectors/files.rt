@@ -17,6 +17,7 @@ pub struct TempFile<'a> {
     pub duration: &'a str,
     /// The number of samples of `Temp` in a data record.
     pub samples: &'a str,
+    /// What the data records hold, in their order.
     pub contents: &'a [DataRecord<'a>],
 }
 
