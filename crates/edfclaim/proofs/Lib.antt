@@ -25,3 +25,4 @@ pub mod KeepsFacts
 pub mod StartFacts
 pub mod TimeFacts
 pub mod RepeatFacts
+pub mod VectorsFacts

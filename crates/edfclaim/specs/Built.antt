@@ -1,11 +1,13 @@
 -- Small files, as they are built.
-use Rattle.std.specs.Prelude.{ℕ, ℤ, ◌-◌, ◌*◌, List, [], ◌∷◌, ◌++◌, length, replicate, codes}
+use Rattle.std.specs.Prelude.{ℕ, ℤ, pos, negsuc, ◌-◌, ◌*◌, List, [], ◌∷◌, ◌++◌, length, map, replicate, codes}
 use Rattle.std.specs.Int.{w16, cast_unsigned, to_le_bytes}
 use Rattle.std.specs.List.{flat_map}
 use Rattle.edfclaim.specs.declared.layout.SignalField.{SignalField}
 use Rattle.edfclaim.specs.declared.layout.SignalField.TheVariants as signal
 use Rattle.edfclaim.specs.declared.vectors.build.SignalText.{SignalText}
 use Rattle.edfclaim.specs.declared.vectors.build.HeaderText.{HeaderText}
+use Rattle.edfclaim.specs.declared.vectors.build.DataRecord.{DataRecord}
+use Rattle.edfclaim.specs.declared.vectors.files.TempFile.{TempFile}
 use Rattle.edfclaim.specs.Layout.{column_width, columns}
 
 -- a text and copies of one byte behind it, so many bytes in all
@@ -37,24 +39,29 @@ two first second width = padded first 32 width ++ (padded second 32 width ++ [])
 abbrev pub columns_text : List SignalText → List SignalField → List ℕ
 columns_text signals fields = flat_map (λ field. column_text signals field) fields
 
--- the fixed part of a header; the texts that aren't named are the same in all
-abbrev pub fixed_text : HeaderText → List ℕ
-fixed_text header =
+-- the fixed part of a header: how many bytes the header has, the reserved field, how many data records,
+-- how many seconds each, how many signals; the other texts are the same in all files
+unfoldable pub fixed_text : List ℕ → List ℕ → List ℕ → List ℕ → List ℕ → List ℕ
+fixed_text header_bytes reserved records duration signals =
     padded (codes "0") 32 8
     ++ (padded (codes "MCH-0234567 F 02-MAY-1951 Haagse_Harry") 32 80
     ++ (padded (codes "Startdate 02-MAR-2002 PSG-1234/2002 NN Telemetry03") 32 80
     ++ (padded (codes "02.03.02") 32 8
     ++ (padded (codes "22.00.00") 32 8
-    ++ (padded header.header_bytes.now 32 8
-    ++ (padded header.reserved.now 32 44
-    ++ (padded header.records.now 32 8
-    ++ (padded header.duration.now 32 8
-    ++ (padded header.count.now 32 4
+    ++ (padded header_bytes 32 8
+    ++ (padded reserved 32 44
+    ++ (padded records 32 8
+    ++ (padded duration 32 8
+    ++ (padded signals 32 4
     ++ [])))))))))
 
--- a header
+-- the same, in the words of the code
+abbrev pub fixed_of : HeaderText → List ℕ
+fixed_of header = fixed_text header.header_bytes.now header.reserved.now header.records.now header.duration.now header.count.now
+
+-- a header, in the words of the code
 abbrev pub header_text : HeaderText → List ℕ
-header_text header = fixed_text header ++ columns_text header.signals.now columns
+header_text header = fixed_of header ++ columns_text header.signals.now columns
 
 -- the two bytes of a sample, the low one first
 abbrev pub value_bytes : ℤ → List ℕ
@@ -64,28 +71,30 @@ value_bytes value = to_le_bytes w16 (cast_unsigned w16 value)
 abbrev pub values_bytes : List ℤ → List ℕ
 values_bytes values = flat_map value_bytes values
 
--- a file of one data record: a header, the samples of the channels, and a lane of 16 samples
-abbrev pub file_bytes : HeaderText → List ℤ → List ℕ → List ℕ
-file_bytes header values annotations = header_text header ++ (values_bytes values ++ padded annotations 0 (2 * 16))
+-- a lane of 16 samples that tells the start of its data record and nothing else
+abbrev pub lane_bytes : List ℕ → List ℕ
+lane_bytes start = padded (start ++ (20 ∷ 20 ∷ 0 ∷ [])) 0 (2 * 16)
 
--- the fixed part of the small file, field by field
-unfoldable pub small_fixed : List ℕ
-small_fixed =
-    padded (codes "0") 32 8
-    ++ (padded (codes "MCH-0234567 F 02-MAY-1951 Haagse_Harry") 32 80
-    ++ (padded (codes "Startdate 02-MAR-2002 PSG-1234/2002 NN Telemetry03") 32 80
-    ++ (padded (codes "02.03.02") 32 8
-    ++ (padded (codes "22.00.00") 32 8
-    ++ (padded (codes "768") 32 8
-    ++ (padded (codes "EDF+C") 32 44
-    ++ (padded (codes "1") 32 8
-    ++ (padded (codes "1") 32 8
-    ++ (padded (codes "2") 32 4
-    ++ [])))))))))
+-- what a data record holds: the samples of the channels, and the text of its start
+pub record Content : Type 0 where
+  pub values : List ℤ
+  pub start : List ℕ
 
--- its ten columns, each with a field of the channel and one of the annotation signal
-unfoldable pub small_columns : List ℕ
-small_columns =
+-- the bytes of a data record: its samples, then its lane
+abbrev pub content_bytes : Content → List ℕ
+content_bytes content = values_bytes content.values ++ lane_bytes content.start
+
+-- those of data records, one behind the other
+abbrev pub contents_bytes : List Content → List ℕ
+contents_bytes contents = flat_map content_bytes contents
+
+-- the contents of data records, in the words of the code
+abbrev pub contents_of : List DataRecord → List Content
+contents_of records = map (λ r. record { values = r.values.now; start = r.start.now }) records
+
+-- the ten columns of a header with a channel `Temp` and an annotation signal, each with a field of both
+unfoldable pub temp_columns : List ℕ → List ℕ
+temp_columns samples =
     two (codes "Temp") (codes "EDF Annotations") 16
     ++ (two [] [] 80
     ++ (two (codes "degC") [] 8
@@ -94,10 +103,48 @@ small_columns =
     ++ (two (codes "-2048") (codes "-32768") 8
     ++ (two (codes "2047") (codes "32767") 8
     ++ (two [] [] 80
-    ++ (two (codes "2") (codes "16") 8
+    ++ (two samples (codes "16") 8
     ++ (two [] [] 32
     ++ [])))))))))
 
--- the small file: one data record of 1 s with two samples of a channel `Temp`, 7 and -7
+-- a Temp file: so many data records, each of so many seconds, with so many samples of the channel `Temp`,
+-- and what each of them holds
+abbrev pub temp_file : List ℕ → List ℕ → List ℕ → List Content → List ℕ
+temp_file records duration samples contents =
+    (fixed_text (codes "768") (codes "EDF+C") records duration (codes "2") ++ temp_columns samples) ++ contents_bytes contents
+
+-- a Temp file, in the words of the code
+abbrev pub file_of : TempFile → List ℕ
+file_of file = temp_file file.records.now file.duration.now file.samples.now (contents_of file.contents.now)
+
+-- a data record that holds these samples and begins at this start
+abbrev pub from : List ℕ → List ℤ → Content
+from start values = record { values = values; start = start }
+
+-- one data record of 1 s, values 7 and -7
 abbrev pub small_file : List ℕ
-small_file = (small_fixed ++ small_columns) ++ ((7 ∷ 0 ∷ 249 ∷ 255 ∷ []) ++ padded (codes "+0" ++ (20 ∷ 20 ∷ 0 ∷ [])) 0 32)
+small_file = temp_file (codes "1") (codes "1") (codes "2") (from (codes "+0") (pos 7 ∷ negsuc 6 ∷ []) ∷ [])
+
+-- 6 s with a sample each, values 1 to 6, in data records of 2 s
+abbrev pub two_second_file : List ℕ
+two_second_file =
+    temp_file (codes "3") (codes "2") (codes "2")
+    (from (codes "+0") (pos 1 ∷ pos 2 ∷ []) ∷ from (codes "+2") (pos 3 ∷ pos 4 ∷ []) ∷ from (codes "+4") (pos 5 ∷ pos 6 ∷ []) ∷ [])
+
+-- the same samples in data records of 3 s
+abbrev pub three_second_file : List ℕ
+three_second_file =
+    temp_file (codes "2") (codes "3") (codes "3")
+    (from (codes "+0") (pos 1 ∷ pos 2 ∷ pos 3 ∷ []) ∷ from (codes "+3") (pos 4 ∷ pos 5 ∷ pos 6 ∷ []) ∷ [])
+
+-- of those data records the first sample alone
+abbrev pub sparse_file : List ℕ
+sparse_file = temp_file (codes "2") (codes "3") (codes "1") (from (codes "+0") (pos 1 ∷ []) ∷ from (codes "+3") (pos 4 ∷ []) ∷ [])
+
+-- one data record of 1 s, values 1, 2 and 3
+abbrev pub three_value_file : List ℕ
+three_value_file = temp_file (codes "1") (codes "1") (codes "3") (from (codes "+0") (pos 1 ∷ pos 2 ∷ pos 3 ∷ []) ∷ [])
+
+-- the same with 9 in the place of 2
+abbrev pub changed_file : List ℕ
+changed_file = temp_file (codes "1") (codes "1") (codes "3") (from (codes "+0") (pos 1 ∷ pos 9 ∷ pos 3 ∷ []) ∷ [])

@@ -1,6 +1,7 @@
 //! How a report ended.
 
-ghost use Rattle.std.specs.Prelude.{◌≡◌};
+ghost use Rattle.std.specs.Prelude.{◌≡◌, ◌↔◌};
+ghost use Rattle.edfclaim.specs.declared.report.Outcome.TheVariants as outcomes;
 ghost use Rattle.edfclaim.specs.declared.report.ReportStop.TheVariants as stops;
 
 use edf_fields::sink::WriteFault;
@@ -11,6 +12,18 @@ use std::alloc::{AllocError, AllocFailed};
 pub enum Outcome {
     Yes,
     No,
+}
+
+impl Outcome {
+    /// What two parts of a report found together: `Yes` where both found it.
+    pub fn and(self, other: Outcome) -> Outcome
+        ensures { (result ≡ outcomes.Yes) ↔ ((self ≡ outcomes.Yes) × (other ≡ outcomes.Yes)) }
+    {
+        match self {
+            Outcome::Yes => other,
+            Outcome::No => Outcome::No,
+        }
+    }
 }
 
 /// Why a report stopped before its end.

@@ -1,11 +1,14 @@
 //! Building small EDF+ files in memory.
 
 ghost use Rattle.std.specs.Prelude.{◌≡◌, ◌<◌, ◌*◌, ◌^◌, ◌++◌, OnOk};
-ghost use Rattle.edfclaim.specs.Built.{padded, signal_text, column_text, columns_text, values_bytes, fixed_text, header_text, file_bytes};
+ghost use Rattle.edfclaim.specs.Built.{padded, signal_text, column_text, columns_text, values_bytes, fixed_of, header_text, lane_bytes, contents_bytes, contents_of};
 ghost use Rattle.std.specs.List.{All, flat_map};
 
 use crate::layout::{COLUMNS, SignalField};
 use std::alloc::AllocError;
+
+/// How many bytes the lane of an annotation signal has: 16 samples.
+const LANE_BYTES: usize = 32;
 
 /// The texts of the fixed part that differ from file to file; the others are the same in all.
 #[derive(Clone, Copy)]
@@ -48,6 +51,15 @@ impl<'a> SignalText<'a> {
             SignalField::Reserved => "",
         }
     }
+}
+
+/// What a data record holds.
+#[derive(Clone, Copy)]
+pub struct DataRecord<'a> {
+    /// The samples of the channels, as digital values.
+    pub values: &'a [i16],
+    /// When it starts, in seconds, as its lane tells it.
+    pub start: &'a str,
 }
 
 /// Puts the text behind the file, and copies of `fill` up to `width` bytes in all.
@@ -101,8 +113,9 @@ fn push_texts(file: &mut Vec<u8>, texts: &[(&str, usize)]) -> Result<(), AllocEr
 }
 
 /// Puts the fixed part of a header behind the file.
+#[tactic(auto, unfolding(crate::specs::Built::fixed_text))]
 fn push_fixed(file: &mut Vec<u8>, header: &HeaderText) -> Result<(), AllocError>
-    ensures { OnOk result (file.new.items ≡ file.old.items ++ fixed_text header.now) }
+    ensures { OnOk result (file.new.items ≡ file.old.items ++ fixed_of header.now) }
 {
     let recording = "Startdate 02-MAR-2002 PSG-1234/2002 NN Telemetry03";
     push_texts(
@@ -123,6 +136,7 @@ fn push_fixed(file: &mut Vec<u8>, header: &HeaderText) -> Result<(), AllocError>
 }
 
 /// Puts a header behind the file.
+#[tactic(auto, unfolding(crate::specs::Layout::columns))]
 fn push_header(file: &mut Vec<u8>, header: &HeaderText) -> Result<(), AllocError>
     ensures { OnOk result (file.new.items ≡ file.old.items ++ header_text header.now) }
 {
@@ -141,25 +155,40 @@ fn push_values(file: &mut Vec<u8>, values: &[i16]) -> Result<(), AllocError>
     Ok(())
 }
 
-/// Puts the lane of an annotation signal with `samples` samples behind the file: the text, then zeros.
-fn push_annotations(file: &mut Vec<u8>, text: &[u8], samples: u16) -> Result<(), AllocError>
-    ensures { OnOk result (file.new.items ≡ file.old.items ++ padded text.now 0 (2 * samples)) }
+/// Puts a lane of 32 bytes behind the file that tells only when its data record starts: the start, an
+/// empty annotation, and zeros.
+fn push_lane(file: &mut Vec<u8>, start: &str) -> Result<(), AllocError>
+    ensures { OnOk result (file.new.items ≡ file.old.items ++ lane_bytes start.now) }
 {
-    push_padded(file, text, 0, 2 * usize::from(samples))
+    file.extend_from_slice(start.as_bytes())?;
+    push_padded(
+        file,
+        b"\x14\x14\0",
+        0,
+        LANE_BYTES.saturating_sub(start.len()),
+    )
 }
 
-/// Puts a file of one data record behind `file`: a header, the samples of the channels, and the lane of
-/// an annotation signal with 16 samples.
+/// Puts data records behind the file: of each the samples, then the lane.
+fn push_contents(file: &mut Vec<u8>, contents: &[DataRecord]) -> Result<(), AllocError>
+    ensures { OnOk result (file.new.items ≡ file.old.items ++ contents_bytes (contents_of contents.now)) }
+{
+    for record in contents {
+        push_values(file, record.values)?;
+        push_lane(file, record.start)?;
+    }
+    Ok(())
+}
+
+/// Puts a file behind `file`: a header, and the data records. The error is want of memory.
 pub fn push_file(
     file: &mut Vec<u8>,
     header: &HeaderText,
-    values: &[i16],
-    annotations: &[u8],
+    contents: &[DataRecord],
 ) -> Result<(), AllocError>
-    ensures { OnOk result (file.new.items ≡ file.old.items ++ file_bytes header.now values.now annotations.now) }
+    ensures { OnOk result (file.new.items ≡ file.old.items ++ (header_text header.now ++ contents_bytes (contents_of contents.now))) }
 {
     push_header(file, header)?;
-    push_values(file, values)?;
-    push_annotations(file, annotations, 16)?;
+    push_contents(file, contents)?;
     Ok(())
 }
