@@ -2,39 +2,40 @@
 
 use crate::claim::Claim;
 use crate::tests::support::{
-    AT_ZERO, Column, Lane, Shape, annotations, channel, file_of, line_of, six_seconds, small_file,
+    Column, Shape, annotations, channel, header_of, line_of, push_start, push_values, six_seconds,
+    small_file,
 };
 use std::alloc::{AllocError, Global};
 use std::test::Fail;
 
-/// A file of one data record of 1 s with two channels and an annotation signal behind them.
-const fn two_channels<'a>(columns: &'a [Column<'a>], lanes: &'a [Lane<'a>]) -> Shape<'a> {
+/// The header of a file of one data record of 1 s with three signals.
+const fn three_signals<'a>(columns: &'a [Column<'a>]) -> Shape<'a> {
     Shape {
         header_bytes: "1024",
         records: "1",
         duration: "1",
         count: "3",
         columns,
-        lanes,
     }
 }
 
-/// The small file with a channel `Flow` of one sample in front: 1,062 bytes.
+/// A channel `Flow` with one sample in a data record.
+const FLOW: Column<'static> = Column {
+    label: "Flow",
+    dimension: "L/s",
+    physical: ("-1", "1"),
+    digital: ("-2048", "2047"),
+    samples: "1",
+};
+
+/// The small file with a channel `Flow` in front, value 5: 1,062 bytes.
 fn flow_file(alloc: Global) -> Result<Vec<u8>, AllocError> {
-    let flow = Column {
-        label: "Flow",
-        dimension: "L/s",
-        physical: ("-1", "1"),
-        digital: ("-2048", "2047"),
-        samples: "1",
-    };
-    file_of(
-        alloc,
-        two_channels(
-            &[flow, channel("Temp", "2"), annotations("16")],
-            &[Lane::Values(&[5]), Lane::Values(&[7, -7]), AT_ZERO],
-        ),
-    )
+    let columns = [FLOW, channel("Temp", "2"), annotations("16")];
+    let mut file = header_of(alloc, three_signals(&columns))?;
+    push_values(&mut file, &[5])?;
+    push_values(&mut file, &[7, -7])?;
+    push_start(&mut file, "+0")?;
+    Ok(file)
 }
 
 #[test]
@@ -101,40 +102,40 @@ fn finds_every_claimed_channel(rt: HostRuntime) -> Result<(), Fail> {
     Ok(())
 }
 
-/// A file with three channels of these labels and one sample each.
-fn three_labels(alloc: Global, labels: [&str; 3], values: [i16; 3]) -> Result<Vec<u8>, AllocError> {
+/// A file of one data record with three channels of one sample, an annotation signal before the last of
+/// them: the labels and values.
+fn three_channels(
+    alloc: Global,
+    labels: [&str; 3],
+    values: [i16; 3],
+) -> Result<Vec<u8>, AllocError> {
     let [a, b, c] = labels;
     let [x, y, z] = values;
-    file_of(
-        alloc,
-        Shape {
-            header_bytes: "1280",
-            records: "1",
-            duration: "1",
-            count: "4",
-            columns: &[
-                channel(a, "1"),
-                channel(b, "1"),
-                annotations("16"),
-                channel(c, "1"),
-            ],
-            lanes: &[
-                Lane::Values(&[x]),
-                Lane::Values(&[y]),
-                AT_ZERO,
-                Lane::Values(&[z]),
-            ],
-        },
-    )
+    let columns = [
+        channel(a, "1"),
+        channel(b, "1"),
+        annotations("16"),
+        channel(c, "1"),
+    ];
+    let shape = Shape {
+        header_bytes: "1280",
+        count: "4",
+        ..three_signals(&columns)
+    };
+    let mut file = header_of(alloc, shape)?;
+    push_values(&mut file, &[x, y])?;
+    push_start(&mut file, "+0")?;
+    push_values(&mut file, &[z])?;
+    Ok(file)
 }
 
 #[test]
 fn names_the_least_label(rt: HostRuntime) -> Result<(), Fail> {
     let alloc = rt.alloc();
-    let original = three_labels(alloc, ["b", "ab", "B"], [1, 2, 3])?;
-    let others = three_labels(alloc, ["b", "ab", "B"], [0, 0, 0])?;
-    let moved = three_labels(alloc, ["B", "b", "ab"], [0, 0, 0])?;
-    let two = three_labels(alloc, ["ab", "b", "B"], [0, 0, 3])?;
+    let original = three_channels(alloc, ["b", "ab", "B"], [1, 2, 3])?;
+    let others = three_channels(alloc, ["b", "ab", "B"], [0, 0, 0])?;
+    let moved = three_channels(alloc, ["B", "b", "ab"], [0, 0, 0])?;
+    let two = three_channels(alloc, ["ab", "b", "B"], [0, 0, 3])?;
     let all = Claim::plain(alloc, &[b"b", b"ab", b"B"], 0, 6_000_000_000_000)?;
     let one = Claim::plain(alloc, &[b"ab"], 0, 6_000_000_000_000)?;
     let other = Claim::plain(alloc, &[b"B"], 0, 6_000_000_000_000)?;
@@ -171,13 +172,12 @@ fn names_the_least_label(rt: HostRuntime) -> Result<(), Fail> {
 
 /// A file with a channel `slow` of 2 and a channel `fast` of 3 samples a data record.
 fn two_rates(alloc: Global, slow: [i16; 2], fast: [i16; 3]) -> Result<Vec<u8>, AllocError> {
-    file_of(
-        alloc,
-        two_channels(
-            &[channel("slow", "2"), channel("fast", "3"), annotations("16")],
-            &[Lane::Values(&slow), Lane::Values(&fast), AT_ZERO],
-        ),
-    )
+    let columns = [channel("slow", "2"), channel("fast", "3"), annotations("16")];
+    let mut file = header_of(alloc, three_signals(&columns))?;
+    push_values(&mut file, &slow)?;
+    push_values(&mut file, &fast)?;
+    push_start(&mut file, "+0")?;
+    Ok(file)
 }
 
 #[test]
@@ -223,26 +223,21 @@ fn names_the_earliest_instant_of_all_channels(rt: HostRuntime) -> Result<(), Fai
     Ok(())
 }
 
-/// A file whose four signals have these labels; each annotation lane says that its record starts at 0 s,
-/// or nothing.
+/// The header of a file whose four signals have these labels, the third of them so many samples.
 fn four_labels(alloc: Global, labels: [&str; 4], samples: &str) -> Result<Vec<u8>, AllocError> {
     let [a, b, c, d] = labels;
-    file_of(
-        alloc,
-        Shape {
-            header_bytes: "1280",
-            records: "1",
-            duration: "1",
-            count: "4",
-            columns: &[
-                channel(a, "1"),
-                channel(b, "1"),
-                channel(c, samples),
-                channel(d, "1"),
-            ],
-            lanes: &[],
-        },
-    )
+    let columns = [
+        channel(a, "1"),
+        channel(b, "1"),
+        channel(c, samples),
+        channel(d, "1"),
+    ];
+    let shape = Shape {
+        header_bytes: "1280",
+        count: "4",
+        ..three_signals(&columns)
+    };
+    header_of(alloc, shape)
 }
 
 #[test]

@@ -37,6 +37,7 @@ fn file_of(alloc: Global, texts: &[&[u8]]) -> Result<EdfFile, AllocError> {
             duration_ps: 1_000_000_000_000,
             signals: signals_of(alloc, texts)?,
         },
+        first_start_ps: 0,
         bytes: Vec::new(alloc),
     })
 }

@@ -73,7 +73,12 @@ pub struct Cut<'a> {
 }
 
 /// Puts the text behind the file, and `fill` up to `width` bytes in all.
-fn push_field(file: &mut Vec<u8>, text: &[u8], fill: u8, width: usize) -> Result<(), AllocError> {
+pub fn push_field(
+    file: &mut Vec<u8>,
+    text: &[u8],
+    fill: u8,
+    width: usize,
+) -> Result<(), AllocError> {
     file.extend_from_slice(text)?;
     for _ in text.len()..width {
         file.push(fill)?;
@@ -121,7 +126,7 @@ fn push_header(file: &mut Vec<u8>, cut: Cut) -> Result<(), AllocError> {
 }
 
 /// Puts the samples of a data record behind the file.
-fn push_values(file: &mut Vec<u8>, values: &[i16]) -> Result<(), AllocError> {
+pub fn push_values(file: &mut Vec<u8>, values: &[i16]) -> Result<(), AllocError> {
     for value in values {
         file.extend_from_slice(&value.to_le_bytes())?;
     }
@@ -129,7 +134,7 @@ fn push_values(file: &mut Vec<u8>, values: &[i16]) -> Result<(), AllocError> {
 }
 
 /// Puts a lane of 32 bytes that only tells when its data record starts behind the file.
-fn push_start(file: &mut Vec<u8>, onset: &str) -> Result<(), AllocError> {
+pub fn push_start(file: &mut Vec<u8>, onset: &str) -> Result<(), AllocError> {
     file.extend_from_slice(onset.as_bytes())?;
     push_field(file, b"\x14\x14", 0, 32usize.saturating_sub(onset.len()))
 }
@@ -220,16 +225,7 @@ pub struct Column<'a> {
     pub samples: &'a str,
 }
 
-/// What a signal has in a data record.
-#[derive(Clone, Copy)]
-pub enum Lane<'a> {
-    /// Samples.
-    Values(&'a [i16]),
-    /// A text, then zeros up to so many bytes in all.
-    Text(&'a [u8], usize),
-}
-
-/// A file with any signals.
+/// The header of a file with any signals.
 #[derive(Clone, Copy)]
 pub struct Shape<'a> {
     pub header_bytes: &'a str,
@@ -237,8 +233,6 @@ pub struct Shape<'a> {
     pub duration: &'a str,
     pub count: &'a str,
     pub columns: &'a [Column<'a>],
-    /// The lanes of all data records, one behind the other.
-    pub lanes: &'a [Lane<'a>],
 }
 
 /// A channel with this many samples in a data record.
@@ -290,8 +284,9 @@ fn push_column(
     Ok(())
 }
 
-/// Puts the header of a file of this shape behind `file`.
-fn push_shape_header(file: &mut Vec<u8>, shape: Shape) -> Result<(), AllocError> {
+/// A header of this shape; its data records are put behind it.
+pub fn header_of(alloc: Global, shape: Shape) -> Result<Vec<u8>, AllocError> {
+    let mut file = Vec::new(alloc);
     for (text, width) in [
         ("0", 8usize),
         ("MCH-0234567 F 02-MAY-1951 Haagse_Harry", 80),
@@ -304,7 +299,7 @@ fn push_shape_header(file: &mut Vec<u8>, shape: Shape) -> Result<(), AllocError>
         (shape.duration, 8),
         (shape.count, 4),
     ] {
-        push_field(file, text.as_bytes(), b' ', width)?;
+        push_field(&mut file, text.as_bytes(), b' ', width)?;
     }
     for (field, width) in [
         (0u8, 16usize),
@@ -318,23 +313,7 @@ fn push_shape_header(file: &mut Vec<u8>, shape: Shape) -> Result<(), AllocError>
         (8, 8),
         (9, 32),
     ] {
-        push_column(file, shape.columns, field, width)?;
-    }
-    Ok(())
-}
-
-/// A file of this shape.
-pub fn file_of(alloc: Global, shape: Shape) -> Result<Vec<u8>, AllocError> {
-    let mut file = Vec::new(alloc);
-    push_shape_header(&mut file, shape)?;
-    for lane in shape.lanes {
-        match lane {
-            Lane::Values(values) => push_values(&mut file, values)?,
-            Lane::Text(text, bytes) => push_field(&mut file, text, 0, *bytes)?,
-        }
+        push_column(&mut file, shape.columns, field, width)?;
     }
     Ok(file)
 }
-
-/// A lane of 32 bytes that says that its data record starts at 0 s.
-pub const AT_ZERO: Lane<'static> = Lane::Text(b"+0\x14\x14", 32);

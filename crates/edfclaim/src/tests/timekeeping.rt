@@ -1,7 +1,7 @@
 //! Where data records start, and the faults of their time-keeping.
 
 use crate::tests::support::{
-    Lane, Shape, annotations, channel, file_of, front, line_of, six_seconds,
+    Shape, annotations, channel, front, header_of, line_of, push_field, push_values, six_seconds,
 };
 use crate::timekeeping::lane_time;
 use std::alloc::{AllocError, Global};
@@ -38,22 +38,20 @@ fn reads_the_time_of_a_lane(rt: HostRuntime) {
 
 /// Two data records of 1 s with a sample each, of the channel `Temp`, and these lanes of 32 bytes.
 fn two_starts(alloc: Global, first: &[u8], second: &[u8]) -> Result<Vec<u8>, AllocError> {
-    file_of(
-        alloc,
-        Shape {
-            header_bytes: "768",
-            records: "2",
-            duration: "1",
-            count: "2",
-            columns: &[channel("Temp", "1"), annotations("16")],
-            lanes: &[
-                Lane::Values(&[7]),
-                Lane::Text(first, 32),
-                Lane::Values(&[-7]),
-                Lane::Text(second, 32),
-            ],
-        },
-    )
+    let columns = [channel("Temp", "1"), annotations("16")];
+    let shape = Shape {
+        header_bytes: "768",
+        records: "2",
+        duration: "1",
+        count: "2",
+        columns: &columns,
+    };
+    let mut file = header_of(alloc, shape)?;
+    push_values(&mut file, &[7])?;
+    push_field(&mut file, first, 0, 32)?;
+    push_values(&mut file, &[-7])?;
+    push_field(&mut file, second, 0, 32)?;
+    Ok(file)
 }
 
 const YES: &str = "YES channels 1 samples 2 annotations 0\n";
@@ -164,21 +162,19 @@ fn judges_each_record_before_the_next_is_read(rt: HostRuntime) -> Result<(), Fai
 
 /// One data record with a channel between two annotation signals, with these lanes of 16 bytes.
 fn two_lanes(alloc: Global, first: &[u8], second: &[u8]) -> Result<Vec<u8>, AllocError> {
-    file_of(
-        alloc,
-        Shape {
-            header_bytes: "1024",
-            records: "1",
-            duration: "1",
-            count: "3",
-            columns: &[annotations("8"), channel("Temp", "2"), annotations("8")],
-            lanes: &[
-                Lane::Text(first, 16),
-                Lane::Values(&[7, -7]),
-                Lane::Text(second, 16),
-            ],
-        },
-    )
+    let columns = [annotations("8"), channel("Temp", "2"), annotations("8")];
+    let shape = Shape {
+        header_bytes: "1024",
+        records: "1",
+        duration: "1",
+        count: "3",
+        columns: &columns,
+    };
+    let mut file = header_of(alloc, shape)?;
+    push_field(&mut file, first, 0, 16)?;
+    push_values(&mut file, &[7, -7])?;
+    push_field(&mut file, second, 0, 16)?;
+    Ok(file)
 }
 
 #[test]
