@@ -26,7 +26,7 @@ pub fn lower<'a>(other: Option<&'a [u8]>, label: &'a [u8]) -> &'a [u8]
     }
 }
 
-/// The labels, borrowed one by one.
+/// The labels as they stand, each borrowed.
 ///
 /// The error is want of memory.
 pub fn borrow_each(alloc: Global, labels: &[Vec<u8>]) -> Result<Vec<&[u8]>, AllocError>
