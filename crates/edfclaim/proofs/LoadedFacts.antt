@@ -1,17 +1,16 @@
 -- What is known of the definitions' words for a file that was read whole.
-use Rattle.std.proofs.Common.{◌≡◌, ℕ, zero, suc, pos, ◌+◌, ◌*◌, ◌<◌, ◌≤◌, true, false, ◌||◌, List, [], ◌∷◌, length, map, take, drop, get_or, Some, None, slice_get, refl, sym, ap, ◌∙◌, arith, length-take, length-drop}
+use Rattle.std.proofs.Common.{◌≡◌, ℕ, zero, suc, pos, ◌+◌, ◌*◌, ◌<◌, ◌≤◌, List, [], ◌∷◌, length, take, drop, get_or, refl, ap, ◌∙◌, arith, length-take, length-drop}
 use Rattle.std.proofs.Math.Nat.{mul-le-mul_right}
 use Rattle.std.proofs.lemmas.Int.{ints}
-use Rattle.std.specs.List.{list_any}
 use Rattle.edf_fields.specs.Parts.{part}
 use Rattle.edfclaim.specs.declared.file.EdfFile.{EdfFile}
 use Rattle.edfclaim.specs.declared.header.Header.{Header}
 use Rattle.edfclaim.specs.declared.header.Signal.{Signal}
-use Rattle.edfclaim.specs.Heads.{SignalHead, Head, is_annotations, header_bytes, record_bytes, samples_together, samples_at}
+use Rattle.edfclaim.specs.Heads.{SignalHead, Head, header_bytes, record_bytes, samples_together, samples_at}
 use Rattle.edfclaim.specs.Records.{record_at, lane_at}
 use Rattle.edfclaim.specs.Timekeeping.{start_at}
 use Rattle.edfclaim.specs.Channels.{HasDistinctChannels}
-use Rattle.edfclaim.specs.Views.{signal_view, header_view}
+use Rattle.edfclaim.specs.Views.{header_view}
 use Rattle.edfclaim.specs.Judged.{IsModest, IsLoaded}
 use Rattle.edfclaim.proofs.SignalFacts.{samples-here, length-view}
 use Rattle.edfclaim.proofs.RisingFacts.{IsTimely}

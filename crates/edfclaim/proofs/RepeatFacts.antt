@@ -1,5 +1,5 @@
 -- Labels that no earlier channel has.
-use Rattle.std.proofs.Common.{◌≡◌, ℕ, zero, suc, ◌+◌, ◌<◌, ◌≤◌, List, [], ◌∷◌, ◌++◌, length, map, take, get_or, Option, Some, None, slice_get, ◌-◌, Bool, true, false, cond, unwrap_or, option_map, refl, sym, ap, ◌∙◌, arith, inl, inr}
+use Rattle.std.proofs.Common.{◌≡◌, ℕ, zero, suc, ◌+◌, ◌<◌, ◌≤◌, List, [], ◌∷◌, length, map, take, get_or, Option, Some, None, slice_get, ◌-◌, Bool, true, false, cond, unwrap_or, option_map, refl, sym, ap, ◌∙◌, arith, inl, inr}
 use Rattle.std.specs.Option.{is_some}
 use Rattle.std.proofs.lemmas.Bool.{cases_lt}
 use Rattle.std.proofs.lemmas.List.{take-map}
@@ -9,7 +9,7 @@ use Rattle.edfclaim.specs.declared.fault.Place.TheVariants.{AtSignal}
 use Rattle.edfclaim.specs.declared.fault.Cause.TheVariants.{DuplicateLabel}
 use Rattle.edfclaim.specs.declared.layout.SignalField.TheVariants as signal
 use Rattle.edfclaim.specs.Lists.{Has}
-use Rattle.edfclaim.specs.Heads.{SignalHead, Head, is_annotations}
+use Rattle.edfclaim.specs.Heads.{SignalHead, Head}
 use Rattle.edfclaim.specs.Samples.{IsChannel}
 use Rattle.edfclaim.specs.Channels.{is_channel_of, label_at, is_repeated, channel_place, HasDistinctChannels}
 use Rattle.edfclaim.specs.Faults.{first, fault, label_fault, labels_faults}

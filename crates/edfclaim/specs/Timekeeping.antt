@@ -1,6 +1,6 @@
 -- Where data records start: the time-keeping annotation lists. EDF+ (2003), "Time keeping of data
 -- records". Times are picoseconds.
-use Rattle.std.specs.Prelude.{◌≡◌, ℕ, ℤ, pos, ◌+◌, ◌*◌, ◌<◌, ◌≤◌, ◌==◌, Bool, true, ◌&&◌, if◌then◌else◌, List, [], ◌∷◌, ◌++◌, map, take, drop, replicate, Option, Some, None, slice_get, unwrap_or}
+use Rattle.std.specs.Prelude.{◌≡◌, ℕ, ℤ, pos, ◌+◌, ◌<◌, ◌≤◌, ◌==◌, Bool, true, ◌&&◌, if◌then◌else◌, List, [], ◌∷◌, ◌++◌, map, take, drop, replicate, Option, Some, None, slice_get, unwrap_or}
 use Rattle.std.specs.List.{list_all, before_first, after_first}
 use Rattle.std.specs.Str.{bytes_eq}
 use Rattle.edf_fields.specs.Onsets.{SpellsOnset, onset_of}

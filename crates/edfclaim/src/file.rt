@@ -11,8 +11,8 @@ ghost use Rattle.edfclaim.specs.Judged.{SaysFixed, SaysSignals, IsModest, IsCont
 use crate::append::append;
 use crate::fault::{Cause, Fault, Place};
 use crate::header::{Header, Signal, samples_together};
-use crate::judge_record::{Progress, judge_record};
 use crate::judge::{Fixed, judge_columns, judge_fixed, judge_together};
+use crate::judge_record::{Progress, judge_record};
 use crate::stop::Stop;
 use edf_fields::source::Source;
 use std::alloc::Global;

@@ -101,7 +101,11 @@ pub fn duration(field: &[u8]) -> Result<i64, Fault>
         (λ v. (duration_fault field.now ≡ None) × (unwrap_or (header_number_of field.now) (pos 0) ≡ v) × (pos 1 ≤ℤ v) × (unsigned_abs v < 10 ^ 15))
         (λ f. duration_fault field.now ≡ Some f) }
 {
-    at_least(Place::AtField(FixedField::Duration), 1, header_number(field))
+    at_least(
+        Place::AtField(FixedField::Duration),
+        1,
+        header_number(field),
+    )
 }
 
 /// How many signals there are: a whole number from 2 on, for a channel and an annotation signal.
@@ -112,11 +116,7 @@ pub fn signals(field: &[u8]) -> Result<u16, Fault>
         (λ v. (signals_fault field.now ≡ None) × (whole_number_of field.now ≡ Some (pos v)) × (2 ≤ v) × (v < 10 ^ 4))
         (λ f. signals_fault field.now ≡ Some f) }
 {
-    let number = at_least(
-        Place::AtField(FixedField::Signals),
-        2,
-        header_whole(field),
-    )?;
+    let number = at_least(Place::AtField(FixedField::Signals), 2, header_whole(field))?;
     Ok(number as u16)
 }
 

@@ -102,7 +102,11 @@ pub fn channel_samples(
     let mut samples = Vec::new(alloc);
     for k in 0..file.header.records {
         let grid = file.record_grid(k, den);
-        push_lane(&mut samples, grid, lane(&file.header, data_record(file, k), signal))?;
+        push_lane(
+            &mut samples,
+            grid,
+            lane(&file.header, data_record(file, k), signal),
+        )?;
     }
     Ok(samples)
 }

@@ -66,36 +66,16 @@ fn finds_every_claimed_channel(rt: HostRuntime) -> Result<(), Fail> {
             &flow_temp,
             "YES channels 2 samples 3 annotations 0\n",
         ),
-        (
-            &both,
-            &both,
-            &only_temp,
-            "NO 5 extra channel \"Flow\"\n",
-        ),
-        (
-            &temp,
-            &both,
-            &temp_flow,
-            "NO 3 unknown channel \"Flow\"\n",
-        ),
-        (
-            &both,
-            &temp,
-            &temp_flow,
-            "NO 4 missing channel \"Flow\"\n",
-        ),
+        (&both, &both, &only_temp, "NO 5 extra channel \"Flow\"\n"),
+        (&temp, &both, &temp_flow, "NO 3 unknown channel \"Flow\"\n"),
+        (&both, &temp, &temp_flow, "NO 4 missing channel \"Flow\"\n"),
         (
             &both,
             &temp,
             &only_temp,
             "YES channels 1 samples 2 annotations 0\n",
         ),
-        (
-            &both,
-            &both,
-            &unknown,
-            "NO 3 unknown channel \"Pulse\"\n",
-        ),
+        (&both, &both, &unknown, "NO 3 unknown channel \"Pulse\"\n"),
     ] {
         assert_eq!(rt; line_of(alloc, original, export, claim)?.as_str(), want);
     }
@@ -140,11 +120,7 @@ fn names_the_least_label(rt: HostRuntime) -> Result<(), Fail> {
     let one = Claim::plain(alloc, &[b"ab"], 0, 6_000_000_000_000)?;
     let other = Claim::plain(alloc, &[b"B"], 0, 6_000_000_000_000)?;
     for (export, claim, want) in [
-        (
-            &original,
-            &all,
-            "YES channels 3 samples 3 annotations 0\n",
-        ),
+        (&original, &all, "YES channels 3 samples 3 annotations 0\n"),
         (
             &others,
             &all,
@@ -172,7 +148,11 @@ fn names_the_least_label(rt: HostRuntime) -> Result<(), Fail> {
 
 /// A file with a channel `slow` of 2 and a channel `fast` of 3 samples a data record.
 fn two_rates(alloc: Global, slow: [i16; 2], fast: [i16; 3]) -> Result<Vec<u8>, AllocError> {
-    let columns = [channel("slow", "2"), channel("fast", "3"), annotations("16")];
+    let columns = [
+        channel("slow", "2"),
+        channel("fast", "3"),
+        annotations("16"),
+    ];
     let mut file = header_of(alloc, three_signals(&columns))?;
     push_values(&mut file, &slow)?;
     push_values(&mut file, &fast)?;

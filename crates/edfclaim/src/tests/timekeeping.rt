@@ -120,11 +120,7 @@ fn names_each_fault_of_a_start(rt: HostRuntime) -> Result<(), Fail> {
             b"+1.000000000001\x14\x14",
             "NotContiguous at record 1",
         ),
-        (
-            b"+0.5\x14\x14",
-            b"+1\x14\x14",
-            "NotContiguous at record 1",
-        ),
+        (b"+0.5\x14\x14", b"+1\x14\x14", "NotContiguous at record 1"),
     ] {
         let export = two_starts(alloc, first, second)?;
         let want = format!(in alloc; "NO 2 export fault: {fault}\n")?;
@@ -155,7 +151,10 @@ fn judges_each_record_before_the_next_is_read(rt: HostRuntime) -> Result<(), Fai
         (&longer[..], "NotContiguous at record 1"),
     ] {
         let want = format!(in alloc; "NO 2 export fault: {fault}\n")?;
-        assert_eq!(rt; line_of(alloc, &good, export, &claim)?.as_str(), want.as_str());
+        assert_eq!(rt;
+            line_of(alloc, &good, export, &claim)?.as_str(),
+            want.as_str()
+        );
     }
     Ok(())
 }
@@ -198,11 +197,7 @@ fn takes_the_time_from_the_first_annotation_signal(rt: HostRuntime) -> Result<()
             b"\0\0\0\0\0\0\0\0\0\0\0\0\0\0\0\x01",
             "NO 1 original fault: NoTimekeeping at record 0\n",
         ),
-        (
-            b"",
-            b"",
-            "NO 1 original fault: NoTimekeeping at record 0\n",
-        ),
+        (b"", b"", "NO 1 original fault: NoTimekeeping at record 0\n"),
     ] {
         let file = two_lanes(alloc, first, second)?;
         assert_eq!(rt; line_of(alloc, &file, &file, &claim)?.as_str(), want);

@@ -1,14 +1,12 @@
-use Rattle.std.proofs.Common.{◌≡◌, ◌<◌, ◌≤◌, ◌+◌, ◌-◌, ◌*◌, ◌++◌, [], Some, None, IsTrue, length, take, drop, map, ap, sym, subst, ◌∙◌, arith, append-nil}
+use Rattle.std.proofs.Common.{◌≡◌, ◌+◌, ◌-◌, ◌*◌, ◌++◌, [], None, IsTrue, length, take, drop, map, ap, sym, subst, ◌∙◌, arith, append-nil}
 use Rattle.std.proofs.lemmas.Grind.{common_steps}
 use Rattle.std.proofs.lemmas.Result.{err_from_is_err_and}
-use Rattle.edf_fields.specs.Sources.{Rises}
 use Rattle.edfclaim.specs.Heads.{header_bytes, record_bytes, samples_together}
 use Rattle.edfclaim.specs.Records.{record_at}
 use Rattle.edfclaim.specs.Timekeeping.{start_of}
-use Rattle.edfclaim.specs.Faults.{first, due, start_faults, records_faults}
+use Rattle.edfclaim.specs.Faults.{first, due, start_faults}
 use Rattle.edfclaim.specs.Followed.{Follows}
 use Rattle.edfclaim.specs.Views.{signal_view, header_view}
-use Rattle.edfclaim.proofs.FirstFacts.{stops-weaker}
 use Rattle.edfclaim.proofs.FileFacts.{record-broken, record-found, record-passed, record-judged}
 use Rattle.edfclaim.proofs.TimeFacts.{due-next, record-read, followed-read, due-read}
 use Rattle.edfclaim.proofs.file.read_records.Goals as goal

@@ -1,10 +1,7 @@
-use Rattle.std.proofs.Common.{◌≡◌, ◌∙◌, ap, ℤ, ◌+ℤ◌, Some, List, ℕ, refl, SFits, rules}
+use Rattle.std.proofs.Common.{◌∙◌, refl, SFits, rules}
 use Rattle.std.proofs.Math.Facts.{to_z-of_z}
 use Rattle.std.specs.Int.{w128}
 use Rattle.std.proofs.lemmas.Result.{err_from_is_err_and}
-use Rattle.edfclaim.specs.Views.{header_view}
-use Rattle.edfclaim.specs.Faults.{start_fault}
-use Rattle.edfclaim.specs.Followed.{first_start}
 use Rattle.edfclaim.proofs.TimeFacts.{start-tested}
 use Rattle.edfclaim.proofs.judge_record.judge_record.Goals as goal
 

@@ -1,4 +1,4 @@
-use Rattle.std.proofs.Common.{◌≡◌, ap, ◌∙◌, pos, ◌*ℤ◌}
+use Rattle.std.proofs.Common.{ap, ◌∙◌, pos, ◌*ℤ◌}
 use Rattle.edfclaim.specs.Views.{header_view}
 use Rattle.edfclaim.specs.Records.{lane_in}
 use Rattle.edfclaim.specs.Timekeeping.{start_at}

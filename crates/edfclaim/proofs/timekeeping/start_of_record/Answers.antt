@@ -1,4 +1,4 @@
-use Rattle.std.proofs.Common.{◌≡◌, ◌<◌, ◌≤◌, ◌*◌, ◌+◌, ◌∷◌, [], length, take, drop, map, sym, ap, ◌∙◌, arith, subst, Some, None, IfSome, ◌^◌, unsigned_abs, get_or, not, List, ℕ, ℤ, Option}
+use Rattle.std.proofs.Common.{◌≡◌, ◌<◌, ◌*◌, ◌+◌, length, take, drop, map, sym, ap, ◌∙◌, arith, subst, IfSome, ◌^◌, unsigned_abs, get_or, not, List, ℤ, Option}
 use Rattle.std.proofs.Math.ListN.{drop_of_length-le}
 use Rattle.std.proofs.lemmas.Grind.{common_steps}
 use Rattle.edfclaim.specs.declared.header.Signal.{Signal}
