@@ -26,3 +26,4 @@ pub mod StartFacts
 pub mod TimeFacts
 pub mod RepeatFacts
 pub mod VectorsFacts
+pub mod PassedFacts

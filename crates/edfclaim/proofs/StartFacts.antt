@@ -11,6 +11,7 @@ use Rattle.edfclaim.specs.Lists.{Has}
 use Rattle.edfclaim.specs.Heads.{SignalHead, Head, is_annotations, samples_together, samples_at}
 use Rattle.edfclaim.specs.Records.{lane_in}
 use Rattle.edfclaim.specs.Timekeeping.{KeepsTime, IsAnnotation, StartsAt, are_zeros, time_of, annotation_places, time_of_lanes, start_of}
+use Rattle.edfclaim.specs.Followed.{with_lane}
 use Rattle.edfclaim.specs.Views.{signal_view, header_view}
 use Rattle.edfclaim.proofs.ListFacts.{and-true}
 use Rattle.edfclaim.proofs.KeepsFacts.{time_kept}
@@ -75,26 +76,29 @@ rest-next header bytes i x lt is =
     drop-drop (2 * x.samples) (2 * samples_together (map signal_view (take i items))) bytes
     ∙ ap (λ n. drop n bytes) (let e : 2 * samples_together (map signal_view (take i items)) + 2 * x.samples ≡ 2 * samples_together (map signal_view (take (i + 1) items)) = omega (arith, count) in e)
 
--- the first lane says when
-pub time-first : (start found : Option ℤ) (lane : List ℕ) (lanes : List (List ℕ)) → start ≡ None → time_of lane ≡ found → is_some found ≡ true → time_with start (lane ∷ lanes) ≡ time_with found lanes
-time-first start None lane lanes e t n = absurd (let y : false ≡ true = n in cc)
-time-first start (Some v) lane lanes e t n = ap (λ o. time_with o (lane ∷ lanes)) e ∙ ap (λ o. cond (list_all are_zeros lanes) o None) t
+-- one lane more keeps a time with those before it
+pub time-more : (start found : Option ℤ) (lane : List ℕ) (lanes : List (List ℕ)) → with_lane start lane ≡ found → is_some found ≡ true → time_with start (lane ∷ lanes) ≡ time_with found lanes
+time-more start None lane lanes e n = absurd (let y : false ≡ true = n in cc)
+time-more None (Some v) lane lanes e n = ap (λ o. cond (list_all are_zeros lanes) o None) e
+time-more (Some w) (Some v) lane lanes e n = cases (are_zeros lane) e
+  where
+    cases : (b : Bool) → cond b (Some w) None ≡ Some v → cond (b && list_all are_zeros lanes) (Some w) None ≡ cond (list_all are_zeros lanes) (Some v) None
+    cases true e = ap (λ o. cond (list_all are_zeros lanes) o None) e
+    cases false e = absurd (let y : None ≡ Some v = e in cc)
 
 time-never : (b : Bool) → cond {A = Option ℤ} b None None ≡ None
 time-never true = refl
 time-never false = refl
 
-pub time-none : (start found : Option ℤ) (lane : List ℕ) (lanes : List (List ℕ)) → start ≡ None → time_of lane ≡ found → is_some found ≡ false → time_with start (lane ∷ lanes) ≡ None
-time-none start (Some v) lane lanes e t n = absurd (let y : true ≡ false = n in cc)
-time-none start None lane lanes e t n = ap (λ o. time_with o (lane ∷ lanes)) e ∙ ap (λ o. cond (list_all are_zeros lanes) o None) t ∙ time-never (list_all are_zeros lanes)
-
--- another lane is zeros, or it isn't
-pub time-blank : (start : Option ℤ) (v : ℤ) (lane : List ℕ) (lanes : List (List ℕ)) → start ≡ Some v → are_zeros lane ≡ true → time_with start (lane ∷ lanes) ≡ time_with start lanes
-time-blank start v lane lanes e z =
-    ap (λ o. time_with o (lane ∷ lanes)) e ∙ ap (λ b. cond (b && list_all are_zeros lanes) (Some v) None) z ∙ ap (λ o. time_with o lanes) (sym e)
-
-pub time-other : (start : Option ℤ) (v : ℤ) (lane : List ℕ) (lanes : List (List ℕ)) → start ≡ Some v → are_zeros lane ≡ false → time_with start (lane ∷ lanes) ≡ None
-time-other start v lane lanes e z = ap (λ o. time_with o (lane ∷ lanes)) e ∙ ap (λ b. cond (b && list_all are_zeros lanes) (Some v) None) z
+-- or none is kept
+pub time-none : (start found : Option ℤ) (lane : List ℕ) (lanes : List (List ℕ)) → with_lane start lane ≡ found → is_some found ≡ false → time_with start (lane ∷ lanes) ≡ None
+time-none start (Some v) lane lanes e n = absurd (let y : true ≡ false = n in cc)
+time-none None None lane lanes e n = ap (λ o. cond (list_all are_zeros lanes) o None) e ∙ time-never (list_all are_zeros lanes)
+time-none (Some w) None lane lanes e n = cases (are_zeros lane) e
+  where
+    cases : (b : Bool) → cond b (Some w) None ≡ None → cond (b && list_all are_zeros lanes) (Some w) None ≡ None
+    cases true e = absurd (let y : Some w ≡ None = e in cc)
+    cases false e = refl
 
 pub time-end : (start : Option ℤ) → time_with start [] ≡ start
 time-end None = refl

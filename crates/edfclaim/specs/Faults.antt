@@ -1,5 +1,5 @@
 -- The tests that a file has to pass, in their written order, and the first that fails.
-use Rattle.std.specs.Prelude.{ℕ, zero, suc, ℤ, pos, ◌+◌, ◌*◌, ◌+ℤ◌, ◌^◌, nat_le, nat_lt, int_le, int_lt, ◌&&◌, if◌then◌else◌, List, [], ◌∷◌, ◌++◌, length, take, Option, Some, None, unwrap_or, codes}
+use Rattle.std.specs.Prelude.{◌≡◌, ◌<◌, ℕ, zero, suc, ℤ, pos, ◌+◌, ◌*◌, ◌+ℤ◌, ◌^◌, nat_le, nat_lt, int_le, int_lt, ◌&&◌, if◌then◌else◌, List, [], ◌∷◌, ◌++◌, length, take, Option, Some, None, unwrap_or, codes}
 use Rattle.std.specs.List.{list_any, list_all}
 use Rattle.std.specs.Ordering.{int_eq}
 use Rattle.std.specs.Str.{bytes_eq}
@@ -16,7 +16,7 @@ use Rattle.edfclaim.specs.declared.layout.SignalField.TheVariants as signal
 use Rattle.edfclaim.specs.Layout.{fixed_from, fixed_bytes, fixed_fields, fixed_field, column_before, column_width, columns, signal_field}
 use Rattle.edfclaim.specs.Channels.{is_repeated}
 use Rattle.edfclaim.specs.Records.{record_at}
-use Rattle.edfclaim.specs.Timekeeping.{start_of, start_at}
+use Rattle.edfclaim.specs.Timekeeping.{StartsAt, start_of, start_at}
 use Rattle.edfclaim.specs.Heads.{SignalHead, Head, signals_of, head_of, is_annotations, header_bytes, record_bytes}
 
 -- the first test that fails: each test is none, or the fault that it finds
@@ -197,3 +197,7 @@ file_tests file = header_tests file ++ records_stage file (head_of file)
 -- the first fault of a file, or none where it passes every test
 unfoldable pub first_fault : List ℕ → Option Fault
 first_fault file = first (file_tests file)
+
+-- in a file that passes its tests each data record says where it starts
+abbrev pub EachRecordStarts : Type 0
+EachRecordStarts = (file : List ℕ) (k : ℕ) → first_fault file ≡ None → k < (head_of file).records → StartsAt (head_of file) (record_at file (head_of file) k) (start_at file (head_of file) k)

@@ -1,8 +1,8 @@
--- Data records that are followed in time, one after the other.
-use Rattle.std.specs.Prelude.{◌≡◌, ℕ, ℤ, ◌<◌, ◌^◌, ◌+ℤ◌, List, None, Some, unsigned_abs, is_none, if◌then◌else◌}
+-- Data records that are followed in time, one after the other, and the lanes of one data record.
+use Rattle.std.specs.Prelude.{◌≡◌, ℕ, ℤ, ◌<◌, ◌^◌, ◌+ℤ◌, List, Option, None, Some, unsigned_abs, is_none, if◌then◌else◌}
 use Rattle.edfclaim.specs.declared.judge_record.Progress.{Progress}
 use Rattle.edfclaim.specs.Heads.{Head}
-use Rattle.edfclaim.specs.Timekeeping.{start_of}
+use Rattle.edfclaim.specs.Timekeeping.{are_zeros, time_of, start_of}
 use Rattle.edfclaim.specs.Faults.{first, start_faults}
 
 -- where the first data record starts, with one more that starts here
@@ -17,3 +17,8 @@ pub record Follows (h : Head) (k : ℕ) (bytes : List ℕ) (before after : Progr
   pub passed : first (start_faults k before.due_ps (Some start)) ≡ None
   pub first_is : after.first_ps ≡ first_start before start
   pub next : after.due_ps ≡ Some (start +ℤ h.duration)
+
+-- the time that lanes keep, with one lane more: the first one keeps it, and the others are zeros
+abbrev pub with_lane : Option ℤ → List ℕ → Option ℤ
+with_lane None lane = time_of lane
+with_lane (Some start) lane = if are_zeros lane then Some start else None

@@ -1,6 +1,6 @@
 -- Where data records start: the time-keeping annotation lists. EDF+ (2003), "Time keeping of data
 -- records". Times are picoseconds.
-use Rattle.std.specs.Prelude.{◌≡◌, ℕ, ℤ, pos, ◌+◌, ◌<◌, ◌≤◌, ◌==◌, Bool, true, ◌&&◌, if◌then◌else◌, List, [], ◌∷◌, ◌++◌, map, take, drop, replicate, Option, Some, None, slice_get, unwrap_or}
+use Rattle.std.specs.Prelude.{◌≡◌, ℕ, ℤ, pos, ◌+◌, ◌<◌, ◌≤◌, ◌==◌, Bool, true, ◌&&◌, if◌then◌else◌, List, [], ◌∷◌, ◌++◌, map, take, drop, replicate, Option, Some, None, slice_get, unwrap_or, MatchOption}
 use Rattle.std.specs.List.{list_all, before_first, after_first}
 use Rattle.std.specs.Str.{bytes_eq}
 use Rattle.edf_fields.specs.Onsets.{SpellsOnset, onset_of}
@@ -61,3 +61,7 @@ start_of h bytes = time_of_lanes (map (lane_in h bytes) (annotation_places 0 h.s
 -- where data record k starts; 0 where it says nothing
 unfoldable pub start_at : List ℕ → Head → ℕ → ℤ
 start_at file h k = unwrap_or (start_of h (record_at file h k)) (pos 0)
+
+-- the function gives a start exactly where the data record says one
+abbrev pub StartIsSaid : Type 0
+StartIsSaid = (h : Head) (bytes : List ℕ) → MatchOption (start_of h bytes) ((start : ℤ) → StartsAt h bytes start → ⊥) (StartsAt h bytes)

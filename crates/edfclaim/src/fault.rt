@@ -32,7 +32,7 @@ pub enum Cause {
     DuplicateLabel,
     /// A data record has more than 16,777,216 bytes.
     RecordTooLarge,
-    /// A data record doesn't say when it starts.
+    /// The annotation lanes of a data record say something else than its start alone.
     NoTimekeeping,
     /// The first data record starts before 0 s, or not before 1 s.
     BadFirstStart,

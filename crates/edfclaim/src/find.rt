@@ -1,8 +1,10 @@
 //! The verdict on two files that passed their tests.
 
-ghost use Rattle.std.specs.Prelude.{◌≡◌, ◌*◌, ◌<◌, ◌≤◌, ◌^◌, length, map, pos, IfOk, MatchOption};
+ghost use Rattle.std.specs.Prelude.{◌≡◌, ℕ, ◌*◌, ◌<◌, ◌≤◌, ◌^◌, List, length, map, pos, IfOk, MatchOption};
 ghost use Rattle.std.specs.List.Sorted.{IsPermutation};
 ghost use Rattle.edfclaim.specs.Labels.{AreRising};
+ghost use Rattle.edfclaim.specs.Lists.{Has};
+ghost use Rattle.edfclaim.specs.Channels.{HasChannel, HasAll, IsFirstAbsent, IsLeastUnlisted};
 ghost use Rattle.edfclaim.specs.Exports.{floor_of, SameChannels};
 ghost use Rattle.edfclaim.specs.Views.{header_view};
 ghost use Rattle.edfclaim.specs.Judged.{IsLoaded};
@@ -61,6 +63,38 @@ fn sample_verdict(
     }))
 }
 
+/// The first of the claimed labels that no channel of the file has.
+///
+/// The error is want of memory.
+fn absent_label(alloc: Global, file: &EdfFile, claim: &Claim) -> Result<Option<Vec<u8>>, AllocError>
+    ensures { IfOk result (λ found. MatchOption found
+        (HasAll (header_view file.now.header) claim.now.channels)
+        (λ label. IsFirstAbsent (header_view file.now.header) claim.now.channels label.items)) }
+{
+    match first_absent(&file.header.signals, claim.channels()) {
+        Some(label) => Ok(Some(Vec::from_slice(alloc, label)?)),
+        None => Ok(None),
+    }
+}
+
+/// The least label, in the order of bytes, of the file's channels that aren't claimed.
+///
+/// The error is want of memory.
+fn unlisted_label(
+    alloc: Global,
+    file: &EdfFile,
+    claim: &Claim,
+) -> Result<Option<Vec<u8>>, AllocError>
+    ensures { IfOk result (λ found. MatchOption found
+        ((label : List ℕ) → HasChannel (header_view file.now.header) label → Has claim.now.channels label)
+        (λ label. IsLeastUnlisted (header_view file.now.header) claim.now.channels label.items)) }
+{
+    match least_unlisted(claim.channels(), &file.header.signals) {
+        Some(label) => Ok(Some(Vec::from_slice(alloc, label)?)),
+        None => Ok(None),
+    }
+}
+
 /// The verdict on the channels of two files, or none where they are as claimed: every claimed label is
 /// a channel of both, and the export has no other.
 ///
@@ -75,17 +109,13 @@ pub fn channel_verdict(
         (SameChannels (header_view original.now.header) (header_view export.now.header) claim.now.channels)
         (IsFound (timed_view original.now) (timed_view export.now) claim.now)) }
 {
-    let claimed = claim.channels();
-    if let Some(label) = first_absent(&original.header.signals, claimed) {
-        let label = Vec::from_slice(alloc, label)?;
+    if let Some(label) = absent_label(alloc, original, claim)? {
         return Ok(Some(Verdict::No(Difference::UnknownChannel(label))));
     }
-    if let Some(label) = first_absent(&export.header.signals, claimed) {
-        let label = Vec::from_slice(alloc, label)?;
+    if let Some(label) = absent_label(alloc, export, claim)? {
         return Ok(Some(Verdict::No(Difference::MissingChannel(label))));
     }
-    if let Some(label) = least_unlisted(claimed, &export.header.signals) {
-        let label = Vec::from_slice(alloc, label)?;
+    if let Some(label) = unlisted_label(alloc, export, claim)? {
         return Ok(Some(Verdict::No(Difference::ExtraChannel(label))));
     }
     Ok(None)

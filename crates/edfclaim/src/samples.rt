@@ -1,9 +1,10 @@
 //! The samples of one channel, taken from a file in memory.
 
-ghost use Rattle.std.specs.Prelude.{◌≡◌, ◌+◌, ◌*◌, ◌<◌, ◌≤◌, ◌^◌, ◌++◌, ◌*ℤ◌, ◌+ℤ◌, pos, length, IfOk, OnOk, unsigned_abs, vec_len};
+ghost use Rattle.std.specs.Prelude.{◌≡◌, ◌+◌, ◌*◌, ◌<◌, ◌≤◌, ◌^◌, ◌++◌, ◌*ℤ◌, ◌+ℤ◌, pos, length, take, IfOk, OnOk, unsigned_abs, vec_len};
 ghost use Rattle.std.specs.List.{All};
-ghost use Rattle.edfclaim.specs.Heads.{samples_at, record_bytes};
-ghost use Rattle.edfclaim.specs.Records.{record_at, lane_in};
+ghost use Rattle.edf_fields.specs.Parts.{part};
+ghost use Rattle.edfclaim.specs.Heads.{samples_at, record_bytes, samples_together as samples_together_of};
+ghost use Rattle.edfclaim.specs.Records.{record_at};
 ghost use Rattle.edfclaim.specs.Lanes.{digital_value, lane_samples};
 ghost use Rattle.edfclaim.specs.Samples.{samples_of};
 ghost use Rattle.edfclaim.specs.Timekeeping.{start_at};
@@ -29,29 +30,51 @@ pub fn samples_per_record(file: &EdfFile, signal: usize) -> u32
     file.header.signals[signal].samples
 }
 
-/// The bytes of data record `k`.
-fn data_record(file: &EdfFile, k: u32) -> &[u8]
-    requires loaded { IsLoaded file.now }
-    requires k { k < file.now.header.records }
-    ensures value { result.now ≡ record_at file.entry.now.bytes.items (header_view file.entry.now.header) k }
-    ensures len { length result.now ≡ record_bytes (header_view file.entry.now.header) }
-{
-    let size = 2 * samples_together(&file.header.signals) as usize;
-    let start = 256 * (file.header.signals.len() + 1) + k as usize * size;
-    part(&file.bytes, start, size)
+/// Where the lanes of a signal stand in the data records: they all have the same place and size.
+#[derive(Debug, Clone, Copy)]
+struct Extent {
+    /// How many bytes stand before the lane in its data record.
+    before: usize,
+    /// How many bytes the lane has.
+    bytes: usize,
 }
 
-/// The lane of a signal in the bytes of a data record: the bytes of its samples.
-fn lane<'a>(header: &Header, bytes: &'a [u8], signal: usize) -> &'a [u8]
+/// Where the lanes of a signal stand.
+fn lanes_extent(header: &Header, signal: usize) -> Extent
     requires modest { IsModest header.now }
-    requires size { length bytes.now ≡ record_bytes (header_view header.now) }
     requires signal { signal < vec_len header.now.signals }
-    ensures value { result.now ≡ lane_in (header_view header.now) bytes.entry.now signal }
-    ensures len { length result.now ≡ 2 * samples_at (header_view header.now) signal }
+    ensures before { result.before ≡ 2 * samples_together_of (take signal (header_view header.now).signals) }
+    ensures bytes { result.bytes ≡ 2 * samples_at (header_view header.now) signal }
+    ensures within { result.before + result.bytes ≤ record_bytes (header_view header.now) }
 {
     let before = samples_together(&header.signals[..signal]) as usize;
     let count = header.signals[signal].samples as usize;
-    part(bytes, 2 * before, 2 * count)
+    Extent {
+        before: 2 * before,
+        bytes: 2 * count,
+    }
+}
+
+/// How many bytes a data record has.
+fn record_size(header: &Header) -> usize
+    requires { IsModest header.now }
+    ensures { result ≡ record_bytes (header_view header.now) }
+{
+    2 * samples_together(&header.signals) as usize
+}
+
+/// The lane at this extent in data record `k`, each of `size` bytes.
+fn lane(file: &EdfFile, k: u32, size: usize, extent: Extent) -> &[u8]
+    requires loaded { IsLoaded file.now }
+    requires k { k < file.now.header.records }
+    requires size { size ≡ record_bytes (header_view file.now.header) }
+    requires within { extent.before + extent.bytes ≤ size }
+    ensures value { result.now ≡ part (record_at file.entry.now.bytes.items (header_view file.entry.now.header) k) extent.before extent.bytes }
+    ensures len { length result.now ≡ extent.bytes }
+{
+    let start = 256 * (file.header.signals.len() + 1) + k as usize * size;
+    let record = part(&file.bytes, start, size);
+    part(record, extent.before, extent.bytes)
 }
 
 /// The sample at a place of a lane.
@@ -99,14 +122,12 @@ pub fn channel_samples(
     ensures small { IfOk result (λ v. All (λ x. unsigned_abs x.num < 2 ^ 98) v.items) }
 {
     let den = samples_per_record(file, signal);
+    let size = record_size(&file.header);
+    let extent = lanes_extent(&file.header, signal);
     let mut samples = Vec::new(alloc);
     for k in 0..file.header.records {
         let grid = file.record_grid(k, den);
-        push_lane(
-            &mut samples,
-            grid,
-            lane(&file.header, data_record(file, k), signal),
-        )?;
+        push_lane(&mut samples, grid, lane(file, k, size, extent))?;
     }
     Ok(samples)
 }

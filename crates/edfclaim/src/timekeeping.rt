@@ -6,6 +6,7 @@ ghost use Rattle.std.specs.Prelude.{◌≡◌, ℤ, ◌+◌, ◌*◌, ◌<◌, �
 ghost use Rattle.std.specs.List.{position, before_first, after_first};
 ghost use Rattle.edfclaim.specs.Heads.{record_bytes};
 ghost use Rattle.edfclaim.specs.Timekeeping.{are_zeros, is_end, is_rest, time_of, KeepsTime, start_of, StartsAt};
+ghost use Rattle.edfclaim.specs.Followed.{with_lane};
 ghost use Rattle.edfclaim.specs.Views.{header_view};
 ghost use Rattle.edfclaim.specs.Judged.{IsModest};
 
@@ -73,6 +74,20 @@ pub fn lane_time(lane: &[u8]) -> Option<i128>
     time_of_lane(lane)
 }
 
+/// The time that annotation lanes keep, with one lane more behind those that keep `start`: the first one
+/// says it, and the others are zeros.
+fn with_lane(start: Option<i128>, lane: &[u8]) -> Option<i128>
+    requires { IfSome start (λ v. unsigned_abs v < 10 ^ 21) }
+    ensures value { result ≡ with_lane start lane.now }
+    ensures small { IfSome result (λ v. unsigned_abs v < 10 ^ 21) }
+{
+    match start {
+        None => lane_time(lane),
+        Some(_) if are_zeros(lane) => start,
+        Some(_) => None,
+    }
+}
+
 /// The start that a data record says, as `record_start`.
 #[tactic(auto, unfolding(crate::specs::Timekeeping::start_of))]
 fn start_of_record(header: &Header, bytes: &[u8]) -> Option<i128>
@@ -87,15 +102,9 @@ fn start_of_record(header: &Header, bytes: &[u8]) -> Option<i128>
         let (lane, behind) = rest.split_at(2 * signal.samples as usize);
         rest = behind;
         if signal.is_annotations() {
-            match start {
-                None => {
-                    start = lane_time(lane);
-                    if start.is_none() {
-                        return None;
-                    }
-                }
-                Some(_) if are_zeros(lane) => {}
-                Some(_) => return None,
+            start = with_lane(start, lane);
+            if start.is_none() {
+                return None;
             }
         }
     }

@@ -146,6 +146,22 @@ fn names_the_least_label(rt: HostRuntime) -> Result<(), Fail> {
     Ok(())
 }
 
+#[test]
+fn names_the_first_missing_label(rt: HostRuntime) -> Result<(), Fail> {
+    let alloc = rt.alloc();
+    let original = three_channels(alloc, ["b", "ab", "B"], [1, 2, 3])?;
+    let export = three_channels(alloc, ["c", "ab", "d"], [1, 2, 3])?;
+    let claim = Claim::plain(alloc, &[b"ab", b"b", b"B"], 0, 6_000_000_000_000)?;
+    let other = Claim::plain(alloc, &[b"ab", b"B", b"b"], 0, 6_000_000_000_000)?;
+    for (claim, want) in [
+        (&claim, "NO 4 missing channel \"b\"\n"),
+        (&other, "NO 4 missing channel \"B\"\n"),
+    ] {
+        assert_eq!(rt; line_of(alloc, &original, &export, claim)?.as_str(), want);
+    }
+    Ok(())
+}
+
 /// A file with a channel `slow` of 2 and a channel `fast` of 3 samples a data record.
 fn two_rates(alloc: Global, slow: [i16; 2], fast: [i16; 3]) -> Result<Vec<u8>, AllocError> {
     let columns = [

@@ -108,7 +108,7 @@ impl<'a> Source for Counts<'a> {
     }
 }
 
-/// The line of a check, without its end.
+/// The line of a check, with its end.
 fn line_from<O: Source, E: Source>(
     alloc: Global,
     original: &mut O,

@@ -86,45 +86,6 @@ pub fn push_field(
     Ok(())
 }
 
-/// Puts the header of a file with a channel `Temp` behind `file`.
-fn push_header(file: &mut Vec<u8>, cut: Cut) -> Result<(), AllocError> {
-    for (text, width) in [
-        ("0", 8usize),
-        ("MCH-0234567 F 02-MAY-1951 Haagse_Harry", 80),
-        ("Startdate 02-MAR-2002 PSG-1234/2002 NN Telemetry03", 80),
-        ("02.03.02", 8),
-        ("22.00.00", 8),
-        ("768", 8),
-        ("EDF+C", 44),
-        (cut.records, 8),
-        (cut.duration, 8),
-        ("2", 4),
-    ] {
-        push_field(file, text.as_bytes(), b' ', width)?;
-    }
-    for (channel, notes, width) in [
-        ("Temp", "EDF Annotations", 16usize),
-        ("", "", 80),
-        ("degC", "", 8),
-        ("30", "-1", 8),
-        ("40", "1", 8),
-        ("-2048", "-32768", 8),
-        ("2047", "32767", 8),
-        ("", "", 80),
-        (cut.samples, "16", 8),
-        ("", "", 32),
-    ] {
-        let (first, second) = if cut.is_lane_first {
-            (notes, channel)
-        } else {
-            (channel, notes)
-        };
-        push_field(file, first.as_bytes(), b' ', width)?;
-        push_field(file, second.as_bytes(), b' ', width)?;
-    }
-    Ok(())
-}
-
 /// Puts the samples of a data record behind the file.
 pub fn push_values(file: &mut Vec<u8>, values: &[i16]) -> Result<(), AllocError> {
     for value in values {
@@ -141,8 +102,20 @@ pub fn push_start(file: &mut Vec<u8>, onset: &str) -> Result<(), AllocError> {
 
 /// A file with a channel `Temp` and an annotation signal.
 pub fn temp_file(alloc: Global, cut: Cut) -> Result<Vec<u8>, AllocError> {
-    let mut file = Vec::new(alloc);
-    push_header(&mut file, cut)?;
+    let temp = channel("Temp", cut.samples);
+    let columns = if cut.is_lane_first {
+        [annotations("16"), temp]
+    } else {
+        [temp, annotations("16")]
+    };
+    let shape = Shape {
+        header_bytes: "768",
+        records: cut.records,
+        duration: cut.duration,
+        count: "2",
+        columns: &columns,
+    };
+    let mut file = header_of(alloc, shape)?;
     for (values, onset) in cut.parts {
         if cut.is_lane_first {
             push_start(&mut file, onset)?;
@@ -202,7 +175,7 @@ pub fn six_seconds(alloc: Global) -> Result<Claim, AllocError> {
     temp_claim(alloc, 0, 6_000_000_000_000)
 }
 
-/// The line of the check of two files, without its end.
+/// The line of the check of two files, with its end.
 pub fn line_of(
     alloc: Global,
     original: &[u8],
