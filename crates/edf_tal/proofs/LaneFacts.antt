@@ -10,22 +10,22 @@ use Rattle.std.proofs.lemmas.List.Sums.{fails_before_first, count_by-le-length}
 use Rattle.edf_fields.specs.declared.cause.TalCause.{TalCause}
 use Rattle.edf_tal.proofs.TextFacts.{closed-cons}
 use Rattle.edf_fields.specs.declared.cause.TalCause.TheVariants.{NoEnd, NotZeroFilled}
-use Rattle.edf_tal.specs.Tals.{is_control, ended, are_zeros}
+use Rattle.edf_tal.specs.Tals.{TalValue, is_control, ended, are_zeros}
 use Rattle.edf_tal.specs.Reading.{until, behind, pieces, Item, closed, texts_of, judge_texts, IsClosed, is_nil, onto, tal_of, items_of, items_of_pieces}
 
 -- ---- a body that is closed
 
 -- a byte 20 at the end is found
-pub closed-cut : (bs : List ℕ) → 0 < length bs → get_or bs (length bs - 1) 0 ≡ 20 → position_or_len (λ b. b == 20) bs < length bs
-closed-cut bs h e = elim (cases_lt (position_or_len (λ b. b == 20) bs) (length bs)) [
+pub closed_cut : (bs : List ℕ) → 0 < length bs → get_or bs (length bs - 1) 0 ≡ 20 → position_or_len (λ b. b == 20) bs < length bs
+closed_cut bs h e = elim (cases_lt (position_or_len (λ b. b == 20) bs) (length bs)) [
   | inl before ↦ before
   | inr behind ↦
       let fails : (20 == 20) ≡ false = ap (λ b. b == 20) (sym e) ∙ fails_before_first (λ b. b == 20) bs (length bs - 1) 0 (omega arith) in
       absurd (cc)
 ]
 
-pub closed-after : (bs : List ℕ) → 0 < length bs → get_or bs (length bs - 1) 0 ≡ 20 → IsClosed (behind 20 bs)
-closed-after bs h e more =
+pub closed_after : (bs : List ℕ) → 0 < length bs → get_or bs (length bs - 1) 0 ≡ 20 → IsClosed (behind 20 bs)
+closed_after bs h e more =
     let n : ℕ = position_or_len (λ b. b == 20) bs + 1 in
     let at_end : n + (length (drop n bs) - 1) ≡ length bs - 1 = omega (arith, length-drop n bs) in
     get_or-drop n bs (length (drop n bs) - 1) 0 ∙ ap (λ i. get_or bs i 0) at_end ∙ e
@@ -148,8 +148,8 @@ items_of-tal lane h n =
     ap items_of_pieces (slice_split_first (λ b. b == 0) lane 0 n)
     ∙ pieces-cons _ _ (split-pos (behind 0 lane)) (not_nil _ (first-not_nil lane h))
 
-pub tal_of-open : (piece : List ℕ) → get_or piece (length piece - 1) 0 ≢ 20 → tal_of piece ≡ Err NoEnd
-tal_of-open piece h =
+pub open_piece : (piece : List ℕ) → get_or piece (length piece - 1) 0 ≢ 20 → tal_of piece ≡ Err NoEnd
+open_piece piece h =
     let fails : (get_or piece (length piece - 1) 0 == 20) ≡ false = false_from_ne_true _ (λ holds. h (eqb-true _ _ holds)) in
     rw fails
 
@@ -182,3 +182,32 @@ length-pieces ((b ∷ bs) ∷ next ∷ pieces) = onto-length (tal_of (b ∷ bs))
 pub length-items_of : (lane : List ℕ) → length (items_of lane) ≤ length lane + 1
 unfolding items_of
 length-items_of lane = omega (arith, length-pieces (pieces 0 lane), length-slice_split (λ (b : ℕ). b == 0) lane, count_by-le-length (λ (b : ℕ). b == 0) lane)
+
+-- ---- the first item, as a reader finds it
+
+pub nothing_there : (lane : List ℕ) → length lane ≡ 0 → items_of lane ≡ []
+nothing_there lane h = items_of-empty lane h
+
+pub zeros_alone : (lane : List ℕ) → 0 < length lane → get_or lane 0 0 ≡ 0 → are_zeros lane ≡ true → items_of lane ≡ []
+zeros_alone lane some first all = items_of-zero lane some first ∙ ap (λ t. cond t [] (Err NotZeroFilled ∷ [])) all
+
+pub zeros_and_others : (lane : List ℕ) → 0 < length lane → get_or lane 0 0 ≡ 0 → are_zeros lane ≡ false → items_of lane ≡ Err NotZeroFilled ∷ items_of []
+zeros_and_others lane some first not_all = items_of-err lane NotZeroFilled (items_of-zero lane some first ∙ ap (λ t. cond t [] (Err NotZeroFilled ∷ [])) not_all)
+
+pub without_end : (lane : List ℕ) → 0 < length lane → position_or_len (λ b. b == 0) lane ≡ length lane → items_of lane ≡ Err NoEnd ∷ items_of []
+without_end lane some none = items_of-err lane NoEnd (items_of-endless lane some none)
+
+pub tal_read : (lane piece rest : List ℕ) (tal : TalValue) → get_or lane 0 0 ≢ 0 → position_or_len (λ b. b == 0) lane < length lane → piece ≡ until 0 lane → rest ≡ behind 0 lane → tal_of piece ≡ Ok tal
+    → items_of lane ≡ Ok tal ∷ items_of rest
+tal_read lane piece rest tal first found front back read =
+    items_of-tal lane first found
+    ∙ ap (λ i. onto i (items_of (behind 0 lane))) (ap tal_of (sym front) ∙ read)
+    ∙ ap (λ xs. Ok tal ∷ items_of xs) (sym back)
+
+pub tal_refused : (lane piece : List ℕ) (cause : TalCause) → get_or lane 0 0 ≢ 0 → position_or_len (λ b. b == 0) lane < length lane → piece ≡ until 0 lane → tal_of piece ≡ Err cause
+    → items_of lane ≡ Err cause ∷ items_of []
+tal_refused lane piece cause first found front read =
+    items_of-err lane cause (items_of-tal lane first found ∙ ap (λ i. onto i (items_of (behind 0 lane))) (ap tal_of (sym front) ∙ read))
+
+pub closed_piece : (piece : List ℕ) → 0 < length piece → get_or piece (length piece - 1) 0 ≡ 20 → position_or_len (λ b. b == 20) piece ≡ length piece → ⊥
+closed_piece piece some last none = let found = closed_cut piece some last in absurd (omega arith)

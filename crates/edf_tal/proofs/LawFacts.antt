@@ -11,7 +11,7 @@ use Rattle.edf_fields.specs.Onsets.{SpellsOnset, onset_of, span_of}
 use Rattle.edf_fields.proofs.OnsetFacts.{onset_of_some, span_of_some}
 use Rattle.edf_tal.specs.Tals.{TalValue, SpellsTal, SpellsDuration, AreTexts, IsLaneOf, are_zeros}
 use Rattle.edf_tal.specs.Reading.{until, behind, pieces, Item, FaultAfter, texts_of, duration_of, judge_texts, IsClosed, onto, tal_of, tal_of_parts, items_of, ◌then◌}
-use Rattle.edf_tal.proofs.LaneFacts.{items_of-nil, items_of-zero, items_of-endless, items_of-tal, spelled-texts_of, judged-ok, closed-cut, closed-after, first-not_nil, position-le}
+use Rattle.edf_tal.proofs.LaneFacts.{items_of-nil, items_of-zero, items_of-endless, items_of-tal, spelled-texts_of, judged-ok, closed_cut, closed_after, first-not_nil, position-le}
 
 -- ---- what splits so is spelled so
 
@@ -93,7 +93,7 @@ tal-spelled piece t h e = elim (cases_Bool (get_or piece (length piece - 1) 0 ==
       let is : get_or piece (length piece - 1) 0 ≡ 20 = eqb-true _ _ ends in
       let e' : tal_of_parts (until 20 piece) (behind 20 piece) ≡ Ok t =
       sym (ap (λ b. cond b (tal_of_parts (until 20 piece) (behind 20 piece)) (Err NoEnd)) ends) ∙ e in
-      subst (λ s. SpellsTal s t) (sym (parted 20 piece (closed-cut piece h is))) (parts-spelled _ _ t (closed-after piece h is) e')
+      subst (λ s. SpellsTal s t) (sym (parted 20 piece (closed_cut piece h is))) (parts-spelled _ _ t (closed_after piece h is) e')
 ]
 
 -- how a lane begins

@@ -13,7 +13,7 @@ use Rattle.edf_fields.proofs.OnsetFacts.{onset_of_spelled, span_of_spelled}
 use Rattle.edf_fields.proofs.OnsetByteFacts.{onset_bytes_from, span_bytes_from}
 use Rattle.edf_tal.specs.Tals.{TalValue, SpellsTal, SpellsDuration, AreTexts, IsLaneOf, is_control, ended, are_zeros}
 use Rattle.edf_tal.specs.Reading.{until, behind, pieces, FaultAfter, closed, texts_of, duration_of, judge_texts, onto, tal_of, tal_of_parts, items_of, items_of_pieces, ◌then◌}
-use Rattle.edf_tal.proofs.TextFacts.{closed-cons, judge_text-fine, judged-more}
+use Rattle.edf_tal.proofs.TextFacts.{closed-cons, is_fine, judged-more}
 use Rattle.edf_tal.proofs.LaneFacts.{items_of-nil, items_of-zero, pieces-cons, split-pos, not_nil}
 
 -- no byte is c
@@ -103,7 +103,7 @@ texts-read (t ∷ ts) h =
 
 texts-judge_texts : (ts : List (List ℕ)) → AreTexts ts → judge_texts ts ≡ Ok tt
 texts-judge_texts [] h = refl
-texts-judge_texts (t ∷ ts) h = judged-more t ts (judge_text-fine t h.0.0 h.0.1) ∙ texts-judge_texts ts h.1
+texts-judge_texts (t ∷ ts) h = judged-more t ts (is_fine t h.0.0 h.0.1) ∙ texts-judge_texts ts h.1
 
 duration-read : (onset s : List ℕ) (v : Option ℤ) → Lacks 21 onset → SpellsDuration s v → (until 21 (onset ++ s) ≡ onset) × (duration_of (onset ++ s) ≡ Ok v)
 duration-read onset s None l e =

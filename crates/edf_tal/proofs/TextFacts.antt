@@ -28,14 +28,14 @@ pub texts_of-none : (bs : List ℕ) → position_or_len (λ b. b == 20) bs ≡ l
 texts_of-none bs h = ap closed (slice_split_none (λ b. b == 20) bs (λ k d l. fails_before_first (λ b. b == 20) bs k d (omega arith)))
 
 -- the check of one text
-pub judge_text-not_utf8 : (t : List ℕ) → ¬ (IsUtf8 t) → judge_text t ≡ Err NotUtf8
-judge_text-not_utf8 t h = let bad : is_utf8 t ≡ false = false_from_ne_true _ (λ yes. h (IsUtf8-from_is_utf8 t yes)) in rw bad
+pub not_utf8 : (t : List ℕ) → ¬ (IsUtf8 t) → judge_text t ≡ Err NotUtf8
+not_utf8 t h = let bad : is_utf8 t ≡ false = false_from_ne_true _ (λ yes. h (IsUtf8-from_is_utf8 t yes)) in rw bad
 
-pub judge_text-control : (t : List ℕ) → IsUtf8 t → list_any is_control t ≡ true → judge_text t ≡ Err ControlByte
-judge_text-control t h bad = rw (is_utf8-from_IsUtf8 t h, bad)
+pub has_control : (t : List ℕ) → IsUtf8 t → list_any is_control t ≡ true → judge_text t ≡ Err ControlByte
+has_control t h bad = rw (is_utf8-from_IsUtf8 t h, bad)
 
-pub judge_text-fine : (t : List ℕ) → IsUtf8 t → list_any is_control t ≡ false → judge_text t ≡ Ok tt
-judge_text-fine t h good = rw (is_utf8-from_IsUtf8 t h, good)
+pub is_fine : (t : List ℕ) → IsUtf8 t → list_any is_control t ≡ false → judge_text t ≡ Ok tt
+is_fine t h good = rw (is_utf8-from_IsUtf8 t h, good)
 
 pub judged-bad : (t : List ℕ) (ts : List (List ℕ)) (e : TalCause) → judge_text t ≡ Err e → judge_texts (t ∷ ts) ≡ Err e
 judged-bad t ts e h = rw h

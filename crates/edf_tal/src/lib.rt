@@ -10,3 +10,5 @@ pub mod tal;
 pub mod tals;
 mod text;
 pub mod texts;
+#[cfg(test)]
+mod tests;

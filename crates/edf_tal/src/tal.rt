@@ -91,6 +91,7 @@ fn read_parts<'a>(head: &[u8], body: &'a [u8]) -> Result<Tal<'a>, TalCause>
 }
 
 /// A TAL of what stands before a byte 0, or the first cause why it is none.
+#[tactic(auto, using(crate::proofs::LaneFacts::open_piece, crate::proofs::LaneFacts::closed_piece, crate::proofs::LaneFacts::closed_cut, crate::proofs::LaneFacts::closed_after))]
 pub(crate) fn read_tal(piece: &[u8]) -> Result<Tal<'_>, TalCause>
     requires { 0 < length piece.now }
     ensures { item_view result ≡ tal_of piece.now }

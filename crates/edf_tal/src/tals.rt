@@ -18,6 +18,7 @@ fn are_zeros(bytes: &[u8]) -> bool
 }
 
 /// The first item of a lane, and the lane behind it; behind a fault nothing is left.
+#[tactic(auto, using(crate::proofs::LaneFacts::nothing_there, crate::proofs::LaneFacts::zeros_alone, crate::proofs::LaneFacts::zeros_and_others, crate::proofs::LaneFacts::without_end, crate::proofs::LaneFacts::tal_read, crate::proofs::LaneFacts::tal_refused))]
 fn first_item(lane: &[u8]) -> Option<(Result<Tal<'_>, TalCause>, &[u8])>
     ensures { MatchOption result (items_of lane.now ≡ []) (λ x.
         items_of lane.now ≡ item_view x.0 ∷ items_of x.1.now) }

@@ -30,6 +30,7 @@ fn first_text(body: &[u8]) -> Option<(&[u8], &[u8])>
 }
 
 /// Whether the bytes are a text of the profile.
+#[tactic(auto, using(crate::proofs::TextFacts::not_utf8, crate::proofs::TextFacts::has_control, crate::proofs::TextFacts::is_fine))]
 fn judge_text(text: &[u8]) -> Result<(), TalCause>
     ensures { result ≡ judge_text text.now }
 {
