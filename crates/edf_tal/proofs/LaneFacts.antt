@@ -1,6 +1,6 @@
 -- The definitions of reading, at each case.
 use Rattle.std.proofs.Common.{◌≡◌, ◌≢◌, ℕ, ◌+◌, ◌-◌, ◌<◌, ◌≤◌, ◌==◌, Bool, List, [], ◌∷◌, ◌++◌, length, drop, get_or, refl, sym, ◌∙◌, ap, arith, true, false, cond, length-drop, length-take, suc, subst, lit<, eqb-true, inl, inr, Ok, Err}
-use Rattle.std.specs.List.{slice_split, before_first, after_first, position_or_len, list_all, onto_first, list_any}
+use Rattle.std.specs.List.{position_or_len, list_all, onto_first, list_any}
 use Rattle.std.specs.Str.{IsUtf8, is_utf8}
 use Rattle.std.proofs.lemmas.Bool.{cases_Bool, cases_lt, false_from_ne_true}
 use Rattle.std.proofs.lemmas.Str.{IsUtf8-append, IsUtf8-nil, IsUtf8-from_is_utf8, encode_ascii}

@@ -1,7 +1,7 @@
 -- What splits so is spelled so, and what is spelled so splits so.
 use Rattle.std.proofs.Common.{◌≡◌, ◌≢◌, ℕ, ◌-◌, ◌<◌, ◌==◌, List, [], ◌∷◌, ◌++◌, map, length, get_or, refl, sym, ◌∙◌, ap, arith, true, cond, subst, eqb-true, inl, inr, Option, Some, None, Result, Ok, Err, take_all, append-nil, lt-ltb, le-ltb, ◌⊎◌, true≢false}
 use Rattle.std.specs.Prelude.{ℤ}
-use Rattle.std.specs.List.{before_first, after_first, position_or_len, list_all}
+use Rattle.std.specs.List.{position_or_len}
 use Rattle.std.specs.Option.{ok_or}
 use Rattle.std.proofs.lemmas.Bool.{cases_Bool, cases_lt}
 use Rattle.std.proofs.lemmas.List.Sums.{split_at_first, passes_at_first}
@@ -10,7 +10,7 @@ use Rattle.edf_fields.specs.declared.cause.TalCause.TheVariants.{BadOnset, BadDu
 use Rattle.edf_fields.specs.Onsets.{SpellsOnset, onset_of, span_of}
 use Rattle.edf_fields.proofs.OnsetFacts.{onset_of_some, span_of_some}
 use Rattle.edf_tal.specs.Tals.{TalValue, SpellsTal, SpellsDuration, AreTexts, IsLaneOf, are_zeros}
-use Rattle.edf_tal.specs.Reading.{until, behind, pieces, Item, FaultAfter, texts_of, duration_of, judge_texts, IsClosed, onto, tal_of, tal_of_parts, items_of, ◌then◌}
+use Rattle.edf_tal.specs.Reading.{until, behind, Item, FaultAfter, texts_of, duration_of, judge_texts, IsClosed, onto, tal_of, tal_of_parts, items_of, ◌then◌}
 use Rattle.edf_tal.proofs.LaneFacts.{items_of-nil, items_of-zero, items_of-endless, items_of-tal, spelled-texts_of, judged-ok, closed_cut, closed_after, first-not_nil, position-le}
 
 -- ---- what splits so is spelled so

@@ -1,7 +1,7 @@
 -- What is spelled so splits so.
-use Rattle.std.proofs.Common.{◌≡◌, ℕ, ◌+◌, ◌-◌, ◌<◌, ◌≤◌, ◌==◌, Bool, ◌&&◌, List, [], ◌∷◌, ◌++◌, map, length, take, drop, get_or, refl, sym, ◌∙◌, ap, arith, true, false, cond, suc, subst, lit≤, ◌||◌, eqb-true, inl, inr, Option, Some, None, Result, Ok, Err, append_assoc, take_all, append-nil, lt-ltb, le-ltb, ltb-true, true≢false, length-append}
+use Rattle.std.proofs.Common.{◌≡◌, ℕ, ◌+◌, ◌-◌, ◌<◌, ◌≤◌, ◌==◌, Bool, ◌&&◌, List, [], ◌∷◌, ◌++◌, map, length, take, drop, get_or, refl, sym, ◌∙◌, ap, arith, true, false, cond, suc, subst, lit≤, ◌||◌, eqb-true, inl, inr, Option, Some, None, Result, Ok, Err, append_assoc, take_all, append-nil, lt-ltb, le-ltb, true≢false, length-append}
 use Rattle.std.specs.Prelude.{ℤ, nat_lt, slice_index}
-use Rattle.std.specs.List.{slice_split, before_first, after_first, position_or_len, list_all, list_any}
+use Rattle.std.specs.List.{position_or_len, list_any}
 use Rattle.std.specs.Option.{ok_or}
 use Rattle.std.proofs.lemmas.Bool.{cases_Bool, false_from_ne_true}
 use Rattle.std.proofs.lemmas.List.Splits.{length-slice_split}

@@ -1,6 +1,6 @@
 -- Texts, cut at the byte 20 and judged one by one.
 use Rattle.std.proofs.Common.{◌≡◌, ℕ, ◌<◌, ◌==◌, List, [], ◌∷◌, length, refl, ◌∙◌, ap, arith, true, false}
-use Rattle.std.specs.List.{before_first, after_first, position_or_len}
+use Rattle.std.specs.List.{position_or_len}
 use Rattle.std.proofs.lemmas.List.Splits.{slice_split_first, slice_split_none, length-slice_split}
 use Rattle.std.proofs.lemmas.List.Sums.{fails_before_first}
 use Rattle.std.proofs.lemmas.Str.{IsUtf8-from_is_utf8, is_utf8-from_IsUtf8}
@@ -13,7 +13,7 @@ use Rattle.std.proofs.Common.{length-drop}
 use Rattle.edf_fields.specs.declared.cause.TalCause.{TalCause}
 use Rattle.edf_fields.specs.declared.cause.TalCause.TheVariants.{NotUtf8, ControlByte}
 use Rattle.edf_tal.specs.Tals.{is_control}
-use Rattle.edf_tal.specs.Reading.{until, behind, pieces, closed, texts_of, judge_texts, judge_text}
+use Rattle.edf_tal.specs.Reading.{until, behind, closed, texts_of, judge_texts, judge_text}
 
 pub closed-cons : (x : List ℕ) (parts : List (List ℕ)) → 0 < length parts → closed (x ∷ parts) ≡ x ∷ closed parts
 closed-cons x [] h = absurd (omega arith)

@@ -6,7 +6,7 @@ use Rattle.std.specs.Str.{is_utf8}
 use Rattle.edf_fields.specs.Onsets.{onset_of, span_of}
 use Rattle.edf_fields.specs.declared.cause.TalCause.{TalCause}
 use Rattle.edf_fields.specs.declared.cause.TalCause.TheVariants.{BadOnset, BadDuration, NoEnd, NotUtf8, ControlByte, NotZeroFilled}
-use Rattle.edf_tal.specs.Tals.{TalValue, SpellsTal, is_control, are_zeros}
+use Rattle.edf_tal.specs.Tals.{TalValue, SpellsTal, is_control}
 
 -- what stands before the first byte c
 abbrev pub until : ℕ → List ℕ → List ℕ

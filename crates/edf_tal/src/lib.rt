@@ -8,7 +8,7 @@ mod separator;
 pub mod start;
 pub mod tal;
 pub mod tals;
-mod text;
-pub mod texts;
 #[cfg(test)]
 mod tests;
+mod text;
+pub mod texts;

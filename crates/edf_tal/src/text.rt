@@ -16,9 +16,7 @@ pub(crate) const END: u8 = 20;
 fn has_control(bytes: &[u8]) -> bool
     ensures { result ≡ list_any is_control bytes.now }
 {
-    bytes
-        .iter()
-        .any(|byte| *byte < 32 && !(*byte == 9 || *byte == 10 || *byte == 13))
+    bytes.iter().any(|byte| *byte < 32 && !(*byte == 9 || *byte == 10 || *byte == 13))
 }
 
 /// The first text, and what stands behind it.
