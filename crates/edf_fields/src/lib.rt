@@ -3,6 +3,7 @@
 //! annotations.
 #![tactic(auto)]
 
+pub mod cause;
 pub mod laws;
 pub mod number;
 pub mod onset;

@@ -1,0 +1,4 @@
+pub mod TextFacts
+pub mod LaneFacts
+pub mod ReadFacts
+pub mod LawFacts

@@ -1,0 +1,6 @@
+use Rattle.std.proofs.Common.{sym}
+use Rattle.edf_tal.proofs.LaneFacts.{closed-IsUtf8}
+use Rattle.edf_tal.proofs.text.checked.Goals as goal
+
+pub returns-in-Ok-judge_one_by_one : goal.returns-in-Ok-judge_one_by_one
+returns-in-Ok-judge_one_by_one c = absurd (c.in-Err.ensures (closed-IsUtf8 c.args.body.now c.requires (sym c.in-Ok-judge_one_by_one.ensures)))

@@ -1,0 +1,3 @@
+pub mod Tals
+pub mod Reading
+pub mod Views

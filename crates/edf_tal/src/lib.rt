@@ -1,0 +1,14 @@
+//! Time-stamped annotation lists (TALs) of EDF+, read from one lane of an annotation signal.
+//!
+//! EDF+ (2003), "Time-stamped Annotations Lists (TALs) in an 'EDF Annotations' signal".
+#![tactic(auto)]
+
+pub mod laws;
+mod separator;
+pub mod start;
+pub mod tal;
+pub mod tals;
+#[cfg(test)]
+mod tests;
+mod text;
+pub mod texts;

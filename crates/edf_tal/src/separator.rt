@@ -1,0 +1,18 @@
+//! Cutting bytes at a separator.
+
+ghost use Rattle.std.specs.Prelude.{◌≡◌, ◌<◌, ◌==◌, length, MatchOption};
+ghost use Rattle.std.specs.List.{position_or_len};
+ghost use Rattle.edf_tal.specs.Reading.{until, behind};
+
+/// What stands before the first `separator`, and what stands behind it; none where there is none.
+pub(crate) fn cut(bytes: &[u8], separator: u8) -> Option<(&[u8], &[u8])>
+    ensures { MatchOption result (position_or_len (λ b. b == separator) bytes.now ≡ length bytes.now) (λ x.
+        (position_or_len (λ b. b == separator) bytes.now < length bytes.now)
+        × (x.0.now ≡ until separator bytes.now)
+        × (x.1.now ≡ behind separator bytes.now)) }
+{
+    match bytes.iter().position(|byte| *byte == separator) {
+        Some(place) => Some((&bytes[..place], &bytes[place + 1..])),
+        None => None,
+    }
+}

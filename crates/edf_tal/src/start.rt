@@ -1,0 +1,41 @@
+//! Where a data record starts.
+
+ghost use Rattle.std.specs.Prelude.{◌≡◌};
+ghost use Rattle.edf_tal.specs.Reading.{items_of};
+ghost use Rattle.edf_tal.specs.Views.{start_of};
+
+use crate::tals::Tals;
+use edf_fields::cause::TalCause;
+
+/// Why a lane doesn't say where its data record starts.
+#[derive(Clone, Copy, Debug, PartialEq, Eq)]
+pub enum StartCause {
+    /// Its first TAL has a fault, or a bad filling stands in its place.
+    Tal(TalCause),
+    /// Its first TAL doesn't begin with an empty text, or it has none.
+    NoTimekeeping,
+}
+
+/// Where a data record starts, in picoseconds after the start of the file, by the lane of its first
+/// annotation signal: the onset of the first TAL, whose first text is empty. EDF+ (2003), "Time keeping of
+/// data records".
+///
+/// Only the first TAL is looked at.
+pub fn record_start(lane: &[u8]) -> Result<i128, StartCause>
+    ensures { result ≡ start_of (items_of lane.now) }
+{
+    match Tals::new(lane).next() {
+        None => Err(StartCause::NoTimekeeping),
+        Some(Err(cause)) => Err(StartCause::Tal(cause)),
+        Some(Ok(tal)) => match tal.texts().next() {
+            None => Err(StartCause::NoTimekeeping),
+            Some(text) => {
+                if text.is_empty() {
+                    Ok(tal.onset())
+                } else {
+                    Err(StartCause::NoTimekeeping)
+                }
+            }
+        },
+    }
+}

@@ -1,0 +1,203 @@
+//! Lanes by hand: their TALs or first fault, and where their data records start.
+
+use crate::start::{StartCause, record_start};
+use crate::tal::Tal;
+use crate::tals::Tals;
+use edf_fields::cause::TalCause;
+use std::alloc::{AllocError, Global};
+
+/// Puts a TAL behind the text: its onset, a stroke and its duration, a colon, each text and a stroke, a
+/// semicolon.
+fn push_tal(alloc: Global, shown: &mut String, tal: &Tal) -> Result<(), AllocError> {
+    shown.push_str(tal.onset().to_string(alloc)?.as_str())?;
+    if let Some(duration) = tal.duration() {
+        shown.push_str("/")?;
+        shown.push_str(duration.to_string(alloc)?.as_str())?;
+    }
+    shown.push_str(":")?;
+    for text in tal.texts() {
+        shown.push_str(text)?;
+        shown.push_str("|")?;
+    }
+    shown.push_str(";")
+}
+
+/// The name of a cause.
+fn name(cause: TalCause) -> &'static str {
+    match cause {
+        TalCause::BadOnset => "BadOnset",
+        TalCause::BadDuration => "BadDuration",
+        TalCause::NoEnd => "NoEnd",
+        TalCause::NotUtf8 => "NotUtf8",
+        TalCause::ControlByte => "ControlByte",
+        TalCause::NotZeroFilled => "NotZeroFilled",
+    }
+}
+
+/// The items of a lane as a text.
+fn shown(alloc: Global, lane: &[u8]) -> Result<String, AllocError> {
+    let mut shown = String::new(alloc);
+    for item in Tals::new(lane) {
+        match item {
+            Ok(tal) => push_tal(alloc, &mut shown, &tal)?,
+            Err(cause) => shown.push_str(name(cause))?,
+        }
+    }
+    Ok(shown)
+}
+
+/// The text, filled with zeros to so many bytes.
+fn filled(alloc: Global, text: &[u8], bytes: usize) -> Result<Vec<u8>, AllocError> {
+    let mut lane = Vec::from_slice(alloc, text)?;
+    for _ in text.len()..bytes {
+        lane.push(0)?;
+    }
+    Ok(lane)
+}
+
+const SILENT: Result<i128, StartCause> = Err(StartCause::NoTimekeeping);
+
+/// A start that the first TAL's fault hides.
+fn hidden(cause: TalCause) -> Result<i128, StartCause> {
+    Err(StartCause::Tal(cause))
+}
+
+#[test]
+fn reads_each_form(rt: HostRuntime) -> Result<(), AllocError> {
+    let alloc = rt.alloc();
+    for (text, want, start) in [
+        (&b"+0\x14\x14"[..], "0:|;", Ok(0i128)),
+        (
+            b"+1\x14\x14\0+1.5\x151\x14Apnea\x14",
+            "1000000000000:|;1500000000000/1000000000000:Apnea|;",
+            Ok(1_000_000_000_000),
+        ),
+        (b"+0\x14\x14x\x14", "0:|x|;", Ok(0)),
+        (b"+0\x14x\x14", "0:x|;", SILENT),
+        (b"+0\x14", "0:;", SILENT),
+        (b"", "", SILENT),
+        (b"+5.\x14\x14", "BadOnset", hidden(TalCause::BadOnset)),
+        (
+            b"+5\x15\x14\x14",
+            "BadDuration",
+            hidden(TalCause::BadDuration),
+        ),
+        (
+            b"+5\x15-1\x14\x14",
+            "BadDuration",
+            hidden(TalCause::BadDuration),
+        ),
+        (b"+0\x14x", "NoEnd", hidden(TalCause::NoEnd)),
+        (b"+0\x14\x14\xff", "NoEnd", hidden(TalCause::NoEnd)),
+        (b"+0\x14\xff\x14", "NotUtf8", hidden(TalCause::NotUtf8)),
+        (
+            b"+0\x14a\x15b\x14",
+            "ControlByte",
+            hidden(TalCause::ControlByte),
+        ),
+        (b"+0\x14\x14\0\0+1\x14\x14", "0:|;NotZeroFilled", Ok(0)),
+        (
+            b"\0+0\x14\x14",
+            "NotZeroFilled",
+            hidden(TalCause::NotZeroFilled),
+        ),
+    ] {
+        let lane = filled(alloc, text, 32)?;
+        let found = shown(alloc, &lane)?;
+        assert_eq!(rt; found.as_str(), want);
+        assert_eq!(rt; record_start(&lane), start);
+    }
+    Ok(())
+}
+
+#[test]
+fn reads_lanes_without_filling(rt: HostRuntime) -> Result<(), AllocError> {
+    let alloc = rt.alloc();
+    for (lane, want, start) in [
+        (&b""[..], "", SILENT),
+        (b"\0", "", SILENT),
+        (b"+0\x14\x14\0", "0:|;", Ok(0i128)),
+        (
+            b"+0\x14\x14\0+2\x14N2\x14\0",
+            "0:|;2000000000000:N2|;",
+            Ok(0),
+        ),
+        (b"+0\x14\x14", "NoEnd", hidden(TalCause::NoEnd)),
+        (b"+0\x14\x14\0x", "0:|;NoEnd", Ok(0)),
+        (b"+0\x14\x14\0\0\0\0\x01", "0:|;NotZeroFilled", Ok(0)),
+    ] {
+        let found = shown(alloc, lane)?;
+        assert_eq!(rt; found.as_str(), want);
+        assert_eq!(rt; record_start(lane), start);
+    }
+    Ok(())
+}
+
+#[test]
+fn reads_onsets_and_durations_at_their_limits(rt: HostRuntime) -> Result<(), AllocError> {
+    let alloc = rt.alloc();
+    for (text, want) in [
+        (&b"-000000000001.50\x14\x14"[..], "-1500000000000:|;"),
+        (b"-0\x14\x14", "0:|;"),
+        (b"+0.12345678901200000000\x14\x14", "123456789012:|;"),
+        (b"+00000000000000000000000000007\x14", "7000000000000:;"),
+        (
+            b"+999999999.999999999999\x14\x14",
+            "999999999999999999999:|;",
+        ),
+        (b"+1000000000\x14\x14", "BadOnset"),
+        (b"+0.1234567890123\x14\x14", "BadOnset"),
+        (b"0\x14\x14", "BadOnset"),
+        (b"\x14\x14", "BadOnset"),
+        (b"+1\x1500.50\x14\x14", "1000000000000/500000000000:|;"),
+        (b"+1\x150\x14", "1000000000000/0:;"),
+        (b"+1\x152\x14\x14", "1000000000000/2000000000000:|;"),
+        (b"+5\x151\x152\x14\x14", "BadDuration"),
+        (b"+5\x15+1\x14\x14", "BadDuration"),
+        (b"5\x15-1\x14\x14", "BadOnset"),
+        (b"5\x15-1\x14x", "NoEnd"),
+        (b"+5\x15-1\x14\xff\x14", "BadDuration"),
+    ] {
+        let lane = filled(alloc, text, 32)?;
+        let found = shown(alloc, &lane)?;
+        assert_eq!(rt; found.as_str(), want);
+    }
+    Ok(())
+}
+
+#[test]
+fn reads_texts(rt: HostRuntime) -> Result<(), AllocError> {
+    let alloc = rt.alloc();
+    for (text, want) in [
+        (&b"+0\x14a\x14b\x14\x14c d\x14"[..], "0:a|b||c d|;"),
+        (b"+0\x14\t\n\r\x7f\x14", "0:\t\n\r\x7f|;"),
+        (
+            b"+0\x14\xc3\xa4 \xe2\x82\xac \xf0\x9f\x98\xb4\x14",
+            "0:\u{e4} \u{20ac} \u{1f634}|;",
+        ),
+        (b"+0\x14\xef\xbb\xbfx\x14", "0:\u{feff}x|;"),
+        (b"+0\x14a\x01\x14\xff\x14", "ControlByte"),
+        (b"+0\x14a\x14\xff\x01\x14b\x01\x14", "NotUtf8"),
+        (b"+0\x14\x1f\x14", "ControlByte"),
+        (b"+0\x14\xc0\x80\x14", "NotUtf8"),
+        (b"+0\x14\xe0\x80\xaf\x14", "NotUtf8"),
+        (b"+0\x14\xed\xa0\x80\x14", "NotUtf8"),
+        (b"+0\x14\xf4\x90\x80\x80\x14", "NotUtf8"),
+        (b"+0\x14\xe2\x82\x14\xac\x14", "NotUtf8"),
+        (b"+0\x14\x80\x14", "NotUtf8"),
+        (b"+0\x14\x14\0+1\x14\xff\x14", "0:|;NotUtf8"),
+    ] {
+        let lane = filled(alloc, text, 32)?;
+        let found = shown(alloc, &lane)?;
+        assert_eq!(rt; found.as_str(), want);
+    }
+    Ok(())
+}
+
+#[test]
+fn says_nothing_behind_a_fault(rt: HostRuntime) {
+    let mut tals = Tals::new(b"+0\x14x\0+1\x14\x14\0");
+    assert!(rt; matches!(tals.next(), Some(Err(TalCause::NoEnd))));
+    assert!(rt; tals.next().is_none());
+    assert!(rt; tals.next().is_none());
+}
