@@ -10,7 +10,7 @@ use Rattle.edf_fields.specs.declared.cause.TalCause.TheVariants.{BadOnset, BadDu
 use Rattle.edf_fields.specs.Onsets.{SpellsOnset, onset_of, span_of}
 use Rattle.edf_fields.proofs.OnsetFacts.{onset_of_some, span_of_some}
 use Rattle.edf_tal.specs.Tals.{TalValue, SpellsTal, SpellsDuration, AreTexts, IsLaneOf, are_zeros}
-use Rattle.edf_tal.specs.Reading.{until, behind, Item, FaultAfter, texts_of, duration_of, judge_texts, IsClosed, onto, tal_of, tal_of_parts, items_of, ◌then◌}
+use Rattle.edf_tal.specs.Reading.{until, behind, Item, texts_of, duration_of, judge_texts, IsClosed, onto, tal_of, tal_of_parts, items_of, ◌then◌}
 use Rattle.edf_tal.proofs.LaneFacts.{items_of-nil, items_of-zero, items_of-endless, items_of-tal, spelled-texts_of, judged-ok, closed_cut, closed_after, first-not_nil, position-le}
 
 -- ---- what splits so is spelled so
@@ -28,20 +28,20 @@ judged-texts [] h = tt
 judged-texts (t ∷ ts) h = let parts = judged-ok t ts h in ((parts.0, parts.1), judged-texts ts parts.2)
 
 -- the front, the byte and what follows it
-parted : (c : ℕ) (bs : List ℕ) → position_or_len (λ b. b == c) bs < length bs → bs ≡ until c bs ++ c ∷ behind c bs
+pub parted : (c : ℕ) (bs : List ℕ) → position_or_len (λ b. b == c) bs < length bs → bs ≡ until c bs ++ c ∷ behind c bs
 parted c bs h =
     let found = eqb-true _ _ (passes_at_first (λ b. b == c) bs 0 h) in
     split_at_first (λ b. b == c) bs 0 h ∙ ap (λ x. until c bs ++ x ∷ behind c bs) found
 
 -- what stands before the first byte 20 spells an onset, and maybe a duration
-record Head (head : List ℕ) (onset : ℤ) (duration : Option ℤ) : Type 0 where
-  first : List ℕ
-  second : List ℕ
-  onset_is : SpellsOnset first onset
-  duration_is : SpellsDuration second duration
-  whole : head ≡ first ++ second
+pub record Head (head : List ℕ) (onset : ℤ) (duration : Option ℤ) : Type 0 where
+  pub first : List ℕ
+  pub second : List ℕ
+  pub onset_is : SpellsOnset first onset
+  pub duration_is : SpellsDuration second duration
+  pub whole : head ≡ first ++ second
 
-head-spelled : (head : List ℕ) (onset : ℤ) (duration : Option ℤ) → onset_of (until 21 head) ≡ Some onset → duration_of head ≡ Ok duration → Head head onset duration
+pub head-spelled : (head : List ℕ) (onset : ℤ) (duration : Option ℤ) → onset_of (until 21 head) ≡ Some onset → duration_of head ≡ Ok duration → Head head onset duration
 head-spelled head onset duration o d = elim (cases_lt (position_or_len (λ b. b == 21) head) (length head)) [
   | inl found ↦
       let d' = rw (lt-ltb (position_or_len (λ b. b == 21) head) (length head) found) at d in
@@ -97,16 +97,16 @@ tal-spelled piece t h e = elim (cases_Bool (get_or piece (length piece - 1) 0 ==
 ]
 
 -- how a lane begins
-abbrev IsZeros : List ℕ → Type 0
+abbrev pub IsZeros : List ℕ → Type 0
 IsZeros lane = (are_zeros lane ≡ true) × (items_of lane ≡ [])
 
-abbrev IsFault : List ℕ → Type 0
+abbrev pub IsFault : List ℕ → Type 0
 IsFault lane = (e : TalCause) × (items_of lane ≡ Err e ∷ [])
 
-abbrev IsMore : List ℕ → Type 0
+abbrev pub IsMore : List ℕ → Type 0
 IsMore lane = (piece : List ℕ) × (rest : List ℕ) × (0 < length piece) × (lane ≡ piece ++ 0 ∷ rest) × (items_of lane ≡ onto (tal_of piece) (items_of rest))
 
-lane-cases : (lane : List ℕ) → IsZeros lane ⊎ (IsFault lane ⊎ IsMore lane)
+pub lane-cases : (lane : List ℕ) → IsZeros lane ⊎ (IsFault lane ⊎ IsMore lane)
 lane-cases [] = inl (refl, items_of-nil)
 lane-cases (b ∷ bs) = elim (cases_Bool (b == 0)) [
   | inl zero_first ↦
@@ -123,7 +123,7 @@ lane-cases (b ∷ bs) = elim (cases_Bool (b == 0)) [
   ]
 ]
 
-onto-ok : (i : Item) (items others : List Item) (t : TalValue) → onto i items ≡ Ok t ∷ others → (i ≡ Ok t) × (items ≡ others)
+pub onto-ok : (i : Item) (items others : List Item) (t : TalValue) → onto i items ≡ Ok t ∷ others → (i ≡ Ok t) × (items ≡ others)
 onto-ok (Ok u) items others t h = (cc, cc)
 onto-ok (Err e) items others t h = absurd (cc)
 
@@ -143,14 +143,4 @@ lane-spelled (t ∷ ts) lane h = elim (lane-cases lane) [
   | inr (inr more) ↦
       let parts = onto-ok _ _ _ t (sym more.4 ∙ h) in
       (more.0, more.1, tal-spelled more.0 t more.2 parts.0, more.3, lane-spelled ts more.1 parts.1)
-]
-
-pub fault-spelled : (tals : List TalValue) (cause : TalCause) (lane : List ℕ) → items_of lane ≡ map Ok tals ++ Err cause ∷ [] → FaultAfter lane tals cause
-fault-spelled [] cause lane h = h
-fault-spelled (t ∷ ts) cause lane h = elim (lane-cases lane) [
-  | inl zeros ↦ let is = zeros.1 in absurd (cc)
-  | inr (inl fault) ↦ let is = fault.1 in absurd (cc)
-  | inr (inr more) ↦
-      let parts = onto-ok _ _ _ t (sym more.4 ∙ h) in
-      (more.0, more.1, tal-spelled more.0 t more.2 parts.0, more.3, fault-spelled ts cause more.1 parts.1)
 ]

@@ -2,3 +2,4 @@ pub mod TextFacts
 pub mod LaneFacts
 pub mod ReadFacts
 pub mod LawFacts
+pub mod FaultFacts

@@ -12,21 +12,17 @@ use Rattle.edf_fields.specs.Onsets.{SpellsOnset, SpellsSpan, onset_of, span_of}
 use Rattle.edf_fields.proofs.OnsetFacts.{onset_of_spelled, span_of_spelled}
 use Rattle.edf_fields.proofs.OnsetByteFacts.{onset_bytes_from, span_bytes_from}
 use Rattle.edf_tal.specs.Tals.{TalValue, SpellsTal, SpellsDuration, AreTexts, IsLaneOf, is_control, ended, are_zeros}
-use Rattle.edf_tal.specs.Reading.{until, behind, pieces, FaultAfter, closed, texts_of, duration_of, judge_texts, onto, tal_of, tal_of_parts, items_of, items_of_pieces, ◌then◌}
+use Rattle.edf_tal.specs.Faults.{Lacks}
+use Rattle.edf_tal.specs.Reading.{until, behind, pieces, closed, texts_of, duration_of, judge_texts, onto, tal_of, tal_of_parts, items_of, items_of_pieces, ◌then◌}
 use Rattle.edf_tal.proofs.TextFacts.{closed-cons, is_fine, judged-more}
 use Rattle.edf_tal.proofs.LaneFacts.{items_of-nil, items_of-zero, pieces-cons, split-pos, not_nil}
 
--- no byte is c
-abbrev pub Lacks : ℕ → List ℕ → Type 0
-Lacks c [] = Unit {0}
-Lacks c (b ∷ bs) = ((b == c) ≡ false) × Lacks c bs
-
-lacks-append : (c : ℕ) (xs ys : List ℕ) → Lacks c xs → Lacks c ys → Lacks c (xs ++ ys)
+pub lacks-append : (c : ℕ) (xs ys : List ℕ) → Lacks c xs → Lacks c ys → Lacks c (xs ++ ys)
 lacks-append c [] ys h k = k
 lacks-append c (x ∷ xs) ys h k = (h.0, lacks-append c xs ys h.1 k)
 
 -- where a list is cut
-position-lacks : (c : ℕ) (xs ys : List ℕ) → (c == c) ≡ true → Lacks c xs → position_or_len (λ b. b == c) (xs ++ c ∷ ys) ≡ length xs
+pub position-lacks : (c : ℕ) (xs ys : List ℕ) → (c == c) ≡ true → Lacks c xs → position_or_len (λ b. b == c) (xs ++ c ∷ ys) ≡ length xs
 position-lacks c [] ys r h = rw r
 position-lacks c (x ∷ xs) ys r h = let first = h.0 in rw first (omega (arith, position-lacks c xs ys r h.1))
 
@@ -40,13 +36,13 @@ drop-seam c (x ∷ xs) ys =
     let one_more : length (x ∷ xs) + 1 ≡ suc (length xs + 1) = omega arith in
     ap (λ n. drop n (x ∷ (xs ++ c ∷ ys))) one_more ∙ drop-seam c xs ys
 
-before-lacks : (c : ℕ) (xs ys : List ℕ) → (c == c) ≡ true → Lacks c xs → until c (xs ++ c ∷ ys) ≡ xs
+pub before-lacks : (c : ℕ) (xs ys : List ℕ) → (c == c) ≡ true → Lacks c xs → until c (xs ++ c ∷ ys) ≡ xs
 before-lacks c xs ys r h = ap (λ n. take n (xs ++ c ∷ ys)) (position-lacks c xs ys r h) ∙ take-append_seam xs (c ∷ ys)
 
-after-lacks : (c : ℕ) (xs ys : List ℕ) → (c == c) ≡ true → Lacks c xs → behind c (xs ++ c ∷ ys) ≡ ys
+pub after-lacks : (c : ℕ) (xs ys : List ℕ) → (c == c) ≡ true → Lacks c xs → behind c (xs ++ c ∷ ys) ≡ ys
 after-lacks c xs ys r h = ap (λ n. drop (n + 1) (xs ++ c ∷ ys)) (position-lacks c xs ys r h) ∙ drop-seam c xs ys
 
-split-lacks : (c : ℕ) (xs ys : List ℕ) → (c == c) ≡ true → Lacks c xs → pieces c (xs ++ c ∷ ys) ≡ xs ∷ pieces c ys
+pub split-lacks : (c : ℕ) (xs ys : List ℕ) → (c == c) ≡ true → Lacks c xs → pieces c (xs ++ c ∷ ys) ≡ xs ∷ pieces c ys
 split-lacks c [] ys r h = rw r
 split-lacks c (x ∷ xs) ys r h = let first = h.0 in let later = split-lacks c xs ys r h.1 in rw (first, later)
 
@@ -68,7 +64,7 @@ high-lacks : (c : ℕ) (s : List ℕ) → ((k : ℕ) → k < length s → c < sl
 high-lacks c [] h = tt
 high-lacks c (b ∷ bs) h = (above-lacks c b (h 0 (omega arith)), high-lacks c bs (λ k lt. h (suc k) (omega arith)))
 
-lacks-text : (c : ℕ) (t : List ℕ) → is_control c ≡ true → list_any is_control t ≡ false → Lacks c t
+pub lacks-text : (c : ℕ) (t : List ℕ) → is_control c ≡ true → list_any is_control t ≡ false → Lacks c t
 lacks-text c [] k h = tt
 lacks-text c (b ∷ bs) k h = elim (cases_Bool (b == c)) [
   | inl holds ↦
@@ -80,10 +76,10 @@ lacks-text c (b ∷ bs) k h = elim (cases_Bool (b == c)) [
 span-lacks : (c : ℕ) (s : List ℕ) (v : ℤ) → c ≤ 42 → SpellsSpan s v → Lacks c s
 span-lacks c s v h e = high-lacks c s (λ k lt. let low = span_bytes_from s v (span_of_spelled s v e) k lt in omega (arith, low))
 
-onset-lacks : (c : ℕ) (s : List ℕ) (v : ℤ) → c ≤ 42 → SpellsOnset s v → Lacks c s
+pub onset-lacks : (c : ℕ) (s : List ℕ) (v : ℤ) → c ≤ 42 → SpellsOnset s v → Lacks c s
 onset-lacks c s v h e = high-lacks c s (λ k lt. let low = onset_bytes_from s v (onset_of_spelled s v e) k lt in omega (arith, low))
 
-duration-lacks : (c : ℕ) (s : List ℕ) (v : Option ℤ) → c ≤ 42 → (21 == c) ≡ false → SpellsDuration s v → Lacks c s
+pub duration-lacks : (c : ℕ) (s : List ℕ) (v : Option ℤ) → c ≤ 42 → (21 == c) ≡ false → SpellsDuration s v → Lacks c s
 duration-lacks c s None h k e = rw e tt
 duration-lacks c s (Some v) h k (digits, is, spelled) = rw is (k, span-lacks c digits v h spelled)
 
@@ -93,7 +89,7 @@ texts-lack (t ∷ ts) h = lacks-append 0 (t ++ 20 ∷ []) (ended ts) (lacks-appe
 
 -- ---- what is read of what is spelled
 
-texts-read : (ts : List (List ℕ)) → AreTexts ts → texts_of (ended ts) ≡ ts
+pub texts-read : (ts : List (List ℕ)) → AreTexts ts → texts_of (ended ts) ≡ ts
 texts-read [] h = refl
 texts-read (t ∷ ts) h =
     ap texts_of (append_assoc t (20 ∷ []) (ended ts))
@@ -101,11 +97,11 @@ texts-read (t ∷ ts) h =
     ∙ closed-cons t (pieces 20 (ended ts)) (omega (arith, length-slice_split (λ (b : ℕ). b == 20) (ended ts)))
     ∙ ap (λ xs. t ∷ xs) (texts-read ts h.1)
 
-texts-judge_texts : (ts : List (List ℕ)) → AreTexts ts → judge_texts ts ≡ Ok tt
+pub texts-judge_texts : (ts : List (List ℕ)) → AreTexts ts → judge_texts ts ≡ Ok tt
 texts-judge_texts [] h = refl
 texts-judge_texts (t ∷ ts) h = judged-more t ts (is_fine t h.0.0 h.0.1) ∙ texts-judge_texts ts h.1
 
-duration-read : (onset s : List ℕ) (v : Option ℤ) → Lacks 21 onset → SpellsDuration s v → (until 21 (onset ++ s) ≡ onset) × (duration_of (onset ++ s) ≡ Ok v)
+pub duration-read : (onset s : List ℕ) (v : Option ℤ) → Lacks 21 onset → SpellsDuration s v → (until 21 (onset ++ s) ≡ onset) × (duration_of (onset ++ s) ≡ Ok v)
 duration-read onset s None l e =
     let whole : onset ++ s ≡ onset = ap (λ s. onset ++ s) e ∙ append-nil onset in
     let at_end = position-none 21 onset l in
@@ -122,7 +118,7 @@ duration-read onset s (Some v) l (digits, is, spelled) =
       ap duration_of whole ∙ ap (λ b. cond b (ok_or (span_of (behind 21 (onset ++ 21 ∷ digits))) BadDuration then λ d. Ok (Some d)) (Ok None)) found ∙ read,
     )
 
-last-is : (xs : List ℕ) (ts : List (List ℕ)) → get_or (xs ++ 20 ∷ ended ts) (length (xs ++ 20 ∷ ended ts) - 1) 0 ≡ 20
+pub last-is : (xs : List ℕ) (ts : List (List ℕ)) → get_or (xs ++ 20 ∷ ended ts) (length (xs ++ 20 ∷ ended ts) - 1) 0 ≡ 20
 last-is xs [] = ap (λ n. get_or (xs ++ 20 ∷ []) n 0) (omega (arith, length-append xs (20 ∷ []))) ∙ get_or-append_seam xs 20 [] 0
 last-is xs (t ∷ ts) =
     let same : xs ++ 20 ∷ ended (t ∷ ts) ≡ (xs ++ 20 ∷ t) ++ 20 ∷ ended ts =
@@ -139,7 +135,7 @@ parts-read head body o s t e f onset duration texts =
     let fourth : judge_texts (texts_of body) ≡ Ok tt = ap judge_texts third ∙ texts-judge_texts t.texts texts in
     rw (first, second, fourth, third)
 
-tal-read : (s : List ℕ) (t : TalValue) → SpellsTal s t → tal_of s ≡ Ok t
+pub tal-read : (s : List ℕ) (t : TalValue) → SpellsTal s t → tal_of s ≡ Ok t
 tal-read s t sp =
     let head : List ℕ = sp.onset ++ sp.duration in
     let body : List ℕ = ended t.texts in
@@ -150,15 +146,15 @@ tal-read s t sp =
     ap (λ b. cond b (tal_of_parts (until 20 s) (behind 20 s)) (Err NoEnd)) is_end
     ∙ parts-read _ _ sp.onset sp.duration t front back sp.onset_is sp.duration_is sp.texts
 
-tal-lacks : (s : List ℕ) (t : TalValue) → SpellsTal s t → Lacks 0 s
+pub tal-lacks : (s : List ℕ) (t : TalValue) → SpellsTal s t → Lacks 0 s
 tal-lacks s t sp =
     let head = lacks-append 0 sp.onset sp.duration (onset-lacks 0 sp.onset t.onset (lit≤ tt) sp.onset_is) (duration-lacks 0 sp.duration t.duration (lit≤ tt) refl sp.duration_is) in
     subst (Lacks 0) (sym sp.whole) (lacks-append 0 (sp.onset ++ sp.duration) (20 ∷ ended t.texts) head (refl, texts-lack t.texts sp.texts))
 
-tal-some : (s : List ℕ) (t : TalValue) → SpellsTal s t → 0 < length s
+pub tal-some : (s : List ℕ) (t : TalValue) → SpellsTal s t → 0 < length s
 tal-some s t sp = omega (arith, ap length sp.whole, length-append (sp.onset ++ sp.duration) (20 ∷ ended t.texts))
 
-items_of-front : (s rest : List ℕ) → Lacks 0 s → 0 < length s → items_of (s ++ 0 ∷ rest) ≡ onto (tal_of s) (items_of rest)
+pub items_of-front : (s rest : List ℕ) → Lacks 0 s → 0 < length s → items_of (s ++ 0 ∷ rest) ≡ onto (tal_of s) (items_of rest)
 unfolding items_of
 items_of-front s rest l h = ap items_of_pieces (split-lacks 0 s rest refl l) ∙ pieces-cons s (pieces 0 rest) (split-pos rest) (not_nil s h)
 
@@ -173,12 +169,6 @@ lane-read [] lane h = zeros-read lane h
 lane-read (t ∷ ts) lane (s, rest, spelled, whole, later) =
     ap items_of whole ∙ items_of-front s rest (tal-lacks s t spelled) (tal-some s t spelled)
     ∙ ap (λ i. onto i (items_of rest)) (tal-read s t spelled) ∙ ap (λ xs. Ok t ∷ xs) (lane-read ts rest later)
-
-pub fault-read : (tals : List TalValue) (cause : TalCause) (lane : List ℕ) → FaultAfter lane tals cause → items_of lane ≡ map Ok tals ++ Err cause ∷ []
-fault-read [] cause lane h = h
-fault-read (t ∷ ts) cause lane (s, rest, spelled, whole, later) =
-    ap items_of whole ∙ items_of-front s rest (tal-lacks s t spelled) (tal-some s t spelled)
-    ∙ ap (λ i. onto i (items_of rest)) (tal-read s t spelled) ∙ ap (λ xs. Ok t ∷ xs) (fault-read ts cause rest later)
 
 -- the items tell the list
 items-tell : (tals others : List TalValue) → map {B = Result TalValue TalCause} Ok tals ≡ map Ok others → tals ≡ others

@@ -1,3 +1,4 @@
 pub mod Tals
 pub mod Reading
+pub mod Faults
 pub mod Views

@@ -1,12 +1,12 @@
 -- What a lane gives to a reader that goes from the left: its TALs, and the first cause why it isn't one.
-use Rattle.std.specs.Prelude.{◌≡◌, ℕ, ◌-◌, ◌<◌, Bool, true, false, ◌==◌, nat_lt, ℤ, List, [], ◌∷◌, ◌++◌, length, slice_index, Option, Some, None, Result, Ok, Err, if◌then◌else◌}
+use Rattle.std.specs.Prelude.{◌≡◌, ℕ, ◌-◌, ◌<◌, Bool, true, false, ◌==◌, nat_lt, ℤ, List, [], ◌∷◌, length, slice_index, Option, Some, None, Result, Ok, Err, if◌then◌else◌}
 use Rattle.std.specs.List.{slice_split, before_first, after_first, position_or_len, list_any, list_all}
 use Rattle.std.specs.Option.{ok_or}
 use Rattle.std.specs.Str.{is_utf8}
 use Rattle.edf_fields.specs.Onsets.{onset_of, span_of}
 use Rattle.edf_fields.specs.declared.cause.TalCause.{TalCause}
 use Rattle.edf_fields.specs.declared.cause.TalCause.TheVariants.{BadOnset, BadDuration, NoEnd, NotUtf8, ControlByte, NotZeroFilled}
-use Rattle.edf_tal.specs.Tals.{TalValue, SpellsTal, is_control}
+use Rattle.edf_tal.specs.Tals.{TalValue, is_control}
 
 -- what stands before the first byte c
 abbrev pub until : ℕ → List ℕ → List ℕ
@@ -93,8 +93,3 @@ items_of_pieces (piece ∷ next ∷ more) =
 -- the items of a lane
 unfoldable pub items_of : List ℕ → List Item
 items_of lane = items_of_pieces (pieces 0 lane)
-
--- the lane is one spelling of each TAL in order, the byte 0 behind each, and then comes this cause
-abbrev pub FaultAfter : List ℕ → List TalValue → TalCause → Type 0
-FaultAfter lane [] cause = items_of lane ≡ Err cause ∷ []
-FaultAfter lane (tal ∷ tals) cause = (bytes : List ℕ) × (rest : List ℕ) × SpellsTal bytes tal × (lane ≡ bytes ++ 0 ∷ rest) × FaultAfter rest tals cause

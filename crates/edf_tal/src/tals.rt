@@ -3,7 +3,8 @@
 ghost use Rattle.std.specs.Prelude.{◌≡◌, ◌↔◌, List, map, ◌++◌, [], ◌∷◌, Ok, Err, MatchOption};
 ghost use Rattle.edf_fields.specs.declared.cause.TalCause.{TalCause};
 ghost use Rattle.edf_tal.specs.Tals.{TalValue, IsLaneOf, are_zeros};
-ghost use Rattle.edf_tal.specs.Reading.{items_of, FaultAfter};
+ghost use Rattle.edf_tal.specs.Reading.{items_of};
+ghost use Rattle.edf_tal.specs.Faults.{FaultAfter};
 ghost use Rattle.edf_tal.specs.Views.{item_view, items_left};
 
 use crate::separator::cut;
