@@ -1,3 +1,4 @@
+pub mod DateFacts
 pub mod DigitFacts
 pub mod DotFacts
 pub mod NumberFacts
@@ -6,5 +7,7 @@ pub mod OnsetFacts
 pub mod PartFacts
 pub mod PlaceFacts
 pub mod ReadFacts
+pub mod SubfieldFacts
+pub mod SubfieldLawFacts
 pub mod ValueFacts
 pub mod ZeroFacts

@@ -1,3 +1,4 @@
+pub mod Dates
 pub mod Numbers
 pub mod Onsets
 pub mod Parts
@@ -5,3 +6,4 @@ pub mod Sinks
 pub mod SliceSink
 pub mod SliceSource
 pub mod Sources
+pub mod Subfields

@@ -3,8 +3,10 @@
 //! annotations.
 #![tactic(auto)]
 
+pub mod date;
 pub mod laws;
 pub mod number;
 pub mod onset;
 pub mod sink;
 pub mod source;
+pub mod subfields;
