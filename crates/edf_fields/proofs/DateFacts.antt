@@ -1,8 +1,8 @@
 -- The day and the time of a text, as relations and as functions.
-use Rattle.std.proofs.Common.{◌≡◌, ◌≤◌, ℕ, ℤ, Bool, true, false, nat_le, List, Option, Some, None, MatchOption, option_map, refl, ap, sym, ◌∙◌, pos, arith, cond, ◌&&◌}
+use Rattle.std.proofs.Common.{◌≡◌, ◌≤◌, ℕ, ℤ, Bool, true, false, nat_le, List, Option, Some, None, MatchOption, option_map, refl, ap, sym, ◌∙◌, pos, arith, cond, is_some, ◌&&◌}
 use Rattle.std.specs.Bool.{Decides}
 use Rattle.std.specs.List.{list_all}
-use Rattle.std.proofs.lemmas.Bool.Decides.{Decides-and, Decides-like, Decides-eqb, nat_tests}
+use Rattle.std.proofs.lemmas.Bool.Decides.{Decides-and, Decides-like, Decides-at, Decides-eqb, nat_tests}
 use Rattle.std.proofs.lemmas.Int.{ints}
 use Rattle.jiff.specs.Types.{Date}
 use Rattle.jiff.specs.Words.{IsYmd, epoch_day, days_in_month}
@@ -47,7 +47,7 @@ dashed_decided t =
     (Decides-and _ _ (Decides-eqb _ _) (Decides-and _ _ (Decides-and _ _ (Decides-eqb _ _) (Decides-eqb _ _))
     (Decides-and _ _ (digits_decided (part t 0 2)) (digits_decided (part t 7 4)))))
 
-le_decided : (a b : ℕ) → Decides (nat_le a b) (a ≤ b)
+pub le_decided : (a b : ℕ) → Decides (nat_le a b) (a ≤ b)
 le_decided a b = (λ h. grind (arith, nat_tests), λ h. grind (arith, nat_tests))
 
 -- the facts of a day's test
@@ -140,6 +140,24 @@ dashed_day_read None t h =
     sym (shaped_none (is_dashed t) _ _ _ (λ test n day. h n ((dashed_decided t).0 test, day)))
 dashed_day_read (Some date) t h =
     sym (shaped_some (is_dashed t) _ _ _ date ((dashed_decided t).1 h.0) h.1)
+
+-- whether a text names a day
+two_tests : (a b : Bool) (day : CivilDay) → is_some (cond a (cond b (Some day) None) None) ≡ (a && b)
+two_tests true true day = refl
+two_tests true false day = refl
+two_tests false b day = refl
+
+pub dashed_day_decided : (t : List ℕ) → Decides (is_some (dashed_day_of t)) ((n : ℤ) × NamesDashedDay t n)
+unfolding dashed_day_of
+dashed_day_decided t =
+    let year = number_at t 7 4 in
+    let month = month_of (part t 3 3) in
+    let day = number_at t 0 2 in
+    Decides-at _ (is_dashed t && is_day year month day) (two_tests (is_dashed t) (is_day year month day) _)
+    (Decides-like _
+    (λ h. let made = date_made year month day h.1 in (made.0, (h.0, made.1)))
+    (λ h. (h.1.0, date_has_day year month day h.0 h.1.1))
+    (Decides-and _ _ (dashed_decided t) (has_day_decided year month day)))
 
 -- the time of the day
 abbrev pub IsClock : List ℕ → Type 0

@@ -1,6 +1,7 @@
 pub mod DateFacts
 pub mod DigitFacts
 pub mod DotFacts
+pub mod IdentificationFacts
 pub mod NumberFacts
 pub mod OnsetByteFacts
 pub mod OnsetFacts

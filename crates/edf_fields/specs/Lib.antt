@@ -1,4 +1,6 @@
+pub mod Causes
 pub mod Dates
+pub mod Identifications
 pub mod Numbers
 pub mod Onsets
 pub mod Parts

@@ -1,5 +1,6 @@
 //! Laws of the definitions, each the contract of a function that does nothing.
 ghost use Rattle.edf_fields.specs.Dates.{NamesOneDottedDay, NamesOneDashedDay, NamesOneClockTime};
+ghost use Rattle.edf_fields.specs.Identifications.{SaysOnePatient, SaysOneRecording, SaysPatientOrCause, SaysRecordingOrCause};
 ghost use Rattle.edf_fields.specs.Numbers.{SpellsOneHeaderNumber, SpellsOneWholeNumber};
 ghost use Rattle.edf_fields.specs.Onsets.{SpellsOneOnset, SpellsOneSpan};
 ghost use Rattle.edf_fields.specs.Subfields.{HasOneListOfSubfields, FindsSubfields};
@@ -30,4 +31,14 @@ pub fn texts_name_one_day()
 pub fn texts_have_one_list_of_subfields()
     ensures one { HasOneListOfSubfields }
     ensures found { FindsSubfields }
+{}
+
+/// A field says at most one patient and at most one recording, and it says one exactly where no
+/// cause applies.
+#[tactic(auto, using(crate::proofs::IdentificationFacts::patient_or_cause, crate::proofs::IdentificationFacts::recording_or_cause))]
+pub fn fields_say_one_identification()
+    ensures patient { SaysOnePatient }
+    ensures recording { SaysOneRecording }
+    ensures patient_or_cause { SaysPatientOrCause }
+    ensures recording_or_cause { SaysRecordingOrCause }
 {}

@@ -3,7 +3,9 @@
 //! annotations.
 #![tactic(auto)]
 
+pub mod cause;
 pub mod date;
+pub mod identification;
 pub mod laws;
 pub mod number;
 pub mod onset;
