@@ -1,10 +1,14 @@
+pub mod DateFacts
 pub mod DigitFacts
 pub mod DotFacts
+pub mod IdentificationFacts
 pub mod NumberFacts
 pub mod OnsetByteFacts
 pub mod OnsetFacts
 pub mod PartFacts
 pub mod PlaceFacts
 pub mod ReadFacts
+pub mod SubfieldFacts
+pub mod SubfieldLawFacts
 pub mod ValueFacts
 pub mod ZeroFacts

@@ -18,7 +18,7 @@ leading_cons b r e = grind (arith, common_steps)
 leading_other : (b : ℕ) (r : List ℕ) → b ≢ 48 → without_leading_zeros (b ∷ r) ≡ b ∷ r
 leading_other b r e = grind (arith, common_steps)
 
-at_place : (xs : List ℕ) (i : ℕ) → i < length xs → drop i xs ≡ get_or xs i 0 ∷ drop (i + 1) xs
+pub at_place : (xs : List ℕ) (i : ℕ) → i < length xs → drop i xs ≡ get_or xs i 0 ∷ drop (i + 1) xs
 at_place xs i h = rw (add-one, drop-cons xs i 0)
 
 pub leading_zero : (xs : List ℕ) (i : ℕ) → i < length xs → get_or xs i 0 ≡ 48 → without_leading_zeros (drop (i + 1) xs) ≡ without_leading_zeros (drop i xs)

@@ -1,3 +1,6 @@
+pub mod Causes
+pub mod Dates
+pub mod Identifications
 pub mod Numbers
 pub mod Onsets
 pub mod Parts
@@ -5,3 +8,4 @@ pub mod Sinks
 pub mod SliceSink
 pub mod SliceSource
 pub mod Sources
+pub mod Subfields

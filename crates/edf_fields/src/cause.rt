@@ -1,11 +1,31 @@
-//! Why a field or an annotation is none of the profile.
+//! Why a field or a time-stamped annotation list is refused.
 
-/// Why a lane is no list of TALs, in the order in which the causes are looked for.
+/// Why an identification field is refused. Of several causes the first that applies, in the order
+/// in which they stand here.
+///
+/// A recording identification has no sex, and there a missing word `Startdate` comes last.
+#[derive(Clone, Copy, Debug, PartialEq, Eq)]
+pub enum FieldCause {
+    /// A byte is below 32 or above 126.
+    NotPrintable,
+    /// The field begins with a space.
+    LeadingSpace,
+    /// There are fewer than the four subfields of a patient, or the five of a recording.
+    TooFewSubfields,
+    /// The sex is none of `F`, `M` and `X`.
+    BadSex,
+    /// The date is neither `X` nor a day written `dd-MMM-yyyy`.
+    BadDate,
+    /// The first subfield isn't `Startdate`.
+    NoStartdateWord,
+}
+
+/// Why a lane of time-stamped annotation lists is refused.
 #[derive(Clone, Copy, Debug, PartialEq, Eq)]
 pub enum TalCause {
-    /// The onset is none.
+    /// What stands in front is no onset.
     BadOnset,
-    /// The duration is none.
+    /// What stands behind byte 21 is no duration.
     BadDuration,
     /// No byte 0 follows, or the byte before it isn't 20.
     NoEnd,
@@ -13,6 +33,6 @@ pub enum TalCause {
     NotUtf8,
     /// A text has a control byte other than 9, 10 and 13.
     ControlByte,
-    /// A byte other than 0 stands behind the zeros at the end of the lane.
+    /// Behind the last annotation list a byte isn't 0.
     NotZeroFilled,
 }

@@ -1,6 +1,9 @@
 //! Laws of the definitions, each the contract of a function that does nothing.
+ghost use Rattle.edf_fields.specs.Dates.{NamesOneDottedDay, NamesOneDashedDay, NamesOneClockTime};
+ghost use Rattle.edf_fields.specs.Identifications.{SaysOnePatient, SaysOneRecording, SaysPatientOrCause, SaysRecordingOrCause};
 ghost use Rattle.edf_fields.specs.Numbers.{SpellsOneHeaderNumber, SpellsOneWholeNumber};
 ghost use Rattle.edf_fields.specs.Onsets.{SpellsOneOnset, SpellsOneSpan};
+ghost use Rattle.edf_fields.specs.Subfields.{HasOneListOfSubfields, FindsSubfields};
 
 /// A field spells at most one number, as a header number and as a whole number.
 pub fn fields_spell_one_number()
@@ -12,4 +15,30 @@ pub fn fields_spell_one_number()
 pub fn texts_spell_one_time()
     ensures onset { SpellsOneOnset }
     ensures span { SpellsOneSpan }
+{}
+
+/// A text names at most one day, in each of the two forms, and at most one time of the day.
+#[tactic(auto, using(crate::proofs::DateFacts::one_dotted_day, crate::proofs::DateFacts::one_dashed_day, crate::proofs::DateFacts::one_clock_time))]
+pub fn texts_name_one_day()
+    ensures dotted { NamesOneDottedDay }
+    ensures dashed { NamesOneDashedDay }
+    ensures clock { NamesOneClockTime }
+{}
+
+/// A text has at most one list of subfields, and one that neither begins nor ends with a space has
+/// the list that is found.
+#[tactic(auto, using(crate::proofs::SubfieldLawFacts::one_list, crate::proofs::SubfieldLawFacts::finds_subfields))]
+pub fn texts_have_one_list_of_subfields()
+    ensures one { HasOneListOfSubfields }
+    ensures found { FindsSubfields }
+{}
+
+/// A field says at most one patient and at most one recording, and it says one exactly where no
+/// cause applies.
+#[tactic(auto, using(crate::proofs::IdentificationFacts::patient_or_cause, crate::proofs::IdentificationFacts::recording_or_cause))]
+pub fn fields_say_one_identification()
+    ensures patient { SaysOnePatient }
+    ensures recording { SaysOneRecording }
+    ensures patient_or_cause { SaysPatientOrCause }
+    ensures recording_or_cause { SaysRecordingOrCause }
 {}

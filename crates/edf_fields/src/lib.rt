@@ -4,8 +4,11 @@
 #![tactic(auto)]
 
 pub mod cause;
+pub mod date;
+pub mod identification;
 pub mod laws;
 pub mod number;
 pub mod onset;
 pub mod sink;
 pub mod source;
+pub mod subfields;

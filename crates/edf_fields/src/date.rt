@@ -1,0 +1,312 @@
+//! The days and times of the day that the texts of a header name.
+//!
+//! A startdate is `dd.mm.yy` and a starttime `hh.mm.ss` (EDF, "Header record"); a birthdate and the
+//! startdate in the recording identification are `dd-MMM-yyyy` (EDF+, "Additional specifications
+//! in EDF+"). `jiff` knows which days exist and how they are numbered. The calls take the text of
+//! a field, without the spaces that fill it.
+ghost use Rattle.std.specs.Prelude.{◌≡◌, ◌+◌, ◌≤◌, ◌<◌, ◌^◌, ℕ, ℤ, pos, length, MatchOption, IfSome, option_map};
+ghost use Rattle.jiff.specs.Words.{IsYmd, epoch_day};
+ghost use Rattle.edf_fields.specs.Dates.{number_at, month_of, full_year, IsDayNumber, IsDotted, NamesDottedDay, NamesDashedDay, NamesClockTime, civil_day, dotted_day_of, dashed_day_of, clock_time_of};
+ghost use Rattle.edf_fields.specs.Numbers.{AreDigits};
+ghost use Rattle.edf_fields.specs.Parts.{part};
+
+use crate::number::{digits, part};
+use jiff::civil::Date;
+
+/// The number that `count` digits from place `at` on spell; none where a byte there is no digit.
+fn number_at(text: &[u8], at: usize, count: usize) -> Option<u16>
+    requires within { at + count ≤ length text.now }
+    requires few { count ≤ 4 }
+    ensures { MatchOption result (¬ AreDigits (part text.now at count))
+        (λ v. AreDigits (part text.now at count) × (v ≡ number_at text.now at count) × (v < 10 ^ count)) }
+{
+    let value = digits(part(text, at, count))?;
+    Some(value as u16)
+}
+
+/// The three numbers of a text `dd.dd.dd`.
+#[derive(Clone, Copy, Debug)]
+struct DottedNumbers {
+    first: u16,
+    second: u16,
+    third: u16,
+}
+
+/// The numbers of a text of two digits, a dot, two digits, a dot and two digits; none of any other
+/// text.
+fn dotted_numbers(text: &[u8]) -> Option<DottedNumbers>
+    ensures { MatchOption result (¬ IsDotted text.now)
+        (λ numbers. IsDotted text.now
+        × (numbers.first ≡ number_at text.now 0 2)
+        × (numbers.second ≡ number_at text.now 3 2)
+        × (numbers.third ≡ number_at text.now 6 2)
+        × (numbers.first < 100) × (numbers.second < 100) × (numbers.third < 100)) }
+{
+    if text.len() != 8 || text[2] != b'.' || text[5] != b'.' {
+        return None;
+    }
+    let first = number_at(text, 0, 2)?;
+    let second = number_at(text, 3, 2)?;
+    let third = number_at(text, 6, 2)?;
+    Some(DottedNumbers {
+        first,
+        second,
+        third,
+    })
+}
+
+/// The number of the month with this name, from 1 for `JAN` on; none where no month has it.
+fn month_number(name: &[u8]) -> Option<u16>
+    ensures { MatchOption result (month_of name.now ≡ 0) (λ month. (month ≡ month_of name.now) × (month ≤ 12)) }
+{
+    match name {
+        b"JAN" => Some(1),
+        b"FEB" => Some(2),
+        b"MAR" => Some(3),
+        b"APR" => Some(4),
+        b"MAY" => Some(5),
+        b"JUN" => Some(6),
+        b"JUL" => Some(7),
+        b"AUG" => Some(8),
+        b"SEP" => Some(9),
+        b"OCT" => Some(10),
+        b"NOV" => Some(11),
+        b"DEC" => Some(12),
+        _ => None,
+    }
+}
+
+/// The day with this year, month and day; none where the calendar has no such day.
+fn existing_day(year: u16, month: u16, day: u16) -> Option<Date>
+    requires year { year ≤ 9999 }
+    requires month { month < 100 }
+    requires day { day < 100 }
+    ensures { MatchOption result ((n : ℤ) → ¬ IsDayNumber year month day n)
+        (λ date. IsYmd (pos year) (pos month) (pos day) date) }
+{
+    match Date::new(year as i16, month as i8, day as i8) {
+        Ok(date) => Some(date),
+        Err(_) => None,
+    }
+}
+
+/// The year that two digits stand for: 1985 is the first, 2084 the last.
+fn full_year(two_digits: u16) -> u16
+    requires { two_digits < 100 }
+    ensures year { result ≡ full_year two_digits }
+    ensures within { result ≤ 9999 }
+{
+    if two_digits >= 85 {
+        1900 + two_digits
+    } else {
+        2000 + two_digits
+    }
+}
+
+/// The day that a text names, as `dotted_date`.
+fn dotted_day(text: &[u8]) -> Option<Date>
+    ensures { MatchOption result ((n : ℤ) → ¬ NamesDottedDay text.now n) (λ date. NamesDottedDay text.now (epoch_day date)) }
+{
+    let numbers = dotted_numbers(text)?;
+    existing_day(full_year(numbers.third), numbers.second, numbers.first)
+}
+
+/// The day that a text names, as `dashed_date`.
+fn dashed_day(text: &[u8]) -> Option<Date>
+    ensures { MatchOption result ((n : ℤ) → ¬ NamesDashedDay text.now n) (λ date. NamesDashedDay text.now (epoch_day date)) }
+{
+    if text.len() != 11 || text[2] != b'-' || text[6] != b'-' {
+        return None;
+    }
+    let day = number_at(text, 0, 2)?;
+    let month = month_number(part(text, 3, 3))?;
+    let year = number_at(text, 7, 4)?;
+    existing_day(year, month, day)
+}
+
+/// The second of the day that a text names, as `clock_time`.
+fn clock_second(text: &[u8]) -> Option<u32>
+    ensures named { MatchOption result ((second : ℕ) → ¬ NamesClockTime text.now second) (NamesClockTime text.now) }
+    ensures small { IfSome result (λ second. second < 86400) }
+{
+    let DottedNumbers {
+        first: hours,
+        second: minutes,
+        third: seconds,
+    } = dotted_numbers(text)?;
+    if hours > 23 || minutes > 59 || seconds > 59 {
+        return None;
+    }
+    Some(u32::from(hours) * 3600 + u32::from(minutes) * 60 + u32::from(seconds))
+}
+
+/// The day that a text `dd.mm.yy` names: `31.12.84` is 2084-12-31 (EDF, "Header record":
+/// startdate).
+///
+/// The years 85 to 99 are 1985 to 1999, and 00 to 84 are 2000 to 2084 (EDF+, "Additional
+/// specifications in EDF+"). None where the text has another form, the year text `yy` included,
+/// and where there is no such day.
+pub fn dotted_date(text: &[u8]) -> Option<Date>
+    ensures named { MatchOption result ((n : ℤ) → ¬ NamesDottedDay text.now n) (λ date. NamesDottedDay text.now (epoch_day date)) }
+    ensures day { option_map civil_day result ≡ dotted_day_of text.now }
+{
+    dotted_day(text)
+}
+
+/// The day that a text `dd-MMM-yyyy` names: `29-FEB-2000` (EDF+, "Additional specifications in
+/// EDF+": birthdate, and startdate in the recording identification).
+///
+/// The month is JAN, FEB, MAR, APR, MAY, JUN, JUL, AUG, SEP, OCT, NOV or DEC, in capitals. The
+/// year is from 0000 to 9999 of the proleptic Gregorian calendar (this project's profile), in
+/// which 29-FEB-0000 is a day. None where the text has another form, and where there is no such
+/// day.
+pub fn dashed_date(text: &[u8]) -> Option<Date>
+    ensures named { MatchOption result ((n : ℤ) → ¬ NamesDashedDay text.now n) (λ date. NamesDashedDay text.now (epoch_day date)) }
+    ensures day { option_map civil_day result ≡ dashed_day_of text.now }
+{
+    dashed_day(text)
+}
+
+/// The second of the day that a text `hh.mm.ss` names, from 0 for `00.00.00` to 86399 for
+/// `23.59.59` (EDF, "Header record": starttime).
+///
+/// None where the text has another form, and where an hour is above 23, or a minute or a second
+/// above 59.
+#[tactic(auto, using(crate::proofs::DateFacts::clock_time_read))]
+pub fn clock_time(text: &[u8]) -> Option<u32>
+    ensures named { MatchOption result ((second : ℕ) → ¬ NamesClockTime text.now second) (NamesClockTime text.now) }
+    ensures value { result ≡ clock_time_of text.now }
+    ensures small { IfSome result (λ second. second < 86400) }
+{
+    clock_second(text)
+}
+
+#[cfg(test)]
+mod tests {
+    use super::*;
+
+    /// Year, month and day.
+    fn parts(date: Option<Date>) -> Option<(i16, i8, i8)> {
+        date.map(|date| (date.year(), date.month(), date.day()))
+    }
+
+    #[test]
+    fn reads_dotted_dates(rt: HostRuntime) {
+        for (text, want) in [
+            ("31.12.84", Some((2084, 12, 31))),
+            ("01.01.85", Some((1985, 1, 1))),
+            ("31.12.99", Some((1999, 12, 31))),
+            ("01.01.00", Some((2000, 1, 1))),
+            ("02.03.02", Some((2002, 3, 2))),
+            ("29.02.00", Some((2000, 2, 29))),
+            ("29.02.88", Some((1988, 2, 29))),
+            ("29.02.01", None),
+            ("30.02.04", None),
+            ("31.04.05", None),
+            ("31.06.05", None),
+            ("31.09.05", None),
+            ("31.11.05", None),
+            ("32.01.05", None),
+            ("00.01.05", None),
+            ("01.00.05", None),
+            ("01.13.05", None),
+            ("1.1.2001", None),
+            ("02.03.yy", None),
+            ("02-03-02", None),
+            ("02.03.02 ", None),
+            (" 2.03.02", None),
+            ("02.03.2002", None),
+            ("", None),
+        ] {
+            assert_eq!(rt; parts(dotted_date(text.as_bytes())), want, "at {text}");
+        }
+    }
+
+    #[test]
+    fn reads_dashed_dates(rt: HostRuntime) {
+        for (text, want) in [
+            ("29-FEB-2000", Some((2000, 2, 29))),
+            ("29-FEB-0000", Some((0, 2, 29))),
+            ("02-AUG-1951", Some((1951, 8, 2))),
+            ("31-DEC-9999", Some((9999, 12, 31))),
+            ("31-JAN-0001", Some((1, 1, 31))),
+            ("29-FEB-1900", None),
+            ("29-FEB-2100", None),
+            ("30-FEB-2000", None),
+            ("31-APR-2001", None),
+            ("31-JUN-2001", None),
+            ("31-SEP-2001", None),
+            ("31-NOV-2001", None),
+            ("00-MAY-2001", None),
+            ("02-May-1951", None),
+            ("02-may-1951", None),
+            ("02-OKT-1951", None),
+            ("2-AUG-1951", None),
+            ("02-AUG-51", None),
+            ("02-AUG--951", None),
+            ("02.AUG.1951", None),
+            ("02-AUG-1951 ", None),
+            ("X", None),
+            ("", None),
+        ] {
+            assert_eq!(rt; parts(dashed_date(text.as_bytes())), want, "at {text}");
+        }
+    }
+
+    #[test]
+    fn reads_every_month(rt: HostRuntime) {
+        for (text, month) in [
+            ("28-JAN-2001", 1),
+            ("28-FEB-2001", 2),
+            ("28-MAR-2001", 3),
+            ("28-APR-2001", 4),
+            ("28-MAY-2001", 5),
+            ("28-JUN-2001", 6),
+            ("28-JUL-2001", 7),
+            ("28-AUG-2001", 8),
+            ("28-SEP-2001", 9),
+            ("28-OCT-2001", 10),
+            ("28-NOV-2001", 11),
+            ("28-DEC-2001", 12),
+        ] {
+            assert_eq!(rt;
+                parts(dashed_date(text.as_bytes())),
+                Some((2001, month, 28)),
+                "at {text}"
+            );
+        }
+    }
+
+    #[test]
+    fn reads_clock_times(rt: HostRuntime) {
+        for (text, want) in [
+            ("00.00.00", Some(0)),
+            ("23.59.59", Some(86399)),
+            ("22.00.07", Some(79207)),
+            ("24.00.00", None),
+            ("23.60.00", None),
+            ("23.59.60", None),
+            ("22:00:00", None),
+            ("22.00.0", None),
+            ("22.00.000", None),
+            ("+2.00.00", None),
+            ("", None),
+        ] {
+            assert_eq!(rt; clock_time(text.as_bytes()), want, "at {text}");
+        }
+    }
+
+    #[test]
+    fn refuses_other_bytes(rt: HostRuntime) {
+        for byte in [31, 127, 200] {
+            assert_eq!(rt;
+                dotted_date(&[b'0', b'1', b'.', b'0', b'1', b'.', b'0', byte]),
+                None
+            );
+            assert_eq!(rt;
+                clock_time(&[b'0', byte, b'.', b'0', b'1', b'.', b'0', b'1']),
+                None
+            );
+        }
+    }
+}

@@ -1,0 +1,428 @@
+//! The patient and the recording that a header names.
+//!
+//! Both fields are subfields with spaces between them (EDF+, "Additional specifications in EDF+":
+//! local patient identification, local recording identification). What is read borrows the field.
+ghost use Rattle.std.specs.Prelude.{◌≡◌, ◌<◌, ◌∷◌, ◌==◌, None, Some, length, slice_index, IfOk, MatchOption, MatchResult, is_some, codes};
+ghost use Rattle.std.specs.List.{list_all};
+ghost use Rattle.std.specs.Result.{result_err};
+ghost use Rattle.std.specs.Str.{bytes_eq};
+ghost use Rattle.edf_fields.specs.Dates.{dashed_day_of};
+ghost use Rattle.edf_fields.specs.Identifications.{is_printable, is_sex, is_date_or_x, field_cause};
+ghost use Rattle.edf_fields.specs.Parts.{text_of};
+
+use crate::cause::FieldCause;
+use crate::date::dashed_date;
+use crate::number::text;
+use crate::subfields::Subfields;
+
+/// Whether each byte is printable ASCII.
+fn is_printable(field: &[u8]) -> bool
+    ensures { result ≡ list_all is_printable field.now }
+{
+    field.iter().all(|byte| *byte >= 32 && *byte <= 126)
+}
+
+/// Whether the field begins with a space.
+fn begins_with_space(field: &[u8]) -> bool
+    ensures { result ≡ (slice_index field.now 0 == 32) }
+{
+    matches!(field, [b' ', ..])
+}
+
+/// The text of an identification field, or the first cause that both fields can have.
+#[tactic(auto, unfolding(crate::specs::Identifications::field_cause))]
+fn printable_text(field: &[u8]) -> Result<&[u8], FieldCause>
+    ensures { MatchResult result
+        (λ t. (t.now ≡ text_of field.entry.now) × (field_cause field.entry.now ≡ None))
+        (λ cause. field_cause field.entry.now ≡ Some cause) }
+{
+    if !is_printable(field) {
+        return Err(FieldCause::NotPrintable);
+    }
+    if begins_with_space(field) {
+        return Err(FieldCause::LeadingSpace);
+    }
+    Ok(text(field))
+}
+
+/// Whether the subfield is a sex.
+fn is_sex(subfield: &[u8]) -> bool
+    ensures { result ≡ is_sex subfield.now }
+{
+    matches!(subfield, b"F" | b"M" | b"X")
+}
+
+/// Whether the subfield is the word before the startdate.
+fn is_startdate_word(subfield: &[u8]) -> bool
+    ensures { result ≡ bytes_eq subfield.now (codes "Startdate") }
+{
+    subfield == "Startdate".as_bytes()
+}
+
+/// Whether the subfield is `X`, which stands for what isn't told.
+fn is_x(subfield: &[u8]) -> bool
+    ensures { result ≡ bytes_eq subfield.now (codes "X") }
+{
+    matches!(subfield, b"X")
+}
+
+/// Whether the subfield names a day.
+fn is_dashed_day(subfield: &[u8]) -> bool
+    ensures { result ≡ is_some (dashed_day_of subfield.now) }
+{
+    dashed_date(subfield).is_some()
+}
+
+/// Whether the subfield is a day or `X`.
+fn is_date_or_x(subfield: &[u8]) -> bool
+    ensures { result ≡ is_date_or_x subfield.now }
+{
+    is_x(subfield) || is_dashed_day(subfield)
+}
+
+/// The patient that a header names: the subfields of its local patient identification (EDF+,
+/// "Additional specifications in EDF+").
+///
+/// `X` stands for what isn't told. All texts borrow the field.
+#[derive(Clone, Copy, Debug)]
+pub struct PatientId<'a> {
+    code: &'a [u8],
+    sex: &'a [u8],
+    birthdate: &'a [u8],
+    name: &'a [u8],
+    extras: Subfields<'a>,
+}
+
+impl<'a> PatientId<'a> {
+    ghost use Rattle.edf_fields.specs.Subfields.{subfields_of, subfields_left};
+    ghost use Rattle.edf_fields.specs.Identifications.{SaysPatient, patient_of, patient_cause};
+
+    /// The first four subfields of a text, and those behind them; none where there are fewer.
+    fn split(text: &'a [u8]) -> Option<PatientId<'a>>
+        ensures { MatchOption result (length (subfields_of text.entry.now) < 4)
+            (λ p. subfields_of text.entry.now ≡ p.code.now ∷ p.sex.now ∷ p.birthdate.now ∷ p.name.now ∷ subfields_left p.extras) }
+    {
+        let mut subfields = Subfields::new(text);
+        let code = subfields.next()?;
+        let sex = subfields.next()?;
+        let birthdate = subfields.next()?;
+        let name = subfields.next()?;
+        Some(PatientId {
+            code,
+            sex,
+            birthdate,
+            name,
+            extras: subfields,
+        })
+    }
+
+    /// The patient of a local patient identification field, or the first cause why it says none.
+    ///
+    /// The field is printable ASCII (bytes 32 to 126), doesn't begin with a space, and may be
+    /// filled with spaces. Its subfields, with at least one space between two of them, are a code,
+    /// a sex (`F`, `M` or `X`), a birthdate (`dd-MMM-yyyy`, an existing day, or `X`), a name, and
+    /// any number of others (EDF+, "Additional specifications in EDF+"). `NotPrintable`,
+    /// `LeadingSpace`, `TooFewSubfields` (fewer than four), `BadSex` and `BadDate` say what is
+    /// otherwise, and of several the first in this order is answered.
+    #[tactic(auto, using(crate::proofs::IdentificationFacts::patient_said), unfolding(crate::specs::Identifications::patient_cause))]
+    pub fn read(field: &'a [u8]) -> Result<PatientId<'a>, FieldCause>
+        ensures said { IfOk result (λ p. SaysPatient field.entry.now (patient_of p)) }
+        ensures cause { result_err result ≡ patient_cause field.entry.now }
+    {
+        let text = printable_text(field)?;
+        let Some(patient) = PatientId::split(text) else {
+            return Err(FieldCause::TooFewSubfields);
+        };
+        if !is_sex(patient.sex) {
+            return Err(FieldCause::BadSex);
+        }
+        if !is_date_or_x(patient.birthdate) {
+            return Err(FieldCause::BadDate);
+        }
+        Ok(patient)
+    }
+
+    /// The code by which the patient is known in the hospital.
+    pub fn code(&self) -> &'a [u8]
+        ensures { result.now ≡ (patient_of self.now).code }
+    {
+        self.code
+    }
+
+    /// The sex: `F`, `M` or `X`.
+    pub fn sex(&self) -> &'a [u8]
+        ensures { result.now ≡ (patient_of self.now).sex }
+    {
+        self.sex
+    }
+
+    /// The birthdate: `dd-MMM-yyyy`, which `dashed_date` reads, or `X`.
+    pub fn birthdate(&self) -> &'a [u8]
+        ensures { result.now ≡ (patient_of self.now).birthdate }
+    {
+        self.birthdate
+    }
+
+    /// The patient's name.
+    pub fn name(&self) -> &'a [u8]
+        ensures { result.now ≡ (patient_of self.now).name }
+    {
+        self.name
+    }
+
+    /// The additional subfields, in order.
+    pub fn extras(&self) -> Subfields<'a>
+        ensures { subfields_left result ≡ (patient_of self.now).extras }
+    {
+        self.extras
+    }
+}
+
+/// The recording that a header names: the subfields of its local recording identification behind
+/// the word `Startdate` (EDF+, "Additional specifications in EDF+").
+///
+/// `X` stands for what isn't told. All texts borrow the field.
+#[derive(Clone, Copy, Debug)]
+pub struct RecordingId<'a> {
+    date: &'a [u8],
+    admin: &'a [u8],
+    technician: &'a [u8],
+    equipment: &'a [u8],
+    extras: Subfields<'a>,
+}
+
+/// The first subfield of a recording identification, and what stands behind it.
+#[derive(Clone, Copy, Debug)]
+struct WordAndRecording<'a> {
+    word: &'a [u8],
+    recording: RecordingId<'a>,
+}
+
+impl<'a> RecordingId<'a> {
+    ghost use Rattle.edf_fields.specs.Subfields.{subfields_of, subfields_left};
+    ghost use Rattle.edf_fields.specs.Identifications.{SaysRecording, recording_of, recording_cause};
+
+    /// The first five subfields of a text, and those behind them; none where there are fewer.
+    fn split(text: &'a [u8]) -> Option<WordAndRecording<'a>>
+        ensures { MatchOption result (length (subfields_of text.entry.now) < 5)
+            (λ x. subfields_of text.entry.now ≡ x.word.now ∷ x.recording.date.now ∷ x.recording.admin.now
+            ∷ x.recording.technician.now ∷ x.recording.equipment.now ∷ subfields_left x.recording.extras) }
+    {
+        let mut subfields = Subfields::new(text);
+        let word = subfields.next()?;
+        let date = subfields.next()?;
+        let admin = subfields.next()?;
+        let technician = subfields.next()?;
+        let equipment = subfields.next()?;
+        Some(WordAndRecording {
+            word,
+            recording: RecordingId {
+                date,
+                admin,
+                technician,
+                equipment,
+                extras: subfields,
+            },
+        })
+    }
+
+    /// The recording of a local recording identification field, or the first cause why it says
+    /// none.
+    ///
+    /// The field is printable ASCII (bytes 32 to 126), doesn't begin with a space, and may be
+    /// filled with spaces. Its subfields, with at least one space between two of them, are the
+    /// word `Startdate`, the startdate (`dd-MMM-yyyy`, an existing day, or `X`), an administration
+    /// code, a technician, the equipment, and any number of others (EDF+, "Additional
+    /// specifications in EDF+"). `NotPrintable`, `LeadingSpace`, `TooFewSubfields` (fewer than
+    /// five), `BadDate` and `NoStartdateWord` say what is otherwise, and of several the first in
+    /// this order is answered.
+    #[tactic(auto, using(crate::proofs::IdentificationFacts::recording_said), unfolding(crate::specs::Identifications::recording_cause))]
+    pub fn read(field: &'a [u8]) -> Result<RecordingId<'a>, FieldCause>
+        ensures said { IfOk result (λ r. SaysRecording field.entry.now (recording_of r)) }
+        ensures cause { result_err result ≡ recording_cause field.entry.now }
+    {
+        let text = printable_text(field)?;
+        let Some(WordAndRecording { word, recording }) = RecordingId::split(text) else {
+            return Err(FieldCause::TooFewSubfields);
+        };
+        if !is_date_or_x(recording.date) {
+            return Err(FieldCause::BadDate);
+        }
+        if !is_startdate_word(word) {
+            return Err(FieldCause::NoStartdateWord);
+        }
+        Ok(recording)
+    }
+
+    /// The startdate: `dd-MMM-yyyy`, which `dashed_date` reads, or `X`.
+    pub fn date(&self) -> &'a [u8]
+        ensures { result.now ≡ (recording_of self.now).date }
+    {
+        self.date
+    }
+
+    /// The administration code of the investigation.
+    pub fn admin(&self) -> &'a [u8]
+        ensures { result.now ≡ (recording_of self.now).admin }
+    {
+        self.admin
+    }
+
+    /// The code of the responsible investigator or technician.
+    pub fn technician(&self) -> &'a [u8]
+        ensures { result.now ≡ (recording_of self.now).technician }
+    {
+        self.technician
+    }
+
+    /// The code of the equipment.
+    pub fn equipment(&self) -> &'a [u8]
+        ensures { result.now ≡ (recording_of self.now).equipment }
+    {
+        self.equipment
+    }
+
+    /// The additional subfields, in order.
+    pub fn extras(&self) -> Subfields<'a>
+        ensures { subfields_left result ≡ (recording_of self.now).extras }
+    {
+        self.extras
+    }
+}
+
+#[cfg(test)]
+mod tests {
+    use super::*;
+    use std::test::Fail;
+
+    fn cause_of_patient(field: &[u8]) -> Option<FieldCause> {
+        PatientId::read(field).err()
+    }
+
+    fn cause_of_recording(field: &[u8]) -> Option<FieldCause> {
+        RecordingId::read(field).err()
+    }
+
+    #[test]
+    fn judges_patients(rt: HostRuntime) {
+        for (field, want) in [
+            ("X X X X", None),
+            ("X F 02-MAY-1951 X", None),
+            ("X M 29-FEB-0000 X and more", None),
+            ("MCH-0234567 F 02-MAY-1951 Haagse_Harry          ", None),
+            ("X   M X    X", None),
+            ("X Q X X", Some(FieldCause::BadSex)),
+            ("X x X X", Some(FieldCause::BadSex)),
+            ("X FM X X", Some(FieldCause::BadSex)),
+            ("X F 1951 X", Some(FieldCause::BadDate)),
+            ("X F x X", Some(FieldCause::BadDate)),
+            ("X F 02-May-1951 X", Some(FieldCause::BadDate)),
+            ("X F 29-FEB-1900 X", Some(FieldCause::BadDate)),
+            ("X F 31-NOV-2001 X", Some(FieldCause::BadDate)),
+            ("X Q 1951 X", Some(FieldCause::BadSex)),
+            ("X F X", Some(FieldCause::TooFewSubfields)),
+            ("X Q 1951   ", Some(FieldCause::TooFewSubfields)),
+            ("", Some(FieldCause::TooFewSubfields)),
+            ("        ", Some(FieldCause::LeadingSpace)),
+            (" X X X X", Some(FieldCause::LeadingSpace)),
+        ] {
+            assert_eq!(rt; cause_of_patient(field.as_bytes()), want, "at {field}");
+        }
+    }
+
+    #[test]
+    fn judges_recordings(rt: HostRuntime) {
+        for (field, want) in [
+            ("Startdate X X X X", None),
+            (
+                "Startdate 02-MAR-2002 EMG561 BK/JOP Sony. MNC R Median Nerve.",
+                None,
+            ),
+            ("Startdate  29-FEB-2000 X  X X        ", None),
+            ("Started X X X X", Some(FieldCause::NoStartdateWord)),
+            ("startdate X X X X", Some(FieldCause::NoStartdateWord)),
+            ("X X X X X", Some(FieldCause::NoStartdateWord)),
+            ("Started 1951 X X X", Some(FieldCause::BadDate)),
+            ("Startdate 02.03.02 X X X", Some(FieldCause::BadDate)),
+            ("Startdate 29-FEB-2100 X X X", Some(FieldCause::BadDate)),
+            ("Startdate X X X", Some(FieldCause::TooFewSubfields)),
+            ("Started 1951 X X", Some(FieldCause::TooFewSubfields)),
+            ("", Some(FieldCause::TooFewSubfields)),
+            ("   ", Some(FieldCause::LeadingSpace)),
+            (" Startdate X X X X", Some(FieldCause::LeadingSpace)),
+        ] {
+            assert_eq!(rt; cause_of_recording(field.as_bytes()), want, "at {field}");
+        }
+    }
+
+    #[test]
+    fn refuses_bytes_that_are_not_printable(rt: HostRuntime) {
+        for byte in [0, 9, 31, 127, 200, 255] {
+            let field = [b' ', byte, b'X', b' ', b'X', b' ', b'X', b' '];
+            assert_eq!(rt;
+                cause_of_patient(&field),
+                Some(FieldCause::NotPrintable),
+                "at {byte}"
+            );
+            assert_eq!(rt;
+                cause_of_recording(&field),
+                Some(FieldCause::NotPrintable),
+                "at {byte}"
+            );
+        }
+        for byte in [33, 126] {
+            let field = [byte, b' ', b'X', b' ', b'X', b' ', b' ', byte];
+            assert_eq!(rt; cause_of_patient(&field), None, "at {byte}");
+        }
+    }
+
+    #[test]
+    fn shows_a_patient(rt: HostRuntime) -> Result<(), Fail> {
+        let patient = PatientId::read(b"MCH-0234567 F   02-MAY-1951 Haagse_Harry left   handed  ")?;
+        assert_eq!(rt; patient.code(), "MCH-0234567".as_bytes());
+        assert_eq!(rt; patient.sex(), "F".as_bytes());
+        assert_eq!(rt; patient.birthdate(), "02-MAY-1951".as_bytes());
+        assert_eq!(rt; patient.name(), "Haagse_Harry".as_bytes());
+        let mut extras = patient.extras();
+        assert_eq!(rt; extras.next(), Some("left".as_bytes()));
+        assert_eq!(rt; extras.next(), Some("handed".as_bytes()));
+        assert_eq!(rt; extras.next(), None);
+        assert_eq!(rt; extras.next(), None);
+        Ok(())
+    }
+
+    #[test]
+    fn shows_a_recording(rt: HostRuntime) -> Result<(), Fail> {
+        let recording = RecordingId::read(b"Startdate 02-MAR-2002  PSG-1234/2002 NN Telemetry03")?;
+        assert_eq!(rt; recording.date(), "02-MAR-2002".as_bytes());
+        assert_eq!(rt; recording.admin(), "PSG-1234/2002".as_bytes());
+        assert_eq!(rt; recording.technician(), "NN".as_bytes());
+        assert_eq!(rt; recording.equipment(), "Telemetry03".as_bytes());
+        assert_eq!(rt; recording.extras().next(), None);
+        Ok(())
+    }
+
+    #[test]
+    fn shows_many_extras(rt: HostRuntime) -> Result<(), Fail> {
+        let patient = PatientId::read(
+            b"X X X X 1 2  3   4 5 6 7 8 9 10 11 12 13 14 15 16 17 18   ",
+        )?;
+        let mut extras = patient.extras();
+        for want in [
+            "1", "2", "3", "4", "5", "6", "7", "8", "9", "10", "11", "12", "13", "14", "15", "16",
+            "17", "18",
+        ] {
+            assert_eq!(rt; extras.next(), Some(want.as_bytes()), "at {want}");
+        }
+        assert_eq!(rt; extras.next(), None);
+        let recording = RecordingId::read(b"Startdate X X X X a b c d e f g h i j k l m n o")?;
+        let mut extras = recording.extras();
+        for want in [
+            "a", "b", "c", "d", "e", "f", "g", "h", "i", "j", "k", "l", "m", "n", "o",
+        ] {
+            assert_eq!(rt; extras.next(), Some(want.as_bytes()), "at {want}");
+        }
+        assert_eq!(rt; extras.next(), None);
+        Ok(())
+    }
+}
