@@ -1,5 +1,5 @@
 -- The day and the time of a text, as relations and as functions.
-use Rattle.std.proofs.Common.{◌≡◌, ◌≤◌, ℕ, ℤ, Bool, true, false, nat_le, List, Option, Some, None, MatchOption, option_map, refl, ap, sym, ◌∙◌, pos, arith, cond, is_some, ◌&&◌}
+use Rattle.std.proofs.Common.{◌+◌, ◌*◌, ◌≡◌, ◌≤◌, ℕ, ℤ, Bool, true, false, nat_le, List, Option, Some, None, MatchOption, option_map, refl, ap, sym, ◌∙◌, pos, arith, cond, is_some, ◌&&◌}
 use Rattle.std.specs.Bool.{Decides}
 use Rattle.std.specs.List.{list_all}
 use Rattle.std.proofs.lemmas.Bool.Decides.{Decides-and, Decides-like, Decides-at, Decides-eqb, nat_tests}
@@ -177,6 +177,30 @@ clock_time_read None t h =
     sym (cond_none (is_clock t) _ (λ test. let clock = (clock_decided t).0 test in h _ (clock.0, clock.1.0, clock.1.1.0, clock.1.1.1, refl)))
 clock_time_read (Some s) t h =
     ap Some h.4 ∙ sym (cond_some (is_clock t) _ ((clock_decided t).1 (h.0, (h.1, (h.2, h.3)))))
+
+-- from the functions back to the relations
+both_some : {A : Type 0} (a b : Bool) (x y : A) → cond a (cond b (Some x) None) None ≡ Some y → (a ≡ true) × (b ≡ true) × (x ≡ y)
+both_some true true x y e = (refl, refl, (let f : Some x ≡ Some y = e in cc))
+both_some true false x y e = absurd (let f : None ≡ Some y = e in cc)
+both_some false b x y e = absurd (let f : None ≡ Some y = e in cc)
+
+pub dotted_day-some : (t : List ℕ) (day : CivilDay) → dotted_day_of t ≡ Some day → (date : Date) × NamesDottedDay t (epoch_day date) × (civil_day date ≡ day)
+unfolding dotted_day_of date_made
+dotted_day-some t day e =
+    let y = full_year (number_at t 6 2) in
+    let m = number_at t 3 2 in
+    let d = number_at t 0 2 in
+    let parts = both_some (is_dotted t) (is_day y m d) (record { year = pos y; month = m; day = d }) day e in
+    let made = date_made y m d ((has_day_decided y m d).0 parts.1) in
+    ((made.1).0, ((dotted_decided t).0 parts.0, ((made.1).0, (made.1).1, refl)), parts.2)
+
+pub clock_time-some : (t : List ℕ) (s : ℕ) → clock_time_of t ≡ Some s → NamesClockTime t s
+unfolding clock_time_of
+clock_time-some t s e =
+    let value : ℕ = number_at t 0 2 * 3600 + number_at t 3 2 * 60 + number_at t 6 2 in
+    let parts = both_some true (is_clock t) value s e in
+    let clock = (clock_decided t).0 parts.1 in
+    (clock.0, clock.1.0, clock.1.1.0, clock.1.1.1, sym parts.2)
 
 -- a text names one day at most, and one time
 pub one_dotted_day : NamesOneDottedDay
