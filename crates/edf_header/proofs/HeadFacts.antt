@@ -1,0 +1,313 @@
+-- The header that bytes spell: a file that passes its tests has one, and no file has two.
+use Rattle.std.proofs.Common.{◌≡◌, ℕ, zero, suc, ℤ, pos, ◌+◌, ◌*◌, ◌≤◌, ◌||◌, take, Bool, true, false, cond, List, [], ◌∷◌, ◌++◌, length, slice_get, unwrap_or, Option, Some, None, codes, refl, sym, ap, ◌∙◌, subst, arith}
+use Rattle.std.specs.Option.{option_map_or}
+use Rattle.std.specs.Str.{bytes_eq}
+use Rattle.std.proofs.lemmas.Slice.Eq.{bytes_eq-Decides}
+use Rattle.jiff.specs.Types.{Date}
+use Rattle.jiff.specs.Words.{epoch_day}
+use Rattle.edf_fields.specs.Parts.{text_of}
+use Rattle.edf_fields.specs.Numbers.{SpellsWholeNumber, SpellsHeaderNumber, whole_number_of, header_number_of}
+use Rattle.edf_fields.specs.Dates.{CivilDay, NamesDottedDay, NamesClockTime, civil_day, dotted_day_of, dashed_day_of, clock_time_of}
+use Rattle.edf_fields.specs.Identifications.{Patient, Recording, patient_cause, recording_cause}
+use Rattle.edf_fields.proofs.DateFacts.{dotted_day_read, clock_time_read, dotted_day-some, clock_time-some}
+use Rattle.edf_fields.proofs.NumberFacts.{whole_number_of-some, header_number_of-some, whole_number_of-spelled, header_number_of-spelled}
+use Rattle.edf_header.specs.declared.fault.Place.TheVariants.{AtField}
+use Rattle.edf_header.specs.declared.fault.Cause.TheVariants.{NotEdfPlus, BadStart, StartdateDiffers, BadSubfields}
+use Rattle.edf_header.specs.declared.fault.Place.{Place}
+use Rattle.edf_fields.specs.declared.cause.FieldCause.{FieldCause}
+use Rattle.edf_header.specs.declared.kind.Kind.{Kind}
+use Rattle.edf_header.specs.declared.kind.Kind.TheVariants.{Contiguous, Interrupted}
+use Rattle.edf_header.specs.declared.layout.FixedField.TheVariants as fixed
+use Rattle.edf_header.specs.declared.layout.SignalField.TheVariants as signal
+use Rattle.edf_header.specs.Calibrations.{Line}
+use Rattle.edf_header.specs.Layout.{fixed_part, fixed_field, fixed_fields, columns, columns_part, signal_field}
+use Rattle.edf_header.specs.Heads.{SignalHead, Head, HasSignal, HasHead, HasOneHead, AreSideBySide, kind_word, kind_of, in_picoseconds, count_of, day_number, recording_in, signals_of, line_of, signal_of, signals_from, signals_in, head_in, head_of}
+use Rattle.edf_header.specs.Conforming.{PassingHasHead}
+use Rattle.edf_header.specs.Faults.{first, fault, unless, not_printable, not_named, not_read, not_positive, is_same_day, version_fault, patient_fault, recording_fault, startdate_fault, starttime_fault, header_bytes_fault, reserved_fault, records_fault, duration_fault, signals_fault, header_size_fault, fixed_missing, start_faults, extent_faults, fixed_tests, columns_missing, signal_faults, signals_faults, joint_faults, columns_tests, header_fault}
+use Rattle.edf_header.proofs.PassedFacts.{first-none, first-cons, unless-passed, named-passed, positive-passed}
+use Rattle.edf_header.proofs.SaidFacts.{patient_is, recording_is}
+use Rattle.edf_header.proofs.SignalFacts.{length-signals}
+use Rattle.edf_header.proofs.SoundFacts.{Passes, signal-passes, side-by-side}
+use Rattle.edf_header.proofs.KeptFacts.{patient-said, recording-said}
+
+-- the number that a field spells is what is read of it
+spelled : (field : List ℕ) (v : ℤ) → header_number_of field ≡ Some v → SpellsHeaderNumber field (unwrap_or (header_number_of field) (pos 0))
+spelled field v e = subst (λ o. SpellsHeaderNumber field (unwrap_or o (pos 0))) (sym e) (header_number_of-some field v e)
+
+spelled-whole : (field : List ℕ) (v : ℤ) → whole_number_of field ≡ Some v → SpellsWholeNumber field (unwrap_or (whole_number_of field) (pos 0))
+spelled-whole field v e = subst (λ o. SpellsWholeNumber field (unwrap_or o (pos 0))) (sym e) (whole_number_of-some field v e)
+
+spelled-count : (field : List ℕ) (n : ℕ) → whole_number_of field ≡ Some (pos n) → SpellsWholeNumber field (pos (count_of (whole_number_of field)))
+spelled-count field n e = subst (λ o. SpellsWholeNumber field (pos (count_of o))) (sym e) (whole_number_of-some field (pos n) e)
+
+pub passes-says : (bytes : List ℕ) (n s before : ℕ) → Passes bytes n s → HasSignal bytes n s (signal_of bytes n s before)
+passes-says bytes n s before p = record {
+  label = refl;
+  transducer = refl;
+  dimension = refl;
+  physical_minimum = spelled (signal_field bytes n s signal.PhysicalMinimum) (p.physical_minimum).0 (p.physical_minimum).1;
+  physical_maximum = spelled (signal_field bytes n s signal.PhysicalMaximum) (p.physical_maximum).0 (p.physical_maximum).1;
+  digital_minimum = spelled-whole (signal_field bytes n s signal.DigitalMinimum) (p.digital_minimum).0 (p.digital_minimum).1;
+  digital_maximum = spelled-whole (signal_field bytes n s signal.DigitalMaximum) (p.digital_maximum).0 (p.digital_maximum).1;
+  prefilter = refl;
+  samples = spelled-count (signal_field bytes n s signal.Samples) (p.samples).0 (p.samples).1;
+  reserved = refl;
+}
+
+pub has-signals : (bytes : List ℕ) (n s before m : ℕ) → first (signals_faults bytes n s m) ≡ None
+    → (k : ℕ) (head : SignalHead) → slice_get (signals_from bytes n s before m) k ≡ Some head → HasSignal bytes n (s + k) head
+has-signals bytes n s before zero h k head e = absurd (let z : None ≡ Some head = e in cc)
+has-signals bytes n s before (suc m) h zero head e =
+    let parts = first-none (signal_faults bytes n s) (signals_faults bytes n (s + 1) m) h in
+    let z : signal_of bytes n s before ≡ head = (let j : Some (signal_of bytes n s before) ≡ Some head = e in cc) in
+    let at : s ≡ s + 0 = omega arith in
+    subst (λ k. HasSignal bytes n k head) at (subst (λ (x : SignalHead). HasSignal bytes n s x) z (passes-says bytes n s before (signal-passes bytes n s parts.0)))
+has-signals bytes n s before (suc m) h (suc k) head e =
+    let parts = first-none (signal_faults bytes n s) (signals_faults bytes n (s + 1) m) h in
+    let at : s + 1 + k ≡ s + suc k = omega arith in
+    subst (λ j. HasSignal bytes n j head) at (has-signals bytes n (s + 1) (before + 2 * (signal_of bytes n s before).samples) m parts.1 k head e)
+
+-- the kind of a file that is an EDF+ file
+kind-cases : (xs : List ℕ) (b d : Bool) → bytes_eq xs (codes "EDF+C") ≡ b → bytes_eq xs (codes "EDF+D") ≡ d → (b || d) ≡ true → xs ≡ kind_word (cond b Contiguous Interrupted)
+kind-cases xs true d c e h = (bytes_eq-Decides xs (codes "EDF+C")).0 c
+kind-cases xs false true c e h = (bytes_eq-Decides xs (codes "EDF+D")).0 e
+kind-cases xs false false c e h = absurd (let z : false ≡ true = h in cc)
+
+kind-said : (field : List ℕ) → reserved_fault field ≡ None → take 5 field ≡ kind_word (kind_of field)
+unfolding reserved_fault
+kind-said field h =
+    let either : Bool = bytes_eq (take 5 field) (codes "EDF+C") || bytes_eq (take 5 field) (codes "EDF+D") in
+    let test = unless either (AtField fixed.Reserved) NotEdfPlus in
+    let a = first-cons (not_printable (AtField fixed.Reserved) field) (test ∷ []) h in
+    let t : either ≡ true = unless-passed either (AtField fixed.Reserved) NotEdfPlus (first-cons test [] a.1).0 in
+    kind-cases (take 5 field) (bytes_eq (take 5 field) (codes "EDF+C")) (bytes_eq (take 5 field) (codes "EDF+D")) refl refl t
+
+is-kind : (field : List ℕ) (k : Kind) → take 5 field ≡ kind_word k → k ≡ kind_of field
+is-kind field Contiguous h = ap (λ xs. cond (bytes_eq xs (codes "EDF+C")) Contiguous Interrupted) (sym h)
+is-kind field Interrupted h = ap (λ xs. cond (bytes_eq xs (codes "EDF+C")) Contiguous Interrupted) (sym h)
+
+-- the day and the time of the day that the fields name
+day-said : (field : List ℕ) (day : CivilDay) → dotted_day_of (text_of field) ≡ Some day → NamesDottedDay (text_of field) (option_map_or day_number (dotted_day_of (text_of field)) (pos 0))
+day-said field day e =
+    let r = dotted_day-some (text_of field) day e in
+    let number : epoch_day r.0 ≡ option_map_or day_number (dotted_day_of (text_of field)) (pos 0) =
+    ap day_number r.2 ∙ ap (λ o. option_map_or day_number o (pos 0)) (sym e) in
+    subst (NamesDottedDay (text_of field)) number r.1
+
+clock-said : (field : List ℕ) (s : ℕ) → clock_time_of (text_of field) ≡ Some s → NamesClockTime (text_of field) (unwrap_or (clock_time_of (text_of field)) 0)
+clock-said field s e = subst (λ o. NamesClockTime (text_of field) (unwrap_or o 0)) (sym e) (clock_time-some (text_of field) s e)
+
+startdate-named : (date field : List ℕ) → startdate_fault date field ≡ None → (day : CivilDay) × (dotted_day_of (text_of field) ≡ Some day)
+unfolding startdate_fault
+startdate-named date field h =
+    let named = not_named (AtField fixed.Startdate) BadStart (dotted_day_of (text_of field)) in
+    let same = unless (is_same_day (dashed_day_of date) (dotted_day_of (text_of field))) (AtField fixed.Startdate) StartdateDiffers in
+    let a = first-cons (not_printable (AtField fixed.Startdate) field) (named ∷ same ∷ []) h in
+    named-passed (AtField fixed.Startdate) BadStart (dotted_day_of (text_of field)) (first-cons named (same ∷ []) a.1).0
+
+starttime-named : (field : List ℕ) → starttime_fault field ≡ None → (s : ℕ) × (clock_time_of (text_of field) ≡ Some s)
+unfolding starttime_fault
+starttime-named field h =
+    let named = not_named (AtField fixed.Starttime) BadStart (clock_time_of (text_of field)) in
+    let a = first-cons (not_printable (AtField fixed.Starttime) field) (named ∷ []) h in
+    named-passed (AtField fixed.Starttime) BadStart (clock_time_of (text_of field)) (first-cons named [] a.1).0
+
+read-none : (place : Place) (o : Option FieldCause) → not_read place o ≡ None → o ≡ None
+read-none place None h = refl
+read-none place (Some cause) h = absurd (let z : fault place (BadSubfields cause) ≡ None = h in cc)
+
+patient-passed : (field : List ℕ) → patient_fault field ≡ None → patient_cause field ≡ None
+unfolding patient_fault
+patient-passed field h =
+    let test = not_read (AtField fixed.Patient) (patient_cause field) in
+    let a = first-cons (not_printable (AtField fixed.Patient) field) (test ∷ []) h in
+    read-none (AtField fixed.Patient) (patient_cause field) (first-cons test [] a.1).0
+
+recording-passed : (field : List ℕ) → recording_fault field ≡ None → recording_cause field ≡ None
+unfolding recording_fault
+recording-passed field h =
+    let test = not_read (AtField fixed.Recording) (recording_cause field) in
+    let a = first-cons (not_printable (AtField fixed.Recording) field) (test ∷ []) h in
+    read-none (AtField fixed.Recording) (recording_cause field) (first-cons test [] a.1).0
+
+records-passed : (field : List ℕ) → records_fault field ≡ None → (n : ℕ) × (whole_number_of field ≡ Some (pos n)) × (1 ≤ n)
+unfolding records_fault
+records-passed field h =
+    let test = not_positive (AtField fixed.Records) (whole_number_of field) in
+    let a = first-cons (not_printable (AtField fixed.Records) field) (test ∷ []) h in
+    positive-passed (AtField fixed.Records) (whole_number_of field) (first-cons test [] a.1).0
+
+duration-passed : (field : List ℕ) → duration_fault field ≡ None → (n : ℕ) × (header_number_of field ≡ Some (pos n)) × (1 ≤ n)
+unfolding duration_fault
+duration-passed field h =
+    let test = not_positive (AtField fixed.Duration) (header_number_of field) in
+    let a = first-cons (not_printable (AtField fixed.Duration) field) (test ∷ []) h in
+    positive-passed (AtField fixed.Duration) (header_number_of field) (first-cons test [] a.1).0
+
+signals-passed : (field : List ℕ) → signals_fault field ≡ None → (n : ℕ) × (whole_number_of field ≡ Some (pos n)) × (1 ≤ n)
+unfolding signals_fault
+signals-passed field h =
+    let test = not_positive (AtField fixed.Signals) (whole_number_of field) in
+    let a = first-cons (not_printable (AtField fixed.Signals) field) (test ∷ []) h in
+    positive-passed (AtField fixed.Signals) (whole_number_of field) (first-cons test [] a.1).0
+
+-- the tests of the fields of the fixed part, each by itself
+pub record FixedPasses (front : List ℕ) : Type 0 where
+  pub patient : patient_fault (fixed_field front fixed.Patient) ≡ None
+  pub recording : recording_fault (fixed_field front fixed.Recording) ≡ None
+  pub startdate : startdate_fault (recording_in (fixed_field front fixed.Recording)).date (fixed_field front fixed.Startdate) ≡ None
+  pub starttime : starttime_fault (fixed_field front fixed.Starttime) ≡ None
+  pub reserved : reserved_fault (fixed_field front fixed.Reserved) ≡ None
+  pub records : records_fault (fixed_field front fixed.Records) ≡ None
+  pub duration : duration_fault (fixed_field front fixed.Duration) ≡ None
+  pub signals : signals_fault (fixed_field front fixed.Signals) ≡ None
+
+fixed-passes : (front : List ℕ) → first (fixed_tests front) ≡ None → FixedPasses front
+fixed-passes front h =
+    let a = first-none (fixed_missing fixed_fields (length front)) (start_faults front ++ extent_faults front) h in
+    let b = first-none (start_faults front) (extent_faults front) a.1 in
+    let version = version_fault (fixed_field front fixed.Version) in
+    let patient = patient_fault (fixed_field front fixed.Patient) in
+    let recording = recording_fault (fixed_field front fixed.Recording) in
+    let startdate = startdate_fault (recording_in (fixed_field front fixed.Recording)).date (fixed_field front fixed.Startdate) in
+    let starttime = starttime_fault (fixed_field front fixed.Starttime) in
+    let size = header_bytes_fault (fixed_field front fixed.HeaderBytes) in
+    let reserved = reserved_fault (fixed_field front fixed.Reserved) in
+    let records = records_fault (fixed_field front fixed.Records) in
+    let duration = duration_fault (fixed_field front fixed.Duration) in
+    let signals = signals_fault (fixed_field front fixed.Signals) in
+    let whole = header_size_fault (signals_of front) (fixed_field front fixed.HeaderBytes) in
+    let c0 = first-cons version (patient ∷ recording ∷ startdate ∷ starttime ∷ []) b.0 in
+    let c1 = first-cons patient (recording ∷ startdate ∷ starttime ∷ []) c0.1 in
+    let c2 = first-cons recording (startdate ∷ starttime ∷ []) c1.1 in
+    let c3 = first-cons startdate (starttime ∷ []) c2.1 in
+    let c4 = first-cons starttime [] c3.1 in
+    let d0 = first-cons size (reserved ∷ records ∷ duration ∷ signals ∷ whole ∷ []) b.1 in
+    let d1 = first-cons reserved (records ∷ duration ∷ signals ∷ whole ∷ []) d0.1 in
+    let d2 = first-cons records (duration ∷ signals ∷ whole ∷ []) d1.1 in
+    let d3 = first-cons duration (signals ∷ whole ∷ []) d2.1 in
+    let d4 = first-cons signals (whole ∷ []) d3.1 in
+    record { patient = c1.0; recording = c2.0; startdate = c3.0; starttime = c4.0; reserved = d1.0; records = d2.0; duration = d3.0; signals = d4.0 }
+
+pub has-head : (file : List ℕ) → header_fault file ≡ None → HasHead file (head_of file)
+unfolding header_fault head_of
+has-head file h =
+    let front : List ℕ = fixed_part file in
+    let n : ℕ = signals_of front in
+    let bytes : List ℕ = columns_part n file in
+    let a = first-none (fixed_tests front) (columns_tests n bytes) h in
+    let c0 = first-none (columns_missing columns n (length bytes)) (signals_faults bytes n 0 n ++ joint_faults (signals_in n bytes)) a.1 in
+    let c1 = first-none (signals_faults bytes n 0 n) (joint_faults (signals_in n bytes)) c0.1 in
+    let p = fixed-passes front a.0 in
+    let day = startdate-named (recording_in (fixed_field front fixed.Recording)).date (fixed_field front fixed.Startdate) p.startdate in
+    let clock = starttime-named (fixed_field front fixed.Starttime) p.starttime in
+    let records = records-passed (fixed_field front fixed.Records) p.records in
+    let duration = duration-passed (fixed_field front fixed.Duration) p.duration in
+    let signals = signals-passed (fixed_field front fixed.Signals) p.signals in
+    let long : length (signals_in n bytes) ≡ n = length-signals bytes n 0 0 n in
+    record {
+      patient = patient-said (fixed_field front fixed.Patient) (patient-passed (fixed_field front fixed.Patient) p.patient);
+      recording = recording-said (fixed_field front fixed.Recording) (recording-passed (fixed_field front fixed.Recording) p.recording);
+      day = day-said (fixed_field front fixed.Startdate) day.0 day.1;
+      clock = clock-said (fixed_field front fixed.Starttime) clock.0 clock.1;
+      kind = kind-said (fixed_field front fixed.Reserved) p.reserved;
+      free = refl;
+      records = spelled-count (fixed_field front fixed.Records) records.0 records.1;
+      units = unwrap_or (header_number_of (fixed_field front fixed.Duration)) (pos 0);
+      duration_spelled = spelled (fixed_field front fixed.Duration) (pos duration.0) duration.1;
+      duration = refl;
+      count = subst (λ k. SpellsWholeNumber (fixed_field front fixed.Signals) (pos k)) (sym long) (spelled-count (fixed_field front fixed.Signals) signals.0 signals.1);
+      signals = λ s head e.
+          subst (λ k. HasSignal (columns_part k file) k s head) (sym long)
+          (subst (λ k. HasSignal bytes n k head) (let at : 0 + s ≡ s = omega arith in at) (has-signals bytes n 0 0 n c1.0 s head e));
+      offsets = side-by-side bytes n 0 0 n;
+    }
+
+-- the signals that have these fields are those that are read of them
+same-line : (l m : Line) → l.physical_minimum ≡ m.physical_minimum → l.physical_maximum ≡ m.physical_maximum → l.digital_minimum ≡ m.digital_minimum → l.digital_maximum ≡ m.digital_maximum → l ≡ m
+same-line l m a b d e =
+    let made : ℤ → ℤ → ℤ → ℤ → Line = λ w x y z. record { physical_minimum = w; physical_maximum = x; digital_minimum = y; digital_maximum = z } in
+    ap (λ w. made w l.physical_maximum l.digital_minimum l.digital_maximum) a
+    ∙ ap (λ x. made m.physical_minimum x l.digital_minimum l.digital_maximum) b
+    ∙ ap (λ y. made m.physical_minimum m.physical_maximum y l.digital_maximum) d
+    ∙ ap (λ z. made m.physical_minimum m.physical_maximum m.digital_minimum z) e
+
+read-number : (field : List ℕ) (v : ℤ) → SpellsHeaderNumber field v → v ≡ unwrap_or (header_number_of field) (pos 0)
+read-number field v h = sym (ap (λ o. unwrap_or o (pos 0)) (header_number_of-spelled field v h))
+
+read-whole : (field : List ℕ) (v : ℤ) → SpellsWholeNumber field v → v ≡ unwrap_or (whole_number_of field) (pos 0)
+read-whole field v h = sym (ap (λ o. unwrap_or o (pos 0)) (whole_number_of-spelled field v h))
+
+read-count : (field : List ℕ) (n : ℕ) → SpellsWholeNumber field (pos n) → n ≡ count_of (whole_number_of field)
+read-count field n h = sym (ap count_of (whole_number_of-spelled field (pos n) h))
+
+pub signal-read : (bytes : List ℕ) (n s before : ℕ) (head : SignalHead) → HasSignal bytes n s head → head.offset ≡ before → head ≡ signal_of bytes n s before
+signal-read bytes n s before head h e =
+    let line = same-line head.calibration (line_of bytes n s)
+    (read-number (signal_field bytes n s signal.PhysicalMinimum) head.calibration.physical_minimum h.physical_minimum)
+    (read-number (signal_field bytes n s signal.PhysicalMaximum) head.calibration.physical_maximum h.physical_maximum)
+    (read-whole (signal_field bytes n s signal.DigitalMinimum) head.calibration.digital_minimum h.digital_minimum)
+    (read-whole (signal_field bytes n s signal.DigitalMaximum) head.calibration.digital_maximum h.digital_maximum) in
+    let made : List ℕ → List ℕ → List ℕ → List ℕ → List ℕ → Line → ℕ → ℕ → SignalHead =
+    λ a b d p r l k o. record { label = a; transducer = b; dimension = d; prefilter = p; reserved = r; calibration = l; samples = k; offset = o } in
+    let t : SignalHead = signal_of bytes n s before in
+    ap (λ a. made a head.transducer head.dimension head.prefilter head.reserved head.calibration head.samples head.offset) h.label
+    ∙ ap (λ b. made t.label b head.dimension head.prefilter head.reserved head.calibration head.samples head.offset) h.transducer
+    ∙ ap (λ d. made t.label t.transducer d head.prefilter head.reserved head.calibration head.samples head.offset) h.dimension
+    ∙ ap (λ p. made t.label t.transducer t.dimension p head.reserved head.calibration head.samples head.offset) h.prefilter
+    ∙ ap (λ r. made t.label t.transducer t.dimension t.prefilter r head.calibration head.samples head.offset) h.reserved
+    ∙ ap (λ l. made t.label t.transducer t.dimension t.prefilter t.reserved l head.samples head.offset) line
+    ∙ ap (λ k. made t.label t.transducer t.dimension t.prefilter t.reserved t.calibration k head.offset) (read-count (signal_field bytes n s signal.Samples) head.samples h.samples)
+    ∙ ap (λ o. made t.label t.transducer t.dimension t.prefilter t.reserved t.calibration t.samples o) e
+
+signals-read : (bytes : List ℕ) (n s before : ℕ) (heads : List SignalHead) → ((k : ℕ) (head : SignalHead) → slice_get heads k ≡ Some head → HasSignal bytes n (s + k) head)
+    → AreSideBySide before heads → heads ≡ signals_from bytes n s before (length heads)
+signals-read bytes n s before [] each beside = refl
+signals-read bytes n s before (head ∷ heads) each beside =
+    let first-one : HasSignal bytes n s head = subst (λ k. HasSignal bytes n k head) (let at : s + 0 ≡ s = omega arith in at) (each 0 head refl) in
+    let here : head ≡ signal_of bytes n s before = signal-read bytes n s before head first-one beside.0 in
+    let rest = signals-read bytes n (s + 1) (before + 2 * head.samples) heads
+    (λ k other e. subst (λ j. HasSignal bytes n j other) (let at : s + suc k ≡ s + 1 + k = omega arith in at) (each (suc k) other e)) beside.1 in
+    ap (λ xs. head ∷ xs) rest
+    ∙ ap (λ (x : SignalHead). x ∷ signals_from bytes n (s + 1) (before + 2 * x.samples) (length heads)) here
+
+-- the header that the file has is the one that is read of it
+head-read : (file : List ℕ) (h : Head) → HasHead file h → h ≡ head_of file
+unfolding head_of
+head-read file h has =
+    let front : List ℕ = fixed_part file in
+    let t : Head = head_in front (columns_part (signals_of front) file) in
+    let count : length h.signals ≡ signals_of front = read-count (fixed_field front fixed.Signals) (length h.signals) has.count in
+    let signals : h.signals ≡ t.signals =
+    signals-read (columns_part (length h.signals) file) (length h.signals) 0 0 h.signals
+    (λ k head e. subst (λ j. HasSignal (columns_part (length h.signals) file) (length h.signals) j head) (let at : k ≡ 0 + k = omega arith in at) (has.signals k head e)) has.offsets
+    ∙ ap (λ k. signals_in k (columns_part k file)) count in
+    let day : h.day ≡ t.day = day-read (text_of (fixed_field front fixed.Startdate)) h.day has.day in
+    let clock : h.clock ≡ t.clock = clock-read (text_of (fixed_field front fixed.Starttime)) h.clock has.clock in
+    let duration : h.duration ≡ t.duration = has.duration ∙ ap in_picoseconds (read-number (fixed_field front fixed.Duration) has.units has.duration_spelled) in
+    let made : Patient → Recording → ℤ → ℕ → Kind → List ℕ → ℕ → ℤ → List SignalHead → Head =
+    λ p r d c k f n u l. record { patient = p; recording = r; day = d; clock = c; kind = k; free = f; records = n; duration = u; signals = l } in
+    ap (λ p. made p h.recording h.day h.clock h.kind h.free h.records h.duration h.signals) (patient_is (fixed_field front fixed.Patient) h.patient has.patient)
+    ∙ ap (λ r. made t.patient r h.day h.clock h.kind h.free h.records h.duration h.signals) (recording_is (fixed_field front fixed.Recording) h.recording has.recording)
+    ∙ ap (λ d. made t.patient t.recording d h.clock h.kind h.free h.records h.duration h.signals) day
+    ∙ ap (λ c. made t.patient t.recording t.day c h.kind h.free h.records h.duration h.signals) clock
+    ∙ ap (λ k. made t.patient t.recording t.day t.clock k h.free h.records h.duration h.signals) (is-kind (fixed_field front fixed.Reserved) h.kind has.kind)
+    ∙ ap (λ f. made t.patient t.recording t.day t.clock t.kind f h.records h.duration h.signals) has.free
+    ∙ ap (λ n. made t.patient t.recording t.day t.clock t.kind t.free n h.duration h.signals) (read-count (fixed_field front fixed.Records) h.records has.records)
+    ∙ ap (λ u. made t.patient t.recording t.day t.clock t.kind t.free t.records u h.signals) duration
+    ∙ ap (λ l. made t.patient t.recording t.day t.clock t.kind t.free t.records t.duration l) signals
+  where
+    day-read : (text : List ℕ) (n : ℤ) → NamesDottedDay text n → n ≡ option_map_or day_number (dotted_day_of text) (pos 0)
+    day-read text n named =
+        let day : Date = (named.1).0 in
+        let read : Some (civil_day day) ≡ dotted_day_of text = dotted_day_read (Some day) text (named.0, (day, (named.1).1, refl)) in
+        (named.1).2 ∙ ap (λ o. option_map_or day_number o (pos 0)) read
+
+    clock-read : (text : List ℕ) (n : ℕ) → NamesClockTime text n → n ≡ unwrap_or (clock_time_of text) 0
+    clock-read text n named = ap (λ o. unwrap_or o 0) (clock_time_read (Some n) text named)
+
+pub one_head : HasOneHead
+one_head file h g has has2 = head-read file h has ∙ sym (head-read file g has2)
+
+pub passing_has_head : PassingHasHead
+passing_has_head file h = has-head file h

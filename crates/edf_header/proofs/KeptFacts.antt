@@ -1,0 +1,117 @@
+-- What the code keeps of a header holds, where its bytes passed their tests.
+use Rattle.std.proofs.Common.{◌≡◌, ℕ, ℤ, pos, ◌*◌, ◌≤◌, nat_le, Bool, true, false, List, [], ◌∷◌, ◌++◌, length, Option, Some, None, refl, sym, ap, ◌∙◌, subst}
+use Rattle.std.specs.List.{All}
+use Rattle.std.specs.Option.{option_map_or}
+use Rattle.std.proofs.lemmas.Bool.Decides.{Decides-int_eq}
+use Rattle.jiff.specs.Types.{Date}
+use Rattle.jiff.specs.Words.{epoch_day}
+use Rattle.edf_fields.specs.Parts.{text_of}
+use Rattle.edf_fields.specs.Dates.{CivilDay, NamesDashedDay, civil_day, dotted_day_of, dashed_day_of}
+use Rattle.edf_fields.specs.Identifications.{Patient, Recording, SaysPatient, SaysRecording, patient_cause, recording_cause}
+use Rattle.edf_fields.proofs.DateFacts.{dashed_day_read}
+use Rattle.edf_fields.proofs.IdentificationFacts.{patient_or_cause, recording_or_cause}
+use Rattle.edf_header.specs.declared.fault.Place.TheVariants.{AtField}
+use Rattle.edf_header.specs.declared.fault.Cause.TheVariants.{BadStart, StartdateDiffers}
+use Rattle.edf_header.specs.declared.fixed.Start.{Start}
+use Rattle.edf_header.specs.declared.fixed.Extent.{Extent}
+use Rattle.edf_header.specs.declared.layout.FixedField.TheVariants as fixed
+use Rattle.edf_header.specs.Layout.{fixed_fields, fixed_field, columns}
+use Rattle.edf_header.specs.Heads.{SignalHead, AreSideBySide, day_number, patient_in, recording_in, signals_in, samples_together}
+use Rattle.edf_header.specs.Judged.{SaysStart, SaysExtent}
+use Rattle.edf_header.specs.Sound.{IsSoundSignal}
+use Rattle.edf_header.specs.Views.{IsKept}
+use Rattle.edf_header.specs.Faults.{first, unless, not_printable, not_named, is_same_day, version_fault, patient_fault, recording_fault, startdate_fault, starttime_fault, fixed_missing, start_faults, extent_faults, fixed_tests, columns_missing, signals_faults, joint_faults, columns_tests}
+use Rattle.edf_header.proofs.PassedFacts.{first-none, first-cons, unless-passed}
+use Rattle.edf_header.proofs.SaidFacts.{patient_is, recording_is}
+use Rattle.edf_header.proofs.SignalFacts.{length-signals}
+use Rattle.edf_header.proofs.SoundFacts.{side-by-side, signals-sound}
+use Rattle.edf_header.proofs.ChannelFacts.{joint-passed}
+
+pub patient-said : (field : List ℕ) → patient_cause field ≡ None → SaysPatient field (patient_in field)
+patient-said field h =
+    let r = (patient_or_cause field).0 h in
+    subst (λ (p : Patient). SaysPatient field p) (patient_is field r.0 r.1) r.1
+
+pub recording-said : (field : List ℕ) → recording_cause field ≡ None → SaysRecording field (recording_in field)
+recording-said field h =
+    let r = (recording_or_cause field).0 h in
+    subst (λ (p : Recording). SaysRecording field p) (recording_is field r.0 r.1) r.1
+
+-- the startdate is named, and it is the recording date
+pub startdate-passed : (date field : List ℕ) → startdate_fault date field ≡ None → is_same_day (dashed_day_of date) (dotted_day_of (text_of field)) ≡ true
+unfolding startdate_fault
+startdate-passed date field h =
+    let named = not_named (AtField fixed.Startdate) BadStart (dotted_day_of (text_of field)) in
+    let same : Bool = is_same_day (dashed_day_of date) (dotted_day_of (text_of field)) in
+    let a = first-cons (not_printable (AtField fixed.Startdate) field) (named ∷ unless same (AtField fixed.Startdate) StartdateDiffers ∷ []) h in
+    let b = first-cons named (unless same (AtField fixed.Startdate) StartdateDiffers ∷ []) a.1 in
+    unless-passed same (AtField fixed.Startdate) StartdateDiffers (first-cons (unless same (AtField fixed.Startdate) StartdateDiffers) [] b.1).0
+
+same-number : (recorded : CivilDay) (o : Option CivilDay) → is_same_day (Some recorded) o ≡ true → day_number recorded ≡ option_map_or day_number o (pos 0)
+same-number recorded None h = absurd (let e : nat_le 1 0 ≡ true = h in let f : false ≡ true = e in cc)
+same-number recorded (Some day) h = (Decides-int_eq (day_number recorded) (day_number day)).0 h
+
+pub same-day : (date : List ℕ) (o : Option CivilDay) (n : ℤ) → is_same_day (dashed_day_of date) o ≡ true → NamesDashedDay date n → n ≡ option_map_or day_number o (pos 0)
+same-day date o n h named =
+    let day : Date = (named.1).0 in
+    let read : Some (civil_day day) ≡ dashed_day_of date = dashed_day_read (Some day) date (named.0, (day, (named.1).1, refl)) in
+    (named.1).2 ∙ same-number (civil_day day) o (ap (λ r. is_same_day r o) read ∙ h)
+
+-- the test of the startdate among those of the fields up to the starttime
+startdate-of : (front : List ℕ) → first (fixed_tests front) ≡ None → startdate_fault (recording_in (fixed_field front fixed.Recording)).date (fixed_field front fixed.Startdate) ≡ None
+startdate-of front h =
+    let a = first-none (fixed_missing fixed_fields (length front)) (start_faults front ++ extent_faults front) h in
+    let b = first-none (start_faults front) (extent_faults front) a.1 in
+    let version = version_fault (fixed_field front fixed.Version) in
+    let patient = patient_fault (fixed_field front fixed.Patient) in
+    let recording = recording_fault (fixed_field front fixed.Recording) in
+    let startdate = startdate_fault (recording_in (fixed_field front fixed.Recording)).date (fixed_field front fixed.Startdate) in
+    let starttime = starttime_fault (fixed_field front fixed.Starttime) in
+    let c0 = first-cons version (patient ∷ recording ∷ startdate ∷ starttime ∷ []) b.0 in
+    let c1 = first-cons patient (recording ∷ startdate ∷ starttime ∷ []) c0.1 in
+    let c2 = first-cons recording (startdate ∷ starttime ∷ []) c1.1 in
+    (first-cons startdate (starttime ∷ []) c2.1).0
+
+pub kept : (front bytes : List ℕ) (start : Start) (extent : Extent) (signals : List SignalHead) (size : ℕ) → 256 ≤ length front
+    → SaysStart front start → SaysExtent front extent → first (fixed_tests front) ≡ None → first (columns_tests extent.signals bytes) ≡ None
+    → signals ≡ signals_in extent.signals bytes → size ≡ 2 * samples_together signals → size ≤ 16777216
+    → IsKept front start extent signals size
+kept front bytes start extent signals size long s x passed columns-passed e total small =
+    let n = extent.signals in
+    let c0 = first-none (columns_missing columns n (length bytes)) (signals_faults bytes n 0 n ++ joint_faults (signals_in n bytes)) columns-passed in
+    let c1 = first-none (signals_faults bytes n 0 n) (joint_faults (signals_in n bytes)) c0.1 in
+    let together = joint-passed (signals_in n bytes) c1.1 in
+    let patient = patient-said (fixed_field front fixed.Patient) s.patient in
+    let recording = recording-said (fixed_field front fixed.Recording) s.recording in
+    let date = (recording_in (fixed_field front fixed.Recording)).date in
+    let same : (m : ℤ) → NamesDashedDay date m → m ≡ epoch_day start.date =
+    λ m named. same-day date (dotted_day_of (text_of (fixed_field front fixed.Startdate))) m (startdate-passed date (fixed_field front fixed.Startdate) (startdate-of front passed)) named ∙ s.day in
+    let long-signals : length signals ≡ n = ap length e ∙ length-signals bytes n 0 0 n in
+    let each : All IsSoundSignal signals = subst (All IsSoundSignal) (sym e) (signals-sound bytes n 0 0 n c1.0) in
+    let beside : AreSideBySide 0 signals = subst (AreSideBySide 0) (sym e) (side-by-side bytes n 0 0 n) in
+    record {
+      long = long;
+      patient = s.patient;
+      recording = s.recording;
+      days = s.days;
+      record_size = total;
+      sound = record {
+        sex = patient.sex;
+        birthdate = patient.birthdate;
+        date = recording.date;
+        same_day = same;
+        near = s.near;
+        early = s.early;
+        some_records = x.some_records;
+        few_records = x.few_records;
+        some_time = x.some_time;
+        little_time = x.little_time;
+        annotations = rw e together.annotations;
+        channel = rw e together.channel;
+        distinct = rw e together.distinct;
+        few_signals = rw long-signals x.few_signals;
+        signals = each;
+        offsets = beside;
+        small_record = rw (sym total) small;
+      };
+    }

@@ -1,0 +1,16 @@
+pub mod CalibrationFacts
+pub mod ChannelFacts
+pub mod ColumnFacts
+pub mod FirstFacts
+pub mod FixedFacts
+pub mod HeadFacts
+pub mod KeptFacts
+pub mod PassedFacts
+pub mod ProductFacts
+pub mod ReadFacts
+pub mod RepeatFacts
+pub mod SaidFacts
+pub mod SignalFacts
+pub mod SoundFacts
+pub mod TogetherFacts
+pub mod ValueFacts

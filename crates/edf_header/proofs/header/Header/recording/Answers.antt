@@ -1,0 +1,12 @@
+use Rattle.std.proofs.Common.{◌∙◌, ap}
+use Rattle.edf_fields.specs.Identifications.{recording_of}
+use Rattle.edf_header.specs.declared.layout.FixedField.TheVariants as fixed
+use Rattle.edf_header.specs.Layout.{fixed_field}
+use Rattle.edf_header.specs.Heads.{recording_in}
+use Rattle.edf_header.proofs.SaidFacts.{recording_is}
+use Rattle.edf_header.proofs.header.Header.recording.Goals as goal
+
+pub returns : goal.returns
+returns c =
+    let field = c.fixed_field.ensures.value ∙ ap (λ xs. fixed_field xs fixed.Recording) c.deref.ensures.value in
+    recording_is c.fixed_field.result.now (recording_of c.in-Ok.recording) c.in-Ok.ensures.said ∙ ap recording_in field ∙ ap (λ h. h.recording) c.self.view_is

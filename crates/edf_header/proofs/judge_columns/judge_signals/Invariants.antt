@@ -1,0 +1,11 @@
+use Rattle.std.proofs.Common.{◌≡◌, ◌-◌, ◌*◌, ◌^◌, ◌≤◌, ◌++◌}
+use Rattle.edf_header.specs.Faults.{first, signals_faults}
+use Rattle.edf_header.specs.Heads.{signals_from, signals_in}
+use Rattle.edf_header.proofs.judge_columns.judge_signals.Given as goal
+
+abbrev pub invariant-loop-s : goal.invariant-loop-s
+invariant-loop-s l = record {
+  passed : first (signals_faults l.columns.bytes.now l.columns.signals 0 l.columns.signals) ≡ first (signals_faults l.columns.bytes.now l.columns.signals l.s (l.columns.signals - l.s));
+  found : l.found.items ++ signals_from l.columns.bytes.now l.columns.signals l.s l.offset (l.columns.signals - l.s) ≡ signals_in l.columns.signals l.columns.bytes.now;
+  small : l.offset ≤ 2 * 10 ^ 8 * l.s;
+}

@@ -1,0 +1,13 @@
+-- What being the same line says of the values.
+use Rattle.std.specs.Prelude.{◌≡◌, ℤ, ◌+ℤ◌, ◌-ℤ◌, ◌*ℤ◌, ◌↔◌}
+use Rattle.edf_header.specs.Calibrations.{Line, digital_span, physical_span, SameLine}
+
+-- the physical value of the digital value v, times the digital span: p * (dmax - dmin) = pmin * (dmax - dmin) + (v - dmin) * (pmax - pmin)
+abbrev pub value_times_span : Line → ℤ → ℤ
+value_times_span l v = (l.physical_minimum *ℤ digital_span l) +ℤ ((v -ℤ l.digital_minimum) *ℤ physical_span l)
+
+-- two are the same line exactly where each digital value has the same physical one, as a fraction over the digital span
+abbrev pub SameLineIsSameValues : Type 0
+SameLineIsSameValues =
+    (l m : Line)
+    → SameLine l m ↔ ((v : ℤ) → value_times_span l v *ℤ digital_span m ≡ value_times_span m v *ℤ digital_span l)

@@ -1,0 +1,41 @@
+-- The line from digital to physical values (EDF, "Header record": digital and physical minimum and maximum).
+use Rattle.std.specs.Prelude.{◌≡◌, ◌≢◌, ℤ, pos, ◌-ℤ◌, ◌*ℤ◌, ◌<ℤ◌, ◌≤ℤ◌, ◌<◌, ◌^◌, neg_ℤ, unsigned_abs}
+
+-- the extremes of a signal: physical ones in units of 10^-7 of the signal's dimension, and the digital values that they are given for
+pub record Line : Type 0 where
+  pub physical_minimum : ℤ
+  pub physical_maximum : ℤ
+  pub digital_minimum : ℤ
+  pub digital_maximum : ℤ
+
+abbrev pub digital_span : Line → ℤ
+digital_span l = l.digital_maximum -ℤ l.digital_minimum
+
+abbrev pub physical_span : Line → ℤ
+physical_span l = l.physical_maximum -ℤ l.physical_minimum
+
+-- the physical value of the digital value 0, times the digital span
+abbrev pub offset_times_span : Line → ℤ
+offset_times_span l = (l.physical_minimum *ℤ digital_span l) -ℤ (l.digital_minimum *ℤ physical_span l)
+
+-- gain and offset of p = pmin + (v - dmin) * (pmax - pmin) / (dmax - dmin) are the same fractions: each digital value has the same physical one
+abbrev pub SameLine : Line → Line → Type 0
+SameLine l m =
+    (physical_span l *ℤ digital_span m ≡ physical_span m *ℤ digital_span l)
+    × (offset_times_span l *ℤ digital_span m ≡ offset_times_span m *ℤ digital_span l)
+
+-- digital extremes are from -32768 to 32767, the minimum below the maximum; physical ones differ, in either order (EDF, "Header record"; the minimum's place is EDF+'s, "Additional specifications in EDF+"; that a negative gain is accepted is this project's profile)
+pub record IsCalibration (l : Line) : Type 0 where
+  pub low : neg_ℤ (pos 32768) ≤ℤ l.digital_minimum
+  pub high : l.digital_maximum ≤ℤ pos 32767
+  pub order : l.digital_minimum <ℤ l.digital_maximum
+  pub differ : l.physical_minimum ≢ l.physical_maximum
+  pub small_minimum : unsigned_abs l.physical_minimum < 10 ^ 15
+  pub small_maximum : unsigned_abs l.physical_maximum < 10 ^ 15
+
+-- being the same line is an equivalence of calibrations
+abbrev pub SameLineIsEquivalence : Type 0
+SameLineIsEquivalence =
+    ((l : Line) → SameLine l l)
+    × ((l m : Line) → SameLine l m → SameLine m l)
+    × ((l m k : Line) → m.digital_minimum <ℤ m.digital_maximum → SameLine l m → SameLine m k → SameLine l k)

@@ -1,0 +1,188 @@
+-- What a header says (EDF, "Header record"; EDF+, "The EDF+ header").
+use Rattle.std.specs.Prelude.{◌≡◌, ℕ, zero, suc, ℤ, pos, negsuc, ◌+◌, ◌*◌, ◌+ℤ◌, ◌*ℤ◌, Bool, List, [], ◌∷◌, length, drop, take, Option, Some, None, slice_get, unwrap_or, codes, if◌then◌else◌}
+use Rattle.std.specs.Option.{option_map_or}
+use Rattle.std.specs.Str.{bytes_eq}
+use Rattle.jiff_core.specs.Calendar.{days_from_civil}
+use Rattle.edf_fields.specs.Parts.{text_of}
+use Rattle.edf_fields.specs.Numbers.{SpellsWholeNumber, SpellsHeaderNumber, whole_number_of, header_number_of}
+use Rattle.edf_fields.specs.Dates.{CivilDay, NamesDottedDay, NamesClockTime, dotted_day_of, clock_time_of}
+use Rattle.edf_fields.specs.Subfields.{subfields_of}
+use Rattle.edf_fields.specs.Identifications.{Patient, Recording, SaysPatient, SaysRecording, subfield}
+use Rattle.edf_header.specs.declared.kind.Kind.{Kind}
+use Rattle.edf_header.specs.declared.kind.Kind.TheVariants.{Contiguous, Interrupted}
+use Rattle.edf_header.specs.declared.layout.FixedField.TheVariants as fixed
+use Rattle.edf_header.specs.declared.layout.SignalField.TheVariants as signal
+use Rattle.edf_header.specs.Calibrations.{Line}
+use Rattle.edf_header.specs.Layout.{fixed_part, fixed_field, columns_part, signal_field}
+
+-- one signal: the texts of its fields, its calibration, how many samples it has in a data record, and how many bytes stand before them there
+pub record SignalHead : Type 0 where
+  pub label : List ℕ
+  pub transducer : List ℕ
+  pub dimension : List ℕ
+  pub prefilter : List ℕ
+  pub reserved : List ℕ
+  pub calibration : Line
+  pub samples : ℕ
+  pub offset : ℕ
+
+-- a header: who and what was recorded; the day (by its number, 0 for 1970-01-01) and the second of the day at which the recording starts; whether the data records follow one another without a gap; the free text behind that; how many data records there are, the duration of each in picoseconds, and the signals in order
+pub record Head : Type 0 where
+  pub patient : Patient
+  pub recording : Recording
+  pub day : ℤ
+  pub clock : ℕ
+  pub kind : Kind
+  pub free : List ℕ
+  pub records : ℕ
+  pub duration : ℤ
+  pub signals : List SignalHead
+
+-- the second at which the recording starts, 0 for 1970-01-01 00:00:00 (civil time, without a time zone)
+abbrev pub start_second : Head → ℤ
+start_second h = (pos 86400 *ℤ h.day) +ℤ pos h.clock
+
+-- the reserved field begins with the word of this kind (EDF+, "The EDF+ header")
+abbrev pub kind_word : Kind → List ℕ
+kind_word Contiguous = codes "EDF+C"
+kind_word Interrupted = codes "EDF+D"
+
+-- a number in units of 10^-7 s, in picoseconds
+abbrev pub in_picoseconds : ℤ → ℤ
+in_picoseconds units = units *ℤ pos 100000
+
+-- the fields of signal s of n have these texts and numbers
+pub record HasSignal (bytes : List ℕ) (n s : ℕ) (head : SignalHead) : Type 0 where
+  pub label : head.label ≡ text_of (signal_field bytes n s signal.Label)
+  pub transducer : head.transducer ≡ text_of (signal_field bytes n s signal.Transducer)
+  pub dimension : head.dimension ≡ text_of (signal_field bytes n s signal.Dimension)
+  pub physical_minimum : SpellsHeaderNumber (signal_field bytes n s signal.PhysicalMinimum) head.calibration.physical_minimum
+  pub physical_maximum : SpellsHeaderNumber (signal_field bytes n s signal.PhysicalMaximum) head.calibration.physical_maximum
+  pub digital_minimum : SpellsWholeNumber (signal_field bytes n s signal.DigitalMinimum) head.calibration.digital_minimum
+  pub digital_maximum : SpellsWholeNumber (signal_field bytes n s signal.DigitalMaximum) head.calibration.digital_maximum
+  pub prefilter : head.prefilter ≡ text_of (signal_field bytes n s signal.Prefilter)
+  pub samples : SpellsWholeNumber (signal_field bytes n s signal.Samples) (pos head.samples)
+  pub reserved : head.reserved ≡ text_of (signal_field bytes n s signal.Reserved)
+
+-- the first of these signals has so many bytes before it in a data record, and each other one also those of the signals before it, two a sample
+abbrev pub AreSideBySide : ℕ → List SignalHead → Type 0
+AreSideBySide before [] = Unit {0}
+AreSideBySide before (head ∷ heads) = (head.offset ≡ before) × AreSideBySide (before + 2 * head.samples) heads
+
+-- every field of the file, at its place in the two tables of the layout, says what the header says
+pub record HasHead (file : List ℕ) (h : Head) : Type 0 where
+  pub patient : SaysPatient (fixed_field (fixed_part file) fixed.Patient) h.patient
+  pub recording : SaysRecording (fixed_field (fixed_part file) fixed.Recording) h.recording
+  pub day : NamesDottedDay (text_of (fixed_field (fixed_part file) fixed.Startdate)) h.day
+  pub clock : NamesClockTime (text_of (fixed_field (fixed_part file) fixed.Starttime)) h.clock
+  pub kind : take 5 (fixed_field (fixed_part file) fixed.Reserved) ≡ kind_word h.kind
+  pub free : h.free ≡ text_of (drop 5 (fixed_field (fixed_part file) fixed.Reserved))
+  pub records : SpellsWholeNumber (fixed_field (fixed_part file) fixed.Records) (pos h.records)
+  pub units : ℤ
+  pub duration_spelled : SpellsHeaderNumber (fixed_field (fixed_part file) fixed.Duration) units
+  pub duration : h.duration ≡ in_picoseconds units
+  pub count : SpellsWholeNumber (fixed_field (fixed_part file) fixed.Signals) (pos (length h.signals))
+  pub signals : (s : ℕ) (head : SignalHead) → slice_get h.signals s ≡ Some head → HasSignal (columns_part (length h.signals) file) (length h.signals) s head
+  pub offsets : AreSideBySide 0 h.signals
+
+-- a number that counts something, or 0 where none is spelled
+abbrev pub count_of : Option ℤ → ℕ
+count_of None = 0
+count_of (Some (pos n)) = n
+count_of (Some (negsuc n)) = 0
+
+-- the number of a day, 0 for 1970-01-01, as `jiff` numbers days
+abbrev pub day_number : CivilDay → ℤ
+day_number day = days_from_civil day.year day.month day.day
+
+-- the patient of a field that says one
+abbrev pub patient_in : List ℕ → Patient
+patient_in field =
+    let xs = subfields_of (text_of field) in
+    record { code = subfield xs 0; sex = subfield xs 1; birthdate = subfield xs 2; name = subfield xs 3; extras = drop 4 xs }
+
+-- the recording of a field that says one
+abbrev pub recording_in : List ℕ → Recording
+recording_in field =
+    let xs = subfields_of (text_of field) in
+    record { date = subfield xs 1; admin = subfield xs 2; technician = subfield xs 3; equipment = subfield xs 4; extras = drop 5 xs }
+
+-- the kind of a file that is an EDF+ file
+abbrev pub kind_of : List ℕ → Kind
+kind_of field = if bytes_eq (take 5 field) (codes "EDF+C") then Contiguous else Interrupted
+
+-- how many signals the fixed part announces
+abbrev pub signals_of : List ℕ → ℕ
+signals_of front = count_of (whole_number_of (fixed_field front fixed.Signals))
+
+-- the calibration that signal s of n has; where a number isn't spelled it counts as 0
+abbrev pub line_of : List ℕ → ℕ → ℕ → Line
+line_of bytes n s = record {
+  physical_minimum = unwrap_or (header_number_of (signal_field bytes n s signal.PhysicalMinimum)) (pos 0);
+  physical_maximum = unwrap_or (header_number_of (signal_field bytes n s signal.PhysicalMaximum)) (pos 0);
+  digital_minimum = unwrap_or (whole_number_of (signal_field bytes n s signal.DigitalMinimum)) (pos 0);
+  digital_maximum = unwrap_or (whole_number_of (signal_field bytes n s signal.DigitalMaximum)) (pos 0);
+}
+
+-- signal s of n, with so many bytes before it in a data record
+abbrev pub signal_of : List ℕ → ℕ → ℕ → ℕ → SignalHead
+signal_of bytes n s before = record {
+  label = text_of (signal_field bytes n s signal.Label);
+  transducer = text_of (signal_field bytes n s signal.Transducer);
+  dimension = text_of (signal_field bytes n s signal.Dimension);
+  prefilter = text_of (signal_field bytes n s signal.Prefilter);
+  reserved = text_of (signal_field bytes n s signal.Reserved);
+  calibration = line_of bytes n s;
+  samples = count_of (whole_number_of (signal_field bytes n s signal.Samples));
+  offset = before;
+}
+
+-- the m signals from signal s on, of n, the first of them with so many bytes before it
+abbrev pub signals_from : List ℕ → ℕ → ℕ → ℕ → ℕ → List SignalHead
+signals_from bytes n s before zero = []
+signals_from bytes n s before (suc m) =
+    signal_of bytes n s before
+    ∷ signals_from bytes n (s + 1) (before + 2 * (signal_of bytes n s before).samples) m
+
+-- the signals of the columns of n signals
+abbrev pub signals_in : ℕ → List ℕ → List SignalHead
+signals_in n bytes = signals_from bytes n 0 0 n
+
+-- the header that the fixed part and the columns say; where a number isn't spelled it counts as 0
+abbrev pub head_in : List ℕ → List ℕ → Head
+head_in front bytes = record {
+  patient = patient_in (fixed_field front fixed.Patient);
+  recording = recording_in (fixed_field front fixed.Recording);
+  day = option_map_or day_number (dotted_day_of (text_of (fixed_field front fixed.Startdate))) (pos 0);
+  clock = unwrap_or (clock_time_of (text_of (fixed_field front fixed.Starttime))) 0;
+  kind = kind_of (fixed_field front fixed.Reserved);
+  free = text_of (drop 5 (fixed_field front fixed.Reserved));
+  records = count_of (whole_number_of (fixed_field front fixed.Records));
+  duration = in_picoseconds (unwrap_or (header_number_of (fixed_field front fixed.Duration)) (pos 0));
+  signals = signals_in (signals_of front) bytes;
+}
+
+-- the header of a file
+unfoldable pub head_of : List ℕ → Head
+head_of file = head_in (fixed_part file) (columns_part (signals_of (fixed_part file)) file)
+
+-- the label says that the signal holds annotations (EDF+, "The 'EDF Annotations' signal")
+abbrev pub is_annotations : List ℕ → Bool
+is_annotations label = bytes_eq label (codes "EDF Annotations")
+
+-- how many samples the signals have together in a data record
+abbrev pub samples_together : List SignalHead → ℕ
+samples_together [] = 0
+samples_together (head ∷ heads) = head.samples + samples_together heads
+
+-- how many bytes the header has
+abbrev pub header_bytes : Head → ℕ
+header_bytes h = 256 * (length h.signals + 1)
+
+-- how many bytes a data record has
+abbrev pub record_bytes : Head → ℕ
+record_bytes h = 2 * samples_together h.signals
+
+-- a file has at most one header
+abbrev pub HasOneHead : Type 0
+HasOneHead = (file : List ℕ) (h g : Head) → HasHead file h → HasHead file g → h ≡ g

@@ -1,0 +1,13 @@
+pub mod CalibrationLaws
+pub mod Calibrations
+pub mod Channels
+pub mod Conforming
+pub mod Extremes
+pub mod FaultTexts
+pub mod Faults
+pub mod Heads
+pub mod Judged
+pub mod Layout
+pub mod Sound
+pub mod Stops
+pub mod Views

@@ -1,0 +1,132 @@
+//! The header of a file.
+
+ghost use Rattle.std.specs.Prelude.{◌≡◌, ◌<◌, ◌^◌, ◌*ℤ◌, ◌+ℤ◌, pos, unsigned_abs};
+ghost use Rattle.jiff.specs.Words.{epoch_day};
+ghost use Rattle.edf_fields.specs.Identifications.{patient_of, recording_of};
+ghost use Rattle.edf_header.specs.Heads.{start_second, record_bytes};
+ghost use Rattle.edf_header.specs.Sound.{IsSound};
+
+use crate::fixed::{Extent, Start};
+use crate::judge_columns::Body;
+use crate::kind::Kind;
+use crate::layout::{FixedField, fixed_field};
+use crate::signal::Signal;
+use edf_fields::identification::{PatientId, RecordingId};
+use edf_fields::number::text;
+use jiff::civil::Date;
+use std::marker::Model;
+
+/// The header of a file of the profile (EDF, "Header record"; EDF+, "The EDF+ header").
+#[derive(Drop)]
+pub struct Header {
+    pub(crate) front: Vec<u8>,
+    pub(crate) start: Start,
+    pub(crate) extent: Extent,
+    pub(crate) body: Body,
+}
+
+impl Model for Header {
+    ghost use Rattle.edf_header.specs.Heads.{Head};
+    ghost use Rattle.edf_header.specs.Views.{head_view, IsKept};
+
+    ghost Value = { Head };
+
+    ghost view = { λ h. head_view h.front.items h.start h.extent h.body.signals.items };
+
+    ghost invariant = { λ h. IsKept h.front.items h.start h.extent h.body.signals.items h.body.record_bytes };
+}
+
+/// The seconds of so many days.
+fn seconds_of_days(days: i32) -> i64
+    ensures value { result ≡ pos 86400 *ℤ days }
+    ensures small { unsigned_abs result < 2 ^ 48 }
+{
+    86_400 * i64::from(days)
+}
+
+/// The second of a day's second, from 1970-01-01 00:00:00 on.
+fn second_of(days: i32, clock: u32) -> i64
+    ensures { result ≡ (pos 86400 *ℤ days) +ℤ pos clock }
+{
+    seconds_of_days(days) + i64::from(clock)
+}
+
+impl Header {
+    /// The day at which the recording starts.
+    pub fn start_date(&self) -> Date
+        ensures { epoch_day result ≡ self.now.day }
+    {
+        self.start.date
+    }
+
+    /// The second at which the recording starts, 0 for 1970-01-01 00:00:00 (civil time, without a
+    /// time zone).
+    pub fn start_second(&self) -> i64
+        ensures { result ≡ start_second self.now }
+    {
+        second_of(self.start.days, self.start.clock)
+    }
+
+    /// Whether the data records follow one another without a gap.
+    pub fn kind(&self) -> Kind
+        ensures { result ≡ self.now.kind }
+    {
+        self.extent.kind
+    }
+
+    /// How many data records the file has.
+    pub fn records(&self) -> u32
+        ensures { result ≡ self.now.records }
+    {
+        self.extent.records
+    }
+
+    /// The duration of each data record in picoseconds.
+    pub fn duration_ps(&self) -> i128
+        ensures { result ≡ self.now.duration }
+    {
+        self.extent.duration_ps
+    }
+
+    /// How many bytes each data record has.
+    pub fn record_bytes(&self) -> usize
+        ensures { result ≡ record_bytes self.now }
+    {
+        self.body.record_bytes as usize
+    }
+
+    /// The free text of the reserved field, behind `EDF+C` or `EDF+D`.
+    pub fn free(&self) -> &[u8]
+        ensures { result.now ≡ self.entry.now.free }
+    {
+        text(&fixed_field(&self.front, FixedField::Reserved)[5..])
+    }
+
+    /// The patient.
+    pub fn patient(&self) -> PatientId<'_>
+        ensures { patient_of result ≡ self.entry.now.patient }
+    {
+        match PatientId::read(fixed_field(&self.front, FixedField::Patient)) {
+            Ok(patient) => patient,
+            Err(_) => unreachable!(),
+        }
+    }
+
+    /// The recording.
+    pub fn recording(&self) -> RecordingId<'_>
+        ensures { recording_of result ≡ self.entry.now.recording }
+    {
+        match RecordingId::read(fixed_field(&self.front, FixedField::Recording)) {
+            Ok(recording) => recording,
+            Err(_) => unreachable!(),
+        }
+    }
+
+    /// The signals, in file order.
+    pub fn signals(&self) -> &[Signal]
+        ensures signals { result.now ≡ self.entry.now.signals }
+        ensures sound { IsSound self.entry.now }
+    {
+        &self.body.signals
+    }
+}

@@ -1,0 +1,30 @@
+//! Laws of the definitions, each the contract of a function that does nothing.
+
+ghost use Rattle.edf_header.specs.CalibrationLaws.{SameLineIsSameValues};
+ghost use Rattle.edf_header.specs.Calibrations.{SameLineIsEquivalence};
+ghost use Rattle.edf_header.specs.Conforming.{PassingHasHead};
+ghost use Rattle.edf_header.specs.Heads.{HasOneHead};
+
+/// Being the same line is an equivalence of calibrations: each is the same line as itself, of two
+/// that are the same line each is that of the other, and two are the same line where a third is that
+/// of both.
+#[tactic(auto, using(crate::proofs::CalibrationFacts::same_line_is_equivalence))]
+pub fn same_line_is_an_equivalence()
+    ensures { SameLineIsEquivalence }
+{}
+
+/// Two are the same line exactly where each digital value has the same physical one.
+#[tactic(auto, using(crate::proofs::ValueFacts::same_line_is_same_values))]
+pub fn same_line_is_same_values()
+    ensures { SameLineIsSameValues }
+{}
+
+/// A file has at most one header.
+pub fn file_has_one_head()
+    ensures { HasOneHead }
+{}
+
+/// A file whose header passes its tests has the header that is read of it.
+pub fn passing_file_has_a_head()
+    ensures { PassingHasHead }
+{}

@@ -1,0 +1,160 @@
+//! The layout of a header (EDF, "Header record"): a fixed part of 256 bytes, then ten columns, each
+//! with one field of every signal.
+
+ghost use Rattle.std.specs.Prelude.{◌≡◌, ◌+◌, ◌*◌, ◌≤◌, ◌<◌, ◌^◌, length};
+ghost use Rattle.edf_header.specs.Layout.{fixed_from, fixed_bytes, fixed_field as fixed_field_of, fixed_field_name, column_before, column_width, signal_field as signal_field_of, signal_field_name};
+
+use edf_fields::number::part;
+
+/// A field of the fixed part, the first 256 bytes, in file order.
+#[derive(Debug, Clone, Copy, PartialEq, Eq)]
+pub enum FixedField {
+    Version,
+    Patient,
+    Recording,
+    Startdate,
+    Starttime,
+    HeaderBytes,
+    Reserved,
+    Records,
+    Duration,
+    Signals,
+}
+
+impl FixedField {
+    /// The field's name as the EDF text has it, in one word.
+    pub fn name(self) -> &'static str
+        ensures { result.now ≡ fixed_field_name self }
+    {
+        match self {
+            FixedField::Version => "version",
+            FixedField::Patient => "patient",
+            FixedField::Recording => "recording",
+            FixedField::Startdate => "startdate",
+            FixedField::Starttime => "starttime",
+            FixedField::HeaderBytes => "header-bytes",
+            FixedField::Reserved => "reserved",
+            FixedField::Records => "records",
+            FixedField::Duration => "duration",
+            FixedField::Signals => "signals",
+        }
+    }
+
+    /// The place of the field's first byte, and how many bytes it has.
+    fn extent(self) -> (usize, usize)
+        ensures from { result.0 ≡ fixed_from self }
+        ensures count { result.1 ≡ fixed_bytes self }
+        ensures within { result.0 + result.1 ≤ 256 }
+    {
+        match self {
+            FixedField::Version => (0, 8),
+            FixedField::Patient => (8, 80),
+            FixedField::Recording => (88, 80),
+            FixedField::Startdate => (168, 8),
+            FixedField::Starttime => (176, 8),
+            FixedField::HeaderBytes => (184, 8),
+            FixedField::Reserved => (192, 44),
+            FixedField::Records => (236, 8),
+            FixedField::Duration => (244, 8),
+            FixedField::Signals => (252, 4),
+        }
+    }
+}
+
+/// The bytes of a field of the fixed part.
+pub(crate) fn fixed_field(fixed: &[u8], field: FixedField) -> &[u8]
+    requires { 256 ≤ length fixed.now }
+    ensures value { result.now ≡ fixed_field_of fixed.entry.now field }
+    ensures len { length result.now ≡ fixed_bytes field }
+{
+    let (from, count) = field.extent();
+    part(fixed, from, count)
+}
+
+/// A field of a signal, in the order of the columns behind the fixed part. Each column holds one
+/// field of every signal.
+#[derive(Debug, Clone, Copy, PartialEq, Eq)]
+pub enum SignalField {
+    Label,
+    Transducer,
+    Dimension,
+    PhysicalMinimum,
+    PhysicalMaximum,
+    DigitalMinimum,
+    DigitalMaximum,
+    Prefilter,
+    Samples,
+    Reserved,
+}
+
+/// The columns in file order.
+pub(crate) const COLUMNS: [SignalField; 10] = [
+    SignalField::Label,
+    SignalField::Transducer,
+    SignalField::Dimension,
+    SignalField::PhysicalMinimum,
+    SignalField::PhysicalMaximum,
+    SignalField::DigitalMinimum,
+    SignalField::DigitalMaximum,
+    SignalField::Prefilter,
+    SignalField::Samples,
+    SignalField::Reserved,
+];
+
+impl SignalField {
+    /// The field's name as the EDF text has it, in one word.
+    pub fn name(self) -> &'static str
+        ensures { result.now ≡ signal_field_name self }
+    {
+        match self {
+            SignalField::Label => "label",
+            SignalField::Transducer => "transducer",
+            SignalField::Dimension => "dimension",
+            SignalField::PhysicalMinimum => "physical-minimum",
+            SignalField::PhysicalMaximum => "physical-maximum",
+            SignalField::DigitalMinimum => "digital-minimum",
+            SignalField::DigitalMaximum => "digital-maximum",
+            SignalField::Prefilter => "prefilter",
+            SignalField::Samples => "samples",
+            SignalField::Reserved => "reserved",
+        }
+    }
+
+    /// How many bytes of each signal stand in the columns before this one, and how many in it.
+    pub(crate) fn column(self) -> (usize, usize)
+        ensures before { result.0 ≡ column_before self }
+        ensures width { result.1 ≡ column_width self }
+        ensures within { result.0 + result.1 ≤ 256 }
+        ensures some { 8 ≤ result.1 }
+    {
+        match self {
+            SignalField::Label => (0, 16),
+            SignalField::Transducer => (16, 80),
+            SignalField::Dimension => (96, 8),
+            SignalField::PhysicalMinimum => (104, 8),
+            SignalField::PhysicalMaximum => (112, 8),
+            SignalField::DigitalMinimum => (120, 8),
+            SignalField::DigitalMaximum => (128, 8),
+            SignalField::Prefilter => (136, 80),
+            SignalField::Samples => (216, 8),
+            SignalField::Reserved => (224, 32),
+        }
+    }
+}
+
+/// The bytes of a field of signal `signal` of `signals`, in their columns.
+pub(crate) fn signal_field(
+    columns: &[u8],
+    signals: usize,
+    signal: usize,
+    field: SignalField,
+) -> &[u8]
+    requires some { signal < signals }
+    requires few { signals < 2 ^ 16 }
+    requires whole { 256 * signals ≤ length columns.now }
+    ensures value { result.now ≡ signal_field_of columns.entry.now signals signal field }
+    ensures len { length result.now ≡ column_width field }
+{
+    let (before, width) = field.column();
+    part(columns, before * signals + width * signal, width)
+}

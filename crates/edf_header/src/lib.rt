@@ -1,0 +1,22 @@
+//! The header of an EDF+ file (sleep and other recordings): what its bytes say, or why they say
+//! nothing, and the line from digital to physical values.
+#![tactic(auto)]
+
+pub mod calibration;
+mod columns;
+pub mod fault;
+mod fault_text;
+mod field;
+mod fixed;
+pub mod header;
+mod judge_columns;
+mod judge_signal;
+pub mod kind;
+pub mod laws;
+pub mod layout;
+mod read;
+pub mod signal;
+pub mod stop;
+#[cfg(test)]
+mod tests;
+mod together;

@@ -1,0 +1,98 @@
+//! One signal of a file.
+
+ghost use Rattle.std.specs.Prelude.{◌≡◌, ◌<◌, ◌^◌};
+ghost use Rattle.edf_header.specs.Heads.{is_annotations};
+
+use crate::calibration::Calibration;
+use std::marker::Model;
+
+/// The label of a signal that holds annotations (EDF+, "The 'EDF Annotations' signal").
+pub(crate) const ANNOTATIONS: &[u8] = b"EDF Annotations";
+
+/// One signal of a file: a channel, or a signal that holds annotations.
+///
+/// The texts are those of its fields (EDF, "Header record"), without the spaces at their ends.
+#[derive(Debug, Drop)]
+pub struct Signal {
+    pub(crate) label: Vec<u8>,
+    pub(crate) transducer: Vec<u8>,
+    pub(crate) dimension: Vec<u8>,
+    pub(crate) prefilter: Vec<u8>,
+    pub(crate) reserved: Vec<u8>,
+    pub(crate) calibration: Calibration,
+    pub(crate) samples: u32,
+    pub(crate) offset: u64,
+}
+
+impl Model for Signal {
+    ghost use Rattle.edf_header.specs.Heads.{SignalHead};
+
+    ghost Value = { SignalHead };
+
+    ghost view = { λ s. record { label = s.label.items; transducer = s.transducer.items; dimension = s.dimension.items; prefilter = s.prefilter.items; reserved = s.reserved.items; calibration = s.calibration; samples = s.samples; offset = s.offset } };
+}
+
+impl Signal {
+    /// The label.
+    pub fn label(&self) -> &[u8]
+        ensures { result.now ≡ self.entry.now.label }
+    {
+        &self.label
+    }
+
+    /// The kind of the transducer.
+    pub fn transducer(&self) -> &[u8]
+        ensures { result.now ≡ self.entry.now.transducer }
+    {
+        &self.transducer
+    }
+
+    /// The physical dimension.
+    pub fn dimension(&self) -> &[u8]
+        ensures { result.now ≡ self.entry.now.dimension }
+    {
+        &self.dimension
+    }
+
+    /// How the signal was filtered before it was sampled.
+    pub fn prefilter(&self) -> &[u8]
+        ensures { result.now ≡ self.entry.now.prefilter }
+    {
+        &self.prefilter
+    }
+
+    /// The free text of the reserved field.
+    pub fn reserved(&self) -> &[u8]
+        ensures { result.now ≡ self.entry.now.reserved }
+    {
+        &self.reserved
+    }
+
+    /// The line from digital to physical values.
+    pub fn calibration(&self) -> &Calibration
+        ensures { result.now ≡ self.entry.now.calibration }
+    {
+        &self.calibration
+    }
+
+    /// How many samples it has in a data record.
+    pub fn samples(&self) -> u32
+        ensures { result ≡ self.now.samples }
+    {
+        self.samples
+    }
+
+    /// How many bytes of a data record stand before its first sample.
+    pub fn offset(&self) -> usize
+        ensures { result ≡ self.now.offset }
+    {
+        self.offset as usize
+    }
+
+    /// Whether the signal holds annotations and is no channel.
+    pub fn is_annotations(&self) -> bool
+        ensures { result ≡ is_annotations self.now.label }
+    {
+        self.label.as_slice() == ANNOTATIONS
+    }
+}

@@ -1,0 +1,149 @@
+//! The tests of a header's signals together.
+
+ghost use Rattle.std.specs.Prelude.{◌≡◌, ◌*◌, ◌≤◌, ◌<◌, ◌^◌, nat_le, true, false, length, None, Some, IfSome, MatchOption, MatchResult};
+ghost use Rattle.std.specs.List.{list_any, list_all};
+ghost use Rattle.edf_header.specs.Channels.{is_channel_of as is_channel_of_label, channel_place, is_repeated as is_repeated_label};
+ghost use Rattle.edf_header.specs.Faults.{first, no_annotation_signal, no_ordinary_signal, labels_faults, record_too_large, joint_faults};
+ghost use Rattle.edf_header.specs.Heads.{is_annotations, samples_together};
+
+use crate::fault::{Cause, Fault, Place};
+use crate::layout::{FixedField, SignalField};
+use crate::signal::Signal;
+
+/// The most samples that a data record may have, two bytes each.
+const MOST_SAMPLES: u64 = 8_388_608;
+
+/// Whether one of the signals holds annotations.
+fn any_annotations(signals: &[Signal]) -> bool
+    ensures { result ≡ list_any (λ s. is_annotations s.label) signals.now }
+{
+    signals.iter().any(|signal| signal.is_annotations())
+}
+
+/// Whether all of the signals hold annotations.
+fn all_annotations(signals: &[Signal]) -> bool
+    ensures { result ≡ list_all (λ s. is_annotations s.label) signals.now }
+{
+    signals.iter().all(|signal| signal.is_annotations())
+}
+
+/// Whether one signal at least holds annotations.
+#[tactic(auto, unfolding(crate::specs::Faults::no_annotation_signal))]
+fn annotation_signal(signals: &[Signal]) -> Result<(), Fault>
+    ensures { MatchResult result (λ _. no_annotation_signal signals.now ≡ None) (λ f. no_annotation_signal signals.now ≡ Some f) }
+{
+    if any_annotations(signals) {
+        return Ok(());
+    }
+    Err(Fault {
+        place: Place::AtField(FixedField::Signals),
+        cause: Cause::NoAnnotationSignal,
+    })
+}
+
+/// Whether one signal at least is a channel.
+#[tactic(auto, unfolding(crate::specs::Faults::no_ordinary_signal))]
+fn ordinary_signal(signals: &[Signal]) -> Result<(), Fault>
+    ensures { MatchResult result (λ _. no_ordinary_signal signals.now ≡ None) (λ f. no_ordinary_signal signals.now ≡ Some f) }
+{
+    if !all_annotations(signals) {
+        return Ok(());
+    }
+    Err(Fault {
+        place: Place::AtField(FixedField::Signals),
+        cause: Cause::NoOrdinarySignal,
+    })
+}
+
+/// Whether the signal is a channel of this label.
+fn is_channel_of(signal: &Signal, label: &[u8]) -> bool
+    ensures { result ≡ is_channel_of_label label.now signal.now }
+{
+    signal.label() == label && !signal.is_annotations()
+}
+
+/// The place of the first channel of this label among the signals.
+fn find_channel(signals: &[Signal], label: &[u8]) -> Option<usize>
+    ensures value { result ≡ channel_place label.now signals.now }
+    ensures within { IfSome result (λ s. s < length signals.now) }
+{
+    for (s, signal) in signals.iter().enumerate() {
+        if is_channel_of(signal, label) {
+            return Some(s);
+        }
+    }
+    None
+}
+
+/// Whether an earlier channel has the label of signal `s`.
+#[tactic(auto, using(crate::proofs::RepeatFacts::label_here))]
+fn is_repeated(signals: &[Signal], s: usize) -> bool
+    requires { s < length signals.now }
+    ensures { result ≡ is_repeated_label signals.now s }
+{
+    find_channel(&signals[..s], signals[s].label()).is_some()
+}
+
+/// Whether no channel has the label of an earlier one.
+#[tactic(auto, using(crate::proofs::RepeatFacts::label_passed, crate::proofs::RepeatFacts::label_found))]
+fn distinct_labels(signals: &[Signal]) -> Result<(), Fault>
+    requires { length signals.now < 2 ^ 16 }
+    ensures { MatchResult result
+        (λ _. first (labels_faults signals.now 0 (length signals.now)) ≡ None)
+        (λ f. first (labels_faults signals.now 0 (length signals.now)) ≡ Some f) }
+{
+    for s in 0..signals.len() {
+        if is_repeated(signals, s) {
+            return Err(Fault {
+                place: Place::AtSignal(s as u16, SignalField::Label),
+                cause: Cause::DuplicateLabel,
+            });
+        }
+    }
+    Ok(())
+}
+
+/// How many samples the signals have together in a data record, where they are at most `most`.
+fn sum_up_to(signals: &[Signal], most: u64) -> Option<u64>
+    requires { most < 2 ^ 32 }
+    ensures { MatchOption result (nat_le (samples_together signals.now) most ≡ false)
+        (λ sum. (nat_le (samples_together signals.now) most ≡ true) × (sum ≡ samples_together signals.now) × (sum ≤ most)) }
+{
+    let mut sum = 0u64;
+    for signal in signals {
+        sum += u64::from(signal.samples());
+        if sum > most {
+            return None;
+        }
+    }
+    Some(sum)
+}
+
+/// How many bytes a data record has: 16,777,216 at the most.
+#[tactic(auto, unfolding(crate::specs::Faults::record_too_large))]
+fn record_size(signals: &[Signal]) -> Result<u32, Fault>
+    ensures { MatchResult result
+        (λ size. (record_too_large signals.now ≡ None) × (size ≡ 2 * samples_together signals.now) × (size ≤ 16777216))
+        (λ f. record_too_large signals.now ≡ Some f) }
+{
+    match sum_up_to(signals, MOST_SAMPLES) {
+        Some(sum) => Ok(2 * sum as u32),
+        None => Err(Fault {
+            place: Place::AtField(FixedField::Signals),
+            cause: Cause::RecordTooLarge,
+        }),
+    }
+}
+
+/// How many bytes a data record has, or the first fault of the signals together.
+pub(crate) fn judge_together(signals: &[Signal]) -> Result<u32, Fault>
+    requires { length signals.now < 2 ^ 16 }
+    ensures { MatchResult result
+        (λ size. (first (joint_faults signals.now) ≡ None) × (size ≡ 2 * samples_together signals.now) × (size ≤ 16777216))
+        (λ f. first (joint_faults signals.now) ≡ Some f) }
+{
+    annotation_signal(signals)?;
+    ordinary_signal(signals)?;
+    distinct_labels(signals)?;
+    record_size(signals)
+}
