@@ -1,14 +1,15 @@
 -- The channels and the annotation signals of a header whose signals passed their tests together.
-use Rattle.std.proofs.Common.{◌≡◌, ℕ, zero, suc, ◌+◌, ◌<◌, ◌≤◌, ◌&&◌, ◌||◌, not, Bool, true, false, cond, List, [], ◌∷◌, ◌++◌, length, take, slice_get, Some, None, unwrap_or, option_map, inl, inr, refl, sym, ap, ◌∙◌, subst, arith}
+use Rattle.std.proofs.Common.{◌≡◌, ℕ, zero, suc, ◌+◌, ◌<◌, ◌≤◌, ◌&&◌, ◌||◌, not, Bool, true, false, cond, List, [], ◌∷◌, ◌++◌, length, take, slice_get, Some, None, unwrap_or, option_map, inl, inr, refl, sym, ap, ◌∙◌, subst, arith, nat_le}
 use Rattle.std.specs.List.{list_any, list_all, position_from}
 use Rattle.std.specs.Option.{is_some}
 use Rattle.std.proofs.lemmas.Bool.{cases_lt}
 use Rattle.std.proofs.lemmas.Slice.Eq.{bytes_eq-Decides}
 use Rattle.edf_header.specs.declared.fault.Place.TheVariants.{AtField, AtSignal}
-use Rattle.edf_header.specs.declared.fault.Cause.TheVariants.{NoAnnotationSignal, NoOrdinarySignal, DuplicateLabel}
+use Rattle.edf_header.specs.declared.fault.Cause.TheVariants.{NoAnnotationSignal, NoOrdinarySignal, DuplicateLabel, RecordTooLarge}
 use Rattle.edf_header.specs.declared.layout.FixedField.TheVariants as fixed
 use Rattle.edf_header.specs.declared.layout.SignalField.TheVariants as signal
-use Rattle.edf_header.specs.Heads.{SignalHead, is_annotations}
+use Rattle.edf_fields.proofs.DateFacts.{le_decided}
+use Rattle.edf_header.specs.Heads.{SignalHead, is_annotations, samples_together}
 use Rattle.edf_header.specs.Channels.{IsChannel, HasDistinctChannels, is_channel_of, channel_place, label_at, is_repeated}
 use Rattle.edf_header.specs.Faults.{first, no_annotation_signal, no_ordinary_signal, label_fault, labels_faults, record_too_large, joint_faults}
 use Rattle.edf_header.specs.Sound.{HasAnnotationSignal, HasSomeChannel}
@@ -107,6 +108,11 @@ pub record Together (signals : List SignalHead) : Type 0 where
   pub annotations : HasAnnotationSignal signals
   pub channel : HasSomeChannel signals
   pub distinct : HasDistinctChannels signals
+  pub small : samples_together signals ≤ 8388608
+
+small-record : (signals : List SignalHead) → record_too_large signals ≡ None → samples_together signals ≤ 8388608
+unfolding record_too_large
+small-record signals h = (le_decided (samples_together signals) 8388608).0 (unless-passed (nat_le (samples_together signals) 8388608) (AtField fixed.Signals) RecordTooLarge h)
 
 pub annotation-there : (signals : List SignalHead) → no_annotation_signal signals ≡ None → HasAnnotationSignal signals
 unfolding no_annotation_signal
@@ -132,4 +138,5 @@ joint-passed signals h =
       annotations = annotation-there signals a.0;
       channel = channel-there signals b.0;
       distinct = labels-distinct signals d.0;
+      small = small-record signals (first-cons (record_too_large signals) [] d.1).0;
     }

@@ -1,11 +1,11 @@
 -- The header that bytes spell: a file that passes its tests has one, and no file has two.
-use Rattle.std.proofs.Common.{◌≡◌, ℕ, zero, suc, ℤ, pos, ◌+◌, ◌*◌, ◌≤◌, ◌||◌, take, Bool, true, false, cond, List, [], ◌∷◌, ◌++◌, length, slice_get, unwrap_or, Option, Some, None, codes, refl, sym, ap, ◌∙◌, subst, arith}
+use Rattle.std.proofs.Common.{◌≡◌, ℕ, zero, suc, ℤ, pos, ◌+◌, ◌*◌, ◌≤◌, ◌||◌, take, Bool, true, false, cond, List, [], ◌∷◌, ◌++◌, length, slice_get, unwrap_or, Option, Some, None, codes, refl, sym, ap, ◌∙◌, subst, arith, ◌<◌, ◌≤ℤ◌, ◌^◌, unsigned_abs}
 use Rattle.std.specs.Option.{option_map_or}
 use Rattle.std.specs.Str.{bytes_eq}
 use Rattle.std.proofs.lemmas.Slice.Eq.{bytes_eq-Decides}
 use Rattle.jiff.specs.Types.{Date}
 use Rattle.jiff.specs.Words.{epoch_day}
-use Rattle.edf_fields.specs.Parts.{text_of}
+use Rattle.edf_fields.specs.Parts.{text_of, part}
 use Rattle.edf_fields.specs.Numbers.{SpellsWholeNumber, SpellsHeaderNumber, whole_number_of, header_number_of}
 use Rattle.edf_fields.specs.Dates.{CivilDay, NamesDottedDay, NamesClockTime, civil_day, dotted_day_of, dashed_day_of, clock_time_of}
 use Rattle.edf_fields.specs.Identifications.{Patient, Recording, patient_cause, recording_cause}
@@ -22,13 +22,18 @@ use Rattle.edf_header.specs.declared.layout.SignalField.TheVariants as signal
 use Rattle.edf_header.specs.Calibrations.{Line}
 use Rattle.edf_header.specs.Layout.{fixed_part, fixed_field, fixed_fields, columns, columns_part, signal_field}
 use Rattle.edf_header.specs.Heads.{SignalHead, Head, HasSignal, HasHead, HasOneHead, AreSideBySide, kind_word, kind_of, in_picoseconds, count_of, day_number, recording_in, signals_of, line_of, signal_of, signals_from, signals_in, head_in, head_of}
-use Rattle.edf_header.specs.Conforming.{PassingHasHead}
+use Rattle.edf_header.specs.Conforming.{PassingHasHead, PassingIsSound}
+use Rattle.edf_header.specs.Sound.{IsSound}
+use Rattle.jiff_core.proofs.DateLemmas.{epoch_day_range}
+use Rattle.std.proofs.lemmas.Int.{ints}
+use Rattle.edf_fields.proofs.ValueFacts.{header_number-below}
+use Rattle.edf_header.proofs.ChannelFacts.{joint-passed}
 use Rattle.edf_header.specs.Faults.{first, fault, unless, not_printable, not_named, not_read, not_positive, is_same_day, version_fault, patient_fault, recording_fault, startdate_fault, starttime_fault, header_bytes_fault, reserved_fault, records_fault, duration_fault, signals_fault, header_size_fault, fixed_missing, start_faults, extent_faults, fixed_tests, columns_missing, signal_faults, signals_faults, joint_faults, columns_tests, header_fault}
 use Rattle.edf_header.proofs.PassedFacts.{first-none, first-cons, unless-passed, named-passed, positive-passed}
 use Rattle.edf_header.proofs.SaidFacts.{patient_is, recording_is}
 use Rattle.edf_header.proofs.SignalFacts.{length-signals}
-use Rattle.edf_header.proofs.SoundFacts.{Passes, signal-passes, side-by-side}
-use Rattle.edf_header.proofs.KeptFacts.{patient-said, recording-said}
+use Rattle.edf_header.proofs.SoundFacts.{Passes, signal-passes, side-by-side, signals-sound, count-below}
+use Rattle.edf_header.proofs.KeptFacts.{patient-said, recording-said, startdate-passed, same-day}
 
 -- the number that a field spells is what is read of it
 spelled : (field : List ℕ) (v : ℤ) → header_number_of field ≡ Some v → SpellsHeaderNumber field (unwrap_or (header_number_of field) (pos 0))
@@ -311,3 +316,90 @@ one_head file h g has has2 = head-read file h has ∙ sym (head-read file g has2
 
 pub passing_has_head : PassingHasHead
 passing_has_head file h = has-head file h
+
+-- the bounds of a day, a time, a count and a duration that were read
+near-day : (field : List ℕ) (day : CivilDay) → dotted_day_of (text_of field) ≡ Some day → unsigned_abs (option_map_or day_number (dotted_day_of (text_of field)) (pos 0)) < 5000000
+near-day field day e =
+    let r = dotted_day-some (text_of field) day e in
+    let number : epoch_day r.0 ≡ option_map_or day_number (dotted_day_of (text_of field)) (pos 0) =
+    ap day_number r.2 ∙ ap (λ o. option_map_or day_number o (pos 0)) (sym e) in
+    let range = epoch_day_range r.0 in
+    let low = range.0 in
+    let high = range.1 in
+    let near : unsigned_abs (epoch_day r.0) < 5000000 = omega (arith, ints, low, high) in
+    subst (λ z. unsigned_abs z < 5000000) number near
+
+early-time : (field : List ℕ) (s : ℕ) → clock_time_of (text_of field) ≡ Some s → unwrap_or (clock_time_of (text_of field)) 0 < 86400
+early-time field s e =
+    let named = clock_time-some (text_of field) s e in
+    let hours = named.1 in
+    let minutes = named.2 in
+    let seconds = named.3 in
+    let value = named.4 in
+    let early : s < 86400 = omega (arith, hours, minutes, seconds, value) in
+    subst (λ o. unwrap_or o 0 < 86400) (sym e) early
+
+some-count : (field : List ℕ) (n : ℕ) → whole_number_of field ≡ Some (pos n) → 1 ≤ n → 1 ≤ count_of (whole_number_of field)
+some-count field n e h = subst (λ o. 1 ≤ count_of o) (sym e) h
+
+few-count : (bytes : List ℕ) (at w n : ℕ) → whole_number_of (part bytes at w) ≡ Some (pos n) → count_of (whole_number_of (part bytes at w)) < 10 ^ w
+few-count bytes at w n e = subst (λ o. count_of o < 10 ^ w) (sym e) (count-below bytes at w n e)
+
+product : (n : ℕ) → in_picoseconds (pos n) ≡ pos (n * 100000)
+product n = omega (arith, ints)
+
+some-time : (field : List ℕ) (n : ℕ) → header_number_of field ≡ Some (pos n) → 1 ≤ n → pos 1 ≤ℤ in_picoseconds (unwrap_or (header_number_of field) (pos 0))
+some-time field n e h =
+    let long : pos 1 ≤ℤ pos (n * 100000) = omega (arith, ints, h) in
+    subst (λ o. pos 1 ≤ℤ in_picoseconds (unwrap_or o (pos 0))) (sym e) (subst (λ z. pos 1 ≤ℤ z) (sym (product n)) long)
+
+little-time : (field : List ℕ) (n : ℕ) → header_number_of field ≡ Some (pos n) → unsigned_abs (in_picoseconds (unwrap_or (header_number_of field) (pos 0))) < 10 ^ 20
+little-time field n e =
+    let below : n < 10 ^ 15 = header_number-below field (pos n) (header_number_of-some field (pos n) e) in
+    let short : n * 100000 < 10 ^ 20 = omega (arith, below) in
+    subst (λ o. unsigned_abs (in_picoseconds (unwrap_or o (pos 0))) < 10 ^ 20) (sym e) (subst (λ z. unsigned_abs z < 10 ^ 20) (sym (product n)) short)
+
+pub sound-head : (file : List ℕ) → header_fault file ≡ None → IsSound (head_of file)
+unfolding header_fault head_of
+sound-head file h =
+    let front : List ℕ = fixed_part file in
+    let n : ℕ = signals_of front in
+    let bytes : List ℕ = columns_part n file in
+    let a = first-none (fixed_tests front) (columns_tests n bytes) h in
+    let c0 = first-none (columns_missing columns n (length bytes)) (signals_faults bytes n 0 n ++ joint_faults (signals_in n bytes)) a.1 in
+    let c1 = first-none (signals_faults bytes n 0 n) (joint_faults (signals_in n bytes)) c0.1 in
+    let together = joint-passed (signals_in n bytes) c1.1 in
+    let p = fixed-passes front a.0 in
+    let day = startdate-named (recording_in (fixed_field front fixed.Recording)).date (fixed_field front fixed.Startdate) p.startdate in
+    let clock = starttime-named (fixed_field front fixed.Starttime) p.starttime in
+    let records = records-passed (fixed_field front fixed.Records) p.records in
+    let duration = duration-passed (fixed_field front fixed.Duration) p.duration in
+    let signals = signals-passed (fixed_field front fixed.Signals) p.signals in
+    let patient = patient-said (fixed_field front fixed.Patient) (patient-passed (fixed_field front fixed.Patient) p.patient) in
+    let recording = recording-said (fixed_field front fixed.Recording) (recording-passed (fixed_field front fixed.Recording) p.recording) in
+    let date = (recording_in (fixed_field front fixed.Recording)).date in
+    let long : length (signals_in n bytes) ≡ n = length-signals bytes n 0 0 n in
+    let few : n < 10 ^ 4 = few-count front 252 4 signals.0 signals.1 in
+    let small = together.small in
+    record {
+      sex = patient.sex;
+      birthdate = patient.birthdate;
+      date = recording.date;
+      same_day = λ m named. same-day date (dotted_day_of (text_of (fixed_field front fixed.Startdate))) m (startdate-passed date (fixed_field front fixed.Startdate) p.startdate) named;
+      near = near-day (fixed_field front fixed.Startdate) day.0 day.1;
+      early = early-time (fixed_field front fixed.Starttime) clock.0 clock.1;
+      some_records = some-count (fixed_field front fixed.Records) records.0 records.1 records.2;
+      few_records = few-count front 236 8 records.0 records.1;
+      some_time = some-time (fixed_field front fixed.Duration) duration.0 duration.1 duration.2;
+      little_time = little-time (fixed_field front fixed.Duration) duration.0 duration.1;
+      annotations = together.annotations;
+      channel = together.channel;
+      distinct = together.distinct;
+      few_signals = subst (λ k. k < 10 ^ 4) (sym long) few;
+      signals = signals-sound bytes n 0 0 n c1.0;
+      offsets = side-by-side bytes n 0 0 n;
+      small_record = omega (arith, small);
+    }
+
+pub passing_is_sound : PassingIsSound
+passing_is_sound file h = sound-head file h

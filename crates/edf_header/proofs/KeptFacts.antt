@@ -1,5 +1,5 @@
 -- What the code keeps of a header holds, where its bytes passed their tests.
-use Rattle.std.proofs.Common.{◌≡◌, ℕ, ℤ, pos, ◌*◌, ◌≤◌, nat_le, Bool, true, false, List, [], ◌∷◌, ◌++◌, length, Option, Some, None, refl, sym, ap, ◌∙◌, subst}
+use Rattle.std.proofs.Common.{◌≡◌, ℕ, ℤ, pos, ◌*◌, ◌≤◌, Bool, true, false, List, [], ◌∷◌, ◌++◌, length, Option, Some, None, refl, sym, ap, ◌∙◌, subst}
 use Rattle.std.specs.List.{All}
 use Rattle.std.specs.Option.{option_map_or}
 use Rattle.std.proofs.lemmas.Bool.Decides.{Decides-int_eq}
@@ -48,7 +48,7 @@ startdate-passed date field h =
     unless-passed same (AtField fixed.Startdate) StartdateDiffers (first-cons (unless same (AtField fixed.Startdate) StartdateDiffers) [] b.1).0
 
 same-number : (recorded : CivilDay) (o : Option CivilDay) → is_same_day (Some recorded) o ≡ true → day_number recorded ≡ option_map_or day_number o (pos 0)
-same-number recorded None h = absurd (let e : nat_le 1 0 ≡ true = h in let f : false ≡ true = e in cc)
+same-number recorded None h = absurd (let e : false ≡ true = h in cc)
 same-number recorded (Some day) h = (Decides-int_eq (day_number recorded) (day_number day)).0 h
 
 pub same-day : (date : List ℕ) (o : Option CivilDay) (n : ℤ) → is_same_day (dashed_day_of date) o ≡ true → NamesDashedDay date n → n ≡ option_map_or day_number o (pos 0)

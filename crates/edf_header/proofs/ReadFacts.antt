@@ -1,5 +1,5 @@
 -- From the bytes that were read to the whole file.
-use Rattle.std.proofs.Common.{◌≡◌, ℕ, ◌+◌, ◌*◌, List, take, drop, length, Some, None, sym, ap, ◌∙◌, arith}
+use Rattle.std.proofs.Common.{◌≡◌, ℕ, ◌+◌, ◌*◌, ◌≤◌, List, take, drop, length, length-take, length-drop, Some, None, sym, ap, ◌∙◌, arith}
 use Rattle.std.proofs.lemmas.List.{drop-drop}
 use Rattle.edf_header.specs.declared.fault.Fault.{Fault}
 use Rattle.edf_header.specs.declared.fixed.Start.{Start}
@@ -64,3 +64,8 @@ rest-is b front bytes rest n count e =
     let long : length (signals_in (signals_of front) bytes) ≡ n = length-signals bytes (signals_of front) 0 0 (signals_of front) ∙ count in
     let size : 256 + 256 * n ≡ 256 * (length (signals_in (signals_of front) bytes) + 1) = omega (arith, long) in
     e ∙ drop-drop (256 * n) 256 b ∙ ap (λ k. drop k b) size
+
+pub whole-is : (b front bytes : List ℕ) (n : ℕ) (signals : List SignalHead) → front ≡ take 256 b → 256 ≤ length front → bytes ≡ take (256 * n) (drop 256 b) → 256 * n ≤ length bytes → length signals ≡ n
+    → 256 * (length signals + 1) ≤ length b
+whole-is b front bytes n signals e long cols enough count =
+    omega (arith, count, long, enough, ap length e, ap length cols, length-take 256 b, length-take (256 * n) (drop 256 b), length-drop 256 b)

@@ -105,12 +105,13 @@ spelled-small o v e h = rw e h
 number-small : (field : List ℕ) (v : ℤ) → header_number_of field ≡ Some v → unsigned_abs (unwrap_or (header_number_of field) (pos 0)) < 10 ^ 15
 number-small field v e = spelled-small (header_number_of field) v e (header_number-below field v (header_number_of-some field v e))
 
-count-small : (bytes : List ℕ) (at : ℕ) (k : ℕ) → whole_number_of (part bytes at 8) ≡ Some (pos k) → k < 10 ^ 8
-count-small bytes at k e =
-    let below : unsigned_abs (pos k) < 10 ^ length (part bytes at 8) = whole_number-below (part bytes at 8) (pos k) (whole_number_of-some (part bytes at 8) (pos k) e) in
-    let short : length (part bytes at 8) ≤ 8 = omega (arith, length-take 8 (drop at bytes)) in
-    let most : 10 ^ length (part bytes at 8) ≤ 10 ^ 8 = pow-le-pow_right (lit< tt) short in
-    let small : k < 10 ^ length (part bytes at 8) = below in
+-- what a field of w bytes counts has w digits at the most
+pub count-below : (bytes : List ℕ) (at w k : ℕ) → whole_number_of (part bytes at w) ≡ Some (pos k) → k < 10 ^ w
+count-below bytes at w k e =
+    let below : unsigned_abs (pos k) < 10 ^ length (part bytes at w) = whole_number-below (part bytes at w) (pos k) (whole_number_of-some (part bytes at w) (pos k) e) in
+    let short : length (part bytes at w) ≤ w = omega (arith, length-take w (drop at bytes)) in
+    let most : 10 ^ length (part bytes at w) ≤ 10 ^ w = pow-le-pow_right (lit< tt) short in
+    let small : k < 10 ^ length (part bytes at w) = below in
     omega (arith, small, most)
 
 pub passes-sound : (bytes : List ℕ) (n s before : ℕ) → Passes bytes n s → IsSoundSignal (signal_of bytes n s before)
@@ -124,7 +125,7 @@ passes-sound bytes n s before p = record {
     small_maximum = number-small (signal_field bytes n s signal.PhysicalMaximum) (p.physical_maximum).0 (p.physical_maximum).1;
   };
   some_samples = rw (p.samples).1 (p.samples).2;
-  few_samples = rw (p.samples).1 (count-small bytes (column_before signal.Samples * n + 8 * s) (p.samples).0 (p.samples).1);
+  few_samples = rw (p.samples).1 (count-below bytes (column_before signal.Samples * n + 8 * s) 8 (p.samples).0 (p.samples).1);
   annotations = λ e. annotation-passed s (signal_field bytes n s signal.Label) (line_of bytes n s) p.annotations e;
 }
 

@@ -1,5 +1,5 @@
 -- The tests that a header has to pass, in their written order, and the first that fails. A test is asked only where those before it pass.
-use Rattle.std.specs.Prelude.{ℕ, zero, suc, ℤ, pos, neg_ℤ, ◌+◌, ◌*◌, nat_le, int_le, int_lt, ◌&&◌, ◌||◌, not, if◌then◌else◌, List, [], ◌∷◌, ◌++◌, length, take, Bool, Option, Some, None, unwrap_or, codes}
+use Rattle.std.specs.Prelude.{ℕ, zero, suc, ℤ, pos, neg_ℤ, ◌+◌, ◌*◌, nat_le, int_le, int_lt, ◌&&◌, ◌||◌, not, if◌then◌else◌, List, [], ◌∷◌, ◌++◌, length, take, Bool, true, false, Option, Some, None, unwrap_or, codes}
 use Rattle.std.specs.List.{list_any, list_all}
 use Rattle.std.specs.Ordering.{int_eq}
 use Rattle.std.specs.Str.{bytes_eq}
@@ -88,8 +88,8 @@ recording_fault field =
 
 -- no day, or this one (EDF+, "Additional specifications in EDF+": the startdate in the recording identification is that of the header)
 abbrev pub is_same_day : Option CivilDay → Option CivilDay → Bool
-is_same_day None day = not (nat_le 1 0)
-is_same_day (Some recorded) None = nat_le 1 0
+is_same_day None day = true
+is_same_day (Some recorded) None = false
 is_same_day (Some recorded) (Some day) = int_eq (day_number recorded) (day_number day)
 
 -- the startdate names a day, and the recording date, where it isn't X, the same one

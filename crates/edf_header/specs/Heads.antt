@@ -26,7 +26,7 @@ pub record SignalHead : Type 0 where
   pub samples : ℕ
   pub offset : ℕ
 
--- a header: who and what was recorded; the day (by its number, 0 for 1970-01-01) and the second of the day at which the recording starts; whether the data records follow one another without a gap; the free text behind that; how many data records there are, the duration of each in picoseconds, and the signals in order
+-- a header: who and what was recorded; the day (by its number, 0 for 1970-01-01) and the second of the day at which the recording starts; whether the data records follow one another without a gap; the free text behind `EDF+C` or `EDF+D`; how many data records are announced, the duration of each in picoseconds, and the signals in order
 pub record Head : Type 0 where
   pub patient : Patient
   pub recording : Recording
@@ -69,7 +69,7 @@ abbrev pub AreSideBySide : ℕ → List SignalHead → Type 0
 AreSideBySide before [] = Unit {0}
 AreSideBySide before (head ∷ heads) = (head.offset ≡ before) × AreSideBySide (before + 2 * head.samples) heads
 
--- every field of the file, at its place in the two tables of the layout, says what the header says
+-- the fields of the file, at their places in the two tables of the layout, say what the header says (the version and the size of the header say nothing more: the tests ask for them)
 pub record HasHead (file : List ℕ) (h : Head) : Type 0 where
   pub patient : SaysPatient (fixed_field (fixed_part file) fixed.Patient) h.patient
   pub recording : SaysRecording (fixed_field (fixed_part file) fixed.Recording) h.recording
@@ -85,7 +85,7 @@ pub record HasHead (file : List ℕ) (h : Head) : Type 0 where
   pub signals : (s : ℕ) (head : SignalHead) → slice_get h.signals s ≡ Some head → HasSignal (columns_part (length h.signals) file) (length h.signals) s head
   pub offsets : AreSideBySide 0 h.signals
 
--- a number that counts something, or 0 where none is spelled
+-- a number that counts something, or 0 where none is spelled, or one below 0
 abbrev pub count_of : Option ℤ → ℕ
 count_of None = 0
 count_of (Some (pos n)) = n

@@ -1,4 +1,4 @@
--- What the parts of a header say that passed their tests.
+-- What the code holds of the two halves of the fixed part, once their tests have passed.
 use Rattle.std.specs.Prelude.{◌≡◌, ℕ, pos, ◌≤◌, ◌<◌, ◌≤ℤ◌, ◌^◌, List, None, unwrap_or, unsigned_abs}
 use Rattle.std.specs.Option.{option_map_or}
 use Rattle.jiff.specs.Words.{epoch_day}

@@ -7,7 +7,7 @@ use Rattle.edf_header.specs.Calibrations.{IsCalibration}
 use Rattle.edf_header.specs.Channels.{IsChannel, HasDistinctChannels}
 use Rattle.edf_header.specs.Heads.{SignalHead, Head, AreSideBySide, is_annotations, record_bytes}
 
--- a signal that passed its tests
+-- a signal that passed its tests; a number field of 8 bytes spells no count of 9 digits
 pub record IsSoundSignal (head : SignalHead) : Type 0 where
   pub calibration : IsCalibration head.calibration
   pub some_samples : 1 ≤ head.samples
@@ -22,7 +22,7 @@ HasAnnotationSignal signals = (s : ℕ) × (head : SignalHead) × (slice_get sig
 abbrev pub HasSomeChannel : List SignalHead → Type 0
 HasSomeChannel signals = (s : ℕ) × (label : List ℕ) × IsChannel signals s label
 
--- a header that passed its tests
+-- a header that passed its tests. The bounds are those of its fields: a day of the calendar is less than 5,000,000 days from 1970-01-01, 8 bytes spell no count of 9 digits and no duration of 10^8 s, 4 bytes no count of 5 digits
 pub record IsSound (h : Head) : Type 0 where
   pub sex : IsSex h.patient.sex
   pub birthdate : IsDateOrX h.patient.birthdate

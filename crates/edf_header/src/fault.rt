@@ -6,9 +6,13 @@ use edf_fields::cause::{FieldCause, TalCause};
 /// Where a fault stands. Signals and data records count from 0.
 #[derive(Debug, Clone, Copy, PartialEq, Eq)]
 pub enum Place {
+    /// At a field of the fixed part.
     AtField(FixedField),
+    /// At a field of a signal.
     AtSignal(u16, SignalField),
+    /// In a data record.
     AtRecord(u32),
+    /// Behind the last data record.
     AtEnd,
 }
 
@@ -31,9 +35,9 @@ pub enum Cause {
     BadHeaderSize,
     /// The reserved field begins neither with `EDF+C` nor with `EDF+D`.
     NotEdfPlus,
-    /// The field doesn't spell a number.
+    /// The field doesn't spell a number, or no whole one where one has to stand.
     BadNumber,
-    /// The number is none that may stand here.
+    /// The number is none that may stand here, alone or beside those of the same signal.
     BadRange,
     /// The digital extremes of an annotation signal aren't -32768 and 32767.
     BadAnnotationSignal,
@@ -55,7 +59,7 @@ pub enum Cause {
     NotContiguous,
     /// A data record starts before the one before ends.
     Overlap,
-    /// The file has more than 1,000,000 annotations.
+    /// The file has more than 1,000,000 annotations, time-keeping texts not counted.
     TooManyAnnotations,
     /// A byte stands behind the last data record.
     TrailingBytes,
@@ -64,6 +68,8 @@ pub enum Cause {
 /// The first fault of a file in the written order of tests.
 #[derive(Debug, Clone, Copy, PartialEq, Eq)]
 pub struct Fault {
+    /// Where it stands.
     pub place: Place,
+    /// What is wrong there.
     pub cause: Cause,
 }

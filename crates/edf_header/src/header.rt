@@ -17,6 +17,10 @@ use jiff::civil::Date;
 use std::marker::Model;
 
 /// The header of a file of the profile (EDF, "Header record"; EDF+, "The EDF+ header").
+///
+/// Every header is sound (`IsSound`): its channels have distinct labels, there is one at least and an
+/// annotation signal, extremes are in order and in range, and so on. Who holds one needs no premise;
+/// `signals` hands this out as a clause.
 #[derive(Drop)]
 pub struct Header {
     pub(crate) front: Vec<u8>,
@@ -44,7 +48,7 @@ fn seconds_of_days(days: i32) -> i64
     86_400 * i64::from(days)
 }
 
-/// The second of a day's second, from 1970-01-01 00:00:00 on.
+/// The second that is so many days and seconds behind 1970-01-01 00:00:00.
 fn second_of(days: i32, clock: u32) -> i64
     ensures { result ≡ (pos 86400 *ℤ days) +ℤ pos clock }
 {
@@ -74,7 +78,7 @@ impl Header {
         self.extent.kind
     }
 
-    /// How many data records the file has.
+    /// How many data records the header announces.
     pub fn records(&self) -> u32
         ensures { result ≡ self.now.records }
     {
@@ -122,7 +126,7 @@ impl Header {
         }
     }
 
-    /// The signals, in file order.
+    /// The signals, in file order. The clause `sound` says what holds of every header.
     pub fn signals(&self) -> &[Signal]
         ensures signals { result.now ≡ self.entry.now.signals }
         ensures sound { IsSound self.entry.now }

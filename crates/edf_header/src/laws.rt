@@ -2,7 +2,7 @@
 
 ghost use Rattle.edf_header.specs.CalibrationLaws.{SameLineIsSameValues};
 ghost use Rattle.edf_header.specs.Calibrations.{SameLineIsEquivalence};
-ghost use Rattle.edf_header.specs.Conforming.{PassingHasHead};
+ghost use Rattle.edf_header.specs.Conforming.{PassingHasHead, PassingIsSound};
 ghost use Rattle.edf_header.specs.Heads.{HasOneHead};
 
 /// Being the same line is an equivalence of calibrations: each is the same line as itself, of two
@@ -24,7 +24,8 @@ pub fn file_has_one_head()
     ensures { HasOneHead }
 {}
 
-/// A file whose header passes its tests has the header that is read of it.
-pub fn passing_file_has_a_head()
-    ensures { PassingHasHead }
+/// A file whose header passes its tests has the header that is read of it, and that one is sound.
+pub fn passing_file_has_a_sound_head()
+    ensures head { PassingHasHead }
+    ensures sound { PassingIsSound }
 {}

@@ -22,7 +22,7 @@ pub enum FixedField {
 }
 
 impl FixedField {
-    /// The field's name as the EDF text has it, in one word.
+    /// The field's name in the text of a fault.
     pub fn name(self) -> &'static str
         ensures { result.now ≡ fixed_field_name self }
     {
@@ -102,7 +102,7 @@ pub(crate) const COLUMNS: [SignalField; 10] = [
 ];
 
 impl SignalField {
-    /// The field's name as the EDF text has it, in one word.
+    /// The field's name in the text of a fault.
     pub fn name(self) -> &'static str
         ensures { result.now ≡ signal_field_name self }
     {

@@ -33,11 +33,14 @@ fn next_bytes<S: Source>(alloc: Global, source: &mut S, count: usize) -> Result<
 impl Header {
     /// Reads the header of a file, from its first byte on, and takes no byte behind it.
     ///
-    /// The file has 256 bytes and 256 more for each signal (EDF, "Header record"); what may stand
-    /// in them is the profile of EDF+ (EDF+, "The EDF+ header") that docs/PROFILE.md tells. A
-    /// `Fault` is the first one in the written order of tests, `header_fault`: of a file that ends
-    /// before its header does, too. `ReadFailed` comes only from a failed read, `OutOfMemory` only
-    /// from memory that was refused, each at once.
+    /// The header has 256 bytes and 256 more for each signal (EDF, "Header record"; EDF+, "The EDF+
+    /// header"); what may stand in them is told in docs/PROFILE.md, "The whole header". A `Fault` is
+    /// the first one in the order of tests that `header_fault` lists (specs/Faults.antt); a file that
+    /// ends before its header does has one, too. `ReadFailed` comes only from a read that failed.
+    ///
+    /// Memory is asked for only after the tests before it have passed; that `OutOfMemory` is answered
+    /// only where it was refused is no contract's, but tested. After an error nothing is said of
+    /// where the source stands.
     pub fn read<S: Source>(alloc: Global, source: &mut S) -> Result<Header, Stop>
         ensures sound { IfOk result IsSound }
         ensures failures { OnOk result (S.failures source.new ≡ S.failures source.old) }
@@ -48,6 +51,7 @@ impl Header {
         ensures passed { OnOk result (IsTrue (S.is_honest source.old) → header_fault (S.left source.old) ≡ None) }
         ensures value { IfOk result (λ h. IsTrue (S.is_honest source.old) → h ≡ head_of (S.left source.old)) }
         ensures says { IfOk result (λ h. IsTrue (S.is_honest source.old) → HasHead (S.left source.old) h) }
+        ensures whole { IfOk result (λ h. IsTrue (S.is_honest source.old) → header_bytes h ≤ length (S.left source.old)) }
         ensures behind { IfOk result (λ h. IsTrue (S.is_honest source.old) → S.left source.new ≡ drop (header_bytes h) (S.left source.old)) }
     {
         let front = next_bytes(alloc, source, 256)?;

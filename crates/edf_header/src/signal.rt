@@ -11,7 +11,7 @@ pub(crate) const ANNOTATIONS: &[u8] = b"EDF Annotations";
 
 /// One signal of a file: a channel, or a signal that holds annotations.
 ///
-/// The texts are those of its fields (EDF, "Header record"), without the spaces at their ends.
+/// The texts are those of its fields (EDF, "Header record"), without trailing spaces.
 #[derive(Debug, Drop)]
 pub struct Signal {
     pub(crate) label: Vec<u8>,

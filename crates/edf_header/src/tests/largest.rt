@@ -82,29 +82,20 @@ const LONG_NOTES: Column<'static> = [
     "",
 ];
 
-/// The header of so many such signals, but for the first: that is a channel, with so many samples in a
-/// data record. The sizes are the texts of header-bytes and signals.
+/// The header of so many of the longest annotation signals, but for the first: that is a channel, with so
+/// many samples in a data record. The sizes are the texts of header-bytes and signals.
 fn wide_file<'a>(
     alloc: Global,
-    column: &[Column],
     signals: u16,
     sizes: (&'a str, &'a str),
     samples: &'a str,
 ) -> Result<Vec<u8>, AllocError> {
-    let mut file = header_of(alloc, column, usize::from(signals))?;
+    let mut file = header_of(alloc, &[LONG_NOTES], usize::from(signals))?;
     let (header_bytes, count) = sizes;
     let first = (256 + 216 * usize::from(signals), 8);
     put_all(&mut file, &[(HEADER_BYTES, header_bytes), (SIGNALS, count)]);
     put_all(&mut file, &[((256, 16), "Temp"), (first, samples)]);
     Ok(file)
-}
-
-#[test]
-fn takes_the_most_signals(rt: HostRuntime) -> Result<(), AllocError> {
-    let alloc = rt.alloc();
-    let file = wide_file(alloc, &[NOTES], 9999, ("2560000", "9999"), "1")?;
-    assert_eq!(rt; sizes_of(alloc, &file), Some((399_922, 399_882)));
-    Ok(())
 }
 
 /// The sums are past what 32 bits hold. In 32 bits the second one would be 5,032,661 samples, and the
@@ -117,7 +108,7 @@ fn takes_no_record_past_any_size(rt: HostRuntime) -> Result<(), AllocError> {
         (43, ("11264", "43"), "99999999"),
         (22, ("5888", "22"), "47483670"),
     ] {
-        let file = wide_file(alloc, &[LONG_NOTES], signals, sizes, samples)?;
+        let file = wide_file(alloc, signals, sizes, samples)?;
         let found = answer_of(alloc, &file)?;
         assert_eq!(rt; found.as_str(), LARGE);
     }

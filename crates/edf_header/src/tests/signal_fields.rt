@@ -189,7 +189,7 @@ fn judges_a_count_of_samples(rt: HostRuntime) -> Result<(), AllocError> {
 }
 
 #[test]
-fn judges_the_extremes_of_an_annotation_signal(rt: HostRuntime) -> Result<(), AllocError> {
+fn judges_the_digital_extremes_of_an_annotation_signal(rt: HostRuntime) -> Result<(), AllocError> {
     let wrong = first_unanswered(
         rt.alloc(),
         &[
@@ -215,6 +215,17 @@ fn judges_the_extremes_of_an_annotation_signal(rt: HostRuntime) -> Result<(), Al
                 ],
                 "BadRange at signal 2 field digital-maximum",
             ),
+        ],
+    )?;
+    assert_eq!(rt; wrong, None);
+    Ok(())
+}
+
+#[test]
+fn judges_the_physical_extremes_of_an_annotation_signal(rt: HostRuntime) -> Result<(), AllocError> {
+    let wrong = first_unanswered(
+        rt.alloc(),
+        &[
             (
                 &[(notes::PHYSICAL_MINIMUM, "1")],
                 "BadRange at signal 2 field physical-maximum",

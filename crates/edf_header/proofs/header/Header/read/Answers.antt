@@ -1,4 +1,4 @@
-use Rattle.std.proofs.Common.{◌≡◌, ◌∙◌, ◌*◌, ap, sym, subst, take, drop, Some, IsTrue}
+use Rattle.std.proofs.Common.{◌≡◌, ◌∙◌, ◌*◌, ap, sym, subst, take, drop, length, Some, IsTrue}
 use Rattle.std.proofs.lemmas.Result.{err_from_is_err_and}
 use Rattle.edf_fields.specs.Sources.{Rises}
 use Rattle.edf_header.specs.Faults.{first, columns_tests, header_fault}
@@ -6,7 +6,8 @@ use Rattle.edf_header.specs.Heads.{Head, HasHead, header_bytes}
 use Rattle.edf_header.proofs.FirstFacts.{stops-weaker}
 use Rattle.edf_header.proofs.HeadFacts.{has-head}
 use Rattle.edf_header.proofs.KeptFacts.{kept}
-use Rattle.edf_header.proofs.ReadFacts.{front_found, columns-left, view-is, head-is, rest-is}
+use Rattle.edf_header.proofs.ReadFacts.{front_found, columns-left, view-is, head-is, rest-is, whole-is}
+use Rattle.edf_header.proofs.SignalFacts.{length-signals}
 use Rattle.edf_header.proofs.header.Header.read.Goals as goal
 
 pub returns-in_err-start-clause-stop : goal.returns-in_err-start-clause-stop
@@ -31,6 +32,11 @@ returns-in_err-start-clause-value g c =
 
 pub returns-in_err-start-clause-says : goal.returns-in_err-start-clause-says
 returns-in_err-start-clause-says g c =
+    let p = err_from_is_err_and c.from_residual-in_err-start.result c.from_residual-in_err-start.ensures.1 in
+    rw (p.1) tt
+
+pub returns-in_err-start-clause-whole : goal.returns-in_err-start-clause-whole
+returns-in_err-start-clause-whole g c =
     let p = err_from_is_err_and c.from_residual-in_err-start.result c.from_residual-in_err-start.ensures.1 in
     rw (p.1) tt
 
@@ -109,6 +115,17 @@ pub returns-clause-says : goal.returns-clause-says
 returns-clause-says g c = λ h.
     let b = g.S.Source.left c.args.source.now in
     subst (λ (head : Head). HasHead b head) (sym (returns-clause-value g c h)) (has-head b (returns-clause-passed g c h))
+
+pub returns-clause-whole : goal.returns-clause-whole
+returns-clause-whole g c = λ h.
+    let b = g.S.Source.left c.args.source.now in
+    let n = c.in_ok-start.extent.signals in
+    let said = rw c.deref.ensures.value at c.in_ok-start.ensures in
+    let cols : c.deref-2.result.now ≡ take (256 * n) (drop 256 b) =
+    c.deref-2.ensures.value ∙ c.in_ok-columns.ensures.front (c.in_ok-front.ensures.honesty h) ∙ ap (take (256 * c.from.result)) (c.in_ok-front.ensures.behind h)
+    ∙ ap (λ k. take (256 * k) (drop 256 b)) c.from.ensures in
+    whole-is b c.in_ok-front.front.items c.deref-2.result.now n c.in_ok-body.body.signals.items (c.in_ok-front.ensures.front h) said.1 cols c.in_ok-body.ensures.ok.1
+    (ap length c.in_ok-body.ensures.ok.2 ∙ length-signals c.deref-2.result.now n 0 0 n)
 
 pub returns-clause-behind : goal.returns-clause-behind
 returns-clause-behind g c = λ h.
