@@ -1,13 +1,16 @@
 -- The time of a text, as a relation and as a function.
-use Rattle.std.proofs.Common.{◌≡◌, ℕ, ℤ, Bool, true, false, not, [], ◌∷◌, ◌^◌, ◌<◌, ◌≤◌, List, length, drop, arith, refl, ap, ◌∙◌, sym, Option, Some, None, MatchOption, nat_le, nat_lt, ◌&&◌, ◌||◌, cond, pos}
+use Rattle.std.proofs.Common.{◌≡◌, ℕ, ℤ, Bool, true, false, not, [], ◌∷◌, ◌^◌, ◌*◌, ◌-◌, ◌<◌, ◌≤◌, ◌≤ℤ◌, ◌<ℤ◌, lit<, List, length, drop, arith, refl, ap, ◌∙◌, sym, Option, Some, None, MatchOption, nat_le, nat_lt, ◌&&◌, ◌||◌, cond, pos}
 use Rattle.std.specs.List.{list_all}
 use Rattle.std.proofs.lemmas.Bool.Decides.{nat_tests}
 use Rattle.std.proofs.lemmas.Grind.{common_steps}
+use Rattle.std.proofs.lemmas.Int.{ints}
+use Rattle.std.proofs.Math.Nat.{pow-le-pow_right}
 use Rattle.edf_fields.specs.Numbers.{AreDigits, is_digit, weight, signed, has_minus, before_dot, behind_dot}
 use Rattle.edf_fields.specs.Onsets.{without_leading_zeros, without_trailing_zeros, has_dot, has_sign, AreSeconds, IsFraction, IsTime, time_of, SpellsOnset, SpellsSpan, are_seconds, is_fraction, is_time, onset_of, span_of}
 use Rattle.edf_fields.proofs.DigitFacts.{below_power}
 use Rattle.edf_fields.proofs.NumberFacts.{digits_tested, tested_digits}
-use Rattle.edf_fields.proofs.ZeroFacts.{leading_digits, digits_leading, trailing_digits, digits_trailing}
+use Rattle.edf_fields.proofs.ZeroFacts.{leading_digits, digits_leading, trailing_digits, digits_trailing, fraction_under}
+use Rattle.edf_fields.proofs.ValueFacts.{weight-below}
 
 -- the seconds that digits are, where there is a digit
 pub seconds_read : (o : Option ℕ) (w : List ℕ) → 0 < length w → length (without_leading_zeros w) ≤ 9
@@ -120,6 +123,23 @@ unfolding span_of
 span_of_some t v h =
     let found = cond_is (is_time t) (pos (time_of t)) v h in
     (tested_time t found.0, found.1)
+
+-- a time is below 10^9 seconds
+time_below : (u : List ℕ) → IsTime u → time_of u < 10 ^ 21
+time_below u h =
+    let w : List ℕ = without_leading_zeros (before_dot u) in
+    let f : List ℕ = without_trailing_zeros (behind_dot u) in
+    let whole : weight w < 10 ^ length w = weight-below w (leading_digits (before_dot u) h.0.0) in
+    let most : 10 ^ length w ≤ 10 ^ 9 = pow-le-pow_right (lit< tt) h.0.2 in
+    let rest : weight f * 10 ^ (12 - length f) < 10 ^ 12 = fraction_under (weight f) (length f) h.1.1 (weight-below f (trailing_digits (behind_dot u) h.1.0)) in
+    omega (arith, whole, most, rest)
+
+-- a duration isn't below 0, and it is below 10^9 seconds
+pub span_small : (t : List ℕ) (v : ℤ) → SpellsSpan t v → (pos 0 ≤ℤ v) × (v <ℤ pos (10 ^ 21))
+span_small t v h =
+    let below : time_of t < 10 ^ 21 = time_below t h.0 in
+    let value : v ≡ pos (time_of t) = h.1 in
+    (omega (arith, ints, value), omega (arith, ints, value, below))
 
 pub onset_read : (o : Option ℤ) (t : List ℕ) → MatchOption o ((v : ℤ) → SpellsOnset t v → ⊥) (SpellsOnset t) → o ≡ onset_of t
 onset_read None t h = sym (onset_of_none t h)
