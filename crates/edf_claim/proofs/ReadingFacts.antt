@@ -1,0 +1,428 @@
+-- A table that passes its tests says the claim that is read of it.
+use Rattle.std.proofs.Common.{◌≡◌, ◌≢◌, ℕ, zero, suc, ℤ, pos, neg_ℤ, ◌-◌, ◌^◌, ◌≤◌, ◌<◌, ◌≤ℤ◌, ◌<ℤ◌, ◌==◌, nat_le, nat_lt, int_le, int_lt, not, ◌&&◌, ◌||◌, Bool, true, false, cond, List, [], ◌∷◌, length, map, slice_index, Option, Some, None, is_some, unwrap_or, option_map, option_and_then, codes, ◌⊎◌, inl, inr, ⊎_elim, refl, sym, ap, ◌∙◌, subst, arith}
+use Rattle.std.specs.List.{All, list_all}
+use Rattle.std.specs.Ordering.{int_eq}
+use Rattle.std.specs.Str.{bytes_eq}
+use Rattle.std.proofs.lemmas.Bool.Decides.{Decides-int_eq, nat_tests}
+use Rattle.std.proofs.lemmas.Int.{ints}
+use Rattle.std.proofs.lemmas.List.Elements.{All-nil, All-cons}
+use Rattle.std.proofs.lemmas.Slice.Eq.{bytes_eq-Decides}
+use Rattle.toml.specs.Data.{Data, string, integer, float, boolean, datetime, array, table, Items, no_items, item, Members, no_members, member, get_member, as_str, as_integer, as_array, as_table}
+use Rattle.edf_fields.specs.Identifications.{is_printable}
+use Rattle.edf_fields.specs.Onsets.{SpellsSpan, span_of}
+use Rattle.edf_fields.proofs.DateFacts.{le_decided}
+use Rattle.edf_fields.proofs.OnsetFacts.{span_of_some, span_small}
+use Rattle.edf_claim.specs.Claims.{Terms, name_of, text_items, HasOnlyKeys, claim_keys, interval_keys, IsLabel, SaysInterval, AreIntervals, IsFollowedBy, AreInOrder, IsInterval, IsClaim, SaysClaim}
+use Rattle.edf_claim.specs.Lists.{Has, AreDistinct, is_one_of, are_distinct}
+use Rattle.edf_claim.specs.Reading.{integer_of, text_at, keys_are, texts_of, distinct_texts, option_is, is_format_one, is_label, channels_of, span_at, interval_from, interval_of, intervals_of, is_followed_by, are_in_order, keep_of, named_in, all_names, which_of, whiches_of, or_default, anonymous_of, shift_within, shift_of, remove_of, first_stop, unless, claim_fault, terms_of}
+use Rattle.edf_claim.specs.declared.interval.Interval.{Interval}
+use Rattle.edf_claim.specs.declared.stop.ClaimStop.{ClaimStop}
+use Rattle.edf_claim.specs.declared.stop.ClaimStop.TheVariants.{BadFormat, UnknownKey, BadChannels, BadKeep, BadAnonymous, BadShift, BadRemove}
+use Rattle.edf_claim.specs.declared.which.Which.{Which}
+
+-- what options and tests say that gave something
+bind_some : {X Y : Type 0} (f : X → Option Y) (o : Option X) (y : Y) → option_and_then f o ≡ Some y → (x : X) × (o ≡ Some x) × (f x ≡ Some y)
+bind_some f None y h = absurd (let e : None ≡ Some y = h in cc)
+bind_some f (Some x) y h = (x, refl, h)
+
+map_some : {X Y : Type 0} (f : X → Y) (o : Option X) (y : Y) → option_map f o ≡ Some y → (x : X) × (o ≡ Some x) × (f x ≡ y)
+map_some f None y h = absurd (let e : None ≡ Some y = h in cc)
+map_some f (Some x) y h = (x, refl, let e : Some (f x) ≡ Some y = h in cc)
+
+test_some : {X : Type 0} (b : Bool) (x y : X) → cond b (Some x) None ≡ Some y → (b ≡ true) × (x ≡ y)
+test_some true x y h = (refl, let e : Some x ≡ Some y = h in cc)
+test_some false x y h = absurd (let e : None ≡ Some y = h in cc)
+
+if_some : {X : Type 0} (b : Bool) (o : Option X) (y : X) → cond b o None ≡ Some y → (b ≡ true) × (o ≡ Some y)
+if_some true o y h = (refl, h)
+if_some false o y h = absurd (let e : None ≡ Some y = h in cc)
+
+and-true : (a b : Bool) → (a && b) ≡ true → (a ≡ true) × (b ≡ true)
+and-true true b h = (refl, h)
+and-true false b h = absurd (let f : false ≡ true = h in cc)
+
+not-true : (a : Bool) → not a ≡ true → a ≡ false
+not-true true h = absurd (let f : false ≡ true = h in cc)
+not-true false h = refl
+
+-- the data that an accessor gives
+string_is : (d : Data) (t : List ℕ) → as_str d ≡ Some t → d ≡ string t
+string_is (string s) t h = ap string (let e : Some s ≡ Some t = h in cc)
+string_is (integer z) t h = absurd (let e : None ≡ Some t = h in cc)
+string_is (float x) t h = absurd (let e : None ≡ Some t = h in cc)
+string_is (boolean b) t h = absurd (let e : None ≡ Some t = h in cc)
+string_is (datetime dt) t h = absurd (let e : None ≡ Some t = h in cc)
+string_is (array ds) t h = absurd (let e : None ≡ Some t = h in cc)
+string_is (table ms) t h = absurd (let e : None ≡ Some t = h in cc)
+
+integer_is : (d : Data) (z : ℤ) → as_integer d ≡ Some z → d ≡ integer z
+integer_is (string s) z h = absurd (let e : None ≡ Some z = h in cc)
+integer_is (integer y) z h = ap integer (let e : Some y ≡ Some z = h in cc)
+integer_is (float x) z h = absurd (let e : None ≡ Some z = h in cc)
+integer_is (boolean b) z h = absurd (let e : None ≡ Some z = h in cc)
+integer_is (datetime dt) z h = absurd (let e : None ≡ Some z = h in cc)
+integer_is (array ds) z h = absurd (let e : None ≡ Some z = h in cc)
+integer_is (table ms) z h = absurd (let e : None ≡ Some z = h in cc)
+
+array_is : (d : Data) (items : Items) → as_array d ≡ Some items → d ≡ array items
+array_is (string s) items h = absurd (let e : None ≡ Some items = h in cc)
+array_is (integer z) items h = absurd (let e : None ≡ Some items = h in cc)
+array_is (float x) items h = absurd (let e : None ≡ Some items = h in cc)
+array_is (boolean b) items h = absurd (let e : None ≡ Some items = h in cc)
+array_is (datetime dt) items h = absurd (let e : None ≡ Some items = h in cc)
+array_is (array ds) items h = ap array (let e : Some ds ≡ Some items = h in cc)
+array_is (table ms) items h = absurd (let e : None ≡ Some items = h in cc)
+
+table_is : (d : Data) (entries : Members) → as_table d ≡ Some entries → d ≡ table entries
+table_is (string s) entries h = absurd (let e : None ≡ Some entries = h in cc)
+table_is (integer z) entries h = absurd (let e : None ≡ Some entries = h in cc)
+table_is (float x) entries h = absurd (let e : None ≡ Some entries = h in cc)
+table_is (boolean b) entries h = absurd (let e : None ≡ Some entries = h in cc)
+table_is (datetime dt) entries h = absurd (let e : None ≡ Some entries = h in cc)
+table_is (array ds) entries h = absurd (let e : None ≡ Some entries = h in cc)
+table_is (table ms) entries h = ap table (let e : Some ms ≡ Some entries = h in cc)
+
+-- an array of texts
+texts_are : (items : Items) (ts : List (List ℕ)) → texts_of items ≡ Some ts → items ≡ text_items ts
+texts_are no_items ts h = ap text_items (let e : Some [] ≡ Some ts = h in let f : [] ≡ ts = cc in f)
+texts_are (item d rest) ts h =
+    let a = bind_some (λ t. option_map (λ us. t ∷ us) (texts_of rest)) (as_str d) ts h in
+    let b = map_some (λ us. a.0 ∷ us) (texts_of rest) ts a.2 in
+    ap (λ v. item v rest) (string_is d a.0 a.1) ∙ ap (item (string a.0)) (texts_are rest b.0 b.1) ∙ ap text_items b.2
+
+-- distinct texts
+pub has-one_of : (ts : List (List ℕ)) (t : List ℕ) → Has ts t → is_one_of ts t ≡ true
+has-one_of [] t h = absurd h
+has-one_of (u ∷ ts) t (inl e) = ap (λ b. b || is_one_of ts t) ((bytes_eq-Decides u t).1 e)
+has-one_of (u ∷ ts) t (inr h) = or_true (bytes_eq u t) (is_one_of ts t) (has-one_of ts t h)
+  where
+    or_true : (a b : Bool) → b ≡ true → (a || b) ≡ true
+    or_true true b e = refl
+    or_true false b e = e
+
+pub one_of-has : (ts : List (List ℕ)) (t : List ℕ) → is_one_of ts t ≡ true → Has ts t
+one_of-has [] t h = absurd (let e : false ≡ true = h in cc)
+one_of-has (u ∷ ts) t h = one_case u ts t (bytes_eq u t) refl h (λ q. one_of-has ts t q)
+  where
+    one_case : (u : List ℕ) (ts : List (List ℕ)) (t : List ℕ) (b : Bool) → bytes_eq u t ≡ b → (b || is_one_of ts t) ≡ true → (is_one_of ts t ≡ true → Has ts t) → Has (u ∷ ts) t
+    one_case u ts t true e h rest = inl ((bytes_eq-Decides u t).0 e)
+    one_case u ts t false e h rest = inr (rest h)
+
+distinct-tested : (ts : List (List ℕ)) → are_distinct ts ≡ true → AreDistinct ts
+distinct-tested [] h = tt
+distinct-tested (t ∷ ts) h =
+    let both = and-true (not (is_one_of ts t)) (are_distinct ts) h in
+    (λ there. let z : true ≡ false = sym (has-one_of ts t there) ∙ not-true (is_one_of ts t) both.0 in cc, distinct-tested ts both.1)
+
+-- the texts of an array in which no text stands twice
+distinct_are : (d : Data) (ts : List (List ℕ)) → distinct_texts d ≡ Some ts → (d ≡ array (text_items ts)) × AreDistinct ts
+distinct_are d ts h =
+    let a = bind_some (λ us. cond (are_distinct us) (Some us) None) (option_and_then texts_of (as_array d)) ts h in
+    let b = bind_some texts_of (as_array d) a.0 a.1 in
+    let t = test_some (are_distinct a.0) a.0 ts a.2 in
+    (array_is d b.0 b.1 ∙ ap array (texts_are b.0 a.0 b.2 ∙ ap text_items t.1), subst (λ us. AreDistinct us) t.1 (distinct-tested a.0 t.0))
+
+-- keys
+keys-tested : (keys : List (List ℕ)) (entries : Members) → keys_are keys entries ≡ true → HasOnlyKeys keys entries
+keys-tested keys no_members h = tt
+keys-tested keys (member key value rest) h =
+    let both = and-true (is_one_of keys key) (keys_are keys rest) h in
+    (one_of-has keys key both.0, keys-tested keys rest both.1)
+
+-- labels
+printable-all : (bs : List ℕ) → list_all is_printable bs ≡ true → All (λ b. (32 ≤ b) × (b ≤ 126)) bs
+printable-all [] h = All-nil (λ b. (32 ≤ b) × (b ≤ 126))
+printable-all (b ∷ bs) h =
+    let both = and-true (is_printable b) (list_all is_printable bs) h in
+    let one = and-true (nat_le 32 b) (nat_le b 126) both.0 in
+    All-cons (λ b. (32 ≤ b) × (b ≤ 126)) b bs ((le_decided 32 b).0 one.0, (le_decided b 126).0 one.1) (printable-all bs both.1)
+
+label-tested : (label : List ℕ) → is_label label ≡ true → IsLabel label
+label-tested label h =
+    let last : ℕ = slice_index label (length label - 1) in
+    let a = and-true (nat_le (length label) 16) (list_all is_printable label && (not (last == 32) && not (bytes_eq label (codes "EDF Annotations")))) h in
+    let b = and-true (list_all is_printable label) (not (last == 32) && not (bytes_eq label (codes "EDF Annotations"))) a.1 in
+    let d = and-true (not (last == 32)) (not (bytes_eq label (codes "EDF Annotations"))) b.1 in
+    let space : (last == 32) ≡ false = not-true (last == 32) d.0 in
+    let other : bytes_eq label (codes "EDF Annotations") ≡ false = not-true (bytes_eq label (codes "EDF Annotations")) d.1 in
+    record {
+      short = (le_decided (length label) 16).0 a.0;
+      printable = printable-all label b.0;
+      ends = λ e. absurd (let z : true ≡ false = sym (ap (λ n. n == 32) e) ∙ space in cc);
+      ordinary = λ e. absurd (let z : true ≡ false = sym ((bytes_eq-Decides label (codes "EDF Annotations")).1 e) ∙ other in cc);
+    }
+
+labels-tested : (labels : List (List ℕ)) → list_all is_label labels ≡ true → All IsLabel labels
+labels-tested [] h = All-nil IsLabel
+labels-tested (label ∷ labels) h =
+    let both = and-true (is_label label) (list_all is_label labels) h in
+    All-cons IsLabel label labels (label-tested label both.0) (labels-tested labels both.1)
+
+not-empty : {X : Type 0} (xs : List X) → nat_lt 0 (length xs) ≡ true → xs ≢ []
+not-empty [] h e = let z : false ≡ true = h in cc
+not-empty (x ∷ xs) h e = let z : x ∷ xs ≡ [] = e in cc
+
+pub channels-said : (entries : Members) (labels : List (List ℕ)) → channels_of entries ≡ Some labels
+    → (get_member (codes "channels") entries ≡ Some (array (text_items labels))) × (labels ≢ []) × All IsLabel labels × AreDistinct labels
+unfolding channels_of
+channels-said entries labels h =
+    let a = bind_some (λ ls. cond (nat_lt 0 (length ls) && list_all is_label ls) (Some ls) None) (option_and_then distinct_texts (get_member (codes "channels") entries)) labels h in
+    let b = bind_some distinct_texts (get_member (codes "channels") entries) a.0 a.1 in
+    let t = test_some (nat_lt 0 (length a.0) && list_all is_label a.0) a.0 labels a.2 in
+    let tests = and-true (nat_lt 0 (length a.0)) (list_all is_label a.0) t.0 in
+    let d = distinct_are b.0 a.0 b.2 in
+    (b.1 ∙ ap Some (d.0 ∙ ap (λ ls. array (text_items ls)) t.1), subst (λ ls. ls ≢ []) t.1 (not-empty a.0 tests.0), subst (All IsLabel) t.1 (labels-tested a.0 tests.1), subst (λ ls. AreDistinct ls) t.1 d.1)
+
+-- the text and the time at a key
+text-at : (key : List ℕ) (entries : Members) (t : List ℕ) → text_at key entries ≡ Some t → get_member key entries ≡ Some (string t)
+text-at key entries t h =
+    let a = bind_some as_str (get_member key entries) t h in
+    a.1 ∙ ap Some (string_is a.0 t a.2)
+
+interval-said : (entries : Members) (interval : Interval) → interval_of entries ≡ Some interval → SaysInterval entries interval × IsInterval interval
+unfolding interval_of
+interval-said entries interval h =
+    let inner : ℤ → Option Interval = λ from. option_and_then (interval_from from) (span_at (codes "to") entries) in
+    let a = if_some (keys_are interval_keys entries) (option_and_then inner (span_at (codes "from") entries)) interval h in
+    let b = bind_some inner (span_at (codes "from") entries) interval a.1 in
+    let d = bind_some (interval_from b.0) (span_at (codes "to") entries) interval b.2 in
+    let from = bind_some span_of (text_at (codes "from") entries) b.0 b.1 in
+    let to = bind_some span_of (text_at (codes "to") entries) d.0 d.1 in
+    let t = test_some (int_lt b.0 d.0) (record { from_ps = b.0; to_ps = d.0 }) interval d.2 in
+    let made : Interval = record { from_ps = b.0; to_ps = d.0 } in
+    let from_small = span_small from.0 b.0 (span_of_some from.0 b.0 from.2) in
+    let to_small = span_small to.0 d.0 (span_of_some to.0 d.0 to.2) in
+    let test = t.0 in
+    let says : SaysInterval entries made × IsInterval made = (
+      record {
+        keys = keys-tested interval_keys entries a.0;
+        from = from.0;
+        to = to.0;
+        from_there = text-at (codes "from") entries from.0 from.1;
+        to_there = text-at (codes "to") entries to.0 to.1;
+        from_is = span_of_some from.0 b.0 from.2;
+        to_is = span_of_some to.0 d.0 to.2;
+      },
+      record { start = from_small.0; order = omega (arith, ints, test); near = to_small.1 },
+    ) in
+    subst (λ (i : Interval). SaysInterval entries i × IsInterval i) t.1 says
+
+intervals-said : (items : Items) (is : List Interval) → intervals_of items ≡ Some is → AreIntervals items is × All IsInterval is
+intervals-said no_items is h =
+    let e : [] ≡ is = (let f : Some [] ≡ Some is = h in cc) in
+    subst (λ js. AreIntervals no_items js × All IsInterval js) e (refl, All-nil IsInterval)
+intervals-said (item d rest) is h =
+    let a = bind_some (λ i. option_map (λ js. i ∷ js) (intervals_of rest)) (option_and_then interval_of (as_table d)) is h in
+    let b = bind_some interval_of (as_table d) a.0 a.1 in
+    let m = map_some (λ js. a.0 ∷ js) (intervals_of rest) is a.2 in
+    let more = intervals-said rest m.0 m.1 in
+    let one = interval-said b.0 a.0 b.2 in
+    subst (λ js. AreIntervals (item d rest) js × All IsInterval js) m.2
+    ((b.0, rest, ap (λ v. item v rest) (table_is d b.0 b.1), one.0, more.0), All-cons IsInterval a.0 m.0 one.1 more.1)
+
+followed-tested : (interval : Interval) (is : List Interval) → is_followed_by interval is ≡ true → IsFollowedBy interval is
+followed-tested interval [] h = tt
+followed-tested interval (next ∷ more) h = omega (arith, ints, h)
+
+order-tested : (is : List Interval) → are_in_order is ≡ true → AreInOrder is
+order-tested [] h = tt
+order-tested (interval ∷ is) h =
+    let both = and-true (is_followed_by interval is) (are_in_order is) h in
+    (followed-tested interval is both.0, order-tested is both.1)
+
+-- what is said of the intervals that are kept
+pub record SaysKeep (entries : Members) (is : List Interval) : Type 0 where
+  pub items : Items
+  pub there : get_member (codes "keep") entries ≡ Some (array items)
+  pub intervals : AreIntervals items is
+  pub some : is ≢ []
+  pub few : length is ≤ 1000
+  pub each : All IsInterval is
+  pub in_order : AreInOrder is
+
+pub keep-said : (entries : Members) (is : List Interval) → keep_of entries ≡ Some is → SaysKeep entries is
+unfolding keep_of
+keep-said entries is h =
+    let a = bind_some (λ js. cond (nat_lt 0 (length js) && (nat_le (length js) 1000 && are_in_order js)) (Some js) None)
+    (option_and_then intervals_of (option_and_then as_array (get_member (codes "keep") entries))) is h in
+    let b = bind_some intervals_of (option_and_then as_array (get_member (codes "keep") entries)) a.0 a.1 in
+    let d = bind_some as_array (get_member (codes "keep") entries) b.0 b.1 in
+    let t = test_some (nat_lt 0 (length a.0) && (nat_le (length a.0) 1000 && are_in_order a.0)) a.0 is a.2 in
+    let tests = and-true (nat_lt 0 (length a.0)) (nat_le (length a.0) 1000 && are_in_order a.0) t.0 in
+    let more = and-true (nat_le (length a.0) 1000) (are_in_order a.0) tests.1 in
+    let said = intervals-said b.0 a.0 b.2 in
+    subst (λ (js : List Interval). SaysKeep entries js) t.1 (record {
+      items = b.0;
+      there = d.1 ∙ ap Some (array_is d.0 b.0 d.2);
+      intervals = said.0;
+      some = not-empty a.0 tests.0;
+      few = (le_decided (length a.0) 1000).0 more.0;
+      each = said.1;
+      in_order = order-tested a.0 more.1;
+    })
+
+-- names
+named-is : (all : List Which) (name : List ℕ) (w : Which) → named_in all name ≡ Some w → name ≡ name_of w
+named-is [] name w h = absurd (let e : None ≡ Some w = h in cc)
+named-is (v ∷ more) name w h = named-case v more name w (bytes_eq (name_of v) name) refl h (λ q. named-is more name w q)
+  where
+    named-case : (v : Which) (more : List Which) (name : List ℕ) (w : Which) (b : Bool) → bytes_eq (name_of v) name ≡ b → cond b (Some v) (named_in more name) ≡ Some w
+        → (named_in more name ≡ Some w → name ≡ name_of w) → name ≡ name_of w
+    named-case v more name w true e h rest =
+        let z : v ≡ w = (let f : Some v ≡ Some w = h in cc) in
+        sym ((bytes_eq-Decides (name_of v) name).0 e) ∙ ap name_of z
+    named-case v more name w false e h rest = rest h
+
+which-is : (name : List ℕ) (w : Which) → which_of name ≡ Some w → name ≡ name_of w
+unfolding which_of
+which-is name w h = named-is all_names name w h
+
+whiches-are : (names : List (List ℕ)) (ws : List Which) → whiches_of names ≡ Some ws → names ≡ map name_of ws
+whiches-are [] ws h = ap (map name_of) (let e : Some [] ≡ Some ws = h in let f : [] ≡ ws = cc in f)
+whiches-are (name ∷ names) ws h =
+    let a = bind_some (λ w. option_map (λ vs. w ∷ vs) (whiches_of names)) (which_of name) ws h in
+    let b = map_some (λ vs. a.0 ∷ vs) (whiches_of names) ws a.2 in
+    ap (λ n. n ∷ names) (which-is name a.0 a.1) ∙ ap (λ ns. name_of a.0 ∷ ns) (whiches-are names b.0 b.1) ∙ ap (map name_of) b.2
+
+-- names that are distinct name distinct subfields
+has-named : (ws : List Which) (w : Which) → Has ws w → Has (map name_of ws) (name_of w)
+has-named [] w h = absurd h
+has-named (v ∷ ws) w (inl e) = inl (ap name_of e)
+has-named (v ∷ ws) w (inr h) = inr (has-named ws w h)
+
+distinct-named : (ws : List Which) → AreDistinct (map name_of ws) → AreDistinct ws
+distinct-named [] h = tt
+distinct-named (w ∷ ws) h = (λ there. h.0 (has-named ws w there), distinct-named ws h.1)
+
+-- a value that may be absent
+or-default : {X : Type 0} (default : X) (read : Data → Option X) (o : Option Data) (x : X) → or_default default read o ≡ Some x
+    → ((o ≡ None) × (x ≡ default)) ⊎ ((d : Data) × (o ≡ Some d) × (read d ≡ Some x))
+or-default default read None x h = inl (refl, let e : Some default ≡ Some x = h in cc)
+or-default default read (Some d) x h = inr (d, refl, h)
+
+pub anonymous-said : (entries : Members) (ws : List Which) → anonymous_of entries ≡ Some ws
+    → (((get_member (codes "anonymous") entries ≡ None) × (ws ≡ [])) ⊎ (get_member (codes "anonymous") entries ≡ Some (array (text_items (map name_of ws))))) × AreDistinct ws
+unfolding anonymous_of
+anonymous-said entries ws h =
+    elim (or-default [] (λ value. option_and_then whiches_of (distinct_texts value)) (get_member (codes "anonymous") entries) ws h) [
+      | inl absent ↦ (inl absent, subst (λ (vs : List Which). AreDistinct vs) (sym absent.1) tt)
+      | inr there ↦
+          let a = bind_some whiches_of (distinct_texts there.0) ws there.2 in
+          let d = distinct_are there.0 a.0 a.1 in
+          let names : a.0 ≡ map name_of ws = whiches-are a.0 ws a.2 in
+          (inr (there.1 ∙ ap Some (d.0 ∙ ap (λ ns. array (text_items ns)) names)), distinct-named ws (subst (λ (ns : List (List ℕ)). AreDistinct ns) names d.1))
+    ]
+
+pub shift-said : (entries : Members) (z : ℤ) → shift_of entries ≡ Some z
+    → (((get_member (codes "shift") entries ≡ None) × (z ≡ pos 0)) ⊎ (get_member (codes "shift") entries ≡ Some (integer z))) × (neg_ℤ (pos (10 ^ 10)) ≤ℤ z) × (z ≤ℤ pos (10 ^ 10))
+unfolding shift_of
+shift-said entries z h =
+    elim (or-default (pos 0) (λ value. option_and_then shift_within (as_integer value)) (get_member (codes "shift") entries) z h) [
+      | inl absent ↦ let e = absent.1 in (inl absent, omega (arith, ints, e), omega (arith, ints, e))
+      | inr there ↦
+          let a = bind_some shift_within (as_integer there.0) z there.2 in
+          let t = test_some (int_le (neg_ℤ (pos (10 ^ 10))) a.0 && int_le a.0 (pos (10 ^ 10))) a.0 z a.2 in
+          let both = and-true (int_le (neg_ℤ (pos (10 ^ 10))) a.0) (int_le a.0 (pos (10 ^ 10))) t.0 in
+          let low = both.0 in
+          let high = both.1 in
+          let same = t.1 in
+          (inr (there.1 ∙ ap Some (integer_is there.0 a.0 a.1 ∙ ap integer t.1)), omega (arith, ints, low, same), omega (arith, ints, high, same))
+    ]
+
+pub remove-said : (entries : Members) (ts : List (List ℕ)) → remove_of entries ≡ Some ts
+    → (((get_member (codes "remove") entries ≡ None) × (ts ≡ [])) ⊎ (get_member (codes "remove") entries ≡ Some (array (text_items ts)))) × AreDistinct ts
+unfolding remove_of
+remove-said entries ts h =
+    elim (or-default [] distinct_texts (get_member (codes "remove") entries) ts h) [
+      | inl absent ↦ (inl absent, subst (λ (us : List (List ℕ)). AreDistinct us) (sym absent.1) tt)
+      | inr there ↦ let d = distinct_are there.0 ts there.2 in (inr (there.1 ∙ ap Some d.0), d.1)
+    ]
+
+-- the tests of a table
+first-passed : (answer : Option ClaimStop) (more : List (Option ClaimStop)) → first_stop (answer ∷ more) ≡ None → (answer ≡ None) × (first_stop more ≡ None)
+first-passed None more h = (refl, h)
+first-passed (Some stop) more h = absurd (let e : Some stop ≡ None = h in cc)
+
+unless-passed : (b : Bool) (stop : ClaimStop) → unless b stop ≡ None → b ≡ true
+unless-passed true stop h = refl
+unless-passed false stop h = absurd (let e : Some stop ≡ None = h in cc)
+
+is-some : {X : Type 0} (o : Option X) → is_some o ≡ true → (x : X) × (o ≡ Some x)
+is-some None h = absurd (let e : false ≡ true = h in cc)
+is-some (Some x) h = (x, refl)
+
+format-said : (entries : Members) → is_format_one entries ≡ true → get_member (codes "format") entries ≡ Some (integer (pos 1))
+unfolding is_format_one
+format-said entries h =
+    let one = format-case (integer_of (codes "format") entries) refl h in
+    let a = bind_some as_integer (get_member (codes "format") entries) (pos 1) one in
+    a.1 ∙ ap Some (integer_is a.0 (pos 1) a.2)
+  where
+    format-case : (o : Option ℤ) → integer_of (codes "format") entries ≡ o → option_is (pos 1) o ≡ true → integer_of (codes "format") entries ≡ Some (pos 1)
+    format-case None e t = absurd (let z : false ≡ true = t in cc)
+    format-case (Some y) e t = e ∙ ap Some ((Decides-int_eq y (pos 1)).0 t)
+
+-- the parts that are read are those of the claim that is read
+pub terms-are : (entries : Members) (cs : List (List ℕ)) (is : List Interval) (ws : List Which) (z : ℤ) (ts : List (List ℕ)) → channels_of entries ≡ Some cs → keep_of entries ≡ Some is → anonymous_of entries ≡ Some ws → shift_of entries ≡ Some z
+    → remove_of entries ≡ Some ts → record { channels = cs; keep = is; anonymous = ws; shift = z; remove = ts } ≡ terms_of entries
+terms-are entries cs is ws z ts c k a s r =
+    let say : List (List ℕ) → List Interval → List Which → ℤ → List (List ℕ) → Terms =
+    λ cs is ws z ts. record { channels = cs; keep = is; anonymous = ws; shift = z; remove = ts } in
+    ap (λ o. say (unwrap_or o []) is ws z ts) (sym c)
+    ∙ ap (λ o. say (terms_of entries).channels (unwrap_or o []) ws z ts) (sym k)
+    ∙ ap (λ o. say (terms_of entries).channels (terms_of entries).keep (unwrap_or o []) z ts) (sym a)
+    ∙ ap (λ o. say (terms_of entries).channels (terms_of entries).keep (terms_of entries).anonymous (unwrap_or o (pos 0)) ts) (sym s)
+    ∙ ap (λ o. say (terms_of entries).channels (terms_of entries).keep (terms_of entries).anonymous (terms_of entries).shift (unwrap_or o [])) (sym r)
+
+pub table-says : (entries : Members) → claim_fault entries ≡ None → SaysClaim entries (terms_of entries)
+unfolding claim_fault
+table-says entries h =
+    let t1 = unless (is_format_one entries) BadFormat in
+    let t2 = unless (keys_are claim_keys entries) UnknownKey in
+    let t3 = unless (is_some (channels_of entries)) BadChannels in
+    let t4 = unless (is_some (keep_of entries)) BadKeep in
+    let t5 = unless (is_some (anonymous_of entries)) BadAnonymous in
+    let t6 = unless (is_some (shift_of entries)) BadShift in
+    let t7 = unless (is_some (remove_of entries)) BadRemove in
+    let p1 = first-passed t1 (t2 ∷ t3 ∷ t4 ∷ t5 ∷ t6 ∷ t7 ∷ []) h in
+    let p2 = first-passed t2 (t3 ∷ t4 ∷ t5 ∷ t6 ∷ t7 ∷ []) p1.1 in
+    let p3 = first-passed t3 (t4 ∷ t5 ∷ t6 ∷ t7 ∷ []) p2.1 in
+    let p4 = first-passed t4 (t5 ∷ t6 ∷ t7 ∷ []) p3.1 in
+    let p5 = first-passed t5 (t6 ∷ t7 ∷ []) p4.1 in
+    let p6 = first-passed t6 (t7 ∷ []) p5.1 in
+    let p7 = first-passed t7 [] p6.1 in
+    let channels = is-some (channels_of entries) (unless-passed (is_some (channels_of entries)) BadChannels p3.0) in
+    let keep = is-some (keep_of entries) (unless-passed (is_some (keep_of entries)) BadKeep p4.0) in
+    let anonymous = is-some (anonymous_of entries) (unless-passed (is_some (anonymous_of entries)) BadAnonymous p5.0) in
+    let shift = is-some (shift_of entries) (unless-passed (is_some (shift_of entries)) BadShift p6.0) in
+    let remove = is-some (remove_of entries) (unless-passed (is_some (remove_of entries)) BadRemove p7.0) in
+    let c = channels-said entries channels.0 channels.1 in
+    let k = keep-said entries keep.0 keep.1 in
+    let a = anonymous-said entries anonymous.0 anonymous.1 in
+    let s = shift-said entries shift.0 shift.1 in
+    let r = remove-said entries remove.0 remove.1 in
+    let same = terms-are entries channels.0 keep.0 anonymous.0 shift.0 remove.0 channels.1 keep.1 anonymous.1 shift.1 remove.1 in
+    subst (λ (t : Terms). SaysClaim entries t) same (record {
+      format = format-said entries (unless-passed (is_format_one entries) BadFormat p1.0);
+      keys = keys-tested claim_keys entries (unless-passed (keys_are claim_keys entries) UnknownKey p2.0);
+      channels = c.0;
+      items = k.items;
+      keep = k.there;
+      intervals = k.intervals;
+      anonymous = a.0;
+      shift = s.0;
+      remove = r.0;
+      claim = record {
+        some_channels = c.1;
+        labels = c.2;
+        distinct_channels = c.3;
+        some_intervals = k.some;
+        few_intervals = k.few;
+        intervals = k.each;
+        in_order = k.in_order;
+        distinct_anonymous = a.1;
+        not_far_back = s.1;
+        not_far_on = s.2;
+        distinct_remove = r.1;
+      };
+    })

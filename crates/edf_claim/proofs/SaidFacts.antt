@@ -1,0 +1,223 @@
+-- A table that says a claim passes its tests, and the claim is the one that is read of it.
+use Rattle.std.proofs.Common.{◌≡◌, ◌≢◌, ◌⊎◌, ℕ, zero, suc, ℤ, pos, neg_ℤ, ◌-◌, ◌^◌, ◌≤◌, ◌<◌, ◌≤ℤ◌, ◌<ℤ◌, ◌==◌, nat_le, nat_lt, int_le, int_lt, not, ◌&&◌, ◌||◌, Bool, true, false, cond, List, [], ◌∷◌, length, map, slice_index, Option, Some, None, is_some, unwrap_or, option_map, option_and_then, codes, inl, inr, refl, sym, ap, ◌∙◌, subst, arith}
+use Rattle.std.specs.List.{All, list_all}
+use Rattle.std.specs.Str.{bytes_eq}
+use Rattle.std.proofs.lemmas.Bool.Decides.{Decides-int_eq, nat_tests}
+use Rattle.std.proofs.lemmas.Int.{ints}
+use Rattle.std.proofs.lemmas.Slice.Eq.{bytes_eq-Decides}
+use Rattle.toml.specs.Data.{Data, string, integer, array, table, Items, no_items, item, Members, no_members, member, get_member, as_str, as_integer, as_array, as_table}
+use Rattle.edf_fields.specs.Identifications.{is_printable}
+use Rattle.edf_fields.specs.Onsets.{SpellsSpan, span_of}
+use Rattle.edf_fields.proofs.DateFacts.{le_decided}
+use Rattle.edf_fields.proofs.OnsetFacts.{span_of_spelled}
+use Rattle.edf_claim.specs.Claims.{Terms, name_of, text_items, HasOnlyKeys, claim_keys, interval_keys, IsLabel, SaysInterval, AreIntervals, IsFollowedBy, AreInOrder, IsInterval, IsClaim, SaysClaim, SaysOneClaim}
+use Rattle.edf_claim.specs.Faults.{SaysClaimOrFault}
+use Rattle.edf_claim.specs.Lists.{Has, AreDistinct, is_one_of, are_distinct}
+use Rattle.edf_claim.specs.Reading.{option_is, integer_of, text_at, keys_are, texts_of, distinct_texts, is_format_one, is_label, channels_of, span_at, interval_from, interval_of, intervals_of, is_followed_by, are_in_order, keep_of, named_in, all_names, which_of, whiches_of, or_default, anonymous_of, shift_within, shift_of, remove_of, claim_fault, terms_of}
+use Rattle.edf_claim.specs.declared.interval.Interval.{Interval}
+use Rattle.edf_claim.specs.declared.which.Which.{Which}
+use Rattle.edf_claim.specs.declared.which.Which.TheVariants.{Code, Sex, Birthdate, Name, PatientExtras, Date, Administration, Technician, Equipment, RecordingExtras}
+use Rattle.edf_claim.proofs.FaultFacts.{all-passed}
+use Rattle.edf_claim.proofs.ReadingFacts.{has-one_of, one_of-has, terms-are, table-says}
+
+both-true : (a b : Bool) → a ≡ true → b ≡ true → (a && b) ≡ true
+both-true a b p q = cc
+
+cond-true : {X : Type 0} (b : Bool) (x y : X) → b ≡ true → cond b x y ≡ x
+cond-true true x y h = refl
+cond-true false x y h = absurd (let z : false ≡ true = h in cc)
+
+not-is : (b : Bool) → (b ≡ true → ⊥) → not b ≡ true
+not-is true h = absurd (h refl)
+not-is false h = refl
+
+-- an array of texts is read as these
+pub texts-read : (ts : List (List ℕ)) → texts_of (text_items ts) ≡ Some ts
+texts-read [] = refl
+texts-read (t ∷ ts) = ap (option_map (λ us. t ∷ us)) (texts-read ts)
+
+pub distinct-passes : (ts : List (List ℕ)) → AreDistinct ts → are_distinct ts ≡ true
+distinct-passes [] h = refl
+distinct-passes (t ∷ ts) h =
+    both-true (not (is_one_of ts t)) (are_distinct ts) (not-is (is_one_of ts t) (λ e. h.0 (one_of-has ts t e))) (distinct-passes ts h.1)
+
+distinct-read : (ts : List (List ℕ)) → AreDistinct ts → distinct_texts (array (text_items ts)) ≡ Some ts
+distinct-read ts h =
+    ap (λ o. option_and_then (λ us. cond (are_distinct us) (Some us) None) o) (texts-read ts)
+    ∙ cond-true (are_distinct ts) (Some ts) None (distinct-passes ts h)
+
+keys-pass : (keys : List (List ℕ)) (entries : Members) → HasOnlyKeys keys entries → keys_are keys entries ≡ true
+keys-pass keys no_members h = refl
+keys-pass keys (member key value rest) h = both-true (is_one_of keys key) (keys_are keys rest) (has-one_of keys key h.0) (keys-pass keys rest h.1)
+
+printable-passes : (bs : List ℕ) → All (λ b. (32 ≤ b) × (b ≤ 126)) bs → list_all is_printable bs ≡ true
+printable-passes [] h = refl
+printable-passes (b ∷ bs) h =
+    let here = h 0 0 (omega arith) in
+    both-true (is_printable b) (list_all is_printable bs)
+    (both-true (nat_le 32 b) (nat_le b 126) ((le_decided 32 b).1 here.0) ((le_decided b 126).1 here.1))
+    (printable-passes bs (λ k d lt. h (suc k) d (omega arith)))
+
+label-passes : (label : List ℕ) → IsLabel label → is_label label ≡ true
+label-passes label h =
+    let last : ℕ = slice_index label (length label - 1) in
+    both-true (nat_le (length label) 16) (list_all is_printable label && (not (last == 32) && not (bytes_eq label (codes "EDF Annotations")))) ((le_decided (length label) 16).1 h.short)
+    (both-true (list_all is_printable label) (not (last == 32) && not (bytes_eq label (codes "EDF Annotations"))) (printable-passes label h.printable)
+    (both-true (not (last == 32)) (not (bytes_eq label (codes "EDF Annotations")))
+    (not-is (last == 32) (λ e. h.ends (grind (arith, nat_tests))))
+    (not-is (bytes_eq label (codes "EDF Annotations")) (λ e. h.ordinary ((bytes_eq-Decides label (codes "EDF Annotations")).0 e)))))
+
+labels-pass : (labels : List (List ℕ)) → All IsLabel labels → list_all is_label labels ≡ true
+labels-pass [] h = refl
+labels-pass (label ∷ labels) h =
+    both-true (is_label label) (list_all is_label labels) (label-passes label (h 0 [] (omega arith))) (labels-pass labels (λ k d lt. h (suc k) d (omega arith)))
+
+not-empty : {X : Type 0} (xs : List X) → xs ≢ [] → nat_lt 0 (length xs) ≡ true
+not-empty [] h = absurd (h refl)
+not-empty (x ∷ xs) h = grind (arith, nat_tests)
+
+le-passes : (x y : ℤ) → x ≤ℤ y → int_le x y ≡ true
+le-passes x y h = le-case x y (int_le x y) refl h
+  where
+    le-case : (x y : ℤ) (b : Bool) → int_le x y ≡ b → x ≤ℤ y → b ≡ true
+    le-case x y true e h = refl
+    le-case x y false e h = absurd (omega (arith, ints, h, e))
+
+lt-passes : (x y : ℤ) → x <ℤ y → int_lt x y ≡ true
+lt-passes x y h = lt-case x y (int_lt x y) refl h
+  where
+    lt-case : (x y : ℤ) (b : Bool) → int_lt x y ≡ b → x <ℤ y → b ≡ true
+    lt-case x y true e h = refl
+    lt-case x y false e h = absurd (omega (arith, ints, h, e))
+
+channels-read : (entries : Members) (c : Terms) → SaysClaim entries c → channels_of entries ≡ Some c.channels
+unfolding channels_of
+channels-read entries c s =
+    ap (λ o. option_and_then (λ ls. cond (nat_lt 0 (length ls) && list_all is_label ls) (Some ls) None) (option_and_then distinct_texts o)) s.channels
+    ∙ ap (λ o. option_and_then (λ ls. cond (nat_lt 0 (length ls) && list_all is_label ls) (Some ls) None) o) (distinct-read c.channels s.claim.distinct_channels)
+    ∙ cond-true (nat_lt 0 (length c.channels) && list_all is_label c.channels) (Some c.channels) None
+    (both-true (nat_lt 0 (length c.channels)) (list_all is_label c.channels) (not-empty c.channels s.claim.some_channels) (labels-pass c.channels s.claim.labels))
+
+span-read : (key : List ℕ) (entries : Members) (t : List ℕ) (v : ℤ) → get_member key entries ≡ Some (string t) → SpellsSpan t v → span_at key entries ≡ Some v
+span-read key entries t v e h = ap (λ o. option_and_then span_of (option_and_then as_str o)) e ∙ span_of_spelled t v h
+
+interval-read : (entries : Members) (interval : Interval) → SaysInterval entries interval → IsInterval interval → interval_of entries ≡ Some interval
+unfolding interval_of
+interval-read entries interval s h =
+    let test : int_lt interval.from_ps interval.to_ps ≡ true = lt-passes interval.from_ps interval.to_ps h.order in
+    cond-true (keys_are interval_keys entries) (option_and_then (λ from. option_and_then (interval_from from) (span_at (codes "to") entries)) (span_at (codes "from") entries)) None (keys-pass interval_keys entries s.keys)
+    ∙ ap (λ o. option_and_then (λ from. option_and_then (interval_from from) (span_at (codes "to") entries)) o) (span-read (codes "from") entries s.from interval.from_ps s.from_there s.from_is)
+    ∙ ap (λ o. option_and_then (interval_from interval.from_ps) o) (span-read (codes "to") entries s.to interval.to_ps s.to_there s.to_is)
+    ∙ cond-true (int_lt interval.from_ps interval.to_ps) (Some interval) None test
+
+intervals-read : (items : Items) (is : List Interval) → AreIntervals items is → All IsInterval is → intervals_of items ≡ Some is
+intervals-read items [] e h = ap intervals_of e
+intervals-read items (interval ∷ is) s h =
+    ap intervals_of s.2
+    ∙ ap (λ o. option_and_then (λ i. option_map (λ js. i ∷ js) (intervals_of s.1)) o) (interval-read s.0 interval s.3 (h 0 interval (omega arith)))
+    ∙ ap (option_map (λ js. interval ∷ js)) (intervals-read s.1 is s.4 (λ k d lt. h (suc k) d (omega arith)))
+
+followed-passes : (interval : Interval) (is : List Interval) → IsFollowedBy interval is → is_followed_by interval is ≡ true
+followed-passes interval [] h = refl
+followed-passes interval (next ∷ more) h = le-passes interval.to_ps next.from_ps h
+
+order-passes : (is : List Interval) → AreInOrder is → are_in_order is ≡ true
+order-passes [] h = refl
+order-passes (interval ∷ is) h = both-true (is_followed_by interval is) (are_in_order is) (followed-passes interval is h.0) (order-passes is h.1)
+
+keep-read : (entries : Members) (c : Terms) → SaysClaim entries c → keep_of entries ≡ Some c.keep
+unfolding keep_of
+keep-read entries c s =
+    let test : List Interval → Bool = λ is. nat_lt 0 (length is) && (nat_le (length is) 1000 && are_in_order is) in
+    ap (λ o. option_and_then (λ is. cond (test is) (Some is) None) (option_and_then intervals_of (option_and_then as_array o))) s.keep
+    ∙ ap (λ o. option_and_then (λ is. cond (test is) (Some is) None) o) (intervals-read s.items c.keep s.intervals s.claim.intervals)
+    ∙ cond-true (test c.keep) (Some c.keep) None
+    (both-true (nat_lt 0 (length c.keep)) (nat_le (length c.keep) 1000 && are_in_order c.keep) (not-empty c.keep s.claim.some_intervals)
+    (both-true (nat_le (length c.keep) 1000) (are_in_order c.keep) ((le_decided (length c.keep) 1000).1 s.claim.few_intervals) (order-passes c.keep s.claim.in_order)))
+
+-- each name is that of its subfield
+which-read : (w : Which) → which_of (name_of w) ≡ Some w
+unfolding which_of
+which-read Code = refl
+which-read Sex = refl
+which-read Birthdate = refl
+which-read Name = refl
+which-read PatientExtras = refl
+which-read Date = refl
+which-read Administration = refl
+which-read Technician = refl
+which-read Equipment = refl
+which-read RecordingExtras = refl
+
+whiches-read : (ws : List Which) → whiches_of (map name_of ws) ≡ Some ws
+whiches-read [] = refl
+whiches-read (w ∷ ws) =
+    ap (λ o. option_and_then (λ v. option_map (λ vs. v ∷ vs) (whiches_of (map name_of ws))) o) (which-read w)
+    ∙ ap (option_map (λ vs. w ∷ vs)) (whiches-read ws)
+
+same-name : (v w : Which) → name_of v ≡ name_of w → v ≡ w
+same-name v w e = let h : Some v ≡ Some w = sym (which-read v) ∙ ap which_of e ∙ which-read w in cc
+
+named-has : (ws : List Which) (w : Which) → Has (map name_of ws) (name_of w) → Has ws w
+named-has [] w h = absurd h
+named-has (v ∷ ws) w (inl e) = inl (same-name v w e)
+named-has (v ∷ ws) w (inr h) = inr (named-has ws w h)
+
+names-distinct : (ws : List Which) → AreDistinct ws → AreDistinct (map name_of ws)
+names-distinct [] h = tt
+names-distinct (w ∷ ws) h = (λ there. h.0 (named-has ws w there), names-distinct ws h.1)
+
+anonymous-read : (entries : Members) (c : Terms) → SaysClaim entries c → anonymous_of entries ≡ Some c.anonymous
+unfolding anonymous_of
+anonymous-read entries c s =
+    let read : Data → Option (List Which) = λ value. option_and_then whiches_of (distinct_texts value) in
+    elim s.anonymous [
+      | inl absent ↦ ap (or_default [] read) absent.0 ∙ ap Some (sym absent.1)
+      | inr there ↦
+          ap (or_default [] read) there
+          ∙ ap (λ o. option_and_then whiches_of o) (distinct-read (map name_of c.anonymous) (names-distinct c.anonymous s.claim.distinct_anonymous))
+          ∙ whiches-read c.anonymous
+    ]
+
+shift-read : (entries : Members) (c : Terms) → SaysClaim entries c → shift_of entries ≡ Some c.shift
+unfolding shift_of
+shift-read entries c s =
+    let read : Data → Option ℤ = λ value. option_and_then shift_within (as_integer value) in
+    let low_passes : int_le (neg_ℤ (pos (10 ^ 10))) c.shift ≡ true = le-passes (neg_ℤ (pos (10 ^ 10))) c.shift s.claim.not_far_back in
+    let high_passes : int_le c.shift (pos (10 ^ 10)) ≡ true = le-passes c.shift (pos (10 ^ 10)) s.claim.not_far_on in
+    elim s.shift [
+      | inl absent ↦ ap (or_default (pos 0) read) absent.0 ∙ ap Some (sym absent.1)
+      | inr there ↦
+          ap (or_default (pos 0) read) there
+          ∙ cond-true (int_le (neg_ℤ (pos (10 ^ 10))) c.shift && int_le c.shift (pos (10 ^ 10))) (Some c.shift) None (both-true (int_le (neg_ℤ (pos (10 ^ 10))) c.shift) (int_le c.shift (pos (10 ^ 10))) low_passes high_passes)
+    ]
+
+remove-read : (entries : Members) (c : Terms) → SaysClaim entries c → remove_of entries ≡ Some c.remove
+unfolding remove_of
+remove-read entries c s =
+    elim s.remove [
+      | inl absent ↦ ap (or_default [] distinct_texts) absent.0 ∙ ap Some (sym absent.1)
+      | inr there ↦ ap (or_default [] distinct_texts) there ∙ distinct-read c.remove s.claim.distinct_remove
+    ]
+
+format-passes : (entries : Members) (c : Terms) → SaysClaim entries c → is_format_one entries ≡ true
+unfolding is_format_one
+format-passes entries c s = ap (λ o. option_is (pos 1) (option_and_then as_integer o)) s.format
+
+pub said-passes : (entries : Members) (c : Terms) → SaysClaim entries c → (claim_fault entries ≡ None) × (c ≡ terms_of entries)
+said-passes entries c s =
+    let channels = channels-read entries c s in
+    let keep = keep-read entries c s in
+    let anonymous = anonymous-read entries c s in
+    let shift = shift-read entries c s in
+    let remove = remove-read entries c s in (
+      all-passed entries c.channels c.keep c.anonymous c.shift c.remove (format-passes entries c s) (keys-pass claim_keys entries s.keys) channels keep anonymous shift remove,
+      terms-are entries c.channels c.keep c.anonymous c.shift c.remove channels keep anonymous shift remove,
+    )
+
+pub one-claim : SaysOneClaim
+one-claim entries c d s t = (said-passes entries c s).1 ∙ sym (said-passes entries d t).1
+
+pub claim-or-fault : SaysClaimOrFault
+claim-or-fault entries c =
+    (said-passes entries c, λ h. subst (λ (t : Terms). SaysClaim entries t) (sym h.1) (table-says entries h.0))

@@ -1,0 +1,127 @@
+-- What a claim says: which channels, annotations and stretches of time an export keeps of its original, what it makes anonymous, and by how much it moves the rest (this project's profile).
+use Rattle.std.specs.Prelude.{◌≡◌, ◌≢◌, ℕ, ℤ, pos, neg_ℤ, ◌-◌, ◌≤ℤ◌, ◌<ℤ◌, ◌≤◌, ◌^◌, ◌⊎◌, List, [], ◌∷◌, length, map, slice_index, Some, None, codes, IsUtf8}
+use Rattle.std.specs.List.{All}
+use Rattle.edf_fields.specs.Onsets.{SpellsSpan}
+use Rattle.edf_claim.specs.Lists.{Has, AreDistinct}
+use Rattle.edf_claim.specs.declared.interval.Interval.{Interval}
+use Rattle.edf_claim.specs.declared.which.Which.{Which}
+use Rattle.edf_claim.specs.declared.which.Which.TheVariants.{Code, Sex, Birthdate, Name, PatientExtras, Date, Administration, Technician, Equipment, RecordingExtras}
+use Rattle.toml.specs.Data.{Data, string, integer, array, table, Items, no_items, item, Members, no_members, member, get_member}
+use Rattle.toml.specs.Parse.{parse_document}
+
+-- a claim: the labels of the channels, the intervals that are kept, in picoseconds after the second at which the original starts, what is made anonymous, the shift in seconds, and the texts of annotations that are removed
+pub record Terms : Type 0 where
+  pub channels : List (List ℕ)
+  pub keep : List Interval
+  pub anonymous : List Which
+  pub shift : ℤ
+  pub remove : List (List ℕ)
+
+-- the name of each subfield, as a claim writes it
+abbrev pub name_of : Which → List ℕ
+name_of Code = codes "code"
+name_of Sex = codes "sex"
+name_of Birthdate = codes "birthdate"
+name_of Name = codes "name"
+name_of PatientExtras = codes "patient-extras"
+name_of Date = codes "date"
+name_of Administration = codes "administration"
+name_of Technician = codes "technician"
+name_of Equipment = codes "equipment"
+name_of RecordingExtras = codes "recording-extras"
+
+-- the array of these texts
+abbrev pub text_items : List (List ℕ) → Items
+text_items [] = no_items
+text_items (t ∷ ts) = item (string t) (text_items ts)
+
+-- the table has no key but these
+abbrev pub HasOnlyKeys : List (List ℕ) → Members → Type 0
+HasOnlyKeys keys no_members = Unit {0}
+HasOnlyKeys keys (member key value rest) = Has keys key × HasOnlyKeys keys rest
+
+-- the keys that a claim may have
+abbrev pub claim_keys : List (List ℕ)
+claim_keys = codes "format" ∷ codes "channels" ∷ codes "keep" ∷ codes "anonymous" ∷ codes "shift" ∷ codes "remove" ∷ []
+
+-- the keys of an interval
+abbrev pub interval_keys : List (List ℕ)
+interval_keys = codes "from" ∷ codes "to" ∷ []
+
+-- a label of at most 16 printable bytes, 32 to 126, that doesn't end with a space and isn't that of an annotation signal
+pub record IsLabel (label : List ℕ) : Type 0 where
+  pub short : length label ≤ 16
+  pub printable : All (λ b. (32 ≤ b) × (b ≤ 126)) label
+  pub ends : slice_index label (length label - 1) ≢ 32
+  pub ordinary : label ≢ codes "EDF Annotations"
+
+-- the table of one interval: exactly the keys `from` and `to`, texts that spell durations
+pub record SaysInterval (entries : Members) (interval : Interval) : Type 0 where
+  pub keys : HasOnlyKeys interval_keys entries
+  pub from : List ℕ
+  pub to : List ℕ
+  pub from_there : get_member (codes "from") entries ≡ Some (string from)
+  pub to_there : get_member (codes "to") entries ≡ Some (string to)
+  pub from_is : SpellsSpan from interval.from_ps
+  pub to_is : SpellsSpan to interval.to_ps
+
+-- an array of the tables of these intervals, in order
+abbrev pub AreIntervals : Items → List Interval → Type 0
+AreIntervals items [] = items ≡ no_items
+AreIntervals items (interval ∷ intervals) =
+    (entries : Members) × (rest : Items) × (items ≡ item (table entries) rest) × SaysInterval entries interval × AreIntervals rest intervals
+
+-- nothing follows the interval, or one that begins where it ends or later
+abbrev pub IsFollowedBy : Interval → List Interval → Type 0
+IsFollowedBy interval [] = Unit {0}
+IsFollowedBy interval (next ∷ more) = interval.to_ps ≤ℤ next.from_ps
+
+-- each interval ends before the next one begins, or where it does
+abbrev pub AreInOrder : List Interval → Type 0
+AreInOrder [] = Unit {0}
+AreInOrder (interval ∷ intervals) = IsFollowedBy interval intervals × AreInOrder intervals
+
+-- a stretch of time from 0 on, whose end is behind its begin
+pub record IsInterval (interval : Interval) : Type 0 where
+  pub start : pos 0 ≤ℤ interval.from_ps
+  pub order : interval.from_ps <ℤ interval.to_ps
+  pub near : interval.to_ps <ℤ pos (10 ^ 21)
+
+-- what holds of every claim
+pub record IsClaim (c : Terms) : Type 0 where
+  pub some_channels : c.channels ≢ []
+  pub labels : All IsLabel c.channels
+  pub distinct_channels : AreDistinct c.channels
+  pub some_intervals : c.keep ≢ []
+  pub few_intervals : length c.keep ≤ 1000
+  pub intervals : All IsInterval c.keep
+  pub in_order : AreInOrder c.keep
+  pub distinct_anonymous : AreDistinct c.anonymous
+  pub not_far_back : neg_ℤ (pos (10 ^ 10)) ≤ℤ c.shift
+  pub not_far_on : c.shift ≤ℤ pos (10 ^ 10)
+  pub distinct_remove : AreDistinct c.remove
+
+-- the table says this claim: it has no other keys than those of a claim, each key has its value, and what is absent has its default
+pub record SaysClaim (entries : Members) (c : Terms) : Type 0 where
+  pub format : get_member (codes "format") entries ≡ Some (integer (pos 1))
+  pub keys : HasOnlyKeys claim_keys entries
+  pub channels : get_member (codes "channels") entries ≡ Some (array (text_items c.channels))
+  pub items : Items
+  pub keep : get_member (codes "keep") entries ≡ Some (array items)
+  pub intervals : AreIntervals items c.keep
+  pub anonymous : ((get_member (codes "anonymous") entries ≡ None) × (c.anonymous ≡ [])) ⊎ (get_member (codes "anonymous") entries ≡ Some (array (text_items (map name_of c.anonymous))))
+  pub shift : ((get_member (codes "shift") entries ≡ None) × (c.shift ≡ pos 0)) ⊎ (get_member (codes "shift") entries ≡ Some (integer c.shift))
+  pub remove : ((get_member (codes "remove") entries ≡ None) × (c.remove ≡ [])) ⊎ (get_member (codes "remove") entries ≡ Some (array (text_items c.remove)))
+  pub claim : IsClaim c
+
+-- the text is TOML that says this claim, in 65,536 bytes at the most
+pub record SaysClaimText (text : List ℕ) (c : Terms) : Type 0 where
+  pub short : length text ≤ 65536
+  pub utf8 : IsUtf8 text
+  pub entries : Members
+  pub parsed : parse_document text ≡ Some entries
+  pub says : SaysClaim entries c
+
+-- a table says at most one claim
+abbrev pub SaysOneClaim : Type 0
+SaysOneClaim = (entries : Members) (c d : Terms) → SaysClaim entries c → SaysClaim entries d → c ≡ d

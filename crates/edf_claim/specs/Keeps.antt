@@ -1,0 +1,30 @@
+-- What a claim keeps.
+use Rattle.std.specs.Prelude.{◌≡◌, ℕ, ℤ, pos, ◌*ℤ◌, ◌≤ℤ◌, ◌<ℤ◌, int_le, int_lt, not, ◌&&◌, Bool, List, [], ◌∷◌}
+use Rattle.std.specs.List.{list_any}
+use Rattle.edf_claim.specs.Claims.{Terms}
+use Rattle.edf_claim.specs.Lists.{Has, is_one_of}
+use Rattle.edf_claim.specs.declared.interval.Interval.{Interval}
+
+-- the instant num / den, in picoseconds, is in the interval: from its first bound on, and before its second
+abbrev pub IsWithin : Interval → ℤ → ℕ → Type 0
+IsWithin interval num den = ((interval.from_ps *ℤ pos den) ≤ℤ num) × (num <ℤ (interval.to_ps *ℤ pos den))
+
+-- the instant num / den, in picoseconds after the second at which the original starts, is in one of the kept intervals
+abbrev pub KeepsInstant : Terms → ℤ → ℕ → Type 0
+KeepsInstant c num den = (interval : Interval) × Has c.keep interval × IsWithin interval num den
+
+-- an annotation with this onset, in picoseconds after the second at which the original starts, and this text is kept: its onset is in one of the kept intervals, and its text isn't removed
+abbrev pub KeepsAnnotation : Terms → ℤ → List ℕ → Type 0
+KeepsAnnotation c onset text = KeepsInstant c onset 1 × (Has c.remove text → ⊥)
+
+-- `IsWithin` as a test
+abbrev pub is_within : Interval → ℤ → ℕ → Bool
+is_within interval num den = int_le (interval.from_ps *ℤ pos den) num && int_lt num (interval.to_ps *ℤ pos den)
+
+-- `KeepsInstant` as a test
+abbrev pub keeps_instant : Terms → ℤ → ℕ → Bool
+keeps_instant c num den = list_any (λ interval. is_within interval num den) c.keep
+
+-- `KeepsAnnotation` as a test
+abbrev pub keeps_annotation : Terms → ℤ → List ℕ → Bool
+keeps_annotation c onset text = keeps_instant c onset 1 && not (is_one_of c.remove text)

@@ -1,0 +1,6 @@
+pub mod Claims
+pub mod Faults
+pub mod Keeps
+pub mod Lists
+pub mod Reading
+pub mod Stops

@@ -1,0 +1,76 @@
+//! The channels that a claim keeps.
+
+ghost use Rattle.std.specs.Prelude.{◌≡◌, map, option_map, option_and_then, MatchOption, IfOk, IfErr, None, Some, codes, not, ◌&&◌, ◌-◌, ◌≤◌};
+ghost use Rattle.std.specs.List.{list_all};
+ghost use Rattle.toml.specs.View.{view, table_view};
+ghost use Rattle.edf_fields.specs.Identifications.{is_printable as is_printable_byte};
+ghost use Rattle.edf_claim.specs.Reading.{is_label as is_label_text, distinct_texts as distinct_texts_of, channels_of};
+ghost use Rattle.edf_claim.specs.Stops.{StopsAt};
+ghost use Rattle.edf_claim.specs.declared.stop.ClaimStop.TheVariants as stops;
+
+use crate::stop::ClaimStop;
+use crate::table::value_at;
+use crate::texts::distinct_texts;
+use std::alloc::{AllocError, Global};
+use toml::Table;
+
+/// The most bytes that a label has (EDF, "Header record").
+const LABEL_BYTES: usize = 16;
+
+/// The label of an annotation signal (EDF+, "The 'EDF Annotations' signal").
+const ANNOTATIONS: &[u8] = b"EDF Annotations";
+
+/// Whether each byte is printable ASCII.
+fn is_printable(text: &[u8]) -> bool
+    ensures { result ≡ list_all is_printable_byte text.now }
+{
+    text.iter().all(|byte| *byte >= 32 && *byte <= 126)
+}
+
+/// Whether the text is the label of a channel, as a field can have it.
+fn is_label(text: &[u8]) -> bool
+    ensures { result ≡ is_label_text text.now }
+{
+    text.len() <= LABEL_BYTES
+        && is_printable(text)
+        && !matches!(text, [.., b' '])
+        && text != ANNOTATIONS
+}
+
+/// Whether each of the texts is the label of a channel.
+fn are_labels(texts: &[Vec<u8>]) -> bool
+    ensures { result ≡ list_all is_label_text (map (λ t. t.items) texts.now) }
+{
+    for text in texts {
+        if !is_label(text) {
+            return false;
+        }
+    }
+    true
+}
+
+/// The labels of the channels, where the table has such a list.
+#[tactic(auto, unfolding(crate::specs::Reading::channels_of))]
+fn labels_at(alloc: Global, table: &Table) -> Result<Option<Vec<Vec<u8>>>, AllocError>
+    ensures { IfOk result (λ r. option_map (λ v. map (λ t. t.items) v.items) r ≡ channels_of (table_view table.now)) }
+{
+    let Some(value) = value_at(table, "channels") else {
+        return Ok(None);
+    };
+    match distinct_texts(alloc, value)? {
+        Some(labels) if !labels.is_empty() && are_labels(&labels) => Ok(Some(labels)),
+        _ => Ok(None),
+    }
+}
+
+/// The labels of the channels: distinct, at least one, each of at most 16 printable bytes, without a
+/// space at its end, and not that of an annotation signal.
+pub(crate) fn channels(alloc: Global, table: &Table) -> Result<Vec<Vec<u8>>, ClaimStop>
+    ensures ok { IfOk result (λ v. channels_of (table_view table.now) ≡ Some (map (λ t. t.items) v.items)) }
+    ensures stop { IfErr result (StopsAt stops.BadChannels (channels_of (table_view table.now) ≡ None)) }
+{
+    match labels_at(alloc, table)? {
+        Some(labels) => Ok(labels),
+        None => Err(ClaimStop::BadChannels),
+    }
+}

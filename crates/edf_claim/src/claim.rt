@@ -1,0 +1,110 @@
+//! What a claim says, and what it keeps.
+
+ghost use Rattle.std.specs.Prelude.{◌≡◌, ◌↔◌, ◌<◌, ◌≤◌, ◌^◌, ◌*ℤ◌, pos, map, IsTrue, unsigned_abs};
+ghost use Rattle.std.specs.List.{All, list_any};
+ghost use Rattle.edf_claim.specs.Claims.{IsClaim};
+ghost use Rattle.edf_claim.specs.Lists.{Has, is_one_of as is_one_of_texts};
+ghost use Rattle.edf_claim.specs.Keeps.{KeepsInstant, KeepsAnnotation, is_within, keeps_instant, keeps_annotation};
+
+use crate::interval::Interval;
+use crate::texts::is_one_of;
+use crate::which::Which;
+use std::marker::Model;
+
+/// What an export keeps of its original, as a sleep centre claims it.
+#[derive(Debug, Drop)]
+pub struct Claim {
+    pub(crate) channels: Vec<Vec<u8>>,
+    pub(crate) keep: Vec<Interval>,
+    pub(crate) anonymous: Vec<Which>,
+    pub(crate) shift: i64,
+    pub(crate) remove: Vec<Vec<u8>>,
+}
+
+impl Model for Claim {
+    ghost use Rattle.std.specs.Prelude.{map};
+    ghost use Rattle.edf_claim.specs.Claims.{Terms, IsClaim};
+
+    ghost Value = { Terms };
+
+    ghost view = { λ c. record { channels = map (λ t. t.items) c.channels.items; keep = c.keep.items; anonymous = c.anonymous.items; shift = c.shift; remove = map (λ t. t.items) c.remove.items } };
+
+    ghost invariant = { λ c. IsClaim (record { channels = map (λ t. t.items) c.channels.items; keep = c.keep.items; anonymous = c.anonymous.items; shift = c.shift; remove = map (λ t. t.items) c.remove.items }) };
+}
+
+/// Whether the instant `num / den` is in one of the intervals.
+fn is_in_one(intervals: &[Interval], num: i128, den: u32) -> bool
+    requires near { All (λ i. (unsigned_abs i.from_ps < 2 ^ 100) × (unsigned_abs i.to_ps < 2 ^ 100)) intervals.now }
+    requires den { den < 2 ^ 24 }
+    ensures { result ≡ list_any (λ i. is_within i num den) intervals.now }
+{
+    for interval in intervals {
+        if interval.contains(num, den) {
+            return true;
+        }
+    }
+    false
+}
+
+/// Whether the subfield is one of these.
+#[tactic(auto, using(crate::proofs::KeepsFacts::has_here, crate::proofs::KeepsFacts::has_next))]
+fn is_among(whiches: &[Which], which: Which) -> bool
+    ensures { IsTrue result ↔ Has whiches.now which }
+{
+    for other in whiches {
+        if *other == which {
+            return true;
+        }
+    }
+    false
+}
+
+impl Claim {
+    /// The labels of the channels that are kept, in the claim's order.
+    pub fn channels(&self) -> &[Vec<u8>]
+        ensures channels { map (λ t. t.items) result.now ≡ self.entry.now.channels }
+        ensures sound { IsClaim self.entry.now }
+    {
+        &self.channels
+    }
+
+    /// Whether the channel of this label is kept.
+    pub fn keeps_channel(&self, label: &[u8]) -> bool
+        ensures { result ≡ is_one_of_texts self.now.channels label.now }
+    {
+        is_one_of(&self.channels, label)
+    }
+
+    /// Whether what stands at the instant `num / den` is kept, in picoseconds after the second at
+    /// which the original starts.
+    #[tactic(auto, using(crate::proofs::KeepsFacts::near_bounds))]
+    pub fn keeps_instant(&self, num: i128, den: u32) -> bool
+        requires low { 1 ≤ den }
+        requires high { den ≤ 8388608 }
+        ensures { result ≡ keeps_instant self.now num den }
+    {
+        is_in_one(&self.keep, num, den)
+    }
+
+    /// Whether an annotation is kept that has this onset, in picoseconds after the second at which
+    /// the original starts, and this text.
+    pub fn keeps_annotation(&self, onset: i128, text: &str) -> bool
+        ensures { result ≡ keeps_annotation self.now onset text.now }
+    {
+        self.keeps_instant(onset, 1) && !is_one_of(&self.remove, text.as_bytes())
+    }
+
+    /// Whether this subfield is made anonymous.
+    pub fn is_anonymous(&self, which: Which) -> bool
+        ensures { IsTrue result ↔ Has self.now.anonymous which }
+    {
+        is_among(&self.anonymous, which)
+    }
+
+    /// By how many picoseconds what is kept moves.
+    pub fn shift_ps(&self) -> i128
+        ensures { result ≡ self.now.shift *ℤ pos 1000000000000 }
+    {
+        i128::from(self.shift) * 1_000_000_000_000
+    }
+}

@@ -1,0 +1,33 @@
+//! A stretch of time that a claim keeps.
+
+ghost use Rattle.std.specs.Prelude.{◌≡◌, ◌<◌, ◌^◌, ◌*ℤ◌, pos, unsigned_abs};
+ghost use Rattle.edf_claim.specs.Keeps.{is_within};
+
+/// A span of time in picoseconds after the second at which the original starts: `from_ps` is
+/// included, `to_ps` is not.
+#[derive(Debug, Clone, Copy, PartialEq, Eq)]
+pub struct Interval {
+    pub from_ps: i128,
+    pub to_ps: i128,
+}
+
+/// A bound in picoseconds, in units of 1 / den picoseconds.
+fn scaled_bound(bound: i128, den: u32) -> i128
+    requires bound { unsigned_abs bound < 2 ^ 100 }
+    requires den { den < 2 ^ 24 }
+    ensures { result ≡ bound *ℤ pos den }
+{
+    bound * i128::from(den)
+}
+
+impl Interval {
+    /// Whether the instant `num / den` is in the interval, by exact products.
+    pub(crate) fn contains(self, num: i128, den: u32) -> bool
+        requires from { unsigned_abs self.from_ps < 2 ^ 100 }
+        requires to { unsigned_abs self.to_ps < 2 ^ 100 }
+        requires den { den < 2 ^ 24 }
+        ensures { result ≡ is_within self num den }
+    {
+        scaled_bound(self.from_ps, den) <= num && num < scaled_bound(self.to_ps, den)
+    }
+}

@@ -1,0 +1,19 @@
+//! What a sleep centre claims of an export: which channels and stretches of time of the original
+//! it keeps, what it makes anonymous, and by how much it moves the rest.
+#![tactic(auto)]
+
+mod anonymous;
+mod channels;
+pub mod claim;
+pub mod interval;
+mod keep;
+pub mod laws;
+mod read;
+mod remove;
+mod shift;
+pub mod stop;
+mod table;
+#[cfg(test)]
+mod tests;
+mod texts;
+pub mod which;

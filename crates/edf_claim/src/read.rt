@@ -1,0 +1,78 @@
+//! Reading a claim from its text.
+
+ghost use Rattle.std.specs.Prelude.{◌≡◌, ◌≢◌, IfOk, IfErr, OnOk, None, Some, IsUtf8};
+ghost use Rattle.toml.specs.Parse.{parse_document};
+ghost use Rattle.toml.specs.View.{table_view};
+ghost use Rattle.edf_claim.specs.declared.stop.ClaimStop.TheVariants as stops;
+ghost use Rattle.edf_claim.specs.Claims.{IsClaim, SaysClaimText};
+ghost use Rattle.edf_claim.specs.Faults.{FirstClaimFault};
+ghost use Rattle.edf_claim.specs.Reading.{claim_fault, terms_of};
+
+use crate::anonymous::anonymous;
+use crate::channels::channels;
+use crate::claim::Claim;
+use crate::keep::keep;
+use crate::remove::remove;
+use crate::shift::{is_format_one, shift};
+use crate::stop::ClaimStop;
+use crate::table::has_claim_keys;
+use std::alloc::Global;
+use toml::Table;
+
+/// The most bytes that a claim's text may have.
+const MOST_BYTES: usize = 65_536;
+
+/// The table of a text.
+fn read_table(alloc: Global, text: &[u8]) -> Result<Table, ClaimStop>
+    ensures ok { IfOk result (λ t. IsUtf8 text.now × (parse_document text.now ≡ Some (table_view t))) }
+    ensures stop { IfErr result (λ e. e ≢ stops.OutOfMemory → (e ≡ stops.NotToml) × (IsUtf8 text.now → parse_document text.now ≡ None)) }
+{
+    match toml::table_from_slice(alloc, text) {
+        Ok(table) => Ok(table),
+        Err(fault) if fault.is_memory() => Err(ClaimStop::OutOfMemory),
+        Err(_) => Err(ClaimStop::NotToml),
+    }
+}
+
+/// The claim that a table says, or its first fault.
+fn claim_in(alloc: Global, table: &Table) -> Result<Claim, ClaimStop>
+    ensures passed { OnOk result (claim_fault (table_view table.now) ≡ None) }
+    ensures value { IfOk result (λ c. c ≡ terms_of (table_view table.now)) }
+    ensures stop { IfErr result (λ e. e ≢ stops.OutOfMemory → claim_fault (table_view table.now) ≡ Some e) }
+{
+    if !is_format_one(table) {
+        return Err(ClaimStop::BadFormat);
+    }
+    if !has_claim_keys(table) {
+        return Err(ClaimStop::UnknownKey);
+    }
+    let channels = channels(alloc, table)?;
+    let keep = keep(alloc, table)?;
+    let anonymous = anonymous(alloc, table)?;
+    let shift = shift(table)?;
+    let remove = remove(alloc, table)?;
+    Ok(Claim {
+        channels,
+        keep,
+        anonymous,
+        shift,
+        remove,
+    })
+}
+
+impl Claim {
+    /// The claim that a text says: TOML of at most 65,536 bytes with the keys of docs/CLAIM.md.
+    ///
+    /// Of several causes why a text says no claim, the first in the order of `ClaimStop` is
+    /// answered. `OutOfMemory` comes only from memory that was refused, and at once.
+    pub fn read(alloc: Global, text: &[u8]) -> Result<Claim, ClaimStop>
+        ensures says { IfOk result (SaysClaimText text.now) }
+        ensures fault { IfErr result (λ e. e ≢ stops.OutOfMemory → FirstClaimFault text.now e) }
+    {
+        if text.len() > MOST_BYTES {
+            return Err(ClaimStop::TooLong);
+        }
+        let table = read_table(alloc, text)?;
+        claim_in(alloc, &table)
+    }
+}

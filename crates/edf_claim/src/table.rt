@@ -1,0 +1,95 @@
+//! What stands at the keys of a table.
+
+ghost use Rattle.std.specs.Prelude.{◌≡◌, map, option_map, option_and_then, string_bytes};
+ghost use Rattle.std.specs.List.{list_all};
+ghost use Rattle.toml.specs.Data.{get_member};
+ghost use Rattle.toml.specs.View.{view, table_view};
+ghost use Rattle.edf_claim.specs.Claims.{claim_keys, interval_keys};
+ghost use Rattle.edf_claim.specs.Lists.{is_one_of};
+ghost use Rattle.edf_claim.specs.Reading.{integer_of, text_at as text_at_key, keys_are};
+
+use toml::{Table, Value};
+
+/// The value at a key.
+pub(crate) fn value_at<'a>(table: &'a Table, key: &str) -> Option<&'a Value>
+    ensures { option_map (λ v. view v.now) result ≡ get_member key.now (table_view table.now) }
+{
+    table.get(key)
+}
+
+/// The integer at a key.
+pub(crate) fn integer_at(table: &Table, key: &str) -> Option<i64>
+    ensures { result ≡ integer_of key.now (table_view table.now) }
+{
+    match value_at(table, key) {
+        Some(value) => value.as_integer(),
+        None => None,
+    }
+}
+
+/// The text at a key.
+pub(crate) fn text_at<'a>(table: &'a Table, key: &str) -> Option<&'a str>
+    ensures { option_map (λ t. t.now) result ≡ text_at_key key.now (table_view table.now) }
+{
+    match value_at(table, key) {
+        Some(value) => value.as_str(),
+        None => None,
+    }
+}
+
+/// The keys that a claim may have.
+const CLAIM_KEYS: [&str; 6] = ["format", "channels", "keep", "anonymous", "shift", "remove"];
+
+/// Whether the key is one of these.
+fn is_key(keys: &[&str], key: &str) -> bool
+    ensures { result ≡ is_one_of (map (λ other. other.now) keys.now) key.now }
+{
+    for other in keys {
+        if *other == key {
+            return true;
+        }
+    }
+    false
+}
+
+/// Whether the key is one that a claim may have.
+fn is_claim_key(key: &str) -> bool
+    ensures { result ≡ is_one_of claim_keys key.now }
+{
+    is_key(&CLAIM_KEYS, key)
+}
+
+/// Whether the keys are those of a claim, as a test of the table's entries.
+fn claim_keys_alone(table: &Table) -> bool
+    ensures { result ≡ list_all (λ key. is_one_of claim_keys (string_bytes key)) (map (λ entry. entry.0) table.now.entries) }
+{
+    table.keys().all(|key| is_claim_key(key.as_str()))
+}
+
+/// Whether the table has no key but those of a claim.
+pub(crate) fn has_claim_keys(table: &Table) -> bool
+    ensures { result ≡ keys_are claim_keys (table_view table.now) }
+{
+    claim_keys_alone(table)
+}
+
+/// Whether the key is one of an interval.
+fn is_interval_key(key: &str) -> bool
+    ensures { result ≡ is_one_of interval_keys key.now }
+{
+    key == "from" || key == "to"
+}
+
+/// Whether the keys are those of an interval, as a test of the table's entries.
+fn interval_keys_alone(table: &Table) -> bool
+    ensures { result ≡ list_all (λ key. is_one_of interval_keys (string_bytes key)) (map (λ entry. entry.0) table.now.entries) }
+{
+    table.keys().all(|key| is_interval_key(key.as_str()))
+}
+
+/// Whether the table has no key but `from` and `to`.
+pub(crate) fn has_interval_keys(table: &Table) -> bool
+    ensures { result ≡ keys_are interval_keys (table_view table.now) }
+{
+    interval_keys_alone(table)
+}

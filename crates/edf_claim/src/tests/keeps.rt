@@ -1,0 +1,100 @@
+//! What claims keep.
+
+use crate::claim::Claim;
+use crate::which::Which;
+use std::test::Fail;
+
+const CLAIM: &str = "format = 1
+channels = [\"EEG Fpz-Cz\", \"ECG\"]
+anonymous = [\"name\", \"recording-extras\"]
+shift = -86400
+remove = [\"Lights off\"]
+[[keep]]
+from = \"0\"
+to = \"1\"
+[[keep]]
+from = \"3\"
+to = \"4.000000000001\"
+";
+
+#[test]
+fn keeps_instants_from_the_first_bound_on_and_before_the_second(
+    rt: HostRuntime,
+) -> Result<(), Fail> {
+    let claim = Claim::read(rt.alloc(), CLAIM.as_bytes())?;
+    for (num, den, want) in [
+        (0, 1, true),
+        (-1, 8_388_608, false),
+        (1_999_999_999_999, 2, true),
+        (2_000_000_000_000, 2, false),
+        (2_999_999_999_999, 1, false),
+        (3_000_000_000_000, 1, true),
+        (8_000_000_000_001, 2, true),
+        (8_000_000_000_002, 2, false),
+        (12_000_000_000_002, 3, true),
+    ] {
+        assert_eq!(rt; claim.keeps_instant(num, den), want, "at {num} / {den}");
+    }
+    Ok(())
+}
+
+#[test]
+fn keeps_the_half_picosecond_before_the_end(rt: HostRuntime) -> Result<(), Fail> {
+    let claim = Claim::read(
+        rt.alloc(),
+        b"format = 1\nchannels = [\"ECG\"]\n[[keep]]\nfrom = \"0\"\nto = \"4\"\n",
+    )?;
+    assert_eq!(rt; claim.keeps_instant(7_999_999_999_999, 2), true);
+    assert_eq!(rt; claim.keeps_instant(8_000_000_000_000, 2), false);
+    Ok(())
+}
+
+#[test]
+fn keeps_annotations_by_onset_and_text(rt: HostRuntime) -> Result<(), Fail> {
+    let claim = Claim::read(rt.alloc(), CLAIM.as_bytes())?;
+    for (onset, text, want) in [
+        (0, "Apnea", true),
+        (-1, "Apnea", false),
+        (999_999_999_999, "", true),
+        (1_000_000_000_000, "Apnea", false),
+        (3_000_000_000_000, "Apnea", true),
+        (0, "Lights off", false),
+        (0, "lights off", true),
+        (0, "Lights off ", true),
+    ] {
+        assert_eq!(rt;
+            claim.keeps_annotation(onset, text),
+            want,
+            "at {onset} {text}"
+        );
+    }
+    Ok(())
+}
+
+#[test]
+fn tells_the_channels_and_the_rest(rt: HostRuntime) -> Result<(), Fail> {
+    let claim = Claim::read(rt.alloc(), CLAIM.as_bytes())?;
+    assert_eq!(rt; claim.channels().len(), 2);
+    assert_eq!(rt; claim.channels()[0].as_slice(), "EEG Fpz-Cz".as_bytes());
+    assert_eq!(rt; claim.channels()[1].as_slice(), "ECG".as_bytes());
+    assert_eq!(rt; claim.keeps_channel(b"ECG"), true);
+    assert_eq!(rt; claim.keeps_channel(b"ecg"), false);
+    assert_eq!(rt; claim.keeps_channel(b"ECG "), false);
+    assert_eq!(rt; claim.is_anonymous(Which::Name), true);
+    assert_eq!(rt; claim.is_anonymous(Which::RecordingExtras), true);
+    assert_eq!(rt; claim.is_anonymous(Which::Code), false);
+    assert_eq!(rt; claim.shift_ps(), -86_400_000_000_000_000);
+    Ok(())
+}
+
+#[test]
+fn removes_and_moves_nothing_where_nothing_is_said(rt: HostRuntime) -> Result<(), Fail> {
+    let claim = Claim::read(
+        rt.alloc(),
+        b"format = 1\nchannels = [\"ECG\"]\n[[keep]]\nfrom = \"0\"\nto = \"4\"\n",
+    )?;
+    assert_eq!(rt; claim.shift_ps(), 0);
+    assert_eq!(rt; claim.is_anonymous(Which::Sex), false);
+    assert_eq!(rt; claim.keeps_annotation(0, "Lights off"), true);
+    Ok(())
+}

@@ -1,0 +1,77 @@
+//! The subfields of the identification fields, by the names that a claim gives them.
+
+ghost use Rattle.std.specs.Prelude.{◌≡◌};
+ghost use Rattle.edf_claim.specs.Claims.{name_of};
+ghost use Rattle.edf_claim.specs.Reading.{which_of, named_in as crate_named_in};
+
+/// A subfield that an export may make anonymous (EDF+, "Additional specifications in EDF+": local
+/// patient identification, local recording identification).
+#[derive(Debug, Clone, Copy, PartialEq, Eq)]
+pub enum Which {
+    Code,
+    Sex,
+    Birthdate,
+    Name,
+    /// All additional subfields of the patient.
+    PatientExtras,
+    Date,
+    Administration,
+    Technician,
+    Equipment,
+    /// All additional subfields of the recording.
+    RecordingExtras,
+}
+
+impl Which {
+    /// The name that a claim gives it.
+    pub fn name(self) -> &'static str
+        ensures { result.now ≡ name_of self }
+    {
+        match self {
+            Which::Code => "code",
+            Which::Sex => "sex",
+            Which::Birthdate => "birthdate",
+            Which::Name => "name",
+            Which::PatientExtras => "patient-extras",
+            Which::Date => "date",
+            Which::Administration => "administration",
+            Which::Technician => "technician",
+            Which::Equipment => "equipment",
+            Which::RecordingExtras => "recording-extras",
+        }
+    }
+}
+
+/// All of them, in the order of their names.
+const ALL: [Which; 10] = [
+    Which::Code,
+    Which::Sex,
+    Which::Birthdate,
+    Which::Name,
+    Which::PatientExtras,
+    Which::Date,
+    Which::Administration,
+    Which::Technician,
+    Which::Equipment,
+    Which::RecordingExtras,
+];
+
+/// The first of these that has this name.
+fn named_in(all: &[Which], name: &[u8]) -> Option<Which>
+    ensures { result ≡ crate_named_in all.now name.now }
+{
+    for which in all {
+        if which.name().as_bytes() == name {
+            return Some(*which);
+        }
+    }
+    None
+}
+
+/// The subfield of this name.
+#[tactic(auto, unfolding(crate::specs::Reading::which_of))]
+pub(crate) fn which_of(name: &[u8]) -> Option<Which>
+    ensures { result ≡ which_of name.now }
+{
+    named_in(&ALL, name)
+}
