@@ -10,13 +10,7 @@ build:
 	@cd crates/edfclaim && rt run -- vectors > /dev/null
 	@echo "built crates/edfclaim/out/edfclaim"
 
-# The built program on command lines that it doesn't know, and with each growth of memory refused in
-# turn; then the whole gate.
-test: build
-	@tools/statuses.sh crates/edfclaim/out/edfclaim
-	@if command -v "$${CC:-cc}" > /dev/null; then \
-		tools/failing.sh crates/edfclaim/out/edfclaim; \
-	else \
-		echo "no C compiler: tools/failing.sh is left out"; \
-	fi
-	@rt ci
+# The whole gate: all proofs, tests, must-fail edits and runs from nothing; then the built program on
+# command lines that it doesn't know, and with each growth of memory refused in turn.
+test:
+	@tools/gate.sh
