@@ -1,5 +1,5 @@
 -- The first fault of a table.
-use Rattle.std.proofs.Common.{◌≡◌, ℕ, ℤ, Bool, true, false, List, [], ◌∷◌, Some, None, Option, is_some, refl, sym, ap, ◌∙◌}
+use Rattle.std.proofs.Common.{◌≡◌, ℕ, ℤ, true, false, List, Some, None, refl}
 use Rattle.toml.specs.Data.{Members}
 use Rattle.edf_claim.specs.Claims.{claim_keys}
 use Rattle.edf_claim.specs.Reading.{keys_are, is_format_one, channels_of, keep_of, anonymous_of, shift_of, remove_of, claim_fault}

@@ -1,11 +1,14 @@
--- Bounds of the intervals of a claim.
-use Rattle.std.proofs.Common.{◌≡◌, ◌≢◌, ◌↔◌, ℕ, ℤ, pos, ◌+◌, ◌<◌, ◌≤ℤ◌, ◌<ℤ◌, ◌^◌, List, [], ◌∷◌, length, get_or, drop, unsigned_abs, inl, inr, ⊎_elim, sym, ap, ◌∙◌, subst, add-one, arith}
-use Rattle.std.specs.List.{All}
+-- What a claim keeps: bounds of its intervals, and the tests in words.
+use Rattle.std.proofs.Common.{◌≡◌, ◌≢◌, ◌↔◌, ℕ, ℤ, pos, ◌+◌, ◌*ℤ◌, ◌<◌, ◌^◌, int_le, int_lt, not, ◌||◌, Bool, true, false, List, [], ◌∷◌, length, get_or, drop, unsigned_abs, inl, inr, ⊎_elim, refl, sym, ap, ◌∙◌, subst, add-one, arith}
+use Rattle.std.specs.List.{All, list_any}
 use Rattle.std.proofs.lemmas.Int.{ints}
-use Rattle.edf_claim.specs.Claims.{Terms, IsClaim, IsInterval}
+use Rattle.edf_claim.specs.Claims.{Terms, IsInterval}
 use Rattle.edf_claim.specs.declared.interval.Interval.{Interval}
 use Rattle.edf_claim.specs.declared.which.Which.{Which}
-use Rattle.edf_claim.specs.Lists.{Has}
+use Rattle.edf_claim.specs.Keeps.{IsWithin, KeepsInstant, KeepsAnnotation, is_within, keeps_instant, keeps_annotation}
+use Rattle.edf_claim.specs.Lists.{Has, is_one_of}
+use Rattle.edf_claim.proofs.ReadingFacts.{has-one_of, one_of-has, and-true, not-true}
+use Rattle.edf_claim.proofs.SaidFacts.{both-true, not-is, le-passes, lt-passes}
 use Rattle.std.proofs.Math.Seq.{drop-cons}
 
 pub near_bound : (i : Interval) → IsInterval i → (unsigned_abs i.from_ps < 2 ^ 100) × (unsigned_abs i.to_ps < 2 ^ 100)
@@ -30,3 +33,48 @@ has_next ws i d w lt other = (
   λ h. ⊎_elim (λ e. absurd (other e)) (λ more. more) (subst (λ (xs : List Which). Has xs w) (cut-at ws i d lt) h),
   λ more. subst (λ (xs : List Which). Has xs w) (sym (cut-at ws i d lt)) (inr more),
 )
+
+-- an interval's test
+within-is : (i : Interval) (num : ℤ) (den : ℕ) → is_within i num den ≡ true → IsWithin i num den
+within-is i num den h =
+    let both = and-true (int_le (i.from_ps *ℤ pos den) num) (int_lt num (i.to_ps *ℤ pos den)) h in
+    ((let p = both.0 in omega (arith, ints)), (let p = both.1 in omega (arith, ints)))
+
+within-tested : (i : Interval) (num : ℤ) (den : ℕ) → IsWithin i num den → is_within i num den ≡ true
+within-tested i num den h =
+    both-true (int_le (i.from_ps *ℤ pos den) num) (int_lt num (i.to_ps *ℤ pos den)) (le-passes (i.from_ps *ℤ pos den) num h.0) (lt-passes num (i.to_ps *ℤ pos den) h.1)
+
+-- one of the intervals
+any-within : (is : List Interval) (num : ℤ) (den : ℕ) → list_any (λ i. is_within i num den) is ≡ true → (i : Interval) × Has is i × IsWithin i num den
+any-within [] num den h = absurd (let e : false ≡ true = h in cc)
+any-within (i ∷ is) num den h = any-case (is_within i num den) refl h (λ q. any-within is num den q)
+  where
+    any-case : (b : Bool) → is_within i num den ≡ b → (b || list_any (λ j. is_within j num den) is) ≡ true → (list_any (λ j. is_within j num den) is ≡ true → (j : Interval) × Has is j × IsWithin j num den)
+        → (j : Interval) × Has (i ∷ is) j × IsWithin j num den
+    any-case true e t more = (i, inl refl, within-is i num den e)
+    any-case false e t more = let found = more t in (found.0, inr found.1, found.2)
+
+within-any : (is : List Interval) (num : ℤ) (den : ℕ) (i : Interval) → Has is i → IsWithin i num den → list_any (λ j. is_within j num den) is ≡ true
+within-any [] num den i there h = absurd there
+within-any (j ∷ is) num den i (inl e) h = ap (λ b. b || list_any (λ k. is_within k num den) is) (within-tested j num den (subst (λ (k : Interval). IsWithin k num den) (sym e) h))
+within-any (j ∷ is) num den i (inr there) h = or-true (is_within j num den) (list_any (λ k. is_within k num den) is) (within-any is num den i there h)
+  where
+    or-true : (a b : Bool) → b ≡ true → (a || b) ≡ true
+    or-true true b e = refl
+    or-true false b e = e
+
+pub instant_kept : (c : Terms) (num : ℤ) (den : ℕ) (b : Bool) → b ≡ keeps_instant c num den → (b ≡ true) ↔ KeepsInstant c num den
+instant_kept c num den b e = (
+  λ h. any-within c.keep num den (sym e ∙ h),
+  λ h. e ∙ within-any c.keep num den h.0 h.1 h.2,
+)
+
+pub annotation_kept : (c : Terms) (onset : ℤ) (text : List ℕ) (b : Bool) → b ≡ keeps_annotation c onset text → (b ≡ true) ↔ KeepsAnnotation c onset text
+annotation_kept c onset text b e = (
+  λ h. let both = and-true (keeps_instant c onset 1) (not (is_one_of c.remove text)) (sym e ∙ h) in
+      (any-within c.keep onset 1 both.0, λ there. let z : true ≡ false = sym (has-one_of c.remove text there) ∙ not-true (is_one_of c.remove text) both.1 in cc),
+  λ h. e ∙ both-true (keeps_instant c onset 1) (not (is_one_of c.remove text)) (within-any c.keep onset 1 h.0.0 h.0.1 h.0.2) (not-is (is_one_of c.remove text) (λ t. h.1 (one_of-has c.remove text t))),
+)
+
+pub channel_kept : (labels : List (List ℕ)) (label : List ℕ) (b : Bool) → b ≡ is_one_of labels label → (b ≡ true) ↔ Has labels label
+channel_kept labels label b e = (λ h. one_of-has labels label (sym e ∙ h), λ h. e ∙ has-one_of labels label h)

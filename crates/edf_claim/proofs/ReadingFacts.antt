@@ -1,18 +1,17 @@
 -- A table that passes its tests says the claim that is read of it.
-use Rattle.std.proofs.Common.{◌≡◌, ◌≢◌, ℕ, zero, suc, ℤ, pos, neg_ℤ, ◌-◌, ◌^◌, ◌≤◌, ◌<◌, ◌≤ℤ◌, ◌<ℤ◌, ◌==◌, nat_le, nat_lt, int_le, int_lt, not, ◌&&◌, ◌||◌, Bool, true, false, cond, List, [], ◌∷◌, length, map, slice_index, Option, Some, None, is_some, unwrap_or, option_map, option_and_then, codes, ◌⊎◌, inl, inr, ⊎_elim, refl, sym, ap, ◌∙◌, subst, arith}
+use Rattle.std.proofs.Common.{◌≡◌, ◌≢◌, ℕ, ℤ, pos, neg_ℤ, ◌-◌, ◌^◌, ◌≤◌, ◌==◌, nat_le, nat_lt, int_le, int_lt, not, ◌&&◌, ◌||◌, Bool, true, false, cond, List, [], ◌∷◌, length, map, slice_index, Option, Some, None, is_some, unwrap_or, option_map, option_and_then, codes, ◌⊎◌, inl, inr, refl, sym, ap, ◌∙◌, subst, arith}
 use Rattle.std.specs.List.{All, list_all}
-use Rattle.std.specs.Ordering.{int_eq}
 use Rattle.std.specs.Str.{bytes_eq}
-use Rattle.std.proofs.lemmas.Bool.Decides.{Decides-int_eq, nat_tests}
+use Rattle.std.proofs.lemmas.Bool.Decides.{Decides-int_eq}
 use Rattle.std.proofs.lemmas.Int.{ints}
 use Rattle.std.proofs.lemmas.List.Elements.{All-nil, All-cons}
 use Rattle.std.proofs.lemmas.Slice.Eq.{bytes_eq-Decides}
 use Rattle.toml.specs.Data.{Data, string, integer, float, boolean, datetime, array, table, Items, no_items, item, Members, no_members, member, get_member, as_str, as_integer, as_array, as_table}
 use Rattle.edf_fields.specs.Identifications.{is_printable}
-use Rattle.edf_fields.specs.Onsets.{SpellsSpan, span_of}
+use Rattle.edf_fields.specs.Onsets.{span_of}
 use Rattle.edf_fields.proofs.DateFacts.{le_decided}
 use Rattle.edf_fields.proofs.OnsetFacts.{span_of_some, span_small}
-use Rattle.edf_claim.specs.Claims.{Terms, name_of, text_items, HasOnlyKeys, claim_keys, interval_keys, IsLabel, SaysInterval, AreIntervals, IsFollowedBy, AreInOrder, IsInterval, IsClaim, SaysClaim}
+use Rattle.edf_claim.specs.Claims.{Terms, name_of, text_items, HasOnlyKeys, claim_keys, interval_keys, IsLabel, SaysInterval, AreIntervals, IsFollowedBy, AreInOrder, IsInterval, IsClaim, SaysFormat, SaysChannels, SaysKeep, SaysAnonymous, SaysShift, SaysRemove, SaysClaim}
 use Rattle.edf_claim.specs.Lists.{Has, AreDistinct, is_one_of, are_distinct}
 use Rattle.edf_claim.specs.Reading.{integer_of, text_at, keys_are, texts_of, distinct_texts, option_is, is_format_one, is_label, channels_of, span_at, interval_from, interval_of, intervals_of, is_followed_by, are_in_order, keep_of, named_in, all_names, which_of, whiches_of, or_default, anonymous_of, shift_within, shift_of, remove_of, first_stop, unless, claim_fault, terms_of}
 use Rattle.edf_claim.specs.declared.interval.Interval.{Interval}
@@ -37,11 +36,11 @@ if_some : {X : Type 0} (b : Bool) (o : Option X) (y : X) → cond b o None ≡ S
 if_some true o y h = (refl, h)
 if_some false o y h = absurd (let e : None ≡ Some y = h in cc)
 
-and-true : (a b : Bool) → (a && b) ≡ true → (a ≡ true) × (b ≡ true)
+pub and-true : (a b : Bool) → (a && b) ≡ true → (a ≡ true) × (b ≡ true)
 and-true true b h = (refl, h)
 and-true false b h = absurd (let f : false ≡ true = h in cc)
 
-not-true : (a : Bool) → not a ≡ true → a ≡ false
+pub not-true : (a : Bool) → not a ≡ true → a ≡ false
 not-true true h = absurd (let f : false ≡ true = h in cc)
 not-true false h = refl
 
@@ -123,7 +122,7 @@ distinct_are d ts h =
     (array_is d b.0 b.1 ∙ ap array (texts_are b.0 a.0 b.2 ∙ ap text_items t.1), subst (λ us. AreDistinct us) t.1 (distinct-tested a.0 t.0))
 
 -- keys
-keys-tested : (keys : List (List ℕ)) (entries : Members) → keys_are keys entries ≡ true → HasOnlyKeys keys entries
+pub keys-tested : (keys : List (List ℕ)) (entries : Members) → keys_are keys entries ≡ true → HasOnlyKeys keys entries
 keys-tested keys no_members h = tt
 keys-tested keys (member key value rest) h =
     let both = and-true (is_one_of keys key) (keys_are keys rest) h in
@@ -162,8 +161,7 @@ not-empty : {X : Type 0} (xs : List X) → nat_lt 0 (length xs) ≡ true → xs 
 not-empty [] h e = let z : false ≡ true = h in cc
 not-empty (x ∷ xs) h e = let z : x ∷ xs ≡ [] = e in cc
 
-pub channels-said : (entries : Members) (labels : List (List ℕ)) → channels_of entries ≡ Some labels
-    → (get_member (codes "channels") entries ≡ Some (array (text_items labels))) × (labels ≢ []) × All IsLabel labels × AreDistinct labels
+pub channels-said : (entries : Members) (labels : List (List ℕ)) → channels_of entries ≡ Some labels → SaysChannels entries labels
 unfolding channels_of
 channels-said entries labels h =
     let a = bind_some (λ ls. cond (nat_lt 0 (length ls) && list_all is_label ls) (Some ls) None) (option_and_then distinct_texts (get_member (codes "channels") entries)) labels h in
@@ -171,7 +169,12 @@ channels-said entries labels h =
     let t = test_some (nat_lt 0 (length a.0) && list_all is_label a.0) a.0 labels a.2 in
     let tests = and-true (nat_lt 0 (length a.0)) (list_all is_label a.0) t.0 in
     let d = distinct_are b.0 a.0 b.2 in
-    (b.1 ∙ ap Some (d.0 ∙ ap (λ ls. array (text_items ls)) t.1), subst (λ ls. ls ≢ []) t.1 (not-empty a.0 tests.0), subst (All IsLabel) t.1 (labels-tested a.0 tests.1), subst (λ ls. AreDistinct ls) t.1 d.1)
+    subst (λ (ls : List (List ℕ)). SaysChannels entries ls) t.1 (record {
+      there = b.1 ∙ ap Some d.0;
+      some = not-empty a.0 tests.0;
+      each = labels-tested a.0 tests.1;
+      distinct = d.1;
+    })
 
 -- the text and the time at a key
 text-at : (key : List ℕ) (entries : Members) (t : List ℕ) → text_at key entries ≡ Some t → get_member key entries ≡ Some (string t)
@@ -230,16 +233,6 @@ order-tested (interval ∷ is) h =
     let both = and-true (is_followed_by interval is) (are_in_order is) h in
     (followed-tested interval is both.0, order-tested is both.1)
 
--- what is said of the intervals that are kept
-pub record SaysKeep (entries : Members) (is : List Interval) : Type 0 where
-  pub items : Items
-  pub there : get_member (codes "keep") entries ≡ Some (array items)
-  pub intervals : AreIntervals items is
-  pub some : is ≢ []
-  pub few : length is ≤ 1000
-  pub each : All IsInterval is
-  pub in_order : AreInOrder is
-
 pub keep-said : (entries : Members) (is : List Interval) → keep_of entries ≡ Some is → SaysKeep entries is
 unfolding keep_of
 keep-said entries is h =
@@ -254,7 +247,7 @@ keep-said entries is h =
     subst (λ (js : List Interval). SaysKeep entries js) t.1 (record {
       items = b.0;
       there = d.1 ∙ ap Some (array_is d.0 b.0 d.2);
-      intervals = said.0;
+      tables = said.0;
       some = not-empty a.0 tests.0;
       few = (le_decided (length a.0) 1000).0 more.0;
       each = said.1;
@@ -300,25 +293,26 @@ or-default : {X : Type 0} (default : X) (read : Data → Option X) (o : Option D
 or-default default read None x h = inl (refl, let e : Some default ≡ Some x = h in cc)
 or-default default read (Some d) x h = inr (d, refl, h)
 
-pub anonymous-said : (entries : Members) (ws : List Which) → anonymous_of entries ≡ Some ws
-    → (((get_member (codes "anonymous") entries ≡ None) × (ws ≡ [])) ⊎ (get_member (codes "anonymous") entries ≡ Some (array (text_items (map name_of ws))))) × AreDistinct ws
+pub anonymous-said : (entries : Members) (ws : List Which) → anonymous_of entries ≡ Some ws → SaysAnonymous entries ws
 unfolding anonymous_of
 anonymous-said entries ws h =
     elim (or-default [] (λ value. option_and_then whiches_of (distinct_texts value)) (get_member (codes "anonymous") entries) ws h) [
-      | inl absent ↦ (inl absent, subst (λ (vs : List Which). AreDistinct vs) (sym absent.1) tt)
+      | inl absent ↦ record { said = inl absent; distinct = subst (λ (vs : List Which). AreDistinct vs) (sym absent.1) tt }
       | inr there ↦
           let a = bind_some whiches_of (distinct_texts there.0) ws there.2 in
           let d = distinct_are there.0 a.0 a.1 in
           let names : a.0 ≡ map name_of ws = whiches-are a.0 ws a.2 in
-          (inr (there.1 ∙ ap Some (d.0 ∙ ap (λ ns. array (text_items ns)) names)), distinct-named ws (subst (λ (ns : List (List ℕ)). AreDistinct ns) names d.1))
+          record {
+            said = inr (there.1 ∙ ap Some (d.0 ∙ ap (λ ns. array (text_items ns)) names));
+            distinct = distinct-named ws (subst (λ (ns : List (List ℕ)). AreDistinct ns) names d.1);
+          }
     ]
 
-pub shift-said : (entries : Members) (z : ℤ) → shift_of entries ≡ Some z
-    → (((get_member (codes "shift") entries ≡ None) × (z ≡ pos 0)) ⊎ (get_member (codes "shift") entries ≡ Some (integer z))) × (neg_ℤ (pos (10 ^ 10)) ≤ℤ z) × (z ≤ℤ pos (10 ^ 10))
+pub shift-said : (entries : Members) (z : ℤ) → shift_of entries ≡ Some z → SaysShift entries z
 unfolding shift_of
 shift-said entries z h =
     elim (or-default (pos 0) (λ value. option_and_then shift_within (as_integer value)) (get_member (codes "shift") entries) z h) [
-      | inl absent ↦ let e = absent.1 in (inl absent, omega (arith, ints, e), omega (arith, ints, e))
+      | inl absent ↦ let e = absent.1 in record { said = inl absent; not_far_back = omega (arith, ints, e); not_far_on = omega (arith, ints, e) }
       | inr there ↦
           let a = bind_some shift_within (as_integer there.0) z there.2 in
           let t = test_some (int_le (neg_ℤ (pos (10 ^ 10))) a.0 && int_le a.0 (pos (10 ^ 10))) a.0 z a.2 in
@@ -326,17 +320,36 @@ shift-said entries z h =
           let low = both.0 in
           let high = both.1 in
           let same = t.1 in
-          (inr (there.1 ∙ ap Some (integer_is there.0 a.0 a.1 ∙ ap integer t.1)), omega (arith, ints, low, same), omega (arith, ints, high, same))
+          record {
+            said = inr (there.1 ∙ ap Some (integer_is there.0 a.0 a.1 ∙ ap integer t.1));
+            not_far_back = omega (arith, ints, low, same);
+            not_far_on = omega (arith, ints, high, same);
+          }
     ]
 
-pub remove-said : (entries : Members) (ts : List (List ℕ)) → remove_of entries ≡ Some ts
-    → (((get_member (codes "remove") entries ≡ None) × (ts ≡ [])) ⊎ (get_member (codes "remove") entries ≡ Some (array (text_items ts)))) × AreDistinct ts
+pub remove-said : (entries : Members) (ts : List (List ℕ)) → remove_of entries ≡ Some ts → SaysRemove entries ts
 unfolding remove_of
 remove-said entries ts h =
     elim (or-default [] distinct_texts (get_member (codes "remove") entries) ts h) [
-      | inl absent ↦ (inl absent, subst (λ (us : List (List ℕ)). AreDistinct us) (sym absent.1) tt)
-      | inr there ↦ let d = distinct_are there.0 ts there.2 in (inr (there.1 ∙ ap Some d.0), d.1)
+      | inl absent ↦ record { said = inl absent; distinct = subst (λ (us : List (List ℕ)). AreDistinct us) (sym absent.1) tt }
+      | inr there ↦ let d = distinct_are there.0 ts there.2 in record { said = inr (there.1 ∙ ap Some d.0); distinct = d.1 }
     ]
+
+-- what a table says is a claim
+pub said-sound : (entries : Members) (c : Terms) → SaysClaim entries c → IsClaim c
+said-sound entries c s = record {
+  some_channels = s.channels.some;
+  labels = s.channels.each;
+  distinct_channels = s.channels.distinct;
+  some_intervals = s.keep.some;
+  few_intervals = s.keep.few;
+  intervals = s.keep.each;
+  in_order = s.keep.in_order;
+  distinct_anonymous = s.anonymous.distinct;
+  not_far_back = s.shift.not_far_back;
+  not_far_on = s.shift.not_far_on;
+  distinct_remove = s.remove.distinct;
+}
 
 -- the tests of a table
 first-passed : (answer : Option ClaimStop) (more : List (Option ClaimStop)) → first_stop (answer ∷ more) ≡ None → (answer ≡ None) × (first_stop more ≡ None)
@@ -347,11 +360,11 @@ unless-passed : (b : Bool) (stop : ClaimStop) → unless b stop ≡ None → b �
 unless-passed true stop h = refl
 unless-passed false stop h = absurd (let e : Some stop ≡ None = h in cc)
 
-is-some : {X : Type 0} (o : Option X) → is_some o ≡ true → (x : X) × (o ≡ Some x)
+pub is-some : {X : Type 0} (o : Option X) → is_some o ≡ true → (x : X) × (o ≡ Some x)
 is-some None h = absurd (let e : false ≡ true = h in cc)
 is-some (Some x) h = (x, refl)
 
-format-said : (entries : Members) → is_format_one entries ≡ true → get_member (codes "format") entries ≡ Some (integer (pos 1))
+pub format-said : (entries : Members) → is_format_one entries ≡ true → SaysFormat entries
 unfolding is_format_one
 format-said entries h =
     let one = format-case (integer_of (codes "format") entries) refl h in
@@ -396,33 +409,13 @@ table-says entries h =
     let anonymous = is-some (anonymous_of entries) (unless-passed (is_some (anonymous_of entries)) BadAnonymous p5.0) in
     let shift = is-some (shift_of entries) (unless-passed (is_some (shift_of entries)) BadShift p6.0) in
     let remove = is-some (remove_of entries) (unless-passed (is_some (remove_of entries)) BadRemove p7.0) in
-    let c = channels-said entries channels.0 channels.1 in
-    let k = keep-said entries keep.0 keep.1 in
-    let a = anonymous-said entries anonymous.0 anonymous.1 in
-    let s = shift-said entries shift.0 shift.1 in
-    let r = remove-said entries remove.0 remove.1 in
     let same = terms-are entries channels.0 keep.0 anonymous.0 shift.0 remove.0 channels.1 keep.1 anonymous.1 shift.1 remove.1 in
     subst (λ (t : Terms). SaysClaim entries t) same (record {
       format = format-said entries (unless-passed (is_format_one entries) BadFormat p1.0);
       keys = keys-tested claim_keys entries (unless-passed (keys_are claim_keys entries) UnknownKey p2.0);
-      channels = c.0;
-      items = k.items;
-      keep = k.there;
-      intervals = k.intervals;
-      anonymous = a.0;
-      shift = s.0;
-      remove = r.0;
-      claim = record {
-        some_channels = c.1;
-        labels = c.2;
-        distinct_channels = c.3;
-        some_intervals = k.some;
-        few_intervals = k.few;
-        intervals = k.each;
-        in_order = k.in_order;
-        distinct_anonymous = a.1;
-        not_far_back = s.1;
-        not_far_on = s.2;
-        distinct_remove = r.1;
-      };
+      channels = channels-said entries channels.0 channels.1;
+      keep = keep-said entries keep.0 keep.1;
+      anonymous = anonymous-said entries anonymous.0 anonymous.1;
+      shift = shift-said entries shift.0 shift.1;
+      remove = remove-said entries remove.0 remove.1;
     })

@@ -1,33 +1,35 @@
 -- A table that says a claim passes its tests, and the claim is the one that is read of it.
-use Rattle.std.proofs.Common.{◌≡◌, ◌≢◌, ◌⊎◌, ℕ, zero, suc, ℤ, pos, neg_ℤ, ◌-◌, ◌^◌, ◌≤◌, ◌<◌, ◌≤ℤ◌, ◌<ℤ◌, ◌==◌, nat_le, nat_lt, int_le, int_lt, not, ◌&&◌, ◌||◌, Bool, true, false, cond, List, [], ◌∷◌, length, map, slice_index, Option, Some, None, is_some, unwrap_or, option_map, option_and_then, codes, inl, inr, refl, sym, ap, ◌∙◌, subst, arith}
+use Rattle.std.proofs.Common.{◌≡◌, ◌≢◌, ℕ, suc, ℤ, pos, neg_ℤ, ◌-◌, ◌^◌, ◌≤◌, ◌≤ℤ◌, ◌<ℤ◌, ◌==◌, nat_le, nat_lt, int_le, int_lt, not, ◌&&◌, Bool, true, false, cond, List, [], ◌∷◌, length, map, slice_index, Option, Some, None, is_some, option_map, option_and_then, codes, inl, inr, ⊎_elim, ◌↔◌, refl, sym, ap, ◌∙◌, subst, arith}
 use Rattle.std.specs.List.{All, list_all}
 use Rattle.std.specs.Str.{bytes_eq}
-use Rattle.std.proofs.lemmas.Bool.Decides.{Decides-int_eq, nat_tests}
+use Rattle.std.proofs.lemmas.Bool.Decides.{nat_tests}
 use Rattle.std.proofs.lemmas.Int.{ints}
 use Rattle.std.proofs.lemmas.Slice.Eq.{bytes_eq-Decides}
-use Rattle.toml.specs.Data.{Data, string, integer, array, table, Items, no_items, item, Members, no_members, member, get_member, as_str, as_integer, as_array, as_table}
+use Rattle.toml.specs.Data.{Data, string, array, Items, Members, no_members, member, get_member, as_str, as_integer, as_array}
 use Rattle.edf_fields.specs.Identifications.{is_printable}
 use Rattle.edf_fields.specs.Onsets.{SpellsSpan, span_of}
 use Rattle.edf_fields.proofs.DateFacts.{le_decided}
 use Rattle.edf_fields.proofs.OnsetFacts.{span_of_spelled}
-use Rattle.edf_claim.specs.Claims.{Terms, name_of, text_items, HasOnlyKeys, claim_keys, interval_keys, IsLabel, SaysInterval, AreIntervals, IsFollowedBy, AreInOrder, IsInterval, IsClaim, SaysClaim, SaysOneClaim}
-use Rattle.edf_claim.specs.Faults.{SaysClaimOrFault}
+use Rattle.edf_claim.specs.Claims.{Terms, name_of, text_items, HasOnlyKeys, claim_keys, interval_keys, IsLabel, SaysInterval, AreIntervals, IsFollowedBy, AreInOrder, IsInterval, SaysFormat, SaysChannels, SaysKeep, SaysAnonymous, SaysShift, SaysRemove, SaysClaim, SaysOneClaim}
+use Rattle.edf_claim.specs.Faults.{FailsOr, FirstTableFault, ThereIs, SaysClaimOrFault, FaultIsFirst}
 use Rattle.edf_claim.specs.Lists.{Has, AreDistinct, is_one_of, are_distinct}
-use Rattle.edf_claim.specs.Reading.{option_is, integer_of, text_at, keys_are, texts_of, distinct_texts, is_format_one, is_label, channels_of, span_at, interval_from, interval_of, intervals_of, is_followed_by, are_in_order, keep_of, named_in, all_names, which_of, whiches_of, or_default, anonymous_of, shift_within, shift_of, remove_of, claim_fault, terms_of}
+use Rattle.edf_claim.specs.Reading.{first_stop, unless, option_is, keys_are, texts_of, distinct_texts, is_format_one, is_label, channels_of, span_at, interval_from, interval_of, intervals_of, is_followed_by, are_in_order, keep_of, which_of, whiches_of, or_default, anonymous_of, shift_within, shift_of, remove_of, claim_fault, terms_of}
 use Rattle.edf_claim.specs.declared.interval.Interval.{Interval}
 use Rattle.edf_claim.specs.declared.which.Which.{Which}
 use Rattle.edf_claim.specs.declared.which.Which.TheVariants.{Code, Sex, Birthdate, Name, PatientExtras, Date, Administration, Technician, Equipment, RecordingExtras}
 use Rattle.edf_claim.proofs.FaultFacts.{all-passed}
-use Rattle.edf_claim.proofs.ReadingFacts.{has-one_of, one_of-has, terms-are, table-says}
+use Rattle.edf_claim.proofs.ReadingFacts.{has-one_of, one_of-has, is-some, keys-tested, format-said, channels-said, keep-said, anonymous-said, shift-said, remove-said, terms-are, table-says}
+use Rattle.edf_claim.specs.declared.stop.ClaimStop.{ClaimStop}
+use Rattle.edf_claim.specs.declared.stop.ClaimStop.TheVariants.{BadFormat, UnknownKey, BadChannels, BadKeep, BadAnonymous, BadShift, BadRemove}
 
-both-true : (a b : Bool) → a ≡ true → b ≡ true → (a && b) ≡ true
+pub both-true : (a b : Bool) → a ≡ true → b ≡ true → (a && b) ≡ true
 both-true a b p q = cc
 
 cond-true : {X : Type 0} (b : Bool) (x y : X) → b ≡ true → cond b x y ≡ x
 cond-true true x y h = refl
 cond-true false x y h = absurd (let z : false ≡ true = h in cc)
 
-not-is : (b : Bool) → (b ≡ true → ⊥) → not b ≡ true
+pub not-is : (b : Bool) → (b ≡ true → ⊥) → not b ≡ true
 not-is true h = absurd (h refl)
 not-is false h = refl
 
@@ -76,27 +78,27 @@ not-empty : {X : Type 0} (xs : List X) → xs ≢ [] → nat_lt 0 (length xs) �
 not-empty [] h = absurd (h refl)
 not-empty (x ∷ xs) h = grind (arith, nat_tests)
 
-le-passes : (x y : ℤ) → x ≤ℤ y → int_le x y ≡ true
+pub le-passes : (x y : ℤ) → x ≤ℤ y → int_le x y ≡ true
 le-passes x y h = le-case x y (int_le x y) refl h
   where
     le-case : (x y : ℤ) (b : Bool) → int_le x y ≡ b → x ≤ℤ y → b ≡ true
     le-case x y true e h = refl
     le-case x y false e h = absurd (omega (arith, ints, h, e))
 
-lt-passes : (x y : ℤ) → x <ℤ y → int_lt x y ≡ true
+pub lt-passes : (x y : ℤ) → x <ℤ y → int_lt x y ≡ true
 lt-passes x y h = lt-case x y (int_lt x y) refl h
   where
     lt-case : (x y : ℤ) (b : Bool) → int_lt x y ≡ b → x <ℤ y → b ≡ true
     lt-case x y true e h = refl
     lt-case x y false e h = absurd (omega (arith, ints, h, e))
 
-channels-read : (entries : Members) (c : Terms) → SaysClaim entries c → channels_of entries ≡ Some c.channels
+pub channels-read : (entries : Members) (labels : List (List ℕ)) → SaysChannels entries labels → channels_of entries ≡ Some labels
 unfolding channels_of
-channels-read entries c s =
-    ap (λ o. option_and_then (λ ls. cond (nat_lt 0 (length ls) && list_all is_label ls) (Some ls) None) (option_and_then distinct_texts o)) s.channels
-    ∙ ap (λ o. option_and_then (λ ls. cond (nat_lt 0 (length ls) && list_all is_label ls) (Some ls) None) o) (distinct-read c.channels s.claim.distinct_channels)
-    ∙ cond-true (nat_lt 0 (length c.channels) && list_all is_label c.channels) (Some c.channels) None
-    (both-true (nat_lt 0 (length c.channels)) (list_all is_label c.channels) (not-empty c.channels s.claim.some_channels) (labels-pass c.channels s.claim.labels))
+channels-read entries labels s =
+    ap (λ o. option_and_then (λ ls. cond (nat_lt 0 (length ls) && list_all is_label ls) (Some ls) None) (option_and_then distinct_texts o)) s.there
+    ∙ ap (λ o. option_and_then (λ ls. cond (nat_lt 0 (length ls) && list_all is_label ls) (Some ls) None) o) (distinct-read labels s.distinct)
+    ∙ cond-true (nat_lt 0 (length labels) && list_all is_label labels) (Some labels) None
+    (both-true (nat_lt 0 (length labels)) (list_all is_label labels) (not-empty labels s.some) (labels-pass labels s.each))
 
 span-read : (key : List ℕ) (entries : Members) (t : List ℕ) (v : ℤ) → get_member key entries ≡ Some (string t) → SpellsSpan t v → span_at key entries ≡ Some v
 span-read key entries t v e h = ap (λ o. option_and_then span_of (option_and_then as_str o)) e ∙ span_of_spelled t v h
@@ -125,15 +127,15 @@ order-passes : (is : List Interval) → AreInOrder is → are_in_order is ≡ tr
 order-passes [] h = refl
 order-passes (interval ∷ is) h = both-true (is_followed_by interval is) (are_in_order is) (followed-passes interval is h.0) (order-passes is h.1)
 
-keep-read : (entries : Members) (c : Terms) → SaysClaim entries c → keep_of entries ≡ Some c.keep
+pub keep-read : (entries : Members) (kept : List Interval) → SaysKeep entries kept → keep_of entries ≡ Some kept
 unfolding keep_of
-keep-read entries c s =
+keep-read entries kept s =
     let test : List Interval → Bool = λ is. nat_lt 0 (length is) && (nat_le (length is) 1000 && are_in_order is) in
-    ap (λ o. option_and_then (λ is. cond (test is) (Some is) None) (option_and_then intervals_of (option_and_then as_array o))) s.keep
-    ∙ ap (λ o. option_and_then (λ is. cond (test is) (Some is) None) o) (intervals-read s.items c.keep s.intervals s.claim.intervals)
-    ∙ cond-true (test c.keep) (Some c.keep) None
-    (both-true (nat_lt 0 (length c.keep)) (nat_le (length c.keep) 1000 && are_in_order c.keep) (not-empty c.keep s.claim.some_intervals)
-    (both-true (nat_le (length c.keep) 1000) (are_in_order c.keep) ((le_decided (length c.keep) 1000).1 s.claim.few_intervals) (order-passes c.keep s.claim.in_order)))
+    ap (λ o. option_and_then (λ is. cond (test is) (Some is) None) (option_and_then intervals_of (option_and_then as_array o))) s.there
+    ∙ ap (λ o. option_and_then (λ is. cond (test is) (Some is) None) o) (intervals-read s.items kept s.tables s.each)
+    ∙ cond-true (test kept) (Some kept) None
+    (both-true (nat_lt 0 (length kept)) (nat_le (length kept) 1000 && are_in_order kept) (not-empty kept s.some)
+    (both-true (nat_le (length kept) 1000) (are_in_order kept) ((le_decided (length kept) 1000).1 s.few) (order-passes kept s.in_order)))
 
 -- each name is that of its subfield
 which-read : (w : Which) → which_of (name_of w) ≡ Some w
@@ -167,51 +169,51 @@ names-distinct : (ws : List Which) → AreDistinct ws → AreDistinct (map name_
 names-distinct [] h = tt
 names-distinct (w ∷ ws) h = (λ there. h.0 (named-has ws w there), names-distinct ws h.1)
 
-anonymous-read : (entries : Members) (c : Terms) → SaysClaim entries c → anonymous_of entries ≡ Some c.anonymous
+pub anonymous-read : (entries : Members) (whiches : List Which) → SaysAnonymous entries whiches → anonymous_of entries ≡ Some whiches
 unfolding anonymous_of
-anonymous-read entries c s =
+anonymous-read entries whiches s =
     let read : Data → Option (List Which) = λ value. option_and_then whiches_of (distinct_texts value) in
-    elim s.anonymous [
+    elim s.said [
       | inl absent ↦ ap (or_default [] read) absent.0 ∙ ap Some (sym absent.1)
       | inr there ↦
           ap (or_default [] read) there
-          ∙ ap (λ o. option_and_then whiches_of o) (distinct-read (map name_of c.anonymous) (names-distinct c.anonymous s.claim.distinct_anonymous))
-          ∙ whiches-read c.anonymous
+          ∙ ap (λ o. option_and_then whiches_of o) (distinct-read (map name_of whiches) (names-distinct whiches s.distinct))
+          ∙ whiches-read whiches
     ]
 
-shift-read : (entries : Members) (c : Terms) → SaysClaim entries c → shift_of entries ≡ Some c.shift
+pub shift-read : (entries : Members) (shift : ℤ) → SaysShift entries shift → shift_of entries ≡ Some shift
 unfolding shift_of
-shift-read entries c s =
+shift-read entries shift s =
     let read : Data → Option ℤ = λ value. option_and_then shift_within (as_integer value) in
-    let low_passes : int_le (neg_ℤ (pos (10 ^ 10))) c.shift ≡ true = le-passes (neg_ℤ (pos (10 ^ 10))) c.shift s.claim.not_far_back in
-    let high_passes : int_le c.shift (pos (10 ^ 10)) ≡ true = le-passes c.shift (pos (10 ^ 10)) s.claim.not_far_on in
-    elim s.shift [
+    let low_passes : int_le (neg_ℤ (pos (10 ^ 10))) shift ≡ true = le-passes (neg_ℤ (pos (10 ^ 10))) shift s.not_far_back in
+    let high_passes : int_le shift (pos (10 ^ 10)) ≡ true = le-passes shift (pos (10 ^ 10)) s.not_far_on in
+    elim s.said [
       | inl absent ↦ ap (or_default (pos 0) read) absent.0 ∙ ap Some (sym absent.1)
       | inr there ↦
           ap (or_default (pos 0) read) there
-          ∙ cond-true (int_le (neg_ℤ (pos (10 ^ 10))) c.shift && int_le c.shift (pos (10 ^ 10))) (Some c.shift) None (both-true (int_le (neg_ℤ (pos (10 ^ 10))) c.shift) (int_le c.shift (pos (10 ^ 10))) low_passes high_passes)
+          ∙ cond-true (int_le (neg_ℤ (pos (10 ^ 10))) shift && int_le shift (pos (10 ^ 10))) (Some shift) None (both-true (int_le (neg_ℤ (pos (10 ^ 10))) shift) (int_le shift (pos (10 ^ 10))) low_passes high_passes)
     ]
 
-remove-read : (entries : Members) (c : Terms) → SaysClaim entries c → remove_of entries ≡ Some c.remove
+pub remove-read : (entries : Members) (texts : List (List ℕ)) → SaysRemove entries texts → remove_of entries ≡ Some texts
 unfolding remove_of
-remove-read entries c s =
-    elim s.remove [
+remove-read entries texts s =
+    elim s.said [
       | inl absent ↦ ap (or_default [] distinct_texts) absent.0 ∙ ap Some (sym absent.1)
-      | inr there ↦ ap (or_default [] distinct_texts) there ∙ distinct-read c.remove s.claim.distinct_remove
+      | inr there ↦ ap (or_default [] distinct_texts) there ∙ distinct-read texts s.distinct
     ]
 
-format-passes : (entries : Members) (c : Terms) → SaysClaim entries c → is_format_one entries ≡ true
+format-passes : (entries : Members) → SaysFormat entries → is_format_one entries ≡ true
 unfolding is_format_one
-format-passes entries c s = ap (λ o. option_is (pos 1) (option_and_then as_integer o)) s.format
+format-passes entries s = ap (λ o. option_is (pos 1) (option_and_then as_integer o)) s
 
 pub said-passes : (entries : Members) (c : Terms) → SaysClaim entries c → (claim_fault entries ≡ None) × (c ≡ terms_of entries)
 said-passes entries c s =
-    let channels = channels-read entries c s in
-    let keep = keep-read entries c s in
-    let anonymous = anonymous-read entries c s in
-    let shift = shift-read entries c s in
-    let remove = remove-read entries c s in (
-      all-passed entries c.channels c.keep c.anonymous c.shift c.remove (format-passes entries c s) (keys-pass claim_keys entries s.keys) channels keep anonymous shift remove,
+    let channels = channels-read entries c.channels s.channels in
+    let keep = keep-read entries c.keep s.keep in
+    let anonymous = anonymous-read entries c.anonymous s.anonymous in
+    let shift = shift-read entries c.shift s.shift in
+    let remove = remove-read entries c.remove s.remove in (
+      all-passed entries c.channels c.keep c.anonymous c.shift c.remove (format-passes entries s.format) (keys-pass claim_keys entries s.keys) channels keep anonymous shift remove,
       terms-are entries c.channels c.keep c.anonymous c.shift c.remove channels keep anonymous shift remove,
     )
 
@@ -221,3 +223,48 @@ one-claim entries c d s t = (said-passes entries c s).1 ∙ sym (said-passes ent
 pub claim-or-fault : SaysClaimOrFault
 claim-or-fault entries c =
     (said-passes entries c, λ h. subst (λ (t : Terms). SaysClaim entries t) (sym h.1) (table-says entries h.0))
+
+-- a test as a boolean, and in words
+abbrev Tests : Bool → Type 0 → Type 0
+Tests passes test = (passes ≡ true) ↔ test
+
+read-tests : {X : Type 0} (o : Option X) (holds : X → Type 0) → ((x : X) → o ≡ Some x → holds x) → ((x : X) → holds x → o ≡ Some x) → Tests (is_some o) (ThereIs holds)
+read-tests o holds to from = (
+  λ h. let a = is-some o h in (a.0, to a.0 a.1),
+  λ h. ap is_some (from h.0 h.1),
+)
+
+-- one test, and those behind it
+test-said : (passes : Bool) (test : Type 0) (cause stop : ClaimStop) (answers : List (Option ClaimStop)) (later : Type 0) → Tests passes test
+    → (first_stop answers ≡ Some stop) ↔ later → (first_stop (unless passes cause ∷ answers) ≡ Some stop) ↔ FailsOr cause test stop later
+test-said true test cause stop answers later is rest = (
+  λ h. inr (is.0 refl, rest.0 h),
+  λ h. ⊎_elim (λ fails. absurd (fails.1 (is.0 refl))) (λ more. rest.1 more.1) h,
+)
+test-said false test cause stop answers later is rest = (
+  λ h. inl ((let e : Some cause ≡ Some stop = h in cc), λ t. let e : false ≡ true = is.1 t in cc),
+  λ h. ⊎_elim (λ fails. ap Some (sym fails.0)) (λ more. absurd (let e : false ≡ true = is.1 more.0 in cc)) h,
+)
+
+no-tests : (stop : ClaimStop) → (first_stop [] ≡ Some stop) ↔ ⊥
+no-tests stop = (λ h. let e : None ≡ Some stop = h in cc, λ h. absurd h)
+
+pub fault-said : (entries : Members) (stop : ClaimStop) → (claim_fault entries ≡ Some stop) ↔ FirstTableFault entries stop
+unfolding claim_fault
+fault-said entries stop =
+    let t3 = unless (is_some (channels_of entries)) BadChannels in
+    let t4 = unless (is_some (keep_of entries)) BadKeep in
+    let t5 = unless (is_some (anonymous_of entries)) BadAnonymous in
+    let t6 = unless (is_some (shift_of entries)) BadShift in
+    let t7 = unless (is_some (remove_of entries)) BadRemove in
+    let t2 = unless (keys_are claim_keys entries) UnknownKey in
+    let remove = test-said (is_some (remove_of entries)) (ThereIs (SaysRemove entries)) BadRemove stop [] ⊥ (read-tests (remove_of entries) (SaysRemove entries) (remove-said entries) (remove-read entries)) (no-tests stop) in
+    let shift = test-said (is_some (shift_of entries)) (ThereIs (SaysShift entries)) BadShift stop (t7 ∷ []) _ (read-tests (shift_of entries) (SaysShift entries) (shift-said entries) (shift-read entries)) remove in
+    let anonymous = test-said (is_some (anonymous_of entries)) (ThereIs (SaysAnonymous entries)) BadAnonymous stop (t6 ∷ t7 ∷ []) _ (read-tests (anonymous_of entries) (SaysAnonymous entries) (anonymous-said entries) (anonymous-read entries)) shift in
+    let keep = test-said (is_some (keep_of entries)) (ThereIs (SaysKeep entries)) BadKeep stop (t5 ∷ t6 ∷ t7 ∷ []) _ (read-tests (keep_of entries) (SaysKeep entries) (keep-said entries) (keep-read entries)) anonymous in
+    let channels = test-said (is_some (channels_of entries)) (ThereIs (SaysChannels entries)) BadChannels stop (t4 ∷ t5 ∷ t6 ∷ t7 ∷ []) _ (read-tests (channels_of entries) (SaysChannels entries) (channels-said entries) (channels-read entries)) keep in
+    let keys = test-said (keys_are claim_keys entries) (HasOnlyKeys claim_keys entries) UnknownKey stop (t3 ∷ t4 ∷ t5 ∷ t6 ∷ t7 ∷ []) _ (keys-tested claim_keys entries, keys-pass claim_keys entries) channels in
+    test-said (is_format_one entries) (SaysFormat entries) BadFormat stop (t2 ∷ t3 ∷ t4 ∷ t5 ∷ t6 ∷ t7 ∷ []) _ (format-said entries, format-passes entries) keys
+
+pub fault-is-first : FaultIsFirst
+fault-is-first entries stop = ((fault-said entries stop).1, (fault-said entries stop).0)

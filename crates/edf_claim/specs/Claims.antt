@@ -6,7 +6,7 @@ use Rattle.edf_claim.specs.Lists.{Has, AreDistinct}
 use Rattle.edf_claim.specs.declared.interval.Interval.{Interval}
 use Rattle.edf_claim.specs.declared.which.Which.{Which}
 use Rattle.edf_claim.specs.declared.which.Which.TheVariants.{Code, Sex, Birthdate, Name, PatientExtras, Date, Administration, Technician, Equipment, RecordingExtras}
-use Rattle.toml.specs.Data.{Data, string, integer, array, table, Items, no_items, item, Members, no_members, member, get_member}
+use Rattle.toml.specs.Data.{string, integer, array, table, Items, no_items, item, Members, no_members, member, get_member}
 use Rattle.toml.specs.Parse.{parse_document}
 
 -- a claim: the labels of the channels, the intervals that are kept, in picoseconds after the second at which the original starts, what is made anonymous, the shift in seconds, and the texts of annotations that are removed
@@ -81,13 +81,60 @@ abbrev pub AreInOrder : List Interval → Type 0
 AreInOrder [] = Unit {0}
 AreInOrder (interval ∷ intervals) = IsFollowedBy interval intervals × AreInOrder intervals
 
--- a stretch of time from 0 on, whose end is behind its begin
+-- a stretch of time from 0 on, whose end is behind its begin; a duration of 9 digits of seconds is below 10^21 picoseconds
 pub record IsInterval (interval : Interval) : Type 0 where
   pub start : pos 0 ≤ℤ interval.from_ps
   pub order : interval.from_ps <ℤ interval.to_ps
   pub near : interval.to_ps <ℤ pos (10 ^ 21)
 
--- what holds of every claim
+-- the channels that a table says: an array of these labels, at least one, none of them twice
+pub record SaysChannels (entries : Members) (labels : List (List ℕ)) : Type 0 where
+  pub there : get_member (codes "channels") entries ≡ Some (array (text_items labels))
+  pub some : labels ≢ []
+  pub each : All IsLabel labels
+  pub distinct : AreDistinct labels
+
+-- the intervals that a table says: an array of their tables, 1 to 1,000, in order
+pub record SaysKeep (entries : Members) (intervals : List Interval) : Type 0 where
+  pub items : Items
+  pub there : get_member (codes "keep") entries ≡ Some (array items)
+  pub tables : AreIntervals items intervals
+  pub some : intervals ≢ []
+  pub few : length intervals ≤ 1000
+  pub each : All IsInterval intervals
+  pub in_order : AreInOrder intervals
+
+-- what a table makes anonymous: nothing where the key is absent, else the subfields of these names, none of them twice
+pub record SaysAnonymous (entries : Members) (whiches : List Which) : Type 0 where
+  pub said : ((get_member (codes "anonymous") entries ≡ None) × (whiches ≡ [])) ⊎ (get_member (codes "anonymous") entries ≡ Some (array (text_items (map name_of whiches))))
+  pub distinct : AreDistinct whiches
+
+-- the shift that a table says, in seconds: 0 where the key is absent
+pub record SaysShift (entries : Members) (shift : ℤ) : Type 0 where
+  pub said : ((get_member (codes "shift") entries ≡ None) × (shift ≡ pos 0)) ⊎ (get_member (codes "shift") entries ≡ Some (integer shift))
+  pub not_far_back : neg_ℤ (pos (10 ^ 10)) ≤ℤ shift
+  pub not_far_on : shift ≤ℤ pos (10 ^ 10)
+
+-- the texts of annotations that a table removes: none where the key is absent, else these, none of them twice
+pub record SaysRemove (entries : Members) (texts : List (List ℕ)) : Type 0 where
+  pub said : ((get_member (codes "remove") entries ≡ None) × (texts ≡ [])) ⊎ (get_member (codes "remove") entries ≡ Some (array (text_items texts)))
+  pub distinct : AreDistinct texts
+
+-- the format of a claim
+abbrev pub SaysFormat : Members → Type 0
+SaysFormat entries = get_member (codes "format") entries ≡ Some (integer (pos 1))
+
+-- the table says this claim: it has no other keys than those of a claim, and each key has its value, or is absent and has its default
+pub record SaysClaim (entries : Members) (c : Terms) : Type 0 where
+  pub format : SaysFormat entries
+  pub keys : HasOnlyKeys claim_keys entries
+  pub channels : SaysChannels entries c.channels
+  pub keep : SaysKeep entries c.keep
+  pub anonymous : SaysAnonymous entries c.anonymous
+  pub shift : SaysShift entries c.shift
+  pub remove : SaysRemove entries c.remove
+
+-- what holds of every claim, whatever table says it
 pub record IsClaim (c : Terms) : Type 0 where
   pub some_channels : c.channels ≢ []
   pub labels : All IsLabel c.channels
@@ -100,19 +147,6 @@ pub record IsClaim (c : Terms) : Type 0 where
   pub not_far_back : neg_ℤ (pos (10 ^ 10)) ≤ℤ c.shift
   pub not_far_on : c.shift ≤ℤ pos (10 ^ 10)
   pub distinct_remove : AreDistinct c.remove
-
--- the table says this claim: it has no other keys than those of a claim, each key has its value, and what is absent has its default
-pub record SaysClaim (entries : Members) (c : Terms) : Type 0 where
-  pub format : get_member (codes "format") entries ≡ Some (integer (pos 1))
-  pub keys : HasOnlyKeys claim_keys entries
-  pub channels : get_member (codes "channels") entries ≡ Some (array (text_items c.channels))
-  pub items : Items
-  pub keep : get_member (codes "keep") entries ≡ Some (array items)
-  pub intervals : AreIntervals items c.keep
-  pub anonymous : ((get_member (codes "anonymous") entries ≡ None) × (c.anonymous ≡ [])) ⊎ (get_member (codes "anonymous") entries ≡ Some (array (text_items (map name_of c.anonymous))))
-  pub shift : ((get_member (codes "shift") entries ≡ None) × (c.shift ≡ pos 0)) ⊎ (get_member (codes "shift") entries ≡ Some (integer c.shift))
-  pub remove : ((get_member (codes "remove") entries ≡ None) × (c.remove ≡ [])) ⊎ (get_member (codes "remove") entries ≡ Some (array (text_items c.remove)))
-  pub claim : IsClaim c
 
 -- the text is TOML that says this claim, in 65,536 bytes at the most
 pub record SaysClaimText (text : List ℕ) (c : Terms) : Type 0 where

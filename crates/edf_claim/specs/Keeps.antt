@@ -1,5 +1,5 @@
 -- What a claim keeps.
-use Rattle.std.specs.Prelude.{◌≡◌, ℕ, ℤ, pos, ◌*ℤ◌, ◌≤ℤ◌, ◌<ℤ◌, int_le, int_lt, not, ◌&&◌, Bool, List, [], ◌∷◌}
+use Rattle.std.specs.Prelude.{ℕ, ℤ, pos, ◌*ℤ◌, ◌≤ℤ◌, ◌<ℤ◌, int_le, int_lt, not, ◌&&◌, Bool, List}
 use Rattle.std.specs.List.{list_any}
 use Rattle.edf_claim.specs.Claims.{Terms}
 use Rattle.edf_claim.specs.Lists.{Has, is_one_of}
@@ -17,7 +17,7 @@ KeepsInstant c num den = (interval : Interval) × Has c.keep interval × IsWithi
 abbrev pub KeepsAnnotation : Terms → ℤ → List ℕ → Type 0
 KeepsAnnotation c onset text = KeepsInstant c onset 1 × (Has c.remove text → ⊥)
 
--- `IsWithin` as a test
+-- `IsWithin` as a test of numbers
 abbrev pub is_within : Interval → ℤ → ℕ → Bool
 is_within interval num den = int_le (interval.from_ps *ℤ pos den) num && int_lt num (interval.to_ps *ℤ pos den)
 

@@ -1,5 +1,5 @@
 -- The claim that a table says, as functions, and the first fault of a table that says none.
-use Rattle.std.specs.Prelude.{◌≡◌, ℕ, zero, suc, ℤ, pos, neg_ℤ, ◌-◌, ◌^◌, ◌==◌, nat_le, nat_lt, int_le, int_lt, not, ◌&&◌, ◌||◌, Bool, true, false, if◌then◌else◌, List, [], ◌∷◌, length, slice_index, Option, Some, None, is_some, unwrap_or, option_map, option_and_then, codes}
+use Rattle.std.specs.Prelude.{ℕ, ℤ, pos, neg_ℤ, ◌-◌, ◌^◌, ◌==◌, nat_le, nat_lt, int_le, int_lt, not, ◌&&◌, Bool, true, false, if◌then◌else◌, List, [], ◌∷◌, length, slice_index, Option, Some, None, is_some, unwrap_or, option_map, option_and_then, codes}
 use Rattle.std.specs.List.{list_all}
 use Rattle.std.specs.Ordering.{int_eq}
 use Rattle.std.specs.Str.{bytes_eq}
@@ -95,7 +95,7 @@ keep_of entries =
     option_and_then (λ is. if nat_lt 0 (length is) && (nat_le (length is) 1000 && are_in_order is) then Some is else None)
     (option_and_then intervals_of (option_and_then as_array (get_member (codes "keep") entries)))
 
--- the subfields in the order of their names
+-- the subfields in their written order
 abbrev pub all_names : List Which
 all_names = Code ∷ Sex ∷ Birthdate ∷ Name ∷ PatientExtras ∷ Date ∷ Administration ∷ Technician ∷ Equipment ∷ RecordingExtras ∷ []
 

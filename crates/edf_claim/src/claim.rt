@@ -68,28 +68,34 @@ impl Claim {
         &self.channels
     }
 
-    /// Whether the channel of this label is kept.
+    /// Whether the channel of this label is kept: one of the claim's labels has just these bytes.
+    #[tactic(auto, using(crate::proofs::KeepsFacts::channel_kept))]
     pub fn keeps_channel(&self, label: &[u8]) -> bool
-        ensures { result ≡ is_one_of_texts self.now.channels label.now }
+        ensures keeps { IsTrue result ↔ Has self.now.channels label.now }
+        ensures value { result ≡ is_one_of_texts self.now.channels label.now }
     {
         is_one_of(&self.channels, label)
     }
 
     /// Whether what stands at the instant `num / den` is kept, in picoseconds after the second at
-    /// which the original starts.
+    /// which the original starts; `den` is from 1 to 8,388,608. A stretch keeps its begin, and not its
+    /// end.
     #[tactic(auto, using(crate::proofs::KeepsFacts::near_bounds))]
     pub fn keeps_instant(&self, num: i128, den: u32) -> bool
         requires low { 1 ≤ den }
         requires high { den ≤ 8388608 }
-        ensures { result ≡ keeps_instant self.now num den }
+        ensures keeps { IsTrue result ↔ KeepsInstant self.now num den }
+        ensures value { result ≡ keeps_instant self.now num den }
     {
         is_in_one(&self.keep, num, den)
     }
 
     /// Whether an annotation is kept that has this onset, in picoseconds after the second at which
-    /// the original starts, and this text.
+    /// the original starts, and this text, which is compared byte for byte with those that are removed.
+    #[tactic(auto, using(crate::proofs::KeepsFacts::annotation_kept))]
     pub fn keeps_annotation(&self, onset: i128, text: &str) -> bool
-        ensures { result ≡ keeps_annotation self.now onset text.now }
+        ensures keeps { IsTrue result ↔ KeepsAnnotation self.now onset text.now }
+        ensures value { result ≡ keeps_annotation self.now onset text.now }
     {
         self.keeps_instant(onset, 1) && !is_one_of(&self.remove, text.as_bytes())
     }

@@ -7,7 +7,9 @@ ghost use Rattle.edf_claim.specs.Keeps.{is_within};
 /// included, `to_ps` is not.
 #[derive(Debug, Clone, Copy, PartialEq, Eq)]
 pub struct Interval {
+    /// The first instant that is in it.
     pub from_ps: i128,
+    /// The first instant behind it.
     pub to_ps: i128,
 }
 

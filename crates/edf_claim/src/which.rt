@@ -2,21 +2,29 @@
 
 ghost use Rattle.std.specs.Prelude.{◌≡◌};
 ghost use Rattle.edf_claim.specs.Claims.{name_of};
-ghost use Rattle.edf_claim.specs.Reading.{which_of, named_in as crate_named_in};
+ghost use Rattle.edf_claim.specs.Reading.{which_of, named_in as first_named};
 
 /// A subfield that an export may make anonymous (EDF+, "Additional specifications in EDF+": local
 /// patient identification, local recording identification).
 #[derive(Debug, Clone, Copy, PartialEq, Eq)]
 pub enum Which {
+    /// The code by which the patient is known in the hospital.
     Code,
+    /// The patient's sex.
     Sex,
+    /// The patient's date of birth.
     Birthdate,
+    /// The patient's name.
     Name,
     /// All additional subfields of the patient.
     PatientExtras,
+    /// The date at which the recording starts.
     Date,
+    /// The hospital's code of the investigation.
     Administration,
+    /// The code of the investigator or technician.
     Technician,
+    /// The code of the equipment.
     Equipment,
     /// All additional subfields of the recording.
     RecordingExtras,
@@ -42,7 +50,7 @@ impl Which {
     }
 }
 
-/// All of them, in the order of their names.
+/// All of them, in their written order.
 const ALL: [Which; 10] = [
     Which::Code,
     Which::Sex,
@@ -58,7 +66,7 @@ const ALL: [Which; 10] = [
 
 /// The first of these that has this name.
 fn named_in(all: &[Which], name: &[u8]) -> Option<Which>
-    ensures { result ≡ crate_named_in all.now name.now }
+    ensures { result ≡ first_named all.now name.now }
 {
     for which in all {
         if which.name().as_bytes() == name {

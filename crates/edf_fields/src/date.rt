@@ -57,7 +57,7 @@ fn dotted_numbers(text: &[u8]) -> Option<DottedNumbers>
 
 /// The number of the month with this name, from 1 for `JAN` on; none where no month has it.
 fn month_number(name: &[u8]) -> Option<u16>
-    ensures { MatchOption result (month_of name.now ≡ 0) (λ month. (month ≡ month_of name.now) × (month ≤ 12)) }
+    ensures { MatchOption result (month_of name.now ≡ 0) (λ month. (month ≡ month_of name.now) × (1 ≤ month) × (month ≤ 12)) }
 {
     match name {
         b"JAN" => Some(1),

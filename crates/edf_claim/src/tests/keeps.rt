@@ -42,7 +42,7 @@ fn keeps_instants_from_the_first_bound_on_and_before_the_second(
 fn keeps_the_half_picosecond_before_the_end(rt: HostRuntime) -> Result<(), Fail> {
     let claim = Claim::read(
         rt.alloc(),
-        b"format = 1\nchannels = [\"ECG\"]\n[[keep]]\nfrom = \"0\"\nto = \"4\"\n",
+        b"format = 1\nchannels = [\"EEG Fpz-Cz\", \"ECG\"]\n[[keep]]\nfrom = \"0\"\nto = \"4\"\n",
     )?;
     assert_eq!(rt; claim.keeps_instant(7_999_999_999_999, 2), true);
     assert_eq!(rt; claim.keeps_instant(8_000_000_000_000, 2), false);
@@ -91,7 +91,7 @@ fn tells_the_channels_and_the_rest(rt: HostRuntime) -> Result<(), Fail> {
 fn removes_and_moves_nothing_where_nothing_is_said(rt: HostRuntime) -> Result<(), Fail> {
     let claim = Claim::read(
         rt.alloc(),
-        b"format = 1\nchannels = [\"ECG\"]\n[[keep]]\nfrom = \"0\"\nto = \"4\"\n",
+        b"format = 1\nchannels = [\"EEG Fpz-Cz\", \"ECG\"]\n[[keep]]\nfrom = \"0\"\nto = \"4\"\n",
     )?;
     assert_eq!(rt; claim.shift_ps(), 0);
     assert_eq!(rt; claim.is_anonymous(Which::Sex), false);

@@ -7,7 +7,7 @@ use std::test::Fail;
 
 /// A claim of this many stretches of a second, each beginning where the one before ends.
 fn touching(alloc: Global, count: u32) -> Result<String, Fail> {
-    let mut text = String::from_str(alloc, "format = 1\nchannels = [\"ECG\"]\n")?;
+    let mut text = String::from_str(alloc, "format = 1\nchannels = [\"EEG Fpz-Cz\", \"ECG\"]\n")?;
     for second in 0..count {
         let table = format!(in alloc;
             "[[keep]]\nfrom = \"{}\"\nto = \"{}\"\n",
@@ -35,7 +35,7 @@ fn takes_a_thousand_stretches(rt: HostRuntime) -> Result<(), Fail> {
 fn filled(alloc: Global, bytes: usize) -> Result<String, Fail> {
     let mut text = String::from_str(
         alloc,
-        "format = 1\nchannels = [\"ECG\"]\n[[keep]]\nfrom = \"0\"\nto = \"4\"\n#",
+        "format = 1\nchannels = [\"EEG Fpz-Cz\", \"ECG\"]\n[[keep]]\nfrom = \"0\"\nto = \"4\"\n#",
     )?;
     for _ in text.len()..bytes {
         text.push_str("x")?;
@@ -50,6 +50,24 @@ fn takes_no_more_than_its_limit(rt: HostRuntime) -> Result<(), Fail> {
     let more = filled(rt.alloc(), 65_537)?;
     assert_eq!(rt;
         Claim::read(rt.alloc(), more.as_bytes()).err(),
+        Some(ClaimStop::TooLong)
+    );
+    Ok(())
+}
+
+#[test]
+fn judges_the_length_before_the_text(rt: HostRuntime) -> Result<(), Fail> {
+    let mut bytes: Vec<u8> = Vec::with_capacity(rt.alloc(), 65_537)?;
+    for _ in 0..65_536 {
+        bytes.push(255)?;
+    }
+    assert_eq!(rt;
+        Claim::read(rt.alloc(), &bytes).err(),
+        Some(ClaimStop::NotToml)
+    );
+    bytes.push(255)?;
+    assert_eq!(rt;
+        Claim::read(rt.alloc(), &bytes).err(),
         Some(ClaimStop::TooLong)
     );
     Ok(())

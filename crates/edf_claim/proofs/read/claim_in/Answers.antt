@@ -1,13 +1,13 @@
-use Rattle.std.proofs.Common.{◌≡◌, ◌∙◌, true, false, sym, ap, subst, Some, map, List, ℕ}
+use Rattle.std.proofs.Common.{◌∙◌, sym, ap, subst, Some, map, List, ℕ}
 use Rattle.std.proofs.Common.{SFits, rules}
 use Rattle.std.specs.Int.{w64}
 use Rattle.std.proofs.Math.Facts.{to_z-of_z}
 use Rattle.std.proofs.lemmas.Result.{err_from_is_err_and}
 use Rattle.toml.specs.View.{table_view}
-use Rattle.edf_claim.specs.Claims.{Terms, claim_keys, IsClaim, SaysClaim}
-use Rattle.edf_claim.specs.Reading.{is_format_one, keys_are, terms_of}
+use Rattle.edf_claim.specs.Claims.{Terms, IsClaim}
+use Rattle.edf_claim.specs.Reading.{terms_of}
 use Rattle.edf_claim.proofs.FaultFacts.{format-found, keys-found, channels-found, keep-found, anonymous-found, shift-found, remove-found, all-passed}
-use Rattle.edf_claim.proofs.ReadingFacts.{table-says, terms-are}
+use Rattle.edf_claim.proofs.ReadingFacts.{table-says, terms-are, said-sound}
 use Rattle.edf_claim.proofs.read.claim_in.Goals as goal
 
 pub returns-then-not-is_format_one-clause-stop : goal.returns-then-not-is_format_one-clause-stop
@@ -69,7 +69,7 @@ invariant_of-result c =
     let passed = all-passed m channels c.in_ok-keep.keep.items c.in_ok-anonymous.anonymous.items c.in_ok-shift.shift remove
     (sym c.is_format_one.ensures ∙ c.if-not-is_format_one.false) (sym c.has_claim_keys.ensures ∙ c.if-not-has_claim_keys.false) c.in_ok-channels.ensures.ok c.in_ok-keep.ensures.ok c.in_ok-anonymous.ensures.ok c.in_ok-shift.ensures c.in_ok-remove.ensures.ok in
     let same = terms-are m channels c.in_ok-keep.keep.items c.in_ok-anonymous.anonymous.items c.in_ok-shift.shift remove c.in_ok-channels.ensures.ok c.in_ok-keep.ensures.ok c.in_ok-anonymous.ensures.ok c.in_ok-shift.ensures c.in_ok-remove.ensures.ok in
-    rw (to_z-of_z fits) (subst (λ (t : Terms). IsClaim t) (sym same) (table-says m passed).claim)
+    rw (to_z-of_z fits) (subst (λ (t : Terms). IsClaim t) (sym same) (said-sound m (terms_of m) (table-says m passed)))
 
 pub returns-clause-passed : goal.returns-clause-passed
 returns-clause-passed c =

@@ -1,6 +1,4 @@
-use Rattle.std.proofs.Common.{◌≡◌, sym, subst, Ok, Err}
 use Rattle.toml.specs.View.{table_view}
-use Rattle.edf_claim.specs.Claims.{Terms, SaysClaim}
 use Rattle.edf_claim.proofs.TextFacts.{claim-said, claim-refused}
 use Rattle.edf_claim.proofs.claim.Claim.read.Goals as goal
 
