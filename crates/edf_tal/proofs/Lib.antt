@@ -1,5 +1,6 @@
 pub mod TextFacts
 pub mod LaneFacts
 pub mod ReadFacts
+pub mod StartFacts
 pub mod LawFacts
 pub mod FaultFacts

@@ -1,10 +1,10 @@
 -- Why a lane is no list of TALs: the first cause, in words.
-use Rattle.std.specs.Prelude.{◌≡◌, ◌≢◌, ℕ, ◌<◌, ◌==◌, true, false, ℤ, List, [], ◌∷◌, ◌++◌, length, Option, IsUtf8}
+use Rattle.std.specs.Prelude.{◌≡◌, ◌≢◌, ℕ, ◌<◌, ◌==◌, true, false, ℤ, List, [], ◌∷◌, ◌++◌, ◌⊎◌, length, Option, IsUtf8}
 use Rattle.std.specs.List.{list_any, position_or_len}
 use Rattle.edf_fields.specs.Onsets.{SpellsOnset, SpellsSpan}
 use Rattle.edf_fields.specs.declared.cause.TalCause.{TalCause}
 use Rattle.edf_fields.specs.declared.cause.TalCause.TheVariants.{BadOnset, BadDuration, NoEnd, NotUtf8, ControlByte, NotZeroFilled}
-use Rattle.edf_tal.specs.Tals.{TalValue, SpellsTal, SpellsDuration, AreTexts, is_control, ended, are_zeros}
+use Rattle.edf_tal.specs.Tals.{TalValue, SpellsTal, SpellsDuration, AreTexts, IsLaneOf, is_control, ended, are_zeros}
 use Rattle.edf_tal.specs.Reading.{until, behind, IsClosed}
 
 -- no byte is c
@@ -57,3 +57,9 @@ HasFault lane ControlByte =
 abbrev pub FaultAfter : List ℕ → List TalValue → TalCause → Type 0
 FaultAfter lane [] cause = HasFault lane cause
 FaultAfter lane (tal ∷ tals) cause = (bytes : List ℕ) × (rest : List ℕ) × SpellsTal bytes tal × (lane ≡ bytes ++ 0 ∷ rest) × FaultAfter rest tals cause
+
+-- a lane is one of some list of TALs, or it has a first fault
+abbrev pub HasListOrFault : Type 0
+HasListOrFault =
+    (lane : List ℕ)
+    → ((tals : List TalValue) × IsLaneOf lane tals) ⊎ ((tals : List TalValue) × (cause : TalCause) × FaultAfter lane tals cause)

@@ -77,6 +77,7 @@ abbrev pub onto : Item → List Item → List Item
 onto (Ok tal) items = Ok tal ∷ items
 onto (Err cause) items = Err cause ∷ []
 
+-- there is no byte
 abbrev pub is_nil : List ℕ → Bool
 is_nil [] = true
 is_nil (b ∷ bytes) = false

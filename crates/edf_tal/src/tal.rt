@@ -14,12 +14,13 @@ use edf_fields::onset::{onset, span};
 /// The byte between an onset and a duration.
 const DURATION: u8 = 21;
 
-/// A time-stamped annotation list: an onset, maybe a duration, and texts.
+/// A time-stamped annotation list: an onset, maybe a duration, and texts (EDF+, "Time-stamped Annotations
+/// Lists (TALs) in an 'EDF Annotations' signal").
 #[derive(Clone, Copy, Debug)]
 pub struct Tal<'a> {
-    onset: i128,
-    duration: Option<i128>,
-    body: &'a str,
+    pub(crate) onset: i128,
+    pub(crate) duration: Option<i128>,
+    pub(crate) body: &'a str,
 }
 
 impl<'a> Tal<'a> {

@@ -43,7 +43,8 @@ fn first_item(lane: &[u8]) -> Option<(Result<Tal<'_>, TalCause>, &[u8])>
     }
 }
 
-/// The TALs of a lane, in order. An `Err` is the last item.
+/// The TALs of a lane, in order (EDF+, "Time-stamped Annotations Lists (TALs) in an 'EDF Annotations'
+/// signal"). An `Err` is the last item.
 #[derive(Clone, Copy, Debug)]
 pub struct Tals<'a> {
     rest: &'a [u8],
@@ -53,9 +54,9 @@ impl<'a> Tals<'a> {
     /// The TALs of a lane: the bytes of one annotation signal in one data record.
     ///
     /// A lane is TALs one behind the other from its first byte, then zeros to its end. Where it is anything
-    /// else, the last item is the first cause: of each TAL first that no byte 0 with a byte 20 before it
-    /// ends it, then its onset, its duration, then text by text its encoding and its control bytes; where a
-    /// byte 0 stands in a TAL's first place, a later byte other than 0.
+    /// else, the last item is the first cause: of each TAL first that no byte 0 follows, or that the byte
+    /// before the first one isn't 20; then its onset, its duration, then text by text its encoding and its
+    /// control bytes; where a byte 0 stands in a TAL's first place, a later byte other than 0.
     pub fn new(lane: &'a [u8]) -> Tals<'a>
         ensures items { items_left result ≡ items_of lane.now }
 

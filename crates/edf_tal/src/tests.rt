@@ -76,7 +76,20 @@ fn reads_each_form(rt: HostRuntime) -> Result<(), AllocError> {
         (b"+0\x14x\x14", "0:x|;", SILENT),
         (b"+0\x14", "0:;", SILENT),
         (b"", "", SILENT),
-        (b"+5.\x14\x14", "BadOnset", hidden(TalCause::BadOnset)),
+    ] {
+        let lane = filled(alloc, text, 32)?;
+        let found = shown(alloc, &lane)?;
+        assert_eq!(rt; found.as_str(), want);
+        assert_eq!(rt; record_start(&lane), start);
+    }
+    Ok(())
+}
+
+#[test]
+fn refuses_each_form(rt: HostRuntime) -> Result<(), AllocError> {
+    let alloc = rt.alloc();
+    for (text, want, start) in [
+        (&b"+5.\x14\x14"[..], "BadOnset", hidden(TalCause::BadOnset)),
         (
             b"+5\x15\x14\x14",
             "BadDuration",
@@ -123,6 +136,12 @@ fn reads_lanes_without_filling(rt: HostRuntime) -> Result<(), AllocError> {
             Ok(0),
         ),
         (b"+0\x14\x14", "NoEnd", hidden(TalCause::NoEnd)),
+        (
+            b"+1\x152\x14\x14\0",
+            "1000000000000/2000000000000:|;",
+            Ok(1_000_000_000_000),
+        ),
+        (b"-1\x14\x14\0", "-1000000000000:|;", Ok(-1_000_000_000_000)),
         (b"+0\x14\x14\0x", "0:|;NoEnd", Ok(0)),
         (b"+0\x14\x14\0\0\0\0\x01", "0:|;NotZeroFilled", Ok(0)),
     ] {
@@ -162,6 +181,30 @@ fn reads_onsets_and_durations_at_their_limits(rt: HostRuntime) -> Result<(), All
         let found = shown(alloc, &lane)?;
         assert_eq!(rt; found.as_str(), want);
     }
+    Ok(())
+}
+
+/// A TAL with an empty text, of so many bytes: `+`, zeros, `7.5`, zeros, two bytes 20 and a byte 0.
+fn padded(alloc: Global, bytes: usize) -> Result<Vec<u8>, AllocError> {
+    let mut lane = Vec::from_slice(alloc, b"+")?;
+    for _ in lane.len()..bytes / 2 {
+        lane.push(b'0')?;
+    }
+    lane.extend_from_slice(b"7.5")?;
+    for _ in lane.len()..bytes.saturating_sub(3) {
+        lane.push(b'0')?;
+    }
+    lane.extend_from_slice(b"\x14\x14\0")?;
+    Ok(lane)
+}
+
+#[test]
+fn reads_an_onset_that_fills_a_lane_with_zeros(rt: HostRuntime) -> Result<(), AllocError> {
+    let lane = padded(rt.alloc(), 4096)?;
+    assert_eq!(rt; lane.len(), 4096);
+    assert_eq!(rt; record_start(&lane), Ok(7_500_000_000_000));
+    let found = shown(rt.alloc(), &lane)?;
+    assert_eq!(rt; found.as_str(), "7500000000000:|;");
     Ok(())
 }
 

@@ -1,0 +1,92 @@
+-- A lane's list or its fault, and where its data record starts.
+use Rattle.std.proofs.Common.{◌≡◌, ◌↔◌, ◌⊎◌, ℕ, zero, suc, ℤ, ◌<◌, List, [], ◌∷◌, ◌++◌, map, length, refl, sym, ◌∙◌, ap, arith, inl, inr, Result, Ok, Err}
+use Rattle.std.proofs.lemmas.List.{length-append}
+use Rattle.edf_fields.specs.declared.cause.TalCause.{TalCause}
+use Rattle.edf_tal.specs.Tals.{TalValue}
+use Rattle.edf_tal.specs.Reading.{Item, onto, tal_of, items_of}
+use Rattle.edf_tal.specs.Faults.{HasFault, HasListOrFault}
+use Rattle.edf_tal.specs.Views.{StartsAt, kept_time, start_of}
+use Rattle.edf_tal.specs.declared.start.StartCause.{StartCause}
+use Rattle.edf_tal.specs.declared.start.StartCause.TheVariants as start
+use Rattle.edf_tal.proofs.LawFacts.{lane-cases, lane-spelled, tal-spelled}
+use Rattle.edf_tal.proofs.ReadFacts.{items_of-front, tal-lacks, tal-some, tal-read}
+use Rattle.edf_tal.proofs.FaultFacts.{fault-read, fault-told}
+
+-- the items of a lane are TALs, or TALs and a cause behind them
+abbrev IsShaped : List ℕ → Type 0
+IsShaped lane =
+    ((tals : List TalValue) × (items_of lane ≡ map Ok tals)) ⊎ ((tals : List TalValue) × (cause : TalCause) × (items_of lane ≡ map Ok tals ++ Err cause ∷ []))
+
+shaped-more : (lane rest : List ℕ) (i : Item) → items_of lane ≡ onto i (items_of rest) → IsShaped rest → IsShaped lane
+shaped-more lane rest (Err cause) e more = inr ([], cause, e)
+shaped-more lane rest (Ok tal) e (inl more) = inl (tal ∷ more.0, e ∙ ap (λ xs. Ok tal ∷ xs) more.1)
+shaped-more lane rest (Ok tal) e (inr more) = inr (tal ∷ more.0, more.1, e ∙ ap (λ xs. Ok tal ∷ xs) more.2)
+
+shaped : (n : ℕ) (lane : List ℕ) → length lane < n → IsShaped lane
+shaped zero lane lt = absurd (omega (arith, lt))
+shaped (suc n) lane lt = elim (lane-cases lane) [
+  | inl zeros ↦ inl ([], zeros.1)
+  | inr (inl fault) ↦ inr ([], fault.0, fault.1)
+  | inr (inr more) ↦
+      let long = ap length more.3 ∙ length-append more.0 (0 ∷ more.1) in
+      shaped-more lane more.1 (tal_of more.0) more.4 (shaped n more.1 (omega (arith, lt, long)))
+]
+
+pub list-or-fault : HasListOrFault
+list-or-fault lane = elim (shaped (suc (length lane)) lane (omega arith)) [
+  | inl list ↦ inl (list.0, lane-spelled list.0 lane list.1)
+  | inr fault ↦ inr (fault.0, fault.1, fault-told fault.0 fault.1 lane fault.2)
+]
+
+-- the texts of a TAL that keeps the time
+kept-said : (onset v : ℤ) (texts : List (List ℕ)) → kept_time onset texts ≡ Ok v → (more : List (List ℕ)) × (texts ≡ [] ∷ more) × (onset ≡ v)
+kept-said onset v [] h = absurd (let z : Err start.NoTimekeeping ≡ Ok v = h in cc)
+kept-said onset v ([] ∷ texts) h = (texts, refl, let z : Ok onset ≡ Ok v = h in cc)
+kept-said onset v ((b ∷ text) ∷ texts) h = absurd (let z : Err start.NoTimekeeping ≡ Ok v = h in cc)
+
+kept-no-fault : (onset : ℤ) (cause : TalCause) (texts : List (List ℕ)) → kept_time onset texts ≡ Err (start.Tal cause) → ⊥
+kept-no-fault onset cause [] h = let z : Err start.NoTimekeeping ≡ Err (start.Tal cause) = h in cc
+kept-no-fault onset cause ([] ∷ texts) h = let z : Ok onset ≡ Err (start.Tal cause) = h in cc
+kept-no-fault onset cause ((b ∷ text) ∷ texts) h = let z : Err start.NoTimekeeping ≡ Err (start.Tal cause) = h in cc
+
+started : (lane piece rest : List ℕ) (v : ℤ) (i : Item) → tal_of piece ≡ i → 0 < length piece → lane ≡ piece ++ 0 ∷ rest → start_of (onto i (items_of rest)) ≡ Ok v → StartsAt lane v
+started lane piece rest v (Err cause) e some whole h = absurd (let z : Err (start.Tal cause) ≡ Ok v = h in cc)
+started lane piece rest v (Ok tal) e some whole h =
+    let k = kept-said tal.onset v tal.texts h in
+    record { bytes = piece; rest = rest; tal = tal; more = k.0; spelled = tal-spelled piece tal some e; whole = whole; empty = k.1; onset = k.2 }
+
+start-said : (lane : List ℕ) (v : ℤ) → start_of (items_of lane) ≡ Ok v → StartsAt lane v
+start-said lane v h = elim (lane-cases lane) [
+  | inl zeros ↦ absurd (let z : Err start.NoTimekeeping ≡ Ok v = sym (ap start_of zeros.1) ∙ h in cc)
+  | inr (inl fault) ↦ absurd (let z : Err (start.Tal fault.0) ≡ Ok v = sym (ap start_of fault.1) ∙ h in cc)
+  | inr (inr more) ↦ started lane more.0 more.1 v (tal_of more.0) refl more.2 more.3 (sym (ap start_of more.4) ∙ h)
+]
+
+start-read : (lane : List ℕ) (v : ℤ) → StartsAt lane v → start_of (items_of lane) ≡ Ok v
+start-read lane v s =
+    let items : items_of lane ≡ Ok s.tal ∷ items_of s.rest =
+    ap items_of s.whole ∙ items_of-front s.bytes s.rest (tal-lacks s.bytes s.tal s.spelled) (tal-some s.bytes s.tal s.spelled)
+    ∙ ap (λ i. onto i (items_of s.rest)) (tal-read s.bytes s.tal s.spelled) in
+    ap start_of items ∙ ap (kept_time s.tal.onset) s.empty ∙ ap Ok s.onset
+
+refused : (lane rest : List ℕ) (cause : TalCause) (i : Item) → items_of lane ≡ onto i (items_of rest) → start_of (onto i (items_of rest)) ≡ Err (start.Tal cause) → items_of lane ≡ Err cause ∷ []
+refused lane rest cause (Err e) is h = is ∙ (let same : e ≡ cause = (let z : Err (start.Tal e) ≡ Err (start.Tal cause) = h in cc) in ap (λ x. Err x ∷ []) same)
+refused lane rest cause (Ok tal) is h = absurd (kept-no-fault tal.onset cause tal.texts h)
+
+fault-items : (lane : List ℕ) (cause : TalCause) → start_of (items_of lane) ≡ Err (start.Tal cause) → items_of lane ≡ Err cause ∷ []
+fault-items lane cause h = elim (lane-cases lane) [
+  | inl zeros ↦ absurd (let z : Err start.NoTimekeeping ≡ Err (start.Tal cause) = sym (ap start_of zeros.1) ∙ h in cc)
+  | inr (inl fault) ↦
+      let same : fault.0 ≡ cause = (let z : Err (start.Tal fault.0) ≡ Err (start.Tal cause) = sym (ap start_of fault.1) ∙ h in cc) in
+      fault.1 ∙ ap (λ x. Err x ∷ []) same
+  | inr (inr more) ↦ refused lane more.1 cause (tal_of more.0) more.4 (sym (ap start_of more.4) ∙ h)
+]
+
+pub starts-at : (r : Result ℤ StartCause) (lane : List ℕ) (v : ℤ) → r ≡ start_of (items_of lane) → (r ≡ Ok v) ↔ StartsAt lane v
+starts-at r lane v e = (λ h. start-said lane v (sym e ∙ h), λ s. e ∙ start-read lane v s)
+
+pub start-fails : (r : Result ℤ StartCause) (lane : List ℕ) (cause : TalCause) → r ≡ start_of (items_of lane) → (r ≡ Err (start.Tal cause)) ↔ HasFault lane cause
+start-fails r lane cause e = (
+  λ h. fault-told [] cause lane (fault-items lane cause (sym e ∙ h)),
+  λ f. e ∙ ap start_of (fault-read [] cause lane f),
+)
