@@ -18,6 +18,7 @@ HasSubfields t (s ∷ next ∷ more) =
     × (t ≡ s ++ (replicate n 32 ++ rest))
     × HasSubfields rest (next ∷ more)
 
+-- the byte is a space
 abbrev pub is_space : ℕ → Bool
 is_space b = b == 32
 

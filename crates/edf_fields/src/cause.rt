@@ -1,4 +1,5 @@
-//! Why a field or a time-stamped annotation list is refused.
+//! Why a field or a time-stamped annotation list is refused (EDF+, "Additional specifications in EDF+",
+//! "Time-stamped Annotations Lists (TALs) in an 'EDF Annotations' signal").
 
 /// Why an identification field is refused. Of several causes the first that applies, in the order
 /// in which they stand here.
@@ -20,7 +21,9 @@ pub enum FieldCause {
     NoStartdateWord,
 }
 
-/// Why a lane of time-stamped annotation lists is refused.
+/// Why a lane of time-stamped annotation lists is refused. They are looked for in another order than they
+/// stand in here: of each list `NoEnd`, `BadOnset`, `BadDuration`, then text by text `NotUtf8` and
+/// `ControlByte`; `NotZeroFilled` where no list begins.
 #[derive(Clone, Copy, Debug, PartialEq, Eq)]
 pub enum TalCause {
     /// What stands in front is no onset.
@@ -33,6 +36,6 @@ pub enum TalCause {
     NotUtf8,
     /// A text has a control byte other than 9, 10 and 13.
     ControlByte,
-    /// Behind the last annotation list a byte isn't 0.
+    /// A byte 0 stands where a list would begin, and a later byte isn't 0.
     NotZeroFilled,
 }
