@@ -57,7 +57,7 @@ tested : (label : List ℕ) (head : SignalHead) → head.label ≡ label → is_
 tested label head e f =
     ap (λ b. b && not (is_annotations head.label)) ((bytes_eq-Decides head.label label).1 e) ∙ ap (λ l. not (is_annotations l)) e ∙ ap not f
 
-get-within : (xs : List SignalHead) (i : ℕ) (x : SignalHead) → slice_get xs i ≡ Some x → i < length xs
+pub get-within : (xs : List SignalHead) (i : ℕ) (x : SignalHead) → slice_get xs i ≡ Some x → i < length xs
 get-within [] i x e = absurd (let h : None ≡ Some x = e in cc)
 get-within (y ∷ xs) zero x e = omega arith
 get-within (y ∷ xs) (suc i) x e = omega (arith, get-within xs i x e)

@@ -149,7 +149,7 @@ duration-passed field h =
     let a = first-cons (not_printable (AtField fixed.Duration) field) (test ∷ []) h in
     positive-passed (AtField fixed.Duration) (header_number_of field) (first-cons test [] a.1).0
 
-signals-passed : (field : List ℕ) → signals_fault field ≡ None → (n : ℕ) × (whole_number_of field ≡ Some (pos n)) × (1 ≤ n)
+pub signals-passed : (field : List ℕ) → signals_fault field ≡ None → (n : ℕ) × (whole_number_of field ≡ Some (pos n)) × (1 ≤ n)
 unfolding signals_fault
 signals-passed field h =
     let test = not_positive (AtField fixed.Signals) (whole_number_of field) in
@@ -158,16 +158,19 @@ signals-passed field h =
 
 -- the tests of the fields of the fixed part, each by itself
 pub record FixedPasses (front : List ℕ) : Type 0 where
+  pub version : version_fault (fixed_field front fixed.Version) ≡ None
   pub patient : patient_fault (fixed_field front fixed.Patient) ≡ None
   pub recording : recording_fault (fixed_field front fixed.Recording) ≡ None
   pub startdate : startdate_fault (recording_in (fixed_field front fixed.Recording)).date (fixed_field front fixed.Startdate) ≡ None
   pub starttime : starttime_fault (fixed_field front fixed.Starttime) ≡ None
+  pub size : header_bytes_fault (fixed_field front fixed.HeaderBytes) ≡ None
   pub reserved : reserved_fault (fixed_field front fixed.Reserved) ≡ None
   pub records : records_fault (fixed_field front fixed.Records) ≡ None
   pub duration : duration_fault (fixed_field front fixed.Duration) ≡ None
   pub signals : signals_fault (fixed_field front fixed.Signals) ≡ None
+  pub whole : header_size_fault (signals_of front) (fixed_field front fixed.HeaderBytes) ≡ None
 
-fixed-passes : (front : List ℕ) → first (fixed_tests front) ≡ None → FixedPasses front
+pub fixed-passes : (front : List ℕ) → first (fixed_tests front) ≡ None → FixedPasses front
 fixed-passes front h =
     let a = first-none (fixed_missing fixed_fields (length front)) (start_faults front ++ extent_faults front) h in
     let b = first-none (start_faults front) (extent_faults front) a.1 in
@@ -192,7 +195,8 @@ fixed-passes front h =
     let d2 = first-cons records (duration ∷ signals ∷ whole ∷ []) d1.1 in
     let d3 = first-cons duration (signals ∷ whole ∷ []) d2.1 in
     let d4 = first-cons signals (whole ∷ []) d3.1 in
-    record { patient = c1.0; recording = c2.0; startdate = c3.0; starttime = c4.0; reserved = d1.0; records = d2.0; duration = d3.0; signals = d4.0 }
+    let d5 = first-cons whole [] d4.1 in
+    record { version = c0.0; patient = c1.0; recording = c2.0; startdate = c3.0; starttime = c4.0; size = d0.0; reserved = d1.0; records = d2.0; duration = d3.0; signals = d4.0; whole = d5.0 }
 
 pub has-head : (file : List ℕ) → header_fault file ≡ None → HasHead file (head_of file)
 unfolding header_fault head_of
@@ -277,7 +281,7 @@ signals-read bytes n s before (head ∷ heads) each beside =
     ∙ ap (λ (x : SignalHead). x ∷ signals_from bytes n (s + 1) (before + 2 * x.samples) (length heads)) here
 
 -- the header that the file has is the one that is read of it
-head-read : (file : List ℕ) (h : Head) → HasHead file h → h ≡ head_of file
+pub head-read : (file : List ℕ) (h : Head) → HasHead file h → h ≡ head_of file
 unfolding head_of
 head-read file h has =
     let front : List ℕ = fixed_part file in

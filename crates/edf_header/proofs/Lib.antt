@@ -1,11 +1,13 @@
 pub mod CalibrationFacts
 pub mod ChannelFacts
 pub mod ColumnFacts
+pub mod ConformingFacts
 pub mod FirstFacts
 pub mod FixedFacts
 pub mod HeadFacts
 pub mod KeptFacts
 pub mod PassedFacts
+pub mod PassingFacts
 pub mod ProductFacts
 pub mod ReadFacts
 pub mod RepeatFacts

@@ -2,7 +2,7 @@
 
 ghost use Rattle.edf_header.specs.CalibrationLaws.{SameLineIsSameValues};
 ghost use Rattle.edf_header.specs.Calibrations.{SameLineIsEquivalence};
-ghost use Rattle.edf_header.specs.Conforming.{PassingHasHead, PassingIsSound};
+ghost use Rattle.edf_header.specs.Conforming.{PassingHasHead, PassingIsSound, PassingIsConforming};
 ghost use Rattle.edf_header.specs.Heads.{HasOneHead};
 
 /// Being the same line is an equivalence of calibrations: each is the same line as itself, of two
@@ -28,4 +28,10 @@ pub fn file_has_one_head()
 pub fn passing_file_has_a_sound_head()
     ensures head { PassingHasHead }
     ensures sound { PassingIsSound }
+{}
+
+/// The header of a file has no fault exactly where it is in order: all of it is there, in printable
+/// ASCII, the version is 0, the size is right, and the fields say a header, which is sound.
+pub fn passing_is_being_in_order()
+    ensures { PassingIsConforming }
 {}
