@@ -133,6 +133,7 @@ impl Verdict {
 mod tests {
     use super::*;
     use crate::fault::{Cause, Fault, Place};
+    use std::process::Abort;
     use std::test::Fail;
 
     fn sample(rt: HostRuntime, at_ps: i128, mismatch: Mismatch) -> Result<Verdict, Fail> {
@@ -144,64 +145,97 @@ mod tests {
         }))
     }
 
+    /// Compares the line of a verdict with this one.
+    fn compare_line(
+        rt: &impl Abort,
+        alloc: Global,
+        verdict: Verdict,
+        want: &[u8],
+    ) -> Result<(), Fail> {
+        let line = verdict.line(alloc)?;
+        assert_eq!(rt; &line[..], want);
+        Ok(())
+    }
+
     #[test]
-    fn writes_each_form_of_line(rt: HostRuntime) -> Result<(), Fail> {
-        let original = Fault {
+    fn writes_counts_and_faults(rt: HostRuntime) -> Result<(), Fail> {
+        let yes = Verdict::Yes {
+            channels: 1,
+            samples: 2,
+            annotations: 0,
+        };
+        let original = Verdict::No(Difference::OriginalFault(Fault {
             place: Place::AtEnd,
             cause: Cause::TrailingBytes,
-        };
-        let export = Fault {
+        }));
+        let export = Verdict::No(Difference::ExportFault(Fault {
             place: Place::AtRecord(0),
             cause: Cause::Truncated,
-        };
+        }));
+        compare_line(
+            &rt,
+            rt.alloc(),
+            yes,
+            b"YES channels 1 samples 2 annotations 0\n",
+        )?;
+        compare_line(
+            &rt,
+            rt.alloc(),
+            original,
+            b"NO 1 original fault: TrailingBytes at end\n",
+        )?;
+        compare_line(
+            &rt,
+            rt.alloc(),
+            export,
+            b"NO 2 export fault: Truncated at record 0\n",
+        )
+    }
+
+    #[test]
+    fn writes_labels(rt: HostRuntime) -> Result<(), Fail> {
         let odd = Vec::from_slice(rt.alloc(), b"a\"b\\c\td\x7fe\xc8 f")?;
         let plain = Vec::from_slice(rt.alloc(), b"EEG Fpz-Cz")?;
         let empty = Vec::new(rt.alloc());
-        for (verdict, want) in [
-            (
-                Verdict::Yes {
-                    channels: 1,
-                    samples: 2,
-                    annotations: 0,
-                },
-                &b"YES channels 1 samples 2 annotations 0\n"[..],
-            ),
-            (
-                Verdict::No(Difference::OriginalFault(original)),
-                b"NO 1 original fault: TrailingBytes at end\n",
-            ),
-            (
-                Verdict::No(Difference::ExportFault(export)),
-                b"NO 2 export fault: Truncated at record 0\n",
-            ),
-            (
-                Verdict::No(Difference::UnknownChannel(odd)),
-                b"NO 3 unknown channel \"a\\x22b\\x5cc\\x09d\\x7fe\xc8 f\"\n",
-            ),
-            (
-                Verdict::No(Difference::MissingChannel(plain)),
-                b"NO 4 missing channel \"EEG Fpz-Cz\"\n",
-            ),
-            (
-                Verdict::No(Difference::ExtraChannel(empty)),
-                b"NO 5 extra channel \"\"\n",
-            ),
-            (
-                sample(rt, -1, Mismatch::Missing)?,
-                b"NO 10 sample \"Temp\" at -1 ps missing\n",
-            ),
-            (
-                sample(rt, 0, Mismatch::Extra)?,
-                b"NO 10 sample \"Temp\" at 0 ps extra\n",
-            ),
-            (
-                sample(rt, 500_000_000_000, Mismatch::Value(-7, -8))?,
-                b"NO 10 sample \"Temp\" at 500000000000 ps original -7 export -8\n",
-            ),
-        ] {
-            let line = verdict.line(rt.alloc())?;
-            assert_eq!(rt; &line[..], want);
-        }
-        Ok(())
+        compare_line(
+            &rt,
+            rt.alloc(),
+            Verdict::No(Difference::UnknownChannel(odd)),
+            b"NO 3 unknown channel \"a\\x22b\\x5cc\\x09d\\x7fe\xc8 f\"\n",
+        )?;
+        compare_line(
+            &rt,
+            rt.alloc(),
+            Verdict::No(Difference::MissingChannel(plain)),
+            b"NO 4 missing channel \"EEG Fpz-Cz\"\n",
+        )?;
+        compare_line(
+            &rt,
+            rt.alloc(),
+            Verdict::No(Difference::ExtraChannel(empty)),
+            b"NO 5 extra channel \"\"\n",
+        )
+    }
+
+    #[test]
+    fn writes_samples(rt: HostRuntime) -> Result<(), Fail> {
+        compare_line(
+            &rt,
+            rt.alloc(),
+            sample(rt, -1, Mismatch::Missing)?,
+            b"NO 10 sample \"Temp\" at -1 ps missing\n",
+        )?;
+        compare_line(
+            &rt,
+            rt.alloc(),
+            sample(rt, 0, Mismatch::Extra)?,
+            b"NO 10 sample \"Temp\" at 0 ps extra\n",
+        )?;
+        compare_line(
+            &rt,
+            rt.alloc(),
+            sample(rt, 500_000_000_000, Mismatch::Value(-7, -8))?,
+            b"NO 10 sample \"Temp\" at 500000000000 ps original -7 export -8\n",
+        )
     }
 }

@@ -176,43 +176,46 @@ fn two_rates(alloc: Global, slow: [i16; 2], fast: [i16; 3]) -> Result<Vec<u8>, A
     Ok(file)
 }
 
+/// The samples of the channel `slow` and of the channel `fast`, and the line of the check.
+const EARLIEST: [([i16; 2], [i16; 3], &str); 6] = [
+    (
+        [1, 2],
+        [3, 4, 5],
+        "YES channels 2 samples 5 annotations 0\n",
+    ),
+    (
+        [1, 0],
+        [3, 0, 5],
+        "NO 10 sample \"fast\" at 333333333333 ps original 4 export 0\n",
+    ),
+    (
+        [1, 0],
+        [3, 4, 0],
+        "NO 10 sample \"slow\" at 500000000000 ps original 2 export 0\n",
+    ),
+    (
+        [0, 2],
+        [3, 0, 5],
+        "NO 10 sample \"slow\" at 0 ps original 1 export 0\n",
+    ),
+    (
+        [0, 2],
+        [0, 4, 5],
+        "NO 10 sample \"fast\" at 0 ps original 3 export 0\n",
+    ),
+    (
+        [1, 2],
+        [3, 4, 0],
+        "NO 10 sample \"fast\" at 666666666666 ps original 5 export 0\n",
+    ),
+];
+
 #[test]
 fn names_the_earliest_instant_of_all_channels(rt: HostRuntime) -> Result<(), Fail> {
     let alloc = rt.alloc();
     let claim = Claim::plain(alloc, &[b"slow", b"fast"], 0, 6_000_000_000_000)?;
     let original = two_rates(alloc, [1, 2], [3, 4, 5])?;
-    for (slow, fast, want) in [
-        (
-            [1, 2],
-            [3, 4, 5],
-            "YES channels 2 samples 5 annotations 0\n",
-        ),
-        (
-            [1, 0],
-            [3, 0, 5],
-            "NO 10 sample \"fast\" at 333333333333 ps original 4 export 0\n",
-        ),
-        (
-            [1, 0],
-            [3, 4, 0],
-            "NO 10 sample \"slow\" at 500000000000 ps original 2 export 0\n",
-        ),
-        (
-            [0, 2],
-            [3, 0, 5],
-            "NO 10 sample \"slow\" at 0 ps original 1 export 0\n",
-        ),
-        (
-            [0, 2],
-            [0, 4, 5],
-            "NO 10 sample \"fast\" at 0 ps original 3 export 0\n",
-        ),
-        (
-            [1, 2],
-            [3, 4, 0],
-            "NO 10 sample \"fast\" at 666666666666 ps original 5 export 0\n",
-        ),
-    ] {
+    for (slow, fast, want) in EARLIEST {
         let export = two_rates(alloc, slow, fast)?;
         assert_eq!(rt; line_of(alloc, &original, &export, &claim)?.as_str(), want);
     }
@@ -236,58 +239,61 @@ fn four_labels(alloc: Global, labels: [&str; 4], samples: &str) -> Result<Vec<u8
     header_of(alloc, shape)
 }
 
+/// The labels of four signals, how many samples the third has, and the fault of the file.
+const REPEATED: [([&str; 4], &str, &str); 8] = [
+    (
+        ["a", "a", "EDF Annotations", "b"],
+        "16",
+        "DuplicateLabel at signal 1 field label",
+    ),
+    (
+        ["a", "EDF Annotations", "b", "a"],
+        "16",
+        "DuplicateLabel at signal 3 field label",
+    ),
+    (
+        ["a", "b", "EDF Annotations", "b"],
+        "99999999",
+        "DuplicateLabel at signal 3 field label",
+    ),
+    (
+        ["a", "b", "a", "b"],
+        "16",
+        "NoAnnotationSignal at header field signals",
+    ),
+    (
+        ["", "EDF Annotations", "", "a"],
+        "16",
+        "DuplicateLabel at signal 2 field label",
+    ),
+    (
+        ["a", "EDF Annotations", "EDF Annotations", "A"],
+        "16",
+        "Truncated at record 0",
+    ),
+    (
+        ["EDF Annotations", "a", "b", "EDF Annotations"],
+        "99999999",
+        "RecordTooLarge at header field signals",
+    ),
+    (
+        [
+            "EDF Annotations",
+            "EDF Annotations",
+            "EDF Annotations",
+            "EDF Annotations",
+        ],
+        "16",
+        "NoOrdinarySignal at header field signals",
+    ),
+];
+
 #[test]
 fn refuses_the_first_repeated_label(rt: HostRuntime) -> Result<(), Fail> {
     let alloc = rt.alloc();
     let file = small_file(alloc)?;
     let claim = six_seconds(alloc)?;
-    for (labels, samples, fault) in [
-        (
-            ["a", "a", "EDF Annotations", "b"],
-            "16",
-            "DuplicateLabel at signal 1 field label",
-        ),
-        (
-            ["a", "EDF Annotations", "b", "a"],
-            "16",
-            "DuplicateLabel at signal 3 field label",
-        ),
-        (
-            ["a", "b", "EDF Annotations", "b"],
-            "99999999",
-            "DuplicateLabel at signal 3 field label",
-        ),
-        (
-            ["a", "b", "a", "b"],
-            "16",
-            "NoAnnotationSignal at header field signals",
-        ),
-        (
-            ["", "EDF Annotations", "", "a"],
-            "16",
-            "DuplicateLabel at signal 2 field label",
-        ),
-        (
-            ["a", "EDF Annotations", "EDF Annotations", "A"],
-            "16",
-            "Truncated at record 0",
-        ),
-        (
-            ["EDF Annotations", "a", "b", "EDF Annotations"],
-            "99999999",
-            "RecordTooLarge at header field signals",
-        ),
-        (
-            [
-                "EDF Annotations",
-                "EDF Annotations",
-                "EDF Annotations",
-                "EDF Annotations",
-            ],
-            "16",
-            "NoOrdinarySignal at header field signals",
-        ),
-    ] {
+    for (labels, samples, fault) in REPEATED {
         let export = four_labels(alloc, labels, samples)?;
         let want = format!(in alloc; "NO 2 export fault: {fault}\n")?;
         assert_eq!(rt;

@@ -5,6 +5,7 @@ use crate::tests::support::{
     Cut, LABEL_0, SMALL, edited, front, line_of, six_seconds, small_file, temp_claim, temp_file,
 };
 use std::alloc::{AllocError, Global};
+use std::process::Abort;
 use std::test::Fail;
 
 const YES_1: &str = "YES channels 1 samples 1 annotations 0\n";
@@ -31,22 +32,6 @@ fn line_of_labels(
     let original = edited(alloc, &file, &[(LABEL_0, original)])?;
     let export = edited(alloc, &file, &[(LABEL_0, export)])?;
     line_of(alloc, &original, &export, claim)
-}
-
-/// A channel in front of the annotation signal.
-const fn cut<'a>(
-    records: &'a str,
-    duration: &'a str,
-    samples: &'a str,
-    parts: &'a [(&'a [i16], &'a str)],
-) -> Cut<'a> {
-    Cut {
-        records,
-        duration,
-        samples,
-        parts,
-        is_lane_first: false,
-    }
 }
 
 #[test]
@@ -101,68 +86,72 @@ fn compares_a_file_with_its_changes(rt: HostRuntime) -> Result<(), Fail> {
     Ok(())
 }
 
-#[test]
-fn finds_channels_by_their_labels(rt: HostRuntime) -> Result<(), Fail> {
-    let alloc = rt.alloc();
-    let only_temp = six_seconds(alloc)?;
-    let only_flow = Claim::plain(alloc, &[b"Flow"], 0, 6_000_000_000_000)?;
-    let both = Claim::plain(alloc, &[b"Temp", b"Flow"], 0, 6_000_000_000_000)?;
-    for (original, export, claim, want) in [
-        (
-            "Temp",
-            "Temp",
-            &only_flow,
-            "NO 3 unknown channel \"Flow\"\n",
-        ),
-        ("Temp", "Temp", &both, "NO 3 unknown channel \"Flow\"\n"),
-        ("Temp", "Flow", &both, "NO 3 unknown channel \"Flow\"\n"),
-        ("Flow", "Temp", &both, "NO 3 unknown channel \"Temp\"\n"),
-        ("", "Temp", &both, "NO 3 unknown channel \"Temp\"\n"),
-        (
-            "Flow",
-            "Temp",
-            &only_temp,
-            "NO 3 unknown channel \"Temp\"\n",
-        ),
-        (
-            "Temp",
-            "Flow",
-            &only_temp,
-            "NO 4 missing channel \"Temp\"\n",
-        ),
-        (
-            "Flow",
-            "Temp",
-            &only_flow,
-            "NO 4 missing channel \"Flow\"\n",
-        ),
-        (
-            "Temp",
-            "temp",
-            &only_temp,
-            "NO 4 missing channel \"Temp\"\n",
-        ),
-        (
-            "Temp",
-            " Temp",
-            &only_temp,
-            "NO 4 missing channel \"Temp\"\n",
-        ),
-        (
-            "Temp",
-            "Temp2",
-            &only_temp,
-            "NO 4 missing channel \"Temp\"\n",
-        ),
-        ("Flow", "Flow", &only_flow, YES_2),
-    ] {
-        assert_eq!(rt;
-            line_of_labels(alloc, original, export, claim)?.as_str(),
-            want
-        );
+/// The labels of the channel in the original and in the export, and the line of the check.
+type Labels = (&'static str, &'static str, &'static str);
+
+/// Under a claim of the channel `Temp`.
+const TEMP_CLAIMED: &[Labels] = &[
+    ("Flow", "Temp", "NO 3 unknown channel \"Temp\"\n"),
+    ("Temp", "Flow", "NO 4 missing channel \"Temp\"\n"),
+    ("Temp", "temp", "NO 4 missing channel \"Temp\"\n"),
+    ("Temp", " Temp", "NO 4 missing channel \"Temp\"\n"),
+    ("Temp", "Temp2", "NO 4 missing channel \"Temp\"\n"),
+];
+
+/// Under a claim of the channel `Flow`.
+const FLOW_CLAIMED: &[Labels] = &[
+    ("Temp", "Temp", "NO 3 unknown channel \"Flow\"\n"),
+    ("Flow", "Temp", "NO 4 missing channel \"Flow\"\n"),
+    ("Flow", "Flow", YES_2),
+];
+
+/// Under a claim of both.
+const BOTH_CLAIMED: &[Labels] = &[
+    ("Temp", "Temp", "NO 3 unknown channel \"Flow\"\n"),
+    ("Temp", "Flow", "NO 3 unknown channel \"Flow\"\n"),
+    ("Flow", "Temp", "NO 3 unknown channel \"Temp\"\n"),
+    ("", "Temp", "NO 3 unknown channel \"Temp\"\n"),
+];
+
+/// Compares the lines under a claim with these.
+fn compare_labels(
+    rt: &impl Abort,
+    alloc: Global,
+    claim: &Claim,
+    rows: &[Labels],
+) -> Result<(), Fail> {
+    for (original, export, want) in rows {
+        let line = line_of_labels(alloc, original, export, claim)?;
+        assert_eq!(rt; line.as_str(), *want);
     }
     Ok(())
 }
+
+#[test]
+fn finds_channels_by_their_labels(rt: HostRuntime) -> Result<(), Fail> {
+    let alloc = rt.alloc();
+    let flow = Claim::plain(alloc, &[b"Flow"], 0, 6_000_000_000_000)?;
+    let both = Claim::plain(alloc, &[b"Temp", b"Flow"], 0, 6_000_000_000_000)?;
+    compare_labels(&rt, alloc, &six_seconds(alloc)?, TEMP_CLAIMED)?;
+    compare_labels(&rt, alloc, &flow, FLOW_CLAIMED)?;
+    compare_labels(&rt, alloc, &both, BOTH_CLAIMED)
+}
+
+/// Under a claim of the label of 16 bytes.
+const SIXTEEN_CLAIMED: &[Labels] = &[
+    ("Sixteen letters.", "Sixteen letters.", YES_2),
+    (
+        "Sixteen letters.",
+        "Temp",
+        "NO 4 missing channel \"Sixteen letters.\"\n",
+    ),
+];
+
+/// Under a claim of a label that isn't printed as it stands.
+const MARKS_CLAIMED: &[Labels] = &[
+    ("a\"\\b", "a\"\\b", YES_2),
+    ("a\"\\b", "Temp", "NO 4 missing channel \"a\\x22\\x5cb\"\n"),
+];
 
 #[test]
 fn takes_odd_labels(rt: HostRuntime) -> Result<(), Fail> {
@@ -171,174 +160,269 @@ fn takes_odd_labels(rt: HostRuntime) -> Result<(), Fail> {
     let sixteen = Claim::plain(alloc, &[b"Sixteen letters."], 0, 6_000_000_000_000)?;
     let marks = Claim::plain(alloc, &[b"a\"\\b"], 0, 6_000_000_000_000)?;
     let lanes = Claim::plain(alloc, &[b"EDF Annotations"], 0, 6_000_000_000_000)?;
-    for (original, export, claim, want) in [
-        ("", "", &none, YES_2),
-        ("Temp", "Temp", &none, "NO 3 unknown channel \"\"\n"),
-        ("Sixteen letters.", "Sixteen letters.", &sixteen, YES_2),
-        (
-            "Sixteen letters.",
-            "Temp",
-            &sixteen,
-            "NO 4 missing channel \"Sixteen letters.\"\n",
-        ),
-        ("a\"\\b", "a\"\\b", &marks, YES_2),
-        (
-            "a\"\\b",
-            "Temp",
-            &marks,
-            "NO 4 missing channel \"a\\x22\\x5cb\"\n",
-        ),
-        (
-            "Temp",
-            "Temp",
-            &lanes,
-            "NO 3 unknown channel \"EDF Annotations\"\n",
-        ),
-    ] {
-        assert_eq!(rt;
-            line_of_labels(alloc, original, export, claim)?.as_str(),
-            want
-        );
+    let unknown = "NO 3 unknown channel \"EDF Annotations\"\n";
+    compare_labels(
+        &rt,
+        alloc,
+        &none,
+        &[
+            ("", "", YES_2),
+            ("Temp", "Temp", "NO 3 unknown channel \"\"\n"),
+        ],
+    )?;
+    compare_labels(&rt, alloc, &sixteen, SIXTEEN_CLAIMED)?;
+    compare_labels(&rt, alloc, &marks, MARKS_CLAIMED)?;
+    compare_labels(&rt, alloc, &lanes, &[("Temp", "Temp", unknown)])
+}
+
+/// The same samples in two data records.
+const HALVES: Cut<'static> = Cut {
+    records: "2",
+    duration: "0.5",
+    samples: "1",
+    parts: &[(&[7], "+0"), (&[-7], "+0.5")],
+    ..SMALL
+};
+
+/// The first sample alone.
+const ONE: Cut<'static> = Cut {
+    records: "1",
+    duration: "1",
+    samples: "1",
+    parts: &[(&[7], "+0")],
+    ..SMALL
+};
+
+/// Three samples in a second.
+const THREE: Cut<'static> = Cut {
+    records: "1",
+    duration: "1",
+    samples: "3",
+    parts: &[(&[7, 0, -7], "+0")],
+    ..SMALL
+};
+
+/// Another second of the same.
+const TWICE: Cut<'static> = Cut {
+    records: "2",
+    duration: "1",
+    samples: "2",
+    parts: &[(&[7, -7], "+0"), (&[7, -7], "+1")],
+    ..SMALL
+};
+
+/// The same in two seconds.
+const SLOWER: Cut<'static> = Cut {
+    records: "1",
+    duration: "2",
+    samples: "2",
+    parts: &[(&[7, -7], "+0")],
+    ..SMALL
+};
+
+/// Another second value.
+const LOWER: Cut<'static> = Cut {
+    records: "1",
+    duration: "1",
+    samples: "2",
+    parts: &[(&[7, -8], "+0")],
+    ..SMALL
+};
+
+/// Other values.
+const OTHER: Cut<'static> = Cut {
+    records: "1",
+    duration: "1",
+    samples: "2",
+    parts: &[(&[8, -8], "+0")],
+    ..SMALL
+};
+
+/// Another first value, and three samples in a second.
+const MIXED: Cut<'static> = Cut {
+    records: "1",
+    duration: "1",
+    samples: "3",
+    parts: &[(&[8, 0, -7], "+0")],
+    ..SMALL
+};
+
+/// The values of two bytes at their limits.
+const EXTREME: Cut<'static> = Cut {
+    records: "1",
+    duration: "1",
+    samples: "2",
+    parts: &[(&[32767, -32768], "+0")],
+    ..SMALL
+};
+
+/// The original, the export, and the line of the check.
+type Cuts = (Cut<'static>, Cut<'static>, &'static str);
+
+const INSTANTS: &[Cuts] = &[
+    (SMALL, HALVES, YES_2),
+    (HALVES, SMALL, YES_2),
+    (
+        SMALL,
+        LOWER,
+        "NO 10 sample \"Temp\" at 500000000000 ps original -7 export -8\n",
+    ),
+    (
+        LOWER,
+        SMALL,
+        "NO 10 sample \"Temp\" at 500000000000 ps original -8 export -7\n",
+    ),
+    (
+        SMALL,
+        ONE,
+        "NO 10 sample \"Temp\" at 500000000000 ps missing\n",
+    ),
+    (
+        ONE,
+        SMALL,
+        "NO 10 sample \"Temp\" at 500000000000 ps extra\n",
+    ),
+    (
+        SMALL,
+        THREE,
+        "NO 10 sample \"Temp\" at 333333333333 ps extra\n",
+    ),
+    (
+        THREE,
+        SMALL,
+        "NO 10 sample \"Temp\" at 333333333333 ps missing\n",
+    ),
+    (
+        SMALL,
+        TWICE,
+        "NO 10 sample \"Temp\" at 1000000000000 ps extra\n",
+    ),
+    (
+        TWICE,
+        SMALL,
+        "NO 10 sample \"Temp\" at 1000000000000 ps missing\n",
+    ),
+    (
+        SMALL,
+        SLOWER,
+        "NO 10 sample \"Temp\" at 500000000000 ps missing\n",
+    ),
+    (
+        SLOWER,
+        SMALL,
+        "NO 10 sample \"Temp\" at 500000000000 ps extra\n",
+    ),
+    (
+        SMALL,
+        OTHER,
+        "NO 10 sample \"Temp\" at 0 ps original 7 export 8\n",
+    ),
+    (
+        SMALL,
+        MIXED,
+        "NO 10 sample \"Temp\" at 0 ps original 7 export 8\n",
+    ),
+    (
+        EXTREME,
+        SMALL,
+        "NO 10 sample \"Temp\" at 0 ps original 32767 export 7\n",
+    ),
+    (EXTREME, EXTREME, YES_2),
+];
+
+/// Compares the lines of files that are cut so with these.
+fn compare_cuts(rt: &impl Abort, alloc: Global, claim: &Claim, rows: &[Cuts]) -> Result<(), Fail> {
+    for (original, export, want) in rows {
+        let line = line_of_cuts(alloc, *original, *export, claim)?;
+        assert_eq!(rt; line.as_str(), *want);
     }
     Ok(())
 }
 
 #[test]
 fn compares_instants_and_not_records(rt: HostRuntime) -> Result<(), Fail> {
-    let alloc = rt.alloc();
-    let claim = six_seconds(alloc)?;
-    let halves = cut("2", "0.5", "1", &[(&[7], "+0"), (&[-7], "+0.5")]);
-    let one = cut("1", "1", "1", &[(&[7], "+0")]);
-    let three = cut("1", "1", "3", &[(&[7, 0, -7], "+0")]);
-    let twice = cut("2", "1", "2", &[(&[7, -7], "+0"), (&[7, -7], "+1")]);
-    let slower = cut("1", "2", "2", &[(&[7, -7], "+0")]);
-    let lower = cut("1", "1", "2", &[(&[7, -8], "+0")]);
-    let other = cut("1", "1", "2", &[(&[8, -8], "+0")]);
-    let mixed = cut("1", "1", "3", &[(&[8, 0, -7], "+0")]);
-    let extreme = cut("1", "1", "2", &[(&[32767, -32768], "+0")]);
-    for (original, export, want) in [
-        (SMALL, halves, YES_2),
-        (halves, SMALL, YES_2),
-        (
-            SMALL,
-            lower,
-            "NO 10 sample \"Temp\" at 500000000000 ps original -7 export -8\n",
-        ),
-        (
-            lower,
-            SMALL,
-            "NO 10 sample \"Temp\" at 500000000000 ps original -8 export -7\n",
-        ),
-        (
-            SMALL,
-            one,
-            "NO 10 sample \"Temp\" at 500000000000 ps missing\n",
-        ),
-        (
-            one,
-            SMALL,
-            "NO 10 sample \"Temp\" at 500000000000 ps extra\n",
-        ),
-        (
-            SMALL,
-            three,
-            "NO 10 sample \"Temp\" at 333333333333 ps extra\n",
-        ),
-        (
-            three,
-            SMALL,
-            "NO 10 sample \"Temp\" at 333333333333 ps missing\n",
-        ),
-        (
-            SMALL,
-            twice,
-            "NO 10 sample \"Temp\" at 1000000000000 ps extra\n",
-        ),
-        (
-            twice,
-            SMALL,
-            "NO 10 sample \"Temp\" at 1000000000000 ps missing\n",
-        ),
-        (
-            SMALL,
-            slower,
-            "NO 10 sample \"Temp\" at 500000000000 ps missing\n",
-        ),
-        (
-            slower,
-            SMALL,
-            "NO 10 sample \"Temp\" at 500000000000 ps extra\n",
-        ),
-        (
-            SMALL,
-            other,
-            "NO 10 sample \"Temp\" at 0 ps original 7 export 8\n",
-        ),
-        (
-            SMALL,
-            mixed,
-            "NO 10 sample \"Temp\" at 0 ps original 7 export 8\n",
-        ),
-        (
-            extreme,
-            SMALL,
-            "NO 10 sample \"Temp\" at 0 ps original 32767 export 7\n",
-        ),
-        (extreme, extreme, YES_2),
-    ] {
-        assert_eq!(rt;
-            line_of_cuts(alloc, original, export, &claim)?.as_str(),
-            want
-        );
-    }
-    Ok(())
+    compare_cuts(&rt, rt.alloc(), &six_seconds(rt.alloc())?, INSTANTS)
 }
+
+/// Six samples, two in each of three data records of 2 s.
+const PAIRS: Cut<'static> = Cut {
+    records: "3",
+    duration: "2",
+    samples: "2",
+    parts: &[(&[1, 2], "+0"), (&[3, 4], "+2"), (&[5, 6], "+4")],
+    ..SMALL
+};
+
+/// The same, three in each of two data records of 3 s.
+const TRIPLES: Cut<'static> = Cut {
+    records: "2",
+    duration: "3",
+    samples: "3",
+    parts: &[(&[1, 2, 3], "+0"), (&[4, 5, 6], "+3")],
+    ..SMALL
+};
+
+/// The first and the fourth alone.
+const SPARSE: Cut<'static> = Cut {
+    records: "2",
+    duration: "3",
+    samples: "1",
+    parts: &[(&[1], "+0"), (&[4], "+3")],
+    ..SMALL
+};
+
+/// Three samples in a second.
+const THIRDS: Cut<'static> = Cut {
+    records: "1",
+    duration: "1",
+    samples: "3",
+    parts: &[(&[1, 2, 3], "+0")],
+    ..SMALL
+};
+
+/// Another second value.
+const CHANGED: Cut<'static> = Cut {
+    records: "1",
+    duration: "1",
+    samples: "3",
+    parts: &[(&[1, 9, 3], "+0")],
+    ..SMALL
+};
+
+const MANY_RECORDS: &[Cuts] = &[
+    (PAIRS, TRIPLES, YES_6),
+    (TRIPLES, PAIRS, YES_6),
+    (
+        PAIRS,
+        SPARSE,
+        "NO 10 sample \"Temp\" at 1000000000000 ps missing\n",
+    ),
+    (
+        SPARSE,
+        TRIPLES,
+        "NO 10 sample \"Temp\" at 1000000000000 ps extra\n",
+    ),
+    (
+        THIRDS,
+        CHANGED,
+        "NO 10 sample \"Temp\" at 333333333333 ps original 2 export 9\n",
+    ),
+];
 
 #[test]
 fn compares_files_of_many_records(rt: HostRuntime) -> Result<(), Fail> {
-    let alloc = rt.alloc();
-    let claim = six_seconds(alloc)?;
-    let pairs = cut(
-        "3",
-        "2",
-        "2",
-        &[(&[1, 2], "+0"), (&[3, 4], "+2"), (&[5, 6], "+4")],
-    );
-    let triples = cut("2", "3", "3", &[(&[1, 2, 3], "+0"), (&[4, 5, 6], "+3")]);
-    let sparse = cut("2", "3", "1", &[(&[1], "+0"), (&[4], "+3")]);
-    let thirds = cut("1", "1", "3", &[(&[1, 2, 3], "+0")]);
-    let changed = cut("1", "1", "3", &[(&[1, 9, 3], "+0")]);
-    for (original, export, want) in [
-        (pairs, triples, YES_6),
-        (triples, pairs, YES_6),
-        (
-            pairs,
-            sparse,
-            "NO 10 sample \"Temp\" at 1000000000000 ps missing\n",
-        ),
-        (
-            sparse,
-            triples,
-            "NO 10 sample \"Temp\" at 1000000000000 ps extra\n",
-        ),
-        (
-            thirds,
-            changed,
-            "NO 10 sample \"Temp\" at 333333333333 ps original 2 export 9\n",
-        ),
-    ] {
-        assert_eq!(rt;
-            line_of_cuts(alloc, original, export, &claim)?.as_str(),
-            want
-        );
-    }
-    Ok(())
+    compare_cuts(&rt, rt.alloc(), &six_seconds(rt.alloc())?, MANY_RECORDS)
 }
 
 #[test]
 fn keeps_from_the_first_bound_to_before_the_last(rt: HostRuntime) -> Result<(), Fail> {
     let alloc = rt.alloc();
-    let one = cut("1", "0.5", "1", &[(&[7], "+0")]);
+    let one = Cut {
+        duration: "0.5",
+        samples: "1",
+        parts: &[(&[7], "+0")],
+        ..SMALL
+    };
     let first = temp_claim(alloc, 0, 500_000_000_000)?;
     let both = temp_claim(alloc, 0, 500_000_000_001)?;
     let second = temp_claim(alloc, 500_000_000_000, 6_000_000_000_000)?;
@@ -364,34 +448,32 @@ fn keeps_from_the_first_bound_to_before_the_last(rt: HostRuntime) -> Result<(), 
     Ok(())
 }
 
+/// The annotation signal first.
+const EXCHANGED: Cut<'static> = Cut {
+    is_lane_first: true,
+    ..SMALL
+};
+
+/// The same with another second value.
+const EXCHANGED_LOWER: Cut<'static> = Cut {
+    parts: &[(&[7, -8], "+0")],
+    ..EXCHANGED
+};
+
+const EXCHANGES: &[Cuts] = &[
+    (SMALL, EXCHANGED, YES_2),
+    (EXCHANGED, SMALL, YES_2),
+    (EXCHANGED, EXCHANGED, YES_2),
+    (
+        SMALL,
+        EXCHANGED_LOWER,
+        "NO 10 sample \"Temp\" at 500000000000 ps original -7 export -8\n",
+    ),
+];
+
 #[test]
 fn takes_the_annotation_signal_first(rt: HostRuntime) -> Result<(), Fail> {
-    let alloc = rt.alloc();
-    let claim = six_seconds(alloc)?;
-    let exchanged = Cut {
-        is_lane_first: true,
-        ..SMALL
-    };
-    let lower = Cut {
-        parts: &[(&[7, -8], "+0")],
-        ..exchanged
-    };
-    for (original, export, want) in [
-        (SMALL, exchanged, YES_2),
-        (exchanged, SMALL, YES_2),
-        (exchanged, exchanged, YES_2),
-        (
-            SMALL,
-            lower,
-            "NO 10 sample \"Temp\" at 500000000000 ps original -7 export -8\n",
-        ),
-    ] {
-        assert_eq!(rt;
-            line_of_cuts(alloc, original, export, &claim)?.as_str(),
-            want
-        );
-    }
-    Ok(())
+    compare_cuts(&rt, rt.alloc(), &six_seconds(rt.alloc())?, EXCHANGES)
 }
 
 /// Whether the tests of a file look at the byte at this place of the small file.

@@ -34,48 +34,51 @@ fn stands_in(
     Ok(bytes.len() == len && behind.starts_with(part))
 }
 
+/// A file, how many bytes it has, a place in it, and what stands there.
+const FILES: [(TempFile, usize, usize, &[u8]); 22] = [
+    (SMALL_FILE, 804usize, 236usize, b"1       1       2   "),
+    (SMALL_FILE, 804, 688, b"2       16      "),
+    (SMALL_FILE, 804, 768, b"\x07\0\xf9\xff+0\x14\x14\0\0"),
+    (TWO_SECOND_FILE, 876, 236, b"3       2       2   "),
+    (TWO_SECOND_FILE, 876, 688, b"2       16      "),
+    (TWO_SECOND_FILE, 876, 768, b"\x01\0\x02\0+0\x14\x14\0\0"),
+    (TWO_SECOND_FILE, 876, 804, b"\x03\0\x04\0+2\x14\x14\0\0"),
+    (TWO_SECOND_FILE, 876, 840, b"\x05\0\x06\0+4\x14\x14\0\0"),
+    (THREE_SECOND_FILE, 844, 236, b"2       3       2   "),
+    (THREE_SECOND_FILE, 844, 688, b"3       16      "),
+    (
+        THREE_SECOND_FILE,
+        844,
+        768,
+        b"\x01\0\x02\0\x03\0+0\x14\x14\0\0",
+    ),
+    (
+        THREE_SECOND_FILE,
+        844,
+        806,
+        b"\x04\0\x05\0\x06\0+3\x14\x14\0\0",
+    ),
+    (SPARSE_FILE, 836, 236, b"2       3       2   "),
+    (SPARSE_FILE, 836, 688, b"1       16      "),
+    (SPARSE_FILE, 836, 768, b"\x01\0+0\x14\x14\0\0"),
+    (SPARSE_FILE, 836, 802, b"\x04\0+3\x14\x14\0\0"),
+    (THREE_VALUE_FILE, 806, 236, b"1       1       2   "),
+    (THREE_VALUE_FILE, 806, 688, b"3       16      "),
+    (
+        THREE_VALUE_FILE,
+        806,
+        768,
+        b"\x01\0\x02\0\x03\0+0\x14\x14\0\0",
+    ),
+    (CHANGED_FILE, 806, 236, b"1       1       2   "),
+    (CHANGED_FILE, 806, 688, b"3       16      "),
+    (CHANGED_FILE, 806, 768, b"\x01\0\x09\0\x03\0+0\x14\x14\0\0"),
+];
+
 #[test]
 fn builds_the_files(rt: HostRuntime) -> Result<(), Fail> {
     let alloc = rt.alloc();
-    for (file, len, place, part) in [
-        (SMALL_FILE, 804usize, 236usize, &b"1       1       2   "[..]),
-        (SMALL_FILE, 804, 688, b"2       16      "),
-        (SMALL_FILE, 804, 768, b"\x07\0\xf9\xff+0\x14\x14\0\0"),
-        (TWO_SECOND_FILE, 876, 236, b"3       2       2   "),
-        (TWO_SECOND_FILE, 876, 688, b"2       16      "),
-        (TWO_SECOND_FILE, 876, 768, b"\x01\0\x02\0+0\x14\x14\0\0"),
-        (TWO_SECOND_FILE, 876, 804, b"\x03\0\x04\0+2\x14\x14\0\0"),
-        (TWO_SECOND_FILE, 876, 840, b"\x05\0\x06\0+4\x14\x14\0\0"),
-        (THREE_SECOND_FILE, 844, 236, b"2       3       2   "),
-        (THREE_SECOND_FILE, 844, 688, b"3       16      "),
-        (
-            THREE_SECOND_FILE,
-            844,
-            768,
-            b"\x01\0\x02\0\x03\0+0\x14\x14\0\0",
-        ),
-        (
-            THREE_SECOND_FILE,
-            844,
-            806,
-            b"\x04\0\x05\0\x06\0+3\x14\x14\0\0",
-        ),
-        (SPARSE_FILE, 836, 236, b"2       3       2   "),
-        (SPARSE_FILE, 836, 688, b"1       16      "),
-        (SPARSE_FILE, 836, 768, b"\x01\0+0\x14\x14\0\0"),
-        (SPARSE_FILE, 836, 802, b"\x04\0+3\x14\x14\0\0"),
-        (THREE_VALUE_FILE, 806, 236, b"1       1       2   "),
-        (THREE_VALUE_FILE, 806, 688, b"3       16      "),
-        (
-            THREE_VALUE_FILE,
-            806,
-            768,
-            b"\x01\0\x02\0\x03\0+0\x14\x14\0\0",
-        ),
-        (CHANGED_FILE, 806, 236, b"1       1       2   "),
-        (CHANGED_FILE, 806, 688, b"3       16      "),
-        (CHANGED_FILE, 806, 768, b"\x01\0\x09\0\x03\0+0\x14\x14\0\0"),
-    ] {
+    for (file, len, place, part) in FILES {
         assert!(rt;
             stands_in(alloc, &file, len, place, part)?,
             "{len} bytes, from {place} on"

@@ -61,6 +61,15 @@ impl<'a> Source for Breaks<'a> {
     }
 }
 
+/// A source that fails after this many reads.
+fn breaking(rest: &[u8], reads: u32) -> Breaks<'_> {
+    Breaks {
+        rest,
+        reads,
+        failures: 0,
+    }
+}
+
 /// Gives its bytes and then zeros without end, so that no list holds what is left.
 #[derive(Drop)]
 struct Endless<'a> {
@@ -166,16 +175,12 @@ fn reads_byte_by_byte(rt: HostRuntime) -> Result<(), Fail> {
 }
 
 #[test]
-fn answers_each_failed_read(rt: HostRuntime) -> Result<(), Fail> {
+fn answers_each_failed_read_of_the_original(rt: HostRuntime) -> Result<(), Fail> {
     let alloc = rt.alloc();
     let file = small_file(alloc)?;
     let claim = six_seconds(alloc)?;
     for reads in 0..4u32 {
-        let mut failing = Breaks {
-            rest: &file,
-            reads,
-            failures: 0,
-        };
+        let mut failing = breaking(&file, reads);
         let mut whole = SliceSource::new(&file);
         let found = check(alloc, &mut failing, &mut whole, &claim);
         assert!(rt;
@@ -183,12 +188,18 @@ fn answers_each_failed_read(rt: HostRuntime) -> Result<(), Fail> {
             "after {reads} reads"
         );
         assert_eq!(rt; failing.failures, 1);
+    }
+    Ok(())
+}
+
+#[test]
+fn answers_each_failed_read_of_the_export(rt: HostRuntime) -> Result<(), Fail> {
+    let alloc = rt.alloc();
+    let file = small_file(alloc)?;
+    let claim = six_seconds(alloc)?;
+    for reads in 0..4u32 {
         let mut whole = SliceSource::new(&file);
-        let mut failing = Breaks {
-            rest: &file,
-            reads,
-            failures: 0,
-        };
+        let mut failing = breaking(&file, reads);
         let found = check(alloc, &mut whole, &mut failing, &claim);
         assert!(rt;
             matches!(&found, Err(CheckStop::ReadFailed(Side::Export))),
@@ -196,16 +207,16 @@ fn answers_each_failed_read(rt: HostRuntime) -> Result<(), Fail> {
         );
         assert_eq!(rt; failing.failures, 1);
     }
-    let mut first = Breaks {
-        rest: &file,
-        reads: 4,
-        failures: 0,
-    };
-    let mut second = Breaks {
-        rest: &file,
-        reads: 4,
-        failures: 0,
-    };
+    Ok(())
+}
+
+#[test]
+fn reads_a_file_in_four_reads(rt: HostRuntime) -> Result<(), Fail> {
+    let alloc = rt.alloc();
+    let file = small_file(alloc)?;
+    let claim = six_seconds(alloc)?;
+    let mut first = breaking(&file, 4);
+    let mut second = breaking(&file, 4);
     let line = line_from(alloc, &mut first, &mut second, &claim)?;
     assert_eq!(rt; line.as_str(), YES);
     assert_eq!(rt; (first.failures, second.failures), (0, 0));
