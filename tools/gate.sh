@@ -7,10 +7,17 @@
 # usage: tools/gate.sh
 set -uo pipefail
 
-here=$(dirname "$0")
 program=crates/edfclaim/out/edfclaim
-cd "$here/.." || exit 2
-log=$(mktemp) || exit 2
+
+# Ends without the counts of `rt ci`.
+give_up() {
+    echo "$1" >&2
+    echo "0 passed, 1 failed"
+    exit 1
+}
+
+CDPATH='' cd -- "$(dirname -- "$0")/.." || give_up "no folder of the project"
+log=$(mktemp) || give_up "no file for the output of rt ci"
 trap 'rm -f "$log"' EXIT
 trap 'exit 2' HUP INT TERM
 
@@ -18,8 +25,7 @@ rt ci 2>&1 | tee "$log"
 status=${PIPESTATUS[0]}
 last=$(tail -n 1 "$log")
 if ! [[ $last =~ ^([0-9]+)\ passed,\ ([0-9]+)\ failed$ ]]; then
-    echo "rt ci ended with status $status and without its counts" >&2
-    exit 1
+    give_up "rt ci ended with status $status and without its counts"
 fi
 passed=${BASH_REMATCH[1]}
 failed=${BASH_REMATCH[2]}
@@ -36,7 +42,7 @@ counted() {
     fi
 }
 
-counted make -s build
+counted env -u MAKEFLAGS -u MFLAGS make -s build
 counted tools/statuses.sh "$program"
 if command -v "${CC:-cc}" >/dev/null; then
     counted tools/failing.sh "$program"

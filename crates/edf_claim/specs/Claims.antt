@@ -87,6 +87,10 @@ pub record IsInterval (interval : Interval) : Type 0 where
   pub order : interval.from_ps <ℤ interval.to_ps
   pub near : interval.to_ps <ℤ pos (10 ^ 21)
 
+-- the format of a claim
+abbrev pub SaysFormat : Members → Type 0
+SaysFormat entries = get_member (codes "format") entries ≡ Some (integer (pos 1))
+
 -- the channels that a table says: an array of these labels, at least one, none of them twice
 pub record SaysChannels (entries : Members) (labels : List (List ℕ)) : Type 0 where
   pub there : get_member (codes "channels") entries ≡ Some (array (text_items labels))
@@ -119,10 +123,6 @@ pub record SaysShift (entries : Members) (shift : ℤ) : Type 0 where
 pub record SaysRemove (entries : Members) (texts : List (List ℕ)) : Type 0 where
   pub said : ((get_member (codes "remove") entries ≡ None) × (texts ≡ [])) ⊎ (get_member (codes "remove") entries ≡ Some (array (text_items texts)))
   pub distinct : AreDistinct texts
-
--- the format of a claim
-abbrev pub SaysFormat : Members → Type 0
-SaysFormat entries = get_member (codes "format") entries ≡ Some (integer (pos 1))
 
 -- the table says this claim: it has no other keys than those of a claim, and each key has its value, or is absent and has its default
 pub record SaysClaim (entries : Members) (c : Terms) : Type 0 where

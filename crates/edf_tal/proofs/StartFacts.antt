@@ -2,10 +2,10 @@
 use Rattle.std.proofs.Common.{◌≡◌, ◌↔◌, ◌⊎◌, ℕ, zero, suc, ℤ, ◌<◌, List, [], ◌∷◌, ◌++◌, map, length, refl, sym, ◌∙◌, ap, arith, inl, inr, Result, Ok, Err}
 use Rattle.std.proofs.lemmas.List.{length-append}
 use Rattle.edf_fields.specs.declared.cause.TalCause.{TalCause}
-use Rattle.edf_tal.specs.Tals.{TalValue}
+use Rattle.edf_tal.specs.Tals.{TalValue, StartsAt}
 use Rattle.edf_tal.specs.Reading.{Item, onto, tal_of, items_of}
 use Rattle.edf_tal.specs.Faults.{HasFault, HasListOrFault}
-use Rattle.edf_tal.specs.Views.{StartsAt, kept_time, start_of}
+use Rattle.edf_tal.specs.Views.{kept_time, start_of}
 use Rattle.edf_tal.specs.declared.start.StartCause.{StartCause}
 use Rattle.edf_tal.specs.declared.start.StartCause.TheVariants as start
 use Rattle.edf_tal.proofs.LawFacts.{lane-cases, lane-spelled, tal-spelled}

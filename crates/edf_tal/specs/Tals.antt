@@ -51,6 +51,17 @@ abbrev pub IsLaneOf : List ℕ → List TalValue → Type 0
 IsLaneOf lane [] = are_zeros lane ≡ true
 IsLaneOf lane (tal ∷ tals) = (bytes : List ℕ) × (rest : List ℕ) × SpellsTal bytes tal × (lane ≡ bytes ++ 0 ∷ rest) × IsLaneOf rest tals
 
+-- the lane begins with a TAL whose first text is empty, and this is its onset. EDF+ (2003), "Time keeping of data records"
+pub record StartsAt (lane : List ℕ) (v : ℤ) : Type 0 where
+  pub bytes : List ℕ
+  pub rest : List ℕ
+  pub tal : TalValue
+  pub more : List (List ℕ)
+  pub spelled : SpellsTal bytes tal
+  pub whole : lane ≡ bytes ++ 0 ∷ rest
+  pub empty : tal.texts ≡ [] ∷ more
+  pub onset : tal.onset ≡ v
+
 -- a lane has at most one list of TALs
 abbrev pub HasOneList : Type 0
 HasOneList = (lane : List ℕ) (tals others : List TalValue) → IsLaneOf lane tals → IsLaneOf lane others → tals ≡ others

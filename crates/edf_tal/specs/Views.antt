@@ -1,7 +1,7 @@
 -- What the code's values say, in the words of the definitions.
-use Rattle.std.specs.Prelude.{◌≡◌, ℕ, ℤ, List, [], ◌∷◌, ◌++◌, Result, Ok, Err}
+use Rattle.std.specs.Prelude.{ℕ, ℤ, List, [], ◌∷◌, Result, Ok, Err}
 use Rattle.edf_fields.specs.declared.cause.TalCause.{TalCause}
-use Rattle.edf_tal.specs.Tals.{TalValue, SpellsTal}
+use Rattle.edf_tal.specs.Tals.{TalValue}
 use Rattle.edf_tal.specs.Reading.{Item, texts_of, items_of}
 use Rattle.edf_tal.specs.declared.tal.Tal.{Tal}
 use Rattle.edf_tal.specs.declared.tals.Tals.{Tals}
@@ -25,17 +25,6 @@ items_left tals = items_of tals.rest.now
 -- the texts that are still to come
 abbrev pub texts_left : Texts → List (List ℕ)
 texts_left texts = texts_of texts.rest.now
-
--- the lane begins with a TAL whose first text is empty, and this is its onset. EDF+ (2003), "Time keeping of data records"
-pub record StartsAt (lane : List ℕ) (v : ℤ) : Type 0 where
-  pub bytes : List ℕ
-  pub rest : List ℕ
-  pub tal : TalValue
-  pub more : List (List ℕ)
-  pub spelled : SpellsTal bytes tal
-  pub whole : lane ≡ bytes ++ 0 ∷ rest
-  pub empty : tal.texts ≡ [] ∷ more
-  pub onset : tal.onset ≡ v
 
 -- the onset of a TAL whose first text is empty. EDF+ (2003), "Time keeping of data records"
 abbrev pub kept_time : ℤ → List (List ℕ) → Result ℤ StartCause

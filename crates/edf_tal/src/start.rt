@@ -4,7 +4,8 @@ ghost use Rattle.std.specs.Prelude.{◌≡◌, ◌↔◌, ℤ, Ok, Err};
 ghost use Rattle.edf_fields.specs.declared.cause.TalCause.{TalCause};
 ghost use Rattle.edf_tal.specs.Faults.{HasFault};
 ghost use Rattle.edf_tal.specs.Reading.{items_of};
-ghost use Rattle.edf_tal.specs.Views.{StartsAt, start_of};
+ghost use Rattle.edf_tal.specs.Tals.{StartsAt};
+ghost use Rattle.edf_tal.specs.Views.{start_of};
 ghost use Rattle.edf_tal.specs.declared.start.StartCause.TheVariants as start;
 
 use crate::tals::Tals;
