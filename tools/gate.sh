@@ -1,8 +1,7 @@
 #!/usr/bin/env bash
 # The whole gate. First `rt ci`: all proofs, tests, must-fail edits and runs, from nothing. Then the
-# built program on command lines that it doesn't know, and with each growth of memory refused in turn.
-# The last line is 'N passed, M failed': that of `rt ci`, with one more for the build, and for each of
-# these two.
+# program that it built, on command lines that it doesn't know, and with each growth of memory refused
+# in turn. The last line is 'N passed, M failed': that of `rt ci`, with one more for each of these two.
 #
 # usage: tools/gate.sh
 set -uo pipefail
@@ -42,7 +41,6 @@ counted() {
     fi
 }
 
-counted env -u MAKEFLAGS -u MFLAGS make -s build
 counted tools/statuses.sh "$program"
 if command -v "${CC:-cc}" >/dev/null; then
     counted tools/failing.sh "$program"
