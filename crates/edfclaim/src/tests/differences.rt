@@ -34,52 +34,51 @@ fn line_of_labels(
     line_of(alloc, &original, &export, claim)
 }
 
+/// The small file and a byte more.
+fn longer_file(alloc: Global) -> Result<Vec<u8>, AllocError> {
+    let mut longer = small_file(alloc)?;
+    longer.push(0)?;
+    Ok(longer)
+}
+
 #[test]
 fn compares_a_file_with_its_changes(rt: HostRuntime) -> Result<(), Fail> {
     let alloc = rt.alloc();
-    let mut longer = small_file(alloc)?;
-    assert_eq!(rt; longer.len(), 804);
+    let longer = longer_file(alloc)?;
+    assert_eq!(rt; longer.len(), 805);
     assert_eq!(rt; &longer[768..772], b"\x07\x00\xf9\xff".as_slice());
-    longer.push(0)?;
     let claim = six_seconds(alloc)?;
     let file = front(&longer, 804);
-    for (original, export, want) in [
-        (file, file, YES_2),
+    for (export, want) in [
+        (file, YES_2),
         (
-            file,
             front(file, 803),
             "NO 2 export fault: Truncated at record 0\n",
         ),
+        (&longer[..], "NO 2 export fault: TrailingBytes at end\n"),
         (
-            file,
-            &longer[..],
-            "NO 2 export fault: TrailingBytes at end\n",
-        ),
-        (
-            file,
             b"",
             "NO 2 export fault: Truncated at header field version\n",
         ),
-        (
-            b"",
-            file,
-            "NO 1 original fault: Truncated at header field version\n",
-        ),
-        (
-            &longer[..],
-            file,
-            "NO 1 original fault: TrailingBytes at end\n",
-        ),
-        (
-            b"",
-            &longer[..],
-            "NO 1 original fault: Truncated at header field version\n",
-        ),
-        (
-            &longer[..],
-            b"",
-            "NO 1 original fault: TrailingBytes at end\n",
-        ),
+    ] {
+        assert_eq!(rt; line_of(alloc, file, export, &claim)?.as_str(), want);
+    }
+    Ok(())
+}
+
+#[test]
+fn judges_the_original_first(rt: HostRuntime) -> Result<(), Fail> {
+    let alloc = rt.alloc();
+    let longer = longer_file(alloc)?;
+    let claim = six_seconds(alloc)?;
+    let file = front(&longer, 804);
+    let empty = "NO 1 original fault: Truncated at header field version\n";
+    let trailing = "NO 1 original fault: TrailingBytes at end\n";
+    for (original, export, want) in [
+        (&b""[..], file, empty),
+        (&longer[..], file, trailing),
+        (b"", &longer[..], empty),
+        (&longer[..], b"", trailing),
     ] {
         assert_eq!(rt; line_of(alloc, original, export, &claim)?.as_str(), want);
     }

@@ -86,52 +86,59 @@ fn found(num: i128, den: u32, mismatch: Mismatch) -> Option<SampleDifference> {
     })
 }
 
-/// Samples at 0 and 5 against lists of other numbers of samples a data record.
+/// Samples at 0 and 5, two in a record of 10.
+const HALVES: [Sample; 2] = [Sample { num: 0, value: 7 }, Sample { num: 10, value: -7 }];
+
+/// The same, one in a record of 5.
+const WHOLES: [Sample; 2] = [Sample { num: 0, value: 7 }, Sample { num: 5, value: -7 }];
+
 #[test]
-fn finds_the_first_difference(rt: HostRuntime) {
-    let halves = [Sample { num: 0, value: 7 }, Sample { num: 10, value: -7 }];
-    let wholes = [Sample { num: 0, value: 7 }, Sample { num: 5, value: -7 }];
+fn finds_differences_of_values(rt: HostRuntime) {
+    let other = [Sample { num: 0, value: 7 }, Sample { num: 10, value: -8 }];
+    let both = [Sample { num: 0, value: 8 }, Sample { num: 10, value: -8 }];
+    assert_eq!(rt; channel_difference(&[], 1, &[], 1), None);
+    assert_eq!(rt; channel_difference(&HALVES, 2, &HALVES, 2), None);
+    assert_eq!(rt; channel_difference(&HALVES, 2, &WHOLES, 1), None);
+    assert_eq!(rt; channel_difference(&WHOLES, 1, &HALVES, 2), None);
+    assert_eq!(rt;
+        channel_difference(&HALVES, 2, &other, 2),
+        found(10, 2, Mismatch::Value(-7, -8))
+    );
+    assert_eq!(rt;
+        channel_difference(&both, 2, &HALVES, 2),
+        found(0, 2, Mismatch::Value(8, 7))
+    );
+}
+
+#[test]
+fn finds_samples_of_one_side(rt: HostRuntime) {
     let quarters = [
         Sample { num: 0, value: 7 },
         Sample { num: 10, value: 1 },
         Sample { num: 20, value: -7 },
     ];
-    let other = [Sample { num: 0, value: 7 }, Sample { num: 10, value: -8 }];
-    let both = [Sample { num: 0, value: 8 }, Sample { num: 10, value: -8 }];
-    assert_eq!(rt; channel_difference(&[], 1, &[], 1), None);
-    assert_eq!(rt; channel_difference(&halves, 2, &halves, 2), None);
-    assert_eq!(rt; channel_difference(&halves, 2, &wholes, 1), None);
-    assert_eq!(rt; channel_difference(&wholes, 1, &halves, 2), None);
     assert_eq!(rt;
-        channel_difference(&halves, 2, &other, 2),
-        found(10, 2, Mismatch::Value(-7, -8))
-    );
-    assert_eq!(rt;
-        channel_difference(&both, 2, &halves, 2),
-        found(0, 2, Mismatch::Value(8, 7))
-    );
-    assert_eq!(rt;
-        channel_difference(&halves, 2, &wholes[..1], 1),
+        channel_difference(&HALVES, 2, &WHOLES[..1], 1),
         found(10, 2, Mismatch::Missing)
     );
     assert_eq!(rt;
-        channel_difference(&wholes[..1], 1, &halves, 2),
+        channel_difference(&WHOLES[..1], 1, &HALVES, 2),
         found(10, 2, Mismatch::Extra)
     );
     assert_eq!(rt;
-        channel_difference(&halves, 2, &quarters, 4),
+        channel_difference(&HALVES, 2, &quarters, 4),
         found(10, 4, Mismatch::Extra)
     );
     assert_eq!(rt;
-        channel_difference(&quarters, 4, &halves, 2),
+        channel_difference(&quarters, 4, &HALVES, 2),
         found(10, 4, Mismatch::Missing)
     );
     assert_eq!(rt;
-        channel_difference(&[], 2, &wholes, 1),
+        channel_difference(&[], 2, &WHOLES, 1),
         found(0, 1, Mismatch::Extra)
     );
     assert_eq!(rt;
-        channel_difference(&wholes[1..], 1, &wholes, 1),
+        channel_difference(&WHOLES[1..], 1, &WHOLES, 1),
         found(0, 1, Mismatch::Extra)
     );
 }
