@@ -23,7 +23,9 @@ work=$(mktemp -d) || exit 2
 trap 'rm -rf "$work"' EXIT
 trap 'exit 2' HUP INT TERM
 
-"${CC:-cc}" -O1 -Wall -Wextra -shared -fPIC -o "$work/failing.so" "$here/failing.c" -ldl || exit 2
+# CC may hold flags behind the compiler's name
+# shellcheck disable=SC2086
+${CC:-cc} -O1 -Wall -Wextra -shared -fPIC -o "$work/failing.so" "$here/failing.c" -ldl || exit 2
 cp "$here/../crates/edfclaim/stdout" "$work/want" || exit 2
 
 passed=0

@@ -42,7 +42,9 @@ counted() {
 }
 
 counted tools/statuses.sh "$program"
-if command -v "${CC:-cc}" >/dev/null; then
+# CC may hold flags behind the compiler's name
+read -r compiler _ <<<"${CC:-cc}"
+if command -v "$compiler" >/dev/null; then
     counted tools/failing.sh "$program"
 else
     echo "no C compiler: tools/failing.sh is left out"
