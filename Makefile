@@ -1,5 +1,5 @@
 # Proves, builds, runs and tests. All that is needed is the Rattle toolchain (`rt`).
-.PHONY: run build test
+.PHONY: run build test oracle speed
 
 # Proves the crates, builds the program and runs its main job.
 run:
@@ -14,3 +14,11 @@ build:
 # command lines that it doesn't know, and with each growth of memory refused in turn.
 test:
 	@tools/gate.sh
+
+# The readers and the check against a second reading of the rules, on random cases; no part of the gate.
+oracle:
+	@tools/oracle.sh
+
+# How fast lanes of annotations are read; no part of the gate.
+speed:
+	@tools/speed.sh

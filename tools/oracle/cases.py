@@ -1,0 +1,284 @@
+"""Cases for the readers: texts that the rules allow, and texts that nearly are.
+
+usage: cases.py SEED COUNT
+
+Prints a case a line: a letter for its reader, a space, bytes in hexadecimal (rules.py).
+"""
+
+import random
+import sys
+
+from rules import COLUMNS, FIXED, MONTHS, SUBFIELDS
+
+choose = random.Random()
+MARKS = [0, 1, 9, 10, 13, 20, 21, 31, 32, 43, 45, 46, 47, 48, 57, 58, 65, 88, 126, 127, 128, 200, 255]
+
+
+def one_of(*values):
+    return choose.choice(values)
+
+
+def often(part):
+    return choose.random() < part
+
+
+def some(alphabet, least, most):
+    return bytes(choose.choice(alphabet) for _ in range(choose.randint(least, most)))
+
+
+def changed(field):
+    """One or two bytes are others, are gone or have come."""
+    field = bytearray(field)
+    for _ in range(choose.randint(1, 2)):
+        if not field:
+            break
+        at, byte = choose.randrange(len(field)), one_of(choose.randrange(256), choose.choice(MARKS))
+        way = choose.randrange(4)
+        if way < 2:
+            field[at] = byte
+        elif way == 2:
+            del field[at]
+        else:
+            field.insert(at, byte)
+    return bytes(field)
+
+
+def maybe_changed(field, part):
+    return changed(field) if often(part) else field
+
+
+# ---- numbers, times, days
+
+
+def number():
+    if often(0.5):
+        field = one_of(b"", b"+", b"-") + some(b"0123456789", 0, 5)
+        field += one_of(b"", b".", b"." + some(b"0123456789", 0, 7))
+    else:
+        field = some(b"+-0123456789. .", 0, 9)
+    if often(0.4):
+        field = field.ljust(8)
+    return maybe_changed(field, 0.05)[:one_of(8, 8, 8, 9, 12)]
+
+
+def time(sign):
+    field = one_of(b"+", b"-") if sign else b""
+    field += b"0" * one_of(0, 0, 0, 1, 3, 20) + some(b"0123456789", *one_of((0, 1), (1, 2), (8, 10)))
+    if often(0.5):
+        field += b"." + some(b"0123456789", *one_of((0, 2), (11, 13))) + b"0" * one_of(0, 0, 1, 20)
+    return maybe_changed(field, 0.1)
+
+
+def day():
+    return one_of(1, 28, 29, 30, 31, choose.randint(0, 32)), one_of(2, 2, choose.randint(0, 13))
+
+
+def dotted_day():
+    return maybe_changed(b"%02d.%02d.%02d" % (*day(), one_of(0, 4, 84, 85, 99, choose.randint(0, 99))), 0.2)
+
+
+def dashed_day():
+    number, month = day()
+    name = MONTHS[month - 1].encode() if 1 <= month <= 12 else b"XXX"
+    return maybe_changed(b"%02d-%s-%04d" % (number, name, one_of(0, 4, 1900, 2000, 2100, choose.randint(0, 9999))), 0.2)
+
+
+def clock():
+    parts = tuple(one_of(0, 23, 24, 59, 60, choose.randint(0, 99)) for _ in range(3))
+    return maybe_changed(b"%02d.%02d.%02d" % parts, 0.2)
+
+
+# ---- identification
+
+
+def listed(parts, most):
+    field = one_of(b"", b"", b"", b"", b" ")
+    for part in parts[:one_of(most, most, most, choose.randint(0, most))]:
+        field += part + b" " * one_of(1, 1, 1, 2)
+    return maybe_changed(field[:80].ljust(one_of(0, 80, 80, 80)), 0.15)
+
+
+def extras():
+    return [one_of(b"a", b"X") for _ in range(choose.randint(0, 2))]
+
+
+def patient():
+    code, sex = one_of(b"X", b"MCH-0234567"), one_of(b"F", b"M", b"X", b"X", b"f", b"Male")
+    birthdate = one_of(b"X", b"02-MAY-1951", dashed_day())
+    return listed([code, sex, birthdate, b"Haagse_Harry", *extras()], 6)
+
+
+def recording():
+    word = one_of(b"Startdate", b"Startdate", b"Startdate", b"Startdate", b"startdate", b"X")
+    date, equipment = one_of(b"X", b"02-MAR-2002", dashed_day()), one_of(b"X", b"Dev")
+    return listed([word, date, b"PSG-1234/2002", b"NN", equipment, *extras()], 7)
+
+
+# ---- lanes
+
+
+def annotation_text():
+    good = [b"", b"", b"", b"Apnea", b"N2", "ä € \U0001f634".encode(), b"\t\n\r", some(b"abc \t\x7f", 0, 6)]
+    bad = [b"\x01", b"\x1f", b"\x15", b"\xff", b"\xe2\x82", b"\xc0\x80", b"\xed\xa0\x80", b"\xf4\x90\x80\x80"]
+    return one_of(*good, *good, *bad, some(range(256), 1, 4))
+
+
+def tal():
+    field = time(True) + (b"\x15" + time(False) if often(0.4) else b"") + b"\x14"
+    for _ in range(one_of(0, 1, 1, 1, 2, 3)):
+        field += annotation_text() + b"\x14"
+    return field + b"\0"
+
+
+def lane():
+    return maybe_changed(b"".join(tal() for _ in range(one_of(0, 1, 1, 2, 2, 3))) + b"\0" * one_of(0, 0, 1, 3, 10), 0.4)
+
+
+# ---- headers
+
+
+def fixed_fields(count):
+    days = [(b"02.03.02", b"02-MAR-2002"), (b"31.12.84", b"31-DEC-2084"), (b"01.01.85", b"01-JAN-1985")]
+    startdate, date = one_of(*days)
+    fields = {
+        "version": b"0",
+        "patient": b"MCH-0234567 F 02-MAY-1951 Haagse_Harry",
+        "recording": b"Startdate " + one_of(date, date, b"X") + b" PSG-1234/2002 NN Telemetry03",
+        "startdate": startdate,
+        "starttime": b"%02d.%02d.%02d" % (choose.randint(0, 23), choose.randint(0, 59), choose.randint(0, 59)),
+        "header-bytes": b"%d" % (256 * (count + 1)),
+        "reserved": one_of(b"EDF+C", b"EDF+D", b"EDF+C abc ", b"EDF+Dx"),
+        "records": one_of(b"1", b"4", b"+7", b"99999999"),
+        "duration": one_of(b"1", b"30", b"0.5", b".0000001", b"99999999", b"1."),
+        "signals": b"%d" % count,
+    }
+    if often(0.35):
+        name = choose.choice(list(fields))
+        readers = {"patient": patient, "recording": recording, "startdate": dotted_day, "starttime": clock}
+        other = readers.get(name, number)
+        fields[name] = one_of(changed(fields[name]), other(), other(), b"", b"0", b"-1")
+    return fields
+
+
+def signal_fields(label):
+    low, high = one_of((b"-440", b"510"), (b"100", b"-100"), (b"-1", b"1.5"), (b"0", b".0000001"))
+    bottom, top = one_of((b"-2048", b"2047"), (b"-32768", b"32767"), (b"0", b"1"))
+    if label == b"EDF Annotations":
+        bottom, top = b"-32768", b"32767"
+    fields = {
+        "label": label,
+        "transducer": one_of(b"AgAgCl electrodes", b""),
+        "dimension": one_of(b"uV", b""),
+        "physical-minimum": low,
+        "physical-maximum": high,
+        "digital-minimum": bottom,
+        "digital-maximum": top,
+        "prefilter": one_of(b"HP:0.1Hz", b""),
+        "samples": one_of(b"1", b"4", b"51", b"+3"),
+        "reserved": one_of(b"", b"note"),
+    }
+    if often(0.12):
+        name = choose.choice(list(fields))
+        others = [b"", b"0", b"-32769", b"32768", b"8388608", b"EDF Annotations"]
+        fields[name] = one_of(changed(fields[name]), number(), *others)
+    return fields
+
+
+def header():
+    labels = [b"C%d" % number for number in range(one_of(1, 2, 2, 3, 3, 4))]
+    if often(0.9):
+        labels[choose.randrange(len(labels))] = b"EDF Annotations"
+    if often(0.2):
+        labels[choose.randrange(len(labels))] = one_of(b"C0", b"", b"EDF Annotations")
+    fixed, columns = fixed_fields(len(labels)), [signal_fields(label) for label in labels]
+    file = b"".join(fixed[name].ljust(width)[:width] for name, _, width in FIXED)
+    file += b"".join(fields[name].ljust(width)[:width] for name, _, width in COLUMNS for fields in columns)
+    if often(0.1):
+        return file[:choose.randrange(len(file) + 1)]
+    if often(0.15):
+        at = choose.randrange(len(file))
+        return file[:at] + some(range(256), 1, 1) + file[at + 1:]
+    return file + one_of(b"", b"", b"abc")
+
+
+# ---- claims
+
+
+def quoted(value):
+    return f'"{value}"'
+
+
+def array(part, least, most):
+    return f"[{', '.join(part() for _ in range(choose.randint(least, most)))}]"
+
+
+def claimed_text():
+    good = ["Temp", "ECG", "", "a" * 16, "a", "\\u0041"]
+    return quoted(one_of(*good, "a" * 17, "Temp ", "EDF Annotations", "é", "\\t", "\\u007f"))
+
+
+def claimed_span():
+    good = ["0", "1", "2.5", "00.5", "4", "999999999.999999999999"]
+    return quoted(one_of(*good, "1000000000", "+0", "1.", ".5", "", "1e3"))
+
+
+def interval():
+    pair = f"{{ from = {claimed_span()}, to = {claimed_span()} }}"
+    bad = [f"{{ from = {claimed_span()} }}", '{ from = "0", to = "1", x = 1 }', '{ from = 1, to = "2" }', '"a"']
+    return one_of(pair, pair, pair, *bad)
+
+
+def keep():
+    if often(0.3):
+        return array(interval, 0, 3)
+    ends = sorted(choose.sample(range(100), one_of(2, 4, 6)))
+    if len(ends) > 2 and often(0.4):
+        ends[2] = ends[1]
+    pairs = [f"{{ from = {quoted(a / 10)}, to = {quoted(b / 10)} }}" for a, b in zip(ends[::2], ends[1::2])]
+    return f"[{', '.join(pairs)}]"
+
+
+def changed_claim(document):
+    """Changed, but with the same line breaks, commas and backslashes: Python reads TOML 1.0, the crates TOML 1.1."""
+    other = changed(document)
+    return other if all(other.count(mark) == document.count(mark) for mark in b"\n\r,\\") else document
+
+
+def claim():
+    labels = ['["Temp"]', '["Temp", "ECG"]'] * 5
+    named = array(lambda: quoted(one_of(*SUBFIELDS)), 0, 4)
+    limits = [str(sign * (10**10 + more)) for sign in (1, -1) for more in (0, 1)]
+    keys = {
+        "format": one_of(*["1"] * 12, "2", '"1"', "1.0", "true", "0x1", "+1"),
+        "channels": one_of(*labels, array(claimed_text, 0, 3), array(claimed_text, 0, 3), '"Temp"', "[1]"),
+        "keep": one_of(*[keep() for _ in range(9)], "3", '"a"', '{ from = "0", to = "1" }'),
+        "anonymous": one_of(named, named, "[]", '["sex"]', '["Sex"]', '"sex"', "[1]", '["sex", "sex"]'),
+        "shift": one_of("0", "-5", "1_000", "0b11", '"1"', *limits),
+        "remove": one_of(array(claimed_text, 0, 3), "[]", '["a"]', '["a", "b"]', '["a", "a"]', '"a"', "[1]"),
+        one_of("note", "Format", '"format "', "keeps", "a.b"): "1",
+    }
+    names = [name for name in list(keys)[:3] if not often(0.03)] + [name for name in list(keys)[3:6] if often(0.5)]
+    names += list(keys)[6:] if often(0.1) else []
+    choose.shuffle(names)
+    document = "".join(f"{name} = {keys[name]}\n" for name in names)
+    if often(0.1):
+        document += one_of("# c\n", "[x]\n", '[[keep]]\nfrom = "0"\nto = "1"\n', "shift = 1\n", "x\n", "[format]\n")
+    return changed_claim(document.encode()) if often(0.05) else document.encode()
+
+
+CASES = {
+    "n": (4, number), "w": (4, number), "o": (4, lambda: time(often(0.9))), "s": (3, lambda: time(often(0.1))),
+    "d": (2, dotted_day), "D": (3, dashed_day), "c": (2, clock), "p": (6, patient), "r": (6, recording),
+    "t": (30, lane), "h": (20, header), "C": (12, claim),
+}
+
+
+def main(seed, count):
+    choose.seed(int(seed))
+    kinds, weights = list(CASES), [weight for weight, _ in CASES.values()]
+    for kind in choose.choices(kinds, weights, k=int(count)):
+        print(kind, CASES[kind][1]().hex())
+
+
+if __name__ == "__main__":
+    main(*sys.argv[1:])
