@@ -324,7 +324,7 @@ length-all file n some h =
     let f = length-drop 256 file in
     omega (arith, e, f, some, h)
 
-passing-conforms : (file : List ℕ) → header_fault file ≡ None → HeaderConforms file (head_of file)
+pub passing-conforms : (file : List ℕ) → header_fault file ≡ None → HeaderConforms file (head_of file)
 unfolding header_fault head_of
 passing-conforms file h =
     let front : List ℕ = fixed_part file in

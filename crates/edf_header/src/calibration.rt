@@ -82,7 +82,8 @@ impl Calibration {
         }
     }
 
-    /// The physical minimum and the physical maximum, in units of 10^-7 of the signal's dimension.
+    /// The physical minimum and the physical maximum, in units of 10^-7 of the signal's dimension (EDF,
+    /// "Header record").
     pub fn physical(&self) -> (i64, i64)
         ensures minimum { result.0 ≡ self.now.physical_minimum }
         ensures maximum { result.1 ≡ self.now.physical_maximum }
@@ -91,7 +92,7 @@ impl Calibration {
         (self.physical_minimum, self.physical_maximum)
     }
 
-    /// The digital minimum and the digital maximum.
+    /// The digital minimum and the digital maximum (EDF, "Header record").
     pub fn digital(&self) -> (i16, i16)
         ensures minimum { result.0 ≡ self.now.digital_minimum }
         ensures maximum { result.1 ≡ self.now.digital_maximum }
@@ -155,7 +156,8 @@ impl Calibration {
     }
 
     /// Whether both are one line: each digital value has the same physical one, to the last digit.
-    /// The extremes by which they are given may be others.
+    /// The extremes by which they are given may be others (EDF, "Header record": the extremes say the
+    /// line; that each way to say it counts as the same is this project's profile).
     pub fn same_line(&self, other: &Calibration) -> bool
         ensures { IsTrue result ↔ SameLine self.now other.now }
     {

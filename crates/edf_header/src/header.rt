@@ -56,57 +56,58 @@ fn second_of(days: i32, clock: u32) -> i64
 }
 
 impl Header {
-    /// The day at which the recording starts.
+    /// The day at which the recording starts (EDF, "Header record": startdate; EDF+, "The EDF+ header").
     pub fn start_date(&self) -> Date
         ensures { epoch_day result ≡ self.now.day }
     {
         self.start.date
     }
 
-    /// The second at which the recording starts, 0 for 1970-01-01 00:00:00 (civil time, without a
-    /// time zone).
+    /// The second at which the recording starts, 0 for 1970-01-01 00:00:00: civil time, without a time
+    /// zone (EDF, "Header record": startdate and starttime).
     pub fn start_second(&self) -> i64
         ensures { result ≡ start_second self.now }
     {
         second_of(self.start.days, self.start.clock)
     }
 
-    /// Whether the data records follow one another without a gap.
+    /// Whether the data records follow one another without a gap (EDF+, "The EDF+ header": `EDF+C` or
+    /// `EDF+D`).
     pub fn kind(&self) -> Kind
         ensures { result ≡ self.now.kind }
     {
         self.extent.kind
     }
 
-    /// How many data records the header announces.
+    /// How many data records the header announces (EDF, "Header record").
     pub fn records(&self) -> u32
         ensures { result ≡ self.now.records }
     {
         self.extent.records
     }
 
-    /// The duration of each data record in picoseconds.
+    /// The duration of each data record in picoseconds (EDF, "Header record": in seconds).
     pub fn duration_ps(&self) -> i128
         ensures { result ≡ self.now.duration }
     {
         self.extent.duration_ps
     }
 
-    /// How many bytes each data record has.
+    /// How many bytes each data record has: two for each sample of each signal (EDF, "Data record").
     pub fn record_bytes(&self) -> usize
         ensures { result ≡ record_bytes self.now }
     {
         self.body.record_bytes as usize
     }
 
-    /// The free text of the reserved field, behind `EDF+C` or `EDF+D`.
+    /// The free text of the reserved field, behind `EDF+C` or `EDF+D` (EDF+, "The EDF+ header").
     pub fn free(&self) -> &[u8]
         ensures { result.now ≡ self.entry.now.free }
     {
         text(&fixed_field(&self.front, FixedField::Reserved)[5..])
     }
 
-    /// The patient.
+    /// The patient (EDF+, "Additional specifications in EDF+": local patient identification).
     pub fn patient(&self) -> PatientId<'_>
         ensures { patient_of result ≡ self.entry.now.patient }
     {
@@ -116,7 +117,7 @@ impl Header {
         }
     }
 
-    /// The recording.
+    /// The recording (EDF+, "Additional specifications in EDF+": local recording identification).
     pub fn recording(&self) -> RecordingId<'_>
         ensures { recording_of result ≡ self.entry.now.recording }
     {
@@ -126,7 +127,8 @@ impl Header {
         }
     }
 
-    /// The signals, in file order. The clause `sound` says what holds of every header.
+    /// The signals, in file order (EDF, "Header record"). The clause `sound` says what holds of every
+    /// header.
     pub fn signals(&self) -> &[Signal]
         ensures signals { result.now ≡ self.entry.now.signals }
         ensures sound { IsSound self.entry.now }

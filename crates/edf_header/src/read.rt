@@ -2,6 +2,7 @@
 
 ghost use Rattle.std.specs.Prelude.{◌≡◌, ◌+◌, ◌*◌, ◌≤◌, ◌<◌, ◌^◌, length, take, drop, None, Some, IfOk, IfErr, OnOk, IsTrue};
 ghost use Rattle.edf_fields.specs.Sources.{Rises};
+ghost use Rattle.edf_header.specs.Conforming.{HeaderConforms};
 ghost use Rattle.edf_header.specs.Faults.{header_fault};
 ghost use Rattle.edf_header.specs.Heads.{HasHead, head_of, header_bytes};
 ghost use Rattle.edf_header.specs.Sound.{IsSound};
@@ -51,6 +52,7 @@ impl Header {
         ensures passed { OnOk result (IsTrue (S.is_honest source.old) → header_fault (S.left source.old) ≡ None) }
         ensures value { IfOk result (λ h. IsTrue (S.is_honest source.old) → h ≡ head_of (S.left source.old)) }
         ensures says { IfOk result (λ h. IsTrue (S.is_honest source.old) → HasHead (S.left source.old) h) }
+        ensures conforms { IfOk result (λ h. IsTrue (S.is_honest source.old) → HeaderConforms (S.left source.old) h) }
         ensures whole { IfOk result (λ h. IsTrue (S.is_honest source.old) → header_bytes h ≤ length (S.left source.old)) }
         ensures behind { IfOk result (λ h. IsTrue (S.is_honest source.old) → S.left source.new ≡ drop (header_bytes h) (S.left source.old)) }
     {

@@ -33,63 +33,65 @@ impl Model for Signal {
 }
 
 impl Signal {
-    /// The label.
+    /// The label (EDF, "Header record").
     pub fn label(&self) -> &[u8]
         ensures { result.now ≡ self.entry.now.label }
     {
         &self.label
     }
 
-    /// The kind of the transducer.
+    /// The kind of the transducer (EDF, "Header record").
     pub fn transducer(&self) -> &[u8]
         ensures { result.now ≡ self.entry.now.transducer }
     {
         &self.transducer
     }
 
-    /// The physical dimension.
+    /// The physical dimension, as `uV` (EDF, "Header record").
     pub fn dimension(&self) -> &[u8]
         ensures { result.now ≡ self.entry.now.dimension }
     {
         &self.dimension
     }
 
-    /// How the signal was filtered before it was sampled.
+    /// How the signal was filtered before it was sampled, as `HP:0.1Hz` (EDF, "Header record").
     pub fn prefilter(&self) -> &[u8]
         ensures { result.now ≡ self.entry.now.prefilter }
     {
         &self.prefilter
     }
 
-    /// The free text of the reserved field.
+    /// The free text of the signal's reserved field (EDF, "Header record").
     pub fn reserved(&self) -> &[u8]
         ensures { result.now ≡ self.entry.now.reserved }
     {
         &self.reserved
     }
 
-    /// The line from digital to physical values.
+    /// The line from digital to physical values (EDF, "Header record": digital and physical minimum
+    /// and maximum).
     pub fn calibration(&self) -> &Calibration
         ensures { result.now ≡ self.entry.now.calibration }
     {
         &self.calibration
     }
 
-    /// How many samples it has in a data record.
+    /// How many samples it has in a data record, two bytes each (EDF, "Header record").
     pub fn samples(&self) -> u32
         ensures { result ≡ self.now.samples }
     {
         self.samples
     }
 
-    /// How many bytes of a data record stand before its first sample.
+    /// How many bytes of a data record stand before its first sample (EDF, "Data record": signal behind
+    /// signal).
     pub fn offset(&self) -> usize
         ensures { result ≡ self.now.offset }
     {
         self.offset as usize
     }
 
-    /// Whether the signal holds annotations and is no channel.
+    /// Whether the signal holds annotations and is no channel (EDF+, "The 'EDF Annotations' signal").
     pub fn is_annotations(&self) -> bool
         ensures { result ≡ is_annotations self.now.label }
     {

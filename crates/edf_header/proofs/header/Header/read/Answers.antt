@@ -1,8 +1,10 @@
 use Rattle.std.proofs.Common.{◌≡◌, ◌∙◌, ◌*◌, ap, sym, subst, take, drop, length, Some, IsTrue}
 use Rattle.std.proofs.lemmas.Result.{err_from_is_err_and}
 use Rattle.edf_fields.specs.Sources.{Rises}
+use Rattle.edf_header.specs.Conforming.{HeaderConforms}
 use Rattle.edf_header.specs.Faults.{first, columns_tests, header_fault}
 use Rattle.edf_header.specs.Heads.{Head, HasHead, header_bytes}
+use Rattle.edf_header.proofs.ConformingFacts.{passing-conforms}
 use Rattle.edf_header.proofs.FirstFacts.{stops-weaker}
 use Rattle.edf_header.proofs.HeadFacts.{has-head}
 use Rattle.edf_header.proofs.KeptFacts.{kept}
@@ -32,6 +34,11 @@ returns-in_err-start-clause-value g c =
 
 pub returns-in_err-start-clause-says : goal.returns-in_err-start-clause-says
 returns-in_err-start-clause-says g c =
+    let p = err_from_is_err_and c.from_residual-in_err-start.result c.from_residual-in_err-start.ensures.1 in
+    rw (p.1) tt
+
+pub returns-in_err-start-clause-conforms : goal.returns-in_err-start-clause-conforms
+returns-in_err-start-clause-conforms g c =
     let p = err_from_is_err_and c.from_residual-in_err-start.result c.from_residual-in_err-start.ensures.1 in
     rw (p.1) tt
 
@@ -115,6 +122,11 @@ pub returns-clause-says : goal.returns-clause-says
 returns-clause-says g c = λ h.
     let b = g.S.Source.left c.args.source.now in
     subst (λ (head : Head). HasHead b head) (sym (returns-clause-value g c h)) (has-head b (returns-clause-passed g c h))
+
+pub returns-clause-conforms : goal.returns-clause-conforms
+returns-clause-conforms g c = λ h.
+    let b = g.S.Source.left c.args.source.now in
+    subst (λ (head : Head). HeaderConforms b head) (sym (returns-clause-value g c h)) (passing-conforms b (returns-clause-passed g c h))
 
 pub returns-clause-whole : goal.returns-clause-whole
 returns-clause-whole g c = λ h.
