@@ -36,7 +36,7 @@ for crate in edf_fields edf_header edf_tal edf_claim; do
     take "$work/readers" "$crate"
 done
 mkdir -p "$work/readers/crates/answers/src"
-cp tools/oracle/answers.rt "$work/readers/crates/answers/src/main.rt"
+cp tools/oracle/answers.rt.in "$work/readers/crates/answers/src/main.rt"
 echo "answers: edf_fields edf_header edf_tal edf_claim jiff" >>"$work/readers/crates.txt"
 python3 tools/oracle/cases.py "$seed" 2000 >"$work/readers/cases"
 answers "$work/readers" answers
@@ -48,7 +48,7 @@ take "$work/check" edf_fields
 take "$work/check" edfclaim
 main=$work/check/crates/edfclaim/src/main.rt
 sed '/^use /,$d' crates/edfclaim/src/main.rt >"$main"
-grep -v '^//!' tools/oracle/verdicts.rt >>"$main"
+grep -v '^//!' tools/oracle/verdicts.rt.in >>"$main"
 python3 tools/oracle/verdict_cases.py "$seed" 1000 >"$work/check/cases"
 answers "$work/check" edfclaim
 python3 tools/oracle/verdict_rules.py "$work/check/cases" "$work/check/given" || failed=1

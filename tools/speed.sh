@@ -1,5 +1,5 @@
 #!/bin/sh
-# Measures how fast lanes of annotations are read, beside a comparison of the same bytes (tools/speed/tals.rt).
+# Measures how fast lanes of annotations are read, beside a comparison of the same bytes (tools/speed/tals.rt.in).
 #
 # usage: tools/speed.sh
 #
@@ -12,7 +12,7 @@ trap 'rm -rf "$work"' EXIT
 trap 'exit 2' HUP INT TERM
 
 mkdir -p "$work/crates/tal_speed/src"
-cp tools/speed/tals.rt "$work/crates/tal_speed/src/main.rt"
+cp tools/speed/tals.rt.in "$work/crates/tal_speed/src/main.rt"
 for crate in edf_fields edf_tal; do
     mkdir "$work/crates/$crate"
     for part in src specs proofs; do

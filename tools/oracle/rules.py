@@ -3,7 +3,7 @@
 usage: rules.py CASES GIVEN
 
 CASES holds a case a line: a letter for its reader, a space, bytes in hexadecimal. GIVEN holds what the
-crates answered, a line for each case (answers.rt). Each case that the rules answer otherwise is printed;
+crates answered, a line for each case (answers.rt.in). Each case that the rules answer otherwise is printed;
 the last line is 'N passed, M failed'.
 """
 
@@ -340,7 +340,7 @@ def claim(document):
     return labels, keep, anonymous, shift, remove
 
 
-# ---- the answers, as answers.rt prints them
+# ---- the answers, as answers.rt.in prints them
 
 
 def bracketed(fields):

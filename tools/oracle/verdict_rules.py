@@ -4,7 +4,7 @@ usage: verdict_rules.py CASES GIVEN
 
 CASES holds a case a line: the original and the export in hexadecimal, where the kept stretch begins and
 ends in picoseconds, and the claimed labels in hexadecimal. GIVEN holds the verdicts of the crates
-(verdicts.rt). Each case that the rules judge otherwise is printed; the last line is 'N passed, M failed'.
+(verdicts.rt.in). Each case that the rules judge otherwise is printed; the last line is 'N passed, M failed'.
 """
 
 import sys
