@@ -1,5 +1,5 @@
 # Proves, builds, runs and tests. All that is needed is the Rattle toolchain (`rt`).
-.PHONY: run build test oracle speed
+.PHONY: run build check test oracle speed
 
 # Proves the crates, builds the program and runs its main job.
 run:
@@ -9,6 +9,10 @@ run:
 build:
 	@cd crates/edfclaim && rt run -- vectors > /dev/null
 	@echo "built crates/edfclaim/out/edfclaim"
+
+# All proofs and no more, over what earlier runs kept: for the daily loop.
+check:
+	@cd crates && rt all check --jobs "$$(../tools/lanes.sh)"
 
 # The whole gate: all proofs, tests, must-fail edits and runs from nothing; then the built program on
 # command lines that it doesn't know, and with each growth of memory refused in turn.

@@ -17,6 +17,9 @@ give_up() {
 
 CDPATH='' cd -- "$(dirname -- "$0")/.." || give_up "no folder of the project"
 log=$(mktemp) || give_up "no file for the output of rt ci"
+# as many tasks of rt ci side by side as the machine bears
+RT_JOBS=$(tools/lanes.sh) || give_up "the number of tasks side by side isn't known"
+export RT_JOBS
 trap 'rm -f "$log"' EXIT
 trap 'exit 2' HUP INT TERM
 

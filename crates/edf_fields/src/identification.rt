@@ -303,55 +303,63 @@ mod tests {
         RecordingId::read(field).err()
     }
 
+    /// Fields, and why each says no patient.
+    const PATIENTS: &[(&str, Option<FieldCause>)] = &[
+        ("X X X X", None),
+        ("X F 02-MAY-1951 X", None),
+        ("X M 29-FEB-0000 X and more", None),
+        ("MCH-0234567 F 02-MAY-1951 Haagse_Harry          ", None),
+        ("X   M X    X", None),
+        ("X Q X X", Some(FieldCause::BadSex)),
+        ("X x X X", Some(FieldCause::BadSex)),
+        ("X FM X X", Some(FieldCause::BadSex)),
+        ("X F 1951 X", Some(FieldCause::BadDate)),
+        ("X F x X", Some(FieldCause::BadDate)),
+        ("X F 02-May-1951 X", Some(FieldCause::BadDate)),
+        ("X F 29-FEB-1900 X", Some(FieldCause::BadDate)),
+        ("X F 31-NOV-2001 X", Some(FieldCause::BadDate)),
+        ("X Q 1951 X", Some(FieldCause::BadSex)),
+        ("X F X", Some(FieldCause::TooFewSubfields)),
+        ("X Q 1951   ", Some(FieldCause::TooFewSubfields)),
+        ("", Some(FieldCause::TooFewSubfields)),
+        ("        ", Some(FieldCause::LeadingSpace)),
+        (" X X X X", Some(FieldCause::LeadingSpace)),
+    ];
+
     #[test]
     fn judges_patients(rt: HostRuntime) {
-        for (field, want) in [
-            ("X X X X", None),
-            ("X F 02-MAY-1951 X", None),
-            ("X M 29-FEB-0000 X and more", None),
-            ("MCH-0234567 F 02-MAY-1951 Haagse_Harry          ", None),
-            ("X   M X    X", None),
-            ("X Q X X", Some(FieldCause::BadSex)),
-            ("X x X X", Some(FieldCause::BadSex)),
-            ("X FM X X", Some(FieldCause::BadSex)),
-            ("X F 1951 X", Some(FieldCause::BadDate)),
-            ("X F x X", Some(FieldCause::BadDate)),
-            ("X F 02-May-1951 X", Some(FieldCause::BadDate)),
-            ("X F 29-FEB-1900 X", Some(FieldCause::BadDate)),
-            ("X F 31-NOV-2001 X", Some(FieldCause::BadDate)),
-            ("X Q 1951 X", Some(FieldCause::BadSex)),
-            ("X F X", Some(FieldCause::TooFewSubfields)),
-            ("X Q 1951   ", Some(FieldCause::TooFewSubfields)),
-            ("", Some(FieldCause::TooFewSubfields)),
-            ("        ", Some(FieldCause::LeadingSpace)),
-            (" X X X X", Some(FieldCause::LeadingSpace)),
-        ] {
-            assert_eq!(rt; cause_of_patient(field.as_bytes()), want, "at {field}");
+        for (field, want) in PATIENTS {
+            let cause = cause_of_patient(field.as_bytes());
+            assert_eq!(rt; cause, *want, "at {field}");
         }
     }
 
+    /// Fields, and why each says no recording.
+    const RECORDINGS: &[(&str, Option<FieldCause>)] = &[
+        ("Startdate X X X X", None),
+        (
+            "Startdate 02-MAR-2002 EMG561 BK/JOP Sony. MNC R Median Nerve.",
+            None,
+        ),
+        ("Startdate  29-FEB-2000 X  X X        ", None),
+        ("Started X X X X", Some(FieldCause::NoStartdateWord)),
+        ("startdate X X X X", Some(FieldCause::NoStartdateWord)),
+        ("X X X X X", Some(FieldCause::NoStartdateWord)),
+        ("Started 1951 X X X", Some(FieldCause::BadDate)),
+        ("Startdate 02.03.02 X X X", Some(FieldCause::BadDate)),
+        ("Startdate 29-FEB-2100 X X X", Some(FieldCause::BadDate)),
+        ("Startdate X X X", Some(FieldCause::TooFewSubfields)),
+        ("Started 1951 X X", Some(FieldCause::TooFewSubfields)),
+        ("", Some(FieldCause::TooFewSubfields)),
+        ("   ", Some(FieldCause::LeadingSpace)),
+        (" Startdate X X X X", Some(FieldCause::LeadingSpace)),
+    ];
+
     #[test]
     fn judges_recordings(rt: HostRuntime) {
-        for (field, want) in [
-            ("Startdate X X X X", None),
-            (
-                "Startdate 02-MAR-2002 EMG561 BK/JOP Sony. MNC R Median Nerve.",
-                None,
-            ),
-            ("Startdate  29-FEB-2000 X  X X        ", None),
-            ("Started X X X X", Some(FieldCause::NoStartdateWord)),
-            ("startdate X X X X", Some(FieldCause::NoStartdateWord)),
-            ("X X X X X", Some(FieldCause::NoStartdateWord)),
-            ("Started 1951 X X X", Some(FieldCause::BadDate)),
-            ("Startdate 02.03.02 X X X", Some(FieldCause::BadDate)),
-            ("Startdate 29-FEB-2100 X X X", Some(FieldCause::BadDate)),
-            ("Startdate X X X", Some(FieldCause::TooFewSubfields)),
-            ("Started 1951 X X", Some(FieldCause::TooFewSubfields)),
-            ("", Some(FieldCause::TooFewSubfields)),
-            ("   ", Some(FieldCause::LeadingSpace)),
-            (" Startdate X X X X", Some(FieldCause::LeadingSpace)),
-        ] {
-            assert_eq!(rt; cause_of_recording(field.as_bytes()), want, "at {field}");
+        for (field, want) in RECORDINGS {
+            let cause = cause_of_recording(field.as_bytes());
+            assert_eq!(rt; cause, *want, "at {field}");
         }
     }
 
@@ -402,24 +410,14 @@ mod tests {
         Ok(())
     }
 
+    /// The additional subfields of the next test.
+    const EXTRAS: &[&str] = &["1", "2", "3", "4", "5", "6", "7", "8", "9", "10", "11"];
+
     #[test]
     fn shows_many_extras(rt: HostRuntime) -> Result<(), Fail> {
-        let patient = PatientId::read(
-            b"X X X X 1 2  3   4 5 6 7 8 9 10 11 12 13 14 15 16 17 18   ",
-        )?;
+        let patient = PatientId::read(b"X X X X 1 2  3   4 5 6 7 8 9 10 11   ")?;
         let mut extras = patient.extras();
-        for want in [
-            "1", "2", "3", "4", "5", "6", "7", "8", "9", "10", "11", "12", "13", "14", "15", "16",
-            "17", "18",
-        ] {
-            assert_eq!(rt; extras.next(), Some(want.as_bytes()), "at {want}");
-        }
-        assert_eq!(rt; extras.next(), None);
-        let recording = RecordingId::read(b"Startdate X X X X a b c d e f g h i j k l m n o")?;
-        let mut extras = recording.extras();
-        for want in [
-            "a", "b", "c", "d", "e", "f", "g", "h", "i", "j", "k", "l", "m", "n", "o",
-        ] {
+        for want in EXTRAS {
             assert_eq!(rt; extras.next(), Some(want.as_bytes()), "at {want}");
         }
         assert_eq!(rt; extras.next(), None);

@@ -1,9 +1,8 @@
-//! What no contract says: the exact lines of given files, the order of the faults in one file, and
-//! what a check does where a source, a sink or memory gives out.
+//! What no contract says: the exact lines of given files, and what a check does where a source, a
+//! sink or memory gives out.
 
 mod channels;
 mod differences;
-mod faults;
 mod labels;
 mod rows;
 mod samples;
@@ -11,4 +10,3 @@ mod scarce;
 mod slow;
 mod sources;
 mod support;
-mod timekeeping;

@@ -17,23 +17,27 @@ from = \"3\"
 to = \"4.000000000001\"
 ";
 
+/// An instant as a fraction, and whether it is kept.
+const INSTANTS: &[(i128, u32, bool)] = &[
+    (0, 1, true),
+    (-1, 8_388_608, false),
+    (1_999_999_999_999, 2, true),
+    (2_000_000_000_000, 2, false),
+    (2_999_999_999_999, 1, false),
+    (3_000_000_000_000, 1, true),
+    (8_000_000_000_001, 2, true),
+    (8_000_000_000_002, 2, false),
+    (12_000_000_000_002, 3, true),
+];
+
 #[test]
 fn keeps_instants_from_the_first_bound_on_and_before_the_second(
     rt: HostRuntime,
 ) -> Result<(), Fail> {
     let claim = Claim::read(rt.alloc(), CLAIM.as_bytes())?;
-    for (num, den, want) in [
-        (0, 1, true),
-        (-1, 8_388_608, false),
-        (1_999_999_999_999, 2, true),
-        (2_000_000_000_000, 2, false),
-        (2_999_999_999_999, 1, false),
-        (3_000_000_000_000, 1, true),
-        (8_000_000_000_001, 2, true),
-        (8_000_000_000_002, 2, false),
-        (12_000_000_000_002, 3, true),
-    ] {
-        assert_eq!(rt; claim.keeps_instant(num, den), want, "at {num} / {den}");
+    for (num, den, want) in INSTANTS {
+        let kept = claim.keeps_instant(*num, *den);
+        assert_eq!(rt; kept, *want, "at {num} / {den}");
     }
     Ok(())
 }
@@ -49,40 +53,54 @@ fn keeps_the_half_picosecond_before_the_end(rt: HostRuntime) -> Result<(), Fail>
     Ok(())
 }
 
+/// The onset and the text of an annotation, and whether it is kept.
+const ANNOTATIONS: &[(i128, &str, bool)] = &[
+    (0, "Apnea", true),
+    (-1, "Apnea", false),
+    (999_999_999_999, "", true),
+    (1_000_000_000_000, "Apnea", false),
+    (3_000_000_000_000, "Apnea", true),
+    (0, "Lights off", false),
+    (0, "lights off", true),
+    (0, "Lights off ", true),
+];
+
 #[test]
 fn keeps_annotations_by_onset_and_text(rt: HostRuntime) -> Result<(), Fail> {
     let claim = Claim::read(rt.alloc(), CLAIM.as_bytes())?;
-    for (onset, text, want) in [
-        (0, "Apnea", true),
-        (-1, "Apnea", false),
-        (999_999_999_999, "", true),
-        (1_000_000_000_000, "Apnea", false),
-        (3_000_000_000_000, "Apnea", true),
-        (0, "Lights off", false),
-        (0, "lights off", true),
-        (0, "Lights off ", true),
-    ] {
-        assert_eq!(rt;
-            claim.keeps_annotation(onset, text),
-            want,
-            "at {onset} {text}"
-        );
+    for (onset, text, want) in ANNOTATIONS {
+        let kept = claim.keeps_annotation(*onset, text);
+        assert_eq!(rt; kept, *want, "at {onset} {text}");
     }
     Ok(())
+}
+
+/// Whether the claim keeps these channels, in this order, and no other.
+fn has_channels(claim: &Claim) -> bool {
+    match claim.channels() {
+        [eeg, ecg] => {
+            eeg.as_slice() == b"EEG Fpz-Cz".as_slice() && ecg.as_slice() == b"ECG".as_slice()
+        }
+        _ => false,
+    }
 }
 
 #[test]
 fn tells_the_channels_and_the_rest(rt: HostRuntime) -> Result<(), Fail> {
     let claim = Claim::read(rt.alloc(), CLAIM.as_bytes())?;
-    assert_eq!(rt; claim.channels().len(), 2);
-    assert_eq!(rt; claim.channels()[0].as_slice(), "EEG Fpz-Cz".as_bytes());
-    assert_eq!(rt; claim.channels()[1].as_slice(), "ECG".as_bytes());
-    assert_eq!(rt; claim.keeps_channel(b"ECG"), true);
-    assert_eq!(rt; claim.keeps_channel(b"ecg"), false);
-    assert_eq!(rt; claim.keeps_channel(b"ECG "), false);
-    assert_eq!(rt; claim.is_anonymous(Which::Name), true);
-    assert_eq!(rt; claim.is_anonymous(Which::RecordingExtras), true);
-    assert_eq!(rt; claim.is_anonymous(Which::Code), false);
+    assert!(rt; has_channels(&claim));
+    let kept = (
+        claim.keeps_channel(b"ECG"),
+        claim.keeps_channel(b"ecg"),
+        claim.keeps_channel(b"ECG "),
+    );
+    assert_eq!(rt; kept, (true, false, false));
+    let hidden = (
+        claim.is_anonymous(Which::Name),
+        claim.is_anonymous(Which::RecordingExtras),
+        claim.is_anonymous(Which::Code),
+    );
+    assert_eq!(rt; hidden, (true, true, false));
     assert_eq!(rt; claim.shift_ps(), -86_400_000_000_000_000);
     Ok(())
 }

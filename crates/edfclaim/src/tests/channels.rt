@@ -1,4 +1,4 @@
-//! Files with several channels, and with several annotation signals.
+//! Files with several channels.
 
 use crate::claim::Claim;
 use crate::tests::support::{
@@ -6,6 +6,7 @@ use crate::tests::support::{
     small_file,
 };
 use std::alloc::{AllocError, Global};
+use std::process::Abort;
 use std::test::Fail;
 
 /// The header of a file of one data record of 1 s with three signals.
@@ -38,48 +39,86 @@ fn flow_file(alloc: Global) -> Result<Vec<u8>, AllocError> {
     Ok(file)
 }
 
+/// One of the two files: the small one, or the one with a channel `Flow` in front.
+#[derive(Clone, Copy)]
+enum Built {
+    Small,
+    WithFlow,
+}
+
+/// The bytes of the file.
+fn bytes_of(alloc: Global, file: Built) -> Result<Vec<u8>, AllocError> {
+    match file {
+        Built::Small => small_file(alloc),
+        Built::WithFlow => flow_file(alloc),
+    }
+}
+
+/// The original, the export, and the line of the check.
+type Files = (Built, Built, &'static str);
+
+const TEMP_CLAIMED: &[Files] = &[
+    (
+        Built::WithFlow,
+        Built::WithFlow,
+        "NO 5 extra channel \"Flow\"\n",
+    ),
+    (
+        Built::WithFlow,
+        Built::Small,
+        "YES channels 1 samples 2 annotations 0\n",
+    ),
+];
+
+const TEMP_AND_FLOW_CLAIMED: &[Files] = &[
+    (
+        Built::WithFlow,
+        Built::WithFlow,
+        "YES channels 2 samples 3 annotations 0\n",
+    ),
+    (
+        Built::Small,
+        Built::WithFlow,
+        "NO 3 unknown channel \"Flow\"\n",
+    ),
+    (
+        Built::WithFlow,
+        Built::Small,
+        "NO 4 missing channel \"Flow\"\n",
+    ),
+];
+
+const PULSE_CLAIMED: &[Files] = &[(
+    Built::WithFlow,
+    Built::WithFlow,
+    "NO 3 unknown channel \"Pulse\"\n",
+)];
+
+/// Compares the lines of the check of these files with those beside them.
+fn compare_files(
+    rt: &impl Abort,
+    alloc: Global,
+    claim: &Claim,
+    rows: &[Files],
+) -> Result<(), Fail> {
+    for (original, export, want) in rows {
+        let original = bytes_of(alloc, *original)?;
+        let export = bytes_of(alloc, *export)?;
+        let line = line_of(alloc, &original, &export, claim)?;
+        assert_eq!(rt; line.as_str(), *want);
+    }
+    Ok(())
+}
+
 #[test]
 fn finds_every_claimed_channel(rt: HostRuntime) -> Result<(), Fail> {
     let alloc = rt.alloc();
-    let temp = small_file(alloc)?;
-    let both = flow_file(alloc)?;
-    assert_eq!(rt; both.len(), 1062);
-    let only_temp = six_seconds(alloc)?;
-    let temp_flow = Claim::plain(alloc, &[b"Temp", b"Flow"], 0, 6_000_000_000_000)?;
-    let flow_temp = Claim::plain(alloc, &[b"Flow", b"Temp"], 0, 6_000_000_000_000)?;
-    let unknown = Claim::plain(
-        alloc,
-        &[b"Temp", b"Pulse", b"Flow", b"Acc"],
-        0,
-        6_000_000_000_000,
-    )?;
-    for (original, export, claim, want) in [
-        (
-            &both,
-            &both,
-            &temp_flow,
-            "YES channels 2 samples 3 annotations 0\n",
-        ),
-        (
-            &both,
-            &both,
-            &flow_temp,
-            "YES channels 2 samples 3 annotations 0\n",
-        ),
-        (&both, &both, &only_temp, "NO 5 extra channel \"Flow\"\n"),
-        (&temp, &both, &temp_flow, "NO 3 unknown channel \"Flow\"\n"),
-        (&both, &temp, &temp_flow, "NO 4 missing channel \"Flow\"\n"),
-        (
-            &both,
-            &temp,
-            &only_temp,
-            "YES channels 1 samples 2 annotations 0\n",
-        ),
-        (&both, &both, &unknown, "NO 3 unknown channel \"Pulse\"\n"),
-    ] {
-        assert_eq!(rt; line_of(alloc, original, export, claim)?.as_str(), want);
-    }
-    Ok(())
+    let both = Claim::plain(alloc, &[b"Temp", b"Flow"], 0, 6_000_000_000_000)?;
+    let pulse = Claim::plain(alloc, &[b"Temp", b"Pulse", b"Acc"], 0, 6_000_000_000_000)?;
+    assert_eq!(rt; flow_file(alloc)?.len(), 1062);
+    compare_files(&rt, alloc, &six_seconds(alloc)?, TEMP_CLAIMED)?;
+    compare_files(&rt, alloc, &both, TEMP_AND_FLOW_CLAIMED)?;
+    compare_files(&rt, alloc, &pulse, PULSE_CLAIMED)
 }
 
 /// A file of one data record with three channels of one sample, an annotation signal before the last of
@@ -109,57 +148,62 @@ fn three_channels(
     Ok(file)
 }
 
-#[test]
-fn names_the_least_label(rt: HostRuntime) -> Result<(), Fail> {
-    let alloc = rt.alloc();
+/// The labels of the export's channels, their values, and the line of the check.
+type Named = ([&'static str; 3], [i16; 3], &'static str);
+
+const ALL_CLAIMED: &[Named] = &[
+    (
+        ["b", "ab", "B"],
+        [1, 2, 3],
+        "YES channels 3 samples 3 annotations 0\n",
+    ),
+    (
+        ["b", "ab", "B"],
+        [0, 0, 0],
+        "NO 10 sample \"B\" at 0 ps original 3 export 0\n",
+    ),
+    (
+        ["B", "b", "ab"],
+        [0, 0, 0],
+        "NO 10 sample \"B\" at 0 ps original 3 export 0\n",
+    ),
+    (
+        ["ab", "b", "B"],
+        [0, 0, 3],
+        "NO 10 sample \"ab\" at 0 ps original 2 export 0\n",
+    ),
+    (["c", "ab", "d"], [1, 2, 3], "NO 4 missing channel \"b\"\n"),
+];
+
+const ONE_CLAIMED: &[Named] = &[
+    (["b", "ab", "B"], [1, 2, 3], "NO 5 extra channel \"B\"\n"),
+    (["B", "b", "ab"], [0, 0, 0], "NO 5 extra channel \"B\"\n"),
+];
+
+/// Compares the lines of the check of the file with these channels and of others with those beside
+/// them.
+fn compare_channels(
+    rt: &impl Abort,
+    alloc: Global,
+    claim: &Claim,
+    rows: &[Named],
+) -> Result<(), Fail> {
     let original = three_channels(alloc, ["b", "ab", "B"], [1, 2, 3])?;
-    let others = three_channels(alloc, ["b", "ab", "B"], [0, 0, 0])?;
-    let moved = three_channels(alloc, ["B", "b", "ab"], [0, 0, 0])?;
-    let two = three_channels(alloc, ["ab", "b", "B"], [0, 0, 3])?;
-    let all = Claim::plain(alloc, &[b"b", b"ab", b"B"], 0, 6_000_000_000_000)?;
-    let one = Claim::plain(alloc, &[b"ab"], 0, 6_000_000_000_000)?;
-    let other = Claim::plain(alloc, &[b"B"], 0, 6_000_000_000_000)?;
-    for (export, claim, want) in [
-        (&original, &all, "YES channels 3 samples 3 annotations 0\n"),
-        (
-            &others,
-            &all,
-            "NO 10 sample \"B\" at 0 ps original 3 export 0\n",
-        ),
-        (
-            &moved,
-            &all,
-            "NO 10 sample \"B\" at 0 ps original 3 export 0\n",
-        ),
-        (
-            &two,
-            &all,
-            "NO 10 sample \"ab\" at 0 ps original 2 export 0\n",
-        ),
-        (&original, &one, "NO 5 extra channel \"B\"\n"),
-        (&moved, &one, "NO 5 extra channel \"B\"\n"),
-        (&original, &other, "NO 5 extra channel \"ab\"\n"),
-        (&moved, &other, "NO 5 extra channel \"ab\"\n"),
-    ] {
-        assert_eq!(rt; line_of(alloc, &original, export, claim)?.as_str(), want);
+    for (labels, values, want) in rows {
+        let export = three_channels(alloc, *labels, *values)?;
+        let line = line_of(alloc, &original, &export, claim)?;
+        assert_eq!(rt; line.as_str(), *want);
     }
     Ok(())
 }
 
 #[test]
-fn names_the_first_missing_label(rt: HostRuntime) -> Result<(), Fail> {
+fn names_the_least_label(rt: HostRuntime) -> Result<(), Fail> {
     let alloc = rt.alloc();
-    let original = three_channels(alloc, ["b", "ab", "B"], [1, 2, 3])?;
-    let export = three_channels(alloc, ["c", "ab", "d"], [1, 2, 3])?;
-    let claim = Claim::plain(alloc, &[b"ab", b"b", b"B"], 0, 6_000_000_000_000)?;
-    let other = Claim::plain(alloc, &[b"ab", b"B", b"b"], 0, 6_000_000_000_000)?;
-    for (claim, want) in [
-        (&claim, "NO 4 missing channel \"b\"\n"),
-        (&other, "NO 4 missing channel \"B\"\n"),
-    ] {
-        assert_eq!(rt; line_of(alloc, &original, &export, claim)?.as_str(), want);
-    }
-    Ok(())
+    let all = Claim::plain(alloc, &[b"b", b"ab", b"B"], 0, 6_000_000_000_000)?;
+    let one = Claim::plain(alloc, &[b"ab"], 0, 6_000_000_000_000)?;
+    compare_channels(&rt, alloc, &all, ALL_CLAIMED)?;
+    compare_channels(&rt, alloc, &one, ONE_CLAIMED)
 }
 
 /// A file with a channel `slow` of 2 and a channel `fast` of 3 samples a data record.
@@ -217,89 +261,8 @@ fn names_the_earliest_instant_of_all_channels(rt: HostRuntime) -> Result<(), Fai
     let original = two_rates(alloc, [1, 2], [3, 4, 5])?;
     for (slow, fast, want) in EARLIEST {
         let export = two_rates(alloc, slow, fast)?;
-        assert_eq!(rt; line_of(alloc, &original, &export, &claim)?.as_str(), want);
-    }
-    Ok(())
-}
-
-/// The header of a file whose four signals have these labels, the third of them so many samples.
-fn four_labels(alloc: Global, labels: [&str; 4], samples: &str) -> Result<Vec<u8>, AllocError> {
-    let [a, b, c, d] = labels;
-    let columns = [
-        channel(a, "1"),
-        channel(b, "1"),
-        channel(c, samples),
-        channel(d, "1"),
-    ];
-    let shape = Shape {
-        header_bytes: "1280",
-        count: "4",
-        ..three_signals(&columns)
-    };
-    header_of(alloc, shape)
-}
-
-/// The labels of four signals, how many samples the third has, and the fault of the file.
-const REPEATED: [([&str; 4], &str, &str); 8] = [
-    (
-        ["a", "a", "EDF Annotations", "b"],
-        "16",
-        "DuplicateLabel at signal 1 field label",
-    ),
-    (
-        ["a", "EDF Annotations", "b", "a"],
-        "16",
-        "DuplicateLabel at signal 3 field label",
-    ),
-    (
-        ["a", "b", "EDF Annotations", "b"],
-        "99999999",
-        "DuplicateLabel at signal 3 field label",
-    ),
-    (
-        ["a", "b", "a", "b"],
-        "16",
-        "NoAnnotationSignal at header field signals",
-    ),
-    (
-        ["", "EDF Annotations", "", "a"],
-        "16",
-        "DuplicateLabel at signal 2 field label",
-    ),
-    (
-        ["a", "EDF Annotations", "EDF Annotations", "A"],
-        "16",
-        "Truncated at record 0",
-    ),
-    (
-        ["EDF Annotations", "a", "b", "EDF Annotations"],
-        "99999999",
-        "RecordTooLarge at header field signals",
-    ),
-    (
-        [
-            "EDF Annotations",
-            "EDF Annotations",
-            "EDF Annotations",
-            "EDF Annotations",
-        ],
-        "16",
-        "NoOrdinarySignal at header field signals",
-    ),
-];
-
-#[test]
-fn refuses_the_first_repeated_label(rt: HostRuntime) -> Result<(), Fail> {
-    let alloc = rt.alloc();
-    let file = small_file(alloc)?;
-    let claim = six_seconds(alloc)?;
-    for (labels, samples, fault) in REPEATED {
-        let export = four_labels(alloc, labels, samples)?;
-        let want = format!(in alloc; "NO 2 export fault: {fault}\n")?;
-        assert_eq!(rt;
-            line_of(alloc, &file, &export, &claim)?.as_str(),
-            want.as_str()
-        );
+        let line = line_of(alloc, &original, &export, &claim)?;
+        assert_eq!(rt; line.as_str(), want);
     }
     Ok(())
 }

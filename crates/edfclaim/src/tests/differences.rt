@@ -41,46 +41,34 @@ fn longer_file(alloc: Global) -> Result<Vec<u8>, AllocError> {
     Ok(longer)
 }
 
-#[test]
-fn compares_a_file_with_its_changes(rt: HostRuntime) -> Result<(), Fail> {
-    let alloc = rt.alloc();
-    let longer = longer_file(alloc)?;
-    assert_eq!(rt; longer.len(), 805);
-    assert_eq!(rt; &longer[768..772], b"\x07\x00\xf9\xff".as_slice());
-    let claim = six_seconds(alloc)?;
-    let file = front(&longer, 804);
-    for (export, want) in [
-        (file, YES_2),
-        (
-            front(file, 803),
-            "NO 2 export fault: Truncated at record 0\n",
-        ),
-        (&longer[..], "NO 2 export fault: TrailingBytes at end\n"),
-        (
-            b"",
-            "NO 2 export fault: Truncated at header field version\n",
-        ),
-    ] {
-        assert_eq!(rt; line_of(alloc, file, export, &claim)?.as_str(), want);
-    }
-    Ok(())
-}
+/// How many bytes of the longer file the original and the export have, and the line of the check.
+const LENGTHS: &[(usize, usize, &str)] = &[
+    (804, 804, YES_2),
+    (804, 803, "NO 2 export fault: Truncated at record 0\n"),
+    (804, 805, "NO 2 export fault: TrailingBytes at end\n"),
+    (
+        804,
+        0,
+        "NO 2 export fault: Truncated at header field version\n",
+    ),
+    (
+        0,
+        805,
+        "NO 1 original fault: Truncated at header field version\n",
+    ),
+    (805, 0, "NO 1 original fault: TrailingBytes at end\n"),
+];
 
 #[test]
-fn judges_the_original_first(rt: HostRuntime) -> Result<(), Fail> {
+fn judges_each_file_and_the_original_first(rt: HostRuntime) -> Result<(), Fail> {
     let alloc = rt.alloc();
     let longer = longer_file(alloc)?;
     let claim = six_seconds(alloc)?;
-    let file = front(&longer, 804);
-    let empty = "NO 1 original fault: Truncated at header field version\n";
-    let trailing = "NO 1 original fault: TrailingBytes at end\n";
-    for (original, export, want) in [
-        (&b""[..], file, empty),
-        (&longer[..], file, trailing),
-        (b"", &longer[..], empty),
-        (&longer[..], b"", trailing),
-    ] {
-        assert_eq!(rt; line_of(alloc, original, export, &claim)?.as_str(), want);
+    assert_eq!(rt; longer.len(), 805);
+    for (original, export, want) in LENGTHS {
+        let (original, export) = (front(&longer, *original), front(&longer, *export));
+        let line = line_of(alloc, original, export, &claim)?;
+        assert_eq!(rt; line.as_str(), *want);
     }
     Ok(())
 }
@@ -136,42 +124,25 @@ fn finds_channels_by_their_labels(rt: HostRuntime) -> Result<(), Fail> {
     compare_labels(&rt, alloc, &both, BOTH_CLAIMED)
 }
 
-/// Under a claim of the label of 16 bytes.
-const SIXTEEN_CLAIMED: &[Labels] = &[
-    ("Sixteen letters.", "Sixteen letters.", YES_2),
-    (
-        "Sixteen letters.",
-        "Temp",
-        "NO 4 missing channel \"Sixteen letters.\"\n",
-    ),
-];
-
 /// Under a claim of a label that isn't printed as it stands.
 const MARKS_CLAIMED: &[Labels] = &[
     ("a\"\\b", "a\"\\b", YES_2),
     ("a\"\\b", "Temp", "NO 4 missing channel \"a\\x22\\x5cb\"\n"),
 ];
 
+/// Under a claim of the empty label.
+const NOTHING_CLAIMED: &[Labels] = &[
+    ("", "", YES_2),
+    ("Temp", "Temp", "NO 3 unknown channel \"\"\n"),
+];
+
 #[test]
 fn takes_odd_labels(rt: HostRuntime) -> Result<(), Fail> {
     let alloc = rt.alloc();
     let none = Claim::plain(alloc, &[b""], 0, 6_000_000_000_000)?;
-    let sixteen = Claim::plain(alloc, &[b"Sixteen letters."], 0, 6_000_000_000_000)?;
     let marks = Claim::plain(alloc, &[b"a\"\\b"], 0, 6_000_000_000_000)?;
-    let lanes = Claim::plain(alloc, &[b"EDF Annotations"], 0, 6_000_000_000_000)?;
-    let unknown = "NO 3 unknown channel \"EDF Annotations\"\n";
-    compare_labels(
-        &rt,
-        alloc,
-        &none,
-        &[
-            ("", "", YES_2),
-            ("Temp", "Temp", "NO 3 unknown channel \"\"\n"),
-        ],
-    )?;
-    compare_labels(&rt, alloc, &sixteen, SIXTEEN_CLAIMED)?;
-    compare_labels(&rt, alloc, &marks, MARKS_CLAIMED)?;
-    compare_labels(&rt, alloc, &lanes, &[("Temp", "Temp", unknown)])
+    compare_labels(&rt, alloc, &none, NOTHING_CLAIMED)?;
+    compare_labels(&rt, alloc, &marks, MARKS_CLAIMED)
 }
 
 /// The same samples in two data records.
@@ -413,38 +384,46 @@ fn compares_files_of_many_records(rt: HostRuntime) -> Result<(), Fail> {
     compare_cuts(&rt, rt.alloc(), &six_seconds(rt.alloc())?, MANY_RECORDS)
 }
 
+/// The first sample alone, in half a second.
+const FRONT: Cut<'static> = Cut {
+    duration: "0.5",
+    samples: "1",
+    parts: &[(&[7], "+0")],
+    ..SMALL
+};
+
+/// Kept up to the second sample, which isn't.
+const FIRST_KEPT: &[Cuts] = &[
+    (
+        SMALL,
+        SMALL,
+        "NO 10 sample \"Temp\" at 500000000000 ps extra\n",
+    ),
+    (SMALL, FRONT, YES_1),
+];
+
+/// Kept up to a picosecond behind it.
+const BOTH_KEPT: &[Cuts] = &[
+    (SMALL, SMALL, YES_2),
+    (
+        SMALL,
+        FRONT,
+        "NO 10 sample \"Temp\" at 500000000000 ps missing\n",
+    ),
+];
+
+/// Kept from the second sample on.
+const SECOND_KEPT: &[Cuts] = &[(SMALL, SMALL, "NO 10 sample \"Temp\" at 0 ps extra\n")];
+
 #[test]
 fn keeps_from_the_first_bound_to_before_the_last(rt: HostRuntime) -> Result<(), Fail> {
     let alloc = rt.alloc();
-    let one = Cut {
-        duration: "0.5",
-        samples: "1",
-        parts: &[(&[7], "+0")],
-        ..SMALL
-    };
     let first = temp_claim(alloc, 0, 500_000_000_000)?;
     let both = temp_claim(alloc, 0, 500_000_000_001)?;
     let second = temp_claim(alloc, 500_000_000_000, 6_000_000_000_000)?;
-    let none = temp_claim(alloc, 500_000_000_001, 6_000_000_000_000)?;
-    for (export, claim, want) in [
-        (
-            SMALL,
-            &first,
-            "NO 10 sample \"Temp\" at 500000000000 ps extra\n",
-        ),
-        (one, &first, YES_1),
-        (SMALL, &both, YES_2),
-        (
-            one,
-            &both,
-            "NO 10 sample \"Temp\" at 500000000000 ps missing\n",
-        ),
-        (SMALL, &second, "NO 10 sample \"Temp\" at 0 ps extra\n"),
-        (SMALL, &none, "NO 10 sample \"Temp\" at 0 ps extra\n"),
-    ] {
-        assert_eq!(rt; line_of_cuts(alloc, SMALL, export, claim)?.as_str(), want);
-    }
-    Ok(())
+    compare_cuts(&rt, alloc, &first, FIRST_KEPT)?;
+    compare_cuts(&rt, alloc, &both, BOTH_KEPT)?;
+    compare_cuts(&rt, alloc, &second, SECOND_KEPT)
 }
 
 /// The annotation signal first.
@@ -473,31 +452,4 @@ const EXCHANGES: &[Cuts] = &[
 #[test]
 fn takes_the_annotation_signal_first(rt: HostRuntime) -> Result<(), Fail> {
     compare_cuts(&rt, rt.alloc(), &six_seconds(rt.alloc())?, EXCHANGES)
-}
-
-/// Whether the tests of a file look at the byte at this place of the small file.
-fn is_judged(place: usize) -> bool {
-    matches!(place, 184..=196 | 236..=287 | 688..=703 | 768..)
-}
-
-/// The file with every byte replaced that no test looks at.
-fn scrawled(alloc: Global, file: &[u8]) -> Result<Vec<u8>, AllocError> {
-    let mut other = Vec::new(alloc);
-    for (place, byte) in file.iter().enumerate() {
-        other.push(if is_judged(place) { *byte } else { 200 })?;
-    }
-    Ok(other)
-}
-
-#[test]
-fn looks_at_no_other_bytes(rt: HostRuntime) -> Result<(), Fail> {
-    let alloc = rt.alloc();
-    let file = small_file(alloc)?;
-    let other = scrawled(alloc, &file)?;
-    let claim = six_seconds(alloc)?;
-    assert_ne!(rt; &other[..], &file[..]);
-    for (original, export) in [(&file, &other), (&other, &file), (&other, &other)] {
-        assert_eq!(rt; line_of(alloc, original, export, &claim)?.as_str(), YES_2);
-    }
-    Ok(())
 }

@@ -1,12 +1,9 @@
-//! Samples, instants, intervals and differences by hand.
+//! Samples, instants and differences by hand.
 
-use crate::claim::Interval;
 use crate::difference::{Mismatch, SampleDifference, channel_difference};
 use crate::instant::Instant;
 use crate::sample::Sample;
-use crate::tests::support::temp_claim;
 use crate::value::sample_value;
-use std::test::Fail;
 
 #[test]
 fn reads_two_bytes_the_low_one_first(rt: HostRuntime) {
@@ -51,32 +48,6 @@ fn rounds_instants_down(rt: HostRuntime) {
             "of {num} / {den}"
         );
     }
-}
-
-#[test]
-fn keeps_the_first_bound_and_not_the_last(rt: HostRuntime) -> Result<(), Fail> {
-    let interval = Interval {
-        from_ps: 1_000_000_000_000,
-        to_ps: 4_000_000_000_000,
-    };
-    let claim = temp_claim(rt.alloc(), 1_000_000_000_000, 4_000_000_000_000)?;
-    for (num, den, want) in [
-        (999_999_999_999i128, 1u32, false),
-        (1_999_999_999_999, 2, false),
-        (1_000_000_000_000, 1, true),
-        (2_000_000_000_000, 2, true),
-        (3_999_999_999_999, 1, true),
-        (7_999_999_999_999, 2, true),
-        (8_000_000_000_000, 2, false),
-        (4_000_000_000_000, 1, false),
-        (4_000_000_000_001, 1, false),
-        (-1, 1, false),
-    ] {
-        let den = den.clamp(1, 2);
-        assert_eq!(rt; interval.contains(num, den), want, "at {num} / {den}");
-        assert_eq!(rt; claim.keeps_instant(num, den), want, "at {num} / {den}");
-    }
-    Ok(())
 }
 
 fn found(num: i128, den: u32, mismatch: Mismatch) -> Option<SampleDifference> {

@@ -60,21 +60,6 @@ enum Ended {
     Wrong,
 }
 
-fn made_claim(alloc: Global) -> Ended {
-    match Claim::plain(
-        alloc,
-        &[b"Temp", b"Flow", b"Sixteen letters."],
-        0,
-        6_000_000_000_000,
-    ) {
-        Ok(claim) => match claim.channels() {
-            [a, b, c] if a.len() == 4 && b.len() == 4 && c.len() == 16 => Ended::Right,
-            _ => Ended::Wrong,
-        },
-        Err(AllocError) => Ended::Wanting,
-    }
-}
-
 fn checked(alloc: Global, file: &[u8], claim: &Claim) -> Ended {
     let mut original = SliceSource::new(file);
     let mut export = SliceSource::new(file);
@@ -106,14 +91,12 @@ fn wrote_rows(alloc: Global) -> Ended {
 /// One of the calls.
 #[derive(Clone, Copy)]
 enum Call {
-    Making,
     Checking,
     Writing,
 }
 
 fn called(alloc: Global, call: Call, file: &[u8], claim: &Claim) -> Ended {
     match call {
-        Call::Making => made_claim(alloc),
         Call::Checking => checked(alloc, file, claim),
         Call::Writing => wrote_rows(alloc),
     }
@@ -146,14 +129,6 @@ fn rise(alloc: Global, call: Call) -> Result<(Ended, u64), AllocError> {
         }
     }
     Ok((Ended::Wanting, refused))
-}
-
-#[test]
-fn makes_a_claim_or_wants_memory(rt: HostRuntime) -> Result<(), Fail> {
-    let (last, refused) = rise(rt.alloc(), Call::Making)?;
-    assert_eq!(rt; last, Ended::Right);
-    assert!(rt; refused > 0);
-    Ok(())
 }
 
 #[test]

@@ -5,7 +5,7 @@ ghost use Rattle.std.specs.Prelude.{[], true, false};
 use crate::check::check;
 use crate::claim::Claim;
 use crate::side::{CheckStop, Side};
-use crate::tests::support::{LABEL_0, edited, six_seconds, small_file};
+use crate::tests::support::{front, six_seconds, small_file};
 use edf_fields::source::{ReadFault, SliceSource, Source};
 use std::alloc::Global;
 use std::test::Fail;
@@ -130,47 +130,30 @@ fn line_from<O: Source, E: Source>(
 
 const YES: &str = "YES channels 1 samples 2 annotations 0\n";
 
+/// How many bytes of the longer file the export has, and the line of the check.
+const LENGTHS: &[(usize, &str)] = &[
+    (804, YES),
+    (803, "NO 2 export fault: Truncated at record 0\n"),
+    (805, "NO 2 export fault: TrailingBytes at end\n"),
+    (0, "NO 2 export fault: Truncated at header field version\n"),
+];
+
 #[test]
 fn reads_byte_by_byte(rt: HostRuntime) -> Result<(), Fail> {
     let alloc = rt.alloc();
-    let file = small_file(alloc)?;
-    let flow = edited(alloc, &file, &[(LABEL_0, "Flow")])?;
-    let mut longer = Vec::from_slice(alloc, &file)?;
+    let mut longer = small_file(alloc)?;
     longer.push(0)?;
-    let mut lower = Vec::from_slice(alloc, &file)?;
-    if let Some(slot) = lower.get_mut(770) {
-        *slot = 0xf8;
-    }
     let claim = six_seconds(alloc)?;
-    for (export, want) in [
-        (&file[..], YES),
-        (
-            &lower[..],
-            "NO 10 sample \"Temp\" at 500000000000 ps original -7 export -8\n",
-        ),
-        (
-            &file[..file.len().saturating_sub(1)],
-            "NO 2 export fault: Truncated at record 0\n",
-        ),
-        (&longer[..], "NO 2 export fault: TrailingBytes at end\n"),
-        (&flow[..], "NO 4 missing channel \"Temp\"\n"),
-        (
-            b"",
-            "NO 2 export fault: Truncated at header field version\n",
-        ),
-    ] {
-        let mut first = Drip { rest: &file };
-        let mut second = Drip { rest: export };
+    for (count, want) in LENGTHS {
+        let mut first = Drip {
+            rest: front(&longer, 804),
+        };
+        let mut second = Drip {
+            rest: front(&longer, *count),
+        };
         let line = line_from(alloc, &mut first, &mut second, &claim)?;
-        assert_eq!(rt; line.as_str(), want);
+        assert_eq!(rt; line.as_str(), *want);
     }
-    let mut first = Drip { rest: &longer };
-    let mut second = SliceSource::new(&file);
-    let line = line_from(alloc, &mut first, &mut second, &claim)?;
-    assert_eq!(rt;
-        line.as_str(),
-        "NO 1 original fault: TrailingBytes at end\n"
-    );
     Ok(())
 }
 
@@ -232,19 +215,6 @@ fn asks_for_one_byte_behind_the_end(rt: HostRuntime) -> Result<(), Fail> {
     let mut second = Endless { rest: &file };
     let line = line_from(alloc, &mut first, &mut second, &claim)?;
     assert_eq!(rt; line.as_str(), "NO 2 export fault: TrailingBytes at end\n");
-    let mut first = Endless { rest: &file };
-    let mut second = SliceSource::new(&file);
-    let line = line_from(alloc, &mut first, &mut second, &claim)?;
-    assert_eq!(rt;
-        line.as_str(),
-        "NO 1 original fault: TrailingBytes at end\n"
-    );
-    let mut first = Endless { rest: b"" };
-    let line = line_from(alloc, &mut first, &mut SliceSource::new(&file), &claim)?;
-    assert_eq!(rt;
-        line.as_str(),
-        "NO 1 original fault: BadNumber at header field header-bytes\n"
-    );
     Ok(())
 }
 

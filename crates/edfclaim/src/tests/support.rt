@@ -15,49 +15,9 @@ pub struct Field {
     pub bytes: usize,
 }
 
-pub const HEADER_BYTES: Field = Field {
-    from: 184,
-    bytes: 8,
-};
-
-pub const RESERVED: Field = Field {
-    from: 192,
-    bytes: 44,
-};
-
-pub const RECORDS: Field = Field {
-    from: 236,
-    bytes: 8,
-};
-
-pub const DURATION: Field = Field {
-    from: 244,
-    bytes: 8,
-};
-
-pub const SIGNALS: Field = Field {
-    from: 252,
-    bytes: 4,
-};
-
 pub const LABEL_0: Field = Field {
     from: 256,
     bytes: 16,
-};
-
-pub const LABEL_1: Field = Field {
-    from: 272,
-    bytes: 16,
-};
-
-pub const SAMPLES_0: Field = Field {
-    from: 688,
-    bytes: 8,
-};
-
-pub const SAMPLES_1: Field = Field {
-    from: 696,
-    bytes: 8,
 };
 
 /// How the samples of a channel `Temp` are cut into data records.
