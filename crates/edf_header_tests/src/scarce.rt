@@ -1,0 +1,151 @@
+//! Calls under ever more memory: each refused growth is answered, until there is enough.
+
+use crate::file::{Edit, edited, is_reference};
+use edf_fields::cause::FieldCause;
+use edf_fields::source::SliceSource;
+use edf_header::fault::{Cause, Fault, Place};
+use edf_header::header::Header;
+use edf_header::layout::{FixedField, SignalField};
+use edf_header::stop::Stop;
+use std::alloc::{AllocError, Global};
+
+type Blocks = Vec<Vec<u8>>;
+
+/// The most blocks that are held.
+const BLOCKS: usize = 250_000;
+
+/// The most steps.
+const STEPS: usize = 1000;
+
+/// The size of the region that a step gives back, of which it leaves a part.
+const REGION: usize = 1 << 14;
+
+/// Takes blocks of one size, as long as the heap gives them.
+fn take_blocks(alloc: Global, size: usize, blocks: &mut Blocks) {
+    for _ in 0..BLOCKS {
+        let Ok(block) = Vec::with_capacity(alloc, size) else {
+            return;
+        };
+        if blocks.len() >= BLOCKS || blocks.push(block).is_err() {
+            return;
+        }
+    }
+}
+
+/// Takes blocks of falling sizes, as long as the heap gives them. It keeps small blocks that were given
+/// back for the next that asks for their very size, so each small size is taken by itself.
+fn take_all(alloc: Global, largest: usize, blocks: &mut Blocks) {
+    let mut size = largest;
+    for _ in 0..48 {
+        if size <= 1024 {
+            break;
+        }
+        take_blocks(alloc, size, blocks);
+        size /= 2;
+    }
+    for units in 1..=64usize {
+        take_blocks(alloc, 1040 - 16 * units, blocks);
+    }
+}
+
+/// The fault with the longest words.
+const LONGEST: Fault = Fault {
+    place: Place::AtSignal(65_535, SignalField::PhysicalMinimum),
+    cause: Cause::BadSubfields(FieldCause::TooFewSubfields),
+};
+
+const WORDS: &str = "BadSubfields(TooFewSubfields) at signal 65535 field physical-minimum";
+
+/// One of the calls: reading a file that has this fault or none, or saying the longest fault.
+#[derive(Clone, Copy)]
+enum Call {
+    Reading(Option<Fault>),
+    Saying,
+}
+
+/// Whether the call ends as it should, or none where it wants memory.
+fn called(alloc: Global, call: Call, file: &[u8]) -> Option<bool> {
+    let Call::Reading(fault) = call else {
+        let text = LONGEST.text(alloc).ok()?;
+        return Some(text.as_str() == WORDS);
+    };
+    match Header::read(alloc, &mut SliceSource::new(file)) {
+        Ok(header) => Some(fault.is_none() && is_reference(&header)),
+        Err(Stop::OutOfMemory) => None,
+        Err(stop) => Some(Some(stop) == fault.map(Stop::Fault)),
+    }
+}
+
+/// Regions of memory, one for each step.
+fn regions(alloc: Global) -> Result<Blocks, AllocError> {
+    let mut regions: Blocks = Vec::with_capacity(alloc, STEPS)?;
+    for _ in 0..STEPS {
+        let region = Vec::with_capacity(alloc, REGION)?;
+        regions.push(region)?;
+    }
+    Ok(regions)
+}
+
+/// Calls with ever more memory, until a call doesn't want any: whether that one ended as it should, and
+/// how many did want memory before.
+///
+/// All memory is taken, but for a region for each step. A step gives its region back and takes its
+/// front again, so that 16 bytes more than in the step before are left, in one piece.
+fn rise(alloc: Global, call: Call, file: &[u8]) -> Result<(bool, u64), AllocError> {
+    let mut blocks: Blocks = Vec::with_capacity(alloc, BLOCKS)?;
+    let mut regions = regions(alloc)?;
+    take_all(alloc, 1 << 46, &mut blocks);
+    let mut refused = 0u64;
+    for step in 2..STEPS {
+        drop(regions.pop());
+        let front = Vec::with_capacity(alloc, REGION - 16 * step)?;
+        let found = called(alloc, call, file);
+        blocks.push(front)?;
+        take_all(alloc, REGION, &mut blocks);
+        if let Some(right) = found {
+            return Ok((right, refused));
+        }
+        refused = refused.saturating_add(1);
+    }
+    Ok((false, refused))
+}
+
+/// How many reads want memory before one answers the fault at the place of the edit.
+fn refused(alloc: Global, edit: Edit, cause: Cause) -> Result<(bool, u64), AllocError> {
+    let (place, _) = edit;
+    let file = edited(alloc, &[edit])?;
+    rise(alloc, Call::Reading(Some(Fault { place, cause })), &file)
+}
+
+#[test]
+fn reads_a_header_or_wants_memory(rt: HostRuntime) -> Result<(), AllocError> {
+    let file = edited(rt.alloc(), &[])?;
+    let (is_right, refused) = rise(rt.alloc(), Call::Reading(None), &file)?;
+    assert!(rt; is_right && refused >= 64, "{refused}");
+    Ok(())
+}
+
+#[test]
+fn says_a_fault_or_wants_memory(rt: HostRuntime) -> Result<(), AllocError> {
+    let (is_right, refused) = rise(rt.alloc(), Call::Saying, b"")?;
+    assert!(rt; is_right && refused > 0, "{refused}");
+    Ok(())
+}
+
+/// A fault of the fixed part wants memory for its 256 bytes alone, 16 more a step.
+#[test]
+fn judges_the_fixed_part_before_it_asks_for_more(rt: HostRuntime) -> Result<(), AllocError> {
+    let edit = (Place::AtField(FixedField::Signals), "0");
+    let (is_right, refused) = refused(rt.alloc(), edit, Cause::BadRange)?;
+    assert!(rt; is_right && refused <= 16, "{refused}");
+    Ok(())
+}
+
+/// A fault of the columns wants memory for their 768 bytes beside.
+#[test]
+fn wants_memory_before_it_judges_the_columns(rt: HostRuntime) -> Result<(), AllocError> {
+    let edit = (Place::AtSignal(0, SignalField::Label), "\x1f");
+    let (is_right, refused) = refused(rt.alloc(), edit, Cause::NotPrintable)?;
+    assert!(rt; is_right && refused >= 60, "{refused}");
+    Ok(())
+}
