@@ -17,6 +17,4 @@ pub mod layout;
 mod read;
 pub mod signal;
 pub mod stop;
-#[cfg(test)]
-mod tests;
 mod together;
