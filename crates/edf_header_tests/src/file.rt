@@ -8,7 +8,7 @@ use edf_header::stop::Stop;
 use std::alloc::{AllocError, Global};
 
 /// The fields of the fixed part: the name, how many bytes it has, and its text in the reference file.
-pub const FIXED: [(FixedField, &str, usize, &str); 10] = [
+pub const FIXED: &[(FixedField, &str, usize, &str)] = &[
     (FixedField::Version, "version", 8, "0"),
     (FixedField::Patient, "patient", 80, PATIENT),
     (FixedField::Recording, "recording", 80, RECORDING),
@@ -27,7 +27,7 @@ const RECORDING: &str = "Startdate 02-MAR-2002 PSG-1234/2002 NN Telemetry03";
 
 /// The columns: the name, how many bytes of a signal it has, and the texts of the reference file's three
 /// signals.
-pub const COLUMNS: [(SignalField, &str, usize, Texts); 10] = [
+pub const COLUMNS: &[(SignalField, &str, usize, Texts)] = &[
     (SignalField::Label, "label", 16, LABELS),
     (SignalField::Transducer, "transducer", 80, TRANSDUCERS),
     (SignalField::Dimension, "dimension", 8, ["uV", "mV", ""]),
@@ -56,43 +56,20 @@ const MOST: Texts = ["2047", "2047", "32767"];
 
 const PREFILTERS: Texts = ["HP:0.1Hz LP:75Hz", "HP:0.1Hz LP:75Hz", ""];
 
-/// Puts the text behind the file, and spaces up to `width` bytes in all.
-fn push_field(file: &mut Vec<u8>, text: &str, width: usize) -> Result<(), AllocError> {
-    file.extend_from_slice(text.as_bytes())?;
-    for _ in text.len()..width {
-        file.push(b' ')?;
-    }
-    Ok(())
-}
-
-/// The fixed part of the reference file, and behind it these of its signals, by their numbers.
-pub fn header_of(alloc: Global, signals: &[usize]) -> Result<Vec<u8>, AllocError> {
-    let mut file = Vec::new(alloc);
-    for (_, _, width, text) in FIXED {
-        push_field(&mut file, text, width)?;
-    }
-    for (_, _, width, texts) in COLUMNS {
-        for signal in signals {
-            push_field(&mut file, texts.get(*signal).copied().unwrap_or(""), width)?;
-        }
-    }
-    Ok(file)
-}
-
 /// The field in which the byte stands, in a header of three signals.
 pub fn place_of(byte: usize) -> Option<Place> {
     let mut end = 0usize;
     for (field, _, width, _) in FIXED {
-        end = end.saturating_add(width);
+        end = end.saturating_add(*width);
         if byte < end {
-            return Some(Place::AtField(field));
+            return Some(Place::AtField(*field));
         }
     }
     for (field, _, width, _) in COLUMNS {
         for signal in 0..3u16 {
-            end = end.saturating_add(width);
+            end = end.saturating_add(*width);
             if byte < end {
-                return Some(Place::AtSignal(signal, field));
+                return Some(Place::AtSignal(signal, *field));
             }
         }
     }
@@ -103,19 +80,19 @@ pub fn place_of(byte: usize) -> Option<Place> {
 fn extent(place: Place, signals: usize) -> (usize, usize) {
     let mut from = 0usize;
     for (field, _, width, _) in FIXED {
-        if place == Place::AtField(field) {
-            return (from, width);
+        if place == Place::AtField(*field) {
+            return (from, *width);
         }
-        from = from.saturating_add(width);
+        from = from.saturating_add(*width);
     }
     for (field, _, width, _) in COLUMNS {
         let count = match place {
-            Place::AtSignal(signal, wanted) if wanted == field => usize::from(signal),
+            Place::AtSignal(signal, wanted) if wanted == *field => usize::from(signal),
             _ => signals,
         };
         from = from.saturating_add(width.saturating_mul(count));
         if count < signals {
-            return (from, width);
+            return (from, *width);
         }
     }
     (from, 0)
@@ -135,6 +112,22 @@ pub fn put(file: &mut [u8], place: Place, text: &str) {
             *slot = text.as_bytes().get(byte).copied().unwrap_or(b' ');
         }
     }
+}
+
+/// The fixed part of the reference file, and behind it these of its signals, by their numbers.
+pub fn header_of(alloc: Global, signals: &[usize]) -> Result<Vec<u8>, AllocError> {
+    let size = signals.len().saturating_add(1).saturating_mul(256);
+    let mut file = vec![in alloc; b' '; size]?;
+    for (field, _, _, text) in FIXED {
+        put(&mut file, Place::AtField(*field), text);
+    }
+    for (field, _, _, texts) in COLUMNS {
+        for (place, signal) in (0..=u16::MAX).zip(signals) {
+            let text = texts.get(*signal).copied().unwrap_or("");
+            put(&mut file, Place::AtSignal(place, *field), text);
+        }
+    }
+    Ok(file)
 }
 
 /// The header of the reference file with other texts in some of its fields.

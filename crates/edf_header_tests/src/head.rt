@@ -1,6 +1,7 @@
 //! The header of the reference file and of some others, value by value.
 
 use crate::file::{Edit, edited};
+use edf_fields::identification::{PatientId, RecordingId};
 use edf_fields::source::SliceSource;
 use edf_header::fault::Place::{AtField, AtSignal};
 use edf_header::header::Header;
@@ -8,6 +9,7 @@ use edf_header::kind::Kind;
 use edf_header::layout::{FixedField as Fixed, SignalField as Field};
 use edf_header::signal::Signal;
 use std::alloc::Global;
+use std::process::Abort;
 use std::test::Fail;
 
 /// The header of the reference file with these edits.
@@ -35,21 +37,27 @@ fn says_when_it_starts_and_how_its_records_lie(rt: HostRuntime) -> Result<(), Fa
     Ok(())
 }
 
-#[test]
-fn says_the_patient_and_the_recording(rt: HostRuntime) -> Result<(), Fail> {
-    let header = header(rt.alloc(), &[])?;
-    let patient = header.patient();
+fn assert_patient(rt: &impl Abort, patient: &PatientId) {
     assert_eq!(rt; patient.code(), b"MCH-0234567".as_slice());
     assert_eq!(rt; patient.sex(), b"F".as_slice());
     assert_eq!(rt; patient.birthdate(), b"02-MAY-1951".as_slice());
     assert_eq!(rt; patient.name(), b"Haagse_Harry".as_slice());
     assert!(rt; patient.extras().next().is_none());
-    let recording = header.recording();
+}
+
+fn assert_recording(rt: &impl Abort, recording: &RecordingId) {
     assert_eq!(rt; recording.date(), b"02-MAR-2002".as_slice());
     assert_eq!(rt; recording.admin(), b"PSG-1234/2002".as_slice());
     assert_eq!(rt; recording.technician(), b"NN".as_slice());
     assert_eq!(rt; recording.equipment(), b"Telemetry03".as_slice());
     assert!(rt; recording.extras().next().is_none());
+}
+
+#[test]
+fn says_the_patient_and_the_recording(rt: HostRuntime) -> Result<(), Fail> {
+    let header = header(rt.alloc(), &[])?;
+    assert_patient(&rt, &header.patient());
+    assert_recording(&rt, &header.recording());
     Ok(())
 }
 
@@ -75,29 +83,35 @@ fn lane(signal: &Signal) -> (u32, usize, bool) {
     (signal.samples(), signal.offset(), signal.is_annotations())
 }
 
+const LANES: [(u32, usize, bool); 3] = [(4, 0, false), (2, 8, false), (20, 12, true)];
+
+/// The physical extremes of each signal in units of 10^-7, and the digital ones.
+const EXTREMES: [(i64, i64, i16, i16); 3] = [
+    (-1_000_000_000, 1_000_000_000, -2048, 2047),
+    (-100_000_000, 100_000_000, -2048, 2047),
+    (-10_000_000, 10_000_000, -32768, 32767),
+];
+
 const ELECTRODE: &str = "AgAgCl electrode";
 
 const FILTER: &str = "HP:0.1Hz LP:75Hz";
 
-#[test]
-fn says_its_signals(rt: HostRuntime) -> Result<(), Fail> {
-    let header = header(rt.alloc(), &[])?;
-    let [eeg, ecg, notes] = header.signals() else {
+fn assert_signals(rt: &impl Abort, signals: &[Signal]) -> Result<(), Fail> {
+    let [eeg, ecg, notes] = signals else {
         return Err(Fail::new("not three signals"));
     };
     assert!(rt; has_texts(eeg, ["EEG Fpz-Cz", ELECTRODE, "uV", FILTER, ""]));
     assert!(rt; has_texts(ecg, ["ECG", ELECTRODE, "mV", FILTER, ""]));
     assert!(rt; has_texts(notes, ["EDF Annotations", "", "", "", ""]));
-    assert_eq!(rt; lane(eeg), (4, 0, false));
-    assert_eq!(rt; lane(ecg), (2, 8, false));
-    assert_eq!(rt; lane(notes), (20, 12, true));
-    let line = (-1_000_000_000, 1_000_000_000, -2048, 2047);
-    assert_eq!(rt; extremes(eeg), line);
-    let line = (-100_000_000, 100_000_000, -2048, 2047);
-    assert_eq!(rt; extremes(ecg), line);
-    let line = (-10_000_000, 10_000_000, -32768, 32767);
-    assert_eq!(rt; extremes(notes), line);
+    assert_eq!(rt; [lane(eeg), lane(ecg), lane(notes)], LANES);
+    assert_eq!(rt; [extremes(eeg), extremes(ecg), extremes(notes)], EXTREMES);
     Ok(())
+}
+
+#[test]
+fn says_its_signals(rt: HostRuntime) -> Result<(), Fail> {
+    let header = header(rt.alloc(), &[])?;
+    assert_signals(&rt, header.signals())
 }
 
 /// Startdates and starttimes, and what they say.

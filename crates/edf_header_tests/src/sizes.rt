@@ -1,26 +1,32 @@
 //! Large data records and many signals.
 
-use crate::file::{answer_of, header_of, put};
+use crate::file::{Done, answer_of, header_of, put};
 use edf_fields::source::SliceSource;
-use edf_header::fault::Place::{AtField, AtSignal};
+use edf_header::fault::Place::{self, AtField, AtSignal};
 use edf_header::header::Header;
 use edf_header::layout::{FixedField as Fixed, SignalField as Field};
 use std::alloc::{AllocError, Global};
 use std::process::Abort;
 use std::test::Fail;
 
+/// Puts a number into a field.
+fn put_number(alloc: Global, file: &mut [u8], place: Place, number: usize) -> Done {
+    let text = format!(in alloc; "{number}")?;
+    put(file, place, text.as_str());
+    Ok(())
+}
+
 /// The header of `channels` channels with their numbers as labels, and an annotation signal.
 fn wide_file(alloc: Global, channels: u16) -> Result<Vec<u8>, AllocError> {
     let mut signals = vec![in alloc; 0usize; usize::from(channels)]?;
     signals.push(2)?;
     let mut file = header_of(alloc, &signals)?;
-    let size = format!(in alloc; "{}", file.len())?;
-    put(&mut file, AtField(Fixed::HeaderBytes), size.as_str());
-    let count = format!(in alloc; "{}", signals.len())?;
-    put(&mut file, AtField(Fixed::Signals), count.as_str());
+    let size = file.len();
+    put_number(alloc, &mut file, AtField(Fixed::HeaderBytes), size)?;
+    put_number(alloc, &mut file, AtField(Fixed::Signals), signals.len())?;
     for channel in 0..channels {
-        let label = format!(in alloc; "{channel}")?;
-        put(&mut file, AtSignal(channel, Field::Label), label.as_str());
+        let label = usize::from(channel);
+        put_number(alloc, &mut file, AtSignal(channel, Field::Label), label)?;
     }
     Ok(file)
 }

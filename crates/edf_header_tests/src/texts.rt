@@ -85,12 +85,12 @@ fn names_each_cause_in_brackets(rt: HostRuntime) -> Result<(), AllocError> {
 fn names_each_place(rt: HostRuntime) -> Result<(), AllocError> {
     let cause = Cause::NotPrintable;
     for (field, name, _, _) in FIXED {
-        let place = Place::AtField(field);
+        let place = Place::AtField(*field);
         let want = format!(in rt.alloc(); "NotPrintable at header field {name}")?;
         assert_text(&rt, rt.alloc(), Fault { place, cause }, want.as_str())?;
     }
     for (field, name, _, _) in COLUMNS {
-        let place = Place::AtSignal(65_535, field);
+        let place = Place::AtSignal(65_535, *field);
         let want = format!(in rt.alloc(); "NotPrintable at signal 65535 field {name}")?;
         assert_text(&rt, rt.alloc(), Fault { place, cause }, want.as_str())?;
     }
