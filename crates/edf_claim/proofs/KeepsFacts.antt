@@ -6,9 +6,8 @@ use Rattle.edf_claim.specs.Claims.{Terms, IsInterval}
 use Rattle.edf_claim.specs.declared.interval.Interval.{Interval}
 use Rattle.edf_claim.specs.declared.which.Which.{Which}
 use Rattle.edf_claim.specs.Keeps.{IsWithin, KeepsInstant, KeepsAnnotation, is_within, keeps_instant, keeps_annotation}
-use Rattle.edf_claim.specs.Lists.{Has, is_one_of}
-use Rattle.edf_claim.proofs.ReadingFacts.{has-one_of, one_of-has, and-true, not-true}
-use Rattle.edf_claim.proofs.SaidFacts.{both-true, not-is, le-passes, lt-passes}
+use Rattle.edf_fields.specs.Lists.{Has, is_one_of}
+use Rattle.edf_fields.proofs.ForCallers.{has-one_of, one_of-has, and-true, not-true, both-true, not-is, le-passes, lt-passes}
 use Rattle.std.proofs.Math.Seq.{drop-cons}
 
 pub near_bound : (i : Interval) → IsInterval i → (unsigned_abs i.from_ps < 2 ^ 100) × (unsigned_abs i.to_ps < 2 ^ 100)

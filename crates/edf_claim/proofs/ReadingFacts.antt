@@ -7,13 +7,13 @@ use Rattle.std.proofs.lemmas.Int.{ints}
 use Rattle.std.proofs.lemmas.List.Elements.{All-nil, All-cons}
 use Rattle.std.proofs.lemmas.Slice.Eq.{bytes_eq-Decides}
 use Rattle.toml.specs.Data.{Data, string, integer, float, boolean, datetime, array, table, Items, no_items, item, Members, no_members, member, get_member, as_str, as_integer, as_array, as_table}
-use Rattle.edf_fields.specs.Identifications.{is_printable}
+use Rattle.edf_fields.specs.Printable.{is_printable}
 use Rattle.edf_fields.specs.Onsets.{span_of}
-use Rattle.edf_fields.proofs.DateFacts.{le_decided}
-use Rattle.edf_fields.proofs.OnsetFacts.{span_of_some, span_small}
+use Rattle.edf_fields.proofs.ForCallers.{le_decided, span_of_some, span_small, and-true, not-true, one_of-has, distinct-tested, first-cons, unless-passed, printable_decided}
 use Rattle.edf_claim.specs.Claims.{Terms, name_of, text_items, HasOnlyKeys, claim_keys, interval_keys, IsLabel, SaysInterval, AreIntervals, IsFollowedBy, AreInOrder, IsInterval, IsClaim, SaysFormat, SaysChannels, SaysKeep, SaysAnonymous, SaysShift, SaysRemove, SaysClaim}
-use Rattle.edf_claim.specs.Lists.{Has, AreDistinct, is_one_of, are_distinct}
-use Rattle.edf_claim.specs.Reading.{integer_of, text_at, keys_are, texts_of, distinct_texts, option_is, is_format_one, is_label, channels_of, span_at, interval_from, interval_of, intervals_of, is_followed_by, are_in_order, keep_of, named_in, all_names, which_of, whiches_of, or_default, anonymous_of, shift_within, shift_of, remove_of, first_stop, unless, claim_fault, terms_of}
+use Rattle.edf_fields.specs.Lists.{Has, AreDistinct, is_one_of, are_distinct}
+use Rattle.edf_claim.specs.Reading.{integer_of, text_at, keys_are, texts_of, distinct_texts, option_is, is_format_one, is_label, channels_of, span_at, interval_from, interval_of, intervals_of, is_followed_by, are_in_order, keep_of, named_in, all_names, which_of, whiches_of, or_default, anonymous_of, shift_within, shift_of, remove_of, claim_fault, terms_of}
+use Rattle.edf_fields.specs.Tests.{first, unless}
 use Rattle.edf_claim.specs.declared.interval.Interval.{Interval}
 use Rattle.edf_claim.specs.declared.stop.ClaimStop.{ClaimStop}
 use Rattle.edf_claim.specs.declared.stop.ClaimStop.TheVariants.{BadFormat, UnknownKey, BadChannels, BadKeep, BadAnonymous, BadShift, BadRemove}
@@ -35,14 +35,6 @@ test_some false x y h = absurd (let e : None ≡ Some y = h in cc)
 if_some : {X : Type 0} (b : Bool) (o : Option X) (y : X) → cond b o None ≡ Some y → (b ≡ true) × (o ≡ Some y)
 if_some true o y h = (refl, h)
 if_some false o y h = absurd (let e : None ≡ Some y = h in cc)
-
-pub and-true : (a b : Bool) → (a && b) ≡ true → (a ≡ true) × (b ≡ true)
-and-true true b h = (refl, h)
-and-true false b h = absurd (let f : false ≡ true = h in cc)
-
-pub not-true : (a : Bool) → not a ≡ true → a ≡ false
-not-true true h = absurd (let f : false ≡ true = h in cc)
-not-true false h = refl
 
 -- the data that an accessor gives
 string_is : (d : Data) (t : List ℕ) → as_str d ≡ Some t → d ≡ string t
@@ -89,30 +81,6 @@ texts_are (item d rest) ts h =
     let b = map_some (λ us. a.0 ∷ us) (texts_of rest) ts a.2 in
     ap (λ v. item v rest) (string_is d a.0 a.1) ∙ ap (item (string a.0)) (texts_are rest b.0 b.1) ∙ ap text_items b.2
 
--- distinct texts
-pub has-one_of : (ts : List (List ℕ)) (t : List ℕ) → Has ts t → is_one_of ts t ≡ true
-has-one_of [] t h = absurd h
-has-one_of (u ∷ ts) t (inl e) = ap (λ b. b || is_one_of ts t) ((bytes_eq-Decides u t).1 e)
-has-one_of (u ∷ ts) t (inr h) = or_true (bytes_eq u t) (is_one_of ts t) (has-one_of ts t h)
-  where
-    or_true : (a b : Bool) → b ≡ true → (a || b) ≡ true
-    or_true true b e = refl
-    or_true false b e = e
-
-pub one_of-has : (ts : List (List ℕ)) (t : List ℕ) → is_one_of ts t ≡ true → Has ts t
-one_of-has [] t h = absurd (let e : false ≡ true = h in cc)
-one_of-has (u ∷ ts) t h = one_case u ts t (bytes_eq u t) refl h (λ q. one_of-has ts t q)
-  where
-    one_case : (u : List ℕ) (ts : List (List ℕ)) (t : List ℕ) (b : Bool) → bytes_eq u t ≡ b → (b || is_one_of ts t) ≡ true → (is_one_of ts t ≡ true → Has ts t) → Has (u ∷ ts) t
-    one_case u ts t true e h rest = inl ((bytes_eq-Decides u t).0 e)
-    one_case u ts t false e h rest = inr (rest h)
-
-distinct-tested : (ts : List (List ℕ)) → are_distinct ts ≡ true → AreDistinct ts
-distinct-tested [] h = tt
-distinct-tested (t ∷ ts) h =
-    let both = and-true (not (is_one_of ts t)) (are_distinct ts) h in
-    (λ there. let z : true ≡ false = sym (has-one_of ts t there) ∙ not-true (is_one_of ts t) both.0 in cc, distinct-tested ts both.1)
-
 -- the texts of an array in which no text stands twice
 distinct_are : (d : Data) (ts : List (List ℕ)) → distinct_texts d ≡ Some ts → (d ≡ array (text_items ts)) × AreDistinct ts
 distinct_are d ts h =
@@ -128,14 +96,6 @@ keys-tested keys (member key value rest) h =
     let both = and-true (is_one_of keys key) (keys_are keys rest) h in
     (one_of-has keys key both.0, keys-tested keys rest both.1)
 
--- labels
-printable-all : (bs : List ℕ) → list_all is_printable bs ≡ true → All (λ b. (32 ≤ b) × (b ≤ 126)) bs
-printable-all [] h = All-nil (λ b. (32 ≤ b) × (b ≤ 126))
-printable-all (b ∷ bs) h =
-    let both = and-true (is_printable b) (list_all is_printable bs) h in
-    let one = and-true (nat_le 32 b) (nat_le b 126) both.0 in
-    All-cons (λ b. (32 ≤ b) × (b ≤ 126)) b bs ((le_decided 32 b).0 one.0, (le_decided b 126).0 one.1) (printable-all bs both.1)
-
 label-tested : (label : List ℕ) → is_label label ≡ true → IsLabel label
 label-tested label h =
     let last : ℕ = slice_index label (length label - 1) in
@@ -146,7 +106,7 @@ label-tested label h =
     let other : bytes_eq label (codes "EDF Annotations") ≡ false = not-true (bytes_eq label (codes "EDF Annotations")) d.1 in
     record {
       short = (le_decided (length label) 16).0 a.0;
-      printable = printable-all label b.0;
+      printable = (printable_decided label).0 b.0;
       ends = λ e. absurd (let z : true ≡ false = sym (ap (λ n. n == 32) e) ∙ space in cc);
       ordinary = λ e. absurd (let z : true ≡ false = sym ((bytes_eq-Decides label (codes "EDF Annotations")).1 e) ∙ other in cc);
     }
@@ -351,15 +311,6 @@ said-sound entries c s = record {
   distinct_remove = s.remove.distinct;
 }
 
--- the tests of a table
-first-passed : (answer : Option ClaimStop) (more : List (Option ClaimStop)) → first_stop (answer ∷ more) ≡ None → (answer ≡ None) × (first_stop more ≡ None)
-first-passed None more h = (refl, h)
-first-passed (Some stop) more h = absurd (let e : Some stop ≡ None = h in cc)
-
-unless-passed : (b : Bool) (stop : ClaimStop) → unless b stop ≡ None → b ≡ true
-unless-passed true stop h = refl
-unless-passed false stop h = absurd (let e : Some stop ≡ None = h in cc)
-
 pub is-some : {X : Type 0} (o : Option X) → is_some o ≡ true → (x : X) × (o ≡ Some x)
 is-some None h = absurd (let e : false ≡ true = h in cc)
 is-some (Some x) h = (x, refl)
@@ -397,13 +348,13 @@ table-says entries h =
     let t5 = unless (is_some (anonymous_of entries)) BadAnonymous in
     let t6 = unless (is_some (shift_of entries)) BadShift in
     let t7 = unless (is_some (remove_of entries)) BadRemove in
-    let p1 = first-passed t1 (t2 ∷ t3 ∷ t4 ∷ t5 ∷ t6 ∷ t7 ∷ []) h in
-    let p2 = first-passed t2 (t3 ∷ t4 ∷ t5 ∷ t6 ∷ t7 ∷ []) p1.1 in
-    let p3 = first-passed t3 (t4 ∷ t5 ∷ t6 ∷ t7 ∷ []) p2.1 in
-    let p4 = first-passed t4 (t5 ∷ t6 ∷ t7 ∷ []) p3.1 in
-    let p5 = first-passed t5 (t6 ∷ t7 ∷ []) p4.1 in
-    let p6 = first-passed t6 (t7 ∷ []) p5.1 in
-    let p7 = first-passed t7 [] p6.1 in
+    let p1 = first-cons t1 (t2 ∷ t3 ∷ t4 ∷ t5 ∷ t6 ∷ t7 ∷ []) h in
+    let p2 = first-cons t2 (t3 ∷ t4 ∷ t5 ∷ t6 ∷ t7 ∷ []) p1.1 in
+    let p3 = first-cons t3 (t4 ∷ t5 ∷ t6 ∷ t7 ∷ []) p2.1 in
+    let p4 = first-cons t4 (t5 ∷ t6 ∷ t7 ∷ []) p3.1 in
+    let p5 = first-cons t5 (t6 ∷ t7 ∷ []) p4.1 in
+    let p6 = first-cons t6 (t7 ∷ []) p5.1 in
+    let p7 = first-cons t7 [] p6.1 in
     let channels = is-some (channels_of entries) (unless-passed (is_some (channels_of entries)) BadChannels p3.0) in
     let keep = is-some (keep_of entries) (unless-passed (is_some (keep_of entries)) BadKeep p4.0) in
     let anonymous = is-some (anonymous_of entries) (unless-passed (is_some (anonymous_of entries)) BadAnonymous p5.0) in

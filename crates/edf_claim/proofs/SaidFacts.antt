@@ -6,42 +6,30 @@ use Rattle.std.proofs.lemmas.Bool.Decides.{nat_tests}
 use Rattle.std.proofs.lemmas.Int.{ints}
 use Rattle.std.proofs.lemmas.Slice.Eq.{bytes_eq-Decides}
 use Rattle.toml.specs.Data.{Data, string, array, Items, Members, no_members, member, get_member, as_str, as_integer, as_array}
-use Rattle.edf_fields.specs.Identifications.{is_printable}
+use Rattle.edf_fields.specs.Printable.{is_printable}
 use Rattle.edf_fields.specs.Onsets.{SpellsSpan, span_of}
-use Rattle.edf_fields.proofs.DateFacts.{le_decided}
-use Rattle.edf_fields.proofs.OnsetFacts.{span_of_spelled}
+use Rattle.edf_fields.proofs.ForCallers.{le_decided, span_of_spelled, has-one_of, one_of-has, both-true, not-is, distinct-passes, le-passes, lt-passes, printable_decided}
 use Rattle.edf_claim.specs.Claims.{Terms, name_of, text_items, HasOnlyKeys, claim_keys, interval_keys, IsLabel, SaysInterval, AreIntervals, IsFollowedBy, AreInOrder, IsInterval, SaysFormat, SaysChannels, SaysKeep, SaysAnonymous, SaysShift, SaysRemove, SaysClaim, SaysOneClaim}
 use Rattle.edf_claim.specs.Faults.{FailsOr, FirstTableFault, ThereIs, SaysClaimOrFault, FaultIsFirst}
-use Rattle.edf_claim.specs.Lists.{Has, AreDistinct, is_one_of, are_distinct}
-use Rattle.edf_claim.specs.Reading.{first_stop, unless, option_is, keys_are, texts_of, distinct_texts, is_format_one, is_label, channels_of, span_at, interval_from, interval_of, intervals_of, is_followed_by, are_in_order, keep_of, which_of, whiches_of, or_default, anonymous_of, shift_within, shift_of, remove_of, claim_fault, terms_of}
+use Rattle.edf_fields.specs.Lists.{Has, AreDistinct, is_one_of, are_distinct}
+use Rattle.edf_claim.specs.Reading.{option_is, keys_are, texts_of, distinct_texts, is_format_one, is_label, channels_of, span_at, interval_from, interval_of, intervals_of, is_followed_by, are_in_order, keep_of, which_of, whiches_of, or_default, anonymous_of, shift_within, shift_of, remove_of, claim_fault, terms_of}
+use Rattle.edf_fields.specs.Tests.{first, unless}
 use Rattle.edf_claim.specs.declared.interval.Interval.{Interval}
 use Rattle.edf_claim.specs.declared.which.Which.{Which}
 use Rattle.edf_claim.specs.declared.which.Which.TheVariants.{Code, Sex, Birthdate, Name, PatientExtras, Date, Administration, Technician, Equipment, RecordingExtras}
 use Rattle.edf_claim.proofs.FaultFacts.{all-passed}
-use Rattle.edf_claim.proofs.ReadingFacts.{has-one_of, one_of-has, is-some, keys-tested, format-said, channels-said, keep-said, anonymous-said, shift-said, remove-said, terms-are, table-says}
+use Rattle.edf_claim.proofs.ReadingFacts.{is-some, keys-tested, format-said, channels-said, keep-said, anonymous-said, shift-said, remove-said, terms-are, table-says}
 use Rattle.edf_claim.specs.declared.stop.ClaimStop.{ClaimStop}
 use Rattle.edf_claim.specs.declared.stop.ClaimStop.TheVariants.{BadFormat, UnknownKey, BadChannels, BadKeep, BadAnonymous, BadShift, BadRemove}
-
-pub both-true : (a b : Bool) → a ≡ true → b ≡ true → (a && b) ≡ true
-both-true a b p q = cc
 
 cond-true : {X : Type 0} (b : Bool) (x y : X) → b ≡ true → cond b x y ≡ x
 cond-true true x y h = refl
 cond-true false x y h = absurd (let z : false ≡ true = h in cc)
 
-pub not-is : (b : Bool) → (b ≡ true → ⊥) → not b ≡ true
-not-is true h = absurd (h refl)
-not-is false h = refl
-
 -- an array of texts is read as these
 pub texts-read : (ts : List (List ℕ)) → texts_of (text_items ts) ≡ Some ts
 texts-read [] = refl
 texts-read (t ∷ ts) = ap (option_map (λ us. t ∷ us)) (texts-read ts)
-
-pub distinct-passes : (ts : List (List ℕ)) → AreDistinct ts → are_distinct ts ≡ true
-distinct-passes [] h = refl
-distinct-passes (t ∷ ts) h =
-    both-true (not (is_one_of ts t)) (are_distinct ts) (not-is (is_one_of ts t) (λ e. h.0 (one_of-has ts t e))) (distinct-passes ts h.1)
 
 distinct-read : (ts : List (List ℕ)) → AreDistinct ts → distinct_texts (array (text_items ts)) ≡ Some ts
 distinct-read ts h =
@@ -52,19 +40,11 @@ keys-pass : (keys : List (List ℕ)) (entries : Members) → HasOnlyKeys keys en
 keys-pass keys no_members h = refl
 keys-pass keys (member key value rest) h = both-true (is_one_of keys key) (keys_are keys rest) (has-one_of keys key h.0) (keys-pass keys rest h.1)
 
-printable-passes : (bs : List ℕ) → All (λ b. (32 ≤ b) × (b ≤ 126)) bs → list_all is_printable bs ≡ true
-printable-passes [] h = refl
-printable-passes (b ∷ bs) h =
-    let here = h 0 0 (omega arith) in
-    both-true (is_printable b) (list_all is_printable bs)
-    (both-true (nat_le 32 b) (nat_le b 126) ((le_decided 32 b).1 here.0) ((le_decided b 126).1 here.1))
-    (printable-passes bs (λ k d lt. h (suc k) d (omega arith)))
-
 label-passes : (label : List ℕ) → IsLabel label → is_label label ≡ true
 label-passes label h =
     let last : ℕ = slice_index label (length label - 1) in
     both-true (nat_le (length label) 16) (list_all is_printable label && (not (last == 32) && not (bytes_eq label (codes "EDF Annotations")))) ((le_decided (length label) 16).1 h.short)
-    (both-true (list_all is_printable label) (not (last == 32) && not (bytes_eq label (codes "EDF Annotations"))) (printable-passes label h.printable)
+    (both-true (list_all is_printable label) (not (last == 32) && not (bytes_eq label (codes "EDF Annotations"))) ((printable_decided label).1 h.printable)
     (both-true (not (last == 32)) (not (bytes_eq label (codes "EDF Annotations")))
     (not-is (last == 32) (λ e. h.ends (grind (arith, nat_tests))))
     (not-is (bytes_eq label (codes "EDF Annotations")) (λ e. h.ordinary ((bytes_eq-Decides label (codes "EDF Annotations")).0 e)))))
@@ -77,20 +57,6 @@ labels-pass (label ∷ labels) h =
 not-empty : {X : Type 0} (xs : List X) → xs ≢ [] → nat_lt 0 (length xs) ≡ true
 not-empty [] h = absurd (h refl)
 not-empty (x ∷ xs) h = grind (arith, nat_tests)
-
-pub le-passes : (x y : ℤ) → x ≤ℤ y → int_le x y ≡ true
-le-passes x y h = le-case x y (int_le x y) refl h
-  where
-    le-case : (x y : ℤ) (b : Bool) → int_le x y ≡ b → x ≤ℤ y → b ≡ true
-    le-case x y true e h = refl
-    le-case x y false e h = absurd (omega (arith, ints, h, e))
-
-pub lt-passes : (x y : ℤ) → x <ℤ y → int_lt x y ≡ true
-lt-passes x y h = lt-case x y (int_lt x y) refl h
-  where
-    lt-case : (x y : ℤ) (b : Bool) → int_lt x y ≡ b → x <ℤ y → b ≡ true
-    lt-case x y true e h = refl
-    lt-case x y false e h = absurd (omega (arith, ints, h, e))
 
 pub channels-read : (entries : Members) (labels : List (List ℕ)) → SaysChannels entries labels → channels_of entries ≡ Some labels
 unfolding channels_of
@@ -236,7 +202,7 @@ read-tests o holds to from = (
 
 -- one test, and those behind it
 test-said : (passes : Bool) (test : Type 0) (cause stop : ClaimStop) (answers : List (Option ClaimStop)) (later : Type 0) → Tests passes test
-    → (first_stop answers ≡ Some stop) ↔ later → (first_stop (unless passes cause ∷ answers) ≡ Some stop) ↔ FailsOr cause test stop later
+    → (first answers ≡ Some stop) ↔ later → (first (unless passes cause ∷ answers) ≡ Some stop) ↔ FailsOr cause test stop later
 test-said true test cause stop answers later is rest = (
   λ h. inr (is.0 refl, rest.0 h),
   λ h. ⊎_elim (λ fails. absurd (fails.1 (is.0 refl))) (λ more. rest.1 more.1) h,
@@ -246,7 +212,7 @@ test-said false test cause stop answers later is rest = (
   λ h. ⊎_elim (λ fails. ap Some (sym fails.0)) (λ more. absurd (let e : false ≡ true = is.1 more.0 in cc)) h,
 )
 
-no-tests : (stop : ClaimStop) → (first_stop [] ≡ Some stop) ↔ ⊥
+no-tests : (stop : ClaimStop) → (first [] ≡ Some stop) ↔ ⊥
 no-tests stop = (λ h. let e : None ≡ Some stop = h in cc, λ h. absurd h)
 
 pub fault-said : (entries : Members) (stop : ClaimStop) → (claim_fault entries ≡ Some stop) ↔ FirstTableFault entries stop

@@ -5,7 +5,7 @@ use Rattle.std.specs.List.{list_all}
 use Rattle.std.specs.declared.alloc.Global.{Global}
 use Rattle.toml.specs.View.{members_view}
 use Rattle.toml.specs.declared.value.Value.{Value}
-use Rattle.edf_claim.specs.Lists.{is_one_of}
+use Rattle.edf_fields.specs.Lists.{is_one_of}
 use Rattle.edf_claim.specs.Reading.{keys_are}
 
 -- the test over a map's keys, in order, is that over the entries

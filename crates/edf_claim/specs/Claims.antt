@@ -2,12 +2,13 @@
 use Rattle.std.specs.Prelude.{◌≡◌, ◌≢◌, ℕ, ℤ, pos, neg_ℤ, ◌-◌, ◌≤ℤ◌, ◌<ℤ◌, ◌≤◌, ◌^◌, ◌⊎◌, List, [], ◌∷◌, length, map, slice_index, Some, None, codes, IsUtf8}
 use Rattle.std.specs.List.{All}
 use Rattle.edf_fields.specs.Onsets.{SpellsSpan}
-use Rattle.edf_claim.specs.Lists.{Has, AreDistinct}
+use Rattle.edf_fields.specs.Lists.{Has, AreDistinct}
 use Rattle.edf_claim.specs.declared.interval.Interval.{Interval}
 use Rattle.edf_claim.specs.declared.which.Which.{Which}
 use Rattle.edf_claim.specs.declared.which.Which.TheVariants.{Code, Sex, Birthdate, Name, PatientExtras, Date, Administration, Technician, Equipment, RecordingExtras}
 use Rattle.toml.specs.Data.{string, integer, array, table, Items, no_items, item, Members, no_members, member, get_member}
 use Rattle.toml.specs.Parse.{parse_document}
+use Rattle.edf_fields.specs.Printable.{IsPrintable}
 
 -- a claim: the labels of the channels, the intervals that are kept, in picoseconds after the second at which the original starts, what is made anonymous, the shift in seconds, and the texts of annotations that are removed
 pub record Terms : Type 0 where
@@ -51,7 +52,7 @@ interval_keys = codes "from" ∷ codes "to" ∷ []
 -- a label of at most 16 printable bytes, 32 to 126, that doesn't end with a space and isn't that of an annotation signal
 pub record IsLabel (label : List ℕ) : Type 0 where
   pub short : length label ≤ 16
-  pub printable : All (λ b. (32 ≤ b) × (b ≤ 126)) label
+  pub printable : IsPrintable label
   pub ends : slice_index label (length label - 1) ≢ 32
   pub ordinary : label ≢ codes "EDF Annotations"
 

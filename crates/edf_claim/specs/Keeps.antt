@@ -2,7 +2,7 @@
 use Rattle.std.specs.Prelude.{ℕ, ℤ, pos, ◌*ℤ◌, ◌≤ℤ◌, ◌<ℤ◌, int_le, int_lt, not, ◌&&◌, Bool, List}
 use Rattle.std.specs.List.{list_any}
 use Rattle.edf_claim.specs.Claims.{Terms}
-use Rattle.edf_claim.specs.Lists.{Has, is_one_of}
+use Rattle.edf_fields.specs.Lists.{Has, is_one_of}
 use Rattle.edf_claim.specs.declared.interval.Interval.{Interval}
 
 -- the instant num / den, in picoseconds, is in the interval: from its first bound on, and before its second

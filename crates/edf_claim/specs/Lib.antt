@@ -1,6 +1,5 @@
 pub mod Claims
 pub mod Faults
 pub mod Keeps
-pub mod Lists
 pub mod Reading
 pub mod Stops

@@ -3,16 +3,17 @@ use Rattle.std.specs.Prelude.{ℕ, ℤ, pos, neg_ℤ, ◌-◌, ◌^◌, ◌==◌
 use Rattle.std.specs.List.{list_all}
 use Rattle.std.specs.Ordering.{int_eq}
 use Rattle.std.specs.Str.{bytes_eq}
-use Rattle.edf_fields.specs.Identifications.{is_printable}
+use Rattle.edf_fields.specs.Printable.{is_printable}
 use Rattle.edf_fields.specs.Onsets.{span_of}
 use Rattle.edf_claim.specs.Claims.{Terms, name_of, claim_keys, interval_keys}
-use Rattle.edf_claim.specs.Lists.{is_one_of, are_distinct}
+use Rattle.edf_fields.specs.Lists.{is_one_of, are_distinct}
 use Rattle.edf_claim.specs.declared.interval.Interval.{Interval}
 use Rattle.edf_claim.specs.declared.stop.ClaimStop.{ClaimStop}
 use Rattle.edf_claim.specs.declared.stop.ClaimStop.TheVariants.{BadFormat, UnknownKey, BadChannels, BadKeep, BadAnonymous, BadShift, BadRemove}
 use Rattle.edf_claim.specs.declared.which.Which.{Which}
 use Rattle.edf_claim.specs.declared.which.Which.TheVariants.{Code, Sex, Birthdate, Name, PatientExtras, Date, Administration, Technician, Equipment, RecordingExtras}
 use Rattle.toml.specs.Data.{Data, Items, no_items, item, Members, no_members, member, get_member, as_str, as_integer, as_array, as_table}
+use Rattle.edf_fields.specs.Tests.{first, unless}
 
 -- the integer at a key
 abbrev pub integer_of : List ℕ → Members → Option ℤ
@@ -135,20 +136,10 @@ shift_of entries = or_default (pos 0) (λ value. option_and_then shift_within (a
 unfoldable pub remove_of : Members → Option (List (List ℕ))
 remove_of entries = or_default [] distinct_texts (get_member (codes "remove") entries)
 
--- the first cause among the answers of some tests
-abbrev pub first_stop : List (Option ClaimStop) → Option ClaimStop
-first_stop [] = None
-first_stop (None ∷ answers) = first_stop answers
-first_stop (Some stop ∷ answers) = Some stop
-
--- the answer of a test that gives this cause where the table doesn't pass
-abbrev pub unless : Bool → ClaimStop → Option ClaimStop
-unless passes stop = if passes then None else Some stop
-
 -- why a table says no claim: the first cause in this order
 unfoldable pub claim_fault : Members → Option ClaimStop
 claim_fault entries =
-    first_stop (
+    first (
     unless (is_format_one entries) BadFormat
     ∷ unless (keys_are claim_keys entries) UnknownKey
     ∷ unless (is_some (channels_of entries)) BadChannels

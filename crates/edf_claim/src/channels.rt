@@ -3,7 +3,6 @@
 ghost use Rattle.std.specs.Prelude.{◌≡◌, map, option_map, option_and_then, MatchOption, IfOk, IfErr, None, Some, codes, not, ◌&&◌, ◌-◌, ◌≤◌};
 ghost use Rattle.std.specs.List.{list_all};
 ghost use Rattle.toml.specs.View.{view, table_view};
-ghost use Rattle.edf_fields.specs.Identifications.{is_printable as is_printable_byte};
 ghost use Rattle.edf_claim.specs.Reading.{is_label as is_label_text, distinct_texts as distinct_texts_of, channels_of};
 ghost use Rattle.edf_claim.specs.Stops.{StopsAt};
 ghost use Rattle.edf_claim.specs.declared.stop.ClaimStop.TheVariants as stops;
@@ -11,6 +10,7 @@ ghost use Rattle.edf_claim.specs.declared.stop.ClaimStop.TheVariants as stops;
 use crate::stop::ClaimStop;
 use crate::table::value_at;
 use crate::texts::distinct_texts;
+use edf_fields::printable::is_printable;
 use std::alloc::{AllocError, Global};
 use toml::Table;
 
@@ -19,13 +19,6 @@ const LABEL_BYTES: usize = 16;
 
 /// The label of an annotation signal (EDF+, "The 'EDF Annotations' signal").
 const ANNOTATIONS: &[u8] = b"EDF Annotations";
-
-/// Whether each byte is printable ASCII.
-fn is_printable(text: &[u8]) -> bool
-    ensures { result ≡ list_all is_printable_byte text.now }
-{
-    text.iter().all(|byte| *byte >= 32 && *byte <= 126)
-}
 
 /// Whether the text is the label of a channel, as a field can have it.
 fn is_label(text: &[u8]) -> bool

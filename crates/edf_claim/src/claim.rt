@@ -3,7 +3,7 @@
 ghost use Rattle.std.specs.Prelude.{◌≡◌, ◌↔◌, ◌<◌, ◌≤◌, ◌^◌, ◌*ℤ◌, pos, map, IsTrue, unsigned_abs};
 ghost use Rattle.std.specs.List.{All, list_any};
 ghost use Rattle.edf_claim.specs.Claims.{IsClaim};
-ghost use Rattle.edf_claim.specs.Lists.{Has, is_one_of as is_one_of_texts};
+ghost use Rattle.edf_fields.specs.Lists.{Has, is_one_of as is_one_of_texts};
 ghost use Rattle.edf_claim.specs.Keeps.{KeepsInstant, KeepsAnnotation, is_within, keeps_instant, keeps_annotation};
 
 use crate::interval::Interval;

@@ -5,7 +5,7 @@ ghost use Rattle.std.specs.List.{list_all};
 ghost use Rattle.toml.specs.Data.{get_member};
 ghost use Rattle.toml.specs.View.{view, table_view};
 ghost use Rattle.edf_claim.specs.Claims.{claim_keys, interval_keys};
-ghost use Rattle.edf_claim.specs.Lists.{is_one_of};
+ghost use Rattle.edf_fields.specs.Lists.{is_one_of};
 ghost use Rattle.edf_claim.specs.Reading.{integer_of, text_at as text_at_key, keys_are};
 
 use toml::{Table, Value};

@@ -2,7 +2,7 @@
 
 ghost use Rattle.std.specs.Prelude.{◌≡◌, map, option_map, IfOk, ◌+◌};
 ghost use Rattle.toml.specs.View.{view, array_view};
-ghost use Rattle.edf_claim.specs.Lists.{is_one_of as is_one_of_texts, are_distinct as are_distinct_texts};
+ghost use Rattle.edf_fields.specs.Lists.{is_one_of as is_one_of_texts, are_distinct as are_distinct_texts};
 ghost use Rattle.edf_claim.specs.Reading.{texts_of as texts_of_items, distinct_texts as distinct_texts_of};
 
 use std::alloc::{AllocError, Global};

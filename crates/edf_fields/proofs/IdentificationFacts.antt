@@ -6,14 +6,17 @@ use Rattle.std.specs.Str.{bytes_eq}
 use Rattle.std.proofs.lemmas.Bool.Decides.{Decides-and, Decides-or, Decides-not, Decides-eqb, Decides-by_and, nat_tests}
 use Rattle.std.proofs.lemmas.Grind.{common_steps}
 use Rattle.std.proofs.lemmas.Slice.Eq.{bytes_eq-Decides}
-use Rattle.edf_fields.specs.Causes.{first_cause, unless}
-use Rattle.edf_fields.specs.Identifications.{ListsSubfields, IsSex, IsDateOrX, Patient, SaysPatient, Recording, SaysRecording, is_printable, is_sex, is_date_or_x, subfield, field_cause, patient_cause, recording_cause, SaysOnePatient, SaysOneRecording, SaysPatientOrCause, SaysRecordingOrCause}
+use Rattle.edf_fields.specs.Identifications.{ListsSubfields, IsSex, IsDateOrX, Patient, SaysPatient, Recording, SaysRecording, is_sex, is_date_or_x, subfield, field_cause, patient_cause, recording_cause, SaysOnePatient, SaysOneRecording, SaysPatientOrCause, SaysRecordingOrCause}
 use Rattle.edf_fields.specs.Parts.{text_of}
+use Rattle.edf_fields.specs.Printable.{is_printable}
 use Rattle.edf_fields.specs.Subfields.{subfields_of}
+use Rattle.edf_fields.specs.Tests.{first, unless}
 use Rattle.edf_fields.specs.declared.cause.FieldCause.{FieldCause}
 use Rattle.edf_fields.specs.declared.cause.FieldCause.TheVariants.{NotPrintable, LeadingSpace, TooFewSubfields, BadSex, BadDate, NoStartdateWord}
 use Rattle.edf_fields.proofs.DateFacts.{le_decided, dashed_day_decided}
+use Rattle.edf_fields.proofs.PrintableFacts.{printable_decided}
 use Rattle.edf_fields.proofs.SubfieldLawFacts.{found_joined, joined_found}
+use Rattle.edf_fields.proofs.TestFacts.{first-passes, passes-first, first-cons, pass-cons}
 
 -- the text of a field begins as the field does, and doesn't end with a space
 text_begins : (bs : List ℕ) → get_or bs 0 0 ≢ 32 → get_or (text_of bs) 0 0 ≢ 32
@@ -47,11 +50,6 @@ text_ends (c ∷ cs) =
     (λ other nothing space. let rest = nothing_left cs nothing in all_false c _ space rest other)
     (text_ends cs)
 
-printable_decided : (field : List ℕ) → Decides (list_all is_printable field) (All (λ b. (32 ≤ b) × (b ≤ 126)) field)
-printable_decided field =
-    Decides-by_and is_printable (λ b. (32 ≤ b) × (b ≤ 126)) (list_all is_printable)
-    (λ b. Decides-and _ _ (le_decided 32 b) (le_decided b 126)) refl (λ _ _. refl) field
-
 sex_decided : (s : List ℕ) → Decides (is_sex s) (IsSex s)
 sex_decided s =
     Decides-or _ _ (bytes_eq-Decides s (codes "F")) (Decides-or _ _ (bytes_eq-Decides s (codes "M")) (bytes_eq-Decides s (codes "X")))
@@ -62,29 +60,12 @@ date_decided s = Decides-or _ _ (bytes_eq-Decides s (codes "X")) (dashed_day_dec
 begins_decided : (field : List ℕ) → Decides (not (get_or field 0 0 == 32)) (get_or field 0 0 ≢ 32)
 begins_decided field = Decides-not _ (Decides-eqb (get_or field 0 0) 32)
 
--- no cause applies exactly where each test passes
-first_passes : (a : Bool) (cause : FieldCause) (rest : List (Option FieldCause)) → first_cause (unless a cause ∷ rest) ≡ None → (a ≡ true) × (first_cause rest ≡ None)
-first_passes true cause rest h = (refl, h)
-first_passes false cause rest h = absurd (cc)
-
-passes_first : (a : Bool) (cause : FieldCause) (rest : List (Option FieldCause)) → a ≡ true → first_cause rest ≡ None → first_cause (unless a cause ∷ rest) ≡ None
-passes_first true cause rest h k = k
-passes_first false cause rest h k = absurd (cc)
-
-first_answer : (o : Option FieldCause) (rest : List (Option FieldCause)) → first_cause (o ∷ rest) ≡ None → (o ≡ None) × (first_cause rest ≡ None)
-first_answer None rest h = (refl, h)
-first_answer (Some cause) rest h = absurd (cc)
-
-answer_first : (o : Option FieldCause) (rest : List (Option FieldCause)) → o ≡ None → first_cause rest ≡ None → first_cause (o ∷ rest) ≡ None
-answer_first None rest h k = k
-answer_first (Some cause) rest h k = absurd (cc)
-
 -- the subfields of a field that passes the first two tests
 field_lists : (field : List ℕ) → field_cause field ≡ None → ListsSubfields field (subfields_of (text_of field))
 unfolding field_cause
 field_lists field h =
-    let printable = first_passes (list_all is_printable field) NotPrintable _ h in
-    let begins = first_passes (not (get_or field 0 0 == 32)) LeadingSpace [] printable.1 in
+    let printable = first-passes (list_all is_printable field) NotPrintable _ h in
+    let begins = first-passes (not (get_or field 0 0 == 32)) LeadingSpace [] printable.1 in
     let first = (begins_decided field).0 begins.0 in
     record {
       printable = (printable_decided field).0 printable.0;
@@ -95,8 +76,8 @@ field_lists field h =
 listed_field : (field : List ℕ) (xs : List (List ℕ)) → ListsSubfields field xs → field_cause field ≡ None
 unfolding field_cause
 listed_field field xs h =
-    passes_first (list_all is_printable field) NotPrintable _ ((printable_decided field).1 h.printable)
-    (passes_first (not (get_or field 0 0 == 32)) LeadingSpace [] ((begins_decided field).1 h.begins) refl)
+    passes-first (list_all is_printable field) NotPrintable _ ((printable_decided field).1 h.printable)
+    (passes-first (not (get_or field 0 0 == 32)) LeadingSpace [] ((begins_decided field).1 h.begins) refl)
 
 -- a patient that passes the tests is said, and one that is said passes them
 pub patient_said : (field code sex birthdate name : List ℕ) (extras : List (List ℕ)) → field_cause field ≡ None → subfields_of (text_of field) ≡ code ∷ sex ∷ birthdate ∷ name ∷ extras
@@ -113,10 +94,10 @@ unfolding patient_cause
 said_patient field p h =
     let xs = subfields_of (text_of field) in
     let e : xs ≡ p.code ∷ p.sex ∷ p.birthdate ∷ p.name ∷ p.extras = joined_found _ (text_of field) h.lists.subfields in
-    answer_first (field_cause field) _ (listed_field field _ h.lists)
-    (passes_first (nat_le 4 (length xs)) TooFewSubfields _ (ap (λ ys. nat_le 4 (length ys)) e ∙ (le_decided 4 _).1 (omega arith))
-    (passes_first (is_sex (subfield xs 1)) BadSex _ (ap (λ ys. is_sex (subfield ys 1)) e ∙ (sex_decided p.sex).1 h.sex)
-    (passes_first (is_date_or_x (subfield xs 2)) BadDate [] (ap (λ ys. is_date_or_x (subfield ys 2)) e ∙ (date_decided p.birthdate).1 h.birthdate) refl)))
+    pass-cons (field_cause field) _ (listed_field field _ h.lists)
+    (passes-first (nat_le 4 (length xs)) TooFewSubfields _ (ap (λ ys. nat_le 4 (length ys)) e ∙ (le_decided 4 _).1 (omega arith))
+    (passes-first (is_sex (subfield xs 1)) BadSex _ (ap (λ ys. is_sex (subfield ys 1)) e ∙ (sex_decided p.sex).1 h.sex)
+    (passes-first (is_date_or_x (subfield xs 2)) BadDate [] (ap (λ ys. is_date_or_x (subfield ys 2)) e ∙ (date_decided p.birthdate).1 h.birthdate) refl)))
 
 -- a list of at least four, and of at least five
 four : (xs : List (List ℕ)) → 4 ≤ length xs → xs ≡ subfield xs 0 ∷ subfield xs 1 ∷ subfield xs 2 ∷ subfield xs 3 ∷ drop 4 xs
@@ -138,10 +119,10 @@ patient_told : (field : List ℕ) → patient_cause field ≡ None → (p : Pati
 unfolding patient_cause
 patient_told field h =
     let xs = subfields_of (text_of field) in
-    let lists = first_answer (field_cause field) _ h in
-    let many = first_passes (nat_le 4 (length xs)) TooFewSubfields _ lists.1 in
-    let sexed = first_passes (is_sex (subfield xs 1)) BadSex _ many.1 in
-    let dated = first_passes (is_date_or_x (subfield xs 2)) BadDate [] sexed.1 in
+    let lists = first-cons (field_cause field) _ h in
+    let many = first-passes (nat_le 4 (length xs)) TooFewSubfields _ lists.1 in
+    let sexed = first-passes (is_sex (subfield xs 1)) BadSex _ many.1 in
+    let dated = first-passes (is_date_or_x (subfield xs 2)) BadDate [] sexed.1 in
     (_, patient_said field (subfield xs 0) (subfield xs 1) (subfield xs 2) _ _ lists.0 (four xs ((le_decided 4 _).0 many.0)) sexed.0 dated.0)
 
 -- the patient in a list of subfields
@@ -173,10 +154,10 @@ unfolding recording_cause
 said_recording field r h =
     let xs = subfields_of (text_of field) in
     let e : xs ≡ codes "Startdate" ∷ r.date ∷ r.admin ∷ r.technician ∷ r.equipment ∷ r.extras = joined_found _ (text_of field) h.lists.subfields in
-    answer_first (field_cause field) _ (listed_field field _ h.lists)
-    (passes_first (nat_le 5 (length xs)) TooFewSubfields _ (ap (λ ys. nat_le 5 (length ys)) e ∙ (le_decided 5 _).1 (omega arith))
-    (passes_first (is_date_or_x (subfield xs 1)) BadDate _ (ap (λ ys. is_date_or_x (subfield ys 1)) e ∙ (date_decided r.date).1 h.date)
-    (passes_first (bytes_eq (subfield xs 0) (codes "Startdate")) NoStartdateWord [] (ap (λ ys. bytes_eq (subfield ys 0) (codes "Startdate")) e ∙ (bytes_eq-Decides (codes "Startdate") (codes "Startdate")).1 refl) refl)))
+    pass-cons (field_cause field) _ (listed_field field _ h.lists)
+    (passes-first (nat_le 5 (length xs)) TooFewSubfields _ (ap (λ ys. nat_le 5 (length ys)) e ∙ (le_decided 5 _).1 (omega arith))
+    (passes-first (is_date_or_x (subfield xs 1)) BadDate _ (ap (λ ys. is_date_or_x (subfield ys 1)) e ∙ (date_decided r.date).1 h.date)
+    (passes-first (bytes_eq (subfield xs 0) (codes "Startdate")) NoStartdateWord [] (ap (λ ys. bytes_eq (subfield ys 0) (codes "Startdate")) e ∙ (bytes_eq-Decides (codes "Startdate") (codes "Startdate")).1 refl) refl)))
 
 -- the recording in a list of subfields
 abbrev recording_in : List (List ℕ) → Recording
@@ -192,10 +173,10 @@ recording_told : (field : List ℕ) → recording_cause field ≡ None → (r : 
 unfolding recording_cause
 recording_told field h =
     let xs = subfields_of (text_of field) in
-    let lists = first_answer (field_cause field) _ h in
-    let many = first_passes (nat_le 5 (length xs)) TooFewSubfields _ lists.1 in
-    let dated = first_passes (is_date_or_x (subfield xs 1)) BadDate _ many.1 in
-    let worded = first_passes (bytes_eq (subfield xs 0) (codes "Startdate")) NoStartdateWord [] dated.1 in
+    let lists = first-cons (field_cause field) _ h in
+    let many = first-passes (nat_le 5 (length xs)) TooFewSubfields _ lists.1 in
+    let dated = first-passes (is_date_or_x (subfield xs 1)) BadDate _ many.1 in
+    let worded = first-passes (bytes_eq (subfield xs 0) (codes "Startdate")) NoStartdateWord [] dated.1 in
     (_, recording_said field (subfield xs 0) (subfield xs 1) _ _ _ _ lists.0 (five xs ((le_decided 5 _).0 many.0)) dated.0 worded.0)
 
 pub recording_or_cause : SaysRecordingOrCause

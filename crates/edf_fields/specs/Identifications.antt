@@ -1,19 +1,21 @@
--- What the two identification fields of a header say (EDF+, "Additional specifications in EDF+": local patient identification, local recording identification).
+-- What the two identification fields of a header say (EDF+, "Additional specifications in EDF+").
 use Rattle.std.specs.Prelude.{◌≡◌, ◌≢◌, ℕ, ℤ, Bool, not, Option, None, nat_le, ◌&&◌, ◌||◌, ◌==◌, ◌≤◌, List, [], ◌∷◌, ◌⊎◌, ◌↔◌, length, slice_index, slice_get, unwrap_or, is_some, codes, All}
 use Rattle.std.specs.List.{list_all}
 use Rattle.std.specs.Str.{bytes_eq}
-use Rattle.edf_fields.specs.Causes.{first_cause, unless}
 use Rattle.edf_fields.specs.Dates.{NamesDashedDay, dashed_day_of}
 use Rattle.edf_fields.specs.Parts.{text_of}
+use Rattle.edf_fields.specs.Printable.{IsPrintable, is_printable}
 use Rattle.edf_fields.specs.Subfields.{HasSubfields, subfields_of, subfields_left}
+use Rattle.edf_fields.specs.Tests.{first, unless}
 use Rattle.edf_fields.specs.declared.cause.FieldCause.{FieldCause}
 use Rattle.edf_fields.specs.declared.cause.FieldCause.TheVariants.{NotPrintable, LeadingSpace, TooFewSubfields, BadSex, BadDate, NoStartdateWord}
 use Rattle.edf_fields.specs.declared.identification.PatientId.{PatientId}
 use Rattle.edf_fields.specs.declared.identification.RecordingId.{RecordingId}
 
--- a field of printable ASCII (bytes 32 to 126) that doesn't begin with a space has these subfields, and behind them spaces alone (EDF, "Header record"; that it doesn't begin with a space is this project's profile)
+-- a field of printable ASCII has these subfields, and behind them spaces alone (EDF, "Header record")
+-- that it doesn't begin with a space is this project's profile
 pub record ListsSubfields (field : List ℕ) (xs : List (List ℕ)) : Type 0 where
-  pub printable : All (λ b. (32 ≤ b) × (b ≤ 126)) field
+  pub printable : IsPrintable field
   pub begins : slice_index field 0 ≢ 32
   pub subfields : HasSubfields (text_of field) xs
 
@@ -52,10 +54,6 @@ pub record SaysRecording (field : List ℕ) (recording : Recording) : Type 0 whe
   pub lists : ListsSubfields field (codes "Startdate" ∷ recording.date ∷ recording.admin ∷ recording.technician ∷ recording.equipment ∷ recording.extras)
   pub date : IsDateOrX recording.date
 
--- the byte is printable ASCII
-abbrev pub is_printable : ℕ → Bool
-is_printable b = nat_le 32 b && nat_le b 126
-
 -- `IsSex` as a test
 abbrev pub is_sex : List ℕ → Bool
 is_sex s = bytes_eq s (codes "F") || (bytes_eq s (codes "M") || bytes_eq s (codes "X"))
@@ -71,7 +69,7 @@ subfield xs k = unwrap_or (slice_get xs k) []
 -- the cause that both fields can have first
 unfoldable pub field_cause : List ℕ → Option FieldCause
 field_cause field =
-    first_cause (
+    first (
     unless (list_all is_printable field) NotPrintable
     ∷ unless (not (slice_index field 0 == 32)) LeadingSpace
     ∷ []
@@ -81,7 +79,7 @@ field_cause field =
 unfoldable pub patient_cause : List ℕ → Option FieldCause
 patient_cause field =
     let xs = subfields_of (text_of field) in
-    first_cause (
+    first (
     field_cause field
     ∷ unless (nat_le 4 (length xs)) TooFewSubfields
     ∷ unless (is_sex (subfield xs 1)) BadSex
@@ -93,7 +91,7 @@ patient_cause field =
 unfoldable pub recording_cause : List ℕ → Option FieldCause
 recording_cause field =
     let xs = subfields_of (text_of field) in
-    first_cause (
+    first (
     field_cause field
     ∷ unless (nat_le 5 (length xs)) TooFewSubfields
     ∷ unless (is_date_or_x (subfield xs 1)) BadDate

@@ -1,11 +1,13 @@
-pub mod Causes
 pub mod Dates
 pub mod Identifications
+pub mod Lists
 pub mod Numbers
 pub mod Onsets
 pub mod Parts
+pub mod Printable
 pub mod Sinks
 pub mod SliceSink
 pub mod SliceSource
 pub mod Sources
 pub mod Subfields
+pub mod Tests

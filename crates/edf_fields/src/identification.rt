@@ -3,24 +3,17 @@
 //! Both fields are subfields with spaces between them (EDF+, "Additional specifications in EDF+":
 //! local patient identification, local recording identification). What is read borrows the field.
 ghost use Rattle.std.specs.Prelude.{◌≡◌, ◌<◌, ◌∷◌, ◌==◌, None, Some, length, slice_index, IfOk, MatchOption, MatchResult, is_some, codes};
-ghost use Rattle.std.specs.List.{list_all};
 ghost use Rattle.std.specs.Result.{result_err};
 ghost use Rattle.std.specs.Str.{bytes_eq};
 ghost use Rattle.edf_fields.specs.Dates.{dashed_day_of};
-ghost use Rattle.edf_fields.specs.Identifications.{is_printable, is_sex, is_date_or_x, field_cause};
+ghost use Rattle.edf_fields.specs.Identifications.{is_sex, is_date_or_x, field_cause};
 ghost use Rattle.edf_fields.specs.Parts.{text_of};
 
 use crate::cause::FieldCause;
 use crate::date::dashed_date;
 use crate::number::text;
+use crate::printable::is_printable;
 use crate::subfields::Subfields;
-
-/// Whether each byte is printable ASCII.
-fn is_printable(field: &[u8]) -> bool
-    ensures { result ≡ list_all is_printable field.now }
-{
-    field.iter().all(|byte| *byte >= 32 && *byte <= 126)
-}
 
 /// Whether the field begins with a space.
 fn begins_with_space(field: &[u8]) -> bool

@@ -9,6 +9,7 @@ pub mod identification;
 pub mod laws;
 pub mod number;
 pub mod onset;
+pub mod printable;
 pub mod sink;
 pub mod source;
 pub mod subfields;

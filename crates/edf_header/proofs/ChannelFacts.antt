@@ -8,12 +8,13 @@ use Rattle.edf_header.specs.declared.fault.Place.TheVariants.{AtField, AtSignal}
 use Rattle.edf_header.specs.declared.fault.Cause.TheVariants.{NoAnnotationSignal, NoOrdinarySignal, DuplicateLabel, RecordTooLarge}
 use Rattle.edf_header.specs.declared.layout.FixedField.TheVariants as fixed
 use Rattle.edf_header.specs.declared.layout.SignalField.TheVariants as signal
-use Rattle.edf_fields.proofs.DateFacts.{le_decided}
+use Rattle.edf_fields.proofs.ForCallers.{le_decided, first-none, first-cons, not-true}
 use Rattle.edf_header.specs.Heads.{SignalHead, is_annotations, samples_together}
 use Rattle.edf_header.specs.Channels.{IsChannel, HasDistinctChannels, is_channel_of, channel_place, label_at, is_repeated}
-use Rattle.edf_header.specs.Faults.{first, no_annotation_signal, no_ordinary_signal, label_fault, labels_faults, record_too_large, joint_faults}
+use Rattle.edf_header.specs.Faults.{no_annotation_signal, no_ordinary_signal, label_fault, labels_faults, record_too_large, joint_faults}
+use Rattle.edf_fields.specs.Tests.{first}
 use Rattle.edf_header.specs.Sound.{HasAnnotationSignal, HasSomeChannel}
-use Rattle.edf_header.proofs.PassedFacts.{first-none, first-cons, not-true, unless-passed}
+use Rattle.edf_header.proofs.PassedFacts.{fault_unless-passed}
 
 -- a member with this answer of the test, and its place
 abbrev FoundAt : (SignalHead → Bool) → Bool → List SignalHead → Type 0
@@ -79,7 +80,7 @@ labels-alone signals s (suc m) t h low high =
       | inl lt ↦ labels-alone signals (s + 1) m t r.1 (omega arith) (omega arith)
       | inr le ↦
           let e : s ≡ t = omega arith in
-          rw (sym e) (not-true (is_repeated signals s) (unless-passed (not (is_repeated signals s)) (AtSignal s signal.Label) DuplicateLabel r.0))
+          rw (sym e) (not-true (is_repeated signals s) (fault_unless-passed (not (is_repeated signals s)) (AtSignal s signal.Label) DuplicateLabel r.0))
     ]
 
 earlier : (signals : List SignalHead) (s t : ℕ) (label : List ℕ) → first (labels_faults signals 0 (length signals)) ≡ None → IsChannel signals s label → IsChannel signals t label → s < t → ⊥
@@ -112,20 +113,20 @@ pub record Together (signals : List SignalHead) : Type 0 where
 
 small-record : (signals : List SignalHead) → record_too_large signals ≡ None → samples_together signals ≤ 8388608
 unfolding record_too_large
-small-record signals h = (le_decided (samples_together signals) 8388608).0 (unless-passed (nat_le (samples_together signals) 8388608) (AtField fixed.Signals) RecordTooLarge h)
+small-record signals h = (le_decided (samples_together signals) 8388608).0 (fault_unless-passed (nat_le (samples_together signals) 8388608) (AtField fixed.Signals) RecordTooLarge h)
 
 pub annotation-there : (signals : List SignalHead) → no_annotation_signal signals ≡ None → HasAnnotationSignal signals
 unfolding no_annotation_signal
 annotation-there signals h =
     let p : SignalHead → Bool = λ head. is_annotations head.label in
-    let r = any-at p signals (unless-passed (list_any p signals) (AtField fixed.Signals) NoAnnotationSignal h) in
+    let r = any-at p signals (fault_unless-passed (list_any p signals) (AtField fixed.Signals) NoAnnotationSignal h) in
     (r.0, r.1, r.2, r.3)
 
 pub channel-there : (signals : List SignalHead) → no_ordinary_signal signals ≡ None → HasSomeChannel signals
 unfolding no_ordinary_signal
 channel-there signals h =
     let p : SignalHead → Bool = λ head. is_annotations head.label in
-    let r = all-fails p signals (not-true (list_all p signals) (unless-passed (not (list_all p signals)) (AtField fixed.Signals) NoOrdinarySignal h)) in
+    let r = all-fails p signals (not-true (list_all p signals) (fault_unless-passed (not (list_all p signals)) (AtField fixed.Signals) NoOrdinarySignal h)) in
     (r.0, (r.1).label, (r.1, r.2, refl, r.3))
 
 pub joint-passed : (signals : List SignalHead) → first (joint_faults signals) ≡ None → Together signals

@@ -13,10 +13,8 @@ use Rattle.jiff.specs.Types.{Date}
 use Rattle.edf_fields.specs.Parts.{text_of}
 use Rattle.edf_fields.specs.Numbers.{SpellsWholeNumber, whole_number_of}
 use Rattle.edf_fields.specs.Dates.{CivilDay, NamesDashedDay, civil_day, dotted_day_of, dashed_day_of, clock_time_of}
-use Rattle.edf_fields.specs.Identifications.{is_printable}
-use Rattle.edf_fields.proofs.DateFacts.{le_decided, dotted_day_read, dashed_day_read, dashed_day_decided, clock_time_read}
-use Rattle.edf_fields.proofs.IdentificationFacts.{patient_or_cause, recording_or_cause}
-use Rattle.edf_fields.proofs.NumberFacts.{whole_number_of-spelled, header_number_of-spelled, whole_number_of-some}
+use Rattle.edf_fields.specs.Printable.{is_printable, IsPrintable}
+use Rattle.edf_fields.proofs.ForCallers.{le_decided, dotted_day_read, dashed_day_read, dashed_day_decided, clock_time_read, patient_or_cause, recording_or_cause, whole_number_of-spelled, header_number_of-spelled, whole_number_of-some, first-none, first-cons, and-true, not-true, pass-cons, pass-append, not-is, printable_decided}
 use Rattle.edf_header.specs.declared.fault.Place.{Place}
 use Rattle.edf_header.specs.declared.fault.Place.TheVariants.{AtField, AtSignal}
 use Rattle.edf_header.specs.declared.fault.Cause.TheVariants.{NotPrintable, Truncated, BadVersion, BadHeaderSize, NoAnnotationSignal, NoOrdinarySignal, DuplicateLabel, RecordTooLarge}
@@ -27,11 +25,12 @@ use Rattle.edf_header.specs.declared.layout.SignalField.TheVariants as signal
 use Rattle.edf_header.specs.Channels.{IsChannel, HasDistinctChannels, is_channel_of, label_at, is_repeated}
 use Rattle.edf_header.specs.Layout.{fixed_from, fixed_bytes, fixed_part, fixed_field, fixed_fields, column_before, column_width, columns, columns_part, signal_field}
 use Rattle.edf_header.specs.Heads.{SignalHead, Head, HasSignal, count_of, day_number, line_of, recording_in, signals_of, signals_in, head_of, header_bytes, in_picoseconds, is_annotations, samples_together}
-use Rattle.edf_header.specs.Faults.{first, truncated, unless, not_printable, no_number, is_same_day, version_fault, patient_fault, recording_fault, startdate_fault, starttime_fault, header_bytes_fault, reserved_fault, records_fault, duration_fault, signals_fault, header_size_fault, text_fault, physical_fault, digital_fault, samples_fault, naming_faults, extreme_faults, sampling_faults, agreement_faults, signal_faults, no_annotation_signal, no_ordinary_signal, label_fault, labels_faults, record_too_large, joint_faults, fixed_missing, start_faults, extent_faults, fixed_tests, column_missing, columns_missing, signals_faults, columns_tests, header_fault}
-use Rattle.edf_header.specs.Conforming.{IsPrintable, HeaderConforms, PassingIsConforming}
+use Rattle.edf_header.specs.Faults.{truncated, fault_unless, not_printable, no_number, is_same_day, version_fault, patient_fault, recording_fault, startdate_fault, starttime_fault, header_bytes_fault, reserved_fault, records_fault, duration_fault, signals_fault, header_size_fault, text_fault, physical_fault, digital_fault, samples_fault, naming_faults, extreme_faults, sampling_faults, agreement_faults, signal_faults, no_annotation_signal, no_ordinary_signal, label_fault, labels_faults, record_too_large, joint_faults, fixed_missing, start_faults, extent_faults, fixed_tests, column_missing, columns_missing, signals_faults, columns_tests, header_fault}
+use Rattle.edf_fields.specs.Tests.{first}
+use Rattle.edf_header.specs.Conforming.{HeaderConforms, PassingIsConforming}
 use Rattle.edf_header.specs.Sound.{IsSoundSignal, HasAnnotationSignal, HasSomeChannel}
-use Rattle.edf_header.proofs.PassedFacts.{first-none, first-cons, and-true, not-true, unless-passed, number-passed}
-use Rattle.edf_header.proofs.PassingFacts.{pass-cons, pass-append, unless-true, not-is, version-passes, patient-passes, recording-passes, startdate-passes, starttime-passes, header_bytes-passes, reserved-passes, records-passes, duration-passes, signals-passes, header_size-passes, signals-pass-tests}
+use Rattle.edf_header.proofs.PassedFacts.{fault_unless-passed, number-passed}
+use Rattle.edf_header.proofs.PassingFacts.{fault_unless-true, version-passes, patient-passes, recording-passes, startdate-passes, starttime-passes, header_bytes-passes, reserved-passes, records-passes, duration-passes, signals-passes, header_size-passes, signals-pass-tests}
 use Rattle.edf_header.proofs.ColumnFacts.{there, column-whole}
 use Rattle.edf_header.proofs.ChannelFacts.{get-within}
 use Rattle.edf_header.proofs.SaidFacts.{recording_is}
@@ -65,7 +64,7 @@ annotation-passes : (signals : List SignalHead) → HasAnnotationSignal signals 
 unfolding no_annotation_signal
 annotation-passes signals h =
     let p : SignalHead → Bool = λ head. is_annotations head.label in
-    unless-true (list_any p signals) (AtField fixed.Signals) NoAnnotationSignal (any-passes p signals h.0 h.1 h.2 h.3)
+    fault_unless-true (list_any p signals) (AtField fixed.Signals) NoAnnotationSignal (any-passes p signals h.0 h.1 h.2 h.3)
 
 channel-passes : (signals : List SignalHead) → HasSomeChannel signals → no_ordinary_signal signals ≡ None
 unfolding no_ordinary_signal
@@ -73,7 +72,7 @@ channel-passes signals h =
     let p : SignalHead → Bool = λ head. is_annotations head.label in
     let c = h.2 in
     let failed : p c.0 ≡ false = ap is_annotations c.2 ∙ c.3 in
-    unless-true (not (list_all p signals)) (AtField fixed.Signals) NoOrdinarySignal (ap not (all-fails-at p signals h.0 c.0 c.1 failed))
+    fault_unless-true (not (list_all p signals)) (AtField fixed.Signals) NoOrdinarySignal (ap not (all-fails-at p signals h.0 c.0 c.1 failed))
 
 -- a member that is found
 found-at : (p : SignalHead → Bool) (signals : List SignalHead) (k : ℕ) → is_some (position_from p k signals) ≡ true → (s : ℕ) × (head : SignalHead) × (slice_get signals s ≡ Some head) × (p head ≡ true)
@@ -120,13 +119,13 @@ unfolding label_fault
 labels-pass signals s zero distinct within = refl
 labels-pass signals s (suc m) distinct within =
     pass-cons (label_fault signals s) (labels_faults signals (s + 1) m)
-    (unless-true (not (is_repeated signals s)) (AtSignal s signal.Label) DuplicateLabel (not-is (is_repeated signals s) (label-alone signals s distinct (omega arith))))
+    (fault_unless-true (not (is_repeated signals s)) (AtSignal s signal.Label) DuplicateLabel (not-is (is_repeated signals s) (label-alone signals s distinct (omega arith))))
     (labels-pass signals (s + 1) m distinct (omega arith))
 
 small-passes : (signals : List SignalHead) → 2 * samples_together signals ≤ 16777216 → record_too_large signals ≡ None
 unfolding record_too_large
 small-passes signals h =
-    unless-true (nat_le (samples_together signals) 8388608) (AtField fixed.Signals) RecordTooLarge ((le_decided (samples_together signals) 8388608).1 (omega (arith, h)))
+    fault_unless-true (nat_le (samples_together signals) 8388608) (AtField fixed.Signals) RecordTooLarge ((le_decided (samples_together signals) 8388608).1 (omega (arith, h)))
 
 joint-passes : (signals : List SignalHead) → HasAnnotationSignal signals → HasSomeChannel signals → HasDistinctChannels signals → 2 * samples_together signals ≤ 16777216
     → first (joint_faults signals) ≡ None
@@ -180,7 +179,7 @@ columns-there (field ∷ fields) n len h =
 -- a test of the length that passed
 there-back : (place : Place) (end len : ℕ) → truncated place end len ≡ None → end ≤ len
 unfolding truncated
-there-back place end len h = (le_decided end len).0 (unless-passed (nat_le end len) place Truncated h)
+there-back place end len h = (le_decided end len).0 (fault_unless-passed (nat_le end len) place Truncated h)
 
 fixed-back : (before : List FixedField) (field : FixedField) (len : ℕ) → first (fixed_missing (before ++ field ∷ []) len) ≡ None → fixed_from field + fixed_bytes field ≤ len
 fixed-back [] field len h =
@@ -213,17 +212,9 @@ columns-all (suc m) len some h =
     let last = columns-back (signal.Label ∷ signal.Transducer ∷ signal.Dimension ∷ signal.PhysicalMinimum ∷ signal.PhysicalMaximum ∷ signal.DigitalMinimum ∷ signal.DigitalMaximum ∷ signal.Prefilter ∷ signal.Samples ∷ []) signal.Reserved m len h in
     omega (arith, last)
 
--- printable bytes, as the tests say
-printable-said : (field : List ℕ) → list_all is_printable field ≡ true → IsPrintable field
-printable-said [] h = All-nil (λ b. (32 ≤ b) × (b ≤ 126))
-printable-said (b ∷ bs) h =
-    let both = and-true (is_printable b) (list_all is_printable bs) h in
-    let one = and-true (nat_le 32 b) (nat_le b 126) both.0 in
-    All-cons (λ b. (32 ≤ b) × (b ≤ 126)) b bs ((le_decided 32 b).0 one.0, (le_decided b 126).0 one.1) (printable-said bs both.1)
-
 printable-passed : (place : Place) (field : List ℕ) → not_printable place field ≡ None → IsPrintable field
 unfolding not_printable
-printable-passed place field h = printable-said field (unless-passed (list_all is_printable field) place NotPrintable h)
+printable-passed place field h = (printable_decided field).0 (fault_unless-passed (list_all is_printable field) place NotPrintable h)
 
 fixed-printable : (front : List ℕ) → FixedPasses front → (field : FixedField) → IsPrintable (fixed_field front field)
 unfolding version_fault patient_fault recording_fault startdate_fault starttime_fault header_bytes_fault reserved_fault records_fault duration_fault signals_fault
@@ -297,9 +288,9 @@ signal-printable bytes n s h field =
 version-said : (field : List ℕ) → version_fault field ≡ None → text_of field ≡ codes "0"
 unfolding version_fault
 version-said field h =
-    let test = unless (bytes_eq (text_of field) (codes "0")) (AtField fixed.Version) BadVersion in
+    let test = fault_unless (bytes_eq (text_of field) (codes "0")) (AtField fixed.Version) BadVersion in
     let a = first-cons (not_printable (AtField fixed.Version) field) (test ∷ []) h in
-    (bytes_eq-Decides (text_of field) (codes "0")).0 (unless-passed (bytes_eq (text_of field) (codes "0")) (AtField fixed.Version) BadVersion (first-cons test [] a.1).0)
+    (bytes_eq-Decides (text_of field) (codes "0")).0 (fault_unless-passed (bytes_eq (text_of field) (codes "0")) (AtField fixed.Version) BadVersion (first-cons test [] a.1).0)
 
 size-number : (field : List ℕ) → header_bytes_fault field ≡ None → (v : ℤ) × (whole_number_of field ≡ Some v)
 unfolding header_bytes_fault
@@ -313,7 +304,7 @@ unfolding header_size_fault
 size-said signals field h size =
     let number = size-number field h in
     let same : unwrap_or (whole_number_of field) (pos 0) ≡ pos (256 * (signals + 1)) =
-    (Decides-int_eq (unwrap_or (whole_number_of field) (pos 0)) (pos (256 * (signals + 1)))).0 (unless-passed (int_eq (unwrap_or (whole_number_of field) (pos 0)) (pos (256 * (signals + 1)))) (AtField fixed.HeaderBytes) BadHeaderSize size) in
+    (Decides-int_eq (unwrap_or (whole_number_of field) (pos 0)) (pos (256 * (signals + 1)))).0 (fault_unless-passed (int_eq (unwrap_or (whole_number_of field) (pos 0)) (pos (256 * (signals + 1)))) (AtField fixed.HeaderBytes) BadHeaderSize size) in
     let is : number.0 ≡ pos (256 * (signals + 1)) = sym (ap (λ o. unwrap_or o (pos 0)) number.1) ∙ same in
     subst (SpellsWholeNumber field) is (whole_number_of-some field number.0 number.1)
 

@@ -2,8 +2,9 @@
 use Rattle.std.proofs.Common.{◌≡◌, ℕ, List, ◌++◌, length, Some, None, ◌∙◌}
 use Rattle.edf_header.specs.declared.fault.Fault.{Fault}
 use Rattle.edf_header.specs.Layout.{fixed_fields}
-use Rattle.edf_header.specs.Faults.{first, fixed_missing, start_faults, extent_faults, fixed_tests}
-use Rattle.edf_header.proofs.FirstFacts.{first-passed, first-found}
+use Rattle.edf_header.specs.Faults.{fixed_missing, start_faults, extent_faults, fixed_tests}
+use Rattle.edf_fields.specs.Tests.{first}
+use Rattle.edf_fields.proofs.ForCallers.{first-passed, first-found}
 
 pub missing_found : (front : List ℕ) (f : Fault) → first (fixed_missing fixed_fields (length front)) ≡ Some f → first (fixed_tests front) ≡ Some f
 missing_found front f h = first-found (fixed_missing fixed_fields (length front)) (start_faults front ++ extent_faults front) f h

@@ -9,8 +9,7 @@ use Rattle.edf_fields.specs.Parts.{text_of, part}
 use Rattle.edf_fields.specs.Numbers.{SpellsWholeNumber, SpellsHeaderNumber, whole_number_of, header_number_of}
 use Rattle.edf_fields.specs.Dates.{CivilDay, NamesDottedDay, NamesClockTime, civil_day, dotted_day_of, dashed_day_of, clock_time_of}
 use Rattle.edf_fields.specs.Identifications.{Patient, Recording, patient_cause, recording_cause}
-use Rattle.edf_fields.proofs.DateFacts.{dotted_day_read, clock_time_read, dotted_day-some, clock_time-some}
-use Rattle.edf_fields.proofs.NumberFacts.{whole_number_of-some, header_number_of-some, whole_number_of-spelled, header_number_of-spelled}
+use Rattle.edf_fields.proofs.ForCallers.{dotted_day_read, clock_time_read, dotted_day-some, clock_time-some, whole_number_of-some, header_number_of-some, whole_number_of-spelled, header_number_of-spelled, header_number-below, first-none, first-cons}
 use Rattle.edf_header.specs.declared.fault.Place.TheVariants.{AtField}
 use Rattle.edf_header.specs.declared.fault.Cause.TheVariants.{NotEdfPlus, BadStart, StartdateDiffers, BadSubfields}
 use Rattle.edf_header.specs.declared.fault.Place.{Place}
@@ -26,10 +25,10 @@ use Rattle.edf_header.specs.Conforming.{PassingHasHead, PassingIsSound}
 use Rattle.edf_header.specs.Sound.{IsSound}
 use Rattle.jiff_core.proofs.DateLemmas.{epoch_day_range}
 use Rattle.std.proofs.lemmas.Int.{ints}
-use Rattle.edf_fields.proofs.ValueFacts.{header_number-below}
 use Rattle.edf_header.proofs.ChannelFacts.{joint-passed}
-use Rattle.edf_header.specs.Faults.{first, fault, unless, not_printable, not_named, not_read, not_positive, is_same_day, version_fault, patient_fault, recording_fault, startdate_fault, starttime_fault, header_bytes_fault, reserved_fault, records_fault, duration_fault, signals_fault, header_size_fault, fixed_missing, start_faults, extent_faults, fixed_tests, columns_missing, signal_faults, signals_faults, joint_faults, columns_tests, header_fault}
-use Rattle.edf_header.proofs.PassedFacts.{first-none, first-cons, unless-passed, named-passed, positive-passed}
+use Rattle.edf_header.specs.Faults.{fault, fault_unless, not_printable, not_named, not_read, not_positive, is_same_day, version_fault, patient_fault, recording_fault, startdate_fault, starttime_fault, header_bytes_fault, reserved_fault, records_fault, duration_fault, signals_fault, header_size_fault, fixed_missing, start_faults, extent_faults, fixed_tests, columns_missing, signal_faults, signals_faults, joint_faults, columns_tests, header_fault}
+use Rattle.edf_fields.specs.Tests.{first}
+use Rattle.edf_header.proofs.PassedFacts.{fault_unless-passed, named-passed, positive-passed}
 use Rattle.edf_header.proofs.SaidFacts.{patient_is, recording_is}
 use Rattle.edf_header.proofs.SignalFacts.{length-signals}
 use Rattle.edf_header.proofs.SoundFacts.{Passes, signal-passes, side-by-side, signals-sound, count-below}
@@ -82,9 +81,9 @@ kind-said : (field : List ℕ) → reserved_fault field ≡ None → take 5 fiel
 unfolding reserved_fault
 kind-said field h =
     let either : Bool = bytes_eq (take 5 field) (codes "EDF+C") || bytes_eq (take 5 field) (codes "EDF+D") in
-    let test = unless either (AtField fixed.Reserved) NotEdfPlus in
+    let test = fault_unless either (AtField fixed.Reserved) NotEdfPlus in
     let a = first-cons (not_printable (AtField fixed.Reserved) field) (test ∷ []) h in
-    let t : either ≡ true = unless-passed either (AtField fixed.Reserved) NotEdfPlus (first-cons test [] a.1).0 in
+    let t : either ≡ true = fault_unless-passed either (AtField fixed.Reserved) NotEdfPlus (first-cons test [] a.1).0 in
     kind-cases (take 5 field) (bytes_eq (take 5 field) (codes "EDF+C")) (bytes_eq (take 5 field) (codes "EDF+D")) refl refl t
 
 is-kind : (field : List ℕ) (k : Kind) → take 5 field ≡ kind_word k → k ≡ kind_of field
@@ -106,7 +105,7 @@ startdate-named : (date field : List ℕ) → startdate_fault date field ≡ Non
 unfolding startdate_fault
 startdate-named date field h =
     let named = not_named (AtField fixed.Startdate) BadStart (dotted_day_of (text_of field)) in
-    let same = unless (is_same_day (dashed_day_of date) (dotted_day_of (text_of field))) (AtField fixed.Startdate) StartdateDiffers in
+    let same = fault_unless (is_same_day (dashed_day_of date) (dotted_day_of (text_of field))) (AtField fixed.Startdate) StartdateDiffers in
     let a = first-cons (not_printable (AtField fixed.Startdate) field) (named ∷ same ∷ []) h in
     named-passed (AtField fixed.Startdate) BadStart (dotted_day_of (text_of field)) (first-cons named (same ∷ []) a.1).0
 

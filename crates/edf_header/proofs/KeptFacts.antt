@@ -8,8 +8,7 @@ use Rattle.jiff.specs.Words.{epoch_day}
 use Rattle.edf_fields.specs.Parts.{text_of}
 use Rattle.edf_fields.specs.Dates.{CivilDay, NamesDashedDay, civil_day, dotted_day_of, dashed_day_of}
 use Rattle.edf_fields.specs.Identifications.{Patient, Recording, SaysPatient, SaysRecording, patient_cause, recording_cause}
-use Rattle.edf_fields.proofs.DateFacts.{dashed_day_read}
-use Rattle.edf_fields.proofs.IdentificationFacts.{patient_or_cause, recording_or_cause}
+use Rattle.edf_fields.proofs.ForCallers.{dashed_day_read, patient_or_cause, recording_or_cause, first-none, first-cons}
 use Rattle.edf_header.specs.declared.fault.Place.TheVariants.{AtField}
 use Rattle.edf_header.specs.declared.fault.Cause.TheVariants.{BadStart, StartdateDiffers}
 use Rattle.edf_header.specs.declared.fixed.Start.{Start}
@@ -20,8 +19,9 @@ use Rattle.edf_header.specs.Heads.{SignalHead, AreSideBySide, day_number, patien
 use Rattle.edf_header.specs.Judged.{SaysStart, SaysExtent}
 use Rattle.edf_header.specs.Sound.{IsSoundSignal}
 use Rattle.edf_header.specs.Views.{IsKept}
-use Rattle.edf_header.specs.Faults.{first, unless, not_printable, not_named, is_same_day, version_fault, patient_fault, recording_fault, startdate_fault, starttime_fault, fixed_missing, start_faults, extent_faults, fixed_tests, columns_missing, signals_faults, joint_faults, columns_tests}
-use Rattle.edf_header.proofs.PassedFacts.{first-none, first-cons, unless-passed}
+use Rattle.edf_header.specs.Faults.{fault_unless, not_printable, not_named, is_same_day, version_fault, patient_fault, recording_fault, startdate_fault, starttime_fault, fixed_missing, start_faults, extent_faults, fixed_tests, columns_missing, signals_faults, joint_faults, columns_tests}
+use Rattle.edf_fields.specs.Tests.{first}
+use Rattle.edf_header.proofs.PassedFacts.{fault_unless-passed}
 use Rattle.edf_header.proofs.SaidFacts.{patient_is, recording_is}
 use Rattle.edf_header.proofs.SignalFacts.{length-signals}
 use Rattle.edf_header.proofs.SoundFacts.{side-by-side, signals-sound}
@@ -43,9 +43,9 @@ unfolding startdate_fault
 startdate-passed date field h =
     let named = not_named (AtField fixed.Startdate) BadStart (dotted_day_of (text_of field)) in
     let same : Bool = is_same_day (dashed_day_of date) (dotted_day_of (text_of field)) in
-    let a = first-cons (not_printable (AtField fixed.Startdate) field) (named ∷ unless same (AtField fixed.Startdate) StartdateDiffers ∷ []) h in
-    let b = first-cons named (unless same (AtField fixed.Startdate) StartdateDiffers ∷ []) a.1 in
-    unless-passed same (AtField fixed.Startdate) StartdateDiffers (first-cons (unless same (AtField fixed.Startdate) StartdateDiffers) [] b.1).0
+    let a = first-cons (not_printable (AtField fixed.Startdate) field) (named ∷ fault_unless same (AtField fixed.Startdate) StartdateDiffers ∷ []) h in
+    let b = first-cons named (fault_unless same (AtField fixed.Startdate) StartdateDiffers ∷ []) a.1 in
+    fault_unless-passed same (AtField fixed.Startdate) StartdateDiffers (first-cons (fault_unless same (AtField fixed.Startdate) StartdateDiffers) [] b.1).0
 
 same-number : (recorded : CivilDay) (o : Option CivilDay) → is_same_day (Some recorded) o ≡ true → day_number recorded ≡ option_map_or day_number o (pos 0)
 same-number recorded None h = absurd (let e : false ≡ true = h in cc)

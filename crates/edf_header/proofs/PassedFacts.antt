@@ -9,30 +9,13 @@ use Rattle.edf_header.specs.declared.fault.Cause.{Cause}
 use Rattle.edf_header.specs.declared.fault.Cause.TheVariants.{BadNumber, BadRange}
 use Rattle.edf_header.specs.declared.layout.SignalField.{SignalField}
 use Rattle.edf_header.specs.declared.layout.SignalField.TheVariants as signal
-use Rattle.edf_header.specs.Faults.{first, fault, unless, not_printable, no_number, not_within, not_positive, not_named, physical_fault, digital_fault, samples_fault}
+use Rattle.edf_header.specs.Faults.{fault, fault_unless, not_printable, no_number, not_within, not_positive, not_named, physical_fault, digital_fault, samples_fault}
+use Rattle.edf_fields.specs.Tests.{first}
+use Rattle.edf_fields.proofs.ForCallers.{first-cons, and-true, le-tested}
 
--- tests that all pass
-pub first-none : (tests more : List (Option Fault)) → first (tests ++ more) ≡ None → (first tests ≡ None) × (first more ≡ None)
-first-none [] more h = (refl, h)
-first-none (None ∷ tests) more h = first-none tests more h
-first-none (Some f ∷ tests) more h = absurd (let e : Some f ≡ None = h in cc)
-
--- the first of tests that all pass
-pub first-cons : (test : Option Fault) (more : List (Option Fault)) → first (test ∷ more) ≡ None → (test ≡ None) × (first more ≡ None)
-first-cons None more h = (refl, h)
-first-cons (Some f) more h = absurd (let e : Some f ≡ None = h in cc)
-
-pub and-true : (a b : Bool) → (a && b) ≡ true → (a ≡ true) × (b ≡ true)
-and-true true b h = (refl, h)
-and-true false b h = absurd (let f : false ≡ true = h in cc)
-
-pub not-true : (a : Bool) → not a ≡ true → a ≡ false
-not-true true h = absurd (let f : false ≡ true = h in cc)
-not-true false h = refl
-
-pub unless-passed : (b : Bool) (place : Place) (cause : Cause) → unless b place cause ≡ None → b ≡ true
-unless-passed true place cause h = refl
-unless-passed false place cause h = absurd (let e : fault place cause ≡ None = h in cc)
+pub fault_unless-passed : (b : Bool) (place : Place) (cause : Cause) → fault_unless b place cause ≡ None → b ≡ true
+fault_unless-passed true place cause h = refl
+fault_unless-passed false place cause h = absurd (let e : fault place cause ≡ None = h in cc)
 
 pub number-passed : (place : Place) (o : Option ℤ) → no_number place o ≡ None → (v : ℤ) × (o ≡ Some v)
 number-passed place None h = absurd (let e : fault place BadNumber ≡ None = h in cc)
@@ -42,25 +25,19 @@ pub named-passed : {X : Type 0} (place : Place) (cause : Cause) (o : Option X) �
 named-passed place cause None h = absurd (let e : fault place cause ≡ None = h in cc)
 named-passed place cause (Some x) h = (x, refl)
 
-le-tested : (x y : ℤ) → int_le x y ≡ true → x ≤ℤ y
-le-tested x y h = omega (arith, ints, h)
-
-lt-tested : (x y : ℤ) → int_lt x y ≡ true → x <ℤ y
-lt-tested x y h = omega (arith, ints, h)
-
 pub within-passed : (place : Place) (low high : ℤ) (o : Option ℤ) → not_within place low high o ≡ None → (v : ℤ) × (o ≡ Some v) × (low ≤ℤ v) × (v ≤ℤ high)
 within-passed place low high None h = absurd (let e : fault place BadNumber ≡ None = h in cc)
 within-passed place low high (Some v) h =
-    let both = and-true (int_le low v) (int_le v high) (unless-passed (int_le low v && int_le v high) place BadRange h) in
+    let both = and-true (int_le low v) (int_le v high) (fault_unless-passed (int_le low v && int_le v high) place BadRange h) in
     (v, refl, le-tested low v both.0, le-tested v high both.1)
 
 pub positive-passed : (place : Place) (o : Option ℤ) → not_positive place o ≡ None → (n : ℕ) × (o ≡ Some (pos n)) × (1 ≤ n)
 positive-passed place None h = absurd (let e : fault place BadNumber ≡ None = h in cc)
 positive-passed place (Some (pos n)) h =
-    let le : pos 1 ≤ℤ pos n = le-tested (pos 1) (pos n) (unless-passed (int_le (pos 1) (pos n)) place BadRange h) in
+    let le : pos 1 ≤ℤ pos n = le-tested (pos 1) (pos n) (fault_unless-passed (int_le (pos 1) (pos n)) place BadRange h) in
     (n, refl, omega (arith, ints, le))
 positive-passed place (Some (negsuc n)) h =
-    let le : pos 1 ≤ℤ negsuc n = le-tested (pos 1) (negsuc n) (unless-passed (int_le (pos 1) (negsuc n)) place BadRange h) in
+    let le : pos 1 ≤ℤ negsuc n = le-tested (pos 1) (negsuc n) (fault_unless-passed (int_le (pos 1) (negsuc n)) place BadRange h) in
     absurd (omega (arith, ints, le))
 
 pub physical-passed : (s : ℕ) (field : SignalField) (bytes : List ℕ) → physical_fault s field bytes ≡ None → (v : ℤ) × (header_number_of bytes ≡ Some v)

@@ -9,9 +9,9 @@ use Rattle.std.proofs.lemmas.Slice.Eq.{bytes_eq-Decides}
 use Rattle.edf_fields.specs.Parts.{text_of}
 use Rattle.edf_fields.specs.Numbers.{whole_number_of, header_number_of}
 use Rattle.edf_fields.specs.Dates.{CivilDay, dotted_day_of, dashed_day_of, clock_time_of}
-use Rattle.edf_fields.specs.Identifications.{is_printable, patient_cause, recording_cause}
-use Rattle.edf_fields.proofs.DateFacts.{le_decided}
-use Rattle.edf_fields.proofs.NumberFacts.{whole_number_of-spelled, header_number_of-spelled}
+use Rattle.edf_fields.specs.Identifications.{patient_cause, recording_cause}
+use Rattle.edf_fields.specs.Printable.{is_printable, IsPrintable}
+use Rattle.edf_fields.proofs.ForCallers.{le_decided, whole_number_of-spelled, header_number_of-spelled, first-passed, pass-cons, pass-append, both-true, not-is, le-passes, lt-passes, printable_decided}
 use Rattle.edf_header.specs.declared.fault.Fault.{Fault}
 use Rattle.edf_header.specs.declared.fault.Place.{Place}
 use Rattle.edf_header.specs.declared.fault.Place.TheVariants.{AtField, AtSignal}
@@ -25,67 +25,29 @@ use Rattle.edf_header.specs.declared.layout.SignalField.TheVariants as signal
 use Rattle.edf_header.specs.Calibrations.{Line}
 use Rattle.edf_header.specs.Layout.{signal_field}
 use Rattle.edf_header.specs.Heads.{SignalHead, HasSignal, kind_word, line_of, signal_of, signals_from, is_annotations}
-use Rattle.edf_header.specs.Faults.{first, unless, not_printable, no_number, not_within, not_positive, not_named, not_read, is_same_day, version_fault, patient_fault, recording_fault, startdate_fault, starttime_fault, header_bytes_fault, reserved_fault, records_fault, duration_fault, signals_fault, header_size_fault, text_fault, physical_fault, digital_fault, samples_fault, digital_order_fault, physical_differ_fault, annotation_fault, naming_faults, extreme_faults, sampling_faults, agreement_faults, signal_faults, signals_faults}
-use Rattle.edf_header.specs.Conforming.{IsPrintable}
+use Rattle.edf_header.specs.Faults.{fault_unless, not_printable, no_number, not_within, not_positive, not_named, not_read, is_same_day, version_fault, patient_fault, recording_fault, startdate_fault, starttime_fault, header_bytes_fault, reserved_fault, records_fault, duration_fault, signals_fault, header_size_fault, text_fault, physical_fault, digital_fault, samples_fault, digital_order_fault, physical_differ_fault, annotation_fault, naming_faults, extreme_faults, sampling_faults, agreement_faults, signal_faults, signals_faults}
+use Rattle.edf_fields.specs.Tests.{first}
 use Rattle.edf_header.specs.Sound.{IsSoundSignal}
-use Rattle.edf_header.proofs.FirstFacts.{first-passed}
 
--- tests that pass, one before others, and some before others
-pub pass-cons : (test : Option Fault) (more : List (Option Fault)) → test ≡ None → first more ≡ None → first (test ∷ more) ≡ None
-pass-cons None more e h = h
-pass-cons (Some f) more e h = absurd (let z : Some f ≡ None = e in cc)
-
-pub pass-append : (tests more : List (Option Fault)) → first tests ≡ None → first more ≡ None → first (tests ++ more) ≡ None
-pass-append tests more a b = first-passed tests more a ∙ b
-
-pub unless-true : (b : Bool) (place : Place) (cause : Cause) → b ≡ true → unless b place cause ≡ None
-unless-true true place cause h = refl
-unless-true false place cause h = absurd (let z : false ≡ true = h in cc)
-
-pub both-true : (a b : Bool) → a ≡ true → b ≡ true → (a && b) ≡ true
-both-true a b p q = cc
-
-pub not-is : (b : Bool) → (b ≡ true → ⊥) → not b ≡ true
-not-is true h = absurd (h refl)
-not-is false h = refl
-
-le-passes : (x y : ℤ) → x ≤ℤ y → int_le x y ≡ true
-le-passes x y h = le-case x y (int_le x y) refl h
-  where
-    le-case : (x y : ℤ) (b : Bool) → int_le x y ≡ b → x ≤ℤ y → b ≡ true
-    le-case x y true e h = refl
-    le-case x y false e h = absurd (omega (arith, ints, h, e))
-
-lt-passes : (x y : ℤ) → x <ℤ y → int_lt x y ≡ true
-lt-passes x y h = lt-case x y (int_lt x y) refl h
-  where
-    lt-case : (x y : ℤ) (b : Bool) → int_lt x y ≡ b → x <ℤ y → b ≡ true
-    lt-case x y true e h = refl
-    lt-case x y false e h = absurd (omega (arith, ints, h, e))
-
-printable-tested : (field : List ℕ) → IsPrintable field → list_all is_printable field ≡ true
-printable-tested [] h = refl
-printable-tested (b ∷ bs) h =
-    let here = h 0 0 (omega arith) in
-    both-true (is_printable b) (list_all is_printable bs)
-    (both-true (nat_le 32 b) (nat_le b 126) ((le_decided 32 b).1 here.0) ((le_decided b 126).1 here.1))
-    (printable-tested bs (λ k d lt. h (suc k) d (omega arith)))
+pub fault_unless-true : (b : Bool) (place : Place) (cause : Cause) → b ≡ true → fault_unless b place cause ≡ None
+fault_unless-true true place cause h = refl
+fault_unless-true false place cause h = absurd (let z : false ≡ true = h in cc)
 
 pub printable-passes : (place : Place) (field : List ℕ) → IsPrintable field → not_printable place field ≡ None
 unfolding not_printable
-printable-passes place field h = unless-true (list_all is_printable field) place NotPrintable (printable-tested field h)
+printable-passes place field h = fault_unless-true (list_all is_printable field) place NotPrintable ((printable_decided field).1 h)
 
 positive-passes : (place : Place) (o : Option ℤ) (n : ℕ) → o ≡ Some (pos n) → 1 ≤ n → not_positive place o ≡ None
 positive-passes place o n e h =
-    ap (not_positive place) e ∙ unless-true (int_le (pos 1) (pos n)) place BadRange (le-passes (pos 1) (pos n) (omega (arith, ints, h)))
+    ap (not_positive place) e ∙ fault_unless-true (int_le (pos 1) (pos n)) place BadRange (le-passes (pos 1) (pos n) (omega (arith, ints, h)))
 
 -- the fields of the fixed part
 pub version-passes : (field : List ℕ) → IsPrintable field → text_of field ≡ codes "0" → version_fault field ≡ None
 unfolding version_fault
 version-passes field p e =
-    let test = unless (bytes_eq (text_of field) (codes "0")) (AtField fixed.Version) BadVersion in
+    let test = fault_unless (bytes_eq (text_of field) (codes "0")) (AtField fixed.Version) BadVersion in
     pass-cons (not_printable (AtField fixed.Version) field) (test ∷ []) (printable-passes (AtField fixed.Version) field p)
-    (pass-cons test [] (unless-true (bytes_eq (text_of field) (codes "0")) (AtField fixed.Version) BadVersion ((bytes_eq-Decides (text_of field) (codes "0")).1 e)) refl)
+    (pass-cons test [] (fault_unless-true (bytes_eq (text_of field) (codes "0")) (AtField fixed.Version) BadVersion ((bytes_eq-Decides (text_of field) (codes "0")).1 e)) refl)
 
 pub patient-passes : (field : List ℕ) → IsPrintable field → patient_cause field ≡ None → patient_fault field ≡ None
 unfolding patient_fault
@@ -106,10 +68,10 @@ pub startdate-passes : (date field : List ℕ) (day : CivilDay) → IsPrintable 
 unfolding startdate_fault
 startdate-passes date field day p e same =
     let named = not_named (AtField fixed.Startdate) BadStart (dotted_day_of (text_of field)) in
-    let test = unless (is_same_day (dashed_day_of date) (dotted_day_of (text_of field))) (AtField fixed.Startdate) StartdateDiffers in
+    let test = fault_unless (is_same_day (dashed_day_of date) (dotted_day_of (text_of field))) (AtField fixed.Startdate) StartdateDiffers in
     pass-cons (not_printable (AtField fixed.Startdate) field) (named ∷ test ∷ []) (printable-passes (AtField fixed.Startdate) field p)
     (pass-cons named (test ∷ []) (ap (not_named (AtField fixed.Startdate) BadStart) e)
-    (pass-cons test [] (unless-true (is_same_day (dashed_day_of date) (dotted_day_of (text_of field))) (AtField fixed.Startdate) StartdateDiffers same) refl))
+    (pass-cons test [] (fault_unless-true (is_same_day (dashed_day_of date) (dotted_day_of (text_of field))) (AtField fixed.Startdate) StartdateDiffers same) refl))
 
 pub starttime-passes : (field : List ℕ) (second : ℕ) → IsPrintable field → clock_time_of (text_of field) ≡ Some second → starttime_fault field ≡ None
 unfolding starttime_fault
@@ -137,9 +99,9 @@ pub reserved-passes : (field : List ℕ) (k : Kind) → IsPrintable field → ta
 unfolding reserved_fault
 reserved-passes field k p e =
     let either : Bool = bytes_eq (take 5 field) (codes "EDF+C") || bytes_eq (take 5 field) (codes "EDF+D") in
-    let test = unless either (AtField fixed.Reserved) NotEdfPlus in
+    let test = fault_unless either (AtField fixed.Reserved) NotEdfPlus in
     pass-cons (not_printable (AtField fixed.Reserved) field) (test ∷ []) (printable-passes (AtField fixed.Reserved) field p)
-    (pass-cons test [] (unless-true either (AtField fixed.Reserved) NotEdfPlus (kind-tested (take 5 field) k e)) refl)
+    (pass-cons test [] (fault_unless-true either (AtField fixed.Reserved) NotEdfPlus (kind-tested (take 5 field) k e)) refl)
 
 pub records-passes : (field : List ℕ) (n : ℕ) → IsPrintable field → whole_number_of field ≡ Some (pos n) → 1 ≤ n → records_fault field ≡ None
 unfolding records_fault
@@ -167,7 +129,7 @@ unfolding header_size_fault
 header_size-passes signals field e =
     let size : ℤ = unwrap_or (whole_number_of field) (pos 0) in
     let is : size ≡ pos (256 * (signals + 1)) = ap (λ o. unwrap_or o (pos 0)) e in
-    unless-true (int_eq size (pos (256 * (signals + 1)))) (AtField fixed.HeaderBytes) BadHeaderSize ((Decides-int_eq size (pos (256 * (signals + 1)))).1 is)
+    fault_unless-true (int_eq size (pos (256 * (signals + 1)))) (AtField fixed.HeaderBytes) BadHeaderSize ((Decides-int_eq size (pos (256 * (signals + 1)))).1 is)
 
 -- the fields of a signal
 text-passes : (s : ℕ) (field : SignalField) (bytes : List ℕ) → IsPrintable bytes → text_fault s field bytes ≡ None
@@ -189,7 +151,7 @@ digital-passes s field bytes v p e low high =
     pass-cons (not_printable (AtSignal s field) bytes) (test ∷ []) (printable-passes (AtSignal s field) bytes p)
     (pass-cons test []
     (ap (not_within (AtSignal s field) (neg_ℤ (pos 32768)) (pos 32767)) e
-    ∙ unless-true (int_le (neg_ℤ (pos 32768)) v && int_le v (pos 32767)) (AtSignal s field) BadRange
+    ∙ fault_unless-true (int_le (neg_ℤ (pos 32768)) v && int_le v (pos 32767)) (AtSignal s field) BadRange
     (both-true (int_le (neg_ℤ (pos 32768)) v) (int_le v (pos 32767)) (le-passes (neg_ℤ (pos 32768)) v low) (le-passes v (pos 32767) high))) refl)
 
 samples-passes : (s : ℕ) (bytes : List ℕ) (n : ℕ) → IsPrintable bytes → whole_number_of bytes ≡ Some (pos n) → 1 ≤ n → samples_fault s bytes ≡ None
@@ -202,13 +164,13 @@ samples-passes s bytes n p e h =
 order-passes : (s : ℕ) (line : Line) → line.digital_minimum <ℤ line.digital_maximum → digital_order_fault s line ≡ None
 unfolding digital_order_fault
 order-passes s line h =
-    unless-true (int_lt line.digital_minimum line.digital_maximum) (AtSignal s signal.DigitalMaximum) BadRange (lt-passes line.digital_minimum line.digital_maximum h)
+    fault_unless-true (int_lt line.digital_minimum line.digital_maximum) (AtSignal s signal.DigitalMaximum) BadRange (lt-passes line.digital_minimum line.digital_maximum h)
 
 differ-passes : (s : ℕ) (line : Line) → line.physical_minimum ≢ line.physical_maximum → physical_differ_fault s line ≡ None
 unfolding physical_differ_fault
 differ-passes s line h =
     let same : Bool = int_eq line.physical_minimum line.physical_maximum in
-    unless-true (not same) (AtSignal s signal.PhysicalMaximum) BadRange (not-is same (λ e. h ((Decides-int_eq line.physical_minimum line.physical_maximum).0 e)))
+    fault_unless-true (not same) (AtSignal s signal.PhysicalMaximum) BadRange (not-is same (λ e. h ((Decides-int_eq line.physical_minimum line.physical_maximum).0 e)))
 
 annotation-passes : (s : ℕ) (label : List ℕ) (line : Line)
     → (is_annotations (text_of label) ≡ true → (line.digital_minimum ≡ neg_ℤ (pos 32768)) × (line.digital_maximum ≡ pos 32767)) → annotation_fault s label line ≡ None
@@ -216,7 +178,7 @@ unfolding annotation_fault
 annotation-passes s label line h =
     let low : Bool = int_eq line.digital_minimum (neg_ℤ (pos 32768)) in
     let high : Bool = int_eq line.digital_maximum (pos 32767) in
-    unless-true (not (is_annotations (text_of label)) || (low && high)) (AtSignal s signal.Label) BadAnnotationSignal
+    fault_unless-true (not (is_annotations (text_of label)) || (low && high)) (AtSignal s signal.Label) BadAnnotationSignal
     (either (is_annotations (text_of label)) (low && high)
     (λ e. both-true low high ((Decides-int_eq line.digital_minimum (neg_ℤ (pos 32768))).1 (h e).0) ((Decides-int_eq line.digital_maximum (pos 32767)).1 (h e).1)))
   where

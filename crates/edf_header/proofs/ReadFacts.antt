@@ -1,5 +1,5 @@
 -- From the bytes that were read to the whole file.
-use Rattle.std.proofs.Common.{◌≡◌, ℕ, ◌+◌, ◌*◌, ◌≤◌, List, take, drop, length, length-take, length-drop, Some, None, sym, ap, ◌∙◌, arith}
+use Rattle.std.proofs.Common.{◌≡◌, ℕ, ◌+◌, ◌*◌, ◌≤◌, List, take, drop, length, length-take, length-drop, Some, None, sym, ap, ◌∙◌, arith, ℤ}
 use Rattle.std.proofs.lemmas.List.{drop-drop}
 use Rattle.edf_header.specs.declared.fault.Fault.{Fault}
 use Rattle.edf_header.specs.declared.fixed.Start.{Start}
@@ -7,14 +7,14 @@ use Rattle.edf_header.specs.declared.fixed.Extent.{Extent}
 use Rattle.edf_header.specs.declared.kind.Kind.{Kind}
 use Rattle.edf_fields.specs.Identifications.{Patient, Recording}
 use Rattle.edf_fields.specs.Parts.{text_of}
-use Rattle.std.proofs.Common.{ℤ}
 use Rattle.edf_header.specs.declared.layout.FixedField.TheVariants as fixed
 use Rattle.edf_header.specs.Layout.{fixed_part, fixed_field, columns_part}
-use Rattle.edf_header.specs.Faults.{first, fixed_tests, columns_tests, header_fault}
+use Rattle.edf_header.specs.Faults.{fixed_tests, columns_tests, header_fault}
+use Rattle.edf_fields.specs.Tests.{first}
 use Rattle.edf_header.specs.Heads.{SignalHead, Head, patient_in, recording_in, signals_of, signals_in, head_in, head_of, header_bytes}
 use Rattle.edf_header.specs.Judged.{SaysStart, SaysExtent}
 use Rattle.edf_header.specs.Views.{head_view}
-use Rattle.edf_header.proofs.FirstFacts.{first-passed, first-found}
+use Rattle.edf_fields.proofs.ForCallers.{first-passed, first-found}
 use Rattle.edf_header.proofs.SignalFacts.{length-signals}
 
 pub front_found : (b front : List ℕ) (f : Fault) → front ≡ take 256 b → first (fixed_tests front) ≡ Some f → header_fault b ≡ Some f

@@ -5,8 +5,9 @@ use Rattle.edf_header.specs.declared.fault.Cause.TheVariants.{DuplicateLabel}
 use Rattle.edf_header.specs.declared.layout.SignalField.TheVariants as signal
 use Rattle.edf_header.specs.Heads.{SignalHead}
 use Rattle.edf_header.specs.Channels.{label_at, is_repeated}
-use Rattle.edf_header.specs.Faults.{first, fault, label_fault, labels_faults}
-use Rattle.edf_header.proofs.FirstFacts.{first-passed, first-found}
+use Rattle.edf_header.specs.Faults.{fault, label_fault, labels_faults}
+use Rattle.edf_fields.specs.Tests.{first}
+use Rattle.edf_fields.proofs.ForCallers.{first-passed, first-found}
 
 pub label_here : (signals : List SignalHead) (s : ℕ) (d : SignalHead) → s < length signals → label_at signals s ≡ (get_or signals s d).label
 label_here [] s d lt = absurd (omega arith)

@@ -2,7 +2,7 @@
 use Rattle.std.proofs.Common.{◌≡◌, ℕ, List, ◌∷◌, drop, sym, ap, codes}
 use Rattle.edf_fields.specs.Parts.{text_of}
 use Rattle.edf_fields.specs.Identifications.{Patient, Recording, SaysPatient, SaysRecording, subfield}
-use Rattle.edf_fields.proofs.SubfieldLawFacts.{joined_found}
+use Rattle.edf_fields.proofs.ForCallers.{joined_found}
 use Rattle.edf_header.specs.Heads.{patient_in, recording_in}
 
 abbrev patient_at : List (List ℕ) → Patient

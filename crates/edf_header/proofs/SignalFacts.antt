@@ -4,8 +4,9 @@ use Rattle.edf_header.specs.declared.fault.Fault.{Fault}
 use Rattle.edf_header.specs.declared.layout.SignalField.TheVariants as signal
 use Rattle.edf_header.specs.Layout.{signal_field}
 use Rattle.edf_header.specs.Heads.{SignalHead, line_of, signal_of, signals_from}
-use Rattle.edf_header.specs.Faults.{first, naming_faults, extreme_faults, sampling_faults, agreement_faults, signal_faults, signals_faults}
-use Rattle.edf_header.proofs.FirstFacts.{first-passed, first-found}
+use Rattle.edf_header.specs.Faults.{naming_faults, extreme_faults, sampling_faults, agreement_faults, signal_faults, signals_faults}
+use Rattle.edf_fields.specs.Tests.{first}
+use Rattle.edf_fields.proofs.ForCallers.{first-passed, first-found}
 
 abbrev together : List ℕ → ℕ → ℕ → List (Option Fault)
 together bytes n s = agreement_faults s (signal_field bytes n s signal.Label) (line_of bytes n s)

@@ -9,17 +9,17 @@ use Rattle.std.proofs.lemmas.List.Elements.{All-nil, All-cons}
 use Rattle.std.proofs.Math.Nat.{pow-le-pow_right}
 use Rattle.edf_fields.specs.Parts.{text_of, part}
 use Rattle.edf_fields.specs.Numbers.{whole_number_of, header_number_of}
-use Rattle.edf_fields.proofs.NumberFacts.{whole_number_of-some, header_number_of-some}
-use Rattle.edf_fields.proofs.ValueFacts.{whole_number-below, header_number-below}
+use Rattle.edf_fields.proofs.ForCallers.{whole_number_of-some, header_number_of-some, whole_number-below, header_number-below, first-none, first-cons, and-true, not-true}
 use Rattle.edf_header.specs.declared.layout.SignalField.TheVariants as signal
 use Rattle.edf_header.specs.declared.fault.Place.TheVariants.{AtSignal}
 use Rattle.edf_header.specs.declared.fault.Cause.TheVariants.{BadRange, BadAnnotationSignal}
 use Rattle.edf_header.specs.Calibrations.{Line}
 use Rattle.edf_header.specs.Layout.{column_before, signal_field}
 use Rattle.edf_header.specs.Heads.{AreSideBySide, line_of, signal_of, signals_from, is_annotations}
-use Rattle.edf_header.specs.Faults.{first, text_fault, physical_fault, digital_fault, samples_fault, digital_order_fault, physical_differ_fault, annotation_fault, naming_faults, extreme_faults, sampling_faults, agreement_faults, signal_faults, signals_faults}
+use Rattle.edf_header.specs.Faults.{text_fault, physical_fault, digital_fault, samples_fault, digital_order_fault, physical_differ_fault, annotation_fault, naming_faults, extreme_faults, sampling_faults, agreement_faults, signal_faults, signals_faults}
+use Rattle.edf_fields.specs.Tests.{first}
 use Rattle.edf_header.specs.Sound.{IsSoundSignal}
-use Rattle.edf_header.proofs.PassedFacts.{first-none, first-cons, and-true, not-true, unless-passed, physical-passed, digital-passed, samples-passed}
+use Rattle.edf_header.proofs.PassedFacts.{fault_unless-passed, physical-passed, digital-passed, samples-passed}
 
 pub side-by-side : (bytes : List ℕ) (n s before m : ℕ) → AreSideBySide before (signals_from bytes n s before m)
 side-by-side bytes n s before zero = tt
@@ -28,14 +28,14 @@ side-by-side bytes n s before (suc m) = (refl, side-by-side bytes n (s + 1) (bef
 pub order-passed : (s : ℕ) (line : Line) → digital_order_fault s line ≡ None → line.digital_minimum <ℤ line.digital_maximum
 unfolding digital_order_fault
 order-passed s line h =
-    let t : int_lt line.digital_minimum line.digital_maximum ≡ true = unless-passed (int_lt line.digital_minimum line.digital_maximum) (AtSignal s signal.DigitalMaximum) BadRange h in
+    let t : int_lt line.digital_minimum line.digital_maximum ≡ true = fault_unless-passed (int_lt line.digital_minimum line.digital_maximum) (AtSignal s signal.DigitalMaximum) BadRange h in
     omega (arith, ints, t)
 
 pub differ-passed : (s : ℕ) (line : Line) → physical_differ_fault s line ≡ None → line.physical_minimum ≢ line.physical_maximum
 unfolding physical_differ_fault
 differ-passed s line h e =
     let t : int_eq line.physical_minimum line.physical_maximum ≡ false =
-    not-true (int_eq line.physical_minimum line.physical_maximum) (unless-passed (not (int_eq line.physical_minimum line.physical_maximum)) (AtSignal s signal.PhysicalMaximum) BadRange h) in
+    not-true (int_eq line.physical_minimum line.physical_maximum) (fault_unless-passed (not (int_eq line.physical_minimum line.physical_maximum)) (AtSignal s signal.PhysicalMaximum) BadRange h) in
     let u : int_eq line.physical_minimum line.physical_maximum ≡ true = (Decides-int_eq line.physical_minimum line.physical_maximum).1 e in
     let z : true ≡ false = sym u ∙ t in
     cc
@@ -51,7 +51,7 @@ annotation-passed s label line h e =
     let low : Bool = int_eq line.digital_minimum (neg_ℤ (pos 32768)) in
     let high : Bool = int_eq line.digital_maximum (pos 32767) in
     let both = and-true low high (or-else (is_annotations (text_of label)) (low && high)
-    (unless-passed (not (is_annotations (text_of label)) || (low && high)) (AtSignal s signal.Label) BadAnnotationSignal h) e) in
+    (fault_unless-passed (not (is_annotations (text_of label)) || (low && high)) (AtSignal s signal.Label) BadAnnotationSignal h) e) in
     ((Decides-int_eq line.digital_minimum (neg_ℤ (pos 32768))).0 both.0, (Decides-int_eq line.digital_maximum (pos 32767)).0 both.1)
 
 -- what the tests of signal s say of its fields

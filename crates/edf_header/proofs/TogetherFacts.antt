@@ -3,8 +3,9 @@ use Rattle.std.proofs.Common.{◌≡◌, ℕ, ◌*◌, ◌≤◌, List, [], ◌�
 use Rattle.edf_header.specs.declared.fault.Fault.{Fault}
 use Rattle.edf_header.specs.Layout.{columns}
 use Rattle.edf_header.specs.Heads.{SignalHead, signals_in, samples_together}
-use Rattle.edf_header.specs.Faults.{first, no_annotation_signal, no_ordinary_signal, labels_faults, record_too_large, joint_faults, columns_missing, signals_faults, columns_tests}
-use Rattle.edf_header.proofs.FirstFacts.{first-passed, first-found, alone}
+use Rattle.edf_header.specs.Faults.{no_annotation_signal, no_ordinary_signal, labels_faults, record_too_large, joint_faults, columns_missing, signals_faults, columns_tests}
+use Rattle.edf_fields.specs.Tests.{first}
+use Rattle.edf_fields.proofs.ForCallers.{first-passed, first-found, alone}
 
 labels-left : (signals : List SignalHead) → no_annotation_signal signals ≡ None → no_ordinary_signal signals ≡ None
     → first (joint_faults signals) ≡ first (labels_faults signals 0 (length signals) ++ (record_too_large signals ∷ []))

@@ -10,10 +10,7 @@ use Rattle.edf_header.specs.Layout.{fixed_part, fixed_field, columns_part, signa
 use Rattle.edf_header.specs.Faults.{header_fault}
 use Rattle.edf_header.specs.Heads.{Head, HasHead, head_of, header_bytes}
 use Rattle.edf_header.specs.Sound.{IsSound}
-
--- each byte is printable ASCII, 32 to 126 (EDF, "Header record")
-abbrev pub IsPrintable : List ℕ → Type 0
-IsPrintable field = All (λ b. (32 ≤ b) × (b ≤ 126)) field
+use Rattle.edf_fields.specs.Printable.{IsPrintable}
 
 -- the header of a file is in order: all of it is there, in printable ASCII; the version is 0; its size is that of its fixed part and its signals; its fields say a header, which is sound
 pub record HeaderConforms (file : List ℕ) (h : Head) : Type 0 where

@@ -7,7 +7,9 @@ use Rattle.edf_fields.specs.declared.cause.FieldCause.{FieldCause}
 use Rattle.edf_fields.specs.Parts.{text_of}
 use Rattle.edf_fields.specs.Numbers.{whole_number_of, header_number_of}
 use Rattle.edf_fields.specs.Dates.{CivilDay, dotted_day_of, dashed_day_of, clock_time_of}
-use Rattle.edf_fields.specs.Identifications.{is_printable, patient_cause, recording_cause}
+use Rattle.edf_fields.specs.Identifications.{patient_cause, recording_cause}
+use Rattle.edf_fields.specs.Printable.{is_printable}
+use Rattle.edf_fields.specs.Tests.{first, unless}
 use Rattle.edf_header.specs.declared.fault.Fault.{Fault}
 use Rattle.edf_header.specs.declared.fault.Place.{Place}
 use Rattle.edf_header.specs.declared.fault.Place.TheVariants.{AtField, AtSignal}
@@ -22,27 +24,21 @@ use Rattle.edf_header.specs.Channels.{is_repeated}
 use Rattle.edf_header.specs.Layout.{fixed_from, fixed_bytes, fixed_fields, fixed_part, fixed_field, column_before, column_width, columns, columns_part, signal_field}
 use Rattle.edf_header.specs.Heads.{SignalHead, day_number, recording_in, signals_of, line_of, signals_in, is_annotations, samples_together}
 
--- the first test that fails: each test is none, or the fault that it finds
-abbrev pub first : List (Option Fault) → Option Fault
-first [] = None
-first (None ∷ tests) = first tests
-first (Some fault ∷ tests) = Some fault
-
 -- a test that found this
 abbrev pub fault : Place → Cause → Option Fault
 fault place cause = Some (record { place = place; cause = cause })
 
--- a test that finds this cause where the answer is no
-abbrev pub unless : Bool → Place → Cause → Option Fault
-unless passes place cause = if passes then None else fault place cause
+-- a test that finds this cause at this place where the answer is no
+abbrev pub fault_unless : Bool → Place → Cause → Option Fault
+fault_unless passes place cause = unless passes (record { place = place; cause = cause })
 
 -- there are bytes up to this end
 unfoldable pub truncated : Place → ℕ → ℕ → Option Fault
-truncated place end len = unless (nat_le end len) place Truncated
+truncated place end len = fault_unless (nat_le end len) place Truncated
 
 -- each byte is printable ASCII, 32 to 126 (EDF, "Header record"; EDF+, "Additional specifications in EDF+")
 unfoldable pub not_printable : Place → List ℕ → Option Fault
-not_printable place field = unless (list_all is_printable field) place NotPrintable
+not_printable place field = fault_unless (list_all is_printable field) place NotPrintable
 
 -- a number is spelled
 abbrev pub no_number : Place → Option ℤ → Option Fault
@@ -52,12 +48,12 @@ no_number place (Some v) = None
 -- a number is spelled, and it is from the first to the second of these
 abbrev pub not_within : Place → ℤ → ℤ → Option ℤ → Option Fault
 not_within place low high None = fault place BadNumber
-not_within place low high (Some v) = unless (int_le low v && int_le v high) place BadRange
+not_within place low high (Some v) = fault_unless (int_le low v && int_le v high) place BadRange
 
 -- a number is spelled, and it is at least 1
 abbrev pub not_positive : Place → Option ℤ → Option Fault
 not_positive place None = fault place BadNumber
-not_positive place (Some v) = unless (int_le (pos 1) v) place BadRange
+not_positive place (Some v) = fault_unless (int_le (pos 1) v) place BadRange
 
 -- something is named
 abbrev pub not_named : {X : Type 0} → Place → Cause → Option X → Option Fault
@@ -73,7 +69,7 @@ not_read place (Some cause) = fault place (BadSubfields cause)
 unfoldable pub version_fault : List ℕ → Option Fault
 version_fault field =
     first (not_printable (AtField fixed.Version) field
-    ∷ unless (bytes_eq (text_of field) (codes "0")) (AtField fixed.Version) BadVersion
+    ∷ fault_unless (bytes_eq (text_of field) (codes "0")) (AtField fixed.Version) BadVersion
     ∷ [])
 
 -- the field says a patient
@@ -97,7 +93,7 @@ unfoldable pub startdate_fault : List ℕ → List ℕ → Option Fault
 startdate_fault date field =
     first (not_printable (AtField fixed.Startdate) field
     ∷ not_named (AtField fixed.Startdate) BadStart (dotted_day_of (text_of field))
-    ∷ unless (is_same_day (dashed_day_of date) (dotted_day_of (text_of field))) (AtField fixed.Startdate) StartdateDiffers
+    ∷ fault_unless (is_same_day (dashed_day_of date) (dotted_day_of (text_of field))) (AtField fixed.Startdate) StartdateDiffers
     ∷ [])
 
 -- the starttime names a time of the day
@@ -116,7 +112,7 @@ header_bytes_fault field =
 unfoldable pub reserved_fault : List ℕ → Option Fault
 reserved_fault field =
     first (not_printable (AtField fixed.Reserved) field
-    ∷ unless (bytes_eq (take 5 field) (codes "EDF+C") || bytes_eq (take 5 field) (codes "EDF+D")) (AtField fixed.Reserved) NotEdfPlus
+    ∷ fault_unless (bytes_eq (take 5 field) (codes "EDF+C") || bytes_eq (take 5 field) (codes "EDF+D")) (AtField fixed.Reserved) NotEdfPlus
     ∷ [])
 
 -- there is a data record
@@ -137,7 +133,7 @@ signals_fault field =
 -- the header has 256 bytes, and 256 more for each signal
 unfoldable pub header_size_fault : ℕ → List ℕ → Option Fault
 header_size_fault signals field =
-    unless (int_eq (unwrap_or (whole_number_of field) (pos 0)) (pos (256 * (signals + 1)))) (AtField fixed.HeaderBytes) BadHeaderSize
+    fault_unless (int_eq (unwrap_or (whole_number_of field) (pos 0)) (pos (256 * (signals + 1)))) (AtField fixed.HeaderBytes) BadHeaderSize
 
 -- no byte of a field of the fixed part is missing
 abbrev pub fixed_missing : List FixedField → ℕ → List (Option Fault)
@@ -200,17 +196,17 @@ samples_fault s bytes =
 
 -- the digital extremes of signal s are in order
 unfoldable pub digital_order_fault : ℕ → Line → Option Fault
-digital_order_fault s line = unless (int_lt line.digital_minimum line.digital_maximum) (AtSignal s signal.DigitalMaximum) BadRange
+digital_order_fault s line = fault_unless (int_lt line.digital_minimum line.digital_maximum) (AtSignal s signal.DigitalMaximum) BadRange
 
 -- the physical extremes of signal s differ
 unfoldable pub physical_differ_fault : ℕ → Line → Option Fault
 physical_differ_fault s line =
-    unless (not (int_eq line.physical_minimum line.physical_maximum)) (AtSignal s signal.PhysicalMaximum) BadRange
+    fault_unless (not (int_eq line.physical_minimum line.physical_maximum)) (AtSignal s signal.PhysicalMaximum) BadRange
 
 -- an annotation signal has all that two bytes can hold as its digital extremes (EDF+, "The 'EDF Annotations' signal")
 unfoldable pub annotation_fault : ℕ → List ℕ → Line → Option Fault
 annotation_fault s label line =
-    unless (not (is_annotations (text_of label)) || (int_eq line.digital_minimum (neg_ℤ (pos 32768)) && int_eq line.digital_maximum (pos 32767)))
+    fault_unless (not (is_annotations (text_of label)) || (int_eq line.digital_minimum (neg_ℤ (pos 32768)) && int_eq line.digital_maximum (pos 32767)))
     (AtSignal s signal.Label) BadAnnotationSignal
 
 -- the tests of the first three fields of signal s of n
@@ -262,16 +258,16 @@ signals_faults bytes n s (suc m) = signal_faults bytes n s ++ signals_faults byt
 -- a signal holds annotations
 unfoldable pub no_annotation_signal : List SignalHead → Option Fault
 no_annotation_signal signals =
-    unless (list_any (λ head. is_annotations head.label) signals) (AtField fixed.Signals) NoAnnotationSignal
+    fault_unless (list_any (λ head. is_annotations head.label) signals) (AtField fixed.Signals) NoAnnotationSignal
 
 -- a signal is a channel
 unfoldable pub no_ordinary_signal : List SignalHead → Option Fault
 no_ordinary_signal signals =
-    unless (not (list_all (λ head. is_annotations head.label) signals)) (AtField fixed.Signals) NoOrdinarySignal
+    fault_unless (not (list_all (λ head. is_annotations head.label) signals)) (AtField fixed.Signals) NoOrdinarySignal
 
 -- no earlier channel has the label of signal s (this project's profile: a claim names channels by their labels)
 unfoldable pub label_fault : List SignalHead → ℕ → Option Fault
-label_fault signals s = unless (not (is_repeated signals s)) (AtSignal s signal.Label) DuplicateLabel
+label_fault signals s = fault_unless (not (is_repeated signals s)) (AtSignal s signal.Label) DuplicateLabel
 
 -- the tests of the labels of the m signals from signal s on
 abbrev pub labels_faults : List SignalHead → ℕ → ℕ → List (Option Fault)
@@ -280,7 +276,7 @@ labels_faults signals s (suc m) = label_fault signals s ∷ labels_faults signal
 
 -- a data record has 16,777,216 bytes at the most, two for each sample (this project's profile)
 unfoldable pub record_too_large : List SignalHead → Option Fault
-record_too_large signals = unless (nat_le (samples_together signals) 8388608) (AtField fixed.Signals) RecordTooLarge
+record_too_large signals = fault_unless (nat_le (samples_together signals) 8388608) (AtField fixed.Signals) RecordTooLarge
 
 -- the tests of the signals together
 abbrev pub joint_faults : List SignalHead → List (Option Fault)

@@ -4,7 +4,8 @@ ghost use Rattle.std.specs.Prelude.{◌≡◌, ◌*◌, ◌≤◌, None, Some, M
 ghost use Rattle.edf_header.specs.declared.fault.Place.TheVariants.{AtSignal};
 ghost use Rattle.edf_header.specs.declared.fault.Cause.TheVariants.{Truncated};
 ghost use Rattle.edf_header.specs.Layout.{columns, next_before, AreAdjacent};
-ghost use Rattle.edf_header.specs.Faults.{first, columns_missing};
+ghost use Rattle.edf_header.specs.Faults.{columns_missing};
+ghost use Rattle.edf_fields.specs.Tests.{first};
 
 use crate::layout::{COLUMNS, SignalField};
 

@@ -1,20 +1,12 @@
 //! What the fields of a header have in common: printable bytes and numbers.
 
 ghost use Rattle.std.specs.Prelude.{◌≡◌, ◌≤◌, ◌<◌, ◌^◌, ◌≤ℤ◌, ℤ, pos, neg_ℤ, None, Some, length, MatchResult, unsigned_abs};
-ghost use Rattle.std.specs.List.{list_all};
-ghost use Rattle.edf_fields.specs.Identifications.{is_printable as is_printable_byte};
 ghost use Rattle.edf_fields.specs.Numbers.{whole_number_of};
 ghost use Rattle.edf_header.specs.Faults.{not_printable, no_number, not_within, not_positive};
 
 use crate::fault::{Cause, Fault, Place};
 use edf_fields::number::header_whole;
-
-/// Whether each byte is printable ASCII.
-fn is_printable(field: &[u8]) -> bool
-    ensures { result ≡ list_all is_printable_byte field.now }
-{
-    field.iter().all(|byte| *byte >= 32 && *byte <= 126)
-}
+use edf_fields::printable::is_printable;
 
 /// A field whose bytes are printable ASCII.
 #[tactic(auto, unfolding(crate::specs::Faults::not_printable))]

@@ -13,15 +13,16 @@ ghost use Rattle.edf_header.specs.declared.fault.Cause.TheVariants.{Truncated};
 ghost use Rattle.edf_header.specs.Layout.{fixed_fields};
 ghost use Rattle.edf_header.specs.Heads.{kind_of, recording_in, day_number, in_picoseconds};
 ghost use Rattle.edf_header.specs.Judged.{SaysStart, SaysExtent};
-ghost use Rattle.edf_header.specs.Faults.{first, fixed_missing, start_faults, extent_faults, fixed_tests, version_fault, patient_fault, recording_fault, startdate_fault, starttime_fault, header_bytes_fault, reserved_fault, records_fault, duration_fault, signals_fault, header_size_fault};
+ghost use Rattle.edf_header.specs.Faults.{fixed_missing, start_faults, extent_faults, fixed_tests, version_fault, patient_fault, recording_fault, startdate_fault, starttime_fault, header_bytes_fault, reserved_fault, records_fault, duration_fault, signals_fault, header_size_fault};
+ghost use Rattle.edf_fields.specs.Tests.{first};
 
 use crate::fault::{Cause, Fault, Place};
 use crate::field::{count, positive, printable, some_number};
 use crate::kind::Kind;
 use crate::layout::{FixedField, fixed_field};
-use edf_fields::cause::FieldCause;
-use edf_fields::date::{clock_time, dashed_date, dotted_date};
-use edf_fields::identification::{PatientId, RecordingId};
+use crate::startdate::{recording_date, startdate};
+use edf_fields::date::clock_time;
+use edf_fields::identification::PatientId;
 use edf_fields::number::{header_number, header_whole, text};
 use jiff::civil::Date;
 
@@ -74,60 +75,6 @@ fn patient(field: &[u8]) -> Result<(), Fault>
             place,
             cause: Cause::BadSubfields(cause),
         }),
-    }
-}
-
-/// The date of the recording that the field says.
-fn read_date(field: &[u8]) -> Result<&[u8], FieldCause>
-    ensures { MatchResult result
-        (λ date. (recording_cause field.entry.now ≡ None) × (date.now ≡ (recording_in field.entry.now).date))
-        (λ cause. recording_cause field.entry.now ≡ Some cause) }
-{
-    match RecordingId::read(field) {
-        Ok(recording) => Ok(recording.date()),
-        Err(cause) => Err(cause),
-    }
-}
-
-/// The date of the recording that the field says, or why it says none.
-#[tactic(auto, unfolding(crate::specs::Faults::recording_fault))]
-fn recording_date(field: &[u8]) -> Result<&[u8], Fault>
-    ensures { MatchResult result
-        (λ date. (recording_fault field.entry.now ≡ None) × (recording_cause field.entry.now ≡ None) × (date.now ≡ (recording_in field.entry.now).date))
-        (λ f. recording_fault field.entry.now ≡ Some f) }
-{
-    let place = Place::AtField(FixedField::Recording);
-    printable(place, field)?;
-    match read_date(field) {
-        Ok(date) => Ok(date),
-        Err(cause) => Err(Fault {
-            place,
-            cause: Cause::BadSubfields(cause),
-        }),
-    }
-}
-
-/// The day at which the recording starts; `recorded` is the date in the recording identification.
-#[tactic(auto, unfolding(crate::specs::Faults::startdate_fault))]
-fn startdate(recorded: &[u8], field: &[u8]) -> Result<Date, Fault>
-    ensures { MatchResult result
-        (λ d. (startdate_fault recorded.now field.now ≡ None) × (option_map_or day_number (dotted_day_of (text_of field.now)) (pos 0) ≡ epoch_day d))
-        (λ f. startdate_fault recorded.now field.now ≡ Some f) }
-{
-    let place = Place::AtField(FixedField::Startdate);
-    printable(place, field)?;
-    let Some(date) = dotted_date(text(field)) else {
-        return Err(Fault {
-            place,
-            cause: Cause::BadStart,
-        });
-    };
-    match dashed_date(recorded) {
-        Some(day) if day != date => Err(Fault {
-            place,
-            cause: Cause::StartdateDiffers,
-        }),
-        _ => Ok(date),
     }
 }
 

@@ -1,7 +1,8 @@
 //! The columns of a header: its signals, or the first fault of their fields.
 
 ghost use Rattle.std.specs.Prelude.{◌≡◌, ◌*◌, ◌≤◌, ◌<◌, ◌^◌, None, Some, length, IfOk, IfErr};
-ghost use Rattle.edf_header.specs.Faults.{first, signals_faults, columns_tests};
+ghost use Rattle.edf_header.specs.Faults.{signals_faults, columns_tests};
+ghost use Rattle.edf_fields.specs.Tests.{first};
 ghost use Rattle.edf_header.specs.Heads.{signals_in, samples_together};
 ghost use Rattle.edf_header.specs.Stops.{Stops};
 
@@ -19,7 +20,7 @@ fn judge_signals(alloc: Global, columns: Columns<'_>) -> Result<Vec<Signal>, Sto
     requires whole { 256 * columns.signals ≤ length columns.bytes.now }
     ensures ok { IfOk result (λ v. (first (signals_faults columns.entry.bytes.now columns.entry.signals 0 columns.entry.signals) ≡ None)
         × (v.items ≡ signals_in columns.entry.signals columns.entry.bytes.now)) }
-    ensures stop { IfErr result (Stops (λ f. first (signals_faults columns.entry.bytes.now columns.entry.signals 0 columns.entry.signals) ≡ Some f) ⊥) }
+    ensures stop { IfErr result (Stops (λ f. first (signals_faults columns.entry.bytes.now columns.entry.signals 0 columns.entry.signals) ≡ Some f) ⊥ (Unit {0})) }
 {
     let mut found = Vec::with_capacity(alloc, usize::from(columns.signals))?;
     let mut offset = 0u64;
@@ -47,7 +48,7 @@ pub(crate) fn judge_columns(alloc: Global, columns: Columns<'_>) -> Result<Body,
         × (256 * columns.entry.signals ≤ length columns.entry.bytes.now)
         × (v.signals.items ≡ signals_in columns.entry.signals columns.entry.bytes.now)
         × (v.record_bytes ≡ 2 * samples_together v.signals.items) × (v.record_bytes ≤ 16777216)) }
-    ensures stop { IfErr result (Stops (λ f. first (columns_tests columns.entry.signals columns.entry.bytes.now) ≡ Some f) ⊥) }
+    ensures stop { IfErr result (Stops (λ f. first (columns_tests columns.entry.signals columns.entry.bytes.now) ≡ Some f) ⊥ (Unit {0})) }
 {
     if let Some((signal, field)) = missing_column(columns.signals, columns.bytes.len()) {
         return Err(Stop::Fault(Fault {

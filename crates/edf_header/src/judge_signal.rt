@@ -5,7 +5,8 @@ ghost use Rattle.edf_fields.specs.Parts.{text_of};
 ghost use Rattle.edf_fields.specs.Numbers.{whole_number_of, header_number_of};
 ghost use Rattle.edf_header.specs.declared.layout.SignalField.TheVariants.{Samples};
 ghost use Rattle.edf_header.specs.Extremes.{extremes_line};
-ghost use Rattle.edf_header.specs.Faults.{first, text_fault, physical_fault, digital_fault, samples_fault, digital_order_fault, physical_differ_fault, annotation_fault, naming_faults, extreme_faults, sampling_faults, agreement_faults, signal_faults};
+ghost use Rattle.edf_header.specs.Faults.{text_fault, physical_fault, digital_fault, samples_fault, digital_order_fault, physical_differ_fault, annotation_fault, naming_faults, extreme_faults, sampling_faults, agreement_faults, signal_faults};
+ghost use Rattle.edf_fields.specs.Tests.{first};
 ghost use Rattle.edf_header.specs.Heads.{line_of, signal_of};
 ghost use Rattle.edf_header.specs.Layout.{signal_field as signal_field_of};
 ghost use Rattle.edf_header.specs.Stops.{Stops};
@@ -278,7 +279,7 @@ pub(crate) fn judge_signal(
     ensures ok { IfOk result (λ v. (first (signal_faults columns.entry.bytes.now columns.entry.signals signal) ≡ None)
         × (v ≡ signal_of columns.entry.bytes.now columns.entry.signals signal offset)
         × (v.samples < 10 ^ 8)) }
-    ensures stop { IfErr result (Stops (λ f. first (signal_faults columns.entry.bytes.now columns.entry.signals signal) ≡ Some f) ⊥) }
+    ensures stop { IfErr result (Stops (λ f. first (signal_faults columns.entry.bytes.now columns.entry.signals signal) ≡ Some f) ⊥ (Unit {0})) }
 {
     let Numbers {
         calibration,

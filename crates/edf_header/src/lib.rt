@@ -16,5 +16,6 @@ pub mod laws;
 pub mod layout;
 mod read;
 pub mod signal;
+mod startdate;
 pub mod stop;
 mod together;

@@ -23,7 +23,7 @@ fn next_bytes<S: Source>(alloc: Global, source: &mut S, count: usize) -> Result<
     ensures front { IfOk result (λ v. IsTrue (S.is_honest source.old) → v.items ≡ take count (S.left source.old)) }
     ensures behind { OnOk result (IsTrue (S.is_honest source.old) → S.left source.new ≡ drop count (S.left source.old)) }
     ensures within { IfOk result (λ v. length v.items ≤ count) }
-    ensures stop { IfErr result (Stops (λ _. ⊥) (Rises (S.failures source.old) (S.failures source.new))) }
+    ensures stop { IfErr result (Stops (λ _. ⊥) (Rises (S.failures source.old) (S.failures source.new)) (S.failures source.new ≡ S.failures source.old)) }
 {
     let mut bytes = vec![in alloc; 0u8; count]?;
     let got = fill(source, &mut bytes)?;
@@ -39,13 +39,14 @@ impl Header {
     /// the first one in the order of tests that `header_fault` lists (specs/Faults.antt); a file that
     /// ends before its header does has one, too. `ReadFailed` comes only from a read that failed.
     ///
-    /// Memory is asked for only after the tests before it have passed; that `OutOfMemory` is answered
-    /// only where it was refused is no contract's, but tested. After an error nothing is said of
+    /// On `OutOfMemory` and on a `Fault` no read failed. Memory is asked for only after the tests before
+    /// it have passed; that `OutOfMemory` is answered only where it was refused is no contract's, but
+    /// tested. After an error nothing is said of
     /// where the source stands.
     pub fn read<S: Source>(alloc: Global, source: &mut S) -> Result<Header, Stop>
         ensures sound { IfOk result IsSound }
         ensures failures { OnOk result (S.failures source.new ≡ S.failures source.old) }
-        ensures stop { IfErr result (Stops (λ f. IsTrue (S.is_honest source.old) → header_fault (S.left source.old) ≡ Some f) (Rises (S.failures source.old) (S.failures source.new))) }
+        ensures stop { IfErr result (Stops (λ f. IsTrue (S.is_honest source.old) → header_fault (S.left source.old) ≡ Some f) (Rises (S.failures source.old) (S.failures source.new)) (S.failures source.new ≡ S.failures source.old)) }
 
         // What an honest source gives.
         ensures honesty { OnOk result (IsTrue (S.is_honest source.old) → IsTrue (S.is_honest source.new)) }

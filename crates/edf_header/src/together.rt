@@ -3,7 +3,8 @@
 ghost use Rattle.std.specs.Prelude.{◌≡◌, ◌*◌, ◌≤◌, ◌<◌, ◌^◌, nat_le, true, false, length, None, Some, IfSome, MatchOption, MatchResult};
 ghost use Rattle.std.specs.List.{list_any, list_all};
 ghost use Rattle.edf_header.specs.Channels.{is_channel_of as is_channel_of_label, channel_place, is_repeated as is_repeated_label};
-ghost use Rattle.edf_header.specs.Faults.{first, no_annotation_signal, no_ordinary_signal, labels_faults, record_too_large, joint_faults};
+ghost use Rattle.edf_header.specs.Faults.{no_annotation_signal, no_ordinary_signal, labels_faults, record_too_large, joint_faults};
+ghost use Rattle.edf_fields.specs.Tests.{first};
 ghost use Rattle.edf_header.specs.Heads.{is_annotations, samples_together};
 
 use crate::fault::{Cause, Fault, Place};

@@ -8,7 +8,7 @@ use Rattle.std.proofs.lemmas.List.Sums.{split_at_first, passes_at_first}
 use Rattle.edf_fields.specs.declared.cause.TalCause.{TalCause}
 use Rattle.edf_fields.specs.declared.cause.TalCause.TheVariants.{BadOnset, BadDuration, NoEnd, NotZeroFilled}
 use Rattle.edf_fields.specs.Onsets.{SpellsOnset, onset_of, span_of}
-use Rattle.edf_fields.proofs.OnsetFacts.{onset_of_some, span_of_some}
+use Rattle.edf_fields.proofs.ForCallers.{onset_of_some, span_of_some}
 use Rattle.edf_tal.specs.Tals.{TalValue, SpellsTal, SpellsDuration, AreTexts, IsLaneOf, are_zeros}
 use Rattle.edf_tal.specs.Reading.{until, behind, Item, texts_of, duration_of, judge_texts, IsClosed, onto, tal_of, tal_of_parts, items_of, ◌then◌}
 use Rattle.edf_tal.proofs.LaneFacts.{items_of-nil, items_of-zero, items_of-endless, items_of-tal, spelled-texts_of, judged-ok, closed_cut, closed_after, first-not_nil, position-le}

@@ -1,7 +1,7 @@
 -- What a vector holds after bytes were read into room behind it.
 use Rattle.std.proofs.Common.{◌≡◌, ℕ, ◌+◌, ◌≤◌, List, ◌++◌, length, take, ap, ◌∙◌, append_assoc, arith}
 use Rattle.std.proofs.lemmas.List.{take-take, take-append-le, take_all}
-use Rattle.edf_fields.proofs.ReadFacts.{take_behind}
+use Rattle.edf_fields.proofs.ForCallers.{take_behind}
 
 -- room for more behind a list, of which the list is the front
 pub front-resized : (old room : List ℕ) (s n : ℕ) → s ≡ length old → take s (take (s + n) old ++ room) ≡ old

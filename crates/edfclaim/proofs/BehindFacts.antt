@@ -4,7 +4,7 @@ use Rattle.std.specs.Bool.{MatchBool}
 use Rattle.std.proofs.Math.Nat.{mul-le-mul_right, mul-le-mul_left}
 use Rattle.edf_fields.specs.Parts.{text_of}
 use Rattle.edf_fields.specs.Numbers.{whole_number_of, header_number_of}
-use Rattle.edf_fields.proofs.PartFacts.{part-append}
+use Rattle.edf_fields.proofs.ForCallers.{part-append}
 use Rattle.edfclaim.specs.declared.fault.Fault.{Fault}
 use Rattle.edfclaim.specs.declared.fault.Place.TheVariants.{AtField}
 use Rattle.edfclaim.specs.declared.layout.FixedField.{FixedField}

@@ -2,7 +2,7 @@
 use Rattle.std.proofs.Common.{◌≡◌, ℕ, ◌+◌, ◌-◌, List, [], length, take, drop, Some, None}
 use Rattle.std.specs.List.{position, before_first, after_first}
 use Rattle.edfclaim.specs.Timekeeping.{is_end}
-use Rattle.edf_fields.proofs.PlaceFacts.{before_at, behind_at, before_none, behind_none}
+use Rattle.edf_fields.proofs.ForCallers.{before_at, behind_at, before_none, behind_none}
 
 pub before_end_at : (xs : List ℕ) (k : ℕ) → position is_end xs ≡ Some k → take k xs ≡ before_first is_end xs
 before_end_at xs k h = before_at is_end xs k h

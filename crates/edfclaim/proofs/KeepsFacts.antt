@@ -10,8 +10,7 @@ use Rattle.std.proofs.lemmas.List.{take-append-drop}
 use Rattle.std.proofs.lemmas.List.Sums.{position_or_len_is, split_at_first, passes_at_first}
 use Rattle.std.proofs.lemmas.Slice.Eq.{bytes_eq-Decides}
 use Rattle.edf_fields.specs.Onsets.{onset_of}
-use Rattle.edf_fields.proofs.OnsetFacts.{onset_of_spelled, onset_of_some}
-use Rattle.edf_fields.proofs.OnsetByteFacts.{onset_bytes_from}
+use Rattle.edf_fields.proofs.ForCallers.{onset_of_spelled, onset_of_some, onset_bytes_from}
 use Rattle.edfclaim.specs.Timekeeping.{KeepsTime, are_zeros, is_end, is_rest, time_of}
 use Rattle.edfclaim.proofs.ListFacts.{and-true}
 

@@ -6,7 +6,7 @@ use Rattle.std.proofs.lemmas.Int.{ints}
 use Rattle.std.proofs.lemmas.List.{take-append-drop}
 use Rattle.std.proofs.lemmas.Bool.{cases_lt}
 use Rattle.std.proofs.lemmas.Bool.Decides.{Decides-int_eq}
-use Rattle.edf_fields.proofs.PartFacts.{part-append}
+use Rattle.edf_fields.proofs.ForCallers.{part-append}
 use Rattle.edfclaim.specs.declared.fault.Place.TheVariants.{AtRecord}
 use Rattle.edfclaim.specs.declared.fault.Cause.TheVariants.{NotContiguous}
 use Rattle.edfclaim.specs.declared.judge_record.Progress.{Progress}

@@ -1,5 +1,5 @@
 use Rattle.std.proofs.Common.{◌↔◌, drop}
-use Rattle.edf_claim.specs.Lists.{Has}
+use Rattle.edf_fields.specs.Lists.{Has}
 use Rattle.edf_claim.proofs.claim.is_among.Given as goal
 
 abbrev pub invariant-loop-other : goal.invariant-loop-other

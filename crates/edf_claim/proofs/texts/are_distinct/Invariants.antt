@@ -1,5 +1,5 @@
 use Rattle.std.proofs.Common.{◌≡◌, map, drop}
-use Rattle.edf_claim.specs.Lists.{are_distinct}
+use Rattle.edf_fields.specs.Lists.{are_distinct}
 use Rattle.edf_claim.proofs.texts.are_distinct.Given as goal
 
 abbrev pub invariant-loop-i : goal.invariant-loop-i

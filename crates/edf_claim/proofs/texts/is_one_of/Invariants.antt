@@ -1,5 +1,5 @@
 use Rattle.std.proofs.Common.{◌≡◌, map, drop}
-use Rattle.edf_claim.specs.Lists.{is_one_of}
+use Rattle.edf_fields.specs.Lists.{is_one_of}
 use Rattle.edf_claim.proofs.texts.is_one_of.Given as goal
 
 abbrev pub invariant-loop-other : goal.invariant-loop-other

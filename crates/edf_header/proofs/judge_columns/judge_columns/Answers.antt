@@ -1,21 +1,22 @@
 use Rattle.std.proofs.Common.{◌≡◌, ◌<◌, ◌^◌, ◌∙◌, Some, length, ap, arith}
 use Rattle.std.proofs.lemmas.Result.{err_from_is_err_and}
-use Rattle.edf_header.specs.Faults.{first, signals_faults, columns_tests}
+use Rattle.edf_header.specs.Faults.{signals_faults, columns_tests}
+use Rattle.edf_fields.specs.Tests.{first}
 use Rattle.edf_header.proofs.FirstFacts.{stops-weaker}
 use Rattle.edf_header.proofs.SignalFacts.{length-signals}
 use Rattle.edf_header.proofs.TogetherFacts.{column_found, signals_found, joint-left}
 use Rattle.edf_header.proofs.judge_columns.judge_columns.Goals as goal
 
 pub returns-in-Some-clause-stop : goal.returns-in-Some-clause-stop
-returns-in-Some-clause-stop c = column_found c.args.columns.signals c.args.columns.bytes.now _ c.in-Some.ensures
+returns-in-Some-clause-stop c = (column_found c.args.columns.signals c.args.columns.bytes.now _ c.in-Some.ensures, tt)
 
 pub returns-in_err-signals-clause-stop : goal.returns-in_err-signals-clause-stop
 returns-in_err-signals-clause-stop c =
     let p = err_from_is_err_and c.from_residual.result c.from_residual.ensures.1 in
     let bytes = c.args.columns.bytes.now in
     let n = c.args.columns.signals in
-    rw (p.1, p.2) (stops-weaker (λ f. first (signals_faults bytes n 0 n) ≡ Some f) (λ f. first (columns_tests n bytes) ≡ Some f) ⊥ ⊥
-    (λ f q. signals_found n bytes f c.in_default.ensures.0 q) (λ q. q) _ c.in_err-signals.ensures.stop)
+    rw (p.1, p.2) (stops-weaker (λ f. first (signals_faults bytes n 0 n) ≡ Some f) (λ f. first (columns_tests n bytes) ≡ Some f) ⊥ ⊥ (Unit {0}) (Unit {0})
+    (λ f q. signals_found n bytes f c.in_default.ensures.0 q) (λ q. q) (λ q. q) _ c.in_err-signals.ensures.stop)
 
 pub judge_together-requires : goal.judge_together-requires
 judge_together-requires c =
@@ -31,7 +32,7 @@ returns-in_err-record_bytes-clause-stop c =
     let bytes = c.args.columns.bytes.now in
     let n = c.args.columns.signals in
     rw (p.1, p.2) (joint-left n bytes c.in_default.ensures.0 c.in_ok-signals.ensures.ok.0
-    ∙ rw (c.deref.ensures.value, c.in_ok-signals.ensures.ok.1) at c.in_err-record_bytes.ensures)
+    ∙ rw (c.deref.ensures.value, c.in_ok-signals.ensures.ok.1) at c.in_err-record_bytes.ensures, tt)
 
 pub returns-clause-ok : goal.returns-clause-ok
 returns-clause-ok c =

@@ -1,6 +1,7 @@
 use Rattle.std.proofs.Common.{◌≡◌, ◌+◌, ◌-◌, ◌*◌, ◌∙◌, ◌++◌, Some, ap, arith}
 use Rattle.std.proofs.lemmas.Result.{err_from_is_err_and}
-use Rattle.edf_header.specs.Faults.{first, signal_faults, signals_faults}
+use Rattle.edf_header.specs.Faults.{signal_faults, signals_faults}
+use Rattle.edf_fields.specs.Tests.{first}
 use Rattle.edf_header.specs.Heads.{signals_from, signals_in}
 use Rattle.edf_header.proofs.FirstFacts.{stops-weaker}
 use Rattle.edf_header.proofs.SignalFacts.{signal-passed, signal-found, signal-more}
@@ -11,8 +12,8 @@ returns-in_err-signal-clause-stop c =
     let p = err_from_is_err_and c.from_residual-in_err-signal.result c.from_residual-in_err-signal.ensures.1 in
     let bytes = c.args.columns.bytes.now in
     let n = c.args.columns.signals in
-    rw (p.1, p.2) (stops-weaker (λ f. first (signal_faults bytes n c.loop-s.s) ≡ Some f) (λ f. first (signals_faults bytes n 0 n) ≡ Some f) ⊥ ⊥
-    (λ f q. c.loop-s.invariant.passed ∙ signal-found bytes n c.loop-s.s f c.loop-s-test.true q) (λ q. q) _ c.in_err-signal.ensures.stop)
+    rw (p.1, p.2) (stops-weaker (λ f. first (signal_faults bytes n c.loop-s.s) ≡ Some f) (λ f. first (signals_faults bytes n 0 n) ≡ Some f) ⊥ ⊥ (Unit {0}) (Unit {0})
+    (λ f q. c.loop-s.invariant.passed ∙ signal-found bytes n c.loop-s.s f c.loop-s-test.true q) (λ q. q) (λ q. q) _ c.in_err-signal.ensures.stop)
 
 pub loop-s-preserved : goal.loop-s-preserved
 loop-s-preserved c =

@@ -1,5 +1,6 @@
 use Rattle.std.proofs.Common.{◌≡◌, ◌-◌, length}
-use Rattle.edf_header.specs.Faults.{first, labels_faults}
+use Rattle.edf_header.specs.Faults.{labels_faults}
+use Rattle.edf_fields.specs.Tests.{first}
 use Rattle.edf_header.proofs.together.distinct_labels.Given as goal
 
 abbrev pub invariant-loop-s : goal.invariant-loop-s

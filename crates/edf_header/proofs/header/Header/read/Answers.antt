@@ -2,7 +2,8 @@ use Rattle.std.proofs.Common.{◌≡◌, ◌∙◌, ◌*◌, ap, sym, subst, tak
 use Rattle.std.proofs.lemmas.Result.{err_from_is_err_and}
 use Rattle.edf_fields.specs.Sources.{Rises}
 use Rattle.edf_header.specs.Conforming.{HeaderConforms}
-use Rattle.edf_header.specs.Faults.{first, columns_tests, header_fault}
+use Rattle.edf_header.specs.Faults.{columns_tests, header_fault}
+use Rattle.edf_fields.specs.Tests.{first}
 use Rattle.edf_header.specs.Heads.{Head, HasHead, header_bytes}
 use Rattle.edf_header.proofs.ConformingFacts.{passing-conforms}
 use Rattle.edf_header.proofs.FirstFacts.{stops-weaker}
@@ -15,7 +16,7 @@ use Rattle.edf_header.proofs.header.Header.read.Goals as goal
 pub returns-in_err-start-clause-stop : goal.returns-in_err-start-clause-stop
 returns-in_err-start-clause-stop g c =
     let p = err_from_is_err_and c.from_residual-in_err-start.result c.from_residual-in_err-start.ensures.1 in
-    rw (p.1, p.2) (λ h. front_found _ _ _ (c.deref.ensures.value ∙ c.in_ok-front.ensures.front h) c.in_err-start.ensures)
+    rw (p.1, p.2) ((λ h. front_found _ _ _ (c.deref.ensures.value ∙ c.in_ok-front.ensures.front h) c.in_err-start.ensures), c.in_ok-front.ensures.failures)
 
 pub returns-in_err-start-clause-honesty : goal.returns-in_err-start-clause-honesty
 returns-in_err-start-clause-honesty g c =
@@ -58,7 +59,8 @@ returns-in_err-columns-clause-stop g c =
     let failures = g.S.Source.failures in
     rw (p.1, p.2) (stops-weaker (λ _. ⊥) (λ f. IsTrue (g.S.Source.is_honest c.args.source.now) → header_fault (g.S.Source.left c.args.source.now) ≡ Some f)
     (Rises (failures c.next_bytes.new.source) (failures c.next_bytes-2.new.source)) (Rises (failures c.args.source.now) (failures c.next_bytes-2.new.source))
-    (λ f q. absurd q) (λ q. rw (sym c.in_ok-front.ensures.failures) q) _ c.in_err-columns.ensures.stop)
+    (failures c.next_bytes-2.new.source ≡ failures c.next_bytes.new.source) (failures c.next_bytes-2.new.source ≡ failures c.args.source.now)
+    (λ f q. absurd q) (λ q. rw (sym c.in_ok-front.ensures.failures) q) (λ q. q ∙ c.in_ok-front.ensures.failures) _ c.in_err-columns.ensures.stop)
 
 pub returns-in_err-body-clause-stop : goal.returns-in_err-body-clause-stop
 returns-in_err-body-clause-stop g c =
@@ -70,13 +72,13 @@ returns-in_err-body-clause-stop g c =
     let bytes = c.deref-2.result.now in
     let said = rw c.deref.ensures.value at c.in_ok-start.ensures in
     rw (p.1, p.2) (stops-weaker (λ f. first (columns_tests n bytes) ≡ Some f) (λ f. IsTrue (g.S.Source.is_honest c.args.source.now) → header_fault b ≡ Some f)
-    ⊥ (Rises (failures c.args.source.now) (failures c.next_bytes-2.new.source))
+    ⊥ (Rises (failures c.args.source.now) (failures c.next_bytes-2.new.source)) (Unit {0}) (failures c.next_bytes-2.new.source ≡ failures c.args.source.now)
     (λ f q h.
     let cols : bytes ≡ take (256 * n) (drop 256 b) =
     c.deref-2.ensures.value ∙ c.in_ok-columns.ensures.front (c.in_ok-front.ensures.honesty h) ∙ ap (take (256 * c.from.result)) (c.in_ok-front.ensures.behind h)
     ∙ ap (λ k. take (256 * k) (drop 256 b)) c.from.ensures in
     columns-left b front bytes n (c.in_ok-front.ensures.front h) said.3.signals cols said.0 ∙ q)
-    (λ q. absurd q) _ c.in_err-body.ensures.stop)
+    (λ q. absurd q) (λ _. c.in_ok-columns.ensures.failures ∙ c.in_ok-front.ensures.failures) _ c.in_err-body.ensures.stop)
 
 pub invariant_of-result : goal.invariant_of-result
 invariant_of-result g c =

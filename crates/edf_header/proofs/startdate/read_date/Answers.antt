@@ -1,7 +1,7 @@
 use Rattle.std.proofs.Common.{sym, ◌∙◌}
 use Rattle.edf_fields.specs.Identifications.{recording_of}
 use Rattle.edf_header.proofs.SaidFacts.{recording_date_is}
-use Rattle.edf_header.proofs.fixed.read_date.Goals as goal
+use Rattle.edf_header.proofs.startdate.read_date.Goals as goal
 
 pub returns-in-Ok : goal.returns-in-Ok
 returns-in-Ok c =
