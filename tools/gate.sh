@@ -1,7 +1,8 @@
 #!/usr/bin/env bash
-# The whole gate. First `rt ci`: all proofs, tests, must-fail edits and runs, from nothing. Then the
-# program that it built, on command lines that it doesn't know, and with each growth of memory refused
-# in turn. The last line is 'N passed, M failed': that of `rt ci`, with one more for each of these two.
+# The whole gate. First `rt ci`: all proofs, tests, must-fail edits and runs, from nothing. Then what the
+# crates cite of one another's proofs, and the program that it built, on command lines that it doesn't
+# know, and with each growth of memory refused in turn. The last line is 'N passed, M failed': that of
+# `rt ci`, with one more for each of these three.
 #
 # usage: tools/gate.sh
 set -uo pipefail
@@ -44,6 +45,7 @@ counted() {
     fi
 }
 
+counted tools/imports.sh
 counted tools/statuses.sh "$program"
 # CC may hold flags behind the compiler's name
 read -r compiler _ <<<"${CC:-cc}"
