@@ -10,7 +10,8 @@ use Rattle.toml.specs.Data.{string, integer, array, table, Items, no_items, item
 use Rattle.toml.specs.Parse.{parse_document}
 use Rattle.edf_fields.specs.Printable.{IsPrintable}
 
--- a claim: the labels of the channels, the intervals that are kept, in picoseconds after the second at which the original starts, what is made anonymous, the shift in seconds, and the texts of annotations that are removed
+-- a claim: the labels of the channels, the intervals that are kept, what is made anonymous, the shift in seconds, and the texts of annotations that are removed
+-- intervals count picoseconds after the second at which the original starts
 pub record Terms : Type 0 where
   pub channels : List (List ℕ)
   pub keep : List Interval

@@ -9,7 +9,7 @@ use Rattle.jiff.specs.Words.{IsYmd, epoch_day, days_in_month}
 use Rattle.jiff.proofs.Family.{epoch_day_injective, epoch_day_same}
 use Rattle.edf_fields.specs.Numbers.{AreDigits, is_digit}
 use Rattle.edf_fields.specs.Parts.{part}
-use Rattle.edf_fields.specs.Dates.{number_at, full_year, month_of, IsDayNumber, IsDotted, IsDashed, NamesDottedDay, NamesDashedDay, NamesClockTime, CivilDay, civil_day, is_day, day_if_any, is_dotted, is_dashed, dotted_day_of, dashed_day_of, clock_time_of, NamesOneDottedDay, NamesOneDashedDay, NamesOneClockTime}
+use Rattle.edf_fields.specs.Dates.{number_at, full_year, month_of, IsDayNumber, IsDotted, IsDashed, NamesDottedDay, NamesDashedDay, NamesClockTime, CivilDay, civil_day, is_day, day_if_any, is_dotted, is_dashed, dotted_day_of, dashed_day_of, clock_time_of, NamesOneDottedDay, NamesOneDashedDay, NamesOneClockTime, DottedDayIsNamed, DashedDayIsNamed, ClockTimeIsNamed}
 use Rattle.edf_fields.proofs.NumberFacts.{digits_tested, tested_digits}
 
 -- what a reader of a day says
@@ -211,3 +211,22 @@ one_dashed_day t m n h k = one_number _ _ _ m n h.1 k.1
 
 pub one_clock_time : NamesOneClockTime
 one_clock_time t m n h k = h.4 ∙ sym k.4
+
+-- the day that is read of a text is the one that it names
+pub dotted_day_is_named : DottedDayIsNamed
+dotted_day_is_named t day = (dotted_day-some t day, λ h. sym (dotted_day_read (Some h.0) t h.1) ∙ ap Some h.2)
+
+dashed_day-some : (t : List ℕ) (day : CivilDay) → dashed_day_of t ≡ Some day → (date : Date) × NamesDashedDay t (epoch_day date) × (civil_day date ≡ day)
+dashed_day-some t day e =
+    let found = (dashed_day_decided t).0 (ap is_some e) in
+    let date : Date = ((found.1).1).0 in
+    let named : NamesDashedDay t (epoch_day date) = ((found.1).0, (date, ((found.1).1).1, refl)) in
+    let same : Some (civil_day date) ≡ Some day = dashed_day_read (Some date) t named ∙ e in
+    (date, named, cc)
+
+pub dashed_day_is_named : DashedDayIsNamed
+dashed_day_is_named t day = (dashed_day-some t day, λ h. sym (dashed_day_read (Some h.0) t h.1) ∙ ap Some h.2)
+
+-- the second that is read of a text is the one that it names
+pub clock_time_is_named : ClockTimeIsNamed
+clock_time_is_named t s = (clock_time-some t s, λ h. sym (clock_time_read (Some s) t h))

@@ -85,8 +85,7 @@ pub patient_said : (field code sex birthdate name : List ℕ) (extras : List (Li
     → SaysPatient field (record { code = code; sex = sex; birthdate = birthdate; name = name; extras = extras })
 patient_said field code sex birthdate name extras h e sexed dated = record {
   lists = subst (ListsSubfields field) e (field_lists field h);
-  sex = (sex_decided sex).0 sexed;
-  birthdate = (date_decided birthdate).0 dated;
+  written = record { sex = (sex_decided sex).0 sexed; birthdate = (date_decided birthdate).0 dated };
 }
 
 said_patient : (field : List ℕ) (p : Patient) → SaysPatient field p → patient_cause field ≡ None
@@ -96,8 +95,8 @@ said_patient field p h =
     let e : xs ≡ p.code ∷ p.sex ∷ p.birthdate ∷ p.name ∷ p.extras = joined_found _ (text_of field) h.lists.subfields in
     pass-cons (field_cause field) _ (listed_field field _ h.lists)
     (passes-first (nat_le 4 (length xs)) TooFewSubfields _ (ap (λ ys. nat_le 4 (length ys)) e ∙ (le_decided 4 _).1 (omega arith))
-    (passes-first (is_sex (subfield xs 1)) BadSex _ (ap (λ ys. is_sex (subfield ys 1)) e ∙ (sex_decided p.sex).1 h.sex)
-    (passes-first (is_date_or_x (subfield xs 2)) BadDate [] (ap (λ ys. is_date_or_x (subfield ys 2)) e ∙ (date_decided p.birthdate).1 h.birthdate) refl)))
+    (passes-first (is_sex (subfield xs 1)) BadSex _ (ap (λ ys. is_sex (subfield ys 1)) e ∙ (sex_decided p.sex).1 h.written.sex)
+    (passes-first (is_date_or_x (subfield xs 2)) BadDate [] (ap (λ ys. is_date_or_x (subfield ys 2)) e ∙ (date_decided p.birthdate).1 h.written.birthdate) refl)))
 
 -- a list of at least four, and of at least five
 four : (xs : List (List ℕ)) → 4 ≤ length xs → xs ≡ subfield xs 0 ∷ subfield xs 1 ∷ subfield xs 2 ∷ subfield xs 3 ∷ drop 4 xs

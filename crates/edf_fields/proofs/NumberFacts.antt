@@ -2,7 +2,7 @@
 use Rattle.std.proofs.Common.{◌≡◌, ℕ, ℤ, Bool, true, false, zero, suc, ◌+◌, ◌<◌, ◌≤◌, List, [], ◌∷◌, length, arith, refl, ap, ◌∙◌, sym, Option, Some, None, MatchOption, nat_le, nat_lt, ◌&&◌, cond}
 use Rattle.std.specs.List.{list_all}
 use Rattle.std.proofs.lemmas.Bool.Decides.{nat_tests}
-use Rattle.edf_fields.specs.Numbers.{weight, unsigned, signed, has_minus, whole_part, fraction_part, decimal, AreDigits, SpellsWholeNumber, SpellsHeaderNumber, SpellsOneHeaderNumber, SpellsOneWholeNumber, is_digit, is_whole, is_decimal, whole_number_of, header_number_of}
+use Rattle.edf_fields.specs.Numbers.{weight, unsigned, signed, has_minus, whole_part, fraction_part, decimal, AreDigits, SpellsWholeNumber, SpellsHeaderNumber, SpellsOneHeaderNumber, SpellsOneWholeNumber, is_digit, is_whole, is_decimal, whole_number_of, header_number_of, WholeNumberIsSpelled, HeaderNumberIsSpelled}
 use Rattle.edf_fields.specs.Parts.{text_of}
 
 digit_tested : (d : ℕ) → 48 ≤ d → d ≤ 57 → is_digit d ≡ true
@@ -117,3 +117,10 @@ header_number_of-some field v h =
     let inner = and_true (list_all is_digit (whole_part (text_of field))) (list_all is_digit (fraction_part (text_of field)) && nat_lt 0 (length (whole_part (text_of field)) + length (fraction_part (text_of field)))) outer.1 in
     let last = and_true (list_all is_digit (fraction_part (text_of field))) (nat_lt 0 (length (whole_part (text_of field)) + length (fraction_part (text_of field)))) inner.1 in
     (true_le _ _ outer.0, ((tested_digits _ inner.0, tested_digits _ last.0, true_lt _ _ last.1), found.1))
+
+-- the number that is read of a field is the one that it spells
+pub whole_number_is_spelled : WholeNumberIsSpelled
+whole_number_is_spelled field v = (whole_number_of-some field v, whole_number_of-spelled field v)
+
+pub header_number_is_spelled : HeaderNumberIsSpelled
+header_number_is_spelled field v = (header_number_of-some field v, header_number_of-spelled field v)

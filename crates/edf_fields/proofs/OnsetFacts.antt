@@ -6,7 +6,7 @@ use Rattle.std.proofs.lemmas.Grind.{common_steps}
 use Rattle.std.proofs.lemmas.Int.{ints}
 use Rattle.std.proofs.Math.Nat.{pow-le-pow_right}
 use Rattle.edf_fields.specs.Numbers.{AreDigits, is_digit, weight, signed, has_minus, before_dot, behind_dot}
-use Rattle.edf_fields.specs.Onsets.{without_leading_zeros, without_trailing_zeros, has_dot, has_sign, AreSeconds, IsFraction, IsTime, time_of, SpellsOnset, SpellsSpan, are_seconds, is_fraction, is_time, onset_of, span_of}
+use Rattle.edf_fields.specs.Onsets.{without_leading_zeros, without_trailing_zeros, has_dot, has_sign, AreSeconds, IsFraction, IsTime, time_of, SpellsOnset, SpellsSpan, are_seconds, is_fraction, is_time, onset_of, span_of, OnsetIsSpelled, SpanIsSpelled}
 use Rattle.edf_fields.proofs.DigitFacts.{below_power}
 use Rattle.edf_fields.proofs.NumberFacts.{digits_tested, tested_digits}
 use Rattle.edf_fields.proofs.ZeroFacts.{leading_digits, digits_leading, trailing_digits, digits_trailing, fraction_under}
@@ -148,3 +148,10 @@ onset_read (Some v) t h = sym (onset_of_spelled t v h)
 pub span_read : (o : Option ℤ) (t : List ℕ) → MatchOption o ((v : ℤ) → SpellsSpan t v → ⊥) (SpellsSpan t) → o ≡ span_of t
 span_read None t h = sym (span_of_none t h)
 span_read (Some v) t h = sym (span_of_spelled t v h)
+
+-- the time that is read of a text is the one that it spells
+pub onset_is_spelled : OnsetIsSpelled
+onset_is_spelled t v = (onset_of_some t v, onset_of_spelled t v)
+
+pub span_is_spelled : SpanIsSpelled
+span_is_spelled t v = (span_of_some t v, span_of_spelled t v)

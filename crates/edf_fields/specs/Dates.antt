@@ -1,5 +1,5 @@
 -- Which texts name a day or a time of the day, and which one.
-use Rattle.std.specs.Prelude.{◌≡◌, ℕ, ℤ, pos, Bool, Option, Some, None, nat_le, ◌&&◌, ◌==◌, ◌+◌, ◌*◌, ◌≤◌, List, [], ◌∷◌, length, slice_index, codes, if◌then◌else◌}
+use Rattle.std.specs.Prelude.{◌≡◌, ℕ, ℤ, pos, Bool, Option, Some, None, nat_le, ◌&&◌, ◌==◌, ◌+◌, ◌*◌, ◌≤◌, List, [], ◌∷◌, length, slice_index, codes, if◌then◌else◌, ◌↔◌}
 use Rattle.std.specs.List.{list_all, position}
 use Rattle.std.specs.Option.{option_map_or}
 use Rattle.std.specs.Str.{bytes_eq}
@@ -126,3 +126,15 @@ NamesOneDashedDay = (t : List ℕ) (m n : ℤ) → NamesDashedDay t m → NamesD
 -- a text names at most one time of the day
 abbrev pub NamesOneClockTime : Type 0
 NamesOneClockTime = (t : List ℕ) (m n : ℕ) → NamesClockTime t m → NamesClockTime t n → m ≡ n
+
+-- the day that is read of a text is the one that it names, in the form dd.mm.yy
+abbrev pub DottedDayIsNamed : Type 0
+DottedDayIsNamed = (t : List ℕ) (day : CivilDay) → (dotted_day_of t ≡ Some day) ↔ ((date : Date) × NamesDottedDay t (epoch_day date) × (civil_day date ≡ day))
+
+-- and in the form dd-MMM-yyyy
+abbrev pub DashedDayIsNamed : Type 0
+DashedDayIsNamed = (t : List ℕ) (day : CivilDay) → (dashed_day_of t ≡ Some day) ↔ ((date : Date) × NamesDashedDay t (epoch_day date) × (civil_day date ≡ day))
+
+-- the second that is read of a text is the one that it names
+abbrev pub ClockTimeIsNamed : Type 0
+ClockTimeIsNamed = (t : List ℕ) (second : ℕ) → (clock_time_of t ≡ Some second) ↔ NamesClockTime t second

@@ -35,11 +35,15 @@ pub record Patient : Type 0 where
   pub name : List ℕ
   pub extras : List (List ℕ)
 
+-- the sex and the birthdate of a patient are written as they have to be
+pub record IsPatient (patient : Patient) : Type 0 where
+  pub sex : IsSex patient.sex
+  pub birthdate : IsDateOrX patient.birthdate
+
 -- the field says this patient: the code, the sex, the birthdate, the name and any additional subfields
 pub record SaysPatient (field : List ℕ) (patient : Patient) : Type 0 where
   pub lists : ListsSubfields field (patient.code ∷ patient.sex ∷ patient.birthdate ∷ patient.name ∷ patient.extras)
-  pub sex : IsSex patient.sex
-  pub birthdate : IsDateOrX patient.birthdate
+  pub written : IsPatient patient
 
 -- the subfields of a recording, behind the word
 pub record Recording : Type 0 where

@@ -1,5 +1,5 @@
 -- Which texts spell a number, and which number.
-use Rattle.std.specs.Prelude.{◌≡◌, ℕ, ℤ, Bool, Option, Some, None, nat_le, nat_lt, ◌&&◌, ◌||◌, ◌==◌, ◌+◌, ◌-◌, ◌*◌, ◌^◌, ◌<◌, ◌≤◌, pos, neg_ℤ, List, [], ◌∷◌, length, slice_index, drop, if◌then◌else◌}
+use Rattle.std.specs.Prelude.{◌≡◌, ℕ, ℤ, Bool, Option, Some, None, nat_le, nat_lt, ◌&&◌, ◌||◌, ◌==◌, ◌+◌, ◌-◌, ◌*◌, ◌^◌, ◌<◌, ◌≤◌, pos, neg_ℤ, List, [], ◌∷◌, length, slice_index, drop, if◌then◌else◌, ◌↔◌}
 use Rattle.std.specs.List.{list_all, before_first, after_first}
 use Rattle.edf_fields.specs.Parts.{text_of}
 
@@ -67,7 +67,8 @@ abbrev pub SpellsDecimal : ℕ → List ℕ → ℤ → Type 0
 SpellsDecimal k t v =
     IsDecimal (unsigned t) × (v ≡ signed (has_minus t) (decimal k (whole_part t) (fraction_part t)))
 
--- a field of at most 8 bytes whose text is a decimal, in units of 10^-7 (EDF, "Header record": physical minimum and maximum, duration of a data record; which forms spell a number is this project's profile)
+-- a field of at most 8 bytes whose text is a decimal, in units of 10^-7 (EDF, "Header record": physical extremes, duration)
+-- which forms spell a number is this project's profile
 abbrev pub SpellsHeaderNumber : List ℕ → ℤ → Type 0
 SpellsHeaderNumber field v = (length field ≤ 8) × SpellsDecimal 7 (text_of field) v
 
@@ -112,3 +113,11 @@ SpellsOneHeaderNumber =
 abbrev pub SpellsOneWholeNumber : Type 0
 SpellsOneWholeNumber =
     (field : List ℕ) (v w : ℤ) → SpellsWholeNumber field v → SpellsWholeNumber field w → v ≡ w
+
+-- the whole number that is read of a field is the one that it spells
+abbrev pub WholeNumberIsSpelled : Type 0
+WholeNumberIsSpelled = (field : List ℕ) (v : ℤ) → (whole_number_of field ≡ Some v) ↔ SpellsWholeNumber field v
+
+-- the number that is read of a field is the one that it spells
+abbrev pub HeaderNumberIsSpelled : Type 0
+HeaderNumberIsSpelled = (field : List ℕ) (v : ℤ) → (header_number_of field ≡ Some v) ↔ SpellsHeaderNumber field v

@@ -1,5 +1,5 @@
 -- Which texts spell the onset or the duration of an annotation, and which time.
-use Rattle.std.specs.Prelude.{◌≡◌, ℕ, ℤ, Bool, not, Option, Some, None, IsTrue, nat_le, nat_lt, ◌&&◌, ◌||◌, ◌==◌, ◌<◌, ◌≤◌, pos, List, [], ◌∷◌, length, slice_index, drop, if◌then◌else◌}
+use Rattle.std.specs.Prelude.{◌≡◌, ℕ, ℤ, Bool, not, Option, Some, None, IsTrue, nat_le, nat_lt, ◌&&◌, ◌||◌, ◌==◌, ◌<◌, ◌≤◌, pos, List, [], ◌∷◌, length, slice_index, drop, if◌then◌else◌, ◌↔◌}
 use Rattle.std.specs.List.{list_all, list_any}
 use Rattle.edf_fields.specs.Numbers.{AreDigits, is_digit, is_dot, before_dot, behind_dot, decimal, has_minus, signed}
 
@@ -81,3 +81,11 @@ SpellsOneOnset = (t : List ℕ) (v w : ℤ) → SpellsOnset t v → SpellsOnset 
 -- a text spells at most one duration
 abbrev pub SpellsOneSpan : Type 0
 SpellsOneSpan = (t : List ℕ) (v w : ℤ) → SpellsSpan t v → SpellsSpan t w → v ≡ w
+
+-- the onset that is read of a text is the one that it spells
+abbrev pub OnsetIsSpelled : Type 0
+OnsetIsSpelled = (t : List ℕ) (v : ℤ) → (onset_of t ≡ Some v) ↔ SpellsOnset t v
+
+-- the duration that is read of a text is the one that it spells
+abbrev pub SpanIsSpelled : Type 0
+SpanIsSpelled = (t : List ℕ) (v : ℤ) → (span_of t ≡ Some v) ↔ SpellsSpan t v

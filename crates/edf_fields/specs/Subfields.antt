@@ -1,4 +1,5 @@
--- The subfields of a text (EDF+, "Additional specifications in EDF+": subfields don't contain spaces, but are separated by them; that more than one space may stand between two is this project's profile).
+-- The subfields of a text, which contain no spaces and are separated by them (EDF+, "Additional specifications in EDF+").
+-- That more than one space may stand between two is this project's profile.
 use Rattle.std.specs.Prelude.{◌≡◌, ◌≢◌, ℕ, Bool, ◌==◌, nat_lt, ◌-◌, ◌<◌, List, [], ◌∷◌, ◌++◌, length, slice_index, filter, replicate, All}
 use Rattle.std.specs.List.{slice_split}
 use Rattle.edf_fields.specs.declared.subfields.Subfields.{Subfields}

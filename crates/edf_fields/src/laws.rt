@@ -1,8 +1,8 @@
 //! Laws of the definitions, each the contract of a function that does nothing.
-ghost use Rattle.edf_fields.specs.Dates.{NamesOneDottedDay, NamesOneDashedDay, NamesOneClockTime};
+ghost use Rattle.edf_fields.specs.Dates.{NamesOneDottedDay, NamesOneDashedDay, NamesOneClockTime, DottedDayIsNamed, DashedDayIsNamed, ClockTimeIsNamed};
 ghost use Rattle.edf_fields.specs.Identifications.{SaysOnePatient, SaysOneRecording, SaysPatientOrCause, SaysRecordingOrCause};
-ghost use Rattle.edf_fields.specs.Numbers.{SpellsOneHeaderNumber, SpellsOneWholeNumber};
-ghost use Rattle.edf_fields.specs.Onsets.{SpellsOneOnset, SpellsOneSpan};
+ghost use Rattle.edf_fields.specs.Numbers.{SpellsOneHeaderNumber, SpellsOneWholeNumber, HeaderNumberIsSpelled, WholeNumberIsSpelled};
+ghost use Rattle.edf_fields.specs.Onsets.{SpellsOneOnset, SpellsOneSpan, OnsetIsSpelled, SpanIsSpelled};
 ghost use Rattle.edf_fields.specs.Subfields.{HasOneListOfSubfields, FindsSubfields};
 
 /// A field spells at most one number, as a header number and as a whole number.
@@ -11,10 +11,24 @@ pub fn fields_spell_one_number()
     ensures whole { SpellsOneWholeNumber }
 {}
 
+/// The number that is read of a field is the one that the field spells.
+#[tactic(auto, using(crate::proofs::NumberFacts::header_number_is_spelled, crate::proofs::NumberFacts::whole_number_is_spelled))]
+pub fn numbers_are_as_spelled()
+    ensures header { HeaderNumberIsSpelled }
+    ensures whole { WholeNumberIsSpelled }
+{}
+
 /// A text spells at most one onset and at most one duration.
 pub fn texts_spell_one_time()
     ensures onset { SpellsOneOnset }
     ensures span { SpellsOneSpan }
+{}
+
+/// The time that is read of a text is the one that the text spells.
+#[tactic(auto, using(crate::proofs::OnsetFacts::onset_is_spelled, crate::proofs::OnsetFacts::span_is_spelled))]
+pub fn times_are_as_spelled()
+    ensures onset { OnsetIsSpelled }
+    ensures span { SpanIsSpelled }
 {}
 
 /// A text names at most one day, in each of the two forms, and at most one time of the day.
@@ -23,6 +37,14 @@ pub fn texts_name_one_day()
     ensures dotted { NamesOneDottedDay }
     ensures dashed { NamesOneDashedDay }
     ensures clock { NamesOneClockTime }
+{}
+
+/// The day, and the time of the day, that are read of a text are those that the text names.
+#[tactic(auto, using(crate::proofs::DateFacts::dotted_day_is_named, crate::proofs::DateFacts::dashed_day_is_named, crate::proofs::DateFacts::clock_time_is_named))]
+pub fn days_are_as_named()
+    ensures dotted { DottedDayIsNamed }
+    ensures dashed { DashedDayIsNamed }
+    ensures clock { ClockTimeIsNamed }
 {}
 
 /// A text has at most one list of subfields, and one that neither begins nor ends with a space has

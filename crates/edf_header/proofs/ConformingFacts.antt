@@ -368,7 +368,7 @@ fixed-pass file h c count =
     let front : List ℕ = fixed_part file in
     let at : FixedField → List ℕ = λ field. fixed_field front field in
     let has = c.head in
-    let sound = c.sound in
+    let sound = c.sound.standard in
     let size = c.whole in
     let taken = length-take 256 (drop 0 file) in
     let long : 256 ≤ length front = omega (arith, size, taken) in
@@ -415,7 +415,7 @@ columns-pass : (file : List ℕ) (h : Head) (n : ℕ) → HeaderConforms file h 
 columns-pass file h n c count read =
     let bytes : List ℕ = columns_part n file in
     let has = c.head in
-    let sound = c.sound in
+    let sound = c.sound.standard in
     let size = c.whole in
     let taken = length-take (256 * n) (drop 256 file) in
     let left = length-drop 256 file in

@@ -96,22 +96,19 @@ kept front bytes start extent signals size long s x passed columns-passed e tota
       days = s.days;
       record_size = total;
       sound = record {
-        sex = patient.sex;
-        birthdate = patient.birthdate;
-        date = recording.date;
-        same_day = same;
-        near = s.near;
-        early = s.early;
-        some_records = x.some_records;
-        few_records = x.few_records;
-        some_time = x.some_time;
-        little_time = x.little_time;
-        annotations = rw e together.annotations;
-        channel = rw e together.channel;
-        distinct = rw e together.distinct;
-        few_signals = rw long-signals x.few_signals;
-        signals = each;
-        offsets = beside;
-        small_record = rw (sym total) small;
+        standard = record {
+          patient = patient.written;
+          date = recording.date;
+          same_day = same;
+          some_records = x.some_records;
+          some_time = x.some_time;
+          annotations = rw e together.annotations;
+          channel = rw e together.channel;
+          distinct = rw e together.distinct;
+          signals = each;
+          offsets = beside;
+          small_record = rw (sym total) small;
+        };
+        bounds = record { near = s.near; early = s.early; few_records = x.few_records; little_time = x.little_time; few_signals = rw long-signals x.few_signals };
       };
     }

@@ -24,7 +24,8 @@ SameLine l m =
     (physical_span l *ℤ digital_span m ≡ physical_span m *ℤ digital_span l)
     × (offset_times_span l *ℤ digital_span m ≡ offset_times_span m *ℤ digital_span l)
 
--- digital extremes are from -32768 to 32767, the minimum below the maximum; physical ones differ, in either order (EDF, "Header record"; EDF+, "Additional specifications in EDF+"; that the gain may be negative is this project's profile); the bounds of the physical ones are those of their fields: 8 bytes spell no number of 10^8
+-- digital extremes are from -32768 to 32767, in order; physical ones differ (EDF, "Header record"; EDF+, "Additional specifications in EDF+")
+-- that the gain may be negative is this project's profile; 8 bytes spell no number of 10^8, which bounds the physical ones
 pub record IsCalibration (l : Line) : Type 0 where
   pub low : neg_ℤ (pos 32768) ≤ℤ l.digital_minimum
   pub high : l.digital_maximum ≤ℤ pos 32767

@@ -1,5 +1,6 @@
 -- The tests that a header has to pass, in their written order, and the first that fails. A test is asked only where those before it pass.
-use Rattle.std.specs.Prelude.{ℕ, zero, suc, ℤ, pos, neg_ℤ, ◌+◌, ◌*◌, nat_le, int_le, int_lt, ◌&&◌, ◌||◌, not, if◌then◌else◌, List, [], ◌∷◌, ◌++◌, length, take, Bool, true, false, Option, Some, None, unwrap_or, codes}
+use Rattle.std.specs.Prelude.{ℕ, zero, suc, ℤ, pos, neg_ℤ, ◌+◌, ◌*◌, nat_le, int_le, int_lt, ◌&&◌, ◌||◌, not}
+use Rattle.std.specs.Prelude.{if◌then◌else◌, List, [], ◌∷◌, ◌++◌, length, take, Bool, true, false, Option, Some, None, unwrap_or, codes}
 use Rattle.std.specs.List.{list_any, list_all}
 use Rattle.std.specs.Ordering.{int_eq}
 use Rattle.std.specs.Str.{bytes_eq}
@@ -14,7 +15,8 @@ use Rattle.edf_header.specs.declared.fault.Fault.{Fault}
 use Rattle.edf_header.specs.declared.fault.Place.{Place}
 use Rattle.edf_header.specs.declared.fault.Place.TheVariants.{AtField, AtSignal}
 use Rattle.edf_header.specs.declared.fault.Cause.{Cause}
-use Rattle.edf_header.specs.declared.fault.Cause.TheVariants.{Truncated, NotPrintable, BadVersion, BadSubfields, BadStart, StartdateDiffers, BadHeaderSize, NotEdfPlus, BadNumber, BadRange, BadAnnotationSignal, NoAnnotationSignal, NoOrdinarySignal, DuplicateLabel, RecordTooLarge}
+use Rattle.edf_header.specs.declared.fault.Cause.TheVariants.{Truncated, NotPrintable, BadVersion, BadSubfields, BadStart, StartdateDiffers, BadHeaderSize}
+use Rattle.edf_header.specs.declared.fault.Cause.TheVariants.{NotEdfPlus, BadNumber, BadRange, BadAnnotationSignal, NoAnnotationSignal, NoOrdinarySignal, DuplicateLabel, RecordTooLarge}
 use Rattle.edf_header.specs.declared.layout.FixedField.{FixedField}
 use Rattle.edf_header.specs.declared.layout.FixedField.TheVariants as fixed
 use Rattle.edf_header.specs.declared.layout.SignalField.{SignalField}

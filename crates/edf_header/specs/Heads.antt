@@ -26,7 +26,8 @@ pub record SignalHead : Type 0 where
   pub samples : ℕ
   pub offset : ℕ
 
--- a header: who and what was recorded; the day (by its number, 0 for 1970-01-01) and the second of the day at which the recording starts; whether the data records follow one another without a gap; the free text behind `EDF+C` or `EDF+D`; how many data records are announced, the duration of each in picoseconds, and the signals in order
+-- a header; the day is given by its number, 0 for 1970-01-01, and the clock counts the seconds of that day
+-- the free text stands behind `EDF+C` or `EDF+D`, and the duration is that of a data record, in picoseconds
 pub record Head : Type 0 where
   pub patient : Patient
   pub recording : Recording

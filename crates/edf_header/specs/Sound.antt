@@ -2,7 +2,7 @@
 use Rattle.std.specs.Prelude.{◌≡◌, ℕ, ℤ, pos, neg_ℤ, ◌≤◌, ◌<◌, ◌≤ℤ◌, ◌^◌, IsTrue, List, length, Some, slice_get, unsigned_abs}
 use Rattle.std.specs.List.{All}
 use Rattle.edf_fields.specs.Dates.{NamesDashedDay}
-use Rattle.edf_fields.specs.Identifications.{IsSex, IsDateOrX}
+use Rattle.edf_fields.specs.Identifications.{IsPatient, IsDateOrX}
 use Rattle.edf_header.specs.Calibrations.{IsCalibration}
 use Rattle.edf_header.specs.Channels.{IsChannel, HasDistinctChannels}
 use Rattle.edf_header.specs.Heads.{SignalHead, Head, AreSideBySide, is_annotations, record_bytes}
@@ -22,22 +22,30 @@ HasAnnotationSignal signals = (s : ℕ) × (head : SignalHead) × (slice_get sig
 abbrev pub HasSomeChannel : List SignalHead → Type 0
 HasSomeChannel signals = (s : ℕ) × (label : List ℕ) × IsChannel signals s label
 
--- a header that passed its tests. The bounds are those of its fields: a day of the calendar is less than 5,000,000 days from 1970-01-01, 8 bytes spell no count of 9 digits and no duration of 10^8 s, 4 bytes no count of 5 digits
-pub record IsSound (h : Head) : Type 0 where
-  pub sex : IsSex h.patient.sex
-  pub birthdate : IsDateOrX h.patient.birthdate
+-- what the standard asks of a header that says something (EDF, "Header record"; EDF+, "The EDF+ header")
+-- that labels are distinct, and the size of a data record, is this project's profile
+pub record MeetsStandard (h : Head) : Type 0 where
+  pub patient : IsPatient h.patient
   pub date : IsDateOrX h.recording.date
   pub same_day : (n : ℤ) → NamesDashedDay h.recording.date n → n ≡ h.day
-  pub near : unsigned_abs h.day < 5000000
-  pub early : h.clock < 86400
   pub some_records : 1 ≤ h.records
-  pub few_records : h.records < 10 ^ 8
   pub some_time : pos 1 ≤ℤ h.duration
-  pub little_time : unsigned_abs h.duration < 10 ^ 20
   pub annotations : HasAnnotationSignal h.signals
   pub channel : HasSomeChannel h.signals
   pub distinct : HasDistinctChannels h.signals
-  pub few_signals : length h.signals < 10 ^ 4
   pub signals : All IsSoundSignal h.signals
   pub offsets : AreSideBySide 0 h.signals
   pub small_record : record_bytes h ≤ 16777216
+
+-- what its numbers are below, since its fields have so many bytes and the calendar so many days
+pub record HasBounds (h : Head) : Type 0 where
+  pub near : unsigned_abs h.day < 5000000
+  pub early : h.clock < 86400
+  pub few_records : h.records < 10 ^ 8
+  pub little_time : unsigned_abs h.duration < 10 ^ 20
+  pub few_signals : length h.signals < 10 ^ 4
+
+-- a header that passed its tests
+pub record IsSound (h : Head) : Type 0 where
+  pub standard : MeetsStandard h
+  pub bounds : HasBounds h

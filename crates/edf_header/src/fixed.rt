@@ -19,7 +19,7 @@ ghost use Rattle.edf_fields.specs.Tests.{first};
 use crate::fault::{Cause, Fault, Place};
 use crate::field::{count, positive, printable, some_number};
 use crate::kind::Kind;
-use crate::layout::{FixedField, fixed_field};
+use crate::layout::{FIXED, FixedField, fixed_field};
 use crate::startdate::{recording_date, startdate};
 use edf_fields::date::clock_time;
 use edf_fields::identification::PatientId;
@@ -226,26 +226,29 @@ fn judge_extent(front: &[u8]) -> Result<Extent, Fault>
     })
 }
 
+/// The first of these fields of which a byte is missing, where there are `len` bytes.
+fn missing_in(fields: &[FixedField], len: usize) -> Option<FixedField>
+    ensures { MatchOption result
+        (first (fixed_missing fields.now len) ≡ None)
+        (λ field. first (fixed_missing fields.now len) ≡ Some (record { place = AtField field; cause = Truncated })) }
+{
+    for field in fields {
+        let (from, count) = field.extent();
+        if len < from + count {
+            return Some(*field);
+        }
+    }
+    None
+}
+
 /// The field of the first missing byte of the fixed part, of which there are `len` bytes.
-#[tactic(auto, unfolding(crate::specs::Faults::truncated))]
+#[tactic(auto, using(crate::proofs::FixedFacts::part_whole))]
 fn missing_field(len: usize) -> Option<FixedField>
     ensures { MatchOption result
         ((first (fixed_missing fixed_fields len) ≡ None) × (256 ≤ len))
         (λ field. first (fixed_missing fixed_fields len) ≡ Some (record { place = AtField field; cause = Truncated })) }
 {
-    match len {
-        0..=7 => Some(FixedField::Version),
-        8..=87 => Some(FixedField::Patient),
-        88..=167 => Some(FixedField::Recording),
-        168..=175 => Some(FixedField::Startdate),
-        176..=183 => Some(FixedField::Starttime),
-        184..=191 => Some(FixedField::HeaderBytes),
-        192..=235 => Some(FixedField::Reserved),
-        236..=243 => Some(FixedField::Records),
-        244..=251 => Some(FixedField::Duration),
-        252..=255 => Some(FixedField::Signals),
-        _ => None,
-    }
+    missing_in(&FIXED, len)
 }
 
 /// What the fixed part says, or its first fault; of a file that is shorter, `front` is all of it.

@@ -21,6 +21,20 @@ pub enum FixedField {
     Signals,
 }
 
+/// The fields of the fixed part, in file order.
+pub(crate) const FIXED: [FixedField; 10] = [
+    FixedField::Version,
+    FixedField::Patient,
+    FixedField::Recording,
+    FixedField::Startdate,
+    FixedField::Starttime,
+    FixedField::HeaderBytes,
+    FixedField::Reserved,
+    FixedField::Records,
+    FixedField::Duration,
+    FixedField::Signals,
+];
+
 impl FixedField {
     /// The field's name in the text of a fault.
     pub fn name(self) -> &'static str
@@ -41,7 +55,7 @@ impl FixedField {
     }
 
     /// The place of the field's first byte, and how many bytes it has.
-    fn extent(self) -> (usize, usize)
+    pub(crate) fn extent(self) -> (usize, usize)
         ensures from { result.0 ≡ fixed_from self }
         ensures count { result.1 ≡ fixed_bytes self }
         ensures within { result.0 + result.1 ≤ 256 }
