@@ -4,7 +4,7 @@ use Rattle.std.specs.Bool.{MatchBool}
 use Rattle.std.proofs.Math.Nat.{mul-le-mul_right, mul-le-mul_left}
 use Rattle.edf_fields.specs.Parts.{text_of}
 use Rattle.edf_fields.specs.Numbers.{whole_number_of, header_number_of}
-use Rattle.edf_fields.proofs.ForCallers.{part-append}
+use Rattle.edf_fields.proofs.ForCallers.{part-append, first-passed}
 use Rattle.edfclaim.specs.declared.fault.Fault.{Fault}
 use Rattle.edfclaim.specs.declared.fault.Place.TheVariants.{AtField}
 use Rattle.edfclaim.specs.declared.layout.FixedField.{FixedField}
@@ -14,9 +14,9 @@ use Rattle.edfclaim.specs.declared.layout.SignalField.TheVariants as signal
 use Rattle.edfclaim.specs.declared.judge.Fixed.{Fixed}
 use Rattle.edfclaim.specs.Layout.{fixed_from, fixed_bytes, fixed_fields, fixed_field, column_before, column_width, columns, signal_field}
 use Rattle.edfclaim.specs.Heads.{SignalHead, count_of, signal_of, signals_from}
-use Rattle.edfclaim.specs.Faults.{first, truncated, fixed_missing, fixed_faults, fixed_stage, header_bytes_fault, reserved_fault, records_fault, duration_fault, signals_fault, header_size_fault, samples_fault, column_missing, columns_missing, signals_faults, columns_stage}
+use Rattle.edfclaim.specs.Faults.{truncated, fixed_missing, fixed_faults, fixed_stage, header_bytes_fault, reserved_fault, records_fault, duration_fault, signals_fault, header_size_fault, samples_fault, column_missing, columns_missing, signals_faults, columns_stage}
+use Rattle.edf_fields.specs.Tests.{first}
 use Rattle.edfclaim.specs.Judged.{SaysFixed}
-use Rattle.edfclaim.proofs.FirstFacts.{first-passed}
 use Rattle.edfclaim.proofs.ColumnFacts.{there, column-whole}
 
 pub field-within : (field : FixedField) → fixed_from field + fixed_bytes field ≤ 256

@@ -9,7 +9,7 @@ use Rattle.edfclaim.specs.declared.difference.Mismatch.{Mismatch}
 use Rattle.edfclaim.specs.declared.difference.Mismatch.TheVariants.{Missing, Extra, Value}
 use Rattle.edfclaim.specs.declared.difference.SampleDifference.{SampleDifference}
 use Rattle.edfclaim.specs.Instants.{IsBefore}
-use Rattle.edfclaim.specs.Lists.{Has}
+use Rattle.edf_fields.specs.Lists.{Has}
 use Rattle.edfclaim.specs.Heads.{samples_at}
 use Rattle.edfclaim.specs.Records.{lane_at}
 use Rattle.edfclaim.specs.Lanes.{digital_value}
@@ -21,7 +21,8 @@ use Rattle.edfclaim.specs.Differences.{HasValue, HasNone, Match, Differ, first_d
 use Rattle.edfclaim.specs.Exports.{SameChannels, StandsAt, NoneAt, DifferAt}
 use Rattle.edfclaim.specs.Compare.{Timed, all_samples, kept_samples, difference_at, label_difference}
 use Rattle.edfclaim.specs.Verdicts.{samples_in, kept_in}
-use Rattle.edfclaim.proofs.ListFacts.{has-filtered, filtered-has, and-true, both-true, or-cases, or-true}
+use Rattle.edfclaim.proofs.ListFacts.{has-filtered, filtered-has, or-cases, or-true}
+use Rattle.edf_fields.proofs.ForCallers.{and-true, both-true}
 use Rattle.edfclaim.proofs.MemberFacts.{has-lane, records-has, has-records}
 use Rattle.edfclaim.proofs.RisingFacts.{IsTimely, records-ascending, filter-ascending}
 use Rattle.edfclaim.proofs.ChannelFacts.{channel-samples}

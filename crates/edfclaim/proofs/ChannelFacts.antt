@@ -3,7 +3,7 @@ use Rattle.std.proofs.Common.{◌≡◌, ℕ, suc, ◌+◌, Bool, true, false, n
 use Rattle.std.specs.List.{position_from}
 use Rattle.std.specs.Str.{bytes_eq}
 use Rattle.std.proofs.lemmas.Slice.Eq.{bytes_eq-Decides}
-use Rattle.edfclaim.specs.Lists.{Has}
+use Rattle.edf_fields.specs.Lists.{Has}
 use Rattle.edfclaim.specs.Labels.{IsLeast}
 use Rattle.edfclaim.specs.Heads.{SignalHead, Head, is_annotations, samples_at}
 use Rattle.edfclaim.specs.Samples.{IsChannel}
@@ -14,7 +14,8 @@ use Rattle.std.specs.Global.{Vec}
 use Rattle.edfclaim.specs.declared.header.Signal.{Signal}
 use Rattle.edfclaim.specs.Views.{signal_view}
 use Rattle.edfclaim.proofs.LabelFacts.{least_of, least-found}
-use Rattle.edfclaim.proofs.ListFacts.{has-at, at-has, has-map, map-has, has-filtered, filtered-has, find-none, find-first, and-true, both-true, or-true, not-true}
+use Rattle.edfclaim.proofs.ListFacts.{has-at, at-has, has-map, map-has, has-filtered, filtered-has, find-none, find-first, or-true}
+use Rattle.edf_fields.proofs.ForCallers.{and-true, both-true, not-true}
 
 place_chosen : (b : Bool) (k : ℕ) (o : Option ℕ) (P : Option ℕ → Type 0) → (b ≡ true → P (Some k)) → (b ≡ false → P o) → P (cond b (Some k) o)
 place_chosen true k o P f g = f refl

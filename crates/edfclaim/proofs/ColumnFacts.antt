@@ -10,8 +10,9 @@ use Rattle.edfclaim.specs.declared.fault.Cause.TheVariants.{Truncated}
 use Rattle.edfclaim.specs.declared.layout.SignalField.{SignalField}
 use Rattle.edfclaim.specs.declared.layout.SignalField.TheVariants as signal
 use Rattle.edfclaim.specs.Layout.{column_before, column_width, columns, next_before, AreAdjacent}
-use Rattle.edfclaim.specs.Faults.{first, fault, truncated, column_missing, columns_missing}
-use Rattle.edfclaim.proofs.FirstFacts.{first-passed, first-found}
+use Rattle.edfclaim.specs.Faults.{fault, truncated, column_missing, columns_missing}
+use Rattle.edf_fields.specs.Tests.{first}
+use Rattle.edf_fields.proofs.ForCallers.{first-passed, first-found}
 
 pub there : (place : Place) (end len : ℕ) → end ≤ len → truncated place end len ≡ None
 unfolding truncated

@@ -11,7 +11,7 @@ use Rattle.edfclaim.specs.declared.difference.Mismatch.{Mismatch}
 use Rattle.edfclaim.specs.declared.difference.Mismatch.TheVariants.{Missing, Extra, Value}
 use Rattle.edfclaim.specs.declared.difference.SampleDifference.{SampleDifference}
 use Rattle.edfclaim.specs.Instants.{IsBefore, IsNotBefore, IsSame, is_before}
-use Rattle.edfclaim.specs.Lists.{Has}
+use Rattle.edf_fields.specs.Lists.{Has}
 use Rattle.edfclaim.specs.Differences.{instant, IsAscending, HasValue, HasNone, AreIn, Match, Differ, IsDifference, IsLeastDifference, first_difference_of, missing, extra, other, heads, AreBefore, AreFrom, MatchExactly, DifferenceIsLeast, DifferenceSplits}
 use Rattle.edfclaim.proofs.FractionFacts.{before-not_before, same_below, same_above, before_below, before_same, before_same_back, is_before-true, is_before-false, true-is_before, false-is_before, both_same, before_over, same_through, same_before, same_back}
 

@@ -7,7 +7,7 @@ use Rattle.edfclaim.specs.declared.instant.Instant.{Instant}
 use Rattle.edfclaim.specs.declared.difference.SampleDifference.{SampleDifference}
 use Rattle.edfclaim.specs.declared.earliest.Found.{Found}
 use Rattle.edfclaim.specs.Instants.{IsBefore, IsNotBefore, IsSame, is_before}
-use Rattle.edfclaim.specs.Lists.{Has}
+use Rattle.edf_fields.specs.Lists.{Has}
 use Rattle.edfclaim.specs.Earliest.{found, earlier, earliest, IsEarliest, AreInstants, EarliestIsLeast}
 use Rattle.edfclaim.proofs.FractionFacts.{before_below, is_before-true, is_before-false, before_same_back, from_below}
 

@@ -7,13 +7,14 @@ use Rattle.edfclaim.specs.declared.fault.Cause.TheVariants.{Truncated, TrailingB
 use Rattle.edfclaim.specs.declared.judge.Fixed.{Fixed}
 use Rattle.edfclaim.specs.declared.header.Header.{Header}
 use Rattle.edfclaim.specs.Heads.{SignalHead, Head, count_of, signals_of, duration_of, signals_from, head_of, header_bytes, record_bytes}
-use Rattle.edfclaim.specs.Faults.{first, fault, truncated, fixed_stage, columns_stage, joint_faults, header_tests, due, start_faults, record_faults, records_faults, trailing_bytes, records_stage, first_fault}
+use Rattle.edfclaim.specs.Faults.{fault, truncated, fixed_stage, columns_stage, joint_faults, header_tests, due, start_faults, record_faults, records_faults, trailing_bytes, records_stage, first_fault}
+use Rattle.edf_fields.specs.Tests.{first}
 use Rattle.edfclaim.specs.Records.{record_at}
 use Rattle.edfclaim.specs.Timekeeping.{start_of}
 use Rattle.edfclaim.specs.Views.{signal_view, header_view}
 use Rattle.edfclaim.specs.Judged.{SaysFixed, SaysSignals}
 use Rattle.edfclaim.proofs.TimeFacts.{record-behind, due-behind}
-use Rattle.edfclaim.proofs.FirstFacts.{first-passed, first-found, alone}
+use Rattle.edf_fields.proofs.ForCallers.{first-passed, first-found, alone}
 use Rattle.edfclaim.proofs.ColumnFacts.{there, not_there}
 use Rattle.edfclaim.proofs.BehindFacts.{says-behind, signals_from-behind}
 

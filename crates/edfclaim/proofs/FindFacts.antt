@@ -14,7 +14,7 @@ use Rattle.std.proofs.lemmas.List.Sorted.{IsPermutation-sym}
 use Rattle.edfclaim.specs.declared.instant.Instant.{Instant}
 use Rattle.edfclaim.specs.Instants.{IsBefore, IsNotBefore, IsSame}
 use Rattle.edfclaim.specs.Labels.{AreRising}
-use Rattle.edfclaim.specs.Lists.{Has}
+use Rattle.edf_fields.specs.Lists.{Has}
 use Rattle.edfclaim.specs.Claims.{Terms}
 use Rattle.edfclaim.specs.Channels.{channel_place}
 use Rattle.edfclaim.specs.Exports.{SameChannels, DifferAt}

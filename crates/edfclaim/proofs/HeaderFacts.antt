@@ -6,9 +6,10 @@ use Rattle.edfclaim.specs.declared.header.Header.{Header}
 use Rattle.edfclaim.specs.declared.fault.Fault.{Fault}
 use Rattle.edfclaim.specs.Heads.{is_annotations, record_bytes}
 use Rattle.edfclaim.specs.Channels.{HasDistinctChannels}
-use Rattle.edfclaim.specs.Faults.{first, no_annotation_signal, no_ordinary_signal, labels_faults, record_too_large, joint_faults}
+use Rattle.edfclaim.specs.Faults.{no_annotation_signal, no_ordinary_signal, labels_faults, record_too_large, joint_faults}
+use Rattle.edf_fields.specs.Tests.{first}
 use Rattle.edfclaim.specs.Views.{signal_view, header_view}
-use Rattle.edfclaim.proofs.FirstFacts.{first-passed, first-found, alone}
+use Rattle.edf_fields.proofs.ForCallers.{first-passed, first-found, alone}
 use Rattle.edfclaim.proofs.RepeatFacts.{labels-distinct}
 use Rattle.edfclaim.proofs.SignalFacts.{length-view}
 

@@ -11,10 +11,11 @@ use Rattle.edf_fields.specs.Parts.{text_of}
 use Rattle.edf_fields.specs.Numbers.{whole_number_of}
 use Rattle.edfclaim.specs.Layout.{fixed_fields, signal_field}
 use Rattle.edfclaim.specs.Heads.{SignalHead, count_of, signal_of, signals_from}
-use Rattle.edfclaim.specs.Faults.{first, fixed_missing, fixed_faults, fixed_stage, samples_fault, signals_faults}
+use Rattle.edfclaim.specs.Faults.{fixed_missing, fixed_faults, fixed_stage, samples_fault, signals_faults}
+use Rattle.edf_fields.specs.Tests.{first}
 use Rattle.edfclaim.specs.Judged.{SaysFixed}
 use Rattle.edfclaim.specs.Views.{signal_view}
-use Rattle.edfclaim.proofs.FirstFacts.{first-passed, first-found}
+use Rattle.edf_fields.proofs.ForCallers.{first-passed, first-found}
 
 pub fixed-judged : (r : Result Fixed Fault) (file : List ℕ) → first (fixed_missing fixed_fields (length file)) ≡ None → 256 ≤ length file
     → MatchResult r (λ v. (first (fixed_faults file) ≡ None) × SaysFixed file v) (λ f. first (fixed_faults file) ≡ Some f)

@@ -10,9 +10,8 @@ use Rattle.std.proofs.lemmas.List.{take-append-drop}
 use Rattle.std.proofs.lemmas.List.Sums.{position_or_len_is, split_at_first, passes_at_first}
 use Rattle.std.proofs.lemmas.Slice.Eq.{bytes_eq-Decides}
 use Rattle.edf_fields.specs.Onsets.{onset_of}
-use Rattle.edf_fields.proofs.ForCallers.{onset_of_spelled, onset_of_some, onset_bytes_from}
+use Rattle.edf_fields.proofs.ForCallers.{onset_of_spelled, onset_of_some, onset_bytes_from, and-true}
 use Rattle.edfclaim.specs.Timekeeping.{KeepsTime, are_zeros, is_end, is_rest, time_of}
-use Rattle.edfclaim.proofs.ListFacts.{and-true}
 
 -- zeros, as a list and as a test
 zeros-pass : (n : ℕ) → are_zeros (replicate n 0) ≡ true

@@ -3,7 +3,7 @@ use Rattle.std.proofs.Common.{◌≡◌, ℕ, zero, suc, Bool, true, false, cond
 use Rattle.std.specs.List.{Contains}
 use Rattle.std.specs.List.Sorted.{IsPermutation}
 use Rattle.std.proofs.lemmas.List.Sorted.{Contains-permutation}
-use Rattle.edfclaim.specs.Lists.{Has}
+use Rattle.edf_fields.specs.Lists.{Has}
 
 pub has-append : {X : Type 0} (xs ys : List X) (x : X) → Has (xs ++ ys) x → Has xs x ⊎ Has ys x
 has-append [] ys x h = inr h
@@ -89,13 +89,6 @@ find-first {X} p (z ∷ xs) x e =
     later {X} p z xs k f rest zero y lt g = let q : z ≡ y = (let i : Some z ≡ Some y = g in cc) in let P : X → Type 0 = λ w. p w ≡ false in subst P q f
     later p z xs k f rest (suc j) y lt g = rest j y (omega (arith, lt)) g
 
-pub and-true : (a b : Bool) → (a && b) ≡ true → (a ≡ true) × (b ≡ true)
-and-true true b h = (refl, h)
-and-true false b h = absurd (let f : false ≡ true = h in cc)
-
-pub both-true : (a b : Bool) → a ≡ true → b ≡ true → (a && b) ≡ true
-both-true a b p q = cc
-
 pub or-cases : (a b : Bool) → (a || b) ≡ true → (a ≡ true) ⊎ (b ≡ true)
 or-cases true b h = inl refl
 or-cases false b h = inr h
@@ -103,10 +96,6 @@ or-cases false b h = inr h
 pub or-true : (a b : Bool) → b ≡ true → (a || b) ≡ true
 or-true true b e = refl
 or-true false b e = e
-
-pub not-true : (a : Bool) → not a ≡ true → a ≡ false
-not-true true h = absurd (let f : false ≡ true = h in cc)
-not-true false h = refl
 
 pub get-within : {X : Type 0} (xs : List X) (i : ℕ) (x : X) → slice_get xs i ≡ Some x → i < length xs
 get-within [] i x e = absurd (let h : None ≡ Some x = e in cc)

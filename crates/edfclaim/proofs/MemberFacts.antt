@@ -3,7 +3,7 @@ use Rattle.std.proofs.Common.{◌≡◌, ℕ, zero, suc, ℤ, pos, ◌+◌, ◌*
 use Rattle.std.proofs.lemmas.Int.{ints}
 use Rattle.std.proofs.lemmas.Bool.{cases_lt}
 use Rattle.edfclaim.specs.declared.sample.Sample.{Sample}
-use Rattle.edfclaim.specs.Lists.{Has}
+use Rattle.edf_fields.specs.Lists.{Has}
 use Rattle.edfclaim.specs.Heads.{Head, samples_at}
 use Rattle.edfclaim.specs.Records.{lane_at}
 use Rattle.edfclaim.specs.Lanes.{digital, digital_value, lane_samples}

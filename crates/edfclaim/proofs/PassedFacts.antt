@@ -7,14 +7,10 @@ use Rattle.edfclaim.specs.declared.fault.Cause.TheVariants.{NoTimekeeping}
 use Rattle.edfclaim.specs.Heads.{Head, head_of, header_bytes, record_bytes}
 use Rattle.edfclaim.specs.Records.{record_at}
 use Rattle.edfclaim.specs.Timekeeping.{StartsAt, start_of, start_at}
-use Rattle.edfclaim.specs.Faults.{first, fault, truncated, no_timekeeping, start_faults, due, record_faults, records_faults, trailing_bytes, records_stage, header_tests, first_fault}
+use Rattle.edfclaim.specs.Faults.{fault, truncated, no_timekeeping, start_faults, due, record_faults, records_faults, trailing_bytes, records_stage, header_tests, first_fault}
+use Rattle.edf_fields.specs.Tests.{first}
 use Rattle.edfclaim.proofs.StartFacts.{start_said}
-
--- tests that all pass
-first-none : (tests more : List (Option Fault)) → first (tests ++ more) ≡ None → (first tests ≡ None) × (first more ≡ None)
-first-none [] more h = (refl, h)
-first-none (None ∷ tests) more h = first-none tests more h
-first-none (Some f ∷ tests) more h = absurd (let e : Some f ≡ None = h in cc)
+use Rattle.edf_fields.proofs.ForCallers.{first-none}
 
 record-passes : (file : List ℕ) (h : Head) (k m j : ℕ) → first (records_faults file h k m) ≡ None → k ≤ j → j < k + m → first (record_faults file h j) ≡ None
 record-passes file h k zero j e low high = absurd (omega arith)

@@ -8,13 +8,14 @@ use Rattle.edfclaim.specs.declared.fault.Fault.{Fault}
 use Rattle.edfclaim.specs.declared.fault.Place.TheVariants.{AtSignal}
 use Rattle.edfclaim.specs.declared.fault.Cause.TheVariants.{DuplicateLabel}
 use Rattle.edfclaim.specs.declared.layout.SignalField.TheVariants as signal
-use Rattle.edfclaim.specs.Lists.{Has}
+use Rattle.edf_fields.specs.Lists.{Has}
 use Rattle.edfclaim.specs.Heads.{SignalHead, Head}
 use Rattle.edfclaim.specs.Samples.{IsChannel}
 use Rattle.edfclaim.specs.Channels.{is_channel_of, label_at, is_repeated, channel_place, HasDistinctChannels}
-use Rattle.edfclaim.specs.Faults.{first, fault, label_fault, labels_faults}
+use Rattle.edfclaim.specs.Faults.{fault, label_fault, labels_faults}
+use Rattle.edf_fields.specs.Tests.{first}
 use Rattle.edfclaim.specs.Views.{signal_view}
-use Rattle.edfclaim.proofs.FirstFacts.{first-passed, first-found}
+use Rattle.edf_fields.proofs.ForCallers.{first-passed, first-found}
 use Rattle.edfclaim.proofs.ListFacts.{has-at, get-within}
 use Rattle.edfclaim.proofs.ChannelFacts.{place-none, tested-channel}
 

@@ -2,7 +2,7 @@
 use Rattle.std.proofs.Common.{◌≡◌, ◌↔◌, ℕ, pos, ◌*ℤ◌, Bool, true, List, [], ◌∷◌, IsTrue, Some, inl, inr, ⊎_elim, refl, sym, ap, ◌∙◌, subst}
 use Rattle.std.specs.List.{list_all}
 use Rattle.edfclaim.specs.declared.file.EdfFile.{EdfFile}
-use Rattle.edfclaim.specs.Lists.{Has}
+use Rattle.edf_fields.specs.Lists.{Has}
 use Rattle.edfclaim.specs.Heads.{samples_at}
 use Rattle.edfclaim.specs.Claims.{Terms}
 use Rattle.edfclaim.specs.Channels.{channel_place}
@@ -13,7 +13,7 @@ use Rattle.edfclaim.specs.Judged.{IsLoaded}
 use Rattle.edfclaim.specs.Loaded.{timed_view}
 use Rattle.edfclaim.specs.Verdicts.{kept_in, samples_in}
 use Rattle.edfclaim.specs.Slow.{match_test, test_at, label_test}
-use Rattle.edfclaim.proofs.ListFacts.{and-true, both-true}
+use Rattle.edf_fields.proofs.ForCallers.{and-true, both-true}
 use Rattle.edfclaim.proofs.PartnerFacts.{match-tested}
 use Rattle.edfclaim.proofs.BridgeFacts.{IsPair, PairMatch, unshifted, list-file, file-list, list-kept, kept-list, pair-kept, pair-exported}
 use Rattle.edfclaim.proofs.FindFacts.{Pair, pair-of}

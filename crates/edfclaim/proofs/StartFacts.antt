@@ -7,13 +7,13 @@ use Rattle.std.specs.Option.{is_some}
 use Rattle.edf_fields.specs.Parts.{part}
 use Rattle.edfclaim.specs.declared.header.Signal.{Signal}
 use Rattle.edfclaim.specs.declared.header.Header.{Header}
-use Rattle.edfclaim.specs.Lists.{Has}
+use Rattle.edf_fields.specs.Lists.{Has}
 use Rattle.edfclaim.specs.Heads.{SignalHead, Head, is_annotations, samples_together, samples_at}
 use Rattle.edfclaim.specs.Records.{lane_in}
 use Rattle.edfclaim.specs.Timekeeping.{KeepsTime, IsAnnotation, StartsAt, are_zeros, time_of, annotation_places, time_of_lanes, start_of}
 use Rattle.edfclaim.specs.Followed.{with_lane}
 use Rattle.edfclaim.specs.Views.{signal_view, header_view}
-use Rattle.edfclaim.proofs.ListFacts.{and-true}
+use Rattle.edf_fields.proofs.ForCallers.{and-true}
 use Rattle.edfclaim.proofs.KeepsFacts.{time_kept}
 use Rattle.edfclaim.proofs.SignalFacts.{samples-here, together-next}
 

@@ -6,7 +6,7 @@ use Rattle.std.proofs.lemmas.Int.{ints}
 use Rattle.std.proofs.lemmas.List.{take-append-drop}
 use Rattle.std.proofs.lemmas.Bool.{cases_lt}
 use Rattle.std.proofs.lemmas.Bool.Decides.{Decides-int_eq}
-use Rattle.edf_fields.proofs.ForCallers.{part-append}
+use Rattle.edf_fields.proofs.ForCallers.{part-append, alone}
 use Rattle.edfclaim.specs.declared.fault.Place.TheVariants.{AtRecord}
 use Rattle.edfclaim.specs.declared.fault.Cause.TheVariants.{NotContiguous}
 use Rattle.edfclaim.specs.declared.judge_record.Progress.{Progress}
@@ -14,9 +14,9 @@ use Rattle.edfclaim.specs.Followed.{Follows}
 use Rattle.edfclaim.specs.Heads.{Head, header_bytes, record_bytes}
 use Rattle.edfclaim.specs.Records.{record_at}
 use Rattle.edfclaim.specs.Timekeeping.{start_of, start_at}
-use Rattle.edfclaim.specs.Faults.{first, fault, due, start_faults, no_timekeeping, start_fault}
+use Rattle.edfclaim.specs.Faults.{fault, due, start_faults, no_timekeeping, start_fault}
+use Rattle.edf_fields.specs.Tests.{first}
 use Rattle.edfclaim.specs.Judged.{IsContiguous}
-use Rattle.edfclaim.proofs.FirstFacts.{alone}
 use Rattle.edfclaim.proofs.RisingFacts.{AreRising}
 
 pub contiguous-rising : (file : List ℕ) (h : Head) (first : ℤ) (n : ℕ) → IsContiguous file h first n → AreRising (start_at file h) h.duration n

@@ -7,7 +7,7 @@ use Rattle.edfclaim.specs.declared.claim.Interval.{Interval}
 use Rattle.edfclaim.specs.declared.difference.Mismatch.{Mismatch}
 use Rattle.edfclaim.specs.declared.difference.Mismatch.TheVariants.{Missing, Extra, Value}
 use Rattle.edfclaim.specs.Instants.{IsSame}
-use Rattle.edfclaim.specs.Lists.{Has}
+use Rattle.edf_fields.specs.Lists.{Has}
 use Rattle.edfclaim.specs.Heads.{Head}
 use Rattle.edfclaim.specs.Channels.{HasChannel}
 use Rattle.edfclaim.specs.Keeps.{KeepsInstant}

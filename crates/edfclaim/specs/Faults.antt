@@ -18,12 +18,7 @@ use Rattle.edfclaim.specs.Channels.{is_repeated}
 use Rattle.edfclaim.specs.Records.{record_at}
 use Rattle.edfclaim.specs.Timekeeping.{StartsAt, start_of, start_at}
 use Rattle.edfclaim.specs.Heads.{SignalHead, Head, signals_of, head_of, is_annotations, header_bytes, record_bytes}
-
--- the first test that fails: each test is none, or the fault that it finds
-abbrev pub first : List (Option Fault) → Option Fault
-first [] = None
-first (None ∷ tests) = first tests
-first (Some fault ∷ tests) = Some fault
+use Rattle.edf_fields.specs.Tests.{first}
 
 -- a test that found this
 abbrev pub fault : Place → Cause → Option Fault

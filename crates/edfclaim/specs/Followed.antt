@@ -3,7 +3,8 @@ use Rattle.std.specs.Prelude.{◌≡◌, ℕ, ℤ, ◌<◌, ◌^◌, ◌+ℤ◌,
 use Rattle.edfclaim.specs.declared.judge_record.Progress.{Progress}
 use Rattle.edfclaim.specs.Heads.{Head}
 use Rattle.edfclaim.specs.Timekeeping.{are_zeros, time_of, start_of}
-use Rattle.edfclaim.specs.Faults.{first, start_faults}
+use Rattle.edfclaim.specs.Faults.{start_faults}
+use Rattle.edf_fields.specs.Tests.{first}
 
 -- where the first data record starts, with one more that starts here
 abbrev pub first_start : Progress → ℤ → ℤ

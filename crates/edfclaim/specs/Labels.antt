@@ -1,6 +1,6 @@
 -- Labels in the order of their bytes.
 use Rattle.std.specs.Prelude.{◌≡◌, ◌<◌, ◌≤◌, ℕ, Bool, true, false, nat_lt, nat_eq, if◌then◌else◌, List, [], ◌∷◌, slice_get, Option, Some, None, ◌⊎◌}
-use Rattle.edfclaim.specs.Lists.{Has}
+use Rattle.edf_fields.specs.Lists.{Has}
 
 -- the first label isn't above the second one: it begins the second, or has the smaller byte where they
 -- first differ

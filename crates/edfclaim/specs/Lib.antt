@@ -1,4 +1,3 @@
-pub mod Lists
 pub mod Labels
 pub mod Instants
 pub mod Differences

@@ -6,7 +6,7 @@ use Rattle.edfclaim.specs.declared.verdict.Verdict.{Verdict}
 use Rattle.edfclaim.specs.declared.verdict.Verdict.TheVariants.{Yes, No}
 use Rattle.edfclaim.specs.declared.verdict.Difference.TheVariants.{OriginalFault, ExportFault, UnknownChannel, MissingChannel, ExtraChannel, Sample}
 use Rattle.edfclaim.specs.Instants.{IsBefore, IsSame}
-use Rattle.edfclaim.specs.Lists.{Has}
+use Rattle.edf_fields.specs.Lists.{Has}
 use Rattle.edfclaim.specs.Labels.{IsNotAbove}
 use Rattle.edfclaim.specs.Heads.{Head, head_of}
 use Rattle.edfclaim.specs.Samples.{IsSample}

@@ -2,7 +2,7 @@
 
 ghost use Rattle.std.specs.Prelude.{◌≡◌, ℕ, ◌<◌, ◌≤◌, ◌^◌, ◌*ℤ◌, ◌≤ℤ◌, ◌<ℤ◌, ◌↔◌, pos, length, map, IfOk, IsTrue, [], ◌∷◌, List, nat_eq, unsigned_abs};
 ghost use Rattle.std.specs.List.{All};
-ghost use Rattle.edfclaim.specs.Lists.{AreDistinct};
+ghost use Rattle.edf_fields.specs.Lists.{AreDistinct};
 ghost use Rattle.edfclaim.specs.Keeps.{IsWithin, is_within, KeepsInstant, keeps_instant};
 ghost use Rattle.edfclaim.specs.Claims.{Terms};
 

@@ -5,7 +5,8 @@ ghost use Rattle.edf_fields.specs.Sources.{Rises};
 ghost use Rattle.edfclaim.specs.Stops.{Stops};
 ghost use Rattle.edfclaim.specs.Heads.{head_of, header_bytes, record_bytes};
 ghost use Rattle.edfclaim.specs.Views.{signal_view, header_view};
-ghost use Rattle.edfclaim.specs.Faults.{first, first_fault, fixed_stage, columns_stage, header_tests, records_faults, trailing_bytes};
+ghost use Rattle.edfclaim.specs.Faults.{first_fault, fixed_stage, columns_stage, header_tests, records_faults, trailing_bytes};
+ghost use Rattle.edf_fields.specs.Tests.{first};
 ghost use Rattle.edfclaim.specs.Judged.{SaysFixed, SaysSignals, IsModest, IsContiguous, IsLoaded};
 
 use crate::append::append;

@@ -3,7 +3,7 @@
 ghost use Rattle.std.specs.Prelude.{◌≡◌, ℕ, ◌*◌, ◌<◌, ◌≤◌, ◌^◌, List, length, map, pos, IfOk, MatchOption};
 ghost use Rattle.std.specs.List.Sorted.{IsPermutation};
 ghost use Rattle.edfclaim.specs.Labels.{AreRising};
-ghost use Rattle.edfclaim.specs.Lists.{Has};
+ghost use Rattle.edf_fields.specs.Lists.{Has};
 ghost use Rattle.edfclaim.specs.Channels.{HasChannel, HasAll, IsFirstAbsent, IsLeastUnlisted};
 ghost use Rattle.edfclaim.specs.Exports.{floor_of, SameChannels};
 ghost use Rattle.edfclaim.specs.Views.{header_view};

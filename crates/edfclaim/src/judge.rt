@@ -10,7 +10,8 @@ ghost use Rattle.edfclaim.specs.Heads.{record_bytes};
 ghost use Rattle.edfclaim.specs.Channels.{HasDistinctChannels};
 ghost use Rattle.edfclaim.specs.Views.{signal_view, header_view};
 ghost use Rattle.std.specs.List.{All};
-ghost use Rattle.edfclaim.specs.Faults.{first, fixed_missing, fixed_faults, fixed_stage, reserved_fault, columns_missing, columns_stage, signals_faults, no_annotation_signal, no_ordinary_signal, labels_faults, record_too_large, joint_faults};
+ghost use Rattle.edfclaim.specs.Faults.{fixed_missing, fixed_faults, fixed_stage, reserved_fault, columns_missing, columns_stage, signals_faults, no_annotation_signal, no_ordinary_signal, labels_faults, record_too_large, joint_faults};
+ghost use Rattle.edf_fields.specs.Tests.{first};
 
 use crate::channels::is_repeated;
 use crate::fault::{Cause, Fault, Place};

@@ -3,7 +3,8 @@
 ghost use Rattle.std.specs.Prelude.{◌≡◌, ◌<◌, ◌^◌, ◌+ℤ◌, length, None, Some, MatchResult, unsigned_abs};
 ghost use Rattle.edfclaim.specs.Heads.{record_bytes};
 ghost use Rattle.edfclaim.specs.Timekeeping.{start_of};
-ghost use Rattle.edfclaim.specs.Faults.{first, no_timekeeping, start_fault, start_faults};
+ghost use Rattle.edfclaim.specs.Faults.{no_timekeeping, start_fault, start_faults};
+ghost use Rattle.edf_fields.specs.Tests.{first};
 ghost use Rattle.edfclaim.specs.Views.{header_view};
 ghost use Rattle.edfclaim.specs.Judged.{IsModest};
 ghost use Rattle.edfclaim.specs.Followed.{first_start, Follows};

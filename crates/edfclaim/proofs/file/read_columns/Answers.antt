@@ -1,7 +1,8 @@
 use Rattle.std.proofs.Common.{◌≡◌, ◌++◌, ◌≤◌, ◌+◌, ◌*◌, ◌⊎◌, [], Some, IsTrue, length, ap, ◌∙◌, sym, arith, inl, inr}
 use Rattle.std.proofs.lemmas.Result.{err_from_is_err_and}
 use Rattle.edf_fields.specs.Sources.{Rises}
-use Rattle.edfclaim.specs.Faults.{first, columns_stage}
+use Rattle.edfclaim.specs.Faults.{columns_stage}
+use Rattle.edf_fields.specs.Tests.{first}
 use Rattle.edfclaim.proofs.FirstFacts.{stops-weaker}
 use Rattle.edfclaim.proofs.BehindFacts.{came-or-ended, columns_stage-read}
 use Rattle.edfclaim.proofs.file.read_columns.Goals as goal

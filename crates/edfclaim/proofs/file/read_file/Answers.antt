@@ -2,7 +2,8 @@ use Rattle.std.proofs.Common.{◌≡◌, ◌++◌, ◌∙◌, sym, Some, IsTrue,
 use Rattle.std.proofs.lemmas.Result.{err_from_is_err_and}
 use Rattle.edf_fields.specs.Sources.{Rises}
 use Rattle.edfclaim.specs.Views.{header_view}
-use Rattle.edfclaim.specs.Faults.{first, records_faults, trailing_bytes, header_tests, first_fault}
+use Rattle.edfclaim.specs.Faults.{records_faults, trailing_bytes, header_tests, first_fault}
+use Rattle.edf_fields.specs.Tests.{first}
 use Rattle.edfclaim.proofs.FirstFacts.{stops-weaker}
 use Rattle.edfclaim.proofs.FileFacts.{file-header, file-records, file-end}
 use Rattle.edfclaim.proofs.file.read_file.Goals as goal

@@ -1,6 +1,7 @@
 use Rattle.std.proofs.Common.{◌≡◌, ◌++◌, ◌≤◌, ◌+◌, ◌⊎◌, [], IsTrue, length, ap, ◌∙◌, sym, arith}
 use Rattle.std.proofs.lemmas.Result.{err_from_is_err_and}
-use Rattle.edfclaim.specs.Faults.{first, fixed_stage}
+use Rattle.edfclaim.specs.Faults.{fixed_stage}
+use Rattle.edf_fields.specs.Tests.{first}
 use Rattle.edfclaim.proofs.BehindFacts.{came-or-ended, came-at_most, fixed_stage-read}
 use Rattle.edfclaim.proofs.file.read_fixed.Goals as goal
 

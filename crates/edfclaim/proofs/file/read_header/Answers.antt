@@ -4,7 +4,8 @@ use Rattle.edfclaim.specs.declared.header.Signal.{Signal}
 use Rattle.edfclaim.specs.Judged.{SaysSignals}
 use Rattle.std.proofs.lemmas.Result.{err_from_is_err_and}
 use Rattle.edf_fields.specs.Sources.{Rises}
-use Rattle.edfclaim.specs.Faults.{first, columns_stage, header_tests}
+use Rattle.edfclaim.specs.Faults.{columns_stage, header_tests}
+use Rattle.edf_fields.specs.Tests.{first}
 use Rattle.edfclaim.proofs.FirstFacts.{stops-weaker}
 use Rattle.edfclaim.proofs.FileFacts.{header-found, head-is, header-together}
 use Rattle.edfclaim.proofs.file.read_header.Goals as goal

@@ -4,7 +4,8 @@ use Rattle.std.proofs.lemmas.Result.{err_from_is_err_and}
 use Rattle.edfclaim.specs.Heads.{header_bytes, record_bytes, samples_together}
 use Rattle.edfclaim.specs.Records.{record_at}
 use Rattle.edfclaim.specs.Timekeeping.{start_of}
-use Rattle.edfclaim.specs.Faults.{first, due, start_faults}
+use Rattle.edfclaim.specs.Faults.{due, start_faults}
+use Rattle.edf_fields.specs.Tests.{first}
 use Rattle.edfclaim.specs.Followed.{Follows}
 use Rattle.edfclaim.specs.Views.{signal_view, header_view}
 use Rattle.edfclaim.proofs.FileFacts.{record-broken, record-found, record-passed, record-judged}

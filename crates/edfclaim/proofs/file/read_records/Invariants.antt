@@ -1,6 +1,7 @@
 use Rattle.std.proofs.Common.{◌≡◌, ◌+◌, ◌-◌, ◌*◌, ◌++◌, length, IsTrue}
 use Rattle.edfclaim.specs.Heads.{header_bytes, record_bytes}
-use Rattle.edfclaim.specs.Faults.{first, due, records_faults}
+use Rattle.edfclaim.specs.Faults.{due, records_faults}
+use Rattle.edf_fields.specs.Tests.{first}
 use Rattle.edfclaim.specs.Views.{header_view}
 use Rattle.edfclaim.specs.Judged.{IsContiguous}
 use Rattle.edfclaim.proofs.file.read_records.Given as goal

@@ -1,5 +1,6 @@
 use Rattle.std.proofs.Common.{◌≡◌, ◌-◌, length, map}
-use Rattle.edfclaim.specs.Faults.{first, labels_faults}
+use Rattle.edfclaim.specs.Faults.{labels_faults}
+use Rattle.edf_fields.specs.Tests.{first}
 use Rattle.edfclaim.specs.Views.{signal_view}
 use Rattle.edfclaim.proofs.judge.distinct_labels.Given as goal
 

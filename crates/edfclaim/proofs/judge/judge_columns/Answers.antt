@@ -1,8 +1,10 @@
 use Rattle.std.proofs.Common.{◌≡◌, ◌∙◌, Some, length}
 use Rattle.std.proofs.lemmas.Result.{IfOk-weaker, IfErr-weaker}
 use Rattle.edfclaim.specs.Layout.{columns}
-use Rattle.edfclaim.specs.Faults.{first, columns_missing, signals_faults, columns_stage}
-use Rattle.edfclaim.proofs.FirstFacts.{first-passed, first-found, stops-weaker}
+use Rattle.edfclaim.specs.Faults.{columns_missing, signals_faults, columns_stage}
+use Rattle.edf_fields.specs.Tests.{first}
+use Rattle.edfclaim.proofs.FirstFacts.{stops-weaker}
+use Rattle.edf_fields.proofs.ForCallers.{first-passed, first-found}
 use Rattle.edfclaim.proofs.judge.judge_columns.Goals as goal
 
 pub returns-in-Some-clause-stop : goal.returns-in-Some-clause-stop

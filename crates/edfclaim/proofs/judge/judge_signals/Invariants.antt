@@ -1,7 +1,8 @@
 use Rattle.std.proofs.Common.{◌≡◌, ◌-◌, ◌^◌, ◌<◌, ◌≤◌, ◌++◌, length, map}
 use Rattle.std.specs.List.{All}
 use Rattle.edfclaim.specs.Heads.{signals_from}
-use Rattle.edfclaim.specs.Faults.{first, signals_faults}
+use Rattle.edfclaim.specs.Faults.{signals_faults}
+use Rattle.edf_fields.specs.Tests.{first}
 use Rattle.edfclaim.specs.Views.{signal_view}
 use Rattle.edfclaim.proofs.judge.judge_signals.Given as goal
 
