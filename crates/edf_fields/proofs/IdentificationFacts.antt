@@ -1,17 +1,15 @@
 -- What an identification field says, from the tests that it passes.
-use Rattle.std.proofs.Common.{◌≡◌, ◌≢◌, ℕ, Bool, true, false, not, ◌-◌, ◌≤◌, List, [], ◌∷◌, length, get_or, drop, arith, refl, ap, ◌∙◌, sym, subst, Option, Some, None, nat_le, cond, All, ◌&&◌, ◌==◌, codes}
+use Rattle.std.proofs.Common.{◌≡◌, ◌≢◌, ℕ, Bool, true, false, not, ◌-◌, ◌≤◌, List, [], ◌∷◌, length, get_or, drop, arith, refl, ap, ◌∙◌, sym, subst, None, nat_le, cond, ◌&&◌, ◌==◌, codes}
 use Rattle.std.specs.Bool.{Decides}
 use Rattle.std.specs.List.{list_all}
 use Rattle.std.specs.Str.{bytes_eq}
-use Rattle.std.proofs.lemmas.Bool.Decides.{Decides-and, Decides-or, Decides-not, Decides-eqb, Decides-by_and, nat_tests}
+use Rattle.std.proofs.lemmas.Bool.Decides.{Decides-or, Decides-not, Decides-eqb, nat_tests}
 use Rattle.std.proofs.lemmas.Grind.{common_steps}
 use Rattle.std.proofs.lemmas.Slice.Eq.{bytes_eq-Decides}
 use Rattle.edf_fields.specs.Identifications.{ListsSubfields, IsSex, IsDateOrX, Patient, SaysPatient, Recording, SaysRecording, is_sex, is_date_or_x, subfield, field_cause, patient_cause, recording_cause, SaysOnePatient, SaysOneRecording, SaysPatientOrCause, SaysRecordingOrCause}
 use Rattle.edf_fields.specs.Parts.{text_of}
 use Rattle.edf_fields.specs.Printable.{is_printable}
 use Rattle.edf_fields.specs.Subfields.{subfields_of}
-use Rattle.edf_fields.specs.Tests.{first, unless}
-use Rattle.edf_fields.specs.declared.cause.FieldCause.{FieldCause}
 use Rattle.edf_fields.specs.declared.cause.FieldCause.TheVariants.{NotPrintable, LeadingSpace, TooFewSubfields, BadSex, BadDate, NoStartdateWord}
 use Rattle.edf_fields.proofs.DateFacts.{le_decided, dashed_day_decided}
 use Rattle.edf_fields.proofs.PrintableFacts.{printable_decided}

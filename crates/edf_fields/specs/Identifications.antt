@@ -1,5 +1,5 @@
 -- What the two identification fields of a header say (EDF+, "Additional specifications in EDF+").
-use Rattle.std.specs.Prelude.{◌≡◌, ◌≢◌, ℕ, ℤ, Bool, not, Option, None, nat_le, ◌&&◌, ◌||◌, ◌==◌, ◌≤◌, List, [], ◌∷◌, ◌⊎◌, ◌↔◌, length, slice_index, slice_get, unwrap_or, is_some, codes, All}
+use Rattle.std.specs.Prelude.{◌≡◌, ◌≢◌, ℕ, ℤ, Bool, not, Option, None, nat_le, ◌||◌, ◌==◌, List, [], ◌∷◌, ◌⊎◌, ◌↔◌, length, slice_index, slice_get, unwrap_or, is_some, codes}
 use Rattle.std.specs.List.{list_all}
 use Rattle.std.specs.Str.{bytes_eq}
 use Rattle.edf_fields.specs.Dates.{NamesDashedDay, dashed_day_of}

@@ -12,7 +12,6 @@ pub fn fields_spell_one_number()
 {}
 
 /// The number that is read of a field is the one that the field spells.
-#[tactic(auto, using(crate::proofs::NumberFacts::header_number_is_spelled, crate::proofs::NumberFacts::whole_number_is_spelled))]
 pub fn numbers_are_as_spelled()
     ensures header { HeaderNumberIsSpelled }
     ensures whole { WholeNumberIsSpelled }
@@ -25,7 +24,6 @@ pub fn texts_spell_one_time()
 {}
 
 /// The time that is read of a text is the one that the text spells.
-#[tactic(auto, using(crate::proofs::OnsetFacts::onset_is_spelled, crate::proofs::OnsetFacts::span_is_spelled))]
 pub fn times_are_as_spelled()
     ensures onset { OnsetIsSpelled }
     ensures span { SpanIsSpelled }
@@ -40,7 +38,6 @@ pub fn texts_name_one_day()
 {}
 
 /// The day, and the time of the day, that are read of a text are those that the text names.
-#[tactic(auto, using(crate::proofs::DateFacts::dotted_day_is_named, crate::proofs::DateFacts::dashed_day_is_named, crate::proofs::DateFacts::clock_time_is_named))]
 pub fn days_are_as_named()
     ensures dotted { DottedDayIsNamed }
     ensures dashed { DashedDayIsNamed }

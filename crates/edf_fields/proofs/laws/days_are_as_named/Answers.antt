@@ -1,0 +1,11 @@
+use Rattle.edf_fields.proofs.DateFacts.{dotted_day_is_named, dashed_day_is_named, clock_time_is_named}
+use Rattle.edf_fields.proofs.laws.days_are_as_named.Goals as goal
+
+pub returns-clause-dotted : goal.returns-clause-dotted
+returns-clause-dotted c = dotted_day_is_named
+
+pub returns-clause-dashed : goal.returns-clause-dashed
+returns-clause-dashed c = dashed_day_is_named
+
+pub returns-clause-clock : goal.returns-clause-clock
+returns-clause-clock c = clock_time_is_named
