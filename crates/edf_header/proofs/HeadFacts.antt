@@ -386,24 +386,24 @@ sound-head file h =
     let small = together.small in
     record {
       standard = record {
-      patient = patient.written;
-      date = recording.date;
-      same_day = λ m named. same-day date (dotted_day_of (text_of (fixed_field front fixed.Startdate))) m (startdate-passed date (fixed_field front fixed.Startdate) p.startdate) named;
-      some_records = some-count (fixed_field front fixed.Records) records.0 records.1 records.2;
-      some_time = some-time (fixed_field front fixed.Duration) duration.0 duration.1 duration.2;
-      annotations = together.annotations;
-      channel = together.channel;
-      distinct = together.distinct;
-      signals = signals-sound bytes n 0 0 n c1.0;
-      offsets = side-by-side bytes n 0 0 n;
-      small_record = omega (arith, small);
+        patient = patient.written;
+        date = recording.date;
+        same_day = λ m named. same-day date (dotted_day_of (text_of (fixed_field front fixed.Startdate))) m (startdate-passed date (fixed_field front fixed.Startdate) p.startdate) named;
+        some_records = some-count (fixed_field front fixed.Records) records.0 records.1 records.2;
+        some_time = some-time (fixed_field front fixed.Duration) duration.0 duration.1 duration.2;
+        annotations = together.annotations;
+        channel = together.channel;
+        distinct = together.distinct;
+        signals = signals-sound bytes n 0 0 n c1.0;
+        offsets = side-by-side bytes n 0 0 n;
+        small_record = omega (arith, small);
       };
       bounds = record {
-      near = near-day (fixed_field front fixed.Startdate) day.0 day.1;
-      early = early-time (fixed_field front fixed.Starttime) clock.0 clock.1;
-      few_records = few-count front 236 8 records.0 records.1;
-      little_time = little-time (fixed_field front fixed.Duration) duration.0 duration.1;
-      few_signals = subst (λ k. k < 10 ^ 4) (sym long) few;
+        near = near-day (fixed_field front fixed.Startdate) day.0 day.1;
+        early = early-time (fixed_field front fixed.Starttime) clock.0 clock.1;
+        few_records = few-count front 236 8 records.0 records.1;
+        little_time = little-time (fixed_field front fixed.Duration) duration.0 duration.1;
+        few_signals = subst (λ k. k < 10 ^ 4) (sym long) few;
       };
     }
 

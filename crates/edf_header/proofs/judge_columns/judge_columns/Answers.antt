@@ -31,8 +31,11 @@ returns-in_err-record_bytes-clause-stop c =
     let p = err_from_is_err_and c.from_residual-in_err-record_bytes.result c.from_residual-in_err-record_bytes.ensures.1 in
     let bytes = c.args.columns.bytes.now in
     let n = c.args.columns.signals in
-    rw (p.1, p.2) (joint-left n bytes c.in_default.ensures.0 c.in_ok-signals.ensures.ok.0
-    ∙ rw (c.deref.ensures.value, c.in_ok-signals.ensures.ok.1) at c.in_err-record_bytes.ensures, tt)
+    rw (p.1, p.2) (
+      joint-left n bytes c.in_default.ensures.0 c.in_ok-signals.ensures.ok.0
+          ∙ rw (c.deref.ensures.value, c.in_ok-signals.ensures.ok.1) at c.in_err-record_bytes.ensures,
+      tt,
+    )
 
 pub returns-clause-ok : goal.returns-clause-ok
 returns-clause-ok c =
