@@ -157,7 +157,7 @@ pub items_of-front : (s rest : List ℕ) → Lacks 0 s → 0 < length s → item
 unfolding items_of
 items_of-front s rest l h = ap items_of_pieces (split-lacks 0 s rest refl l) ∙ pieces-cons s (pieces 0 rest) (split-pos rest) (not_nil s h)
 
-zeros-read : (lane : List ℕ) → are_zeros lane ≡ true → items_of lane ≡ []
+pub zeros-read : (lane : List ℕ) → are_zeros lane ≡ true → items_of lane ≡ []
 zeros-read [] h = items_of-nil
 zeros-read (b ∷ bs) h =
     let first : b ≡ 0 = eqb-true b 0 (and_true (b == 0) _ h).0 in

@@ -2,14 +2,14 @@
 use Rattle.std.proofs.Common.{◌≡◌, ◌↔◌, ◌⊎◌, ℕ, zero, suc, ℤ, ◌<◌, List, [], ◌∷◌, ◌++◌, map, length, refl, sym, ◌∙◌, ap, arith, inl, inr, Result, Ok, Err}
 use Rattle.std.proofs.lemmas.List.{length-append}
 use Rattle.edf_fields.specs.declared.cause.TalCause.{TalCause}
-use Rattle.edf_tal.specs.Tals.{TalValue, StartsAt}
+use Rattle.edf_tal.specs.Tals.{TalValue, SpellsTal, StartsAt, BeginsSilent, KeepsNoTime}
 use Rattle.edf_tal.specs.Reading.{Item, onto, tal_of, items_of}
 use Rattle.edf_tal.specs.Faults.{HasFault, HasListOrFault}
 use Rattle.edf_tal.specs.Views.{kept_time, start_of}
 use Rattle.edf_tal.specs.declared.start.StartCause.{StartCause}
 use Rattle.edf_tal.specs.declared.start.StartCause.TheVariants as start
 use Rattle.edf_tal.proofs.LawFacts.{lane-cases, lane-spelled, tal-spelled}
-use Rattle.edf_tal.proofs.ReadFacts.{items_of-front, tal-lacks, tal-some, tal-read}
+use Rattle.edf_tal.proofs.ReadFacts.{zeros-read, items_of-front, tal-lacks, tal-some, tal-read}
 use Rattle.edf_tal.proofs.FaultFacts.{fault-read, fault-told}
 
 -- the items of a lane are TALs, or TALs and a cause behind them
@@ -62,12 +62,14 @@ start-said lane v h = elim (lane-cases lane) [
   | inr (inr more) ↦ started lane more.0 more.1 v (tal_of more.0) refl more.2 more.3 (sym (ap start_of more.4) ∙ h)
 ]
 
+-- the TAL that a lane begins with is its first item
+first-item : (lane bytes rest : List ℕ) (tal : TalValue) → SpellsTal bytes tal → lane ≡ bytes ++ 0 ∷ rest → items_of lane ≡ Ok tal ∷ items_of rest
+first-item lane bytes rest tal spelled whole =
+    ap items_of whole ∙ items_of-front bytes rest (tal-lacks bytes tal spelled) (tal-some bytes tal spelled)
+    ∙ ap (λ i. onto i (items_of rest)) (tal-read bytes tal spelled)
+
 start-read : (lane : List ℕ) (v : ℤ) → StartsAt lane v → start_of (items_of lane) ≡ Ok v
-start-read lane v s =
-    let items : items_of lane ≡ Ok s.tal ∷ items_of s.rest =
-    ap items_of s.whole ∙ items_of-front s.bytes s.rest (tal-lacks s.bytes s.tal s.spelled) (tal-some s.bytes s.tal s.spelled)
-    ∙ ap (λ i. onto i (items_of s.rest)) (tal-read s.bytes s.tal s.spelled) in
-    ap start_of items ∙ ap (kept_time s.tal.onset) s.empty ∙ ap Ok s.onset
+start-read lane v s = ap start_of (first-item lane s.bytes s.rest s.tal s.spelled s.whole) ∙ ap (kept_time s.tal.onset) s.empty ∙ ap Ok s.onset
 
 refused : (lane rest : List ℕ) (cause : TalCause) (i : Item) → items_of lane ≡ onto i (items_of rest) → start_of (onto i (items_of rest)) ≡ Err (start.Tal cause) → items_of lane ≡ Err cause ∷ []
 refused lane rest cause (Err e) is h = is ∙ (let same : e ≡ cause = (let z : Err (start.Tal e) ≡ Err (start.Tal cause) = h in cc) in ap (λ x. Err x ∷ []) same)
@@ -90,3 +92,32 @@ start-fails r lane cause e = (
   λ h. fault-told [] cause lane (fault-items lane cause (sym e ∙ h)),
   λ f. e ∙ ap start_of (fault-read [] cause lane f),
 )
+
+-- ---- a lane that keeps no time
+
+kept-silent : (onset : ℤ) (texts more : List (List ℕ)) → kept_time onset texts ≡ Err start.NoTimekeeping → texts ≡ [] ∷ more → ⊥
+kept-silent onset texts more h e = let z : Ok onset ≡ Err start.NoTimekeeping = sym (ap (kept_time onset) e) ∙ h in cc
+
+silent-kept : (onset : ℤ) (texts : List (List ℕ)) → ((more : List (List ℕ)) → texts ≡ [] ∷ more → ⊥) → kept_time onset texts ≡ Err start.NoTimekeeping
+silent-kept onset [] h = refl
+silent-kept onset ([] ∷ texts) h = absurd (h texts refl)
+silent-kept onset ((b ∷ text) ∷ texts) h = refl
+
+begun-silent : (lane piece rest : List ℕ) (i : Item) → tal_of piece ≡ i → 0 < length piece → lane ≡ piece ++ 0 ∷ rest → start_of (onto i (items_of rest)) ≡ Err start.NoTimekeeping → BeginsSilent lane
+begun-silent lane piece rest (Err cause) e some whole h = absurd (let z : Err (start.Tal cause) ≡ Err start.NoTimekeeping = h in cc)
+begun-silent lane piece rest (Ok tal) e some whole h =
+    record { bytes = piece; rest = rest; tal = tal; spelled = tal-spelled piece tal some e; whole = whole; silent = λ more is. kept-silent tal.onset tal.texts more h is }
+
+silence-said : (lane : List ℕ) → start_of (items_of lane) ≡ Err start.NoTimekeeping → KeepsNoTime lane
+silence-said lane h = elim (lane-cases lane) [
+  | inl zeros ↦ inl zeros.0
+  | inr (inl fault) ↦ absurd (let z : Err (start.Tal fault.0) ≡ Err start.NoTimekeeping = sym (ap start_of fault.1) ∙ h in cc)
+  | inr (inr more) ↦ inr (begun-silent lane more.0 more.1 (tal_of more.0) refl more.2 more.3 (sym (ap start_of more.4) ∙ h))
+]
+
+silence-read : (lane : List ℕ) → KeepsNoTime lane → start_of (items_of lane) ≡ Err start.NoTimekeeping
+silence-read lane (inl zeros) = ap start_of (zeros-read lane zeros)
+silence-read lane (inr s) = ap start_of (first-item lane s.bytes s.rest s.tal s.spelled s.whole) ∙ silent-kept s.tal.onset s.tal.texts s.silent
+
+pub keeps-no-time : (r : Result ℤ StartCause) (lane : List ℕ) → r ≡ start_of (items_of lane) → (r ≡ Err start.NoTimekeeping) ↔ KeepsNoTime lane
+keeps-no-time r lane e = (λ h. silence-said lane (sym e ∙ h), λ s. e ∙ silence-read lane s)

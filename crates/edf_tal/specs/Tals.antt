@@ -1,6 +1,6 @@
 -- Time-stamped annotation lists (TALs), as they are spelled. EDF+ (2003), "Time-stamped Annotations Lists
 -- (TALs) in an 'EDF Annotations' signal".
-use Rattle.std.specs.Prelude.{◌≡◌, ℕ, Bool, true, false, not, ◌&&◌, ◌||◌, ◌==◌, nat_lt, ℤ, List, [], ◌∷◌, ◌++◌, Option, Some, None, IsUtf8}
+use Rattle.std.specs.Prelude.{◌≡◌, ◌≢◌, ◌⊎◌, ℕ, Bool, true, false, not, ◌&&◌, ◌||◌, ◌==◌, nat_lt, ℤ, List, [], ◌∷◌, ◌++◌, Option, Some, None, IsUtf8}
 use Rattle.std.specs.List.{list_any, list_all, flat_map}
 use Rattle.edf_fields.specs.Onsets.{SpellsOnset, SpellsSpan}
 
@@ -61,6 +61,20 @@ pub record StartsAt (lane : List ℕ) (v : ℤ) : Type 0 where
   pub whole : lane ≡ bytes ++ 0 ∷ rest
   pub empty : tal.texts ≡ [] ∷ more
   pub onset : tal.onset ≡ v
+
+-- the lane begins with a TAL that has no text, or a first text that isn't empty
+pub record BeginsSilent (lane : List ℕ) : Type 0 where
+  pub bytes : List ℕ
+  pub rest : List ℕ
+  pub tal : TalValue
+  pub spelled : SpellsTal bytes tal
+  pub whole : lane ≡ bytes ++ 0 ∷ rest
+  pub silent : (more : List (List ℕ)) → tal.texts ≢ [] ∷ more
+
+-- the lane doesn't say where its data record starts, and has no fault there: it is zeros alone, or begins
+-- with a TAL whose first text isn't the empty one. EDF+ (2003), "Time keeping of data records"
+abbrev pub KeepsNoTime : List ℕ → Type 0
+KeepsNoTime lane = (are_zeros lane ≡ true) ⊎ BeginsSilent lane
 
 -- a lane has at most one list of TALs
 abbrev pub HasOneList : Type 0

@@ -1,5 +1,5 @@
 -- What the code's values say, in the words of the definitions.
-use Rattle.std.specs.Prelude.{ℕ, ℤ, List, [], ◌∷◌, Result, Ok, Err}
+use Rattle.std.specs.Prelude.{ℕ, ℤ, List, [], ◌∷◌, Option, Some, None, Result, Ok, Err}
 use Rattle.edf_fields.specs.declared.cause.TalCause.{TalCause}
 use Rattle.edf_tal.specs.Tals.{TalValue}
 use Rattle.edf_tal.specs.Reading.{Item, texts_of, items_of}
@@ -32,8 +32,17 @@ kept_time onset [] = Err start.NoTimekeeping
 kept_time onset ([] ∷ texts) = Ok onset
 kept_time onset ((b ∷ text) ∷ texts) = Err start.NoTimekeeping
 
--- where a data record starts, by the items of the lane of its first annotation signal: its first TAL alone
+-- where a data record starts, by the first item of the lane of its first annotation signal
+abbrev pub start_by : Option Item → Result ℤ StartCause
+start_by None = Err start.NoTimekeeping
+start_by (Some (Ok tal)) = kept_time tal.onset tal.texts
+start_by (Some (Err cause)) = Err (start.Tal cause)
+
+-- the first item, where there is one
+abbrev pub first_of : List Item → Option Item
+first_of [] = None
+first_of (item ∷ items) = Some item
+
+-- where a data record starts, by the items of that lane: by the first one alone
 abbrev pub start_of : List Item → Result ℤ StartCause
-start_of [] = Err start.NoTimekeeping
-start_of (Ok tal ∷ items) = kept_time tal.onset tal.texts
-start_of (Err cause ∷ items) = Err (start.Tal cause)
+start_of items = start_by (first_of items)

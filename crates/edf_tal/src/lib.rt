@@ -4,6 +4,7 @@
 #![tactic(auto)]
 
 pub mod laws;
+mod piece;
 mod separator;
 pub mod start;
 pub mod tal;

@@ -1,13 +1,15 @@
 //! Where a data record starts. EDF+ (2003), "Time keeping of data records".
 
-ghost use Rattle.std.specs.Prelude.{◌≡◌, ◌↔◌, ℤ, Ok, Err};
+ghost use Rattle.std.specs.Prelude.{◌≡◌, ◌↔◌, ◌<◌, ◌^◌, ℤ, List, Ok, Err, unsigned_abs, IfOk};
+ghost use Rattle.std.specs.Option.{option_map};
 ghost use Rattle.edf_fields.specs.declared.cause.TalCause.{TalCause};
 ghost use Rattle.edf_tal.specs.Faults.{HasFault};
-ghost use Rattle.edf_tal.specs.Reading.{items_of};
-ghost use Rattle.edf_tal.specs.Tals.{StartsAt};
-ghost use Rattle.edf_tal.specs.Views.{start_of};
+ghost use Rattle.edf_tal.specs.Reading.{Item, items_of};
+ghost use Rattle.edf_tal.specs.Tals.{StartsAt, KeepsNoTime};
+ghost use Rattle.edf_tal.specs.Views.{tal_view, item_view, kept_time, first_of, start_by, start_of};
 ghost use Rattle.edf_tal.specs.declared.start.StartCause.TheVariants as start;
 
+use crate::tal::Tal;
 use crate::tals::Tals;
 use edf_fields::cause::TalCause;
 
@@ -20,24 +22,56 @@ pub enum StartCause {
     NoTimekeeping,
 }
 
+/// The onset of a TAL whose first text is empty.
+fn kept_time(tal: &Tal<'_>) -> Result<i128, StartCause>
+    ensures value { result ≡ kept_time (tal_view tal.now).onset (tal_view tal.now).texts }
+    ensures small { IfOk result (λ v. unsigned_abs v < 10 ^ 21) }
+{
+    match tal.texts().next() {
+        None => Err(StartCause::NoTimekeeping),
+        Some(text) => {
+            if text.is_empty() {
+                Ok(tal.onset())
+            } else {
+                Err(StartCause::NoTimekeeping)
+            }
+        }
+    }
+}
+
+/// Where a data record starts, by the first item of its lane.
+fn start_by(first: Option<Result<Tal<'_>, TalCause>>) -> Result<i128, StartCause>
+    ensures value { result ≡ start_by (option_map item_view first.entry) }
+    ensures small { IfOk result (λ v. unsigned_abs v < 10 ^ 21) }
+{
+    match first {
+        Some(Ok(tal)) => kept_time(&tal),
+        Some(Err(cause)) => Err(StartCause::Tal(cause)),
+        None => Err(StartCause::NoTimekeeping),
+    }
+}
+
 /// Where a data record starts, by the first TAL of the lane.
 fn start_in(lane: &[u8]) -> Result<i128, StartCause>
-    ensures { result ≡ start_of (items_of lane.now) }
+    ensures value { result ≡ start_of (items_of lane.now) }
+    ensures small { IfOk result (λ v. unsigned_abs v < 10 ^ 21) }
 {
-    match Tals::new(lane).next() {
-        None => Err(StartCause::NoTimekeeping),
-        Some(Err(cause)) => Err(StartCause::Tal(cause)),
-        Some(Ok(tal)) => match tal.texts().next() {
-            None => Err(StartCause::NoTimekeeping),
-            Some(text) => {
-                if text.is_empty() {
-                    Ok(tal.onset())
-                } else {
-                    Err(StartCause::NoTimekeeping)
-                }
-            }
-        },
-    }
+    start_by(Tals::new(lane).next())
+}
+
+/// Where a data record starts, in picoseconds after the start of the file, by the first item that `Tals`
+/// gives of the lane of its first annotation signal, or by there being none: what `record_start` says of
+/// that lane. EDF+ (2003), "Time keeping of data records".
+///
+/// Who walks over the lane's TALs has the start by their first one, and no TAL is read twice.
+pub fn start_by_first(first: Option<Result<Tal<'_>, TalCause>>) -> Result<i128, StartCause>
+    ensures value { result ≡ start_by (option_map item_view first.entry) }
+
+    // So it is for whatever items this one is the first of, as those of a lane.
+    ensures walk { (items : List Item) → first_of items ≡ option_map item_view first.entry → result ≡ start_of items }
+    ensures small { IfOk result (λ v. unsigned_abs v < 10 ^ 21) }
+{
+    start_by(first)
 }
 
 /// Where a data record starts, in picoseconds after the start of the file, by the lane of its first
@@ -48,7 +82,9 @@ fn start_in(lane: &[u8]) -> Result<i128, StartCause>
 pub fn record_start(lane: &[u8]) -> Result<i128, StartCause>
     ensures start { (v : ℤ) → (result ≡ Ok v) ↔ StartsAt lane.now v }
     ensures fault { (cause : TalCause) → (result ≡ Err (start.Tal cause)) ↔ HasFault lane.now cause }
+    ensures silent { (result ≡ Err start.NoTimekeeping) ↔ KeepsNoTime lane.now }
     ensures value { result ≡ start_of (items_of lane.now) }
+    ensures small { IfOk result (λ v. unsigned_abs v < 10 ^ 21) }
 {
     start_in(lane)
 }

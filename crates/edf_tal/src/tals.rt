@@ -7,8 +7,9 @@ ghost use Rattle.edf_tal.specs.Reading.{items_of};
 ghost use Rattle.edf_tal.specs.Faults.{FaultAfter};
 ghost use Rattle.edf_tal.specs.Views.{item_view, items_left};
 
+use crate::piece::read_tal;
 use crate::separator::cut;
-use crate::tal::{Tal, read_tal};
+use crate::tal::Tal;
 use edf_fields::cause::TalCause;
 
 /// Whether the bytes are zeros alone.
@@ -45,7 +46,7 @@ fn first_item(lane: &[u8]) -> Option<(Result<Tal<'_>, TalCause>, &[u8])>
 
 /// The TALs of a lane, in order (EDF+, "Time-stamped Annotations Lists (TALs) in an 'EDF Annotations'
 /// signal"). An `Err` is the last item.
-#[derive(Clone, Copy, Debug)]
+#[derive(Clone, Debug, Drop)]
 pub struct Tals<'a> {
     rest: &'a [u8],
 }

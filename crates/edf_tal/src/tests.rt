@@ -1,6 +1,6 @@
 //! Lanes by hand: their TALs or first fault, and where their data records start.
 
-use crate::start::{StartCause, record_start};
+use crate::start::{StartCause, record_start, start_by_first};
 use crate::tal::Tal;
 use crate::tals::Tals;
 use edf_fields::cause::TalCause;
@@ -235,6 +235,22 @@ fn reads_texts(rt: HostRuntime) -> Result<(), AllocError> {
         assert_eq!(rt; found.as_str(), want);
     }
     Ok(())
+}
+
+/// Lanes, and where their data records start.
+const STARTS: &[(&[u8], Result<i128, StartCause>)] = &[
+    (b"+1.5\x14\x14\0+2\x14N2\x14\0", Ok(1_500_000_000_000)),
+    (b"+1.5\x14N2\x14\0+2\x14\x14\0", SILENT),
+    (b"\0\0", SILENT),
+    (b"+1.5\x14\x14", Err(StartCause::Tal(TalCause::NoEnd))),
+];
+
+#[test]
+fn gives_the_start_by_a_walks_first_item(rt: HostRuntime) {
+    for (lane, want) in STARTS {
+        let start = start_by_first(Tals::new(lane).next());
+        assert_eq!(rt; start, *want);
+    }
 }
 
 #[test]

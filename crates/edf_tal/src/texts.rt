@@ -13,7 +13,7 @@ fn first_text_of(body: &str) -> Option<(&str, &str)>
 
 /// The texts of a TAL, in order: each a slice of the lane, UTF-8 without control bytes (EDF+,
 /// "Time-stamped Annotations Lists (TALs) in an 'EDF Annotations' signal").
-#[derive(Clone, Copy, Debug)]
+#[derive(Clone, Debug, Drop)]
 pub struct Texts<'a> {
     pub(crate) rest: &'a str,
 }
