@@ -40,13 +40,13 @@ fn kept_time(tal: &Tal<'_>) -> Result<i128, StartCause>
 }
 
 /// Where a data record starts, by the first item of its lane.
-fn start_by(first: Option<Result<Tal<'_>, TalCause>>) -> Result<i128, StartCause>
-    ensures value { result ≡ start_by (option_map item_view first.entry) }
+fn start_by(first: Option<&Result<Tal<'_>, TalCause>>) -> Result<i128, StartCause>
+    ensures value { result ≡ start_by (option_map (λ item. item_view item.now) first.entry) }
     ensures small { IfOk result (λ v. unsigned_abs v < 10 ^ 21) }
 {
     match first {
-        Some(Ok(tal)) => kept_time(&tal),
-        Some(Err(cause)) => Err(StartCause::Tal(cause)),
+        Some(Ok(tal)) => kept_time(tal),
+        Some(Err(cause)) => Err(StartCause::Tal(*cause)),
         None => Err(StartCause::NoTimekeeping),
     }
 }
@@ -56,7 +56,7 @@ fn start_in(lane: &[u8]) -> Result<i128, StartCause>
     ensures value { result ≡ start_of (items_of lane.now) }
     ensures small { IfOk result (λ v. unsigned_abs v < 10 ^ 21) }
 {
-    start_by(Tals::new(lane).next())
+    start_by(Tals::new(lane).next().as_ref())
 }
 
 /// Where a data record starts, in picoseconds after the start of the file, by the first item that `Tals`
@@ -64,11 +64,11 @@ fn start_in(lane: &[u8]) -> Result<i128, StartCause>
 /// that lane. EDF+ (2003), "Time keeping of data records".
 ///
 /// Who walks over the lane's TALs has the start by their first one, and no TAL is read twice.
-pub fn start_by_first(first: Option<Result<Tal<'_>, TalCause>>) -> Result<i128, StartCause>
-    ensures value { result ≡ start_by (option_map item_view first.entry) }
+pub fn start_by_first(first: Option<&Result<Tal<'_>, TalCause>>) -> Result<i128, StartCause>
+    ensures value { result ≡ start_by (option_map (λ item. item_view item.now) first.entry) }
 
     // So it is for whatever items this one is the first of, as those of a lane.
-    ensures walk { (items : List Item) → first_of items ≡ option_map item_view first.entry → result ≡ start_of items }
+    ensures walk { (items : List Item) → first_of items ≡ option_map (λ item. item_view item.now) first.entry → result ≡ start_of items }
     ensures small { IfOk result (λ v. unsigned_abs v < 10 ^ 21) }
 {
     start_by(first)

@@ -248,9 +248,21 @@ const STARTS: &[(&[u8], Result<i128, StartCause>)] = &[
 #[test]
 fn gives_the_start_by_a_walks_first_item(rt: HostRuntime) {
     for (lane, want) in STARTS {
-        let start = start_by_first(Tals::new(lane).next());
+        let first = Tals::new(lane).next();
+        let start = start_by_first(first.as_ref());
         assert_eq!(rt; start, *want);
     }
+}
+
+#[test]
+fn walks_on_behind_the_start(rt: HostRuntime) {
+    let mut tals = Tals::new(b"+1.5\x14\x14\0+2\x14N2\x14\0");
+    let first = tals.next();
+    let start = start_by_first(first.as_ref());
+    assert_eq!(rt; start, Ok(1_500_000_000_000));
+    assert!(rt; matches!(first, Some(Ok(_))));
+    assert!(rt; matches!(tals.next(), Some(Ok(_))));
+    assert!(rt; tals.next().is_none());
 }
 
 #[test]
