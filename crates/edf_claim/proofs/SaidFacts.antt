@@ -1,14 +1,13 @@
 -- A table that says a claim passes its tests, and the claim is the one that is read of it.
-use Rattle.std.proofs.Common.{◌≡◌, ◌≢◌, ℕ, suc, ℤ, pos, neg_ℤ, ◌-◌, ◌^◌, ◌≤◌, ◌≤ℤ◌, ◌<ℤ◌, ◌==◌, nat_le, nat_lt, int_le, int_lt, not, ◌&&◌, Bool, true, false, cond, List, [], ◌∷◌, length, map, slice_index, Option, Some, None, is_some, option_map, option_and_then, codes, inl, inr, ⊎_elim, ◌↔◌, refl, sym, ap, ◌∙◌, subst, arith}
+use Rattle.std.proofs.Common.{◌≡◌, ◌≢◌, ℕ, suc, ℤ, pos, neg_ℤ, ◌-◌, ◌^◌, ◌==◌, nat_le, nat_lt, int_le, int_lt, not, ◌&&◌, Bool, true, false, cond, List, [], ◌∷◌, length, map, slice_index, Option, Some, None, is_some, option_map, option_and_then, codes, inl, inr, ⊎_elim, ◌↔◌, refl, sym, ap, ◌∙◌, subst, arith}
 use Rattle.std.specs.List.{All, list_all}
 use Rattle.std.specs.Str.{bytes_eq}
 use Rattle.std.proofs.lemmas.Bool.Decides.{nat_tests}
-use Rattle.std.proofs.lemmas.Int.{ints}
 use Rattle.std.proofs.lemmas.Slice.Eq.{bytes_eq-Decides}
 use Rattle.toml.specs.Data.{Data, string, array, Items, Members, no_members, member, get_member, as_str, as_integer, as_array}
 use Rattle.edf_fields.specs.Printable.{is_printable}
 use Rattle.edf_fields.specs.Onsets.{SpellsSpan, span_of}
-use Rattle.edf_fields.proofs.ForCallers.{le_decided, span_of_spelled, has-one_of, one_of-has, both-true, not-is, distinct-passes, le-passes, lt-passes, printable_decided}
+use Rattle.edf_fields.proofs.ForCallers.{le_decided, span_of_spelled, has-one_of, both-true, not-is, distinct-passes, le-passes, lt-passes, printable_decided}
 use Rattle.edf_claim.specs.Claims.{Terms, name_of, text_items, HasOnlyKeys, claim_keys, interval_keys, IsLabel, SaysInterval, AreIntervals, IsFollowedBy, AreInOrder, IsInterval, SaysFormat, SaysChannels, SaysKeep, SaysAnonymous, SaysShift, SaysRemove, SaysClaim, SaysOneClaim}
 use Rattle.edf_claim.specs.Faults.{FailsOr, FirstTableFault, ThereIs, SaysClaimOrFault, FaultIsFirst}
 use Rattle.edf_fields.specs.Lists.{Has, AreDistinct, is_one_of, are_distinct}

@@ -1,9 +1,23 @@
 -- What a claim keeps.
-use Rattle.std.specs.Prelude.{ℕ, ℤ, pos, ◌*ℤ◌, ◌≤ℤ◌, ◌<ℤ◌, int_le, int_lt, not, ◌&&◌, Bool, List}
-use Rattle.std.specs.List.{list_any}
-use Rattle.edf_claim.specs.Claims.{Terms}
+use Rattle.std.specs.Prelude.{◌≡◌, map, ℕ, ℤ, pos, ◌*ℤ◌, ◌≤ℤ◌, ◌<ℤ◌, int_le, int_lt, not, ◌&&◌, Bool, List}
+use Rattle.std.specs.Cmp.Lexicographic.{slice_cmp}
+use Rattle.std.specs.Global.{Vec}
+use Rattle.std.specs.List.{All, list_any}
+use Rattle.std.specs.List.Sorted.{IsSorted}
+use Rattle.std.specs.Ordering.{nat_cmp}
+use Rattle.edf_claim.specs.Claims.{Terms, IsInterval, AreInOrder}
 use Rattle.edf_fields.specs.Lists.{Has, is_one_of}
 use Rattle.edf_claim.specs.declared.interval.Interval.{Interval}
+
+-- intervals as a claim keeps them, in order
+pub record AreKept (intervals : List Interval) : Type 0 where
+  pub each : All IsInterval intervals
+  pub in_order : AreInOrder intervals
+
+-- the same texts, in the order of their bytes
+pub record IsIndex (texts : List (List ℕ)) (sorted : List (Vec ℕ)) : Type 0 where
+  pub order : IsSorted (λ x y. slice_cmp nat_cmp x.items y.items) sorted
+  pub same : (text : List ℕ) → is_one_of (map (λ t. t.items) sorted) text ≡ is_one_of texts text
 
 -- the instant num / den, in picoseconds, is in the interval: from its first bound on, and before its second
 abbrev pub IsWithin : Interval → ℤ → ℕ → Type 0

@@ -2,4 +2,3 @@ pub mod Claims
 pub mod Faults
 pub mod Keeps
 pub mod Reading
-pub mod Stops

@@ -1,15 +1,12 @@
 //! The channels that a claim keeps.
 
-ghost use Rattle.std.specs.Prelude.{◌≡◌, map, option_map, option_and_then, MatchOption, IfOk, IfErr, None, Some, codes, not, ◌&&◌, ◌-◌, ◌≤◌};
+ghost use Rattle.std.specs.Prelude.{◌≡◌, map, option_map, option_and_then, MatchOption, IfOk, None, Some, codes, not, ◌&&◌, ◌-◌, ◌≤◌};
 ghost use Rattle.std.specs.List.{list_all};
 ghost use Rattle.toml.specs.View.{view, table_view};
 ghost use Rattle.edf_claim.specs.Reading.{is_label as is_label_text, distinct_texts as distinct_texts_of, channels_of};
-ghost use Rattle.edf_claim.specs.Stops.{StopsAt};
-ghost use Rattle.edf_claim.specs.declared.stop.ClaimStop.TheVariants as stops;
 
-use crate::stop::ClaimStop;
 use crate::table::value_at;
-use crate::texts::distinct_texts;
+use crate::texts::{copies_of, distinct_texts};
 use edf_fields::printable::is_printable;
 use std::alloc::{AllocError, Global};
 use toml::Table;
@@ -31,39 +28,30 @@ fn is_label(text: &[u8]) -> bool
 }
 
 /// Whether each of the texts is the label of a channel.
-fn are_labels(texts: &[Vec<u8>]) -> bool
-    ensures { result ≡ list_all is_label_text (map (λ t. t.items) texts.now) }
+fn are_labels(texts: &[&str]) -> bool
+    ensures { result ≡ list_all is_label_text (map (λ t. t.now) texts.now) }
 {
     for text in texts {
-        if !is_label(text) {
+        if !is_label(text.as_bytes()) {
             return false;
         }
     }
     true
 }
 
-/// The labels of the channels, where the table has such a list.
+/// The labels of the channels: distinct, at least one, each of at most 16 printable bytes, without a
+/// space at its end, and not that of an annotation signal.
 #[tactic(auto, unfolding(crate::specs::Reading::channels_of))]
-fn labels_at(alloc: Global, table: &Table) -> Result<Option<Vec<Vec<u8>>>, AllocError>
+pub(crate) fn channels(alloc: Global, table: &Table) -> Result<Option<Vec<Vec<u8>>>, AllocError>
     ensures { IfOk result (λ r. option_map (λ v. map (λ t. t.items) v.items) r ≡ channels_of (table_view table.now)) }
 {
     let Some(value) = value_at(table, "channels") else {
         return Ok(None);
     };
     match distinct_texts(alloc, value)? {
-        Some(labels) if !labels.is_empty() && are_labels(&labels) => Ok(Some(labels)),
+        Some(labels) if !labels.is_empty() && are_labels(&labels) => {
+            Ok(Some(copies_of(alloc, &labels)?))
+        }
         _ => Ok(None),
-    }
-}
-
-/// The labels of the channels: distinct, at least one, each of at most 16 printable bytes, without a
-/// space at its end, and not that of an annotation signal.
-pub(crate) fn channels(alloc: Global, table: &Table) -> Result<Vec<Vec<u8>>, ClaimStop>
-    ensures ok { IfOk result (λ v. channels_of (table_view table.now) ≡ Some (map (λ t. t.items) v.items)) }
-    ensures stop { IfErr result (StopsAt stops.BadChannels (channels_of (table_view table.now) ≡ None)) }
-{
-    match labels_at(alloc, table)? {
-        Some(labels) => Ok(labels),
-        None => Err(ClaimStop::BadChannels),
     }
 }

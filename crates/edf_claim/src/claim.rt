@@ -1,13 +1,13 @@
 //! What a claim says, and what it keeps.
 
-ghost use Rattle.std.specs.Prelude.{◌≡◌, ◌↔◌, ◌<◌, ◌≤◌, ◌^◌, ◌*ℤ◌, pos, map, IsTrue, unsigned_abs};
-ghost use Rattle.std.specs.List.{All, list_any};
+ghost use Rattle.std.specs.Prelude.{◌≡◌, ◌↔◌, ◌<◌, ◌≤◌, ◌^◌, ◌*ℤ◌, pos, map, length, IsTrue};
+ghost use Rattle.std.specs.List.{list_any};
 ghost use Rattle.edf_claim.specs.Claims.{IsClaim};
 ghost use Rattle.edf_fields.specs.Lists.{Has, is_one_of as is_one_of_texts};
-ghost use Rattle.edf_claim.specs.Keeps.{KeepsInstant, KeepsAnnotation, is_within, keeps_instant, keeps_annotation};
+ghost use Rattle.edf_claim.specs.Keeps.{AreKept, KeepsInstant, KeepsAnnotation, is_within, keeps_instant, keeps_annotation};
 
 use crate::interval::Interval;
-use crate::texts::is_one_of;
+use crate::texts::{is_found, is_one_of};
 use crate::which::Which;
 use std::marker::Model;
 
@@ -19,31 +19,56 @@ pub struct Claim {
     pub(crate) anonymous: Vec<Which>,
     pub(crate) shift: i64,
     pub(crate) remove: Vec<Vec<u8>>,
+    /// The texts of `remove` in the order of their bytes.
+    pub(crate) sorted: Vec<Vec<u8>>,
 }
 
 impl Model for Claim {
     ghost use Rattle.std.specs.Prelude.{map};
     ghost use Rattle.edf_claim.specs.Claims.{Terms, IsClaim};
+    ghost use Rattle.edf_claim.specs.Keeps.{IsIndex};
 
     ghost Value = { Terms };
 
     ghost view = { λ c. record { channels = map (λ t. t.items) c.channels.items; keep = c.keep.items; anonymous = c.anonymous.items; shift = c.shift; remove = map (λ t. t.items) c.remove.items } };
 
-    ghost invariant = { λ c. IsClaim (record { channels = map (λ t. t.items) c.channels.items; keep = c.keep.items; anonymous = c.anonymous.items; shift = c.shift; remove = map (λ t. t.items) c.remove.items }) };
+    ghost invariant = { λ c. IsClaim (record { channels = map (λ t. t.items) c.channels.items; keep = c.keep.items; anonymous = c.anonymous.items; shift = c.shift; remove = map (λ t. t.items) c.remove.items }) × IsIndex (map (λ t. t.items) c.remove.items) c.sorted.items };
+}
+
+/// The half of the intervals in which the instant `num / den` can be: the second one where its first
+/// interval has begun.
+#[tactic(auto, using(crate::proofs::OrderFacts::half_behind, crate::proofs::OrderFacts::half_before, crate::proofs::OrderFacts::kept_behind, crate::proofs::OrderFacts::kept_before, crate::proofs::KeepsFacts::near_bounds))]
+fn half_at(intervals: &[Interval], num: i128, den: u32) -> &[Interval]
+    requires some { 1 < length intervals.now }
+    requires kept { AreKept intervals.now }
+    requires den { den < 2 ^ 24 }
+    ensures same { list_any (λ i. is_within i num den) result.now ≡ list_any (λ i. is_within i num den) intervals.entry.now }
+    ensures kept { AreKept result.now }
+    ensures shorter { length result.now < length intervals.entry.now }
+{
+    let middle = intervals.len() / 2;
+    if intervals[middle].has_begun(num, den) {
+        &intervals[middle..]
+    } else {
+        &intervals[..middle]
+    }
 }
 
 /// Whether the instant `num / den` is in one of the intervals.
+#[tactic(auto, using(crate::proofs::KeepsFacts::near_bounds))]
 fn is_in_one(intervals: &[Interval], num: i128, den: u32) -> bool
-    requires near { All (λ i. (unsigned_abs i.from_ps < 2 ^ 100) × (unsigned_abs i.to_ps < 2 ^ 100)) intervals.now }
+    requires kept { AreKept intervals.now }
     requires den { den < 2 ^ 24 }
     ensures { result ≡ list_any (λ i. is_within i num den) intervals.now }
 {
-    for interval in intervals {
-        if interval.contains(num, den) {
-            return true;
-        }
+    let mut left = intervals;
+    while left.len() > 1 {
+        left = half_at(left, num, den);
     }
-    false
+    match left {
+        [interval] => interval.contains(num, den),
+        _ => false,
+    }
 }
 
 /// Whether the subfield is one of these.
@@ -90,6 +115,13 @@ impl Claim {
         is_in_one(&self.keep, num, den)
     }
 
+    /// Whether the text is one of those that are removed.
+    fn is_removed(&self, text: &[u8]) -> bool
+        ensures { result ≡ is_one_of_texts self.now.remove text.now }
+    {
+        is_found(&self.sorted, text)
+    }
+
     /// Whether an annotation is kept that has this onset, in picoseconds after the second at which
     /// the original starts, and this text, which is compared byte for byte with those that are removed.
     #[tactic(auto, using(crate::proofs::KeepsFacts::annotation_kept))]
@@ -97,7 +129,7 @@ impl Claim {
         ensures keeps { IsTrue result ↔ KeepsAnnotation self.now onset text.now }
         ensures value { result ≡ keeps_annotation self.now onset text.now }
     {
-        self.keeps_instant(onset, 1) && !is_one_of(&self.remove, text.as_bytes())
+        self.keeps_instant(onset, 1) && !self.is_removed(text.as_bytes())
     }
 
     /// Whether this subfield is made anonymous.

@@ -1,6 +1,6 @@
 //! A stretch of time that a claim keeps.
 
-ghost use Rattle.std.specs.Prelude.{◌≡◌, ◌<◌, ◌^◌, ◌*ℤ◌, pos, unsigned_abs};
+ghost use Rattle.std.specs.Prelude.{◌≡◌, ◌<◌, ◌^◌, ◌*ℤ◌, pos, unsigned_abs, int_le};
 ghost use Rattle.edf_claim.specs.Keeps.{is_within};
 
 /// A span of time in picoseconds after the second at which the original starts: `from_ps` is
@@ -23,6 +23,15 @@ fn scaled_bound(bound: i128, den: u32) -> i128
 }
 
 impl Interval {
+    /// Whether the interval has begun at the instant `num / den`, by an exact product.
+    pub(crate) fn has_begun(self, num: i128, den: u32) -> bool
+        requires from { unsigned_abs self.from_ps < 2 ^ 100 }
+        requires den { den < 2 ^ 24 }
+        ensures { result ≡ int_le (self.from_ps *ℤ pos den) num }
+    {
+        scaled_bound(self.from_ps, den) <= num
+    }
+
     /// Whether the instant `num / den` is in the interval, by exact products.
     pub(crate) fn contains(self, num: i128, den: u32) -> bool
         requires from { unsigned_abs self.from_ps < 2 ^ 100 }
@@ -30,6 +39,6 @@ impl Interval {
         requires den { den < 2 ^ 24 }
         ensures { result ≡ is_within self num den }
     {
-        scaled_bound(self.from_ps, den) <= num && num < scaled_bound(self.to_ps, den)
+        self.has_begun(num, den) && num < scaled_bound(self.to_ps, den)
     }
 }

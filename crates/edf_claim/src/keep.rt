@@ -1,14 +1,11 @@
 //! The stretches of time that a claim keeps.
 
-ghost use Rattle.std.specs.Prelude.{◌≡◌, ℤ, option_map, option_and_then, IfOk, IfErr, IfSome, None, Some, length, unsigned_abs, ◌<◌, ◌≤◌, ◌^◌, ◌+◌, codes};
+ghost use Rattle.std.specs.Prelude.{◌≡◌, ℤ, option_map, option_and_then, IfOk, IfSome, None, Some, length, unsigned_abs, ◌<◌, ◌≤◌, ◌^◌, ◌+◌, codes};
 ghost use Rattle.std.specs.List.{All};
 ghost use Rattle.toml.specs.View.{view, table_view, array_view};
 ghost use Rattle.edf_claim.specs.Reading.{span_at as span_at_key, interval_from as interval_from_bounds, interval_of, intervals_of, is_followed_by as is_followed_by_any, are_in_order as are_in_order_list, keep_of};
-ghost use Rattle.edf_claim.specs.Stops.{StopsAt};
-ghost use Rattle.edf_claim.specs.declared.stop.ClaimStop.TheVariants as stops;
 
 use crate::interval::Interval;
-use crate::stop::ClaimStop;
 use crate::table::{has_interval_keys, text_at, value_at};
 use edf_fields::onset::span;
 use std::alloc::{AllocError, Global};
@@ -95,9 +92,10 @@ fn are_in_order(intervals: &[Interval]) -> bool
     true
 }
 
-/// The intervals that are kept, where the table has such a list.
+/// The intervals that are kept: 1 to 1,000 tables, each with a `from` and a `to` above it and no
+/// other key, in order; one may begin where the one before ends.
 #[tactic(auto, unfolding(crate::specs::Reading::keep_of))]
-fn intervals_at(alloc: Global, table: &Table) -> Result<Option<Vec<Interval>>, AllocError>
+pub(crate) fn keep(alloc: Global, table: &Table) -> Result<Option<Vec<Interval>>, AllocError>
     ensures { IfOk result (λ r. option_map (λ v. v.items) r ≡ keep_of (table_view table.now)) }
 {
     let Some(value) = value_at(table, "keep") else {
@@ -112,17 +110,5 @@ fn intervals_at(alloc: Global, table: &Table) -> Result<Option<Vec<Interval>>, A
                 && intervals.len() <= MOST_INTERVALS
                 && are_in_order(&intervals) => { Ok(Some(intervals)) }
         _ => Ok(None),
-    }
-}
-
-/// The intervals that are kept: 1 to 1,000 tables, each with a `from` and a `to` above it and no
-/// other key, in order; one may begin where the one before ends.
-pub(crate) fn keep(alloc: Global, table: &Table) -> Result<Vec<Interval>, ClaimStop>
-    ensures ok { IfOk result (λ v. keep_of (table_view table.now) ≡ Some v.items) }
-    ensures stop { IfErr result (StopsAt stops.BadKeep (keep_of (table_view table.now) ≡ None)) }
-{
-    match intervals_at(alloc, table)? {
-        Some(intervals) => Ok(intervals),
-        None => Err(ClaimStop::BadKeep),
     }
 }

@@ -1,21 +1,25 @@
 //! Reading a claim from its text.
 
-ghost use Rattle.std.specs.Prelude.{◌≡◌, ◌≢◌, IfOk, IfErr, OnOk, None, Some, IsUtf8};
+ghost use Rattle.std.specs.Prelude.{◌≡◌, ◌≢◌, map, IfOk, IfErr, OnOk, None, Some, IsUtf8};
 ghost use Rattle.toml.specs.Parse.{parse_document};
 ghost use Rattle.toml.specs.View.{table_view};
 ghost use Rattle.edf_claim.specs.declared.stop.ClaimStop.TheVariants as stops;
 ghost use Rattle.edf_claim.specs.Claims.{IsClaim, SaysClaimText};
 ghost use Rattle.edf_claim.specs.Faults.{FirstClaimFault};
-ghost use Rattle.edf_claim.specs.Reading.{claim_fault, terms_of};
+ghost use Rattle.edf_claim.specs.Keeps.{IsIndex};
+ghost use Rattle.edf_claim.specs.Reading.{claim_fault, terms_of, channels_of, keep_of, anonymous_of, shift_of, remove_of};
 
 use crate::anonymous::anonymous;
 use crate::channels::channels;
 use crate::claim::Claim;
+use crate::interval::Interval;
 use crate::keep::keep;
 use crate::remove::remove;
 use crate::shift::{is_format_one, shift};
 use crate::stop::ClaimStop;
 use crate::table::has_claim_keys;
+use crate::texts::sorted_copies;
+use crate::which::Which;
 use std::alloc::Global;
 use toml::Table;
 
@@ -34,7 +38,37 @@ fn read_table(alloc: Global, text: &[u8]) -> Result<Table, ClaimStop>
     }
 }
 
+/// The claim of these parts, which are those that the table says.
+fn claim_of(
+    _table: &Table,
+    channels: Vec<Vec<u8>>,
+    keep: Vec<Interval>,
+    anonymous: Vec<Which>,
+    shift: i64,
+    remove: Vec<Vec<u8>>,
+    sorted: Vec<Vec<u8>>,
+) -> Claim
+    requires passed { claim_fault (table_view _table.now) ≡ None }
+    requires channels { channels_of (table_view _table.now) ≡ Some (map (λ t. t.items) channels.items) }
+    requires keep { keep_of (table_view _table.now) ≡ Some keep.items }
+    requires anonymous { anonymous_of (table_view _table.now) ≡ Some anonymous.items }
+    requires shift { shift_of (table_view _table.now) ≡ Some shift }
+    requires remove { remove_of (table_view _table.now) ≡ Some (map (λ t. t.items) remove.items) }
+    requires sorted { IsIndex (map (λ t. t.items) remove.items) sorted.items }
+    ensures { result ≡ terms_of (table_view _table.now) }
+{
+    Claim {
+        channels,
+        keep,
+        anonymous,
+        shift,
+        remove,
+        sorted,
+    }
+}
+
 /// The claim that a table says, or its first fault.
+#[tactic(auto, unfolding(crate::specs::Reading::claim_fault))]
 fn claim_in(alloc: Global, table: &Table) -> Result<Claim, ClaimStop>
     ensures passed { OnOk result (claim_fault (table_view table.now) ≡ None) }
     ensures value { IfOk result (λ c. c ≡ terms_of (table_view table.now)) }
@@ -46,18 +80,23 @@ fn claim_in(alloc: Global, table: &Table) -> Result<Claim, ClaimStop>
     if !has_claim_keys(table) {
         return Err(ClaimStop::UnknownKey);
     }
-    let channels = channels(alloc, table)?;
-    let keep = keep(alloc, table)?;
-    let anonymous = anonymous(alloc, table)?;
-    let shift = shift(table)?;
-    let remove = remove(alloc, table)?;
-    Ok(Claim {
-        channels,
-        keep,
-        anonymous,
-        shift,
-        remove,
-    })
+    let Some(channels) = channels(alloc, table)? else {
+        return Err(ClaimStop::BadChannels);
+    };
+    let Some(keep) = keep(alloc, table)? else {
+        return Err(ClaimStop::BadKeep);
+    };
+    let Some(anonymous) = anonymous(alloc, table)? else {
+        return Err(ClaimStop::BadAnonymous);
+    };
+    let Some(shift) = shift(table) else {
+        return Err(ClaimStop::BadShift);
+    };
+    let Some(remove) = remove(alloc, table)? else {
+        return Err(ClaimStop::BadRemove);
+    };
+    let sorted = sorted_copies(alloc, &remove)?;
+    Ok(claim_of(table, channels, keep, anonymous, shift, remove, sorted))
 }
 
 impl Claim {

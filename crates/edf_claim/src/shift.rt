@@ -1,11 +1,9 @@
 //! The format of a claim, and by how much it moves what it keeps.
 
-ghost use Rattle.std.specs.Prelude.{◌≡◌, ℤ, pos, option_and_then, MatchResult, None, Some, unsigned_abs, ◌≤◌, ◌^◌};
+ghost use Rattle.std.specs.Prelude.{◌≡◌, ℤ, pos, option_and_then, None, Some, unsigned_abs, ◌≤◌, ◌^◌};
 ghost use Rattle.toml.specs.View.{view, table_view};
-ghost use Rattle.edf_claim.specs.declared.stop.ClaimStop.TheVariants as stops;
 ghost use Rattle.edf_claim.specs.Reading.{is_format_one as is_format_one_table, shift_of};
 
-use crate::stop::ClaimStop;
 use crate::table::{integer_at, value_at};
 use toml::Table;
 
@@ -23,9 +21,9 @@ pub(crate) fn is_format_one(table: &Table) -> bool
     }
 }
 
-/// The shift, where the table says one or nothing of it.
+/// The shift in seconds, 0 where the key is absent.
 #[tactic(auto, unfolding(crate::specs::Reading::shift_of))]
-fn shift_at(table: &Table) -> Option<i64>
+pub(crate) fn shift(table: &Table) -> Option<i64>
     ensures { result ≡ shift_of (table_view table.now) }
 {
     let Some(value) = value_at(table, "shift") else {
@@ -34,15 +32,5 @@ fn shift_at(table: &Table) -> Option<i64>
     match value.as_integer() {
         Some(shift) if shift >= -MOST_SECONDS && shift <= MOST_SECONDS => Some(shift),
         _ => None,
-    }
-}
-
-/// The shift in seconds, 0 where the key is absent.
-pub(crate) fn shift(table: &Table) -> Result<i64, ClaimStop>
-    ensures { MatchResult result (λ v. shift_of (table_view table.now) ≡ Some v) (λ e. (e ≡ stops.BadShift) × (shift_of (table_view table.now) ≡ None)) }
-{
-    match shift_at(table) {
-        Some(shift) => Ok(shift),
-        None => Err(ClaimStop::BadShift),
     }
 }

@@ -8,6 +8,7 @@ ghost use Rattle.edf_claim.specs.Claims.{claim_keys, interval_keys};
 ghost use Rattle.edf_fields.specs.Lists.{is_one_of};
 ghost use Rattle.edf_claim.specs.Reading.{integer_of, text_at as text_at_key, keys_are};
 
+use crate::texts::stands_in;
 use toml::{Table, Value};
 
 /// The value at a key.
@@ -40,23 +41,11 @@ pub(crate) fn text_at<'a>(table: &'a Table, key: &str) -> Option<&'a str>
 /// The keys that a claim may have.
 const CLAIM_KEYS: [&str; 6] = ["format", "channels", "keep", "anonymous", "shift", "remove"];
 
-/// Whether the key is one of these.
-fn is_key(keys: &[&str], key: &str) -> bool
-    ensures { result ≡ is_one_of (map (λ other. other.now) keys.now) key.now }
-{
-    for other in keys {
-        if *other == key {
-            return true;
-        }
-    }
-    false
-}
-
 /// Whether the key is one that a claim may have.
 fn is_claim_key(key: &str) -> bool
     ensures { result ≡ is_one_of claim_keys key.now }
 {
-    is_key(&CLAIM_KEYS, key)
+    stands_in(&CLAIM_KEYS, key)
 }
 
 /// Whether the keys are those of a claim, as a test of the table's entries.

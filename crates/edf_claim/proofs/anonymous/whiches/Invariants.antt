@@ -3,4 +3,4 @@ use Rattle.edf_claim.specs.Reading.{whiches_of}
 use Rattle.edf_claim.proofs.anonymous.whiches.Given as goal
 
 abbrev pub invariant-loop-name : goal.invariant-loop-name
-invariant-loop-name l = whiches_of (map (λ t. t.items) l.names) ≡ option_map (λ ws. l.found.items ++ ws) (whiches_of (map (λ t. t.items) (drop l.name-index l.names)))
+invariant-loop-name l = whiches_of (map (λ t. t.now) l.names) ≡ option_map (λ ws. l.found.items ++ ws) (whiches_of (map (λ t. t.now) (drop l.name-index l.names)))

@@ -4,4 +4,4 @@ use Rattle.edf_claim.specs.Reading.{is_label}
 use Rattle.edf_claim.proofs.channels.are_labels.Given as goal
 
 abbrev pub invariant-loop-text : goal.invariant-loop-text
-invariant-loop-text l = list_all is_label (map (λ t. t.items) l.texts) ≡ list_all is_label (map (λ t. t.items) (drop l.text-index l.texts))
+invariant-loop-text l = list_all is_label (map (λ t. t.now) l.texts) ≡ list_all is_label (map (λ t. t.now) (drop l.text-index l.texts))

@@ -1,7 +1,10 @@
-use Rattle.std.proofs.Common.{◌≡◌, drop}
+use Rattle.std.proofs.Common.{◌≡◌, length}
 use Rattle.std.specs.List.{list_any}
-use Rattle.edf_claim.specs.Keeps.{is_within}
+use Rattle.edf_claim.specs.Keeps.{AreKept, is_within}
 use Rattle.edf_claim.proofs.claim.is_in_one.Given as goal
 
-abbrev pub invariant-loop-interval : goal.invariant-loop-interval
-invariant-loop-interval l = list_any (λ i. is_within i l.num l.den) l.intervals ≡ list_any (λ i. is_within i l.num l.den) (drop l.interval-index l.intervals)
+abbrev pub invariant-loop-left : goal.invariant-loop-left
+invariant-loop-left l = record { same : list_any (λ i. is_within i l.num l.den) l.left ≡ list_any (λ i. is_within i l.num l.den) l.intervals; kept : AreKept l.left }
+
+abbrev pub decreases-loop-left : goal.decreases-loop-left
+decreases-loop-left l = length l.left

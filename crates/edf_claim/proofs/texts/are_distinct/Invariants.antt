@@ -3,4 +3,4 @@ use Rattle.edf_fields.specs.Lists.{are_distinct}
 use Rattle.edf_claim.proofs.texts.are_distinct.Given as goal
 
 abbrev pub invariant-loop-i : goal.invariant-loop-i
-invariant-loop-i l = are_distinct (map (λ t. t.items) l.texts) ≡ are_distinct (map (λ t. t.items) (drop l.i l.texts))
+invariant-loop-i l = are_distinct (map (λ t. t.now) l.texts) ≡ are_distinct (map (λ t. t.now) (drop l.i l.texts))
