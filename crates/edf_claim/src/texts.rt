@@ -91,7 +91,7 @@ pub(crate) fn stands_in(texts: &[&str], text: &str) -> bool
     ensures { result ≡ is_one_of_texts (map (λ other. other.now) texts.now) text.now }
 {
     for other in texts {
-        if *other == text {
+        if other.as_bytes() == text.as_bytes() {
             return true;
         }
     }
