@@ -4,3 +4,4 @@ pub mod ReadFacts
 pub mod StartFacts
 pub mod LawFacts
 pub mod FaultFacts
+pub mod ForCallers

@@ -1,0 +1,3 @@
+pub mod ItemFacts
+pub mod SignalFacts
+pub mod RecordFacts

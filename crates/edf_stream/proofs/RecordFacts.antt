@@ -1,0 +1,163 @@
+-- The tests of data records, one after the other.
+use Rattle.std.proofs.Common.{◌≡◌, ℕ, zero, suc, ℤ, ◌+ℤ◌, ◌+◌, ◌-◌, ◌*◌, ◌<◌, ◌≤◌, nat_le, List, [], ◌∷◌, ◌++◌, length, take, drop, Option, Some, None, refl, sym, ap, ◌∙◌, subst, arith, length-take, length-drop, append_assoc, add-one}
+use Rattle.std.proofs.Math.Seq.{take-length}
+use Rattle.std.proofs.lemmas.List.{drop-drop}
+use Rattle.std.proofs.lemmas.Bool.Decides.{nat_tests}
+use Rattle.edf_fields.specs.Tests.{first}
+use Rattle.edf_fields.proofs.ForCallers.{first-passed, first-found, alone}
+use Rattle.edf_header.specs.declared.fault.Fault.{Fault}
+use Rattle.edf_header.specs.declared.fault.Place.{Place}
+use Rattle.edf_header.specs.declared.fault.Place.TheVariants.{AtRecord, AtEnd}
+use Rattle.edf_header.specs.declared.fault.Cause.TheVariants.{Truncated, TrailingBytes}
+use Rattle.edf_header.specs.Faults.{truncated, fault_unless}
+use Rattle.edf_header.specs.Heads.{Head, record_bytes}
+use Rattle.edf_stream.specs.Records.{place_of, record_at}
+use Rattle.edf_stream.specs.Notes.{notes_in, notes_before}
+use Rattle.edf_stream.specs.Starts.{start_in, end_before, end_at}
+use Rattle.edf_stream.specs.Faults.{record_fault, records_tests, trailing_fault, body_fault}
+use Rattle.edf_stream.specs.Readers.{HasPassed, StandsAt, IsRead}
+
+pub tests-split : (file : List ℕ) (h : Head) (s m n : ℕ) → records_tests file h s (m + n) ≡ records_tests file h s m ++ records_tests file h (s + m) n
+tests-split file h s zero n =
+    let e : 0 + n ≡ n = omega arith in
+    let f : s ≡ s + 0 = omega arith in
+    ap (λ k. records_tests file h s k) e ∙ ap (λ k. records_tests file h k n) f
+tests-split file h s (suc m) n =
+    let e : suc m + n ≡ suc (m + n) = omega arith in
+    let f : s + 1 + m ≡ s + suc m = omega arith in
+    ap (λ k. records_tests file h s k) e
+    ∙ ap
+    (λ (ts : List (Option Fault)). truncated (AtRecord s) (place_of h (s + 1)) (length file) ∷ record_fault h s (end_before file h s) (notes_before file h s) (record_at file h s) ∷ ts)
+    (tests-split file h (s + 1) m n ∙ ap (λ j. records_tests file h (s + 1) m ++ records_tests file h j n) f)
+
+-- of the records up to record k only the last may have a fault
+up_to : (file : List ℕ) (h : Head) (k : ℕ) → HasPassed file h k → first (records_tests file h 0 (k + 1)) ≡ first (records_tests file h k 1)
+up_to file h k passed =
+    let e : 0 + k ≡ k = omega arith in
+    ap first (tests-split file h 0 k 1) ∙ first-passed (records_tests file h 0 k) (records_tests file h (0 + k) 1) passed.records
+    ∙ ap (λ j. first (records_tests file h j 1)) e
+
+-- what is found at record k is the first fault
+pub fault_at : (file : List ℕ) (h : Head) (k : ℕ) (f : Fault) → HasPassed file h k → k < h.records → first (records_tests file h k 1) ≡ Some f → body_fault file h ≡ Some f
+unfolding body_fault
+fault_at file h k f passed lt found =
+    let e : h.records ≡ (k + 1) + (h.records - (k + 1)) = omega arith in
+    let front = records_tests file h 0 (k + 1) in
+    let back = records_tests file h (0 + (k + 1)) (h.records - (k + 1)) in
+    ap (λ n. first (records_tests file h 0 n ++ trailing_fault file h ∷ [])) e
+    ∙ ap (λ (ts : List (Option Fault)). first (ts ++ trailing_fault file h ∷ [])) (tests-split file h 0 (k + 1) (h.records - (k + 1)))
+    ∙ ap first (append_assoc front back (trailing_fault file h ∷ []))
+    ∙ first-found front (back ++ trailing_fault file h ∷ []) f (up_to file h k passed ∙ found)
+
+pub passed_more : (file : List ℕ) (h : Head) (k : ℕ) → HasPassed file h k → k < h.records → first (records_tests file h k 1) ≡ None → HasPassed file h (k + 1)
+passed_more file h k passed lt found = record {
+  head = passed.head;
+  header = passed.header;
+  in_order = passed.in_order;
+  within = omega arith;
+  records = up_to file h k passed ∙ found;
+}
+
+at_end : (file : List ℕ) (h : Head) (k : ℕ) → HasPassed file h k → h.records ≤ k → body_fault file h ≡ trailing_fault file h
+unfolding body_fault
+at_end file h k passed le =
+    let within : k ≤ h.records = passed.within in
+    let e : k ≡ h.records = omega arith in
+    first-passed (records_tests file h 0 h.records) (trailing_fault file h ∷ []) (ap (λ n. first (records_tests file h 0 n)) (sym e) ∙ passed.records)
+    ∙ alone (trailing_fault file h)
+
+there : (place : Place) (end len : ℕ) → end ≤ len → truncated place end len ≡ None
+unfolding truncated
+there place end len h = grind (arith, nat_tests)
+
+missing : (place : Place) (end len : ℕ) → len < end → truncated place end len ≡ Some (record { place = place; cause = Truncated })
+unfolding truncated
+missing place end len h = grind (arith, nat_tests)
+
+ended : (file : List ℕ) (h : Head) → length file ≤ place_of h h.records → trailing_fault file h ≡ None
+unfolding trailing_fault
+ended file h le = grind (arith, nat_tests)
+
+trailing : (file : List ℕ) (h : Head) → place_of h h.records < length file → trailing_fault file h ≡ Some (record { place = AtEnd; cause = TrailingBytes })
+unfolding trailing_fault
+trailing file h lt = grind (arith, nat_tests)
+
+-- behind the last record nothing is left
+pub ends : (file : List ℕ) (h : Head) (k : ℕ) (end : ℤ) (notes : ℕ) (left : List ℕ) → HasPassed file h k → StandsAt file h k end notes left → h.records ≤ k → left ≡ [] → body_fault file h ≡ None
+ends file h k end notes left passed at le none =
+    let within : k ≤ h.records = passed.within in
+    let e : k ≡ h.records = omega arith in
+    let short : length (drop (place_of h k) file) ≡ 0 = ap length (sym at.rest ∙ none) in
+    let low : length file ≤ place_of h k = omega (arith, short, length-drop (place_of h k) file) in
+    at_end file h k passed le ∙ ended file h (subst (λ n. length file ≤ place_of h n) e low)
+
+-- behind the last record something is left
+pub trails : (file : List ℕ) (h : Head) (k : ℕ) (end : ℤ) (notes : ℕ) (left : List ℕ) → HasPassed file h k → StandsAt file h k end notes left → h.records ≤ k → 0 < length left → body_fault file h ≡ Some (record { place = AtEnd; cause = TrailingBytes })
+trails file h k end notes left passed at le some =
+    let within : k ≤ h.records = passed.within in
+    let e : k ≡ h.records = omega arith in
+    let high : place_of h k < length file = omega (arith, some, ap length at.rest, length-drop (place_of h k) file) in
+    at_end file h k passed le ∙ trailing file h (subst (λ n. place_of h n < length file) e high)
+
+-- fewer bytes are left than a record has
+pub cut_short : (file : List ℕ) (h : Head) (k : ℕ) (end : ℤ) (notes got : ℕ) (left buffer : List ℕ) → StandsAt file h k end notes left → length buffer ≡ record_bytes h → got < length buffer → take got buffer ≡ take (length buffer) left
+    → first (records_tests file h k 1) ≡ Some (record { place = AtRecord k; cause = Truncated })
+cut_short file h k end notes got left buffer at full lt front =
+    let high : length file < place_of h (k + 1) =
+    omega (arith, full, lt, at.whole, ap length front, ap length at.rest, length-take got buffer, length-take (length buffer) left, length-drop (place_of h k) file) in
+    first-found (truncated (AtRecord k) (place_of h (k + 1)) (length file) ∷ []) _ _ (ap (λ t. first (t ∷ [])) (missing (AtRecord k) (place_of h (k + 1)) (length file) high))
+
+-- a whole record was read
+pub record WasRead (file : List ℕ) (h : Head) (k : ℕ) (left buffer : List ℕ) : Type 0 where
+  pub there : truncated (AtRecord k) (place_of h (k + 1)) (length file) ≡ None
+  pub is : buffer ≡ record_at file h k
+  pub whole : place_of h (k + 1) ≤ length file
+  pub rest : left ≡ drop (place_of h (k + 1)) file
+
+pub whole_read : (file : List ℕ) (h : Head) (k : ℕ) (end : ℤ) (notes got : ℕ) (left rest buffer : List ℕ) → StandsAt file h k end notes left → length buffer ≡ record_bytes h → length buffer ≤ got → got ≤ length buffer
+    → take got buffer ≡ take (length buffer) left → rest ≡ drop (length buffer) left → WasRead file h k rest buffer
+whole_read file h k end notes got left rest buffer at full ge le front behind =
+    let same : got ≡ length buffer = omega arith in
+    let all : take got buffer ≡ buffer = ap (λ n. take n buffer) same ∙ take-length buffer in
+    let next : place_of h k + record_bytes h ≡ place_of h (k + 1) = omega arith in
+    let low : place_of h (k + 1) ≤ length file =
+    omega (arith, full, same, next, at.whole, ap length front, ap length all, ap length at.rest, length-take (length buffer) left, length-drop (place_of h k) file) in
+    record {
+      there = there (AtRecord k) (place_of h (k + 1)) (length file) low;
+      is = sym all ∙ front ∙ ap (take (length buffer)) at.rest ∙ ap (λ n. take n (drop (place_of h k) file)) full;
+      whole = low;
+      rest = behind ∙ ap (drop (length buffer)) at.rest ∙ ap (λ n. drop n (drop (place_of h k) file)) full ∙ drop-drop (record_bytes h) (place_of h k) file ∙ ap (λ n. drop n file) (let e : place_of h k + record_bytes h ≡ place_of h (k + 1) = omega arith in e);
+    }
+
+-- the fault of the bytes is that of the record
+one_fault : (file : List ℕ) (h : Head) (k : ℕ) (end : ℤ) (notes : ℕ) (left rest buffer : List ℕ) → StandsAt file h k end notes left → WasRead file h k rest buffer
+    → record_fault h k (end_before file h k) (notes_before file h k) (record_at file h k) ≡ record_fault h k end notes buffer
+one_fault file h k end notes left rest buffer at read =
+    ap (λ e. record_fault h k e (notes_before file h k) (record_at file h k)) (sym at.end_is)
+    ∙ ap (λ n. record_fault h k end n (record_at file h k)) (sym at.notes_are)
+    ∙ ap (λ bytes. record_fault h k end notes bytes) (sym read.is)
+
+one_test : (file : List ℕ) (h : Head) (k : ℕ) (end : ℤ) (notes : ℕ) (left rest buffer : List ℕ) → StandsAt file h k end notes left → WasRead file h k rest buffer
+    → first (records_tests file h k 1) ≡ record_fault h k end notes buffer
+one_test file h k end notes left rest buffer at read =
+    first-passed (truncated (AtRecord k) (place_of h (k + 1)) (length file) ∷ []) _ (alone (truncated (AtRecord k) (place_of h (k + 1)) (length file)) ∙ read.there)
+    ∙ alone (record_fault h k (end_before file h k) (notes_before file h k) (record_at file h k))
+    ∙ one_fault file h k end notes left rest buffer at read
+
+pub faulty : (file : List ℕ) (h : Head) (k : ℕ) (end : ℤ) (notes : ℕ) (left rest buffer : List ℕ) (f : Fault) → StandsAt file h k end notes left → WasRead file h k rest buffer
+    → record_fault h k end notes buffer ≡ Some f → first (records_tests file h k 1) ≡ Some f
+faulty file h k end notes left rest buffer f at read found = one_test file h k end notes left rest buffer at read ∙ found
+
+-- the record passes
+pub passes : (file : List ℕ) (h : Head) (k : ℕ) (end next : ℤ) (notes more : ℕ) (left rest buffer : List ℕ) → StandsAt file h k end notes left → WasRead file h k rest buffer
+    → record_fault h k end notes buffer ≡ None → next ≡ start_in h buffer +ℤ h.duration → more ≡ notes + length (notes_in h buffer) → IsRead file h k next more rest buffer
+passes file h k end next notes more left rest buffer at read none is are = record {
+  passes = one_test file h k end notes left rest buffer at read ∙ none;
+  is = read.is;
+  stands = record {
+    end_is = is ∙ ap (λ bytes. start_in h bytes +ℤ h.duration) read.is ∙ ap (end_before file h) (sym (add-one k));
+    notes_are = are ∙ ap (λ n. n + length (notes_in h buffer)) at.notes_are ∙ ap (λ bytes. notes_before file h k + length (notes_in h bytes)) read.is ∙ ap (notes_before file h) (sym (add-one k));
+    whole = read.whole;
+    rest = read.rest;
+  };
+}

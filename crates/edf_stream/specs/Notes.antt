@@ -1,0 +1,42 @@
+-- The annotations of a file. EDF+ (2003), "Time-stamped Annotations Lists (TALs) in an 'EDF Annotations'
+-- signal" and "Time keeping of data records".
+use Rattle.std.specs.Prelude.{ℕ, zero, suc, ◌+◌, ℤ, List, [], ◌++◌, ◌∷◌, map, drop, length, Option, Ok, Err}
+use Rattle.std.specs.List.{flat_map}
+use Rattle.edf_header.specs.Heads.{Head}
+use Rattle.edf_tal.specs.Tals.{TalValue}
+use Rattle.edf_tal.specs.Reading.{Item, items_of}
+use Rattle.edf_stream.specs.Records.{annotation_lanes, record_at}
+
+-- an annotation: its onset and, where it has one, its duration, in picoseconds, and its text
+pub record NoteValue : Type 0 where
+  pub onset : ℤ
+  pub duration : Option ℤ
+  pub text : List ℕ
+
+-- what a TAL says: each of its texts, at its onset and with its duration
+abbrev pub notes_of_tal : TalValue → List NoteValue
+notes_of_tal tal = map (λ text. record { onset = tal.onset; duration = tal.duration; text = text }) tal.texts
+
+-- what the TALs among these items say
+abbrev pub notes_of_items : List Item → List NoteValue
+notes_of_items [] = []
+notes_of_items (Ok tal ∷ items) = notes_of_tal tal ++ notes_of_items items
+notes_of_items (Err cause ∷ items) = notes_of_items items
+
+-- what the TALs of a lane say
+abbrev pub notes_of_lane : List ℕ → List NoteValue
+notes_of_lane lane = notes_of_items (items_of lane)
+
+-- what the TALs of these lanes say
+abbrev pub notes_of_lanes : List (List ℕ) → List NoteValue
+notes_of_lanes lanes = flat_map notes_of_lane lanes
+
+-- the annotations of the data record of these bytes, in order of signal, TAL and text: all texts but the
+-- first, which only keeps the time
+unfoldable pub notes_in : Head → List ℕ → List NoteValue
+notes_in h bytes = drop 1 (notes_of_lanes (annotation_lanes h.signals bytes))
+
+-- how many annotations stand in the first k data records
+abbrev pub notes_before : List ℕ → Head → ℕ → ℕ
+notes_before file h zero = 0
+notes_before file h (suc k) = notes_before file h k + length (notes_in h (record_at file h k))

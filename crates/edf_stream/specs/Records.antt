@@ -1,0 +1,29 @@
+-- The data records of a file, and what each signal has in them. EDF (1992), "Data record".
+use Rattle.std.specs.Prelude.{ℕ, ◌+◌, ◌*◌, List, [], map, filter, Option, slice_get}
+use Rattle.std.specs.Option.{option_map_or}
+use Rattle.edf_fields.specs.Parts.{part}
+use Rattle.edf_header.specs.Heads.{SignalHead, Head, header_bytes, record_bytes, is_annotations}
+
+-- where data record k begins in the file, and where the one before it ends
+abbrev pub place_of : Head → ℕ → ℕ
+place_of h k = header_bytes h + k * record_bytes h
+
+-- data record k
+abbrev pub record_at : List ℕ → Head → ℕ → List ℕ
+record_at file h k = part file (place_of h k) (record_bytes h)
+
+-- the lane of a signal in the bytes of a data record: its samples, two bytes each, behind those of the signals before it
+abbrev pub lane_of : SignalHead → List ℕ → List ℕ
+lane_of signal bytes = part bytes signal.offset (2 * signal.samples)
+
+-- the lane of signal s in the bytes of a data record
+abbrev pub lane_in : Head → List ℕ → ℕ → List ℕ
+lane_in h bytes s = option_map_or (λ signal. lane_of signal bytes) (slice_get h.signals s) []
+
+-- the lane of signal s in data record k
+abbrev pub lane_at : List ℕ → Head → ℕ → ℕ → List ℕ
+lane_at file h k s = lane_in h (record_at file h k) s
+
+-- the lanes of those of the signals that hold annotations, in their order. EDF+ (2003), "The 'EDF Annotations' signal"
+abbrev pub annotation_lanes : List SignalHead → List ℕ → List (List ℕ)
+annotation_lanes signals bytes = map (λ signal. lane_of signal bytes) (filter (λ signal. is_annotations signal.label) signals)

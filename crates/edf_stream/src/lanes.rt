@@ -1,0 +1,130 @@
+//! The lanes of the annotation signals in a data record. EDF+ (2003), "The 'EDF Annotations' signal".
+
+ghost use Rattle.std.specs.Prelude.{◌≡◌, ◌+◌, ◌-◌, ◌*◌, ◌≤◌, ◌<◌, ◌^◌, min, length, [], None, Some, MatchResult, IfSome, IfOk, Option, unsigned_abs};
+ghost use Rattle.std.specs.List.{All};
+ghost use Rattle.edf_tal.specs.Views.{tal_view, items_left, start_of};
+ghost use Rattle.edf_tal.specs.Reading.{items_of};
+ghost use Rattle.edf_stream.specs.Records.{lane_of as lane_of_signal, annotation_lanes};
+ghost use Rattle.edf_stream.specs.Notes.{notes_of_items, notes_of_lane, notes_of_lanes};
+ghost use Rattle.edf_stream.specs.Starts.{start_by_lanes};
+ghost use Rattle.edf_stream.specs.Faults.{cause_of, cause_of_lanes};
+ghost use Rattle.edf_stream.specs.Views.{start_with, texts_said};
+
+use edf_fields::cause::TalCause;
+use edf_header::signal::Signal;
+use edf_tal::start::{StartCause, start_by_first};
+use edf_tal::tal::Tal;
+use edf_tal::tals::Tals;
+
+/// The lane of a signal in the bytes of a data record.
+pub(crate) fn lane_of<'a>(signal: &Signal, bytes: &'a [u8]) -> &'a [u8]
+    requires { signal.now.offset + 2 * signal.now.samples ≤ length bytes.now }
+    ensures { result.now ≡ lane_of_signal signal.now bytes.entry.now }
+{
+    let from = signal.offset();
+    &bytes[from..from + 2 * signal.samples() as usize]
+}
+
+/// How many texts a TAL has, up to the most that fit.
+fn text_count(tal: &Tal<'_>) -> u32
+    ensures { result ≡ min (length (tal_view tal.now).texts) (2 ^ 32 - 1) }
+{
+    let mut count = 0u32;
+    for _text in tal.texts() {
+        count = count.saturating_add(1);
+    }
+    count
+}
+
+/// How many texts stand in the TALs that are left of a lane, with `count` texts before them, up to the
+/// most that fit; or why the lane is no list of TALs.
+fn rest_texts(tals: Tals<'_>, count: u32) -> Result<u32, TalCause>
+    ensures { MatchResult result
+        (λ n. (cause_of (items_left tals.entry) ≡ None) × (n ≡ min (count + length (notes_of_items (items_left tals.entry))) (2 ^ 32 - 1)))
+        (λ cause. cause_of (items_left tals.entry) ≡ Some cause) }
+{
+    let mut texts = count;
+    for item in tals {
+        let tal = item?;
+        texts = texts.saturating_add(text_count(&tal));
+    }
+    Ok(texts)
+}
+
+/// What annotation lanes say together.
+#[derive(Debug, Clone, Copy)]
+pub(crate) struct Said {
+    /// Where the data record starts, by the first of them.
+    pub start: Result<i128, StartCause>,
+    /// How many texts they have, up to the most that fit.
+    pub texts: u32,
+}
+
+/// What one lane says, or why it is no list of TALs.
+fn said_by_lane(lane: &[u8]) -> Result<Said, TalCause>
+    ensures said { MatchResult result
+        (λ said. (cause_of (items_of lane.now) ≡ None) × (said.start ≡ start_of (items_of lane.now)) × (said.texts ≡ min (length (notes_of_lane lane.now)) (2 ^ 32 - 1)))
+        (λ cause. cause_of (items_of lane.now) ≡ Some cause) }
+    ensures small { IfOk result (λ said. IfOk said.start (λ v. unsigned_abs v < 10 ^ 21)) }
+{
+    let mut tals = Tals::new(lane);
+    let first = tals.next();
+    let start = start_by_first(first.as_ref());
+    let count = match &first {
+        None => 0,
+        Some(Ok(tal)) => text_count(tal),
+        Some(Err(cause)) => return Err(*cause),
+    };
+    let texts = rest_texts(tals, count)?;
+    Ok(Said { start, texts })
+}
+
+impl Said {
+    /// With what one lane more says.
+    fn with(self, lane: Said) -> Said
+        requires { IfOk self.start (λ v. unsigned_abs v < 10 ^ 21) }
+        ensures start { result.start ≡ self.start }
+        ensures texts { result.texts ≡ min (self.texts + lane.texts) (2 ^ 32 - 1) }
+    {
+        Said {
+            start: self.start,
+            texts: self.texts.saturating_add(lane.texts),
+        }
+    }
+}
+
+/// What the lane of one signal more says, behind what those before it say.
+fn said_with(found: Option<Said>, said: Said) -> Said
+    requires found { IfSome found (λ s. IfOk s.start (λ v. unsigned_abs v < 10 ^ 21)) }
+    requires said { IfOk said.start (λ v. unsigned_abs v < 10 ^ 21) }
+    ensures first { found ≡ None → result.start ≡ said.start }
+    ensures later { IfSome found (λ s. result.start ≡ s.start) }
+    ensures texts { result.texts ≡ min (texts_said found + said.texts) (2 ^ 32 - 1) }
+    ensures small { IfOk result.start (λ v. unsigned_abs v < 10 ^ 21) }
+{
+    match found {
+        None => said,
+        Some(before) => before.with(said),
+    }
+}
+
+/// What the annotation lanes in the bytes of a data record say, none where there is no such lane; or
+/// why the first bad one is no list of TALs.
+pub(crate) fn said_by_lanes(signals: &[Signal], bytes: &[u8]) -> Result<Option<Said>, TalCause>
+    requires { All (λ signal. signal.offset + 2 * signal.samples ≤ length bytes.now) signals.now }
+    ensures said { MatchResult result
+        (λ found. (cause_of_lanes (annotation_lanes signals.now bytes.now) ≡ None)
+        × (start_with found [] ≡ start_by_lanes (annotation_lanes signals.now bytes.now))
+        × (texts_said found ≡ min (length (notes_of_lanes (annotation_lanes signals.now bytes.now))) (2 ^ 32 - 1)))
+        (λ cause. cause_of_lanes (annotation_lanes signals.now bytes.now) ≡ Some cause) }
+    ensures small { IfOk result (λ found. IfSome found (λ s. IfOk s.start (λ v. unsigned_abs v < 10 ^ 21))) }
+{
+    let mut found = None;
+    for signal in signals {
+        if signal.is_annotations() {
+            let said = said_by_lane(lane_of(signal, bytes))?;
+            found = Some(said_with(found, said));
+        }
+    }
+    Ok(found)
+}

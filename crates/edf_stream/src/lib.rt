@@ -1,0 +1,7 @@
+//! The data records of an EDF+ file, one at a time in one buffer: where each starts, what each signal
+//! has in it, its annotations; and whether the file conforms to the profile.
+#![tactic(auto)]
+
+mod lanes;
+mod start;
+pub mod status;

@@ -1,0 +1,45 @@
+//! Where a data record may start. EDF+ (2003), "Time keeping of data records".
+
+ghost use Rattle.std.specs.Prelude.{◌≡◌, None, Some, MatchResult};
+ghost use Rattle.edf_stream.specs.Faults.{start_fault};
+
+use edf_header::fault::{Cause, Fault, Place};
+use edf_header::kind::Kind;
+
+/// How far the data records were followed.
+#[derive(Debug, Clone, Copy)]
+pub(crate) struct Progress {
+    /// Where the last one ends, in picoseconds after the start of the file; 0 before the first one.
+    pub ended_ps: i128,
+    /// How many annotations they have together.
+    pub notes: u32,
+}
+
+/// Where a data record starts, in picoseconds after the start of the file.
+#[derive(Debug, Clone, Copy)]
+pub(crate) struct Start {
+    pub ps: i128,
+}
+
+/// One second, in picoseconds.
+const SECOND: i128 = 1_000_000_000_000;
+
+/// Whether data record `k` may start there: the first one in the first second; each other one where the
+/// one before ends, or, in an interrupted file, there or later.
+#[tactic(auto, unfolding(crate::specs::Faults::start_fault))]
+pub(crate) fn judge_start(kind: Kind, k: u32, before: Progress, start: Start) -> Result<(), Fault>
+    ensures { MatchResult result (λ _. start_fault kind k before.ended_ps start.ps ≡ None) (λ f. start_fault kind k before.ended_ps start.ps ≡ Some f) }
+{
+    let (passes, cause) = match (k, kind) {
+        (0, _) => ((0..SECOND).contains(&start.ps), Cause::BadFirstStart),
+        (_, Kind::Contiguous) => (start.ps == before.ended_ps, Cause::NotContiguous),
+        (_, Kind::Interrupted) => (before.ended_ps <= start.ps, Cause::Overlap),
+    };
+    if passes {
+        return Ok(());
+    }
+    Err(Fault {
+        place: Place::AtRecord(k),
+        cause,
+    })
+}
