@@ -1,3 +1,4 @@
 pub mod ItemFacts
 pub mod SignalFacts
+pub mod NoteFacts
 pub mod RecordFacts

@@ -3,5 +3,6 @@
 #![tactic(auto)]
 
 mod lanes;
+mod record;
 mod start;
 pub mod status;

@@ -1,9 +1,10 @@
 //! Where a data record may start. EDF+ (2003), "Time keeping of data records".
 
-ghost use Rattle.std.specs.Prelude.{◌≡◌, None, Some, MatchResult};
+ghost use Rattle.std.specs.Prelude.{◌≡◌, ◌<◌, ◌^◌, ◌+ℤ◌, None, Some, MatchResult, unsigned_abs};
 ghost use Rattle.edf_stream.specs.Faults.{start_fault};
 
 use edf_header::fault::{Cause, Fault, Place};
+use edf_header::header::Header;
 use edf_header::kind::Kind;
 
 /// How far the data records were followed.
@@ -19,6 +20,22 @@ pub(crate) struct Progress {
 #[derive(Debug, Clone, Copy)]
 pub(crate) struct Start {
     pub ps: i128,
+}
+
+impl Start {
+    /// How far the data records were followed with the one that starts here, and so many annotations.
+    pub(crate) fn with(self, header: &Header, notes: u32) -> Progress
+        requires { unsigned_abs self.ps < 10 ^ 21 }
+        ensures end { result.ended_ps ≡ self.ps +ℤ header.now.duration }
+        ensures notes { result.notes ≡ notes }
+        ensures small { unsigned_abs result.ended_ps < 2 ^ 71 }
+    {
+        let _signals = header.signals();
+        Progress {
+            ended_ps: self.ps + header.duration_ps(),
+            notes,
+        }
+    }
 }
 
 /// One second, in picoseconds.

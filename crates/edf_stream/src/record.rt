@@ -1,0 +1,107 @@
+//! One data record: its tests, and reading it. EDF (1992), "Data record".
+
+ghost use Rattle.std.specs.Prelude.{◌≡◌, ℕ, ℤ, pos, ◌+◌, ◌-◌, ◌≤◌, ◌<◌, ◌<ℤ◌, ◌+ℤ◌, ◌^◌, min, List, [], length, Ok, None, Some, MatchResult, IfOk, IfSome, unsigned_abs};
+ghost use Rattle.std.specs.List.{All};
+ghost use Rattle.edf_header.specs.Heads.{record_bytes};
+ghost use Rattle.edf_stream.specs.Records.{annotation_lanes};
+ghost use Rattle.edf_stream.specs.Notes.{notes_in, notes_of_lanes};
+ghost use Rattle.edf_stream.specs.Starts.{start_by_lanes, said_start, start_in};
+ghost use Rattle.edf_stream.specs.Faults.{cause_of_lanes, lanes_fault, time_fault, notes_fault, record_fault};
+ghost use Rattle.edf_stream.specs.Views.{start_with, texts_said};
+
+use crate::lanes::{Said, said_by_lanes};
+use crate::start::{Progress, Start, judge_start};
+use edf_header::fault::{Cause, Fault, Place};
+use edf_header::header::Header;
+
+/// The most annotations that a file may have (this project's profile).
+const MOST_NOTES: u32 = 1_000_000;
+
+/// How many annotations there are with the texts of data record `k`, of which the first only keeps the
+/// time: 1,000,000 at the most.
+#[tactic(auto, unfolding(crate::specs::Faults::notes_fault))]
+fn judge_notes(k: u32, before: u32, texts: u32) -> Result<u32, Fault>
+    requires { before ≤ 1000000 }
+    ensures { (n : ℕ) → texts ≡ min n (2 ^ 32 - 1) → MatchResult result
+        (λ notes. (notes_fault k (before + (n - 1)) ≡ None) × (notes ≡ before + (n - 1)) × (notes ≤ 1000000))
+        (λ f. notes_fault k (before + (n - 1)) ≡ Some f) }
+{
+    let notes = before.saturating_add(texts.saturating_sub(1));
+    if notes <= MOST_NOTES {
+        return Ok(notes);
+    }
+    Err(Fault {
+        place: Place::AtRecord(k),
+        cause: Cause::TooManyAnnotations,
+    })
+}
+
+/// What the annotation lanes of data record `k` say, or that one of them is no list of TALs.
+#[tactic(auto, using(crate::proofs::SignalFacts::lanes_within), unfolding(crate::specs::Faults::lanes_fault, crate::specs::Starts::said_start))]
+fn judge_lanes(header: &Header, k: u32, bytes: &[u8]) -> Result<Option<Said>, Fault>
+    requires { length bytes.now ≡ record_bytes header.now }
+    ensures said { MatchResult result
+        (λ found. (lanes_fault k (cause_of_lanes (annotation_lanes header.now.signals bytes.now)) ≡ None)
+        × (start_with found [] ≡ said_start header.now bytes.now)
+        × (texts_said found ≡ min (length (notes_of_lanes (annotation_lanes header.now.signals bytes.now))) (2 ^ 32 - 1)))
+        (λ f. lanes_fault k (cause_of_lanes (annotation_lanes header.now.signals bytes.now)) ≡ Some f) }
+    ensures small { IfOk result (λ found. IfSome found (λ s. IfOk s.start (λ v. unsigned_abs v < 10 ^ 21))) }
+{
+    match said_by_lanes(header.signals(), bytes) {
+        Ok(found) => Ok(found),
+        Err(cause) => Err(Fault {
+            place: Place::AtRecord(k),
+            cause: Cause::BadTal(cause),
+        }),
+    }
+}
+
+/// Where data record `k` says that it starts, by what its annotation lanes say.
+#[tactic(auto, unfolding(crate::specs::Faults::time_fault))]
+fn judge_time(k: u32, found: Option<Said>) -> Result<Start, Fault>
+    requires { IfSome found (λ s. IfOk s.start (λ v. unsigned_abs v < 10 ^ 21)) }
+    ensures { MatchResult result
+        (λ start. (time_fault k (start_with found []) ≡ None) × (start_with found [] ≡ Ok start.ps) × (unsigned_abs start.ps < 10 ^ 21))
+        (λ f. time_fault k (start_with found []) ≡ Some f) }
+{
+    match found {
+        Some(Said { start: Ok(ps), .. }) => Ok(Start { ps }),
+        _ => Err(Fault {
+            place: Place::AtRecord(k),
+            cause: Cause::NoTimekeeping,
+        }),
+    }
+}
+
+/// How many texts the annotation lanes have, up to the most that fit.
+fn texts_of(found: Option<Said>) -> u32
+    ensures { result ≡ texts_said found }
+{
+    match found {
+        Some(said) => said.texts,
+        None => 0,
+    }
+}
+
+/// Judges the bytes of data record `k`, and answers how far the records were followed with it; or its
+/// first fault.
+#[tactic(auto, unfolding(crate::specs::Faults::record_fault, crate::specs::Notes::notes_in))]
+pub(crate) fn judge_record(header: &Header, k: u32, before: Progress, bytes: &[u8]) -> Result<Progress, Fault>
+    requires sized { length bytes.now ≡ record_bytes header.now }
+    requires few { before.notes ≤ 1000000 }
+    ensures judged { MatchResult result
+        (λ after. (record_fault header.now k before.ended_ps before.notes bytes.now ≡ None)
+        × (after.ended_ps ≡ start_in header.now bytes.now +ℤ header.now.duration)
+        × (after.notes ≡ before.notes + length (notes_in header.now bytes.now)))
+        (λ f. record_fault header.now k before.ended_ps before.notes bytes.now ≡ Some f) }
+    ensures few { IfOk result (λ after. after.notes ≤ 1000000) }
+    ensures small { IfOk result (λ after. unsigned_abs after.ended_ps < 2 ^ 71) }
+{
+    let found = judge_lanes(header, k, bytes)?;
+    let start = judge_time(k, found)?;
+    judge_start(header.kind(), k, before, start)?;
+    match judge_notes(k, before.notes, texts_of(found)) {
+        Ok(notes) => Ok(start.with(header, notes)),
+        Err(fault) => Err(fault),
+    }
+}
