@@ -1,4 +1,6 @@
 pub mod ItemFacts
+pub mod ConformFacts
 pub mod SignalFacts
+pub mod StopFacts
 pub mod NoteFacts
 pub mod RecordFacts

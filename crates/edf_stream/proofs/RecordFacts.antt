@@ -1,6 +1,6 @@
 -- The tests of data records, one after the other.
-use Rattle.std.proofs.Common.{◌≡◌, ℕ, zero, suc, ℤ, ◌+ℤ◌, ◌+◌, ◌-◌, ◌*◌, ◌<◌, ◌≤◌, nat_le, List, [], ◌∷◌, ◌++◌, length, take, drop, Option, Some, None, refl, sym, ap, ◌∙◌, subst, arith, length-take, length-drop, append_assoc, add-one}
-use Rattle.std.proofs.Math.Seq.{take-length}
+use Rattle.std.proofs.Common.{◌≡◌, ℕ, zero, suc, ℤ, pos, ◌+ℤ◌, ◌+◌, ◌-◌, ◌*◌, ◌<◌, ◌≤◌, nat_le, List, [], ◌∷◌, ◌++◌, length, take, drop, Option, Some, None, refl, sym, ap, ◌∙◌, subst, arith, length-take, length-drop, append_assoc, add-one}
+use Rattle.std.proofs.Math.Seq.{take-length, take-append_seam}
 use Rattle.std.proofs.lemmas.List.{drop-drop}
 use Rattle.std.proofs.lemmas.Bool.Decides.{nat_tests}
 use Rattle.edf_fields.specs.Tests.{first}
@@ -9,8 +9,9 @@ use Rattle.edf_header.specs.declared.fault.Fault.{Fault}
 use Rattle.edf_header.specs.declared.fault.Place.{Place}
 use Rattle.edf_header.specs.declared.fault.Place.TheVariants.{AtRecord, AtEnd}
 use Rattle.edf_header.specs.declared.fault.Cause.TheVariants.{Truncated, TrailingBytes}
-use Rattle.edf_header.specs.Faults.{truncated, fault_unless}
-use Rattle.edf_header.specs.Heads.{Head, record_bytes}
+use Rattle.edf_header.specs.Faults.{truncated, fault_unless, header_fault}
+use Rattle.edf_header.specs.Conforming.{HeaderConforms}
+use Rattle.edf_header.specs.Heads.{Head, head_of, header_bytes, record_bytes}
 use Rattle.edf_stream.specs.Records.{place_of, record_at}
 use Rattle.edf_stream.specs.Notes.{notes_in, notes_before}
 use Rattle.edf_stream.specs.Starts.{start_in, end_before, end_at}
@@ -100,11 +101,11 @@ trails file h k end notes left passed at le some =
     at_end file h k passed le ∙ trailing file h (subst (λ n. place_of h n < length file) e high)
 
 -- fewer bytes are left than a record has
-pub cut_short : (file : List ℕ) (h : Head) (k : ℕ) (end : ℤ) (notes got : ℕ) (left buffer : List ℕ) → StandsAt file h k end notes left → length buffer ≡ record_bytes h → got < length buffer → take got buffer ≡ take (length buffer) left
+pub cut_short : (file : List ℕ) (h : Head) (k : ℕ) (end : ℤ) (notes got size : ℕ) (left buffer : List ℕ) → StandsAt file h k end notes left → size ≡ record_bytes h → length buffer ≡ size → got < size → take got buffer ≡ take size left
     → first (records_tests file h k 1) ≡ Some (record { place = AtRecord k; cause = Truncated })
-cut_short file h k end notes got left buffer at full lt front =
+cut_short file h k end notes got size left buffer at is full lt front =
     let high : length file < place_of h (k + 1) =
-    omega (arith, full, lt, at.whole, ap length front, ap length at.rest, length-take got buffer, length-take (length buffer) left, length-drop (place_of h k) file) in
+    omega (arith, is, full, lt, at.whole, ap length front, ap length at.rest, length-take got buffer, length-take size left, length-drop (place_of h k) file) in
     first-found (truncated (AtRecord k) (place_of h (k + 1)) (length file) ∷ []) _ _ (ap (λ t. first (t ∷ [])) (missing (AtRecord k) (place_of h (k + 1)) (length file) high))
 
 -- a whole record was read
@@ -114,19 +115,19 @@ pub record WasRead (file : List ℕ) (h : Head) (k : ℕ) (left buffer : List �
   pub whole : place_of h (k + 1) ≤ length file
   pub rest : left ≡ drop (place_of h (k + 1)) file
 
-pub whole_read : (file : List ℕ) (h : Head) (k : ℕ) (end : ℤ) (notes got : ℕ) (left rest buffer : List ℕ) → StandsAt file h k end notes left → length buffer ≡ record_bytes h → length buffer ≤ got → got ≤ length buffer
-    → take got buffer ≡ take (length buffer) left → rest ≡ drop (length buffer) left → WasRead file h k rest buffer
-whole_read file h k end notes got left rest buffer at full ge le front behind =
+pub whole_read : (file : List ℕ) (h : Head) (k : ℕ) (end : ℤ) (notes got size : ℕ) (left rest buffer : List ℕ) → StandsAt file h k end notes left → size ≡ record_bytes h → length buffer ≡ size → size ≤ got → got ≤ size
+    → take got buffer ≡ take size left → rest ≡ drop size left → WasRead file h k rest buffer
+whole_read file h k end notes got size left rest buffer at is full ge le front behind =
     let same : got ≡ length buffer = omega arith in
     let all : take got buffer ≡ buffer = ap (λ n. take n buffer) same ∙ take-length buffer in
     let next : place_of h k + record_bytes h ≡ place_of h (k + 1) = omega arith in
     let low : place_of h (k + 1) ≤ length file =
-    omega (arith, full, same, next, at.whole, ap length front, ap length all, ap length at.rest, length-take (length buffer) left, length-drop (place_of h k) file) in
+    omega (arith, is, full, same, next, at.whole, ap length front, ap length all, ap length at.rest, length-take size left, length-drop (place_of h k) file) in
     record {
       there = there (AtRecord k) (place_of h (k + 1)) (length file) low;
-      is = sym all ∙ front ∙ ap (take (length buffer)) at.rest ∙ ap (λ n. take n (drop (place_of h k) file)) full;
+      is = sym all ∙ front ∙ ap (take size) at.rest ∙ ap (λ n. take n (drop (place_of h k) file)) is;
       whole = low;
-      rest = behind ∙ ap (drop (length buffer)) at.rest ∙ ap (λ n. drop n (drop (place_of h k) file)) full ∙ drop-drop (record_bytes h) (place_of h k) file ∙ ap (λ n. drop n file) (let e : place_of h k + record_bytes h ≡ place_of h (k + 1) = omega arith in e);
+      rest = behind ∙ ap (drop size) at.rest ∙ ap (λ n. drop n (drop (place_of h k) file)) is ∙ drop-drop (record_bytes h) (place_of h k) file ∙ ap (λ n. drop n file) next;
     }
 
 -- the fault of the bytes is that of the record
@@ -161,3 +162,16 @@ passes file h k end next notes more left rest buffer at read none is are = recor
     rest = read.rest;
   };
 }
+
+-- behind the header, before the first data record
+pub starts_off : (file : List ℕ) (h : Head) (end : ℤ) (notes : ℕ) (left : List ℕ) → h ≡ head_of file → header_fault file ≡ None → HeaderConforms file h → header_bytes h ≤ length file → left ≡ drop (header_bytes h) file
+    → end ≡ pos 0 → notes ≡ 0 → HasPassed file h 0 × StandsAt file h 0 end notes left
+starts_off file h end notes left is none in_order long rest at so_far =
+    let place : header_bytes h ≡ place_of h 0 = omega arith in (
+      record { head = is; header = none; in_order = in_order; within = omega arith; records = refl },
+      record { end_is = at; notes_are = so_far; whole = omega (arith, place, long); rest = rest ∙ ap (λ n. drop n file) place },
+    )
+
+-- a buffer that was written over from its front to its end
+pub written_over : (n : ℕ) (new old : List ℕ) → length new ≡ n → take n (new ++ drop (length new) old) ≡ new
+written_over n new old e = ap (λ m. take m (new ++ drop (length new) old)) (sym e) ∙ take-append_seam new (drop (length new) old)

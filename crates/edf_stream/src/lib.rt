@@ -3,6 +3,8 @@
 #![tactic(auto)]
 
 mod lanes;
+mod read_record;
+pub mod reader;
 mod record;
 mod start;
 pub mod status;

@@ -1,6 +1,6 @@
 //! Where a data record may start. EDF+ (2003), "Time keeping of data records".
 
-ghost use Rattle.std.specs.Prelude.{◌≡◌, ◌<◌, ◌^◌, ◌+ℤ◌, None, Some, MatchResult, unsigned_abs};
+ghost use Rattle.std.specs.Prelude.{◌≡◌, pos, ◌<◌, ◌^◌, ◌+ℤ◌, None, Some, MatchResult, unsigned_abs};
 ghost use Rattle.edf_stream.specs.Faults.{start_fault};
 
 use edf_header::fault::{Cause, Fault, Place};
@@ -14,6 +14,19 @@ pub(crate) struct Progress {
     pub ended_ps: i128,
     /// How many annotations they have together.
     pub notes: u32,
+}
+
+impl Progress {
+    /// Before the first data record.
+    pub(crate) fn new() -> Progress
+        ensures ended { result.ended_ps ≡ pos 0 }
+        ensures notes { result.notes ≡ 0 }
+    {
+        Progress {
+            ended_ps: 0,
+            notes: 0,
+        }
+    }
 }
 
 /// Where a data record starts, in picoseconds after the start of the file.

@@ -1,0 +1,112 @@
+//! Reading data records one after the other, and the end behind the last.
+
+ghost use Rattle.std.specs.Prelude.{◌≡◌, ℕ, pos, ◌+◌, ◌≤◌, ◌<◌, ◌+ℤ◌, ◌<ℤ◌, ◌^◌, List, [], length, drop, None, Some, MatchOption, IfSome, IfOk, IfErr, OnOk, IsTrue, unsigned_abs};
+ghost use Rattle.edf_fields.specs.Sources.{Rises};
+ghost use Rattle.edf_fields.specs.Tests.{first};
+ghost use Rattle.edf_header.specs.declared.fault.Place.TheVariants.{AtEnd};
+ghost use Rattle.edf_header.specs.declared.fault.Cause.TheVariants.{TrailingBytes};
+ghost use Rattle.edf_header.specs.Heads.{record_bytes};
+ghost use Rattle.edf_stream.specs.Starts.{start_in};
+ghost use Rattle.edf_stream.specs.Faults.{records_tests, body_fault};
+ghost use Rattle.edf_stream.specs.Readers.{HasPassed, StandsAt, IsRead, GoesOn, StopsReading};
+
+use crate::record::judge_record;
+use crate::start::Progress;
+use edf_fields::source::{Source, fill};
+use edf_header::fault::{Cause, Fault, Place};
+use edf_header::header::Header;
+use edf_header::stop::Stop;
+
+/// Reads data record `k` into the buffer and judges it; answers how far the records were followed with
+/// it.
+fn read_record<S: Source>(
+    source: &mut S,
+    buffer: &mut [u8],
+    header: &Header,
+    k: u32,
+    before: Progress,
+) -> Result<Progress, Stop>
+    requires sized { length buffer.old ≡ record_bytes header.now }
+    requires few { before.notes ≤ 1000000 }
+    ensures few { IfOk result (λ after. after.notes ≤ 1000000) }
+    ensures small { IfOk result (λ after. unsigned_abs after.ended_ps < 2 ^ 71) }
+    ensures end { IfOk result (λ after. after.ended_ps ≡ start_in header.now buffer.new +ℤ header.now.duration) }
+    ensures full { OnOk result (length buffer.new ≡ length buffer.old) }
+    ensures failures { OnOk result (S.failures source.new ≡ S.failures source.old) }
+    ensures honesty { OnOk result (IsTrue (S.is_honest source.old) → IsTrue (S.is_honest source.new)) }
+    ensures found { IfOk result (λ after. IsTrue (S.is_honest source.old) → (file : List ℕ) → StandsAt file header.now k before.ended_ps before.notes (S.left source.old)
+        → IsRead file header.now k after.ended_ps after.notes (S.left source.new) buffer.new) }
+    ensures stop { IfErr result (StopsReading
+        (λ f. (S.failures source.new ≡ S.failures source.old) × (IsTrue (S.is_honest source.old) → (file : List ℕ) → StandsAt file header.now k before.ended_ps before.notes (S.left source.old) → first (records_tests file header.now k 1) ≡ Some f))
+        (Rises (S.failures source.old) (S.failures source.new))) }
+{
+    let got = match fill(source, buffer) {
+        Ok(got) => got,
+        Err(_) => return Err(Stop::ReadFailed),
+    };
+    if got < buffer.len() {
+        return Err(Stop::Fault(Fault {
+            place: Place::AtRecord(k),
+            cause: Cause::Truncated,
+        }));
+    }
+    match judge_record(header, k, before, buffer) {
+        Ok(after) => Ok(after),
+        Err(fault) => Err(Stop::Fault(fault)),
+    }
+}
+
+/// Sees that the source has nothing left.
+fn check_end<S: Source>(source: &mut S) -> Result<(), Stop>
+    ensures failures { OnOk result (S.failures source.new ≡ S.failures source.old) }
+    ensures honesty { OnOk result (IsTrue (S.is_honest source.old) → IsTrue (S.is_honest source.new)) }
+    ensures ended { OnOk result (IsTrue (S.is_honest source.old) → (S.left source.old ≡ []) × (S.left source.new ≡ [])) }
+    ensures stop { IfErr result (StopsReading
+        (λ f. (S.failures source.new ≡ S.failures source.old) × (IsTrue (S.is_honest source.old) → (0 < length (S.left source.old)) × (f ≡ record { place = AtEnd; cause = TrailingBytes })))
+        (Rises (S.failures source.old) (S.failures source.new))) }
+{
+    let mut extra = [0u8; 1];
+    let got = fill(source, &mut extra)?;
+    if got > 0 {
+        return Err(Stop::Fault(Fault {
+            place: Place::AtEnd,
+            cause: Cause::TrailingBytes,
+        }));
+    }
+    Ok(())
+}
+
+/// Reads data record `k` where the header announces it, else sees that the file ends there.
+pub(crate) fn advance<S: Source>(
+    source: &mut S,
+    buffer: &mut [u8],
+    header: &Header,
+    k: u32,
+    before: Progress,
+) -> Result<Option<Progress>, Stop>
+    requires sized { length buffer.old ≡ record_bytes header.now }
+    requires few { before.notes ≤ 1000000 }
+    ensures few { IfOk result (λ found. IfSome found (λ after. after.notes ≤ 1000000)) }
+    ensures small { IfOk result (λ found. IfSome found (λ after. unsigned_abs after.ended_ps < 2 ^ 71)) }
+    ensures end { IfOk result (λ found. IfSome found (λ after. after.ended_ps ≡ start_in header.now buffer.new +ℤ header.now.duration)) }
+    ensures full { OnOk result (length buffer.new ≡ length buffer.old) }
+    ensures room { IfOk result (λ found. MatchOption found (header.now.records ≤ k) (λ _. k < header.now.records)) }
+    ensures failures { OnOk result (S.failures source.new ≡ S.failures source.old) }
+    ensures honesty { OnOk result (IsTrue (S.is_honest source.old) → IsTrue (S.is_honest source.new)) }
+    ensures goes_on { IfOk result (λ found. IsTrue (S.is_honest source.old) → (file : List ℕ) → HasPassed file header.now k → StandsAt file header.now k before.ended_ps before.notes (S.left source.old)
+        → GoesOn file header.now k found (S.left source.new) buffer.new) }
+    ensures stop { IfErr result (StopsReading
+        (λ f. (S.failures source.new ≡ S.failures source.old) × (IsTrue (S.is_honest source.old) → (file : List ℕ) → HasPassed file header.now k → StandsAt file header.now k before.ended_ps before.notes (S.left source.old) → body_fault file header.now ≡ Some f))
+        (Rises (S.failures source.old) (S.failures source.new))) }
+{
+    if k < header.records() {
+        return match read_record(source, buffer, header, k, before) {
+            Ok(after) => Ok(Some(after)),
+            Err(stop) => Err(stop),
+        };
+    }
+    match check_end(source) {
+        Ok(()) => Ok(None),
+        Err(stop) => Err(stop),
+    }
+}

@@ -1,0 +1,128 @@
+//! A reader of a file, data record by data record.
+
+ghost use Rattle.std.specs.Prelude.{◌≡◌, ℕ, ◌+◌, ◌≤◌, ◌+ℤ◌, List, false, Some, Ok, Err, IfOk, IfErr, OnOk, IsTrue};
+ghost use Rattle.edf_fields.specs.Sources.{Rises};
+ghost use Rattle.edf_header.specs.declared.stop.Stop.{Stop};
+ghost use Rattle.edf_header.specs.Faults.{header_fault};
+ghost use Rattle.edf_header.specs.Stops.{Stops};
+ghost use Rattle.edf_stream.specs.declared.status.Status.TheVariants.{Begun, Ended, Stopped};
+ghost use Rattle.edf_stream.specs.Starts.{start_in};
+ghost use Rattle.edf_stream.specs.Faults.{body_fault};
+ghost use Rattle.edf_stream.specs.Readers.{IsOpen, status_after, StandsIn, Comes, StopsReading};
+
+use crate::read_record::advance;
+use crate::start::Progress;
+use crate::status::Status;
+use edf_fields::source::Source;
+use edf_header::header::Header;
+use edf_header::stop::Stop;
+use std::alloc::Global;
+use std::marker::Model;
+
+/// A reader of a file, with one data record in memory (EDF, "Data record"). It doesn't hold the source.
+///
+/// What its calls say of the file is said of any file of which it has read the header and the data
+/// records so far, and of which the source has the rest left (`StandsIn`).
+#[derive(Drop)]
+pub struct FileReader {
+    pub(crate) header: Header,
+    pub(crate) buffer: Vec<u8>,
+    pub(crate) read: u32,
+    pub(crate) progress: Progress,
+    pub(crate) status: Status,
+}
+
+impl Model for FileReader {
+    ghost use Rattle.edf_stream.specs.Readers.{Reader};
+    ghost use Rattle.edf_stream.specs.Views.{IsReader};
+
+    ghost Value = { Reader };
+
+    ghost view = { λ r. record { head = r.header; read = r.read; ended = r.progress.ended_ps; notes = r.progress.notes; current = r.buffer.items; status = r.status } };
+
+    ghost invariant = { λ r. IsReader r.header r.read r.progress.ended_ps r.progress.notes r.buffer.items r.status };
+}
+
+impl FileReader {
+    /// Reads the header of a file, from its first byte on, and makes the buffer of one data record.
+    ///
+    /// A `Fault` is the first one of the header. After `Ok` the source stands at the first byte of the
+    /// first data record.
+    pub fn begin<S: Source>(alloc: Global, source: &mut S) -> Result<FileReader, Stop>
+        ensures begun { IfOk result (λ r. (r.status ≡ Begun) × (r.read ≡ 0)) }
+        ensures failures { OnOk result (S.failures source.new ≡ S.failures source.old) }
+        ensures honesty { OnOk result (IsTrue (S.is_honest source.old) → IsTrue (S.is_honest source.new)) }
+        ensures stands { IfOk result (λ r. IsTrue (S.is_honest source.old) → StandsIn r (S.left source.new) (S.left source.old)) }
+        ensures stop { IfErr result (Stops (λ f. IsTrue (S.is_honest source.old) → header_fault (S.left source.old) ≡ Some f) (Rises (S.failures source.old) (S.failures source.new)) (S.failures source.new ≡ S.failures source.old)) }
+    {
+        let header = Header::read(alloc, source)?;
+        let buffer = vec![in alloc; 0u8; header.record_bytes()]?;
+        Ok(FileReader {
+            header,
+            buffer,
+            read: 0,
+            progress: Progress::new(),
+            status: Status::Begun,
+        })
+    }
+
+    /// Reads the next data record, which is then at hand: `Ok(true)`. `Ok(false)` is the end of a file
+    /// that conforms to the profile: behind its last data record one byte more was asked for, and there
+    /// was none. A `Fault` is the first one of the file.
+    ///
+    /// No memory is taken. After an `Err` each further call answers the same one and reads nothing, and
+    /// after `Ok(false)` it answers `Ok(false)` and reads nothing.
+    pub fn next<S: Source>(&mut self, source: &mut S) -> Result<bool, Stop>
+        // What was answered last, whatever the source.
+        ensures repeats { (s : Stop) → self.old.status ≡ Stopped s → (result ≡ Err s) × (self.new ≡ self.old) × (source.new ≡ source.old) }
+        ensures ended { self.old.status ≡ Ended → (result ≡ Ok false) × (self.new ≡ self.old) × (source.new ≡ source.old) }
+        ensures status { self.new.status ≡ status_after result }
+        ensures head { self.new.head ≡ self.old.head }
+        ensures count { IfOk result (λ more. IsTrue more → (self.new.read ≡ self.old.read + 1) × (self.new.read ≤ (self.new.head).records)) }
+        ensures end { IfOk result (λ more. IsTrue more → self.new.ended ≡ start_in self.new.head self.new.current +ℤ (self.new.head).duration) }
+        ensures failures { OnOk result (S.failures source.new ≡ S.failures source.old) }
+        ensures honesty { OnOk result (IsTrue (S.is_honest source.old) → IsTrue (S.is_honest source.new)) }
+
+        // The file: the next data record, the end, or the first fault.
+        ensures comes { IfOk result (λ more. IsOpen self.old.status → IsTrue (S.is_honest source.old) → (file : List ℕ) → StandsIn self.old (S.left source.old) file → Comes more self.old self.new (S.left source.new) file) }
+        ensures stop { IfErr result (λ s. IsOpen self.old.status → StopsReading
+            (λ f. (S.failures source.new ≡ S.failures source.old) × (IsTrue (S.is_honest source.old) → (file : List ℕ) → StandsIn self.old (S.left source.old) file → body_fault file self.old.head ≡ Some f))
+            (Rises (S.failures source.old) (S.failures source.new)) s) }
+    {
+        match self.status {
+            Status::Ended => Ok(false),
+            Status::Stopped(stop) => Err(stop),
+            Status::Begun | Status::Current => {
+                match advance(
+                    source,
+                    &mut self.buffer,
+                    &self.header,
+                    self.read,
+                    self.progress,
+                ) {
+                    Ok(Some(progress)) => {
+                        self.read += 1;
+                        self.progress = progress;
+                        self.status = Status::Current;
+                        Ok(true)
+                    }
+                    Ok(None) => {
+                        self.status = Status::Ended;
+                        Ok(false)
+                    }
+                    Err(stop) => {
+                        self.status = Status::Stopped(stop);
+                        Err(stop)
+                    }
+                }
+            }
+        }
+    }
+
+    /// The header of the file.
+    pub fn header(&self) -> &Header
+        ensures { result.now ≡ self.now.head }
+    {
+        &self.header
+    }
+}
