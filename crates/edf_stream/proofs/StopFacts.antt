@@ -2,6 +2,7 @@
 use Rattle.edf_header.specs.declared.fault.Fault.{Fault}
 use Rattle.edf_header.specs.declared.stop.Stop.{Stop}
 use Rattle.edf_header.specs.declared.stop.Stop.TheVariants as stops
+use Rattle.edf_header.specs.Stops.{Stops}
 use Rattle.edf_stream.specs.Readers.{StopsReading}
 
 -- the same with less said of a fault
@@ -9,3 +10,15 @@ pub stops-weaker : (P Q : Fault → Type 0) (A : Type 0) (stop : Stop) → ((f :
 stops-weaker P Q A stops.OutOfMemory weaker s = s
 stops-weaker P Q A stops.ReadFailed weaker s = s
 stops-weaker P Q A (stops.Fault f) weaker s = weaker f s
+
+-- a stop at a data record, as one of the whole file
+pub stops-reading : (P Q : Fault → Type 0) (A B sound : Type 0) (stop : Stop) → ((f : Fault) → P f → Q f × sound) → (A → B) → StopsReading P A stop → Stops Q B sound stop
+stops-reading P Q A B sound stops.OutOfMemory faults failed s = absurd s
+stops-reading P Q A B sound stops.ReadFailed faults failed s = failed s
+stops-reading P Q A B sound (stops.Fault f) faults failed s = faults f s
+
+-- a stop at the header, as one of the whole file
+pub stops-first : (P Q : Fault → Type 0) (A sound : Type 0) (stop : Stop) → ((f : Fault) → P f → Q f) → Stops P A sound stop → Stops Q A sound stop
+stops-first P Q A sound stops.OutOfMemory faults s = s
+stops-first P Q A sound stops.ReadFailed faults s = s
+stops-first P Q A sound (stops.Fault f) faults s = (faults f s.0, s.1)

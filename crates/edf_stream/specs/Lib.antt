@@ -5,3 +5,4 @@ pub mod Faults
 pub mod Conforming
 pub mod Readers
 pub mod Views
+pub mod Summaries

@@ -67,10 +67,11 @@ pub record IsRead (file : List ℕ) (h : Head) (k : ℕ) (ended : ℤ) (notes : 
   pub is : buffer ≡ record_at file h k
   pub stands : StandsAt file h (k + 1) ended notes left
 
--- behind the first k data records either the file conforms and ends, or record k is read and stands in the buffer
-abbrev pub GoesOn : List ℕ → Head → ℕ → Option Progress → List ℕ → List ℕ → Type 0
-GoesOn file h k None left buffer = (k ≡ h.records) × (body_fault file h ≡ None) × Conforms file h × (left ≡ [])
-GoesOn file h k (Some after) left buffer =
+-- behind the first k data records, of which `before` tells, either the file conforms and ends, or record k is read and stands in the buffer
+abbrev pub GoesOn : List ℕ → Head → ℕ → Progress → Option Progress → List ℕ → List ℕ → Type 0
+GoesOn file h k before None left buffer =
+    StandsAt file h k before.ended_ps before.notes left × (k ≡ h.records) × (body_fault file h ≡ None) × Conforms file h × (left ≡ [])
+GoesOn file h k before (Some after) left buffer =
     HasPassed file h (k + 1) × StandsAt file h (k + 1) after.ended_ps after.notes left × (buffer ≡ record_at file h k)
 
 -- the reader has read the file up to data record r.read, and the source has left the rest of it
@@ -81,7 +82,8 @@ pub record StandsIn (r : Reader) (left file : List ℕ) : Type 0 where
 -- one data record more, which is current; or the end of a file that conforms
 abbrev pub Comes : Bool → Reader → Reader → List ℕ → List ℕ → Type 0
 Comes true old new left file = StandsIn new left file × (new.current ≡ record_at file old.head old.read)
-Comes false old new left file = (old.read ≡ (old.head).records) × (body_fault file old.head ≡ None) × Conforms file old.head × (left ≡ [])
+Comes false old new left file =
+    StandsIn new left file × (new.read ≡ (old.head).records) × (body_fault file old.head ≡ None) × Conforms file old.head × (left ≡ [])
 
 -- why reading a data record stopped, which takes no memory: of a fault this is said, and of a failed read that
 abbrev pub StopsReading : (Fault → Type 0) → Type 0 → Stop → Type 0

@@ -2,6 +2,8 @@
 //! has in it, its annotations; and whether the file conforms to the profile.
 #![tactic(auto)]
 
+pub mod conform;
+mod current;
 mod lanes;
 mod read_record;
 pub mod reader;

@@ -94,7 +94,7 @@ pub(crate) fn advance<S: Source>(
     ensures failures { OnOk result (S.failures source.new ≡ S.failures source.old) }
     ensures honesty { OnOk result (IsTrue (S.is_honest source.old) → IsTrue (S.is_honest source.new)) }
     ensures goes_on { IfOk result (λ found. IsTrue (S.is_honest source.old) → (file : List ℕ) → HasPassed file header.now k → StandsAt file header.now k before.ended_ps before.notes (S.left source.old)
-        → GoesOn file header.now k found (S.left source.new) buffer.new) }
+        → GoesOn file header.now k before found (S.left source.new) buffer.new) }
     ensures stop { IfErr result (StopsReading
         (λ f. (S.failures source.new ≡ S.failures source.old) × (IsTrue (S.is_honest source.old) → (file : List ℕ) → HasPassed file header.now k → StandsAt file header.now k before.ended_ps before.notes (S.left source.old) → body_fault file header.now ≡ Some f))
         (Rises (S.failures source.old) (S.failures source.new))) }

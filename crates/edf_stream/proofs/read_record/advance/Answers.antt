@@ -35,6 +35,7 @@ returns-in-Ok-check_end-clause-goes_on g c = λ honest file passed at.
     let within : c.args.k ≤ h.records = passed.within in
     let le : h.records ≤ c.args.k = omega (arith, c.if-k-records.false, c.records.ensures) in
     let over = c.in-Ok-check_end.ensures.ended honest in (
+      record { end_is = at.end_is; notes_are = at.notes_are; whole = at.whole; rest = over.1 ∙ sym over.0 ∙ at.rest },
       let full : c.args.k ≡ h.records = omega (arith, within, le) in full,
       ends file h c.args.k c.args.before.ended_ps c.args.before.notes left passed at le over.0,
       conforms file h c.args.k c.args.before.ended_ps c.args.before.notes left ((passed.in_order).sound.standard.some_records) passed at le over.0,

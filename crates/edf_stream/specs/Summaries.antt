@@ -1,0 +1,16 @@
+-- How much a file holds.
+use Rattle.std.specs.Prelude.{◌≡◌, ℕ, ◌*◌, not, List, filter, length}
+use Rattle.edf_header.specs.Heads.{SignalHead, Head, is_annotations, samples_together}
+use Rattle.edf_stream.specs.declared.conform.Summary.{Summary}
+use Rattle.edf_stream.specs.Notes.{notes_before}
+
+-- the channels among the signals: those that hold no annotations
+abbrev pub channels_among : List SignalHead → List SignalHead
+channels_among signals = filter (λ signal. not (is_annotations signal.label)) signals
+
+-- data records, channels, samples of all channels, and annotations of the file with this header
+pub record IsSummary (file : List ℕ) (h : Head) (summary : Summary) : Type 0 where
+  pub records : summary.records ≡ h.records
+  pub channels : summary.channels ≡ length (channels_among h.signals)
+  pub samples : summary.samples ≡ h.records * samples_together (channels_among h.signals)
+  pub annotations : summary.annotations ≡ notes_before file h h.records

@@ -1,0 +1,43 @@
+//! The data record that a reader has at hand. EDF (1992), "Data record".
+
+ghost use Rattle.std.specs.Prelude.{◌≡◌, ◌<◌, ◌^◌, IsTrue, length, unsigned_abs};
+ghost use Rattle.edf_stream.specs.Readers.{is_current};
+ghost use Rattle.edf_stream.specs.Records.{lane_in};
+ghost use Rattle.edf_stream.specs.Starts.{start_in};
+
+use crate::lanes::lane_of;
+use crate::reader::FileReader;
+use crate::status::Status;
+
+impl FileReader {
+    /// Whether a data record is at hand: the last call of `next` answered `Ok(true)`.
+    pub fn has_current(&self) -> bool
+        ensures { result ≡ is_current self.now.status }
+    {
+        match self.status {
+            Status::Current => true,
+            Status::Begun | Status::Ended | Status::Stopped(_) => false,
+        }
+    }
+
+    /// Where the data record at hand starts, in picoseconds after the start of the file (EDF+, "Time
+    /// keeping of data records").
+    pub fn start_ps(&self) -> i128
+        requires { IsTrue (is_current self.now.status) }
+        ensures value { result ≡ start_in self.now.head self.now.current }
+        ensures small { unsigned_abs result < 2 ^ 72 }
+    {
+        self.progress.ended_ps - self.header.duration_ps()
+    }
+
+    /// The lane of a signal in the data record at hand: its samples, two bytes each, the low byte first
+    /// (EDF, "Data record"), or the bytes of its TALs.
+    #[tactic(auto, using(crate::proofs::SignalFacts::lanes_within))]
+    pub fn run(&self, signal: usize) -> &[u8]
+        requires current { IsTrue (is_current self.now.status) }
+        requires signal { signal < length self.now.head.signals }
+        ensures { result.now ≡ lane_in self.entry.now.head self.entry.now.current signal }
+    {
+        lane_of(&self.header.signals()[signal], &self.buffer)
+    }
+}
