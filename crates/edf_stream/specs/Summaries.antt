@@ -1,8 +1,10 @@
 -- How much a file holds.
-use Rattle.std.specs.Prelude.{◌≡◌, ℕ, ◌*◌, not, List, filter, length}
-use Rattle.edf_header.specs.Heads.{SignalHead, Head, is_annotations, samples_together}
+use Rattle.std.specs.Prelude.{◌≡◌, ℕ, ◌*◌, not, List, [], filter, length, None}
+use Rattle.edf_header.specs.Heads.{SignalHead, Head, head_of, is_annotations, samples_together}
 use Rattle.edf_stream.specs.declared.conform.Summary.{Summary}
 use Rattle.edf_stream.specs.Notes.{notes_before}
+use Rattle.edf_stream.specs.Faults.{file_fault}
+use Rattle.edf_stream.specs.Conforming.{Conforms}
 
 -- the channels among the signals: those that hold no annotations
 abbrev pub channels_among : List SignalHead → List SignalHead
@@ -14,3 +16,10 @@ pub record IsSummary (file : List ℕ) (h : Head) (summary : Summary) : Type 0 w
   pub channels : summary.channels ≡ length (channels_among h.signals)
   pub samples : summary.samples ≡ h.records * samples_together (channels_among h.signals)
   pub annotations : summary.annotations ≡ notes_before file h h.records
+
+-- a file was read to its end, which conforms, and this is how much it holds
+pub record IsSummed (file left : List ℕ) (summary : Summary) : Type 0 where
+  pub conforms : Conforms file (head_of file)
+  pub faultless : file_fault file ≡ None
+  pub holds : IsSummary file (head_of file) summary
+  pub out : left ≡ []

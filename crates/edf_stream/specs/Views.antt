@@ -1,5 +1,5 @@
 -- What the code's values say, in the words of the definitions.
-use Rattle.std.specs.Prelude.{◌≡◌, ℕ, ℤ, ◌≤◌, ◌<◌, ◌+ℤ◌, ◌^◌, IsTrue, unsigned_abs, List, length, Option, Some, None, Result}
+use Rattle.std.specs.Prelude.{◌≡◌, ℕ, ℤ, pos, ◌≤◌, ◌<◌, ◌+ℤ◌, ◌^◌, IsTrue, unsigned_abs, List, length, Option, Some, None, Result}
 use Rattle.edf_header.specs.Heads.{Head, record_bytes}
 use Rattle.edf_header.specs.Sound.{IsSound}
 use Rattle.edf_tal.specs.declared.start.StartCause.{StartCause}
@@ -22,6 +22,7 @@ texts_said (Some said) = said.texts
 pub record IsReader (h : Head) (read : ℕ) (ended : ℤ) (notes : ℕ) (buffer : List ℕ) (status : Status) : Type 0 where
   pub sound : IsSound h
   pub within : read ≤ h.records
+  pub begun : read ≡ 0 → ended ≡ pos 0
   pub near : unsigned_abs ended < 2 ^ 71
   pub few : notes ≤ 1000000
   pub full : length buffer ≡ record_bytes h

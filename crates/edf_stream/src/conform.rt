@@ -1,12 +1,11 @@
 //! Whether a file conforms to the profile, and how much it holds.
 
-ghost use Rattle.std.specs.Prelude.{◌≡◌, ◌*◌, ◌<◌, ◌^◌, length, [], None, Some, IfOk, IfErr, OnOk, IsTrue};
+ghost use Rattle.std.specs.Prelude.{◌≡◌, ◌*◌, ◌<◌, ◌^◌, length, Some, IfOk, IfErr, OnOk, IsTrue};
 ghost use Rattle.edf_fields.specs.Sources.{Rises};
-ghost use Rattle.edf_header.specs.Heads.{head_of, samples_together};
+ghost use Rattle.edf_header.specs.Heads.{samples_together};
 ghost use Rattle.edf_header.specs.Stops.{Stops};
-ghost use Rattle.edf_stream.specs.Conforming.{Conforms};
 ghost use Rattle.edf_stream.specs.Faults.{file_fault};
-ghost use Rattle.edf_stream.specs.Summaries.{channels_among, IsSummary};
+ghost use Rattle.edf_stream.specs.Summaries.{channels_among, IsSummed};
 
 use crate::reader::FileReader;
 use edf_fields::source::Source;
@@ -79,9 +78,8 @@ impl FileReader {
 /// Reads a whole file, and says how much it holds: `Ok` where it conforms to the profile, which
 /// docs/PROFILE.md tells, and else its first fault. The source is read to its end on `Ok`.
 pub fn conform<S: Source>(alloc: Global, source: &mut S) -> Result<Summary, Stop>
-    ensures conforms { IfOk result (λ summary. IsTrue (S.is_honest source.old) → Conforms (S.left source.old) (head_of (S.left source.old)) × IsSummary (S.left source.old) (head_of (S.left source.old)) summary) }
-    ensures passes { OnOk result (IsTrue (S.is_honest source.old) → file_fault (S.left source.old) ≡ None) }
-    ensures out { OnOk result (IsTrue (S.is_honest source.old) → S.left source.new ≡ []) }
+    ensures failures { OnOk result (S.failures source.new ≡ S.failures source.old) }
+    ensures conforms { IfOk result (λ summary. IsTrue (S.is_honest source.old) → IsSummed (S.left source.old) (S.left source.new) summary) }
     ensures stop { IfErr result (Stops (λ f. IsTrue (S.is_honest source.old) → file_fault (S.left source.old) ≡ Some f) (Rises (S.failures source.old) (S.failures source.new)) (S.failures source.new ≡ S.failures source.old)) }
 {
     let mut reader = match FileReader::begin(alloc, source) {

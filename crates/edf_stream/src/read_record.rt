@@ -30,6 +30,7 @@ fn read_record<S: Source>(
     requires few { before.notes ≤ 1000000 }
     ensures few { IfOk result (λ after. after.notes ≤ 1000000) }
     ensures small { IfOk result (λ after. unsigned_abs after.ended_ps < 2 ^ 71) }
+    ensures later { IfOk result (λ after. (k ≡ 0 → before.ended_ps ≡ pos 0) → before.ended_ps <ℤ after.ended_ps) }
     ensures end { IfOk result (λ after. after.ended_ps ≡ start_in header.now buffer.new +ℤ header.now.duration) }
     ensures full { OnOk result (length buffer.new ≡ length buffer.old) }
     ensures failures { OnOk result (S.failures source.new ≡ S.failures source.old) }
@@ -88,6 +89,7 @@ pub(crate) fn advance<S: Source>(
     requires few { before.notes ≤ 1000000 }
     ensures few { IfOk result (λ found. IfSome found (λ after. after.notes ≤ 1000000)) }
     ensures small { IfOk result (λ found. IfSome found (λ after. unsigned_abs after.ended_ps < 2 ^ 71)) }
+    ensures later { IfOk result (λ found. IfSome found (λ after. (k ≡ 0 → before.ended_ps ≡ pos 0) → before.ended_ps <ℤ after.ended_ps)) }
     ensures end { IfOk result (λ found. IfSome found (λ after. after.ended_ps ≡ start_in header.now buffer.new +ℤ header.now.duration)) }
     ensures full { OnOk result (length buffer.new ≡ length buffer.old) }
     ensures room { IfOk result (λ found. MatchOption found (header.now.records ≤ k) (λ _. k < header.now.records)) }

@@ -96,6 +96,7 @@ pub(crate) fn judge_record(header: &Header, k: u32, before: Progress, bytes: &[u
         (λ f. record_fault header.now k before.ended_ps before.notes bytes.now ≡ Some f) }
     ensures few { IfOk result (λ after. after.notes ≤ 1000000) }
     ensures small { IfOk result (λ after. unsigned_abs after.ended_ps < 2 ^ 71) }
+    ensures later { IfOk result (λ after. (k ≡ 0 → before.ended_ps ≡ pos 0) → before.ended_ps <ℤ after.ended_ps) }
 {
     let found = judge_lanes(header, k, bytes)?;
     let start = judge_time(k, found)?;

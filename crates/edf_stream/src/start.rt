@@ -1,6 +1,6 @@
 //! Where a data record may start. EDF+ (2003), "Time keeping of data records".
 
-ghost use Rattle.std.specs.Prelude.{◌≡◌, pos, ◌<◌, ◌^◌, ◌+ℤ◌, None, Some, MatchResult, unsigned_abs};
+ghost use Rattle.std.specs.Prelude.{◌≡◌, pos, ◌<◌, ◌^◌, ◌+ℤ◌, ◌<ℤ◌, ◌≤ℤ◌, None, Some, MatchResult, OnOk, unsigned_abs};
 ghost use Rattle.edf_stream.specs.Faults.{start_fault};
 
 use edf_header::fault::{Cause, Fault, Place};
@@ -42,6 +42,7 @@ impl Start {
         ensures end { result.ended_ps ≡ self.ps +ℤ header.now.duration }
         ensures notes { result.notes ≡ notes }
         ensures small { unsigned_abs result.ended_ps < 2 ^ 71 }
+        ensures later { self.ps <ℤ result.ended_ps }
     {
         let _signals = header.signals();
         Progress {
@@ -58,7 +59,10 @@ const SECOND: i128 = 1_000_000_000_000;
 /// one before ends, or, in an interrupted file, there or later.
 #[tactic(auto, unfolding(crate::specs::Faults::start_fault))]
 pub(crate) fn judge_start(kind: Kind, k: u32, before: Progress, start: Start) -> Result<(), Fault>
-    ensures { MatchResult result (λ _. start_fault kind k before.ended_ps start.ps ≡ None) (λ f. start_fault kind k before.ended_ps start.ps ≡ Some f) }
+    ensures judged { MatchResult result (λ _. start_fault kind k before.ended_ps start.ps ≡ None) (λ f. start_fault kind k before.ended_ps start.ps ≡ Some f) }
+
+    // It starts at the end of those before it, or later.
+    ensures later { OnOk result ((k ≡ 0 → before.ended_ps ≡ pos 0) → before.ended_ps ≤ℤ start.ps) }
 {
     let (passes, cause) = match (k, kind) {
         (0, _) => ((0..SECOND).contains(&start.ps), Cause::BadFirstStart),

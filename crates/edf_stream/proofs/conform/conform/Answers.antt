@@ -52,26 +52,16 @@ returns-in-Ok-false-clause-conforms g c = λ h.
     let file = g.S.Source.left c.args.source.now in
     let end = subst (λ more. Comes more c.loop-reader.reader c.next.new.self (g.S.Source.left c.next.new.source) file) c.in-Ok-false.field-0-test (c.in-Ok-false.ensures.comes before.0 (before.2 h) file (before.3 h)) in
     let is : (c.loop-reader.reader).head ≡ head_of file = (before.3 h).passed.head in
-    let same : (c.next.new.self).head ≡ head_of file = (end.0).passed.head in (
-      subst (Conforms file) is end.3,
-      record {
+    let same : (c.next.new.self).head ≡ head_of file = (end.0).passed.head in
+    record {
+      conforms = subst (Conforms file) is end.3;
+      faultless = file_is file (c.loop-reader.reader).head (c.loop-reader.reader).read (before.3 h).passed ∙ end.2;
+      holds = record {
         records = c.summary.ensures.records ∙ ap (λ (x : Head). x.records) same;
         channels = c.summary.ensures.channels ∙ ap (λ (x : Head). length (channels_among x.signals)) same;
         samples = c.summary.ensures.samples ∙ ap (λ (x : Head). x.records * samples_together (channels_among x.signals)) same;
         annotations = c.summary.ensures.annotations ∙ (end.0).stands.notes_are ∙ ap (notes_before file (c.next.new.self).head) end.1
             ∙ ap (λ (x : Head). notes_before file (c.next.new.self).head x.records) is ∙ ap (λ (x : Head). notes_before file x (head_of file).records) same;
-      },
-    )
-
-pub returns-in-Ok-false-clause-passes : goal.returns-in-Ok-false-clause-passes
-returns-in-Ok-false-clause-passes g c = λ h.
-    let before = c.loop-reader.invariant in
-    let file = g.S.Source.left c.args.source.now in
-    let end = subst (λ more. Comes more c.loop-reader.reader c.next.new.self (g.S.Source.left c.next.new.source) file) c.in-Ok-false.field-0-test (c.in-Ok-false.ensures.comes before.0 (before.2 h) file (before.3 h)) in
-    file_is file (c.loop-reader.reader).head (c.loop-reader.reader).read (before.3 h).passed ∙ end.2
-
-pub returns-in-Ok-false-clause-out : goal.returns-in-Ok-false-clause-out
-returns-in-Ok-false-clause-out g c = λ h.
-    let before = c.loop-reader.invariant in
-    let file = g.S.Source.left c.args.source.now in
-    (subst (λ more. Comes more c.loop-reader.reader c.next.new.self (g.S.Source.left c.next.new.source) file) c.in-Ok-false.field-0-test (c.in-Ok-false.ensures.comes before.0 (before.2 h) file (before.3 h))).4
+      };
+      out = end.4;
+    }
