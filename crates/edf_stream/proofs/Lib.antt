@@ -1,7 +1,6 @@
 pub mod ItemFacts
 pub mod ConformFacts
 pub mod FileFacts
-pub mod SignalFacts
 pub mod StopFacts
 pub mod NoteFacts
 pub mod RecordFacts

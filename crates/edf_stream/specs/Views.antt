@@ -1,12 +1,19 @@
 -- What the code's values say, in the words of the definitions.
-use Rattle.std.specs.Prelude.{◌≡◌, ℕ, ℤ, pos, ◌≤◌, ◌<◌, ◌+ℤ◌, ◌^◌, IsTrue, unsigned_abs, List, length, Option, Some, None, Result}
+use Rattle.std.specs.Prelude.{◌≡◌, ℕ, ℤ, pos, ◌≤◌, ◌<◌, ◌+ℤ◌, ◌^◌, IsTrue, unsigned_abs, List, [], ◌++◌, map, length, Option, Some, None, Result}
 use Rattle.edf_header.specs.Heads.{Head, record_bytes}
 use Rattle.edf_header.specs.Sound.{IsSound}
 use Rattle.edf_tal.specs.declared.start.StartCause.{StartCause}
 use Rattle.edf_stream.specs.declared.status.Status.{Status}
 use Rattle.edf_stream.specs.Readers.{is_current}
 use Rattle.edf_stream.specs.Starts.{start_by_lanes, start_in}
+use Rattle.edf_tal.specs.Views.{items_left, texts_left}
 use Rattle.edf_stream.specs.declared.lanes.Said.{Said}
+use Rattle.edf_stream.specs.declared.note.LaneNotes.{LaneNotes}
+use Rattle.edf_stream.specs.declared.note.Annotations.{Annotations}
+use Rattle.edf_stream.specs.declared.note.NoteRef.{NoteRef}
+use Rattle.edf_stream.specs.declared.note.TalNotes.{TalNotes}
+use Rattle.edf_stream.specs.Notes.{NoteValue, notes_of_items, notes_of_lanes}
+use Rattle.edf_stream.specs.Records.{annotation_lanes}
 
 -- the start that lanes say, with these lanes behind them
 abbrev pub start_with : Option Said → List (List ℕ) → Result ℤ StartCause
@@ -27,3 +34,22 @@ pub record IsReader (h : Head) (read : ℕ) (ended : ℤ) (notes : ℕ) (buffer 
   pub few : notes ≤ 1000000
   pub full : length buffer ≡ record_bytes h
   pub current : IsTrue (is_current status) → ended ≡ start_in h buffer +ℤ h.duration
+
+-- an annotation
+abbrev pub note_view : NoteRef → NoteValue
+note_view note = record { onset = note.onset; duration = note.duration; text = note.text.now }
+
+-- the annotations that are still to come of a TAL, where one is at hand
+abbrev pub notes_of_said : Option TalNotes → List NoteValue
+notes_of_said None = []
+notes_of_said (Some said) = map (λ text. record { onset = said.onset; duration = said.duration; text = text }) (texts_left said.texts)
+
+
+
+-- those of a lane
+abbrev pub lane_notes_left : LaneNotes → List NoteValue
+lane_notes_left lane = notes_of_said lane.tal ++ notes_of_items (items_left lane.tals)
+
+-- those of a data record
+abbrev pub notes_left : Annotations → List NoteValue
+notes_left notes = lane_notes_left notes.lane ++ notes_of_lanes (annotation_lanes notes.signals.now notes.bytes.now)

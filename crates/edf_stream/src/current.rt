@@ -32,7 +32,6 @@ impl FileReader {
 
     /// The lane of a signal in the data record at hand: its samples, two bytes each, the low byte first
     /// (EDF, "Data record"), or the bytes of its TALs.
-    #[tactic(auto, using(crate::proofs::SignalFacts::lanes_within))]
     pub fn run(&self, signal: usize) -> &[u8]
         requires current { IsTrue (is_current self.now.status) }
         requires signal { signal < length self.now.head.signals }

@@ -1,7 +1,6 @@
 //! The lanes of the annotation signals in a data record. EDF+ (2003), "The 'EDF Annotations' signal".
 
 ghost use Rattle.std.specs.Prelude.{◌≡◌, ◌+◌, ◌-◌, ◌*◌, ◌≤◌, ◌<◌, ◌^◌, min, length, [], None, Some, MatchResult, IfSome, IfOk, Option, unsigned_abs};
-ghost use Rattle.std.specs.List.{All};
 ghost use Rattle.edf_tal.specs.Views.{tal_view, items_left, start_of};
 ghost use Rattle.edf_tal.specs.Reading.{items_of};
 ghost use Rattle.edf_stream.specs.Records.{lane_of as lane_of_signal, annotation_lanes};
@@ -16,13 +15,14 @@ use edf_tal::start::{StartCause, start_by_first};
 use edf_tal::tal::Tal;
 use edf_tal::tals::Tals;
 
-/// The lane of a signal in the bytes of a data record.
+/// The lane of a signal in the bytes of a data record, cut short where they end.
 pub(crate) fn lane_of<'a>(signal: &Signal, bytes: &'a [u8]) -> &'a [u8]
-    requires { signal.now.offset + 2 * signal.now.samples ≤ length bytes.now }
     ensures { result.now ≡ lane_of_signal signal.now bytes.entry.now }
 {
-    let from = signal.offset();
-    &bytes[from..from + 2 * signal.samples() as usize]
+    let from = signal.offset().min(bytes.len());
+    let behind = &bytes[from..];
+    let count = (2 * signal.samples() as usize).min(behind.len());
+    &behind[..count]
 }
 
 /// How many texts a TAL has, up to the most that fit.
@@ -111,7 +111,6 @@ fn said_with(found: Option<Said>, said: Said) -> Said
 /// What the annotation lanes in the bytes of a data record say, none where there is no such lane; or
 /// why the first bad one is no list of TALs.
 pub(crate) fn said_by_lanes(signals: &[Signal], bytes: &[u8]) -> Result<Option<Said>, TalCause>
-    requires { All (λ signal. signal.offset + 2 * signal.samples ≤ length bytes.now) signals.now }
     ensures said { MatchResult result
         (λ found. (cause_of_lanes (annotation_lanes signals.now bytes.now) ≡ None)
         × (start_with found [] ≡ start_by_lanes (annotation_lanes signals.now bytes.now))

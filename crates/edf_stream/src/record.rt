@@ -1,7 +1,6 @@
 //! One data record: its tests, and reading it. EDF (1992), "Data record".
 
 ghost use Rattle.std.specs.Prelude.{◌≡◌, ℕ, ℤ, pos, ◌+◌, ◌-◌, ◌≤◌, ◌<◌, ◌<ℤ◌, ◌+ℤ◌, ◌^◌, min, List, [], length, Ok, None, Some, MatchResult, IfOk, IfSome, unsigned_abs};
-ghost use Rattle.std.specs.List.{All};
 ghost use Rattle.edf_header.specs.Heads.{record_bytes};
 ghost use Rattle.edf_stream.specs.Records.{annotation_lanes};
 ghost use Rattle.edf_stream.specs.Notes.{notes_in, notes_of_lanes};
@@ -37,9 +36,8 @@ fn judge_notes(k: u32, before: u32, texts: u32) -> Result<u32, Fault>
 }
 
 /// What the annotation lanes of data record `k` say, or that one of them is no list of TALs.
-#[tactic(auto, using(crate::proofs::SignalFacts::lanes_within), unfolding(crate::specs::Faults::lanes_fault, crate::specs::Starts::said_start))]
+#[tactic(auto, unfolding(crate::specs::Faults::lanes_fault, crate::specs::Starts::said_start))]
 fn judge_lanes(header: &Header, k: u32, bytes: &[u8]) -> Result<Option<Said>, Fault>
-    requires { length bytes.now ≡ record_bytes header.now }
     ensures said { MatchResult result
         (λ found. (lanes_fault k (cause_of_lanes (annotation_lanes header.now.signals bytes.now)) ≡ None)
         × (start_with found [] ≡ said_start header.now bytes.now)
