@@ -4,6 +4,7 @@ pub mod ColumnFacts
 pub mod ConformingFacts
 pub mod FirstFacts
 pub mod FixedFacts
+pub mod ForCallers
 pub mod HeadFacts
 pub mod KeptFacts
 pub mod PassedFacts

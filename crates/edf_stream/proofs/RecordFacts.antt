@@ -67,7 +67,7 @@ at_end file h k passed le =
     first-passed (records_tests file h 0 h.records) (trailing_fault file h ∷ []) (ap (λ n. first (records_tests file h 0 n)) (sym e) ∙ passed.records)
     ∙ alone (trailing_fault file h)
 
-there : (place : Place) (end len : ℕ) → end ≤ len → truncated place end len ≡ None
+pub there : (place : Place) (end len : ℕ) → end ≤ len → truncated place end len ≡ None
 unfolding truncated
 there place end len h = grind (arith, nat_tests)
 
@@ -75,7 +75,7 @@ missing : (place : Place) (end len : ℕ) → len < end → truncated place end 
 unfolding truncated
 missing place end len h = grind (arith, nat_tests)
 
-ended : (file : List ℕ) (h : Head) → length file ≤ place_of h h.records → trailing_fault file h ≡ None
+pub ended : (file : List ℕ) (h : Head) → length file ≤ place_of h h.records → trailing_fault file h ≡ None
 unfolding trailing_fault
 ended file h le = grind (arith, nat_tests)
 

@@ -3,9 +3,12 @@
 ghost use Rattle.std.specs.Prelude.{◌≡◌, ◌<◌, ◌^◌, IsTrue, length, unsigned_abs};
 ghost use Rattle.edf_stream.specs.Readers.{is_current};
 ghost use Rattle.edf_stream.specs.Records.{lane_in};
+ghost use Rattle.edf_stream.specs.Notes.{notes_in};
 ghost use Rattle.edf_stream.specs.Starts.{start_in};
+ghost use Rattle.edf_stream.specs.Views.{notes_left};
 
 use crate::lanes::lane_of;
+use crate::note::Annotations;
 use crate::reader::FileReader;
 use crate::status::Status;
 
@@ -38,5 +41,15 @@ impl FileReader {
         ensures { result.now ≡ lane_in self.entry.now.head self.entry.now.current signal }
     {
         lane_of(&self.header.signals()[signal], &self.buffer)
+    }
+
+    /// The annotations of the data record at hand, in order of annotation signal, TAL and text, with
+    /// onsets as the file has them. The time-keeping text is none of them (EDF+, "Time keeping of data
+    /// records").
+    pub fn annotations(&self) -> Annotations<'_>
+        requires { IsTrue (is_current self.now.status) }
+        ensures { notes_left result ≡ notes_in self.entry.now.head self.entry.now.current }
+    {
+        Annotations::new(&self.header, &self.buffer)
     }
 }

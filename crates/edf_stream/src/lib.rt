@@ -5,6 +5,7 @@
 pub mod conform;
 mod current;
 mod lanes;
+pub mod laws;
 pub mod note;
 mod read_record;
 pub mod reader;
