@@ -6,6 +6,7 @@ use Rattle.edf_header.specs.declared.fixed.Start.{Start}
 use Rattle.edf_header.specs.declared.fixed.Extent.{Extent}
 use Rattle.edf_header.specs.declared.kind.Kind.{Kind}
 use Rattle.edf_fields.specs.Identifications.{Patient, Recording}
+use Rattle.edf_fields.specs.Dates.{CivilDay}
 use Rattle.edf_fields.specs.Parts.{text_of}
 use Rattle.edf_header.specs.declared.layout.FixedField.TheVariants as fixed
 use Rattle.edf_header.specs.Layout.{fixed_part, fixed_field, columns_part}
@@ -41,7 +42,7 @@ view-is front bytes start extent signals s x e =
     let patient : Patient = patient_in (fixed_field front fixed.Patient) in
     let recording : Recording = recording_in (fixed_field front fixed.Recording) in
     let free : List ℕ = text_of (drop 5 (fixed_field front fixed.Reserved)) in
-    let made : ℤ → ℕ → Kind → ℕ → ℤ → List SignalHead → Head =
+    let made : CivilDay → ℕ → Kind → ℕ → ℤ → List SignalHead → Head =
     λ d c k r t l. record { patient = patient; recording = recording; day = d; clock = c; kind = k; free = free; records = r; duration = t; signals = l } in
     let h : Head = head_in front bytes in
     ap (λ d. made d start.clock extent.kind extent.records extent.duration_ps signals) (sym s.day)

@@ -1,6 +1,7 @@
 -- What the code's values say, in the words of the definitions.
 use Rattle.std.specs.Prelude.{◌≡◌, ◌≤◌, None, List, ℕ, length, drop}
 use Rattle.jiff.specs.Words.{epoch_day}
+use Rattle.edf_fields.specs.Dates.{civil_day}
 use Rattle.edf_fields.specs.Parts.{text_of}
 use Rattle.edf_fields.specs.Identifications.{patient_cause, recording_cause}
 use Rattle.edf_header.specs.declared.fixed.Start.{Start}
@@ -15,7 +16,7 @@ abbrev pub head_view : List ℕ → Start → Extent → List SignalHead → Hea
 head_view front start extent signals = record {
   patient = patient_in (fixed_field front fixed.Patient);
   recording = recording_in (fixed_field front fixed.Recording);
-  day = epoch_day start.date;
+  day = civil_day start.date;
   clock = start.clock;
   kind = extent.kind;
   free = text_of (drop 5 (fixed_field front fixed.Reserved));

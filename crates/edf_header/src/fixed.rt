@@ -1,17 +1,16 @@
 //! The fixed part of a header: its fields in order, each with the first fault of its text.
 
 ghost use Rattle.std.specs.Prelude.{◌≡◌, ◌*◌, ◌+◌, ◌≤◌, ◌<◌, ◌^◌, ◌≤ℤ◌, ◌*ℤ◌, ◌||◌, ℤ, pos, take, length, None, Some, codes, MatchOption, MatchResult, option_map, unwrap_or, unsigned_abs};
-ghost use Rattle.std.specs.Option.{option_map_or};
 ghost use Rattle.std.specs.Str.{bytes_eq};
 ghost use Rattle.jiff.specs.Words.{epoch_day};
 ghost use Rattle.edf_fields.specs.Parts.{text_of};
 ghost use Rattle.edf_fields.specs.Numbers.{whole_number_of, header_number_of};
-ghost use Rattle.edf_fields.specs.Dates.{dotted_day_of, clock_time_of};
+ghost use Rattle.edf_fields.specs.Dates.{civil_day, dotted_day_of, clock_time_of};
 ghost use Rattle.edf_fields.specs.Identifications.{patient_cause, recording_cause, recording_of};
 ghost use Rattle.edf_header.specs.declared.fault.Place.TheVariants.{AtField};
 ghost use Rattle.edf_header.specs.declared.fault.Cause.TheVariants.{Truncated};
 ghost use Rattle.edf_header.specs.Layout.{fixed_fields};
-ghost use Rattle.edf_header.specs.Heads.{kind_of, recording_in, day_number, in_picoseconds};
+ghost use Rattle.edf_header.specs.Heads.{first_day, kind_of, recording_in, in_picoseconds};
 ghost use Rattle.edf_header.specs.Judged.{SaysStart, SaysExtent};
 ghost use Rattle.edf_header.specs.Faults.{fixed_missing, start_faults, extent_faults, fixed_tests, version_fault, patient_fault, recording_fault, startdate_fault, starttime_fault, header_bytes_fault, reserved_fault, records_fault, duration_fault, signals_fault, header_size_fault};
 ghost use Rattle.edf_fields.specs.Tests.{first};
