@@ -6,8 +6,10 @@ use Rattle.edf_fields.specs.Parts.{text_of}
 use Rattle.edf_fields.specs.Identifications.{patient_cause, recording_cause}
 use Rattle.edf_header.specs.declared.fixed.Start.{Start}
 use Rattle.edf_header.specs.declared.fixed.Extent.{Extent}
+use Rattle.edf_header.specs.declared.judge_signal.SignalFields.{SignalFields}
 use Rattle.edf_header.specs.declared.layout.FixedField.TheVariants as fixed
-use Rattle.edf_header.specs.Layout.{fixed_field}
+use Rattle.edf_header.specs.declared.layout.SignalField.{SignalField}
+use Rattle.edf_header.specs.Layout.{fixed_field, signal_field}
 use Rattle.edf_header.specs.Heads.{SignalHead, Head, patient_in, recording_in, record_bytes}
 use Rattle.edf_header.specs.Sound.{IsSound}
 
@@ -33,3 +35,7 @@ pub record IsKept (front : List ℕ) (start : Start) (extent : Extent) (signals 
   pub days : start.days ≡ epoch_day start.date
   pub record_size : size ≡ record_bytes (head_view front start extent signals)
   pub sound : IsSound (head_view front start extent signals)
+
+-- the bytes of a field of the signal
+abbrev pub field_in : SignalFields → SignalField → List ℕ
+field_in fields field = signal_field fields.columns.now fields.signals fields.signal field
