@@ -1,5 +1,5 @@
 -- From the bytes that were read to the whole file.
-use Rattle.std.proofs.Common.{◌≡◌, ℕ, ◌+◌, ◌*◌, ◌≤◌, List, take, drop, length, length-take, length-drop, Some, None, sym, ap, ◌∙◌, arith, ℤ}
+use Rattle.std.proofs.Common.{◌≡◌, ℕ, ◌+◌, ◌*◌, List, take, drop, length, Some, None, sym, ap, ◌∙◌, arith, ℤ}
 use Rattle.std.proofs.lemmas.List.{drop-drop}
 use Rattle.edf_header.specs.declared.fault.Fault.{Fault}
 use Rattle.edf_header.specs.declared.fixed.Start.{Start}
@@ -34,6 +34,10 @@ columns-left b front bytes n e count cols passed =
     ∙ ap (λ k. first (columns_tests k (columns_part k b))) m
     ∙ ap (λ xs. first (columns_tests n xs)) (sym cols)
 
+-- the bytes that were read behind the fixed part are the columns
+pub columns-read : (b bytes items rest : List ℕ) (n m : ℕ) → bytes ≡ items → items ≡ take (256 * m) rest → rest ≡ drop 256 b → m ≡ n → bytes ≡ take (256 * n) (drop 256 b)
+columns-read b bytes items rest n m e read behind count = e ∙ read ∙ ap (take (256 * m)) behind ∙ ap (λ k. take (256 * k) (drop 256 b)) count
+
 -- what the code holds is what its bytes say
 pub view-is : (front bytes : List ℕ) (start : Start) (extent : Extent) (signals : List SignalHead)
     → SaysStart front start → SaysExtent front extent → signals ≡ signals_in extent.signals bytes
@@ -65,8 +69,3 @@ rest-is b front bytes rest n count e =
     let long : length (signals_in (signals_of front) bytes) ≡ n = length-signals bytes (signals_of front) 0 0 (signals_of front) ∙ count in
     let size : 256 + 256 * n ≡ 256 * (length (signals_in (signals_of front) bytes) + 1) = omega (arith, long) in
     e ∙ drop-drop (256 * n) 256 b ∙ ap (λ k. drop k b) size
-
-pub whole-is : (b front bytes : List ℕ) (n : ℕ) (signals : List SignalHead) → front ≡ take 256 b → 256 ≤ length front → bytes ≡ take (256 * n) (drop 256 b) → 256 * n ≤ length bytes → length signals ≡ n
-    → 256 * (length signals + 1) ≤ length b
-whole-is b front bytes n signals e long cols enough count =
-    omega (arith, count, long, enough, ap length e, ap length cols, length-take 256 b, length-take (256 * n) (drop 256 b), length-drop 256 b)

@@ -45,6 +45,13 @@ pub(crate) struct Extent {
     pub signals: u16,
 }
 
+/// What the fixed part says.
+#[derive(Clone, Copy)]
+pub(crate) struct Fixed {
+    pub start: Start,
+    pub extent: Extent,
+}
+
 /// Whether the version is 0.
 #[tactic(auto, unfolding(crate::specs::Faults::version_fault))]
 fn version(field: &[u8]) -> Result<(), Fault>
@@ -252,9 +259,9 @@ fn missing_field(len: usize) -> Option<FixedField>
 
 /// What the fixed part says, or its first fault; of a file that is shorter, `front` is all of it.
 #[tactic(auto, using(crate::proofs::FixedFacts::missing_found))]
-pub(crate) fn judge_fixed(front: &[u8]) -> Result<(Start, Extent), Fault>
+pub(crate) fn judge_fixed(front: &[u8]) -> Result<Fixed, Fault>
     ensures { MatchResult result
-        (λ v. (first (fixed_tests front.now) ≡ None) × (256 ≤ length front.now) × SaysStart front.now v.0 × SaysExtent front.now v.1)
+        (λ v. (first (fixed_tests front.now) ≡ None) × (256 ≤ length front.now) × SaysStart front.now v.start × SaysExtent front.now v.extent)
         (λ f. first (fixed_tests front.now) ≡ Some f) }
 {
     if let Some(field) = missing_field(front.len()) {
@@ -265,5 +272,5 @@ pub(crate) fn judge_fixed(front: &[u8]) -> Result<(Start, Extent), Fault>
     }
     let start = judge_start(front)?;
     let extent = judge_extent(front)?;
-    Ok((start, extent))
+    Ok(Fixed { start, extent })
 }
