@@ -1,5 +1,6 @@
 -- Which texts spell a number, and which number.
-use Rattle.std.specs.Prelude.{◌≡◌, ℕ, ℤ, Bool, Option, Some, None, nat_le, nat_lt, ◌&&◌, ◌||◌, ◌==◌, ◌+◌, ◌-◌, ◌*◌, ◌^◌, ◌<◌, ◌≤◌, pos, neg_ℤ, List, [], ◌∷◌, length, slice_index, drop, if◌then◌else◌, ◌↔◌}
+use Rattle.std.specs.Prelude.{◌≡◌, ℕ, ℤ, Bool, Option, Some, None, nat_le, nat_lt, ◌&&◌, ◌||◌, ◌==◌, ◌+◌, ◌-◌, ◌*◌, ◌^◌, ◌<◌, ◌≤◌}
+use Rattle.std.specs.Prelude.{pos, neg_ℤ, List, [], ◌∷◌, length, slice_index, drop, if◌then◌else◌, ◌↔◌}
 use Rattle.std.specs.List.{list_all, before_first, after_first}
 use Rattle.edf_fields.specs.Parts.{text_of}
 

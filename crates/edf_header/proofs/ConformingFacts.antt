@@ -7,7 +7,6 @@ use Rattle.std.specs.Str.{bytes_eq}
 use Rattle.std.proofs.lemmas.Bool.Decides.{Decides-int_eq}
 use Rattle.std.proofs.lemmas.Int.{ints}
 use Rattle.std.proofs.lemmas.List.{length-take, length-drop}
-use Rattle.std.proofs.lemmas.List.Elements.{All-nil, All-cons}
 use Rattle.std.proofs.lemmas.Slice.Eq.{bytes_eq-Decides}
 use Rattle.jiff.specs.Types.{Date}
 use Rattle.edf_fields.specs.Parts.{text_of}
@@ -374,11 +373,11 @@ fixed-pass file h c count =
     let long : 256 ≤ length front = omega (arith, size, taken) in
     let date = (recording_in (at fixed.Recording)).date in
     let dated : h.recording.date ≡ date = ap (λ r. r.date) (recording_is (at fixed.Recording) h.recording has.recording) in
-    let start_day : Date = ((has.day).1).0 in
-    let read : Some (civil_day start_day) ≡ dotted_day_of (text_of (at fixed.Startdate)) = dotted_day_read (Some start_day) (text_of (at fixed.Startdate)) ((has.day).0, (start_day, ((has.day).1).1, refl)) in
+    let start_day : Date = (has.day).0 in
+    let read : Some (civil_day start_day) ≡ dotted_day_of (text_of (at fixed.Startdate)) = dotted_day_read (Some start_day) (text_of (at fixed.Startdate)) (has.day).1 in
     let same : is_same_day (dashed_day_of date) (dotted_day_of (text_of (at fixed.Startdate))) ≡ true =
     subst (λ o. is_same_day (dashed_day_of date) o ≡ true) read
-    (same-day-passes date (civil_day start_day) h.day (sym ((has.day).1).2) (λ m named. sound.same_day m (subst (λ t. NamesDashedDay t m) (sym dated) named))) in
+    (same-day-passes date (civil_day start_day) (day_number h.day) (ap day_number (has.day).2) (λ m named. sound.same_day m (subst (λ t. NamesDashedDay t m) (sym dated) named))) in
     let second : Some h.clock ≡ clock_time_of (text_of (at fixed.Starttime)) = clock_time_read (Some h.clock) (text_of (at fixed.Starttime)) has.clock in
     let units = units-count has.units (subst (λ z. pos 1 ≤ℤ z) has.duration sound.some_time) in
     let some : 1 ≤ length h.signals = (let r = sound.annotations in let lt = get-within h.signals r.0 r.1 r.2 in omega (arith, lt)) in

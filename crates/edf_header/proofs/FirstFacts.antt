@@ -1,10 +1,8 @@
 -- The first fault of lists of tests.
-use Rattle.std.proofs.Common.{◌≡◌, List, [], ◌∷◌, ◌++◌, Option, Some, None, refl}
 use Rattle.edf_header.specs.declared.fault.Fault.{Fault}
 use Rattle.edf_header.specs.declared.stop.Stop.{Stop}
 use Rattle.edf_header.specs.declared.stop.Stop.TheVariants as stops
 use Rattle.edf_header.specs.Stops.{Stops}
-use Rattle.edf_fields.specs.Tests.{first}
 
 -- what is said of each way to stop may be weakened
 pub stops-weaker : (P Q : Fault → Type 0) (A B C D : Type 0) → ((f : Fault) → P f → Q f) → (A → B) → (C → D) → (e : Stop) → Stops P A C e → Stops Q B D e

@@ -1,13 +1,11 @@
 -- The header that bytes spell: a file that passes its tests has one, and no file has two.
 use Rattle.std.proofs.Common.{◌≡◌, ℕ, zero, suc, ℤ, pos, ◌+◌, ◌*◌, ◌≤◌, ◌||◌, take, Bool, true, false, cond, List, [], ◌∷◌, ◌++◌, length, slice_get, unwrap_or, Option, Some, None, codes, refl, sym, ap, ◌∙◌, subst, arith, ◌<◌, ◌≤ℤ◌, ◌^◌, unsigned_abs}
-use Rattle.std.specs.Option.{option_map_or}
 use Rattle.std.specs.Str.{bytes_eq}
 use Rattle.std.proofs.lemmas.Slice.Eq.{bytes_eq-Decides}
-use Rattle.jiff.specs.Types.{Date}
 use Rattle.jiff.specs.Words.{epoch_day}
 use Rattle.edf_fields.specs.Parts.{text_of, part}
 use Rattle.edf_fields.specs.Numbers.{SpellsWholeNumber, SpellsHeaderNumber, whole_number_of, header_number_of}
-use Rattle.edf_fields.specs.Dates.{CivilDay, NamesDottedDay, NamesClockTime, civil_day, dotted_day_of, dashed_day_of, clock_time_of}
+use Rattle.edf_fields.specs.Dates.{CivilDay, NamesClockTime, dotted_day_of, dashed_day_of, clock_time_of}
 use Rattle.edf_fields.specs.Identifications.{Patient, Recording, patient_cause, recording_cause}
 use Rattle.edf_fields.proofs.ForCallers.{dotted_day_read, clock_time_read, dotted_day-some, clock_time-some, whole_number_of-some, header_number_of-some, whole_number_of-spelled, header_number_of-spelled, header_number-below, first-none, first-cons}
 use Rattle.edf_header.specs.declared.fault.Place.TheVariants.{AtField}
@@ -20,7 +18,7 @@ use Rattle.edf_header.specs.declared.layout.FixedField.TheVariants as fixed
 use Rattle.edf_header.specs.declared.layout.SignalField.TheVariants as signal
 use Rattle.edf_header.specs.Calibrations.{Line}
 use Rattle.edf_header.specs.Layout.{fixed_part, fixed_field, fixed_fields, columns, columns_part, signal_field}
-use Rattle.edf_header.specs.Heads.{SignalHead, Head, HasSignal, HasHead, HasOneHead, AreSideBySide, kind_word, kind_of, in_picoseconds, count_of, day_number, recording_in, signals_of, line_of, signal_of, signals_from, signals_in, head_in, head_of}
+use Rattle.edf_header.specs.Heads.{SignalHead, Head, HasSignal, HasHead, HasOneHead, NamesStartdate, AreSideBySide, kind_word, kind_of, in_picoseconds, count_of, day_number, first_day, recording_in, signals_of, line_of, signal_of, signals_from, signals_in, head_in, head_of}
 use Rattle.edf_header.specs.Conforming.{PassingHasHead, PassingIsSound}
 use Rattle.edf_header.specs.Sound.{IsSound}
 use Rattle.jiff_core.proofs.DateLemmas.{epoch_day_range}
@@ -91,12 +89,8 @@ is-kind field Contiguous h = ap (λ xs. cond (bytes_eq xs (codes "EDF+C")) Conti
 is-kind field Interrupted h = ap (λ xs. cond (bytes_eq xs (codes "EDF+C")) Contiguous Interrupted) (sym h)
 
 -- the day and the time of the day that the fields name
-day-said : (field : List ℕ) (day : CivilDay) → dotted_day_of (text_of field) ≡ Some day → NamesDottedDay (text_of field) (option_map_or day_number (dotted_day_of (text_of field)) (pos 0))
-day-said field day e =
-    let r = dotted_day-some (text_of field) day e in
-    let number : epoch_day r.0 ≡ option_map_or day_number (dotted_day_of (text_of field)) (pos 0) =
-    ap day_number r.2 ∙ ap (λ o. option_map_or day_number o (pos 0)) (sym e) in
-    subst (NamesDottedDay (text_of field)) number r.1
+day-said : (field : List ℕ) (day : CivilDay) → dotted_day_of (text_of field) ≡ Some day → NamesStartdate (text_of field) (unwrap_or (dotted_day_of (text_of field)) first_day)
+day-said field day e = subst (λ o. NamesStartdate (text_of field) (unwrap_or o first_day)) (sym e) (dotted_day-some (text_of field) day e)
 
 clock-said : (field : List ℕ) (s : ℕ) → clock_time_of (text_of field) ≡ Some s → NamesClockTime (text_of field) (unwrap_or (clock_time_of (text_of field)) 0)
 clock-said field s e = subst (λ o. NamesClockTime (text_of field) (unwrap_or o 0)) (sym e) (clock_time-some (text_of field) s e)
@@ -293,7 +287,7 @@ head-read file h has =
     let day : h.day ≡ t.day = day-read (text_of (fixed_field front fixed.Startdate)) h.day has.day in
     let clock : h.clock ≡ t.clock = clock-read (text_of (fixed_field front fixed.Starttime)) h.clock has.clock in
     let duration : h.duration ≡ t.duration = has.duration ∙ ap in_picoseconds (read-number (fixed_field front fixed.Duration) has.units has.duration_spelled) in
-    let made : Patient → Recording → ℤ → ℕ → Kind → List ℕ → ℕ → ℤ → List SignalHead → Head =
+    let made : Patient → Recording → CivilDay → ℕ → Kind → List ℕ → ℕ → ℤ → List SignalHead → Head =
     λ p r d c k f n u l. record { patient = p; recording = r; day = d; clock = c; kind = k; free = f; records = n; duration = u; signals = l } in
     ap (λ p. made p h.recording h.day h.clock h.kind h.free h.records h.duration h.signals) (patient_is (fixed_field front fixed.Patient) h.patient has.patient)
     ∙ ap (λ r. made t.patient r h.day h.clock h.kind h.free h.records h.duration h.signals) (recording_is (fixed_field front fixed.Recording) h.recording has.recording)
@@ -305,11 +299,8 @@ head-read file h has =
     ∙ ap (λ u. made t.patient t.recording t.day t.clock t.kind t.free t.records u h.signals) duration
     ∙ ap (λ l. made t.patient t.recording t.day t.clock t.kind t.free t.records t.duration l) signals
   where
-    day-read : (text : List ℕ) (n : ℤ) → NamesDottedDay text n → n ≡ option_map_or day_number (dotted_day_of text) (pos 0)
-    day-read text n named =
-        let day : Date = (named.1).0 in
-        let read : Some (civil_day day) ≡ dotted_day_of text = dotted_day_read (Some day) text (named.0, (day, (named.1).1, refl)) in
-        (named.1).2 ∙ ap (λ o. option_map_or day_number o (pos 0)) read
+    day-read : (text : List ℕ) (day : CivilDay) → NamesStartdate text day → day ≡ unwrap_or (dotted_day_of text) first_day
+    day-read text day named = sym (named.2) ∙ ap (λ o. unwrap_or o first_day) (dotted_day_read (Some named.0) text named.1)
 
     clock-read : (text : List ℕ) (n : ℕ) → NamesClockTime text n → n ≡ unwrap_or (clock_time_of text) 0
     clock-read text n named = ap (λ o. unwrap_or o 0) (clock_time_read (Some n) text named)
@@ -321,11 +312,11 @@ pub passing_has_head : PassingHasHead
 passing_has_head file h = has-head file h
 
 -- the bounds of a day, a time, a count and a duration that were read
-near-day : (field : List ℕ) (day : CivilDay) → dotted_day_of (text_of field) ≡ Some day → unsigned_abs (option_map_or day_number (dotted_day_of (text_of field)) (pos 0)) < 5000000
+near-day : (field : List ℕ) (day : CivilDay) → dotted_day_of (text_of field) ≡ Some day → unsigned_abs (day_number (unwrap_or (dotted_day_of (text_of field)) first_day)) < 5000000
 near-day field day e =
     let r = dotted_day-some (text_of field) day e in
-    let number : epoch_day r.0 ≡ option_map_or day_number (dotted_day_of (text_of field)) (pos 0) =
-    ap day_number r.2 ∙ ap (λ o. option_map_or day_number o (pos 0)) (sym e) in
+    let number : epoch_day r.0 ≡ day_number (unwrap_or (dotted_day_of (text_of field)) first_day) =
+    ap day_number (r.2 ∙ ap (λ o. unwrap_or o first_day) (sym e)) in
     let range = epoch_day_range r.0 in
     let low = range.0 in
     let high = range.1 in

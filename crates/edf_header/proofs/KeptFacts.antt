@@ -1,10 +1,8 @@
 -- What the code keeps of a header holds, where its bytes passed their tests.
-use Rattle.std.proofs.Common.{◌≡◌, ℕ, ℤ, pos, ◌*◌, ◌≤◌, Bool, true, false, List, [], ◌∷◌, ◌++◌, length, Option, Some, None, refl, sym, ap, ◌∙◌, subst}
+use Rattle.std.proofs.Common.{◌≡◌, ℕ, ℤ, ◌*◌, ◌≤◌, Bool, true, false, List, [], ◌∷◌, ◌++◌, length, Option, Some, None, unwrap_or, refl, sym, ap, ◌∙◌, subst}
 use Rattle.std.specs.List.{All}
-use Rattle.std.specs.Option.{option_map_or}
 use Rattle.std.proofs.lemmas.Bool.Decides.{Decides-int_eq}
 use Rattle.jiff.specs.Types.{Date}
-use Rattle.jiff.specs.Words.{epoch_day}
 use Rattle.edf_fields.specs.Parts.{text_of}
 use Rattle.edf_fields.specs.Dates.{CivilDay, NamesDashedDay, civil_day, dotted_day_of, dashed_day_of}
 use Rattle.edf_fields.specs.Identifications.{Patient, Recording, SaysPatient, SaysRecording, patient_cause, recording_cause}
@@ -15,7 +13,7 @@ use Rattle.edf_header.specs.declared.fixed.Start.{Start}
 use Rattle.edf_header.specs.declared.fixed.Extent.{Extent}
 use Rattle.edf_header.specs.declared.layout.FixedField.TheVariants as fixed
 use Rattle.edf_header.specs.Layout.{fixed_fields, fixed_field, columns}
-use Rattle.edf_header.specs.Heads.{SignalHead, AreSideBySide, day_number, patient_in, recording_in, signals_in, samples_together}
+use Rattle.edf_header.specs.Heads.{SignalHead, AreSideBySide, day_number, first_day, patient_in, recording_in, signals_in, samples_together}
 use Rattle.edf_header.specs.Judged.{SaysStart, SaysExtent}
 use Rattle.edf_header.specs.Sound.{IsSoundSignal}
 use Rattle.edf_header.specs.Views.{IsKept}
@@ -47,11 +45,11 @@ startdate-passed date field h =
     let b = first-cons named (fault_unless same (AtField fixed.Startdate) StartdateDiffers ∷ []) a.1 in
     fault_unless-passed same (AtField fixed.Startdate) StartdateDiffers (first-cons (fault_unless same (AtField fixed.Startdate) StartdateDiffers) [] b.1).0
 
-same-number : (recorded : CivilDay) (o : Option CivilDay) → is_same_day (Some recorded) o ≡ true → day_number recorded ≡ option_map_or day_number o (pos 0)
+same-number : (recorded : CivilDay) (o : Option CivilDay) → is_same_day (Some recorded) o ≡ true → day_number recorded ≡ day_number (unwrap_or o first_day)
 same-number recorded None h = absurd (let e : false ≡ true = h in cc)
 same-number recorded (Some day) h = (Decides-int_eq (day_number recorded) (day_number day)).0 h
 
-pub same-day : (date : List ℕ) (o : Option CivilDay) (n : ℤ) → is_same_day (dashed_day_of date) o ≡ true → NamesDashedDay date n → n ≡ option_map_or day_number o (pos 0)
+pub same-day : (date : List ℕ) (o : Option CivilDay) (n : ℤ) → is_same_day (dashed_day_of date) o ≡ true → NamesDashedDay date n → n ≡ day_number (unwrap_or o first_day)
 same-day date o n h named =
     let day : Date = (named.1).0 in
     let read : Some (civil_day day) ≡ dashed_day_of date = dashed_day_read (Some day) date (named.0, (day, (named.1).1, refl)) in
@@ -84,8 +82,8 @@ kept front bytes start extent signals size long s x passed columns-passed e tota
     let patient = patient-said (fixed_field front fixed.Patient) s.patient in
     let recording = recording-said (fixed_field front fixed.Recording) s.recording in
     let date = (recording_in (fixed_field front fixed.Recording)).date in
-    let same : (m : ℤ) → NamesDashedDay date m → m ≡ epoch_day start.date =
-    λ m named. same-day date (dotted_day_of (text_of (fixed_field front fixed.Startdate))) m (startdate-passed date (fixed_field front fixed.Startdate) (startdate-of front passed)) named ∙ s.day in
+    let same : (m : ℤ) → NamesDashedDay date m → m ≡ day_number (civil_day start.date) =
+    λ m named. same-day date (dotted_day_of (text_of (fixed_field front fixed.Startdate))) m (startdate-passed date (fixed_field front fixed.Startdate) (startdate-of front passed)) named ∙ ap day_number s.day in
     let long-signals : length signals ≡ n = ap length e ∙ length-signals bytes n 0 0 n in
     let each : All IsSoundSignal signals = subst (All IsSoundSignal) (sym e) (signals-sound bytes n 0 0 n c1.0) in
     let beside : AreSideBySide 0 signals = subst (AreSideBySide 0) (sym e) (side-by-side bytes n 0 0 n) in

@@ -1,5 +1,5 @@
 -- A header that is in order passes its tests.
-use Rattle.std.proofs.Common.{◌≡◌, ◌≢◌, ℕ, zero, suc, ℤ, pos, neg_ℤ, ◌+◌, ◌*◌, ◌≤◌, ◌<◌, ◌≤ℤ◌, ◌<ℤ◌, ◌&&◌, ◌||◌, not, nat_le, int_le, int_lt, Bool, true, false, List, [], ◌∷◌, ◌++◌, take, slice_get, unwrap_or, Option, Some, None, codes, refl, ap, ◌∙◌, subst, arith}
+use Rattle.std.proofs.Common.{◌≡◌, ◌≢◌, ℕ, zero, suc, ℤ, pos, neg_ℤ, ◌+◌, ◌*◌, ◌≤◌, ◌<◌, ◌≤ℤ◌, ◌<ℤ◌, ◌&&◌, ◌||◌, not, int_le, int_lt, Bool, true, false, List, [], ◌∷◌, ◌++◌, take, slice_get, unwrap_or, Option, Some, None, codes, refl, ap, ◌∙◌, subst, arith}
 use Rattle.std.specs.List.{All, list_all}
 use Rattle.std.specs.Ordering.{int_eq}
 use Rattle.std.specs.Str.{bytes_eq}
@@ -11,8 +11,7 @@ use Rattle.edf_fields.specs.Numbers.{whole_number_of, header_number_of}
 use Rattle.edf_fields.specs.Dates.{CivilDay, dotted_day_of, dashed_day_of, clock_time_of}
 use Rattle.edf_fields.specs.Identifications.{patient_cause, recording_cause}
 use Rattle.edf_fields.specs.Printable.{is_printable, IsPrintable}
-use Rattle.edf_fields.proofs.ForCallers.{le_decided, whole_number_of-spelled, header_number_of-spelled, first-passed, pass-cons, pass-append, both-true, not-is, le-passes, lt-passes, printable_decided}
-use Rattle.edf_header.specs.declared.fault.Fault.{Fault}
+use Rattle.edf_fields.proofs.ForCallers.{whole_number_of-spelled, header_number_of-spelled, pass-cons, pass-append, both-true, not-is, le-passes, lt-passes, printable_decided}
 use Rattle.edf_header.specs.declared.fault.Place.{Place}
 use Rattle.edf_header.specs.declared.fault.Place.TheVariants.{AtField, AtSignal}
 use Rattle.edf_header.specs.declared.fault.Cause.{Cause}

@@ -1,11 +1,12 @@
 -- From the bytes that were read to the whole file.
-use Rattle.std.proofs.Common.{◌≡◌, ℕ, ◌+◌, ◌*◌, ◌≤◌, List, take, drop, length, length-take, length-drop, Some, None, sym, ap, ◌∙◌, arith, ℤ}
+use Rattle.std.proofs.Common.{◌≡◌, ℕ, ◌+◌, ◌*◌, List, take, drop, length, Some, None, sym, ap, ◌∙◌, arith, ℤ}
 use Rattle.std.proofs.lemmas.List.{drop-drop}
 use Rattle.edf_header.specs.declared.fault.Fault.{Fault}
 use Rattle.edf_header.specs.declared.fixed.Start.{Start}
 use Rattle.edf_header.specs.declared.fixed.Extent.{Extent}
 use Rattle.edf_header.specs.declared.kind.Kind.{Kind}
 use Rattle.edf_fields.specs.Identifications.{Patient, Recording}
+use Rattle.edf_fields.specs.Dates.{CivilDay}
 use Rattle.edf_fields.specs.Parts.{text_of}
 use Rattle.edf_header.specs.declared.layout.FixedField.TheVariants as fixed
 use Rattle.edf_header.specs.Layout.{fixed_part, fixed_field, columns_part}
@@ -33,6 +34,10 @@ columns-left b front bytes n e count cols passed =
     ∙ ap (λ k. first (columns_tests k (columns_part k b))) m
     ∙ ap (λ xs. first (columns_tests n xs)) (sym cols)
 
+-- the bytes that were read behind the fixed part are the columns
+pub columns-read : (b bytes items rest : List ℕ) (n m : ℕ) → bytes ≡ items → items ≡ take (256 * m) rest → rest ≡ drop 256 b → m ≡ n → bytes ≡ take (256 * n) (drop 256 b)
+columns-read b bytes items rest n m e read behind count = e ∙ read ∙ ap (take (256 * m)) behind ∙ ap (λ k. take (256 * k) (drop 256 b)) count
+
 -- what the code holds is what its bytes say
 pub view-is : (front bytes : List ℕ) (start : Start) (extent : Extent) (signals : List SignalHead)
     → SaysStart front start → SaysExtent front extent → signals ≡ signals_in extent.signals bytes
@@ -41,7 +46,7 @@ view-is front bytes start extent signals s x e =
     let patient : Patient = patient_in (fixed_field front fixed.Patient) in
     let recording : Recording = recording_in (fixed_field front fixed.Recording) in
     let free : List ℕ = text_of (drop 5 (fixed_field front fixed.Reserved)) in
-    let made : ℤ → ℕ → Kind → ℕ → ℤ → List SignalHead → Head =
+    let made : CivilDay → ℕ → Kind → ℕ → ℤ → List SignalHead → Head =
     λ d c k r t l. record { patient = patient; recording = recording; day = d; clock = c; kind = k; free = free; records = r; duration = t; signals = l } in
     let h : Head = head_in front bytes in
     ap (λ d. made d start.clock extent.kind extent.records extent.duration_ps signals) (sym s.day)
@@ -64,8 +69,3 @@ rest-is b front bytes rest n count e =
     let long : length (signals_in (signals_of front) bytes) ≡ n = length-signals bytes (signals_of front) 0 0 (signals_of front) ∙ count in
     let size : 256 + 256 * n ≡ 256 * (length (signals_in (signals_of front) bytes) + 1) = omega (arith, long) in
     e ∙ drop-drop (256 * n) 256 b ∙ ap (λ k. drop k b) size
-
-pub whole-is : (b front bytes : List ℕ) (n : ℕ) (signals : List SignalHead) → front ≡ take 256 b → 256 ≤ length front → bytes ≡ take (256 * n) (drop 256 b) → 256 * n ≤ length bytes → length signals ≡ n
-    → 256 * (length signals + 1) ≤ length b
-whole-is b front bytes n signals e long cols enough count =
-    omega (arith, count, long, enough, ap length e, ap length cols, length-take 256 b, length-take (256 * n) (drop 256 b), length-drop 256 b)

@@ -1,6 +1,5 @@
 -- What passing the tests of a header means.
 use Rattle.std.specs.Prelude.{◌≡◌, ℕ, pos, ◌≤◌, ◌<◌, ◌↔◌, List, length, None, codes}
-use Rattle.std.specs.List.{All}
 use Rattle.edf_fields.specs.Parts.{text_of}
 use Rattle.edf_fields.specs.Numbers.{SpellsWholeNumber}
 use Rattle.edf_header.specs.declared.layout.FixedField.{FixedField}

@@ -1,11 +1,12 @@
 -- What a header says (EDF, "Header record"; EDF+, "The EDF+ header").
 use Rattle.std.specs.Prelude.{◌≡◌, ℕ, zero, suc, ℤ, pos, negsuc, ◌+◌, ◌*◌, ◌+ℤ◌, ◌*ℤ◌, Bool, List, [], ◌∷◌, length, drop, take, Option, Some, None, slice_get, unwrap_or, codes, if◌then◌else◌}
-use Rattle.std.specs.Option.{option_map_or}
 use Rattle.std.specs.Str.{bytes_eq}
+use Rattle.jiff.specs.Types.{Date}
+use Rattle.jiff.specs.Words.{epoch_day}
 use Rattle.jiff_core.specs.Calendar.{days_from_civil}
 use Rattle.edf_fields.specs.Parts.{text_of}
 use Rattle.edf_fields.specs.Numbers.{SpellsWholeNumber, SpellsHeaderNumber, whole_number_of, header_number_of}
-use Rattle.edf_fields.specs.Dates.{CivilDay, NamesDottedDay, NamesClockTime, dotted_day_of, clock_time_of}
+use Rattle.edf_fields.specs.Dates.{CivilDay, civil_day, NamesDottedDay, NamesClockTime, dotted_day_of, clock_time_of}
 use Rattle.edf_fields.specs.Subfields.{subfields_of}
 use Rattle.edf_fields.specs.Identifications.{Patient, Recording, SaysPatient, SaysRecording, subfield}
 use Rattle.edf_header.specs.declared.kind.Kind.{Kind}
@@ -26,12 +27,12 @@ pub record SignalHead : Type 0 where
   pub samples : ℕ
   pub offset : ℕ
 
--- a header; the day is given by its number, 0 for 1970-01-01, and the clock counts the seconds of that day
+-- a header; the day is one of the calendar, and the clock counts the seconds of that day
 -- the free text stands behind `EDF+C` or `EDF+D`, and the duration is that of a data record, in picoseconds
 pub record Head : Type 0 where
   pub patient : Patient
   pub recording : Recording
-  pub day : ℤ
+  pub day : CivilDay
   pub clock : ℕ
   pub kind : Kind
   pub free : List ℕ
@@ -39,9 +40,17 @@ pub record Head : Type 0 where
   pub duration : ℤ
   pub signals : List SignalHead
 
+-- the number of a day, 0 for 1970-01-01, as `jiff` numbers days
+abbrev pub day_number : CivilDay → ℤ
+day_number day = days_from_civil day.year day.month day.day
+
 -- the second at which the recording starts, 0 for 1970-01-01 00:00:00 (civil time, without a time zone)
 abbrev pub start_second : Head → ℤ
-start_second h = (pos 86400 *ℤ h.day) +ℤ pos h.clock
+start_second h = (pos 86400 *ℤ day_number h.day) +ℤ pos h.clock
+
+-- the text is dd.mm.yy and names this day, which the calendar has
+abbrev pub NamesStartdate : List ℕ → CivilDay → Type 0
+NamesStartdate text day = (date : Date) × NamesDottedDay text (epoch_day date) × (civil_day date ≡ day)
 
 -- the reserved field begins with the word of this kind (EDF+, "The EDF+ header")
 abbrev pub kind_word : Kind → List ℕ
@@ -74,7 +83,7 @@ AreSideBySide before (head ∷ heads) = (head.offset ≡ before) × AreSideBySid
 pub record HasHead (file : List ℕ) (h : Head) : Type 0 where
   pub patient : SaysPatient (fixed_field (fixed_part file) fixed.Patient) h.patient
   pub recording : SaysRecording (fixed_field (fixed_part file) fixed.Recording) h.recording
-  pub day : NamesDottedDay (text_of (fixed_field (fixed_part file) fixed.Startdate)) h.day
+  pub day : NamesStartdate (text_of (fixed_field (fixed_part file) fixed.Startdate)) h.day
   pub clock : NamesClockTime (text_of (fixed_field (fixed_part file) fixed.Starttime)) h.clock
   pub kind : take 5 (fixed_field (fixed_part file) fixed.Reserved) ≡ kind_word h.kind
   pub free : h.free ≡ text_of (drop 5 (fixed_field (fixed_part file) fixed.Reserved))
@@ -92,9 +101,9 @@ count_of None = 0
 count_of (Some (pos n)) = n
 count_of (Some (negsuc n)) = 0
 
--- the number of a day, 0 for 1970-01-01, as `jiff` numbers days
-abbrev pub day_number : CivilDay → ℤ
-day_number day = days_from_civil day.year day.month day.day
+-- the day that counts where a text names none: 1970-01-01
+abbrev pub first_day : CivilDay
+first_day = record { year = pos 1970; month = 1; day = 1 }
 
 -- the patient of a field that says one
 abbrev pub patient_in : List ℕ → Patient
@@ -149,12 +158,12 @@ signals_from bytes n s before (suc m) =
 abbrev pub signals_in : ℕ → List ℕ → List SignalHead
 signals_in n bytes = signals_from bytes n 0 0 n
 
--- the header that the fixed part and the columns say; where a number isn't spelled it counts as 0
+-- the header that the fixed part and the columns say; where a number isn't spelled it counts as 0, and where no day is named it is 1970-01-01
 abbrev pub head_in : List ℕ → List ℕ → Head
 head_in front bytes = record {
   patient = patient_in (fixed_field front fixed.Patient);
   recording = recording_in (fixed_field front fixed.Recording);
-  day = option_map_or day_number (dotted_day_of (text_of (fixed_field front fixed.Startdate))) (pos 0);
+  day = unwrap_or (dotted_day_of (text_of (fixed_field front fixed.Startdate))) first_day;
   clock = unwrap_or (clock_time_of (text_of (fixed_field front fixed.Starttime))) 0;
   kind = kind_of (fixed_field front fixed.Reserved);
   free = text_of (drop 5 (fixed_field front fixed.Reserved));

@@ -1,22 +1,21 @@
 -- What the code holds of the two halves of the fixed part, once their tests have passed.
 use Rattle.std.specs.Prelude.{◌≡◌, ℕ, pos, ◌≤◌, ◌<◌, ◌≤ℤ◌, ◌^◌, List, None, unwrap_or, unsigned_abs}
-use Rattle.std.specs.Option.{option_map_or}
 use Rattle.jiff.specs.Words.{epoch_day}
 use Rattle.edf_fields.specs.Parts.{text_of}
 use Rattle.edf_fields.specs.Numbers.{whole_number_of, header_number_of}
-use Rattle.edf_fields.specs.Dates.{dotted_day_of, clock_time_of}
+use Rattle.edf_fields.specs.Dates.{civil_day, dotted_day_of, clock_time_of}
 use Rattle.edf_fields.specs.Identifications.{patient_cause, recording_cause}
 use Rattle.edf_header.specs.declared.fixed.Start.{Start}
 use Rattle.edf_header.specs.declared.fixed.Extent.{Extent}
 use Rattle.edf_header.specs.declared.layout.FixedField.TheVariants as fixed
 use Rattle.edf_header.specs.Layout.{fixed_field}
-use Rattle.edf_header.specs.Heads.{day_number, kind_of, count_of, signals_of, in_picoseconds}
+use Rattle.edf_header.specs.Heads.{first_day, kind_of, count_of, signals_of, in_picoseconds}
 
 -- the fields up to the starttime say this
 pub record SaysStart (front : List ℕ) (v : Start) : Type 0 where
   pub patient : patient_cause (fixed_field front fixed.Patient) ≡ None
   pub recording : recording_cause (fixed_field front fixed.Recording) ≡ None
-  pub day : option_map_or day_number (dotted_day_of (text_of (fixed_field front fixed.Startdate))) (pos 0) ≡ epoch_day v.date
+  pub day : unwrap_or (dotted_day_of (text_of (fixed_field front fixed.Startdate))) first_day ≡ civil_day v.date
   pub days : v.days ≡ epoch_day v.date
   pub near : unsigned_abs (epoch_day v.date) < 5000000
   pub clock : unwrap_or (clock_time_of (text_of (fixed_field front fixed.Starttime))) 0 ≡ v.clock

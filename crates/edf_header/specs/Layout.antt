@@ -6,31 +6,24 @@ use Rattle.edf_header.specs.declared.layout.FixedField.TheVariants as fixed
 use Rattle.edf_header.specs.declared.layout.SignalField.{SignalField}
 use Rattle.edf_header.specs.declared.layout.SignalField.TheVariants as signal
 
--- where a field of the fixed part begins
-abbrev pub fixed_from : FixedField → ℕ
-fixed_from fixed.Version = 0
-fixed_from fixed.Patient = 8
-fixed_from fixed.Recording = 88
-fixed_from fixed.Startdate = 168
-fixed_from fixed.Starttime = 176
-fixed_from fixed.HeaderBytes = 184
-fixed_from fixed.Reserved = 192
-fixed_from fixed.Records = 236
-fixed_from fixed.Duration = 244
-fixed_from fixed.Signals = 252
+-- where a field of the fixed part begins, and how many bytes it has
+abbrev pub fixed_extent : FixedField → ℕ × ℕ
+fixed_extent fixed.Version = (0, 8)
+fixed_extent fixed.Patient = (8, 80)
+fixed_extent fixed.Recording = (88, 80)
+fixed_extent fixed.Startdate = (168, 8)
+fixed_extent fixed.Starttime = (176, 8)
+fixed_extent fixed.HeaderBytes = (184, 8)
+fixed_extent fixed.Reserved = (192, 44)
+fixed_extent fixed.Records = (236, 8)
+fixed_extent fixed.Duration = (244, 8)
+fixed_extent fixed.Signals = (252, 4)
 
--- how many bytes it has
+abbrev pub fixed_from : FixedField → ℕ
+fixed_from field = (fixed_extent field).0
+
 abbrev pub fixed_bytes : FixedField → ℕ
-fixed_bytes fixed.Version = 8
-fixed_bytes fixed.Patient = 80
-fixed_bytes fixed.Recording = 80
-fixed_bytes fixed.Startdate = 8
-fixed_bytes fixed.Starttime = 8
-fixed_bytes fixed.HeaderBytes = 8
-fixed_bytes fixed.Reserved = 44
-fixed_bytes fixed.Records = 8
-fixed_bytes fixed.Duration = 8
-fixed_bytes fixed.Signals = 4
+fixed_bytes field = (fixed_extent field).1
 
 -- the fields of the fixed part, in file order
 abbrev pub fixed_fields : List FixedField
@@ -46,31 +39,24 @@ fixed_part file = part file 0 256
 abbrev pub fixed_field : List ℕ → FixedField → List ℕ
 fixed_field front field = part front (fixed_from field) (fixed_bytes field)
 
--- how many bytes of each signal stand in the columns before this one
-abbrev pub column_before : SignalField → ℕ
-column_before signal.Label = 0
-column_before signal.Transducer = 16
-column_before signal.Dimension = 96
-column_before signal.PhysicalMinimum = 104
-column_before signal.PhysicalMaximum = 112
-column_before signal.DigitalMinimum = 120
-column_before signal.DigitalMaximum = 128
-column_before signal.Prefilter = 136
-column_before signal.Samples = 216
-column_before signal.Reserved = 224
+-- how many bytes of each signal stand in the columns before this one, and how many in it
+abbrev pub column_extent : SignalField → ℕ × ℕ
+column_extent signal.Label = (0, 16)
+column_extent signal.Transducer = (16, 80)
+column_extent signal.Dimension = (96, 8)
+column_extent signal.PhysicalMinimum = (104, 8)
+column_extent signal.PhysicalMaximum = (112, 8)
+column_extent signal.DigitalMinimum = (120, 8)
+column_extent signal.DigitalMaximum = (128, 8)
+column_extent signal.Prefilter = (136, 80)
+column_extent signal.Samples = (216, 8)
+column_extent signal.Reserved = (224, 32)
 
--- how many bytes of each signal stand in this column
+abbrev pub column_before : SignalField → ℕ
+column_before field = (column_extent field).0
+
 abbrev pub column_width : SignalField → ℕ
-column_width signal.Label = 16
-column_width signal.Transducer = 80
-column_width signal.Dimension = 8
-column_width signal.PhysicalMinimum = 8
-column_width signal.PhysicalMaximum = 8
-column_width signal.DigitalMinimum = 8
-column_width signal.DigitalMaximum = 8
-column_width signal.Prefilter = 80
-column_width signal.Samples = 8
-column_width signal.Reserved = 32
+column_width field = (column_extent field).1
 
 -- the columns, in file order
 unfoldable pub columns : List SignalField

@@ -5,7 +5,7 @@ use Rattle.edf_fields.specs.Dates.{NamesDashedDay}
 use Rattle.edf_fields.specs.Identifications.{IsPatient, IsDateOrX}
 use Rattle.edf_header.specs.Calibrations.{IsCalibration}
 use Rattle.edf_header.specs.Channels.{IsChannel, HasDistinctChannels}
-use Rattle.edf_header.specs.Heads.{SignalHead, Head, AreSideBySide, is_annotations, record_bytes}
+use Rattle.edf_header.specs.Heads.{SignalHead, Head, day_number, AreSideBySide, is_annotations, record_bytes}
 
 -- a signal that passed its tests; a number field of 8 bytes spells no count of 9 digits
 pub record IsSoundSignal (head : SignalHead) : Type 0 where
@@ -27,7 +27,7 @@ HasSomeChannel signals = (s : ℕ) × (label : List ℕ) × IsChannel signals s 
 pub record MeetsStandard (h : Head) : Type 0 where
   pub patient : IsPatient h.patient
   pub date : IsDateOrX h.recording.date
-  pub same_day : (n : ℤ) → NamesDashedDay h.recording.date n → n ≡ h.day
+  pub same_day : (n : ℤ) → NamesDashedDay h.recording.date n → n ≡ day_number h.day
   pub some_records : 1 ≤ h.records
   pub some_time : pos 1 ≤ℤ h.duration
   pub annotations : HasAnnotationSignal h.signals
@@ -39,7 +39,7 @@ pub record MeetsStandard (h : Head) : Type 0 where
 
 -- what its numbers are below, since its fields have so many bytes and the calendar so many days
 pub record HasBounds (h : Head) : Type 0 where
-  pub near : unsigned_abs h.day < 5000000
+  pub near : unsigned_abs (day_number h.day) < 5000000
   pub early : h.clock < 86400
   pub few_records : h.records < 10 ^ 8
   pub little_time : unsigned_abs h.duration < 10 ^ 20

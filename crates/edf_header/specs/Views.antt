@@ -1,12 +1,15 @@
 -- What the code's values say, in the words of the definitions.
 use Rattle.std.specs.Prelude.{◌≡◌, ◌≤◌, None, List, ℕ, length, drop}
 use Rattle.jiff.specs.Words.{epoch_day}
+use Rattle.edf_fields.specs.Dates.{civil_day}
 use Rattle.edf_fields.specs.Parts.{text_of}
 use Rattle.edf_fields.specs.Identifications.{patient_cause, recording_cause}
 use Rattle.edf_header.specs.declared.fixed.Start.{Start}
 use Rattle.edf_header.specs.declared.fixed.Extent.{Extent}
+use Rattle.edf_header.specs.declared.judge_signal.SignalFields.{SignalFields}
 use Rattle.edf_header.specs.declared.layout.FixedField.TheVariants as fixed
-use Rattle.edf_header.specs.Layout.{fixed_field}
+use Rattle.edf_header.specs.declared.layout.SignalField.{SignalField}
+use Rattle.edf_header.specs.Layout.{fixed_field, signal_field}
 use Rattle.edf_header.specs.Heads.{SignalHead, Head, patient_in, recording_in, record_bytes}
 use Rattle.edf_header.specs.Sound.{IsSound}
 
@@ -15,7 +18,7 @@ abbrev pub head_view : List ℕ → Start → Extent → List SignalHead → Hea
 head_view front start extent signals = record {
   patient = patient_in (fixed_field front fixed.Patient);
   recording = recording_in (fixed_field front fixed.Recording);
-  day = epoch_day start.date;
+  day = civil_day start.date;
   clock = start.clock;
   kind = extent.kind;
   free = text_of (drop 5 (fixed_field front fixed.Reserved));
@@ -32,3 +35,7 @@ pub record IsKept (front : List ℕ) (start : Start) (extent : Extent) (signals 
   pub days : start.days ≡ epoch_day start.date
   pub record_size : size ≡ record_bytes (head_view front start extent signals)
   pub sound : IsSound (head_view front start extent signals)
+
+-- the bytes of a field of the signal
+abbrev pub field_in : SignalFields → SignalField → List ℕ
+field_in fields field = signal_field fields.columns.now fields.signals fields.signal field

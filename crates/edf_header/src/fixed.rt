@@ -1,17 +1,16 @@
 //! The fixed part of a header: its fields in order, each with the first fault of its text.
 
 ghost use Rattle.std.specs.Prelude.{◌≡◌, ◌*◌, ◌+◌, ◌≤◌, ◌<◌, ◌^◌, ◌≤ℤ◌, ◌*ℤ◌, ◌||◌, ℤ, pos, take, length, None, Some, codes, MatchOption, MatchResult, option_map, unwrap_or, unsigned_abs};
-ghost use Rattle.std.specs.Option.{option_map_or};
 ghost use Rattle.std.specs.Str.{bytes_eq};
 ghost use Rattle.jiff.specs.Words.{epoch_day};
 ghost use Rattle.edf_fields.specs.Parts.{text_of};
 ghost use Rattle.edf_fields.specs.Numbers.{whole_number_of, header_number_of};
-ghost use Rattle.edf_fields.specs.Dates.{dotted_day_of, clock_time_of};
+ghost use Rattle.edf_fields.specs.Dates.{civil_day, dotted_day_of, clock_time_of};
 ghost use Rattle.edf_fields.specs.Identifications.{patient_cause, recording_cause, recording_of};
 ghost use Rattle.edf_header.specs.declared.fault.Place.TheVariants.{AtField};
 ghost use Rattle.edf_header.specs.declared.fault.Cause.TheVariants.{Truncated};
 ghost use Rattle.edf_header.specs.Layout.{fixed_fields};
-ghost use Rattle.edf_header.specs.Heads.{kind_of, recording_in, day_number, in_picoseconds};
+ghost use Rattle.edf_header.specs.Heads.{first_day, kind_of, recording_in, in_picoseconds};
 ghost use Rattle.edf_header.specs.Judged.{SaysStart, SaysExtent};
 ghost use Rattle.edf_header.specs.Faults.{fixed_missing, start_faults, extent_faults, fixed_tests, version_fault, patient_fault, recording_fault, startdate_fault, starttime_fault, header_bytes_fault, reserved_fault, records_fault, duration_fault, signals_fault, header_size_fault};
 ghost use Rattle.edf_fields.specs.Tests.{first};
@@ -44,6 +43,13 @@ pub(crate) struct Extent {
     /// Of each data record, in picoseconds.
     pub duration_ps: i128,
     pub signals: u16,
+}
+
+/// What the fixed part says.
+#[derive(Clone, Copy)]
+pub(crate) struct Fixed {
+    pub start: Start,
+    pub extent: Extent,
 }
 
 /// Whether the version is 0.
@@ -253,9 +259,9 @@ fn missing_field(len: usize) -> Option<FixedField>
 
 /// What the fixed part says, or its first fault; of a file that is shorter, `front` is all of it.
 #[tactic(auto, using(crate::proofs::FixedFacts::missing_found))]
-pub(crate) fn judge_fixed(front: &[u8]) -> Result<(Start, Extent), Fault>
+pub(crate) fn judge_fixed(front: &[u8]) -> Result<Fixed, Fault>
     ensures { MatchResult result
-        (λ v. (first (fixed_tests front.now) ≡ None) × (256 ≤ length front.now) × SaysStart front.now v.0 × SaysExtent front.now v.1)
+        (λ v. (first (fixed_tests front.now) ≡ None) × (256 ≤ length front.now) × SaysStart front.now v.start × SaysExtent front.now v.extent)
         (λ f. first (fixed_tests front.now) ≡ Some f) }
 {
     if let Some(field) = missing_field(front.len()) {
@@ -266,5 +272,5 @@ pub(crate) fn judge_fixed(front: &[u8]) -> Result<(Start, Extent), Fault>
     }
     let start = judge_start(front)?;
     let extent = judge_extent(front)?;
-    Ok((start, extent))
+    Ok(Fixed { start, extent })
 }

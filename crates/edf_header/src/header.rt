@@ -1,7 +1,7 @@
 //! The header of a file.
 
 ghost use Rattle.std.specs.Prelude.{◌≡◌, ◌<◌, ◌^◌, ◌*ℤ◌, ◌+ℤ◌, pos, unsigned_abs};
-ghost use Rattle.jiff.specs.Words.{epoch_day};
+ghost use Rattle.edf_fields.specs.Dates.{civil_day};
 ghost use Rattle.edf_fields.specs.Identifications.{patient_of, recording_of};
 ghost use Rattle.edf_header.specs.Heads.{start_second, record_bytes};
 ghost use Rattle.edf_header.specs.Sound.{IsSound};
@@ -58,7 +58,7 @@ fn second_of(days: i32, clock: u32) -> i64
 impl Header {
     /// The day at which the recording starts (EDF, "Header record": startdate; EDF+, "The EDF+ header").
     pub fn start_date(&self) -> Date
-        ensures { epoch_day result ≡ self.now.day }
+        ensures { civil_day result ≡ self.now.day }
     {
         self.start.date
     }

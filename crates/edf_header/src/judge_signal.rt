@@ -8,7 +8,6 @@ ghost use Rattle.edf_header.specs.Extremes.{extremes_line};
 ghost use Rattle.edf_header.specs.Faults.{text_fault, physical_fault, digital_fault, samples_fault, digital_order_fault, physical_differ_fault, annotation_fault, naming_faults, extreme_faults, sampling_faults, agreement_faults, signal_faults};
 ghost use Rattle.edf_fields.specs.Tests.{first};
 ghost use Rattle.edf_header.specs.Heads.{line_of, signal_of};
-ghost use Rattle.edf_header.specs.Layout.{signal_field as signal_field_of};
 ghost use Rattle.edf_header.specs.Stops.{Stops};
 
 use crate::calibration::Calibration;
@@ -36,123 +35,10 @@ pub(crate) struct Extremes {
     pub digital_maximum: i16,
 }
 
-/// A field that holds a text.
-#[tactic(auto, unfolding(crate::specs::Faults::text_fault))]
-fn judge_text(signal: u16, field: SignalField, bytes: &[u8]) -> Result<(), Fault>
-    ensures { MatchResult result (λ _. text_fault signal field bytes.now ≡ None) (λ f. text_fault signal field bytes.now ≡ Some f) }
-{
-    printable(Place::AtSignal(signal, field), bytes)
-}
-
-/// A physical extreme, in units of 10^-7.
-#[tactic(auto, unfolding(crate::specs::Faults::physical_fault))]
-fn physical(signal: u16, field: SignalField, bytes: &[u8]) -> Result<i64, Fault>
-    ensures { MatchResult result
-        (λ v. (physical_fault signal field bytes.now ≡ None) × (unwrap_or (header_number_of bytes.now) (pos 0) ≡ v) × (unsigned_abs v < 10 ^ 15))
-        (λ f. physical_fault signal field bytes.now ≡ Some f) }
-{
-    let place = Place::AtSignal(signal, field);
-    printable(place, bytes)?;
-    some_number(place, header_number(bytes))
-}
-
-/// A digital extreme.
-#[tactic(auto, unfolding(crate::specs::Faults::digital_fault))]
-fn digital(signal: u16, field: SignalField, bytes: &[u8]) -> Result<i16, Fault>
-    ensures { MatchResult result
-        (λ v. (digital_fault signal field bytes.now ≡ None) × (unwrap_or (whole_number_of bytes.now) (pos 0) ≡ v))
-        (λ f. digital_fault signal field bytes.now ≡ Some f) }
-{
-    let place = Place::AtSignal(signal, field);
-    printable(place, bytes)?;
-    two_bytes(place, header_whole(bytes))
-}
-
-/// How many samples a signal has in a data record: a whole number from 1 on.
-#[tactic(auto, unfolding(crate::specs::Faults::samples_fault))]
-fn samples(signal: u16, bytes: &[u8]) -> Result<u32, Fault>
-    requires { length bytes.now ≤ 8 }
-    ensures { MatchResult result
-        (λ v. (samples_fault signal bytes.now ≡ None) × (whole_number_of bytes.now ≡ Some (pos v)) × (1 ≤ v) × (v < 10 ^ 8))
-        (λ f. samples_fault signal bytes.now ≡ Some f) }
-{
-    let place = Place::AtSignal(signal, SignalField::Samples);
-    printable(place, bytes)?;
-    count(place, bytes)
-}
-
-/// The bytes of a field of a signal.
-fn field_of(columns: Columns<'_>, signal: u16, field: SignalField) -> &[u8]
-    requires some { signal < columns.signals }
-    requires whole { 256 * columns.signals ≤ length columns.bytes.now }
-    ensures { result.now ≡ signal_field_of columns.entry.bytes.now columns.entry.signals signal field }
-{
-    signal_field(
-        columns.bytes,
-        usize::from(columns.signals),
-        usize::from(signal),
-        field,
-    )
-}
-
-/// Label, transducer and dimension.
-fn judge_naming(columns: Columns<'_>, signal: u16) -> Result<(), Fault>
-    requires some { signal < columns.signals }
-    requires whole { 256 * columns.signals ≤ length columns.bytes.now }
-    ensures { MatchResult result
-        (λ _. first (naming_faults columns.entry.bytes.now columns.entry.signals signal) ≡ None)
-        (λ f. first (naming_faults columns.entry.bytes.now columns.entry.signals signal) ≡ Some f) }
-{
-    let field = SignalField::Label;
-    judge_text(signal, field, field_of(columns, signal, field))?;
-    let field = SignalField::Transducer;
-    judge_text(signal, field, field_of(columns, signal, field))?;
-    let field = SignalField::Dimension;
-    judge_text(signal, field, field_of(columns, signal, field))
-}
-
-/// The extremes.
-fn judge_extremes(columns: Columns<'_>, signal: u16) -> Result<Extremes, Fault>
-    requires some { signal < columns.signals }
-    requires whole { 256 * columns.signals ≤ length columns.bytes.now }
-    ensures { MatchResult result
-        (λ v. (first (extreme_faults columns.entry.bytes.now columns.entry.signals signal) ≡ None)
-        × (extremes_line v ≡ line_of columns.entry.bytes.now columns.entry.signals signal)
-        × (unsigned_abs v.physical_minimum < 10 ^ 15) × (unsigned_abs v.physical_maximum < 10 ^ 15))
-        (λ f. first (extreme_faults columns.entry.bytes.now columns.entry.signals signal) ≡ Some f) }
-{
-    let field = SignalField::PhysicalMinimum;
-    let physical_minimum = physical(signal, field, field_of(columns, signal, field))?;
-    let field = SignalField::PhysicalMaximum;
-    let physical_maximum = physical(signal, field, field_of(columns, signal, field))?;
-    let field = SignalField::DigitalMinimum;
-    let digital_minimum = digital(signal, field, field_of(columns, signal, field))?;
-    let field = SignalField::DigitalMaximum;
-    let digital_maximum = digital(signal, field, field_of(columns, signal, field))?;
-    Ok(Extremes {
-        physical_minimum,
-        physical_maximum,
-        digital_minimum,
-        digital_maximum,
-    })
-}
-
-/// Prefilter, samples and reserved: how many samples the signal has in a data record.
-fn judge_sampling(columns: Columns<'_>, signal: u16) -> Result<u32, Fault>
-    requires some { signal < columns.signals }
-    requires whole { 256 * columns.signals ≤ length columns.bytes.now }
-    ensures { MatchResult result
-        (λ v. (first (sampling_faults columns.entry.bytes.now columns.entry.signals signal) ≡ None)
-        × (whole_number_of (signal_field_of columns.entry.bytes.now columns.entry.signals signal Samples) ≡ Some (pos v))
-        × (v < 10 ^ 8))
-        (λ f. first (sampling_faults columns.entry.bytes.now columns.entry.signals signal) ≡ Some f) }
-{
-    let field = SignalField::Prefilter;
-    judge_text(signal, field, field_of(columns, signal, field))?;
-    let count = samples(signal, field_of(columns, signal, SignalField::Samples))?;
-    let field = SignalField::Reserved;
-    judge_text(signal, field, field_of(columns, signal, field))?;
-    Ok(count)
+/// The numbers that the fields of a signal spell.
+pub(crate) struct Numbers {
+    pub calibration: Calibration,
+    pub samples: u32,
 }
 
 /// Whether the digital extremes are in order.
@@ -224,47 +110,147 @@ fn judge_agreement(signal: u16, label: &[u8], extremes: &Extremes) -> Result<Cal
     ))
 }
 
-/// The numbers that the fields of a signal spell.
-pub(crate) struct Numbers {
-    pub calibration: Calibration,
-    pub samples: u32,
-}
-
-/// The numbers of a signal, or the first fault of its fields.
-#[tactic(auto, using(crate::proofs::SignalFacts::naming_found))]
-fn judge_fields(columns: Columns<'_>, signal: u16) -> Result<Numbers, Fault>
-    requires some { signal < columns.signals }
-    requires whole { 256 * columns.signals ≤ length columns.bytes.now }
-    ensures { MatchResult result
-        (λ v. (first (signal_faults columns.entry.bytes.now columns.entry.signals signal) ≡ None)
-        × (v.calibration ≡ line_of columns.entry.bytes.now columns.entry.signals signal)
-        × (whole_number_of (signal_field_of columns.entry.bytes.now columns.entry.signals signal Samples) ≡ Some (pos v.samples))
-        × (v.samples < 10 ^ 8))
-        (λ f. first (signal_faults columns.entry.bytes.now columns.entry.signals signal) ≡ Some f) }
-{
-    judge_naming(columns, signal)?;
-    let extremes = judge_extremes(columns, signal)?;
-    let samples = judge_sampling(columns, signal)?;
-    let label = field_of(columns, signal, SignalField::Label);
-    let calibration = judge_agreement(signal, label, &extremes)?;
-    Ok(Numbers {
-        calibration,
-        samples,
-    })
-}
-
-/// The text of a field of a signal, in memory of its own.
-fn own_text(
-    alloc: Global,
-    columns: Columns<'_>,
+/// The fields of one signal of the columns.
+#[derive(Clone, Copy)]
+struct SignalFields<'a> {
+    columns: &'a [u8],
+    signals: u16,
     signal: u16,
-    field: SignalField,
-) -> Result<Vec<u8>, AllocError>
-    requires some { signal < columns.signals }
-    requires whole { 256 * columns.signals ≤ length columns.bytes.now }
-    ensures { IfOk result (λ v. v.items ≡ text_of (signal_field_of columns.entry.bytes.now columns.entry.signals signal field)) }
-{
-    Vec::from_slice(alloc, text(field_of(columns, signal, field)))
+    ghost some: { signal < signals },
+    ghost whole: { 256 * signals ≤ length columns.now },
+}
+
+impl<'a> SignalFields<'a> {
+    ghost use Rattle.edf_header.specs.Views.{field_in};
+
+    /// The bytes of a field.
+    fn bytes(self, field: SignalField) -> &'a [u8]
+        ensures { result.now ≡ field_in self.entry field }
+    {
+        signal_field(
+            self.columns,
+            usize::from(self.signals),
+            usize::from(self.signal),
+            field,
+        )
+    }
+
+    /// A field that holds a text.
+    #[tactic(auto, unfolding(crate::specs::Faults::text_fault))]
+    fn text(self, field: SignalField) -> Result<(), Fault>
+        ensures { MatchResult result
+            (λ _. text_fault self.entry.signal field (field_in self.entry field) ≡ None)
+            (λ f. text_fault self.entry.signal field (field_in self.entry field) ≡ Some f) }
+    {
+        printable(Place::AtSignal(self.signal, field), self.bytes(field))
+    }
+
+    /// A physical extreme, in units of 10^-7.
+    #[tactic(auto, unfolding(crate::specs::Faults::physical_fault))]
+    fn physical(self, field: SignalField) -> Result<i64, Fault>
+        ensures { MatchResult result
+            (λ v. (physical_fault self.entry.signal field (field_in self.entry field) ≡ None)
+            × (unwrap_or (header_number_of (field_in self.entry field)) (pos 0) ≡ v) × (unsigned_abs v < 10 ^ 15))
+            (λ f. physical_fault self.entry.signal field (field_in self.entry field) ≡ Some f) }
+    {
+        let place = Place::AtSignal(self.signal, field);
+        printable(place, self.bytes(field))?;
+        some_number(place, header_number(self.bytes(field)))
+    }
+
+    /// A digital extreme.
+    #[tactic(auto, unfolding(crate::specs::Faults::digital_fault))]
+    fn digital(self, field: SignalField) -> Result<i16, Fault>
+        ensures { MatchResult result
+            (λ v. (digital_fault self.entry.signal field (field_in self.entry field) ≡ None)
+            × (unwrap_or (whole_number_of (field_in self.entry field)) (pos 0) ≡ v))
+            (λ f. digital_fault self.entry.signal field (field_in self.entry field) ≡ Some f) }
+    {
+        let place = Place::AtSignal(self.signal, field);
+        printable(place, self.bytes(field))?;
+        two_bytes(place, header_whole(self.bytes(field)))
+    }
+
+    /// How many samples the signal has in a data record: a whole number from 1 on.
+    #[tactic(auto, unfolding(crate::specs::Faults::samples_fault))]
+    fn samples(self) -> Result<u32, Fault>
+        ensures { MatchResult result
+            (λ v. (samples_fault self.entry.signal (field_in self.entry Samples) ≡ None)
+            × (whole_number_of (field_in self.entry Samples) ≡ Some (pos v)) × (1 ≤ v) × (v < 10 ^ 8))
+            (λ f. samples_fault self.entry.signal (field_in self.entry Samples) ≡ Some f) }
+    {
+        let place = Place::AtSignal(self.signal, SignalField::Samples);
+        let bytes = self.bytes(SignalField::Samples);
+        printable(place, bytes)?;
+        count(place, bytes)
+    }
+
+    /// Label, transducer and dimension.
+    fn judge_naming(self) -> Result<(), Fault>
+        ensures { MatchResult result
+            (λ _. first (naming_faults self.entry.columns.now self.entry.signals self.entry.signal) ≡ None)
+            (λ f. first (naming_faults self.entry.columns.now self.entry.signals self.entry.signal) ≡ Some f) }
+    {
+        self.text(SignalField::Label)?;
+        self.text(SignalField::Transducer)?;
+        self.text(SignalField::Dimension)
+    }
+
+    /// The extremes.
+    fn judge_extremes(self) -> Result<Extremes, Fault>
+        ensures { MatchResult result
+            (λ v. (first (extreme_faults self.entry.columns.now self.entry.signals self.entry.signal) ≡ None)
+            × (extremes_line v ≡ line_of self.entry.columns.now self.entry.signals self.entry.signal)
+            × (unsigned_abs v.physical_minimum < 10 ^ 15) × (unsigned_abs v.physical_maximum < 10 ^ 15))
+            (λ f. first (extreme_faults self.entry.columns.now self.entry.signals self.entry.signal) ≡ Some f) }
+    {
+        Ok(Extremes {
+            physical_minimum: self.physical(SignalField::PhysicalMinimum)?,
+            physical_maximum: self.physical(SignalField::PhysicalMaximum)?,
+            digital_minimum: self.digital(SignalField::DigitalMinimum)?,
+            digital_maximum: self.digital(SignalField::DigitalMaximum)?,
+        })
+    }
+
+    /// Prefilter, samples and reserved: how many samples the signal has in a data record.
+    fn judge_sampling(self) -> Result<u32, Fault>
+        ensures { MatchResult result
+            (λ v. (first (sampling_faults self.entry.columns.now self.entry.signals self.entry.signal) ≡ None)
+            × (whole_number_of (field_in self.entry Samples) ≡ Some (pos v)) × (v < 10 ^ 8))
+            (λ f. first (sampling_faults self.entry.columns.now self.entry.signals self.entry.signal) ≡ Some f) }
+    {
+        self.text(SignalField::Prefilter)?;
+        let samples = self.samples()?;
+        self.text(SignalField::Reserved)?;
+        Ok(samples)
+    }
+
+    /// The numbers of the signal, or the first fault of its fields.
+    #[tactic(auto, using(crate::proofs::SignalFacts::naming_found))]
+    fn numbers(self) -> Result<Numbers, Fault>
+        ensures { MatchResult result
+            (λ v. (first (signal_faults self.entry.columns.now self.entry.signals self.entry.signal) ≡ None)
+            × (v.calibration ≡ line_of self.entry.columns.now self.entry.signals self.entry.signal)
+            × (whole_number_of (field_in self.entry Samples) ≡ Some (pos v.samples)) × (v.samples < 10 ^ 8))
+            (λ f. first (signal_faults self.entry.columns.now self.entry.signals self.entry.signal) ≡ Some f) }
+    {
+        self.judge_naming()?;
+        let extremes = self.judge_extremes()?;
+        let samples = self.judge_sampling()?;
+        let label = self.bytes(SignalField::Label);
+        let calibration = judge_agreement(self.signal, label, &extremes)?;
+        Ok(Numbers {
+            calibration,
+            samples,
+        })
+    }
+
+    /// The text of a field, in memory of its own.
+    fn own_text(self, alloc: Global, field: SignalField) -> Result<Vec<u8>, AllocError>
+        ensures { IfOk result (λ v. v.items ≡ text_of (field_in self.entry field)) }
+    {
+        Vec::from_slice(alloc, text(self.bytes(field)))
+    }
 }
 
 /// A signal, with `offset` bytes before it in a data record, or the first fault of its fields.
@@ -281,16 +267,21 @@ pub(crate) fn judge_signal(
         × (v.samples < 10 ^ 8)) }
     ensures stop { IfErr result (Stops (λ f. first (signal_faults columns.entry.bytes.now columns.entry.signals signal) ≡ Some f) ⊥ (Unit {0})) }
 {
+    let fields = SignalFields {
+        columns: columns.bytes,
+        signals: columns.signals,
+        signal,
+    };
     let Numbers {
         calibration,
         samples,
-    } = judge_fields(columns, signal)?;
+    } = fields.numbers()?;
     Ok(Signal {
-        label: own_text(alloc, columns, signal, SignalField::Label)?,
-        transducer: own_text(alloc, columns, signal, SignalField::Transducer)?,
-        dimension: own_text(alloc, columns, signal, SignalField::Dimension)?,
-        prefilter: own_text(alloc, columns, signal, SignalField::Prefilter)?,
-        reserved: own_text(alloc, columns, signal, SignalField::Reserved)?,
+        label: fields.own_text(alloc, SignalField::Label)?,
+        transducer: fields.own_text(alloc, SignalField::Transducer)?,
+        dimension: fields.own_text(alloc, SignalField::Dimension)?,
+        prefilter: fields.own_text(alloc, SignalField::Prefilter)?,
+        reserved: fields.own_text(alloc, SignalField::Reserved)?,
         calibration,
         samples,
         offset,

@@ -58,19 +58,19 @@ impl Header {
         ensures behind { IfOk result (λ h. IsTrue (S.is_honest source.old) → S.left source.new ≡ drop (header_bytes h) (S.left source.old)) }
     {
         let front = next_bytes(alloc, source, 256)?;
-        let (start, extent) = judge_fixed(&front)?;
-        let columns = next_bytes(alloc, source, 256 * usize::from(extent.signals))?;
+        let fixed = judge_fixed(&front)?;
+        let columns = next_bytes(alloc, source, 256 * usize::from(fixed.extent.signals))?;
         let body = judge_columns(
             alloc,
             Columns {
                 bytes: &columns,
-                signals: extent.signals,
+                signals: fixed.extent.signals,
             },
         )?;
         Ok(Header {
             front,
-            start,
-            extent,
+            start: fixed.start,
+            extent: fixed.extent,
             body,
         })
     }

@@ -1,13 +1,11 @@
 //! The day at which a recording starts, which the header says twice: the date in the recording
 //! identification, where it isn't `X`, is the startdate (EDF+, "Additional specifications in EDF+").
 
-ghost use Rattle.std.specs.Prelude.{◌≡◌, pos, None, Some, MatchResult};
-ghost use Rattle.std.specs.Option.{option_map_or};
-ghost use Rattle.jiff.specs.Words.{epoch_day};
+ghost use Rattle.std.specs.Prelude.{◌≡◌, None, Some, MatchResult, unwrap_or};
 ghost use Rattle.edf_fields.specs.Parts.{text_of};
-ghost use Rattle.edf_fields.specs.Dates.{dotted_day_of};
+ghost use Rattle.edf_fields.specs.Dates.{civil_day, dotted_day_of};
 ghost use Rattle.edf_fields.specs.Identifications.{recording_cause, recording_of};
-ghost use Rattle.edf_header.specs.Heads.{recording_in, day_number};
+ghost use Rattle.edf_header.specs.Heads.{first_day, recording_in};
 ghost use Rattle.edf_header.specs.Faults.{recording_fault, startdate_fault};
 
 use crate::fault::{Cause, Fault, Place};
@@ -53,7 +51,7 @@ pub(crate) fn recording_date(field: &[u8]) -> Result<&[u8], Fault>
 #[tactic(auto, unfolding(crate::specs::Faults::startdate_fault))]
 pub(crate) fn startdate(recorded: &[u8], field: &[u8]) -> Result<Date, Fault>
     ensures { MatchResult result
-        (λ d. (startdate_fault recorded.now field.now ≡ None) × (option_map_or day_number (dotted_day_of (text_of field.now)) (pos 0) ≡ epoch_day d))
+        (λ d. (startdate_fault recorded.now field.now ≡ None) × (unwrap_or (dotted_day_of (text_of field.now)) first_day ≡ civil_day d))
         (λ f. startdate_fault recorded.now field.now ≡ Some f) }
 {
     let place = Place::AtField(FixedField::Startdate);

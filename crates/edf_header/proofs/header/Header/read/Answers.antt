@@ -1,4 +1,4 @@
-use Rattle.std.proofs.Common.{◌≡◌, ◌∙◌, ◌*◌, ap, sym, subst, take, drop, length, Some, IsTrue}
+use Rattle.std.proofs.Common.{◌≡◌, ◌∙◌, ◌*◌, ap, sym, subst, drop, Some, IsTrue}
 use Rattle.std.proofs.lemmas.Result.{err_from_is_err_and}
 use Rattle.edf_fields.specs.Sources.{Rises}
 use Rattle.edf_header.specs.Conforming.{HeaderConforms}
@@ -9,49 +9,13 @@ use Rattle.edf_header.proofs.ConformingFacts.{passing-conforms}
 use Rattle.edf_header.proofs.FirstFacts.{stops-weaker}
 use Rattle.edf_header.proofs.HeadFacts.{has-head}
 use Rattle.edf_header.proofs.KeptFacts.{kept}
-use Rattle.edf_header.proofs.ReadFacts.{front_found, columns-left, view-is, head-is, rest-is, whole-is}
-use Rattle.edf_header.proofs.SignalFacts.{length-signals}
+use Rattle.edf_header.proofs.ReadFacts.{front_found, columns-read, columns-left, view-is, head-is, rest-is}
 use Rattle.edf_header.proofs.header.Header.read.Goals as goal
 
-pub returns-in_err-start-clause-stop : goal.returns-in_err-start-clause-stop
-returns-in_err-start-clause-stop g c =
-    let p = err_from_is_err_and c.from_residual-in_err-start.result c.from_residual-in_err-start.ensures.1 in
-    rw (p.1, p.2) ((λ h. front_found _ _ _ (c.deref.ensures.value ∙ c.in_ok-front.ensures.front h) c.in_err-start.ensures), c.in_ok-front.ensures.failures)
-
-pub returns-in_err-start-clause-honesty : goal.returns-in_err-start-clause-honesty
-returns-in_err-start-clause-honesty g c =
-    let p = err_from_is_err_and c.from_residual-in_err-start.result c.from_residual-in_err-start.ensures.1 in
-    rw (p.1) tt
-
-pub returns-in_err-start-clause-passed : goal.returns-in_err-start-clause-passed
-returns-in_err-start-clause-passed g c =
-    let p = err_from_is_err_and c.from_residual-in_err-start.result c.from_residual-in_err-start.ensures.1 in
-    rw (p.1) tt
-
-pub returns-in_err-start-clause-value : goal.returns-in_err-start-clause-value
-returns-in_err-start-clause-value g c =
-    let p = err_from_is_err_and c.from_residual-in_err-start.result c.from_residual-in_err-start.ensures.1 in
-    rw (p.1) tt
-
-pub returns-in_err-start-clause-says : goal.returns-in_err-start-clause-says
-returns-in_err-start-clause-says g c =
-    let p = err_from_is_err_and c.from_residual-in_err-start.result c.from_residual-in_err-start.ensures.1 in
-    rw (p.1) tt
-
-pub returns-in_err-start-clause-conforms : goal.returns-in_err-start-clause-conforms
-returns-in_err-start-clause-conforms g c =
-    let p = err_from_is_err_and c.from_residual-in_err-start.result c.from_residual-in_err-start.ensures.1 in
-    rw (p.1) tt
-
-pub returns-in_err-start-clause-whole : goal.returns-in_err-start-clause-whole
-returns-in_err-start-clause-whole g c =
-    let p = err_from_is_err_and c.from_residual-in_err-start.result c.from_residual-in_err-start.ensures.1 in
-    rw (p.1) tt
-
-pub returns-in_err-start-clause-behind : goal.returns-in_err-start-clause-behind
-returns-in_err-start-clause-behind g c =
-    let p = err_from_is_err_and c.from_residual-in_err-start.result c.from_residual-in_err-start.ensures.1 in
-    rw (p.1) tt
+pub returns-in_err-fixed-clause-stop : goal.returns-in_err-fixed-clause-stop
+returns-in_err-fixed-clause-stop g c =
+    let p = err_from_is_err_and c.from_residual-in_err-fixed.result c.from_residual-in_err-fixed.ensures.1 in
+    rw (p.1, p.2) ((λ h. front_found _ _ _ (c.deref.ensures.value ∙ c.in_ok-front.ensures.front h) c.in_err-fixed.ensures), c.in_ok-front.ensures.failures)
 
 pub returns-in_err-columns-clause-stop : goal.returns-in_err-columns-clause-stop
 returns-in_err-columns-clause-stop g c =
@@ -67,31 +31,30 @@ returns-in_err-body-clause-stop g c =
     let p = err_from_is_err_and c.from_residual-in_err-body.result c.from_residual-in_err-body.ensures.1 in
     let failures = g.S.Source.failures in
     let b = g.S.Source.left c.args.source.now in
-    let n = c.in_ok-start.extent.signals in
     let front = c.in_ok-front.front.items in
     let bytes = c.deref-2.result.now in
-    let said = rw c.deref.ensures.value at c.in_ok-start.ensures in
-    rw (p.1, p.2) (stops-weaker (λ f. first (columns_tests n bytes) ≡ Some f) (λ f. IsTrue (g.S.Source.is_honest c.args.source.now) → header_fault b ≡ Some f)
+    let n = c.in_ok-fixed.fixed.extent.signals in
+    let said = rw c.deref.ensures.value at c.in_ok-fixed.ensures in
+    rw (p.1, p.2) (stops-weaker (λ f. first (columns_tests n bytes) ≡ Some f)
+    (λ f. IsTrue (g.S.Source.is_honest c.args.source.now) → header_fault b ≡ Some f)
     ⊥ (Rises (failures c.args.source.now) (failures c.next_bytes-2.new.source)) (Unit {0}) (failures c.next_bytes-2.new.source ≡ failures c.args.source.now)
     (λ f q h.
-    let cols : bytes ≡ take (256 * n) (drop 256 b) =
-    c.deref-2.ensures.value ∙ c.in_ok-columns.ensures.front (c.in_ok-front.ensures.honesty h) ∙ ap (take (256 * c.from.result)) (c.in_ok-front.ensures.behind h)
-    ∙ ap (λ k. take (256 * k) (drop 256 b)) c.from.ensures in
+    let cols = columns-read b bytes c.in_ok-columns.columns.items (g.S.Source.left c.next_bytes.new.source) n c.from.result c.deref-2.ensures.value (c.in_ok-columns.ensures.front (c.in_ok-front.ensures.honesty h)) (c.in_ok-front.ensures.behind h) c.from.ensures in
     columns-left b front bytes n (c.in_ok-front.ensures.front h) said.3.signals cols said.0 ∙ q)
     (λ q. absurd q) (λ _. c.in_ok-columns.ensures.failures ∙ c.in_ok-front.ensures.failures) _ c.in_err-body.ensures.stop)
 
 pub invariant_of-result : goal.invariant_of-result
 invariant_of-result g c =
-    let said = rw c.deref.ensures.value at c.in_ok-start.ensures in
+    let said = rw c.deref.ensures.value at c.in_ok-fixed.ensures in
     let k = c.in_ok-body.ensures.ok in
-    kept c.in_ok-front.front.items c.deref-2.result.now c.in_ok-start.start c.in_ok-start.extent c.in_ok-body.body.signals.items c.in_ok-body.body.record_bytes
+    kept c.in_ok-front.front.items c.deref-2.result.now c.in_ok-fixed.fixed.start c.in_ok-fixed.fixed.extent c.in_ok-body.body.signals.items c.in_ok-body.body.record_bytes
     said.1 said.2 said.3 said.0 k.0 k.2 k.3 k.4
 
 pub returns-clause-sound : goal.returns-clause-sound
 returns-clause-sound g c =
-    let said = rw c.deref.ensures.value at c.in_ok-start.ensures in
+    let said = rw c.deref.ensures.value at c.in_ok-fixed.ensures in
     let k = c.in_ok-body.ensures.ok in
-    (kept c.in_ok-front.front.items c.deref-2.result.now c.in_ok-start.start c.in_ok-start.extent c.in_ok-body.body.signals.items c.in_ok-body.body.record_bytes
+    (kept c.in_ok-front.front.items c.deref-2.result.now c.in_ok-fixed.fixed.start c.in_ok-fixed.fixed.extent c.in_ok-body.body.signals.items c.in_ok-body.body.record_bytes
     said.1 said.2 said.3 said.0 k.0 k.2 k.3 k.4).sound
 
 pub returns-clause-honesty : goal.returns-clause-honesty
@@ -100,25 +63,22 @@ returns-clause-honesty g c = λ h. c.in_ok-columns.ensures.honesty (c.in_ok-fron
 pub returns-clause-passed : goal.returns-clause-passed
 returns-clause-passed g c = λ h.
     let b = g.S.Source.left c.args.source.now in
-    let n = c.in_ok-start.extent.signals in
-    let said = rw c.deref.ensures.value at c.in_ok-start.ensures in
-    let cols : c.deref-2.result.now ≡ take (256 * n) (drop 256 b) =
-    c.deref-2.ensures.value ∙ c.in_ok-columns.ensures.front (c.in_ok-front.ensures.honesty h) ∙ ap (take (256 * c.from.result)) (c.in_ok-front.ensures.behind h)
-    ∙ ap (λ k. take (256 * k) (drop 256 b)) c.from.ensures in
-    columns-left b c.in_ok-front.front.items c.deref-2.result.now n (c.in_ok-front.ensures.front h) said.3.signals cols said.0 ∙ c.in_ok-body.ensures.ok.0
+    let front = c.in_ok-front.front.items in
+    let bytes = c.deref-2.result.now in
+    let n = c.in_ok-fixed.fixed.extent.signals in
+    let said = rw c.deref.ensures.value at c.in_ok-fixed.ensures in
+    let cols = columns-read b bytes c.in_ok-columns.columns.items (g.S.Source.left c.next_bytes.new.source) n c.from.result c.deref-2.ensures.value (c.in_ok-columns.ensures.front (c.in_ok-front.ensures.honesty h)) (c.in_ok-front.ensures.behind h) c.from.ensures in
+    columns-left b front bytes n (c.in_ok-front.ensures.front h) said.3.signals cols said.0 ∙ c.in_ok-body.ensures.ok.0
 
 pub returns-clause-value : goal.returns-clause-value
 returns-clause-value g c = λ h.
     let b = g.S.Source.left c.args.source.now in
-    let n = c.in_ok-start.extent.signals in
     let front = c.in_ok-front.front.items in
     let bytes = c.deref-2.result.now in
-    let said = rw c.deref.ensures.value at c.in_ok-start.ensures in
-    let cols : bytes ≡ take (256 * n) (drop 256 b) =
-    c.deref-2.ensures.value ∙ c.in_ok-columns.ensures.front (c.in_ok-front.ensures.honesty h) ∙ ap (take (256 * c.from.result)) (c.in_ok-front.ensures.behind h)
-    ∙ ap (λ k. take (256 * k) (drop 256 b)) c.from.ensures in
-    view-is front bytes c.in_ok-start.start c.in_ok-start.extent c.in_ok-body.body.signals.items said.2 said.3 c.in_ok-body.ensures.ok.2
-    ∙ head-is b front bytes n (c.in_ok-front.ensures.front h) said.3.signals cols
+    let n = c.in_ok-fixed.fixed.extent.signals in
+    let said = rw c.deref.ensures.value at c.in_ok-fixed.ensures in
+    let cols = columns-read b bytes c.in_ok-columns.columns.items (g.S.Source.left c.next_bytes.new.source) n c.from.result c.deref-2.ensures.value (c.in_ok-columns.ensures.front (c.in_ok-front.ensures.honesty h)) (c.in_ok-front.ensures.behind h) c.from.ensures in
+    view-is front bytes c.in_ok-fixed.fixed.start c.in_ok-fixed.fixed.extent c.in_ok-body.body.signals.items said.2 said.3 c.in_ok-body.ensures.ok.2 ∙ head-is b front bytes n (c.in_ok-front.ensures.front h) said.3.signals cols
 
 pub returns-clause-says : goal.returns-clause-says
 returns-clause-says g c = λ h.
@@ -131,25 +91,14 @@ returns-clause-conforms g c = λ h.
     subst (λ (head : Head). HeaderConforms b head) (sym (returns-clause-value g c h)) (passing-conforms b (returns-clause-passed g c h))
 
 pub returns-clause-whole : goal.returns-clause-whole
-returns-clause-whole g c = λ h.
-    let b = g.S.Source.left c.args.source.now in
-    let n = c.in_ok-start.extent.signals in
-    let said = rw c.deref.ensures.value at c.in_ok-start.ensures in
-    let cols : c.deref-2.result.now ≡ take (256 * n) (drop 256 b) =
-    c.deref-2.ensures.value ∙ c.in_ok-columns.ensures.front (c.in_ok-front.ensures.honesty h) ∙ ap (take (256 * c.from.result)) (c.in_ok-front.ensures.behind h)
-    ∙ ap (λ k. take (256 * k) (drop 256 b)) c.from.ensures in
-    whole-is b c.in_ok-front.front.items c.deref-2.result.now n c.in_ok-body.body.signals.items (c.in_ok-front.ensures.front h) said.1 cols c.in_ok-body.ensures.ok.1
-    (ap length c.in_ok-body.ensures.ok.2 ∙ length-signals c.deref-2.result.now n 0 0 n)
+returns-clause-whole g c = λ h. (returns-clause-conforms g c h).whole
 
 pub returns-clause-behind : goal.returns-clause-behind
 returns-clause-behind g c = λ h.
     let b = g.S.Source.left c.args.source.now in
-    let n = c.in_ok-start.extent.signals in
     let front = c.in_ok-front.front.items in
     let bytes = c.deref-2.result.now in
-    let said = rw c.deref.ensures.value at c.in_ok-start.ensures in
-    let rest : g.S.Source.left c.next_bytes-2.new.source ≡ drop (256 * n) (drop 256 b) =
-    c.in_ok-columns.ensures.behind (c.in_ok-front.ensures.honesty h) ∙ ap (drop (256 * c.from.result)) (c.in_ok-front.ensures.behind h)
-    ∙ ap (λ k. drop (256 * k) (drop 256 b)) c.from.ensures in
-    rest-is b front bytes (g.S.Source.left c.next_bytes-2.new.source) n said.3.signals rest
-    ∙ ap (λ (head : Head). drop (header_bytes head) b) (sym (view-is front bytes c.in_ok-start.start c.in_ok-start.extent c.in_ok-body.body.signals.items said.2 said.3 c.in_ok-body.ensures.ok.2))
+    let n = c.in_ok-fixed.fixed.extent.signals in
+    let said = rw c.deref.ensures.value at c.in_ok-fixed.ensures in
+    let rest = c.in_ok-columns.ensures.behind (c.in_ok-front.ensures.honesty h) ∙ ap (drop (256 * c.from.result)) (c.in_ok-front.ensures.behind h) ∙ ap (λ k. drop (256 * k) (drop 256 b)) c.from.ensures in
+    rest-is b front bytes (g.S.Source.left c.next_bytes-2.new.source) n said.3.signals rest ∙ ap (λ (head : Head). drop (header_bytes head) b) (sym (view-is front bytes c.in_ok-fixed.fixed.start c.in_ok-fixed.fixed.extent c.in_ok-body.body.signals.items said.2 said.3 c.in_ok-body.ensures.ok.2))
