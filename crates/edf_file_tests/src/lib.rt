@@ -1,0 +1,29 @@
+//! Tests of `edf_header` and `edf_stream` by their public names. They show what no clause says: the values
+//! of a given header and of given data records, worked faults in words, the order of two faults, what a
+//! read does where a source or memory gives out, and large headers and records.
+#![tactic(auto)]
+
+#[cfg(test)]
+mod conforming;
+#[cfg(test)]
+mod ends;
+#[cfg(test)]
+mod file;
+#[cfg(test)]
+mod head;
+#[cfg(test)]
+mod lines;
+#[cfg(test)]
+mod order;
+#[cfg(test)]
+mod record;
+#[cfg(test)]
+mod rows;
+#[cfg(test)]
+mod scarce;
+#[cfg(test)]
+mod sizes;
+#[cfg(test)]
+mod sources;
+#[cfg(test)]
+mod texts;

@@ -1,0 +1,73 @@
+//! Whole files in memory: a header, and data records with these lanes.
+
+use crate::file::{Edit, header_of, put};
+use edf_header::fault::Place::{AtField, AtSignal};
+use edf_header::layout::{FixedField as Fixed, SignalField as Field};
+use std::alloc::{AllocError, Global};
+
+/// What stands in the annotation lane of each data record of the reference file.
+pub const LANES: &[&[u8]] = &[
+    b"+0\x14\x14\0+0.5\x14Lights off\x14\0",
+    b"+1\x14\x14\0+1.5\x151\x14Apnea\x14\0",
+    b"+2\x14\x14\0",
+    b"+3\x14\x14\0+3\x14Apnea\x14\0",
+];
+
+/// Puts a sample behind the file: two bytes, the low one first.
+fn push_sample(file: &mut Vec<u8>, value: u16) -> Result<(), AllocError> {
+    file.push(value.to_le_bytes()[0])?;
+    file.push(value.to_le_bytes()[1])
+}
+
+/// Puts a lane behind the file, filled with zeros to so many bytes.
+pub fn push_lane(file: &mut Vec<u8>, lane: &[u8], size: usize) -> Result<(), AllocError> {
+    for byte in 0..size {
+        file.push(lane.get(byte).copied().unwrap_or(0))?;
+    }
+    Ok(())
+}
+
+/// The reference file with other texts in some of its fields, and these lanes: data record `k` has the
+/// values 10 times 4 `k` and the three that follow, 100 and 2 `k`, and the one that follows.
+pub fn recorded(alloc: Global, edits: &[Edit], lanes: &[&[u8]]) -> Result<Vec<u8>, AllocError> {
+    let mut file = crate::file::edited(alloc, edits)?;
+    for (k, lane) in (0..100u16).zip(lanes) {
+        for i in 0..4 {
+            push_sample(&mut file, 10 * (4 * k + i))?;
+        }
+        for i in 0..2 {
+            push_sample(&mut file, 100 + 2 * k + i)?;
+        }
+        push_lane(&mut file, lane, 40)?;
+    }
+    Ok(file)
+}
+
+/// A file of one channel with one sample in each data record of 0.1 s, and an annotation signal: an
+/// interrupted one with these lanes.
+pub fn sparse(alloc: Global, records: &str, lanes: &[&[u8]]) -> Result<Vec<u8>, AllocError> {
+    let mut file = header_of(alloc, &[1, 2])?;
+    put(&mut file, AtField(Fixed::HeaderBytes), "768");
+    put(&mut file, AtField(Fixed::Reserved), "EDF+D");
+    put(&mut file, AtField(Fixed::Records), records);
+    put(&mut file, AtField(Fixed::Duration), "0.1");
+    put(&mut file, AtField(Fixed::Signals), "2");
+    put(&mut file, AtSignal(0, Field::Samples), "1");
+    put(&mut file, AtSignal(1, Field::Samples), "16");
+    for lane in lanes {
+        push_sample(&mut file, 1)?;
+        push_lane(&mut file, lane, 32)?;
+    }
+    Ok(file)
+}
+
+/// A file of one data record with two annotation signals behind a channel, and these lanes.
+pub fn twofold(alloc: Global, first: &[u8], second: &[u8]) -> Result<Vec<u8>, AllocError> {
+    let mut file = header_of(alloc, &[1, 2, 2])?;
+    put(&mut file, AtField(Fixed::Records), "1");
+    push_sample(&mut file, 7)?;
+    push_sample(&mut file, 7)?;
+    push_lane(&mut file, first, 40)?;
+    push_lane(&mut file, second, 40)?;
+    Ok(file)
+}
