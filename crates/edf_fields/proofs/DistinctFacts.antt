@@ -1,5 +1,5 @@
 -- Whether a text stands twice in a list: in another order of it, and in a sorted list.
-use Rattle.std.proofs.Common.{◌≡◌, ℕ, zero, suc, ◌+◌, ◌-◌, ◌<◌, ◌≤◌, Bool, true, false, cond, not, ◌&&◌, ◌||◌, List, [], ◌∷◌, map, length, drop, get_or, Bor, Ordering, Less, Equal, Greater, refl, sym, ap, ◌∙◌, arith}
+use Rattle.std.proofs.Common.{◌≡◌, ◌↔◌, ℕ, zero, suc, ◌+◌, ◌-◌, ◌<◌, ◌≤◌, Bool, true, false, cond, not, ◌&&◌, ◌||◌, List, [], ◌∷◌, map, length, drop, get_or, Bor, Ordering, Less, Equal, Greater, refl, sym, ap, ◌∙◌, arith}
 use Rattle.std.specs.Cmp.Lexicographic.{slice_cmp}
 use Rattle.std.specs.List.{sum_by}
 use Rattle.std.specs.List.Sorted.{IsSorted, IsPermutation}
@@ -11,8 +11,9 @@ use Rattle.std.proofs.lemmas.List.Sorted.{IsPermutation-map, sum_by-IsPermutatio
 use Rattle.std.proofs.lemmas.List.Sums.{sum_by-cons}
 use Rattle.std.proofs.lemmas.Map.Text.{is_eq-slice_cmp}
 use Rattle.std.proofs.lemmas.Slice.Eq.{bytes_eq-Decides}
-use Rattle.edf_fields.specs.Lists.{is_one_of, are_distinct}
+use Rattle.edf_fields.specs.Lists.{AreDistinct, is_one_of, are_distinct}
 use Rattle.edf_fields.proofs.BoolFacts.{and-true, both-true, not-true}
+use Rattle.edf_fields.proofs.ListFacts.{distinct-tested, distinct-passes}
 
 -- how often the text stands in the list
 abbrev one : Bool → ℕ
@@ -82,6 +83,12 @@ same_moved old new p =
     let after = map (λ (t : Bor (List ℕ)). t.now) new in
     let same : (t : List ℕ) → times t after ≡ times t before = λ t. sum_by-IsPermutation (λ u. one (bytes_eq u t)) before after (IsPermutation-map (λ (t : Bor (List ℕ)). t.now) old new p) in
     both-ways (are_distinct after) (are_distinct before) (moved after before (λ t. sym (same t))) (moved before after same)
+
+pub distinct_said : (old new : List (Bor (List ℕ))) (b : Bool) → IsPermutation old new → b ≡ are_distinct (map (λ t. t.now) new) → (b ≡ true) ↔ AreDistinct (map (λ t. t.now) old)
+distinct_said old new b p e =
+    let ts = map (λ (t : Bor (List ℕ)). t.now) old in
+    let answer : b ≡ are_distinct ts = e ∙ same_moved old new p in
+    (λ h. distinct-tested ts (sym answer ∙ h), λ h. answer ∙ distinct-passes ts h)
 
 -- ---- a sorted list
 

@@ -1,10 +1,10 @@
 //! Whether a text stands twice in a list.
 
-ghost use Rattle.std.specs.Prelude.{◌≡◌, map};
+ghost use Rattle.std.specs.Prelude.{◌≡◌, ◌↔◌, IsTrue, map};
 ghost use Rattle.std.specs.Cmp.Lexicographic.{slice_cmp};
 ghost use Rattle.std.specs.List.Sorted.{IsSorted, IsPermutation};
 ghost use Rattle.std.specs.Ordering.{nat_cmp};
-ghost use Rattle.edf_fields.specs.Lists.{are_distinct as are_distinct_texts};
+ghost use Rattle.edf_fields.specs.Lists.{AreDistinct, are_distinct as are_distinct_texts};
 
 /// Whether no text stands twice among these, which are in the order of their bytes: equal ones
 /// would be neighbours.
@@ -25,6 +25,7 @@ fn neighbours_differ(texts: &[&[u8]]) -> bool
 /// takes no memory, and time that grows hardly faster than the list.
 #[tactic(auto, using(crate::proofs::DistinctFacts::same_moved))]
 pub fn are_distinct(texts: &mut [&[u8]]) -> bool
+    ensures distinct { IsTrue result ↔ AreDistinct (map (λ t. t.now) texts.old) }
     ensures value { result ≡ are_distinct_texts (map (λ t. t.now) texts.old) }
     ensures permutation { IsPermutation texts.old texts.new }
 {
