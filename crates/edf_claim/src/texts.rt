@@ -2,13 +2,14 @@
 
 ghost use Rattle.std.specs.Prelude.{◌≡◌, map, option_map, IfOk, ◌+◌};
 ghost use Rattle.toml.specs.View.{view, array_view};
-ghost use Rattle.edf_fields.specs.Lists.{is_one_of as is_one_of_texts, are_distinct as are_distinct_texts};
+ghost use Rattle.edf_fields.specs.Lists.{is_one_of as is_one_of_texts};
 ghost use Rattle.std.specs.Cmp.Lexicographic.{slice_cmp};
 ghost use Rattle.std.specs.List.Sorted.{IsSorted};
 ghost use Rattle.std.specs.Ordering.{nat_cmp};
 ghost use Rattle.edf_claim.specs.Keeps.{IsIndex};
 ghost use Rattle.edf_claim.specs.Reading.{texts_of as texts_of_items, distinct_texts as distinct_texts_of};
 
+use edf_fields::distinct::are_distinct;
 use std::alloc::{AllocError, Global};
 use std::cmp::Ordering;
 use toml::Value;
@@ -98,16 +99,15 @@ pub(crate) fn stands_in(texts: &[&str], text: &str) -> bool
     false
 }
 
-/// Whether no text stands twice.
-fn are_distinct(texts: &[&str]) -> bool
-    ensures { result ≡ are_distinct_texts (map (λ t. t.now) texts.now) }
+/// The bytes of the texts; none of them is copied.
+fn bytes_of<'a>(alloc: Global, texts: &[&'a str]) -> Result<Vec<&'a [u8]>, AllocError>
+    ensures { IfOk result (λ v. map (λ t. t.now) v.items ≡ map (λ t. t.now) texts.now) }
 {
-    for (i, text) in texts.iter().enumerate() {
-        if stands_in(&texts[i + 1..], text) {
-            return false;
-        }
+    let mut list = Vec::with_capacity(alloc, texts.len())?;
+    for text in texts {
+        list.push(text.as_bytes())?;
     }
-    true
+    Ok(list)
 }
 
 /// The texts of a value that is an array of distinct texts; none of them is copied.
@@ -117,8 +117,12 @@ pub(crate) fn distinct_texts(alloc: Global, value: &Value) -> Result<Option<Vec<
     let Some(array) = value.as_array() else {
         return Ok(None);
     };
-    match texts_of(alloc, array)? {
-        Some(texts) if are_distinct(&texts) => Ok(Some(texts)),
-        _ => Ok(None),
+    let Some(texts) = texts_of(alloc, array)? else {
+        return Ok(None);
+    };
+    let mut list = bytes_of(alloc, &texts)?;
+    if !are_distinct(&mut list) {
+        return Ok(None);
     }
+    Ok(Some(texts))
 }

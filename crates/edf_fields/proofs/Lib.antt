@@ -1,6 +1,7 @@
 pub mod BoolFacts
 pub mod DateFacts
 pub mod DigitFacts
+pub mod DistinctFacts
 pub mod DotFacts
 pub mod ForCallers
 pub mod IdentificationFacts

@@ -5,6 +5,7 @@
 
 pub mod cause;
 pub mod date;
+pub mod distinct;
 pub mod identification;
 pub mod laws;
 pub mod number;

@@ -1,13 +1,18 @@
 -- Labels that no earlier channel has.
-use Rattle.std.proofs.Common.{◌≡◌, ℕ, zero, suc, ◌+◌, ◌-◌, ◌<◌, List, [], ◌∷◌, length, get_or, None, true, false, not, cond, refl, ap, ◌∙◌, arith}
+use Rattle.std.proofs.Common.{◌≡◌, ℕ, zero, suc, ◌+◌, ◌-◌, ◌<◌, ◌&&◌, List, [], ◌∷◌, length, take, get_or, Some, None, Bool, true, false, not, cond, inl, inr, refl, sym, ap, ◌∙◌, subst, arith}
+use Rattle.std.specs.List.{position_from}
+use Rattle.std.specs.Option.{is_some}
+use Rattle.std.specs.Str.{bytes_eq}
+use Rattle.std.proofs.lemmas.Slice.Eq.{bytes_eq-Decides}
 use Rattle.edf_header.specs.declared.fault.Place.TheVariants.{AtSignal}
 use Rattle.edf_header.specs.declared.fault.Cause.TheVariants.{DuplicateLabel}
 use Rattle.edf_header.specs.declared.layout.SignalField.TheVariants as signal
-use Rattle.edf_header.specs.Heads.{SignalHead}
-use Rattle.edf_header.specs.Channels.{label_at, is_repeated}
+use Rattle.edf_header.specs.Heads.{SignalHead, is_annotations}
+use Rattle.edf_header.specs.Channels.{is_channel_of, channel_labels, label_at, is_repeated}
 use Rattle.edf_header.specs.Faults.{fault, label_fault, labels_faults}
 use Rattle.edf_fields.specs.Tests.{first}
-use Rattle.edf_fields.proofs.ForCallers.{first-passed, first-found}
+use Rattle.edf_fields.specs.Lists.{Has, is_one_of, are_distinct}
+use Rattle.edf_fields.proofs.ForCallers.{first-passed, first-found, and-true, not-true, has-one_of}
 
 pub label_here : (signals : List SignalHead) (s : ℕ) (d : SignalHead) → s < length signals → label_at signals s ≡ (get_or signals s d).label
 label_here [] s d lt = absurd (omega arith)
@@ -28,3 +33,56 @@ label_found signals s n lt found =
     let next : n - s ≡ suc (n - (s + 1)) = omega arith in
     ap (λ m. first (labels_faults signals s m)) next
     ∙ first-found (label_fault signals s ∷ []) (labels_faults signals (s + 1) (n - (s + 1))) _ (ap (λ b. first (cond (not b) None (fault (AtSignal s signal.Label) DuplicateLabel) ∷ [])) found)
+
+-- ---- the labels of the channels as one list
+
+-- a channel's label stands in the list
+label-listed : (xs : List SignalHead) (s : ℕ) → s < length xs → is_annotations (label_at xs s) ≡ false → Has (channel_labels xs) (label_at xs s)
+label-listed [] s lt channel = absurd (omega (arith, lt))
+label-listed (x ∷ xs) zero lt channel = subst (λ ls. Has ls x.label) (sym (ap (λ b. cond b (channel_labels xs) (x.label ∷ channel_labels xs)) channel)) (inl refl)
+label-listed (x ∷ xs) (suc s) lt channel = listed-case (is_annotations x.label) (label-listed xs s (omega (arith, lt)) channel)
+  where
+    listed-case : (b : Bool) → Has (channel_labels xs) (label_at xs s) → Has (cond b (channel_labels xs) (x.label ∷ channel_labels xs)) (label_at xs s)
+    listed-case true h = h
+    listed-case false h = inr h
+
+distinct-tail : (x : SignalHead) (xs : List SignalHead) → are_distinct (channel_labels (x ∷ xs)) ≡ true → are_distinct (channel_labels xs) ≡ true
+distinct-tail x xs h = tail-case (is_annotations x.label) h
+  where
+    tail-case : (b : Bool) → are_distinct (cond b (channel_labels xs) (x.label ∷ channel_labels xs)) ≡ true → are_distinct (channel_labels xs) ≡ true
+    tail-case true h = h
+    tail-case false h = (and-true (not (is_one_of (channel_labels xs) x.label)) (are_distinct (channel_labels xs)) h).1
+
+-- where no label stands twice in the list, no signal is a channel of the label of a later one
+other-label : (x : SignalHead) (xs : List SignalHead) (s : ℕ) → are_distinct (channel_labels (x ∷ xs)) ≡ true → s < length xs → is_channel_of (label_at xs s) x ≡ false
+other-label x xs s alone lt = channel-case (is_annotations x.label) refl (bytes_eq x.label (label_at xs s)) refl
+  where
+    channel-case : (a : Bool) → is_annotations x.label ≡ a → (b : Bool) → bytes_eq x.label (label_at xs s) ≡ b → (b && not (is_annotations x.label)) ≡ false
+    channel-case a ea false eb = refl
+    channel-case true ea true eb = ap not ea
+    channel-case false ea true eb =
+        let same : x.label ≡ label_at xs s = (bytes_eq-Decides x.label (label_at xs s)).0 eb in
+        let channel : is_annotations (label_at xs s) ≡ false = ap is_annotations (sym same) ∙ ea in
+        let list : channel_labels (x ∷ xs) ≡ x.label ∷ channel_labels xs = ap (λ b. cond b (channel_labels xs) (x.label ∷ channel_labels xs)) ea in
+        let both = and-true (not (is_one_of (channel_labels xs) x.label)) (are_distinct (channel_labels xs)) (sym (ap are_distinct list) ∙ alone) in
+        let there : is_one_of (channel_labels xs) x.label ≡ true = ap (is_one_of (channel_labels xs)) same ∙ has-one_of (channel_labels xs) (label_at xs s) (label-listed xs s lt channel) in
+        absurd (let z : true ≡ false = sym there ∙ not-true (is_one_of (channel_labels xs) x.label) both.0 in cc)
+
+none-repeated : (signals : List SignalHead) (s k : ℕ) → are_distinct (channel_labels signals) ≡ true → s < length signals → is_some (position_from (is_channel_of (label_at signals s)) k (take s signals)) ≡ false
+none-repeated [] s k alone lt = absurd (omega (arith, lt))
+none-repeated (x ∷ xs) zero k alone lt = refl
+none-repeated (x ∷ xs) (suc s) k alone lt =
+    let behind = position_from (is_channel_of (label_at xs s)) (k + 1) (take s xs) in
+    ap (λ b. is_some (cond b (Some k) behind)) (other-label x xs s alone (omega (arith, lt)))
+    ∙ none-repeated xs s (k + 1) (distinct-tail x xs alone) (omega (arith, lt))
+
+labels-from : (signals : List SignalHead) (s m : ℕ) → are_distinct (channel_labels signals) ≡ true → s + m ≡ length signals → first (labels_faults signals s m) ≡ None
+unfolding label_fault
+labels-from signals s zero alone e = refl
+labels-from signals s (suc m) alone e =
+    first-passed (label_fault signals s ∷ []) (labels_faults signals (s + 1) m)
+    (ap (λ b. first (cond (not b) None (fault (AtSignal s signal.Label) DuplicateLabel) ∷ [])) (none-repeated signals s 0 alone (omega (arith, e))))
+    ∙ labels-from signals (s + 1) m alone (omega (arith, e))
+
+pub labels_pass : (signals : List SignalHead) → are_distinct (channel_labels signals) ≡ true → first (labels_faults signals 0 (length signals)) ≡ None
+labels_pass signals alone = labels-from signals 0 (length signals) alone (omega arith)

@@ -1,8 +1,8 @@
 -- The stages of the tests of the signals together, and of the columns.
-use Rattle.std.proofs.Common.{◌≡◌, ℕ, ◌*◌, ◌≤◌, List, [], ◌∷◌, ◌++◌, length, Some, None, Result, Ok, Err, MatchResult, ap, ◌∙◌}
+use Rattle.std.proofs.Common.{◌≡◌, ℕ, List, [], ◌∷◌, ◌++◌, length, Some, None, ap, ◌∙◌}
 use Rattle.edf_header.specs.declared.fault.Fault.{Fault}
 use Rattle.edf_header.specs.Layout.{columns}
-use Rattle.edf_header.specs.Heads.{SignalHead, signals_in, samples_together}
+use Rattle.edf_header.specs.Heads.{SignalHead, signals_in}
 use Rattle.edf_header.specs.Faults.{no_annotation_signal, no_ordinary_signal, labels_faults, record_too_large, joint_faults, columns_missing, signals_faults, columns_tests}
 use Rattle.edf_fields.specs.Tests.{first}
 use Rattle.edf_fields.proofs.ForCallers.{first-passed, first-found, alone}
@@ -17,17 +17,10 @@ pub labels_found : (signals : List SignalHead) (f : Fault) → no_annotation_sig
     → first (labels_faults signals 0 (length signals)) ≡ Some f → first (joint_faults signals) ≡ Some f
 labels_found signals f a o found = labels-left signals a o ∙ first-found (labels_faults signals 0 (length signals)) (record_too_large signals ∷ []) f found
 
-size-left : (signals : List SignalHead) → no_annotation_signal signals ≡ None → no_ordinary_signal signals ≡ None
+pub size_left : (signals : List SignalHead) → no_annotation_signal signals ≡ None → no_ordinary_signal signals ≡ None
     → first (labels_faults signals 0 (length signals)) ≡ None → first (joint_faults signals) ≡ record_too_large signals
-size-left signals a o passed =
+size_left signals a o passed =
     labels-left signals a o ∙ first-passed (labels_faults signals 0 (length signals)) (record_too_large signals ∷ []) passed ∙ alone (record_too_large signals)
-
-pub together_judged : (r : Result ℕ Fault) (signals : List SignalHead) → no_annotation_signal signals ≡ None → no_ordinary_signal signals ≡ None
-    → first (labels_faults signals 0 (length signals)) ≡ None
-    → MatchResult r (λ size. (record_too_large signals ≡ None) × (size ≡ 2 * samples_together signals) × (size ≤ 16777216)) (λ f. record_too_large signals ≡ Some f)
-    → MatchResult r (λ size. (first (joint_faults signals) ≡ None) × (size ≡ 2 * samples_together signals) × (size ≤ 16777216)) (λ f. first (joint_faults signals) ≡ Some f)
-together_judged (Ok size) signals a o passed j = (size-left signals a o passed ∙ j.0, j.1, j.2)
-together_judged (Err f) signals a o passed j = size-left signals a o passed ∙ j
 
 -- the columns: what is missing, then the signals, then the signals together
 pub column_found : (n : ℕ) (bytes : List ℕ) (f : Fault) → first (columns_missing columns n (length bytes)) ≡ Some f → first (columns_tests n bytes) ≡ Some f

@@ -1,5 +1,5 @@
 -- The channels of a header, which are its ordinary signals.
-use Rattle.std.specs.Prelude.{◌≡◌, ℕ, Bool, false, not, ◌&&◌, List, [], Option, Some, slice_get, unwrap_or, option_map, take}
+use Rattle.std.specs.Prelude.{◌≡◌, ℕ, Bool, false, not, ◌&&◌, if◌then◌else◌, List, [], ◌∷◌, Option, Some, slice_get, unwrap_or, option_map, take}
 use Rattle.std.specs.List.{position_from}
 use Rattle.std.specs.Option.{is_some}
 use Rattle.std.specs.Str.{bytes_eq}
@@ -21,6 +21,11 @@ is_channel_of label head = bytes_eq head.label label && not (is_annotations head
 -- the place of the first channel of this label among the signals
 abbrev pub channel_place : List ℕ → List SignalHead → Option ℕ
 channel_place label signals = position_from (is_channel_of label) 0 signals
+
+-- the labels of the channels, in the order of the signals
+abbrev pub channel_labels : List SignalHead → List (List ℕ)
+channel_labels [] = []
+channel_labels (head ∷ heads) = if is_annotations head.label then channel_labels heads else head.label ∷ channel_labels heads
 
 -- the label of signal s
 abbrev pub label_at : List SignalHead → ℕ → List ℕ

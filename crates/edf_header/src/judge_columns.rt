@@ -57,7 +57,7 @@ pub(crate) fn judge_columns(alloc: Global, columns: Columns<'_>) -> Result<Body,
         }));
     }
     let signals = judge_signals(alloc, columns)?;
-    let record_bytes = judge_together(&signals)?;
+    let record_bytes = judge_together(alloc, &signals)?;
     Ok(Body {
         signals,
         record_bytes,

@@ -1,15 +1,20 @@
 //! The tests of a header's signals together.
 
-ghost use Rattle.std.specs.Prelude.{◌≡◌, ◌*◌, ◌≤◌, ◌<◌, ◌^◌, nat_le, true, false, length, None, Some, IfSome, MatchOption, MatchResult};
+ghost use Rattle.std.specs.Prelude.{◌≡◌, ◌*◌, ◌≤◌, ◌<◌, ◌^◌, nat_le, true, false, length, None, Some, IfSome, IfOk, IfErr, MatchOption, MatchResult, map};
 ghost use Rattle.std.specs.List.{list_any, list_all};
-ghost use Rattle.edf_header.specs.Channels.{is_channel_of as is_channel_of_label, channel_place, is_repeated as is_repeated_label};
+ghost use Rattle.edf_header.specs.Channels.{is_channel_of as is_channel_of_label, channel_labels as labels_of_channels, channel_place, is_repeated as is_repeated_label};
 ghost use Rattle.edf_header.specs.Faults.{no_annotation_signal, no_ordinary_signal, labels_faults, record_too_large, joint_faults};
+ghost use Rattle.edf_fields.specs.Lists.{are_distinct as are_distinct_texts};
 ghost use Rattle.edf_fields.specs.Tests.{first};
 ghost use Rattle.edf_header.specs.Heads.{is_annotations, samples_together};
+ghost use Rattle.edf_header.specs.Stops.{Stops};
 
 use crate::fault::{Cause, Fault, Place};
 use crate::layout::{FixedField, SignalField};
 use crate::signal::Signal;
+use crate::stop::Stop;
+use edf_fields::distinct::are_distinct;
+use std::alloc::{AllocError, Global};
 
 /// The most samples that a data record may have, two bytes each.
 const MOST_SAMPLES: u64 = 8_388_608;
@@ -85,9 +90,10 @@ fn is_repeated(signals: &[Signal], s: usize) -> bool
     find_channel(&signals[..s], signals[s].label()).is_some()
 }
 
-/// Whether no channel has the label of an earlier one.
+/// The first channel that has the label of an earlier one, if there is one: each label is looked up
+/// among all signals before it, so the time grows as the square of their number.
 #[tactic(auto, using(crate::proofs::RepeatFacts::label_passed, crate::proofs::RepeatFacts::label_found))]
-fn distinct_labels(signals: &[Signal]) -> Result<(), Fault>
+fn judge_labels(signals: &[Signal]) -> Result<(), Fault>
     requires { length signals.now < 2 ^ 16 }
     ensures { MatchResult result
         (λ _. first (labels_faults signals.now 0 (length signals.now)) ≡ None)
@@ -101,6 +107,43 @@ fn distinct_labels(signals: &[Signal]) -> Result<(), Fault>
             });
         }
     }
+    Ok(())
+}
+
+/// The labels of the channels; none of them is copied.
+fn channel_labels(alloc: Global, signals: &[Signal]) -> Result<Vec<&[u8]>, AllocError>
+    ensures { IfOk result (λ v. map (λ t. t.now) v.items ≡ labels_of_channels signals.now) }
+{
+    let mut labels = Vec::with_capacity(alloc, signals.len())?;
+    for signal in signals {
+        if !signal.is_annotations() {
+            labels.push(signal.label())?;
+        }
+    }
+    Ok(labels)
+}
+
+/// Whether no two channels have one label.
+fn has_distinct_labels(alloc: Global, signals: &[Signal]) -> Result<bool, AllocError>
+    ensures { IfOk result (λ r. r ≡ are_distinct_texts (labels_of_channels signals.now)) }
+{
+    let mut labels = channel_labels(alloc, signals)?;
+    Ok(are_distinct(&mut labels))
+}
+
+/// Whether no channel has the label of an earlier one. Where the labels are distinct, a sort of them
+/// says so. Only where they aren't is the first channel searched for that repeats one: a header
+/// without this fault is judged fast, and one with it slowly.
+#[tactic(auto, using(crate::proofs::RepeatFacts::labels_pass))]
+fn distinct_labels(alloc: Global, signals: &[Signal]) -> Result<(), Stop>
+    requires { length signals.now < 2 ^ 16 }
+    ensures ok { IfOk result (λ _. first (labels_faults signals.now 0 (length signals.now)) ≡ None) }
+    ensures stop { IfErr result (Stops (λ f. first (labels_faults signals.now 0 (length signals.now)) ≡ Some f) ⊥ (Unit {0})) }
+{
+    if has_distinct_labels(alloc, signals)? {
+        return Ok(());
+    }
+    judge_labels(signals)?;
     Ok(())
 }
 
@@ -136,15 +179,16 @@ fn record_size(signals: &[Signal]) -> Result<u32, Fault>
     }
 }
 
-/// How many bytes a data record has, or the first fault of the signals together.
-pub(crate) fn judge_together(signals: &[Signal]) -> Result<u32, Fault>
+/// How many bytes a data record has, or the first fault of the signals together. Memory is asked for
+/// only where there are both an annotation signal and a channel.
+#[tactic(auto, using(crate::proofs::TogetherFacts::size_left))]
+pub(crate) fn judge_together(alloc: Global, signals: &[Signal]) -> Result<u32, Stop>
     requires { length signals.now < 2 ^ 16 }
-    ensures { MatchResult result
-        (λ size. (first (joint_faults signals.now) ≡ None) × (size ≡ 2 * samples_together signals.now) × (size ≤ 16777216))
-        (λ f. first (joint_faults signals.now) ≡ Some f) }
+    ensures ok { IfOk result (λ size. (first (joint_faults signals.now) ≡ None) × (size ≡ 2 * samples_together signals.now) × (size ≤ 16777216)) }
+    ensures stop { IfErr result (Stops (λ f. first (joint_faults signals.now) ≡ Some f) ⊥ (Unit {0})) }
 {
     annotation_signal(signals)?;
     ordinary_signal(signals)?;
-    distinct_labels(signals)?;
-    record_size(signals)
+    distinct_labels(alloc, signals)?;
+    Ok(record_size(signals)?)
 }

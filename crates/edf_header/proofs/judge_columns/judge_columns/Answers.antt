@@ -1,7 +1,8 @@
 use Rattle.std.proofs.Common.{◌≡◌, ◌<◌, ◌^◌, ◌∙◌, Some, length, ap, arith}
 use Rattle.std.proofs.lemmas.Result.{err_from_is_err_and}
-use Rattle.edf_header.specs.Faults.{signals_faults, columns_tests}
+use Rattle.edf_header.specs.Faults.{signals_faults, joint_faults, columns_tests}
 use Rattle.edf_fields.specs.Tests.{first}
+use Rattle.edf_header.specs.Heads.{signals_in}
 use Rattle.edf_header.proofs.FirstFacts.{stops-weaker}
 use Rattle.edf_header.proofs.SignalFacts.{length-signals}
 use Rattle.edf_header.proofs.TogetherFacts.{column_found, signals_found, joint-left}
@@ -31,16 +32,14 @@ returns-in_err-record_bytes-clause-stop c =
     let p = err_from_is_err_and c.from_residual-in_err-record_bytes.result c.from_residual-in_err-record_bytes.ensures.1 in
     let bytes = c.args.columns.bytes.now in
     let n = c.args.columns.signals in
-    rw (p.1, p.2) (
-      joint-left n bytes c.in_default.ensures.0 c.in_ok-signals.ensures.ok.0
-          ∙ rw (c.deref.ensures.value, c.in_ok-signals.ensures.ok.1) at c.in_err-record_bytes.ensures,
-      tt,
-    )
+    let stopped = rw (c.deref.ensures.value, c.in_ok-signals.ensures.ok.1) at c.in_err-record_bytes.ensures.stop in
+    rw (p.1, p.2) (stops-weaker (λ f. first (joint_faults (signals_in n bytes)) ≡ Some f) (λ f. first (columns_tests n bytes) ≡ Some f) ⊥ ⊥ (Unit {0}) (Unit {0})
+    (λ f q. joint-left n bytes c.in_default.ensures.0 c.in_ok-signals.ensures.ok.0 ∙ q) (λ q. q) (λ q. q) _ stopped)
 
 pub returns-clause-ok : goal.returns-clause-ok
 returns-clause-ok c =
     let bytes = c.args.columns.bytes.now in
     let n = c.args.columns.signals in
-    let passed = rw (c.deref.ensures.value, c.in_ok-signals.ensures.ok.1) at c.in_ok-record_bytes.ensures.0 in
-    let size = rw c.deref.ensures.value at c.in_ok-record_bytes.ensures.1 in
-    (joint-left n bytes c.in_default.ensures.0 c.in_ok-signals.ensures.ok.0 ∙ passed, c.in_default.ensures.1, c.in_ok-signals.ensures.ok.1, size, c.in_ok-record_bytes.ensures.2)
+    let passed = rw (c.deref.ensures.value, c.in_ok-signals.ensures.ok.1) at c.in_ok-record_bytes.ensures.ok.0 in
+    let size = rw c.deref.ensures.value at c.in_ok-record_bytes.ensures.ok.1 in
+    (joint-left n bytes c.in_default.ensures.0 c.in_ok-signals.ensures.ok.0 ∙ passed, c.in_default.ensures.1, c.in_ok-signals.ensures.ok.1, size, c.in_ok-record_bytes.ensures.ok.2)
