@@ -1,5 +1,5 @@
 -- What an identification field says, from the tests that it passes.
-use Rattle.std.proofs.Common.{◌≡◌, ◌≢◌, ℕ, Bool, true, false, not, ◌-◌, ◌≤◌, List, [], ◌∷◌, length, get_or, drop, arith, refl, ap, ◌∙◌, sym, subst, None, nat_le, cond, ◌&&◌, ◌==◌, codes}
+use Rattle.std.proofs.Common.{◌≡◌, ◌≢◌, ℕ, Bool, true, false, not, ◌-◌, ◌<◌, ◌≤◌, List, [], ◌∷◌, length, get_or, drop, arith, refl, ap, ◌∙◌, sym, subst, None, nat_le, cond, ◌&&◌, ◌==◌, codes}
 use Rattle.std.specs.Bool.{Decides}
 use Rattle.std.specs.List.{list_all}
 use Rattle.std.specs.Str.{bytes_eq}
@@ -178,3 +178,37 @@ recording_told field h =
 
 pub recording_or_cause : SaysRecordingOrCause
 recording_or_cause field = (recording_told field, λ h. said_recording field h.0 h.1)
+
+-- a field that was judged says what its subfields are
+pub patient_is : (field code sex birthdate name : List ℕ) (extras : List (List ℕ)) → patient_cause field ≡ None → subfields_of (text_of field) ≡ code ∷ sex ∷ birthdate ∷ name ∷ extras
+    → SaysPatient field (record { code = code; sex = sex; birthdate = birthdate; name = name; extras = extras })
+patient_is field code sex birthdate name extras h e =
+    let told = patient_told field h in
+    let left : subfields_of (text_of field) ≡ (told.0).code ∷ (told.0).sex ∷ (told.0).birthdate ∷ (told.0).name ∷ (told.0).extras = joined_found _ (text_of field) (told.1).lists.subfields in
+    subst (SaysPatient field) (sym (ap patient_in left) ∙ ap patient_in e) told.1
+
+pub patient_whole : (field : List ℕ) → patient_cause field ≡ None → length (subfields_of (text_of field)) < 4 → ⊥
+unfolding patient_cause
+patient_whole field h few =
+    let xs = subfields_of (text_of field) in
+    let lists = first-cons (field_cause field) _ h in
+    let many = first-passes (nat_le 4 (length xs)) TooFewSubfields _ lists.1 in
+    let least = (le_decided 4 (length xs)).0 many.0 in
+    omega (arith, few, least)
+
+pub recording_is : (field word date admin technician equipment : List ℕ) (extras : List (List ℕ)) → recording_cause field ≡ None
+    → subfields_of (text_of field) ≡ word ∷ date ∷ admin ∷ technician ∷ equipment ∷ extras
+    → SaysRecording field (record { date = date; admin = admin; technician = technician; equipment = equipment; extras = extras })
+recording_is field word date admin technician equipment extras h e =
+    let told = recording_told field h in
+    let left : subfields_of (text_of field) ≡ codes "Startdate" ∷ (told.0).date ∷ (told.0).admin ∷ (told.0).technician ∷ (told.0).equipment ∷ (told.0).extras = joined_found _ (text_of field) (told.1).lists.subfields in
+    subst (SaysRecording field) (sym (ap recording_in left) ∙ ap recording_in e) told.1
+
+pub recording_whole : (field : List ℕ) → recording_cause field ≡ None → length (subfields_of (text_of field)) < 5 → ⊥
+unfolding recording_cause
+recording_whole field h few =
+    let xs = subfields_of (text_of field) in
+    let lists = first-cons (field_cause field) _ h in
+    let many = first-passes (nat_le 5 (length xs)) TooFewSubfields _ lists.1 in
+    let least = (le_decided 5 (length xs)).0 many.0 in
+    omega (arith, few, least)

@@ -135,6 +135,19 @@ impl<'a> PatientId<'a> {
         Ok(patient)
     }
 
+    /// The patient of a field that `read` took before: its subfields are found, and nothing is judged
+    /// again.
+    #[tactic(auto, using(crate::proofs::IdentificationFacts::patient_is, crate::proofs::IdentificationFacts::patient_whole))]
+    pub fn of_judged(field: &'a [u8]) -> PatientId<'a>
+        requires { patient_cause field.now ≡ None }
+        ensures { SaysPatient field.entry.now (patient_of result) }
+    {
+        match PatientId::split(text(field)) {
+            Some(patient) => patient,
+            None => unreachable!(),
+        }
+    }
+
     /// The code by which the patient is known in the hospital.
     pub fn code(&self) -> &'a [u8]
         ensures { result.now ≡ (patient_of self.now).code }
@@ -245,6 +258,19 @@ impl<'a> RecordingId<'a> {
             return Err(FieldCause::NoStartdateWord);
         }
         Ok(recording)
+    }
+
+    /// The recording of a field that `read` took before: its subfields are found, and nothing is judged
+    /// again.
+    #[tactic(auto, using(crate::proofs::IdentificationFacts::recording_is, crate::proofs::IdentificationFacts::recording_whole))]
+    pub fn of_judged(field: &'a [u8]) -> RecordingId<'a>
+        requires { recording_cause field.now ≡ None }
+        ensures { SaysRecording field.entry.now (recording_of result) }
+    {
+        match RecordingId::split(text(field)) {
+            Some(WordAndRecording { recording, .. }) => recording,
+            None => unreachable!(),
+        }
     }
 
     /// The startdate: `dd-MMM-yyyy`, which `dashed_date` reads, or `X`.

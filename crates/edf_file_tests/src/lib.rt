@@ -16,6 +16,8 @@ mod lines;
 #[cfg(test)]
 mod order;
 #[cfg(test)]
+mod reading;
+#[cfg(test)]
 mod record;
 #[cfg(test)]
 mod rows;

@@ -1,6 +1,6 @@
 //! The header of a file.
 
-ghost use Rattle.std.specs.Prelude.{◌≡◌, ◌<◌, ◌^◌, ◌*ℤ◌, ◌+ℤ◌, pos, unsigned_abs};
+ghost use Rattle.std.specs.Prelude.{◌≡◌, ◌<◌, ◌≤ℤ◌, ◌^◌, ◌*ℤ◌, ◌+ℤ◌, pos, unsigned_abs};
 ghost use Rattle.edf_fields.specs.Dates.{civil_day};
 ghost use Rattle.edf_fields.specs.Identifications.{patient_of, recording_of};
 ghost use Rattle.edf_header.specs.Heads.{start_second, record_bytes};
@@ -86,9 +86,11 @@ impl Header {
         self.extent.records
     }
 
-    /// The duration of each data record in picoseconds (EDF, "Header record": in seconds).
+    /// The duration of each data record in picoseconds (EDF, "Header record": in seconds), at least 1.
     pub fn duration_ps(&self) -> i128
-        ensures { result ≡ self.now.duration }
+        ensures value { result ≡ self.now.duration }
+        ensures some { pos 1 ≤ℤ result }
+        ensures small { unsigned_abs result < 10 ^ 20 }
     {
         self.extent.duration_ps
     }
@@ -111,20 +113,14 @@ impl Header {
     pub fn patient(&self) -> PatientId<'_>
         ensures { patient_of result ≡ self.entry.now.patient }
     {
-        match PatientId::read(fixed_field(&self.front, FixedField::Patient)) {
-            Ok(patient) => patient,
-            Err(_) => unreachable!(),
-        }
+        PatientId::of_judged(fixed_field(&self.front, FixedField::Patient))
     }
 
     /// The recording (EDF+, "Additional specifications in EDF+": local recording identification).
     pub fn recording(&self) -> RecordingId<'_>
         ensures { recording_of result ≡ self.entry.now.recording }
     {
-        match RecordingId::read(fixed_field(&self.front, FixedField::Recording)) {
-            Ok(recording) => recording,
-            Err(_) => unreachable!(),
-        }
+        RecordingId::of_judged(fixed_field(&self.front, FixedField::Recording))
     }
 
     /// The signals, in file order (EDF, "Header record"). The clause `sound` says what holds of every

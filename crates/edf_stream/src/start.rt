@@ -44,7 +44,6 @@ impl Start {
         ensures small { unsigned_abs result.ended_ps < 2 ^ 71 }
         ensures later { self.ps <ℤ result.ended_ps }
     {
-        let _signals = header.signals();
         Progress {
             ended_ps: self.ps + header.duration_ps(),
             notes,

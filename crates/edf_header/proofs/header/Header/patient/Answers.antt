@@ -9,4 +9,4 @@ use Rattle.edf_header.proofs.header.Header.patient.Goals as goal
 pub returns : goal.returns
 returns c =
     let field = c.fixed_field.ensures.value ∙ ap (λ xs. fixed_field xs fixed.Patient) c.deref.ensures.value in
-    patient_is c.fixed_field.result.now (patient_of c.in-Ok.patient) c.in-Ok.ensures.said ∙ ap patient_in field ∙ ap (λ h. h.patient) c.self.view_is
+    patient_is c.fixed_field.result.now (patient_of c.of_judged.result) c.of_judged.ensures ∙ ap patient_in field ∙ ap (λ h. h.patient) c.self.view_is

@@ -9,4 +9,4 @@ use Rattle.edf_header.proofs.header.Header.recording.Goals as goal
 pub returns : goal.returns
 returns c =
     let field = c.fixed_field.ensures.value ∙ ap (λ xs. fixed_field xs fixed.Recording) c.deref.ensures.value in
-    recording_is c.fixed_field.result.now (recording_of c.in-Ok.recording) c.in-Ok.ensures.said ∙ ap recording_in field ∙ ap (λ h. h.recording) c.self.view_is
+    recording_is c.fixed_field.result.now (recording_of c.of_judged.result) c.of_judged.ensures ∙ ap recording_in field ∙ ap (λ h. h.recording) c.self.view_is
