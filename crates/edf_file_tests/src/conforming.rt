@@ -1,7 +1,7 @@
 //! Files with one change, and what `conform` answers to each.
 
 use crate::file::{Done, Edit};
-use crate::record::{LANES, recorded, sparse, twofold};
+use crate::record::{LANES, crowded, recorded, sparse, twofold};
 use edf_fields::source::SliceSource;
 use edf_header::fault::Place::{AtField, AtSignal};
 use edf_header::layout::{FixedField as Fixed, SignalField as Field};
@@ -31,7 +31,10 @@ const TWO: Edit = (AtField(Fixed::Records), "2");
 const INTERRUPTED: Edit = (AtField(Fixed::Reserved), "EDF+D");
 
 /// The lanes of the first and the last data record, as a cut with a gap has them.
-const GAP: &[&[u8]] = &[b"+0\x14\x14\0+0.5\x14Lights off\x14\0", b"+3\x14\x14\0+3\x14Apnea\x14\0"];
+const GAP: &[&[u8]] = &[
+    b"+0\x14\x14\0+0.5\x14Lights off\x14\0",
+    b"+3\x14\x14\0+3\x14Apnea\x14\0",
+];
 
 const EARLY: &[&[u8]] = &[b"+0\x14\x14\0", b"+0.9\x14\x14\0"];
 
@@ -43,9 +46,19 @@ const OFFSET: &[&[u8]] = &[b"+0.999999999999\x14\x14\0", b"+1.999999999999\x14\x
 
 const SILENT: &[&[u8]] = &[b"+0\x14\x14\0", b"+1\x14\x14\0", b"", b"+3\x14\x14\0"];
 
-const SPOKEN: &[&[u8]] = &[b"+0\x14\x14\0", b"+1\x14x\x14\0", b"+2\x14\x14\0", b"+3\x14\x14\0"];
+const SPOKEN: &[&[u8]] = &[
+    b"+0\x14\x14\0",
+    b"+1\x14x\x14\0",
+    b"+2\x14\x14\0",
+    b"+3\x14\x14\0",
+];
 
-const OPEN: &[&[u8]] = &[b"+0\x14\x14\0", b"+1\x14\x14\0", b"+2\x14\x14\0+2\x14x\0", b"+9\x14\x14\0"];
+const OPEN: &[&[u8]] = &[
+    b"+0\x14\x14\0",
+    b"+1\x14\x14\0",
+    b"+2\x14\x14\0+2\x14x\0",
+    b"+9\x14\x14\0",
+];
 
 /// Changes of the reference file, and the answer.
 const ROWS: &[(&[Edit], &[&[u8]], &str)] = &[
@@ -63,8 +76,16 @@ const ROWS: &[(&[Edit], &[&[u8]], &str)] = &[
     (&[], SPOKEN, "NoTimekeeping at record 1"),
     (&[], OPEN, "BadTal(NoEnd) at record 2"),
     (&[TWO], LANES, "TrailingBytes at end"),
-    (&[(AtField(Fixed::Records), "5")], LANES, "Truncated at record 4"),
-    (&[(AtSignal(0, Field::Label), "ECG")], LANES, "DuplicateLabel at signal 1 field label"),
+    (
+        &[(AtField(Fixed::Records), "5")],
+        LANES,
+        "Truncated at record 4",
+    ),
+    (
+        &[(AtSignal(0, Field::Label), "ECG")],
+        LANES,
+        "DuplicateLabel at signal 1 field label",
+    ),
 ];
 
 /// Asserts the answer to a file.
@@ -125,4 +146,12 @@ fn judges_each_annotation_signal(rt: HostRuntime) -> Result<(), AllocError> {
         assert_answer(&rt, rt.alloc(), &file, want)?;
     }
     Ok(())
+}
+
+#[test]
+fn takes_a_million_annotations_and_no_more(rt: HostRuntime) -> Result<(), AllocError> {
+    let file = crowded(rt.alloc(), 1_000_002)?;
+    assert_answer(&rt, rt.alloc(), &file, "1, 1, 2, 1000000")?;
+    let file = crowded(rt.alloc(), 1_000_003)?;
+    assert_answer(&rt, rt.alloc(), &file, "TooManyAnnotations at record 0")
 }

@@ -44,7 +44,7 @@ impl<'a> Source for Tape<'a> {
 }
 
 /// A source of these bytes that fails once `passes` reads are done.
-fn tape<'a>(rest: &'a [u8], passes: u32) -> Tape<'a> {
+fn tape_of<'a>(rest: &'a [u8], passes: u32) -> Tape<'a> {
     Tape {
         rest,
         passes,
@@ -121,7 +121,8 @@ fn gives_the_annotations_of_both_signals(rt: HostRuntime) -> Result<(), Fail> {
     let mut reader = FileReader::begin(rt.alloc(), &mut source)?;
     assert_eq!(rt; reader.next(&mut source), Ok(true));
     let notes = notes_of(rt.alloc(), &reader)?;
-    let want = "0/2000000000000:;0/2000000000000:a;-500000000000:b;-500000000000:;7000000000000/0:c;";
+    let want =
+        "0/2000000000000:;0/2000000000000:a;-500000000000:b;-500000000000:;7000000000000/0:c;";
     assert!(rt; notes.is_some_and(|shown| shown.as_str() == want));
     Ok(())
 }
@@ -138,7 +139,12 @@ fn last_of(reader: &mut FileReader, source: &mut Tape) -> (u32, Result<bool, Sto
 }
 
 /// Asserts how many data records are given, that this comes then, and comes again with nothing read.
-fn assert_last(rt: &impl Abort, alloc: Global, mut source: Tape, want: (u32, Result<bool, Stop>)) -> Result<(), Fail> {
+fn assert_last(
+    rt: &impl Abort,
+    alloc: Global,
+    mut source: Tape,
+    want: (u32, Result<bool, Stop>),
+) -> Result<(), Fail> {
     let mut reader = FileReader::begin(alloc, &mut source)?;
     let answer = last_of(&mut reader, &mut source);
     let reads = source.reads;
@@ -157,11 +163,16 @@ fn answers_the_same_again(rt: HostRuntime) -> Result<(), Fail> {
         place: Place::AtRecord(1),
         cause: Cause::Truncated,
     };
-    assert_last(&rt, rt.alloc(), tape(&file, 100), (4, Ok(false)))?;
-    assert_last(&rt, rt.alloc(), tape(short, 100), (1, Err(Stop::Fault(fault))))?;
+    assert_last(&rt, rt.alloc(), tape_of(&file, 100), (4, Ok(false)))?;
+    assert_last(
+        &rt,
+        rt.alloc(),
+        tape_of(short, 100),
+        (1, Err(Stop::Fault(fault))),
+    )?;
     for passes in 2..7u32 {
         let want = (passes - 2, Err(Stop::ReadFailed));
-        assert_last(&rt, rt.alloc(), tape(&file, passes), want)?;
+        assert_last(&rt, rt.alloc(), tape_of(&file, passes), want)?;
     }
     Ok(())
 }

@@ -1,6 +1,6 @@
 //! Whole files in memory: a header, and data records with these lanes.
 
-use crate::file::{Edit, header_of, put};
+use crate::file::{Edit, edited, header_of, put};
 use edf_header::fault::Place::{AtField, AtSignal};
 use edf_header::layout::{FixedField as Fixed, SignalField as Field};
 use std::alloc::{AllocError, Global};
@@ -16,7 +16,8 @@ pub const LANES: &[&[u8]] = &[
 /// Puts a sample behind the file: two bytes, the low one first.
 fn push_sample(file: &mut Vec<u8>, value: u16) -> Result<(), AllocError> {
     file.push(value.to_le_bytes()[0])?;
-    file.push(value.to_le_bytes()[1])
+    file.push(value.to_le_bytes()[1])?;
+    Ok(())
 }
 
 /// Puts a lane behind the file, filled with zeros to so many bytes.
@@ -30,13 +31,13 @@ pub fn push_lane(file: &mut Vec<u8>, lane: &[u8], size: usize) -> Result<(), All
 /// The reference file with other texts in some of its fields, and these lanes: data record `k` has the
 /// values 10 times 4 `k` and the three that follow, 100 and 2 `k`, and the one that follows.
 pub fn recorded(alloc: Global, edits: &[Edit], lanes: &[&[u8]]) -> Result<Vec<u8>, AllocError> {
-    let mut file = crate::file::edited(alloc, edits)?;
+    let mut file = edited(alloc, edits)?;
     for (k, lane) in (0..100u16).zip(lanes) {
         for i in 0..4 {
-            push_sample(&mut file, 10 * (4 * k + i))?;
+            push_sample(&mut file, k.wrapping_mul(40).wrapping_add(10 * i))?;
         }
         for i in 0..2 {
-            push_sample(&mut file, 100 + 2 * k + i)?;
+            push_sample(&mut file, k.wrapping_mul(2).wrapping_add(100 + i))?;
         }
         push_lane(&mut file, lane, 40)?;
     }
@@ -69,5 +70,26 @@ pub fn twofold(alloc: Global, first: &[u8], second: &[u8]) -> Result<Vec<u8>, Al
     push_sample(&mut file, 7)?;
     push_lane(&mut file, first, 40)?;
     push_lane(&mut file, second, 40)?;
+    Ok(file)
+}
+
+/// A file of one data record with one channel of two samples, and an annotation lane of 1,000,006 bytes:
+/// an onset, so many bytes 20, and zeros.
+pub fn crowded(alloc: Global, separators: usize) -> Result<Vec<u8>, AllocError> {
+    let mut file = header_of(alloc, &[1, 2])?;
+    put(&mut file, AtField(Fixed::HeaderBytes), "768");
+    put(&mut file, AtField(Fixed::Records), "1");
+    put(&mut file, AtField(Fixed::Signals), "2");
+    put(&mut file, AtSignal(1, Field::Samples), "500003");
+    let lane = file.len().saturating_add(4);
+    file.resize(lane.saturating_add(1_000_006), 0)?;
+    for (byte, slot) in file.iter_mut().enumerate().skip(lane) {
+        *slot = match byte - lane {
+            0 => b'+',
+            1 => b'0',
+            place if place < separators.saturating_add(2) => 20,
+            _ => 0,
+        };
+    }
     Ok(file)
 }

@@ -1,4 +1,4 @@
-//! One data record: its tests, and reading it. EDF (1992), "Data record".
+//! The tests of one data record. EDF (1992), "Data record".
 
 ghost use Rattle.std.specs.Prelude.{◌≡◌, ℕ, ℤ, pos, ◌+◌, ◌-◌, ◌≤◌, ◌<◌, ◌<ℤ◌, ◌+ℤ◌, ◌^◌, min, List, [], length, Ok, None, Some, MatchResult, IfOk, IfSome, unsigned_abs};
 ghost use Rattle.edf_header.specs.Heads.{record_bytes};
