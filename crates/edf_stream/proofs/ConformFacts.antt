@@ -1,9 +1,7 @@
 -- Data records that pass their tests are those of a file that conforms.
-use Rattle.std.proofs.Common.{◌≡◌, ℕ, zero, suc, ℤ, pos, ◌+◌, ◌<◌, ◌≤◌, ◌≤ℤ◌, ◌<ℤ◌, ◌^◌, nat_le, int_le, int_lt, true, List, [], ◌∷◌, length, drop, Option, Some, None, Result, Ok, Err, refl, sym, ap, ◌∙◌, subst, arith, length-drop}
+use Rattle.std.proofs.Common.{◌≡◌, ℕ, zero, suc, ℤ, pos, ◌+◌, ◌<◌, ◌≤◌, ◌^◌, nat_le, int_le, int_lt, true, List, [], ◌∷◌, length, drop, Option, Some, None, Result, Ok, Err, refl, sym, ap, ◌∙◌, subst, arith, length-drop}
 use Rattle.std.proofs.lemmas.Bool.Decides.{nat_tests, Decides-int_eq}
-use Rattle.std.proofs.lemmas.Int.{ints}
 use Rattle.std.specs.List.{All}
-use Rattle.std.specs.Ordering.{int_eq}
 use Rattle.edf_fields.specs.declared.cause.TalCause.{TalCause}
 use Rattle.edf_fields.specs.Tests.{first}
 use Rattle.edf_fields.proofs.ForCallers.{first-cons, and-true, le-tested, lt-tested, unless-passed}
@@ -20,7 +18,7 @@ use Rattle.edf_tal.proofs.ForCallers.{starts-at}
 use Rattle.edf_stream.specs.Records.{place_of, record_at, annotation_lanes}
 use Rattle.edf_stream.specs.Notes.{notes_in, notes_before}
 use Rattle.edf_stream.specs.Starts.{start_by_lanes, said_start, or_zero, start_in, start_at, end_at, end_before, Begins}
-use Rattle.edf_stream.specs.Faults.{cause_of_lanes, lanes_fault, time_fault, may_start, start_cause, start_fault, notes_fault, record_fault, records_tests, body_fault}
+use Rattle.edf_stream.specs.Faults.{cause_of_lanes, lanes_fault, time_fault, may_start, start_fault, notes_fault, record_fault, records_tests}
 use Rattle.edf_stream.specs.Conforming.{IsLane, FollowsOn, Conforms}
 use Rattle.edf_stream.specs.Readers.{HasPassed, StandsAt}
 use Rattle.edf_stream.proofs.ItemFacts.{lanes-are}

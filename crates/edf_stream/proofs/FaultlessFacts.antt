@@ -1,28 +1,24 @@
 -- A file conforms exactly where it has no first fault.
-use Rattle.std.proofs.Common.{◌≡◌, ℕ, zero, suc, ℤ, pos, ◌+◌, ◌-◌, ◌*◌, ◌<◌, ◌≤◌, ◌≤ℤ◌, ◌<ℤ◌, ◌^◌, nat_le, int_le, int_lt, true, List, [], ◌∷◌, ◌++◌, length, drop, Option, Some, None, Result, Ok, Err, refl, sym, ap, ◌∙◌, subst, arith, length-drop}
+use Rattle.std.proofs.Common.{◌≡◌, ℕ, zero, suc, ℤ, pos, ◌+◌, ◌-◌, ◌*◌, ◌<◌, ◌≤◌, ◌^◌, nat_le, int_le, int_lt, true, List, [], ◌∷◌, length, drop, None, Ok, refl, sym, ap, ◌∙◌, subst, arith, length-drop}
 use Rattle.std.proofs.lemmas.Bool.Decides.{nat_tests, Decides-int_eq}
-use Rattle.std.specs.List.{All}
 use Rattle.edf_fields.specs.Tests.{first}
 use Rattle.edf_fields.proofs.ForCallers.{first-cons, first-none, pass-cons, pass-append, alone, both-true, le-passes, lt-passes, unless-passed, unless-true}
-use Rattle.edf_header.specs.declared.fault.Fault.{Fault}
 use Rattle.edf_header.specs.declared.fault.Place.{Place}
-use Rattle.edf_header.specs.declared.fault.Place.TheVariants.{AtRecord, AtEnd}
+use Rattle.edf_header.specs.declared.fault.Place.TheVariants.{AtRecord}
 use Rattle.edf_header.specs.declared.kind.Kind.{Kind}
 use Rattle.edf_header.specs.declared.kind.Kind.TheVariants.{Contiguous, Interrupted}
 use Rattle.edf_header.specs.Conforming.{HeaderConforms}
 use Rattle.edf_header.specs.Faults.{truncated, header_fault}
 use Rattle.edf_header.specs.Heads.{Head, head_of, record_bytes}
 use Rattle.edf_header.proofs.ForCallers.{passing-conforms, passing_is_conforming, one_head, passing_has_head}
-use Rattle.edf_tal.specs.declared.start.StartCause.{StartCause}
 use Rattle.edf_tal.specs.Reading.{items_of}
 use Rattle.edf_tal.specs.Views.{start_of}
 use Rattle.edf_tal.proofs.ForCallers.{starts-at}
 use Rattle.edf_stream.specs.Records.{place_of, record_at, annotation_lanes}
 use Rattle.edf_stream.specs.Notes.{notes_in, notes_before}
-use Rattle.edf_stream.specs.Starts.{start_by_lanes, said_start, or_zero, start_in, start_at, end_at, end_before, Begins}
-use Rattle.edf_stream.specs.Faults.{cause_of_lanes, lanes_fault, time_fault, may_start, start_cause, start_fault, notes_fault, record_fault, records_tests, trailing_fault, body_fault, file_fault}
-use Rattle.edf_stream.specs.Conforming.{IsLane, FollowsOn, Conforms, ConformingIsFaultless}
-use Rattle.edf_stream.specs.Readers.{HasPassed, StandsAt}
+use Rattle.edf_stream.specs.Starts.{start_by_lanes, said_start, start_in, start_at, end_at, end_before, Begins}
+use Rattle.edf_stream.specs.Faults.{cause_of_lanes, lanes_fault, time_fault, may_start, start_fault, notes_fault, record_fault, records_tests, trailing_fault, body_fault, file_fault}
+use Rattle.edf_stream.specs.Conforming.{FollowsOn, Conforms, ConformingIsFaultless}
 use Rattle.edf_stream.proofs.ItemFacts.{lanes-none}
 use Rattle.edf_stream.proofs.ConformFacts.{conforms}
 use Rattle.edf_stream.proofs.RecordFacts.{there, ended}
@@ -98,8 +94,8 @@ records-pass file h s (suc n) each =
     pass-cons (truncated (AtRecord s) (place_of h (s + 1)) (length file)) _ whole
     (pass-cons (record_fault h s (end_before file h s) (notes_before file h s) (record_at file h s)) (records_tests file h (s + 1) n) passes
     (records-pass file h (s + 1) n (λ j lt.
-      let e : s + suc j ≡ s + 1 + j = omega arith in
-      subst (λ m. (truncated (AtRecord m) (place_of h (m + 1)) (length file) ≡ None) × (record_fault h m (end_before file h m) (notes_before file h m) (record_at file h m) ≡ None)) e (each (suc j) (omega (arith, lt))))))
+    let e : s + suc j ≡ s + 1 + j = omega arith in
+    subst (λ m. (truncated (AtRecord m) (place_of h (m + 1)) (length file) ≡ None) × (record_fault h m (end_before file h m) (notes_before file h m) (record_at file h m) ≡ None)) e (each (suc j) (omega (arith, lt))))))
 
 fits : (h : Head) (j size : ℕ) → j < h.records → size ≡ place_of h h.records → place_of h (j + 1) ≤ size
 fits h j size lt e =
@@ -113,9 +109,9 @@ unfolding body_fault
 body-passes file h c =
     pass-append (records_tests file h 0 h.records) (trailing_fault file h ∷ [])
     (records-pass file h 0 h.records (λ j lt.
-      let e : 0 + j ≡ j = omega arith in
-      subst (λ m. (truncated (AtRecord m) (place_of h (m + 1)) (length file) ≡ None) × (record_fault h m (end_before file h m) (notes_before file h m) (record_at file h m) ≡ None)) (sym e)
-      (there (AtRecord j) (place_of h (j + 1)) (length file) (fits h j (length file) lt c.size), record-passes file h j c lt)))
+    let e : 0 + j ≡ j = omega arith in
+    subst (λ m. (truncated (AtRecord m) (place_of h (m + 1)) (length file) ≡ None) × (record_fault h m (end_before file h m) (notes_before file h m) (record_at file h m) ≡ None)) (sym e)
+    (there (AtRecord j) (place_of h (j + 1)) (length file) (fits h j (length file) lt c.size), record-passes file h j c lt)))
     (alone (trailing_fault file h) ∙ ended file h (let s = c.size in omega (arith, s)))
 
 faultless : (file : List ℕ) (h : Head) → Conforms file h → file_fault file ≡ None

@@ -1,14 +1,11 @@
 -- The items of lanes.
-use Rattle.std.proofs.Common.{◌≡◌, ℕ, ℤ, ◌+◌, List, [], ◌∷◌, ◌++◌, map, length, Option, Some, None, Ok, Err, refl, sym, ap, ◌∙◌}
+use Rattle.std.proofs.Common.{◌≡◌, ℕ, List, [], ◌∷◌, map, Some, None, Ok, Err, refl, ap, ◌∙◌}
 use Rattle.std.specs.List.{All}
 use Rattle.std.proofs.lemmas.List.Elements.{All-nil, All-cons, All-head, All-tail}
-use Rattle.edf_fields.specs.declared.cause.TalCause.{TalCause}
-use Rattle.edf_fields.specs.Tests.{first}
 use Rattle.edf_fields.proofs.ForCallers.{first-cons, pass-cons}
-use Rattle.edf_header.specs.Heads.{Head}
-use Rattle.edf_tal.specs.Tals.{TalValue, IsLaneOf}
+use Rattle.edf_tal.specs.Tals.{TalValue}
 use Rattle.edf_tal.specs.Reading.{Item, items_of}
-use Rattle.edf_tal.proofs.ForCallers.{lane-spelled, lane-read, starts-at}
+use Rattle.edf_tal.proofs.ForCallers.{lane-spelled, lane-read}
 use Rattle.edf_stream.specs.Faults.{cause_of, cause_of_lanes}
 use Rattle.edf_stream.specs.Conforming.{IsLane}
 

@@ -1,6 +1,5 @@
 -- The tests of the bytes of one data record.
-use Rattle.std.proofs.Common.{◌≡◌, ℕ, ℤ, ◌+◌, ◌-◌, List, [], ◌∷◌, length, drop, Option, Some, None, Result, Ok, sym, ap, ◌∙◌, length-drop}
-use Rattle.edf_fields.specs.Tests.{first}
+use Rattle.std.proofs.Common.{◌≡◌, ℕ, ℤ, ◌+◌, ◌-◌, List, [], ◌∷◌, length, drop, Some, None, Result, Ok, sym, ap, ◌∙◌, length-drop}
 use Rattle.edf_fields.proofs.ForCallers.{first-passed, pass-cons, alone}
 use Rattle.edf_header.specs.declared.fault.Fault.{Fault}
 use Rattle.edf_header.specs.declared.kind.Kind.{Kind}

@@ -1,5 +1,5 @@
 -- The tests of data records, one after the other.
-use Rattle.std.proofs.Common.{◌≡◌, ℕ, zero, suc, ℤ, pos, ◌+ℤ◌, ◌+◌, ◌-◌, ◌*◌, ◌<◌, ◌≤◌, nat_le, List, [], ◌∷◌, ◌++◌, length, take, drop, Option, Some, None, refl, sym, ap, ◌∙◌, subst, arith, length-take, length-drop, append_assoc, add-one}
+use Rattle.std.proofs.Common.{◌≡◌, ℕ, zero, suc, ℤ, pos, ◌+ℤ◌, ◌+◌, ◌-◌, ◌<◌, ◌≤◌, List, [], ◌∷◌, ◌++◌, length, take, drop, Option, Some, None, refl, sym, ap, ◌∙◌, subst, arith, length-take, length-drop, append_assoc, add-one}
 use Rattle.std.proofs.Math.Seq.{take-length, take-append_seam}
 use Rattle.std.proofs.lemmas.List.{drop-drop}
 use Rattle.std.proofs.lemmas.Bool.Decides.{nat_tests}
@@ -9,12 +9,12 @@ use Rattle.edf_header.specs.declared.fault.Fault.{Fault}
 use Rattle.edf_header.specs.declared.fault.Place.{Place}
 use Rattle.edf_header.specs.declared.fault.Place.TheVariants.{AtRecord, AtEnd}
 use Rattle.edf_header.specs.declared.fault.Cause.TheVariants.{Truncated, TrailingBytes}
-use Rattle.edf_header.specs.Faults.{truncated, fault_unless, header_fault}
+use Rattle.edf_header.specs.Faults.{truncated, header_fault}
 use Rattle.edf_header.specs.Conforming.{HeaderConforms}
 use Rattle.edf_header.specs.Heads.{Head, head_of, header_bytes, record_bytes}
 use Rattle.edf_stream.specs.Records.{place_of, record_at}
 use Rattle.edf_stream.specs.Notes.{notes_in, notes_before}
-use Rattle.edf_stream.specs.Starts.{start_in, end_before, end_at}
+use Rattle.edf_stream.specs.Starts.{start_in, end_before}
 use Rattle.edf_stream.specs.Faults.{record_fault, records_tests, trailing_fault, body_fault}
 use Rattle.edf_stream.specs.Readers.{HasPassed, StandsAt, IsRead}
 

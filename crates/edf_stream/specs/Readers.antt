@@ -6,7 +6,7 @@ use Rattle.edf_header.specs.declared.stop.Stop.{Stop}
 use Rattle.edf_header.specs.declared.stop.Stop.TheVariants as stops
 use Rattle.edf_header.specs.Conforming.{HeaderConforms}
 use Rattle.edf_header.specs.Faults.{header_fault}
-use Rattle.edf_header.specs.Heads.{Head, head_of, record_bytes}
+use Rattle.edf_header.specs.Heads.{Head, head_of}
 use Rattle.edf_stream.specs.declared.start.Progress.{Progress}
 use Rattle.edf_stream.specs.declared.status.Status.{Status}
 use Rattle.edf_stream.specs.declared.status.Status.TheVariants.{Begun, Current, Ended, Stopped}

@@ -1,5 +1,5 @@
 -- The data records of a file, and what each signal has in them. EDF (1992), "Data record".
-use Rattle.std.specs.Prelude.{ℕ, ◌+◌, ◌*◌, List, [], map, filter, Option, slice_get}
+use Rattle.std.specs.Prelude.{ℕ, ◌+◌, ◌*◌, List, [], map, filter, slice_get}
 use Rattle.std.specs.Option.{option_map_or}
 use Rattle.edf_fields.specs.Parts.{part}
 use Rattle.edf_header.specs.Heads.{SignalHead, Head, header_bytes, record_bytes, is_annotations}

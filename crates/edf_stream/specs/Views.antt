@@ -44,8 +44,6 @@ abbrev pub notes_of_said : Option TalNotes → List NoteValue
 notes_of_said None = []
 notes_of_said (Some said) = map (λ text. record { onset = said.onset; duration = said.duration; text = text }) (texts_left said.texts)
 
-
-
 -- those of a lane
 abbrev pub lane_notes_left : LaneNotes → List NoteValue
 lane_notes_left lane = notes_of_said lane.tal ++ notes_of_items (items_left lane.tals)

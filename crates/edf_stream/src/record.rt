@@ -84,7 +84,12 @@ fn texts_of(found: Option<Said>) -> u32
 /// Judges the bytes of data record `k`, and answers how far the records were followed with it; or its
 /// first fault.
 #[tactic(auto, unfolding(crate::specs::Faults::record_fault, crate::specs::Notes::notes_in))]
-pub(crate) fn judge_record(header: &Header, k: u32, before: Progress, bytes: &[u8]) -> Result<Progress, Fault>
+pub(crate) fn judge_record(
+    header: &Header,
+    k: u32,
+    before: Progress,
+    bytes: &[u8],
+) -> Result<Progress, Fault>
     requires sized { length bytes.now ≡ record_bytes header.now }
     requires few { before.notes ≤ 1000000 }
     ensures judged { MatchResult result

@@ -1,4 +1,4 @@
-use Rattle.std.proofs.Common.{◌≡◌, ◌*◌, ℕ, true, false, length, List, [], IsTrue, Some, Ok, subst, sym, ap, ◌∙◌}
+use Rattle.std.proofs.Common.{◌≡◌, ◌*◌, ℕ, length, List, IsTrue, Some, Ok, subst, sym, ap, ◌∙◌}
 use Rattle.edf_fields.specs.Sources.{Rises}
 use Rattle.edf_header.specs.Faults.{header_fault}
 use Rattle.edf_header.specs.Heads.{Head, head_of, samples_together}

@@ -1,4 +1,4 @@
-use Rattle.std.proofs.Common.{◌≡◌, ◌++◌, length, take, drop, subst, ap, sym, ◌∙◌, IsTrue, List, [], ℕ, None, Some}
+use Rattle.std.proofs.Common.{◌≡◌, length, subst, ap, sym, ◌∙◌, IsTrue, List, ℕ, None, Some}
 use Rattle.edf_fields.specs.Sources.{Rises}
 use Rattle.edf_stream.specs.contracts.reader.FileReader.{the_view}
 use Rattle.edf_stream.specs.Records.{record_at}
@@ -40,6 +40,6 @@ returns-in-Err-clause-stop g c = λ going.
     (λ f q. (
       q.0,
       λ honest file stands.
-        let viewed : StandsIn (the_view old) left file = subst (λ r. StandsIn r left file) (sym c.self.view_is) stands in
-        ap (λ (r : Reader). body_fault file r.head) (sym c.self.view_is) ∙ q.1 honest file viewed.passed viewed.stands,
+          let viewed : StandsIn (the_view old) left file = subst (λ r. StandsIn r left file) (sym c.self.view_is) stands in
+          ap (λ (r : Reader). body_fault file r.head) (sym c.self.view_is) ∙ q.1 honest file viewed.passed viewed.stands,
     )) c.in-Err.ensures.stop
