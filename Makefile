@@ -23,6 +23,6 @@ test:
 oracle:
 	@tools/oracle.sh
 
-# How fast lanes of annotations are read; no part of the gate.
+# How fast lanes of annotations and whole files are read; no part of the gate.
 speed:
 	@tools/speed.sh
