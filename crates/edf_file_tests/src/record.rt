@@ -44,6 +44,18 @@ pub fn recorded(alloc: Global, edits: &[Edit], lanes: &[&[u8]]) -> Result<Vec<u8
     Ok(file)
 }
 
+/// The reference file with so many data records of 1 s, which hold zeros and keep the time.
+pub fn timed(alloc: Global, records: u16) -> Result<Vec<u8>, AllocError> {
+    let count = records.to_string(alloc)?;
+    let mut file = edited(alloc, &[(AtField(Fixed::Records), count.as_str())])?;
+    for k in 0..records {
+        let lane = format!(in alloc; "+{k}\u{14}\u{14}")?;
+        push_lane(&mut file, b"", 12)?;
+        push_lane(&mut file, lane.as_bytes(), 40)?;
+    }
+    Ok(file)
+}
+
 /// A file of one channel with one sample in each data record of 0.1 s, and an annotation signal: an
 /// interrupted one with these lanes.
 pub fn sparse(alloc: Global, records: &str, lanes: &[&[u8]]) -> Result<Vec<u8>, AllocError> {

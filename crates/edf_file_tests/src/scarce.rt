@@ -1,12 +1,14 @@
 //! Calls under ever more memory: each refused growth is answered, until there is enough.
 
 use crate::file::{Edit, edited, is_reference};
+use crate::record::timed;
 use edf_fields::cause::FieldCause;
 use edf_fields::source::SliceSource;
 use edf_header::fault::{Cause, Fault, Place};
 use edf_header::header::Header;
 use edf_header::layout::{FixedField, SignalField};
 use edf_header::stop::Stop;
+use edf_stream::conform::conform;
 use std::alloc::{AllocError, Global};
 
 type Blocks = Vec<Vec<u8>>;
@@ -56,23 +58,42 @@ const LONGEST: Fault = Fault {
 
 const WORDS: &str = "BadSubfields(TooFewSubfields) at signal 65535 field physical-minimum";
 
-/// One of the calls: reading a file that has this fault or none, or saying the longest fault.
+/// One of the calls: reading a header that has this fault or none, reading a whole file that conforms, or
+/// saying the longest fault.
 #[derive(Clone, Copy)]
 enum Call {
     Reading(Option<Fault>),
+    Conforming,
     Saying,
 }
 
-/// Whether the call ends as it should, or none where it wants memory.
-fn called(alloc: Global, call: Call, file: &[u8]) -> Option<bool> {
-    let Call::Reading(fault) = call else {
-        let text = LONGEST.text(alloc).ok()?;
-        return Some(text.as_str() == WORDS);
-    };
+/// Whether the header is read, or refused for this fault; or none where that wants memory.
+fn is_read(alloc: Global, file: &[u8], fault: Option<Fault>) -> Option<bool> {
     match Header::read(alloc, &mut SliceSource::new(file)) {
         Ok(header) => Some(fault.is_none() && is_reference(&header)),
         Err(Stop::OutOfMemory) => None,
         Err(stop) => Some(Some(stop) == fault.map(Stop::Fault)),
+    }
+}
+
+/// Whether the file conforms and holds no annotation; or none where reading it wants memory.
+fn is_conforming(alloc: Global, file: &[u8]) -> Option<bool> {
+    match conform(alloc, &mut SliceSource::new(file)) {
+        Ok(found) => Some(found.annotations == 0),
+        Err(Stop::OutOfMemory) => None,
+        Err(_) => Some(false),
+    }
+}
+
+/// Whether the call ends as it should, or none where it wants memory.
+fn called(alloc: Global, call: Call, file: &[u8]) -> Option<bool> {
+    match call {
+        Call::Reading(fault) => is_read(alloc, file, fault),
+        Call::Conforming => is_conforming(alloc, file),
+        Call::Saying => {
+            let text = LONGEST.text(alloc).ok()?;
+            Some(text.as_str() == WORDS)
+        }
     }
 }
 
@@ -147,5 +168,17 @@ fn wants_memory_before_it_judges_the_columns(rt: HostRuntime) -> Result<(), Allo
     let edit = (Place::AtSignal(0, SignalField::Label), "\x1f");
     let (is_right, refused) = refused(rt.alloc(), edit, Cause::NotPrintable)?;
     assert!(rt; is_right && refused >= 60, "{refused}");
+    Ok(())
+}
+
+/// A whole file wants the memory of its header and of one data record, however many it has.
+#[test]
+fn conforms_in_the_memory_of_one_record(rt: HostRuntime) -> Result<(), AllocError> {
+    let short = timed(rt.alloc(), 4)?;
+    let long = timed(rt.alloc(), 400)?;
+    let (is_right, refused) = rise(rt.alloc(), Call::Conforming, &short)?;
+    assert!(rt; is_right && refused >= 64, "{refused}");
+    let of_long = rise(rt.alloc(), Call::Conforming, &long)?;
+    assert_eq!(rt; of_long, (true, refused));
     Ok(())
 }

@@ -6,11 +6,11 @@ use Rattle.edfclaim.specs.declared.fault.Place.TheVariants.{AtRecord, AtEnd}
 use Rattle.edfclaim.specs.declared.fault.Cause.TheVariants.{Truncated, TrailingBytes}
 use Rattle.edfclaim.specs.declared.judge.Fixed.{Fixed}
 use Rattle.edfclaim.specs.declared.header.Header.{Header}
-use Rattle.edfclaim.specs.Heads.{SignalHead, Head, count_of, signals_of, duration_of, signals_from, head_of, header_bytes, record_bytes}
+use Rattle.edfclaim.specs.Heads.{SignalHead, Head, count_of, signals_of, record_duration_of, signals_from, head_of, header_bytes, record_bytes}
 use Rattle.edfclaim.specs.Faults.{fault, truncated, fixed_stage, columns_stage, joint_faults, header_tests, due, start_faults, record_faults, records_faults, trailing_bytes, records_stage, first_fault}
 use Rattle.edf_fields.specs.Tests.{first}
 use Rattle.edfclaim.specs.Records.{record_at}
-use Rattle.edfclaim.specs.Timekeeping.{start_of}
+use Rattle.edfclaim.specs.Timekeeping.{record_start_of}
 use Rattle.edfclaim.specs.Views.{signal_view, header_view}
 use Rattle.edfclaim.specs.Judged.{SaysFixed, SaysSignals}
 use Rattle.edfclaim.proofs.TimeFacts.{record-behind, due-behind}
@@ -24,7 +24,7 @@ pub head-says : (file : List ℕ) (v : Fixed) (found : List SignalHead) → Says
 unfolding head_of
 head-says file v found s e =
     let make : ℕ → ℤ → List SignalHead → Head = λ r d ss. record { records = r; duration = d; signals = ss } in
-    ap (λ o. make (count_of o) (duration_of file) (signals_from file (signals_of file) 0 (signals_of file))) s.records
+    ap (λ o. make (count_of o) (record_duration_of file) (signals_from file (signals_of file) 0 (signals_of file))) s.records
     ∙ ap (λ d. make v.records d (signals_from file (signals_of file) 0 (signals_of file))) s.duration
     ∙ ap (λ n. make v.records v.duration_ps (signals_from file n 0 n)) s.signals
     ∙ ap (make v.records v.duration_ps) (sym e)
@@ -44,18 +44,18 @@ record-found b h k n f lt found =
 -- a data record of which a byte is missing
 pub record-broken : (b : List ℕ) (h : Head) (k : ℕ) → length b < header_bytes h + (k + 1) * record_bytes h → first (record_faults b h k) ≡ fault (AtRecord k) Truncated
 record-broken b h k short =
-    first-found (truncated (AtRecord k) (header_bytes h + (k + 1) * record_bytes h) (length b) ∷ []) (start_faults k (due b h k) (start_of h (record_at b h k))) _
+    first-found (truncated (AtRecord k) (header_bytes h + (k + 1) * record_bytes h) (length b) ∷ []) (start_faults k (due b h k) (record_start_of h (record_at b h k))) _
     (ap (λ t. first (t ∷ [])) (not_there (AtRecord k) (header_bytes h + (k + 1) * record_bytes h) (length b) short))
 
 -- a data record that was read is judged by its start
 pub record-judged : (b xs ys : List ℕ) (h : Head) (k : ℕ) → b ≡ xs ++ ys → header_bytes h + (k + 1) * record_bytes h ≤ length xs
-    → first (record_faults b h k) ≡ first (start_faults k (due xs h k) (start_of h (record_at xs h k)))
+    → first (record_faults b h k) ≡ first (start_faults k (due xs h k) (record_start_of h (record_at xs h k)))
 record-judged b xs ys h k e size =
     ap (λ zs. first (record_faults zs h k)) e
-    ∙ first-passed (truncated (AtRecord k) (header_bytes h + (k + 1) * record_bytes h) (length (xs ++ ys)) ∷ []) (start_faults k (due (xs ++ ys) h k) (start_of h (record_at (xs ++ ys) h k)))
+    ∙ first-passed (truncated (AtRecord k) (header_bytes h + (k + 1) * record_bytes h) (length (xs ++ ys)) ∷ []) (start_faults k (due (xs ++ ys) h k) (record_start_of h (record_at (xs ++ ys) h k)))
     (ap (λ t. first (t ∷ [])) (there (AtRecord k) (header_bytes h + (k + 1) * record_bytes h) (length (xs ++ ys)) (omega (arith, length-append xs ys))))
-    ∙ ap (λ d. first (start_faults k d (start_of h (record_at (xs ++ ys) h k)))) (due-behind xs ys h k (omega arith))
-    ∙ ap (λ r. first (start_faults k (due xs h k) (start_of h r))) (record-behind xs ys h k size)
+    ∙ ap (λ d. first (start_faults k d (record_start_of h (record_at (xs ++ ys) h k)))) (due-behind xs ys h k (omega arith))
+    ∙ ap (λ r. first (start_faults k (due xs h k) (record_start_of h r))) (record-behind xs ys h k size)
 
 pub ends : (h : Head) (len : ℕ) → len ≤ header_bytes h + h.records * record_bytes h → trailing_bytes h len ≡ None
 unfolding trailing_bytes

@@ -11,7 +11,7 @@ use Rattle.std.proofs.lemmas.List.Sums.{position_or_len_is, split_at_first, pass
 use Rattle.std.proofs.lemmas.Slice.Eq.{bytes_eq-Decides}
 use Rattle.edf_fields.specs.Onsets.{onset_of}
 use Rattle.edf_fields.proofs.ForCallers.{onset_of_spelled, onset_of_some, onset_bytes_from, and-true}
-use Rattle.edfclaim.specs.Timekeeping.{KeepsTime, are_zeros, is_end, is_rest, time_of}
+use Rattle.edfclaim.specs.Timekeeping.{KeepsTime, are_zeros, is_end, is_rest, lane_time_of}
 
 -- zeros, as a list and as a test
 zeros-pass : (n : ℕ) → are_zeros (replicate n 0) ≡ true
@@ -89,8 +89,8 @@ kept lane true (Some v) rest onset = record {
 }
 kept lane false o rest onset = λ v k. let z : false ≡ true = sym rest ∙ reads-rest lane v k in cc
 
-pub time_kept : (o : Option ℤ) (lane : List ℕ) → o ≡ time_of lane → MatchOption o ((v : ℤ) → KeepsTime lane v → ⊥) (KeepsTime lane)
-unfolding time_of
+pub time_kept : (o : Option ℤ) (lane : List ℕ) → o ≡ lane_time_of lane → MatchOption o ((v : ℤ) → KeepsTime lane v → ⊥) (KeepsTime lane)
+unfolding lane_time_of
 time_kept o lane e =
     let P : Option ℤ → Type 0 = λ p. MatchOption p ((v : ℤ) → KeepsTime lane v → ⊥) (KeepsTime lane) in
     subst P (sym e) (kept lane (is_rest (after_first is_end lane)) (onset_of (before_first is_end lane)) refl refl)

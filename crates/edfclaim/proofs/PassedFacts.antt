@@ -6,7 +6,7 @@ use Rattle.edfclaim.specs.declared.fault.Place.TheVariants.{AtRecord}
 use Rattle.edfclaim.specs.declared.fault.Cause.TheVariants.{NoTimekeeping}
 use Rattle.edfclaim.specs.Heads.{Head, head_of, header_bytes, record_bytes}
 use Rattle.edfclaim.specs.Records.{record_at}
-use Rattle.edfclaim.specs.Timekeeping.{StartsAt, start_of, start_at}
+use Rattle.edfclaim.specs.Timekeeping.{RecordStartsAt, record_start_of, start_at}
 use Rattle.edfclaim.specs.Faults.{fault, truncated, no_timekeeping, start_faults, due, record_faults, records_faults, trailing_bytes, records_stage, header_tests, first_fault}
 use Rattle.edf_fields.specs.Tests.{first}
 use Rattle.edfclaim.proofs.StartFacts.{start_said}
@@ -26,16 +26,16 @@ unfolding no_timekeeping
 says-start k end None e = absurd (let z : fault (AtRecord k) NoTimekeeping ≡ None = e in cc)
 says-start k end (Some v) e = (v, refl)
 
-starts : (file : List ℕ) (h : Head) (k : ℕ) → first (record_faults file h k) ≡ None → StartsAt h (record_at file h k) (start_at file h k)
+starts : (file : List ℕ) (h : Head) (k : ℕ) → first (record_faults file h k) ≡ None → RecordStartsAt h (record_at file h k) (start_at file h k)
 unfolding start_at
 starts file h k e =
-    let parts = first-none (truncated (AtRecord k) (header_bytes h + (k + 1) * record_bytes h) (length file) ∷ []) (start_faults k (due file h k) (start_of h (record_at file h k))) e in
-    let said = says-start k (due file h k) (start_of h (record_at file h k)) parts.1 in
-    let words : StartsAt h (record_at file h k) said.0 =
-    subst (λ o. MatchOption o ((v : ℤ) → StartsAt h (record_at file h k) v → ⊥) (StartsAt h (record_at file h k))) said.1 (start_said (start_of h (record_at file h k)) h (record_at file h k) refl) in
-    subst (λ o. StartsAt h (record_at file h k) (unwrap_or o (pos 0))) (sym said.1) words
+    let parts = first-none (truncated (AtRecord k) (header_bytes h + (k + 1) * record_bytes h) (length file) ∷ []) (start_faults k (due file h k) (record_start_of h (record_at file h k))) e in
+    let said = says-start k (due file h k) (record_start_of h (record_at file h k)) parts.1 in
+    let words : RecordStartsAt h (record_at file h k) said.0 =
+    subst (λ o. MatchOption o ((v : ℤ) → RecordStartsAt h (record_at file h k) v → ⊥) (RecordStartsAt h (record_at file h k))) said.1 (start_said (record_start_of h (record_at file h k)) h (record_at file h k) refl) in
+    subst (λ o. RecordStartsAt h (record_at file h k) (unwrap_or o (pos 0))) (sym said.1) words
 
-pub each-starts : (file : List ℕ) (k : ℕ) → first_fault file ≡ None → k < (head_of file).records → StartsAt (head_of file) (record_at file (head_of file) k) (start_at file (head_of file) k)
+pub each-starts : (file : List ℕ) (k : ℕ) → first_fault file ≡ None → k < (head_of file).records → RecordStartsAt (head_of file) (record_at file (head_of file) k) (start_at file (head_of file) k)
 unfolding first_fault
 each-starts file k passed lt =
     let h : Head = head_of file in

@@ -10,7 +10,7 @@ use Rattle.edfclaim.specs.declared.header.Header.{Header}
 use Rattle.edf_fields.specs.Lists.{Has}
 use Rattle.edfclaim.specs.Heads.{SignalHead, Head, is_annotations, samples_together, samples_at}
 use Rattle.edfclaim.specs.Records.{lane_in}
-use Rattle.edfclaim.specs.Timekeeping.{KeepsTime, IsAnnotation, StartsAt, are_zeros, time_of, annotation_places, time_of_lanes, start_of}
+use Rattle.edfclaim.specs.Timekeeping.{KeepsTime, IsAnnotation, RecordStartsAt, are_zeros, lane_time_of, annotation_places, time_of_lanes, record_start_of}
 use Rattle.edfclaim.specs.Followed.{with_lane}
 use Rattle.edfclaim.specs.Views.{signal_view, header_view}
 use Rattle.edf_fields.proofs.ForCallers.{and-true}
@@ -104,8 +104,8 @@ pub time-end : (start : Option ℤ) → time_with start [] ≡ start
 time-end None = refl
 time-end (Some v) = refl
 
-pub start-is : (header : Header) (bytes : List ℕ) → start_of (header_view header) bytes ≡ time_of_lanes (lanes_left header bytes 0)
-unfolding start_of
+pub start-is : (header : Header) (bytes : List ℕ) → record_start_of (header_view header) bytes ≡ time_of_lanes (lanes_left header bytes 0)
+unfolding record_start_of
 start-is header bytes = refl
 
 -- the place of an annotation signal, among those from place k on
@@ -177,9 +177,9 @@ blank-lanes h bytes (p ∷ ps) q e i =
     ⊎_elim (λ same. ap (λ k. are_zeros (lane_in h bytes k)) (sym same) ∙ both.0) (λ j. blank-lanes h bytes ps q both.1 j) i
 
 said : (h : Head) (bytes : List ℕ) (places : List ℕ) → annotation_places 0 h.signals ≡ places
-    → MatchOption (time_of_lanes (map (lane_in h bytes) places)) ((v : ℤ) → StartsAt h bytes v → ⊥) (StartsAt h bytes)
+    → MatchOption (time_of_lanes (map (lane_in h bytes) places)) ((v : ℤ) → RecordStartsAt h bytes v → ⊥) (RecordStartsAt h bytes)
 said h bytes [] e = λ v s. subst (λ (ps : List ℕ). Has ps s.first) e (annotation-place h s.first s.annotates)
-said h bytes (p ∷ ps) e = cases (list_all are_zeros (map (lane_in h bytes) ps)) (time_of (lane_in h bytes p)) refl (time_kept (time_of (lane_in h bytes p)) (lane_in h bytes p) refl)
+said h bytes (p ∷ ps) e = cases (list_all are_zeros (map (lane_in h bytes) ps)) (lane_time_of (lane_in h bytes p)) refl (time_kept (lane_time_of (lane_in h bytes p)) (lane_in h bytes p) refl)
   where
     here : (s : ℕ) → IsAnnotation h s → Has (p ∷ ps) s
     here s a = subst (λ (xs : List ℕ). Has xs s) e (annotation-place h s a)
@@ -187,14 +187,14 @@ said h bytes (p ∷ ps) e = cases (list_all are_zeros (map (lane_in h bytes) ps)
     annotates : (s : ℕ) → Has (p ∷ ps) s → IsAnnotation h s
     annotates s i = place-annotation h s (subst (λ (xs : List ℕ). Has xs s) (sym e) i)
 
-    first-is : (v : ℤ) → (s : StartsAt h bytes v) → s.first ≡ p
+    first-is : (v : ℤ) → (s : RecordStartsAt h bytes v) → s.first ≡ p
     first-is v s =
         let low : s.first ≤ p = s.none_before p (annotates p (inl refl)) in
         let high : p ≤ s.first = ⊎_elim (λ same. omega (arith, same)) (λ j. let lt = places-rise 0 h.signals p ps s.first e j in omega (arith, lt)) (here s.first s.annotates) in
         omega arith
 
     cases : (b : Bool) (o : Option ℤ) → list_all are_zeros (map (lane_in h bytes) ps) ≡ b → MatchOption o ((v : ℤ) → KeepsTime (lane_in h bytes p) v → ⊥) (KeepsTime (lane_in h bytes p))
-        → MatchOption (cond b o None) ((v : ℤ) → StartsAt h bytes v → ⊥) (StartsAt h bytes)
+        → MatchOption (cond b o None) ((v : ℤ) → RecordStartsAt h bytes v → ⊥) (RecordStartsAt h bytes)
     cases false o blank keeps = λ v s.
         let all : list_all are_zeros (map (lane_in h bytes) ps) ≡ true = lanes-blank h bytes ps (λ q i.
         let lt : p < q = places-rise 0 h.signals p ps q e i in
@@ -210,8 +210,8 @@ said h bytes (p ∷ ps) e = cases (list_all are_zeros (map (lane_in h bytes) ps)
       blank = λ s a lt. ⊎_elim (λ same. absurd (omega (arith, same))) (λ j. blank-lanes h bytes ps s blank j) (here s a);
     }
 
-pub start_said : (o : Option ℤ) (h : Head) (bytes : List ℕ) → o ≡ start_of h bytes → MatchOption o ((v : ℤ) → StartsAt h bytes v → ⊥) (StartsAt h bytes)
-unfolding start_of
+pub start_said : (o : Option ℤ) (h : Head) (bytes : List ℕ) → o ≡ record_start_of h bytes → MatchOption o ((v : ℤ) → RecordStartsAt h bytes v → ⊥) (RecordStartsAt h bytes)
+unfolding record_start_of
 start_said o h bytes e =
-    let P : Option ℤ → Type 0 = λ p. MatchOption p ((v : ℤ) → StartsAt h bytes v → ⊥) (StartsAt h bytes) in
+    let P : Option ℤ → Type 0 = λ p. MatchOption p ((v : ℤ) → RecordStartsAt h bytes v → ⊥) (RecordStartsAt h bytes) in
     subst P (sym e) (said h bytes (annotation_places 0 h.signals) refl)

@@ -13,7 +13,7 @@ use Rattle.edfclaim.specs.declared.judge_record.Progress.{Progress}
 use Rattle.edfclaim.specs.Followed.{Follows}
 use Rattle.edfclaim.specs.Heads.{Head, header_bytes, record_bytes}
 use Rattle.edfclaim.specs.Records.{record_at}
-use Rattle.edfclaim.specs.Timekeeping.{start_of, start_at}
+use Rattle.edfclaim.specs.Timekeeping.{record_start_of, start_at}
 use Rattle.edfclaim.specs.Faults.{fault, due, start_faults, no_timekeeping, start_fault}
 use Rattle.edf_fields.specs.Tests.{first}
 use Rattle.edfclaim.specs.Judged.{IsContiguous}
@@ -31,13 +31,13 @@ record-behind xs ys h k size = part-append xs ys (header_bytes h + k * record_by
 
 pub start-behind : (xs ys : List ℕ) (h : Head) (k : ℕ) → header_bytes h + (k + 1) * record_bytes h ≤ length xs → start_at (xs ++ ys) h k ≡ start_at xs h k
 unfolding start_at
-start-behind xs ys h k size = ap (λ r. unwrap_or (start_of h r) (pos 0)) (record-behind xs ys h k size)
+start-behind xs ys h k size = ap (λ r. unwrap_or (record_start_of h r) (pos 0)) (record-behind xs ys h k size)
 
 pub due-behind : (xs ys : List ℕ) (h : Head) (k : ℕ) → header_bytes h + k * record_bytes h ≤ length xs → due (xs ++ ys) h k ≡ due xs h k
 due-behind xs ys h zero size = refl
 due-behind xs ys h (suc k) size = ap (λ s. Some (s +ℤ h.duration)) (start-behind xs ys h k (let e : suc k ≡ k + 1 = omega arith in rw (sym e) size))
 
-pub start-said : (b : List ℕ) (h : Head) (k : ℕ) (v : ℤ) → start_of h (record_at b h k) ≡ Some v → start_at b h k ≡ v
+pub start-said : (b : List ℕ) (h : Head) (k : ℕ) (v : ℤ) → record_start_of h (record_at b h k) ≡ Some v → start_at b h k ≡ v
 unfolding start_at
 start-said b h k v e = ap (λ o. unwrap_or o (pos 0)) e
 
@@ -57,7 +57,7 @@ on-time k end v h = cases (int_eq v end) refl h
 
 -- one data record more
 pub contiguous-more : (xs ys : List ℕ) (h : Head) (first_start v : ℤ) (k : ℕ) → IsContiguous xs h first_start k → header_bytes h + k * record_bytes h ≤ length xs
-    → start_of h (record_at (xs ++ ys) h k) ≡ Some v → unsigned_abs v < 10 ^ 21 → v ≡ first_start +ℤ (pos k *ℤ h.duration) → IsContiguous (xs ++ ys) h first_start (k + 1)
+    → record_start_of h (record_at (xs ++ ys) h k) ≡ Some v → unsigned_abs v < 10 ^ 21 → v ≡ first_start +ℤ (pos k *ℤ h.duration) → IsContiguous (xs ++ ys) h first_start (k + 1)
 contiguous-more xs ys h first_start v k c size said small at = record {
   starts = λ j lt. elim (cases_lt j k) [
     | inl less ↦ start-behind xs ys h j (within j less) ∙ c.starts j less

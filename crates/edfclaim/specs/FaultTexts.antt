@@ -5,7 +5,8 @@ use Rattle.edfclaim.specs.declared.fault.Fault.{Fault}
 use Rattle.edfclaim.specs.declared.fault.Place.{Place}
 use Rattle.edfclaim.specs.declared.fault.Place.TheVariants.{AtField, AtSignal, AtRecord, AtEnd}
 use Rattle.edfclaim.specs.declared.fault.Cause.{Cause}
-use Rattle.edfclaim.specs.declared.fault.Cause.TheVariants.{Truncated, BadHeaderSize, NotEdfPlus, BadNumber, BadRange, NoAnnotationSignal, NoOrdinarySignal, DuplicateLabel, RecordTooLarge, NoTimekeeping, BadFirstStart, NotContiguous, TrailingBytes}
+use Rattle.edfclaim.specs.declared.fault.Cause.TheVariants.{Truncated, BadHeaderSize, NotEdfPlus, BadNumber, BadRange, NoAnnotationSignal}
+use Rattle.edfclaim.specs.declared.fault.Cause.TheVariants.{NoOrdinarySignal, DuplicateLabel, RecordTooLarge, NoTimekeeping, BadFirstStart, NotContiguous, TrailingBytes}
 use Rattle.edfclaim.specs.Layout.{fixed_field_name, signal_field_name}
 
 -- the cause's name

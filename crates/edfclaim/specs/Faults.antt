@@ -1,5 +1,6 @@
 -- The tests that a file has to pass, in their written order, and the first that fails.
-use Rattle.std.specs.Prelude.{◌≡◌, ◌<◌, ℕ, zero, suc, ℤ, pos, ◌+◌, ◌*◌, ◌+ℤ◌, ◌^◌, nat_le, nat_lt, int_le, int_lt, ◌&&◌, if◌then◌else◌, List, [], ◌∷◌, ◌++◌, length, take, Option, Some, None, unwrap_or, codes}
+use Rattle.std.specs.Prelude.{◌≡◌, ◌<◌, ℕ, zero, suc, ℤ, pos, ◌+◌, ◌*◌, ◌+ℤ◌, ◌^◌, nat_le, nat_lt, int_le}
+use Rattle.std.specs.Prelude.{int_lt, ◌&&◌, if◌then◌else◌, List, [], ◌∷◌, ◌++◌, length, take, Option, Some, None, unwrap_or, codes}
 use Rattle.std.specs.List.{list_any, list_all}
 use Rattle.std.specs.Ordering.{int_eq}
 use Rattle.std.specs.Str.{bytes_eq}
@@ -8,7 +9,8 @@ use Rattle.edfclaim.specs.declared.fault.Fault.{Fault}
 use Rattle.edfclaim.specs.declared.fault.Place.{Place}
 use Rattle.edfclaim.specs.declared.fault.Place.TheVariants.{AtField, AtSignal, AtRecord, AtEnd}
 use Rattle.edfclaim.specs.declared.fault.Cause.{Cause}
-use Rattle.edfclaim.specs.declared.fault.Cause.TheVariants.{Truncated, BadHeaderSize, NotEdfPlus, BadNumber, BadRange, NoAnnotationSignal, NoOrdinarySignal, DuplicateLabel, RecordTooLarge, NoTimekeeping, BadFirstStart, NotContiguous, TrailingBytes}
+use Rattle.edfclaim.specs.declared.fault.Cause.TheVariants.{Truncated, BadHeaderSize, NotEdfPlus, BadNumber, BadRange, NoAnnotationSignal}
+use Rattle.edfclaim.specs.declared.fault.Cause.TheVariants.{NoOrdinarySignal, DuplicateLabel, RecordTooLarge, NoTimekeeping, BadFirstStart, NotContiguous, TrailingBytes}
 use Rattle.edfclaim.specs.declared.layout.FixedField.{FixedField}
 use Rattle.edfclaim.specs.declared.layout.FixedField.TheVariants as fixed
 use Rattle.edfclaim.specs.declared.layout.SignalField.{SignalField}
@@ -16,7 +18,7 @@ use Rattle.edfclaim.specs.declared.layout.SignalField.TheVariants as signal
 use Rattle.edfclaim.specs.Layout.{fixed_from, fixed_bytes, fixed_fields, fixed_field, column_before, column_width, columns, signal_field}
 use Rattle.edfclaim.specs.Channels.{is_repeated}
 use Rattle.edfclaim.specs.Records.{record_at}
-use Rattle.edfclaim.specs.Timekeeping.{StartsAt, start_of, start_at}
+use Rattle.edfclaim.specs.Timekeeping.{RecordStartsAt, record_start_of, start_at}
 use Rattle.edfclaim.specs.Heads.{SignalHead, Head, signals_of, head_of, is_annotations, header_bytes, record_bytes}
 use Rattle.edf_fields.specs.Tests.{first}
 
@@ -158,7 +160,7 @@ start_faults k end start = no_timekeeping k start ∷ start_fault k end (unwrap_
 abbrev pub record_faults : List ℕ → Head → ℕ → List (Option Fault)
 record_faults file h k =
     truncated (AtRecord k) (header_bytes h + (k + 1) * record_bytes h) (length file)
-    ∷ start_faults k (due file h k) (start_of h (record_at file h k))
+    ∷ start_faults k (due file h k) (record_start_of h (record_at file h k))
 
 -- the tests of the m data records from record k on
 abbrev pub records_faults : List ℕ → Head → ℕ → ℕ → List (Option Fault)
@@ -195,4 +197,4 @@ first_fault file = first (file_tests file)
 
 -- in a file that passes its tests each data record says where it starts
 abbrev pub EachRecordStarts : Type 0
-EachRecordStarts = (file : List ℕ) (k : ℕ) → first_fault file ≡ None → k < (head_of file).records → StartsAt (head_of file) (record_at file (head_of file) k) (start_at file (head_of file) k)
+EachRecordStarts = (file : List ℕ) (k : ℕ) → first_fault file ≡ None → k < (head_of file).records → RecordStartsAt (head_of file) (record_at file (head_of file) k) (start_at file (head_of file) k)

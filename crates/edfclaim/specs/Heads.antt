@@ -29,8 +29,8 @@ abbrev pub signals_of : List ℕ → ℕ
 signals_of file = count_of (whole_number_of (fixed_field file fixed.Signals))
 
 -- the field's unit is a second, and what it spells counts 10^-7 of it: 100,000 picoseconds
-abbrev pub duration_of : List ℕ → ℤ
-duration_of file = unwrap_or (header_number_of (fixed_field file fixed.Duration)) (pos 0) *ℤ pos 100000
+abbrev pub record_duration_of : List ℕ → ℤ
+record_duration_of file = unwrap_or (header_number_of (fixed_field file fixed.Duration)) (pos 0) *ℤ pos 100000
 
 -- signal s of n
 abbrev pub signal_of : List ℕ → ℕ → ℕ → SignalHead
@@ -48,7 +48,7 @@ signals_from file n s (suc m) = signal_of file n s ∷ signals_from file n (s + 
 unfoldable pub head_of : List ℕ → Head
 head_of file = record {
   records = count_of (whole_number_of (fixed_field file fixed.Records));
-  duration = duration_of file;
+  duration = record_duration_of file;
   signals = signals_from file (signals_of file) 0 (signals_of file);
 }
 

@@ -8,7 +8,7 @@ use Rattle.edfclaim.specs.declared.header.Header.{Header}
 use Rattle.edfclaim.specs.declared.file.EdfFile.{EdfFile}
 use Rattle.edfclaim.specs.declared.layout.FixedField.TheVariants as fixed
 use Rattle.edfclaim.specs.Layout.{fixed_field}
-use Rattle.edfclaim.specs.Heads.{Head, signals_of, duration_of, signals_from, header_bytes, record_bytes}
+use Rattle.edfclaim.specs.Heads.{Head, signals_of, record_duration_of, signals_from, header_bytes, record_bytes}
 use Rattle.edfclaim.specs.Channels.{HasDistinctChannels}
 use Rattle.edfclaim.specs.Timekeeping.{start_at}
 use Rattle.edfclaim.specs.Views.{signal_view, header_view}
@@ -16,7 +16,7 @@ use Rattle.edfclaim.specs.Views.{signal_view, header_view}
 -- the fixed part says this
 pub record SaysFixed (file : List ℕ) (v : Fixed) : Type 0 where
   pub records : whole_number_of (fixed_field file fixed.Records) ≡ Some (pos v.records)
-  pub duration : duration_of file ≡ v.duration_ps
+  pub duration : record_duration_of file ≡ v.duration_ps
   pub signals : signals_of file ≡ v.signals
   pub some_records : 1 ≤ v.records
   pub few_records : v.records < 10 ^ 8

@@ -2,7 +2,7 @@
 
 ghost use Rattle.std.specs.Prelude.{◌≡◌, ◌<◌, ◌^◌, ◌+ℤ◌, length, None, Some, MatchResult, unsigned_abs};
 ghost use Rattle.edfclaim.specs.Heads.{record_bytes};
-ghost use Rattle.edfclaim.specs.Timekeeping.{start_of};
+ghost use Rattle.edfclaim.specs.Timekeeping.{record_start_of};
 ghost use Rattle.edfclaim.specs.Faults.{no_timekeeping, start_fault, start_faults};
 ghost use Rattle.edf_fields.specs.Tests.{first};
 ghost use Rattle.edfclaim.specs.Views.{header_view};
@@ -37,8 +37,8 @@ fn said_start(header: &Header, k: u32, bytes: &[u8]) -> Result<i128, Fault>
     requires modest { IsModest header.now }
     requires size { length bytes.now ≡ record_bytes (header_view header.now) }
     ensures { MatchResult result
-        (λ v. (start_of (header_view header.now) bytes.now ≡ Some v) × (unsigned_abs v < 10 ^ 21))
-        (λ f. (start_of (header_view header.now) bytes.now ≡ None) × (no_timekeeping k None ≡ Some f)) }
+        (λ v. (record_start_of (header_view header.now) bytes.now ≡ Some v) × (unsigned_abs v < 10 ^ 21))
+        (λ f. (record_start_of (header_view header.now) bytes.now ≡ None) × (no_timekeeping k None ≡ Some f)) }
 {
     match record_start(header, bytes) {
         Some(start) => Ok(start),
@@ -99,7 +99,7 @@ pub fn judge_record(
     requires size { length bytes.now ≡ record_bytes (header_view header.now) }
     ensures { MatchResult result
         (Follows (header_view header.now) k bytes.now before)
-        (λ f. first (start_faults k before.due_ps (start_of (header_view header.now) bytes.now)) ≡ Some f) }
+        (λ f. first (start_faults k before.due_ps (record_start_of (header_view header.now) bytes.now)) ≡ Some f) }
 {
     let start = said_start(header, k, bytes)?;
     on_time(k, before.due_ps, start)?;

@@ -5,7 +5,7 @@
 ghost use Rattle.std.specs.Prelude.{◌≡◌, ℤ, ◌+◌, ◌*◌, ◌<◌, ◌≤◌, ◌^◌, length, IfSome, MatchOption, unsigned_abs};
 ghost use Rattle.std.specs.List.{position, before_first, after_first};
 ghost use Rattle.edfclaim.specs.Heads.{record_bytes};
-ghost use Rattle.edfclaim.specs.Timekeeping.{are_zeros, is_end, is_rest, time_of, KeepsTime, start_of, StartsAt};
+ghost use Rattle.edfclaim.specs.Timekeeping.{are_zeros, is_end, is_rest, lane_time_of, KeepsTime, record_start_of, RecordStartsAt};
 ghost use Rattle.edfclaim.specs.Followed.{with_lane};
 ghost use Rattle.edfclaim.specs.Views.{header_view};
 ghost use Rattle.edfclaim.specs.Judged.{IsModest};
@@ -54,9 +54,9 @@ fn is_rest(bytes: &[u8]) -> bool
 }
 
 /// The time that a lane keeps, as `lane_time`.
-#[tactic(auto, unfolding(crate::specs::Timekeeping::time_of))]
+#[tactic(auto, unfolding(crate::specs::Timekeeping::lane_time_of))]
 fn time_of_lane(lane: &[u8]) -> Option<i128>
-    ensures value { result ≡ time_of lane.now }
+    ensures value { result ≡ lane_time_of lane.now }
     ensures small { IfSome result (λ v. unsigned_abs v < 10 ^ 21) }
 {
     let (text, rest) = split_end(lane);
@@ -68,7 +68,7 @@ fn time_of_lane(lane: &[u8]) -> Option<i128>
 #[tactic(auto, using(crate::proofs::KeepsFacts::time_kept))]
 pub fn lane_time(lane: &[u8]) -> Option<i128>
     ensures keeps { MatchOption result ((v : ℤ) → KeepsTime lane.now v → ⊥) (KeepsTime lane.now) }
-    ensures value { result ≡ time_of lane.now }
+    ensures value { result ≡ lane_time_of lane.now }
     ensures small { IfSome result (λ v. unsigned_abs v < 10 ^ 21) }
 {
     time_of_lane(lane)
@@ -89,11 +89,11 @@ fn with_lane(start: Option<i128>, lane: &[u8]) -> Option<i128>
 }
 
 /// The start that a data record says, as `record_start`.
-#[tactic(auto, unfolding(crate::specs::Timekeeping::start_of))]
+#[tactic(auto, unfolding(crate::specs::Timekeeping::record_start_of))]
 fn start_of_record(header: &Header, bytes: &[u8]) -> Option<i128>
     requires modest { IsModest header.now }
     requires size { length bytes.now ≡ record_bytes (header_view header.now) }
-    ensures value { result ≡ start_of (header_view header.now) bytes.now }
+    ensures value { result ≡ record_start_of (header_view header.now) bytes.now }
     ensures small { IfSome result (λ v. unsigned_abs v < 10 ^ 21) }
 {
     let mut start = None;
@@ -117,8 +117,8 @@ fn start_of_record(header: &Header, bytes: &[u8]) -> Option<i128>
 pub fn record_start(header: &Header, bytes: &[u8]) -> Option<i128>
     requires modest { IsModest header.now }
     requires size { length bytes.now ≡ record_bytes (header_view header.now) }
-    ensures starts { MatchOption result ((v : ℤ) → StartsAt (header_view header.now) bytes.now v → ⊥) (StartsAt (header_view header.now) bytes.now) }
-    ensures value { result ≡ start_of (header_view header.now) bytes.now }
+    ensures starts { MatchOption result ((v : ℤ) → RecordStartsAt (header_view header.now) bytes.now v → ⊥) (RecordStartsAt (header_view header.now) bytes.now) }
+    ensures value { result ≡ record_start_of (header_view header.now) bytes.now }
     ensures small { IfSome result (λ v. unsigned_abs v < 10 ^ 21) }
 {
     start_of_record(header, bytes)

@@ -3,7 +3,7 @@ use Rattle.std.proofs.lemmas.Grind.{common_steps}
 use Rattle.std.proofs.lemmas.Result.{err_from_is_err_and}
 use Rattle.edfclaim.specs.Heads.{header_bytes, record_bytes, samples_together}
 use Rattle.edfclaim.specs.Records.{record_at}
-use Rattle.edfclaim.specs.Timekeeping.{start_of}
+use Rattle.edfclaim.specs.Timekeeping.{record_start_of}
 use Rattle.edfclaim.specs.Faults.{due, start_faults}
 use Rattle.edf_fields.specs.Tests.{first}
 use Rattle.edfclaim.specs.Followed.{Follows}
@@ -45,8 +45,8 @@ returns-in_err-progress-clause-stop g c =
     let now = c.loop-k.invariant.honesty h in
     c.loop-k.invariant.tests h ∙ record-found b head k head.records _ c.loop-k-test.true
     (record-judged b new (g.S.Source.left c.append.new.source) head k (c.loop-k.invariant.whole h ∙ c.in_ok-append.ensures.whole now) (omega (arith, long))
-    ∙ ap (λ d. first (start_faults k d (start_of head (record_at new head k)))) dues
-    ∙ ap (λ r. first (start_faults k c.loop-k.progress.due_ps (start_of head r))) (sym read)
+    ∙ ap (λ d. first (start_faults k d (record_start_of head (record_at new head k)))) dues
+    ∙ ap (λ r. first (start_faults k c.loop-k.progress.due_ps (record_start_of head r))) (sym read)
     ∙ c.in_err-progress.ensures))
 
 pub loop-k-preserved : goal.loop-k-preserved
@@ -64,8 +64,8 @@ loop-k-preserved g c =
     ap (λ xs. take (length xs - c.len-from.result) (drop c.len-from.result xs)) c.deref-in-loop-k.ensures.value ∙ record-read new head k c.len-from.result from long in
     let dues : due new head k ≡ c.loop-k.progress.due_ps = due-read old new head k c.in_ok-append.ensures.kept (omega (arith, c.loop-k.invariant.size)) ∙ sym c.loop-k.invariant.next in
     let follows : Follows head k (record_at new head k) c.loop-k.progress c.in_ok-progress.progress = subst (λ r. Follows head k r c.loop-k.progress c.in_ok-progress.progress) read c.in_ok-progress.ensures in
-    let passed : first (start_faults k (due new head k) (start_of head (record_at new head k))) ≡ None =
-    ap (λ d. first (start_faults k d (start_of head (record_at new head k)))) dues ∙ ap (λ o. first (start_faults k c.loop-k.progress.due_ps o)) follows.said ∙ follows.passed in
+    let passed : first (start_faults k (due new head k) (record_start_of head (record_at new head k))) ≡ None =
+    ap (λ d. first (start_faults k d (record_start_of head (record_at new head k)))) dues ∙ ap (λ o. first (start_faults k c.loop-k.progress.due_ps o)) follows.said ∙ follows.passed in
     record {
       honesty = λ h. c.in_ok-append.ensures.honesty (c.loop-k.invariant.honesty h);
       failures = c.in_ok-append.ensures.failures ∙ c.loop-k.invariant.failures;
