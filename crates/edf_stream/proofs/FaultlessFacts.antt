@@ -1,5 +1,6 @@
 -- A file conforms exactly where it has no first fault.
-use Rattle.std.proofs.Common.{◌≡◌, ℕ, zero, suc, ℤ, pos, ◌+◌, ◌-◌, ◌*◌, ◌<◌, ◌≤◌, ◌^◌, nat_le, int_le, int_lt, true, List, [], ◌∷◌, length, drop, None, Ok, refl, sym, ap, ◌∙◌, subst, arith, length-drop}
+use Rattle.std.proofs.lemmas.Int.{ints}
+use Rattle.std.proofs.Common.{◌≤ℤ◌, ◌≡◌, ℕ, zero, suc, ℤ, pos, ◌+◌, ◌-◌, ◌*◌, ◌<◌, ◌≤◌, ◌^◌, nat_le, int_le, int_lt, true, List, [], ◌∷◌, length, drop, None, Ok, refl, sym, ap, ◌∙◌, subst, arith, length-drop}
 use Rattle.std.proofs.lemmas.Bool.Decides.{nat_tests, Decides-int_eq}
 use Rattle.edf_fields.specs.Tests.{first}
 use Rattle.edf_fields.proofs.ForCallers.{first-cons, first-none, pass-cons, pass-append, alone, both-true, le-passes, lt-passes, unless-passed, unless-true}
@@ -18,7 +19,7 @@ use Rattle.edf_stream.specs.Records.{place_of, record_at, annotation_lanes}
 use Rattle.edf_stream.specs.Notes.{notes_in, notes_before}
 use Rattle.edf_stream.specs.Starts.{start_by_lanes, said_start, start_in, start_at, end_at, end_before, Begins}
 use Rattle.edf_stream.specs.Faults.{cause_of_lanes, lanes_fault, time_fault, may_start, start_fault, notes_fault, record_fault, records_tests, trailing_fault, body_fault, file_fault}
-use Rattle.edf_stream.specs.Conforming.{FollowsOn, Conforms, ConformingIsFaultless}
+use Rattle.edf_stream.specs.Conforming.{FollowsOn, Conforms, ConformingIsFaultless, RecordsFollowOn}
 use Rattle.edf_stream.proofs.ItemFacts.{lanes-none}
 use Rattle.edf_stream.proofs.ConformFacts.{conforms}
 use Rattle.edf_stream.proofs.RecordFacts.{there, ended}
@@ -164,3 +165,11 @@ conforming file e =
 
 pub conforming_is_faultless : ConformingIsFaultless
 conforming_is_faultless file = (λ e. (head_of file, conforming file e), λ found. faultless file found.0 found.1)
+
+-- no data record starts before the one before it ends
+not-before : (kind : Kind) (before start : ℤ) → FollowsOn kind before start → before ≤ℤ start
+not-before Contiguous before start e = omega (arith, ints, e)
+not-before Interrupted before start le = le
+
+pub records_follow_on : RecordsFollowOn
+records_follow_on file h c k lt = not-before h.kind (end_at file h k) (start_at file h (suc k)) (c.follows k lt)

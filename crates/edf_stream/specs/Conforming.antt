@@ -36,3 +36,7 @@ pub record Conforms (file : List ℕ) (h : Head) : Type 0 where
 -- a file conforms exactly where it has no first fault
 abbrev pub ConformingIsFaultless : Type 0
 ConformingIsFaultless = (file : List ℕ) → (file_fault file ≡ None) ↔ ((h : Head) × Conforms file h)
+
+-- in a file that conforms no data record starts before the one before it ends
+abbrev pub RecordsFollowOn : Type 0
+RecordsFollowOn = (file : List ℕ) (h : Head) → Conforms file h → (k : ℕ) → suc k < h.records → end_at file h k ≤ℤ start_at file h (suc k)

@@ -1,9 +1,10 @@
 //! A reader of a file, data record by data record.
 
-ghost use Rattle.std.specs.Prelude.{◌≡◌, ℕ, ◌+◌, ◌≤◌, ◌+ℤ◌, ◌<ℤ◌, List, false, Some, Ok, Err, IfOk, IfErr, OnOk, IsTrue};
+ghost use Rattle.std.specs.Prelude.{◌≡◌, ℕ, ◌+◌, ◌≤◌, ◌+ℤ◌, ◌<ℤ◌, List, length, false, Some, Ok, Err, IfOk, IfErr, OnOk, IsTrue};
 ghost use Rattle.edf_fields.specs.Sources.{Rises};
 ghost use Rattle.edf_header.specs.declared.stop.Stop.{Stop};
 ghost use Rattle.edf_header.specs.Faults.{header_fault};
+ghost use Rattle.edf_header.specs.Heads.{record_bytes};
 ghost use Rattle.edf_header.specs.Stops.{Stops};
 ghost use Rattle.edf_stream.specs.declared.status.Status.TheVariants.{Begun, Ended, Stopped};
 ghost use Rattle.edf_stream.specs.Starts.{start_in};
@@ -47,9 +48,10 @@ impl FileReader {
     /// Reads the header of a file, from its first byte on, and makes the buffer of one data record.
     ///
     /// A `Fault` is the first one of the header. After `Ok` the source stands at the first byte of the
-    /// first data record.
+    /// first data record. The buffer has the bytes of one data record, and keeps that size.
     pub fn begin<S: Source>(alloc: Global, source: &mut S) -> Result<FileReader, Stop>
         ensures begun { IfOk result (λ r. (r.status ≡ Begun) × (r.read ≡ 0)) }
+        ensures room { IfOk result (λ r. length r.current ≡ record_bytes r.head) }
         ensures failures { OnOk result (S.failures source.new ≡ S.failures source.old) }
         ensures honesty { OnOk result (IsTrue (S.is_honest source.old) → IsTrue (S.is_honest source.new)) }
         ensures stands { IfOk result (λ r. IsTrue (S.is_honest source.old) → StandsIn r (S.left source.new) (S.left source.old)) }
@@ -78,6 +80,7 @@ impl FileReader {
         ensures ended { self.old.status ≡ Ended → (result ≡ Ok false) × (self.new ≡ self.old) × (source.new ≡ source.old) }
         ensures status { self.new.status ≡ status_after result }
         ensures head { self.new.head ≡ self.old.head }
+        ensures room { length self.new.current ≡ record_bytes self.new.head }
         ensures count { IfOk result (λ more. IsTrue more → (self.new.read ≡ self.old.read + 1) × (self.new.read ≤ (self.new.head).records)) }
         ensures later { IfOk result (λ more. IsTrue more → (self.old.ended <ℤ self.new.ended) × (self.new.ended ≡ start_in self.new.head self.new.current +ℤ (self.new.head).duration)) }
         ensures failures { OnOk result (S.failures source.new ≡ S.failures source.old) }
