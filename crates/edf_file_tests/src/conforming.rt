@@ -38,6 +38,10 @@ const GAP: &[&[u8]] = &[
 
 const EARLY: &[&[u8]] = &[b"+0\x14\x14\0", b"+0.9\x14\x14\0"];
 
+const HAIR_EARLY: &[&[u8]] = &[b"+0\x14\x14\0", b"+0.999999999999\x14\x14\0"];
+
+const HAIR_LATE: &[&[u8]] = &[b"+0\x14\x14\0", b"+1.000000000001\x14\x14\0"];
+
 const LATE: &[&[u8]] = &[b"+1\x14\x14\0", b"+2\x14\x14\0"];
 
 const BEFORE: &[&[u8]] = &[b"-0.1\x14\x14\0", b"+0.9\x14\x14\0"];
@@ -68,6 +72,10 @@ const ROWS: &[(&[Edit], &[&[u8]], &str)] = &[
     (&[TWO], GAP, "NotContiguous at record 1"),
     (&[TWO, INTERRUPTED], EARLY, "Overlap at record 1"),
     (&[TWO], EARLY, "NotContiguous at record 1"),
+    (&[TWO], HAIR_EARLY, "NotContiguous at record 1"),
+    (&[TWO, INTERRUPTED], HAIR_EARLY, "Overlap at record 1"),
+    (&[TWO], HAIR_LATE, "NotContiguous at record 1"),
+    (&[TWO, INTERRUPTED], HAIR_LATE, "2, 2, 12, 0"),
     (&[TWO], LATE, "BadFirstStart at record 0"),
     (&[TWO, INTERRUPTED], LATE, "BadFirstStart at record 0"),
     (&[TWO], BEFORE, "BadFirstStart at record 0"),

@@ -12,13 +12,14 @@ use std::alloc::{AllocError, Global};
 use std::process::Abort;
 use std::test::Fail;
 
-/// Gives its bytes, and fails once so many reads are done; counts its reads. The proofs know nothing of
-/// it.
+/// Gives its bytes, and fails once so many reads are done; counts its reads, and keeps how many bytes the
+/// last one asked for. The proofs know nothing of it.
 #[derive(Drop)]
 struct Tape<'a> {
     rest: &'a [u8],
     passes: u32,
     reads: u32,
+    asked: usize,
     failures: u64,
 }
 
@@ -31,6 +32,7 @@ impl<'a> Source for Tape<'a> {
 
     fn read(&mut self, buf: &mut [u8]) -> Result<usize, ReadFault> {
         self.reads = self.reads.saturating_add(1);
+        self.asked = buf.len();
         if self.reads > self.passes {
             self.failures = self.failures.saturating_add(1);
             return Err(ReadFault);
@@ -49,6 +51,7 @@ fn tape_of<'a>(rest: &'a [u8], passes: u32) -> Tape<'a> {
         rest,
         passes,
         reads: 0,
+        asked: 0,
         failures: 0,
     }
 }
@@ -174,5 +177,15 @@ fn answers_the_same_again(rt: HostRuntime) -> Result<(), Fail> {
         let want = (passes - 2, Err(Stop::ReadFailed));
         assert_last(&rt, rt.alloc(), tape_of(&file, passes), want)?;
     }
+    Ok(())
+}
+
+#[test]
+fn asks_for_one_byte_behind_the_last_record(rt: HostRuntime) -> Result<(), Fail> {
+    let file = recorded(rt.alloc(), &[], LANES)?;
+    let mut source = tape_of(&file, 100);
+    let mut reader = FileReader::begin(rt.alloc(), &mut source)?;
+    let answer = last_of(&mut reader, &mut source);
+    assert_eq!(rt; (answer, source.asked), ((4, Ok(false)), 1));
     Ok(())
 }

@@ -3,13 +3,15 @@ use Rattle.std.specs.Prelude.{◌≡◌, ℕ, ℤ, pos, ◌≤◌, ◌<◌, ◌+
 use Rattle.edf_header.specs.Heads.{Head, record_bytes}
 use Rattle.edf_header.specs.Sound.{IsSound}
 use Rattle.edf_tal.specs.declared.start.StartCause.{StartCause}
+use Rattle.edf_header.specs.declared.stop.Stop.TheVariants as stops
 use Rattle.edf_stream.specs.declared.status.Status.{Status}
+use Rattle.edf_stream.specs.declared.status.Status.TheVariants.{Begun, Current, Ended, Stopped}
 use Rattle.edf_stream.specs.Readers.{is_current}
 use Rattle.edf_stream.specs.Starts.{start_by_lanes, start_in}
 use Rattle.edf_tal.specs.Views.{items_left, texts_left}
 use Rattle.edf_stream.specs.declared.lanes.Said.{Said}
-use Rattle.edf_stream.specs.declared.note.LaneNotes.{LaneNotes}
-use Rattle.edf_stream.specs.declared.note.Annotations.{Annotations}
+use Rattle.edf_stream.specs.declared.annotations.LaneNotes.{LaneNotes}
+use Rattle.edf_stream.specs.declared.annotations.Annotations.{Annotations}
 use Rattle.edf_stream.specs.declared.note.NoteRef.{NoteRef}
 use Rattle.edf_stream.specs.declared.note.TalNotes.{TalNotes}
 use Rattle.edf_stream.specs.Notes.{NoteValue, notes_of_items, notes_of_lanes}
@@ -25,6 +27,15 @@ abbrev pub texts_said : Option Said → ℕ
 texts_said None = 0
 texts_said (Some said) = said.texts
 
+-- reading data records takes no memory, so want of it stops no reader
+abbrev pub IsContent : Status → Type 0
+IsContent (Stopped stops.OutOfMemory) = ⊥
+IsContent (Stopped stops.ReadFailed) = Unit {0}
+IsContent (Stopped (stops.Fault fault)) = Unit {0}
+IsContent Begun = Unit {0}
+IsContent Current = Unit {0}
+IsContent Ended = Unit {0}
+
 -- what holds of every reader; where a data record is at hand, it ends where the records that were read do
 pub record IsReader (h : Head) (read : ℕ) (ended : ℤ) (notes : ℕ) (buffer : List ℕ) (status : Status) : Type 0 where
   pub sound : IsSound h
@@ -32,6 +43,7 @@ pub record IsReader (h : Head) (read : ℕ) (ended : ℤ) (notes : ℕ) (buffer 
   pub begun : read ≡ 0 → ended ≡ pos 0
   pub near : unsigned_abs ended < 2 ^ 71
   pub few : notes ≤ 1000000
+  pub content : IsContent status
   pub full : length buffer ≡ record_bytes h
   pub current : IsTrue (is_current status) → ended ≡ start_in h buffer +ℤ h.duration
 

@@ -7,8 +7,8 @@ ghost use Rattle.edf_stream.specs.Notes.{notes_in};
 ghost use Rattle.edf_stream.specs.Starts.{start_in};
 ghost use Rattle.edf_stream.specs.Views.{notes_left};
 
+use crate::annotations::Annotations;
 use crate::lanes::lane_of;
-use crate::note::Annotations;
 use crate::reader::FileReader;
 use crate::status::Status;
 

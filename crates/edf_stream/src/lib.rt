@@ -2,6 +2,7 @@
 //! has in it, its annotations; and whether the file conforms to the profile.
 #![tactic(auto)]
 
+pub mod annotations;
 pub mod conform;
 mod current;
 mod lanes;

@@ -1,20 +1,13 @@
-//! The annotations of a data record. EDF+ (2003), "Time-stamped Annotations Lists (TALs) in an 'EDF
+//! One annotation, and those of one TAL. EDF+ (2003), "Time-stamped Annotations Lists (TALs) in an 'EDF
 //! Annotations' signal".
 
-ghost use Rattle.std.specs.Prelude.{◌≡◌, ◌∷◌, ◌++◌, ◌<◌, [], length, Some, IfSome, MatchOption};
-ghost use Rattle.edf_tal.specs.Views.{tal_view, items_left};
-ghost use Rattle.edf_stream.specs.Notes.{notes_of_tal, notes_of_lane, notes_of_lanes, notes_in};
-ghost use Rattle.edf_stream.specs.Records.{annotation_lanes};
-ghost use Rattle.edf_stream.specs.Views.{note_view, notes_of_said, lane_notes_left, notes_left};
+ghost use Rattle.std.specs.Prelude.{◌<◌, ◌≤ℤ◌, ◌^◌, pos, unsigned_abs, IfSome};
+ghost use Rattle.std.proofs.Props.{props};
 
-use crate::lanes::lane_of;
-use edf_header::header::Header;
-use edf_header::signal::Signal;
-use edf_tal::tal::Tal;
-use edf_tal::tals::Tals;
 use edf_tal::texts::Texts;
 
-/// An annotation.
+/// An annotation. Its onset and its duration are less than 1,000,000,000 s in size, and the duration is not
+/// negative.
 #[derive(Debug, Clone, Copy)]
 pub struct NoteRef<'a> {
     /// The onset in picoseconds after the start of the file, as the file has it.
@@ -23,166 +16,18 @@ pub struct NoteRef<'a> {
     pub duration: Option<i128>,
     /// The text.
     pub text: &'a str,
+    ghost onset_small: { unsigned_abs onset < 10 ^ 21 },
+    ghost duration_small: { IfSome duration (λ v. unsigned_abs v < 10 ^ 21) } by { Prim.hlevel props },
+    ghost not_negative: { IfSome duration (λ v. pos 0 ≤ℤ v) } by { Prim.hlevel props },
 }
 
 /// The annotations of a TAL that are still to come.
-#[derive(Debug, Clone, Drop)]
+#[derive(Debug, Drop)]
 pub(crate) struct TalNotes<'a> {
-    onset: i128,
-    duration: Option<i128>,
-    texts: Texts<'a>,
-}
-
-impl<'a> TalNotes<'a> {
-    /// Those of the whole TAL.
-    fn new(tal: &Tal<'a>) -> TalNotes<'a>
-        ensures { notes_of_said (Some result) ≡ notes_of_tal (tal_view tal.now) }
-    {
-        TalNotes {
-            onset: tal.onset(),
-            duration: tal.duration(),
-            texts: tal.texts(),
-        }
-    }
-
-    /// The next one.
-    fn next_note(&mut self) -> Option<NoteRef<'a>>
-        ensures { MatchOption result (notes_of_said (Some self.old) ≡ []) (λ note. notes_of_said (Some self.old) ≡ note_view note ∷ notes_of_said (Some self.new)) }
-    {
-        let text = self.texts.next()?;
-        Some(NoteRef {
-            onset: self.onset,
-            duration: self.duration,
-            text,
-        })
-    }
-}
-
-/// The annotations of a lane that are still to come.
-#[derive(Debug, Clone, Drop)]
-pub(crate) struct LaneNotes<'a> {
-    tal: Option<TalNotes<'a>>,
-    tals: Tals<'a>,
-}
-
-impl<'a> LaneNotes<'a> {
-    /// Those of the whole lane.
-    fn new(lane: &'a [u8]) -> LaneNotes<'a>
-        ensures { lane_notes_left result ≡ notes_of_lane lane.now }
-    {
-        LaneNotes {
-            tal: None,
-            tals: Tals::new(lane),
-        }
-    }
-
-    /// The next one of the TAL at hand.
-    fn next_of_tal(&mut self) -> Option<NoteRef<'a>>
-        ensures next { MatchOption result
-            ((notes_of_said self.old.tal ≡ []) × (notes_of_said self.new.tal ≡ []))
-            (λ note. notes_of_said self.old.tal ≡ note_view note ∷ notes_of_said self.new.tal) }
-        ensures rest { items_left self.new.tals ≡ items_left self.old.tals }
-    {
-        let mut tal = self.tal.take()?;
-        let note = tal.next_note()?;
-        self.tal = Some(tal);
-        Some(note)
-    }
-
-    /// The next one.
-    fn next_note(&mut self) -> Option<NoteRef<'a>>
-        ensures { MatchOption result ((lane_notes_left self.old ≡ []) × (lane_notes_left self.new ≡ [])) (λ note. lane_notes_left self.old ≡ note_view note ∷ lane_notes_left self.new) }
-    {
-        loop {
-            if let Some(note) = self.next_of_tal() {
-                return Some(note);
-            }
-            match self.tals.next()? {
-                Ok(tal) => self.tal = Some(TalNotes::new(&tal)),
-                Err(_) => self.tal = None,
-            }
-        }
-    }
-}
-
-/// The annotations of a data record, in order of annotation signal, TAL and text. The time-keeping text
-/// is none of them.
-#[derive(Debug, Clone, Drop)]
-pub struct Annotations<'a> {
-    lane: LaneNotes<'a>,
-    signals: &'a [Signal],
-    bytes: &'a [u8],
-}
-
-impl<'a> Annotations<'a> {
-    /// Those of the annotation signals among these, with the time-keeping text.
-    #[tactic(auto, unfolding(edf_tal::specs::Reading::items_of))]
-    fn all(signals: &'a [Signal], bytes: &'a [u8]) -> Annotations<'a>
-        ensures { notes_left result ≡ notes_of_lanes (annotation_lanes signals.now bytes.now) }
-    {
-        Annotations {
-            lane: LaneNotes::new(&[]),
-            signals,
-            bytes,
-        }
-    }
-
-    /// Those of the data record of these bytes: all texts but the first.
-    #[tactic(auto, unfolding(crate::specs::Notes::notes_in))]
-    pub(crate) fn new(header: &'a Header, bytes: &'a [u8]) -> Annotations<'a>
-        ensures { notes_left result ≡ notes_in header.now bytes.now }
-    {
-        let mut notes = Annotations::all(header.signals(), bytes);
-        match notes.next_note() {
-            Some(_time) => notes,
-            None => notes,
-        }
-    }
-
-    /// The lane of the next annotation signal, where there is one more.
-    fn next_lane(&mut self) -> Option<LaneNotes<'a>>
-        ensures lane { MatchOption result
-            ((annotation_lanes self.old.signals.now self.old.bytes.now ≡ []) × (annotation_lanes self.new.signals.now self.new.bytes.now ≡ []))
-            (λ lane. notes_of_lanes (annotation_lanes self.old.signals.now self.old.bytes.now) ≡ lane_notes_left lane ++ notes_of_lanes (annotation_lanes self.new.signals.now self.new.bytes.now)) }
-        ensures here { self.new.lane ≡ self.old.lane }
-        ensures fewer { IfSome result (λ _. length self.new.signals.now < length self.old.signals.now) }
-    {
-        while let [signal, signals @ ..] = self.signals {
-            self.signals = signals;
-            if signal.is_annotations() {
-                return Some(LaneNotes::new(lane_of(signal, self.bytes)));
-            }
-        }
-        None
-    }
-
-    /// The next one.
-    fn next_note(&mut self) -> Option<NoteRef<'a>>
-        ensures { MatchOption result ((notes_left self.old ≡ []) × (notes_left self.new ≡ [])) (λ note. notes_left self.old ≡ note_view note ∷ notes_left self.new) }
-    {
-        loop {
-            if let Some(note) = self.lane.next_note() {
-                return Some(note);
-            }
-            self.lane = self.next_lane()?;
-        }
-    }
-}
-
-impl<'a> Iterator for Annotations<'a> {
-    ghost use Rattle.std.specs.Iterator.{YieldsFirstBy, item_count};
-    ghost use Rattle.edf_stream.specs.Views.{note_view, notes_left};
-
-    type Item = NoteRef<'a>;
-
-    ghost next_gives = { YieldsFirstBy note_view notes_left };
-
-    ghost remaining = { item_count notes_left };
-
-    fn next(&mut self) -> Option<NoteRef<'a>> {
-        match self.next_note() {
-            Some(note) => Some(note),
-            None => None,
-        }
-    }
+    pub onset: i128,
+    pub duration: Option<i128>,
+    pub texts: Texts<'a>,
+    ghost onset_small: { unsigned_abs onset < 10 ^ 21 },
+    ghost duration_small: { IfSome duration (λ v. unsigned_abs v < 10 ^ 21) } by { Prim.hlevel props },
+    ghost not_negative: { IfSome duration (λ v. pos 0 ≤ℤ v) } by { Prim.hlevel props },
 }

@@ -1,6 +1,6 @@
 //! A reader of a file, data record by data record.
 
-ghost use Rattle.std.specs.Prelude.{◌≡◌, ℕ, ◌+◌, ◌≤◌, ◌+ℤ◌, ◌<ℤ◌, List, length, false, Some, Ok, Err, IfOk, IfErr, OnOk, IsTrue};
+ghost use Rattle.std.specs.Prelude.{◌≡◌, ℕ, ◌+◌, ◌≤◌, ◌+ℤ◌, ◌<ℤ◌, List, length, false, Some, Ok, Err, IfOk, IfErr, OnOk, OnErr, IsTrue};
 ghost use Rattle.edf_fields.specs.Sources.{Rises};
 ghost use Rattle.edf_header.specs.declared.stop.Stop.{Stop};
 ghost use Rattle.edf_header.specs.Faults.{header_fault};
@@ -9,6 +9,7 @@ ghost use Rattle.edf_header.specs.Stops.{Stops};
 ghost use Rattle.edf_stream.specs.declared.status.Status.TheVariants.{Begun, Ended, Stopped};
 ghost use Rattle.edf_stream.specs.Starts.{start_in};
 ghost use Rattle.edf_stream.specs.Faults.{body_fault};
+ghost use Rattle.edf_stream.specs.Views.{IsContent};
 ghost use Rattle.edf_stream.specs.Readers.{IsOpen, status_after, StandsIn, Comes, StopsReading};
 
 use crate::read_record::advance;
@@ -79,6 +80,7 @@ impl FileReader {
         ensures repeats { (s : Stop) → self.old.status ≡ Stopped s → (result ≡ Err s) × (self.new ≡ self.old) × (source.new ≡ source.old) }
         ensures ended { self.old.status ≡ Ended → (result ≡ Ok false) × (self.new ≡ self.old) × (source.new ≡ source.old) }
         ensures status { self.new.status ≡ status_after result }
+        ensures memory { OnErr result (IsContent (status_after result)) }
         ensures head { self.new.head ≡ self.old.head }
         ensures room { length self.new.current ≡ record_bytes self.new.head }
         ensures count { IfOk result (λ more. IsTrue more → (self.new.read ≡ self.old.read + 1) × (self.new.read ≤ (self.new.head).records)) }

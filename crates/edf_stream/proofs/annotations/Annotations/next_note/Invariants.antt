@@ -1,6 +1,6 @@
 use Rattle.std.proofs.Common.{◌≡◌, length}
 use Rattle.edf_stream.specs.Views.{notes_left}
-use Rattle.edf_stream.proofs.note.Annotations.next_note.Given as goal
+use Rattle.edf_stream.proofs.annotations.Annotations.next_note.Given as goal
 
 abbrev pub invariant-loop-note : goal.invariant-loop-note
 invariant-loop-note l = notes_left l.self ≡ notes_left l.initial.self

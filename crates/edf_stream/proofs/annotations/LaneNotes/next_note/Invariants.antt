@@ -1,7 +1,7 @@
 use Rattle.std.proofs.Common.{◌≡◌, length}
 use Rattle.edf_tal.specs.Views.{items_left}
 use Rattle.edf_stream.specs.Views.{lane_notes_left}
-use Rattle.edf_stream.proofs.note.LaneNotes.next_note.Given as goal
+use Rattle.edf_stream.proofs.annotations.LaneNotes.next_note.Given as goal
 
 abbrev pub invariant-loop-note : goal.invariant-loop-note
 invariant-loop-note l = lane_notes_left l.self ≡ lane_notes_left l.initial.self

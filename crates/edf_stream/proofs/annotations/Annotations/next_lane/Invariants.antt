@@ -1,6 +1,6 @@
 use Rattle.std.proofs.Common.{◌≡◌, ◌≤◌, length}
 use Rattle.edf_stream.specs.Records.{annotation_lanes}
-use Rattle.edf_stream.proofs.note.Annotations.next_lane.Given as goal
+use Rattle.edf_stream.proofs.annotations.Annotations.next_lane.Given as goal
 
 abbrev pub invariant-loop-self : goal.invariant-loop-self
 invariant-loop-self l =
