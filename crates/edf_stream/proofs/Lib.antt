@@ -2,6 +2,8 @@ pub mod ItemFacts
 pub mod ConformFacts
 pub mod FileFacts
 pub mod FaultlessFacts
+pub mod SaidFacts
+pub mod SignalFacts
 pub mod StopFacts
 pub mod NoteFacts
 pub mod RecordFacts

@@ -16,7 +16,8 @@ use Rattle.edf_stream.specs.Records.{place_of, record_at}
 use Rattle.edf_stream.specs.Notes.{notes_in, notes_before}
 use Rattle.edf_stream.specs.Starts.{start_in, end_before}
 use Rattle.edf_stream.specs.Faults.{record_fault, records_tests, trailing_fault, body_fault}
-use Rattle.edf_stream.specs.Readers.{HasPassed, StandsAt, IsRead}
+use Rattle.edf_stream.specs.Readers.{HasPassed, StandsAt}
+use Rattle.edf_stream.specs.Steps.{IsRead}
 
 pub tests-split : (file : List ℕ) (h : Head) (s m n : ℕ) → records_tests file h s (m + n) ≡ records_tests file h s m ++ records_tests file h (s + m) n
 tests-split file h s zero n =

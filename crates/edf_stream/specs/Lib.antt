@@ -6,3 +6,5 @@ pub mod Conforming
 pub mod Readers
 pub mod Views
 pub mod Summaries
+pub mod Laws
+pub mod Steps

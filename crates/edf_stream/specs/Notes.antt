@@ -1,9 +1,9 @@
 -- The annotations of a file. EDF+ (2003), "Time-stamped Annotations Lists (TALs) in an 'EDF Annotations'
 -- signal" and "Time keeping of data records".
-use Rattle.std.specs.Prelude.{ℕ, zero, suc, ◌+◌, ℤ, List, [], ◌++◌, ◌∷◌, map, drop, length, Option, Ok, Err}
+use Rattle.std.specs.Prelude.{◌≡◌, ℕ, zero, suc, ◌+◌, ℤ, List, [], ◌++◌, ◌∷◌, map, drop, length, Option, Ok, Err}
 use Rattle.std.specs.List.{flat_map}
 use Rattle.edf_header.specs.Heads.{Head}
-use Rattle.edf_tal.specs.Tals.{TalValue}
+use Rattle.edf_tal.specs.Tals.{TalValue, IsLaneOf}
 use Rattle.edf_tal.specs.Reading.{Item, items_of}
 use Rattle.edf_stream.specs.Records.{annotation_lanes, record_at}
 
@@ -35,6 +35,28 @@ notes_of_lanes lanes = flat_map notes_of_lane lanes
 -- first, which only keeps the time
 unfoldable pub notes_in : Head → List ℕ → List NoteValue
 notes_in h bytes = drop 1 (notes_of_lanes (annotation_lanes h.signals bytes))
+
+-- each of these lanes is one of these TALs
+abbrev pub AreLanesOf : List (List ℕ) → List (List TalValue) → Type 0
+AreLanesOf [] [] = Unit {0}
+AreLanesOf [] (tals ∷ talss) = ⊥
+AreLanesOf (lane ∷ lanes) [] = ⊥
+AreLanesOf (lane ∷ lanes) (tals ∷ talss) = IsLaneOf lane tals × AreLanesOf lanes talss
+
+-- what the TALs of several lanes say
+abbrev pub notes_of_tals : List (List TalValue) → List NoteValue
+notes_of_tals talss = flat_map (λ tals. flat_map notes_of_tal tals) talss
+
+-- the data record of these bytes says these annotations: its annotation lanes are lanes of TALs; the first text of the first
+-- TAL is empty and keeps the time; and the annotations are the other texts of that TAL, then those of all other TALs
+pub record SaysNotes (h : Head) (bytes : List ℕ) (notes : List NoteValue) : Type 0 where
+  pub onset : ℤ
+  pub duration : Option ℤ
+  pub texts : List (List ℕ)
+  pub tals : List TalValue
+  pub talss : List (List TalValue)
+  pub lanes : AreLanesOf (annotation_lanes h.signals bytes) ((record { onset = onset; duration = duration; texts = [] ∷ texts } ∷ tals) ∷ talss)
+  pub notes_are : notes ≡ notes_of_tal (record { onset = onset; duration = duration; texts = texts }) ++ notes_of_tals (tals ∷ talss)
 
 -- how many annotations stand in the first k data records
 abbrev pub notes_before : List ℕ → Head → ℕ → ℕ

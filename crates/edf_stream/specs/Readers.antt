@@ -1,5 +1,5 @@
 -- A reader of a file, data record by data record, as its callers see it.
-use Rattle.std.specs.Prelude.{◌≡◌, ℕ, ℤ, ◌+◌, ◌≤◌, Bool, true, false, List, [], length, drop, Option, None, Some, Result, Ok, Err}
+use Rattle.std.specs.Prelude.{◌≡◌, ℕ, ℤ, ◌≤◌, Bool, true, false, List, [], length, drop, None, Result, Ok, Err}
 use Rattle.edf_fields.specs.Tests.{first}
 use Rattle.edf_header.specs.declared.fault.Fault.{Fault}
 use Rattle.edf_header.specs.declared.stop.Stop.{Stop}
@@ -7,7 +7,6 @@ use Rattle.edf_header.specs.declared.stop.Stop.TheVariants as stops
 use Rattle.edf_header.specs.Conforming.{HeaderConforms}
 use Rattle.edf_header.specs.Faults.{header_fault}
 use Rattle.edf_header.specs.Heads.{Head, head_of}
-use Rattle.edf_stream.specs.declared.start.Progress.{Progress}
 use Rattle.edf_stream.specs.declared.status.Status.{Status}
 use Rattle.edf_stream.specs.declared.status.Status.TheVariants.{Begun, Current, Ended, Stopped}
 use Rattle.edf_stream.specs.Records.{place_of, record_at}
@@ -60,19 +59,6 @@ pub record StandsAt (file : List ℕ) (h : Head) (k : ℕ) (ended : ℤ) (notes 
   pub notes_are : notes ≡ notes_before file h k
   pub whole : place_of h k ≤ length file
   pub rest : left ≡ drop (place_of h k) file
-
--- data record k was read into the buffer, and passes its tests
-pub record IsRead (file : List ℕ) (h : Head) (k : ℕ) (ended : ℤ) (notes : ℕ) (left buffer : List ℕ) : Type 0 where
-  pub passes : first (records_tests file h k 1) ≡ None
-  pub is : buffer ≡ record_at file h k
-  pub stands : StandsAt file h (k + 1) ended notes left
-
--- behind the first k data records, of which `before` tells, either the file conforms and ends, or record k is read and stands in the buffer
-abbrev pub GoesOn : List ℕ → Head → ℕ → Progress → Option Progress → List ℕ → List ℕ → Type 0
-GoesOn file h k before None left buffer =
-    StandsAt file h k before.ended_ps before.notes left × (k ≡ h.records) × (body_fault file h ≡ None) × Conforms file h × (left ≡ [])
-GoesOn file h k before (Some after) left buffer =
-    HasPassed file h (k + 1) × StandsAt file h (k + 1) after.ended_ps after.notes left × (buffer ≡ record_at file h k)
 
 -- the reader has read the file up to data record r.read, and the source has left the rest of it
 pub record StandsIn (r : Reader) (left file : List ℕ) : Type 0 where

@@ -16,9 +16,17 @@ record_at file h k = part file (place_of h k) (record_bytes h)
 abbrev pub lane_of : SignalHead → List ℕ → List ℕ
 lane_of signal bytes = part bytes signal.offset (2 * signal.samples)
 
+-- the lane of number s of these signals
+abbrev pub numbered_lane : List SignalHead → List ℕ → ℕ → List ℕ
+numbered_lane signals bytes s = option_map_or (λ signal. lane_of signal bytes) (slice_get signals s) []
+
 -- the lane of signal s in the bytes of a data record
 abbrev pub lane_in : Head → List ℕ → ℕ → List ℕ
-lane_in h bytes s = option_map_or (λ signal. lane_of signal bytes) (slice_get h.signals s) []
+lane_in h bytes s = numbered_lane h.signals bytes s
+
+-- how many bytes the lane of signal s has: two for each sample
+abbrev pub lane_bytes : Head → ℕ → ℕ
+lane_bytes h s = option_map_or (λ signal. 2 * signal.samples) (slice_get h.signals s) 0
 
 -- the lane of signal s in data record k
 abbrev pub lane_at : List ℕ → Head → ℕ → ℕ → List ℕ

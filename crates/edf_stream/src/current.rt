@@ -2,13 +2,13 @@
 
 ghost use Rattle.std.specs.Prelude.{◌≡◌, ◌<◌, ◌^◌, IsTrue, length, unsigned_abs};
 ghost use Rattle.edf_stream.specs.Readers.{is_current};
-ghost use Rattle.edf_stream.specs.Records.{lane_in};
+ghost use Rattle.edf_stream.specs.Records.{lane_in, lane_bytes};
 ghost use Rattle.edf_stream.specs.Notes.{notes_in};
 ghost use Rattle.edf_stream.specs.Starts.{start_in};
 ghost use Rattle.edf_stream.specs.Views.{notes_left};
 
 use crate::annotations::Annotations;
-use crate::lanes::lane_of;
+use crate::lanes::lane_at;
 use crate::reader::FileReader;
 use crate::status::Status;
 
@@ -38,9 +38,10 @@ impl FileReader {
     pub fn run(&self, signal: usize) -> &[u8]
         requires current { IsTrue (is_current self.now.status) }
         requires signal { signal < length self.now.head.signals }
-        ensures { result.now ≡ lane_in self.entry.now.head self.entry.now.current signal }
+        ensures lane { result.now ≡ lane_in self.entry.now.head self.entry.now.current signal }
+        ensures full { length result.now ≡ lane_bytes self.entry.now.head signal }
     {
-        lane_of(&self.header.signals()[signal], &self.buffer)
+        lane_at(&self.header, &self.buffer, signal)
     }
 
     /// The annotations of the data record at hand, in order of annotation signal, TAL and text, with

@@ -1,15 +1,17 @@
 //! The lanes of the annotation signals in a data record. EDF+ (2003), "The 'EDF Annotations' signal".
 
 ghost use Rattle.std.specs.Prelude.{◌≡◌, ◌+◌, ◌-◌, ◌*◌, ◌≤◌, ◌<◌, ◌^◌, min, length, [], None, Some, MatchResult, IfSome, IfOk, Option, unsigned_abs};
+ghost use Rattle.edf_header.specs.Heads.{record_bytes};
 ghost use Rattle.edf_tal.specs.Views.{tal_view, items_left, start_of};
 ghost use Rattle.edf_tal.specs.Reading.{items_of};
-ghost use Rattle.edf_stream.specs.Records.{lane_of as lane_of_signal, annotation_lanes};
+ghost use Rattle.edf_stream.specs.Records.{lane_of as lane_of_signal, numbered_lane, lane_in, lane_bytes, annotation_lanes};
 ghost use Rattle.edf_stream.specs.Notes.{notes_of_items, notes_of_lane, notes_of_lanes};
 ghost use Rattle.edf_stream.specs.Starts.{start_by_lanes};
 ghost use Rattle.edf_stream.specs.Faults.{cause_of, cause_of_lanes};
 ghost use Rattle.edf_stream.specs.Views.{start_with, texts_said};
 
 use edf_fields::cause::TalCause;
+use edf_header::header::Header;
 use edf_header::signal::Signal;
 use edf_tal::start::{StartCause, start_by_first};
 use edf_tal::tal::Tal;
@@ -23,6 +25,24 @@ pub(crate) fn lane_of<'a>(signal: &Signal, bytes: &'a [u8]) -> &'a [u8]
     let behind = &bytes[from..];
     let count = (2 * signal.samples() as usize).min(behind.len());
     &behind[..count]
+}
+
+/// The lane of one of the signals, by its number.
+fn numbered_lane<'a>(signals: &[Signal], bytes: &'a [u8], signal: usize) -> &'a [u8]
+    requires { signal < length signals.now }
+    ensures { result.now ≡ numbered_lane signals.now bytes.entry.now signal }
+{
+    lane_of(&signals[signal], bytes)
+}
+
+/// The lane of a signal, by its number, in the bytes of a data record.
+pub(crate) fn lane_at<'a>(header: &Header, bytes: &'a [u8], signal: usize) -> &'a [u8]
+    requires sized { length bytes.now ≡ record_bytes header.now }
+    requires signal { signal < length header.now.signals }
+    ensures lane { result.now ≡ lane_in header.now bytes.entry.now signal }
+    ensures full { length result.now ≡ lane_bytes header.now signal }
+{
+    numbered_lane(header.signals(), bytes, signal)
 }
 
 /// How many texts a TAL has, up to the most that fit.

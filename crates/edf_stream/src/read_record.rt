@@ -8,7 +8,8 @@ ghost use Rattle.edf_header.specs.declared.fault.Cause.TheVariants.{TrailingByte
 ghost use Rattle.edf_header.specs.Heads.{record_bytes};
 ghost use Rattle.edf_stream.specs.Starts.{start_in};
 ghost use Rattle.edf_stream.specs.Faults.{records_tests, body_fault};
-ghost use Rattle.edf_stream.specs.Readers.{HasPassed, StandsAt, IsRead, GoesOn, StopsReading};
+ghost use Rattle.edf_stream.specs.Readers.{HasPassed, StandsAt, StopsReading};
+ghost use Rattle.edf_stream.specs.Steps.{IsRead, GoesOn};
 
 use crate::record::judge_record;
 use crate::start::Progress;

@@ -4,7 +4,8 @@ use Rattle.edf_stream.specs.contracts.reader.FileReader.{the_view}
 use Rattle.edf_stream.specs.Records.{record_at}
 use Rattle.edf_stream.specs.Faults.{body_fault}
 use Rattle.edf_stream.specs.Conforming.{Conforms}
-use Rattle.edf_stream.specs.Readers.{Reader, HasPassed, StandsAt, StandsIn, GoesOn}
+use Rattle.edf_stream.specs.Readers.{Reader, HasPassed, StandsAt, StandsIn}
+use Rattle.edf_stream.specs.Steps.{GoesOn}
 use Rattle.edf_stream.proofs.RecordFacts.{written_over}
 use Rattle.edf_stream.proofs.StopFacts.{stops-weaker}
 use Rattle.edf_stream.proofs.reader.FileReader.next.Goals as goal
