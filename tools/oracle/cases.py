@@ -8,7 +8,7 @@ Prints a case a line: a letter for its reader, a space, bytes in hexadecimal (ru
 import random
 import sys
 
-from rules import COLUMNS, FIXED, MONTHS, SUBFIELDS
+from rules import ANNOTATIONS, COLUMNS, FIXED, MONTHS, SUBFIELDS, Refused, fixed_part, signals, tals
 
 choose = random.Random()
 MARKS = [0, 1, 9, 10, 13, 20, 21, 31, 32, 43, 45, 46, 47, 48, 57, 58, 65, 88, 126, 127, 128, 200, 255]
@@ -201,6 +201,70 @@ def header():
     return file + one_of(b"", b"", b"abc")
 
 
+# ---- whole files
+
+
+def sound_header():
+    """A header that the rules take, what its fixed part says, and its signals."""
+    while True:
+        file = header()
+        try:
+            said = fixed_part(file)
+            found = signals(file, said["signals"])
+        except Refused:
+            continue
+        return bytearray(file[:256 * (len(found) + 1)]), said, found
+
+
+def spelled(start):
+    whole, fraction = divmod(abs(start), 10**12)
+    return b"%s%d.%012d" % (b"-" if start < 0 else b"+", whole, fraction)
+
+
+def sound_tal():
+    """A TAL that the rules take."""
+    while True:
+        field = tal()
+        if tals(field)[1] is None:
+            return field
+
+
+def timed_lane(start):
+    """A lane that keeps the time, maybe with further texts and other TALs."""
+    duration = one_of(b"", b"", b"\x15" + one_of(b"0", b"1.5"))
+    more = b"".join(one_of(b"", b"Apnea", "ä".encode()) + b"\x14" for _ in range(one_of(0, 0, 0, 1, 2)))
+    return spelled(start) + duration + b"\x14\x14" + more + b"\0" + b"".join(sound_tal() for _ in range(one_of(0, 0, 1)))
+
+
+def whole_file():
+    file, said, found = sound_header()
+    count = choose.randint(1, 4)
+    file[236:244] = b"%-8d" % count
+    for number, one in enumerate(found):
+        if one["label"] == ANNOTATIONS:
+            one["samples"] = one_of(60, 80)
+            at = 256 + 216 * len(found) + 8 * number
+            file[at:at + 8] = b"%-8d" % one["samples"]
+    start = one_of(0, 0, 0, 1, 5 * 10**11, 10**12 - 1) if often(0.93) else one_of(10**12, -1, -10**12)
+    for _ in range(count):
+        is_first = True
+        for one in found:
+            size = 2 * one["samples"]
+            if one["label"] != ANNOTATIONS:
+                file += some(range(256), size, size)
+                continue
+            part = timed_lane(start) if is_first else one_of(b"", sound_tal(), sound_tal() + sound_tal())
+            if often(0.06):
+                part = one_of(b"", lane(), changed(part), tal())
+            file += part.ljust(size, b"\0")[:size]
+            is_first = False
+        ended = start + said["duration"] * 100_000
+        start = ended if often(0.8) else one_of(ended + 1, ended - 1, ended + 10**12)
+    if often(0.1):
+        return bytes(file[:choose.randrange(len(file) + 1)])
+    return bytes(file) + one_of(b"", b"", b"", b"", b"", b"\0")
+
+
 # ---- claims
 
 
@@ -269,7 +333,7 @@ def claim():
 CASES = {
     "n": (4, number), "w": (4, number), "o": (4, lambda: time(often(0.9))), "s": (3, lambda: time(often(0.1))),
     "d": (2, dotted_day), "D": (3, dashed_day), "c": (2, clock), "p": (6, patient), "r": (6, recording),
-    "t": (30, lane), "h": (20, header), "C": (12, claim),
+    "t": (30, lane), "h": (20, header), "f": (20, whole_file), "C": (12, claim),
 }
 
 

@@ -284,6 +284,45 @@ def signals(file, count):
     return found
 
 
+# ---- whole files (EDF, "Data record"; EDF+, "Time keeping of data records")
+
+
+def annotations(lanes, place):
+    """Where a data record starts, and its annotations, by its annotation lanes."""
+    read = [tals(lane) for lane in lanes]
+    for _, cause in read:
+        must(cause is None, f"BadTal({cause})", place)
+    keeper = read[0][0][:1]
+    must(keeper and keeper[0][2][:1] == [b""], "NoTimekeeping", place)
+    found = [(one[0], one[1], part) for lane, _ in read for one in lane for part in one[2]]
+    return keeper[0][0], found[1:]
+
+
+def records(file, said, found):
+    """Of each data record in turn where it starts and its annotations, up to the first that is refused."""
+    size, at = 2 * sum(one["samples"] for one in found), 256 * (len(found) + 1)
+    ended, count = None, 0
+    for number in range(said["records"]):
+        place = f"record {number}"
+        must(at + size <= len(file), "Truncated", place)
+        lanes, offset = [], at
+        for one in found:
+            if one["label"] == ANNOTATIONS:
+                lanes.append(file[offset:offset + 2 * one["samples"]])
+            offset += 2 * one["samples"]
+        start, notes = annotations(lanes, place)
+        if number == 0:
+            must(0 <= start < 10**12, "BadFirstStart", place)
+        elif said["reserved"][:5] == b"EDF+C":
+            must(start == ended, "NotContiguous", place)
+        else:
+            must(start >= ended, "Overlap", place)
+        ended, at, count = start + said["duration"] * 100_000, at + size, count + len(notes)
+        must(count <= 1_000_000, "TooManyAnnotations", place)
+        yield start, notes
+    must(at == len(file), "TrailingBytes", "end")
+
+
 # ---- claims
 
 
@@ -377,6 +416,26 @@ def header_line(file):
     return line
 
 
+def note_text(note):
+    start, duration, part = note
+    return f"{start}{'' if duration is None else f'/{duration}'}{bracketed([part])}"
+
+
+def file_line(file):
+    """What a reader gives of each data record, and how the file ends; and what a whole file holds."""
+    line, count = "", 0
+    try:
+        said = fixed_part(file)
+        found = signals(file, said["signals"])
+        for start, notes in records(file, said, found):
+            line += f"{start}:{''.join(note_text(note) for note in notes)} "
+            count += len(notes)
+    except Refused as cause:
+        return f"{line}{cause}; {cause}"
+    samples = [one["samples"] for one in found if one["label"] != ANNOTATIONS]
+    return f"{line}ends; {said['records']} {len(samples)} {said['records'] * sum(samples)} {count}"
+
+
 def claim_line(document):
     labels, keep, anonymous, shift, remove = claim(document)
     line = bracketed(label.encode() for label in labels) + f" {shift * 10**12} "
@@ -400,6 +459,7 @@ ANSWERS = {
     "r": lambda field: bracketed(recording(field)),
     "t": lane_line,
     "h": header_line,
+    "f": file_line,
     "C": claim_line,
 }
 
