@@ -1,6 +1,6 @@
 //! The header of a file.
 
-ghost use Rattle.std.specs.Prelude.{◌≡◌, ◌<◌, ◌≤ℤ◌, ◌^◌, ◌*ℤ◌, ◌+ℤ◌, pos, unsigned_abs};
+ghost use Rattle.std.specs.Prelude.{◌≡◌, ◌<◌, ◌≤◌, ◌≤ℤ◌, ◌^◌, ◌*ℤ◌, ◌+ℤ◌, pos, unsigned_abs};
 ghost use Rattle.edf_fields.specs.Dates.{civil_day};
 ghost use Rattle.edf_fields.specs.Identifications.{patient_of, recording_of};
 ghost use Rattle.edf_header.specs.Heads.{start_second, record_bytes};
@@ -42,15 +42,19 @@ impl Model for Header {
 
 /// The seconds of so many days.
 fn seconds_of_days(days: i32) -> i64
+    requires { unsigned_abs days < 5000000 }
     ensures value { result ≡ pos 86400 *ℤ days }
-    ensures small { unsigned_abs result < 2 ^ 48 }
+    ensures small { unsigned_abs result ≤ 432000000000 }
 {
     86_400 * i64::from(days)
 }
 
 /// The second that is so many days and seconds behind 1970-01-01 00:00:00.
 fn second_of(days: i32, clock: u32) -> i64
-    ensures { result ≡ (pos 86400 *ℤ days) +ℤ pos clock }
+    requires near { unsigned_abs days < 5000000 }
+    requires early { clock < 86400 }
+    ensures value { result ≡ (pos 86400 *ℤ days) +ℤ pos clock }
+    ensures small { unsigned_abs result < 2 ^ 39 }
 {
     seconds_of_days(days) + i64::from(clock)
 }
@@ -66,7 +70,8 @@ impl Header {
     /// The second at which the recording starts, 0 for 1970-01-01 00:00:00: civil time, without a time
     /// zone (EDF, "Header record": startdate and starttime).
     pub fn start_second(&self) -> i64
-        ensures { result ≡ start_second self.now }
+        ensures value { result ≡ start_second self.now }
+        ensures small { unsigned_abs result < 2 ^ 39 }
     {
         second_of(self.start.days, self.start.clock)
     }

@@ -1,3 +1,4 @@
+pub mod ListFacts
 pub mod ItemFacts
 pub mod ConformFacts
 pub mod FileFacts
@@ -7,3 +8,5 @@ pub mod SignalFacts
 pub mod StopFacts
 pub mod NoteFacts
 pub mod RecordFacts
+pub mod SampleFacts
+pub mod MeaningFacts

@@ -8,3 +8,7 @@ pub mod Views
 pub mod Summaries
 pub mod Laws
 pub mod Steps
+pub mod Values
+pub mod Instants
+pub mod Samples
+pub mod Meanings

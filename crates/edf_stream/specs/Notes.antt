@@ -1,11 +1,12 @@
 -- The annotations of a file. EDF+ (2003), "Time-stamped Annotations Lists (TALs) in an 'EDF Annotations'
 -- signal" and "Time keeping of data records".
-use Rattle.std.specs.Prelude.{◌≡◌, ℕ, zero, suc, ◌+◌, ℤ, List, [], ◌++◌, ◌∷◌, map, drop, length, Option, Ok, Err}
+use Rattle.std.specs.Prelude.{◌≡◌, ℕ, zero, suc, ◌+◌, ℤ, ◌+ℤ◌, List, [], ◌++◌, ◌∷◌, map, drop, length, Option, Ok, Err}
 use Rattle.std.specs.List.{flat_map}
 use Rattle.edf_header.specs.Heads.{Head}
 use Rattle.edf_tal.specs.Tals.{TalValue, IsLaneOf}
 use Rattle.edf_tal.specs.Reading.{Item, items_of}
 use Rattle.edf_stream.specs.Records.{annotation_lanes, record_at}
+use Rattle.edf_stream.specs.Starts.{file_start}
 
 -- an annotation: its onset and, where it has one, its duration, in picoseconds, and its text
 pub record NoteValue : Type 0 where
@@ -62,3 +63,20 @@ pub record SaysNotes (h : Head) (bytes : List ℕ) (notes : List NoteValue) : Ty
 abbrev pub notes_before : List ℕ → Head → ℕ → ℕ
 notes_before file h zero = 0
 notes_before file h (suc k) = notes_before file h k + length (notes_in h (record_at file h k))
+
+-- an annotation with its onset so much later
+abbrev pub moved_by : ℤ → NoteValue → NoteValue
+moved_by ps note = record { onset = ps +ℤ note.onset; duration = note.duration; text = note.text }
+
+-- the annotations of the data record of these bytes, with onsets after 1970-01-01 00:00:00
+unfoldable pub moved_notes_in : Head → List ℕ → List NoteValue
+moved_notes_in h bytes = map (moved_by (file_start h)) (notes_in h bytes)
+
+-- those of the first k data records, in their order
+abbrev pub moved_notes_before : List ℕ → Head → ℕ → List NoteValue
+moved_notes_before file h zero = []
+moved_notes_before file h (suc k) = moved_notes_before file h k ++ moved_notes_in h (record_at file h k)
+
+-- the annotations of a file, with onsets after 1970-01-01 00:00:00
+unfoldable pub notes_of : List ℕ → Head → List NoteValue
+notes_of file h = moved_notes_before file h h.records

@@ -25,6 +25,10 @@ pub record Reader : Type 0 where
   pub current : List ℕ
   pub status : Status
 
+-- the header was read, and `next` wasn't called yet
+abbrev pub HasBegun : Reader → Type 0
+HasBegun r = (r.status ≡ Begun) × (r.read ≡ 0)
+
 -- the next call goes on
 abbrev pub IsOpen : Status → Type 0
 IsOpen Begun = Unit {0}
@@ -69,7 +73,7 @@ pub record StandsIn (r : Reader) (left file : List ℕ) : Type 0 where
 abbrev pub Comes : Bool → Reader → Reader → List ℕ → List ℕ → Type 0
 Comes true old new left file = StandsIn new left file × (new.current ≡ record_at file old.head old.read)
 Comes false old new left file =
-    StandsIn new left file × (new.read ≡ (old.head).records) × (body_fault file old.head ≡ None) × Conforms file old.head × (left ≡ [])
+    StandsIn new left file × (new.read ≡ (old.head).records) × (body_fault file old.head ≡ None) × Conforms file old.head × (left ≡ []) × (old.read ≡ (old.head).records)
 
 -- why reading a data record stopped, which takes no memory: of a fault this is said, and of a failed read that
 abbrev pub StopsReading : (Fault → Type 0) → Type 0 → Stop → Type 0

@@ -1,13 +1,17 @@
 -- Where data records start, in picoseconds after the start of the file. EDF+ (2003), "Time keeping of
 -- data records".
-use Rattle.std.specs.Prelude.{◌≡◌, ℕ, zero, suc, ℤ, pos, ◌+ℤ◌, List, [], ◌∷◌, Result, Ok, Err}
-use Rattle.edf_header.specs.Heads.{Head}
+use Rattle.std.specs.Prelude.{◌≡◌, ℕ, zero, suc, ℤ, pos, ◌+ℤ◌, ◌*ℤ◌, ◌^◌, List, [], ◌∷◌, Result, Ok, Err}
+use Rattle.edf_header.specs.Heads.{Head, start_second}
 use Rattle.edf_tal.specs.declared.start.StartCause.{StartCause}
 use Rattle.edf_tal.specs.declared.start.StartCause.TheVariants.{NoTimekeeping}
 use Rattle.edf_tal.specs.Reading.{items_of}
 use Rattle.edf_tal.specs.Tals.{StartsAt}
 use Rattle.edf_tal.specs.Views.{start_of}
 use Rattle.edf_stream.specs.Records.{annotation_lanes, record_at}
+
+-- the start of the file in picoseconds after 1970-01-01 00:00:00 (civil time, without a time zone)
+abbrev pub file_start : Head → ℤ
+file_start h = start_second h *ℤ pos (10 ^ 12)
 
 -- the start that the first of these lanes says, or why it says none
 abbrev pub start_by_lanes : List (List ℕ) → Result ℤ StartCause

@@ -1,5 +1,5 @@
 -- What the code's values say, in the words of the definitions.
-use Rattle.std.specs.Prelude.{◌≡◌, ℕ, ℤ, pos, ◌≤◌, ◌<◌, ◌+ℤ◌, ◌^◌, IsTrue, unsigned_abs, List, [], ◌++◌, map, length, Option, Some, None, Result}
+use Rattle.std.specs.Prelude.{◌≡◌, ℕ, ℤ, pos, ◌≤◌, ◌<◌, ◌+ℤ◌, ◌^◌, IsTrue, unsigned_abs, List, [], ◌++◌, map, length, Option, Some, None, Result, string_bytes}
 use Rattle.edf_header.specs.Heads.{Head, record_bytes}
 use Rattle.edf_header.specs.Sound.{IsSound}
 use Rattle.edf_tal.specs.declared.start.StartCause.{StartCause}
@@ -13,6 +13,7 @@ use Rattle.edf_stream.specs.declared.lanes.Said.{Said}
 use Rattle.edf_stream.specs.declared.annotations.LaneNotes.{LaneNotes}
 use Rattle.edf_stream.specs.declared.annotations.Annotations.{Annotations}
 use Rattle.edf_stream.specs.declared.note.NoteRef.{NoteRef}
+use Rattle.edf_stream.specs.declared.notes.Note.{Note}
 use Rattle.edf_stream.specs.declared.note.TalNotes.{TalNotes}
 use Rattle.edf_stream.specs.Notes.{NoteValue, notes_of_items, notes_of_lanes}
 use Rattle.edf_stream.specs.Records.{annotation_lanes}
@@ -50,6 +51,10 @@ pub record IsReader (h : Head) (read : ℕ) (ended : ℤ) (notes : ℕ) (buffer 
 -- an annotation
 abbrev pub note_view : NoteRef → NoteValue
 note_view note = record { onset = note.onset; duration = note.duration; text = note.text.now }
+
+-- an annotation with a text of its own
+abbrev pub note_value : Note → NoteValue
+note_value note = record { onset = note.onset; duration = note.duration; text = string_bytes note.text }
 
 -- the annotations that are still to come of a TAL, where one is at hand
 abbrev pub notes_of_said : Option TalNotes → List NoteValue

@@ -1,16 +1,18 @@
 //! The data record that a reader has at hand. EDF (1992), "Data record".
 
-ghost use Rattle.std.specs.Prelude.{◌≡◌, ◌<◌, ◌^◌, IsTrue, length, unsigned_abs};
+ghost use Rattle.std.specs.Prelude.{◌≡◌, ◌+◌, ◌*◌, ◌<◌, ◌^◌, IsTrue, length, unsigned_abs};
 ghost use Rattle.edf_stream.specs.Readers.{is_current};
 ghost use Rattle.edf_stream.specs.Records.{lane_in, lane_bytes};
 ghost use Rattle.edf_stream.specs.Notes.{notes_in};
 ghost use Rattle.edf_stream.specs.Starts.{start_in};
+ghost use Rattle.edf_stream.specs.Values.{digital_value};
 ghost use Rattle.edf_stream.specs.Views.{notes_left};
 
 use crate::annotations::Annotations;
 use crate::lanes::lane_at;
 use crate::reader::FileReader;
 use crate::status::Status;
+use crate::value::value_at;
 
 impl FileReader {
     /// Whether a data record is at hand: the last call of `next` answered `Ok(true)`.
@@ -42,6 +44,17 @@ impl FileReader {
         ensures full { length result.now ≡ lane_bytes self.entry.now.head signal }
     {
         lane_at(&self.header, &self.buffer, signal)
+    }
+
+    /// The digital value of the sample of a signal at a place of its lane in the data record at hand (EDF,
+    /// "Data record").
+    pub fn sample(&self, signal: usize, place: usize) -> i16
+        requires current { IsTrue (is_current self.now.status) }
+        requires signal { signal < length self.now.head.signals }
+        requires place { 2 * place + 1 < lane_bytes self.now.head signal }
+        ensures { result ≡ digital_value (lane_in self.now.head self.now.current signal) place }
+    {
+        value_at(self.run(signal), place)
     }
 
     /// The annotations of the data record at hand, in order of annotation signal, TAL and text, with

@@ -5,11 +5,17 @@
 pub mod annotations;
 pub mod conform;
 mod current;
+mod grid;
+pub mod instant;
 mod lanes;
 pub mod laws;
+pub mod meaning;
 pub mod note;
+pub mod notes;
 mod read_record;
 pub mod reader;
 mod record;
+pub mod sample;
 mod start;
 pub mod status;
+mod value;

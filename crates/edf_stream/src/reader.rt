@@ -6,11 +6,11 @@ ghost use Rattle.edf_header.specs.declared.stop.Stop.{Stop};
 ghost use Rattle.edf_header.specs.Faults.{header_fault};
 ghost use Rattle.edf_header.specs.Heads.{record_bytes};
 ghost use Rattle.edf_header.specs.Stops.{Stops};
-ghost use Rattle.edf_stream.specs.declared.status.Status.TheVariants.{Begun, Ended, Stopped};
+ghost use Rattle.edf_stream.specs.declared.status.Status.TheVariants.{Ended, Stopped};
 ghost use Rattle.edf_stream.specs.Starts.{start_in};
 ghost use Rattle.edf_stream.specs.Faults.{body_fault};
 ghost use Rattle.edf_stream.specs.Views.{IsContent};
-ghost use Rattle.edf_stream.specs.Readers.{IsOpen, status_after, StandsIn, Comes, StopsReading};
+ghost use Rattle.edf_stream.specs.Readers.{HasBegun, IsOpen, status_after, StandsIn, Comes, StopsReading};
 
 use crate::read_record::advance;
 use crate::start::Progress;
@@ -51,7 +51,7 @@ impl FileReader {
     /// A `Fault` is the first one of the header. After `Ok` the source stands at the first byte of the
     /// first data record. The buffer has the bytes of one data record, and keeps that size.
     pub fn begin<S: Source>(alloc: Global, source: &mut S) -> Result<FileReader, Stop>
-        ensures begun { IfOk result (λ r. (r.status ≡ Begun) × (r.read ≡ 0)) }
+        ensures begun { IfOk result HasBegun }
         ensures room { IfOk result (λ r. length r.current ≡ record_bytes r.head) }
         ensures failures { OnOk result (S.failures source.new ≡ S.failures source.old) }
         ensures honesty { OnOk result (IsTrue (S.is_honest source.old) → IsTrue (S.is_honest source.new)) }

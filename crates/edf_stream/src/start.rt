@@ -52,7 +52,7 @@ impl Start {
 }
 
 /// One second, in picoseconds.
-const SECOND: i128 = 1_000_000_000_000;
+pub(crate) const SECOND: i128 = 1_000_000_000_000;
 
 /// Whether data record `k` may start there: the first one in the first second; each other one where the
 /// one before ends, or, in an interrupted file, there or later.

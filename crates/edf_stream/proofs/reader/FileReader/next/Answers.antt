@@ -26,7 +26,7 @@ returns-in-Ok-None-clause-comes g c = λ going honest file stands.
     let viewed : StandsIn (the_view old) (g.S.Source.left c.args.source.now) file = subst (λ r. StandsIn r (g.S.Source.left c.args.source.now) file) (sym c.self.view_is) stands in
     let found = subst (λ o. GoesOn file old.header old.read old.progress o (g.S.Source.left c.advance.new.source) c.advance.new.buffer) c.in-Ok-None.field-0-is (c.in-Ok-None.ensures.goes_on honest file viewed.passed viewed.stands) in
     let over = subst (λ (r : Reader). (r.read ≡ (r.head).records) × (body_fault file r.head ≡ None) × Conforms file r.head) c.self.view_is (found.1, found.2, found.3) in
-    (record { passed = viewed.passed; stands = found.0 }, found.1 ∙ ap (λ (r : Reader). (r.head).records) c.self.view_is, over.1, over.2, found.4)
+    (record { passed = viewed.passed; stands = found.0 }, found.1 ∙ ap (λ (r : Reader). (r.head).records) c.self.view_is, over.1, over.2, found.4, over.0)
 
 pub returns-in-Err-clause-stop : goal.returns-in-Err-clause-stop
 returns-in-Err-clause-stop g c = λ going.

@@ -1,0 +1,114 @@
+//! Where data records and the samples of their lanes stand in time, in exact numerators.
+
+ghost use Rattle.std.specs.Prelude.{◌≡◌, ◌<◌, ◌≤◌, ◌*◌, ◌^◌, ◌*ℤ◌, ◌+ℤ◌, pos, unsigned_abs};
+ghost use Rattle.edf_stream.specs.Instants.{IsSmall};
+ghost use Rattle.edf_stream.specs.Samples.{instant_on};
+ghost use Rattle.edf_stream.specs.Starts.{file_start};
+
+use crate::instant::Instant;
+use crate::start::SECOND;
+use edf_header::header::Header;
+
+/// So many seconds, in picoseconds.
+fn in_picoseconds(seconds: i64) -> i128
+    requires { unsigned_abs seconds < 2 ^ 39 }
+    ensures value { result ≡ seconds *ℤ pos (10 ^ 12) }
+    ensures small { unsigned_abs result < 2 ^ 39 * 10 ^ 12 }
+{
+    i128::from(seconds) * SECOND
+}
+
+/// The start of the file, in picoseconds after 1970-01-01 00:00:00 (civil time, without a time zone).
+pub(crate) fn file_start_ps(header: &Header) -> i128
+    ensures value { result ≡ file_start header.now }
+    ensures small { unsigned_abs result < 2 ^ 39 * 10 ^ 12 }
+{
+    in_picoseconds(header.start_second())
+}
+
+/// The time of a data record: where it starts, in picoseconds after 1970-01-01 00:00:00, and how long it
+/// lasts.
+#[derive(Debug, Clone, Copy)]
+pub(crate) struct Stretch {
+    pub start_ps: i128,
+    pub duration_ps: i128,
+}
+
+impl Stretch {
+    /// That of a data record that starts so long after the start of the file.
+    pub(crate) fn new(header: &Header, start_ps: i128) -> Stretch
+        requires { unsigned_abs start_ps < 2 ^ 72 }
+        ensures start { result.start_ps ≡ file_start header.now +ℤ start_ps }
+        ensures duration { result.duration_ps ≡ header.now.duration }
+        ensures near { unsigned_abs result.start_ps < 2 ^ 79 }
+        ensures short { unsigned_abs result.duration_ps < 2 ^ 68 }
+    {
+        Stretch {
+            start_ps: file_start_ps(header) + start_ps,
+            duration_ps: header.duration_ps(),
+        }
+    }
+}
+
+/// Where the samples of a lane stand: the first at the numerator `start`, each further one `step` behind
+/// the one before, in units of 1 / `den` picoseconds. `den` is the number of samples of the lane, and so
+/// `step` the duration of a data record.
+#[derive(Debug, Clone, Copy)]
+pub(crate) struct Grid {
+    pub start: i128,
+    pub step: i128,
+    pub den: u32,
+}
+
+/// A number of steps.
+fn steps(step: i128, place: usize) -> i128
+    requires step { unsigned_abs step < 2 ^ 68 }
+    requires place { place < 2 ^ 24 }
+    ensures value { result ≡ pos place *ℤ step }
+    ensures small { unsigned_abs result < 2 ^ 92 }
+{
+    place as i128 * step
+}
+
+/// A number of picoseconds in units of 1 / `den` picoseconds.
+fn scaled(ps: i128, den: u32) -> i128
+    requires ps { unsigned_abs ps < 2 ^ 79 }
+    requires den { den ≤ 2 ^ 23 }
+    ensures value { result ≡ pos den *ℤ ps }
+    ensures small { unsigned_abs result < 2 ^ 102 }
+{
+    i128::from(den) * ps
+}
+
+impl Grid {
+    /// The grid of a lane with `den` samples in a data record.
+    pub(crate) fn new(stretch: Stretch, den: u32) -> Grid
+        requires ps { unsigned_abs stretch.start_ps < 2 ^ 79 }
+        requires den { den ≤ 2 ^ 23 }
+        ensures start { result.start ≡ pos den *ℤ stretch.start_ps }
+        ensures step { result.step ≡ stretch.duration_ps }
+        ensures den { result.den ≡ den }
+        ensures near { unsigned_abs result.start < 2 ^ 102 }
+    {
+        Grid {
+            start: scaled(stretch.start_ps, den),
+            step: stretch.duration_ps,
+            den,
+        }
+    }
+
+    /// The instant of the sample at a place.
+    pub(crate) fn instant(self, place: usize) -> Instant
+        requires near { unsigned_abs self.start < 2 ^ 102 }
+        requires step { unsigned_abs self.step < 2 ^ 68 }
+        requires den { self.den < 2 ^ 24 }
+        requires place { place < 2 ^ 24 }
+        ensures value { result ≡ instant_on self place }
+        ensures small { IsSmall result }
+    {
+        Instant {
+            num: self.start + steps(self.step, place),
+            den: self.den,
+        }
+    }
+}

@@ -1,0 +1,123 @@
+//! What a whole file means: its samples and its annotations, at once. EDF (1992), "Data record"; EDF+
+//! (2003), "The 'EDF Annotations' signal".
+
+ghost use Rattle.std.specs.Prelude.{◌≡◌, ℕ, ◌++◌, [], List, map, Some, IfOk, IfErr, OnOk, IsTrue};
+ghost use Rattle.std.specs.List.{All};
+ghost use Rattle.edf_fields.specs.Sources.{Rises};
+ghost use Rattle.edf_header.specs.Stops.{Stops};
+ghost use Rattle.edf_stream.specs.Faults.{body_fault, file_fault};
+ghost use Rattle.edf_stream.specs.Instants.{IsSmall};
+ghost use Rattle.edf_stream.specs.Meanings.{IsMeaning, IsWhole};
+ghost use Rattle.edf_stream.specs.Notes.{moved_notes_in};
+ghost use Rattle.edf_stream.specs.Readers.{HasBegun, is_current, StandsIn};
+ghost use Rattle.edf_stream.specs.Samples.{samples_in};
+ghost use Rattle.edf_stream.specs.Views.{note_value};
+
+use crate::grid::{Stretch, file_start_ps};
+use crate::notes::{Note, push_notes};
+use crate::reader::FileReader;
+use crate::sample::{Sample, push_samples};
+use edf_fields::source::Source;
+use edf_header::header::Header;
+use edf_header::stop::Stop;
+use std::alloc::{AllocError, Global};
+
+/// What a file means, whatever its data records and the order of its signals.
+#[derive(Debug, Drop)]
+pub struct Meaning {
+    /// The samples of all channels, in order of data record, channel and place.
+    pub samples: Vec<Sample>,
+    /// The annotations, in order of data record, annotation signal, TAL and text, without the texts that
+    /// keep the time.
+    pub notes: Vec<Note>,
+}
+
+impl Meaning {
+    /// Of no data record.
+    fn new(alloc: Global) -> Meaning
+        ensures samples { result.samples.items ≡ [] }
+        ensures notes { result.notes.items ≡ [] }
+    {
+        Meaning {
+            samples: Vec::new(alloc),
+            notes: Vec::new(alloc),
+        }
+    }
+
+    /// Puts the samples and the annotations of the data record at hand behind those that it has.
+    fn add(&mut self, alloc: Global, reader: &FileReader) -> Result<(), AllocError>
+        requires current { IsTrue (is_current reader.now.status) }
+        requires small { All (λ x. IsSmall x.instant) self.old.samples.items }
+        ensures samples { OnOk result (self.new.samples.items ≡ self.old.samples.items ++ samples_in reader.now.head reader.now.current) }
+        ensures notes { OnOk result (map note_value self.new.notes.items ≡ map note_value self.old.notes.items ++ moved_notes_in reader.now.head reader.now.current) }
+        ensures small { OnOk result (All (λ x. IsSmall x.instant) self.new.samples.items) }
+    {
+        reader.push_samples(&mut self.samples)?;
+        reader.push_notes(alloc, &mut self.notes)
+    }
+}
+
+impl FileReader {
+    /// Puts the samples of the data record at hand behind `samples`.
+    #[tactic(auto, unfolding(crate::specs::Samples::samples_in))]
+    fn push_samples(&self, samples: &mut Vec<Sample>) -> Result<(), AllocError>
+        requires current { IsTrue (is_current self.now.status) }
+        requires small { All (λ x. IsSmall x.instant) samples.old.items }
+        ensures value { OnOk result (samples.new.items ≡ samples.old.items ++ samples_in self.now.head self.now.current) }
+        ensures small { OnOk result (All (λ x. IsSmall x.instant) samples.new.items) }
+    {
+        let stretch = Stretch::new(&self.header, self.start_ps());
+        push_samples(samples, &self.header, stretch, &self.buffer)
+    }
+
+    /// Puts the annotations of the data record at hand behind `notes`.
+    #[tactic(auto, unfolding(crate::specs::Notes::moved_notes_in))]
+    fn push_notes(&self, alloc: Global, notes: &mut Vec<Note>) -> Result<(), AllocError>
+        requires { IsTrue (is_current self.now.status) }
+        ensures { OnOk result (map note_value notes.new.items ≡ map note_value notes.old.items ++ moved_notes_in self.now.head self.now.current) }
+    {
+        let file_start = file_start_ps(&self.header);
+        push_notes(alloc, notes, file_start, self.annotations())
+    }
+
+    /// Reads the data records of a file of which only the header was read, and answers the header and what
+    /// the file means: `Ok` where the file conforms to the profile, and else its first fault. The source is
+    /// read to its end on `Ok`.
+    pub fn into_meaning<S: Source>(
+        self,
+        alloc: Global,
+        source: &mut S,
+    ) -> Result<(Header, Meaning), Stop>
+        requires { HasBegun self }
+        ensures head { IfOk result (λ found. found.0 ≡ self.head) }
+        ensures small { IfOk result (λ found. All (λ x. IsSmall x.instant) found.1.samples.items) }
+        ensures failures { OnOk result (S.failures source.new ≡ S.failures source.old) }
+        ensures honesty { OnOk result (IsTrue (S.is_honest source.old) → IsTrue (S.is_honest source.new)) }
+        ensures meaning { IfOk result (λ found. IsTrue (S.is_honest source.old) → (file : List ℕ) → StandsIn self (S.left source.old) file → IsMeaning file self.head (S.left source.new) found.1) }
+        ensures stop { IfErr result (Stops
+            (λ f. IsTrue (S.is_honest source.old) → (file : List ℕ) → StandsIn self (S.left source.old) file → body_fault file self.head ≡ Some f)
+            (Rises (S.failures source.old) (S.failures source.new)) (S.failures source.new ≡ S.failures source.old)) }
+    {
+        let mut reader = self;
+        let mut meaning = Meaning::new(alloc);
+        while reader.next(source)? {
+            meaning.add(alloc, &reader)?;
+        }
+        Ok((reader.header, meaning))
+    }
+}
+
+/// Reads a whole file, and says what it means: `Ok` where it conforms to the profile, which docs/PROFILE.md
+/// tells, and else its first fault. The source is read to its end on `Ok`.
+///
+/// This is the plain slow way: everything is in memory at once.
+pub fn whole_meaning<S: Source>(alloc: Global, source: &mut S) -> Result<Meaning, Stop>
+    ensures small { IfOk result (λ meaning. All (λ x. IsSmall x.instant) meaning.samples.items) }
+    ensures failures { OnOk result (S.failures source.new ≡ S.failures source.old) }
+    ensures meaning { IfOk result (λ meaning. IsTrue (S.is_honest source.old) → IsWhole (S.left source.old) (S.left source.new) meaning) }
+    ensures stop { IfErr result (Stops (λ f. IsTrue (S.is_honest source.old) → file_fault (S.left source.old) ≡ Some f) (Rises (S.failures source.old) (S.failures source.new)) (S.failures source.new ≡ S.failures source.old)) }
+{
+    let reader = FileReader::begin(alloc, source)?;
+    let (_header, meaning) = reader.into_meaning(alloc, source)?;
+    Ok(meaning)
+}

@@ -1,0 +1,53 @@
+//! The annotations of a file, with texts of their own. EDF+ (2003), "Time-stamped Annotations Lists (TALs)
+//! in an 'EDF Annotations' signal".
+
+ghost use Rattle.std.specs.Prelude.{◌≡◌, ◌++◌, ◌<◌, ◌^◌, map, unsigned_abs, IfOk, OnOk};
+ghost use Rattle.edf_stream.specs.Notes.{moved_by};
+ghost use Rattle.edf_stream.specs.Views.{note_view, note_value, notes_left};
+
+use crate::annotations::Annotations;
+use crate::note::NoteRef;
+use std::alloc::{AllocError, Global};
+
+/// An annotation with a text of its own. Annotations are ordered by their onset, then by their duration,
+/// none before any, then by the bytes of their texts.
+#[derive(Debug, Drop, PartialEq, Eq, PartialOrd, Ord)]
+pub struct Note {
+    /// The onset in picoseconds after 1970-01-01 00:00:00 (civil time, without a time zone).
+    pub onset: i128,
+    /// The duration in picoseconds, where it has one.
+    pub duration: Option<i128>,
+    /// The text.
+    pub text: String,
+}
+
+impl Note {
+    /// The annotation, in a file that starts at `start_ps`.
+    fn new(alloc: Global, start_ps: i128, note: NoteRef<'_>) -> Result<Note, AllocError>
+        requires { unsigned_abs start_ps < 2 ^ 79 }
+        ensures { IfOk result (λ n. note_value n ≡ moved_by start_ps (note_view note.entry)) }
+    {
+        Ok(Note {
+            onset: start_ps + note.onset,
+            duration: note.duration,
+            text: String::from_str(alloc, note.text)?,
+        })
+    }
+}
+
+/// Puts the annotations that are left of a data record behind `notes`, in a file that starts at
+/// `start_ps`.
+pub(crate) fn push_notes(
+    alloc: Global,
+    notes: &mut Vec<Note>,
+    start_ps: i128,
+    annotations: Annotations<'_>,
+) -> Result<(), AllocError>
+    requires { unsigned_abs start_ps < 2 ^ 79 }
+    ensures { OnOk result (map note_value notes.new.items ≡ map note_value notes.old.items ++ map (moved_by start_ps) (notes_left annotations.entry)) }
+{
+    for note in annotations {
+        notes.push(Note::new(alloc, start_ps, note)?)?;
+    }
+    Ok(())
+}
