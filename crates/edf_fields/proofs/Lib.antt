@@ -6,6 +6,7 @@ pub mod DotFacts
 pub mod ForCallers
 pub mod IdentificationFacts
 pub mod ListFacts
+pub mod HasFacts
 pub mod NumberFacts
 pub mod OnsetByteFacts
 pub mod OnsetFacts

@@ -1,5 +1,5 @@
 -- The time of a text, as a relation and as a function.
-use Rattle.std.proofs.Common.{◌≡◌, ℕ, ℤ, Bool, true, false, not, [], ◌∷◌, ◌^◌, ◌*◌, ◌-◌, ◌<◌, ◌≤◌, ◌≤ℤ◌, ◌<ℤ◌, lit<, List, length, drop, arith, refl, ap, ◌∙◌, sym, Option, Some, None, MatchOption, nat_le, nat_lt, ◌&&◌, ◌||◌, cond, pos}
+use Rattle.std.proofs.Common.{◌≡◌, ℕ, ℤ, Bool, true, false, not, [], ◌∷◌, ◌^◌, ◌*◌, ◌-◌, ◌<◌, ◌≤◌, ◌≤ℤ◌, ◌<ℤ◌, lit<, List, length, drop, arith, refl, ap, ◌∙◌, sym, Option, Some, None, MatchOption, nat_le, nat_lt, ◌&&◌, ◌||◌, cond, pos, unsigned_abs, subst}
 use Rattle.std.specs.List.{list_all}
 use Rattle.std.proofs.lemmas.Bool.Decides.{nat_tests}
 use Rattle.std.proofs.lemmas.Grind.{common_steps}
@@ -140,6 +140,16 @@ span_small t v h =
     let below : time_of t < 10 ^ 21 = time_below t h.0 in
     let value : v ≡ pos (time_of t) = h.1 in
     (omega (arith, ints, value), omega (arith, ints, value, below))
+
+-- an onset is less than 10^9 seconds in size
+pub onset_small : (t : List ℕ) (v : ℤ) → SpellsOnset t v → unsigned_abs v < 10 ^ 21
+onset_small t v h =
+    let below : time_of (drop 1 t) < 10 ^ 21 = time_below (drop 1 t) h.1 in
+    subst (λ (z : ℤ). unsigned_abs z < 10 ^ 21) (sym h.2) (near (has_minus t) (time_of (drop 1 t)) below)
+  where
+    near : (b : Bool) (n : ℕ) → n < 10 ^ 21 → unsigned_abs (signed b n) < 10 ^ 21
+    near true n lt = omega (arith, ints, lt)
+    near false n lt = lt
 
 pub onset_read : (o : Option ℤ) (t : List ℕ) → MatchOption o ((v : ℤ) → SpellsOnset t v → ⊥) (SpellsOnset t) → o ≡ onset_of t
 onset_read None t h = sym (onset_of_none t h)

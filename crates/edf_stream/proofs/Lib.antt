@@ -10,3 +10,8 @@ pub mod NoteFacts
 pub mod RecordFacts
 pub mod SampleFacts
 pub mod MeaningFacts
+pub mod MemberFacts
+pub mod RisingFacts
+pub mod SampleLawFacts
+pub mod BoundFacts
+pub mod CountFacts

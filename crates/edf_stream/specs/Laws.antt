@@ -1,10 +1,14 @@
 -- What follows from the definitions.
-use Rattle.std.specs.Prelude.{◌≡◌, ◌↔◌, ℕ, ◌<◌, List, Some}
+use Rattle.std.specs.Prelude.{◌≡◌, ◌↔◌, ℕ, pos, ◌*◌, ◌<◌, ◌*ℤ◌, ◌^◌, List, length, map, Some, unsigned_abs}
 use Rattle.edf_header.specs.declared.fault.Fault.{Fault}
 use Rattle.edf_header.specs.Faults.{header_fault}
-use Rattle.edf_header.specs.Heads.{Head}
+use Rattle.edf_fields.specs.Lists.{Has}
+use Rattle.edf_header.specs.Heads.{Head, start_second, samples_together}
 use Rattle.edf_stream.specs.Records.{record_at}
-use Rattle.edf_stream.specs.Notes.{NoteValue, SaysNotes, notes_in}
+use Rattle.edf_stream.specs.Notes.{NoteValue, SaysNotes, notes_in, notes_before, notes_of}
+use Rattle.edf_stream.specs.Instants.{IsNotBefore, IsSame, IsSmall, IsSecondOf}
+use Rattle.edf_stream.specs.Samples.{SampleValue, IsSample, samples_of, labelled, AreRising}
+use Rattle.edf_stream.specs.Summaries.{channels_among}
 use Rattle.edf_stream.specs.Faults.{body_fault, file_fault}
 use Rattle.edf_stream.specs.Conforming.{Conforms}
 use Rattle.edf_stream.specs.Readers.{Reader, StandsIn}
@@ -20,3 +24,38 @@ HeaderFaultIsFirst = (file : List ℕ) (fault : Fault) → header_fault file ≡
 -- the first fault of a file in which a reader stands is that of its data records, or of what stands behind them
 abbrev pub BodyFaultIsFirst : Type 0
 BodyFaultIsFirst = (r : Reader) (left file : List ℕ) → StandsIn r left file → file_fault file ≡ body_fault file r.head
+
+-- a sample is one of a file that conforms exactly where it stands in the list of its samples
+abbrev pub SamplesAreListed : Type 0
+SamplesAreListed = (file : List ℕ) (h : Head) → Conforms file h → (x : SampleValue) → IsSample file h x ↔ Has (map (labelled h) (samples_of file h)) x
+
+-- in the list of samples of a file that conforms the numerators of each channel rise, so each sample stands there once
+abbrev pub SamplesRise : Type 0
+SamplesRise = (file : List ℕ) (h : Head) → Conforms file h → AreRising (samples_of file h)
+
+-- in a file that conforms a channel has one sample at an instant at the most
+abbrev pub OneAtAnInstant : Type 0
+OneAtAnInstant = (file : List ℕ) (h : Head) → Conforms file h → (x y : SampleValue) → IsSample file h x → IsSample file h y → x.label ≡ y.label → IsSame x.instant y.instant → x ≡ y
+
+-- the numerators of the instants of a file that conforms fit 128 bits, and so do the products of such numerators and the denominators
+-- of the same or of another such file
+abbrev pub InstantsFit : Type 0
+InstantsFit = (file other : List ℕ) (h g : Head) → Conforms file h → Conforms other g → (x y : SampleValue) → IsSample file h x → IsSample other g y
+    → IsSmall x.instant × (unsigned_abs ((x.instant).num *ℤ pos (y.instant).den) < 2 ^ 127)
+
+-- the least of the instants of a file that conforms, and its whole second is the start of the file
+pub record StartsWith (file : List ℕ) (h : Head) (x : SampleValue) : Type 0 where
+  pub sample : IsSample file h x
+  pub least : (y : SampleValue) → IsSample file h y → IsNotBefore y.instant x.instant
+  pub second : IsSecondOf x.instant (start_second h)
+
+abbrev pub StartIsOfLeast : Type 0
+StartIsOfLeast = (file : List ℕ) (h : Head) → Conforms file h → (x : SampleValue) × StartsWith file h x
+
+-- a file that conforms has in each data record as many samples as its channels have there together
+abbrev pub SamplesAreCounted : Type 0
+SamplesAreCounted = (file : List ℕ) (h : Head) → Conforms file h → length (samples_of file h) ≡ h.records * samples_together (channels_among h.signals)
+
+-- a file has as many annotations as its data records have together
+abbrev pub NotesAreCounted : Type 0
+NotesAreCounted = (file : List ℕ) (h : Head) → length (notes_of file h) ≡ notes_before file h h.records

@@ -1,7 +1,7 @@
 //! Laws of the definitions, each the contract of a function that does nothing.
 
 ghost use Rattle.edf_stream.specs.Conforming.{ConformingIsFaultless, RecordsFollowOn};
-ghost use Rattle.edf_stream.specs.Laws.{NotesAreSaid, HeaderFaultIsFirst, BodyFaultIsFirst};
+ghost use Rattle.edf_stream.specs.Laws.{NotesAreSaid, HeaderFaultIsFirst, BodyFaultIsFirst, SamplesAreListed, SamplesRise, OneAtAnInstant, InstantsFit, StartIsOfLeast, SamplesAreCounted, NotesAreCounted};
 
 /// A file conforms, in words, exactly where it has no first fault.
 pub fn conforming_is_being_faultless()
@@ -22,4 +22,37 @@ pub fn annotations_are_said()
 pub fn faults_are_the_first()
     ensures header { HeaderFaultIsFirst }
     ensures body { BodyFaultIsFirst }
+{}
+
+/// What a file means lists its samples, in words, and no others.
+pub fn samples_are_listed()
+    ensures { SamplesAreListed }
+{}
+
+/// In the list of samples of a file that conforms the numerators of each channel rise: each sample stands
+/// there once.
+pub fn samples_rise()
+    ensures { SamplesRise }
+{}
+
+/// In a file that conforms a channel has at most one sample at an instant.
+pub fn one_sample_stands_at_an_instant()
+    ensures { OneAtAnInstant }
+{}
+
+/// The numerators of the instants of files that conform fit 128 bits, and so do their products with
+/// denominators.
+pub fn instants_fit()
+    ensures { InstantsFit }
+{}
+
+/// A file that conforms starts at the whole second of its least sample's instant.
+pub fn a_file_starts_with_its_least_sample()
+    ensures { StartIsOfLeast }
+{}
+
+/// How many samples and annotations a file has.
+pub fn samples_and_annotations_are_counted()
+    ensures samples { SamplesAreCounted }
+    ensures notes { NotesAreCounted }
 {}

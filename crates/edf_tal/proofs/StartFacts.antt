@@ -1,7 +1,8 @@
 -- A lane's list or its fault, and where its data record starts.
-use Rattle.std.proofs.Common.{◌≡◌, ◌↔◌, ◌⊎◌, ℕ, zero, suc, ℤ, ◌<◌, List, [], ◌∷◌, ◌++◌, map, length, refl, sym, ◌∙◌, ap, arith, inl, inr, Result, Ok, Err}
+use Rattle.std.proofs.Common.{◌≡◌, ◌↔◌, ◌⊎◌, ℕ, zero, suc, ℤ, ◌<◌, List, [], ◌∷◌, ◌++◌, map, length, refl, sym, ◌∙◌, ap, arith, inl, inr, Result, Ok, Err, ◌^◌, unsigned_abs, subst}
 use Rattle.std.proofs.lemmas.List.{length-append}
 use Rattle.edf_fields.specs.declared.cause.TalCause.{TalCause}
+use Rattle.edf_fields.proofs.ForCallers.{onset_small}
 use Rattle.edf_tal.specs.Tals.{TalValue, SpellsTal, StartsAt, BeginsSilent, KeepsNoTime}
 use Rattle.edf_tal.specs.Reading.{Item, onto, tal_of, items_of}
 use Rattle.edf_tal.specs.Faults.{HasFault, HasListOrFault}
@@ -121,3 +122,7 @@ silence-read lane (inr s) = ap start_of (first-item lane s.bytes s.rest s.tal s.
 
 pub keeps-no-time : (r : Result ℤ StartCause) (lane : List ℕ) → r ≡ start_of (items_of lane) → (r ≡ Err start.NoTimekeeping) ↔ KeepsNoTime lane
 keeps-no-time r lane e = (λ h. silence-said lane (sym e ∙ h), λ s. e ∙ silence-read lane s)
+
+-- the start of a data record is less than 10^9 seconds in size
+pub start_small : (lane : List ℕ) (v : ℤ) → StartsAt lane v → unsigned_abs v < 10 ^ 21
+start_small lane v starts = subst (λ (z : ℤ). unsigned_abs z < 10 ^ 21) starts.onset (onset_small (starts.spelled).onset (starts.tal).onset (starts.spelled).onset_is)

@@ -21,7 +21,7 @@ use Rattle.edfclaim.specs.Differences.{HasValue, HasNone, Match, Differ, first_d
 use Rattle.edfclaim.specs.Exports.{SameChannels, StandsAt, NoneAt, DifferAt}
 use Rattle.edfclaim.specs.Compare.{Timed, all_samples, kept_samples, difference_at, label_difference}
 use Rattle.edfclaim.specs.Verdicts.{samples_in, kept_in}
-use Rattle.edfclaim.proofs.ListFacts.{has-filtered, filtered-has, or-cases, or-true}
+use Rattle.edf_fields.proofs.ForCallers.{has-filtered, filtered-has, or-cases, or-true}
 use Rattle.edf_fields.proofs.ForCallers.{and-true, both-true}
 use Rattle.edfclaim.proofs.MemberFacts.{has-lane, records-has, has-records}
 use Rattle.edfclaim.proofs.RisingFacts.{IsTimely, records-ascending, filter-ascending}

@@ -14,7 +14,7 @@ use Rattle.std.specs.Global.{Vec}
 use Rattle.edfclaim.specs.declared.header.Signal.{Signal}
 use Rattle.edfclaim.specs.Views.{signal_view}
 use Rattle.edfclaim.proofs.LabelFacts.{least_of, least-found}
-use Rattle.edfclaim.proofs.ListFacts.{has-at, at-has, has-map, map-has, has-filtered, filtered-has, find-none, find-first, or-true}
+use Rattle.edf_fields.proofs.ForCallers.{has-at, at-has, has-map, map-has, has-filtered, filtered-has, find-none, find-first, or-true}
 use Rattle.edf_fields.proofs.ForCallers.{and-true, both-true, not-true}
 
 place_chosen : (b : Bool) (k : ℕ) (o : Option ℕ) (P : Option ℕ → Type 0) → (b ≡ true → P (Some k)) → (b ≡ false → P o) → P (cond b (Some k) o)

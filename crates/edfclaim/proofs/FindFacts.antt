@@ -25,7 +25,7 @@ use Rattle.edfclaim.specs.Judged.{IsLoaded}
 use Rattle.edfclaim.specs.Loaded.{timed_view, IsYesOf, IsSampleVerdict}
 use Rattle.edfclaim.specs.Verdicts.{IsExport, IsFound, BothPass, Applies, NoneBefore, NoneBelow, timed_file, samples_in, kept_in}
 use Rattle.edfclaim.specs.Checks.{IsReadAs}
-use Rattle.edfclaim.proofs.ListFacts.{has-at, at-has, get-within, has-map, map-has, map-get, get-map, has-permutation}
+use Rattle.edf_fields.proofs.ForCallers.{has-at, at-has, get-within, has-map, map-has, map-get, get-map, has-permutation}
 use Rattle.edfclaim.proofs.EarliestFacts.{earliest-some, earliest-none, earliest-is-least}
 use Rattle.edfclaim.proofs.FractionFacts.{before-not_before, by_before, from_below, same_below, both_same}
 use Rattle.edfclaim.proofs.ChannelFacts.{channel-found, has-place}

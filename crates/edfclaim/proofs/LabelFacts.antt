@@ -7,7 +7,7 @@ use Rattle.std.specs.Ordering.{is_le, is_lt, is_some_and, nat_cmp}
 use Rattle.std.specs.Global.{Vec}
 use Rattle.std.specs.List.Sorted.{IsSorted, IsPermutation}
 use Rattle.std.proofs.lemmas.List.Sorted.{sorted_far, ranks_by, IsPermutation-map}
-use Rattle.edfclaim.proofs.ListFacts.{map-get, get-within, get-index}
+use Rattle.edf_fields.proofs.ForCallers.{map-get, get-within, get-index}
 use Rattle.edfclaim.specs.Labels.{IsNotAbove, is_not_above, lower, IsLeast, AreRising}
 
 -- the test is std's order

@@ -10,7 +10,6 @@ pub mod FileFacts
 pub mod SignalFacts
 pub mod SampleFacts
 pub mod EarliestFacts
-pub mod ListFacts
 pub mod LabelFacts
 pub mod MemberFacts
 pub mod RisingFacts

@@ -8,7 +8,7 @@ use Rattle.edfclaim.specs.Heads.{Head, samples_at}
 use Rattle.edfclaim.specs.Records.{lane_at}
 use Rattle.edfclaim.specs.Lanes.{digital, digital_value, lane_samples}
 use Rattle.edfclaim.specs.Samples.{samples_from}
-use Rattle.edfclaim.proofs.ListFacts.{has-append, has-front, has-back}
+use Rattle.edf_fields.proofs.ForCallers.{has-append, has-front, has-back}
 
 -- a sample at some place of a lane
 pub record InLane (a d : ℤ) (lane : List ℕ) (x : Sample) : Type 0 where

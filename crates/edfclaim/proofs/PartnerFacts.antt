@@ -6,7 +6,7 @@ use Rattle.edfclaim.specs.declared.sample.Sample.{Sample}
 use Rattle.edfclaim.specs.Instants.{IsSame}
 use Rattle.edfclaim.specs.Differences.{instant, HasValue, AreIn, Match}
 use Rattle.edfclaim.specs.Slow.{are_partners, has_partner, have_partners, match_test}
-use Rattle.edfclaim.proofs.ListFacts.{or-cases, or-true}
+use Rattle.edf_fields.proofs.ForCallers.{or-cases, or-true}
 use Rattle.edf_fields.proofs.ForCallers.{and-true, both-true}
 
 partners : (n : ℕ) (x : Sample) (m : ℕ) (y : Sample) → are_partners n x m y ≡ true → IsSame (instant m y) (instant n x) × (y.value ≡ x.value)

@@ -16,7 +16,7 @@ use Rattle.edfclaim.specs.Faults.{fault, label_fault, labels_faults}
 use Rattle.edf_fields.specs.Tests.{first}
 use Rattle.edfclaim.specs.Views.{signal_view}
 use Rattle.edf_fields.proofs.ForCallers.{first-passed, first-found}
-use Rattle.edfclaim.proofs.ListFacts.{has-at, get-within}
+use Rattle.edf_fields.proofs.ForCallers.{has-at, get-within}
 use Rattle.edfclaim.proofs.ChannelFacts.{place-none, tested-channel}
 
 -- the label of a signal, by what the code holds of it

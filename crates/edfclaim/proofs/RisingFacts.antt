@@ -9,7 +9,7 @@ use Rattle.edfclaim.specs.Records.{lane_at}
 use Rattle.edfclaim.specs.Lanes.{lane_samples}
 use Rattle.edfclaim.specs.Samples.{samples_from}
 use Rattle.edfclaim.specs.Differences.{IsAscending}
-use Rattle.edfclaim.proofs.ListFacts.{has-append, has-filtered}
+use Rattle.edf_fields.proofs.ForCallers.{has-append, has-filtered}
 use Rattle.edfclaim.proofs.MemberFacts.{InLane, InRecords, lane-has, records-has}
 
 -- a product grows with either factor

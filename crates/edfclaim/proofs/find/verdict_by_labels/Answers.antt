@@ -2,7 +2,7 @@ use Rattle.std.proofs.Common.{◌∙◌, ◌<◌, ap, sym, subst, arith, length,
 use Rattle.std.proofs.lemmas.Grind.{common_steps}
 use Rattle.std.proofs.lemmas.Result.{IfOk-weaker}
 use Rattle.edfclaim.specs.Loaded.{IsSampleVerdict}
-use Rattle.edfclaim.proofs.ListFacts.{get-within, get-index}
+use Rattle.edf_fields.proofs.ForCallers.{get-within, get-index}
 use Rattle.edfclaim.proofs.FindFacts.{AreOrdered, found-at, found-claimed, found-first, found-lowest, found-positive, sample-found, yes-export, yes-found}
 use Rattle.edfclaim.proofs.find.verdict_by_labels.Goals as goal
 

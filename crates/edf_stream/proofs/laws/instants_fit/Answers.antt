@@ -1,0 +1,5 @@
+use Rattle.edf_stream.proofs.BoundFacts.{instants_fit}
+use Rattle.edf_stream.proofs.laws.instants_fit.Goals as goal
+
+pub returns : goal.returns
+returns c = instants_fit

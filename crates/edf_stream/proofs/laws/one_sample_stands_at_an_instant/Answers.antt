@@ -1,0 +1,5 @@
+use Rattle.edf_stream.proofs.SampleLawFacts.{one_at_an_instant}
+use Rattle.edf_stream.proofs.laws.one_sample_stands_at_an_instant.Goals as goal
+
+pub returns : goal.returns
+returns c = one_at_an_instant

@@ -1,0 +1,5 @@
+use Rattle.edf_stream.proofs.SampleLawFacts.{samples_rise}
+use Rattle.edf_stream.proofs.laws.samples_rise.Goals as goal
+
+pub returns : goal.returns
+returns c = samples_rise
