@@ -95,7 +95,7 @@ lane-full file h k s signal c lt e =
     let bytes = record_at file h k in
     ap (λ o. length (option_map_or (λ (x : SignalHead). lane_of x bytes) o [])) (sym e)
     ∙ lane_long h bytes s (c.header).sound (record-long file h k c lt)
-    ∙ ap (λ o. option_map_or (λ (x : SignalHead). 2 * x.samples) o 0) e
+    ∙ ap (λ o. 2 * option_map_or (λ (x : SignalHead). x.samples) o 0) e
 
 pub rising-join : (xs ys : List Sample) → AreRising xs → AreRising ys → ((x y : Sample) → Has xs x → Has ys y → y.channel ≡ x.channel → (x.instant).num <ℤ (y.instant).num) → AreRising (xs ++ ys)
 rising-join [] ys ax ay h = ay

@@ -6,7 +6,7 @@ use Rattle.edf_header.specs.Sound.{IsSound}
 use Rattle.edf_stream.specs.Records.{lane_of, lane_in, lane_bytes}
 
 long : (signals : List SignalHead) (before s : ℕ) (bytes : List ℕ) → AreSideBySide before signals → before + 2 * samples_together signals ≤ length bytes
-    → length (option_map_or (λ signal. lane_of signal bytes) (slice_get signals s) []) ≡ option_map_or (λ signal. 2 * signal.samples) (slice_get signals s) 0
+    → length (option_map_or (λ signal. lane_of signal bytes) (slice_get signals s) []) ≡ 2 * option_map_or (λ signal. signal.samples) (slice_get signals s) 0
 long [] before s bytes beside le = refl
 long (signal ∷ signals) before zero bytes beside le =
     let at : signal.offset ≡ before = beside.0 in

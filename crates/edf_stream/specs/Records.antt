@@ -24,9 +24,13 @@ numbered_lane signals bytes s = option_map_or (λ signal. lane_of signal bytes) 
 abbrev pub lane_in : Head → List ℕ → ℕ → List ℕ
 lane_in h bytes s = numbered_lane h.signals bytes s
 
+-- how many samples signal s has in a data record
+abbrev pub samples_at : Head → ℕ → ℕ
+samples_at h s = option_map_or (λ signal. signal.samples) (slice_get h.signals s) 0
+
 -- how many bytes the lane of signal s has: two for each sample
 abbrev pub lane_bytes : Head → ℕ → ℕ
-lane_bytes h s = option_map_or (λ signal. 2 * signal.samples) (slice_get h.signals s) 0
+lane_bytes h s = 2 * samples_at h s
 
 -- the lane of signal s in data record k
 abbrev pub lane_at : List ℕ → Head → ℕ → ℕ → List ℕ

@@ -1,8 +1,8 @@
 //! The data record that a reader has at hand. EDF (1992), "Data record".
 
-ghost use Rattle.std.specs.Prelude.{◌≡◌, ◌+◌, ◌*◌, ◌<◌, ◌^◌, IsTrue, length, unsigned_abs};
+ghost use Rattle.std.specs.Prelude.{◌≡◌, ◌<◌, ◌^◌, IsTrue, length, unsigned_abs};
 ghost use Rattle.edf_stream.specs.Readers.{is_current};
-ghost use Rattle.edf_stream.specs.Records.{lane_in, lane_bytes};
+ghost use Rattle.edf_stream.specs.Records.{lane_in, lane_bytes, samples_at};
 ghost use Rattle.edf_stream.specs.Notes.{notes_in};
 ghost use Rattle.edf_stream.specs.Starts.{start_in};
 ghost use Rattle.edf_stream.specs.Values.{digital_value};
@@ -51,7 +51,7 @@ impl FileReader {
     pub fn sample(&self, signal: usize, place: usize) -> i16
         requires current { IsTrue (is_current self.now.status) }
         requires signal { signal < length self.now.head.signals }
-        requires place { 2 * place + 1 < lane_bytes self.now.head signal }
+        requires place { place < samples_at self.now.head signal }
         ensures { result ≡ digital_value (lane_in self.now.head self.now.current signal) place }
     {
         value_at(self.run(signal), place)
