@@ -333,7 +333,8 @@ def claim():
 CASES = {
     "n": (4, number), "w": (4, number), "o": (4, lambda: time(often(0.9))), "s": (3, lambda: time(often(0.1))),
     "d": (2, dotted_day), "D": (3, dashed_day), "c": (2, clock), "p": (6, patient), "r": (6, recording),
-    "t": (30, lane), "h": (20, header), "f": (20, whole_file), "C": (12, claim),
+    "t": (30, lane), "h": (20, header), "f": (20, whole_file), "m": (10, whole_file),
+    "C": (12, claim),
 }
 
 

@@ -9,6 +9,7 @@ the last line is 'N passed, M failed'.
 
 import datetime
 import re
+import struct
 import sys
 import tomllib
 
@@ -436,6 +437,27 @@ def file_line(file):
     return f"{line}ends; {said['records']} {len(samples)} {said['records'] * sum(samples)} {count}"
 
 
+def meaning_line(file):
+    """What a whole file means: each sample with its channel, its instant and its value, and each annotation."""
+    said = fixed_part(file)
+    found = signals(file, said["signals"])
+    days = (datetime.date(*said["startdate"]) - datetime.date(1970, 1, 1)).days
+    begin = (days * 86400 + said["starttime"]) * 10**12
+    size, told, noted = 2 * sum(one["samples"] for one in found), "", ""
+    for number, (start, notes) in enumerate(records(file, said, found)):
+        at, channel = 256 * (len(found) + 1) + number * size, 0
+        for one in found:
+            many, lane = one["samples"], file[at:at + 2 * one["samples"]]
+            if one["label"] != ANNOTATIONS:
+                for place, (value,) in enumerate(struct.iter_unpack("<h", lane)):
+                    instant = many * (begin + start) + place * said["duration"] * 100_000
+                    told += f"{channel}@{instant}/{many}={value} "
+                channel += 1
+            at += 2 * many
+        noted += "".join(note_text((begin + onset, duration, part)) for onset, duration, part in notes)
+    return told + noted
+
+
 def claim_line(document):
     labels, keep, anonymous, shift, remove = claim(document)
     line = bracketed(label.encode() for label in labels) + f" {shift * 10**12} "
@@ -460,6 +482,7 @@ ANSWERS = {
     "t": lane_line,
     "h": header_line,
     "f": file_line,
+    "m": meaning_line,
     "C": claim_line,
 }
 
