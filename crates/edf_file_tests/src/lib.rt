@@ -14,6 +14,8 @@ mod head;
 #[cfg(test)]
 mod lines;
 #[cfg(test)]
+mod meaning;
+#[cfg(test)]
 mod order;
 #[cfg(test)]
 mod reading;
@@ -21,6 +23,8 @@ mod reading;
 mod record;
 #[cfg(test)]
 mod rows;
+#[cfg(test)]
+mod samples;
 #[cfg(test)]
 mod scarce;
 #[cfg(test)]
