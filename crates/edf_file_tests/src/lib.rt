@@ -1,6 +1,6 @@
 //! Tests of `edf_header` and `edf_stream` by their public names: the values of a given header and of given
-//! data records, worked faults in words, the order of two faults, what a read does where a source or
-//! memory gives out, and large headers and records.
+//! data records, what whole files mean, worked faults in words, the order of two faults, what a read does
+//! where a source or memory gives out, and large headers and records.
 #![tactic(auto)]
 
 #[cfg(test)]

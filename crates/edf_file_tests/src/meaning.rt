@@ -220,6 +220,59 @@ fn means_what_each_file_says(rt: HostRuntime) -> Result<(), Fail> {
     Ok(())
 }
 
+/// A contiguous file with one channel of eight samples.
+const WORDS: &[Edit] = &[
+    (AtField(Fixed::HeaderBytes), "768"),
+    (AtField(Fixed::Records), "1"),
+    (AtField(Fixed::Signals), "2"),
+    (AtSignal(0, Field::Samples), "8"),
+    (AtSignal(1, Field::Samples), "16"),
+];
+
+const WORDS_LANES: &[Lane] = &[
+    (
+        b"\x96\x00\xf9\xff\x00\x80\xff\x7f\x34\x92\xff\xff\x80\x00\x00\xff",
+        16,
+    ),
+    (b"+0\x14\x14\0", 32),
+];
+
+/// Files of one channel and one data record, and its values.
+const VALUES: &[(&[Edit], &[Lane], &[i16])] = &[
+    (PAIR, PAIR_LANES, &[7, -7]),
+    (
+        WORDS,
+        WORDS_LANES,
+        &[150, -7, -32_768, 32_767, -28_108, -1, 128, -256],
+    ),
+];
+
+/// The value of a sample of the first signal in the data record at hand, where there is one.
+fn value_of(reader: &FileReader, place: usize) -> Option<i16> {
+    if !reader.has_current() || reader.header().signals().is_empty() {
+        return None;
+    }
+    if reader.run(0).len() / 2 <= place {
+        return None;
+    }
+    Some(reader.sample(0, place))
+}
+
+#[test]
+fn gives_each_value(rt: HostRuntime) -> Result<(), Fail> {
+    for (edits, lanes, values) in VALUES {
+        let file = built(rt.alloc(), &[1, 2], edits, lanes)?;
+        let mut source = SliceSource::new(&file);
+        let mut reader = FileReader::begin(rt.alloc(), &mut source)?;
+        assert_eq!(rt; reader.next(&mut source), Ok(true));
+        for (place, value) in values.iter().enumerate() {
+            assert_eq!(rt; value_of(&reader, place), Some(*value));
+        }
+        assert_eq!(rt; value_of(&reader, values.len()), None);
+    }
+    Ok(())
+}
+
 /// What `whole_meaning` answers: how many samples and annotations there are, or the fault in words.
 fn answer_of(alloc: Global, file: &[u8]) -> Result<String, AllocError> {
     match whole_meaning(alloc, &mut SliceSource::new(file)) {
