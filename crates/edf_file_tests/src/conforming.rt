@@ -65,7 +65,7 @@ const OPEN: &[&[u8]] = &[
 ];
 
 /// Changes of the reference file, and the answer.
-const ROWS: &[(&[Edit], &[&[u8]], &str)] = &[
+pub const ROWS: &[(&[Edit], &[&[u8]], &str)] = &[
     (&[], LANES, "4, 2, 24, 3"),
     (&[INTERRUPTED], LANES, "4, 2, 24, 3"),
     (&[TWO, INTERRUPTED], GAP, "2, 2, 12, 2"),

@@ -1,6 +1,6 @@
 //! Tests of `edf_header` and `edf_stream` by their public names: the values of a given header and of given
-//! data records, worked faults in words, the order of two faults, what a read does where a source or
-//! memory gives out, and large headers and records.
+//! data records, what whole files mean, worked faults in words, the order of two faults, what a read does
+//! where a source or memory gives out, and large headers and records.
 #![tactic(auto)]
 
 #[cfg(test)]
@@ -14,6 +14,8 @@ mod head;
 #[cfg(test)]
 mod lines;
 #[cfg(test)]
+mod meaning;
+#[cfg(test)]
 mod order;
 #[cfg(test)]
 mod reading;
@@ -21,6 +23,8 @@ mod reading;
 mod record;
 #[cfg(test)]
 mod rows;
+#[cfg(test)]
+mod samples;
 #[cfg(test)]
 mod scarce;
 #[cfg(test)]

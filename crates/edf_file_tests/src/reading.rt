@@ -15,12 +15,12 @@ use std::test::Fail;
 /// Gives its bytes, and fails once so many reads are done; counts its reads, and keeps how many bytes the
 /// last one asked for. The proofs know nothing of it.
 #[derive(Drop)]
-struct Tape<'a> {
+pub struct Tape<'a> {
     rest: &'a [u8],
     passes: u32,
-    reads: u32,
+    pub reads: u32,
     asked: usize,
-    failures: u64,
+    pub failures: u64,
 }
 
 impl<'a> Source for Tape<'a> {
@@ -46,7 +46,7 @@ impl<'a> Source for Tape<'a> {
 }
 
 /// A source of these bytes that fails once `passes` reads are done.
-fn tape_of<'a>(rest: &'a [u8], passes: u32) -> Tape<'a> {
+pub fn tape_of<'a>(rest: &'a [u8], passes: u32) -> Tape<'a> {
     Tape {
         rest,
         passes,

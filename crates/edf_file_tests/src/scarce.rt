@@ -1,7 +1,8 @@
 //! Calls under ever more memory: each refused growth is answered, until there is enough.
 
 use crate::file::{Edit, edited, is_reference};
-use crate::record::timed;
+use crate::meaning::is_that_of_reference;
+use crate::record::{LANES, recorded, timed};
 use edf_fields::cause::FieldCause;
 use edf_fields::source::SliceSource;
 use edf_header::fault::{Cause, Fault, Place};
@@ -9,6 +10,8 @@ use edf_header::header::Header;
 use edf_header::layout::{FixedField, SignalField};
 use edf_header::stop::Stop;
 use edf_stream::conform::conform;
+use edf_stream::meaning::whole_meaning;
+use edf_stream::reader::FileReader;
 use std::alloc::{AllocError, Global};
 
 type Blocks = Vec<Vec<u8>>;
@@ -58,12 +61,14 @@ const LONGEST: Fault = Fault {
 
 const WORDS: &str = "BadSubfields(TooFewSubfields) at signal 65535 field physical-minimum";
 
-/// One of the calls: reading a header that has this fault or none, reading a whole file that conforms, or
-/// saying the longest fault.
+/// One of the calls: reading a header that has this fault or none, reading a whole file that conforms,
+/// reading what the reference file means, at once or behind its header, or saying the longest fault.
 #[derive(Clone, Copy)]
 enum Call {
     Reading(Option<Fault>),
     Conforming,
+    Meaning,
+    ReadingOn,
     Saying,
 }
 
@@ -85,11 +90,37 @@ fn is_conforming(alloc: Global, file: &[u8]) -> Option<bool> {
     }
 }
 
+/// Whether the file means what the reference file does; or none where reading it wants memory.
+fn is_meant(alloc: Global, file: &[u8]) -> Option<bool> {
+    match whole_meaning(alloc, &mut SliceSource::new(file)) {
+        Ok(found) => Some(is_that_of_reference(&found)),
+        Err(Stop::OutOfMemory) => None,
+        Err(_) => Some(false),
+    }
+}
+
+/// The same by a reader that has read the header.
+fn is_meant_behind_header(alloc: Global, file: &[u8]) -> Option<bool> {
+    let mut source = SliceSource::new(file);
+    let reader = match FileReader::begin(alloc, &mut source) {
+        Ok(reader) => reader,
+        Err(Stop::OutOfMemory) => return None,
+        Err(_) => return Some(false),
+    };
+    match reader.into_meaning(alloc, &mut source) {
+        Ok((header, found)) => Some(is_reference(&header) && is_that_of_reference(&found)),
+        Err(Stop::OutOfMemory) => None,
+        Err(_) => Some(false),
+    }
+}
+
 /// Whether the call ends as it should, or none where it wants memory.
 fn called(alloc: Global, call: Call, file: &[u8]) -> Option<bool> {
     match call {
         Call::Reading(fault) => is_read(alloc, file, fault),
         Call::Conforming => is_conforming(alloc, file),
+        Call::Meaning => is_meant(alloc, file),
+        Call::ReadingOn => is_meant_behind_header(alloc, file),
         Call::Saying => {
             let text = LONGEST.text(alloc).ok()?;
             Some(text.as_str() == WORDS)
@@ -180,5 +211,18 @@ fn conforms_in_the_memory_of_one_record(rt: HostRuntime) -> Result<(), AllocErro
     assert!(rt; is_right && refused >= 64, "{refused}");
     let of_long = rise(rt.alloc(), Call::Conforming, &long)?;
     assert_eq!(rt; of_long, (true, refused));
+    Ok(())
+}
+
+/// Samples and annotations want memory beside that of the header and of one data record, which is all that
+/// `conform` wants.
+#[test]
+fn means_something_or_wants_memory(rt: HostRuntime) -> Result<(), AllocError> {
+    let file = recorded(rt.alloc(), &[], LANES)?;
+    let (_, of_conform) = rise(rt.alloc(), Call::Conforming, &file)?;
+    for call in [Call::Meaning, Call::ReadingOn] {
+        let (is_right, refused) = rise(rt.alloc(), call, &file)?;
+        assert!(rt; is_right && refused > of_conform, "{refused}");
+    }
     Ok(())
 }
