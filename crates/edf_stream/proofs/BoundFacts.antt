@@ -1,5 +1,5 @@
 -- How large the instants of a file that conforms are, and where its least one is.
-use Rattle.std.proofs.Common.{◌≡◌, ℕ, zero, suc, ℤ, pos, ◌+◌, ◌*◌, ◌<◌, ◌≤◌, ◌^◌, ◌+ℤ◌, ◌*ℤ◌, ◌≤ℤ◌, ◌<ℤ◌, neg_ℤ, None, List, [], ◌∷◌, Some, slice_get, unsigned_abs, refl, ap, subst, arith}
+use Rattle.std.proofs.Common.{◌≡◌, ℕ, zero, suc, ℤ, pos, ◌+◌, ◌*◌, ◌<◌, ◌≤◌, ◌^◌, ◌+ℤ◌, ◌*ℤ◌, ◌≤ℤ◌, ◌<ℤ◌, neg_ℤ, None, List, [], ◌∷◌, Some, slice_get, unsigned_abs, refl, sym, ap, ◌∙◌, subst, arith}
 use Rattle.std.specs.List.{All}
 use Rattle.std.proofs.lemmas.Int.{ints, unsigned_abs-mul}
 use Rattle.std.proofs.Math.Nat.{mul-le-mul, mul-le-mul_right}
@@ -14,6 +14,7 @@ use Rattle.edf_stream.specs.Records.{lane_at}
 use Rattle.edf_stream.specs.Samples.{SampleValue, IsSample}
 use Rattle.edf_stream.specs.Starts.{file_start, start_at, end_at}
 use Rattle.edf_stream.specs.Values.{digital_value}
+use Rattle.edf_stream.proofs.SampleLawFacts.{count-is}
 use Rattle.edf_stream.proofs.RisingFacts.{scale-mono, scale-sum, not-before-start, lasts, starts-behind}
 
 -- a signal has no more samples than all together
@@ -27,7 +28,7 @@ few-in-lane : (file : List ℕ) (h : Head) (x : SampleValue) → Conforms file h
 few-in-lane file h x c r =
     let few = few-samples h.signals r.signal (r.channel).0 (r.channel).1 in
     let small : record_bytes h ≤ 16777216 = ((c.header).sound).standard.small_record in
-    let count = (r.channel).4 in
+    let count = r.count ∙ count-is h r.signal (r.channel).0 (r.channel).1 in
     omega (arith, few, small, count)
 
 -- the start of the file
@@ -115,7 +116,8 @@ start_is_of_least file h c =
           signal = s;
           data_record = 0;
           place = 0;
-          channel = (signal, there, (channel.2).2, (channel.2).3, refl);
+          channel = channel.2;
+          count = sym (count-is h s signal there);
           in_file = omega (arith, records);
           in_lane = omega (arith, some);
           instant = refl;

@@ -12,7 +12,7 @@ use Rattle.edf_header.specs.Heads.{SignalHead, Head, is_annotations}
 use Rattle.edf_stream.specs.declared.sample.Sample.{Sample}
 use Rattle.edf_stream.specs.Conforming.{Conforms}
 use Rattle.edf_stream.specs.Laws.{SamplesAreListed, SamplesRise, OneAtAnInstant}
-use Rattle.edf_stream.specs.Records.{record_at, lane_of, lane_at}
+use Rattle.edf_stream.specs.Records.{record_at, lane_of, lane_at, samples_at}
 use Rattle.edf_stream.specs.Samples.{SampleValue, IsSample, samples_by, samples_before, samples_of, channel_label, labelled}
 use Rattle.edf_stream.specs.Starts.{file_start, start_at, end_at}
 use Rattle.edf_stream.specs.Summaries.{channels_among}
@@ -37,6 +37,10 @@ label-is h c signal e = ap (λ o. option_map_or (λ (x : SignalHead). x.label) o
 lane-is : (file : List ℕ) (h : Head) (k s : ℕ) (signal : SignalHead) → slice_get h.signals s ≡ Some signal → lane_at file h k s ≡ lane_of signal (record_at file h k)
 lane-is file h k s signal e = ap (λ o. option_map_or (λ (x : SignalHead). lane_of x (record_at file h k)) o []) e
 
+-- how many samples a signal of the file has in a data record
+pub count-is : (h : Head) (s : ℕ) (signal : SignalHead) → slice_get h.signals s ≡ Some signal → samples_at h s ≡ signal.samples
+count-is h s signal e = ap (λ o. option_map_or (λ (x : SignalHead). x.samples) o 0) e
+
 -- a sample of the list is one of the file
 listed-is : (file : List ℕ) (h : Head) (x : Sample) → Conforms file h → Has (samples_of file h) x → IsSample file h (labelled h x)
 listed-is file h x c i =
@@ -56,7 +60,8 @@ listed-is file h x c i =
       signal = s.0;
       data_record = k;
       place = (found.lane).place;
-      channel = (signal, s.1, label, ap is_annotations (sym label) ∙ not-true (is_annotations signal.label) s.2, sym den);
+      channel = (signal, s.1, label, ap is_annotations (sym label) ∙ not-true (is_annotations signal.label) s.2);
+      count = den ∙ sym (count-is h s.0 signal s.1);
       in_file = r.below;
       in_lane = (let w = (found.lane).within in omega (arith, full, w, den));
       instant = ap (λ (z : Sample). (z.instant).num) is ∙ ap (λ n. (pos n *ℤ start) +ℤ (pos (found.lane).place *ℤ h.duration)) (sym den);
@@ -78,7 +83,7 @@ is-listed file h x c r =
     let there = (r.channel).1 in
     let named : signal.label ≡ x.label = (r.channel).2 in
     let plain : is_annotations x.label ≡ false = (r.channel).3 in
-    let count : signal.samples ≡ (x.instant).den = (r.channel).4 in
+    let count : signal.samples ≡ (x.instant).den = sym (r.count ∙ count-is h r.signal signal there) in
     let k = r.data_record in
     let bytes = record_at file h k in
     let channel = among-channel h.signals r.signal signal there (not-is (is_annotations signal.label) (λ e. let z : true ≡ false = sym e ∙ ap is_annotations named ∙ plain in cc)) in
@@ -160,8 +165,7 @@ one_at_an_instant file h c x y p q label same =
     let two = q.channel in
     let other : IsChannel h.signals q.signal x.label = (two.0, two.1, two.2 ∙ sym label, ap is_annotations label ∙ two.3) in
     let signal : p.signal ≡ q.signal = ((c.header).sound).standard.distinct p.signal q.signal x.label (one.0, one.1, one.2, one.3) other in
-    let head : one.0 ≡ two.0 = (let e : Some one.0 ≡ Some two.0 = sym one.1 ∙ ap (slice_get h.signals) signal ∙ two.1 in cc) in
-    let den : (y.instant).den ≡ (x.instant).den = sym two.4 ∙ ap (λ (z : SignalHead). z.samples) (sym head) ∙ one.4 in
+    let den : (y.instant).den ≡ (x.instant).den = q.count ∙ ap (samples_at h) (sym signal) ∙ sym p.count in
     let n = (x.instant).den in
     let start : ℕ → ℤ = λ k. pos n *ℤ (file_start h +ℤ start_at file h k) in
     let num : (x.instant).num ≡ (y.instant).num =

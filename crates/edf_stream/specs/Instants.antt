@@ -2,10 +2,6 @@
 use Rattle.std.specs.Prelude.{◌≡◌, ◌<◌, ℤ, pos, ◌*ℤ◌, ◌+ℤ◌, ◌<ℤ◌, ◌≤ℤ◌, ◌^◌, unsigned_abs}
 use Rattle.edf_stream.specs.declared.instant.Instant.{Instant}
 
--- the first instant is the earlier one
-abbrev pub IsBefore : Instant → Instant → Type 0
-IsBefore p q = (p.num *ℤ pos q.den) <ℤ (q.num *ℤ pos p.den)
-
 -- the first instant is the later one, or they are the same
 abbrev pub IsNotBefore : Instant → Instant → Type 0
 IsNotBefore p q = (q.num *ℤ pos p.den) ≤ℤ (p.num *ℤ pos q.den)

@@ -15,7 +15,8 @@ use Rattle.edf_stream.specs.Readers.{Reader, StandsIn}
 
 -- each data record of a file that conforms says its annotations, and no others
 abbrev pub NotesAreSaid : Type 0
-NotesAreSaid = (file : List ℕ) (h : Head) → Conforms file h → (k : ℕ) → k < h.records → (notes : List NoteValue) → SaysNotes h (record_at file h k) notes ↔ (notes ≡ notes_in h (record_at file h k))
+NotesAreSaid = (file : List ℕ) (h : Head) → Conforms file h → (k : ℕ) → k < h.records → (notes : List NoteValue) →
+    SaysNotes h (record_at file h k) notes ↔ (notes ≡ notes_in h (record_at file h k))
 
 -- a fault of the header is the first fault of the file
 abbrev pub HeaderFaultIsFirst : Type 0

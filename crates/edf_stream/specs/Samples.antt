@@ -1,13 +1,14 @@
 -- The samples of a file, each at its exact instant. EDF (1992), "Data record"; EDF+ (2003), "Time keeping
 -- of data records". Times are picoseconds after 1970-01-01 00:00:00, civil time.
-use Rattle.std.specs.Prelude.{◌≡◌, ℕ, zero, suc, ℤ, pos, ◌+◌, ◌<◌, ◌+ℤ◌, ◌*ℤ◌, ◌<ℤ◌, false, List, [], ◌∷◌, ◌++◌, Some, slice_get}
+use Rattle.std.specs.Prelude.{◌≡◌, ℕ, zero, suc, ℤ, pos, ◌+◌, ◌<◌, ◌+ℤ◌, ◌*ℤ◌, ◌<ℤ◌, List, [], ◌∷◌, ◌++◌, slice_get}
 use Rattle.std.specs.Option.{option_map_or}
 use Rattle.edf_fields.specs.Lists.{Has}
-use Rattle.edf_header.specs.Heads.{SignalHead, Head, is_annotations}
+use Rattle.edf_header.specs.Channels.{IsChannel}
+use Rattle.edf_header.specs.Heads.{SignalHead, Head}
 use Rattle.edf_stream.specs.declared.grid.Grid.{Grid}
 use Rattle.edf_stream.specs.declared.instant.Instant.{Instant}
 use Rattle.edf_stream.specs.declared.sample.Sample.{Sample}
-use Rattle.edf_stream.specs.Records.{record_at, lane_of, lane_at}
+use Rattle.edf_stream.specs.Records.{record_at, lane_of, lane_at, samples_at}
 use Rattle.edf_stream.specs.Starts.{file_start, start_in, start_at}
 use Rattle.edf_stream.specs.Summaries.{channels_among}
 use Rattle.edf_stream.specs.Values.{digital, digital_value}
@@ -18,18 +19,14 @@ pub record SampleValue : Type 0 where
   pub instant : Instant
   pub value : ℤ
 
--- signal s is a channel of this label with n samples in a data record
-abbrev pub IsChannelOf : Head → ℕ → List ℕ → ℕ → Type 0
-IsChannelOf h s label n =
-    (signal : SignalHead) × (slice_get h.signals s ≡ Some signal) × (signal.label ≡ label) × (is_annotations label ≡ false) × (signal.samples ≡ n)
-
 -- the file has this sample: it stands at some place of a channel's lane in some data record. With den samples in a lane, its
 -- instant is the start of the data record and `place` times the duration of a data record over den
 pub record IsSample (file : List ℕ) (h : Head) (x : SampleValue) : Type 0 where
   pub signal : ℕ
   pub data_record : ℕ
   pub place : ℕ
-  pub channel : IsChannelOf h signal x.label (x.instant).den
+  pub channel : IsChannel h.signals signal x.label
+  pub count : (x.instant).den ≡ samples_at h signal
   pub in_file : data_record < h.records
   pub in_lane : place < (x.instant).den
   pub instant : (x.instant).num ≡ (pos (x.instant).den *ℤ (file_start h +ℤ start_at file h data_record)) +ℤ (pos place *ℤ h.duration)
