@@ -1,0 +1,6 @@
+pub mod ChannelFacts
+pub mod ComparisonFacts
+pub mod ContentFacts
+pub mod LabelFacts
+pub mod ListFacts
+pub mod SubfieldFacts

@@ -1,0 +1,12 @@
+//! Whether an export of an EDF+ recording is what a claim says of its original: so far, their headers
+//! compared.
+#![tactic(auto)]
+
+mod blank;
+mod calibrations;
+mod channels;
+mod comparison;
+mod labels;
+mod subfields;
+mod texts;
+pub mod verdict;
