@@ -29,7 +29,7 @@ use Rattle.edf_check.proofs.ListFacts.{first-found}
 
 -- ---- the two channels of a label
 
-alike-differ : (Alike : SignalHead → SignalHead → Type 0) (o e : Head) (l : List ℕ) → AreAlike Alike o e l → Differ Alike o e l → ⊥
+pub alike-differ : (Alike : SignalHead → SignalHead → Type 0) (o e : Head) (l : List ℕ) → AreAlike Alike o e l → Differ Alike o e l → ⊥
 alike-differ Alike o e l a d = d.4 (a d.0 d.1 d.2 d.3)
 
 both-alike : (Alike : SignalHead → SignalHead → Type 0) (o e : Head) (l : List ℕ) (x y : SignalHead) → IsSound o → IsSound e → channel_of l o.signals ≡ Some x → channel_of l e.signals ≡ Some y → Alike x y → AreAlike Alike o e l

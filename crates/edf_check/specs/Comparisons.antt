@@ -8,14 +8,14 @@ use Rattle.std.specs.Ordering.{nat_cmp, int_eq}
 use Rattle.std.specs.Str.{bytes_eq}
 use Rattle.edf_fields.specs.Lists.{Has, is_one_of}
 use Rattle.edf_header.specs.Calibrations.{Line, physical_span, digital_span, offset_times_span}
-use Rattle.edf_header.specs.Channels.{is_channel_of}
+use Rattle.edf_header.specs.Channels.{is_channel_of, channel_labels}
 use Rattle.edf_header.specs.Heads.{SignalHead, Head, is_annotations}
 use Rattle.edf_header.specs.Sound.{IsSound}
 use Rattle.edf_claim.specs.Claims.{Terms, IsClaim}
 use Rattle.edf_claim.specs.declared.which.Which.{Which}
 use Rattle.edf_claim.specs.declared.which.Which.TheVariants.{Code, Sex, Birthdate, Name, PatientExtras, Date, Administration, Technician, Equipment, RecordingExtras}
 use Rattle.edf_check.specs.Blank.{HasFreeText}
-use Rattle.edf_check.specs.Channels.{IsExtra}
+use Rattle.edf_check.specs.Channels.{HasAll, IsExtra}
 use Rattle.edf_check.specs.Firsts.{IsFirstWith}
 use Rattle.edf_check.specs.Subfields.{IsX, AreAllX, IsAsClaimed, HasFault}
 use Rattle.edf_check.specs.declared.channels.ClaimedChannel.{ClaimedChannel}
@@ -94,6 +94,10 @@ first_text_difference (c ∷ cs) =
 -- the header has no channel whose label is none of these
 abbrev pub HasNoExtra : Head → List (List ℕ) → Type 0
 HasNoExtra h labels = (label : List ℕ) → IsExtra h labels label → ⊥
+
+-- where the header has a channel of each of these labels, its channels have these labels, in some order
+abbrev pub HasOnly : Head → List (List ℕ) → Type 0
+HasOnly h labels = HasAll h labels → IsPermutation labels (channel_labels h.signals)
 
 -- `SameLine` as a test
 abbrev pub is_same_line : Line → Line → Bool

@@ -3,6 +3,7 @@ pub mod Calibrations
 pub mod Channels
 pub mod Comparisons
 pub mod Firsts
+pub mod HeadDifferences
 pub mod HeadVerdicts
 pub mod Labels
 pub mod Subfields

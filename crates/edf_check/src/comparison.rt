@@ -2,7 +2,7 @@
 
 ghost use Rattle.std.specs.Prelude.{◌≡◌, map, find, option_map, is_none, IfOk, MatchOption};
 ghost use Rattle.edf_check.specs.Channels.{HasAll, HasNoChannel, IsLeastExtra};
-ghost use Rattle.edf_check.specs.Comparisons.{claimed_view, HasNoExtra};
+ghost use Rattle.edf_check.specs.Comparisons.{claimed_view, HasOnly};
 ghost use Rattle.edf_check.specs.Firsts.{IsFirstWith};
 
 use crate::channels::{ClaimedChannel, IndexedHeader, claimed_channels};
@@ -104,7 +104,7 @@ impl<'a> Comparison<'a> {
     /// The least label, in the order of bytes, of the export's channels that aren't claimed.
     pub(crate) fn extra_channel(&self) -> Option<&'a [u8]>
         ensures { MatchOption result
-            (HasNoExtra self.now.export self.now.claim.channels)
+            (HasOnly self.now.export self.now.claim.channels)
             (λ label. IsLeastExtra self.now.export self.now.claim.channels label.now) }
     {
         self.export.least_extra(&self.labels)

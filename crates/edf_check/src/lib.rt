@@ -6,6 +6,7 @@ mod blank;
 mod calibrations;
 mod channels;
 mod comparison;
+pub mod head_difference;
 mod labels;
 mod subfields;
 mod texts;

@@ -132,7 +132,7 @@ impl<'a> Comparison<'a> {
 
     /// The first of these subfields that isn't as claimed, and how it isn't.
     #[tactic(auto, using(crate::proofs::SubfieldFacts::found_here, crate::proofs::SubfieldFacts::found_later, crate::proofs::SubfieldFacts::found_none))]
-    fn first_difference(&self, whiches: &[Which]) -> Option<SubfieldDifference>
+    fn first_subfield(&self, whiches: &[Which]) -> Option<SubfieldDifference>
         ensures { IsFoundAmong self.now.original self.now.export self.now.claim whiches.now result }
     {
         for which in whiches {
@@ -153,6 +153,6 @@ impl<'a> Comparison<'a> {
             (SubfieldsAsClaimed self.now.original self.now.export self.now.claim)
             (λ d. IsSubfieldDifference self.now.original self.now.export self.now.claim d.which d.fault) }
     {
-        self.first_difference(&ALL)
+        self.first_subfield(&ALL)
     }
 }

@@ -1,7 +1,7 @@
 use Rattle.std.proofs.Common.{Option, drop}
 use Rattle.edf_check.specs.Comparisons.{IsFoundAmong}
 use Rattle.edf_check.specs.declared.subfields.SubfieldDifference.{SubfieldDifference}
-use Rattle.edf_check.proofs.comparison.Comparison.first_difference.Given as goal
+use Rattle.edf_check.proofs.comparison.Comparison.first_subfield.Given as goal
 
 abbrev pub invariant-loop-which : goal.invariant-loop-which
 invariant-loop-which l =

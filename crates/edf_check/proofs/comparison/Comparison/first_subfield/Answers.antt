@@ -1,7 +1,7 @@
 use Rattle.std.proofs.Common.{Some, None, refl}
 use Rattle.edf_claim.specs.declared.which.Which.TheVariants.{Code}
 use Rattle.edf_check.proofs.SubfieldFacts.{found_here, found_none}
-use Rattle.edf_check.proofs.comparison.Comparison.first_difference.Goals as goal
+use Rattle.edf_check.proofs.comparison.Comparison.first_subfield.Goals as goal
 
 pub returns-in-Some : goal.returns-in-Some
 returns-in-Some c =
