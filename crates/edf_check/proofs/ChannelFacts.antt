@@ -14,7 +14,7 @@ use Rattle.edf_header.specs.Channels.{is_channel_of}
 use Rattle.edf_header.specs.Heads.{SignalHead, Head, is_annotations}
 use Rattle.edf_header.specs.Sound.{IsSound}
 use Rattle.edf_check.specs.Channels.{IsChannelOf, HasNoChannel}
-use Rattle.edf_check.specs.Comparisons.{is_ordinary, channel_of, AreInOrder, IsIndex}
+use Rattle.edf_check.specs.Comparisons.{is_ordinary, channel_of, AreByLabel, IsChannelIndex}
 use Rattle.edf_check.proofs.LabelFacts.{equal-tested}
 use Rattle.edf_check.proofs.ListFacts.{at-has, get-index, get-within, has-get, has-map, map-has, has-permutation, has-filtered, filtered-has, find-none, find-some}
 
@@ -31,7 +31,7 @@ label_there sorted label i d x is h lt = (
   ap (λ (y : Bor SignalHead). y.now.label) is ∙ same-label (get_or sorted i d).now.label label (h d),
 )
 
-pub label_nowhere : (sorted : List (Bor SignalHead)) (label : List ℕ) (i : ℕ) → AreInOrder sorted
+pub label_nowhere : (sorted : List (Bor SignalHead)) (label : List ℕ) (i : ℕ) → AreByLabel sorted
     → IsBinarySearchResult (λ y. slice_cmp nat_cmp y.now.label label) sorted (Err i)
     → (x : SignalHead) → Has (map (λ s. s.now) sorted) x → x.label ≢ label
 label_nowhere sorted label i up h x there same =
@@ -85,7 +85,7 @@ channel-is h label x sound c = is-case (channel_of label h.signals) refl
     is-case (Some y) e = ap Some (one-channel h label y x sound (channel-some h label y e) c)
 
 -- what is found among the sorted channels is the channel of the label
-found-in : (h : Head) (sorted : List (Bor SignalHead)) (label : List ℕ) (o : Option (Bor SignalHead)) → IsIndex h sorted
+found-in : (h : Head) (sorted : List (Bor SignalHead)) (label : List ℕ) (o : Option (Bor SignalHead)) → IsChannelIndex h sorted
     → MatchOption o ((x : SignalHead) → Has (map (λ s. s.now) sorted) x → x.label ≢ label) (λ x. Has (map (λ s. s.now) sorted) x.now × (x.now.label ≡ label))
     → option_map (λ x. x.now) o ≡ channel_of label h.signals
 found-in h sorted label None index nowhere = none-case (channel_of label h.signals) refl
@@ -102,7 +102,7 @@ found-in h sorted label (Some x) index found =
     let c : IsChannelOf h label x.now = record { there = r.0; labelled = found.1; ordinary = ap is_annotations (sym found.1) ∙ not-true (is_annotations x.now.label) r.1 } in
     sym (channel-is h label x.now index.sound c)
 
-pub channel_found : (h : Head) (sorted seen : List (Bor SignalHead)) (label : List ℕ) (o : Option (Bor SignalHead)) → IsIndex h sorted → seen ≡ sorted
+pub channel_found : (h : Head) (sorted seen : List (Bor SignalHead)) (label : List ℕ) (o : Option (Bor SignalHead)) → IsChannelIndex h sorted → seen ≡ sorted
     → MatchOption o ((x : SignalHead) → Has (map (λ s. s.now) seen) x → x.label ≢ label) (λ x. Has (map (λ s. s.now) seen) x.now × (x.now.label ≡ label))
     → option_map (λ x. x.now) o ≡ channel_of label h.signals
 channel_found h sorted seen label o index all found =
@@ -111,7 +111,7 @@ channel_found h sorted seen label o index all found =
 
 -- the channels of a header, once they are sorted
 pub index-is : (h : Head) (signals : List SignalHead) (before after : List (Bor SignalHead)) → signals ≡ h.signals → IsSound h → map (λ x. x.now) before ≡ filter is_ordinary signals
-    → IsPermutation before after → AreInOrder after → IsIndex h after
+    → IsPermutation before after → AreByLabel after → IsChannelIndex h after
 index-is h signals before after are sound same p up = record {
   sound = sound;
   order = up;

@@ -9,7 +9,7 @@ use Rattle.edf_fields.proofs.ForCallers.{has-one_of, one_of-has, not-true}
 use Rattle.edf_header.specs.Heads.{SignalHead, Head, is_annotations}
 use Rattle.edf_claim.specs.Claims.{Terms}
 use Rattle.edf_check.specs.Channels.{IsChannelOf, HasChannel, HasNoChannel, HasAll, IsLeastExtra}
-use Rattle.edf_check.specs.Comparisons.{is_ordinary, channel_of, AreInOrder, IsIndex, Claimed, claimed_of, claimed_view, AreSorted, HasNoExtra, IsComparison}
+use Rattle.edf_check.specs.Comparisons.{is_ordinary, channel_of, AreByLabel, IsChannelIndex, Claimed, claimed_of, claimed_view, AreSorted, HasNoExtra, IsComparison}
 use Rattle.edf_check.specs.declared.channels.ClaimedChannel.{ClaimedChannel}
 use Rattle.edf_check.specs.Firsts.{IsFirstWith}
 use Rattle.edf_check.specs.Labels.{IsNotAbove}
@@ -72,12 +72,12 @@ missing_said o e claim claimed labels seen r is all found =
 -- ---- a channel that isn't claimed
 
 -- of a sorted list the first that passes has the least label of those that pass
-first-is-least : (test : SignalHead → Bool) (sorted : List (Bor SignalHead)) (x : SignalHead) → AreInOrder sorted → find test (map (λ s. s.now) sorted) ≡ Some x
+first-is-least : (test : SignalHead → Bool) (sorted : List (Bor SignalHead)) (x : SignalHead) → AreByLabel sorted → find test (map (λ s. s.now) sorted) ≡ Some x
     → (y : SignalHead) → Has (map (λ s. s.now) sorted) y → test y ≡ true → IsNotAbove x.label y.label
 first-is-least test [] x up found y there passes = absurd there
 first-is-least test (z ∷ zs) x up found y there passes = least-case (test z.now) refl found (λ e i. first-is-least test zs x tail e y i passes)
   where
-    tail : AreInOrder zs
+    tail : AreByLabel zs
     tail k d low high = let e : suc k + 1 ≡ suc (k + 1) = omega arith in rw e at (up (suc k) d (omega arith) (omega (arith, high)))
 
     least-case : (b : Bool) → test z.now ≡ b → cond b (Some z.now) (find test (map (λ s. s.now) zs)) ≡ Some x
@@ -96,12 +96,12 @@ first-is-least test (z ∷ zs) x up found y there passes = least-case (test z.no
         (λ i. more e i) there
 
 -- the channels of a header and the sorted ones are the same
-indexed : (h : Head) (sorted : List (Bor SignalHead)) (label : List ℕ) (x : SignalHead) → IsIndex h sorted → IsChannelOf h label x → Has (map (λ s. s.now) sorted) x
+indexed : (h : Head) (sorted : List (Bor SignalHead)) (label : List ℕ) (x : SignalHead) → IsChannelIndex h sorted → IsChannelOf h label x → Has (map (λ s. s.now) sorted) x
 indexed h sorted label x index c =
     has-permutation (filter is_ordinary h.signals) (map (λ (s : Bor SignalHead). s.now) sorted) x index.same
     (filtered-has is_ordinary h.signals x c.there (ap (λ l. not (is_annotations l)) c.labelled ∙ ap not c.ordinary))
 
-of-index : (h : Head) (sorted : List (Bor SignalHead)) (x : SignalHead) → IsIndex h sorted → Has (map (λ s. s.now) sorted) x → IsChannelOf h x.label x
+of-index : (h : Head) (sorted : List (Bor SignalHead)) (x : SignalHead) → IsChannelIndex h sorted → Has (map (λ s. s.now) sorted) x → IsChannelOf h x.label x
 of-index h sorted x index there =
     let r = has-filtered is_ordinary h.signals x (has-permutation (map (λ (s : Bor SignalHead). s.now) sorted) (filter is_ordinary h.signals) x (IsPermutation-sym (filter is_ordinary h.signals) (map (λ (s : Bor SignalHead). s.now) sorted) index.same) there) in
     record { there = r.0; labelled = refl; ordinary = not-true (is_annotations x.label) r.1 }
@@ -123,7 +123,7 @@ unclaimed-other labels claimed is s label same out = other-case (is_one_of label
     other-case true t = absurd (out (let P : List ℕ → Type 0 = λ l. Has labels l in subst P same (one_of-has labels s.label t)))
     other-case false f = ap not (is.same s.label ∙ f)
 
-pub extra_said : (h : Head) (sorted seen : List (Bor SignalHead)) (claimed : List (Bor (List ℕ))) (r : Option (Bor (List ℕ))) (labels : List (List ℕ)) → IsIndex h sorted → seen ≡ sorted → AreSorted labels claimed
+pub extra_said : (h : Head) (sorted seen : List (Bor SignalHead)) (claimed : List (Bor (List ℕ))) (r : Option (Bor (List ℕ))) (labels : List (List ℕ)) → IsChannelIndex h sorted → seen ≡ sorted → AreSorted labels claimed
     → option_map (λ label. label.now) r ≡ option_map (λ (s : SignalHead). s.label) (find (other_than claimed) (map (λ s. s.now) seen))
     → MatchOption r (HasNoExtra h labels) (λ label. IsLeastExtra h labels label.now)
 extra_said h sorted seen claimed r labels index all is same =

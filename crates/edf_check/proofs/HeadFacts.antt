@@ -129,7 +129,7 @@ agree-apart o e claim (No (differences.ExtraChannel label)) v h =
     x.unclaimed (claimed-in o e claim h.channels label.items x.there)
 agree-apart o e claim (No (differences.ChannelText label field)) v h = unlike-alike HaveSameTexts o e claim label.items h.texts (v.1).channel
 agree-apart o e claim (No (differences.Calibration label)) v h = unlike-alike HaveSameCalibration o e claim label.items h.calibrations v.2
-agree-apart o e claim (No (differences.Subfield which fault)) v h =
+agree-apart o e claim (No (differences.Subfield which mismatch)) v h =
     let r = first-has (λ w. IsAsClaimed o e claim w → ⊥) all_subfields which (v.1).subfield in
     r.1 (h.subfields which)
 agree-apart o e claim (No (differences.NotClean Header)) v h = v.2 h.blank.header

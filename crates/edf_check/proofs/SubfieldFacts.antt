@@ -12,9 +12,9 @@ use Rattle.edf_claim.specs.Claims.{Terms}
 use Rattle.edf_claim.specs.declared.which.Which.{Which}
 use Rattle.edf_claim.specs.declared.which.Which.TheVariants.{Code, Sex, Birthdate, Name, PatientExtras, Date, Administration, Technician, Equipment, RecordingExtras}
 use Rattle.edf_check.specs.Comparisons.{is_x, are_same, IsAnonymous, IsUnchanged, IsFoundAmong}
-use Rattle.edf_check.specs.Subfields.{IsX, AreAllX, ByClaim, IsAsClaimed, SubfieldsAsClaimed, HasFault, IsSubfieldDifference, all_subfields}
+use Rattle.edf_check.specs.Subfields.{IsX, AreAllX, ByClaim, IsAsClaimed, SubfieldsAsClaimed, IsMismatch, IsSubfieldDifference, all_subfields}
 use Rattle.edf_check.specs.declared.subfields.SubfieldDifference.{SubfieldDifference}
-use Rattle.edf_check.specs.declared.verdict.SubfieldFault.{SubfieldFault}
+use Rattle.edf_check.specs.declared.verdict.SubfieldMismatch.{SubfieldMismatch}
 
 -- ---- the tests
 
@@ -94,10 +94,10 @@ not_unchanged o e claim w out other h = other ((of-claimed o e claim w h).unclai
 cut-at : (ws : List Which) (i : ℕ) (d : Which) → i < length ws → drop i ws ≡ get_or ws i d ∷ drop (i + 1) ws
 cut-at ws i d lt = drop-cons ws i d lt ∙ ap (λ k. get_or ws i d ∷ drop k ws) (sym (add-one i))
 
-pub found_here : (o e : Head) (claim : Terms) (ws : List Which) (i : ℕ) (d w : Which) (fault : SubfieldFault) → i < length ws → get_or ws i d ≡ w → (IsAsClaimed o e claim w → ⊥) → HasFault claim w fault
-    → IsFoundAmong o e claim (drop i ws) (Some (record { which = w; fault = fault }))
-found_here o e claim ws i d w fault lt here other is =
-    subst (λ (xs : List Which). IsFoundAmong o e claim xs (Some (record { which = w; fault = fault }))) (sym (cut-at ws i d lt))
+pub found_here : (o e : Head) (claim : Terms) (ws : List Which) (i : ℕ) (d w : Which) (mismatch : SubfieldMismatch) → i < length ws → get_or ws i d ≡ w → (IsAsClaimed o e claim w → ⊥) → IsMismatch claim w mismatch
+    → IsFoundAmong o e claim (drop i ws) (Some (record { which = w; mismatch = mismatch }))
+found_here o e claim ws i d w mismatch lt here other is =
+    subst (λ (xs : List Which). IsFoundAmong o e claim xs (Some (record { which = w; mismatch = mismatch }))) (sym (cut-at ws i d lt))
     (inl (here, subst (λ (v : Which). IsAsClaimed o e claim v → ⊥) (sym here) other), is)
 
 pub found_later : (o e : Head) (claim : Terms) (ws : List Which) (i : ℕ) (d w : Which) (r : Option SubfieldDifference) → i < length ws → get_or ws i d ≡ w → IsAsClaimed o e claim w
@@ -130,6 +130,6 @@ has-all Equipment = inr (inr (inr (inr (inr (inr (inr (inr (inl refl))))))))
 has-all RecordingExtras = inr (inr (inr (inr (inr (inr (inr (inr (inr (inl refl)))))))))
 
 pub subfields_said : (o e : Head) (claim : Terms) (r : Option SubfieldDifference) → IsFoundAmong o e claim all_subfields r
-    → MatchOption r (SubfieldsAsClaimed o e claim) (λ d. IsSubfieldDifference o e claim d.which d.fault)
+    → MatchOption r (SubfieldsAsClaimed o e claim) (λ d. IsSubfieldDifference o e claim d.which d.mismatch)
 subfields_said o e claim None h = λ w. h w (has-all w)
-subfields_said o e claim (Some d) h = record { subfield = h.0; fault_is = h.1 }
+subfields_said o e claim (Some d) h = record { subfield = h.0; mismatch_is = h.1 }

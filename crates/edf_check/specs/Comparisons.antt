@@ -17,7 +17,7 @@ use Rattle.edf_claim.specs.declared.which.Which.TheVariants.{Code, Sex, Birthdat
 use Rattle.edf_check.specs.Blank.{HasFreeText}
 use Rattle.edf_check.specs.Channels.{HasAll, IsExtra}
 use Rattle.edf_check.specs.Firsts.{IsFirstWith}
-use Rattle.edf_check.specs.Subfields.{IsX, AreAllX, IsAsClaimed, HasFault}
+use Rattle.edf_check.specs.Subfields.{IsX, AreAllX, IsAsClaimed, IsMismatch}
 use Rattle.edf_check.specs.declared.channels.ClaimedChannel.{ClaimedChannel}
 use Rattle.edf_check.specs.declared.subfields.SubfieldDifference.{SubfieldDifference}
 use Rattle.edf_check.specs.declared.verdict.TextField.{TextField}
@@ -32,13 +32,13 @@ abbrev pub channel_of : List ℕ → List SignalHead → Option SignalHead
 channel_of label signals = find (is_channel_of label) signals
 
 -- the labels of borrowed signals rise in the order of bytes
-abbrev pub AreInOrder : List (Bor SignalHead) → Type 0
-AreInOrder = IsSorted (λ x y. slice_cmp nat_cmp x.now.label y.now.label)
+abbrev pub AreByLabel : List (Bor SignalHead) → Type 0
+AreByLabel = IsSorted (λ x y. slice_cmp nat_cmp x.now.label y.now.label)
 
 -- the channels of a header that is sound, in the order of their labels
-pub record IsIndex (h : Head) (sorted : List (Bor SignalHead)) : Type 0 where
+pub record IsChannelIndex (h : Head) (sorted : List (Bor SignalHead)) : Type 0 where
   pub sound : IsSound h
-  pub order : AreInOrder sorted
+  pub order : AreByLabel sorted
   pub same : IsPermutation (filter is_ordinary h.signals) (map (λ x. x.now) sorted)
 
 -- a claimed label, and the channels of this label in the two headers, where there are such
@@ -171,4 +171,4 @@ IsUnchanged original export RecordingExtras = export.recording.extras ≡ origin
 abbrev pub IsFoundAmong : Head → Head → Terms → List Which → Option SubfieldDifference → Type 0
 IsFoundAmong original export claim whiches found =
     MatchOption found ((which : Which) → Has whiches which → IsAsClaimed original export claim which)
-    (λ d. IsFirstWith (λ w. IsAsClaimed original export claim w → ⊥) whiches d.which × HasFault claim d.which d.fault)
+    (λ d. IsFirstWith (λ w. IsAsClaimed original export claim w → ⊥) whiches d.which × IsMismatch claim d.which d.mismatch)

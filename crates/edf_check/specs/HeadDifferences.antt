@@ -23,8 +23,8 @@ IsHeadDifference original export claim (ChannelText label field) =
     SameChannels original export claim × IsTextDifference original export claim label.now field
 IsHeadDifference original export claim (Calibration label) =
     SameChannels original export claim × SameTexts original export claim × IsCalibrationDifference original export claim label.now
-IsHeadDifference original export claim (Subfield which fault) =
-    SignalsAgree original export claim × IsSubfieldDifference original export claim which fault
+IsHeadDifference original export claim (Subfield which mismatch) =
+    SignalsAgree original export claim × IsSubfieldDifference original export claim which mismatch
 IsHeadDifference original export claim FreeTextInHeader =
     SignalsAgree original export claim × SubfieldsAsClaimed original export claim × (IsBlankHeader export → ⊥)
 IsHeadDifference original export claim (FreeTextInChannel label) =

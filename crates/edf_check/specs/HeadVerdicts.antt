@@ -41,8 +41,8 @@ IsHeadVerdict original export claim (No (ChannelText label field)) =
     SameChannels original export claim × IsTextDifference original export claim label.items field
 IsHeadVerdict original export claim (No (Calibration label)) =
     SameChannels original export claim × SameTexts original export claim × IsCalibrationDifference original export claim label.items
-IsHeadVerdict original export claim (No (Subfield which fault)) =
-    SignalsAgree original export claim × IsSubfieldDifference original export claim which fault
+IsHeadVerdict original export claim (No (Subfield which mismatch)) =
+    SignalsAgree original export claim × IsSubfieldDifference original export claim which mismatch
 IsHeadVerdict original export claim (No (NotClean Header)) =
     SignalsAgree original export claim × SubfieldsAsClaimed original export claim × (IsBlankHeader export → ⊥)
 IsHeadVerdict original export claim (No (NotClean (Channel label))) =

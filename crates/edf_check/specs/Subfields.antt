@@ -7,8 +7,8 @@ use Rattle.edf_claim.specs.Claims.{Terms}
 use Rattle.edf_claim.specs.declared.which.Which.{Which}
 use Rattle.edf_claim.specs.declared.which.Which.TheVariants.{Code, Sex, Birthdate, Name, PatientExtras, Date, Administration, Technician, Equipment, RecordingExtras}
 use Rattle.edf_check.specs.Firsts.{IsFirstWith}
-use Rattle.edf_check.specs.declared.verdict.SubfieldFault.{SubfieldFault}
-use Rattle.edf_check.specs.declared.verdict.SubfieldFault.TheVariants.{NotX, Changed}
+use Rattle.edf_check.specs.declared.verdict.SubfieldMismatch.{SubfieldMismatch}
+use Rattle.edf_check.specs.declared.verdict.SubfieldMismatch.TheVariants.{NotX, Changed}
 
 -- the text is `X`, which stands for what isn't told
 abbrev pub IsX : List ℕ → Type 0
@@ -58,11 +58,11 @@ all_subfields =
     Code ∷ Sex ∷ Birthdate ∷ Name ∷ PatientExtras ∷ Date ∷ Administration ∷ Technician ∷ Equipment ∷ RecordingExtras ∷ []
 
 -- how a subfield that isn't as claimed isn't: it should be `X`, or the original's
-abbrev pub HasFault : Terms → Which → SubfieldFault → Type 0
-HasFault claim which NotX = Has claim.anonymous which
-HasFault claim which Changed = Has claim.anonymous which → ⊥
+abbrev pub IsMismatch : Terms → Which → SubfieldMismatch → Type 0
+IsMismatch claim which NotX = Has claim.anonymous which
+IsMismatch claim which Changed = Has claim.anonymous which → ⊥
 
 -- the first subfield that isn't as claimed, and how it isn't
-pub record IsSubfieldDifference (original export : Head) (claim : Terms) (which : Which) (fault : SubfieldFault) : Type 0 where
+pub record IsSubfieldDifference (original export : Head) (claim : Terms) (which : Which) (mismatch : SubfieldMismatch) : Type 0 where
   pub subfield : IsFirstWith (λ w. IsAsClaimed original export claim w → ⊥) all_subfields which
-  pub fault_is : HasFault claim which fault
+  pub mismatch_is : IsMismatch claim which mismatch

@@ -7,7 +7,7 @@ ghost use Rattle.std.specs.Ordering.{nat_cmp};
 ghost use Rattle.edf_fields.specs.Lists.{Has, is_one_of};
 ghost use Rattle.edf_header.specs.Sound.{IsSound};
 ghost use Rattle.edf_check.specs.Channels.{IsLeastExtra};
-ghost use Rattle.edf_check.specs.Comparisons.{is_ordinary, channel_of, claimed_of, claimed_view, AreInOrder, AreSorted, HasNoExtra};
+ghost use Rattle.edf_check.specs.Comparisons.{is_ordinary, channel_of, claimed_of, claimed_view, AreByLabel, AreSorted, HasNoExtra};
 
 use crate::labels::is_found;
 use edf_header::header::Header;
@@ -33,13 +33,13 @@ pub(crate) struct IndexedHeader<'a> {
 
 impl<'a> Model for IndexedHeader<'a> {
     ghost use Rattle.edf_header.specs.Heads.{Head};
-    ghost use Rattle.edf_check.specs.Comparisons.{IsIndex};
+    ghost use Rattle.edf_check.specs.Comparisons.{IsChannelIndex};
 
     ghost Value = { Head };
 
     ghost view = { λ i. i.header.now };
 
-    ghost invariant = { λ i. IsIndex i.header.now i.sorted.items };
+    ghost invariant = { λ i. IsChannelIndex i.header.now i.sorted.items };
 }
 
 /// The channels among the signals, in file order.
@@ -59,7 +59,7 @@ fn channels_among(alloc: Global, signals: &[Signal]) -> Result<Vec<&Signal>, All
 
 /// Puts the signals in the order of their labels.
 fn sort_by_label(signals: &mut Vec<&Signal>)
-    ensures order { AreInOrder signals.new.items }
+    ensures order { AreByLabel signals.new.items }
     ensures same { IsPermutation signals.old.items signals.new.items }
 {
     signals.sort_unstable_by(
@@ -71,7 +71,7 @@ fn sort_by_label(signals: &mut Vec<&Signal>)
 
 /// The signal of this label among these, which are in the order of their labels.
 fn find_label<'a>(sorted: &[&'a Signal], label: &[u8]) -> Option<&'a Signal>
-    requires { AreInOrder sorted.now }
+    requires { AreByLabel sorted.now }
     ensures { MatchOption result
         ((x : _) → Has (map (λ s. s.now) sorted.now) x → x.label ≢ label.now)
         (λ x. Has (map (λ s. s.now) sorted.now) x.now × (x.now.label ≡ label.now)) }

@@ -10,7 +10,7 @@ ghost use Rattle.edf_check.specs.HeadVerdicts.{HeadsAgree, SignalsAgree, IsHeadV
 use crate::comparison::Comparison;
 use crate::subfields::SubfieldDifference;
 use crate::texts::TextDifference;
-use crate::verdict::{Difference, FreeText, SubfieldFault, TextField, Verdict};
+use crate::verdict::{Difference, FreeText, SubfieldMismatch, TextField, Verdict};
 use edf_claim::claim::Claim;
 use edf_claim::which::Which;
 use edf_header::header::Header;
@@ -30,7 +30,7 @@ enum HeadDifference<'a> {
     /// The calibration of a channel isn't the original's.
     Calibration(&'a [u8]),
     /// A subfield isn't as claimed.
-    Subfield(Which, SubfieldFault),
+    Subfield(Which, SubfieldMismatch),
     /// The export has free text in its header.
     FreeTextInHeader,
     /// The export has free text in a channel.
@@ -60,7 +60,7 @@ impl<'a> HeadDifference<'a> {
             HeadDifference::Calibration(label) => {
                 Difference::Calibration(Vec::from_slice(alloc, label)?)
             }
-            HeadDifference::Subfield(which, fault) => Difference::Subfield(which, fault),
+            HeadDifference::Subfield(which, mismatch) => Difference::Subfield(which, mismatch),
             HeadDifference::FreeTextInHeader => Difference::NotClean(FreeText::Header),
             HeadDifference::FreeTextInChannel(label) => {
                 Difference::NotClean(FreeText::Channel(Vec::from_slice(alloc, label)?))
@@ -114,8 +114,8 @@ impl<'a> Comparison<'a> {
             (HeadsAgree self.now.original self.now.export self.now.claim)
             (IsHeadDifference self.now.original self.now.export self.now.claim) }
     {
-        if let Some(SubfieldDifference { which, fault }) = self.subfield_difference() {
-            return Some(HeadDifference::Subfield(which, fault));
+        if let Some(SubfieldDifference { which, mismatch }) = self.subfield_difference() {
+            return Some(HeadDifference::Subfield(which, mismatch));
         }
         if !self.is_header_blank() {
             return Some(HeadDifference::FreeTextInHeader);

@@ -4,10 +4,10 @@ ghost use Rattle.std.specs.Prelude.{◌≡◌, ◌↔◌, IsTrue, MatchOption};
 ghost use Rattle.std.specs.List.{list_all};
 ghost use Rattle.edf_fields.specs.Subfields.{subfields_left};
 ghost use Rattle.edf_check.specs.Comparisons.{is_x as is_x_text, are_same as are_same_texts, IsAnonymous, IsUnchanged, IsFoundAmong};
-ghost use Rattle.edf_check.specs.Subfields.{IsAsClaimed, HasFault, SubfieldsAsClaimed, IsSubfieldDifference};
+ghost use Rattle.edf_check.specs.Subfields.{IsAsClaimed, IsMismatch, SubfieldsAsClaimed, IsSubfieldDifference};
 
 use crate::comparison::Comparison;
-use crate::verdict::SubfieldFault;
+use crate::verdict::SubfieldMismatch;
 use edf_claim::claim::Claim;
 use edf_claim::which::Which;
 use edf_fields::subfields::Subfields;
@@ -31,7 +31,7 @@ const ALL: [Which; 10] = [
 #[derive(Debug, Clone, Copy)]
 pub(crate) struct SubfieldDifference {
     pub(crate) which: Which,
-    pub(crate) fault: SubfieldFault,
+    pub(crate) mismatch: SubfieldMismatch,
 }
 
 /// Whether the text is `X`, which stands for what isn't told.
@@ -113,21 +113,21 @@ fn is_unchanged(original: &Header, export: &Header, which: Which) -> bool
 impl<'a> Comparison<'a> {
     /// How this subfield isn't as claimed, if it isn't.
     #[tactic(auto, using(crate::proofs::SubfieldFacts::claimed_anonymous, crate::proofs::SubfieldFacts::claimed_unchanged, crate::proofs::SubfieldFacts::not_anonymous, crate::proofs::SubfieldFacts::not_unchanged))]
-    fn subfield_fault(&self, which: Which) -> Option<SubfieldFault>
+    fn subfield_mismatch(&self, which: Which) -> Option<SubfieldMismatch>
         ensures { MatchOption result
             (IsAsClaimed self.now.original self.now.export self.now.claim which)
-            (λ fault. (IsAsClaimed self.now.original self.now.export self.now.claim which → ⊥) × HasFault self.now.claim which fault) }
+            (λ mismatch. (IsAsClaimed self.now.original self.now.export self.now.claim which → ⊥) × IsMismatch self.now.claim which mismatch) }
     {
         if self.claim.is_anonymous(which) {
             if is_anonymous(self.export.header, which) {
                 return None;
             }
-            return Some(SubfieldFault::NotX);
+            return Some(SubfieldMismatch::NotX);
         }
         if is_unchanged(self.original, self.export.header, which) {
             return None;
         }
-        Some(SubfieldFault::Changed)
+        Some(SubfieldMismatch::Changed)
     }
 
     /// The first of these subfields that isn't as claimed, and how it isn't.
@@ -136,10 +136,10 @@ impl<'a> Comparison<'a> {
         ensures { IsFoundAmong self.now.original self.now.export self.now.claim whiches.now result }
     {
         for which in whiches {
-            if let Some(fault) = self.subfield_fault(*which) {
+            if let Some(mismatch) = self.subfield_mismatch(*which) {
                 return Some(SubfieldDifference {
                     which: *which,
-                    fault,
+                    mismatch,
                 });
             }
         }
@@ -151,7 +151,7 @@ impl<'a> Comparison<'a> {
     pub(crate) fn subfield_difference(&self) -> Option<SubfieldDifference>
         ensures { MatchOption result
             (SubfieldsAsClaimed self.now.original self.now.export self.now.claim)
-            (λ d. IsSubfieldDifference self.now.original self.now.export self.now.claim d.which d.fault) }
+            (λ d. IsSubfieldDifference self.now.original self.now.export self.now.claim d.which d.mismatch) }
     {
         self.first_subfield(&ALL)
     }

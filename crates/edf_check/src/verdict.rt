@@ -39,7 +39,7 @@ pub enum Difference {
     /// to physical values: the first such label of the claim.
     Calibration(Vec<u8>),
     /// A subfield of an identification isn't as claimed: the first such subfield, in the order of `Which`.
-    Subfield(Which, SubfieldFault),
+    Subfield(Which, SubfieldMismatch),
     /// The export has free text.
     NotClean(FreeText),
     /// At one instant of a channel a sample is missing, extra or has another value: the earliest such
@@ -73,7 +73,7 @@ pub enum TextField {
 
 /// How a subfield isn't as claimed.
 #[derive(Debug, Clone, Copy, PartialEq, Eq)]
-pub enum SubfieldFault {
+pub enum SubfieldMismatch {
     /// It is claimed anonymous, and isn't `X` in the export.
     NotX,
     /// It isn't claimed anonymous, and isn't the original's in the export.
