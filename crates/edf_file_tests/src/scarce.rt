@@ -1,7 +1,10 @@
 //! Calls under ever more memory: each refused growth is answered, until there is enough.
 
 use crate::file::{Edit, edited, is_reference};
+use crate::headers::{Answer, answer_of, claim, read};
 use crate::record::timed;
+use edf_check::head_difference::head_difference;
+use edf_claim::claim::Claim;
 use edf_fields::cause::FieldCause;
 use edf_fields::source::SliceSource;
 use edf_header::fault::{Cause, Fault, Place};
@@ -58,13 +61,22 @@ const LONGEST: Fault = Fault {
 
 const WORDS: &str = "BadSubfields(TooFewSubfields) at signal 65535 field physical-minimum";
 
-/// One of the calls: reading a header that has this fault or none, reading a whole file that conforms, or
-/// saying the longest fault.
+/// Two headers and a claim.
 #[derive(Clone, Copy)]
-enum Call {
+struct Pair<'a> {
+    original: &'a Header,
+    export: &'a Header,
+    claim: &'a Claim,
+}
+
+/// One of the calls: reading a header that has this fault or none, reading a whole file that conforms,
+/// saying the longest fault, or comparing two headers whose second channel has another calibration.
+#[derive(Clone, Copy)]
+enum Call<'a> {
     Reading(Option<Fault>),
     Conforming,
     Saying,
+    Comparing(Pair<'a>),
 }
 
 /// Whether the header is read, or refused for this fault; or none where that wants memory.
@@ -85,11 +97,18 @@ fn is_conforming(alloc: Global, file: &[u8]) -> Option<bool> {
     }
 }
 
+/// Whether the comparison answers the calibration of the second channel; or none where it wants memory.
+fn is_recalibrated(alloc: Global, pair: Pair) -> Option<bool> {
+    let found = head_difference(alloc, pair.original, pair.export, pair.claim).ok()?;
+    Some(answer_of(&found) == Answer::Calibration(b"ECG"))
+}
+
 /// Whether the call ends as it should, or none where it wants memory.
 fn called(alloc: Global, call: Call, file: &[u8]) -> Option<bool> {
     match call {
         Call::Reading(fault) => is_read(alloc, file, fault),
         Call::Conforming => is_conforming(alloc, file),
+        Call::Comparing(pair) => is_recalibrated(alloc, pair),
         Call::Saying => {
             let text = LONGEST.text(alloc).ok()?;
             Some(text.as_str() == WORDS)
@@ -180,5 +199,23 @@ fn conforms_in_the_memory_of_one_record(rt: HostRuntime) -> Result<(), AllocErro
     assert!(rt; is_right && refused >= 64, "{refused}");
     let of_long = rise(rt.alloc(), Call::Conforming, &long)?;
     assert_eq!(rt; of_long, (true, refused));
+    Ok(())
+}
+
+/// A comparison of two headers wants memory for what it looks up, and for the label that it answers.
+#[test]
+fn compares_headers_or_wants_memory(rt: HostRuntime) -> Result<(), AllocError> {
+    let alloc = rt.alloc();
+    let edits = [(Place::AtSignal(1, SignalField::Dimension), "uV")];
+    let original = read(alloc, &rt, (&[0, 1, 2], &[]))?;
+    let export = read(alloc, &rt, (&[0, 1, 2], &edits))?;
+    let claim = claim(alloc, &rt, "[\"EEG Fpz-Cz\", \"ECG\"]", "")?;
+    let pair = Pair {
+        original: &original,
+        export: &export,
+        claim: &claim,
+    };
+    let (is_right, refused) = rise(alloc, Call::Comparing(pair), b"")?;
+    assert!(rt; is_right && refused > 4, "{refused}");
     Ok(())
 }
