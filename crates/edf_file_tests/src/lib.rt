@@ -1,6 +1,7 @@
-//! Tests of `edf_header` and `edf_stream` by their public names: the values of a given header and of given
-//! data records, what whole files mean, worked faults in words, the order of two faults, what a read does
-//! where a source or memory gives out, and large headers and records.
+//! Tests of `edf_header`, `edf_stream` and `edf_check` by their public names: the values of a given header
+//! and of given data records, what whole files mean, worked faults in words, the order of two faults, the
+//! worked differences of two headers, what a call does where a source or memory gives out, and large
+//! headers and records.
 #![tactic(auto)]
 
 #[cfg(test)]
@@ -11,6 +12,8 @@ mod ends;
 mod file;
 #[cfg(test)]
 mod head;
+#[cfg(test)]
+mod headers;
 #[cfg(test)]
 mod lines;
 #[cfg(test)]

@@ -1,8 +1,11 @@
 //! Calls under ever more memory: each refused growth is answered, until there is enough.
 
 use crate::file::{Edit, edited, is_reference};
+use crate::headers::{Answer, answer_of, claim, read};
 use crate::meaning::is_that_of_reference;
 use crate::record::{LANES, recorded, timed};
+use edf_check::head_difference::head_difference;
+use edf_claim::claim::Claim;
 use edf_fields::cause::FieldCause;
 use edf_fields::source::SliceSource;
 use edf_header::fault::{Cause, Fault, Place};
@@ -61,15 +64,25 @@ const LONGEST: Fault = Fault {
 
 const WORDS: &str = "BadSubfields(TooFewSubfields) at signal 65535 field physical-minimum";
 
-/// One of the calls: reading a header that has this fault or none, reading a whole file that conforms,
-/// reading what the reference file means, at once or behind its header, or saying the longest fault.
+/// Two headers and a claim.
 #[derive(Clone, Copy)]
-enum Call {
+struct Pair<'a> {
+    original: &'a Header,
+    export: &'a Header,
+    claim: &'a Claim,
+}
+
+/// One of the calls: reading a header that has this fault or none, reading a whole file that conforms,
+/// reading what the reference file means, at once or behind its header, saying the longest fault, or
+/// comparing two headers whose second channel has another calibration.
+#[derive(Clone, Copy)]
+enum Call<'a> {
     Reading(Option<Fault>),
     Conforming,
     Meaning,
     ReadingOn,
     Saying,
+    Comparing(Pair<'a>),
 }
 
 /// Whether the header is read, or refused for this fault; or none where that wants memory.
@@ -114,6 +127,12 @@ fn is_meant_behind_header(alloc: Global, file: &[u8]) -> Option<bool> {
     }
 }
 
+/// Whether the comparison answers the calibration of the second channel; or none where it wants memory.
+fn is_recalibrated(alloc: Global, pair: Pair) -> Option<bool> {
+    let found = head_difference(alloc, pair.original, pair.export, pair.claim).ok()?;
+    Some(answer_of(&found) == Answer::Calibration(b"ECG"))
+}
+
 /// Whether the call ends as it should, or none where it wants memory.
 fn called(alloc: Global, call: Call, file: &[u8]) -> Option<bool> {
     match call {
@@ -121,6 +140,7 @@ fn called(alloc: Global, call: Call, file: &[u8]) -> Option<bool> {
         Call::Conforming => is_conforming(alloc, file),
         Call::Meaning => is_meant(alloc, file),
         Call::ReadingOn => is_meant_behind_header(alloc, file),
+        Call::Comparing(pair) => is_recalibrated(alloc, pair),
         Call::Saying => {
             let text = LONGEST.text(alloc).ok()?;
             Some(text.as_str() == WORDS)
@@ -224,5 +244,23 @@ fn means_something_or_wants_memory(rt: HostRuntime) -> Result<(), AllocError> {
         let (is_right, refused) = rise(rt.alloc(), call, &file)?;
         assert!(rt; is_right && refused > of_conform, "{refused}");
     }
+    Ok(())
+}
+
+/// A comparison of two headers wants memory for what it looks up, and for the label that it answers.
+#[test]
+fn compares_headers_or_wants_memory(rt: HostRuntime) -> Result<(), AllocError> {
+    let alloc = rt.alloc();
+    let edits = [(Place::AtSignal(1, SignalField::Dimension), "uV")];
+    let original = read(alloc, &rt, (&[0, 1, 2], &[]))?;
+    let export = read(alloc, &rt, (&[0, 1, 2], &edits))?;
+    let claim = claim(alloc, &rt, "[\"EEG Fpz-Cz\", \"ECG\"]", "")?;
+    let pair = Pair {
+        original: &original,
+        export: &export,
+        claim: &claim,
+    };
+    let (is_right, refused) = rise(alloc, Call::Comparing(pair), b"")?;
+    assert!(rt; is_right && refused > 4, "{refused}");
     Ok(())
 }

@@ -1,0 +1,50 @@
+//! Labels in the order of their bytes.
+
+ghost use Rattle.std.specs.Prelude.{◌≡◌, map, IfOk};
+ghost use Rattle.std.specs.Cmp.Lexicographic.{slice_cmp};
+ghost use Rattle.std.specs.List.Sorted.{IsSorted};
+ghost use Rattle.std.specs.Ordering.{nat_cmp};
+ghost use Rattle.edf_fields.specs.Lists.{is_one_of};
+ghost use Rattle.edf_check.specs.Comparisons.{AreSorted};
+
+use std::alloc::{AllocError, Global};
+use std::cmp::Ordering;
+
+/// The labels as they stand, each borrowed.
+///
+/// The error is want of memory.
+fn borrow_each(alloc: Global, labels: &[Vec<u8>]) -> Result<Vec<&[u8]>, AllocError>
+    ensures { IfOk result (λ borrowed. map (λ label. label.now) borrowed.items ≡ map (λ label. label.items) labels.entry.now) }
+{
+    let mut borrowed = Vec::with_capacity(alloc, labels.len())?;
+    for label in labels {
+        borrowed.push(label.as_slice())?;
+    }
+    Ok(borrowed)
+}
+
+/// The labels in the order of their bytes.
+///
+/// The error is want of memory.
+pub(crate) fn in_order(alloc: Global, labels: &[Vec<u8>]) -> Result<Vec<&[u8]>, AllocError>
+    ensures { IfOk result (λ sorted. AreSorted (map (λ label. label.items) labels.entry.now) sorted.items) }
+{
+    let mut sorted = borrow_each(alloc, labels)?;
+    sorted.sort_unstable();
+    Ok(sorted)
+}
+
+/// Whether the label is one of these, which are in the order of their bytes.
+pub(crate) fn is_found(sorted: &[&[u8]], label: &[u8]) -> bool
+    requires { IsSorted (λ x y. slice_cmp nat_cmp x.now y.now) sorted.now }
+    ensures { result ≡ is_one_of (map (λ t. t.now) sorted.now) label.now }
+{
+    match sorted.binary_search_by(
+        |other: &&[u8]| -> Ordering
+            ensures { result ≡ slice_cmp nat_cmp other.now.now label.entry.now }
+        { other.cmp(label) },
+    ) {
+        Ok(_) => true,
+        Err(_) => false,
+    }
+}

@@ -1,0 +1,13 @@
+//! Whether an export of an EDF+ recording is what a claim says of its original: so far, their headers
+//! compared.
+#![tactic(auto)]
+
+mod blank;
+mod calibrations;
+mod channels;
+mod comparison;
+pub mod head_difference;
+mod labels;
+mod subfields;
+mod texts;
+pub mod verdict;
