@@ -4,7 +4,7 @@
 use crate::conforming::ROWS;
 use crate::file::{Done, Edit, header_of, is_reference, put};
 use crate::reading::tape_of;
-use crate::record::{LANES, push_lane, recorded};
+use crate::record::{LANES, push_lane, recorded, timed};
 use crate::samples::{OF_EXCHANGED, OF_GAP, OF_LED, OF_PAIR, OF_REFERENCE, OF_THIRDS, Row};
 use edf_fields::source::SliceSource;
 use edf_header::fault::Place::{AtField, AtSignal};
@@ -316,6 +316,14 @@ const CUTS: &[(usize, &str)] = &[
     (1231, "Truncated at record 3"),
     (1232, "24, 3"),
 ];
+
+#[test]
+fn means_what_many_data_records_say(rt: HostRuntime) -> Result<(), AllocError> {
+    let file = timed(rt.alloc(), 400)?;
+    let found = answer_of(rt.alloc(), &file)?;
+    assert_eq!(rt; found.as_str(), "2400, 0");
+    Ok(())
+}
 
 /// Two reads take the header, one each data record, and one asks for a byte behind them.
 #[test]
