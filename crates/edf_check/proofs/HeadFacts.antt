@@ -119,23 +119,23 @@ agree-apart o e claim (Yes channels samples annotations) v h = v
 agree-apart o e claim (No (differences.OriginalFault fault)) v h = v
 agree-apart o e claim (No (differences.ExportFault fault)) v h = v
 agree-apart o e claim (No (differences.UnknownChannel label)) v h =
-    let r = first-has (HasNoChannel o) claim.channels label.items v in
-    r.1 (h.channels.in_original label.items r.0)
+    let r = first-has (HasNoChannel o) claim.channels label v in
+    r.1 (h.channels.in_original label r.0)
 agree-apart o e claim (No (differences.MissingChannel label)) v h =
-    let r = first-has (HasNoChannel e) claim.channels label.items v.1 in
-    r.1 (in-export o e claim h.channels label.items r.0)
+    let r = first-has (HasNoChannel e) claim.channels label v.1 in
+    r.1 (in-export o e claim h.channels label r.0)
 agree-apart o e claim (No (differences.ExtraChannel label)) v h =
     let x = (v.2).extra in
-    x.unclaimed (claimed-in o e claim h.channels label.items x.there)
-agree-apart o e claim (No (differences.ChannelText label field)) v h = unlike-alike HaveSameTexts o e claim label.items h.texts (v.1).channel
-agree-apart o e claim (No (differences.Calibration label)) v h = unlike-alike HaveSameCalibration o e claim label.items h.calibrations v.2
+    x.unclaimed (claimed-in o e claim h.channels label x.there)
+agree-apart o e claim (No (differences.ChannelText label field)) v h = unlike-alike HaveSameTexts o e claim label h.texts (v.1).channel
+agree-apart o e claim (No (differences.Calibration label)) v h = unlike-alike HaveSameCalibration o e claim label h.calibrations v.2
 agree-apart o e claim (No (differences.Subfield which mismatch)) v h =
     let r = first-has (λ w. IsAsClaimed o e claim w → ⊥) all_subfields which (v.1).subfield in
     r.1 (h.subfields which)
 agree-apart o e claim (No (differences.NotClean Header)) v h = v.2 h.blank.header
 agree-apart o e claim (No (differences.NotClean (Channel label))) v h =
-    let r = first-has (HasFreeText e) claim.channels label.items v.3 in
-    (r.1).2 (h.blank.channels label.items (r.1).0 (r.1).1)
+    let r = first-has (HasFreeText e) claim.channels label v.3 in
+    (r.1).2 (h.blank.channels label (r.1).0 (r.1).1)
 agree-apart o e claim (No (differences.Sample label at_ps mismatch)) v h = v
 agree-apart o e claim (No (differences.Annotation mismatch onset duration text)) v h = v
 

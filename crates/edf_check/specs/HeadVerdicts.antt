@@ -32,20 +32,20 @@ IsHeadVerdict original export claim (Yes channels samples annotations) = ⊥
 IsHeadVerdict original export claim (No (OriginalFault fault)) = ⊥
 IsHeadVerdict original export claim (No (ExportFault fault)) = ⊥
 IsHeadVerdict original export claim (No (UnknownChannel label)) =
-    IsFirstWith (HasNoChannel original) claim.channels label.items
+    IsFirstWith (HasNoChannel original) claim.channels label
 IsHeadVerdict original export claim (No (MissingChannel label)) =
-    HasAll original claim.channels × IsFirstWith (HasNoChannel export) claim.channels label.items
+    HasAll original claim.channels × IsFirstWith (HasNoChannel export) claim.channels label
 IsHeadVerdict original export claim (No (ExtraChannel label)) =
-    HasAll original claim.channels × HasAll export claim.channels × IsLeastExtra export claim.channels label.items
+    HasAll original claim.channels × HasAll export claim.channels × IsLeastExtra export claim.channels label
 IsHeadVerdict original export claim (No (ChannelText label field)) =
-    SameChannels original export claim × IsTextDifference original export claim label.items field
+    SameChannels original export claim × IsTextDifference original export claim label field
 IsHeadVerdict original export claim (No (Calibration label)) =
-    SameChannels original export claim × SameTexts original export claim × IsCalibrationDifference original export claim label.items
+    SameChannels original export claim × SameTexts original export claim × IsCalibrationDifference original export claim label
 IsHeadVerdict original export claim (No (Subfield which mismatch)) =
     SignalsAgree original export claim × IsSubfieldDifference original export claim which mismatch
 IsHeadVerdict original export claim (No (NotClean Header)) =
     SignalsAgree original export claim × SubfieldsAsClaimed original export claim × (IsBlankHeader export → ⊥)
 IsHeadVerdict original export claim (No (NotClean (Channel label))) =
-    SignalsAgree original export claim × SubfieldsAsClaimed original export claim × IsBlankHeader export × IsFirstWithFreeText export claim label.items
+    SignalsAgree original export claim × SubfieldsAsClaimed original export claim × IsBlankHeader export × IsFirstWithFreeText export claim label
 IsHeadVerdict original export claim (No (Sample label at_ps mismatch)) = ⊥
 IsHeadVerdict original export claim (No (Annotation mismatch onset duration text)) = ⊥

@@ -8,6 +8,7 @@ ghost use Rattle.edf_check.specs.HeadDifferences.{IsHeadDifference};
 ghost use Rattle.edf_check.specs.HeadVerdicts.{HeadsAgree, SignalsAgree, IsHeadVerdict};
 
 use crate::comparison::Comparison;
+use crate::label::Label;
 use crate::subfields::SubfieldDifference;
 use crate::texts::TextDifference;
 use crate::verdict::{Difference, FreeText, SubfieldMismatch, TextField, Verdict};
@@ -46,24 +47,24 @@ impl<'a> HeadDifference<'a> {
     {
         let difference = match self {
             HeadDifference::UnknownChannel(label) => {
-                Difference::UnknownChannel(Vec::from_slice(alloc, label)?)
+                Difference::UnknownChannel(Label::new(alloc, label)?)
             }
             HeadDifference::MissingChannel(label) => {
-                Difference::MissingChannel(Vec::from_slice(alloc, label)?)
+                Difference::MissingChannel(Label::new(alloc, label)?)
             }
             HeadDifference::ExtraChannel(label) => {
-                Difference::ExtraChannel(Vec::from_slice(alloc, label)?)
+                Difference::ExtraChannel(Label::new(alloc, label)?)
             }
             HeadDifference::ChannelText(label, field) => {
-                Difference::ChannelText(Vec::from_slice(alloc, label)?, field)
+                Difference::ChannelText(Label::new(alloc, label)?, field)
             }
             HeadDifference::Calibration(label) => {
-                Difference::Calibration(Vec::from_slice(alloc, label)?)
+                Difference::Calibration(Label::new(alloc, label)?)
             }
             HeadDifference::Subfield(which, mismatch) => Difference::Subfield(which, mismatch),
             HeadDifference::FreeTextInHeader => Difference::NotClean(FreeText::Header),
             HeadDifference::FreeTextInChannel(label) => {
-                Difference::NotClean(FreeText::Channel(Vec::from_slice(alloc, label)?))
+                Difference::NotClean(FreeText::Channel(Label::new(alloc, label)?))
             }
         };
         Ok(Verdict::No(difference))

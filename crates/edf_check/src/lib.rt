@@ -7,6 +7,7 @@ mod calibrations;
 mod channels;
 mod comparison;
 pub mod head_difference;
+pub mod label;
 mod labels;
 mod subfields;
 mod texts;

@@ -1,5 +1,6 @@
 //! What a check of an export against its original and a claim says.
 
+use crate::label::Label;
 use edf_claim::which::Which;
 use edf_header::fault::Fault;
 
@@ -26,18 +27,18 @@ pub enum Difference {
     /// The export doesn't conform: its first fault.
     ExportFault(Fault),
     /// A channel of this label is claimed, and isn't in the original: the first such label of the claim.
-    UnknownChannel(Vec<u8>),
+    UnknownChannel(Label),
     /// A channel of this label is claimed, and isn't in the export: the first such label of the claim.
-    MissingChannel(Vec<u8>),
+    MissingChannel(Label),
     /// A channel of this label is in the export, and isn't claimed: the least such label in the order of
     /// bytes.
-    ExtraChannel(Vec<u8>),
+    ExtraChannel(Label),
     /// A text of the channel of this label isn't the original's: the first such label of the claim, and
     /// its first such text.
-    ChannelText(Vec<u8>, TextField),
+    ChannelText(Label, TextField),
     /// The channel of this label has another dimension than in the original, or another line from digital
     /// to physical values: the first such label of the claim.
-    Calibration(Vec<u8>),
+    Calibration(Label),
     /// A subfield of an identification isn't as claimed: the first such subfield, in the order of `Which`.
     Subfield(Which, SubfieldMismatch),
     /// The export has free text.
@@ -45,7 +46,7 @@ pub enum Difference {
     /// At one instant of a channel a sample is missing, extra or has another value: the earliest such
     /// instant, and at it the least label in the order of bytes.
     Sample {
-        label: Vec<u8>,
+        label: Label,
         /// The floor of the instant, in picoseconds after the second at which the original starts.
         at_ps: i128,
         mismatch: SampleMismatch,
@@ -87,7 +88,7 @@ pub enum FreeText {
     /// signal.
     Header,
     /// In the reserved field of the channel of this label: the first such label of the claim.
-    Channel(Vec<u8>),
+    Channel(Label),
 }
 
 /// How the samples at an instant of a channel differ.

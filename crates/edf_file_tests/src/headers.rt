@@ -36,14 +36,14 @@ pub fn answer_of(found: &Option<Verdict>) -> Answer<'_> {
         return Answer::Other;
     };
     match difference {
-        Difference::UnknownChannel(label) => Answer::Unknown(label),
-        Difference::MissingChannel(label) => Answer::Missing(label),
-        Difference::ExtraChannel(label) => Answer::Extra(label),
-        Difference::ChannelText(label, field) => Answer::Text(label, *field),
-        Difference::Calibration(label) => Answer::Calibration(label),
+        Difference::UnknownChannel(label) => Answer::Unknown(label.bytes()),
+        Difference::MissingChannel(label) => Answer::Missing(label.bytes()),
+        Difference::ExtraChannel(label) => Answer::Extra(label.bytes()),
+        Difference::ChannelText(label, field) => Answer::Text(label.bytes(), *field),
+        Difference::Calibration(label) => Answer::Calibration(label.bytes()),
         Difference::Subfield(which, fault) => Answer::Subfield(*which, *fault),
         Difference::NotClean(FreeText::Header) => Answer::Header,
-        Difference::NotClean(FreeText::Channel(label)) => Answer::Channel(label),
+        Difference::NotClean(FreeText::Channel(label)) => Answer::Channel(label.bytes()),
         _ => Answer::Other,
     }
 }
