@@ -9,14 +9,14 @@ use Rattle.std.proofs.lemmas.Cmp.{nat_list_cmp_total}
 use Rattle.std.proofs.lemmas.List.Sorted.{searchable_from_sorted, IsPermutation-sym, IsPermutation-map}
 use Rattle.std.proofs.lemmas.Slice.Eq.{bytes_eq-Decides}
 use Rattle.edf_fields.specs.Lists.{Has}
-use Rattle.edf_fields.proofs.ForCallers.{and-true, not-true}
+use Rattle.edf_fields.proofs.ForCallers.{and-true, not-true, at-has, get-index, get-within, has-map, map-has, has-permutation, has-filtered, filtered-has, find-none, find-some}
 use Rattle.edf_header.specs.Channels.{is_channel_of}
 use Rattle.edf_header.specs.Heads.{SignalHead, Head, is_annotations}
 use Rattle.edf_header.specs.Sound.{IsSound}
 use Rattle.edf_check.specs.Channels.{IsChannelOf, HasNoChannel}
 use Rattle.edf_check.specs.Comparisons.{is_ordinary, channel_of, AreByLabel, IsChannelIndex}
 use Rattle.edf_check.proofs.LabelFacts.{equal-tested}
-use Rattle.edf_check.proofs.ListFacts.{at-has, get-index, get-within, has-get, has-map, map-has, has-permutation, has-filtered, filtered-has, find-none, find-some}
+use Rattle.edf_check.proofs.ListFacts.{has-get}
 
 same-label : (x y : List ℕ) → slice_cmp nat_cmp x y ≡ Equal → x ≡ y
 same-label x y e = (bytes_eq-Decides x y).0 (sym (equal-tested x y) ∙ ap is_eq e)

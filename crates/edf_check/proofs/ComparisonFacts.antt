@@ -5,7 +5,7 @@ use Rattle.std.specs.Cmp.Lexicographic.{slice_cmp}
 use Rattle.std.proofs.lemmas.Cmp.{nat_list_cmp_total}
 use Rattle.std.proofs.lemmas.List.Sorted.{IsPermutation-sym, sorted_far, ranks_by}
 use Rattle.edf_fields.specs.Lists.{Has, is_one_of}
-use Rattle.edf_fields.proofs.ForCallers.{has-one_of, one_of-has, not-true}
+use Rattle.edf_fields.proofs.ForCallers.{has-one_of, one_of-has, not-true, at-has, get-index, get-within, map-has, has-permutation, has-filtered, filtered-has, find-none, find-some}
 use Rattle.edf_header.specs.Heads.{SignalHead, Head, is_annotations}
 use Rattle.edf_claim.specs.Claims.{Terms}
 use Rattle.edf_check.specs.Channels.{IsChannelOf, HasChannel, HasNoChannel, HasAll, IsLeastExtra}
@@ -15,7 +15,7 @@ use Rattle.edf_check.specs.Firsts.{IsFirstWith}
 use Rattle.edf_check.specs.Labels.{IsNotAbove}
 use Rattle.edf_check.proofs.ChannelFacts.{channel-some, channel-none}
 use Rattle.edf_check.proofs.LabelFacts.{not_below}
-use Rattle.edf_check.proofs.ListFacts.{at-has, get-index, get-within, map-has, has-permutation, has-filtered, filtered-has, find-none, find-some, first-found}
+use Rattle.edf_check.proofs.ListFacts.{first-found}
 
 -- a test of labels that are looked up is one of the labels
 pub find-claimed : (o e : List SignalHead) (test : Claimed → Bool) (labels : List (List ℕ))

@@ -2,7 +2,7 @@
 use Rattle.std.proofs.Common.{◌≡◌, ◌≢◌, ◌↔◌, ℕ, suc, Bool, true, false, cond, List, [], ◌∷◌, Bor, Option, Some, None, MatchOption, inl, inr, ⊎_elim, refl, sym, ap, ◌∙◌, arith}
 use Rattle.std.proofs.lemmas.List.Sorted.{IsPermutation-sym}
 use Rattle.edf_fields.specs.Lists.{Has, AreDistinct, is_one_of}
-use Rattle.edf_fields.proofs.ForCallers.{one_of-has, has-one_of}
+use Rattle.edf_fields.proofs.ForCallers.{one_of-has, has-one_of, at-has, has-permutation}
 use Rattle.edf_header.specs.Channels.{HasDistinctChannels, channel_labels}
 use Rattle.edf_header.specs.Heads.{SignalHead, Head, is_annotations}
 use Rattle.edf_header.specs.Sound.{IsSound}
@@ -19,7 +19,7 @@ use Rattle.edf_check.specs.declared.verdict.Verdict.TheVariants.{Yes, No}
 use Rattle.edf_check.specs.declared.verdict.Difference.TheVariants as differences
 use Rattle.edf_check.specs.declared.verdict.FreeText.TheVariants.{Header, Channel}
 use Rattle.edf_check.proofs.ContentFacts.{alike-differ}
-use Rattle.edf_check.proofs.ListFacts.{at-has, has-permutation, first-has, same-members}
+use Rattle.edf_check.proofs.ListFacts.{first-has, same-members}
 
 -- ---- the labels of the channels of a header
 
@@ -80,10 +80,10 @@ only_said h claim (Some x) sound is extra = extra
 pub same_channels : (o e : Head) (claim : Terms) → HasAll o claim.channels → HasAll e claim.channels → HasOnly e claim.channels → SameChannels o e claim
 same_channels o e claim there here only = record { in_original = there; in_export = only here }
 
-in-export : (o e : Head) (claim : Terms) → SameChannels o e claim → HasAll e claim.channels
+pub in-export : (o e : Head) (claim : Terms) → SameChannels o e claim → HasAll e claim.channels
 in-export o e claim same l i = label-has e l (has-permutation claim.channels (channel_labels e.signals) l same.in_export i)
 
-claimed-in : (o e : Head) (claim : Terms) → SameChannels o e claim → (l : List ℕ) → HasChannel e l → Has claim.channels l
+pub claimed-in : (o e : Head) (claim : Terms) → SameChannels o e claim → (l : List ℕ) → HasChannel e l → Has claim.channels l
 claimed-in o e claim same l c = has-permutation (channel_labels e.signals) claim.channels l (IsPermutation-sym claim.channels (channel_labels e.signals) same.in_export) (has-label e l c)
 
 -- ---- free text
@@ -109,7 +109,7 @@ heads_agree o e claim agree subfields blank none = record {
 
 -- ---- no verdict applies where the headers agree
 
-unlike-alike : (Alike : SignalHead → SignalHead → Type 0) (o e : Head) (claim : Terms) (l : List ℕ) → AllAlike Alike o e claim → IsFirstUnlike Alike o e claim l → ⊥
+pub unlike-alike : (Alike : SignalHead → SignalHead → Type 0) (o e : Head) (claim : Terms) (l : List ℕ) → AllAlike Alike o e claim → IsFirstUnlike Alike o e claim l → ⊥
 unlike-alike Alike o e claim l all first =
     let r = first-has (Differ Alike o e) claim.channels l first in
     alike-differ Alike o e l (all l r.0) r.1

@@ -5,3 +5,12 @@ pub mod HeadFacts
 pub mod LabelFacts
 pub mod ListFacts
 pub mod SubfieldFacts
+pub mod FractionFacts
+pub mod FloorFacts
+pub mod CourseFacts
+pub mod KeptFacts
+pub mod NoteFacts
+pub mod OneHeadFacts
+pub mod VerdictFacts
+pub mod WordsFacts
+pub mod RearrangedFacts

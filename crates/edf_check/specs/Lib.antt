@@ -8,3 +8,10 @@ pub mod HeadVerdicts
 pub mod Labels
 pub mod Subfields
 pub mod Texts
+pub mod Instants
+pub mod Courses
+pub mod Kept
+pub mod Annotations
+pub mod Exports
+pub mod Verdicts
+pub mod Laws

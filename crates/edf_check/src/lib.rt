@@ -1,5 +1,5 @@
-//! Whether an export of an EDF+ recording is what a claim says of its original: so far, their headers
-//! compared.
+//! Whether an export of an EDF+ recording is what a claim says of its original: the verdict, as it is
+//! defined; and so far, their headers compared.
 #![tactic(auto)]
 
 mod blank;
@@ -9,6 +9,8 @@ mod comparison;
 pub mod head_difference;
 pub mod label;
 mod labels;
+pub mod laws;
+pub mod note_text;
 mod subfields;
 mod texts;
 pub mod verdict;

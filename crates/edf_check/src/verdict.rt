@@ -1,6 +1,7 @@
 //! What a check of an export against its original and a claim says.
 
 use crate::label::Label;
+use crate::note_text::NoteText;
 use edf_claim::which::Which;
 use edf_header::fault::Fault;
 
@@ -59,7 +60,7 @@ pub enum Difference {
         onset: i128,
         /// In picoseconds, where there is one.
         duration: Option<i128>,
-        text: String,
+        text: NoteText,
     },
 }
 

@@ -2,6 +2,7 @@ pub mod ListFacts
 pub mod ItemFacts
 pub mod ConformFacts
 pub mod FileFacts
+pub mod ForCallers
 pub mod FaultlessFacts
 pub mod SaidFacts
 pub mod SignalFacts

@@ -1,0 +1,5 @@
+use Rattle.edf_check.proofs.RearrangedFacts.{notes_in_words}
+use Rattle.edf_check.proofs.laws.annotations_are_rearranged.Goals as goal
+
+pub returns : goal.returns
+returns c = notes_in_words

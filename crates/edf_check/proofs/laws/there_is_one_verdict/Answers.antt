@@ -1,0 +1,5 @@
+use Rattle.edf_check.proofs.VerdictFacts.{one_verdict}
+use Rattle.edf_check.proofs.laws.there_is_one_verdict.Goals as goal
+
+pub returns : goal.returns
+returns c = one_verdict

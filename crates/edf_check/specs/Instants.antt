@@ -1,0 +1,16 @@
+-- Instants, beside what `edf_stream` says of them.
+use Rattle.std.specs.Prelude.{ℤ, pos, ◌+ℤ◌, ◌*ℤ◌, ◌<ℤ◌}
+use Rattle.std.specs.Int.{int_div_euclid}
+use Rattle.edf_stream.specs.declared.instant.Instant.{Instant}
+
+-- the first instant is the earlier one
+abbrev pub IsBefore : Instant → Instant → Type 0
+IsBefore p q = (p.num *ℤ pos q.den) <ℤ (q.num *ℤ pos p.den)
+
+-- an instant later by so many picoseconds
+abbrev pub later : ℤ → Instant → Instant
+later ps at = record { num = at.num +ℤ (pos at.den *ℤ ps); den = at.den }
+
+-- the whole picoseconds of an instant, rounded down
+abbrev pub floor_of : Instant → ℤ
+floor_of at = int_div_euclid at.num (pos at.den)

@@ -1,0 +1,53 @@
+-- What follows from the definition of the verdict.
+use Rattle.std.specs.Prelude.{◌≡◌, ◌↔◌, ℕ, neg_ℤ, List}
+use Rattle.std.specs.List.Sorted.{IsPermutation}
+use Rattle.edf_claim.specs.Claims.{Terms}
+use Rattle.edf_claim.specs.Keeps.{KeepsInstant}
+use Rattle.edf_fields.specs.Lists.{Has}
+use Rattle.edf_header.specs.Heads.{head_of}
+use Rattle.edf_stream.specs.Instants.{IsSame}
+use Rattle.edf_stream.specs.Notes.{NoteValue}
+use Rattle.edf_stream.specs.Samples.{SampleValue, IsSample}
+use Rattle.edf_check.specs.Annotations.{SameNotes}
+use Rattle.edf_check.specs.declared.verdict.Verdict.{Verdict}
+use Rattle.edf_check.specs.declared.verdict.Verdict.TheVariants.{Yes}
+use Rattle.edf_check.specs.Exports.{BothConform, SameSamples, IsExport}
+use Rattle.edf_check.specs.Instants.{later}
+use Rattle.edf_check.specs.Kept.{start_of, shift_of}
+use Rattle.edf_check.specs.Verdicts.{IsVerdict}
+
+-- there is one verdict at most
+abbrev pub OneVerdict : Type 0
+OneVerdict = (original export : List ℕ) (claim : Terms) (v w : Verdict) → IsVerdict original export claim v → IsVerdict original export claim w → v ≡ w
+
+-- the verdict is a Yes
+abbrev pub IsYes : Verdict → Type 0
+IsYes verdict = (channels samples annotations : ℕ) × (verdict ≡ Yes channels samples annotations)
+
+-- where there is a verdict, it is a Yes exactly where both files conform and one is the export of the other
+abbrev pub YesExactly : Type 0
+YesExactly = (original export : List ℕ) (claim : Terms) (v : Verdict) → IsVerdict original export claim v →
+    (BothConform original export × IsExport original export claim) ↔ IsYes v
+
+-- a sample of the original that the claim keeps: its channel is claimed, and its instant, counted from the second at which the
+-- original starts, is in an interval
+pub record IsKeptSample (original : List ℕ) (claim : Terms) (x : SampleValue) : Type 0 where
+  pub sample : IsSample original (head_of original) x
+  pub channel : Has claim.channels x.label
+  pub instant : KeepsInstant claim (later (neg_ℤ (start_of original)) x.instant).num (x.instant).den
+
+-- for each kept sample the export has one of the same channel and value, at its instant moved by the shift; and for each sample of the
+-- export there is such a kept one
+pub record SamplesAsKept (original export : List ℕ) (claim : Terms) : Type 0 where
+  pub all_kept : (x : SampleValue) → IsKeptSample original claim x →
+      (y : SampleValue) × IsSample export (head_of export) y × (y.label ≡ x.label) × (y.value ≡ x.value) × IsSame (later (shift_of claim) x.instant) y.instant
+  pub none_else : (y : SampleValue) → IsSample export (head_of export) y →
+      (x : SampleValue) × IsKeptSample original claim x × (y.label ≡ x.label) × (y.value ≡ x.value) × IsSame (later (shift_of claim) x.instant) y.instant
+
+-- the samples are the same at all instants exactly where they are so one by one
+abbrev pub SamplesInWords : Type 0
+SamplesInWords = (original export : List ℕ) (claim : Terms) → SameSamples original export claim ↔ SamplesAsKept original export claim
+
+-- each annotation stands equally often in two lists exactly where one is a rearrangement of the other
+abbrev pub NotesInWords : Type 0
+NotesInWords = (kept exported : List NoteValue) → SameNotes kept exported ↔ IsPermutation kept exported

@@ -1,0 +1,25 @@
+//! Laws of the definitions, each the contract of a function that does nothing.
+
+ghost use Rattle.edf_check.specs.Laws.{OneVerdict, YesExactly, SamplesInWords, NotesInWords};
+
+/// Two files have one verdict at most.
+pub fn there_is_one_verdict()
+    ensures { OneVerdict }
+{}
+
+/// Where there is a verdict, it is a Yes exactly where both files conform and one is the export of the
+/// other.
+pub fn a_yes_is_given_exactly_for_an_export()
+    ensures { YesExactly }
+{}
+
+/// The samples of an export are the kept ones at all instants exactly where they are so one by one, both
+/// ways.
+pub fn samples_are_the_same_in_words()
+    ensures { SamplesInWords }
+{}
+
+/// Each annotation stands equally often in two lists exactly where one is a rearrangement of the other.
+pub fn annotations_are_rearranged()
+    ensures { NotesInWords }
+{}
