@@ -168,11 +168,11 @@ before-rising file h (suc k) c le =
     let one = (early.found).signal in
     let other = late.signal in
     let at : (early.found).at ≡ late.at = (
-      let here = ap (λ (z : Sample). z.channel) ((early.found).lane).is in
-      let there = ap (λ (z : Sample). z.channel) (late.lane).is in
-      omega (arith, same, here, there)) in
+    let here = ap (λ (z : Sample). z.channel) ((early.found).lane).is in
+    let there = ap (λ (z : Sample). z.channel) (late.lane).is in
+    omega (arith, same, here, there)) in
     let is : other ≡ one = (
-      let e : Some other ≡ Some one = sym late.there ∙ ap (slice_get (channels_among h.signals)) (sym at) ∙ (early.found).there in cc) in
+    let e : Some other ≡ Some one = sym late.there ∙ ap (slice_get (channels_among h.signals)) (sym at) ∙ (early.found).there in cc) in
     let follows : end_at file h m ≤ℤ start_at file h k = starts-behind file h m k c early.below (omega (arith, le)) in
     let low = record-below file h m x c (omega (arith, early.below, le)) early.found in
     let high = subst (λ (s : SignalHead). (pos s.samples *ℤ (file_start h +ℤ start_at file h k)) ≤ℤ (y.instant).num) is (record-above file h k y c late) in

@@ -26,7 +26,7 @@ next_step a d i = omega (arith, ints)
 -- the sample at a place of a lane, and those behind it
 lane_samples-at : (grid : Grid) (lane : List ℕ) (i : ℕ) (x : Sample) → 2 * i + 1 < length lane → x.instant ≡ instant_on grid i → x.value ≡ digital_value lane i
     → lane_samples x.channel grid.den (grid.start +ℤ (pos i *ℤ grid.step)) grid.step (drop (2 * i) lane)
-      ≡ x ∷ lane_samples x.channel grid.den (grid.start +ℤ (pos (i + 1) *ℤ grid.step)) grid.step (drop (2 * (i + 1)) lane)
+    ≡ x ∷ lane_samples x.channel grid.den (grid.start +ℤ (pos (i + 1) *ℤ grid.step)) grid.step (drop (2 * (i + 1)) lane)
 lane_samples-at grid lane i x lt instant value =
     let c = x.channel in
     let n = grid.den in
@@ -75,7 +75,7 @@ only-channel c start d signal bytes b plain is =
 -- the samples of a signal, where it is a channel, and those of the signals behind it
 pub next-channel : (c : ℕ) (start d : ℤ) (x : SignalHead) (xs : List SignalHead) (bytes : List ℕ)
     → samples_by c start d (channels_among (x ∷ xs)) bytes
-      ≡ samples_by c start d (channels_among (x ∷ [])) bytes ++ samples_by (c + length (channels_among (x ∷ []))) start d (channels_among xs) bytes
+    ≡ samples_by c start d (channels_among (x ∷ [])) bytes ++ samples_by (c + length (channels_among (x ∷ []))) start d (channels_among xs) bytes
 next-channel c start d x xs bytes = by-kind (is_annotations x.label) (channels_among xs)
   where
     by-kind : (b : Bool) (ys : List SignalHead) → samples_by c start d (cond (not b) (x ∷ ys) ys) bytes

@@ -93,11 +93,13 @@ is-listed file h x c r =
     let z : 0 + channel.0 ≡ channel.0 = omega arith in
     let here : Has (samples_by 0 start h.duration (channels_among h.signals) bytes) y =
     subst (λ m. Has (samples_by 0 start h.duration (channels_among h.signals) bytes) (placed m signal.samples (pos signal.samples *ℤ start) h.duration (lane_of signal bytes) r.place)) z
-    (has-record 0 start h.duration (channels_among h.signals) bytes channel.0 signal r.place channel.1 (omega (arith, full, r.in_lane, count))) in
-    (y, list-has file h y (has-file file h h.records k y r.in_file (has-in h bytes y here)),
-    same-sample (labelled h y) x (label-is h channel.0 signal channel.1 ∙ named)
-    (ap (λ n. (pos n *ℤ start) +ℤ (pos r.place *ℤ h.duration)) count ∙ sym r.instant) count
-    (ap (λ l. digital_value l r.place) (sym (lane-is file h k r.signal signal there)) ∙ sym r.value_is))
+    (has-record 0 start h.duration (channels_among h.signals) bytes channel.0 signal r.place channel.1 (omega (arith, full, r.in_lane, count))) in (
+      y,
+      list-has file h y (has-file file h h.records k y r.in_file (has-in h bytes y here)),
+      same-sample (labelled h y) x (label-is h channel.0 signal channel.1 ∙ named)
+          (ap (λ n. (pos n *ℤ start) +ℤ (pos r.place *ℤ h.duration)) count ∙ sym r.instant) count
+          (ap (λ l. digital_value l r.place) (sym (lane-is file h k r.signal signal there)) ∙ sym r.value_is),
+    )
 
 pub samples_are_listed : SamplesAreListed
 samples_are_listed file h c x = (
@@ -141,9 +143,9 @@ one-place i j d s p e =
     elim (cases_lt i j) [
       | inl lt ↦ absurd (let f = steps-below i j d p lt in omega (arith, ints, e, f))
       | inr le ↦ elim (cases_lt j i) [
-          | inl lt ↦ absurd (let f = steps-below j i d p lt in omega (arith, ints, e, f))
-          | inr ge ↦ omega (arith, le, ge)
-        ]
+        | inl lt ↦ absurd (let f = steps-below j i d p lt in omega (arith, ints, e, f))
+        | inr ge ↦ omega (arith, le, ge)
+      ]
     ]
 
 -- one instant is in one data record
@@ -154,9 +156,9 @@ one-record file h k j n i i' x y c here there few few' ex ey e =
     elim (cases_lt k j) [
       | inl lt ↦ absurd (let f = earlier file h k j n i i' x y c lt there few ex ey in omega (arith, ints, e, f))
       | inr le ↦ elim (cases_lt j k) [
-          | inl lt ↦ absurd (let f = earlier file h j k n i' i y x c lt here few' ey ex in omega (arith, ints, e, f))
-          | inr ge ↦ omega (arith, le, ge)
-        ]
+        | inl lt ↦ absurd (let f = earlier file h j k n i' i y x c lt here few' ey ex in omega (arith, ints, e, f))
+        | inr ge ↦ omega (arith, le, ge)
+      ]
     ]
 
 pub one_at_an_instant : OneAtAnInstant

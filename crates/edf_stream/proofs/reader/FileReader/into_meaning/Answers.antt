@@ -24,10 +24,10 @@ loop-meaning-init g c = record {
   failures = refl;
   honesty = λ h. h;
   gathered = λ h file stands. (
-      stands,
-      c.new-meaning.ensures.samples ∙ ap (samples_before file (c.args.self).head) (sym c.requires.1),
-      ap (map note_value) c.new-meaning.ensures.notes ∙ ap (moved_notes_before file (c.args.self).head) (sym c.requires.1),
-    );
+    stands,
+    c.new-meaning.ensures.samples ∙ ap (samples_before file (c.args.self).head) (sym c.requires.1),
+    ap (map note_value) c.new-meaning.ensures.notes ∙ ap (moved_notes_before file (c.args.self).head) (sym c.requires.1),
+  );
   small = subst (All (λ (x : Sample). IsSmall x.instant)) (sym c.new-meaning.ensures.samples) (All-nil (λ (x : Sample). IsSmall x.instant));
 }
 
