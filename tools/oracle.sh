@@ -1,6 +1,6 @@
 #!/usr/bin/env bash
-# Tries the readers of fields, headers, lanes, whole files and claims, and the check of two files, against a second
-# reading of the rules, in Python (tools/oracle). It proves nothing: it looks for rules that were
+# Tries the readers of fields, headers, lanes, whole files and claims, the comparison of two headers, and the
+# check of two files, against a second reading of the rules, in Python (tools/oracle). It proves nothing: it looks for rules that were
 # understood in two ways. The crates run unproved, in the toolchain's interpreter.
 #
 # usage: tools/oracle.sh [SEED]     seed 1 where none is said
@@ -32,12 +32,12 @@ answers() {
     fi
 }
 
-for crate in edf_fields edf_header edf_tal edf_stream edf_claim; do
+for crate in edf_fields edf_header edf_tal edf_stream edf_claim edf_check; do
     take "$work/readers" "$crate"
 done
 mkdir -p "$work/readers/crates/answers/src"
 cp tools/oracle/answers.rt.in "$work/readers/crates/answers/src/main.rt"
-echo "answers: edf_fields edf_header edf_tal edf_stream edf_claim jiff" >>"$work/readers/crates.txt"
+echo "answers: edf_fields edf_header edf_tal edf_stream edf_claim edf_check jiff" >>"$work/readers/crates.txt"
 python3 tools/oracle/cases.py "$seed" 2000 >"$work/readers/cases"
 answers "$work/readers" answers
 failed=0

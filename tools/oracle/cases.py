@@ -265,6 +265,88 @@ def whole_file():
     return bytes(file) + one_of(b"", b"", b"", b"", b"", b"\0")
 
 
+# ---- two headers and a claim
+
+LABELS = [b"C0", b"C1", b"c0", b"C", b"\"", b"C0 C1"]
+LINES = [(b"-100", b"100", b"-2048", b"2047"), (b"-100.0", b"+100.", b"-2048", b"2047"), (b"-100", b"-60", b"-2048", b"-1229"),
+         (b"100", b"-100", b"-2048", b"2047"), (b"-99", b"101", b"-2048", b"2047"), (b"-100", b"100.0001", b"-2048", b"2047")]
+CODES = [b"X", b"MCH-0234567", b"x"]
+
+
+def channel(label):
+    low, high, bottom, top = one_of(*LINES[:3])
+    return {
+        "label": label, "transducer": b"AgAgCl", "dimension": b"uV", "physical-minimum": low, "physical-maximum": high,
+        "digital-minimum": bottom, "digital-maximum": top, "prefilter": b"HP:0.1Hz", "samples": b"1", "reserved": b"",
+    }
+
+
+def annotation_signal():
+    return {**channel(ANNOTATIONS), "transducer": b"", "dimension": b"", "physical-minimum": b"-1", "physical-maximum": b"1",
+            "digital-minimum": b"-32768", "digital-maximum": b"32767", "prefilter": b"", "samples": b"9"}
+
+
+def changed_signal(fields):
+    """With another text or another line, maybe, or the same line spelled otherwise."""
+    fields = dict(fields)
+    is_channel = fields["label"] != ANNOTATIONS
+    if is_channel:
+        low, high, bottom, top = one_of(*LINES[:3]) if often(0.93) else one_of(*LINES)
+        fields |= {"physical-minimum": low, "physical-maximum": high, "digital-minimum": bottom, "digital-maximum": top}
+    for name in ("transducer", "dimension", "prefilter", "reserved"):
+        if often(0.03):
+            fields[name] = one_of(b"", b"a", b"b")
+    return fields
+
+
+def built(said, columns):
+    parts = said["patient"], said["recording"]
+    fixed = {
+        "version": b"0", "patient": b" ".join(parts[0]), "recording": b" ".join([b"Startdate", *parts[1]]),
+        "startdate": b"02.03.02", "starttime": b"22.00.00", "header-bytes": b"%d" % (256 * (len(columns) + 1)),
+        "reserved": said["reserved"], "records": b"1", "duration": b"1", "signals": b"%d" % len(columns),
+    }
+    file = b"".join(fixed[name].ljust(width)[:width] for name, _, width in FIXED)
+    return file + b"".join(fields[name].ljust(width)[:width] for name, _, width in COLUMNS for fields in columns)
+
+
+def two_heads():
+    """The headers of an original and of an export that is nearly as a claim says, and the claim."""
+    labels = choose.sample(LABELS, choose.randint(1, 4))
+    claimed = [label for label in labels if often(0.8)] or labels[:1]
+    choose.shuffle(claimed)
+    columns = [channel(label) for label in labels]
+    for _ in range(one_of(1, 1, 2)):
+        columns.insert(choose.randrange(len(columns) + 1), annotation_signal())
+    anonymous = [name for name in SUBFIELDS if often(0.3)]
+    extra = [one_of(b"a", b"X") for _ in range(one_of(0, 0, 1, 2))]
+    old = {
+        "patient": [one_of(*CODES), one_of(b"F", b"X"), one_of(b"X", b"02-MAY-1951"), one_of(*CODES), *extra],
+        "recording": [one_of(b"X", b"02-MAR-2002"), one_of(*CODES), b"NN", one_of(*CODES), *extra[:1]],
+        "reserved": one_of(b"EDF+C", b"EDF+D x"),
+    }
+    names = [[name for name in SUBFIELDS[:4]], [name for name in SUBFIELDS[5:9]]]
+    new = {"reserved": one_of(b"EDF+C", b"EDF+D", b"EDF+C", b"EDF+C x" if often(0.1) else b"EDF+D")}
+    for field, name, rest in (("patient", names[0], "patient-extras"), ("recording", names[1], "recording-extras")):
+        parts = [b"X" if key in anonymous and often(0.97) else part for key, part in zip(name, old[field])]
+        parts = [part if often(0.98) else one_of(b"X", b"x", b"Y") for part in parts]
+        more = [b"X" if rest in anonymous and often(0.9) else part for part in old[field][4:]]
+        more = more if often(0.95) else one_of(more[1:], more + [b"X"], more + [b"a"])
+        new[field] = parts + more
+    shown = [changed_signal(fields) for fields in columns if fields["label"] in (*claimed, ANNOTATIONS) or often(0.04)]
+    if often(0.5):
+        choose.shuffle(shown)
+    if often(0.04):
+        shown.insert(0, channel(one_of(*LABELS)))
+    if often(0.03):
+        claimed.append(one_of(*LABELS))
+    texts = ", ".join(quoted(label.decode().replace('"', '\\"')) for label in claimed)
+    hidden = ", ".join(quoted(name) for name in anonymous)
+    document = f'format = 1\nchannels = [{texts}]\nanonymous = [{hidden}]\nkeep = [{{ from = "0", to = "1" }}]\n'.encode()
+    first, second = built(old, columns), built(new, shown)
+    return b"%-8d%-8d" % (len(first), len(second)) + first + second + document
+
+
 # ---- claims
 
 
@@ -334,7 +416,7 @@ CASES = {
     "n": (4, number), "w": (4, number), "o": (4, lambda: time(often(0.9))), "s": (3, lambda: time(often(0.1))),
     "d": (2, dotted_day), "D": (3, dashed_day), "c": (2, clock), "p": (6, patient), "r": (6, recording),
     "t": (30, lane), "h": (20, header), "f": (20, whole_file), "m": (10, whole_file),
-    "C": (12, claim),
+    "C": (12, claim), "x": (20, two_heads),
 }
 
 

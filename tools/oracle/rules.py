@@ -8,6 +8,7 @@ the last line is 'N passed, M failed'.
 """
 
 import datetime
+import fractions
 import re
 import struct
 import sys
@@ -469,6 +470,74 @@ def claim_line(document):
     return line
 
 
+def line_through(one):
+    """The line from digital to physical values: its gain, and its physical value at the digital value 0."""
+    low, bottom = one["physical-minimum"], one["digital-minimum"]
+    gain = fractions.Fraction(one["physical-maximum"] - low, one["digital-maximum"] - bottom)
+    return gain, low - bottom * gain
+
+
+def named_subfields(said):
+    found, other = said["patient"], said["recording"]
+    return [*found[:4], found[4:], *other[:4], other[4:]]
+
+
+def subfield_difference(old, new, anonymous):
+    """The first subfield that isn't as claimed."""
+    for name, before, after in zip(SUBFIELDS, named_subfields(old), named_subfields(new)):
+        parts = after if isinstance(after, list) else [after]
+        which = "".join(part.capitalize() for part in name.split("-"))
+        if name in anonymous:
+            if any(part != b"X" for part in parts):
+                return f"subfield {which} NotX"
+        elif name == "date" and (before == b"X") == (after == b"X"):
+            continue
+        elif before != after:
+            return f"subfield {which} Changed"
+    return None
+
+
+def heads_line(case):
+    """The first difference of two headers under a claim."""
+    first, second = int(case[:8]), int(case[8:16])
+    original, export, document = case[16:16 + first], case[16 + first:16 + first + second], case[16 + first + second:]
+    try:
+        old, new = fixed_part(original), fixed_part(export)
+        before, after = signals(original, old["signals"]), signals(export, new["signals"])
+        labels, _, anonymous, _, _ = claim(document)
+    except Refused:
+        return "refused"
+    labels = [label.encode() for label in labels]
+    here = {one["label"]: one for one in before if one["label"] != ANNOTATIONS}
+    there = {one["label"]: one for one in after if one["label"] != ANNOTATIONS}
+    for word, having in (("unknown", here), ("missing", there)):
+        for label in labels:
+            if label not in having:
+                return f"{word} {bracketed([label])}"
+    if set(there) - set(labels):
+        return f"extra {bracketed([min(set(there) - set(labels))])}"
+    for label in labels:
+        for name in ("transducer", "prefilter"):
+            if here[label][name] != there[label][name]:
+                return f"text {bracketed([label])} {name.capitalize()}"
+    for label in labels:
+        one, other = here[label], there[label]
+        if one["dimension"] != other["dimension"] or line_through(one) != line_through(other):
+            return f"calibration {bracketed([label])}"
+    found = subfield_difference(old, new, anonymous)
+    if found:
+        return found
+    free = text(new["reserved"][5:]) + b"".join(
+        one[name] for one in after if one["label"] == ANNOTATIONS
+        for name in ("transducer", "dimension", "prefilter", "reserved"))
+    if free:
+        return "not clean header"
+    for label in labels:
+        if there[label]["reserved"]:
+            return f"not clean {bracketed([label])}"
+    return "None"
+
+
 ANSWERS = {
     "n": lambda field: str(header_number(field)),
     "w": lambda field: str(header_whole(field)),
@@ -483,6 +552,7 @@ ANSWERS = {
     "h": header_line,
     "f": file_line,
     "m": meaning_line,
+    "x": heads_line,
     "C": claim_line,
 }
 
