@@ -1,4 +1,4 @@
--- What a claim keeps of an original, and what an export holds, at instants counted from the second at which the original starts.
+-- What a claim keeps of an original, and what an export holds with the shift taken off, at instants counted from the second at which the original starts.
 use Rattle.std.specs.Prelude.{◌≡◌, ℕ, ℤ, pos, neg_ℤ, ◌+ℤ◌, ◌*ℤ◌, ◌^◌, List, filter, map}
 use Rattle.edf_claim.specs.Claims.{Terms}
 use Rattle.edf_claim.specs.Keeps.{KeepsInstant, keeps_annotation}

@@ -24,7 +24,7 @@ OneVerdict = (original export : List ℕ) (claim : Terms) (v w : Verdict) → Is
 abbrev pub IsYes : Verdict → Type 0
 IsYes verdict = (channels samples annotations : ℕ) × (verdict ≡ Yes channels samples annotations)
 
--- where there is a verdict, it is a Yes exactly where both files conform and one is the export of the other
+-- where there is a verdict, it is a Yes exactly where both files conform and the second is the export of the first
 abbrev pub YesExactly : Type 0
 YesExactly = (original export : List ℕ) (claim : Terms) (v : Verdict) → IsVerdict original export claim v →
     (BothConform original export × IsExport original export claim) ↔ IsYes v

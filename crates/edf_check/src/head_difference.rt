@@ -145,9 +145,9 @@ impl<'a> Comparison<'a> {
 
 /// The first difference of the headers of an original and its export by a claim, in the order of the
 /// variants of `Difference`, or none where the export's header is what the claim says of the original's:
-/// the same channels, with their texts and calibrations, each subfield `X` or the original's, and no free
-/// text (EDF, "Header record"; EDF+, "Additional specifications in EDF+"; which of it an export keeps is
-/// this project's profile).
+/// the same channels, with their texts and calibrations, each subfield `X` or the original's as claimed (of
+/// a date that isn't claimed only whether it is `X`), and no free text (EDF, "Header record"; EDF+,
+/// "Additional specifications in EDF+"; which of it an export keeps is this project's profile).
 ///
 /// What needs the samples or the annotations isn't compared. The time grows as the count of channels and
 /// labels times its logarithm. The error is want of memory.

@@ -7,8 +7,8 @@ pub fn there_is_one_verdict()
     ensures { OneVerdict }
 {}
 
-/// Where there is a verdict, it is a Yes exactly where both files conform and one is the export of the
-/// other.
+/// Where there is a verdict, it is a Yes exactly where both files conform and the second is the export of
+/// the first.
 pub fn a_yes_is_given_exactly_for_an_export()
     ensures { YesExactly }
 {}

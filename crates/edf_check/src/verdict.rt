@@ -78,7 +78,8 @@ pub enum TextField {
 pub enum SubfieldMismatch {
     /// It is claimed anonymous, and isn't `X` in the export.
     NotX,
-    /// It isn't claimed anonymous, and isn't the original's in the export.
+    /// It isn't claimed anonymous, and isn't the original's in the export; of a date: one is `X`, and the
+    /// other isn't.
     Changed,
 }
 

@@ -10,7 +10,7 @@ IsNotBefore p q = (q.num *ℤ pos p.den) ≤ℤ (p.num *ℤ pos q.den)
 abbrev pub IsSame : Instant → Instant → Type 0
 IsSame p q = p.num *ℤ pos q.den ≡ q.num *ℤ pos p.den
 
--- an instant whose products with another denominator fit 128 bits
+-- an instant whose products with the denominator of another such instant fit 128 bits
 abbrev pub IsSmall : Instant → Type 0
 IsSmall p = (unsigned_abs p.num < 2 ^ 103) × (p.den < 2 ^ 24)
 

@@ -75,8 +75,9 @@ impl FileReader {
     }
 }
 
-/// Reads a whole file, and says how much it holds: `Ok` where it conforms to the profile, which
-/// docs/PROFILE.md tells, and else its first fault. The source is read to its end on `Ok`.
+/// Reads a whole file, and says how much it holds: `Ok` only where it conforms to the profile, which
+/// docs/PROFILE.md tells; a `Fault` is its first one. The other errors are a failed read and want of
+/// memory. The source is read to its end on `Ok`.
 pub fn conform<S: Source>(alloc: Global, source: &mut S) -> Result<Summary, Stop>
     ensures failures { OnOk result (S.failures source.new ≡ S.failures source.old) }
     ensures conforms { IfOk result (λ summary. IsTrue (S.is_honest source.old) → IsSummed (S.left source.old) (S.left source.new) summary) }

@@ -22,7 +22,7 @@ use edf_header::header::Header;
 use edf_header::stop::Stop;
 use std::alloc::{AllocError, Global};
 
-/// What a file means, whatever its data records and the order of its signals.
+/// The samples of a file at their instants, and its annotations.
 #[derive(Debug, Drop)]
 pub struct Meaning {
     /// The samples of all channels, in order of data record, channel and place.
@@ -81,8 +81,8 @@ impl FileReader {
     }
 
     /// Reads the data records of a file of which only the header was read, and answers the header and what
-    /// the file means: `Ok` where the file conforms to the profile, and else its first fault. The source is
-    /// read to its end on `Ok`.
+    /// the file means: `Ok` only where the file conforms to the profile; a `Fault` is its first one. The
+    /// other errors are a failed read and want of memory. The source is read to its end on `Ok`.
     pub fn into_meaning<S: Source>(
         self,
         alloc: Global,
@@ -107,8 +107,9 @@ impl FileReader {
     }
 }
 
-/// Reads a whole file, and says what it means: `Ok` where it conforms to the profile, which docs/PROFILE.md
-/// tells, and else its first fault. The source is read to its end on `Ok`.
+/// Reads a whole file, and says what it means: `Ok` only where it conforms to the profile, which
+/// docs/PROFILE.md tells; a `Fault` is its first one. The other errors are a failed read and want of
+/// memory. The source is read to its end on `Ok`.
 ///
 /// This is the plain slow way: everything is in memory at once.
 pub fn whole_meaning<S: Source>(alloc: Global, source: &mut S) -> Result<Meaning, Stop>
