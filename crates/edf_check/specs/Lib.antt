@@ -15,3 +15,7 @@ pub mod Annotations
 pub mod Exports
 pub mod Verdicts
 pub mod Laws
+pub mod Outcomes
+pub mod Checks
+pub mod Lines
+pub mod Runs

@@ -5,12 +5,16 @@
 mod blank;
 mod calibrations;
 mod channels;
+pub mod check;
 mod comparison;
 pub mod head_difference;
 pub mod label;
 mod labels;
 pub mod laws;
 pub mod note_text;
+pub mod outcome;
+pub mod run;
+pub mod side;
 mod subfields;
 mod texts;
 pub mod verdict;

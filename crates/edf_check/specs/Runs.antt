@@ -1,0 +1,43 @@
+-- What a run of the check writes, and why it stops.
+use Rattle.std.specs.Prelude.{◌≡◌, ℕ, List, ◌++◌}
+use Rattle.edf_claim.specs.Claims.{Terms, SaysClaimText}
+use Rattle.edf_claim.specs.declared.stop.ClaimStop.{ClaimStop}
+use Rattle.edf_fields.specs.Sinks.{HoldsPrefix}
+use Rattle.edf_check.specs.Checks.{YesMeans}
+use Rattle.edf_check.specs.declared.outcome.Outcome.{Outcome}
+use Rattle.edf_check.specs.declared.run.RunStop.{RunStop}
+use Rattle.edf_check.specs.declared.run.RunStop.TheVariants.{OutOfMemory, ReadFailed, Claim, WriteFailed}
+use Rattle.edf_check.specs.declared.side.Side.TheVariants as sides
+use Rattle.edf_check.specs.declared.verdict.Verdict.{Verdict}
+use Rattle.edf_check.specs.Lines.{verdict_line}
+use Rattle.edf_check.specs.Outcomes.{outcome_of}
+use Rattle.edf_check.specs.Verdicts.{IsVerdict}
+
+-- this is the verdict on two files under the claim that a text says
+pub record IsVerdictUnder (original export text : List ℕ) (verdict : Verdict) : Type 0 where
+  pub claim : Terms
+  pub says : SaysClaimText text claim
+  pub is : IsVerdict original export claim verdict
+  pub means : YesMeans original export claim verdict
+
+-- behind what was held stands the line of the verdict on two files under the claim that a text says, and nothing else; the outcome
+-- is the verdict's
+pub record IsReport (original export text old new : List ℕ) (outcome : Outcome) : Type 0 where
+  pub verdict : Verdict
+  pub under : IsVerdictUnder original export text verdict
+  pub line : new ≡ old ++ verdict_line verdict
+  pub outcome_is : outcome ≡ outcome_of verdict
+
+-- behind what was held stands a front of that line
+pub record IsPartOfReport (original export text old new : List ℕ) : Type 0 where
+  pub verdict : Verdict
+  pub under : IsVerdictUnder original export text verdict
+  pub part : HoldsPrefix old new (verdict_line verdict)
+
+-- of a refused claim this is said, of a failed read of the original or of the export that, of a failed write the last
+abbrev pub RunStops : (ClaimStop → Type 0) → Type 0 → Type 0 → Type 0 → RunStop → Type 0
+RunStops refused original export failed OutOfMemory = Unit {0}
+RunStops refused original export failed (ReadFailed sides.Original) = original
+RunStops refused original export failed (ReadFailed sides.Export) = export
+RunStops refused original export failed (Claim cause) = refused cause
+RunStops refused original export failed WriteFailed = failed

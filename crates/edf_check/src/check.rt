@@ -1,0 +1,35 @@
+//! The check of an export against its original and a claim.
+
+ghost use Rattle.std.specs.Prelude.{◌≡◌, IfOk, IfErr, IsTrue};
+ghost use Rattle.edf_fields.specs.Sources.{Rises};
+ghost use Rattle.edf_check.specs.Checks.{AreRead, CheckStops, YesMeans};
+ghost use Rattle.edf_check.specs.Verdicts.{IsVerdict};
+
+use crate::side::CheckStop;
+use crate::verdict::Verdict;
+use edf_claim::claim::Claim;
+use edf_fields::source::Source;
+use std::alloc::Global;
+
+/// Checks whether the export is the original, cut and made anonymous as the claim says, and nothing else.
+///
+/// The verdict is the first difference in the order of `Difference`, or Yes. Both files are read from the
+/// first byte to the end; where the original has a fault, the export isn't read to its end, and where the
+/// export has one, the original is. The error is want of memory, or a failure of one of the sources; on an
+/// error nothing is said of the files, and the sources are made anew before another check.
+pub fn check<O: Source, E: Source>(
+    alloc: Global,
+    original: &mut O,
+    export: &mut E,
+    claim: &Claim,
+) -> Result<Verdict, CheckStop>
+    ensures headline { IfOk result (λ verdict. IsTrue (O.is_honest original.old) → IsTrue (E.is_honest export.old) →
+        YesMeans (O.left original.old) (E.left export.old) claim.now verdict) }
+    ensures verdict { IfOk result (λ verdict. IsTrue (O.is_honest original.old) → IsTrue (E.is_honest export.old) →
+        IsVerdict (O.left original.old) (E.left export.old) claim.now verdict) }
+    ensures read { IfOk result (λ verdict. IsTrue (O.is_honest original.old) → IsTrue (E.is_honest export.old) →
+        AreRead verdict (O.left original.new) (E.left export.new)) }
+    ensures stop { IfErr result (CheckStops (Rises (O.failures original.old) (O.failures original.new)) (Rises (E.failures export.old) (E.failures export.new))) }
+{
+    Err(CheckStop::OutOfMemory)
+}

@@ -1,0 +1,55 @@
+//! A check of two files under the text of a claim, with one line of text for its answer.
+
+ghost use Rattle.std.specs.Prelude.{◌≡◌, ◌≢◌, IfOk, IfErr, OnOk, IsTrue};
+ghost use Rattle.edf_claim.specs.declared.stop.ClaimStop.TheVariants as claim_stops;
+ghost use Rattle.edf_claim.specs.Faults.{FirstClaimFault};
+ghost use Rattle.edf_fields.specs.Sources.{Rises};
+ghost use Rattle.edf_check.specs.declared.run.RunStop.TheVariants as stops;
+ghost use Rattle.edf_check.specs.Runs.{IsReport, IsPartOfReport, RunStops};
+
+use crate::outcome::Outcome;
+use crate::side::Side;
+use edf_claim::stop::ClaimStop;
+use edf_fields::sink::Sink;
+use edf_fields::source::Source;
+use std::alloc::Global;
+
+/// Why a run stopped before its line was written.
+#[derive(Debug, Clone, Copy, PartialEq, Eq)]
+pub enum RunStop {
+    /// Memory ran out.
+    OutOfMemory,
+    /// The source of this file failed.
+    ReadFailed(Side),
+    /// The text says no claim: its first fault, which isn't want of memory.
+    Claim(ClaimStop),
+    /// The sink failed.
+    WriteFailed,
+}
+
+/// Reads the claim that a text says, checks the export against the original, and writes the line of the
+/// verdict.
+///
+/// Nothing is written before the verdict is known. Where the sink fails, a front of the line was written.
+pub fn run<O: Source, E: Source, K: Sink>(
+    alloc: Global,
+    original: &mut O,
+    export: &mut E,
+    claim_text: &[u8],
+    sink: &mut K,
+) -> Result<Outcome, RunStop>
+    ensures report { IfOk result (λ outcome. IsTrue (O.is_honest original.old) → IsTrue (E.is_honest export.old) → IsTrue (K.is_honest sink.old) →
+        IsReport (O.left original.old) (E.left export.old) claim_text.now (K.held sink.old) (K.held sink.new) outcome) }
+    ensures failures { OnOk result (K.failures sink.new ≡ K.failures sink.old) }
+    ensures honesty { IsTrue (K.is_honest sink.old) → IsTrue (K.is_honest sink.new) }
+    ensures nothing { IfErr result (λ stop. stop ≢ stops.WriteFailed → sink.new ≡ sink.old) }
+    ensures part { IfErr result (λ stop. stop ≡ stops.WriteFailed → IsTrue (O.is_honest original.old) → IsTrue (E.is_honest export.old) → IsTrue (K.is_honest sink.old) →
+        IsPartOfReport (O.left original.old) (E.left export.old) claim_text.now (K.held sink.old) (K.held sink.new)) }
+    ensures stop { IfErr result (RunStops
+        (λ cause. (cause ≢ claim_stops.OutOfMemory) × FirstClaimFault claim_text.now cause)
+        (Rises (O.failures original.old) (O.failures original.new))
+        (Rises (E.failures export.old) (E.failures export.new))
+        (Rises (K.failures sink.old) (K.failures sink.new))) }
+{
+    Err(RunStop::OutOfMemory)
+}
