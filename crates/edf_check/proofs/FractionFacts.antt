@@ -1,11 +1,11 @@
 -- The order of fractions with positive denominators.
-use Rattle.std.proofs.Common.{ℕ, ◌<◌, ◌≤◌, ◌+◌, ◌*◌, ℤ, pos, ◌*ℤ◌, ◌<ℤ◌, arith, sym}
+use Rattle.std.proofs.Common.{◌≡◌, true, false, ℕ, ◌<◌, ◌≤◌, ◌+◌, ◌*◌, ℤ, pos, ◌*ℤ◌, ◌<ℤ◌, arith, sym}
 use Rattle.std.proofs.lemmas.Int.{ints, by_lt_z}
 use Rattle.std.proofs.Math.Nat.{lt_of_mul-lt-mul_right, mul-lt-mul_of_pos_right, mul-le-mul_right}
-use borrow.Author.Differences.{up, down}
+use borrow.Author.Differences.{up, down, true_is_lt, false_is_lt}
 use Rattle.edf_stream.specs.declared.instant.Instant.{Instant}
 use Rattle.edf_stream.specs.Instants.{IsNotBefore, IsSame}
-use Rattle.edf_check.specs.Instants.{IsBefore}
+use Rattle.edf_check.specs.Instants.{IsBefore, is_before}
 
 -- with a - a' over n, and so on: the first is below the second, the second at most the third
 cross_lt_le : (a a' b b' c c' n m k : ℕ) → 0 < k → a * m + b' * n < b * n + a' * m → b * k + c' * m ≤ c * m + b' * k → a * k + c' * n < c * n + a' * k
@@ -56,6 +56,18 @@ before_not p q f s = absurd (omega (arith, ints))
 
 pub same_back : (p q : Instant) → IsSame p q → IsSame q p
 same_back p q s = sym s
+
+pub is_before-true : (p q : Instant) → is_before p q ≡ true → IsBefore p q
+is_before-true p q e = omega (arith, ints)
+
+pub is_before-false : (p q : Instant) → is_before p q ≡ false → IsNotBefore p q
+is_before-false p q e = omega (arith, ints)
+
+pub true-is_before : (p q : Instant) → IsBefore p q → is_before p q ≡ true
+true-is_before p q e = sym (true_is_lt (p.num *ℤ pos q.den) (q.num *ℤ pos p.den) (omega (arith, ints)))
+
+pub false-is_before : (p q : Instant) → IsNotBefore p q → is_before p q ≡ false
+false-is_before p q e = sym (false_is_lt (p.num *ℤ pos q.den) (q.num *ℤ pos p.den) (omega (arith, ints)))
 
 pub both_same : (p q : Instant) → IsNotBefore p q → IsNotBefore q p → IsSame p q
 both_same p q f g = omega (arith, ints)

@@ -14,3 +14,5 @@ pub mod OneHeadFacts
 pub mod VerdictFacts
 pub mod WordsFacts
 pub mod RearrangedFacts
+pub mod DifferenceFacts
+pub mod EarliestFacts

@@ -19,3 +19,5 @@ pub mod Outcomes
 pub mod Checks
 pub mod Lines
 pub mod Runs
+pub mod Differences
+pub mod Earliest

@@ -62,10 +62,11 @@ pub instants_fit : InstantsFit
 instants_fit file other h g c d x y p q =
     let num = sample-small file h x c p in
     let n = few-in-lane file h x c p in
+    let positive : 0 < (x.instant).den = omega (arith, p.in_lane) in
     let m = few-in-lane other g y d q in
     let product : unsigned_abs ((x.instant).num *ℤ pos (y.instant).den) ≤ 2 ^ 102 * 8388608 =
     rw (unsigned_abs-mul (x.instant).num (pos (y.instant).den)) (mul-le-mul (let z : unsigned_abs (x.instant).num ≤ 2 ^ 102 = omega (arith, num) in z) m) in
-    ((omega (arith, num), omega (arith, n)), omega (arith, product))
+    ((omega (arith, num), positive, omega (arith, n)), omega (arith, product))
 
 -- a product grows with a factor above 0
 scale-strict : (n : ℕ) (x y : ℤ) → 0 < n → x <ℤ y → (pos n *ℤ x) <ℤ (pos n *ℤ y)

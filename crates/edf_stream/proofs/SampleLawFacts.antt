@@ -11,7 +11,7 @@ use Rattle.edf_header.specs.Channels.{IsChannel}
 use Rattle.edf_header.specs.Heads.{SignalHead, Head, is_annotations}
 use Rattle.edf_stream.specs.declared.sample.Sample.{Sample}
 use Rattle.edf_stream.specs.Conforming.{Conforms}
-use Rattle.edf_stream.specs.Laws.{SamplesAreListed, SamplesRise, OneAtAnInstant}
+use Rattle.edf_stream.specs.Laws.{SamplesAreListed, SamplesAreOfChannels, SamplesRise, OneAtAnInstant}
 use Rattle.edf_stream.specs.Records.{record_at, lane_of, lane_at, samples_at}
 use Rattle.edf_stream.specs.Samples.{SampleValue, IsSample, samples_by, samples_before, samples_of, channel_label, labelled}
 use Rattle.edf_stream.specs.Starts.{file_start, start_at, end_at}
@@ -106,6 +106,14 @@ samples_are_listed file h c x = (
   λ r. let found = is-listed file h x c r in subst (Has (map (labelled h) (samples_of file h))) found.2 (has-map (labelled h) (samples_of file h) found.0 found.1),
   λ i. let found = map-has (labelled h) (samples_of file h) x i in subst (IsSample file h) found.2 (listed-is file h found.0 c found.1),
 )
+
+pub samples_are_of_channels : SamplesAreOfChannels
+samples_are_of_channels file h x i =
+    let found = (listed file h x i).found in
+    let is = (found.lane).is in
+    let numbered : x.channel ≡ 0 + found.at = ap (λ (z : Sample). z.channel) is in
+    let at : found.at ≡ x.channel = omega (arith, numbered) in
+    (found.signal, subst (λ k. slice_get (channels_among h.signals) k ≡ Some found.signal) at found.there, ap (λ (z : Sample). (z.instant).den) is)
 
 pub samples_rise : SamplesRise
 unfolding samples_of

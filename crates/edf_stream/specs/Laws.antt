@@ -1,9 +1,10 @@
 -- What follows from the definitions.
-use Rattle.std.specs.Prelude.{◌≡◌, ◌↔◌, ℕ, pos, ◌*◌, ◌<◌, ◌*ℤ◌, ◌^◌, List, length, map, Some, unsigned_abs}
+use Rattle.std.specs.Prelude.{◌≡◌, ◌↔◌, ℕ, pos, ◌*◌, ◌<◌, ◌*ℤ◌, ◌^◌, List, length, map, Some, slice_get, unsigned_abs}
 use Rattle.edf_header.specs.declared.fault.Fault.{Fault}
 use Rattle.edf_header.specs.Faults.{header_fault}
 use Rattle.edf_fields.specs.Lists.{Has}
-use Rattle.edf_header.specs.Heads.{Head, start_second, samples_together}
+use Rattle.edf_header.specs.Heads.{SignalHead, Head, start_second, samples_together}
+use Rattle.edf_stream.specs.declared.sample.Sample.{Sample}
 use Rattle.edf_stream.specs.Records.{record_at}
 use Rattle.edf_stream.specs.Notes.{NoteValue, SaysNotes, notes_in, notes_before, notes_of}
 use Rattle.edf_stream.specs.Instants.{IsNotBefore, IsSame, IsSmall, IsSecondOf}
@@ -29,6 +30,11 @@ BodyFaultIsFirst = (r : Reader) (left file : List ℕ) → StandsIn r left file 
 -- a sample is one of a file that conforms exactly where it stands in the list of its samples
 abbrev pub SamplesAreListed : Type 0
 SamplesAreListed = (file : List ℕ) (h : Head) → Conforms file h → (x : SampleValue) → IsSample file h x ↔ Has (map (labelled h) (samples_of file h)) x
+
+-- each sample of the list has the number of a channel, and as its denominator how many samples that channel has in a data record
+abbrev pub SamplesAreOfChannels : Type 0
+SamplesAreOfChannels = (file : List ℕ) (h : Head) (x : Sample) → Has (samples_of file h) x →
+    (signal : SignalHead) × (slice_get (channels_among h.signals) x.channel ≡ Some signal) × ((x.instant).den ≡ signal.samples)
 
 -- in the list of samples of a file that conforms the numerators of each channel rise, so each sample stands there once
 abbrev pub SamplesRise : Type 0

@@ -56,6 +56,10 @@ note_view note = record { onset = note.onset; duration = note.duration; text = n
 abbrev pub note_value : Note → NoteValue
 note_value note = record { onset = note.onset; duration = note.duration; text = string_bytes note.text }
 
+-- the onset of an annotation of any file, whatever its source, is less than 2^80 ps from 1970
+abbrev pub IsNear : Note → Type 0
+IsNear note = unsigned_abs note.onset < 2 ^ 80
+
 -- the annotations that are still to come of a TAL, where one is at hand
 abbrev pub notes_of_said : Option TalNotes → List NoteValue
 notes_of_said None = []

@@ -101,7 +101,8 @@ impl Grid {
     pub(crate) fn instant(self, place: usize) -> Instant
         requires near { unsigned_abs self.start < 2 ^ 102 }
         requires step { unsigned_abs self.step < 2 ^ 68 }
-        requires den { self.den < 2 ^ 24 }
+        requires some { 0 < self.den }
+        requires den { self.den ≤ 2 ^ 23 }
         requires place { place < 2 ^ 24 }
         ensures value { result ≡ instant_on self place }
         ensures small { IsSmall result }

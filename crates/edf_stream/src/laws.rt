@@ -1,7 +1,7 @@
 //! Laws of the definitions, each the contract of a function that does nothing.
 
 ghost use Rattle.edf_stream.specs.Conforming.{ConformingIsFaultless, RecordsFollowOn};
-ghost use Rattle.edf_stream.specs.Laws.{NotesAreSaid, HeaderFaultIsFirst, BodyFaultIsFirst, SamplesAreListed, SamplesRise, OneAtAnInstant, InstantsFit, StartIsOfLeast, SamplesAreCounted, NotesAreCounted};
+ghost use Rattle.edf_stream.specs.Laws.{NotesAreSaid, HeaderFaultIsFirst, BodyFaultIsFirst, SamplesAreListed, SamplesAreOfChannels, SamplesRise, OneAtAnInstant, InstantsFit, StartIsOfLeast, SamplesAreCounted, NotesAreCounted};
 
 /// A file conforms, in words, exactly where it has no first fault.
 pub fn conforming_is_being_faultless()
@@ -27,6 +27,11 @@ pub fn faults_are_the_first()
 /// What a file means lists its samples, in words, and no others.
 pub fn samples_are_listed()
     ensures { SamplesAreListed }
+{}
+
+/// Each sample of the list of a file has the number of one of its channels, and that channel's denominator.
+pub fn samples_are_of_channels()
+    ensures { SamplesAreOfChannels }
 {}
 
 /// In the list of samples of a file that conforms the numerators of each channel rise: each sample stands

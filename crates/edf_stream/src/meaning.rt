@@ -11,7 +11,7 @@ ghost use Rattle.edf_stream.specs.Meanings.{IsMeaning, IsWhole};
 ghost use Rattle.edf_stream.specs.Notes.{moved_notes_in};
 ghost use Rattle.edf_stream.specs.Readers.{HasBegun, is_current, StandsIn};
 ghost use Rattle.edf_stream.specs.Samples.{samples_in};
-ghost use Rattle.edf_stream.specs.Views.{note_value};
+ghost use Rattle.edf_stream.specs.Views.{note_value, IsNear};
 
 use crate::grid::{Stretch, file_start_ps};
 use crate::notes::{Note, push_notes};
@@ -48,9 +48,11 @@ impl Meaning {
     fn add(&mut self, alloc: Global, reader: &FileReader) -> Result<(), AllocError>
         requires current { IsTrue (is_current reader.now.status) }
         requires small { All (λ x. IsSmall x.instant) self.old.samples.items }
+        requires near { All IsNear self.old.notes.items }
         ensures samples { OnOk result (self.new.samples.items ≡ self.old.samples.items ++ samples_in reader.now.head reader.now.current) }
         ensures notes { OnOk result (map note_value self.new.notes.items ≡ map note_value self.old.notes.items ++ moved_notes_in reader.now.head reader.now.current) }
         ensures small { OnOk result (All (λ x. IsSmall x.instant) self.new.samples.items) }
+        ensures near { OnOk result (All IsNear self.new.notes.items) }
     {
         reader.push_samples(&mut self.samples)?;
         reader.push_notes(alloc, &mut self.notes)
@@ -73,8 +75,10 @@ impl FileReader {
     /// Puts the annotations of the data record at hand behind `notes`.
     #[tactic(auto, unfolding(crate::specs::Notes::moved_notes_in))]
     fn push_notes(&self, alloc: Global, notes: &mut Vec<Note>) -> Result<(), AllocError>
-        requires { IsTrue (is_current self.now.status) }
-        ensures { OnOk result (map note_value notes.new.items ≡ map note_value notes.old.items ++ moved_notes_in self.now.head self.now.current) }
+        requires current { IsTrue (is_current self.now.status) }
+        requires near { All IsNear notes.old.items }
+        ensures value { OnOk result (map note_value notes.new.items ≡ map note_value notes.old.items ++ moved_notes_in self.now.head self.now.current) }
+        ensures near { OnOk result (All IsNear notes.new.items) }
     {
         let file_start = file_start_ps(&self.header);
         push_notes(alloc, notes, file_start, self.annotations())
@@ -91,6 +95,7 @@ impl FileReader {
         requires { HasBegun self }
         ensures head { IfOk result (λ found. found.0 ≡ self.head) }
         ensures small { IfOk result (λ found. All (λ x. IsSmall x.instant) found.1.samples.items) }
+        ensures near { IfOk result (λ found. All IsNear found.1.notes.items) }
         ensures failures { OnOk result (S.failures source.new ≡ S.failures source.old) }
         ensures honesty { OnOk result (IsTrue (S.is_honest source.old) → IsTrue (S.is_honest source.new)) }
         ensures meaning { IfOk result (λ found. IsTrue (S.is_honest source.old) → (file : List ℕ) → StandsIn self (S.left source.old) file → IsMeaning file self.head (S.left source.new) found.1) }
@@ -114,6 +119,7 @@ impl FileReader {
 /// This is the plain slow way: everything is in memory at once.
 pub fn whole_meaning<S: Source>(alloc: Global, source: &mut S) -> Result<Meaning, Stop>
     ensures small { IfOk result (λ meaning. All (λ x. IsSmall x.instant) meaning.samples.items) }
+    ensures near { IfOk result (λ meaning. All IsNear meaning.notes.items) }
     ensures failures { OnOk result (S.failures source.new ≡ S.failures source.old) }
     ensures meaning { IfOk result (λ meaning. IsTrue (S.is_honest source.old) → IsWhole (S.left source.old) (S.left source.new) meaning) }
     ensures stop { IfErr result (Stops (λ f. IsTrue (S.is_honest source.old) → file_fault (S.left source.old) ≡ Some f) (Rises (S.failures source.old) (S.failures source.new)) (S.failures source.new ≡ S.failures source.old)) }

@@ -1,9 +1,10 @@
 //! The annotations of a file, with texts of their own. EDF+ (2003), "Time-stamped Annotations Lists (TALs)
 //! in an 'EDF Annotations' signal".
 
-ghost use Rattle.std.specs.Prelude.{◌≡◌, ◌++◌, ◌<◌, ◌^◌, map, unsigned_abs, IfOk, OnOk};
+ghost use Rattle.std.specs.Prelude.{◌≡◌, [], ◌∷◌, ◌++◌, ◌<◌, ◌^◌, map, unsigned_abs, IfOk, OnOk};
+ghost use Rattle.std.specs.List.{All};
 ghost use Rattle.edf_stream.specs.Notes.{moved_by};
-ghost use Rattle.edf_stream.specs.Views.{note_view, note_value, notes_left};
+ghost use Rattle.edf_stream.specs.Views.{note_view, note_value, notes_left, IsNear};
 
 use crate::annotations::Annotations;
 use crate::note::NoteRef;
@@ -25,7 +26,8 @@ impl Note {
     /// The annotation, in a file that starts at `start_ps`.
     fn new(alloc: Global, start_ps: i128, note: NoteRef<'_>) -> Result<Note, AllocError>
         requires { unsigned_abs start_ps < 2 ^ 79 }
-        ensures { IfOk result (λ n. note_value n ≡ moved_by start_ps (note_view note.entry)) }
+        ensures value { IfOk result (λ n. note_value n ≡ moved_by start_ps (note_view note.entry)) }
+        ensures near { IfOk result IsNear }
     {
         Ok(Note {
             onset: start_ps + note.onset,
@@ -33,6 +35,22 @@ impl Note {
             text: String::from_str(alloc, note.text)?,
         })
     }
+}
+
+/// Puts an annotation behind `notes`, in a file that starts at `start_ps`.
+fn push_note(
+    alloc: Global,
+    notes: &mut Vec<Note>,
+    start_ps: i128,
+    note: NoteRef<'_>,
+) -> Result<(), AllocError>
+    requires start { unsigned_abs start_ps < 2 ^ 79 }
+    requires near { All IsNear notes.old.items }
+    ensures value { OnOk result (map note_value notes.new.items ≡ map note_value notes.old.items ++ moved_by start_ps (note_view note.entry) ∷ []) }
+    ensures near { OnOk result (All IsNear notes.new.items) }
+{
+    notes.push(Note::new(alloc, start_ps, note)?)?;
+    Ok(())
 }
 
 /// Puts the annotations that are left of a data record behind `notes`, in a file that starts at
@@ -43,11 +61,13 @@ pub(crate) fn push_notes(
     start_ps: i128,
     annotations: Annotations<'_>,
 ) -> Result<(), AllocError>
-    requires { unsigned_abs start_ps < 2 ^ 79 }
-    ensures { OnOk result (map note_value notes.new.items ≡ map note_value notes.old.items ++ map (moved_by start_ps) (notes_left annotations.entry)) }
+    requires start { unsigned_abs start_ps < 2 ^ 79 }
+    requires near { All IsNear notes.old.items }
+    ensures value { OnOk result (map note_value notes.new.items ≡ map note_value notes.old.items ++ map (moved_by start_ps) (notes_left annotations.entry)) }
+    ensures near { OnOk result (All IsNear notes.new.items) }
 {
     for note in annotations {
-        notes.push(Note::new(alloc, start_ps, note)?)?;
+        push_note(alloc, notes, start_ps, note)?;
     }
     Ok(())
 }

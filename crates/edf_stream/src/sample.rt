@@ -30,7 +30,8 @@ pub struct Sample {
 fn sample_at(channel: u16, grid: Grid, lane: &[u8], place: usize) -> Sample
     requires near { unsigned_abs grid.start < 2 ^ 102 }
     requires step { unsigned_abs grid.step < 2 ^ 68 }
-    requires den { grid.den < 2 ^ 24 }
+    requires some { 0 < grid.den }
+    requires den { grid.den ≤ 2 ^ 23 }
     requires few { place < 2 ^ 24 }
     requires place { 2 * place + 1 < length lane.now }
     ensures channel { result.channel ≡ channel }
@@ -54,7 +55,8 @@ pub(crate) fn push_lane(
 ) -> Result<(), AllocError>
     requires near { unsigned_abs grid.start < 2 ^ 102 }
     requires step { unsigned_abs grid.step < 2 ^ 68 }
-    requires den { grid.den < 2 ^ 24 }
+    requires some { 0 < grid.den }
+    requires den { grid.den ≤ 2 ^ 23 }
     requires lane { length lane.now < 2 ^ 25 }
     requires small { All (λ x. IsSmall x.instant) samples.old.items }
     ensures value { OnOk result (samples.new.items ≡ samples.old.items ++ lane_samples channel grid.den grid.start grid.step lane.now) }
@@ -78,6 +80,7 @@ fn push_signal(
     requires start { unsigned_abs stretch.start_ps < 2 ^ 79 }
     requires duration { unsigned_abs stretch.duration_ps < 2 ^ 68 }
     requires channel { channel < 2 ^ 16 - 1 }
+    requires some { 0 < signal.now.samples }
     requires lane { signal.now.samples ≤ 2 ^ 23 }
     requires small { All (λ x. IsSmall x.instant) samples.old.items }
     ensures value { OnOk result (samples.new.items ≡ samples.old.items ++ samples_by channel stretch.start_ps stretch.duration_ps (channels_among (signal.now ∷ [])) bytes.now) }

@@ -12,7 +12,7 @@ use Rattle.edf_stream.specs.Meanings.{IsMeaning}
 use Rattle.edf_stream.specs.Notes.{moved_notes_before}
 use Rattle.edf_stream.specs.Readers.{StandsIn, IsOpen, Comes, status_after}
 use Rattle.edf_stream.specs.Samples.{samples_before}
-use Rattle.edf_stream.specs.Views.{note_value}
+use Rattle.edf_stream.specs.Views.{note_value, IsNear}
 use Rattle.edf_stream.proofs.StopFacts.{stops-reading, handed-on}
 use Rattle.edf_stream.proofs.MeaningFacts.{samples-more, notes-more, all-samples, all-notes}
 use Rattle.edf_stream.proofs.reader.FileReader.into_meaning.Goals as goal
@@ -29,6 +29,7 @@ loop-meaning-init g c = record {
     ap (map note_value) c.new-meaning.ensures.notes ∙ ap (moved_notes_before file (c.args.self).head) (sym c.requires.1),
   );
   small = subst (All (λ (x : Sample). IsSmall x.instant)) (sym c.new-meaning.ensures.samples) (All-nil (λ (x : Sample). IsSmall x.instant));
+  near = subst (All IsNear) (sym c.new-meaning.ensures.notes) (All-nil IsNear);
 }
 
 pub returns-in_err-next-clause-stop : goal.returns-in_err-next-clause-stop
@@ -72,6 +73,7 @@ loop-meaning-preserved g c =
             notes-more file old new (map note_value c.loop-meaning.meaning.notes.items) (map note_value c.add.new.self.notes.items) next.head comes.1 read had.2 added.notes,
           );
       small = added.small;
+      near = added.near;
     }
 
 pub returns-clause-meaning : goal.returns-clause-meaning

@@ -4,7 +4,7 @@ use Rattle.edf_stream.specs.Instants.{IsSmall}
 use Rattle.edf_stream.specs.Notes.{moved_notes_before}
 use Rattle.edf_stream.specs.Readers.{IsOpen, StandsIn}
 use Rattle.edf_stream.specs.Samples.{samples_before}
-use Rattle.edf_stream.specs.Views.{note_value}
+use Rattle.edf_stream.specs.Views.{note_value, IsNear}
 use Rattle.edf_stream.proofs.reader.FileReader.into_meaning.Given as goal
 
 abbrev pub invariant-loop-meaning : goal.invariant-loop-meaning
@@ -18,6 +18,7 @@ invariant-loop-meaning g l = record {
       × (l.meaning.samples.items ≡ samples_before file (l.reader).head (l.reader).read)
       × (map note_value l.meaning.notes.items ≡ moved_notes_before file (l.reader).head (l.reader).read);
   small : All (λ x. IsSmall x.instant) l.meaning.samples.items;
+  near : All IsNear l.meaning.notes.items;
 }
 
 abbrev pub decreases-loop-meaning : goal.decreases-loop-meaning
