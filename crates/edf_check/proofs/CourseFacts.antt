@@ -14,6 +14,28 @@ pub record IsCourse (K : Course) : Type 0 where
   pub moves : (l : List ℕ) (t u : Instant) (v : ℤ) → 0 < t.den → 0 < u.den → IsSame t u → K l t v → K l u v
   pub one : (l : List ℕ) (t : Instant) (v w : ℤ) → 0 < t.den → K l t v → K l t w → v ≡ w
 
+agree-back : (K L : Course) → Agree K L → Agree L K
+agree-back K L a l t v p = ((a l t v p).1, (a l t v p).0)
+
+-- courses in place of others with which they agree
+pub agree-alike : (K L E F : Course) → Agree K L → Agree E F → Agree K E → Agree L F
+agree-alike K L E F a b c l t v p = (λ h. (b l t v p).0 ((c l t v p).0 ((a l t v p).1 h)), λ h. (a l t v p).0 ((c l t v p).1 ((b l t v p).1 h)))
+
+differ-alike : (K L E F : Course) → Agree K L → Agree E F → (l : List ℕ) (t : Instant) (m : SampleMismatch) → 0 < t.den → DifferAt K E l t m → DifferAt L F l t m
+differ-alike K L E F a b l t Missing p d = ((d.0.0, (a l t d.0.0 p).0 d.0.1), λ w h. d.1 w ((b l t w p).1 h))
+differ-alike K L E F a b l t Extra p d = ((d.0.0, (b l t d.0.0 p).0 d.0.1), λ w h. d.1 w ((a l t w p).1 h))
+differ-alike K L E F a b l t (Value v w) p d = ((a l t v p).0 d.0, (b l t w p).0 d.1, d.2)
+
+pub first-alike : (K L E F : Course) → Agree K L → Agree E F → (l : List ℕ) (ps : ℤ) (m : SampleMismatch) → IsFirstMismatch K E l ps m → IsFirstMismatch L F l ps m
+first-alike K L E F a b l ps m f = record {
+  at = f.at;
+  positive = f.positive;
+  floor = f.floor;
+  differ = differ-alike K L E F a b l f.at m f.positive f.differ;
+  none_before = λ other t k p d. f.none_before other t k p (differ-alike L K F E (agree-back K L a) (agree-back E F b) other t k p d);
+  none_below = λ other t k p d. f.none_below other t k p (differ-alike L K F E (agree-back K L a) (agree-back E F b) other t k p d);
+}
+
 -- where they agree they don't differ
 pub agree-apart : (K E : Course) → IsCourse E → Agree K E → (l : List ℕ) (t : Instant) (m : SampleMismatch) → 0 < t.den → DifferAt K E l t m → ⊥
 agree-apart K E e a l t Missing p d = d.1 d.0.0 ((a l t d.0.0 p).0 d.0.1)

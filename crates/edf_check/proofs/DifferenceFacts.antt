@@ -217,7 +217,7 @@ one_at n (z ∷ xs) pn a x y (inr h) (inl i) s =
 one_at n (z ∷ xs) pn a x y (inr h) (inr i) s = one_at n xs pn a.1 x y h i s
 
 -- a list has no value at t where the other has none, if each of its members has a partner there
-partner_at : (n : ℕ) (xs : List Point) (m : ℕ) (ys : List Point) (t : Instant) (v : ℤ) → 0 < n → 0 < m → 0 < t.den → AreIn n xs m ys → HasValue n xs t v → HasValue m ys t v
+pub partner_at : (n : ℕ) (xs : List Point) (m : ℕ) (ys : List Point) (t : Instant) (v : ℤ) → 0 < n → 0 < m → 0 < t.den → AreIn n xs m ys → HasValue n xs t v → HasValue m ys t v
 partner_at n xs m ys t v pn pm pt i h =
     let p : HasValue m ys (instant n h.0) (h.0).value = i h.0 h.1 in
     (p.0, p.1, same_through (instant m p.0) (instant n h.0) t pm pn pt p.2 h.2, p.3 ∙ h.3)

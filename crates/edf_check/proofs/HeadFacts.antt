@@ -41,7 +41,7 @@ of-labels (z ∷ zs) x l h e f =
     (λ t. ⊎_elim (λ q. absurd (let g : true ≡ false = sym t ∙ ap (λ (s : SignalHead). is_annotations s.label) q ∙ ap is_annotations e ∙ f in cc)) (λ i. of-labels zs x l i e f) h)
     (λ t. ⊎_elim (λ q. inl (ap (λ (s : SignalHead). s.label) q ∙ e)) (λ i. inr (of-labels zs x l i e f)) h)
 
-labels-distinct : (signals : List SignalHead) → HasDistinctChannels signals → AreDistinct (channel_labels signals)
+pub labels-distinct : (signals : List SignalHead) → HasDistinctChannels signals → AreDistinct (channel_labels signals)
 labels-distinct [] d = tt
 labels-distinct (x ∷ xs) d =
     labels-case (is_annotations x.label) x.label (channel_labels xs) (λ ls. AreDistinct ls)
@@ -51,10 +51,10 @@ labels-distinct (x ∷ xs) d =
     behind : HasDistinctChannels xs
     behind s t label a b = let e : suc s ≡ suc t = d (suc s) (suc t) label a b in omega (arith, e)
 
-has-label : (h : Head) (l : List ℕ) → HasChannel h l → Has (channel_labels h.signals) l
+pub has-label : (h : Head) (l : List ℕ) → HasChannel h l → Has (channel_labels h.signals) l
 has-label h l c = of-labels h.signals c.0 l c.1.there c.1.labelled c.1.ordinary
 
-label-has : (h : Head) (l : List ℕ) → Has (channel_labels h.signals) l → HasChannel h l
+pub label-has : (h : Head) (l : List ℕ) → Has (channel_labels h.signals) l → HasChannel h l
 label-has h l i = let r = labels-of h.signals l i in (r.0, record { there = r.1; labelled = r.2; ordinary = r.3 })
 
 -- ---- which channels the headers have

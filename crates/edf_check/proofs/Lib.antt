@@ -16,3 +16,6 @@ pub mod WordsFacts
 pub mod RearrangedFacts
 pub mod DifferenceFacts
 pub mod EarliestFacts
+pub mod PlaceFacts
+pub mod ColumnFacts
+pub mod NightFacts

@@ -37,14 +37,14 @@ later-none z t e =
     let n : t.num +ℤ (pos t.den *ℤ z) ≡ t.num = omega (arith, ints, s) in
     ap (at-num t.den) n
 
-later-back : (s : ℤ) (t : Instant) → later s (later (neg_ℤ s) t) ≡ t
+pub later-back : (s : ℤ) (t : Instant) → later s (later (neg_ℤ s) t) ≡ t
 later-back s t = later-later (neg_ℤ s) s (pos 0) t (omega (arith, ints)) ∙ later-none (pos 0) t refl
 
 later-forth : (s : ℤ) (t : Instant) → later (neg_ℤ s) (later s t) ≡ t
 later-forth s t = later-later s (neg_ℤ s) (pos 0) t (omega (arith, ints)) ∙ later-none (pos 0) t refl
 
 -- x is at t, counted from s
-since-same : (s : ℤ) (x t : Instant) → IsSame x (later s t) → IsSame (later (neg_ℤ s) x) t
+pub since-same : (s : ℤ) (x t : Instant) → IsSame x (later s t) → IsSame (later (neg_ℤ s) x) t
 since-same s x t g = subst (IsSame (later (neg_ℤ s) x)) (later-forth s t) (later-same (neg_ℤ s) x (later s t) g)
 
 -- and later by h

@@ -21,3 +21,4 @@ pub mod Lines
 pub mod Runs
 pub mod Differences
 pub mod Earliest
+pub mod Columns

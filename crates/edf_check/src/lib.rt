@@ -4,8 +4,10 @@
 
 mod blank;
 mod calibrations;
+mod channel_place;
 mod channels;
 pub mod check;
+mod columns;
 mod comparison;
 mod difference;
 mod earliest;
@@ -14,10 +16,12 @@ mod instants;
 pub mod label;
 mod labels;
 pub mod laws;
+mod night;
 pub mod note_text;
 pub mod outcome;
 mod point;
 pub mod run;
+mod sample_difference;
 pub mod side;
 mod subfields;
 mod texts;
