@@ -1,11 +1,11 @@
 //! The first difference between the samples that a claim keeps of an original and those of an export.
 
-ghost use Rattle.std.specs.Prelude.{◌≡◌, map, ℕ, List, IfOk, IfSome, MatchOption};
+ghost use Rattle.std.specs.Prelude.{◌≡◌, ◌<◌, map, ℕ, length, List, Some, slice_get, IfOk, IfSome, MatchOption};
 ghost use Rattle.edf_check.specs.Columns.{IsNight, AreNights, night_view, label_difference};
 ghost use Rattle.edf_check.specs.Courses.{IsFirstMismatch};
 ghost use Rattle.edf_check.specs.Earliest.{earliest};
 ghost use Rattle.edf_check.specs.Exports.{SameSamples};
-ghost use Rattle.edf_check.specs.Instants.{IsModest};
+ghost use Rattle.edf_check.specs.Instants.{IsModest, floor_of};
 ghost use Rattle.edf_check.specs.Kept.{KeptAt, ExportedAt};
 
 use crate::channel_place::channel_at;
@@ -65,6 +65,7 @@ fn earliest_difference(
     requires export { IsNight export.now }
     ensures value { IfOk result (λ d. d ≡ earliest 0 (map (λ label. label_difference claim.now (night_view original.now) (night_view export.now) label.now) labels.now)) }
     ensures modest { IfOk result (λ d. IfSome d (λ f. IsModest f.difference.at)) }
+    ensures channel { IfOk result (λ d. IfSome d (λ f. f.channel < length labels.now)) }
 {
     let mut held = None;
     let mut i = labels.len();
@@ -74,4 +75,54 @@ fn earliest_difference(
         held = earlier(found_in(i, next), held);
     }
     Ok(held)
+}
+
+/// The first difference between the kept samples of an original and those of an export.
+#[derive(Debug, Drop)]
+pub(crate) struct SampleDifference {
+    pub label: Label,
+    /// The floor of the instant, in picoseconds after the second at which the original starts.
+    pub at_ps: i128,
+    pub mismatch: SampleMismatch,
+}
+
+/// A difference with the label of its channel, which is one of these.
+///
+/// The error is want of memory.
+fn with_label(alloc: Global, labels: &[&[u8]], found: Found) -> Result<SampleDifference, AllocError>
+    requires channel { found.channel < length labels.now }
+    requires some { 0 < found.difference.at.den }
+    ensures label { IfOk result (λ d. slice_get (map (λ label. label.now) labels.now) found.channel ≡ Some d.label) }
+    ensures at_ps { IfOk result (λ d. d.at_ps ≡ floor_of found.difference.at) }
+    ensures mismatch { IfOk result (λ d. d.mismatch ≡ found.difference.mismatch) }
+{
+    Ok(SampleDifference {
+        label: Label::new(alloc, labels[found.channel])?,
+        at_ps: floor(found.difference.at),
+        mismatch: found.difference.mismatch,
+    })
+}
+
+/// The first difference between the samples that a claim keeps of an original and those of an export: the
+/// earliest of all channels, and at one instant that of the least label. None exactly where the samples
+/// are the same.
+///
+/// This is said of the samples of files that conform and whose headers agree. The error is want of memory.
+pub(crate) fn sample_difference(
+    alloc: Global,
+    original: &Night,
+    export: &Night,
+    claim: &Claim,
+) -> Result<Option<SampleDifference>, AllocError>
+    requires original { IsNight original.now }
+    requires export { IsNight export.now }
+    ensures { IfOk result (λ found. (o e : List ℕ) → AreNights o e claim.now (night_view original.now) (night_view export.now) → MatchOption found
+        (SameSamples o e claim.now)
+        (λ d. IsFirstMismatch (KeptAt o claim.now) (ExportedAt o e claim.now) d.label d.at_ps d.mismatch)) }
+{
+    let labels = in_order(alloc, claim.channels())?;
+    match earliest_difference(alloc, original, export, claim, &labels)? {
+        Some(found) => Ok(Some(with_label(alloc, &labels, found)?)),
+        None => Ok(None),
+    }
 }

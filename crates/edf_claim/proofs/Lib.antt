@@ -1,3 +1,4 @@
+pub mod ForCallers
 pub mod FaultFacts
 pub mod KeepsFacts
 pub mod OrderFacts
