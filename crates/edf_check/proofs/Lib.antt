@@ -19,3 +19,4 @@ pub mod EarliestFacts
 pub mod PlaceFacts
 pub mod ColumnFacts
 pub mod NightFacts
+pub mod NoteOrderFacts

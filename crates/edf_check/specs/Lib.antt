@@ -22,3 +22,4 @@ pub mod Runs
 pub mod Differences
 pub mod Earliest
 pub mod Columns
+pub mod NoteOrder

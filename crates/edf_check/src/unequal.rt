@@ -1,0 +1,11 @@
+//! An annotation that two lists don't have equally often.
+
+use crate::verdict::AnnotationMismatch;
+use edf_stream::notes::Note;
+
+/// An annotation that two lists don't have equally often, borrowed from one of them.
+#[derive(Debug, Clone, Copy)]
+pub struct Unequal<'a> {
+    pub mismatch: AnnotationMismatch,
+    pub note: &'a Note,
+}
