@@ -20,3 +20,4 @@ pub mod PlaceFacts
 pub mod ColumnFacts
 pub mod NightFacts
 pub mod NoteOrderFacts
+pub mod WalkFacts

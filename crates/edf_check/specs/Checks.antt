@@ -8,6 +8,7 @@ use Rattle.edf_check.specs.Calibrations.{SameCalibrations}
 use Rattle.edf_check.specs.Channels.{SameChannels}
 use Rattle.edf_check.specs.declared.side.CheckStop.{CheckStop}
 use Rattle.edf_check.specs.declared.side.CheckStop.TheVariants.{OutOfMemory, ReadFailed}
+use Rattle.edf_check.specs.declared.side.Side.{Side}
 use Rattle.edf_check.specs.declared.side.Side.TheVariants as sides
 use Rattle.edf_check.specs.declared.verdict.Difference.{Difference}
 use Rattle.edf_check.specs.declared.verdict.Difference.TheVariants.{OriginalFault, ExportFault, UnknownChannel, MissingChannel, ExtraChannel, ChannelText, Calibration, Subfield, NotClean, Sample, Annotation}
@@ -58,3 +59,8 @@ abbrev pub CheckStops : Type 0 → Type 0 → CheckStop → Type 0
 CheckStops original export OutOfMemory = Unit {0}
 CheckStops original export (ReadFailed sides.Original) = original
 CheckStops original export (ReadFailed sides.Export) = export
+
+-- only the file of this side was read
+abbrev pub SideStops : Side → Type 0 → CheckStop → Type 0
+SideStops side failed OutOfMemory = Unit {0}
+SideStops side failed (ReadFailed other) = (other ≡ side) × failed

@@ -23,3 +23,4 @@ pub mod Differences
 pub mod Earliest
 pub mod Columns
 pub mod NoteOrder
+pub mod Walks

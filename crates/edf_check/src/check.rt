@@ -7,6 +7,7 @@ ghost use Rattle.edf_check.specs.Verdicts.{IsVerdict};
 
 use crate::side::CheckStop;
 use crate::verdict::Verdict;
+use crate::walk::walk;
 use edf_claim::claim::Claim;
 use edf_fields::source::Source;
 use std::alloc::Global;
@@ -17,6 +18,7 @@ use std::alloc::Global;
 /// first byte to the end; where the original has a fault, the export isn't read to its end, and where the
 /// export has one, the original is. The error is want of memory, or a failure of one of the sources; on an
 /// error nothing is said of the files, and the sources are made anew before another check.
+#[tactic(auto, using(crate::proofs::WalkFacts::headline_of))]
 pub fn check<O: Source, E: Source>(
     alloc: Global,
     original: &mut O,
@@ -31,5 +33,6 @@ pub fn check<O: Source, E: Source>(
         AreRead verdict (O.left original.new) (E.left export.new)) }
     ensures stop { IfErr result (CheckStops (Rises (O.failures original.old) (O.failures original.new)) (Rises (E.failures export.old) (E.failures export.new))) }
 {
-    Err(CheckStop::OutOfMemory)
+    let walked = walk(alloc, original, export, claim)?;
+    Ok(walked.verdict())
 }

@@ -2,11 +2,13 @@
 //! defined; and so far, their headers compared.
 #![tactic(auto)]
 
+mod assemble;
 mod blank;
 mod calibrations;
 mod channel_place;
 mod channels;
 pub mod check;
+mod clock;
 mod columns;
 mod comparison;
 mod difference;
@@ -29,3 +31,4 @@ mod subfields;
 mod texts;
 mod unequal;
 pub mod verdict;
+mod walk;

@@ -1,6 +1,6 @@
 //! What a claim says, and what it keeps.
 
-ghost use Rattle.std.specs.Prelude.{◌≡◌, ◌↔◌, ◌<◌, ◌≤◌, ◌^◌, ◌*ℤ◌, pos, map, length, IsTrue};
+ghost use Rattle.std.specs.Prelude.{◌≡◌, ◌↔◌, ◌<◌, ◌≤◌, ◌^◌, ◌*ℤ◌, pos, map, length, unsigned_abs, IsTrue};
 ghost use Rattle.std.specs.List.{list_any};
 ghost use Rattle.edf_claim.specs.Claims.{IsClaim};
 ghost use Rattle.edf_fields.specs.Lists.{Has, is_one_of as is_one_of_texts};
@@ -141,7 +141,8 @@ impl Claim {
 
     /// By how many picoseconds what is kept moves.
     pub fn shift_ps(&self) -> i128
-        ensures { result ≡ self.now.shift *ℤ pos 1000000000000 }
+        ensures value { result ≡ self.now.shift *ℤ pos 1000000000000 }
+        ensures near { unsigned_abs result < 2 ^ 74 }
     {
         i128::from(self.shift) * 1_000_000_000_000
     }

@@ -9,6 +9,7 @@ ghost use Rattle.edf_stream.specs.Summaries.{channels_among, IsSummed};
 
 use crate::reader::FileReader;
 use edf_fields::source::Source;
+use edf_header::header::Header;
 use edf_header::signal::Signal;
 use edf_header::stop::Stop;
 use std::alloc::Global;
@@ -56,6 +57,25 @@ fn channel_samples(signals: &[Signal]) -> u64
     count
 }
 
+impl Summary {
+    /// That of a file with this header, which has so many annotations.
+    pub fn of(header: &Header, annotations: u64) -> Summary
+        ensures records { result.records ≡ header.now.records }
+        ensures channels { result.channels ≡ length (channels_among header.now.signals) }
+        ensures samples { result.samples ≡ header.now.records * samples_together (channels_among header.now.signals) }
+        ensures annotations { result.annotations ≡ annotations }
+    {
+        let records = u64::from(header.records());
+        let signals = header.signals();
+        Summary {
+            records,
+            channels: channel_count(signals),
+            samples: records * channel_samples(signals),
+            annotations,
+        }
+    }
+}
+
 impl FileReader {
     /// How much the file holds, where all of its data records were read.
     fn summary(&self) -> Summary
@@ -64,14 +84,7 @@ impl FileReader {
         ensures samples { result.samples ≡ (self.now.head).records * samples_together (channels_among (self.now.head).signals) }
         ensures annotations { result.annotations ≡ self.now.notes }
     {
-        let records = u64::from(self.header.records());
-        let signals = self.header.signals();
-        Summary {
-            records,
-            channels: channel_count(signals),
-            samples: records * channel_samples(signals),
-            annotations: u64::from(self.progress.notes),
-        }
+        Summary::of(&self.header, u64::from(self.progress.notes))
     }
 }
 

@@ -19,7 +19,7 @@ fn in_picoseconds(seconds: i64) -> i128
 }
 
 /// The start of the file, in picoseconds after 1970-01-01 00:00:00 (civil time, without a time zone).
-pub(crate) fn file_start_ps(header: &Header) -> i128
+pub fn file_start_ps(header: &Header) -> i128
     ensures value { result ≡ file_start header.now }
     ensures small { unsigned_abs result < 2 ^ 39 * 10 ^ 12 }
 {

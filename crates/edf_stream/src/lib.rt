@@ -5,7 +5,7 @@
 pub mod annotations;
 pub mod conform;
 mod current;
-mod grid;
+pub mod grid;
 pub mod instant;
 mod lanes;
 pub mod laws;

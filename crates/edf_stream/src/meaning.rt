@@ -4,6 +4,7 @@
 ghost use Rattle.std.specs.Prelude.{◌≡◌, ℕ, ◌++◌, [], List, map, Some, IfOk, IfErr, OnOk, IsTrue};
 ghost use Rattle.std.specs.List.{All};
 ghost use Rattle.edf_fields.specs.Sources.{Rises};
+ghost use Rattle.edf_header.specs.Heads.{head_of};
 ghost use Rattle.edf_header.specs.Stops.{Stops};
 ghost use Rattle.edf_stream.specs.Faults.{body_fault, file_fault};
 ghost use Rattle.edf_stream.specs.Instants.{IsSmall};
@@ -112,11 +113,25 @@ impl FileReader {
     }
 }
 
-/// Reads a whole file, and says what it means: `Ok` only where it conforms to the profile, which
-/// docs/PROFILE.md tells; a `Fault` is its first one. The other errors are a failed read and want of
+/// Reads a whole file, and answers its header and what it means: `Ok` only where it conforms to the profile,
+/// which docs/PROFILE.md tells; a `Fault` is its first one. The other errors are a failed read and want of
 /// memory. The source is read to its end on `Ok`.
 ///
 /// This is the plain slow way: everything is in memory at once.
+pub fn whole_file<S: Source>(alloc: Global, source: &mut S) -> Result<(Header, Meaning), Stop>
+    ensures small { IfOk result (λ found. All (λ x. IsSmall x.instant) found.1.samples.items) }
+    ensures near { IfOk result (λ found. All IsNear found.1.notes.items) }
+    ensures failures { OnOk result (S.failures source.new ≡ S.failures source.old) }
+    ensures head { IfOk result (λ found. IsTrue (S.is_honest source.old) → found.0 ≡ head_of (S.left source.old)) }
+    ensures meaning { IfOk result (λ found. IsTrue (S.is_honest source.old) → IsWhole (S.left source.old) (S.left source.new) found.1) }
+    ensures stop { IfErr result (Stops (λ f. IsTrue (S.is_honest source.old) → file_fault (S.left source.old) ≡ Some f) (Rises (S.failures source.old) (S.failures source.new)) (S.failures source.new ≡ S.failures source.old)) }
+{
+    let reader = FileReader::begin(alloc, source)?;
+    let (header, meaning) = reader.into_meaning(alloc, source)?;
+    Ok((header, meaning))
+}
+
+/// What `whole_file` says of the file besides its header, with the same errors.
 pub fn whole_meaning<S: Source>(alloc: Global, source: &mut S) -> Result<Meaning, Stop>
     ensures small { IfOk result (λ meaning. All (λ x. IsSmall x.instant) meaning.samples.items) }
     ensures near { IfOk result (λ meaning. All IsNear meaning.notes.items) }
@@ -124,7 +139,8 @@ pub fn whole_meaning<S: Source>(alloc: Global, source: &mut S) -> Result<Meaning
     ensures meaning { IfOk result (λ meaning. IsTrue (S.is_honest source.old) → IsWhole (S.left source.old) (S.left source.new) meaning) }
     ensures stop { IfErr result (Stops (λ f. IsTrue (S.is_honest source.old) → file_fault (S.left source.old) ≡ Some f) (Rises (S.failures source.old) (S.failures source.new)) (S.failures source.new ≡ S.failures source.old)) }
 {
-    let reader = FileReader::begin(alloc, source)?;
-    let (_header, meaning) = reader.into_meaning(alloc, source)?;
-    Ok(meaning)
+    match whole_file(alloc, source) {
+        Ok((_header, meaning)) => Ok(meaning),
+        Err(stop) => Err(stop),
+    }
 }

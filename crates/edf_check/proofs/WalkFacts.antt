@@ -1,0 +1,119 @@
+-- From the parts of a walk to what it found.
+use Rattle.std.proofs.Common.{◌≡◌, ◌*◌, ℕ, ℤ, neg_ℤ, ◌+ℤ◌, List, [], ◌∷◌, length, map, filter, suc, refl, sym, ap, ◌∙◌, subst}
+use Rattle.edf_claim.specs.Claims.{Terms}
+use Rattle.edf_claim.specs.Keeps.{keeps_annotation}
+use Rattle.edf_header.specs.Heads.{Head, head_of, samples_together}
+use Rattle.edf_stream.specs.declared.conform.Summary.{Summary}
+use Rattle.edf_stream.specs.declared.meaning.Meaning.{Meaning}
+use Rattle.edf_stream.specs.declared.notes.Note.{Note}
+use Rattle.edf_stream.specs.Meanings.{Means}
+use Rattle.edf_stream.specs.Notes.{NoteValue, moved_by, notes_of}
+use Rattle.edf_stream.specs.Starts.{file_start}
+use Rattle.edf_stream.specs.Summaries.{channels_among}
+use Rattle.edf_stream.specs.Views.{note_value}
+use Rattle.edf_check.specs.declared.clock.Clock.{Clock}
+use Rattle.edf_check.specs.declared.verdict.Verdict.{Verdict}
+use Rattle.edf_check.specs.declared.verdict.Verdict.TheVariants.{Yes, No}
+use Rattle.edf_check.specs.declared.verdict.Difference.TheVariants as differences
+use Rattle.edf_check.specs.Checks.{AreRead, Headline, YesMeans}
+use Rattle.edf_check.specs.Columns.{Sampled, AreNights}
+use Rattle.edf_check.specs.Exports.{BothConform, AreCounts}
+use Rattle.edf_check.specs.HeadVerdicts.{HeadsAgree, IsHeadVerdict}
+use Rattle.edf_check.specs.Kept.{start_of, shift_of, kept_notes, exported_notes}
+use Rattle.edf_check.specs.Verdicts.{IsVerdict}
+use Rattle.edf_check.specs.Walks.{ArePair, IsClock, notes_kept, notes_moved}
+use Rattle.edf_check.proofs.RearrangedFacts.{notes_in_words}
+use Rattle.edf_check.proofs.WordsFacts.{samples_in_words}
+
+long-map : {X Y : Type 0} (f : X → Y) (xs : List X) → length (map f xs) ≡ length xs
+long-map f [] = refl
+long-map f (x ∷ xs) = ap suc (long-map f xs)
+
+-- what a file holds, counted
+pub counted_of : (h : Head) (meaning : Meaning) (s : Summary) (count : ℕ) → count ≡ length meaning.notes.items → s.channels ≡ length (channels_among h.signals) → s.samples ≡ h.records * samples_together (channels_among h.signals) → s.annotations ≡ count
+    → (e : List ℕ) → h ≡ head_of e → Means e (head_of e) meaning → AreCounts e s.channels s.samples s.annotations
+counted_of h meaning s count n channels samples annotations e head means = record {
+  channels_are = channels ∙ ap (λ (x : Head). length (channels_among x.signals)) head;
+  samples_are = samples ∙ ap (λ (x : Head). x.records * samples_together (channels_among x.signals)) head;
+  annotations_are = annotations ∙ n ∙ sym (long-map note_value meaning.notes.items) ∙ ap length means.notes;
+}
+
+-- the clock of an original, in the words of its bytes
+clock-original : (o : List ℕ) (h : Head) (claim : Terms) (clock : Clock) → h ≡ head_of o → IsClock h claim clock → clock.original_ps ≡ neg_ℤ (start_of o)
+clock-original o h claim clock e c = c.original ∙ ap (λ (x : Head). neg_ℤ (file_start x)) e
+
+clock-export : (o : List ℕ) (h : Head) (claim : Terms) (clock : Clock) → h ≡ head_of o → IsClock h claim clock → clock.export_ps ≡ neg_ℤ (start_of o +ℤ shift_of claim)
+clock-export o h claim clock e c = c.export ∙ ap (λ (x : Head). neg_ℤ (file_start x +ℤ shift_of claim)) e
+
+pub nights : (o e : List ℕ) (claim : Terms) (h g : Head) (meaning other : Meaning) (clock : Clock) → ArePair o e h meaning g other → HeadsAgree (head_of o) (head_of e) claim → IsClock h claim clock
+    → AreNights o e claim (record { head = h; samples = meaning.samples.items; moved = clock.original_ps }) (record { head = g; samples = other.samples.items; moved = clock.export_ps })
+nights o e claim h g meaning other clock p agree c = record {
+  conform = p.conform;
+  agree = agree;
+  original_head = p.original_head;
+  original_samples = (p.original_means).samples;
+  original_moved = clock-original o h claim clock p.original_head c;
+  export_head = p.export_head;
+  export_samples = (p.export_means).samples;
+  export_moved = clock-export o h claim clock p.original_head c;
+}
+
+-- the annotations that are compared
+pub kept-are : (o e : List ℕ) (claim : Terms) (h g : Head) (meaning other : Meaning) (clock : Clock) → ArePair o e h meaning g other → IsClock h claim clock
+    → notes_kept claim clock (map note_value meaning.notes.items) ≡ kept_notes o claim
+kept-are o e claim h g meaning other clock p c =
+    ap (λ ps. filter (λ (n : NoteValue). keeps_annotation claim n.onset n.text) (map (moved_by ps) (map note_value meaning.notes.items))) (clock-original o h claim clock p.original_head c)
+    ∙ ap (λ ns. filter (λ (n : NoteValue). keeps_annotation claim n.onset n.text) (map (moved_by (neg_ℤ (start_of o))) ns)) (p.original_means).notes
+
+pub exported-are : (o e : List ℕ) (claim : Terms) (h g : Head) (meaning other : Meaning) (clock : Clock) → ArePair o e h meaning g other → IsClock h claim clock
+    → notes_moved clock (map note_value other.notes.items) ≡ exported_notes o e claim
+exported-are o e claim h g meaning other clock p c =
+    ap (λ ps. map (moved_by ps) (map note_value other.notes.items)) (clock-export o h claim clock p.original_head c)
+    ∙ ap (map (moved_by (neg_ℤ (start_of o +ℤ shift_of claim)))) (p.export_means).notes
+
+-- a verdict on the headers is the verdict on the files
+pub of_heads : (o e : List ℕ) (claim : Terms) (v : Verdict) → BothConform o e → IsHeadVerdict (head_of o) (head_of e) claim v → IsVerdict o e claim v
+of_heads o e claim (Yes channels samples annotations) both is = absurd is
+of_heads o e claim (No (differences.OriginalFault fault)) both is = absurd is
+of_heads o e claim (No (differences.ExportFault fault)) both is = absurd is
+of_heads o e claim (No (differences.UnknownChannel label)) both is = (both, is)
+of_heads o e claim (No (differences.MissingChannel label)) both is = (both, is)
+of_heads o e claim (No (differences.ExtraChannel label)) both is = (both, is)
+of_heads o e claim (No (differences.ChannelText label field)) both is = (both, is)
+of_heads o e claim (No (differences.Calibration label)) both is = (both, is)
+of_heads o e claim (No (differences.Subfield which mismatch)) both is = (both, is)
+of_heads o e claim (No (differences.NotClean text)) both is = (both, is)
+of_heads o e claim (No (differences.Sample label at_ps mismatch)) both is = absurd is
+of_heads o e claim (No (differences.Annotation mismatch onset duration text)) both is = absurd is
+
+-- where both files were read to their ends, so much was read for any verdict
+pub all_read : (v : Verdict) (a b : List ℕ) → (a ≡ []) × (b ≡ []) → AreRead v a b
+all_read (Yes channels samples annotations) a b h = h
+all_read (No (differences.OriginalFault fault)) a b h = tt
+all_read (No (differences.ExportFault fault)) a b h = h.0
+all_read (No (differences.UnknownChannel label)) a b h = h
+all_read (No (differences.MissingChannel label)) a b h = h
+all_read (No (differences.ExtraChannel label)) a b h = h
+all_read (No (differences.ChannelText label field)) a b h = h
+all_read (No (differences.Calibration label)) a b h = h
+all_read (No (differences.Subfield which mismatch)) a b h = h
+all_read (No (differences.NotClean text)) a b h = h
+all_read (No (differences.Sample label at_ps mismatch)) a b h = h
+all_read (No (differences.Annotation mismatch onset duration text)) a b h = h
+
+-- the headline of a Yes
+pub headline_of : (o e : List ℕ) (claim : Terms) (v : Verdict) → IsVerdict o e claim v → YesMeans o e claim v
+headline_of o e claim (No difference) is = tt
+headline_of o e claim (Yes channels samples annotations) (both, is, counts) = (
+  record {
+    conform = both;
+    channels = (is.heads).channels;
+    texts = (is.heads).texts;
+    calibrations = (is.heads).calibrations;
+    samples = (samples_in_words o e claim).0 is.samples;
+    annotations = (notes_in_words (kept_notes o claim) (exported_notes o e claim)).0 is.notes;
+    subfields = (is.heads).subfields;
+    blank = (is.heads).blank;
+  },
+  counts,
+)

@@ -1,0 +1,29 @@
+//! From which second two files count.
+
+ghost use Rattle.std.specs.Prelude.{◌≡◌, ◌<◌, ◌^◌, neg_ℤ, ◌+ℤ◌, unsigned_abs};
+ghost use Rattle.edf_check.specs.Walks.{IsClock};
+
+use edf_claim::claim::Claim;
+use edf_header::header::Header;
+use edf_stream::grid::file_start_ps;
+
+/// By how many picoseconds an original and an export are moved, so that both count from the second at which
+/// the original starts, before the shift.
+#[derive(Debug, Clone, Copy)]
+pub struct Clock {
+    pub original_ps: i128,
+    pub export_ps: i128,
+}
+
+impl Clock {
+    /// That of an original with this header, under this claim.
+    pub(crate) fn new(original: &Header, claim: &Claim) -> Clock
+        ensures { IsClock original.now claim.now result }
+    {
+        let start = file_start_ps(original);
+        Clock {
+            original_ps: -start,
+            export_ps: -(start + claim.shift_ps()),
+        }
+    }
+}
