@@ -41,12 +41,12 @@ pub record Sampled : Type 0 where
 
 -- what the code's value says
 abbrev pub night_view : Night → Sampled
-night_view night = record { head = night.header.now; samples = night.samples.now; moved = night.moved_ps }
+night_view night = record { head = night.header.now; samples = night.samples.now; moved = (night.moved).ps }
 
 -- the products of its instants fit 128 bits
 pub record IsNight (night : Night) : Type 0 where
   pub small : All (λ x. IsSmall x.instant) night.samples.now
-  pub near : unsigned_abs night.moved_ps < 2 ^ 80
+  pub near : unsigned_abs (night.moved).ps < 2 ^ 80
 
 -- a sample of a channel at its instant so many picoseconds later
 abbrev pub point_of : ℤ → Sample → Point

@@ -41,17 +41,17 @@ pub record ArePair (original export : List ℕ) (h : Head) (meaning : Meaning) (
 
 -- by how much the two files are moved, so that both count from the second at which the original starts, before the shift
 pub record IsClock (h : Head) (claim : Terms) (clock : Clock) : Type 0 where
-  pub original : clock.original_ps ≡ neg_ℤ (file_start h)
-  pub export : clock.export_ps ≡ neg_ℤ (file_start h +ℤ shift_of claim)
-  pub original_near : unsigned_abs clock.original_ps < 2 ^ 80
-  pub export_near : unsigned_abs clock.export_ps < 2 ^ 80
+  pub original : (clock.original).ps ≡ neg_ℤ (file_start h)
+  pub export : (clock.export).ps ≡ neg_ℤ (file_start h +ℤ shift_of claim)
+  pub original_near : unsigned_abs (clock.original).ps < 2 ^ 80
+  pub export_near : unsigned_abs (clock.export).ps < 2 ^ 80
 
 -- the annotations of an original that the claim keeps, by the clock, and those of an export
 abbrev pub notes_kept : Terms → Clock → List NoteValue → List NoteValue
-notes_kept claim clock notes = filter (λ n. keeps_annotation claim n.onset n.text) (map (moved_by clock.original_ps) notes)
+notes_kept claim clock notes = filter (λ n. keeps_annotation claim n.onset n.text) (map (moved_by (clock.original).ps) notes)
 
 abbrev pub notes_moved : Clock → List NoteValue → List NoteValue
-notes_moved clock notes = map (moved_by clock.export_ps) notes
+notes_moved clock notes = map (moved_by (clock.export).ps) notes
 
 -- both files conform, and their headers agree
 pub record BothAgree (original export : List ℕ) (claim : Terms) : Type 0 where

@@ -18,7 +18,6 @@ use std::alloc::Global;
 /// first byte to the end; where the original has a fault, the export isn't read to its end, and where the
 /// export has one, the original is. The error is want of memory, or a failure of one of the sources; on an
 /// error nothing is said of the files, and the sources are made anew before another check.
-#[tactic(auto, using(crate::proofs::WalkFacts::headline_of))]
 pub fn check<O: Source, E: Source>(
     alloc: Global,
     original: &mut O,

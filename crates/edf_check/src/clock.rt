@@ -3,16 +3,17 @@
 ghost use Rattle.std.specs.Prelude.{◌≡◌, ◌<◌, ◌^◌, neg_ℤ, ◌+ℤ◌, unsigned_abs};
 ghost use Rattle.edf_check.specs.Walks.{IsClock};
 
+use crate::offset::Offset;
 use edf_claim::claim::Claim;
 use edf_header::header::Header;
 use edf_stream::grid::file_start_ps;
 
-/// By how many picoseconds an original and an export are moved, so that both count from the second at which
+/// By how much an original and an export are moved, so that both count from the second at which
 /// the original starts, before the shift.
 #[derive(Debug, Clone, Copy)]
 pub struct Clock {
-    pub original_ps: i128,
-    pub export_ps: i128,
+    pub original: Offset,
+    pub export: Offset,
 }
 
 impl Clock {
@@ -22,8 +23,10 @@ impl Clock {
     {
         let start = file_start_ps(original);
         Clock {
-            original_ps: -start,
-            export_ps: -(start + claim.shift_ps()),
+            original: Offset { ps: -start },
+            export: Offset {
+                ps: -(start + claim.shift_ps()),
+            },
         }
     }
 }

@@ -16,12 +16,12 @@ impl<'a> Night<'a> {
     /// A sample of the file, moved.
     fn point_of(&self, sample: Sample) -> Point
         requires small { IsSmall sample.instant }
-        requires near { unsigned_abs self.now.moved_ps < 2 ^ 80 }
-        ensures value { result ≡ point_by self.now.moved_ps sample }
+        requires near { unsigned_abs (self.now.moved).ps < 2 ^ 80 }
+        ensures value { result ≡ point_by (self.now.moved).ps sample }
         ensures modest { unsigned_abs result.num < 2 ^ 104 }
     {
         Point {
-            num: later(sample.instant, self.moved_ps).num,
+            num: later(sample.instant, self.moved.ps).num,
             value: sample.value,
         }
     }
@@ -29,10 +29,10 @@ impl<'a> Night<'a> {
     /// Whether a sample of the file is one of the channel of this number, and the claim keeps it.
     fn keeps(&self, claim: &Claim, channel: u16, sample: Sample) -> bool
         requires small { IsSmall sample.instant }
-        requires near { unsigned_abs self.now.moved_ps < 2 ^ 80 }
-        ensures { result ≡ is_kept_by claim.now channel self.now.moved_ps sample }
+        requires near { unsigned_abs (self.now.moved).ps < 2 ^ 80 }
+        ensures { result ≡ is_kept_by claim.now channel (self.now.moved).ps sample }
     {
-        let instant = later(sample.instant, self.moved_ps);
+        let instant = later(sample.instant, self.moved.ps);
         sample.channel == channel && claim.keeps_instant(instant.num, instant.den)
     }
 
@@ -46,7 +46,7 @@ impl<'a> Night<'a> {
         channel: u16,
     ) -> Result<Vec<Point>, AllocError>
         requires { IsNight self.now }
-        ensures value { IfOk result (λ v. v.items ≡ points_of (is_kept_by claim.now channel self.now.moved_ps) self.now.moved_ps self.now.samples.now) }
+        ensures value { IfOk result (λ v. v.items ≡ points_of (is_kept_by claim.now channel (self.now.moved).ps) (self.now.moved).ps self.now.samples.now) }
         ensures modest { IfOk result (λ v. All (λ x. unsigned_abs x.num < 2 ^ 104) v.items) }
     {
         let mut points = Vec::new(alloc);
@@ -63,7 +63,7 @@ impl<'a> Night<'a> {
     /// The error is want of memory.
     pub(crate) fn points(&self, alloc: Global, channel: u16) -> Result<Vec<Point>, AllocError>
         requires { IsNight self.now }
-        ensures value { IfOk result (λ v. v.items ≡ points_of (is_of channel) self.now.moved_ps self.now.samples.now) }
+        ensures value { IfOk result (λ v. v.items ≡ points_of (is_of channel) (self.now.moved).ps self.now.samples.now) }
         ensures modest { IfOk result (λ v. All (λ x. unsigned_abs x.num < 2 ^ 104) v.items) }
     {
         let mut points = Vec::new(alloc);

@@ -22,6 +22,7 @@ pub mod laws;
 mod night;
 mod note_difference;
 pub mod note_text;
+mod offset;
 pub mod outcome;
 mod point;
 pub mod run;

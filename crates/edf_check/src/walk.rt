@@ -14,7 +14,7 @@ ghost use Rattle.edf_check.specs.Kept.{KeptAt, ExportedAt};
 ghost use Rattle.edf_check.specs.NoteOrder.{note_mismatch};
 ghost use Rattle.edf_check.specs.Checks.{CheckStops, SideStops};
 ghost use Rattle.edf_check.specs.Exports.{AreCounts, SameSamples};
-ghost use Rattle.edf_check.specs.Walks.{ArePair, notes_kept, notes_moved, IsBounded, IsClock, IsCompared, IsReadAs, IsReadOut, IsWalked};
+ghost use Rattle.edf_check.specs.Walks.{ArePair, BothAgree, notes_kept, notes_moved, IsBounded, IsClock, IsCompared, IsReadAs, IsReadOut, IsWalked};
 
 use crate::clock::Clock;
 use crate::head_difference::head_difference;
@@ -58,6 +58,16 @@ pub(crate) struct WholeFile {
     pub meaning: Meaning,
 }
 
+impl WholeFile {
+    /// Its annotations, in order of data record, annotation signal, TAL and text.
+    fn into_notes(self) -> Vec<Note>
+        ensures { result.items ≡ self.meaning.notes.items }
+    {
+        let meaning = self.meaning;
+        meaning.notes
+    }
+}
+
 /// Reads the file of one side, or finds its first fault.
 fn read_side<S: Source>(
     alloc: Global,
@@ -97,12 +107,12 @@ fn compare_samples(
     let kept = Night {
         header: &original.header,
         samples: &original.meaning.samples,
-        moved_ps: clock.original_ps,
+        moved: clock.original,
     };
     let exported = Night {
         header: &export.header,
         samples: &export.meaning.samples,
-        moved_ps: clock.export_ps,
+        moved: clock.export,
     };
     sample_difference(alloc, &kept, &exported, claim)
 }
@@ -119,14 +129,14 @@ fn compare_notes(
 ) -> Result<Option<NoteDifference>, AllocError>
     requires original { All IsNear original.items }
     requires export { All IsNear export.items }
-    requires original_ps { unsigned_abs clock.original_ps < 2 ^ 80 }
-    requires export_ps { unsigned_abs clock.export_ps < 2 ^ 80 }
+    requires original_by { unsigned_abs (clock.original).ps < 2 ^ 80 }
+    requires export_by { unsigned_abs (clock.export).ps < 2 ^ 80 }
     ensures { IfOk result (λ found. MatchOption found
         (SameNotes (notes_kept claim.now clock (map note_value original.items)) (notes_moved clock (map note_value export.items)))
         (λ d. IsFirstNote (notes_kept claim.now clock (map note_value original.items)) (notes_moved clock (map note_value export.items)) (note_mismatch d).mismatch (note_mismatch d).note)) }
 {
-    let kept = kept_notes(alloc, original, clock.original_ps, claim)?;
-    let exported = moved_notes(alloc, export, clock.export_ps)?;
+    let kept = kept_notes(alloc, original, clock.original, claim)?;
+    let exported = moved_notes(alloc, export, clock.export)?;
     note_difference(alloc, kept, exported)
 }
 
@@ -138,7 +148,53 @@ fn summary_of(file: &WholeFile) -> Summary
     Summary::of(&file.header, file.meaning.notes.len() as u64)
 }
 
-/// Compares two files that conform.
+/// Compares the annotations of two files that conform, whose headers agree and whose samples are the same.
+///
+/// The error is want of memory.
+fn compare_annotations(
+    alloc: Global,
+    original: WholeFile,
+    export: WholeFile,
+    clock: Clock,
+    claim: &Claim,
+) -> Result<Walked, AllocError>
+    requires original { IsBounded original.meaning }
+    requires export { IsBounded export.meaning }
+    requires clock { IsClock original.header claim.now clock }
+    ensures walked { IfOk result (λ walked. (o e : List ℕ) → ArePair o e original.header original.meaning export.header export.meaning → BothAgree o e claim.now → SameSamples o e claim.now → IsWalked o e claim.now walked) }
+    ensures compared { IfOk result IsCompared }
+{
+    let summary = summary_of(&export);
+    let kept = original.into_notes();
+    let exported = export.into_notes();
+    match compare_notes(alloc, kept, exported, clock, claim)? {
+        Some(difference) => Ok(Walked::NotesDiffer(difference)),
+        None => Ok(Walked::Same(summary)),
+    }
+}
+
+/// Compares the samples of two files that conform and whose headers agree, and then their annotations.
+///
+/// The error is want of memory.
+fn compare_contents(
+    alloc: Global,
+    original: WholeFile,
+    export: WholeFile,
+    claim: &Claim,
+) -> Result<Walked, AllocError>
+    requires original { IsBounded original.meaning }
+    requires export { IsBounded export.meaning }
+    ensures walked { IfOk result (λ walked. (o e : List ℕ) → ArePair o e original.header original.meaning export.header export.meaning → BothAgree o e claim.now → IsWalked o e claim.now walked) }
+    ensures compared { IfOk result IsCompared }
+{
+    let clock = Clock::new(&original.header, claim);
+    match compare_samples(alloc, &original, &export, clock, claim)? {
+        Some(difference) => Ok(Walked::SamplesDiffer(difference)),
+        None => compare_annotations(alloc, original, export, clock, claim),
+    }
+}
+
+/// Compares two files that conform: their headers, then their samples, then their annotations.
 ///
 /// The error is want of memory.
 fn compare(
@@ -152,23 +208,9 @@ fn compare(
     ensures walked { IfOk result (λ walked. (o e : List ℕ) → ArePair o e original.header original.meaning export.header export.meaning → IsWalked o e claim.now walked) }
     ensures compared { IfOk result IsCompared }
 {
-    if let Some(verdict) = head_difference(alloc, &original.header, &export.header, claim)? {
-        return Ok(Walked::HeadsDiffer(verdict));
-    }
-    let clock = Clock::new(&original.header, claim);
-    if let Some(difference) = compare_samples(alloc, &original, &export, clock, claim)? {
-        return Ok(Walked::SamplesDiffer(difference));
-    }
-    let summary = summary_of(&export);
-    match compare_notes(
-        alloc,
-        original.meaning.notes,
-        export.meaning.notes,
-        clock,
-        claim,
-    )? {
-        Some(difference) => Ok(Walked::NotesDiffer(difference)),
-        None => Ok(Walked::Same(summary)),
+    match head_difference(alloc, &original.header, &export.header, claim)? {
+        Some(verdict) => Ok(Walked::HeadsDiffer(verdict)),
+        None => compare_contents(alloc, original, export, claim),
     }
 }
 

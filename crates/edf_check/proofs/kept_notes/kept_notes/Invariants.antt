@@ -5,4 +5,4 @@ use Rattle.edf_stream.specs.Views.{note_value}
 use Rattle.edf_check.proofs.kept_notes.kept_notes.Given as goal
 
 abbrev pub invariant-loop-note : goal.invariant-loop-note
-invariant-loop-note l = map note_value l.kept.items ++ filter (λ n. keeps_annotation l.claim n.onset n.text) (map (moved_by l.ps) (map note_value (l.note-iterator).rest.items)) ≡ filter (λ n. keeps_annotation l.claim n.onset n.text) (map (moved_by l.ps) (map note_value l.fn.notes.items))
+invariant-loop-note l = map note_value l.kept.items ++ filter (λ n. keeps_annotation l.claim n.onset n.text) (map (moved_by (l.by).ps) (map note_value (l.note-iterator).rest.items)) ≡ filter (λ n. keeps_annotation l.claim n.onset n.text) (map (moved_by (l.by).ps) (map note_value l.fn.notes.items))

@@ -5,6 +5,6 @@ use Rattle.edf_check.proofs.night.Night.points.Given as goal
 
 abbrev pub invariant-loop-sample : goal.invariant-loop-sample
 invariant-loop-sample l = record {
-  value : l.points.items ++ points_of (is_of l.channel) (l.self).moved_ps (drop l.sample-index (l.self).samples.now) ≡ points_of (is_of l.channel) (l.self).moved_ps (l.self).samples.now;
+  value : l.points.items ++ points_of (is_of l.channel) ((l.self).moved).ps (drop l.sample-index (l.self).samples.now) ≡ points_of (is_of l.channel) ((l.self).moved).ps (l.self).samples.now;
   modest : All (λ x. unsigned_abs x.num < 2 ^ 104) l.points.items;
 }
