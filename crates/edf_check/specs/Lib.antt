@@ -17,5 +17,6 @@ pub mod Verdicts
 pub mod Laws
 pub mod Outcomes
 pub mod Checks
+pub mod Quotes
 pub mod Lines
 pub mod Runs
