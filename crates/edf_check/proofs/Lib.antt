@@ -14,3 +14,4 @@ pub mod OneHeadFacts
 pub mod VerdictFacts
 pub mod WordsFacts
 pub mod RearrangedFacts
+pub mod RunFacts
