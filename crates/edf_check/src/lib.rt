@@ -18,5 +18,7 @@ mod quote;
 pub mod run;
 pub mod side;
 mod subfields;
+#[cfg(test)]
+mod tests;
 mod texts;
 pub mod verdict;
