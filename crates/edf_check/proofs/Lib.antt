@@ -21,3 +21,4 @@ pub mod ColumnFacts
 pub mod NightFacts
 pub mod NoteOrderFacts
 pub mod WalkFacts
+pub mod RunFacts

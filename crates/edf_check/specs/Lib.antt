@@ -17,6 +17,7 @@ pub mod Verdicts
 pub mod Laws
 pub mod Outcomes
 pub mod Checks
+pub mod Quotes
 pub mod Lines
 pub mod Runs
 pub mod Differences

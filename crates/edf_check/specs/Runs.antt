@@ -2,11 +2,14 @@
 use Rattle.std.specs.Prelude.{◌≡◌, ℕ, List, ◌++◌}
 use Rattle.edf_claim.specs.Claims.{Terms, SaysClaimText}
 use Rattle.edf_claim.specs.declared.stop.ClaimStop.{ClaimStop}
+use Rattle.edf_claim.specs.declared.stop.ClaimStop.TheVariants as claims
 use Rattle.edf_fields.specs.Sinks.{HoldsPrefix}
 use Rattle.edf_check.specs.Checks.{YesMeans}
 use Rattle.edf_check.specs.declared.outcome.Outcome.{Outcome}
 use Rattle.edf_check.specs.declared.run.RunStop.{RunStop}
 use Rattle.edf_check.specs.declared.run.RunStop.TheVariants.{OutOfMemory, ReadFailed, Claim, WriteFailed}
+use Rattle.edf_check.specs.declared.side.CheckStop.{CheckStop}
+use Rattle.edf_check.specs.declared.side.CheckStop.TheVariants as checks
 use Rattle.edf_check.specs.declared.side.Side.TheVariants as sides
 use Rattle.edf_check.specs.declared.verdict.Verdict.{Verdict}
 use Rattle.edf_check.specs.Lines.{verdict_line}
@@ -41,3 +44,13 @@ RunStops refused original export failed (ReadFailed sides.Original) = original
 RunStops refused original export failed (ReadFailed sides.Export) = export
 RunStops refused original export failed (Claim cause) = refused cause
 RunStops refused original export failed WriteFailed = failed
+
+-- how a run stops over a refused claim: by its cause, but for want of memory
+abbrev pub stop_of_claim : ClaimStop → RunStop
+stop_of_claim claims.OutOfMemory = OutOfMemory
+stop_of_claim cause = Claim cause
+
+-- how a run stops over a check that stops: in the same way
+abbrev pub stop_of_check : CheckStop → RunStop
+stop_of_check checks.OutOfMemory = OutOfMemory
+stop_of_check (checks.ReadFailed side) = ReadFailed side

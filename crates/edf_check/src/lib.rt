@@ -1,5 +1,5 @@
-//! Whether an export of an EDF+ recording is what a claim says of its original: the verdict, as it is
-//! defined; and so far, their headers compared.
+//! Whether an export of an EDF+ recording is what a claim says of its original, and nothing else: the
+//! verdict, as it is defined, the check that gives it, and its line.
 #![tactic(auto)]
 
 mod assemble;
@@ -19,16 +19,20 @@ mod kept_notes;
 pub mod label;
 mod labels;
 pub mod laws;
+mod line;
 mod night;
 mod note_difference;
 pub mod note_text;
 mod offset;
 pub mod outcome;
 mod point;
+mod quote;
 pub mod run;
 mod sample_difference;
 pub mod side;
 mod subfields;
+#[cfg(test)]
+mod tests;
 mod texts;
 mod unequal;
 pub mod verdict;

@@ -5,14 +5,16 @@ ghost use Rattle.edf_claim.specs.declared.stop.ClaimStop.TheVariants as claim_st
 ghost use Rattle.edf_claim.specs.Faults.{FirstClaimFault};
 ghost use Rattle.edf_fields.specs.Sources.{Rises};
 ghost use Rattle.edf_check.specs.declared.run.RunStop.TheVariants as stops;
-ghost use Rattle.edf_check.specs.Runs.{IsReport, IsPartOfReport, RunStops};
+ghost use Rattle.edf_check.specs.Runs.{IsReport, IsPartOfReport, RunStops, stop_of_claim, stop_of_check};
 
+use crate::check::check;
 use crate::outcome::Outcome;
-use crate::side::Side;
+use crate::side::{CheckStop, Side};
+use edf_claim::claim::Claim;
 use edf_claim::stop::ClaimStop;
-use edf_fields::sink::Sink;
+use edf_fields::sink::{Sink, WriteFault, put_all};
 use edf_fields::source::Source;
-use std::alloc::Global;
+use std::alloc::{AllocError, Global};
 
 /// Why a run stopped before its line was written.
 #[derive(Debug, Clone, Copy, PartialEq, Eq)]
@@ -25,6 +27,44 @@ pub enum RunStop {
     Claim(ClaimStop),
     /// The sink failed.
     WriteFailed,
+}
+
+impl From<AllocError> for RunStop {
+    ghost from_gives = { λ _ e. e ≡ stops.OutOfMemory };
+
+    fn from(_error: AllocError) -> RunStop {
+        RunStop::OutOfMemory
+    }
+}
+
+impl From<ClaimStop> for RunStop {
+    ghost from_gives = { λ stop e. e ≡ stop_of_claim stop };
+
+    fn from(stop: ClaimStop) -> RunStop {
+        match stop {
+            ClaimStop::OutOfMemory => RunStop::OutOfMemory,
+            cause => RunStop::Claim(cause),
+        }
+    }
+}
+
+impl From<CheckStop> for RunStop {
+    ghost from_gives = { λ stop e. e ≡ stop_of_check stop };
+
+    fn from(stop: CheckStop) -> RunStop {
+        match stop {
+            CheckStop::OutOfMemory => RunStop::OutOfMemory,
+            CheckStop::ReadFailed(side) => RunStop::ReadFailed(side),
+        }
+    }
+}
+
+impl From<WriteFault> for RunStop {
+    ghost from_gives = { λ _ e. e ≡ stops.WriteFailed };
+
+    fn from(_error: WriteFault) -> RunStop {
+        RunStop::WriteFailed
+    }
 }
 
 /// Reads the claim that a text says, checks the export against the original, and writes the line of the
@@ -51,5 +91,9 @@ pub fn run<O: Source, E: Source, K: Sink>(
         (Rises (E.failures export.old) (E.failures export.new))
         (Rises (K.failures sink.old) (K.failures sink.new))) }
 {
-    Err(RunStop::OutOfMemory)
+    let claim = Claim::read(alloc, claim_text)?;
+    let verdict = check(alloc, original, export, &claim)?;
+    let line = verdict.line(alloc)?;
+    put_all(sink, &line)?;
+    Ok(verdict.outcome())
 }

@@ -1,0 +1,37 @@
+-- What a run that stops has said and written.
+use Rattle.std.proofs.Common.{◌≡◌, ◌≢◌, ℕ, List, subst}
+use Rattle.edf_claim.specs.Claims.{Terms, SaysClaimText}
+use Rattle.edf_claim.specs.declared.stop.ClaimStop.{ClaimStop}
+use Rattle.edf_claim.specs.declared.stop.ClaimStop.TheVariants as claims
+use Rattle.edf_fields.specs.Sinks.{HoldsPrefix}
+use Rattle.edf_check.specs.Checks.{YesMeans}
+use Rattle.edf_check.specs.declared.verdict.Verdict.{Verdict}
+use Rattle.edf_check.specs.Lines.{verdict_line}
+use Rattle.edf_check.specs.Runs.{IsPartOfReport, RunStops, stop_of_claim}
+use Rattle.edf_check.specs.Verdicts.{IsVerdict}
+
+-- what is said of a cause other than want of memory is said of the run that stops by it
+pub claim_refused : (refused : ClaimStop → Type 0) (original export failed : Type 0) (stop : ClaimStop)
+    → (stop ≢ claims.OutOfMemory → refused stop)
+    → RunStops (λ cause. (cause ≢ claims.OutOfMemory) × refused cause) original export failed (stop_of_claim stop)
+claim_refused refused original export failed claims.OutOfMemory h = tt
+claim_refused refused original export failed claims.TooLong h = let n : claims.TooLong ≢ claims.OutOfMemory = λ same. cc in (n, h n)
+claim_refused refused original export failed claims.NotToml h = let n : claims.NotToml ≢ claims.OutOfMemory = λ same. cc in (n, h n)
+claim_refused refused original export failed claims.BadFormat h = let n : claims.BadFormat ≢ claims.OutOfMemory = λ same. cc in (n, h n)
+claim_refused refused original export failed claims.UnknownKey h = let n : claims.UnknownKey ≢ claims.OutOfMemory = λ same. cc in (n, h n)
+claim_refused refused original export failed claims.BadChannels h = let n : claims.BadChannels ≢ claims.OutOfMemory = λ same. cc in (n, h n)
+claim_refused refused original export failed claims.BadKeep h = let n : claims.BadKeep ≢ claims.OutOfMemory = λ same. cc in (n, h n)
+claim_refused refused original export failed claims.BadAnonymous h = let n : claims.BadAnonymous ≢ claims.OutOfMemory = λ same. cc in (n, h n)
+claim_refused refused original export failed claims.BadShift h = let n : claims.BadShift ≢ claims.OutOfMemory = λ same. cc in (n, h n)
+claim_refused refused original export failed claims.BadRemove h = let n : claims.BadRemove ≢ claims.OutOfMemory = λ same. cc in (n, h n)
+
+-- a front of the line of the verdict is a part of the report
+pub front_is_part : (original export text old new line : List ℕ) (claim : Terms) (verdict : Verdict)
+    → SaysClaimText text claim → IsVerdict original export claim verdict → YesMeans original export claim verdict
+    → line ≡ verdict_line verdict → HoldsPrefix old new line
+    → IsPartOfReport original export text old new
+front_is_part original export text old new line claim verdict says is means line_is held = record {
+  verdict = verdict;
+  under = record { claim = claim; says = says; is = is; means = means };
+  part = subst (HoldsPrefix old new) line_is held;
+}

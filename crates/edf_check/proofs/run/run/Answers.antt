@@ -1,0 +1,24 @@
+use Rattle.std.proofs.Common.{◌∙◌}
+use Rattle.std.proofs.lemmas.Result.{err_from_is_err_and}
+use Rattle.edf_claim.specs.Faults.{FirstClaimFault}
+use Rattle.edf_fields.specs.Sources.{Rises}
+use Rattle.edf_check.proofs.RunFacts.{claim_refused, front_is_part}
+use Rattle.edf_check.proofs.run.run.Goals as goal
+
+pub returns-in_err-claim-clause-stop : goal.returns-in_err-claim-clause-stop
+returns-in_err-claim-clause-stop g c =
+    let p = err_from_is_err_and c.from_residual.result c.from_residual.ensures.1 in
+    rw (p.1, p.2) (claim_refused (FirstClaimFault c.args.claim_text.now)
+    (Rises (g.O.Source.failures c.args.original.now) (g.O.Source.failures c.args.original.now))
+    (Rises (g.E.Source.failures c.args.export.now) (g.E.Source.failures c.args.export.now))
+    (Rises (g.K.Sink.failures c.args.sink.now) (g.K.Sink.failures c.args.sink.now))
+    c.in_err-claim.field-0.0 c.in_err-claim.ensures.fault)
+
+pub returns-in_err-put_all-clause-part : goal.returns-in_err-put_all-clause-part
+returns-in_err-put_all-clause-part g c =
+    let p = err_from_is_err_and c.from_residual-in_err-put_all.result c.from_residual-in_err-put_all.ensures.1 in
+    let line = c.deref.ensures.value ∙ c.in_ok-line.ensures in
+    rw (p.1) (λ same original export sink.
+    front_is_part _ _ _ (g.K.Sink.held c.args.sink.now) (g.K.Sink.held c.put_all.new.sink) c.deref.result.now c.in_ok-claim.claim c.in_ok-verdict.verdict
+    c.in_ok-claim.ensures.says (c.in_ok-verdict.ensures.verdict original export) (c.in_ok-verdict.ensures.headline original export)
+    line (c.in_err-put_all.ensures.prefix sink))
