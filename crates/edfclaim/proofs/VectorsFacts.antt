@@ -4,21 +4,20 @@ use Rattle.std.specs.List.{flat_map}
 use Rattle.std.proofs.lemmas.List.{map-append, append-nil, map_more}
 use Rattle.std.proofs.lemmas.List.Concat.{flat_map-append}
 use Rattle.std.proofs.lemmas.List.Elements.{All-push, All-pop}
-use Rattle.edfclaim.specs.declared.report.Outcome.{Outcome}
-use Rattle.edfclaim.specs.declared.report.Outcome.TheVariants as outcomes
-use Rattle.edfclaim.specs.declared.vectors.Row.{Row}
-use Rattle.edfclaim.specs.Claims.{Terms}
+use Rattle.edf_check.specs.declared.outcome.Outcome.{Outcome}
+use Rattle.edf_check.specs.declared.outcome.Outcome.TheVariants as outcomes
+use Rattle.edfclaim.specs.declared.vectors.rows.Row.{Row}
 use Rattle.edfclaim.specs.Vectors.{WorkedRow, CheckedRow, checked_text, IsStored, row_of, row_text, AreRowsWritten, IsRowWritten}
 
 -- one row more: Yes is said of them all exactly where it was said of those before and of this one
-pub row_behind : {claim : Terms} {rows : List WorkedRow} {row : WorkedRow} {old middle new : List ℕ} {before this all : Outcome}
-    → AreRowsWritten rows claim old middle before → IsRowWritten row claim middle new this
+pub row_behind : {rows : List WorkedRow} {row : WorkedRow} {old middle new : List ℕ} {before this all : Outcome}
+    → AreRowsWritten rows old middle before → IsRowWritten row middle new this
     → ((all ≡ outcomes.Yes) ↔ ((before ≡ outcomes.Yes) × (this ≡ outcomes.Yes)))
-    → AreRowsWritten (rows ++ row ∷ []) claim old new all
-row_behind {claim} {rows} {row} {old} w r both =
-    let last : CheckedRow claim = record { row = row; verdict = r.verdict; applies = r.applies } in
+    → AreRowsWritten (rows ++ row ∷ []) old new all
+row_behind {rows} {row} {old} w r both =
+    let last : CheckedRow = record { row = row; original = r.original; export = r.export; claim = r.claim; line = r.line; is_line = r.is_line } in
     let front = flat_map checked_text w.checked in
-    let text = row_text row.number r.verdict in
+    let text = row_text row.number r.line in
     record {
       checked = w.checked ++ last ∷ [];
       rows_are = map-append (λ c. c.row) w.checked (last ∷ []) ∙ ap (λ xs. xs ++ row ∷ []) w.rows_are;
@@ -31,9 +30,9 @@ row_behind {claim} {rows} {row} {old} w r both =
     }
 
 -- the step of the loop over the rows
-pub row_more : {claim : Terms} (rows : List Row) (i : ℕ) (d : Row) {old middle new : List ℕ} {before this all : Outcome}
-    → i < length rows → AreRowsWritten (map row_of (take i rows)) claim old middle before → IsRowWritten (row_of (get_or rows i d)) claim middle new this
+pub row_more : (rows : List Row) (i : ℕ) (d : Row) {old middle new : List ℕ} {before this all : Outcome}
+    → i < length rows → AreRowsWritten (map row_of (take i rows)) old middle before → IsRowWritten (row_of (get_or rows i d)) middle new this
     → ((all ≡ outcomes.Yes) ↔ ((before ≡ outcomes.Yes) × (this ≡ outcomes.Yes)))
-    → AreRowsWritten (map row_of (take (i + 1) rows)) claim old new all
+    → AreRowsWritten (map row_of (take (i + 1) rows)) old new all
 row_more rows i d within w r both =
     rw (map_more row_of rows i d within) (row_behind w r both)

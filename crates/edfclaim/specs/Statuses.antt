@@ -1,7 +1,7 @@
 -- The status with which the program ends.
 use Rattle.std.specs.Prelude.{ℕ, Result, Ok, Err}
-use Rattle.edfclaim.specs.declared.report.Outcome.{Outcome}
-use Rattle.edfclaim.specs.declared.report.Outcome.TheVariants.{Yes, No}
+use Rattle.edf_check.specs.declared.outcome.Outcome.{Outcome}
+use Rattle.edf_check.specs.declared.outcome.Outcome.TheVariants.{Yes, No}
 use Rattle.edfclaim.specs.declared.report.ReportStop.{ReportStop}
 
 -- 0 for Yes, 1 for No, 2 where a command stopped before its end

@@ -1,50 +1,22 @@
 //! `edfclaim`: checks whether an exported sleep recording is the original night, cut as a claim says, and
 //! nothing else.
 //!
-//! The check is `check::check`; what its Yes means is the first clause of its contract. The program knows
-//! the command `vectors`, which checks files that it builds in memory and prints the lines.
+//! The check is `edf_check::check::check`; what its Yes means is the first clause of its contract. The
+//! program knows the command `vectors`, which builds files and claims in memory, runs the check on them by
+//! `edf_check::run::run`, and prints the lines.
 #![tactic(auto)]
 
 ghost use Rattle.std.specs.Prelude.{◌≡◌};
 ghost use Rattle.edfclaim.specs.Statuses.{status_of};
 
-pub mod append;
-pub mod channels;
-pub mod check;
-pub mod claim;
-pub mod compare;
-pub mod difference;
-pub mod earliest;
-pub mod fault;
-pub mod fault_text;
-pub mod file;
-pub mod find;
-pub mod header;
-pub mod instant;
-pub mod judge;
-pub mod judge_record;
-pub mod labels;
-pub mod laws;
-pub mod layout;
-pub mod line;
-pub mod number_field;
-pub mod quote;
 pub mod report;
-pub mod sample;
-pub mod samples;
-pub mod side;
-pub mod slow;
-pub mod stop;
 #[cfg(test)]
 mod tests;
-pub mod timekeeping;
-pub mod timeline;
-pub mod value;
 pub mod vectors;
-pub mod verdict;
 
-use crate::report::{Outcome, ReportStop};
+use crate::report::ReportStop;
 use crate::vectors::vectors_to;
+use edf_check::outcome::Outcome;
 use edf_fields::sink::WriteSink;
 use std::process::ExitCode;
 use std::rt::Env;

@@ -1,30 +1,10 @@
-//! How a report ended.
+//! Why a report stops.
 
-ghost use Rattle.std.specs.Prelude.{◌≡◌, ◌↔◌};
-ghost use Rattle.edfclaim.specs.declared.report.Outcome.TheVariants as outcomes;
+ghost use Rattle.std.specs.Prelude.{◌≡◌};
 ghost use Rattle.edfclaim.specs.declared.report.ReportStop.TheVariants as stops;
 
 use edf_fields::sink::WriteFault;
 use std::alloc::{AllocError, AllocFailed};
-
-/// What a report found.
-#[derive(Debug, Clone, Copy, PartialEq, Eq)]
-pub enum Outcome {
-    Yes,
-    No,
-}
-
-impl Outcome {
-    /// What two parts of a report found together: `Yes` where both found it.
-    pub fn and(self, other: Outcome) -> Outcome
-        ensures { (result ≡ outcomes.Yes) ↔ ((self ≡ outcomes.Yes) × (other ≡ outcomes.Yes)) }
-    {
-        match self {
-            Outcome::Yes => other,
-            Outcome::No => Outcome::No,
-        }
-    }
-}
 
 /// Why a report stopped before its end.
 #[derive(Debug, Clone, Copy, PartialEq, Eq)]

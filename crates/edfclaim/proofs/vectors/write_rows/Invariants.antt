@@ -6,5 +6,5 @@ abbrev pub invariant-loop-row : goal.invariant-loop-row
 invariant-loop-row g l = record {
   honesty : IsTrue (g.K.Sink.is_honest l.initial.sink) → IsTrue (g.K.Sink.is_honest l.sink);
   failures : g.K.Sink.failures l.sink ≡ g.K.Sink.failures l.initial.sink;
-  written : IsTrue (g.K.Sink.is_honest l.initial.sink) → AreRowsWritten (map row_of (take l.row-index l.rows)) l.claim (g.K.Sink.held l.initial.sink) (g.K.Sink.held l.sink) l.outcome;
+  written : IsTrue (g.K.Sink.is_honest l.initial.sink) → AreRowsWritten (map row_of (take l.row-index l.rows)) (g.K.Sink.held l.initial.sink) (g.K.Sink.held l.sink) l.outcome;
 }

@@ -1,5 +1,0 @@
-use Rattle.std.proofs.Common.{◌≡◌, map, take}
-use Rattle.edfclaim.proofs.labels.borrow_each.Given as goal
-
-abbrev pub invariant-loop-label : goal.invariant-loop-label
-invariant-loop-label l = map (λ label. label.now) l.borrowed.items ≡ map (λ label. label.items) (take l.label-index l.labels)
