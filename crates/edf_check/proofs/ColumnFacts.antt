@@ -3,7 +3,7 @@ use Rattle.std.proofs.Common.{◌≡◌, ℕ, ◌<◌, ℤ, List, [], ◌∷◌,
 use Rattle.edf_fields.specs.Lists.{Has}
 use Rattle.edf_fields.proofs.ForCallers.{at-has, has-at, map-get, get-map}
 use Rattle.edf_stream.specs.declared.instant.Instant.{Instant}
-use Rattle.edf_stream.specs.Instants.{IsNotBefore, IsSame}
+use Rattle.edf_stream.specs.Instants.{IsNotBefore}
 use Rattle.edf_check.specs.declared.difference.PointDifference.{PointDifference}
 use Rattle.edf_check.specs.declared.earliest.Found.{Found}
 use Rattle.edf_check.specs.declared.verdict.SampleMismatch.{SampleMismatch}

@@ -1,5 +1,5 @@
 -- The columns of two files hold what the claim keeps of the original, and what the export holds.
-use Rattle.std.proofs.Common.{◌≡◌, ℕ, zero, suc, ◌+◌, ◌<◌, ◌≤◌, ◌<ℤ◌, ◌+ℤ◌, ◌*ℤ◌, ◌==◌, ◌&&◌, ℤ, pos, neg_ℤ, Bool, true, false, not, cond, Bor, List, [], ◌∷◌, length, get_or, map, filter, Option, Some, None, MatchOption, IfSome, slice_get, unwrap_or, option_map, inl, inr, refl, sym, ap, ◌∙◌, subst, arith}
+use Rattle.std.proofs.Common.{◌≡◌, ℕ, suc, ◌<◌, ◌<ℤ◌, ◌+ℤ◌, ◌*ℤ◌, ℤ, pos, neg_ℤ, Bool, true, false, not, cond, Bor, List, [], ◌∷◌, length, get_or, map, filter, Option, Some, None, MatchOption, IfSome, slice_get, unwrap_or, option_map, inl, inr, refl, sym, ap, ◌∙◌, subst, arith}
 use Rattle.std.specs.Cmp.Lexicographic.{slice_cmp}
 use Rattle.std.specs.List.Sorted.{IsSorted}
 use Rattle.std.specs.Option.{option_map_or}
@@ -11,8 +11,8 @@ use Rattle.std.proofs.lemmas.List.Sorted.{sorted_far, ranks_by, IsPermutation-sy
 use Rattle.edf_claim.specs.Claims.{Terms}
 use Rattle.edf_claim.specs.Keeps.{KeepsInstant, keeps_instant}
 use Rattle.edf_claim.proofs.ForCallers.{instant_kept}
-use Rattle.edf_fields.specs.Lists.{Has, is_one_of}
-use Rattle.edf_fields.proofs.ForCallers.{and-true, both-true, has-map, map-has, has-filtered, filtered-has, has-at, get-index, get-within, has-one_of, one_of-has, has-permutation, map-get, get-map, not-is}
+use Rattle.edf_fields.specs.Lists.{Has}
+use Rattle.edf_fields.proofs.ForCallers.{and-true, both-true, has-map, map-has, has-filtered, filtered-has, has-at, get-index, get-within, has-one_of, one_of-has, has-permutation, map-get, get-map}
 use Rattle.edf_header.specs.Channels.{channel_labels}
 use Rattle.edf_header.specs.Heads.{SignalHead, Head, head_of, is_annotations}
 use Rattle.edf_header.specs.Sound.{IsSound}
@@ -20,7 +20,7 @@ use Rattle.edf_stream.specs.declared.instant.Instant.{Instant}
 use Rattle.edf_stream.specs.declared.sample.Sample.{Sample}
 use Rattle.edf_stream.specs.Conforming.{Conforms}
 use Rattle.edf_stream.specs.Instants.{IsSame}
-use Rattle.edf_stream.specs.Samples.{SampleValue, IsSample, samples_of, channel_label, labelled, AreRising}
+use Rattle.edf_stream.specs.Samples.{SampleValue, samples_of, channel_label, labelled, AreRising}
 use Rattle.edf_stream.specs.Summaries.{channels_among}
 use Rattle.edf_stream.proofs.ForCallers.{samples_are_listed, samples_are_of_channels, samples_rise}
 use Rattle.edf_check.specs.declared.channel_place.ChannelPlace.{ChannelPlace}
@@ -33,7 +33,7 @@ use Rattle.edf_check.specs.declared.earliest.Found.{Found}
 use Rattle.edf_check.specs.Earliest.{earliest}
 use Rattle.edf_check.specs.Exports.{SameSamples}
 use Rattle.edf_check.specs.Instants.{floor_of}
-use Rattle.edf_check.proofs.ColumnFacts.{First, named, first-is-first}
+use Rattle.edf_check.proofs.ColumnFacts.{named, first-is-first}
 use Rattle.edf_check.proofs.CourseFacts.{agree-alike, first-alike}
 use Rattle.edf_check.proofs.EarliestFacts.{earliest-some}
 use Rattle.edf_check.specs.declared.difference.PointDifference.{PointDifference}
@@ -45,7 +45,7 @@ use Rattle.edf_check.proofs.FractionFacts.{same_back}
 use Rattle.edf_check.proofs.HeadFacts.{has-label, label-has}
 use Rattle.edf_check.proofs.KeptFacts.{later-same, keeps-same}
 use Rattle.edf_check.proofs.LabelFacts.{not_below}
-use Rattle.edf_check.proofs.PlaceFacts.{IsPlace, one-number, channels-distinct, at-found, at-there, channel-bounds}
+use Rattle.edf_check.proofs.PlaceFacts.{one-number, channels-distinct, at-found, at-there, channel-bounds}
 use Rattle.edf_check.proofs.WordsFacts.{later-back, since-same}
 
 -- ---- the channel of a label
@@ -166,14 +166,17 @@ ascending test ps c n [] up of = tt
 ascending test ps c n (x ∷ xs) up of =
     let rest = ascending test ps c n xs up.1 (λ y h. of y (inr h)) in
     filter-case (test x) (x ∷ filter test xs) (filter test xs) (λ ys. IsAscending (map (point_of ps) ys))
-    (λ t. (λ p h.
-    let m = map-has (point_of ps) (filter test xs) p h in
-    let f = has-filtered test xs m.0 m.1 in
-    let here = of x (inl refl) t in
-    let there = of m.0 (inr f.0) f.1 in
-    let lt = up.0 m.0 f.0 (there.0 ∙ sym here.0) in
-    let P : Point → Type 0 = λ q. ((point_of ps x).num) <ℤ q.num in
-    subst P m.2 (moved-below (x.instant).num ((m.0).instant).num ps (x.instant).den ((m.0).instant).den (here.1 ∙ sym there.1) lt), rest))
+    (λ t. (
+      λ p h.
+          let m = map-has (point_of ps) (filter test xs) p h in
+          let f = has-filtered test xs m.0 m.1 in
+          let here = of x (inl refl) t in
+          let there = of m.0 (inr f.0) f.1 in
+          let lt = up.0 m.0 f.0 (there.0 ∙ sym here.0) in
+          let P : Point → Type 0 = λ q. ((point_of ps x).num) <ℤ q.num in
+          subst P m.2 (moved-below (x.instant).num ((m.0).instant).num ps (x.instant).den ((m.0).instant).den (here.1 ∙ sym there.1) lt),
+      rest,
+    ))
     (λ t. rest)
 
 column-rises : (file : List ℕ) (label : List ℕ) (place : ChannelPlace) (test : Sample → Bool) (ps : ℤ) → Conforms file (head_of file) → channel_at label (head_of file) ≡ Some place

@@ -1,11 +1,11 @@
 -- The channel of a label, by its number.
-use Rattle.std.proofs.Common.{◌≡◌, ℕ, zero, suc, ◌+◌, ◌*◌, ◌<◌, ◌≤◌, ◌^◌, Bool, true, false, not, cond, List, [], ◌∷◌, length, map, filter, Option, Some, None, slice_get, IfSome, inl, inr, ⊎_elim, refl, sym, ap, ◌∙◌, subst, arith}
+use Rattle.std.proofs.Common.{◌≡◌, ℕ, zero, suc, ◌+◌, ◌<◌, ◌≤◌, ◌^◌, Bool, true, false, not, cond, List, [], ◌∷◌, map, Option, Some, None, slice_get, IfSome, inl, inr, ⊎_elim, refl, sym, ap, ◌∙◌, subst, arith}
 use Rattle.std.specs.Str.{bytes_eq}
 use Rattle.std.proofs.lemmas.Slice.Eq.{bytes_eq-Decides}
 use Rattle.edf_fields.specs.Lists.{Has, AreDistinct}
 use Rattle.edf_fields.proofs.ForCallers.{has-at, at-has, has-filtered, has-map, get-index, get-within}
 use Rattle.edf_header.specs.Channels.{channel_labels}
-use Rattle.edf_header.specs.Heads.{SignalHead, Head, is_annotations, samples_together, record_bytes}
+use Rattle.edf_header.specs.Heads.{SignalHead, Head, is_annotations, samples_together}
 use Rattle.edf_header.specs.Sound.{IsSound, IsSoundSignal}
 use Rattle.edf_stream.specs.Summaries.{channels_among}
 use Rattle.edf_check.specs.declared.channel_place.ChannelPlace.{ChannelPlace}

@@ -1,13 +1,12 @@
 -- From the parts of a walk to what it found.
-use Rattle.std.proofs.Common.{◌≡◌, ◌*◌, ℕ, ℤ, neg_ℤ, ◌+ℤ◌, List, [], ◌∷◌, length, map, filter, suc, Result, Ok, Err, IfOk, refl, sym, ap, ◌∙◌, subst}
+use Rattle.std.proofs.Common.{◌≡◌, ◌*◌, ℕ, neg_ℤ, ◌+ℤ◌, List, [], ◌∷◌, length, map, filter, suc, Result, Ok, Err, IfOk, refl, sym, ap, ◌∙◌, subst}
 use Rattle.edf_claim.specs.Claims.{Terms}
 use Rattle.edf_claim.specs.Keeps.{keeps_annotation}
 use Rattle.edf_header.specs.Heads.{Head, head_of, samples_together}
 use Rattle.edf_stream.specs.declared.conform.Summary.{Summary}
 use Rattle.edf_stream.specs.declared.meaning.Meaning.{Meaning}
-use Rattle.edf_stream.specs.declared.notes.Note.{Note}
 use Rattle.edf_stream.specs.Meanings.{Means}
-use Rattle.edf_stream.specs.Notes.{NoteValue, moved_by, notes_of}
+use Rattle.edf_stream.specs.Notes.{NoteValue, moved_by}
 use Rattle.edf_stream.specs.Starts.{file_start}
 use Rattle.edf_stream.specs.Summaries.{channels_among}
 use Rattle.edf_stream.specs.Views.{note_value}
@@ -21,8 +20,8 @@ use Rattle.edf_check.specs.declared.verdict.Verdict.TheVariants.{Yes, No}
 use Rattle.edf_check.specs.declared.verdict.Difference.TheVariants as differences
 use Rattle.edf_check.specs.declared.verdict.AnnotationMismatch.{AnnotationMismatch}
 use Rattle.edf_check.specs.Annotations.{IsFirstNote, SameNotes}
-use Rattle.edf_check.specs.Checks.{AreRead, Headline, YesMeans}
-use Rattle.edf_check.specs.Columns.{Sampled, AreNights}
+use Rattle.edf_check.specs.Checks.{AreRead, YesMeans}
+use Rattle.edf_check.specs.Columns.{AreNights}
 use Rattle.edf_check.specs.Exports.{BothConform, AreCounts}
 use Rattle.edf_check.specs.HeadVerdicts.{HeadsAgree, IsHeadVerdict}
 use Rattle.edf_check.specs.Kept.{start_of, shift_of, kept_notes, exported_notes}

@@ -10,7 +10,6 @@ use Rattle.edf_check.specs.declared.side.CheckStop.{CheckStop}
 use Rattle.edf_check.specs.declared.side.CheckStop.TheVariants.{OutOfMemory, ReadFailed}
 use Rattle.edf_check.specs.declared.side.Side.{Side}
 use Rattle.edf_check.specs.declared.side.Side.TheVariants as sides
-use Rattle.edf_check.specs.declared.verdict.Difference.{Difference}
 use Rattle.edf_check.specs.declared.verdict.Difference.TheVariants.{OriginalFault, ExportFault, UnknownChannel, MissingChannel, ExtraChannel, ChannelText, Calibration, Subfield, NotClean, Sample, Annotation}
 use Rattle.edf_check.specs.declared.verdict.Verdict.{Verdict}
 use Rattle.edf_check.specs.declared.verdict.Verdict.TheVariants.{Yes, No}

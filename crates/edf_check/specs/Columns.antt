@@ -1,12 +1,11 @@
 -- What the code compares: for each claimed label, in the order of labels, two rising lists of the samples of one channel.
-use Rattle.std.specs.Prelude.{◌≡◌, ℕ, ◌+◌, ◌<◌, ◌≤◌, ◌^◌, ◌==◌, ℤ, neg_ℤ, ◌+ℤ◌, unsigned_abs, Bool, ◌&&◌, if◌then◌else◌, List, [], ◌∷◌, map, filter, Option, Some, None, slice_get, unwrap_or, option_map}
+use Rattle.std.specs.Prelude.{◌≡◌, ℕ, ◌+◌, ◌<◌, ◌≤◌, ◌^◌, ◌==◌, ℤ, neg_ℤ, ◌+ℤ◌, unsigned_abs, Bool, ◌&&◌, if◌then◌else◌, List, [], ◌∷◌, map, filter, Option, Some, None, slice_get}
 use Rattle.std.specs.List.{All}
 use Rattle.std.specs.Str.{bytes_eq}
 use Rattle.edf_claim.specs.Claims.{Terms}
 use Rattle.edf_claim.specs.Keeps.{keeps_instant}
 use Rattle.edf_fields.specs.Lists.{Has}
 use Rattle.edf_header.specs.Heads.{SignalHead, Head, head_of}
-use Rattle.edf_stream.specs.declared.instant.Instant.{Instant}
 use Rattle.edf_stream.specs.declared.sample.Sample.{Sample}
 use Rattle.edf_stream.specs.Instants.{IsSmall}
 use Rattle.edf_stream.specs.Samples.{samples_of}

@@ -1,5 +1,5 @@
 -- What reading both files to their ends found.
-use Rattle.std.specs.Prelude.{◌≡◌, ℕ, ℤ, neg_ℤ, ◌+ℤ◌, ◌^◌, ◌<◌, unsigned_abs, List, [], None, Some, map, filter}
+use Rattle.std.specs.Prelude.{◌≡◌, ℕ, neg_ℤ, ◌+ℤ◌, ◌^◌, ◌<◌, unsigned_abs, List, [], None, Some, map, filter}
 use Rattle.std.specs.List.{All}
 use Rattle.edf_claim.specs.Claims.{Terms}
 use Rattle.edf_header.specs.Heads.{Head, head_of}

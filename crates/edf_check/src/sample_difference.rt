@@ -43,12 +43,7 @@ fn difference_of_label(
     };
     let kept = original.kept_points(alloc, claim, here.number)?;
     let exported = export.points(alloc, there.number)?;
-    Ok(first_difference(
-        &kept,
-        here.samples,
-        &exported,
-        there.samples,
-    ))
+    Ok(first_difference(&kept, here.samples, &exported, there.samples))
 }
 
 /// The earliest difference of the channels of these labels, at one instant that of the first label.

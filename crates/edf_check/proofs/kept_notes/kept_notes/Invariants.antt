@@ -1,4 +1,4 @@
-use Rattle.std.proofs.Common.{◌≡◌, ◌++◌, map, filter, drop}
+use Rattle.std.proofs.Common.{◌≡◌, ◌++◌, map, filter}
 use Rattle.edf_claim.specs.Keeps.{keeps_annotation}
 use Rattle.edf_stream.specs.Notes.{moved_by}
 use Rattle.edf_stream.specs.Views.{note_value}

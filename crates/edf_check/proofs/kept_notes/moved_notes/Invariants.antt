@@ -1,5 +1,4 @@
-use Rattle.std.proofs.Common.{◌≡◌, ◌++◌, map, filter, drop}
-use Rattle.edf_claim.specs.Keeps.{keeps_annotation}
+use Rattle.std.proofs.Common.{◌≡◌, ◌++◌, map}
 use Rattle.edf_stream.specs.Notes.{moved_by}
 use Rattle.edf_stream.specs.Views.{note_value}
 use Rattle.edf_check.proofs.kept_notes.moved_notes.Given as goal

@@ -1,5 +1,4 @@
-use Rattle.std.proofs.Common.{◌≡◌, List, map, option_map, None, Some, sym, ap, ◌∙◌, subst}
-use Rattle.std.specs.List.Sorted.{IsPermutation}
+use Rattle.std.proofs.Common.{List, map, None, Some, sym, ap, ◌∙◌, subst}
 use Rattle.edf_stream.specs.declared.notes.Note.{Note}
 use Rattle.edf_stream.specs.Views.{note_value}
 use Rattle.edf_check.specs.Annotations.{IsFirstNote}

@@ -1,4 +1,4 @@
-use Rattle.std.proofs.Common.{◌≡◌, ℕ, ℤ, List, map, slice_get, None, Some, Bor, sym, ap, ◌∙◌, subst}
+use Rattle.std.proofs.Common.{ℕ, ℤ, List, map, slice_get, None, Some, Bor, sym, ap, ◌∙◌, subst}
 use Rattle.edf_check.specs.declared.verdict.SampleMismatch.{SampleMismatch}
 use Rattle.edf_check.specs.Columns.{night_view}
 use Rattle.edf_check.specs.Comparisons.{AreSorted}

@@ -1,4 +1,4 @@
-use Rattle.std.proofs.Common.{List, map, None, Option, MatchOption, subst}
+use Rattle.std.proofs.Common.{List, map, Option, MatchOption, subst}
 use Rattle.edf_stream.specs.declared.notes.Note.{Note}
 use Rattle.edf_stream.specs.Views.{note_value}
 use Rattle.edf_check.specs.declared.note_difference.NoteDifference.{NoteDifference}

@@ -1,6 +1,6 @@
 use Rattle.std.proofs.Common.{◌≡◌, ◌<◌, ◌^◌, ◌++◌, drop, unsigned_abs}
 use Rattle.std.specs.List.{All}
-use Rattle.edf_check.specs.Columns.{points_of, is_kept, is_of}
+use Rattle.edf_check.specs.Columns.{points_of, is_of}
 use Rattle.edf_check.proofs.night.Night.points.Given as goal
 
 abbrev pub invariant-loop-sample : goal.invariant-loop-sample
