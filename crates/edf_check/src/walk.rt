@@ -117,6 +117,33 @@ fn compare_samples(
     sample_difference(alloc, &kept, &exported, claim)
 }
 
+/// The annotations of an original that the claim keeps, counted from the second at which it starts.
+///
+/// The error is want of memory.
+fn original_notes(
+    alloc: Global,
+    notes: Vec<Note>,
+    clock: Clock,
+    claim: &Claim,
+) -> Result<Vec<Note>, AllocError>
+    requires near { All IsNear notes.items }
+    requires by { unsigned_abs (clock.original).ps < 2 ^ 80 }
+    ensures { IfOk result (λ v. map note_value v.items ≡ notes_kept claim.now clock (map note_value notes.items)) }
+{
+    kept_notes(alloc, notes, clock.original, claim)
+}
+
+/// The annotations of an export, counted from the second at which the original starts, before the shift.
+///
+/// The error is want of memory.
+fn export_notes(alloc: Global, notes: Vec<Note>, clock: Clock) -> Result<Vec<Note>, AllocError>
+    requires near { All IsNear notes.items }
+    requires by { unsigned_abs (clock.export).ps < 2 ^ 80 }
+    ensures { IfOk result (λ v. map note_value v.items ≡ notes_moved clock (map note_value notes.items)) }
+{
+    moved_notes(alloc, notes, clock.export)
+}
+
 /// The first difference of the annotations of two files.
 ///
 /// The error is want of memory.
@@ -135,8 +162,8 @@ fn compare_notes(
         (SameNotes (notes_kept claim.now clock (map note_value original.items)) (notes_moved clock (map note_value export.items)))
         (λ d. IsFirstNote (notes_kept claim.now clock (map note_value original.items)) (notes_moved clock (map note_value export.items)) (note_mismatch d).mismatch (note_mismatch d).note)) }
 {
-    let kept = kept_notes(alloc, original, clock.original, claim)?;
-    let exported = moved_notes(alloc, export, clock.export)?;
+    let kept = original_notes(alloc, original, clock, claim)?;
+    let exported = export_notes(alloc, export, clock)?;
     note_difference(alloc, kept, exported)
 }
 
