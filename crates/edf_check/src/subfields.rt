@@ -13,20 +13,6 @@ use edf_claim::which::Which;
 use edf_fields::subfields::Subfields;
 use edf_header::header::Header;
 
-/// The subfields, in their written order.
-const ALL: [Which; 10] = [
-    Which::Code,
-    Which::Sex,
-    Which::Birthdate,
-    Which::Name,
-    Which::PatientExtras,
-    Which::Date,
-    Which::Administration,
-    Which::Technician,
-    Which::Equipment,
-    Which::RecordingExtras,
-];
-
 /// A subfield that isn't as claimed, and how it isn't.
 #[derive(Debug, Clone, Copy)]
 pub(crate) struct SubfieldDifference {
@@ -153,6 +139,6 @@ impl<'a> Comparison<'a> {
             (SubfieldsAsClaimed self.now.original self.now.export self.now.claim)
             (λ d. IsSubfieldDifference self.now.original self.now.export self.now.claim d.which d.mismatch) }
     {
-        self.first_subfield(&ALL)
+        self.first_subfield(Which::all())
     }
 }

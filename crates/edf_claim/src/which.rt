@@ -2,7 +2,7 @@
 
 ghost use Rattle.std.specs.Prelude.{◌≡◌};
 ghost use Rattle.edf_claim.specs.Claims.{name_of};
-ghost use Rattle.edf_claim.specs.Reading.{which_of, named_in as first_named};
+ghost use Rattle.edf_claim.specs.Reading.{all_names, which_of, named_in as first_named};
 
 /// A subfield that an export may make anonymous (EDF+, "Additional specifications in EDF+": local
 /// patient identification, local recording identification).
@@ -31,6 +31,13 @@ pub enum Which {
 }
 
 impl Which {
+    /// All of them, in their written order.
+    pub fn all() -> &'static [Which]
+        ensures { result.now ≡ all_names }
+    {
+        &ALL
+    }
+
     /// The name that a claim gives it.
     pub fn name(self) -> &'static str
         ensures { result.now ≡ name_of self }
@@ -81,5 +88,5 @@ fn named_in(all: &[Which], name: &[u8]) -> Option<Which>
 pub(crate) fn which_of(name: &[u8]) -> Option<Which>
     ensures { result ≡ which_of name.now }
 {
-    named_in(&ALL, name)
+    named_in(Which::all(), name)
 }
