@@ -1,0 +1,16 @@
+//! What no contract says: the exact lines of given files, and what a run does where a source, a sink or
+//! memory gives out.
+
+mod annotations;
+mod channels;
+mod differences;
+mod headers;
+mod labels;
+mod night;
+mod rows;
+mod samples;
+mod scarce;
+mod sinks;
+mod sources;
+mod support;
+mod temp;
