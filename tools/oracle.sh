@@ -1,11 +1,12 @@
 #!/usr/bin/env bash
 # Tries the readers of fields, headers, lanes, whole files and claims, the comparison of two headers, and the
-# check of two files, against a second reading of the rules, in Python (tools/oracle). It proves nothing: it looks for rules that were
-# understood in two ways. The crates run unproved, in the toolchain's interpreter.
+# run on two files under a claim, against a second reading of the rules, in Python (tools/oracle). It proves
+# nothing: it looks for rules that were understood in two ways. The crates run unproved, in the toolchain's
+# interpreter.
 #
 # usage: tools/oracle.sh [SEED]     seed 1 where none is said
 #
-# 2000 cases for the readers, 1000 for the check: the toolchain lets a program run for 120 seconds. Each
+# 2000 cases for the readers, 1000 for the run: the toolchain lets a program run for 120 seconds. Each
 # half ends with a line 'N passed, M failed'.
 set -euo pipefail
 
@@ -33,23 +34,25 @@ answers() {
 }
 
 for crate in edf_fields edf_header edf_tal edf_stream edf_claim edf_check; do
-    take "$work/readers" "$crate"
+    take "$work" "$crate"
 done
-mkdir -p "$work/readers/crates/answers/src"
-cp tools/oracle/answers.rt.in "$work/readers/crates/answers/src/main.rt"
-echo "answers: edf_fields edf_header edf_tal edf_stream edf_claim edf_check jiff" >>"$work/readers/crates.txt"
-python3 tools/oracle/cases.py "$seed" 2000 >"$work/readers/cases"
-answers "$work/readers" answers
-failed=0
-python3 tools/oracle/rules.py "$work/readers/cases" "$work/readers/given" || failed=1
 
-# the modules of the program, with another main
-take "$work/check" edf_fields
-take "$work/check" edfclaim
-main=$work/check/crates/edfclaim/src/main.rt
-sed '/^use /,$d' crates/edfclaim/src/main.rt >"$main"
-grep -v '^//!' tools/oracle/verdicts.rt.in >>"$main"
-python3 tools/oracle/verdict_cases.py "$seed" 1000 >"$work/check/cases"
-answers "$work/check" edfclaim
-python3 tools/oracle/verdict_rules.py "$work/check/cases" "$work/check/given" || failed=1
+# Adds a program of one file that stands on these crates.
+add() {
+    mkdir -p "$work/crates/$1/src"
+    cp "tools/oracle/$1.rt.in" "$work/crates/$1/src/main.rt"
+    echo "$1: $2" >>"$work/crates.txt"
+}
+
+add answers "edf_fields edf_header edf_tal edf_stream edf_claim edf_check jiff"
+add verdicts "edf_fields edf_claim edf_check"
+failed=0
+
+python3 tools/oracle/cases.py "$seed" 2000 >"$work/cases"
+answers "$work" answers
+python3 tools/oracle/rules.py "$work/cases" "$work/given" || failed=1
+
+python3 tools/oracle/verdict_cases.py "$seed" 1000 >"$work/cases"
+answers "$work" verdicts
+python3 tools/oracle/verdict_rules.py "$work/cases" "$work/given" || failed=1
 exit "$failed"

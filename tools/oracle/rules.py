@@ -438,24 +438,33 @@ def file_line(file):
     return f"{line}ends; {said['records']} {len(samples)} {said['records'] * sum(samples)} {count}"
 
 
+def begin_of(said):
+    """The picosecond at which a file starts, from 1970 on."""
+    days = (datetime.date(*said["startdate"]) - datetime.date(1970, 1, 1)).days
+    return (days * 86400 + said["starttime"]) * 10**12
+
+
+def values(file, said, found, number, start):
+    """The samples of a data record: the signal, the numerator of the instant, and the value."""
+    at = 256 * (len(found) + 1) + number * 2 * sum(one["samples"] for one in found)
+    for one in found:
+        many, lane = one["samples"], file[at:at + 2 * one["samples"]]
+        if one["label"] != ANNOTATIONS:
+            for place, (value,) in enumerate(struct.iter_unpack("<h", lane)):
+                yield one, many * (begin_of(said) + start) + place * said["duration"] * 100_000, value
+        at += 2 * many
+
+
 def meaning_line(file):
     """What a whole file means: each sample with its channel, its instant and its value, and each annotation."""
     said = fixed_part(file)
     found = signals(file, said["signals"])
-    days = (datetime.date(*said["startdate"]) - datetime.date(1970, 1, 1)).days
-    begin = (days * 86400 + said["starttime"]) * 10**12
-    size, told, noted = 2 * sum(one["samples"] for one in found), "", ""
+    channels = [one["label"] for one in found if one["label"] != ANNOTATIONS]
+    told, noted = "", ""
     for number, (start, notes) in enumerate(records(file, said, found)):
-        at, channel = 256 * (len(found) + 1) + number * size, 0
-        for one in found:
-            many, lane = one["samples"], file[at:at + 2 * one["samples"]]
-            if one["label"] != ANNOTATIONS:
-                for place, (value,) in enumerate(struct.iter_unpack("<h", lane)):
-                    instant = many * (begin + start) + place * said["duration"] * 100_000
-                    told += f"{channel}@{instant}/{many}={value} "
-                channel += 1
-            at += 2 * many
-        noted += "".join(note_text((begin + onset, duration, part)) for onset, duration, part in notes)
+        for one, instant, value in values(file, said, found, number, start):
+            told += f"{channels.index(one['label'])}@{instant}/{one['samples']}={value} "
+        noted += "".join(note_text((begin_of(said) + onset, duration, part)) for onset, duration, part in notes)
     return told + noted
 
 
@@ -483,17 +492,48 @@ def named_subfields(said):
 
 
 def subfield_difference(old, new, anonymous):
-    """The first subfield that isn't as claimed."""
+    """The name of the first subfield that isn't as claimed, and what is wrong with it."""
     for name, before, after in zip(SUBFIELDS, named_subfields(old), named_subfields(new)):
         parts = after if isinstance(after, list) else [after]
-        which = "".join(part.capitalize() for part in name.split("-"))
         if name in anonymous:
             if any(part != b"X" for part in parts):
-                return f"subfield {which} NotX"
+                return name, "NotX"
         elif name == "date" and (before == b"X") == (after == b"X"):
             continue
         elif before != after:
-            return f"subfield {which} Changed"
+            return name, "Changed"
+    return None
+
+
+def head_difference(old, before, new, after, labels, anonymous):
+    """The first difference of two headers: its number in a verdict, a word or two, and a label or none."""
+    here = {one["label"]: one for one in before if one["label"] != ANNOTATIONS}
+    there = {one["label"]: one for one in after if one["label"] != ANNOTATIONS}
+    for number, word, having in ((3, "unknown", here), (4, "missing", there)):
+        for label in labels:
+            if label not in having:
+                return number, word, label
+    if set(there) - set(labels):
+        return 5, "extra", min(set(there) - set(labels))
+    for label in labels:
+        for name in ("transducer", "prefilter"):
+            if here[label][name] != there[label][name]:
+                return 6, name, label
+    for label in labels:
+        one, other = here[label], there[label]
+        if one["dimension"] != other["dimension"] or line_through(one) != line_through(other):
+            return 7, "calibration", label
+    found = subfield_difference(old, new, anonymous)
+    if found:
+        return 8, found, None
+    free = text(new["reserved"][5:]) + b"".join(
+        one[name] for one in after if one["label"] == ANNOTATIONS
+        for name in ("transducer", "dimension", "prefilter", "reserved"))
+    if free:
+        return 9, "header", None
+    for label in labels:
+        if there[label]["reserved"]:
+            return 9, "not clean", label
     return None
 
 
@@ -507,35 +547,16 @@ def heads_line(case):
         labels, _, anonymous, _, _ = claim(document)
     except Refused:
         return "refused"
-    labels = [label.encode() for label in labels]
-    here = {one["label"]: one for one in before if one["label"] != ANNOTATIONS}
-    there = {one["label"]: one for one in after if one["label"] != ANNOTATIONS}
-    for word, having in (("unknown", here), ("missing", there)):
-        for label in labels:
-            if label not in having:
-                return f"{word} {bracketed([label])}"
-    if set(there) - set(labels):
-        return f"extra {bracketed([min(set(there) - set(labels))])}"
-    for label in labels:
-        for name in ("transducer", "prefilter"):
-            if here[label][name] != there[label][name]:
-                return f"text {bracketed([label])} {name.capitalize()}"
-    for label in labels:
-        one, other = here[label], there[label]
-        if one["dimension"] != other["dimension"] or line_through(one) != line_through(other):
-            return f"calibration {bracketed([label])}"
-    found = subfield_difference(old, new, anonymous)
-    if found:
-        return found
-    free = text(new["reserved"][5:]) + b"".join(
-        one[name] for one in after if one["label"] == ANNOTATIONS
-        for name in ("transducer", "dimension", "prefilter", "reserved"))
-    if free:
+    found = head_difference(old, before, new, after, [label.encode() for label in labels], anonymous)
+    if not found:
+        return "None"
+    number, word, label = found
+    if number == 8:
+        name, mismatch = word
+        return f"subfield {''.join(part.capitalize() for part in name.split('-'))} {mismatch}"
+    if label is None:
         return "not clean header"
-    for label in labels:
-        if there[label]["reserved"]:
-            return f"not clean {bracketed([label])}"
-    return "None"
+    return f"text {bracketed([label])} {word.capitalize()}" if number == 6 else f"{word} {bracketed([label])}"
 
 
 ANSWERS = {

@@ -1,18 +1,20 @@
-"""Pairs of files for the check: a night, and an export of it that is right, nearly right or broken.
+"""Cases for a run: a night, an export of it that is right, nearly right or broken, and a claim.
 
 usage: verdict_cases.py SEED COUNT
 
-Prints a case a line: the original and the export in hexadecimal, where the kept stretch begins and ends
-in picoseconds, and the claimed labels in hexadecimal (verdict_rules.py).
+Prints a case a line: the original, the export and the text of the claim, in hexadecimal (verdict_rules.py).
 """
 
+import datetime
 import random
 import sys
 
-from rules import ANNOTATIONS, COLUMNS, FIXED
+from rules import ANNOTATIONS, COLUMNS, FIXED, MONTHS, SUBFIELDS
 
 choose = random.Random()
-LABELS = [b"Temp", b"Flow", b"A", b"A B", b"AB", b"", b'q"\\', b"\xff\x01"]
+LABELS = [b"Temp", b"Flow", b"A", b"A B", b"AB", b"", b'q"\\', b"~"]
+TEXTS = [b"Apnea", b"x", b"", b'a\tb"\\', "é".encode(), b"X"]
+START = datetime.datetime(2002, 3, 2, 22, 0, 0)
 
 # how long a step of a night is, in units of 10^-7 s: all channels have whole numbers of samples in it
 STEPS = [10_000_000, 5_000_000, 3_333_333, 2_500_000, 1_234_567, 100_000, 7, 1]
@@ -26,11 +28,15 @@ def often(part):
     return choose.random() < part
 
 
-def seconds(time, unit):
+def seconds(time, unit=10**12):
     """A time in parts of a second, as an onset or a duration writes it."""
-    whole, rest = divmod(time, unit)
+    whole, rest = divmod(abs(time), unit)
     fraction = str(unit + rest)[1:].rstrip("0")
     return f"{whole}.{fraction}" if fraction else f"{whole}"
+
+
+def onset(time):
+    return f"{'-' if time < 0 else '+'}{seconds(time)}".encode()
 
 
 def duration_field(units):
@@ -41,7 +47,7 @@ def duration_field(units):
 
 
 class Night:
-    """Channels with so many samples in each step, from a start on, and their values."""
+    """Channels with so many samples in each step, from a start on, their values, and annotations."""
 
     def __init__(self):
         self.labels = choose.sample(LABELS, one_of(1, 1, 2, 2, 3))
@@ -49,6 +55,15 @@ class Night:
         self.step = choose.choice(STEPS)
         self.steps = one_of(2, 4, 6, 12)
         self.start = one_of(0, 0, 0, choose.randrange(10**12), 333_333_333_333, 999_999_999_999)
+        ends = [self.instant(step) for step in range(self.steps + 1)]
+        times = [*ends, *(end + 1 for end in ends), -1, ends[-1] + 10**12]
+        self.notes = [(one_of(*times), one_of(None, None, 0, 10**12), one_of(*TEXTS)) for _ in range(one_of(0, 1, 2, 3))]
+        extra = [one_of(b"a", b"X") for _ in range(one_of(0, 0, 1))]
+        self.said = {
+            "code": one_of(b"X", b"MCH"), "sex": one_of(b"F", b"X"), "birthdate": one_of(b"X", b"02-MAY-1951"),
+            "name": one_of(b"X", b"Harry"), "patient-extras": extra, "date": one_of(b"X", b"day", b"day"),
+            "administration": b"PSG", "technician": one_of(b"X", b"NN"), "equipment": b"T3", "recording-extras": extra[:0],
+        }
 
     def value(self, label, number):
         return (LABELS.index(label) * 100 + number * 7) % 60_000 - 30_000
@@ -56,21 +71,27 @@ class Night:
     def instant(self, step):
         return self.start + step * self.step * 100_000
 
-    def cut(self, first, last, labels, changed=None):
-        """The file of these channels from a step to another, its data records so long as may be."""
-        lengths = [length for length in range(1, 13) if (last - first) % length == 0]
+    def cut(self, parts, labels, said, notes, shift=0, changed=None):
+        """The file of these channels for stretches of steps, its data records so long as may be."""
+        lengths = [length for length in range(1, 13) if all((last - first) % length == 0 for first, last in parts)]
         length = choose.choice([length for length in lengths if duration_field(length * self.step)])
         signals = [(label, self.rates[label] * length) for label in labels]
-        signals += [(ANNOTATIONS, one_of(16, 18, 20)) for _ in range(one_of(1, 1, 1, 2))]
+        signals += [(ANNOTATIONS, 70) for _ in range(one_of(1, 1, 1, 2))]
         choose.shuffle(signals)
-        records = (last - first) // length
-        file = header(signals, records, duration_field(length * self.step))
-        for number in range(records):
-            at = first + number * length
-            lane = b"+" + seconds(self.instant(at), 10**12).encode() + b"\x14\x14\0"
+        places = [at for first, last in parts for at in range(first, last, length)]
+        second = self.instant(places[0]) // 10**12
+        day = START + datetime.timedelta(seconds=second + shift)
+        kind = b"EDF+C" if len(parts) == 1 and often(0.8) else b"EDF+D"
+        file = header(signals, len(places), duration_field(length * self.step), said, day, kind)
+        tals = [[] for _ in places]
+        for time, span, part in notes:
+            mark = b"" if span is None else b"\x15" + seconds(span).encode()
+            choose.choice(tals).append(onset(time - second * 10**12) + mark + b"\x14" + part + b"\x14\0")
+        for at, more in zip(places, tals):
+            lane = onset(self.instant(at) - second * 10**12) + b"\x14\x14\0" + b"".join(more)
             for label, samples in signals:
                 if label == ANNOTATIONS:
-                    file += lane.ljust(2 * samples, b"\0")[:2 * samples]
+                    file += lane.ljust(2 * samples, b"\0")
                     lane = b""
                     continue
                 for sample in range(self.rates[label] * at, self.rates[label] * at + samples):
@@ -79,10 +100,14 @@ class Night:
         return file
 
 
-def header(signals, records, duration):
+def header(signals, records, duration, said, day, kind):
+    date = f"{day.day:02}-{MONTHS[day.month - 1]}-{day.year}".encode() if said["date"] == b"day" else said["date"]
+    names = [said[name] for name in SUBFIELDS]
+    patient, recording = [*names[:4], *names[4]], [b"Startdate", date, *names[6:9], *names[9]]
     fields = {
-        "version": b"0", "patient": b"X X X X", "recording": b"Startdate X X X X", "startdate": b"01.01.00",
-        "starttime": b"00.00.00", "header-bytes": b"%d" % (256 * (len(signals) + 1)), "reserved": b"EDF+C",
+        "version": b"0", "patient": b" ".join(patient), "recording": b" ".join(recording),
+        "startdate": day.strftime("%d.%m.%y").encode(), "starttime": day.strftime("%H.%M.%S").encode(),
+        "header-bytes": b"%d" % (256 * (len(signals) + 1)), "reserved": kind,
         "records": b"%d" % records, "duration": duration, "signals": b"%d" % len(signals),
     }
     same = {
@@ -90,6 +115,11 @@ def header(signals, records, duration):
         "digital-minimum": b"-32768", "digital-maximum": b"32767", "prefilter": b"", "reserved": b"",
     }
     columns = [{**same, "label": label, "samples": b"%d" % samples} for label, samples in signals]
+    for column in columns:
+        if column["label"] == ANNOTATIONS:
+            column["dimension"] = b""
+        elif often(0.02):
+            column[one_of("transducer", "dimension", "prefilter", "reserved")] = b"a"
     file = b"".join(fields[name].ljust(width) for name, _, width in FIXED)
     return file + b"".join(fields[name].ljust(width) for name, _, width in COLUMNS for fields in columns)
 
@@ -108,27 +138,77 @@ def broken(file):
     return bytes(file)
 
 
+def stretches(steps):
+    """One or two stretches of steps, in order."""
+    if often(0.5):
+        return [(0, steps)]
+    ends = sorted(choose.sample(range(steps + 1), 4 if steps > 3 and often(0.6) else 2))
+    return list(zip(ends[::2], ends[1::2]))
+
+
+def as_claimed(said, anonymous):
+    shown = {}
+    for name, value in said.items():
+        hidden = [b"X" for _ in value] if isinstance(value, list) else b"X"
+        shown[name] = hidden if name in anonymous and often(0.97) else value
+    if often(0.05):
+        shown[one_of("code", "name", "technician")] = one_of(b"X", b"x")
+    return shown
+
+
+def quoted(part):
+    return '"' + part.decode().replace("\\", "\\\\").replace('"', '\\"').replace("\t", "\\t") + '"'
+
+
+def document(labels, keep, anonymous, shift, remove):
+    text = f"format = 1\nchannels = [{', '.join(quoted(label) for label in labels)}]\n"
+    text += f"anonymous = [{', '.join(quoted(name.encode()) for name in anonymous)}]\nshift = {shift}\n"
+    text += f"remove = [{', '.join(quoted(part) for part in remove)}]\n"
+    for low, high in keep:
+        text += f'[[keep]]\nfrom = "{seconds(low)}"\nto = "{seconds(high)}"\n'
+    return text.encode()
+
+
+def changed_notes(notes):
+    """One annotation fewer, more, or other, maybe."""
+    notes = list(notes)
+    if often(0.1):
+        notes.append((one_of(0, 10**12), one_of(None, 0), one_of(*TEXTS)))
+    if notes and often(0.1):
+        time, span, part = notes.pop()
+        notes += one_of([], [(time, 0 if span is None else None, part)], [(time + 1, span, part)])
+    return notes
+
+
 def case():
     night = Night()
-    original = night.cut(0, night.steps, night.labels)
+    original = night.cut([(0, night.steps)], night.labels, night.said, night.notes)
     claimed = choose.sample(night.labels, choose.randint(1, len(night.labels)))
-    exported = claimed if often(0.85) else choose.sample(night.labels, choose.randint(1, len(night.labels)))
-    if often(0.08):
+    exported = claimed if often(0.9) else choose.sample(night.labels, choose.randint(1, len(night.labels)))
+    if often(0.04):
         claimed = claimed + [b"zz"]
-    last = night.steps if often(0.6) else choose.randint(1, night.steps)
-    first = 0 if often(0.9) else choose.randrange(last)
+    parts = stretches(night.steps)
+    keep = [(night.instant(first), night.instant(last)) for first, last in parts]
+    shift = one_of(0, 0, 0, 86_400, -86_400, 1, -31_536_000)
+    anonymous = [name for name in SUBFIELDS if often(0.2)]
+    remove = choose.sample(TEXTS, one_of(0, 0, 1, 2))
+    kept = [note for note in night.notes if any(low <= note[0] < high for low, high in keep) and note[2] not in remove]
     changed = None
-    if often(0.3):
+    if often(0.15):
         label = choose.choice(exported)
         changed = label, choose.randrange(night.rates[label] * night.steps)
-    export = night.cut(first, last, exported, changed)
-    begin = one_of(0, 0, 0, night.start, night.start + 1, night.instant(choose.randint(0, night.steps)))
-    end = one_of(10**21 - 1, *[night.instant(last)] * 3, night.instant(night.steps), night.instant(last) - 1)
+    said, moved = as_claimed(night.said, anonymous), shift if often(0.95) else one_of(0, 1)
+    export = night.cut(parts, exported, said, changed_notes(kept), moved, changed)
     if often(0.15):
+        low, high = keep[-1]
+        keep[-1] = one_of((low + 1, high), (low, max(high - 1, low + 1)), (low, high + 1), (low, high + 10**12))
+        keep[-1] = (keep[-1][0], max(keep[-1][1], keep[-1][0] + 1))
+    if often(0.12):
         export = broken(export)
     elif often(0.05):
         original = broken(original)
-    return original.hex(), export.hex(), begin, max(end, begin + 1), *(label.hex() for label in claimed)
+    text = document(claimed, keep, anonymous, shift, remove)
+    return original.hex(), export.hex(), (text if often(0.97) else text.replace(b"= 1", b"= 2")).hex()
 
 
 def main(seed, count):

@@ -1,135 +1,118 @@
-"""The rules of the check of two files, read a second time and apart from the crates.
+"""The rules of a run, read a second time and apart from the crates.
 
 usage: verdict_rules.py CASES GIVEN
 
-CASES holds a case a line: the original and the export in hexadecimal, where the kept stretch begins and
-ends in picoseconds, and the claimed labels in hexadecimal. GIVEN holds the verdicts of the crates
-(verdicts.rt.in). Each case that the rules judge otherwise is printed; the last line is 'N passed, M failed'.
+CASES holds a case a line: the original, the export and the text of the claim, in hexadecimal. GIVEN holds
+what the runs wrote, or why they stopped (verdicts.rt.in). Each case that the rules answer otherwise is
+printed; the last line is 'N passed, M failed'.
 """
 
+import collections
 import sys
 from fractions import Fraction
 
-from rules import ANNOTATIONS, COLUMNS, FIXED, Refused, compare, header_number, header_whole, must, onset, text
+from rules import ANNOTATIONS, Refused, begin_of, claim, compare, fixed_part, head_difference, records, signals, values
 
 SECOND = 10**12
 
 
-def fixed_part(file):
-    """The numbers of the fixed part, each judged in its turn."""
-    said = {}
-    for name, first, count in FIXED:
-        must(not first <= len(file) < first + count, "Truncated", f"header field {name}")
-    for name, first, count in FIXED:
-        place, field = f"header field {name}", file[first:first + count]
-        if name == "reserved":
-            must(field[:5] == b"EDF+C", "NotEdfPlus", place)
-        elif name in ("header-bytes", "records", "duration", "signals"):
-            said[name] = header_number(field) if name == "duration" else header_whole(field)
-            must(said[name] is not None, "BadNumber", place)
-            must(name == "header-bytes" or said[name] >= (2 if name == "signals" else 1), "BadRange", place)
-    must(said["header-bytes"] == 256 * (said["signals"] + 1), "BadHeaderSize", "header field header-bytes")
-    return said
+class Night:
+    """What a whole file says: its header, its samples by label and instant, and its annotations."""
+
+    def __init__(self, file):
+        self.said = fixed_part(file)
+        self.signals = signals(file, self.said["signals"])
+        self.samples = {one["label"]: {} for one in self.signals if one["label"] != ANNOTATIONS}
+        self.notes = []
+        for number, (start, notes) in enumerate(records(file, self.said, self.signals)):
+            for one, instant, value in values(file, self.said, self.signals, number, start):
+                self.samples[one["label"]][Fraction(instant, one["samples"])] = value
+            self.notes += [(begin_of(self.said) + onset, duration, part) for onset, duration, part in notes]
 
 
-def signals(file, count):
-    """Label and samples of each signal, and how many bytes of a data record stand before it."""
-    found, offset = [], 0
-    for name, before, width in COLUMNS:
-        for number in range(count):
-            at = 256 + before * count + width * number
-            must(not at <= len(file) < at + width, "Truncated", f"signal {number} field {name}")
-    for number in range(count):
-        label, samples = 256 + 16 * number, 256 + 216 * count + 8 * number
-        said = header_whole(file[samples:samples + 8])
-        must(said is not None, "BadNumber", f"signal {number} field samples")
-        must(said > 0, "BadRange", f"signal {number} field samples")
-        found.append((text(file[label:label + 16]), said, offset))
-        offset += 2 * said
-    labels = [label for label, _, _ in found]
-    must(ANNOTATIONS in labels, "NoAnnotationSignal", "header field signals")
-    must(set(labels) != {ANNOTATIONS}, "NoOrdinarySignal", "header field signals")
-    for number, label in enumerate(labels):
-        must(label == ANNOTATIONS or label not in labels[:number], "DuplicateLabel", f"signal {number} field label")
-    must(offset <= 16_777_216, "RecordTooLarge", "header field signals")
-    return found, offset
-
-
-def record_start(lanes):
-    """When a data record starts: the first annotation lane says it and nothing else, the others are zeros."""
-    said, _, rest = lanes[0].partition(b"\x14")
-    start = onset(said) if rest[:2] == b"\x14\0" and not rest[2:].strip(b"\0") else None
-    return None if any(lane.strip(b"\0") for lane in lanes[1:]) else start
-
-
-def channels(file):
-    """The values of each channel by their instants, and how many they are."""
-    said = fixed_part(file)
-    found, size = signals(file, said["signals"])
-    values = {label: {} for label, _, _ in found if label != ANNOTATIONS}
-    duration, at, due = said["duration"] * 100_000, 256 * (said["signals"] + 1), None
-    for number in range(said["records"]):
-        place, record = f"record {number}", file[at + number * size:at + (number + 1) * size]
-        must(len(record) == size, "Truncated", place)
-        lanes = [(label, count, record[offset:offset + 2 * count]) for label, count, offset in found]
-        start = record_start([lane for label, _, lane in lanes if label == ANNOTATIONS])
-        must(start is not None, "NoTimekeeping", place)
-        must(number > 0 or 0 <= start < SECOND, "BadFirstStart", place)
-        must(number == 0 or start == due, "NotContiguous", place)
-        due = start + duration
-        for label, count, lane in lanes:
-            for i in range(count if label != ANNOTATIONS else 0):
-                value = int.from_bytes(lane[2 * i:2 * i + 2], "little", signed=True)
-                values[label][start + Fraction(i * duration, count)] = value
-    must(len(file) == at + said["records"] * size, "TrailingBytes", "end")
-    return values
-
-
-def quoted(label):
-    marks = [f"\\x{byte:02x}" if byte < 32 or byte in (34, 92, 127) else chr(byte) for byte in label]
+def quoted(part):
+    """A text between quotes, as the byte 0 to 255 each, which the program prints as characters."""
+    marks = [f"\\x{byte:02x}" if byte < 32 or byte in (34, 92, 127) else chr(byte) for byte in part]
     return f'"{"".join(marks)}"'
 
 
-def first_difference(original, export, begin, end, labels):
-    """The earliest instant at which a claimed channel differs, then the least label: its line, or None."""
+def head_line(found):
+    number, word, label = found
+    if number == 8:
+        name, mismatch = word
+        return f"NO 8 subfield {name} {'not X' if mismatch == 'NotX' else 'changed'}"
+    if number == 9:
+        return f"NO 9 not clean {'header' if label is None else quoted(label)}"
+    if number == 6:
+        return f"NO 6 channel text {quoted(label)} {word}"
+    return f"NO {number} {word}{' channel' if number < 6 else ''} {quoted(label)}"
+
+
+def sample_line(original, export, labels, keep, begin, shift):
+    """The earliest instant at which a claimed channel differs, then the least label; or None."""
     differences = []
     for label in labels:
-        kept = {instant: value for instant, value in original[label].items() if begin <= instant < end}
-        for instant in set(kept) | set(export[label]):
-            left, right = kept.get(instant), export[label].get(instant)
+        old = {instant - begin: value for instant, value in original.samples[label].items()}
+        new = {instant - begin - shift: value for instant, value in export.samples[label].items()}
+        kept = {at: value for at, value in old.items() if any(low <= at < high for low, high in keep)}
+        for at in set(kept) | set(new):
+            left, right = kept.get(at), new.get(at)
             if left != right:
                 what = "missing" if right is None else "extra" if left is None else f"original {left} export {right}"
-                differences.append((instant, label, what))
+                differences.append((at, label, what))
     if not differences:
         return None
-    instant, label, what = min(differences)
-    return f"NO 10 sample {quoted(label)} at {instant.__floor__()} ps {what}"
+    at, label, what = min(differences)
+    return f"NO 10 sample {quoted(label)} at {at.__floor__()} ps {what}"
 
 
-def verdict(original_file, export_file, begin, end, labels):
+def rank(note):
+    """No duration comes before every duration."""
+    onset, duration, part = note
+    return onset, -1 if duration is None else duration, part
+
+
+def note_line(original, export, keep, remove, begin, shift):
+    """The least annotation whose counts differ; or None."""
+    texts = {part.encode() for part in remove}
+    old = [(onset - begin, duration, part) for onset, duration, part in original.notes]
+    new = [(onset - begin - shift, duration, part) for onset, duration, part in export.notes]
+    kept = [note for note in old if any(low <= note[0] < high for low, high in keep) and note[2] not in texts]
+    want, have = collections.Counter(kept), collections.Counter(new)
+    differing = [note for note in set(want) | set(have) if want[note] != have[note]]
+    if not differing:
+        return None
+    note = min(differing, key=rank)
+    what = "missing" if want[note] > have[note] else "extra"
+    span = "none" if note[1] is None else f"{note[1]} ps"
+    return f"NO 11 annotation {what} at {note[0]} ps duration {span} text {quoted(note[2])}"
+
+
+def line(original_file, export_file, document):
+    try:
+        labels, keep, anonymous, shift, remove = claim(document)
+    except Refused as cause:
+        return f"refused {cause}"
+    nights = []
     for number, side, file in ((1, "original", original_file), (2, "export", export_file)):
         try:
-            values = channels(file)
+            nights.append(Night(file))
         except Refused as fault:
             return f"NO {number} {side} fault: {fault}"
-        if number == 1:
-            original = values
-    for number, what, side in ((3, "unknown", original), (4, "missing", values)):
-        absent = [label for label in labels if label not in side]
-        if absent:
-            return f"NO {number} {what} channel {quoted(absent[0])}"
-    extra = sorted(set(values) - set(labels))
-    if extra:
-        return f"NO 5 extra channel {quoted(extra[0])}"
-    samples = sum(len(channel) for channel in values.values())
-    yes = f"YES channels {len(labels)} samples {samples} annotations 0"
-    return first_difference(original, values, begin, end, labels) or yes
+    original, export = nights
+    labels = [label.encode() for label in labels]
+    found = head_difference(original.said, original.signals, export.said, export.signals, labels, anonymous)
+    if found:
+        return head_line(found)
+    begin, moved = begin_of(original.said), shift * SECOND
+    samples = sum(len(channel) for channel in export.samples.values())
+    yes = f"YES channels {len(export.samples)} samples {samples} annotations {len(export.notes)}"
+    return sample_line(original, export, labels, keep, begin, moved) \
+        or note_line(original, export, keep, remove, begin, moved) or yes
 
 
 def answer(case):
-    original, export, begin, end, *labels = case.split(" ")
-    files = bytes.fromhex(original), bytes.fromhex(export)
-    return verdict(*files, int(begin), int(end), [bytes.fromhex(label) for label in labels])
+    return line(*(bytes.fromhex(part) for part in case.split(" ")))
 
 
 if __name__ == "__main__":

@@ -119,7 +119,8 @@ fn assert_stop(rt: &impl Abort, alloc: Global, passes: (u32, u32), side: Side) -
         (stop, line.as_str()),
         (Some(RunStop::ReadFailed(side)), "")
     );
-    assert_eq!(rt; first.failures + second.failures, 1);
+    let failures = first.failures.saturating_add(second.failures);
+    assert_eq!(rt; failures, 1);
     let text = text_of(alloc, ALL)?;
     let claim = Claim::read(alloc, text.as_bytes())?;
     let mut first = fed(&file, passes.0);
