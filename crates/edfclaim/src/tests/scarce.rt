@@ -21,13 +21,10 @@ type Blocks = Vec<Vec<u8>>;
 const BLOCKS: usize = 250_000;
 
 /// The most steps.
-const STEPS: usize = 2000;
-
-/// How many bytes a step has more than the one before.
-const STEP: usize = 16;
+const STEPS: usize = 1200;
 
 /// The size of the region that a step gives back, of which it leaves a part.
-const REGION: usize = 1 << 15;
+const REGION: usize = 96 << 10;
 
 /// Takes blocks of one size, as long as the heap gives them.
 fn take_blocks(alloc: Global, size: usize, blocks: &mut Blocks) {
@@ -130,15 +127,15 @@ fn regions(alloc: Global) -> Result<Blocks, AllocError> {
 /// before.
 ///
 /// All memory is taken, but for a region for each step. A step gives its region back and takes its
-/// front again, so that `STEP` bytes more than in the step before are left, in one piece.
-fn rise(alloc: Global, call: Option<Run>) -> Result<(Ended, u64), AllocError> {
+/// front again, so that `more` bytes more than in the step before are left, in one piece.
+fn rise(alloc: Global, call: Option<Run>, more: u8) -> Result<(Ended, u64), AllocError> {
     let mut blocks: Blocks = Vec::with_capacity(alloc, BLOCKS)?;
     let mut regions = regions(alloc)?;
     take_all(alloc, 1 << 46, &mut blocks);
     let mut refused = 0u64;
     for step in 2..STEPS {
         drop(regions.pop());
-        let front = Vec::with_capacity(alloc, REGION - STEP * step)?;
+        let front = Vec::with_capacity(alloc, REGION.saturating_sub(usize::from(more) * step))?;
         let found = called(alloc, call);
         blocks.push(front)?;
         take_all(alloc, REGION, &mut blocks);
@@ -162,7 +159,7 @@ fn assert_rise(rt: &impl Abort, alloc: Global, row: &Row) -> Result<(), Fail> {
         claim: claim.as_str(),
         line,
     };
-    let (last, refused) = rise(alloc, Some(call))?;
+    let (last, refused) = rise(alloc, Some(call), 16)?;
     assert_eq!(rt; last, Ended::Right);
     assert!(rt; refused > 0);
     Ok(())
@@ -248,7 +245,7 @@ fn says_a_fault_or_wants_memory(rt: HostRuntime) -> Result<(), Fail> {
 
 #[test]
 fn writes_the_rows_or_wants_memory(rt: HostRuntime) -> Result<(), Fail> {
-    let (last, refused) = rise(rt.alloc(), None)?;
+    let (last, refused) = rise(rt.alloc(), None, 80)?;
     assert_eq!(rt; last, Ended::Right);
     assert!(rt; refused > 0);
     Ok(())

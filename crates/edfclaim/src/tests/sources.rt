@@ -109,7 +109,7 @@ fn reads_byte_by_byte(rt: HostRuntime) -> Result<(), Fail> {
 /// Two reads take the header of the night, one each of its data records, and one asks for a byte behind them.
 const READS: u32 = 7;
 
-/// How many reads pass of the original and of the export, and whose failure is answered.
+/// Asserts whose failed read is answered where so many reads of the original and of the export pass.
 fn assert_stop(rt: &impl Abort, alloc: Global, passes: (u32, u32), side: Side) -> Result<(), Fail> {
     let file = bytes_of(alloc, &NIGHT)?;
     let mut first = fed(&file, passes.0);
