@@ -22,3 +22,4 @@ pub mod NightFacts
 pub mod NoteOrderFacts
 pub mod WalkFacts
 pub mod RunFacts
+pub mod ProductFacts

@@ -1,10 +1,12 @@
 -- What follows from the definition of the verdict.
-use Rattle.std.specs.Prelude.{◌≡◌, ◌↔◌, ℕ, neg_ℤ, List}
+use Rattle.std.specs.Prelude.{◌≡◌, ◌↔◌, ◌<◌, ◌^◌, ◌*ℤ◌, ℕ, pos, neg_ℤ, unsigned_abs, List}
 use Rattle.std.specs.List.Sorted.{IsPermutation}
-use Rattle.edf_claim.specs.Claims.{Terms}
+use Rattle.edf_claim.specs.Claims.{Terms, IsClaim}
+use Rattle.edf_claim.specs.declared.interval.Interval.{Interval}
 use Rattle.edf_claim.specs.Keeps.{KeepsInstant}
 use Rattle.edf_fields.specs.Lists.{Has}
-use Rattle.edf_header.specs.Heads.{head_of}
+use Rattle.edf_header.specs.CalibrationLaws.{FitTogether}
+use Rattle.edf_header.specs.Heads.{SignalHead, head_of}
 use Rattle.edf_stream.specs.Instants.{IsSame}
 use Rattle.edf_stream.specs.Notes.{NoteValue}
 use Rattle.edf_stream.specs.Samples.{SampleValue, IsSample}
@@ -51,3 +53,16 @@ SamplesInWords = (original export : List ℕ) (claim : Terms) → SameSamples or
 -- each annotation stands equally often in two lists exactly where one is a rearrangement of the other
 abbrev pub NotesInWords : Type 0
 NotesInWords = (kept exported : List NoteValue) → SameNotes kept exported ↔ IsPermutation kept exported
+
+-- the products by which the samples of an original are kept and compared with those of an export, at the claimed shift, fit 128 bits, and so
+-- do those of the calibrations
+pub record ProductsFit (original export : List ℕ) (claim : Terms) : Type 0 where
+  pub bounds : (x : SampleValue) (i : Interval) → IsSample original (head_of original) x → Has claim.keep i →
+      (unsigned_abs (i.from_ps *ℤ pos (x.instant).den) < 2 ^ 127) × (unsigned_abs (i.to_ps *ℤ pos (x.instant).den) < 2 ^ 127)
+  pub kept : (x : SampleValue) → IsSample original (head_of original) x → unsigned_abs (later (neg_ℤ (start_of original)) x.instant).num < 2 ^ 127
+  pub moved : (x y : SampleValue) → IsSample original (head_of original) x → IsSample export (head_of export) y →
+      (unsigned_abs ((later (shift_of claim) x.instant).num *ℤ pos (y.instant).den) < 2 ^ 127) × (unsigned_abs ((y.instant).num *ℤ pos (x.instant).den) < 2 ^ 127)
+  pub calibrations : (x y : SignalHead) → Has (head_of original).signals x → Has (head_of export).signals y → FitTogether x.calibration y.calibration
+
+abbrev pub AllProductsFit : Type 0
+AllProductsFit = (original export : List ℕ) (claim : Terms) → BothConform original export → IsClaim claim → ProductsFit original export claim

@@ -1,6 +1,6 @@
 //! Laws of the definitions, each the contract of a function that does nothing.
 
-ghost use Rattle.edf_check.specs.Laws.{OneVerdict, YesExactly, SamplesInWords, NotesInWords};
+ghost use Rattle.edf_check.specs.Laws.{OneVerdict, YesExactly, SamplesInWords, NotesInWords, AllProductsFit};
 
 /// Two files have one verdict at most.
 pub fn there_is_one_verdict()
@@ -22,4 +22,10 @@ pub fn samples_are_the_same_in_words()
 /// Each annotation stands equally often in two lists exactly where one is a rearrangement of the other.
 pub fn annotations_are_rearranged()
     ensures { NotesInWords }
+{}
+
+/// The products by which the samples of two files that conform are kept and compared under any claim, and
+/// their calibrations, fit 128 bits.
+pub fn products_fit()
+    ensures { AllProductsFit }
 {}

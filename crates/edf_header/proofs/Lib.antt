@@ -1,3 +1,4 @@
+pub mod CalibrationFitFacts
 pub mod CalibrationFacts
 pub mod ChannelFacts
 pub mod ColumnFacts

@@ -1,6 +1,6 @@
 -- What being the same line says of the values.
-use Rattle.std.specs.Prelude.{◌≡◌, ℤ, ◌+ℤ◌, ◌-ℤ◌, ◌*ℤ◌, ◌↔◌}
-use Rattle.edf_header.specs.Calibrations.{Line, digital_span, physical_span, SameLine}
+use Rattle.std.specs.Prelude.{◌≡◌, ◌<◌, ◌^◌, ℤ, ◌+ℤ◌, ◌-ℤ◌, ◌*ℤ◌, ◌↔◌, unsigned_abs}
+use Rattle.edf_header.specs.Calibrations.{Line, IsCalibration, digital_span, physical_span, offset_times_span, SameLine}
 
 -- the physical value of the digital value v, times the digital span: p * (dmax - dmin) = pmin * (dmax - dmin) + (v - dmin) * (pmax - pmin)
 abbrev pub value_times_span : Line → ℤ → ℤ
@@ -11,3 +11,13 @@ abbrev pub SameLineIsSameValues : Type 0
 SameLineIsSameValues =
     (l m : Line)
     → SameLine l m ↔ ((v : ℤ) → value_times_span l v *ℤ digital_span m ≡ value_times_span m v *ℤ digital_span l)
+
+-- the products by which two calibrations are compared fit 128 bits
+pub record FitTogether (l m : Line) : Type 0 where
+  pub spans : unsigned_abs (physical_span l *ℤ digital_span m) < 2 ^ 127
+  pub minimum : unsigned_abs (l.physical_minimum *ℤ digital_span l) < 2 ^ 127
+  pub slope : unsigned_abs (l.digital_minimum *ℤ physical_span l) < 2 ^ 127
+  pub offsets : unsigned_abs (offset_times_span l *ℤ digital_span m) < 2 ^ 127
+
+abbrev pub CalibrationsFit : Type 0
+CalibrationsFit = (l m : Line) → IsCalibration l → IsCalibration m → FitTogether l m

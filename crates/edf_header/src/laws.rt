@@ -1,6 +1,6 @@
 //! Laws of the definitions, each the contract of a function that does nothing.
 
-ghost use Rattle.edf_header.specs.CalibrationLaws.{SameLineIsSameValues};
+ghost use Rattle.edf_header.specs.CalibrationLaws.{SameLineIsSameValues, CalibrationsFit};
 ghost use Rattle.edf_header.specs.Calibrations.{SameLineIsEquivalence};
 ghost use Rattle.edf_header.specs.Conforming.{PassingHasHead, PassingIsSound, PassingIsConforming};
 ghost use Rattle.edf_header.specs.Heads.{HasOneHead};
@@ -17,6 +17,11 @@ pub fn same_line_is_an_equivalence()
 #[tactic(auto, using(crate::proofs::ValueFacts::same_line_is_same_values))]
 pub fn same_line_is_same_values()
     ensures { SameLineIsSameValues }
+{}
+
+/// The products by which two calibrations of headers are compared fit 128 bits.
+pub fn calibrations_fit()
+    ensures { CalibrationsFit }
 {}
 
 /// A file has at most one header.
