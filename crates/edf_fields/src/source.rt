@@ -2,8 +2,10 @@
 //!
 //! A source's bytes are known to the proofs where the source is honest. Of a file or a pipe
 //! nothing is known but that its failures are counted.
-ghost use Rattle.std.specs.Prelude.{◌≡◌, ℕ, ◌<◌, ◌≤◌, min, List, [], length, take, drop, Ok, IfOk, OnOk, OnErr, IsTrue, Bool, true};
+ghost use Rattle.std.specs.Prelude.{◌≡◌, ℕ, ◌<◌, ◌≤◌, min, List, [], length, take, drop, is_some, unwrap_or, Ok, IfOk, OnOk, OnErr, IsTrue, Bool, true};
 ghost use Rattle.edf_fields.specs.Sources.{Rises, Takes};
+
+use std::io::Read;
 
 /// A read failed. Which bytes it took is not known.
 #[derive(Debug, Clone, Copy, PartialEq, Eq, Drop)]
@@ -82,6 +84,45 @@ impl<'a> Source for SliceSource<'a> {
     }
 }
 
+/// A source over a reader. It is honest where the reader's bytes are known, as those of bytes in memory.
+///
+/// Each error of the reader is a failure, also one that says that the call was interrupted. Nothing is
+/// tried again.
+#[derive(Drop)]
+pub struct ReadSource<R: Drop> {
+    reader: R,
+    failed: u64,
+}
+
+impl<R: Read + Drop> ReadSource<R> {
+    /// A source that gives what `reader` gives.
+    pub fn new(reader: R) -> ReadSource<R>
+        ensures left { ⟦<ReadSource<R> as Source>⟧.left result ≡ unwrap_or (R.remaining reader) [] }
+        ensures failures { ⟦<ReadSource<R> as Source>⟧.failures result ≡ 0 }
+        ensures honest { ⟦<ReadSource<R> as Source>⟧.is_honest result ≡ is_some (R.remaining reader) }
+    {
+        ReadSource { reader, failed: 0 }
+    }
+}
+
+impl<R: Read + Drop> Source for ReadSource<R> {
+    ghost left = { λ s. unwrap_or (R.remaining s.reader) [] };
+
+    ghost failures = { λ s. s.failed };
+
+    ghost is_honest = { λ s. is_some (R.remaining s.reader) };
+
+    fn read(&mut self, buf: &mut [u8]) -> Result<usize, ReadFault> {
+        match self.reader.read(buf) {
+            Ok(count) => Ok(count),
+            Err(_) => {
+                self.failed = self.failed.saturating_add(1);
+                Err(ReadFault)
+            }
+        }
+    }
+}
+
 /// Reads until `buf` is full or the source has nothing left, and answers how many bytes now
 /// stand at the front of `buf`. Fewer than its length are all that the source had.
 ///
@@ -114,6 +155,8 @@ pub fn fill<S: Source>(source: &mut S, buf: &mut [u8]) -> Result<usize, ReadFaul
 #[cfg(test)]
 mod tests {
     use super::*;
+    use std::io;
+    use std::test::Fail;
 
     /// Gives one byte a read.
     #[derive(Drop)]
@@ -164,6 +207,24 @@ mod tests {
         }
     }
 
+    /// Gives zeros, at most three a read and so many reads in all, and then says that it was interrupted.
+    #[derive(Drop)]
+    struct Zeros {
+        reads: u32,
+    }
+
+    impl Read for Zeros {
+        fn read(&mut self, buf: &mut [u8]) -> io::Result<usize> {
+            if self.reads == 0 {
+                return Err(io::Error::from(io::ErrorKind::Interrupted));
+            }
+            self.reads -= 1;
+            let count = buf.len().min(3);
+            buf[..count].fill(0);
+            Ok(count)
+        }
+    }
+
     #[test]
     fn fills_from_a_slice(rt: HostRuntime) {
         let mut source = SliceSource::new(b"0       record");
@@ -196,5 +257,43 @@ mod tests {
         assert_eq!(rt; fill(&mut source, &mut []), Ok(0));
         assert_eq!(rt; fill(&mut source, &mut buf), Err(ReadFault));
         assert_eq!(rt; source.failures, 1);
+    }
+
+    #[test]
+    fn fills_from_a_reader(rt: HostRuntime) {
+        let mut source = ReadSource::new("0       record".as_bytes());
+        let mut version = [0; 8];
+        assert_eq!(rt; fill(&mut source, &mut version), Ok(8));
+        assert_eq!(rt; &version[..], "0       ".as_bytes());
+        assert_eq!(rt; fill(&mut source, &mut version), Ok(6));
+        assert_eq!(rt; &version[..6], "record".as_bytes());
+        assert_eq!(rt; fill(&mut source, &mut version), Ok(0));
+        assert_eq!(rt; source.failed, 0);
+    }
+
+    #[test]
+    fn tries_no_reader_again(rt: HostRuntime) {
+        let mut source = ReadSource::new(Zeros { reads: 2 });
+        let mut buf = [1; 5];
+        assert_eq!(rt; fill(&mut source, &mut buf), Ok(5));
+        assert_eq!(rt; &buf[..], &[0u8; 5][..]);
+        assert_eq!(rt; fill(&mut source, &mut []), Ok(0));
+        assert_eq!(rt; source.failed, 0);
+        assert_eq!(rt; fill(&mut source, &mut buf), Err(ReadFault));
+        assert_eq!(rt; source.failed, 1);
+        assert_eq!(rt; source.read(&mut buf), Err(ReadFault));
+        assert_eq!(rt; source.failed, 2);
+    }
+
+    #[test]
+    fn reads_small_parts_in_larger_stretches(rt: HostRuntime) -> Result<(), Fail> {
+        let behind = Zeros { reads: 2 };
+        let mut source = ReadSource::new(io::BufReader::with_capacity(rt.alloc(), 3, behind)?);
+        let mut byte = [1; 1];
+        for _ in 0..6 {
+            assert_eq!(rt; fill(&mut source, &mut byte), Ok(1));
+        }
+        assert_eq!(rt; fill(&mut source, &mut byte), Err(ReadFault));
+        Ok(())
     }
 }
