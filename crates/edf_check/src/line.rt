@@ -2,7 +2,8 @@
 
 ghost use Rattle.std.specs.Prelude.{◌≡◌, ◌++◌, Some, IfOk, OnOk};
 ghost use Rattle.edf_header.specs.FaultTexts.{fault_text};
-ghost use Rattle.edf_check.specs.Lines.{with_quoted, field_text, channel_text, subfield_mismatch_text, subfield_text, not_clean_text, sample_mismatch_text, moment_text, sample_text, note_mismatch_text, note_words, counts_text, difference_text, verdict_text, verdict_line};
+ghost use Rattle.edf_check.specs.Quotes.{with_quoted};
+ghost use Rattle.edf_check.specs.Lines.{field_text, channel_text, subfield_mismatch_text, subfield_text, not_clean_text, sample_mismatch_text, moment_text, sample_text, note_mismatch_text, note_words, counts_text, difference_text, verdict_text, verdict_line};
 
 use crate::label::Label;
 use crate::note_text::NoteText;

@@ -107,6 +107,7 @@ fn reads_the_reference_file(rt: HostRuntime) -> Result<(), Fail> {
     for (start, value, want) in RECORDS {
         assert_eq!(rt; reader.next(&mut source), Ok(true));
         assert_eq!(rt; seen(&reader), Some((start, Some(value))));
+        assert_eq!(rt; reader.end_ps(), start + 1_000_000_000_000);
         let notes = notes_of(rt.alloc(), &reader)?;
         assert!(rt; notes.is_some_and(|shown| shown.as_str() == want));
     }

@@ -9,6 +9,7 @@ pub mod SignalFacts
 pub mod StopFacts
 pub mod NoteFacts
 pub mod RecordFacts
+pub mod PlaceFacts
 pub mod SampleFacts
 pub mod MeaningFacts
 pub mod MemberFacts

@@ -4,7 +4,8 @@ use Rattle.std.specs.Ordering.{int_eq}
 use Rattle.edf_fields.specs.declared.cause.TalCause.{TalCause}
 use Rattle.edf_fields.specs.Tests.{first}
 use Rattle.edf_header.specs.declared.fault.Fault.{Fault}
-use Rattle.edf_header.specs.declared.fault.Place.TheVariants.{AtRecord, AtEnd}
+use Rattle.edf_header.specs.declared.fault.Place.{Place}
+use Rattle.edf_header.specs.declared.fault.Place.TheVariants.{AtField, AtSignal, AtRecord, AtEnd}
 use Rattle.edf_header.specs.declared.fault.Cause.{Cause}
 use Rattle.edf_header.specs.declared.fault.Cause.TheVariants.{BadTal, NoTimekeeping, BadFirstStart, NotContiguous, Overlap, TooManyAnnotations, TrailingBytes}
 use Rattle.edf_header.specs.declared.kind.Kind.{Kind}
@@ -88,6 +89,19 @@ trailing_fault file h = fault_unless (nat_le (length file) (place_of h h.records
 unfoldable pub body_fault : List ℕ → Head → Option Fault
 body_fault file h = first (records_tests file h 0 h.records ++ trailing_fault file h ∷ [])
 
+-- how many data records stand before this place
+abbrev pub records_before_place : Head → Place → ℕ
+records_before_place h (AtField field) = 0
+records_before_place h (AtSignal signal field) = 0
+records_before_place h (AtRecord k) = k
+records_before_place h AtEnd = h.records
+
 -- the first fault of a file: of its header, else of its data records one after the other, else a byte behind them
 unfoldable pub file_fault : List ℕ → Option Fault
 file_fault file = first (header_fault file ∷ body_fault file (head_of file) ∷ [])
+
+-- how many data records stand before the first fault of a file with this header: none before a fault of the header, and all
+-- where there is no fault
+abbrev pub records_before : Head → Option Fault → ℕ
+records_before h None = h.records
+records_before h (Some fault) = records_before_place h fault.place

@@ -1,7 +1,9 @@
 -- A reader of a file, data record by data record, as its callers see it.
-use Rattle.std.specs.Prelude.{◌≡◌, ℕ, ℤ, ◌≤◌, Bool, true, false, List, [], length, drop, None, Result, Ok, Err}
+use Rattle.std.specs.Prelude.{◌≡◌, ℕ, ℤ, ◌≤◌, nat_lt, if◌then◌else◌, Bool, true, false, List, [], length, drop, None, Result, Ok, Err}
 use Rattle.edf_fields.specs.Tests.{first}
 use Rattle.edf_header.specs.declared.fault.Fault.{Fault}
+use Rattle.edf_header.specs.declared.fault.Place.{Place}
+use Rattle.edf_header.specs.declared.fault.Place.TheVariants.{AtRecord, AtEnd}
 use Rattle.edf_header.specs.declared.stop.Stop.{Stop}
 use Rattle.edf_header.specs.declared.stop.Stop.TheVariants as stops
 use Rattle.edf_header.specs.Conforming.{HeaderConforms}
@@ -74,6 +76,16 @@ abbrev pub Comes : Bool → Reader → Reader → List ℕ → List ℕ → Type
 Comes true old new left file = StandsIn new left file × (new.current ≡ record_at file old.head old.read)
 Comes false old new left file =
     StandsIn new left file × (new.read ≡ (old.head).records) × (body_fault file old.head ≡ None) × Conforms file old.head × (left ≡ []) × (old.read ≡ (old.head).records)
+
+-- where the next call finds a fault, if it finds one: in data record k, or behind the last one
+abbrev pub place_behind : Head → ℕ → Place
+place_behind h k = if nat_lt k h.records then AtRecord k else AtEnd
+
+-- a fault stands at this place
+abbrev pub StopsAt : Place → Stop → Type 0
+StopsAt place stops.OutOfMemory = Unit {0}
+StopsAt place stops.ReadFailed = Unit {0}
+StopsAt place (stops.Fault fault) = fault.place ≡ place
 
 -- why reading a data record stopped, which takes no memory: of a fault this is said, and of a failed read that
 abbrev pub StopsReading : (Fault → Type 0) → Type 0 → Stop → Type 0

@@ -1,6 +1,6 @@
 //! The data record that a reader has at hand. EDF (1992), "Data record".
 
-ghost use Rattle.std.specs.Prelude.{◌≡◌, ◌<◌, ◌^◌, IsTrue, length, unsigned_abs};
+ghost use Rattle.std.specs.Prelude.{◌≡◌, ◌<◌, ◌^◌, ◌+ℤ◌, IsTrue, length, unsigned_abs};
 ghost use Rattle.edf_stream.specs.Readers.{is_current};
 ghost use Rattle.edf_stream.specs.Records.{lane_in, lane_bytes, samples_at};
 ghost use Rattle.edf_stream.specs.Notes.{notes_in};
@@ -33,6 +33,16 @@ impl FileReader {
         ensures small { unsigned_abs result < 2 ^ 72 }
     {
         self.progress.ended_ps - self.header.duration_ps()
+    }
+
+    /// Where the data record at hand ends, in picoseconds after the start of the file: its start and the
+    /// duration of a data record.
+    pub fn end_ps(&self) -> i128
+        requires { IsTrue (is_current self.now.status) }
+        ensures value { result ≡ start_in self.now.head self.now.current +ℤ self.now.head.duration }
+        ensures small { unsigned_abs result < 2 ^ 72 }
+    {
+        self.progress.ended_ps
     }
 
     /// The lane of a signal in the data record at hand: its samples, two bytes each, the low byte first

@@ -3,12 +3,12 @@
 ghost use Rattle.std.specs.Prelude.{◌≡◌, ℕ, pos, ◌+◌, ◌≤◌, ◌<◌, ◌+ℤ◌, ◌<ℤ◌, ◌^◌, List, [], length, drop, None, Some, MatchOption, IfSome, IfOk, IfErr, OnOk, IsTrue, unsigned_abs};
 ghost use Rattle.edf_fields.specs.Sources.{Rises};
 ghost use Rattle.edf_fields.specs.Tests.{first};
-ghost use Rattle.edf_header.specs.declared.fault.Place.TheVariants.{AtEnd};
+ghost use Rattle.edf_header.specs.declared.fault.Place.TheVariants.{AtRecord, AtEnd};
 ghost use Rattle.edf_header.specs.declared.fault.Cause.TheVariants.{TrailingBytes};
 ghost use Rattle.edf_header.specs.Heads.{record_bytes};
 ghost use Rattle.edf_stream.specs.Starts.{start_in};
 ghost use Rattle.edf_stream.specs.Faults.{records_tests, body_fault};
-ghost use Rattle.edf_stream.specs.Readers.{HasPassed, StandsAt, StopsReading};
+ghost use Rattle.edf_stream.specs.Readers.{HasPassed, StandsAt, StopsReading, StopsAt, place_behind};
 ghost use Rattle.edf_stream.specs.Steps.{IsRead, GoesOn};
 
 use crate::record::judge_record;
@@ -41,6 +41,7 @@ fn read_record<S: Source>(
     ensures stop { IfErr result (StopsReading
         (λ f. (S.failures source.new ≡ S.failures source.old) × (IsTrue (S.is_honest source.old) → (file : List ℕ) → StandsAt file header.now k before.ended_ps before.notes (S.left source.old) → first (records_tests file header.now k 1) ≡ Some f))
         (Rises (S.failures source.old) (S.failures source.new))) }
+    ensures place { IfErr result (StopsAt (AtRecord k)) }
 {
     let got = match fill(source, buffer) {
         Ok(got) => got,
@@ -66,6 +67,7 @@ fn check_end<S: Source>(source: &mut S) -> Result<(), Stop>
     ensures stop { IfErr result (StopsReading
         (λ f. (S.failures source.new ≡ S.failures source.old) × (IsTrue (S.is_honest source.old) → (0 < length (S.left source.old)) × (f ≡ record { place = AtEnd; cause = TrailingBytes })))
         (Rises (S.failures source.old) (S.failures source.new))) }
+    ensures place { IfErr result (StopsAt AtEnd) }
 {
     let mut extra = [0u8; 1];
     let got = fill(source, &mut extra)?;
@@ -101,6 +103,7 @@ pub(crate) fn advance<S: Source>(
     ensures stop { IfErr result (StopsReading
         (λ f. (S.failures source.new ≡ S.failures source.old) × (IsTrue (S.is_honest source.old) → (file : List ℕ) → HasPassed file header.now k → StandsAt file header.now k before.ended_ps before.notes (S.left source.old) → body_fault file header.now ≡ Some f))
         (Rises (S.failures source.old) (S.failures source.new))) }
+    ensures place { IfErr result (StopsAt (place_behind header.now k)) }
 {
     if k < header.records() {
         return match read_record(source, buffer, header, k, before) {

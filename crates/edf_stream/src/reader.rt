@@ -10,7 +10,7 @@ ghost use Rattle.edf_stream.specs.declared.status.Status.TheVariants.{Ended, Sto
 ghost use Rattle.edf_stream.specs.Starts.{start_in};
 ghost use Rattle.edf_stream.specs.Faults.{body_fault};
 ghost use Rattle.edf_stream.specs.Views.{IsContent};
-ghost use Rattle.edf_stream.specs.Readers.{HasBegun, IsOpen, status_after, StandsIn, Comes, StopsReading};
+ghost use Rattle.edf_stream.specs.Readers.{HasBegun, IsOpen, status_after, StandsIn, Comes, StopsReading, StopsAt, place_behind};
 
 use crate::read_record::advance;
 use crate::start::Progress;
@@ -71,7 +71,8 @@ impl FileReader {
 
     /// Reads the next data record, which is then at hand: `Ok(true)`. `Ok(false)` is the end of a file
     /// that conforms to the profile: behind its last data record one byte more was asked for, and there
-    /// was none. A `Fault` is the first one of the file.
+    /// was none. A `Fault` is the first one of the file, and stands in the data record that was to be
+    /// read, or behind the last.
     ///
     /// No memory is taken. After an `Err` each further call answers the same one and reads nothing, and
     /// after `Ok(false)` it answers `Ok(false)` and reads nothing.
@@ -93,6 +94,7 @@ impl FileReader {
         ensures stop { IfErr result (λ s. IsOpen self.old.status → StopsReading
             (λ f. (S.failures source.new ≡ S.failures source.old) × (IsTrue (S.is_honest source.old) → (file : List ℕ) → StandsIn self.old (S.left source.old) file → body_fault file self.old.head ≡ Some f))
             (Rises (S.failures source.old) (S.failures source.new)) s) }
+        ensures place { IfErr result (λ s. IsOpen self.old.status → StopsAt (place_behind self.old.head self.old.read) s) }
     {
         match self.status {
             Status::Ended => Ok(false),

@@ -1,6 +1,7 @@
 //! The tests of one data record. EDF (1992), "Data record".
 
-ghost use Rattle.std.specs.Prelude.{◌≡◌, ℕ, ℤ, pos, ◌+◌, ◌-◌, ◌≤◌, ◌<◌, ◌<ℤ◌, ◌+ℤ◌, ◌^◌, min, List, [], length, Ok, None, Some, MatchResult, IfOk, IfSome, unsigned_abs};
+ghost use Rattle.std.specs.Prelude.{◌≡◌, ℕ, ℤ, pos, ◌+◌, ◌-◌, ◌≤◌, ◌<◌, ◌<ℤ◌, ◌+ℤ◌, ◌^◌, min, List, [], length, Ok, None, Some, MatchResult, IfOk, IfErr, IfSome, unsigned_abs};
+ghost use Rattle.edf_header.specs.declared.fault.Place.TheVariants.{AtRecord};
 ghost use Rattle.edf_header.specs.Heads.{record_bytes};
 ghost use Rattle.edf_stream.specs.Records.{annotation_lanes};
 ghost use Rattle.edf_stream.specs.Notes.{notes_in, notes_of_lanes};
@@ -21,9 +22,10 @@ const MOST_NOTES: u32 = 1_000_000;
 #[tactic(auto, unfolding(crate::specs::Faults::notes_fault))]
 fn judge_notes(k: u32, before: u32, texts: u32) -> Result<u32, Fault>
     requires { before ≤ 1000000 }
-    ensures { (n : ℕ) → texts ≡ min n (2 ^ 32 - 1) → MatchResult result
+    ensures judged { (n : ℕ) → texts ≡ min n (2 ^ 32 - 1) → MatchResult result
         (λ notes. (notes_fault k (before + (n - 1)) ≡ None) × (notes ≡ before + (n - 1)) × (notes ≤ 1000000))
         (λ f. notes_fault k (before + (n - 1)) ≡ Some f) }
+    ensures place { IfErr result (λ f. f.place ≡ AtRecord k) }
 {
     let notes = before.saturating_add(texts.saturating_sub(1));
     if notes <= MOST_NOTES {
@@ -44,6 +46,7 @@ fn judge_lanes(header: &Header, k: u32, bytes: &[u8]) -> Result<Option<Said>, Fa
         × (texts_said found ≡ min (length (notes_of_lanes (annotation_lanes header.now.signals bytes.now))) (2 ^ 32 - 1)))
         (λ f. lanes_fault k (cause_of_lanes (annotation_lanes header.now.signals bytes.now)) ≡ Some f) }
     ensures small { IfOk result (λ found. IfSome found (λ s. IfOk s.start (λ v. unsigned_abs v < 10 ^ 21))) }
+    ensures place { IfErr result (λ f. f.place ≡ AtRecord k) }
 {
     match said_by_lanes(header.signals(), bytes) {
         Ok(found) => Ok(found),
@@ -58,9 +61,10 @@ fn judge_lanes(header: &Header, k: u32, bytes: &[u8]) -> Result<Option<Said>, Fa
 #[tactic(auto, unfolding(crate::specs::Faults::time_fault))]
 fn judge_time(k: u32, found: Option<Said>) -> Result<Start, Fault>
     requires { IfSome found (λ s. IfOk s.start (λ v. unsigned_abs v < 10 ^ 21)) }
-    ensures { MatchResult result
+    ensures judged { MatchResult result
         (λ start. (time_fault k (start_with found []) ≡ None) × (start_with found [] ≡ Ok start.ps) × (unsigned_abs start.ps < 10 ^ 21))
         (λ f. time_fault k (start_with found []) ≡ Some f) }
+    ensures place { IfErr result (λ f. f.place ≡ AtRecord k) }
 {
     match found {
         Some(Said { start: Ok(ps), .. }) => Ok(Start { ps }),
@@ -100,6 +104,7 @@ pub(crate) fn judge_record(
     ensures few { IfOk result (λ after. after.notes ≤ 1000000) }
     ensures small { IfOk result (λ after. unsigned_abs after.ended_ps < 2 ^ 71) }
     ensures later { IfOk result (λ after. (k ≡ 0 → before.ended_ps ≡ pos 0) → before.ended_ps <ℤ after.ended_ps) }
+    ensures place { IfErr result (λ f. f.place ≡ AtRecord k) }
 {
     let found = judge_lanes(header, k, bytes)?;
     let start = judge_time(k, found)?;

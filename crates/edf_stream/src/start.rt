@@ -1,6 +1,7 @@
 //! Where a data record may start. EDF+ (2003), "Time keeping of data records".
 
-ghost use Rattle.std.specs.Prelude.{◌≡◌, pos, ◌<◌, ◌^◌, ◌+ℤ◌, ◌<ℤ◌, ◌≤ℤ◌, None, Some, MatchResult, OnOk, unsigned_abs};
+ghost use Rattle.std.specs.Prelude.{◌≡◌, pos, ◌<◌, ◌^◌, ◌+ℤ◌, ◌<ℤ◌, ◌≤ℤ◌, None, Some, MatchResult, OnOk, IfErr, unsigned_abs};
+ghost use Rattle.edf_header.specs.declared.fault.Place.TheVariants.{AtRecord};
 ghost use Rattle.edf_stream.specs.Faults.{start_fault};
 
 use edf_header::fault::{Cause, Fault, Place};
@@ -59,6 +60,8 @@ pub(crate) const SECOND: i128 = 1_000_000_000_000;
 #[tactic(auto, unfolding(crate::specs::Faults::start_fault))]
 pub(crate) fn judge_start(kind: Kind, k: u32, before: Progress, start: Start) -> Result<(), Fault>
     ensures judged { MatchResult result (λ _. start_fault kind k before.ended_ps start.ps ≡ None) (λ f. start_fault kind k before.ended_ps start.ps ≡ Some f) }
+
+    ensures place { IfErr result (λ f. f.place ≡ AtRecord k) }
 
     // It starts at the end of those before it, or later.
     ensures later { OnOk result ((k ≡ 0 → before.ended_ps ≡ pos 0) → before.ended_ps ≤ℤ start.ps) }
