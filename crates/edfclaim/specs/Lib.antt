@@ -1,2 +1,6 @@
 pub mod Vectors
 pub mod Statuses
+pub mod Reports
+pub mod ConformTexts
+pub mod ShowTexts
+pub mod NotesTexts

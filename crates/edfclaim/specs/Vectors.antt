@@ -8,7 +8,7 @@ use Rattle.edf_check.specs.declared.verdict.Verdict.{Verdict}
 use Rattle.edf_check.specs.Lines.{verdict_line}
 use Rattle.edf_check.specs.Runs.{IsVerdictUnder}
 use Rattle.edfclaim.specs.declared.report.ReportStop.{ReportStop}
-use Rattle.edfclaim.specs.declared.report.ReportStop.TheVariants.{OutOfMemory, ReadFailed, WriteFailed}
+use Rattle.edfclaim.specs.Reports.{ReportStops}
 use Rattle.edfclaim.specs.declared.vectors.rows.Row.{Row}
 
 -- a worked row, in what its text says: its number, and the line that is stored for it
@@ -114,6 +114,4 @@ pub record IsRowWritten (row : WorkedRow) (old new : List ℕ) (outcome : Outcom
 
 -- a report over files in memory stops for want of memory, or where its sink failed, and then this is said
 abbrev pub RowStops : Type 0 → ReportStop → Type 0
-RowStops failed OutOfMemory = Unit {0}
-RowStops failed ReadFailed = ⊥
-RowStops failed WriteFailed = failed
+RowStops failed stop = ReportStops ⊥ failed stop

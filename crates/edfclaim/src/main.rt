@@ -9,7 +9,10 @@
 ghost use Rattle.std.specs.Prelude.{◌≡◌};
 ghost use Rattle.edfclaim.specs.Statuses.{status_of};
 
+pub mod conform;
+pub mod notes;
 pub mod report;
+pub mod show;
 #[cfg(test)]
 mod tests;
 pub mod vectors;

@@ -7,6 +7,7 @@ mod differences;
 mod headers;
 mod labels;
 mod night;
+mod reports;
 mod rows;
 mod samples;
 mod scarce;

@@ -1,0 +1,262 @@
+//! The reports on one file: their texts, and what stands in a sink that is soon full.
+
+use crate::conform::conform_to;
+use crate::notes::notes_to;
+use crate::report::ReportStop;
+use crate::show::show_to;
+use crate::tests::night::{INTERRUPTED, L0, L1, L2, L3, NIGHT, S0, S1, S2, S3};
+use crate::tests::support::Part::Lane;
+use crate::tests::support::{File, bytes_of, front};
+use crate::vectors::line::Line;
+use edf_check::outcome::Outcome;
+use edf_fields::sink::{Sink, SliceSink};
+use edf_fields::source::SliceSource;
+use edf_header::fault::Place::{AtField, AtSignal};
+use edf_header::layout::{FixedField as Fixed, SignalField as Field};
+use std::alloc::Global;
+use std::process::Abort;
+use std::test::Fail;
+
+/// A report.
+#[derive(Clone, Copy)]
+enum Asked {
+    Conform,
+    Show,
+    Notes,
+}
+
+/// Writes a report on a file in memory.
+fn report<K: Sink>(
+    alloc: Global,
+    asked: Asked,
+    file: &[u8],
+    sink: &mut K,
+) -> Result<Outcome, ReportStop> {
+    let mut source = SliceSource::new(file);
+    match asked {
+        Asked::Conform => conform_to(alloc, &mut source, sink),
+        Asked::Show => show_to(alloc, &mut source, sink),
+        Asked::Notes => notes_to(alloc, &mut source, sink),
+    }
+}
+
+/// A report on a file, and its text. The outcome is No where the text names a fault.
+type Row = (Asked, File, &'static str);
+
+/// Asserts the text and the outcome of each row.
+fn assert_reports(rt: &impl Abort, alloc: Global, rows: &[Row]) -> Result<(), Fail> {
+    for (asked, file, want) in rows {
+        let file = bytes_of(alloc, file)?;
+        let mut text = Line::new(alloc);
+        let outcome = report(alloc, *asked, &file, &mut text)?;
+        let written = String::from_utf8(Vec::from_slice(alloc, text.bytes())?)?;
+        assert_eq!(rt; written.as_str(), *want);
+        assert_eq!(rt; outcome == Outcome::No, want.contains("FAULT "));
+    }
+    Ok(())
+}
+
+/// The first bytes of the night.
+const fn first_bytes(count: usize) -> File {
+    File {
+        length: Some(count),
+        ..NIGHT
+    }
+}
+
+/// The night with one byte behind it.
+const LONGER: File = File {
+    parts: &[S0, L0, S1, L1, S2, L2, S3, L3, Lane(1, b"")],
+    ..NIGHT
+};
+
+const CONFORMS: &str = "CONFORMS records 4 channels 2 samples 24 annotations 3\n";
+
+const CONFORM_ROWS: &[Row] = &[
+    (Asked::Conform, NIGHT, CONFORMS),
+    (
+        Asked::Conform,
+        first_bytes(1231),
+        "FAULT Truncated at record 3\n",
+    ),
+    (Asked::Conform, LONGER, "FAULT TrailingBytes at end\n"),
+    (
+        Asked::Conform,
+        first_bytes(0),
+        "FAULT Truncated at header field version\n",
+    ),
+];
+
+#[test]
+fn says_whether_a_file_conforms(rt: HostRuntime) -> Result<(), Fail> {
+    assert_reports(&rt, rt.alloc(), CONFORM_ROWS)
+}
+
+const NIGHT_SHOWN: &str = "kind EDF+C
+start 2002-03-02 22:00:00
+records 4
+duration 1000000000000 ps
+code MCH-0234567
+sex F
+birthdate 02-MAY-1951
+name Haagse_Harry
+date 02-MAR-2002
+administration PSG-1234/2002
+technician NN
+equipment Telemetry03
+channel \"EEG Fpz-Cz\" samples 4 physical -1000000000 1000000000 digital -2048 2047 dimension \"uV\" transducer \"AgAgCl electrode\" prefilter \"HP:0.1Hz LP:75Hz\"
+channel \"ECG\" samples 2 physical -100000000 100000000 digital -2048 2047 dimension \"mV\" transducer \"AgAgCl electrode\" prefilter \"HP:0.1Hz LP:75Hz\"
+";
+
+/// The header of the night with other texts in it; its data records aren't there.
+const OTHER: File = File {
+    edits: &[
+        (AtField(Fixed::Records), "4"),
+        INTERRUPTED,
+        (AtField(Fixed::Startdate), "09.11.85"),
+        (AtField(Fixed::Starttime), "03.04.05"),
+        (AtField(Fixed::Duration), ".5"),
+        (AtField(Fixed::Patient), "X X X X Ward7 Bed\\2"),
+        (AtField(Fixed::Recording), "Startdate X X X X left \"arm\""),
+        (AtSignal(0, Field::Label), "C3 \"A\\B\""),
+        (AtSignal(0, Field::PhysicalMinimum), "1.5"),
+        (AtSignal(0, Field::PhysicalMaximum), "-.000001"),
+    ],
+    parts: &[],
+    ..NIGHT
+};
+
+const OTHER_SHOWN: &str = "kind EDF+D
+start 1985-11-09 03:04:05
+records 4
+duration 500000000000 ps
+code X
+sex X
+birthdate X
+name X
+patient-extra Ward7
+patient-extra Bed\\2
+date X
+administration X
+technician X
+equipment X
+recording-extra left
+recording-extra \"arm\"
+channel \"C3 \\x22A\\x5cB\\x22\" samples 4 physical 15000000 -10 digital -2048 2047 dimension \"uV\" transducer \"AgAgCl electrode\" prefilter \"HP:0.1Hz LP:75Hz\"
+channel \"ECG\" samples 2 physical -100000000 100000000 digital -2048 2047 dimension \"mV\" transducer \"AgAgCl electrode\" prefilter \"HP:0.1Hz LP:75Hz\"
+";
+
+const SHOW_ROWS: &[Row] = &[
+    (Asked::Show, NIGHT, NIGHT_SHOWN),
+    (Asked::Show, first_bytes(1024), NIGHT_SHOWN),
+    (Asked::Show, LONGER, NIGHT_SHOWN),
+    (Asked::Show, OTHER, OTHER_SHOWN),
+    (
+        Asked::Show,
+        first_bytes(1023),
+        "FAULT Truncated at signal 2 field reserved\n",
+    ),
+];
+
+#[test]
+fn shows_the_header(rt: HostRuntime) -> Result<(), Fail> {
+    assert_reports(&rt, rt.alloc(), SHOW_ROWS)
+}
+
+const NIGHT_NOTED: &str = "500000000000 ps duration none text \"Lights off\"
+1500000000000 ps duration 1000000000000 ps text \"Apnea\"
+3000000000000 ps duration none text \"Apnea\"
+";
+
+/// The night with annotations that are empty or before its start, or hold bytes that are quoted.
+const ODD: File = File {
+    parts: &[
+        S0,
+        Lane(
+            40,
+            b"+0\x14\x14\0-0.5\x14\x14\0+0\x154\x14\x7f\"\x14\xc2\xb5\t\x14\0",
+        ),
+        S1,
+        Lane(40, b"+1\x14\x14early\x14\0"),
+        S2,
+        L2,
+        S3,
+        L3,
+    ],
+    ..NIGHT
+};
+
+const NOTES_ROWS: &[Row] = &[
+    (Asked::Notes, NIGHT, NIGHT_NOTED),
+    (
+        Asked::Notes,
+        ODD,
+        "-500000000000 ps duration none text \"\"
+0 ps duration 4000000000000 ps text \"\\x7f\\x22\"
+0 ps duration 4000000000000 ps text \"\u{b5}\\x09\"
+1000000000000 ps duration none text \"early\"
+3000000000000 ps duration none text \"Apnea\"
+",
+    ),
+    (
+        Asked::Notes,
+        first_bytes(1231),
+        "500000000000 ps duration none text \"Lights off\"
+1500000000000 ps duration 1000000000000 ps text \"Apnea\"
+FAULT Truncated at record 3
+",
+    ),
+    (
+        Asked::Notes,
+        LONGER,
+        "500000000000 ps duration none text \"Lights off\"
+1500000000000 ps duration 1000000000000 ps text \"Apnea\"
+3000000000000 ps duration none text \"Apnea\"
+FAULT TrailingBytes at end
+",
+    ),
+    (
+        Asked::Notes,
+        first_bytes(1023),
+        "FAULT Truncated at signal 2 field reserved\n",
+    ),
+];
+
+#[test]
+fn lists_the_annotations(rt: HostRuntime) -> Result<(), Fail> {
+    assert_reports(&rt, rt.alloc(), NOTES_ROWS)
+}
+
+/// The texts of the three reports on the night.
+const TEXTS: &[(Asked, &str)] = &[
+    (Asked::Conform, CONFORMS),
+    (Asked::Show, NIGHT_SHOWN),
+    (Asked::Notes, NIGHT_NOTED),
+];
+
+/// Asserts that a sink of so many bytes, too few for the text, holds its front.
+fn assert_front(
+    rt: &impl Abort,
+    alloc: Global,
+    file: &[u8],
+    (asked, text): (Asked, &str),
+    room: &mut [u8],
+) {
+    let size = room.len();
+    let mut sink = SliceSink::new(room);
+    let ended = report(alloc, asked, file, &mut sink);
+    assert_eq!(rt; ended, Err(ReportStop::WriteFailed));
+    assert_eq!(rt; sink.written(), front(text.as_bytes(), size));
+}
+
+#[test]
+fn leaves_the_front_of_a_report(rt: HostRuntime) -> Result<(), Fail> {
+    let file = bytes_of(rt.alloc(), &NIGHT)?;
+    let mut room = [0u8; 50];
+    for text in TEXTS {
+        for size in [0usize, 1, 4, 46, 50] {
+            assert_front(&rt, rt.alloc(), &file, *text, &mut room[..size]);
+        }
+    }
+    Ok(())
+}
