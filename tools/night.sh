@@ -24,7 +24,7 @@ passed=0
 failed=0
 
 # Runs the program: the status and the line that are wanted, and the words.
-answers() {
+try() {
     wanted=$1
     printf '%s\n' "$2" >"$work/line"
     shift 2
@@ -48,7 +48,7 @@ answers() {
 while IFS='	' read -r status words line; do
     # the words are the names of files, without spaces
     # shellcheck disable=SC2086
-    answers "$status" "$line" $words
+    try "$status" "$line" $words
 done <answers
 
 if [ "$((passed + failed))" -eq 0 ]; then
