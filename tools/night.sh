@@ -1,7 +1,7 @@
 #!/bin/sh
 # Runs PROGRAM on the example night: the commands of examples/night/answers, each of which has to end with
 # the status and the line that stand there. Then it looks whether the night's files are those that
-# tools/night.py writes.
+# tools/night.py writes, and runs PROGRAM on the broken copies of tools/faults.py, one for each fault.
 #
 # usage: tools/night.sh PROGRAM
 #
@@ -15,7 +15,7 @@ if [ "$#" -ne 1 ] || [ ! -x "$1" ]; then
 fi
 tools=$(CDPATH='' cd -- "$(dirname -- "$0")" && pwd) || exit 2
 program=$(CDPATH='' cd -- "$(dirname -- "$1")" && pwd)/$(basename -- "$1") || exit 2
-cd -- "$tools/../examples/night" || exit 2
+cd -- "$tools/.." || exit 2
 work=$(mktemp -d) || exit 2
 trap 'rm -rf "$work"' EXIT
 trap 'exit 2' HUP INT TERM
@@ -23,12 +23,24 @@ export PYTHONDONTWRITEBYTECODE=1
 passed=0
 failed=0
 
-# Runs the program: the status and the line that are wanted, and the words.
+# Counts a success, or a failure with what is to be said of it.
+judge() {
+    if [ "$1" -eq 0 ]; then
+        passed=$((passed + 1))
+    else
+        failed=$((failed + 1))
+        shift
+        echo "$*"
+    fi
+}
+
+# Runs the program in a folder: the status and the line that are wanted, and the words.
 try() {
-    wanted=$1
-    printf '%s\n' "$2" >"$work/line"
-    shift 2
-    "$program" "$@" >"$work/out" 2>"$work/err" </dev/null
+    folder=$1
+    wanted=$2
+    printf '%s\n' "$3" >"$work/line"
+    shift 3
+    (cd -- "$folder" && exec "$program" "$@" >"$work/out" 2>"$work/err" </dev/null)
     status=$?
     said=$work/out
     silent=$work/err
@@ -36,33 +48,34 @@ try() {
         said=$work/err
         silent=$work/out
     fi
-    if [ "$status" -eq "$wanted" ] && cmp -s "$said" "$work/line" && [ ! -s "$silent" ]; then
-        passed=$((passed + 1))
-    else
-        failed=$((failed + 1))
-        echo "$*: status $status, and not $wanted with $(cat "$work/line")"
-        cat "$work/out" "$work/err"
-    fi
+    [ "$status" -eq "$wanted" ] && cmp -s "$said" "$work/line" && [ ! -s "$silent" ]
+    judge $? "$*: status $status with $(cat "$work/out" "$work/err"); wanted: $wanted with $(cat "$work/line")"
 }
 
-while IFS='	' read -r status words line; do
-    # the words are the names of files, without spaces
-    # shellcheck disable=SC2086
-    try "$status" "$line" $words
-done <answers
+# Runs all commands of a folder.
+try_all() {
+    while IFS='	' read -r status words line; do
+        # the words are the names of files, without spaces
+        # shellcheck disable=SC2086
+        try "$1" "$status" "$line" $words
+    done <"$1/answers"
+}
 
+try_all examples/night
 if [ "$((passed + failed))" -eq 0 ]; then
-    failed=1
-    echo "no answers"
+    judge 1 "no answers of the night"
 fi
 
-if ! command -v python3 >/dev/null; then
-    echo "no python3: the night's files aren't looked at"
-elif python3 "$tools/night.py" --check . >"$work/files"; then
-    passed=$((passed + 1))
+if command -v python3 >/dev/null; then
+    python3 tools/night.py --check examples/night >"$work/log" 2>&1
+    judge $? "$(cat "$work/log")"
+    if python3 tools/faults.py "$work/faults"; then
+        try_all "$work/faults"
+    else
+        judge 1 "no broken copies"
+    fi
 else
-    failed=$((failed + 1))
-    cat "$work/files"
+    echo "no python3: whether the night's files are as written, and the broken copies are left out"
 fi
 echo "$passed passed, $failed failed"
 [ "$failed" -eq 0 ]
