@@ -1,0 +1,81 @@
+#!/bin/sh
+# Runs PROGRAM on the example night: the commands of examples/night/answers, each of which has to end with
+# the status and the line that stand there. Then it looks whether the night's files are those that
+# tools/night.py writes, and runs PROGRAM on the broken copies of tools/faults.py, one for each fault.
+#
+# usage: tools/night.sh PROGRAM
+#
+# The line of a status 2 is wanted on standard error and any other on standard output, and on the other of
+# the two nothing. The last line of the output counts what passed and failed: each command, and the files.
+set -u
+
+if [ "$#" -ne 1 ] || [ ! -x "$1" ]; then
+    echo "usage: $0 PROGRAM" >&2
+    exit 2
+fi
+tools=$(CDPATH='' cd -- "$(dirname -- "$0")" && pwd) || exit 2
+program=$(CDPATH='' cd -- "$(dirname -- "$1")" && pwd)/$(basename -- "$1") || exit 2
+cd -- "$tools/.." || exit 2
+work=$(mktemp -d) || exit 2
+trap 'rm -rf "$work"' EXIT
+trap 'exit 2' HUP INT TERM
+export PYTHONDONTWRITEBYTECODE=1
+passed=0
+failed=0
+
+# Counts a success, or a failure with what is to be said of it.
+judge() {
+    if [ "$1" -eq 0 ]; then
+        passed=$((passed + 1))
+    else
+        failed=$((failed + 1))
+        shift
+        echo "$*"
+    fi
+}
+
+# Runs the program in a folder: the status and the line that are wanted, and the words.
+try() {
+    folder=$1
+    wanted=$2
+    printf '%s\n' "$3" >"$work/line"
+    shift 3
+    (cd -- "$folder" && exec "$program" "$@" >"$work/out" 2>"$work/err" </dev/null)
+    status=$?
+    said=$work/out
+    silent=$work/err
+    if [ "$wanted" -eq 2 ]; then
+        said=$work/err
+        silent=$work/out
+    fi
+    [ "$status" -eq "$wanted" ] && cmp -s "$said" "$work/line" && [ ! -s "$silent" ]
+    judge $? "$*: status $status with $(cat "$work/out" "$work/err"); wanted: $wanted with $(cat "$work/line")"
+}
+
+# Runs all commands of a folder.
+try_all() {
+    while IFS='	' read -r status words line; do
+        # the words are the names of files, without spaces
+        # shellcheck disable=SC2086
+        try "$1" "$status" "$line" $words
+    done <"$1/answers"
+}
+
+try_all examples/night
+if [ "$((passed + failed))" -eq 0 ]; then
+    judge 1 "no answers of the night"
+fi
+
+if command -v python3 >/dev/null; then
+    python3 tools/night.py --check examples/night >"$work/log" 2>&1
+    judge $? "$(cat "$work/log")"
+    if python3 tools/faults.py "$work/faults"; then
+        try_all "$work/faults"
+    else
+        judge 1 "no broken copies"
+    fi
+else
+    echo "no python3: whether the night's files are as written, and the broken copies are left out"
+fi
+echo "$passed passed, $failed failed"
+[ "$failed" -eq 0 ]
