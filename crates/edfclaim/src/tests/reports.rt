@@ -56,13 +56,29 @@ fn assert_reports(rt: &impl Abort, alloc: Global, rows: &[Row]) -> Result<(), Fa
     Ok(())
 }
 
-/// The first bytes of the night.
-const fn first_bytes(count: usize) -> File {
-    File {
-        length: Some(count),
-        ..NIGHT
-    }
-}
+/// The night without its last byte.
+const SHORTER: File = File {
+    length: Some(1231),
+    ..NIGHT
+};
+
+/// The header of the night.
+const HEADER: File = File {
+    length: Some(1024),
+    ..NIGHT
+};
+
+/// The same without its last byte.
+const SHORT_HEADER: File = File {
+    length: Some(1023),
+    ..NIGHT
+};
+
+/// A file of no bytes.
+const EMPTY: File = File {
+    length: Some(0),
+    ..NIGHT
+};
 
 /// The night with one byte behind it.
 const LONGER: File = File {
@@ -74,15 +90,11 @@ const CONFORMS: &str = "CONFORMS records 4 channels 2 samples 24 annotations 3\n
 
 const CONFORM_ROWS: &[Row] = &[
     (Asked::Conform, NIGHT, CONFORMS),
-    (
-        Asked::Conform,
-        first_bytes(1231),
-        "FAULT Truncated at record 3\n",
-    ),
+    (Asked::Conform, SHORTER, "FAULT Truncated at record 3\n"),
     (Asked::Conform, LONGER, "FAULT TrailingBytes at end\n"),
     (
         Asked::Conform,
-        first_bytes(0),
+        EMPTY,
         "FAULT Truncated at header field version\n",
     ),
 ];
@@ -148,12 +160,12 @@ channel \"ECG\" samples 2 physical -100000000 100000000 digital -2048 2047 dimen
 
 const SHOW_ROWS: &[Row] = &[
     (Asked::Show, NIGHT, NIGHT_SHOWN),
-    (Asked::Show, first_bytes(1024), NIGHT_SHOWN),
+    (Asked::Show, HEADER, NIGHT_SHOWN),
     (Asked::Show, LONGER, NIGHT_SHOWN),
     (Asked::Show, OTHER, OTHER_SHOWN),
     (
         Asked::Show,
-        first_bytes(1023),
+        SHORT_HEADER,
         "FAULT Truncated at signal 2 field reserved\n",
     ),
 ];
@@ -200,7 +212,7 @@ const NOTES_ROWS: &[Row] = &[
     ),
     (
         Asked::Notes,
-        first_bytes(1231),
+        SHORTER,
         "500000000000 ps duration none text \"Lights off\"
 1500000000000 ps duration 1000000000000 ps text \"Apnea\"
 FAULT Truncated at record 3
@@ -217,7 +229,7 @@ FAULT TrailingBytes at end
     ),
     (
         Asked::Notes,
-        first_bytes(1023),
+        SHORT_HEADER,
         "FAULT Truncated at signal 2 field reserved\n",
     ),
 ];
