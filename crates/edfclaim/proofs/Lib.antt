@@ -1,1 +1,2 @@
 pub mod VectorsFacts
+pub mod LineFacts

@@ -1,2 +1,5 @@
 pub mod Vectors
+pub mod Refusals
 pub mod Statuses
+pub mod Commands
+pub mod Jobs
