@@ -18,6 +18,7 @@ pub mod Laws
 pub mod Outcomes
 pub mod Checks
 pub mod Quotes
+pub mod NoteTimes
 pub mod Lines
 pub mod Runs
 pub mod Differences

@@ -1,5 +1,5 @@
 -- The line of text of a verdict.
-use Rattle.std.specs.Prelude.{ℕ, ℤ, List, [], ◌∷◌, ◌++◌, Option, None, Some, codes}
+use Rattle.std.specs.Prelude.{ℕ, ℤ, List, [], ◌∷◌, ◌++◌, Option, codes}
 use Rattle.std.specs.Fmt.{decimal, signed_decimal}
 use Rattle.edf_claim.specs.Claims.{name_of}
 use Rattle.edf_claim.specs.declared.which.Which.{Which}
@@ -18,11 +18,8 @@ use Rattle.edf_check.specs.declared.verdict.TextField.{TextField}
 use Rattle.edf_check.specs.declared.verdict.TextField.TheVariants.{Transducer, Prefilter}
 use Rattle.edf_check.specs.declared.verdict.Verdict.{Verdict}
 use Rattle.edf_check.specs.declared.verdict.Verdict.TheVariants.{Yes, No}
-use Rattle.edf_check.specs.Quotes.{quoted}
-
--- the words, and the text between quotation marks
-unfoldable pub with_quoted : List ℕ → List ℕ → List ℕ
-with_quoted words text = words ++ quoted text
+use Rattle.edf_check.specs.NoteTimes.{note_times}
+use Rattle.edf_check.specs.Quotes.{with_quoted}
 
 -- which text of a channel
 abbrev pub field_text : TextField → List ℕ
@@ -66,15 +63,10 @@ abbrev pub note_mismatch_text : AnnotationMismatch → List ℕ
 note_mismatch_text notes.Missing = codes "missing"
 note_mismatch_text notes.Extra = codes "extra"
 
--- a duration in picoseconds, where there is one
-abbrev pub duration_text : Option ℤ → List ℕ
-duration_text None = codes "none"
-duration_text (Some ps) = signed_decimal ps ++ codes " ps"
-
 -- the words in front of an annotation's text: how often it stands in the export, its onset and its duration
 unfoldable pub note_words : AnnotationMismatch → ℤ → Option ℤ → List ℕ
 note_words mismatch onset duration =
-    codes "NO 11 annotation " ++ (note_mismatch_text mismatch ++ (codes " at " ++ (signed_decimal onset ++ (codes " ps duration " ++ (duration_text duration ++ codes " text ")))))
+    codes "NO 11 annotation " ++ (note_mismatch_text mismatch ++ (codes " at " ++ (note_times onset duration ++ codes " text ")))
 
 -- a difference in words: NO, its number, its kind, and what it is about
 abbrev pub difference_text : Difference → List ℕ

@@ -17,3 +17,7 @@ quoted_byte byte = if is_plain byte then byte ∷ [] else 92 ∷ 120 ∷ hex_dig
 -- the text between two quotation marks
 abbrev pub quoted : List ℕ → List ℕ
 quoted text = 34 ∷ (flat_map quoted_byte text ++ (34 ∷ []))
+
+-- the words, and the text between quotation marks
+unfoldable pub with_quoted : List ℕ → List ℕ → List ℕ
+with_quoted words text = words ++ quoted text

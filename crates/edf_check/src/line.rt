@@ -2,11 +2,12 @@
 
 ghost use Rattle.std.specs.Prelude.{◌≡◌, ◌++◌, Some, IfOk, OnOk};
 ghost use Rattle.edf_header.specs.FaultTexts.{fault_text};
-ghost use Rattle.edf_check.specs.Lines.{with_quoted, field_text, channel_text, subfield_mismatch_text, subfield_text, not_clean_text, sample_mismatch_text, moment_text, sample_text, note_mismatch_text, duration_text, note_words, counts_text, difference_text, verdict_text, verdict_line};
+ghost use Rattle.edf_check.specs.Lines.{with_quoted, field_text, channel_text, subfield_mismatch_text, subfield_text, not_clean_text, sample_mismatch_text, moment_text, sample_text, note_mismatch_text, note_words, counts_text, difference_text, verdict_text, verdict_line};
 
 use crate::label::Label;
 use crate::note_text::NoteText;
-use crate::quote::push_quoted;
+use crate::note_times::NoteTimes;
+use crate::quote::push_with_quoted;
 use crate::verdict::{
     AnnotationMismatch, Difference, FreeText, SampleMismatch, SubfieldMismatch, TextField, Verdict,
 };
@@ -78,40 +79,22 @@ impl fmt::Display for Moment {
     }
 }
 
-/// The duration of an annotation in picoseconds, where it has one.
-#[derive(Clone, Copy)]
-struct Duration {
-    ps: Option<i128>,
-}
-
-impl fmt::Display for Duration {
-    ghost output = { λ duration. Some (duration_text duration.ps) };
-
-    fn fmt<W: fmt::Write>(&self, f: &mut fmt::Formatter<W>) -> fmt::Result {
-        match self.ps {
-            None => write!(f, "none"),
-            Some(ps) => write!(f, "{ps} ps"),
-        }
-    }
-}
-
 /// An annotation, but for its text, and how often it stands in the export.
 #[derive(Clone, Copy)]
 struct Note {
     mismatch: AnnotationMismatch,
-    onset: i128,
-    duration: Duration,
+    times: NoteTimes,
 }
 
 impl fmt::Display for Note {
-    ghost output = { λ note. Some (note_words note.mismatch note.onset (note.duration).ps) };
+    ghost output = { λ note. Some (note_words note.mismatch (note.times).onset (note.times).duration) };
 
     #[tactic(auto, unfolding(crate::specs::Lines::note_words))]
     fn fmt<W: fmt::Write>(&self, f: &mut fmt::Formatter<W>) -> fmt::Result {
         write!(
             f,
-            "NO 11 annotation {} at {} ps duration {} text ",
-            self.mismatch, self.onset, self.duration
+            "NO 11 annotation {} at {} text ",
+            self.mismatch, self.times
         )
     }
 }
@@ -128,15 +111,6 @@ fn push_fault(
     let text = fault.text(alloc)?;
     line.extend_from_slice(words.as_bytes())?;
     line.extend_from_slice(text.as_bytes())
-}
-
-/// Puts the words and the quoted text behind the line.
-#[tactic(auto, unfolding(crate::specs::Lines::with_quoted))]
-fn push_with_quoted(line: &mut Vec<u8>, words: &str, text: &[u8]) -> Result<(), AllocError>
-    ensures { OnOk result (line.new.items ≡ line.old.items ++ with_quoted words.now text.now) }
-{
-    line.extend_from_slice(words.as_bytes())?;
-    push_quoted(line, text)
 }
 
 /// Puts the words and the quoted label behind the line.
@@ -210,7 +184,7 @@ fn push_note(
     note: Note,
     text: &NoteText,
 ) -> Result<(), AllocError>
-    ensures { OnOk result (line.new.items ≡ line.old.items ++ with_quoted (note_words note.mismatch note.onset (note.duration).ps) text.now) }
+    ensures { OnOk result (line.new.items ≡ line.old.items ++ with_quoted (note_words note.mismatch (note.times).onset (note.times).duration) text.now) }
 {
     let words = note.to_string(alloc)?;
     push_with_quoted(line, &words, text.as_str().as_bytes())
@@ -270,8 +244,10 @@ impl Difference {
             } => {
                 let note = Note {
                     mismatch: *mismatch,
-                    onset: *onset,
-                    duration: Duration { ps: *duration },
+                    times: NoteTimes {
+                        onset: *onset,
+                        duration: *duration,
+                    },
                 };
                 push_note(line, alloc, note, text)
             }

@@ -1,7 +1,7 @@
 //! A text between quotation marks, in bytes that a line of text can hold.
 
 ghost use Rattle.std.specs.Prelude.{◌≡◌, ◌<◌, ◌++◌, [], ◌∷◌, OnOk};
-ghost use Rattle.edf_check.specs.Quotes.{is_plain as is_plain_byte, hex_digit as hex_digit_of, quoted_byte, quoted};
+ghost use Rattle.edf_check.specs.Quotes.{is_plain as is_plain_byte, hex_digit as hex_digit_of, quoted_byte, quoted, with_quoted};
 
 use std::alloc::AllocError;
 
@@ -37,7 +37,10 @@ fn push_byte(line: &mut Vec<u8>, byte: u8) -> Result<(), AllocError>
 }
 
 /// Puts the text behind the line, between quotation marks.
-pub(crate) fn push_quoted(line: &mut Vec<u8>, text: &[u8]) -> Result<(), AllocError>
+///
+/// There each byte below 32, a quotation mark, a backslash and byte 127 is `\x` and two lower-case
+/// hexadecimal digits, and every other byte stands for itself. The error is want of memory.
+pub fn push_quoted(line: &mut Vec<u8>, text: &[u8]) -> Result<(), AllocError>
     ensures { OnOk result (line.new.items ≡ line.old.items ++ quoted text.now) }
 {
     line.push(b'"')?;
@@ -46,4 +49,13 @@ pub(crate) fn push_quoted(line: &mut Vec<u8>, text: &[u8]) -> Result<(), AllocEr
     }
     line.push(b'"')?;
     Ok(())
+}
+
+/// Puts the words and the quoted text behind the line. The error is want of memory.
+#[tactic(auto, unfolding(crate::specs::Quotes::with_quoted))]
+pub fn push_with_quoted(line: &mut Vec<u8>, words: &str, text: &[u8]) -> Result<(), AllocError>
+    ensures { OnOk result (line.new.items ≡ line.old.items ++ with_quoted words.now text.now) }
+{
+    line.extend_from_slice(words.as_bytes())?;
+    push_quoted(line, text)
 }

@@ -28,6 +28,7 @@ fn start(header: &Header) -> (i16, i8, i8, i64) {
 fn says_when_it_starts_and_how_its_records_lie(rt: HostRuntime) -> Result<(), Fail> {
     let header = header(rt.alloc(), &[])?;
     assert_eq!(rt; start(&header), (2002, 3, 2, 1_015_106_400));
+    assert_eq!(rt; header.start_clock(), 22 * 3600);
     assert_eq!(rt; (header.kind(), header.records()), (Kind::Contiguous, 4));
     assert_eq!(rt;
         (header.duration_ps(), header.record_bytes()),

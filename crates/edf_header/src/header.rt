@@ -67,6 +67,14 @@ impl Header {
         self.start.date
     }
 
+    /// The time of day at which the recording starts, in seconds (EDF, "Header record": starttime).
+    pub fn start_clock(&self) -> u32
+        ensures value { result ≡ self.now.clock }
+        ensures small { result < 86400 }
+    {
+        self.start.clock
+    }
+
     /// The second at which the recording starts, 0 for 1970-01-01 00:00:00: civil time, without a time
     /// zone (EDF, "Header record": startdate and starttime).
     pub fn start_second(&self) -> i64
