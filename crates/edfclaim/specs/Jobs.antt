@@ -1,7 +1,12 @@
 -- What a command line asks for.
-use Rattle.std.specs.Prelude.{◌≡◌, ◌≢◌, ℕ, ◌<◌, List, [], ◌∷◌, length, slice_index, slice_index_or, codes}
+use Rattle.std.specs.Prelude.{◌≡◌, ◌≢◌, ℕ, ◌<◌, List, [], ◌∷◌, length, map, drop, slice_index, slice_index_or, codes}
+use Rattle.std.specs.Borrow.{Bor}
 use Rattle.edfclaim.specs.declared.command.Job.{Job}
 use Rattle.edfclaim.specs.declared.command.Job.TheVariants.{Check, Conform, Show, Notes, Vectors}
+
+-- the words behind the first, which is the program's name
+abbrev pub behind_first : List (Bor (List ℕ)) → List (List ℕ)
+behind_first words = drop 1 (map (λ w. w.now) words)
 
 -- the words are this command and its arguments, in order
 abbrev pub SaysJob : List (List ℕ) → Job → Type 0

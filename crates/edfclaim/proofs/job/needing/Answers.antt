@@ -4,4 +4,4 @@ use Rattle.std.specs.Prelude.{◌||◌}
 use Rattle.edfclaim.proofs.job.needing.Goals as goal
 
 pub returns-clause-local : goal.returns-clause-local
-returns-clause-local c = IfOk-weaker c.arg.result _ _ (λ r h e. h.globals ∙ ap (λ b. b || c.required.result.global) e ∙ search rules) c.arg.ensures
+returns-clause-local c = IfOk-weaker c.arg.result _ _ (λ r h e. h.globals ∙ ap (λ b. b || c.help.result.global) e ∙ search rules) c.arg.ensures
