@@ -27,8 +27,8 @@ install: build
 check:
 	@cd crates && rt all check --jobs "$$(../tools/lanes.sh)"
 
-# The whole gate: all proofs, tests, must-fail edits and runs from nothing; then the built program on
-# command lines that it doesn't know, and with each growth of memory refused in turn.
+# The whole gate: all proofs, tests, must-fail edits and runs from nothing; then the built program where it
+# refuses, on the example night, and with each growth of memory refused in turn.
 test:
 	@tools/gate.sh
 

@@ -4,10 +4,10 @@
 #
 # usage: tools/failing.sh PROGRAM
 #
-# A run that a refusal stopped has status 2, a front of the text on standard output and nothing on
-# standard error. A run that succeeded has status 0 and the whole text: the last one, in which nothing
-# was refused, and any before it whose refused growth was the C library's. The last line of the output
-# counts the runs that passed and failed.
+# A run that a refusal stopped has status 2, a front of the text on standard output and the line that memory
+# ran out on standard error. A run that succeeded has status 0, the whole text and nothing on standard error:
+# the last one, in which nothing was refused, and any before it whose refused growth was the C library's. The
+# last line of the output counts the runs that passed and failed.
 set -u
 
 if [ "$#" -ne 1 ] || [ ! -x "$1" ]; then
@@ -27,6 +27,7 @@ trap 'exit 2' HUP INT TERM
 # shellcheck disable=SC2086
 ${CC:-cc} -O1 -Wall -Wextra -shared -fPIC -o "$work/failing.so" "$here/failing.c" -ldl || exit 2
 cp "$here/../crates/edfclaim/stdout" "$work/want" || exit 2
+echo "edfclaim: out of memory" >"$work/line"
 
 passed=0
 failed=0
@@ -36,14 +37,12 @@ stopped=0
 judge() {
     size=$(wc -c <"$work/out")
     head -c "$size" "$work/want" >"$work/front"
-    if [ -s "$work/err" ]; then
-        echo "standard error isn't empty"
-    elif [ "$1" -eq 0 ] && cmp -s "$work/out" "$work/want"; then
+    if [ "$1" -eq 0 ] && cmp -s "$work/out" "$work/want" && [ ! -s "$work/err" ]; then
         echo whole
-    elif [ "$1" -eq 2 ] && cmp -s "$work/out" "$work/front"; then
+    elif [ "$1" -eq 2 ] && cmp -s "$work/out" "$work/front" && cmp -s "$work/err" "$work/line"; then
         echo stopped
     else
-        echo "status $1, $size bytes on standard output"
+        echo "status $1, $size bytes on standard output, on standard error: $(cat "$work/err")"
     fi
 }
 

@@ -1,8 +1,8 @@
 #!/usr/bin/env bash
 # The whole gate. First `rt ci`: all proofs, tests, must-fail edits and runs, from nothing. Then what the
-# crates cite of one another's proofs, and the program that it built, on command lines that it doesn't
-# know, and with each growth of memory refused in turn. The last line is 'N passed, M failed': that of
-# `rt ci`, with one more for each of these three.
+# crates cite of one another's proofs, and the program that it built: on command lines and files that it
+# refuses, on the example night, and with each growth of memory refused in turn. The last line is
+# 'N passed, M failed': that of `rt ci`, with one more for each of these four.
 #
 # usage: tools/gate.sh
 set -uo pipefail
@@ -47,6 +47,7 @@ counted() {
 
 counted tools/imports.sh
 counted tools/statuses.sh "$program"
+counted tools/night.sh "$program"
 # CC may hold flags behind the compiler's name
 read -r compiler _ <<<"${CC:-cc}"
 if command -v "$compiler" >/dev/null; then

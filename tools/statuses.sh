@@ -1,55 +1,165 @@
 #!/bin/sh
-# Runs PROGRAM on command lines that it doesn't know, and with a standard output that takes nothing.
+# Runs PROGRAM on command lines and files that it refuses, and looks at its status and at what it says.
 #
 # usage: tools/statuses.sh PROGRAM
 #
-# Each such run ends with status 2, writes nothing on standard error, and on standard output nothing
-# where the command line isn't known. The last line of the output counts the runs that passed and failed.
+# A refusal has status 2, one line on standard error and nothing on standard output. What `clap` says of a
+# line that it doesn't take has the same status and more than one line. The files are those of the example
+# night. The last line of the output counts the runs that passed and failed.
 set -u
 
 if [ "$#" -ne 1 ] || [ ! -x "$1" ]; then
     echo "usage: $0 PROGRAM" >&2
     exit 2
 fi
-case $1 in
-*/*) program=$1 ;;
-*) program=./$1 ;;
-esac
+program=$(CDPATH='' cd -- "$(dirname -- "$1")" && pwd)/$(basename -- "$1") || exit 2
+CDPATH='' cd -- "$(dirname -- "$0")/../examples/night" || exit 2
 work=$(mktemp -d) || exit 2
 trap 'rm -rf "$work"' EXIT
 trap 'exit 2' HUP INT TERM
 passed=0
 failed=0
 
-# Judges the last run: its name and its status.
+# Counts a run by whether it did as it should; its name and its status.
 judge() {
-    if [ "$2" -eq 2 ] && [ ! -s "$work/out" ] && [ ! -s "$work/err" ]; then
+    if [ "$1" -eq 0 ]; then
         passed=$((passed + 1))
     else
         failed=$((failed + 1))
-        echo "$1: status $2, $(wc -c <"$work/out") bytes on standard output, $(wc -c <"$work/err") on standard error"
+        echo "$2: status $3, $(wc -c <"$work/out") bytes on standard output, on standard error: $(cat "$work/err")"
     fi
 }
 
-# Runs the program on these words.
-refused() {
-    "$program" "$@" >"$work/out" 2>"$work/err"
-    judge "words: $*" $?
+# Judges a run that is to be refused with this line; its name and its status.
+judge_refusal() {
+    printf '%s\n' "$1" >"$work/line"
+    [ "$3" -eq 2 ] && cmp -s "$work/err" "$work/line" && [ ! -s "$work/out" ]
+    judge $? "$2" "$3"
 }
 
-refused
-refused ""
-refused vectors x
-refused Vectors
-refused vectors ""
-refused --help
-refused check a b c
-: >"$work/out"
-"$program" vectors >&- 2>"$work/err"
-judge "a closed standard output" $?
-if [ -c /dev/full ]; then
-    "$program" vectors >/dev/full 2>"$work/err"
-    judge "a full standard output" $?
+# Runs the program on these words; it is to refuse them with this line.
+refuses() {
+    line=$1
+    shift
+    "$program" "$@" >"$work/out" 2>"$work/err"
+    judge_refusal "$line" "words: $*" $?
+}
+
+# Runs the program on these words, which `clap` doesn't take.
+faults() {
+    "$program" "$@" >"$work/out" 2>"$work/err"
+    status=$?
+    [ "$status" -eq 2 ] && [ "$(head -c 6 "$work/err")" = error: ] && [ ! -s "$work/out" ]
+    judge $? "words: $*" "$status"
+}
+
+# Runs the program on these words, which ask for help.
+helps() {
+    "$program" "$@" >"$work/out" 2>"$work/err"
+    status=$?
+    [ "$status" -eq 0 ] && [ -s "$work/out" ] && [ ! -s "$work/err" ]
+    judge $? "words: $*" "$status"
+}
+
+# Runs the program on these words; it is to end with this status and say this line.
+says() {
+    wanted=$1
+    printf '%s\n' "$2" >"$work/line"
+    shift 2
+    "$program" "$@" >"$work/out" 2>"$work/err"
+    status=$?
+    [ "$status" -eq "$wanted" ] && cmp -s "$work/out" "$work/line" && [ ! -s "$work/err" ]
+    judge $? "words: $*" "$status"
+}
+
+yes='YES channels 3 samples 13590 annotations 5'
+conforms='CONFORMS records 150 channels 5 samples 52650 annotations 10'
+
+# the command line
+refuses 'edfclaim: not a command'
+refuses 'edfclaim: not a command' show -- -night.edf
+refuses 'edfclaim: a word is not UTF-8' conform "$(printf 'night\377')"
+for words in '' 'Vectors' 'vectors x' 'explain original.edf' 'conform' 'conform original.edf cut.edf' \
+    'check original.edf cut.edf' 'check original.edf cut.edf cut.toml cut.toml' '--quiet vectors'; do
+    # shellcheck disable=SC2086
+    if [ -z "$words" ]; then faults ''; else faults $words; fi
+done
+for words in --help -h help 'help check' 'check --help'; do
+    # shellcheck disable=SC2086
+    helps $words
+done
+
+# files that aren't there: the claim first, then the original, then the export, and all of them before the
+# claim is judged
+refuses 'edfclaim: cannot open claim' check none.edf none.edf none.toml
+refuses 'edfclaim: cannot open original' check none.edf none.edf cut.toml
+refuses 'edfclaim: cannot open export' check original.edf none.edf cut.toml
+refuses 'edfclaim: cannot open original' check none.edf none.edf refused.toml
+refuses 'edfclaim: cannot open export' check original.edf none.edf refused.toml
+for command in conform show notes; do
+    refuses 'edfclaim: cannot open file' "$command" none.edf
+done
+
+# folders, which can be opened and not read
+refuses 'edfclaim: reading claim failed' check original.edf cut.edf .
+refuses 'edfclaim: reading original failed' check . cut.edf cut.toml
+refuses 'edfclaim: reading export failed' check original.edf . cut.toml
+refuses 'edfclaim: claim refused: BadKeep' check . . refused.toml
+for command in conform show notes; do
+    refuses 'edfclaim: reading file failed' "$command" .
+done
+
+# files that may not be read
+cp original.edf "$work/closed" && chmod 000 "$work/closed"
+if [ -r "$work/closed" ]; then
+    echo "this user may read every file: files that may not be read are left out"
+else
+    refuses 'edfclaim: cannot open claim' check original.edf cut.edf "$work/closed"
+    refuses 'edfclaim: cannot open original' check "$work/closed" cut.edf cut.toml
+    refuses 'edfclaim: cannot open export' check original.edf "$work/closed" cut.toml
+    refuses 'edfclaim: cannot open file' conform "$work/closed"
 fi
+
+# claims
+: >"$work/empty"
+refuses 'edfclaim: claim refused: BadFormat' check original.edf cut.edf "$work/empty"
+printf 'format = 1\nchannels = ["ECG"]\n[[keep]]\nfrom = "0"\nto = "0"\n' >"$work/backwards"
+refuses 'edfclaim: claim refused: BadKeep' check original.edf cut.edf "$work/backwards"
+refuses 'edfclaim: claim refused: NotToml' check original.edf cut.edf cut.edf
+# the claim, and a comment up to so many bytes
+{
+    cat cut.toml
+    printf '\n#'
+    head -c 65536 /dev/zero | tr '\0' '-'
+} >"$work/long"
+head -c 65536 "$work/long" >"$work/longest"
+head -c 65537 "$work/long" >"$work/longer"
+says 0 "$yes" check original.edf cut.edf "$work/longest"
+refuses 'edfclaim: claim refused: TooLong' check original.edf cut.edf "$work/longer"
+refuses 'edfclaim: claim refused: TooLong' check original.edf cut.edf "$work/long"
+if [ -c /dev/zero ]; then
+    refuses 'edfclaim: claim refused: TooLong' check original.edf cut.edf /dev/zero
+fi
+
+# a pipe gives a file in pieces
+if [ -e /dev/stdin ]; then
+    mkfifo "$work/pipe"
+    cat original.edf >"$work/pipe" &
+    says 0 "$conforms" conform /dev/stdin <"$work/pipe"
+    wait
+fi
+
+# standard output that takes nothing
+for command in 'check original.edf cut.edf cut.toml' 'conform cut.edf' 'show cut.edf' 'notes cut.edf' vectors; do
+    : >"$work/out"
+    # shellcheck disable=SC2086
+    "$program" $command >&- 2>"$work/err"
+    judge_refusal 'edfclaim: writing failed' "a closed standard output: $command" $?
+    if [ -c /dev/full ]; then
+        # shellcheck disable=SC2086
+        "$program" $command >/dev/full 2>"$work/err"
+        judge_refusal 'edfclaim: writing failed' "a full standard output: $command" $?
+    fi
+done
 echo "$passed passed, $failed failed"
 [ "$failed" -eq 0 ]

@@ -1,3 +1,4 @@
 pub mod VectorsFacts
 pub mod ReportFacts
 pub mod NotesFacts
+pub mod LineFacts

@@ -2,59 +2,95 @@
 //! nothing else.
 //!
 //! The check is `edf_check::check::check`; what its Yes means is the first clause of its contract. The
-//! program knows the command `vectors`, which builds files and claims in memory, runs the check on them by
-//! `edf_check::run::run`, and prints the lines.
+//! program reads its words (`job`), does the job (`perform`), and ends with the status of its outcome
+//! (`status`). Why a job is refused is a `Refusal`, whose one line goes to standard error.
 #![tactic(auto)]
 
-ghost use Rattle.std.specs.Prelude.{◌≡◌};
-ghost use Rattle.edfclaim.specs.Statuses.{status_of};
-
-pub mod conform;
-pub mod notes;
+mod command;
+mod conform;
+mod files;
+mod job;
+mod notes;
+mod perform;
+mod refusal;
 pub mod report;
-pub mod show;
+mod show;
+mod status;
 #[cfg(test)]
 mod tests;
 pub mod vectors;
 
-use crate::report::ReportStop;
-use crate::vectors::vectors_to;
-use edf_check::outcome::Outcome;
-use edf_fields::sink::WriteSink;
+use crate::command::Job;
+use crate::refusal::Refusal;
+use clap::error::ErrorKind;
 use std::process::ExitCode;
-use std::rt::Env;
+use std::rt::{Env, Files};
 use std::{env, io};
 
-/// The status of a command: 0 for Yes, 1 for No, 2 where it stopped.
-fn status(ended: Result<Outcome, ReportStop>) -> u8
-    ensures { result ≡ status_of ended }
-{
-    match ended {
-        Ok(Outcome::Yes) => 0,
-        Ok(Outcome::No) => 1,
-        Err(_) => 2,
+/// Writes a line to standard error, and gives the status of a refusal.
+///
+/// Where standard error takes nothing, the status has to say it alone.
+fn refuse(rt: &impl Eprint, line: &str) -> u8 {
+    let _ = rt.eprintln(line);
+    2
+}
+
+/// Answers a line that `clap` doesn't take, and gives the status: its text on standard error and 2, or on
+/// standard output and 0 where help was asked for.
+fn answer_fault(rt: &(impl Print + Eprint), fault: &clap::Error) -> u8 {
+    if fault.kind() == ErrorKind::OutOfMemory {
+        return refuse(rt, Refusal::Memory.text());
+    }
+    let printed = fault.print(rt);
+    if fault.use_stderr() {
+        2
+    } else if printed.is_err() {
+        refuse(rt, Refusal::Writing.text())
+    } else {
+        0
     }
 }
 
-/// Writes the worked rows to standard output; a failed flush is a failed write.
-fn print_vectors(rt: &(impl Print + AllocGlobal)) -> Result<Outcome, ReportStop> {
-    let mut sink = WriteSink::new(io::writer(rt));
-    let outcome = vectors_to(rt.alloc(), &mut sink)?;
-    sink.flush()?;
-    Ok(outcome)
+/// Does a job, and gives the status.
+fn answer_job(rt: &(impl Files + Print + Eprint + AllocGlobal), asked: Job<'_>) -> u8 {
+    let ended = perform::perform(rt, asked);
+    if let Err(refusal) = &ended {
+        refuse(rt, refusal.text());
+    }
+    status::status(&ended)
 }
 
-/// Runs the command that the words name: `vectors` alone. Any other line has status 2.
-fn run(rt: &(impl Env + Print + AllocGlobal)) -> u8 {
-    let Ok(mut words) = env::args(rt) else {
-        return 2;
+/// Does what the words say, of which the first is the program's name, and gives the status.
+fn answer(rt: &(impl Files + Print + Eprint + AllocGlobal), words: &[&str]) -> u8 {
+    match job::job(rt.alloc(), words) {
+        Ok(Some(asked)) => answer_job(rt, asked),
+        Ok(None) => refuse(rt, "edfclaim: not a command"),
+        Err(fault) => answer_fault(rt, &fault),
+    }
+}
+
+/// The program's words. A word that isn't UTF-8 is an error, as is want of memory.
+fn words_of(rt: &(impl Env + AllocGlobal)) -> io::Result<Vec<String>> {
+    let words = env::args(rt)?.collect(rt.alloc())?;
+    Ok(words)
+}
+
+/// Does what the command line says, and gives the status.
+fn run(rt: &(impl Env + Files + Print + Eprint + AllocGlobal)) -> u8 {
+    let words = match words_of(rt) {
+        Ok(words) => words,
+        Err(fault) if fault.kind() == io::ErrorKind::OutOfMemory => {
+            return refuse(rt, Refusal::Memory.text());
+        }
+        Err(_) => return refuse(rt, "edfclaim: a word is not UTF-8"),
     };
-    let _name = words.next();
-    let is_vectors = words.next().is_some_and(|word| word.as_str() == "vectors");
-    if is_vectors && words.next().is_none() {
-        status(print_vectors(rt))
-    } else {
-        2
+    match words
+        .iter()
+        .map(|word| word.as_str())
+        .collect::<Vec<&str>>(rt.alloc())
+    {
+        Ok(texts) => answer(rt, &texts),
+        Err(_) => refuse(rt, Refusal::Memory.text()),
     }
 }
 

@@ -1,8 +1,6 @@
-//! The worked rows: each on files that are written apart from the program's, the whole text, and the statuses
-//! of the program.
+//! The worked rows: each on files that are written apart from the program's, and the whole text.
 
 use crate::report::ReportStop;
-use crate::status;
 use crate::tests::night::{
     ALL, DARK, DATELESS, DAY_BEFORE, ENDS, EXCERPT, EXCHANGED, FOUR, FROM_ONE, GAP, L0, L1, L2, L3,
     MIDDLE, NAMELESS, NIGHT, NO_EXTRAS, NOBODY, ONE, S0, S1, S2, S3, TWO, UNKNOWN, WARD, YES,
@@ -654,17 +652,4 @@ fn holds_the_front_of_the_rows(rt: HostRuntime) -> Result<(), Fail> {
     assert_eq!(rt; outcome, Ok(Outcome::Yes));
     assert_eq!(rt; &written[..], TEXT.as_bytes());
     Ok(())
-}
-
-#[test]
-fn ends_with_a_status_for_each_outcome(rt: HostRuntime) {
-    for (ended, want) in [
-        (Ok(Outcome::Yes), 0u8),
-        (Ok(Outcome::No), 1),
-        (Err(ReportStop::OutOfMemory), 2),
-        (Err(ReportStop::ReadFailed), 2),
-        (Err(ReportStop::WriteFailed), 2),
-    ] {
-        assert_eq!(rt; status(ended), want);
-    }
 }

@@ -1,0 +1,19 @@
+-- The program's commands, as a parse reads them.
+use Rattle.std.specs.Prelude.{codes, true}
+use Rattle.clap.specs.Walk.{Rule, Text}
+use Rattle.clap.specs.Simple.{App, new_app, new_rule, with_rule, with_subcommand}
+
+-- an argument that has to be there
+abbrev pub needed : Text → Rule
+needed id = record (new_rule id) { required = true }
+
+abbrev pub check_app : App
+check_app = with_rule (with_rule (with_rule (new_app (codes "check")) (needed (codes "ORIGINAL"))) (needed (codes "EXPORT"))) (needed (codes "CLAIM"))
+
+-- a command of one file
+abbrev pub file_app : Text → App
+file_app name = with_rule (new_app name) (needed (codes "FILE"))
+
+abbrev pub program_app : App
+program_app = with_subcommand (with_subcommand (with_subcommand (with_subcommand (with_subcommand (new_app (codes "edfclaim"))
+    check_app.top) (file_app (codes "conform")).top) (file_app (codes "show")).top) (file_app (codes "notes")).top) (new_app (codes "vectors")).top

@@ -1,0 +1,20 @@
+//! What a command line asks for.
+
+/// A command with its arguments, which are paths of files.
+#[derive(Debug, Clone, Copy, PartialEq, Eq)]
+pub enum Job<'a> {
+    /// Checks an export against its original under a claim.
+    Check {
+        original: &'a str,
+        export: &'a str,
+        claim: &'a str,
+    },
+    /// Says whether a file conforms.
+    Conform(&'a str),
+    /// Shows what the header of a file says.
+    Show(&'a str),
+    /// Lists the annotations of a file.
+    Notes(&'a str),
+    /// Runs the worked rows.
+    Vectors,
+}

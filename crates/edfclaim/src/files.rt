@@ -1,0 +1,71 @@
+//! The files that a command reads.
+
+ghost use Rattle.std.specs.Prelude.{◌≡◌, take, IfOk, IfErr, IsTrue};
+ghost use Rattle.edf_fields.specs.Sources.{Rises};
+ghost use Rattle.edfclaim.specs.Refusals.{ClaimReadStops};
+
+use crate::refusal::{Refusal, Role};
+use edf_fields::source::{ReadSource, Source, fill};
+use std::alloc::Global;
+use std::fs;
+use std::io::{BufReader, ErrorKind};
+use std::rt::Files;
+
+/// How many bytes are read ahead of what is asked for. A read that asks for as many or more goes past
+/// the buffer, so that a large data record is one read.
+const STRETCH: usize = 65_536;
+
+/// How many bytes of a claim are read at most: one more than a claim may have, so that a longer one is
+/// seen to be too long.
+const CLAIM_BYTES: usize = 65_537;
+
+/// Opens a file to be read.
+///
+/// The error is `CannotOpen`, or want of memory.
+fn open<R: Files>(rt: &R, path: &str, role: Role) -> Result<R::File, Refusal> {
+    match fs::open(rt, path) {
+        Ok(file) => Ok(file),
+        Err(fault) if fault.kind() == ErrorKind::OutOfMemory => Err(Refusal::Memory),
+        Err(_) => Err(Refusal::CannotOpen(role)),
+    }
+}
+
+/// Opens a recording as a source, whose small reads are taken from larger stretches.
+///
+/// The error is `CannotOpen`, or want of memory.
+pub fn recording<R: Files + AllocGlobal>(
+    rt: &R,
+    path: &str,
+    role: Role,
+) -> Result<ReadSource<BufReader<R::File>>, Refusal> {
+    let file = open(rt, path, role)?;
+    match BufReader::with_capacity(rt.alloc(), STRETCH, file) {
+        Ok(reader) => Ok(ReadSource::new(reader)),
+        Err(_) => Err(Refusal::Memory),
+    }
+}
+
+/// Reads a claim's text: all of it, or as much of it as shows that it is too long.
+///
+/// The error is a failed read, or want of memory.
+fn text_of<S: Source>(alloc: Global, source: &mut S) -> Result<Vec<u8>, Refusal>
+    ensures text { IfOk result (λ text. IsTrue (S.is_honest source.old) → text.items ≡ take CLAIM_BYTES (S.left source.old)) }
+    ensures stop { IfErr result (ClaimReadStops (Rises (S.failures source.old) (S.failures source.new))) }
+{
+    let mut text = vec![in alloc; 0; CLAIM_BYTES]?;
+    match fill(source, &mut text) {
+        Ok(count) => {
+            text.truncate(count);
+            Ok(text)
+        }
+        Err(_) => Err(Refusal::Reading(Role::Claim)),
+    }
+}
+
+/// Opens a claim and reads its text: all of it, or its first 65,537 bytes.
+///
+/// The error is `CannotOpen` or `Reading`, of the claim, or want of memory.
+pub fn claim_text<R: Files + AllocGlobal>(rt: &R, path: &str) -> Result<Vec<u8>, Refusal> {
+    let file = open(rt, path, Role::Claim)?;
+    text_of(rt.alloc(), &mut ReadSource::new(file))
+}

@@ -1,0 +1,121 @@
+//! The command line.
+//!
+//! `clap` judges it, and says what is wrong with it; the job is taken from the words themselves.
+
+ghost use Rattle.std.specs.Prelude.{◌≡◌, ◌≢◌, codes, false, IfOk, IfErr, IfSome, IfNone};
+ghost use Rattle.clap.specs.Simple.{app_of, new_app, with_rule, with_subcommand};
+ghost use Rattle.clap.specs.Values.{kind_of};
+ghost use Rattle.clap.specs.declared.builder.command.Command.TheViews.{out-Command as fields_of};
+ghost use Rattle.edfclaim.specs.Commands.{needed, check_app, file_app, program_app};
+ghost use Rattle.edfclaim.specs.Jobs.{ArePlain, SaysJob, SaysNoJob, behind_first};
+
+use crate::command::Job;
+use clap::error::ErrorKind;
+use clap::{Arg, Command, Error};
+use std::alloc::{AllocError, Global};
+
+/// The job that the words behind the first one are.
+fn job_of<'a>(words: &'a [&'a str]) -> Option<Job<'a>>
+    ensures some { IfSome result (SaysJob (behind_first words.entry.now)) }
+    ensures none { IfNone result (SaysNoJob (behind_first words.entry.now)) }
+{
+    match words {
+        [_, "check", original, export, claim] => Some(Job::Check {
+            original,
+            export,
+            claim,
+        }),
+        [_, "conform", path] => Some(Job::Conform(path)),
+        [_, "show", path] => Some(Job::Show(path)),
+        [_, "notes", path] => Some(Job::Notes(path)),
+        [_, "vectors"] => Some(Job::Vectors),
+        _ => None,
+    }
+}
+
+/// The command with one more argument, which has to be there.
+fn needing<'a>(
+    alloc: Global,
+    command: Command<'a>,
+    id: &'a str,
+    help: &'a str,
+) -> Result<Command<'a>, AllocError>
+    ensures shape { IfOk result (λ r. (fields_of command.entry).has_globals ≡ false →
+        app_of r ≡ with_rule (app_of command.entry) (needed id.entry.now)) }
+    ensures local { IfOk result (λ r. (fields_of command.entry).has_globals ≡ false → (fields_of r).has_globals ≡ false) }
+{
+    command.arg(Arg::new(alloc, id).required(true).help(help))
+}
+
+/// The command `check ORIGINAL EXPORT CLAIM`.
+fn check_command<'a>(alloc: Global) -> Result<Command<'a>, AllocError>
+    ensures shape { IfOk result (λ c. app_of c ≡ check_app) }
+    ensures local { IfOk result (λ c. (fields_of c).has_globals ≡ false) }
+{
+    let named = Command::new(alloc, "check").about(
+        "Checks that an export is its original, cut and de-identified as a claim says",
+    );
+    let one = needing(alloc, named, "ORIGINAL", "The recording that is kept")?;
+    let two = needing(alloc, one, "EXPORT", "The recording that is handed out")?;
+    needing(alloc, two, "CLAIM", "The claim, a TOML document")
+}
+
+/// The command `NAME FILE`.
+fn file_command<'a>(alloc: Global, name: &'a str, about: &'a str) -> Result<Command<'a>, AllocError>
+    ensures shape { IfOk result (λ c. app_of c ≡ file_app name.entry.now) }
+    ensures local { IfOk result (λ c. (fields_of c).has_globals ≡ false) }
+{
+    let named = Command::new(alloc, name).about(about);
+    needing(alloc, named, "FILE", "The recording")
+}
+
+/// The program with one more command of the form `NAME FILE`.
+fn with_report<'a>(
+    alloc: Global,
+    program: Command<'a>,
+    name: &'a str,
+    about: &'a str,
+) -> Result<Command<'a>, AllocError>
+    ensures { IfOk result (λ r. app_of r ≡ with_subcommand (app_of program.entry) (file_app name.entry.now).top) }
+{
+    let report = file_command(alloc, name, about)?;
+    program.subcommand(report)
+}
+
+/// The command `vectors`.
+fn vectors_command<'a>(alloc: Global) -> Command<'a>
+    ensures shape { app_of result ≡ new_app (codes "vectors") }
+    ensures local { (fields_of result).has_globals ≡ false }
+{
+    Command::new(alloc, "vectors").about("Runs the worked rows")
+}
+
+/// The program with all of its commands.
+fn program<'a>(alloc: Global) -> Result<Command<'a>, AllocError>
+    ensures { IfOk result (λ c. app_of c ≡ program_app) }
+{
+    let check = check_command(alloc)?;
+    let first = Command::new(alloc, "edfclaim").subcommand(check)?;
+    let second = with_report(alloc, first, "conform", "Says whether a file conforms")?;
+    let third = with_report(alloc, second, "show", "Shows what a file's header says")?;
+    let fourth = with_report(alloc, third, "notes", "Lists a file's annotations")?;
+    fourth.subcommand(vectors_command(alloc))
+}
+
+/// Reads the program's words, of which the first is the program's name: `None` where `clap` takes a
+/// line that is no command with its arguments, as where nothing stands behind the name.
+///
+/// The error is `clap`'s fault, also for a request for help, or want of memory. A line whose words
+/// behind the first aren't empty and don't begin with `-` is such a fault only where it is no job.
+pub fn job<'a>(alloc: Global, words: &'a [&'a str]) -> Result<Option<Job<'a>>, Error>
+    ensures some { IfOk result (λ found. IfSome found (SaysJob (behind_first words.entry.now))) }
+    ensures none { IfOk result (λ found. IfNone found (SaysNoJob (behind_first words.entry.now))) }
+    ensures fault { IfErr result (λ e. ArePlain (behind_first words.entry.now) → kind_of e ≢ ErrorKind.OutOfMemory →
+        SaysNoJob (behind_first words.entry.now)) }
+{
+    let command = program(alloc)?;
+    match command.try_get_matches_from(words) {
+        Ok(_) => Ok(job_of(words)),
+        Err(fault) => Err(fault),
+    }
+}

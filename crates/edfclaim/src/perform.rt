@@ -1,0 +1,68 @@
+//! The commands, on files and standard output.
+
+use crate::command::Job;
+use crate::conform::conform_to;
+use crate::files::{claim_text, recording};
+use crate::notes::notes_to;
+use crate::refusal::{Refusal, Role};
+use crate::show::show_to;
+use crate::vectors::vectors_to;
+use edf_check::outcome::Outcome;
+use edf_check::run;
+use edf_fields::sink::{Sink, WriteSink};
+use std::io;
+use std::rt::Files;
+
+/// Checks an export against its original under a claim.
+///
+/// The claim is opened and read first, then the original is opened, then the export; the text of the
+/// claim is judged behind that.
+fn check<R: Files + AllocGlobal, K: Sink>(
+    rt: &R,
+    original: &str,
+    export: &str,
+    claim: &str,
+    sink: &mut K,
+) -> Result<Outcome, Refusal> {
+    let text = claim_text(rt, claim)?;
+    let mut first = recording(rt, original, Role::Original)?;
+    let mut second = recording(rt, export, Role::Export)?;
+    Ok(run::run(rt.alloc(), &mut first, &mut second, &text, sink)?)
+}
+
+/// Does a job, and writes its text to the sink.
+fn report<R: Files + AllocGlobal, K: Sink>(
+    rt: &R,
+    job: Job<'_>,
+    sink: &mut K,
+) -> Result<Outcome, Refusal> {
+    let alloc = rt.alloc();
+    match job {
+        Job::Check {
+            original,
+            export,
+            claim,
+        } => check(rt, original, export, claim, sink),
+        Job::Conform(path) => {
+            let mut source = recording(rt, path, Role::File)?;
+            Ok(conform_to(alloc, &mut source, sink)?)
+        }
+        Job::Show(path) => {
+            let mut source = recording(rt, path, Role::File)?;
+            Ok(show_to(alloc, &mut source, sink)?)
+        }
+        Job::Notes(path) => {
+            let mut source = recording(rt, path, Role::File)?;
+            Ok(notes_to(alloc, &mut source, sink)?)
+        }
+        Job::Vectors => Ok(vectors_to(alloc, sink)?),
+    }
+}
+
+/// Does a job, and writes its text to standard output; a failed flush is a failed write.
+pub fn perform<R: Files + Print + AllocGlobal>(rt: &R, job: Job<'_>) -> Result<Outcome, Refusal> {
+    let mut sink = WriteSink::new(io::writer(rt));
+    let outcome = report(rt, job, &mut sink)?;
+    sink.flush()?;
+    Ok(outcome)
+}
