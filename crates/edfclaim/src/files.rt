@@ -45,14 +45,14 @@ pub fn recording<R: Files + AllocGlobal>(
     }
 }
 
-/// Reads a claim's text: all of it, or as much of it as shows that it is too long.
+/// Reads a claim's text: all of it, or its first `most` bytes.
 ///
 /// The error is a failed read, or want of memory.
-fn text_of<S: Source>(alloc: Global, source: &mut S) -> Result<Vec<u8>, Refusal>
-    ensures text { IfOk result (λ text. IsTrue (S.is_honest source.old) → text.items ≡ take CLAIM_BYTES (S.left source.old)) }
+fn text_of<S: Source>(alloc: Global, source: &mut S, most: usize) -> Result<Vec<u8>, Refusal>
+    ensures text { IfOk result (λ text. IsTrue (S.is_honest source.old) → text.items ≡ take most (S.left source.old)) }
     ensures stop { IfErr result (ClaimReadStops (Rises (S.failures source.old) (S.failures source.new))) }
 {
-    let mut text = vec![in alloc; 0; CLAIM_BYTES]?;
+    let mut text = vec![in alloc; 0u8; most]?;
     match fill(source, &mut text) {
         Ok(count) => {
             text.truncate(count);
@@ -67,5 +67,5 @@ fn text_of<S: Source>(alloc: Global, source: &mut S) -> Result<Vec<u8>, Refusal>
 /// The error is `CannotOpen` or `Reading`, of the claim, or want of memory.
 pub fn claim_text<R: Files + AllocGlobal>(rt: &R, path: &str) -> Result<Vec<u8>, Refusal> {
     let file = open(rt, path, Role::Claim)?;
-    text_of(rt.alloc(), &mut ReadSource::new(file))
+    text_of(rt.alloc(), &mut ReadSource::new(file), CLAIM_BYTES)
 }
