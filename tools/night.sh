@@ -1,6 +1,7 @@
 #!/bin/sh
 # Runs PROGRAM on the example night: the commands of examples/night/answers, each of which has to end with
-# the status and the line that stand there. Then it looks whether the night's files are those that
+# the status and the line that stand there and in the table of the night's page, and compares what `show` and
+# `notes` print of the original with docs/CLAIM.md. Then it looks whether the night's files are those that
 # tools/night.py writes, and runs PROGRAM on the broken copies of tools/faults.py, one for each fault.
 #
 # usage: tools/night.sh PROGRAM
@@ -62,9 +63,28 @@ try_all() {
 }
 
 try_all examples/night
-if [ "$((passed + failed))" -eq 0 ]; then
-    judge 1 "no answers of the night"
-fi
+[ "$(wc -l <examples/night/answers)" -eq 7 ]
+judge $? "the answers of the night aren't seven"
+while IFS='	' read -r status words line; do
+    grep -qF -- "| \`$words\` | \`$line\`" examples/night/README.md
+    judge $? "not in the night's table: $words"
+done <examples/night/answers
+
+# Compares what a command prints of the original with a block of docs/CLAIM.md: the one behind this line.
+compare() {
+    "$program" "$1" examples/night/original.edf >"$work/out" 2>"$work/err"
+    status=$?
+    awk -v line="\$ edfclaim $1 original.edf" '
+        $0 == line { inside = 1; next }
+        inside && /^```/ { exit }
+        inside { print }
+    ' docs/CLAIM.md >"$work/line"
+    [ "$status" -eq 0 ] && [ -s "$work/line" ] && cmp -s "$work/out" "$work/line" && [ ! -s "$work/err" ]
+    judge $? "$1 original.edf: status $status, and not the text of docs/CLAIM.md"
+}
+
+compare show
+compare notes
 
 if command -v python3 >/dev/null; then
     python3 tools/night.py --check examples/night >"$work/log" 2>&1

@@ -78,7 +78,7 @@ conforms='CONFORMS records 150 channels 5 samples 52650 annotations 10'
 # the command line
 refuses 'edfclaim: not a command'
 refuses 'edfclaim: not a command' show -- -night.edf
-refuses 'edfclaim: a word is not UTF-8' conform "$(printf 'night\377')"
+refuses 'edfclaim: not a command' conform "$(printf 'night\377')"
 for words in '' 'Vectors' 'vectors x' 'explain original.edf' 'conform' 'conform original.edf cut.edf' \
     'check original.edf cut.edf' 'check original.edf cut.edf cut.toml cut.toml' '--quiet vectors'; do
     # shellcheck disable=SC2086
@@ -109,15 +109,40 @@ for command in conform show notes; do
     refuses 'edfclaim: reading file failed' "$command" .
 done
 
-# files that may not be read
+# files that may not be read; a superuser may read every file, and runs these as another user
 cp original.edf "$work/closed" && chmod 000 "$work/closed"
-if [ -r "$work/closed" ]; then
-    echo "this user may read every file: files that may not be read are left out"
+if [ ! -r "$work/closed" ]; then
+    as_user=
+elif command -v setpriv >/dev/null && chmod 755 "$work" && cp "$program" original.edf cut.edf cut.toml "$work" &&
+    setpriv --reuid 65534 --regid 65534 --clear-groups "$work/$(basename -- "$program")" conform "$work/cut.edf" >/dev/null; then
+    as_user="setpriv --reuid 65534 --regid 65534 --clear-groups"
 else
-    refuses 'edfclaim: cannot open claim' check original.edf cut.edf "$work/closed"
-    refuses 'edfclaim: cannot open original' check "$work/closed" cut.edf cut.toml
-    refuses 'edfclaim: cannot open export' check original.edf "$work/closed" cut.toml
-    refuses 'edfclaim: cannot open file' conform "$work/closed"
+    as_user=none
+    echo "this user may read every file: files that may not be read are left out"
+fi
+
+# Runs the program as that user, in a folder that it may read, on these words; it is to refuse them with this line.
+refuses_user() {
+    line=$1
+    shift
+    # shellcheck disable=SC2086
+    (cd "$folder" && exec $as_user "$reader" "$@") >"$work/out" 2>"$work/err"
+    judge_refusal "$line" "files that may not be read: $*" $?
+}
+
+if [ "$as_user" != none ]; then
+    folder=$PWD
+    reader=$program
+    if [ -n "$as_user" ]; then
+        folder=$work
+        reader=$work/$(basename -- "$program")
+    fi
+    refuses_user 'edfclaim: cannot open claim' check original.edf cut.edf "$work/closed"
+    refuses_user 'edfclaim: cannot open original' check "$work/closed" cut.edf cut.toml
+    refuses_user 'edfclaim: cannot open export' check original.edf "$work/closed" cut.toml
+    for command in conform show notes; do
+        refuses_user 'edfclaim: cannot open file' "$command" "$work/closed"
+    done
 fi
 
 # claims
@@ -161,5 +186,12 @@ for command in 'check original.edf cut.edf cut.toml' 'conform cut.edf' 'show cut
         judge_refusal 'edfclaim: writing failed' "a full standard output: $command" $?
     fi
 done
+
+# a standard error that takes nothing: the status says it alone
+"$program" conform none.edf >"$work/out" 2>&-
+status=$?
+: >"$work/err"
+[ "$status" -eq 2 ] && [ ! -s "$work/out" ]
+judge $? "a closed standard error" "$status"
 echo "$passed passed, $failed failed"
 [ "$failed" -eq 0 ]

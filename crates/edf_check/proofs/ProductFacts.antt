@@ -52,6 +52,13 @@ start-small file c =
     let early = bounds.early in
     omega (arith, ints, near, early)
 
+start-near : (file : List ℕ) → Conforms file (head_of file) → unsigned_abs (start_of file) ≤ 2 ^ 79
+start-near file c =
+    let bounds = ((c.header).sound).bounds in
+    let near = bounds.near in
+    let early = bounds.early in
+    omega (arith, ints, near, early)
+
 shift-small : (claim : Terms) → IsClaim claim → unsigned_abs (shift_of claim) ≤ 2 ^ 79
 shift-small claim c = let low = c.not_far_back in let high = c.not_far_on in omega (arith, ints, low, high)
 
@@ -66,6 +73,11 @@ products_fit original export claim both c = record {
       let low = product i.from_ps (x.instant).den (10 ^ 21) (omega (arith, ints, start, order, near)) (omega (arith, few)) in
       let high = product i.to_ps (x.instant).den (10 ^ 21) (omega (arith, ints, start, order, near)) (omega (arith, few)) in
       (omega (arith, low), omega (arith, high));
+  shifts = λ x s.
+      let few = (small-of original x both.original_conforms s).2 in
+      let start = product (start_of original) (x.instant).den (2 ^ 79) (start-near original both.original_conforms) (omega (arith, few)) in
+      let shift = product (shift_of claim) (x.instant).den (2 ^ 79) (shift-small claim c) (omega (arith, few)) in
+      (omega (arith, start), omega (arith, shift));
   kept = λ x s.
       let p = moved-small x.instant (neg_ℤ (start_of original)) (small-of original x both.original_conforms s) (start-small original both.original_conforms) in
       omega (arith, p);
@@ -75,7 +87,7 @@ products_fit original export claim both c = record {
       let q = product (later (shift_of claim) x.instant).num (y.instant).den (2 ^ 103 + 2 ^ 102) p (omega (arith, few)) in
       (omega (arith, q), (instants_fit export original (head_of export) (head_of original) both.export_conforms both.original_conforms y x t s).1);
   calibrations = λ x y i j.
-      calibrations_fit x.calibration y.calibration
-      (signal-of (head_of original) x ((both.original_conforms).header).sound i).calibration
-      (signal-of (head_of export) y ((both.export_conforms).header).sound j).calibration;
+      let one = (signal-of (head_of original) x ((both.original_conforms).header).sound i).calibration in
+      let other = (signal-of (head_of export) y ((both.export_conforms).header).sound j).calibration in
+      (calibrations_fit x.calibration y.calibration one other, calibrations_fit y.calibration x.calibration other one);
 }

@@ -55,14 +55,16 @@ abbrev pub NotesInWords : Type 0
 NotesInWords = (kept exported : List NoteValue) → SameNotes kept exported ↔ IsPermutation kept exported
 
 -- the products by which the samples of an original are kept and compared with those of an export, at the claimed shift, fit 128 bits, and so
--- do those of the calibrations
+-- do those of the calibrations, of either with the other
 pub record ProductsFit (original export : List ℕ) (claim : Terms) : Type 0 where
   pub bounds : (x : SampleValue) (i : Interval) → IsSample original (head_of original) x → Has claim.keep i →
       (unsigned_abs (i.from_ps *ℤ pos (x.instant).den) < 2 ^ 127) × (unsigned_abs (i.to_ps *ℤ pos (x.instant).den) < 2 ^ 127)
+  pub shifts : (x : SampleValue) → IsSample original (head_of original) x →
+      (unsigned_abs (start_of original *ℤ pos (x.instant).den) < 2 ^ 127) × (unsigned_abs (shift_of claim *ℤ pos (x.instant).den) < 2 ^ 127)
   pub kept : (x : SampleValue) → IsSample original (head_of original) x → unsigned_abs (later (neg_ℤ (start_of original)) x.instant).num < 2 ^ 127
   pub moved : (x y : SampleValue) → IsSample original (head_of original) x → IsSample export (head_of export) y →
       (unsigned_abs ((later (shift_of claim) x.instant).num *ℤ pos (y.instant).den) < 2 ^ 127) × (unsigned_abs ((y.instant).num *ℤ pos (x.instant).den) < 2 ^ 127)
-  pub calibrations : (x y : SignalHead) → Has (head_of original).signals x → Has (head_of export).signals y → FitTogether x.calibration y.calibration
+  pub calibrations : (x y : SignalHead) → Has (head_of original).signals x → Has (head_of export).signals y → FitTogether x.calibration y.calibration × FitTogether y.calibration x.calibration
 
 abbrev pub AllProductsFit : Type 0
 AllProductsFit = (original export : List ℕ) (claim : Terms) → BothConform original export → IsClaim claim → ProductsFit original export claim

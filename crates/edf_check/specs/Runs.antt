@@ -37,6 +37,11 @@ pub record IsPartOfReport (original export text old new : List ℕ) : Type 0 whe
   pub under : IsVerdictUnder original export text verdict
   pub part : HoldsPrefix old new (verdict_line verdict)
 
+-- the same, whatever the sources are: a front of the line of some verdict
+pub record IsFrontOfALine (old new : List ℕ) : Type 0 where
+  pub verdict : Verdict
+  pub part : HoldsPrefix old new (verdict_line verdict)
+
 -- of a refused claim this is said, of a failed read of the original or of the export that, of a failed write the last
 abbrev pub RunStops : (ClaimStop → Type 0) → Type 0 → Type 0 → Type 0 → RunStop → Type 0
 RunStops refused original export failed OutOfMemory = Unit {0}

@@ -5,7 +5,7 @@ ghost use Rattle.edf_claim.specs.declared.stop.ClaimStop.TheVariants as claim_st
 ghost use Rattle.edf_claim.specs.Faults.{FirstClaimFault};
 ghost use Rattle.edf_fields.specs.Sources.{Rises};
 ghost use Rattle.edf_check.specs.declared.run.RunStop.TheVariants as stops;
-ghost use Rattle.edf_check.specs.Runs.{IsReport, IsPartOfReport, RunStops, stop_of_claim, stop_of_check};
+ghost use Rattle.edf_check.specs.Runs.{IsReport, IsPartOfReport, IsFrontOfALine, RunStops, stop_of_claim, stop_of_check};
 
 use crate::check::check;
 use crate::outcome::Outcome;
@@ -85,6 +85,7 @@ pub fn run<O: Source, E: Source, K: Sink>(
     ensures nothing { IfErr result (λ stop. stop ≢ stops.WriteFailed → sink.new ≡ sink.old) }
     ensures part { IfErr result (λ stop. stop ≡ stops.WriteFailed → IsTrue (O.is_honest original.old) → IsTrue (E.is_honest export.old) → IsTrue (K.is_honest sink.old) →
         IsPartOfReport (O.left original.old) (E.left export.old) claim_text.now (K.held sink.old) (K.held sink.new)) }
+    ensures front { IfErr result (λ stop. stop ≡ stops.WriteFailed → IsTrue (K.is_honest sink.old) → IsFrontOfALine (K.held sink.old) (K.held sink.new)) }
     ensures stop { IfErr result (RunStops
         (λ cause. (cause ≢ claim_stops.OutOfMemory) × FirstClaimFault claim_text.now cause)
         (Rises (O.failures original.old) (O.failures original.new))

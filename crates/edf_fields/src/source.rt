@@ -225,6 +225,23 @@ mod tests {
         }
     }
 
+    /// Says once that it was interrupted, and then gives a zero a read.
+    #[derive(Drop)]
+    struct Interrupted {
+        reads: u32,
+    }
+
+    impl Read for Interrupted {
+        fn read(&mut self, buf: &mut [u8]) -> io::Result<usize> {
+            self.reads = self.reads.saturating_add(1);
+            if self.reads == 1 {
+                return Err(io::Error::from(io::ErrorKind::Interrupted));
+            }
+            buf[..1].fill(0);
+            Ok(1)
+        }
+    }
+
     #[test]
     fn fills_from_a_slice(rt: HostRuntime) {
         let mut source = SliceSource::new(b"0       record");
@@ -283,6 +300,16 @@ mod tests {
         assert_eq!(rt; source.failed, 1);
         assert_eq!(rt; source.read(&mut buf), Err(ReadFault));
         assert_eq!(rt; source.failed, 2);
+    }
+
+    #[test]
+    fn asks_an_interrupted_reader_once(rt: HostRuntime) {
+        let mut source = ReadSource::new(Interrupted { reads: 0 });
+        let mut byte = [1; 1];
+        assert_eq!(rt; fill(&mut source, &mut byte), Err(ReadFault));
+        assert_eq!(rt; (source.reader.reads, source.failed), (1, 1));
+        assert_eq!(rt; fill(&mut source, &mut byte), Ok(1));
+        assert_eq!(rt; (source.reader.reads, source.failed), (2, 1));
     }
 
     #[test]

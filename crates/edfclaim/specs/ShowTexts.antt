@@ -1,13 +1,15 @@
 -- What `show` writes of a file: its header, line by line.
-use Rattle.std.specs.Prelude.{ℕ, ℤ, ◌+◌, ◌/◌, ◌%◌, List, [], ◌∷◌, ◌++◌, codes}
+use Rattle.std.specs.Prelude.{◌≡◌, ℕ, ℤ, ◌+◌, ◌/◌, ◌%◌, List, [], ◌∷◌, ◌++◌, drop, codes}
 use Rattle.std.specs.Fmt.{decimal, signed_decimal}
 use Rattle.std.specs.List.{flat_map}
 use Rattle.edf_fields.specs.Dates.{CivilDay}
 use Rattle.edf_fields.specs.Identifications.{Patient, Recording}
 use Rattle.edf_header.specs.Calibrations.{Line}
 use Rattle.edf_header.specs.Faults.{header_fault}
-use Rattle.edf_header.specs.Heads.{SignalHead, Head, head_of, kind_word}
+use Rattle.edf_header.specs.Heads.{SignalHead, Head, head_of, header_bytes, kind_word}
 use Rattle.edf_stream.specs.Summaries.{channels_among}
+use Rattle.edf_check.specs.declared.outcome.Outcome.{Outcome}
+use Rattle.edf_check.specs.declared.outcome.Outcome.TheVariants as outcomes
 use Rattle.edf_check.specs.Quotes.{with_quoted}
 use Rattle.edfclaim.specs.Reports.{text_or_fault}
 
@@ -94,3 +96,8 @@ head_text h = course_text h ++ (patient_text h.patient ++ (recording_text h.reco
 -- the lines of a header, or the line of its first fault
 unfoldable pub show_text : List ℕ → List ℕ
 show_text file = text_or_fault (head_text (head_of file)) (header_fault file)
+
+-- with a Yes, all bytes behind the header are left
+abbrev pub IsLeftBehind : List ℕ → List ℕ → Outcome → Type 0
+IsLeftBehind file left outcomes.Yes = left ≡ drop (header_bytes (head_of file)) file
+IsLeftBehind file left outcomes.No = Unit {0}

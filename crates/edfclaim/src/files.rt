@@ -12,7 +12,7 @@ use std::io::{BufReader, ErrorKind};
 use std::rt::Files;
 
 /// How many bytes are read ahead of what is asked for. A read that asks for as many or more goes past
-/// the buffer, so that a large data record is one read.
+/// the buffer where this is empty.
 const STRETCH: usize = 65_536;
 
 /// How many bytes of a claim are read at most: one more than a claim may have, so that a longer one is

@@ -82,7 +82,7 @@ fn run(rt: &(impl Env + Files + Print + Eprint + AllocGlobal)) -> u8 {
         Err(fault) if fault.kind() == io::ErrorKind::OutOfMemory => {
             return refuse(rt, Refusal::Memory.text());
         }
-        Err(_) => return refuse(rt, "edfclaim: a word is not UTF-8"),
+        Err(_) => return refuse(rt, "edfclaim: not a command"),
     };
     match words
         .iter()

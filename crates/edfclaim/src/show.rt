@@ -10,7 +10,7 @@ ghost use Rattle.edf_header.specs.Faults.{header_fault};
 ghost use Rattle.edf_header.specs.Heads.{kind_word};
 ghost use Rattle.edfclaim.specs.declared.report.ReportStop.TheVariants as stops;
 ghost use Rattle.edfclaim.specs.Reports.{IsReported, ReportStops, outcome_of_fault};
-ghost use Rattle.edfclaim.specs.ShowTexts.{word_line, two_digits, day_text, clock_text, start_text, duration_text, course_text, extras_text, patient_text, recording_text, numbers_text, texts_text, channel_line, channels_text, head_text, show_text};
+ghost use Rattle.edfclaim.specs.ShowTexts.{word_line, two_digits, day_text, clock_text, start_text, duration_text, course_text, extras_text, patient_text, recording_text, numbers_text, texts_text, channel_line, channels_text, head_text, show_text, IsLeftBehind};
 
 use crate::report::{Report, ReportStop};
 use edf_check::outcome::Outcome;
@@ -225,6 +225,7 @@ fn header_text(alloc: Global, header: &Header) -> Result<Vec<u8>, AllocError>
 fn report<S: Source>(alloc: Global, source: &mut S) -> Result<Report, ReportStop>
     ensures report { IfOk result (λ report. IsTrue (S.is_honest source.old) →
         (report.text.items ≡ show_text (S.left source.old)) × (report.outcome ≡ outcome_of_fault (header_fault (S.left source.old)))) }
+    ensures behind { IfOk result (λ report. IsTrue (S.is_honest source.old) → IsLeftBehind (S.left source.old) (S.left source.new) report.outcome) }
     ensures stop { IfErr result (ReportStops (Rises (S.failures source.old) (S.failures source.new)) ⊥) }
 {
     match Header::read(alloc, source) {
@@ -250,6 +251,7 @@ pub fn show_to<S: Source, K: Sink>(
 ) -> Result<Outcome, ReportStop>
     ensures written { IfOk result (λ outcome. IsTrue (S.is_honest source.old) → IsTrue (K.is_honest sink.old) →
         IsReported (show_text (S.left source.old)) (header_fault (S.left source.old)) (K.held sink.old) (K.held sink.new) outcome) }
+    ensures behind { IfOk result (λ outcome. IsTrue (S.is_honest source.old) → IsLeftBehind (S.left source.old) (S.left source.new) outcome) }
     ensures nothing { IfErr result (λ stop. stop ≢ stops.WriteFailed → sink.new ≡ sink.old) }
     ensures part { OnErr result (IsTrue (S.is_honest source.old) → IsTrue (K.is_honest sink.old) → HoldsPrefix (K.held sink.old) (K.held sink.new) (show_text (S.left source.old))) }
     ensures stop { IfErr result (ReportStops (Rises (S.failures source.old) (S.failures source.new)) (Rises (K.failures sink.old) (K.failures sink.new))) }

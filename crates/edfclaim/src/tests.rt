@@ -13,6 +13,7 @@ mod reports;
 mod rows;
 mod samples;
 mod scarce;
+mod shifts;
 mod sinks;
 mod sources;
 mod support;

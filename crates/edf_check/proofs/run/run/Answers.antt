@@ -1,4 +1,5 @@
-use Rattle.std.proofs.Common.{◌∙◌}
+use Rattle.std.proofs.Common.{◌∙◌, subst}
+use Rattle.edf_fields.specs.Sinks.{HoldsPrefix}
 use Rattle.std.proofs.lemmas.Result.{err_from_is_err_and}
 use Rattle.edf_claim.specs.Faults.{FirstClaimFault}
 use Rattle.edf_fields.specs.Sources.{Rises}
@@ -22,3 +23,12 @@ returns-in_err-put_all-clause-part g c =
     front_is_part _ _ _ (g.K.Sink.held c.args.sink.now) (g.K.Sink.held c.put_all.new.sink) c.deref.result.now c.in_ok-claim.claim c.in_ok-verdict.verdict
     c.in_ok-claim.ensures.says (c.in_ok-verdict.ensures.verdict original export) (c.in_ok-verdict.ensures.headline original export)
     line (c.in_err-put_all.ensures.prefix sink))
+
+pub returns-in_err-put_all-clause-front : goal.returns-in_err-put_all-clause-front
+returns-in_err-put_all-clause-front g c =
+    let p = err_from_is_err_and c.from_residual-in_err-put_all.result c.from_residual-in_err-put_all.ensures.1 in
+    let line = c.deref.ensures.value ∙ c.in_ok-line.ensures in
+    rw (p.1) (λ same sink. record {
+      verdict = c.in_ok-verdict.verdict;
+      part = subst (HoldsPrefix (g.K.Sink.held c.args.sink.now) (g.K.Sink.held c.put_all.new.sink)) line (c.in_err-put_all.ensures.prefix sink);
+    })
