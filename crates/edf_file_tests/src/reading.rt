@@ -81,21 +81,32 @@ fn notes_of(alloc: Global, reader: &FileReader) -> Result<Option<String>, AllocE
     Ok(Some(shown))
 }
 
-/// Of each data record of the reference file: where it starts, the first sample of its second channel, and
-/// its annotations.
-const RECORDS: [(i128, u8, &str); 4] = [
-    (0, 100, "500000000000:Lights off;"),
-    (1_000_000_000_000, 102, "1500000000000/1000000000000:Apnea;"),
-    (2_000_000_000_000, 104, ""),
-    (3_000_000_000_000, 106, "3000000000000:Apnea;"),
+/// Of each data record of the reference file: where it starts and ends, the first sample of its second
+/// channel, and its annotations.
+const RECORDS: [(i128, i128, u8, &str); 4] = [
+    (0, 1_000_000_000_000, 100, "500000000000:Lights off;"),
+    (
+        1_000_000_000_000,
+        2_000_000_000_000,
+        102,
+        "1500000000000/1000000000000:Apnea;",
+    ),
+    (2_000_000_000_000, 3_000_000_000_000, 104, ""),
+    (
+        3_000_000_000_000,
+        4_000_000_000_000,
+        106,
+        "3000000000000:Apnea;",
+    ),
 ];
 
-/// The start of the data record at hand, and the first byte of its second channel.
-fn seen(reader: &FileReader) -> Option<(i128, Option<u8>)> {
+/// The start and the end of the data record at hand, and the first byte of its second channel.
+fn seen(reader: &FileReader) -> Option<(i128, i128, Option<u8>)> {
     if !reader.has_current() || reader.header().signals().len() < 2 {
         return None;
     }
-    Some((reader.start_ps(), reader.run(1).first().copied()))
+    let first = reader.run(1).first().copied();
+    Some((reader.start_ps(), reader.end_ps(), first))
 }
 
 #[test]
@@ -104,10 +115,9 @@ fn reads_the_reference_file(rt: HostRuntime) -> Result<(), Fail> {
     let mut source = SliceSource::new(&file);
     let mut reader = FileReader::begin(rt.alloc(), &mut source)?;
     assert!(rt; !reader.has_current());
-    for (start, value, want) in RECORDS {
+    for (start, end, value, want) in RECORDS {
         assert_eq!(rt; reader.next(&mut source), Ok(true));
-        assert_eq!(rt; seen(&reader), Some((start, Some(value))));
-        assert_eq!(rt; reader.end_ps(), start + 1_000_000_000_000);
+        assert_eq!(rt; seen(&reader), Some((start, end, Some(value))));
         let notes = notes_of(rt.alloc(), &reader)?;
         assert!(rt; notes.is_some_and(|shown| shown.as_str() == want));
     }
