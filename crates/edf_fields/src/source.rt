@@ -237,8 +237,9 @@ mod tests {
             if self.reads == 1 {
                 return Err(io::Error::from(io::ErrorKind::Interrupted));
             }
-            buf[..1].fill(0);
-            Ok(1)
+            let count = buf.len().min(1);
+            buf[..count].fill(0);
+            Ok(count)
         }
     }
 
