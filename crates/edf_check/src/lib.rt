@@ -35,6 +35,7 @@ mod subfields;
 #[cfg(test)]
 mod tests;
 mod texts;
+mod track;
 mod unequal;
 pub mod verdict;
 mod walk;
