@@ -1,4 +1,5 @@
 pub mod ForCallers
+pub mod BorderFacts
 pub mod FaultFacts
 pub mod KeepsFacts
 pub mod OrderFacts

@@ -1,5 +1,5 @@
 -- What a claim keeps.
-use Rattle.std.specs.Prelude.{◌≡◌, map, ℕ, ℤ, pos, ◌*ℤ◌, ◌≤ℤ◌, ◌<ℤ◌, int_le, int_lt, not, ◌&&◌, Bool, List}
+use Rattle.std.specs.Prelude.{◌≡◌, ◌⊎◌, map, ℕ, ℤ, pos, ◌*ℤ◌, ◌≤ℤ◌, ◌<ℤ◌, int_le, int_lt, not, ◌&&◌, Bool, List, [], ◌∷◌}
 use Rattle.std.specs.Cmp.Lexicographic.{slice_cmp}
 use Rattle.std.specs.Global.{Vec}
 use Rattle.std.specs.List.{All, list_any}
@@ -42,3 +42,16 @@ keeps_instant c num den = list_any (λ interval. is_within interval num den) c.k
 -- `KeepsAnnotation` as a test
 abbrev pub keeps_annotation : Terms → ℤ → List ℕ → Bool
 keeps_annotation c onset text = keeps_instant c onset 1 && not (is_one_of c.remove text)
+
+-- b doesn't lie between t and u, but may be one of them
+abbrev pub IsOutside : ℤ → ℤ → ℤ → Type 0
+IsOutside t u b = (b ≤ℤ t) ⊎ (u ≤ℤ b)
+
+-- none of the intervals begins or ends between t and u
+abbrev pub IsUncut : List Interval → ℤ → ℤ → Type 0
+IsUncut [] t u = Unit {0}
+IsUncut (interval ∷ intervals) t u = IsOutside t u interval.from_ps × IsOutside t u interval.to_ps × IsUncut intervals t u
+
+-- one of the intervals begins or ends at b
+abbrev pub HasBorder : List Interval → ℤ → Type 0
+HasBorder intervals b = (interval : Interval) × Has intervals interval × ((interval.from_ps ≡ b) ⊎ (interval.to_ps ≡ b))

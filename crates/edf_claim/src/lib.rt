@@ -3,6 +3,7 @@
 #![tactic(auto)]
 
 mod anonymous;
+pub mod borders;
 mod channels;
 pub mod claim;
 pub mod interval;

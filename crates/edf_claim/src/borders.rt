@@ -1,0 +1,79 @@
+//! Where kept intervals begin and end.
+
+ghost use Rattle.std.specs.Prelude.{◌≡◌, ◌⊎◌, ◌<◌, ◌≤ℤ◌, ◌<ℤ◌};
+ghost use Rattle.edf_claim.specs.Keeps.{IsOutside, IsUncut, HasBorder};
+
+use crate::claim::Claim;
+use crate::interval::Interval;
+
+/// A time, in picoseconds after the second at which the original starts.
+#[derive(Clone, Copy)]
+struct Time {
+    ps: i128,
+}
+
+/// `at` where it lies between two times, else the later one of these.
+fn cut_at(at: Time, from: Time, to: Time) -> Time
+    requires { from.ps <ℤ to.ps }
+    ensures later { from.ps <ℤ result.ps }
+    ensures within { result.ps ≤ℤ to.ps }
+    ensures outside { IsOutside from.ps result.ps at.ps }
+    ensures one { (result ≡ to) ⊎ (result ≡ at) }
+{
+    if at.ps <= from.ps || to.ps <= at.ps {
+        to
+    } else {
+        at
+    }
+}
+
+/// The first time behind `from` at which the interval begins or ends, or `to`, where that is earlier.
+#[tactic(auto, using(crate::proofs::BorderFacts::outside_earlier))]
+fn cut_by(interval: Interval, from: Time, to: Time) -> Time
+    requires { from.ps <ℤ to.ps }
+    ensures later { from.ps <ℤ result.ps }
+    ensures within { result.ps ≤ℤ to.ps }
+    ensures begin { IsOutside from.ps result.ps interval.from_ps }
+    ensures end { IsOutside from.ps result.ps interval.to_ps }
+    ensures one { (result.ps ≡ to.ps) ⊎ (result.ps ≡ interval.from_ps) ⊎ (result.ps ≡ interval.to_ps) }
+{
+    let begin = Time {
+        ps: interval.from_ps,
+    };
+    let end = Time { ps: interval.to_ps };
+    cut_at(end, from, cut_at(begin, from, to))
+}
+
+/// The same of several intervals.
+fn cut_by_all(intervals: &[Interval], from: Time, to: Time) -> Time
+    requires { from.ps <ℤ to.ps }
+    ensures later { from.ps <ℤ result.ps }
+    ensures within { result.ps ≤ℤ to.ps }
+    ensures uncut { IsUncut intervals.now from.ps result.ps }
+    ensures border { (result.ps ≡ to.ps) ⊎ HasBorder intervals.now result.ps }
+{
+    let mut next = to;
+    let mut i = intervals.len();
+    while i > 0 {
+        i -= 1;
+        next = cut_by(intervals[i], from, next);
+    }
+    next
+}
+
+impl Claim {
+    /// The first time behind `from_ps` at which a kept interval begins or ends, or `to_ps`, where that is
+    /// earlier. Between `from_ps` and the answer the claim keeps all or nothing. Times are picoseconds
+    /// after the second at which the original starts.
+    pub fn border_behind(&self, from_ps: i128, to_ps: i128) -> i128
+        requires { from_ps <ℤ to_ps }
+        ensures later { from_ps <ℤ result }
+        ensures within { result ≤ℤ to_ps }
+        ensures uncut { IsUncut self.now.keep from_ps result }
+        ensures border { (result ≡ to_ps) ⊎ HasBorder self.now.keep result }
+    {
+        let from = Time { ps: from_ps };
+        let to = Time { ps: to_ps };
+        cut_by_all(&self.keep, from, to).ps
+    }
+}
