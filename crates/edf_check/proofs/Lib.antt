@@ -16,6 +16,7 @@ pub mod WordsFacts
 pub mod RearrangedFacts
 pub mod DifferenceFacts
 pub mod EarliestFacts
+pub mod PassFacts
 pub mod PlaceFacts
 pub mod ColumnFacts
 pub mod NightFacts

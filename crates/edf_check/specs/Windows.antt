@@ -1,6 +1,6 @@
 -- Two files cut at times, and what a reader of a file shows between two times. Times are picoseconds after the second at which the
 -- original starts, before the shift. These are steps between the definitions and the code.
-use Rattle.std.specs.Prelude.{◌≡◌, ℕ, suc, ℤ, ◌+ℤ◌, ◌*ℤ◌, pos, ◌<◌, ◌≤◌, ◌<ℤ◌, ◌≤ℤ◌, ◌^◌, IsTrue, Bool, true, not, List, [], map, filter, Option, None, Some, option_map, slice_get, IfSome}
+use Rattle.std.specs.Prelude.{◌≡◌, ℕ, suc, ℤ, ◌+ℤ◌, ◌*ℤ◌, pos, ◌<◌, ◌≤◌, ◌<ℤ◌, ◌≤ℤ◌, ◌^◌, IsTrue, Bool, true, not, List, [], map, filter, Option, None, Some, option_map, slice_get, IfSome, if◌then◌else◌}
 use Rattle.std.specs.List.{All}
 use Rattle.edf_claim.specs.Claims.{Terms}
 use Rattle.edf_claim.specs.Keeps.{keeps_annotation}
@@ -10,7 +10,7 @@ use Rattle.edf_stream.specs.declared.status.Status.{Status}
 use Rattle.edf_stream.specs.declared.status.Status.TheVariants.{Begun, Current, Ended, Stopped}
 use Rattle.edf_stream.specs.Conforming.{Conforms}
 use Rattle.edf_stream.specs.Faults.{body_fault}
-use Rattle.edf_stream.specs.Notes.{NoteValue, moved_by, moved_notes_before}
+use Rattle.edf_stream.specs.Notes.{NoteValue, moved_by, moved_notes_in, moved_notes_before}
 use Rattle.edf_stream.specs.Readers.{Reader, IsOpen, is_current, StandsIn}
 use Rattle.edf_stream.specs.Records.{record_at, lane_of}
 use Rattle.edf_stream.specs.Samples.{samples_of}
@@ -19,6 +19,7 @@ use Rattle.edf_stream.specs.Summaries.{channels_among}
 use Rattle.edf_check.specs.declared.channel_place.ChannelPlace.{ChannelPlace}
 use Rattle.edf_check.specs.declared.difference.PointDifference.{PointDifference}
 use Rattle.edf_check.specs.declared.earliest.Found.{Found}
+use Rattle.edf_check.specs.declared.gather.View.{View}
 use Rattle.edf_check.specs.declared.point.Point.{Point}
 use Rattle.edf_check.specs.declared.track.Pair.{Pair}
 use Rattle.edf_check.specs.declared.track.Track.{Track}
@@ -152,21 +153,32 @@ pub record Covers (r : Reader) (file : List ℕ) (ps t u : ℤ) : Type 0 where
   pub shows : Shows r.status r file ps t
   pub reaches : Reaches r ps u
 
--- which annotations are gathered: all, moved; or those that a claim keeps
-abbrev pub gathered_of : Option Terms → ℤ → List NoteValue → List NoteValue
-gathered_of None ps notes = map (moved_by ps) notes
-gathered_of (Some claim) ps notes = filter (λ n. keeps_annotation claim n.onset n.text) (map (moved_by ps) notes)
+-- an annotation with this onset and this text counts: by this claim, or, where there is none, in any case
+abbrev pub counts_by : Option Terms → ℤ → List ℕ → Bool
+counts_by None onset text = true
+counts_by (Some claim) onset text = keeps_annotation claim onset text
 
--- a reader goes through the file, and these are the annotations that were gathered
-pub record IsThere (r : Reader) (left : List ℕ) (notes : List NoteValue) (file : List ℕ) (claim : Option Terms) (ps : ℤ) : Type 0 where
+-- which annotations are gathered: those that count, moved
+abbrev pub gathered_of : Option Terms → ℤ → List NoteValue → List NoteValue
+gathered_of claim ps notes = filter (λ n. counts_by claim n.onset n.text) (map (moved_by ps) notes)
+
+abbrev pub claim_of : View → Option Terms
+claim_of view = option_map (λ claim. claim.now) view.claim
+
+-- the annotations of the data record at hand, if there is one, that are gathered
+abbrev pub gathered_in : Option Terms → ℤ → Reader → List NoteValue
+gathered_in claim ps r = if is_current r.status then gathered_of claim ps (moved_notes_in r.head r.current) else []
+
+-- a reader goes through the file
+pub record IsThere (r : Reader) (left file : List ℕ) : Type 0 where
   pub stands : IsOpen r.status → StandsIn r left file
   pub ended : r.status ≡ Ended → (body_fault file r.head ≡ None) × Conforms file r.head × (left ≡ []) × (r.read ≡ (r.head).records)
-  pub gathered : notes ≡ gathered_of claim ps (moved_notes_before file r.head r.read)
 
--- the same, and it stands at t
+-- the same; it stands at t, and these are the annotations that were gathered
 pub record IsAt (r : Reader) (left : List ℕ) (notes : List NoteValue) (file : List ℕ) (claim : Option Terms) (ps t : ℤ) : Type 0 where
   pub shows : Shows r.status r file ps t
-  pub there : IsThere r left notes file claim ps
+  pub there : IsThere r left file
+  pub gathered : notes ≡ gathered_of claim ps (moved_notes_before file r.head r.read)
 
 -- from t to u: whatever file the reader went through, it still does; of each pair the first is before
 pub record Moves (old new : Reader) (honest honest' : Bool) (fails fails' : ℕ) (left left' : List ℕ) (notes notes' : List NoteValue) (claim : Option Terms) (ps t u : ℤ) : Type 0 where

@@ -1,6 +1,7 @@
 //! From which second two files count.
 
 ghost use Rattle.std.specs.Prelude.{◌≡◌, ◌<◌, ◌^◌, neg_ℤ, ◌+ℤ◌, unsigned_abs};
+ghost use Rattle.edf_stream.specs.Starts.{file_start};
 ghost use Rattle.edf_check.specs.Walks.{IsClock};
 
 use crate::offset::Offset;
@@ -29,4 +30,13 @@ impl Clock {
             },
         }
     }
+}
+
+/// Where a file with this header starts, so many picoseconds later.
+pub(crate) fn start_ps_of(header: &Header, by: Offset) -> i128
+    requires { unsigned_abs by.ps < 2 ^ 80 }
+    ensures value { result ≡ file_start header.now +ℤ by.ps }
+    ensures small { unsigned_abs result < 2 ^ 81 }
+{
+    file_start_ps(header) + by.ps
 }

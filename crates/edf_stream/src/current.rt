@@ -40,6 +40,7 @@ impl FileReader {
     pub fn end_ps(&self) -> i128
         requires { IsTrue (is_current self.now.status) }
         ensures value { result ≡ start_in self.now.head self.now.current +ℤ self.now.head.duration }
+        ensures ended { result ≡ self.now.ended }
         ensures small { unsigned_abs result < 2 ^ 72 }
     {
         self.progress.ended_ps

@@ -1,6 +1,6 @@
 //! A reader of a file, data record by data record.
 
-ghost use Rattle.std.specs.Prelude.{◌≡◌, ℕ, ◌+◌, ◌≤◌, ◌+ℤ◌, ◌<ℤ◌, List, length, false, Some, Ok, Err, IfOk, IfErr, OnOk, OnErr, IsTrue};
+ghost use Rattle.std.specs.Prelude.{◌≡◌, ℕ, ◌+◌, ◌≤◌, ◌+ℤ◌, ◌<ℤ◌, ◌<◌, ◌^◌, unsigned_abs, List, length, false, Some, Ok, Err, IfOk, IfErr, OnOk, OnErr, IsTrue};
 ghost use Rattle.edf_fields.specs.Sources.{Rises};
 ghost use Rattle.edf_header.specs.declared.stop.Stop.{Stop};
 ghost use Rattle.edf_header.specs.Faults.{header_fault};
@@ -85,6 +85,7 @@ impl FileReader {
         ensures head { self.new.head ≡ self.old.head }
         ensures room { length self.new.current ≡ record_bytes self.new.head }
         ensures count { IfOk result (λ more. IsTrue more → (self.new.read ≡ self.old.read + 1) × (self.new.read ≤ (self.new.head).records)) }
+        ensures near { unsigned_abs self.new.ended < 2 ^ 71 }
         ensures later { IfOk result (λ more. IsTrue more → (self.old.ended <ℤ self.new.ended) × (self.new.ended ≡ start_in self.new.head self.new.current +ℤ (self.new.head).duration)) }
         ensures failures { OnOk result (S.failures source.new ≡ S.failures source.old) }
         ensures honesty { OnOk result (IsTrue (S.is_honest source.old) → IsTrue (S.is_honest source.new)) }

@@ -1,0 +1,99 @@
+//! The annotations of the data record at hand, as they are compared.
+
+ghost use Rattle.std.specs.Prelude.{◌≡◌, ◌<◌, ◌^◌, ◌*◌, [], ◌∷◌, ◌++◌, ◌+ℤ◌, map, unsigned_abs, true, Option, option_map, IfOk, OnOk, IsTrue};
+ghost use Rattle.edf_stream.specs.Notes.{moved_by, moved_notes_in, notes_in};
+ghost use Rattle.edf_stream.specs.Readers.{is_current};
+ghost use Rattle.edf_stream.specs.Starts.{file_start};
+ghost use Rattle.edf_stream.specs.Views.{note_view, note_value, notes_left};
+ghost use Rattle.edf_check.specs.Windows.{claim_of, counts_by, gathered_of, gathered_in};
+
+use crate::offset::Offset;
+use edf_claim::claim::Claim;
+use edf_stream::annotations::Annotations;
+use edf_stream::grid::file_start_ps;
+use edf_stream::note::NoteRef;
+use edf_stream::notes::Note;
+use edf_stream::reader::FileReader;
+use std::alloc::{AllocError, Global};
+
+/// How a file is looked at: by how much it is moved, and which claim chooses from its annotations; where
+/// there is none, all count.
+#[derive(Clone, Copy)]
+pub struct View<'a> {
+    pub moved: Offset,
+    pub claim: Option<&'a Claim>,
+}
+
+/// Whether an annotation with this onset and this text counts.
+fn counts(claim: Option<&Claim>, onset: i128, text: &str) -> bool
+    ensures { result ≡ counts_by (option_map (λ c. c.now) claim.entry) onset text.now }
+{
+    match claim {
+        Some(claim) => claim.keeps_annotation(onset, text),
+        None => true,
+    }
+}
+
+/// Puts an annotation, so much later, behind `notes`, where it counts.
+fn push_counted(
+    alloc: Global,
+    notes: &mut Vec<Note>,
+    note: NoteRef<'_>,
+    by: Offset,
+    claim: Option<&Claim>,
+) -> Result<(), AllocError>
+    requires near { unsigned_abs by.ps < 2 ^ 81 }
+    ensures { OnOk result (map note_value notes.new.items ≡ map note_value notes.old.items ++ gathered_of (option_map (λ c. c.now) claim.entry) by.ps (note_view note.entry ∷ [])) }
+{
+    let onset = by.ps + note.onset;
+    if counts(claim, onset, note.text) {
+        notes.push(Note {
+            onset,
+            duration: note.duration,
+            text: String::from_str(alloc, note.text)?,
+        })?;
+    }
+    Ok(())
+}
+
+/// Puts those that are left of a data record, so much later, behind `notes`, where they count.
+#[tactic(auto, using(crate::proofs::PassFacts::gathered_append))]
+fn push_all_counted(
+    alloc: Global,
+    notes: &mut Vec<Note>,
+    annotations: Annotations<'_>,
+    by: Offset,
+    claim: Option<&Claim>,
+) -> Result<(), AllocError>
+    requires near { unsigned_abs by.ps < 2 ^ 81 }
+    ensures { OnOk result (map note_value notes.new.items ≡ map note_value notes.old.items ++ gathered_of (option_map (λ c. c.now) claim.entry) by.ps (notes_left annotations.entry)) }
+{
+    for note in annotations {
+        push_counted(alloc, notes, note, by, claim)?;
+    }
+    Ok(())
+}
+
+/// Puts the annotations of the data record at hand, where there is one, behind `notes`, as the view has
+/// them.
+///
+/// The error is want of memory.
+#[tactic(auto, using(crate::proofs::PassFacts::gathered_here, crate::proofs::PassFacts::gathered_nothing))]
+pub(crate) fn gather(
+    alloc: Global,
+    reader: &FileReader,
+    view: View<'_>,
+    notes: &mut Vec<Note>,
+) -> Result<(), AllocError>
+    requires near { unsigned_abs (view.moved).ps < 2 ^ 80 }
+    ensures start { OnOk result (is_current reader.now.status ≡ true → unsigned_abs (file_start reader.now.head) < 2 ^ 39 * 10 ^ 12) }
+    ensures gathered { OnOk result (map note_value notes.new.items ≡ map note_value notes.old.items ++ gathered_in (claim_of view.entry) (view.entry.moved).ps reader.now) }
+{
+    if !reader.has_current() {
+        return Ok(());
+    }
+    let by = Offset {
+        ps: file_start_ps(reader.header()) + view.moved.ps,
+    };
+    push_all_counted(alloc, notes, reader.annotations(), by, view.claim)
+}
