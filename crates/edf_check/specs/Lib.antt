@@ -26,3 +26,5 @@ pub mod Earliest
 pub mod Columns
 pub mod NoteOrder
 pub mod Walks
+pub mod Stretches
+pub mod Windows

@@ -31,6 +31,7 @@ pub mod quote;
 pub mod run;
 mod sample_difference;
 pub mod side;
+mod stretch;
 mod subfields;
 #[cfg(test)]
 mod tests;
