@@ -18,7 +18,7 @@ pub struct PointDifference {
 }
 
 /// The difference of two samples, each the first that is left of its file.
-fn difference_of_heads(x: Point, n: u32, y: Point, m: u32) -> Option<PointDifference>
+pub(crate) fn difference_of_heads(x: Point, n: u32, y: Point, m: u32) -> Option<PointDifference>
     requires x { unsigned_abs x.num < 2 ^ 104 }
     requires y { unsigned_abs y.num < 2 ^ 104 }
     requires some { 0 < n }

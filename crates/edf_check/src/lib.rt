@@ -33,6 +33,7 @@ mod reading;
 pub mod run;
 mod sample_difference;
 pub mod side;
+mod stretch;
 mod subfields;
 #[cfg(test)]
 mod tests;

@@ -1,0 +1,242 @@
+//! Samples of a channel that stand at even distances, as they lie in a lane of a data record. EDF (1992),
+//! "Data record".
+
+ghost use Rattle.std.specs.Prelude.{◌≡◌, ◌<◌, ◌≤◌, ◌+◌, ◌-◌, ◌*◌, ◌^◌, pos, ◌+ℤ◌, ◌-ℤ◌, ◌*ℤ◌, ◌≤ℤ◌, length, take, drop, min, [], IfSome, unsigned_abs};
+ghost use Rattle.edf_stream.specs.Values.{digital_value};
+ghost use Rattle.edf_check.specs.Differences.{first_difference_of};
+ghost use Rattle.edf_check.specs.Instants.{IsModest};
+ghost use Rattle.edf_check.specs.Stretches.{points_in, points_behind, front_count, IsLane, IsPart};
+ghost use Rattle.edf_check.specs.Windows.{whole, since, until};
+
+use crate::difference::{PointDifference, difference_of_heads};
+use crate::point::Point;
+use crate::verdict::SampleMismatch;
+use byteorder::{ByteOrder, LittleEndian};
+use edf_stream::instant::Instant;
+
+/// A time in picoseconds.
+#[derive(Debug, Clone, Copy)]
+pub(crate) struct Time {
+    pub(crate) ps: i128,
+}
+
+/// Samples of a channel at even distances: the first stands at the instant `num / den` picoseconds, each
+/// further one `step / den` picoseconds behind the one before it. Each takes two of the bytes.
+#[derive(Debug, Clone, Copy)]
+pub(crate) struct Stretch<'a> {
+    pub(crate) num: i128,
+    pub(crate) step: i128,
+    pub(crate) den: u32,
+    pub(crate) bytes: &'a [u8],
+}
+
+/// A stretch without samples.
+pub(crate) fn no_samples<'a>(den: u32) -> Stretch<'a>
+    requires some { 0 < den }
+    requires den { den ≤ 2 ^ 23 }
+    ensures part { IsPart result }
+    ensures den { result.den ≡ den }
+    ensures value { points_in result ≡ [] }
+{
+    Stretch {
+        num: 0,
+        step: 1,
+        den,
+        bytes: &[],
+    }
+}
+
+/// How many samples lie in these bytes.
+fn count_in(bytes: &[u8]) -> usize
+    ensures within { 2 * result ≤ length bytes.now }
+    ensures all { length bytes.now ≤ 2 * result + 1 }
+{
+    bytes.len() / 2
+}
+
+/// The digital value of the sample at a place.
+fn value_at(bytes: &[u8], place: usize) -> i16
+    requires { 2 * place + 1 < length bytes.now }
+    ensures { result ≡ digital_value bytes.now place }
+{
+    LittleEndian::read_i16(&bytes[2 * place..])
+}
+
+/// How far so many steps lead.
+fn distance(step: i128, count: usize) -> i128
+    requires step { unsigned_abs step < 2 ^ 68 }
+    requires count { count ≤ 2 ^ 23 }
+    ensures value { result ≡ pos count *ℤ step }
+    ensures small { unsigned_abs result < 2 ^ 92 }
+{
+    count as i128 * step
+}
+
+/// The numerator of the sample at a place.
+fn num_at(num: i128, step: i128, place: usize) -> i128
+    requires num { unsigned_abs num < 2 ^ 104 - 2 ^ 92 }
+    requires step { unsigned_abs step < 2 ^ 68 }
+    requires place { place ≤ 2 ^ 23 }
+    ensures value { result ≡ num +ℤ pos place *ℤ step }
+    ensures small { unsigned_abs result < unsigned_abs num + 2 ^ 92 }
+{
+    num + distance(step, place)
+}
+
+/// The instant of the sample at a place.
+fn instant_at(stretch: Stretch, place: usize) -> Instant
+    requires stretch { IsPart stretch }
+    requires place { place ≤ 2 ^ 23 }
+    ensures value { result ≡ record { num = stretch.entry.num +ℤ pos place *ℤ stretch.entry.step; den = stretch.entry.den } }
+    ensures modest { IsModest result }
+{
+    Instant {
+        num: num_at(stretch.num, stretch.step, place),
+        den: stretch.den,
+    }
+}
+
+/// The sample at a place.
+fn point_at(stretch: Stretch, place: usize) -> Point
+    requires stretch { IsPart stretch }
+    requires place { 2 * place + 1 < length stretch.bytes.now }
+    ensures value { result ≡ record { num = stretch.entry.num +ℤ pos place *ℤ stretch.entry.step; value = digital_value stretch.entry.bytes.now place } }
+    ensures small { unsigned_abs result.num < 2 ^ 104 }
+{
+    Point {
+        num: instant_at(stretch, place).num,
+        value: value_at(stretch.bytes, place),
+    }
+}
+
+/// The difference of what lies behind the first samples of two stretches, at least one of which has no
+/// more.
+#[tactic(auto, using(crate::proofs::StretchFacts::behind_missing, crate::proofs::StretchFacts::behind_extra, crate::proofs::StretchFacts::behind_none))]
+fn difference_behind(
+    x: Stretch,
+    y: Stretch,
+    x_count: usize,
+    y_count: usize,
+) -> Option<PointDifference>
+    requires x { IsPart x }
+    requires y { IsPart y }
+    requires x_within { 2 * x_count ≤ length x.bytes.now }
+    requires x_all { length x.bytes.now ≤ 2 * x_count + 1 }
+    requires y_within { 2 * y_count ≤ length y.bytes.now }
+    requires y_all { length y.bytes.now ≤ 2 * y_count + 1 }
+    ensures value { result ≡ first_difference_of x.entry.den (points_behind x.entry (min x_count y_count)) y.entry.den (points_behind y.entry (min x_count y_count)) }
+    ensures modest { IfSome result (λ d. IsModest d.at) }
+{
+    if x_count > y_count {
+        return Some(PointDifference {
+            at: instant_at(x, y_count),
+            mismatch: SampleMismatch::Missing,
+        });
+    }
+    if x_count < y_count {
+        return Some(PointDifference {
+            at: instant_at(y, x_count),
+            mismatch: SampleMismatch::Extra,
+        });
+    }
+    None
+}
+
+/// The first difference of two stretches of one channel, read from the left.
+#[tactic(auto, using(crate::proofs::StretchFacts::behind_step, crate::proofs::StretchFacts::behind_zero))]
+pub(crate) fn stretch_difference(x: Stretch, y: Stretch) -> Option<PointDifference>
+    requires x { IsPart x }
+    requires y { IsPart y }
+    ensures value { result ≡ first_difference_of x.entry.den (points_in x.entry) y.entry.den (points_in y.entry) }
+    ensures modest { IfSome result (λ d. IsModest d.at) }
+{
+    let x_count = count_in(x.bytes);
+    let y_count = count_in(y.bytes);
+    for i in 0..x_count.min(y_count) {
+        let found = difference_of_heads(point_at(x, i), x.den, point_at(y, i), y.den);
+        if found.is_some() {
+            return found;
+        }
+    }
+    difference_behind(x, y, x_count, y_count)
+}
+
+/// How far a time lies behind the first sample, times the denominator.
+fn gap_before(stretch: Stretch, time: Time) -> i128
+    requires stretch { IsLane stretch }
+    requires time { unsigned_abs time.ps < 2 ^ 100 }
+    ensures value { result ≡ time.ps *ℤ pos stretch.entry.den -ℤ stretch.entry.num }
+    ensures small { unsigned_abs result < 2 ^ 124 }
+{
+    scaled_time(time, stretch.den) - stretch.num
+}
+
+/// A time in units of 1 / `den` picoseconds.
+fn scaled_time(time: Time, den: u32) -> i128
+    requires time { unsigned_abs time.ps < 2 ^ 100 }
+    requires den { den ≤ 2 ^ 23 }
+    ensures value { result ≡ time.ps *ℤ pos den }
+    ensures small { unsigned_abs result < 2 ^ 123 + 1 }
+{
+    time.ps * i128::from(den)
+}
+
+/// How many whole steps, from none on, are shorter than a gap.
+fn steps_below(gap: u128, step: u128) -> u128
+    requires gap { 0 < gap }
+    requires step { 0 < step }
+    ensures last { (0 < result) × ((result - 1) * step < gap) }
+    ensures next { gap ≤ result * step }
+{
+    (gap - 1) / step + 1
+}
+
+/// How many samples stand before a time.
+fn count_before(stretch: Stretch, time: Time) -> usize
+    requires stretch { IsLane stretch }
+    requires time { unsigned_abs time.ps < 2 ^ 100 }
+    ensures value { result ≡ front_count stretch.entry.den (points_in stretch.entry) (whole time.ps) }
+    ensures within { 2 * result ≤ length stretch.entry.bytes.now }
+{
+    let gap = gap_before(stretch, time);
+    if gap <= 0 {
+        return 0;
+    }
+    let count = count_in(stretch.bytes);
+    if distance(stretch.step, count) <= gap {
+        return count;
+    }
+    steps_below(gap.unsigned_abs(), stretch.step.unsigned_abs()) as usize
+}
+
+/// The samples between two places.
+fn part_of<'a>(stretch: Stretch<'a>, begin: usize, end: usize) -> Stretch<'a>
+    requires stretch { IsLane stretch }
+    requires order { begin ≤ end }
+    requires within { 2 * end ≤ length stretch.bytes.now }
+    ensures part { IsPart result }
+    ensures den { result.den ≡ stretch.entry.den }
+    ensures value { points_in result ≡ take (end - begin) (drop begin (points_in stretch.entry)) }
+{
+    Stretch {
+        num: num_at(stretch.num, stretch.step, begin),
+        step: stretch.step,
+        den: stretch.den,
+        bytes: &stretch.bytes[2 * begin..2 * end],
+    }
+}
+
+/// The samples that stand at a time or later, and before another.
+pub(crate) fn between<'a>(stretch: Stretch<'a>, from: Time, to: Time) -> Stretch<'a>
+    requires stretch { IsLane stretch }
+    requires from { unsigned_abs from.ps < 2 ^ 100 }
+    requires to { unsigned_abs to.ps < 2 ^ 100 }
+    requires order { from.ps ≤ℤ to.ps }
+    ensures part { IsPart result }
+    ensures den { result.den ≡ stretch.entry.den }
+    ensures value { points_in result ≡ until stretch.entry.den to.ps (since stretch.entry.den from.ps (points_in stretch.entry)) }
+{
+    let begin = count_before(stretch, from);
+    let end = count_before(stretch, to);
+    part_of(stretch, begin, end.max(begin))
+}
