@@ -23,3 +23,4 @@ pub mod NoteOrderFacts
 pub mod WalkFacts
 pub mod RunFacts
 pub mod ProductFacts
+pub mod FilterFacts
