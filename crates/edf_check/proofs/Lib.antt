@@ -24,3 +24,4 @@ pub mod WalkFacts
 pub mod RunFacts
 pub mod ProductFacts
 pub mod FilterFacts
+pub mod CutFacts
