@@ -5,6 +5,8 @@ pub mod HeadFacts
 pub mod LabelFacts
 pub mod ListFacts
 pub mod SubfieldFacts
+pub mod TrackFacts
+pub mod SplitFacts
 pub mod FractionFacts
 pub mod FloorFacts
 pub mod CourseFacts

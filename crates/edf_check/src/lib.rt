@@ -42,4 +42,5 @@ mod time;
 mod track;
 mod unequal;
 pub mod verdict;
+mod window;
 mod walk;
