@@ -24,3 +24,5 @@ pub mod WalkFacts
 pub mod RunFacts
 pub mod ProductFacts
 pub mod StretchFacts
+pub mod FilterFacts
+pub mod CutFacts
