@@ -162,12 +162,6 @@ all-count n s a t (x ∷ y ∷ rest) p le =
 step-is : (d : ℤ) → pos 0 <ℤ d → d ≡ pos (unsigned_abs d)
 step-is d p = omega (arith, ints)
 
-pub count-none : (n : ℕ) (a d t gap : ℤ) (bytes : List ℕ) → pos 0 <ℤ d → gap ≡ t *ℤ pos n -ℤ a → gap ≤ℤ pos 0 → front_count n (stretch_points a d bytes) (whole t) ≡ 0
-count-none n a d t gap bytes p e l =
-    let s = unsigned_abs d in
-    ap (λ z. front_count n (stretch_points a z bytes) (whole t)) (step-is d p)
-    ∙ steps-count 0 n s a t bytes (λ q. absurd (omega (arith, q))) (omega (arith, ints)) ∙ omega arith
-
 pub count-all : (n c : ℕ) (a d t gap : ℤ) (bytes : List ℕ) → pos 0 <ℤ d → gap ≡ t *ℤ pos n -ℤ a → (pos c *ℤ d) ≤ℤ gap → 2 * c ≤ length bytes → length bytes ≤ 2 * c + 1
     → front_count n (stretch_points a d bytes) (whole t) ≡ c
 count-all n c a d t gap bytes p e l within all =
