@@ -1,6 +1,7 @@
 -- Samples at even distances: those behind a place, a part of them, and how many stand before a time.
 use Rattle.std.proofs.Common.{min, ◌≡◌, ℕ, zero, suc, ◌+◌, ◌-◌, ◌*◌, ◌<◌, ◌≤◌, ℤ, pos, ◌+ℤ◌, ◌-ℤ◌, ◌*ℤ◌, ◌<ℤ◌, ◌≤ℤ◌, unsigned_abs, List, [], ◌∷◌, length, slice_index, drop, take, Some, None, true, false, inl, inr, refl, sym, ap, ◌∙◌, subst, arith}
 use Rattle.std.proofs.lemmas.Int.{ints}
+use Rattle.std.proofs.Math.Nat.{lt_of_mul-lt-mul_right}
 use Rattle.edf_fields.specs.Lists.{Has}
 use Rattle.edf_stream.specs.Values.{digital, digital_value}
 use Rattle.edf_check.specs.declared.point.Point.{Point}
@@ -118,3 +119,80 @@ pub points-ascending : (a d : ℤ) (bytes : List ℕ) → pos 0 <ℤ d → IsAsc
 points-ascending a d [] p = tt
 points-ascending a d (byte ∷ []) p = tt
 points-ascending a d (low ∷ high ∷ rest) p = (all-above (a +ℤ d) d rest a p (omega (arith, ints)), points-ascending (a +ℤ d) d rest p)
+
+-- ---- how many stand before a time
+
+pub points-length : (c : ℕ) (a d : ℤ) (bytes : List ℕ) → 2 * c ≤ length bytes → length bytes ≤ 2 * c + 1 → length (stretch_points a d bytes) ≡ c
+points-length zero a d [] le ge = refl
+points-length zero a d (byte ∷ []) le ge = refl
+points-length zero a d (low ∷ high ∷ rest) le ge = absurd (omega (arith, ge))
+points-length (suc c) a d [] le ge = absurd (omega (arith, le))
+points-length (suc c) a d (byte ∷ []) le ge = absurd (omega (arith, le))
+points-length (suc c) a d (low ∷ high ∷ rest) le ge = ap suc (points-length c (a +ℤ d) d rest (omega (arith, le)) (omega (arith, ge)))
+
+-- where the steps up to a place, and no further, stay below a time
+steps-count : (q n s : ℕ) (a t : ℤ) (bytes : List ℕ) → (0 < q → (a +ℤ pos ((q - 1) * s)) <ℤ (t *ℤ pos n)) → (t *ℤ pos n) ≤ℤ (a +ℤ pos (q * s))
+    → front_count n (stretch_points a (pos s) bytes) (whole t) ≡ min q (length (stretch_points a (pos s) bytes))
+steps-count q n s a t [] low high = omega arith
+steps-count q n s a t (byte ∷ []) low high = omega arith
+steps-count zero n s a t (x ∷ y ∷ rest) low high =
+    let e : is_before (record { num = a; den = n }) (whole t) ≡ false = false-is_before (record { num = a; den = n }) (whole t) (omega (arith, ints)) in
+    rw e (omega arith)
+steps-count (suc q) n s a t (x ∷ y ∷ rest) low high =
+    let first : (a +ℤ pos (q * s)) <ℤ (t *ℤ pos n) = (let z : suc q - 1 ≡ q = omega arith in let P : ℕ → Type 0 = λ k. (a +ℤ pos (k * s)) <ℤ (t *ℤ pos n) in subst P z (low (omega arith))) in
+    let e : is_before (record { num = a; den = n }) (whole t) ≡ true = true-is_before (record { num = a; den = n }) (whole t) (omega (arith, ints)) in
+    let more : suc q * s ≡ s + q * s = omega arith in
+    let r : front_count n (stretch_points (a +ℤ pos s) (pos s) rest) (whole t) ≡ min q (length (stretch_points (a +ℤ pos s) (pos s) rest)) =
+    steps-count q n s (a +ℤ pos s) t rest
+    (λ p. let f : s + (q - 1) * s ≡ q * s = (let g : suc (q - 1) ≡ q = omega arith in let h : suc (q - 1) * s ≡ s + (q - 1) * s = omega arith in sym h ∙ ap (λ k. k * s) g) in omega (arith, ints))
+    (omega (arith, ints)) in
+    rw e (omega (arith, r))
+
+-- where all the steps stay below a time
+all-count : (n s : ℕ) (a t : ℤ) (bytes : List ℕ) → 0 < s → (a +ℤ pos (length (stretch_points a (pos s) bytes) * s)) ≤ℤ (t *ℤ pos n)
+    → front_count n (stretch_points a (pos s) bytes) (whole t) ≡ length (stretch_points a (pos s) bytes)
+all-count n s a t [] p le = refl
+all-count n s a t (byte ∷ []) p le = refl
+all-count n s a t (x ∷ y ∷ rest) p le =
+    let k = length (stretch_points (a +ℤ pos s) (pos s) rest) in
+    let more : suc k * s ≡ s + k * s = omega arith in
+    let e : is_before (record { num = a; den = n }) (whole t) ≡ true = true-is_before (record { num = a; den = n }) (whole t) (omega (arith, ints)) in
+    rw e (ap suc (all-count n s (a +ℤ pos s) t rest p (omega (arith, ints))))
+
+step-is : (d : ℤ) → pos 0 <ℤ d → d ≡ pos (unsigned_abs d)
+step-is d p = omega (arith, ints)
+
+pub count-all : (n c : ℕ) (a d t gap : ℤ) (bytes : List ℕ) → pos 0 <ℤ d → gap ≡ t *ℤ pos n -ℤ a → (pos c *ℤ d) ≤ℤ gap → 2 * c ≤ length bytes → length bytes ≤ 2 * c + 1
+    → front_count n (stretch_points a d bytes) (whole t) ≡ c
+count-all n c a d t gap bytes p e l within all =
+    let s = unsigned_abs d in
+    let f : d ≡ pos s = step-is d p in
+    let size : length (stretch_points a (pos s) bytes) ≡ c = points-length c a (pos s) bytes within all in
+    let product : pos c *ℤ pos s ≡ pos (c * s) = omega (arith, ints) in
+    let reach : pos (c * s) ≤ℤ gap = (let P : ℤ → Type 0 = λ z. (pos c *ℤ z) ≤ℤ gap in let Q : ℤ → Type 0 = λ z. z ≤ℤ gap in subst Q product (subst P f l)) in
+    let P : ℕ → Type 0 = λ k. (a +ℤ pos (k * s)) ≤ℤ (t *ℤ pos n) in
+    ap (λ z. front_count n (stretch_points a z bytes) (whole t)) f
+    ∙ all-count n s a t bytes (omega (arith, ints)) (subst P (sym size) (omega (arith, ints))) ∙ size
+
+pub count-some : (n c q : ℕ) (a d t gap : ℤ) (bytes : List ℕ) → pos 0 <ℤ d → gap ≡ t *ℤ pos n -ℤ a → pos 0 <ℤ gap → q ≤ c
+    → (0 < q) × ((q - 1) * unsigned_abs d < unsigned_abs gap) → unsigned_abs gap ≤ q * unsigned_abs d → 2 * c ≤ length bytes → length bytes ≤ 2 * c + 1
+    → front_count n (stretch_points a d bytes) (whole t) ≡ q
+count-some n c q a d t gap bytes p e g le low high within all =
+    let s = unsigned_abs d in
+    let l = low.1 in
+    let k : gap ≡ pos (unsigned_abs gap) = omega (arith, ints) in
+    let size : length (stretch_points a (pos s) bytes) ≡ c = points-length c a (pos s) bytes within all in
+    ap (λ z. front_count n (stretch_points a z bytes) (whole t)) (step-is d p)
+    ∙ steps-count q n s a t bytes (λ r. omega (arith, ints)) (omega (arith, ints)) ∙ ap (min q) size ∙ omega (arith, le)
+
+-- where the steps to the last place reach a gap, no more of them stay below it than there are places
+pub steps-within : (c q : ℕ) (d gap : ℤ) → pos 0 <ℤ d → pos 0 <ℤ gap → (0 < q) × ((q - 1) * unsigned_abs d < unsigned_abs gap) → gap <ℤ (pos c *ℤ d) → q ≤ c
+steps-within c q d gap p g low reach =
+    let s = unsigned_abs d in
+    let l = low.1 in
+    let first = low.0 in
+    let product : pos c *ℤ pos s ≡ pos (c * s) = omega (arith, ints) in
+    let far : gap <ℤ pos (c * s) = (let P : ℤ → Type 0 = λ z. gap <ℤ (pos c *ℤ z) in let Q : ℤ → Type 0 = λ z. gap <ℤ z in subst Q product (subst P (step-is d p) reach)) in
+    let h : (q - 1) * s < c * s = omega (arith, ints) in
+    let k : q - 1 < c = lt_of_mul-lt-mul_right s h in
+    omega (arith, first, k)
