@@ -10,15 +10,10 @@ ghost use Rattle.edf_check.specs.Windows.{whole, since, until};
 
 use crate::difference::{PointDifference, difference_of_heads};
 use crate::point::Point;
+use crate::time::Time;
 use crate::verdict::SampleMismatch;
 use byteorder::{ByteOrder, LittleEndian};
 use edf_stream::instant::Instant;
-
-/// A time in picoseconds.
-#[derive(Debug, Clone, Copy)]
-pub(crate) struct Time {
-    pub(crate) ps: i128,
-}
 
 /// Samples of a channel at even distances: the first stands at the instant `num / den` picoseconds, each
 /// further one `step / den` picoseconds behind the one before it. Each takes two of the bytes.
