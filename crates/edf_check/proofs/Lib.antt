@@ -25,3 +25,4 @@ pub mod RunFacts
 pub mod ProductFacts
 pub mod FilterFacts
 pub mod CutFacts
+pub mod RecordFacts
