@@ -29,3 +29,4 @@ pub mod ProductFacts
 pub mod StretchFacts
 pub mod FilterFacts
 pub mod CutFacts
+pub mod RecordFacts

@@ -161,7 +161,7 @@ filter-case false xs ys P f g = g refl
 moved-below : (a b ps : ℤ) (n m : ℕ) → n ≡ m → a <ℤ b → (a +ℤ (pos n *ℤ ps)) <ℤ (b +ℤ (pos m *ℤ ps))
 moved-below a b ps n m e lt = let p : pos n *ℤ ps ≡ pos m *ℤ ps = ap (λ k. pos k *ℤ ps) e in omega (arith, ints, p, lt)
 
-ascending : (test : Sample → Bool) (ps : ℤ) (c n : ℕ) (xs : List Sample) → AreRising xs → ((x : Sample) → Has xs x → test x ≡ true → (x.channel ≡ c) × ((x.instant).den ≡ n)) → IsAscending (points_of test ps xs)
+pub ascending : (test : Sample → Bool) (ps : ℤ) (c n : ℕ) (xs : List Sample) → AreRising xs → ((x : Sample) → Has xs x → test x ≡ true → (x.channel ≡ c) × ((x.instant).den ≡ n)) → IsAscending (points_of test ps xs)
 ascending test ps c n [] up of = tt
 ascending test ps c n (x ∷ xs) up of =
     let rest = ascending test ps c n xs up.1 (λ y h. of y (inr h)) in
