@@ -6,6 +6,7 @@ pub mod LabelFacts
 pub mod ListFacts
 pub mod SubfieldFacts
 pub mod TrackFacts
+pub mod ShownFacts
 pub mod SplitFacts
 pub mod FractionFacts
 pub mod FloorFacts
