@@ -1,5 +1,5 @@
 -- What a reader shows between two times.
-use Rattle.std.proofs.Common.{◌≡◌, ℕ, ◌<◌, ℤ, ◌*ℤ◌, ◌+ℤ◌, ◌≤ℤ◌, ◌<ℤ◌, pos, Bool, true, false, not, List, [], ◌∷◌, filter, refl, sym, ap, ◌∙◌, arith, subst}
+use Rattle.std.proofs.Common.{◌≡◌, ℕ, ◌<◌, ℤ, ◌*ℤ◌, ◌+ℤ◌, ◌≤ℤ◌, ◌<ℤ◌, pos, Bool, true, false, not, List, [], ◌∷◌, Option, Some, option_map, map, drop, filter, refl, sym, ap, ◌∙◌, arith, subst}
 use Rattle.std.proofs.lemmas.Int.{ints}
 use Rattle.edf_claim.specs.Claims.{Terms}
 use Rattle.edf_claim.specs.Keeps.{IsUncut, keeps_instant}
@@ -12,10 +12,16 @@ use Rattle.edf_stream.specs.Conforming.{Conforms}
 use Rattle.edf_stream.specs.Readers.{Reader, is_current}
 use Rattle.edf_stream.specs.Starts.{end_at}
 use Rattle.edf_check.specs.declared.channel_place.ChannelPlace.{ChannelPlace}
+use Rattle.edf_check.specs.declared.earliest.Found.{Found}
 use Rattle.edf_check.specs.declared.point.Point.{Point}
-use Rattle.edf_check.specs.Differences.{instant}
+use Rattle.edf_check.specs.declared.difference.PointDifference.{PointDifference}
+use Rattle.edf_check.specs.declared.track.Pair.{Pair}
+use Rattle.edf_check.specs.declared.track.Track.{Track}
+use Rattle.edf_check.specs.Columns.{Sampled}
+use Rattle.edf_check.specs.Earliest.{earliest}
+use Rattle.edf_check.specs.Differences.{instant, first_difference_of}
 use Rattle.edf_check.specs.Instants.{is_before}
-use Rattle.edf_check.specs.Windows.{whole, since, until, sampled, points_at, kept_at, IsPlaceIn, shown_points, Shows, ends_at, end_by, Covers}
+use Rattle.edf_check.specs.Windows.{whole, since, until, sampled, points_at, kept_at, Places, places_of, window_of, window_difference, IsPlaceIn, shown_points, Shows, ends_at, end_by, Covers}
 use Rattle.edf_check.proofs.CutFacts.{until-before, since-from}
 use Rattle.edf_check.proofs.FilterFacts.{filter_all, filter_none, filters_swap}
 use Rattle.edf_check.proofs.RecordFacts.{points-are-kept, window-is, nothing-left}
@@ -75,3 +81,28 @@ kept_none claim file r place ps t u c p o e =
     let xs = points_at (sampled file r.head ps) place in
     ap (λ ys. until n u (since n t ys)) (points-are-kept claim file r.head place ps c p) ∙ kept-first claim n t u xs
     ∙ filter_none (λ x. keeps_instant claim x.num n) (until n u (since n t xs)) (λ x h. alike claim n t u xs x o h ∙ e)
+
+-- ---- the channels of all pairs
+
+map-twice : {A B C : Type 0} (f : B → C) (g : A → B) (xs : List A) → map (λ x. f (g x)) xs ≡ map f (map g xs)
+map-twice f g [] = refl
+map-twice f g (x ∷ xs) = ap (λ ys. f (g x) ∷ ys) (map-twice f g xs)
+
+pub windows_are : (claim : Terms) (o e : Sampled) (t u : ℤ) (pairs : List Pair) (i : ℕ) (held : Option Found) → i ≡ 0
+    → held ≡ earliest i (map (λ p. window_of claim o e t u (places_of p).0 (places_of p).1) (drop i pairs)) → held ≡ window_difference claim o e (map places_of pairs) t u
+unfolding window_difference
+windows_are claim o e t u pairs i held z h =
+    h ∙ ap (λ j. earliest j (map (λ p. window_of claim o e t u (places_of p).0 (places_of p).1) (drop j pairs))) z
+    ∙ ap (earliest 0) (map-twice (λ (p : Places). window_of claim o e t u p.0 p.1) places_of pairs)
+
+-- the difference of the channels of a pair that has both
+pub pair_window : (claim : Terms) (o e : Sampled) (t u : ℤ) (pair : Pair) (here there : Track) (n m : ℕ) (xs ys : List Point) (d : Option PointDifference) → pair.original ≡ Some here → pair.export ≡ Some there
+    → n ≡ here.place.samples → m ≡ there.place.samples
+    → xs ≡ until here.place.samples u (since here.place.samples t (kept_at claim o here.place)) → ys ≡ until there.place.samples u (since there.place.samples t (points_at e there.place))
+    → d ≡ first_difference_of n xs m ys → d ≡ window_of claim o e t u (places_of pair).0 (places_of pair).1
+pair_window claim o e t u pair here there n m xs ys d eo ee en em ex ey found =
+    found ∙ ap (λ k. first_difference_of k xs m ys) en ∙ ap (λ k. first_difference_of here.place.samples xs k ys) em
+    ∙ ap (λ zs. first_difference_of here.place.samples zs there.place.samples ys) ex
+    ∙ ap (λ zs. first_difference_of here.place.samples (until here.place.samples u (since here.place.samples t (kept_at claim o here.place))) there.place.samples zs) ey
+    ∙ ap (λ x. window_of claim o e t u (option_map (λ (track : Track). track.place) x) (Some there.place)) (sym eo)
+    ∙ ap (λ y. window_of claim o e t u (places_of pair).0 (option_map (λ (track : Track). track.place) y)) (sym ee)

@@ -1,7 +1,7 @@
 //! What two files show between two times.
 
 ghost use Rattle.std.specs.Prelude.{◌≡◌, ◌<◌, ◌≤◌, ◌+ℤ◌, ◌*ℤ◌, ◌^◌, ◌*◌, ℕ, pos, ◌≤ℤ◌, List, map, length, IsTrue, Some, IfSome, unsigned_abs};
-ghost use Rattle.edf_claim.specs.Keeps.{IsUncut};
+ghost use Rattle.edf_claim.specs.Keeps.{IsUncut, keeps_instant};
 ghost use Rattle.edf_stream.specs.Readers.{is_current};
 ghost use Rattle.edf_stream.specs.Records.{lane_of};
 ghost use Rattle.edf_stream.specs.Starts.{file_start, start_in};
@@ -107,6 +107,13 @@ fn window<'a>(reader: &'a FileReader, track: Track, moved: Offset, from: Time, t
     }
 }
 
+/// Whether a claim keeps what stands at a time.
+fn keeps_at(claim: &Claim, time: Time) -> bool
+    ensures { result ≡ keeps_instant claim.now time.ps 1 }
+{
+    claim.keeps_instant(time.ps, 1)
+}
+
 /// Those of them that a claim keeps, where it keeps all or none between the two times.
 fn kept_window<'a>(
     reader: &'a FileReader,
@@ -126,7 +133,7 @@ fn kept_window<'a>(
     ensures den { result.den ≡ track.place.samples }
     ensures value { (file : List ℕ) → Covers reader.now file moved.ps from.ps to.ps → points_in result ≡ until track.place.samples to.ps (since track.place.samples from.ps (kept_at claim.now (sampled file reader.now.head moved.ps) track.place)) }
 {
-    if claim.keeps_instant(from.ps, 1) {
+    if keeps_at(claim, from) {
         window(reader, track, moved, from, to)
     } else {
         no_samples(track.place.samples)
@@ -156,12 +163,14 @@ fn pair_difference(
         result ≡ window_of claim.now (sampled o original.now.head (clock.original).ps) (sampled e export.now.head (clock.export).ps) from.ps to.ps (places_of pair).0 (places_of pair).1 }
     ensures modest { IfSome result (λ d. IsModest d.at) }
 {
-    let here = pair.original?;
-    let there = pair.export?;
-    stretch_difference(
-        kept_window(original, here, clock.original, claim, from, to),
-        window(export, there, clock.export, from, to),
-    )
+    match (pair.original, pair.export) {
+        (Some(here), Some(there)) => stretch_difference(
+            kept_window(original, here, clock.original, claim, from, to),
+            window(export, there, clock.export, from, to),
+        ),
+        (Some(_), None) => None,
+        (None, _) => None,
+    }
 }
 
 /// The earliest difference of the channels between two times.

@@ -4,6 +4,7 @@ use Rattle.edf_check.specs.declared.track.Pair.{Pair}
 use Rattle.edf_check.specs.Earliest.{earliest}
 use Rattle.edf_check.specs.Windows.{sampled, window_of, places_of}
 use Rattle.edf_check.proofs.EarliestFacts.{earliest-step}
+use Rattle.edf_check.proofs.ShownFacts.{windows_are}
 use Rattle.edf_check.proofs.window.window_difference.Goals as goal
 
 pub loop-i-preserved : goal.loop-i-preserved
@@ -20,3 +21,9 @@ loop-i-preserved c =
           next lt (c.pair_difference-next.ensures.value o e ho he) c.found_in.ensures.value c.earlier-held.ensures.value (inv.value o e ho he);
       modest = c.earlier-held.ensures.modest;
     }
+
+pub returns-clause-value : goal.returns-clause-value
+returns-clause-value c = λ o e ho he.
+    let z : c.loop-i.i ≡ 0 = omega (arith, c.loop-i-test.false) in
+    windows_are c.args.claim.now (sampled o c.args.original.now.head (c.args.clock.original).ps) (sampled e c.args.export.now.head (c.args.clock.export).ps) c.args.from.ps c.args.to.ps c.args.pairs.now c.loop-i.i c.loop-i.held z
+    (c.loop-i.invariant.value o e ho he)
