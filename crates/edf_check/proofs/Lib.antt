@@ -7,6 +7,7 @@ pub mod ListFacts
 pub mod SubfieldFacts
 pub mod TrackFacts
 pub mod ShownFacts
+pub mod LockstepFacts
 pub mod SplitFacts
 pub mod FractionFacts
 pub mod FloorFacts

@@ -1,5 +1,5 @@
 -- What a reader shows between two times.
-use Rattle.std.proofs.Common.{◌≡◌, ℕ, ◌<◌, ℤ, ◌*ℤ◌, ◌+ℤ◌, ◌≤ℤ◌, ◌<ℤ◌, pos, Bool, true, false, not, List, [], ◌∷◌, Option, Some, option_map, map, drop, filter, refl, sym, ap, ◌∙◌, arith, subst}
+use Rattle.std.proofs.Common.{◌≡◌, ℕ, ◌<◌, ℤ, ◌*ℤ◌, ◌+ℤ◌, ◌≤ℤ◌, ◌<ℤ◌, pos, Bool, true, false, not, List, [], ◌∷◌, Option, Some, None, IfSome, option_map, map, drop, filter, refl, sym, ap, ◌∙◌, arith, subst}
 use Rattle.std.proofs.lemmas.Int.{ints}
 use Rattle.edf_claim.specs.Claims.{Terms}
 use Rattle.edf_claim.specs.Keeps.{IsUncut, keeps_instant}
@@ -18,12 +18,13 @@ use Rattle.edf_check.specs.declared.difference.PointDifference.{PointDifference}
 use Rattle.edf_check.specs.declared.track.Pair.{Pair}
 use Rattle.edf_check.specs.declared.track.Track.{Track}
 use Rattle.edf_check.specs.Columns.{Sampled}
-use Rattle.edf_check.specs.Earliest.{earliest}
+use Rattle.edf_check.specs.Earliest.{found, earlier, earliest}
 use Rattle.edf_check.specs.Differences.{instant, first_difference_of}
-use Rattle.edf_check.specs.Instants.{is_before}
+use Rattle.edf_check.specs.Instants.{IsModest, is_before}
 use Rattle.edf_check.specs.Windows.{whole, since, until, sampled, points_at, kept_at, Places, places_of, window_of, window_difference, IsPlaceIn, shown_points, Shows, ends_at, end_by, Covers}
 use Rattle.edf_check.proofs.CutFacts.{until-before, since-from}
 use Rattle.edf_check.proofs.FilterFacts.{filter_all, filter_none, filters_swap}
+use Rattle.edf_check.proofs.SplitFacts.{earlier_both, mapped}
 use Rattle.edf_check.proofs.RecordFacts.{points-are-kept, window-is, nothing-left}
 
 shows_current : (s : Status) (r : Reader) (file : List ℕ) (place : ChannelPlace) (ps t u : ℤ) → Conforms file r.head → (p : IsPlaceIn r.head place) → Shows s r file ps t → u ≤ℤ ends_at r ps → is_current s ≡ true
@@ -106,3 +107,20 @@ pair_window claim o e t u pair here there n m xs ys d eo ee en em ex ey found =
     ∙ ap (λ zs. first_difference_of here.place.samples (until here.place.samples u (since here.place.samples t (kept_at claim o here.place))) there.place.samples zs) ey
     ∙ ap (λ x. window_of claim o e t u (option_map (λ (track : Track). track.place) x) (Some there.place)) (sym eo)
     ∙ ap (λ y. window_of claim o e t u (places_of pair).0 (option_map (λ (track : Track). track.place) y)) (sym ee)
+
+-- the place of a difference is that of one of the channels
+pub channel_more : (k count : ℕ) (next : Option PointDifference) (here held result : Option Found) → k < count → here ≡ option_map (found k) next → result ≡ earlier here held
+    → IfSome held (λ f. f.channel < count) → IfSome result (λ f. f.channel < count)
+channel_more k count next here held result lt eh er within =
+    let P : Found → Type 0 = λ f. f.channel < count in
+    let Q : Option Found → Type 0 = λ o. IfSome o P in
+    let mine : IfSome here P = subst Q (sym eh) (mapped P k next (each next)) in
+    subst Q (sym er) (earlier_both P here held mine within)
+  where
+    each : (o : Option PointDifference) → IfSome o (λ d. k < count)
+    each None = tt
+    each (Some d) = lt
+
+pub both_some : (count : ℕ) (o : Option Found) → IfSome o (λ f. IsModest f.difference.at) → IfSome o (λ f. f.channel < count) → IfSome o (λ f. IsModest f.difference.at × (f.channel < count))
+both_some count None m c = tt
+both_some count (Some f) m c = (m, c)

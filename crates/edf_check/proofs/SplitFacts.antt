@@ -1,5 +1,5 @@
 -- The earliest difference from a time on is that before a later time, or else that from there on.
-use Rattle.std.proofs.Common.{◌≡◌, ℕ, ◌+◌, ◌<◌, ℤ, ◌≤ℤ◌, Bool, true, false, not, cond, List, [], ◌∷◌, ◌++◌, map, filter, Option, Some, None, option_map, IfSome, refl, sym, ap, ◌∙◌, arith, lit<, subst}
+use Rattle.std.proofs.Common.{◌≡◌, ℕ, ◌+◌, ◌<◌, ℤ, ◌+ℤ◌, ◌≤ℤ◌, Bool, true, false, not, cond, List, [], ◌∷◌, ◌++◌, map, filter, Option, Some, None, option_map, IfSome, refl, sym, ap, ◌∙◌, arith, lit<, subst}
 use Rattle.std.specs.Option.{option_or}
 use Rattle.edf_claim.specs.Claims.{Terms}
 use Rattle.edf_claim.specs.Keeps.{keeps_instant}
@@ -42,12 +42,12 @@ chosen P true a b h i = i
 chosen P false a b h i = h
 
 -- `earlier` keeps what holds of both
-earlier_both : (P : Found → Type 0) (a b : Option Found) → IfSome a P → IfSome b P → IfSome (earlier a b) P
+pub earlier_both : (P : Found → Type 0) (a b : Option Found) → IfSome a P → IfSome b P → IfSome (earlier a b) P
 earlier_both P None b h i = i
 earlier_both P (Some a) None h i = h
 earlier_both P (Some a) (Some b) h i = chosen P (is_before b.difference.at a.difference.at) a b h i
 
-mapped : (P : Found → Type 0) (k : ℕ) (o : Option PointDifference) → IfSome o (λ d. P (found k d)) → IfSome (option_map (found k) o) P
+pub mapped : (P : Found → Type 0) (k : ℕ) (o : Option PointDifference) → IfSome o (λ d. P (found k d)) → IfSome (option_map (found k) o) P
 mapped P k None h = h
 mapped P k (Some d) h = h
 
@@ -166,7 +166,7 @@ all_splits claim o e ps t u sound l =
     ∙ ap (λ ds. option_or (earliest 0 (map (λ p. window_of claim o e t u p.0 p.1) ps)) (earliest 0 ds)) (map_map (λ q. q.1) (sides_of claim o e t u) ps)
 
 -- the places are those of channels of two headers
-pub ArePlaces : Head → Head → List Places → Type 0
+unfoldable pub ArePlaces : Head → Head → List Places → Type 0
 ArePlaces h g [] = Unit {0}
 ArePlaces h g (p ∷ ps) = IfSome p.0 (IsPlaceIn h) × IfSome p.1 (IsPlaceIn g) × ArePlaces h g ps
 

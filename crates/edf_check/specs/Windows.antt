@@ -4,13 +4,14 @@ use Rattle.std.specs.Prelude.{◌≡◌, ℕ, suc, ℤ, ◌+ℤ◌, ◌*ℤ◌, 
 use Rattle.std.specs.List.{All}
 use Rattle.edf_claim.specs.Claims.{Terms}
 use Rattle.edf_claim.specs.Keeps.{keeps_annotation}
+use Rattle.edf_header.specs.declared.fault.Fault.{Fault}
 use Rattle.edf_header.specs.Heads.{SignalHead, Head}
 use Rattle.edf_stream.specs.declared.instant.Instant.{Instant}
 use Rattle.edf_stream.specs.declared.status.Status.{Status}
 use Rattle.edf_stream.specs.declared.status.Status.TheVariants.{Begun, Current, Ended, Stopped}
 use Rattle.edf_stream.specs.Conforming.{Conforms}
 use Rattle.edf_stream.specs.Faults.{body_fault}
-use Rattle.edf_stream.specs.Notes.{NoteValue, moved_by, moved_notes_in, moved_notes_before}
+use Rattle.edf_stream.specs.Notes.{NoteValue, moved_by, moved_notes_in, moved_notes_before, notes_of}
 use Rattle.edf_stream.specs.Readers.{Reader, IsOpen, is_current, StandsIn}
 use Rattle.edf_stream.specs.Records.{record_at, lane_of}
 use Rattle.edf_stream.specs.Samples.{samples_of}
@@ -20,6 +21,8 @@ use Rattle.edf_check.specs.declared.channel_place.ChannelPlace.{ChannelPlace}
 use Rattle.edf_check.specs.declared.difference.PointDifference.{PointDifference}
 use Rattle.edf_check.specs.declared.earliest.Found.{Found}
 use Rattle.edf_check.specs.declared.gather.View.{View}
+use Rattle.edf_check.specs.declared.lockstep.FaultOf.{FaultOf}
+use Rattle.edf_check.specs.declared.lockstep.FaultOf.TheVariants.{Original as OfOriginal, Export as OfExport}
 use Rattle.edf_check.specs.declared.point.Point.{Point}
 use Rattle.edf_check.specs.declared.track.Pair.{Pair}
 use Rattle.edf_check.specs.declared.track.Track.{Track}
@@ -197,3 +200,34 @@ pub record Follows (old new : Reader) (honest honest' : Bool) (fails fails' : �
   pub honesty : IsTrue honest → IsTrue honest'
   pub failures : fails' ≡ fails
   pub comes : IsTrue honest → (file : List ℕ) → StandsIn old left file → IsAt new left' notes' file claim ps t
+
+-- ---- what a walk over both finds
+
+-- what a fault of the export comes to, behind that of the original
+abbrev pub behind : Option Fault → Fault → FaultOf
+behind None fault = OfExport fault
+behind (Some first) fault = OfOriginal first
+
+-- the first fault of the data records of the first file, or else of the second
+abbrev pub IsFaultOf : List ℕ → Head → List ℕ → Head → FaultOf → Type 0
+IsFaultOf o h e g (OfOriginal fault) = body_fault o h ≡ Some fault
+IsFaultOf o h e g (OfExport fault) = (body_fault o h ≡ None) × (body_fault e g ≡ Some fault)
+
+-- behind a fault of the export nothing of the original is left
+abbrev pub IsReadBy : FaultOf → List ℕ → Type 0
+IsReadBy (OfOriginal fault) left = Unit {0}
+IsReadBy (OfExport fault) left = left ≡ []
+
+-- the data records of a file were read to the end, the file conforms, and these annotations were gathered
+pub record IsReadThrough (file : List ℕ) (h : Head) (left : List ℕ) (notes : List NoteValue) (claim : Option Terms) (ps : ℤ) : Type 0 where
+  pub fault : body_fault file h ≡ None
+  pub conforms : Conforms file h
+  pub gone : left ≡ []
+  pub gathered : notes ≡ gathered_of claim ps (notes_of file h)
+
+-- the same of both files, and this is the first difference of their channels
+pub record AreWalked (o : List ℕ) (h : Head) (left : List ℕ) (notes : List NoteValue) (e : List ℕ) (g : Head) (left' : List ℕ) (notes' : List NoteValue)
+  (claim : Terms) (a b : ℤ) (places : List Places) (found : Option Found) : Type 0 where
+  pub original : IsReadThrough o h left notes (Some claim) a
+  pub export : IsReadThrough e g left' notes' None b
+  pub first : found ≡ whole_difference claim (sampled o h a) (sampled e g b) places

@@ -21,6 +21,7 @@ pub mod label;
 mod labels;
 pub mod laws;
 mod line;
+mod lockstep;
 mod night;
 mod note_difference;
 pub mod note_text;

@@ -127,14 +127,14 @@ fn end_ps_of(reader: &FileReader, by: Offset) -> i128
 }
 
 /// Where the data record at hand ends.
-fn end_of(reader: &FileReader, view: View<'_>) -> Option<Time>
-    requires near { unsigned_abs (view.moved).ps < 2 ^ 80 }
-    ensures end { MatchOption result (is_current reader.now.status ≡ false) (λ t. (is_current reader.now.status ≡ true) × (t.ps ≡ ends_at reader.now (view.entry.moved).ps)) }
+fn end_of(reader: &FileReader, by: Offset) -> Option<Time>
+    requires near { unsigned_abs by.ps < 2 ^ 80 }
+    ensures end { MatchOption result (is_current reader.now.status ≡ false) (λ t. (is_current reader.now.status ≡ true) × (t.ps ≡ ends_at reader.now by.ps)) }
     ensures small { IfSome result (λ t. unsigned_abs t.ps < 2 ^ 82) }
 {
     if reader.has_current() {
         Some(Time {
-            ps: end_ps_of(reader, view.moved),
+            ps: end_ps_of(reader, by),
         })
     } else {
         None
@@ -142,12 +142,12 @@ fn end_of(reader: &FileReader, view: View<'_>) -> Option<Time>
 }
 
 /// Whether the data record at hand ends at a time or before.
-fn is_past(reader: &FileReader, view: View<'_>, time: Time) -> bool
-    requires near { unsigned_abs (view.moved).ps < 2 ^ 80 }
-    ensures yes { result ≡ true → (is_current reader.now.status ≡ true) × (ends_at reader.now (view.entry.moved).ps ≤ℤ time.ps) }
-    ensures no { result ≡ false → IsAhead reader.now (view.entry.moved).ps time.ps }
+fn is_past(reader: &FileReader, by: Offset, time: Time) -> bool
+    requires near { unsigned_abs by.ps < 2 ^ 80 }
+    ensures yes { result ≡ true → (is_current reader.now.status ≡ true) × (ends_at reader.now by.ps ≤ℤ time.ps) }
+    ensures no { result ≡ false → IsAhead reader.now by.ps time.ps }
 {
-    match end_of(reader, view) {
+    match end_of(reader, by) {
         Some(end) => end.ps <= time.ps,
         None => false,
     }
@@ -175,7 +175,7 @@ pub(crate) fn pass<S: Source>(
     ensures fault { IfOk result (λ found. IfSome found (λ fault. IsTrue (S.is_honest source.old) → (file : List ℕ) → IsThere reading.old.reader (S.left source.old) file → body_fault file (reading.old.reader).head ≡ Some fault)) }
     ensures stop { IfErr result (SideStops side (Rises (S.failures source.old) (S.failures source.new))) }
 {
-    if !is_past(&reading.reader, view, to) {
+    if !is_past(&reading.reader, view.moved, to) {
         return Ok(None);
     }
     match take(alloc, reading, source, side, view) {
@@ -230,20 +230,20 @@ fn earlier_time(a: Option<Time>, b: Option<Time>) -> Option<Time>
 /// The earlier end of the data records at hand; none where both files have ended.
 pub(crate) fn lesser_end(
     original: &FileReader,
-    original_view: View<'_>,
+    original_by: Offset,
     export: &FileReader,
-    export_view: View<'_>,
+    export_by: Offset,
 ) -> Option<Time>
-    requires original_near { unsigned_abs (original_view.moved).ps < 2 ^ 80 }
-    requires export_near { unsigned_abs (export_view.moved).ps < 2 ^ 80 }
+    requires original_near { unsigned_abs original_by.ps < 2 ^ 80 }
+    requires export_near { unsigned_abs export_by.ps < 2 ^ 80 }
     ensures none { IfNone result ((is_current original.now.status ≡ false) × (is_current export.now.status ≡ false)) }
-    ensures original { IfSome result (λ t. Reaches original.now (original_view.entry.moved).ps t.ps) }
-    ensures export { IfSome result (λ t. Reaches export.now (export_view.entry.moved).ps t.ps) }
-    ensures later { IfSome result (λ t. (s : ℤ) → IsAhead original.now (original_view.entry.moved).ps s → IsAhead export.now (export_view.entry.moved).ps s → s <ℤ t.ps) }
+    ensures original { IfSome result (λ t. Reaches original.now original_by.ps t.ps) }
+    ensures export { IfSome result (λ t. Reaches export.now export_by.ps t.ps) }
+    ensures later { IfSome result (λ t. (s : ℤ) → IsAhead original.now original_by.ps s → IsAhead export.now export_by.ps s → s <ℤ t.ps) }
     ensures small { IfSome result (λ t. unsigned_abs t.ps < 2 ^ 82) }
 {
     earlier_time(
-        end_of(original, original_view),
-        end_of(export, export_view),
+        end_of(original, original_by),
+        end_of(export, export_by),
     )
 }

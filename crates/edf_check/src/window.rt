@@ -193,7 +193,7 @@ pub(crate) fn window_difference(
     requires uncut { IsUncut claim.now.keep from.ps to.ps }
     ensures value { (o e : List ℕ) → Covers original.now o (clock.original).ps from.ps to.ps → Covers export.now e (clock.export).ps from.ps to.ps →
         result ≡ difference_between claim.now (sampled o original.now.head (clock.original).ps) (sampled e export.now.head (clock.export).ps) (map places_of pairs.now) from.ps to.ps }
-    ensures modest { IfSome result (λ f. IsModest f.difference.at) }
+    ensures modest { IfSome result (λ f. IsModest f.difference.at × (f.channel < length pairs.now)) }
 {
     let mut held = None;
     let mut i = pairs.len();

@@ -4,7 +4,7 @@ use Rattle.edf_check.specs.declared.track.Pair.{Pair}
 use Rattle.edf_check.specs.Earliest.{earliest}
 use Rattle.edf_check.specs.Windows.{sampled, window_of, places_of}
 use Rattle.edf_check.proofs.EarliestFacts.{earliest-step}
-use Rattle.edf_check.proofs.ShownFacts.{windows_are}
+use Rattle.edf_check.proofs.ShownFacts.{windows_are, channel_more, both_some}
 use Rattle.edf_check.proofs.window.window_difference.Goals as goal
 
 pub loop-i-preserved : goal.loop-i-preserved
@@ -20,6 +20,7 @@ loop-i-preserved c =
           earliest-step of c.args.pairs.now c.loop-i.i k _ c.pair_difference-next.result c.found_in.result c.loop-i.held c.earlier-held.result
           next lt (c.pair_difference-next.ensures.value o e ho he) c.found_in.ensures.value c.earlier-held.ensures.value (inv.value o e ho he);
       modest = c.earlier-held.ensures.modest;
+      channel = channel_more k (length c.args.pairs.now) c.pair_difference-next.result c.found_in.result c.loop-i.held c.earlier-held.result lt c.found_in.ensures.value c.earlier-held.ensures.value inv.channel;
     }
 
 pub returns-clause-value : goal.returns-clause-value
@@ -27,3 +28,6 @@ returns-clause-value c = λ o e ho he.
     let z : c.loop-i.i ≡ 0 = omega (arith, c.loop-i-test.false) in
     windows_are c.args.claim.now (sampled o c.args.original.now.head (c.args.clock.original).ps) (sampled e c.args.export.now.head (c.args.clock.export).ps) c.args.from.ps c.args.to.ps c.args.pairs.now c.loop-i.i c.loop-i.held z
     (c.loop-i.invariant.value o e ho he)
+
+pub returns-clause-modest : goal.returns-clause-modest
+returns-clause-modest c = both_some (length c.args.pairs.now) c.loop-i.held c.loop-i.invariant.modest c.loop-i.invariant.channel

@@ -1,4 +1,4 @@
-use Rattle.std.proofs.Common.{◌≡◌, ◌≤◌, List, ℕ, drop, map, length, IfSome}
+use Rattle.std.proofs.Common.{◌≡◌, ◌<◌, ◌≤◌, List, ℕ, drop, map, length, IfSome}
 use Rattle.edf_check.specs.Earliest.{earliest}
 use Rattle.edf_check.specs.Instants.{IsModest}
 use Rattle.edf_check.specs.Windows.{Covers, sampled, window_of, places_of}
@@ -10,6 +10,7 @@ invariant-loop-i l = record {
   value : (o e : List ℕ) → Covers l.original o (l.clock.original).ps l.from.ps l.to.ps → Covers l.export e (l.clock.export).ps l.from.ps l.to.ps →
       l.held ≡ earliest l.i (map (λ p. window_of l.claim (sampled o l.original.head (l.clock.original).ps) (sampled e l.export.head (l.clock.export).ps) l.from.ps l.to.ps (places_of p).0 (places_of p).1) (drop l.i l.pairs));
   modest : IfSome l.held (λ f. IsModest f.difference.at);
+  channel : IfSome l.held (λ f. f.channel < length l.pairs);
 }
 
 abbrev pub decreases-loop-i : goal.decreases-loop-i
