@@ -1,18 +1,26 @@
 -- From the parts of a walk to what it found.
-use Rattle.std.proofs.Common.{◌≡◌, ◌*◌, ℕ, neg_ℤ, ◌+ℤ◌, List, [], ◌∷◌, length, map, filter, suc, Result, Ok, Err, IfOk, refl, sym, ap, ◌∙◌, subst}
+use Rattle.std.proofs.Common.{◌≡◌, ◌*◌, ℕ, ℤ, neg_ℤ, ◌+ℤ◌, Bor, List, [], ◌∷◌, length, map, filter, suc, ◌<◌, Option, Some, None, IfSome, Result, Ok, Err, IfOk, refl, sym, ap, ◌∙◌, subst}
 use Rattle.edf_claim.specs.Claims.{Terms}
 use Rattle.edf_claim.specs.Keeps.{keeps_annotation}
+use Rattle.edf_header.specs.declared.fault.Fault.{Fault}
+use Rattle.edf_header.specs.Faults.{header_fault}
 use Rattle.edf_header.specs.Heads.{Head, head_of, samples_together}
 use Rattle.edf_stream.specs.declared.conform.Summary.{Summary}
-use Rattle.edf_stream.specs.declared.meaning.Meaning.{Meaning}
-use Rattle.edf_stream.specs.Meanings.{Means}
-use Rattle.edf_stream.specs.Notes.{NoteValue, moved_by}
+use Rattle.edf_stream.specs.declared.notes.Note.{Note}
+use Rattle.edf_stream.specs.Conforming.{Conforms}
+use Rattle.edf_stream.specs.Faults.{body_fault, file_fault}
+use Rattle.edf_stream.specs.Notes.{NoteValue, moved_by, notes_of}
+use Rattle.edf_stream.specs.Readers.{Reader, StandsIn}
+use Rattle.edf_stream.specs.Samples.{samples_of}
 use Rattle.edf_stream.specs.Starts.{file_start}
 use Rattle.edf_stream.specs.Summaries.{channels_among}
 use Rattle.edf_stream.specs.Views.{note_value}
+use Rattle.edf_stream.proofs.ForCallers.{fault_is_of_body, header_first}
 use Rattle.edf_check.specs.declared.clock.Clock.{Clock}
+use Rattle.edf_check.specs.declared.earliest.Found.{Found}
 use Rattle.edf_check.specs.declared.note_difference.NoteDifference.{NoteDifference}
 use Rattle.edf_check.specs.declared.sample_difference.SampleDifference.{SampleDifference}
+use Rattle.edf_check.specs.declared.track.Pair.{Pair}
 use Rattle.edf_check.specs.declared.walk.Walked.{Walked}
 use Rattle.edf_check.specs.declared.walk.Walked.TheVariants.{OriginalFault, ExportFault, HeadsDiffer, SamplesDiffer, NotesDiffer, Same}
 use Rattle.edf_check.specs.declared.verdict.Verdict.{Verdict}
@@ -21,27 +29,19 @@ use Rattle.edf_check.specs.declared.verdict.Difference.TheVariants as difference
 use Rattle.edf_check.specs.declared.verdict.AnnotationMismatch.{AnnotationMismatch}
 use Rattle.edf_check.specs.Annotations.{IsFirstNote, SameNotes}
 use Rattle.edf_check.specs.Checks.{AreRead, YesMeans}
-use Rattle.edf_check.specs.Columns.{AreNights}
+use Rattle.edf_check.specs.Columns.{channel_at, Sampled, difference_at, label_difference, AreNights}
+use Rattle.edf_check.specs.Comparisons.{AreSorted}
+use Rattle.edf_check.specs.Earliest.{earliest}
 use Rattle.edf_check.specs.Exports.{BothConform, AreCounts}
 use Rattle.edf_check.specs.HeadVerdicts.{HeadsAgree, IsHeadVerdict}
+use Rattle.edf_check.specs.Instants.{IsModest}
 use Rattle.edf_check.specs.Kept.{start_of, shift_of, kept_notes, exported_notes}
 use Rattle.edf_check.specs.Verdicts.{IsVerdict}
-use Rattle.edf_check.specs.Walks.{ArePair, IsClock, IsCompared, IsReadAs, IsReadOut, IsWalked, notes_kept, notes_moved}
+use Rattle.edf_check.specs.Walks.{IsClock, IsCompared, IsReadOut, IsWalked, AreNotes, AreFound}
+use Rattle.edf_check.specs.Windows.{sampled, counts_by, Places, places_of, whole_difference, IsReadThrough, AreWalked}
+use Rattle.edf_check.proofs.NightFacts.{first-found}
 use Rattle.edf_check.proofs.RearrangedFacts.{notes_in_words}
 use Rattle.edf_check.proofs.WordsFacts.{samples_in_words}
-
-long-map : {X Y : Type 0} (f : X → Y) (xs : List X) → length (map f xs) ≡ length xs
-long-map f [] = refl
-long-map f (x ∷ xs) = ap suc (long-map f xs)
-
--- what a file holds, counted
-pub counted_of : (h : Head) (meaning : Meaning) (s : Summary) (count : ℕ) → count ≡ length meaning.notes.items → s.channels ≡ length (channels_among h.signals) → s.samples ≡ h.records * samples_together (channels_among h.signals) → s.annotations ≡ count
-    → (e : List ℕ) → h ≡ head_of e → Means e (head_of e) meaning → AreCounts e s.channels s.samples s.annotations
-counted_of h meaning s count n channels samples annotations e head means = record {
-  channels_are = channels ∙ ap (λ (x : Head). length (channels_among x.signals)) head;
-  samples_are = samples ∙ ap (λ (x : Head). x.records * samples_together (channels_among x.signals)) head;
-  annotations_are = annotations ∙ n ∙ sym (long-map note_value meaning.notes.items) ∙ ap length means.notes;
-}
 
 -- the clock of an original, in the words of its bytes
 clock-original : (o : List ℕ) (h : Head) (claim : Terms) (clock : Clock) → h ≡ head_of o → IsClock h claim clock → (clock.original).ps ≡ neg_ℤ (start_of o)
@@ -50,43 +50,108 @@ clock-original o h claim clock e c = c.original ∙ ap (λ (x : Head). neg_ℤ (
 clock-export : (o : List ℕ) (h : Head) (claim : Terms) (clock : Clock) → h ≡ head_of o → IsClock h claim clock → (clock.export).ps ≡ neg_ℤ (start_of o +ℤ shift_of claim)
 clock-export o h claim clock e c = c.export ∙ ap (λ (x : Head). neg_ℤ (file_start x +ℤ shift_of claim)) e
 
-pub nights : (o e : List ℕ) (claim : Terms) (h g : Head) (meaning other : Meaning) (clock : Clock) → ArePair o e h meaning g other → HeadsAgree (head_of o) (head_of e) claim → IsClock h claim clock
-    → AreNights o e claim (record { head = h; samples = meaning.samples.items; moved = (clock.original).ps }) (record { head = g; samples = other.samples.items; moved = (clock.export).ps })
-nights o e claim h g meaning other clock p agree c = record {
-  conform = p.conform;
-  agree = agree;
-  original_head = p.original_head;
-  original_samples = (p.original_means).samples;
-  original_moved = clock-original o h claim clock p.original_head c;
-  export_head = p.export_head;
-  export_samples = (p.export_means).samples;
-  export_moved = clock-export o h claim clock p.original_head c;
-}
+-- a file in which a reader stands has the first fault of its data records
+pub fault_is : (r : Reader) (left file : List ℕ) → StandsIn r left file → file_fault file ≡ body_fault file r.head
+fault_is r left file s = fault_is_of_body file r.head (s.passed).head (s.passed).header
 
--- the annotations that are compared
-pub kept-are : (o e : List ℕ) (claim : Terms) (h g : Head) (meaning other : Meaning) (clock : Clock) → ArePair o e h meaning g other → IsClock h claim clock
-    → notes_kept claim clock (map note_value meaning.notes.items) ≡ kept_notes o claim
-kept-are o e claim h g meaning other clock p c =
-    ap (λ ps. filter (λ (n : NoteValue). keeps_annotation claim n.onset n.text) (map (moved_by ps) (map note_value meaning.notes.items))) (clock-original o h claim clock p.original_head c)
-    ∙ ap (λ ns. filter (λ (n : NoteValue). keeps_annotation claim n.onset n.text) (map (moved_by (neg_ℤ (start_of o))) ns)) (p.original_means).notes
+pub header_fault_first : (file : List ℕ) (fault : Fault) → header_fault file ≡ Some fault → file_fault file ≡ Some fault
+header_fault_first = header_first
 
-pub exported-are : (o e : List ℕ) (claim : Terms) (h g : Head) (meaning other : Meaning) (clock : Clock) → ArePair o e h meaning g other → IsClock h claim clock
-    → notes_moved clock (map note_value other.notes.items) ≡ exported_notes o e claim
-exported-are o e claim h g meaning other clock p c =
-    ap (λ ps. map (moved_by ps) (map note_value other.notes.items)) (clock-export o h claim clock p.original_head c)
-    ∙ ap (map (moved_by (neg_ℤ (start_of o +ℤ shift_of claim)))) (p.export_means).notes
+pub of_original : (o e : List ℕ) (claim : Terms) (r s : Reader) (a b : List ℕ) (fault : Fault) → StandsIn r a o → StandsIn s b e → body_fault o r.head ≡ Some fault → IsWalked o e claim (OriginalFault fault)
+of_original o e claim r s a b fault so se is = fault_is r a o so ∙ is
 
-pub notes-differ : (o e : List ℕ) (claim : Terms) (h g : Head) (meaning other : Meaning) (clock : Clock) (m : AnnotationMismatch) (n : NoteValue) → ArePair o e h meaning g other → IsClock h claim clock
-    → IsFirstNote (notes_kept claim clock (map note_value meaning.notes.items)) (notes_moved clock (map note_value other.notes.items)) m n → IsFirstNote (kept_notes o claim) (exported_notes o e claim) m n
-notes-differ o e claim h g meaning other clock m n p c first =
-    subst (λ (ys : List NoteValue). IsFirstNote (kept_notes o claim) ys m n) (exported-are o e claim h g meaning other clock p c)
-    (subst (λ (xs : List NoteValue). IsFirstNote xs (notes_moved clock (map note_value other.notes.items)) m n) (kept-are o e claim h g meaning other clock p c) first)
+pub of_export : (o e : List ℕ) (claim : Terms) (r s : Reader) (a b : List ℕ) (fault : Fault) → StandsIn r a o → StandsIn s b e → (body_fault o r.head ≡ None) × (body_fault e s.head ≡ Some fault) → IsWalked o e claim (ExportFault fault)
+of_export o e claim r s a b fault so se is = (fault_is r a o so ∙ is.0, fault_is s b e se ∙ is.1)
 
-pub notes-same : (o e : List ℕ) (claim : Terms) (h g : Head) (meaning other : Meaning) (clock : Clock) → ArePair o e h meaning g other → IsClock h claim clock
-    → SameNotes (notes_kept claim clock (map note_value meaning.notes.items)) (notes_moved clock (map note_value other.notes.items)) → SameNotes (kept_notes o claim) (exported_notes o e claim)
-notes-same o e claim h g meaning other clock p c same =
-    subst (λ (ys : List NoteValue). SameNotes (kept_notes o claim) ys) (exported-are o e claim h g meaning other clock p c)
-    (subst (λ (xs : List NoteValue). SameNotes xs (notes_moved clock (map note_value other.notes.items))) (kept-are o e claim h g meaning other clock p c) same)
+-- both files conform
+pub both-conform : (o e : List ℕ) (r s : Reader) (a b : List ℕ) → StandsIn r a o → StandsIn s b e → Conforms o r.head → Conforms e s.head → BothConform o e
+both-conform o e r s a b so se co ce =
+    let P : Head → Type 0 = Conforms o in
+    let Q : Head → Type 0 = Conforms e in
+    record { original_conforms = subst P (so.passed).head co; export_conforms = subst Q (se.passed).head ce }
+
+-- the headers of two files in which readers stand
+pub of_headers : (o e : List ℕ) (claim : Terms) (r s : Reader) (a b : List ℕ) (v : Verdict) → StandsIn r a o → StandsIn s b e → Conforms o r.head → Conforms e s.head → IsHeadVerdict r.head s.head claim v → IsWalked o e claim (HeadsDiffer v)
+of_headers o e claim r s a b v so se co ce is =
+    let P : Head → Type 0 = λ h. IsHeadVerdict h s.head claim v in
+    let Q : Head → Type 0 = λ g. IsHeadVerdict (head_of o) g claim v in
+    (both-conform o e r s a b so se co ce, subst Q (se.passed).head (subst P (so.passed).head is))
+
+-- ---- what was walked, in the words of both files
+
+all-counted : (notes : List NoteValue) → filter (λ n. counts_by None n.onset n.text) notes ≡ notes
+all-counted [] = refl
+all-counted (n ∷ ns) = ap (λ xs. n ∷ xs) (all-counted ns)
+
+long-map : {X Y : Type 0} (f : X → Y) (xs : List X) → length (map f xs) ≡ length xs
+long-map f [] = refl
+long-map f (x ∷ xs) = ap suc (long-map f xs)
+
+map-twice : {A B C : Type 0} (f : B → C) (g : A → B) (xs : List A) → map f (map g xs) ≡ map (λ x. f (g x)) xs
+map-twice f g [] = refl
+map-twice f g (x ∷ xs) = ap (λ ys. f (g x) ∷ ys) (map-twice f g xs)
+
+-- the annotations and the counts of two files that were read through
+notes-are : (o e : List ℕ) (claim : Terms) (h g : Head) (left left' : List ℕ) (kept exported : List Note) (clock : Clock) (summary : Summary) → h ≡ head_of o → g ≡ head_of e → IsClock h claim clock
+    → IsReadThrough o h left (map note_value kept) (Some claim) (clock.original).ps → IsReadThrough e g left' (map note_value exported) None (clock.export).ps
+    → summary.channels ≡ length (channels_among g.signals) → summary.samples ≡ g.records * samples_together (channels_among g.signals) → summary.annotations ≡ length exported
+    → AreNotes o e claim kept exported summary
+notes-are o e claim h g left left' kept exported clock summary ho he c one two channels samples annotations =
+    let out : map note_value exported ≡ exported_notes o e claim =
+    two.gathered ∙ all-counted (map (moved_by (clock.export).ps) (notes_of e g))
+    ∙ ap (λ ps. map (moved_by ps) (notes_of e g)) (clock-export o h claim clock ho c)
+    ∙ ap (λ (x : Head). map (moved_by (neg_ℤ (start_of o +ℤ shift_of claim))) (notes_of e x)) he in
+    record {
+      kept_are = one.gathered ∙ ap (λ ps. filter (λ (n : NoteValue). keeps_annotation claim n.onset n.text) (map (moved_by ps) (notes_of o h))) (clock-original o h claim clock ho c)
+          ∙ ap (λ (x : Head). filter (λ (n : NoteValue). keeps_annotation claim n.onset n.text) (map (moved_by (neg_ℤ (start_of o))) (notes_of o x))) ho;
+      exported_are = out;
+      counts = record {
+        channels_are = channels ∙ ap (λ (x : Head). length (channels_among x.signals)) he;
+        samples_are = samples ∙ ap (λ (x : Head). x.records * samples_together (channels_among x.signals)) he;
+        annotations_are = annotations ∙ sym (long-map note_value exported) ∙ ap length out ∙ long-map (moved_by (neg_ℤ (start_of o +ℤ shift_of claim))) (notes_of e (head_of e));
+      };
+    }
+
+-- the difference of the channels is that of the labels
+labels-walked : (claim : Terms) (o e : Sampled) (h g : Head) (labels : List (Bor (List ℕ))) → o.head ≡ h → e.head ≡ g
+    → whole_difference claim o e (map (λ label. (channel_at label.now h, channel_at label.now g)) labels) ≡ earliest 0 (map (λ label. label_difference claim o e label.now) labels)
+unfolding whole_difference label_difference
+labels-walked claim o e h g labels eo ee =
+    ap (earliest 0) (map-twice (λ (p : Places). difference_at claim o e p.0 p.1) (λ (label : Bor (List ℕ)). (channel_at label.now h, channel_at label.now g)) labels)
+    ∙ ap (λ (x : Head). earliest 0 (map (λ (label : Bor (List ℕ)). difference_at claim o e (channel_at label.now x) (channel_at label.now g)) labels)) (sym eo)
+    ∙ ap (λ (x : Head). earliest 0 (map (λ (label : Bor (List ℕ)). difference_at claim o e (channel_at label.now o.head) (channel_at label.now x)) labels)) (sym ee)
+
+-- from two files that were walked to what was found
+pub found-of : (o e : List ℕ) (claim : Terms) (r s : Reader) (a b : List ℕ) (left left' : List ℕ) (kept exported : List Note) (clock : Clock) (summary : Summary) (pairs : List Places) (labels : List (Bor (List ℕ))) (found : Option Found)
+    → StandsIn r a o → StandsIn s b e → HeadsAgree r.head s.head claim → IsClock r.head claim clock → AreSorted claim.channels labels
+    → pairs ≡ map (λ label. (channel_at label.now r.head, channel_at label.now s.head)) labels
+    → AreWalked o r.head left (map note_value kept) e s.head left' (map note_value exported) claim (clock.original).ps (clock.export).ps pairs found
+    → summary.channels ≡ length (channels_among (s.head).signals) → summary.samples ≡ (s.head).records * samples_together (channels_among (s.head).signals) → summary.annotations ≡ length exported
+    → AreFound o e claim found (map (λ label. label.now) labels) kept exported summary
+found-of o e claim r s a b left left' kept exported clock summary pairs labels found so se agree c sorted places walked channels samples annotations =
+    let ho = (so.passed).head in
+    let he = (se.passed).head in
+    let both = both-conform o e r s a b so se (walked.original).conforms (walked.export).conforms in
+    let x = sampled o r.head (clock.original).ps in
+    let y = sampled e s.head (clock.export).ps in
+    let P : Head → Type 0 = λ h. HeadsAgree h s.head claim in
+    let Q : Head → Type 0 = λ g. HeadsAgree (head_of o) g claim in
+    let same : HeadsAgree (head_of o) (head_of e) claim = subst Q he (subst P ho agree) in
+    let nights : AreNights o e claim x y = record {
+      conform = both;
+      agree = same;
+      original_head = ho;
+      original_samples = ap (samples_of o) ho;
+      original_moved = clock-original o r.head claim clock ho c;
+      export_head = he;
+      export_samples = ap (samples_of e) he;
+      export_moved = clock-export o r.head claim clock ho c;
+    } in
+    record {
+      both = record { conform = both; agree = same };
+      first = first-found o e claim x y labels found nights sorted (walked.first ∙ ap (whole_difference claim x y) places ∙ labels-walked claim x y r.head s.head labels refl refl);
+      notes = notes-are o e claim r.head s.head left left' kept exported clock summary ho he c walked.original walked.export channels samples annotations;
+    }
 
 -- a verdict on the headers is the verdict on the files
 pub of_heads : (o e : List ℕ) (claim : Terms) (v : Verdict) → BothConform o e → IsHeadVerdict (head_of o) (head_of e) claim v → IsVerdict o e claim v
@@ -154,17 +219,16 @@ read-out (SamplesDiffer d) a b c p q = (p, q)
 read-out (NotesDiffer d) a b c p q = (p, q)
 read-out (Same summary) a b c p q = (p, q)
 
--- two files that were read are a pair
-pub pair-of : (o e left rest : List ℕ) (h g : Head) (meaning other : Meaning) → IsReadAs o left h meaning → IsReadAs e rest g other → ArePair o e h meaning g other
-pair-of o e left rest h g meaning other one two = record {
-  conform = record { original_conforms = (one.whole).conforms; export_conforms = (two.whole).conforms };
-  original_head = one.head;
-  original_means = (one.whole).means;
-  export_head = two.head;
-  export_means = (two.whole).means;
-}
-
 -- what holds of a value where it comes, and what follows from it
 pub if-ok : {X E : Type 0} (r : Result X E) (P Q : X → Type 0) → ((x : X) → P x → Q x) → IfOk r P → IfOk r Q
 if-ok (Ok x) P Q f h = f x h
 if-ok (Err e) P Q f h = h
+
+-- the place of a difference is that of a label
+pub found_within : (pairs : List Pair) (labels : List (Bor (List ℕ))) (f : Bor (List ℕ) → Places) (found : Option Found) → map places_of pairs ≡ map f labels
+    → IfSome found (λ x. IsModest x.difference.at × (x.channel < length pairs)) → IfSome found (λ x. IsModest x.difference.at × (x.channel < length labels))
+found_within pairs labels f None e h = tt
+found_within pairs labels f (Some x) e h =
+    let long : length pairs ≡ length labels = sym (long-map places_of pairs) ∙ ap length e ∙ long-map f labels in
+    let P : ℕ → Type 0 = λ n. x.channel < n in
+    (h.0, subst P long h.1)

@@ -1,18 +1,15 @@
 -- What the code compares: for each claimed label, in the order of labels, two rising lists of the samples of one channel.
 use Rattle.std.specs.Prelude.{◌≡◌, ℕ, ◌+◌, ◌<◌, ◌≤◌, ◌^◌, ◌==◌, ℤ, neg_ℤ, ◌+ℤ◌, unsigned_abs, Bool, ◌&&◌, if◌then◌else◌, List, [], ◌∷◌, map, filter, Option, Some, None, slice_get}
-use Rattle.std.specs.List.{All}
 use Rattle.std.specs.Str.{bytes_eq}
 use Rattle.edf_claim.specs.Claims.{Terms}
 use Rattle.edf_claim.specs.Keeps.{keeps_instant}
 use Rattle.edf_fields.specs.Lists.{Has}
 use Rattle.edf_header.specs.Heads.{SignalHead, Head, head_of}
 use Rattle.edf_stream.specs.declared.sample.Sample.{Sample}
-use Rattle.edf_stream.specs.Instants.{IsSmall}
 use Rattle.edf_stream.specs.Samples.{samples_of}
 use Rattle.edf_stream.specs.Summaries.{channels_among}
 use Rattle.edf_check.specs.declared.channel_place.ChannelPlace.{ChannelPlace}
 use Rattle.edf_check.specs.declared.difference.PointDifference.{PointDifference}
-use Rattle.edf_check.specs.declared.night.Night.{Night}
 use Rattle.edf_check.specs.declared.point.Point.{Point}
 use Rattle.edf_check.specs.Courses.{Course}
 use Rattle.edf_check.specs.Differences.{HasValue, IsAscending, first_difference_of}
@@ -37,15 +34,6 @@ pub record Sampled : Type 0 where
   pub head : Head
   pub samples : List Sample
   pub moved : ℤ
-
--- what the code's value says
-abbrev pub night_view : Night → Sampled
-night_view night = record { head = night.header.now; samples = night.samples.now; moved = (night.moved).ps }
-
--- the products of its instants fit 128 bits
-pub record IsNight (night : Night) : Type 0 where
-  pub small : All (λ x. IsSmall x.instant) night.samples.now
-  pub near : unsigned_abs (night.moved).ps < 2 ^ 80
 
 -- a sample of a channel at its instant so many picoseconds later
 abbrev pub point_of : ℤ → Sample → Point

@@ -1,43 +1,23 @@
 -- What reading both files to their ends found.
-use Rattle.std.specs.Prelude.{◌≡◌, ℕ, neg_ℤ, ◌+ℤ◌, ◌^◌, ◌<◌, unsigned_abs, List, [], None, Some, map, filter}
-use Rattle.std.specs.List.{All}
+use Rattle.std.specs.Prelude.{◌≡◌, ℕ, neg_ℤ, ◌+ℤ◌, ◌^◌, ◌<◌, unsigned_abs, List, [], Option, None, Some, map, MatchOption, slice_get}
 use Rattle.edf_claim.specs.Claims.{Terms}
 use Rattle.edf_header.specs.Heads.{Head, head_of}
-use Rattle.edf_stream.specs.declared.meaning.Meaning.{Meaning}
+use Rattle.edf_stream.specs.declared.conform.Summary.{Summary}
+use Rattle.edf_stream.specs.declared.notes.Note.{Note}
 use Rattle.edf_stream.specs.Faults.{file_fault}
-use Rattle.edf_stream.specs.Instants.{IsSmall}
-use Rattle.edf_stream.specs.Meanings.{IsWhole, Means}
-use Rattle.edf_claim.specs.Keeps.{keeps_annotation}
-use Rattle.edf_stream.specs.Notes.{NoteValue, moved_by}
 use Rattle.edf_stream.specs.Starts.{file_start}
-use Rattle.edf_stream.specs.Views.{IsNear}
+use Rattle.edf_stream.specs.Views.{note_value}
 use Rattle.edf_check.specs.declared.clock.Clock.{Clock}
+use Rattle.edf_check.specs.declared.earliest.Found.{Found}
 use Rattle.edf_check.specs.declared.walk.Walked.{Walked}
 use Rattle.edf_check.specs.declared.walk.Walked.TheVariants.{OriginalFault, ExportFault, HeadsDiffer, SamplesDiffer, NotesDiffer, Same}
 use Rattle.edf_check.specs.Annotations.{IsFirstNote, SameNotes}
 use Rattle.edf_check.specs.Courses.{IsFirstMismatch}
 use Rattle.edf_check.specs.Exports.{BothConform, SameSamples, AreCounts}
 use Rattle.edf_check.specs.HeadVerdicts.{HeadsAgree, IsHeadVerdict}
+use Rattle.edf_check.specs.Instants.{floor_of}
 use Rattle.edf_check.specs.Kept.{shift_of, KeptAt, ExportedAt, kept_notes, exported_notes}
 use Rattle.edf_check.specs.NoteOrder.{note_mismatch}
-
--- the file with this header and this meaning is within the bounds of its numbers
-pub record IsBounded (meaning : Meaning) : Type 0 where
-  pub small : All (λ x. IsSmall x.instant) meaning.samples.items
-  pub near : All IsNear meaning.notes.items
-
--- a file was read to its end, which conforms, and this is its header and what it means
-pub record IsReadAs (file left : List ℕ) (h : Head) (meaning : Meaning) : Type 0 where
-  pub head : h ≡ head_of file
-  pub whole : IsWhole file left meaning
-
--- these are the headers and the meanings of two files that conform
-pub record ArePair (original export : List ℕ) (h : Head) (meaning : Meaning) (g : Head) (other : Meaning) : Type 0 where
-  pub conform : BothConform original export
-  pub original_head : h ≡ head_of original
-  pub original_means : Means original (head_of original) meaning
-  pub export_head : g ≡ head_of export
-  pub export_means : Means export (head_of export) other
 
 -- by how much the two files are moved, so that both count from the second at which the original starts, before the shift
 pub record IsClock (h : Head) (claim : Terms) (clock : Clock) : Type 0 where
@@ -45,13 +25,6 @@ pub record IsClock (h : Head) (claim : Terms) (clock : Clock) : Type 0 where
   pub export : (clock.export).ps ≡ neg_ℤ (file_start h +ℤ shift_of claim)
   pub original_near : unsigned_abs (clock.original).ps < 2 ^ 80
   pub export_near : unsigned_abs (clock.export).ps < 2 ^ 80
-
--- the annotations of an original that the claim keeps, by the clock, and those of an export
-abbrev pub notes_kept : Terms → Clock → List NoteValue → List NoteValue
-notes_kept claim clock notes = filter (λ n. keeps_annotation claim n.onset n.text) (map (moved_by (clock.original).ps) notes)
-
-abbrev pub notes_moved : Clock → List NoteValue → List NoteValue
-notes_moved clock notes = map (moved_by (clock.export).ps) notes
 
 -- both files conform, and their headers agree
 pub record BothAgree (original export : List ℕ) (claim : Terms) : Type 0 where
@@ -89,3 +62,22 @@ IsCompared (HeadsDiffer verdict) = Unit {0}
 IsCompared (SamplesDiffer d) = Unit {0}
 IsCompared (NotesDiffer d) = Unit {0}
 IsCompared (Same summary) = Unit {0}
+
+-- these are the annotations that are compared, and how much the export holds
+pub record AreNotes (original export : List ℕ) (claim : Terms) (kept exported : List Note) (summary : Summary) : Type 0 where
+  pub kept_are : map note_value kept ≡ kept_notes original claim
+  pub exported_are : map note_value exported ≡ exported_notes original export claim
+  pub counts : AreCounts export summary.channels summary.samples summary.annotations
+
+-- both files conform, their headers agree, and their samples are the same; this is the rest
+pub record AreRemaining (original export : List ℕ) (claim : Terms) (kept exported : List Note) (summary : Summary) : Type 0 where
+  pub both : BothAgree original export claim
+  pub samples : SameSamples original export claim
+  pub notes : AreNotes original export claim kept exported summary
+
+-- both files conform, their headers agree, and this is the first difference of their samples, by the place of its label; and the rest
+pub record AreFound (original export : List ℕ) (claim : Terms) (found : Option Found) (labels : List (List ℕ)) (kept exported : List Note) (summary : Summary) : Type 0 where
+  pub both : BothAgree original export claim
+  pub first : MatchOption found (SameSamples original export claim)
+      (λ f. (label : List ℕ) → slice_get labels f.channel ≡ Some label → IsFirstMismatch (KeptAt original claim) (ExportedAt original export claim) label (floor_of f.difference.at) f.difference.mismatch)
+  pub notes : AreNotes original export claim kept exported summary

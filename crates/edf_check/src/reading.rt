@@ -2,6 +2,7 @@
 
 ghost use Rattle.std.specs.Prelude.{◌≡◌, ◌<◌, ◌≤◌, ◌+◌, ◌++◌, ◌^◌, ◌*◌, ℕ, ℤ, ◌≤ℤ◌, ◌<ℤ◌, ◌+ℤ◌, ◌⊎◌, neg_ℤ, pos, true, false, List, [], map, None, Some, Option, option_map, IfOk, IfErr, OnOk, IfSome, IfNone, IsTrue, MatchOption, if◌then◌else◌, unsigned_abs};
 ghost use Rattle.edf_fields.specs.Sources.{Rises};
+ghost use Rattle.edf_stream.specs.Conforming.{Conforms};
 ghost use Rattle.edf_stream.specs.Faults.{body_fault};
 ghost use Rattle.edf_stream.specs.Notes.{moved_notes_in};
 ghost use Rattle.edf_stream.specs.Readers.{HasBegun, IsOpen, is_current, StandsIn, Comes};
@@ -67,7 +68,7 @@ pub(crate) fn finish<S: Source>(
 ) -> Result<Option<Fault>, CheckStop>
     requires going { IsGoing reader.old.status }
     ensures found { IfOk result (λ found. IsTrue (S.is_honest source.old) → (file : List ℕ) → IsThere reader.old (S.left source.old) file → body_fault file reader.old.head ≡ found) }
-    ensures out { IfOk result (λ found. IfNone found (IsTrue (S.is_honest source.old) → (file : List ℕ) → IsThere reader.old (S.left source.old) file → S.left source.new ≡ [])) }
+    ensures out { IfOk result (λ found. IfNone found (IsTrue (S.is_honest source.old) → (file : List ℕ) → IsThere reader.old (S.left source.old) file → (S.left source.new ≡ []) × Conforms file reader.old.head)) }
     ensures stop { IfErr result (SideStops side (Rises (S.failures source.old) (S.failures source.new))) }
 {
     while reader.has_current() {
@@ -78,6 +79,29 @@ pub(crate) fn finish<S: Source>(
         }
     }
     Ok(None)
+}
+
+/// Reads the data records of a file to its end, and answers its fault, where it has one.
+///
+/// The error is a failure of the source.
+pub(crate) fn read_out<S: Source>(
+    reader: &mut FileReader,
+    source: &mut S,
+    side: Side,
+) -> Result<Option<Fault>, CheckStop>
+    requires begun { HasBegun reader.old }
+    ensures found { IfOk result (λ found. IsTrue (S.is_honest source.old) → (file : List ℕ) → StandsIn reader.old (S.left source.old) file → body_fault file reader.old.head ≡ found) }
+    ensures out { IfOk result (λ found. IfNone found (IsTrue (S.is_honest source.old) → (file : List ℕ) → StandsIn reader.old (S.left source.old) file → (S.left source.new ≡ []) × Conforms file reader.old.head)) }
+    ensures stop { IfErr result (SideStops side (Rises (S.failures source.old) (S.failures source.new))) }
+{
+    match go_on(reader, source, side) {
+        Ok(None) => match finish(reader, source, side) {
+            Ok(found) => Ok(found),
+            Err(stop) => Err(stop),
+        },
+        Ok(Some(fault)) => Ok(Some(fault)),
+        Err(stop) => Err(stop),
+    }
 }
 
 /// Reads the next data record, and gathers its annotations; or answers the file's fault where it has one

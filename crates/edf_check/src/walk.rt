@@ -1,28 +1,28 @@
 //! Two files read to their ends and compared.
 
-ghost use Rattle.std.specs.Prelude.{◌≡◌, ◌<◌, ◌^◌, ℕ, List, map, Some, IfOk, IfErr, IsTrue, MatchOption, unsigned_abs};
-ghost use Rattle.std.specs.List.{All};
+ghost use Rattle.std.specs.Prelude.{◌≡◌, ◌*◌, ℕ, List, [], length, Some, IfOk, IfErr, IsTrue};
+ghost use Rattle.edf_claim.specs.Claims.{Terms};
 ghost use Rattle.edf_fields.specs.Sources.{Rises};
-ghost use Rattle.edf_header.specs.Heads.{head_of};
+ghost use Rattle.edf_header.specs.Heads.{samples_together};
 ghost use Rattle.edf_stream.specs.Faults.{file_fault};
-ghost use Rattle.edf_stream.specs.Meanings.{Means};
-ghost use Rattle.edf_stream.specs.Views.{note_value, IsNear};
-ghost use Rattle.edf_check.specs.Annotations.{IsFirstNote, SameNotes};
-ghost use Rattle.edf_check.specs.Courses.{IsFirstMismatch};
-ghost use Rattle.edf_check.specs.HeadVerdicts.{HeadsAgree};
-ghost use Rattle.edf_check.specs.Kept.{KeptAt, ExportedAt};
-ghost use Rattle.edf_check.specs.NoteOrder.{note_mismatch};
+ghost use Rattle.edf_stream.specs.Readers.{Reader, HasBegun, StandsIn};
+ghost use Rattle.edf_stream.specs.Summaries.{channels_among};
+ghost use Rattle.edf_check.specs.HeadVerdicts.{HeadsAgree, IsHeadVerdict};
 ghost use Rattle.edf_check.specs.Checks.{CheckStops, SideStops};
-ghost use Rattle.edf_check.specs.Exports.{AreCounts, SameSamples};
-ghost use Rattle.edf_check.specs.Walks.{ArePair, BothAgree, notes_kept, notes_moved, IsBounded, IsClock, IsCompared, IsReadAs, IsReadOut, IsWalked};
+ghost use Rattle.edf_check.specs.Walks.{IsReadOut, IsWalked};
+ghost use Rattle.edf_check.specs.Windows.{IsFaultOf, IsReadBy};
+ghost use Rattle.edf_check.specs.declared.side.Side.TheVariants as sides;
 
 use crate::clock::Clock;
+use crate::conclude::conclude;
 use crate::head_difference::head_difference;
-use crate::kept_notes::{kept_notes, moved_notes};
-use crate::night::Night;
-use crate::note_difference::{NoteDifference, note_difference};
-use crate::sample_difference::{SampleDifference, sample_difference};
+use crate::labels::in_order;
+use crate::lockstep::{FaultOf, Frame, walk_records};
+use crate::note_difference::NoteDifference;
+use crate::reading::{Reading, read_out};
+use crate::sample_difference::SampleDifference;
 use crate::side::{CheckStop, Side};
+use crate::track::pairs_of;
 use crate::verdict::Verdict;
 use edf_claim::claim::Claim;
 use edf_fields::source::Source;
@@ -30,9 +30,9 @@ use edf_header::fault::Fault;
 use edf_header::header::Header;
 use edf_header::stop::Stop;
 use edf_stream::conform::Summary;
-use edf_stream::meaning::{Meaning, whole_file};
 use edf_stream::notes::Note;
-use std::alloc::{AllocError, Global};
+use edf_stream::reader::FileReader;
+use std::alloc::Global;
 
 /// What reading both files to their ends found.
 #[derive(Debug, Drop)]
@@ -51,200 +51,156 @@ pub(crate) enum Walked {
     Same(Summary),
 }
 
-/// A file that conforms: its header, and what it means.
-#[derive(Drop)]
-pub(crate) struct WholeFile {
-    pub header: Header,
-    pub meaning: Meaning,
-}
-
-impl WholeFile {
-    /// Its annotations, in order of data record, annotation signal, TAL and text.
-    fn into_notes(self) -> Vec<Note>
-        ensures { result.items ≡ self.meaning.notes.items }
+impl FaultOf {
+    /// What a fault of one of the files comes to.
+    fn walked(self) -> Walked
+        ensures walked { (o e : List ℕ) (claim : Terms) (r s : Reader) (a b : List ℕ) → StandsIn r a o → StandsIn s b e → IsFaultOf o r.head e s.head self → IsWalked o e claim result }
+        ensures read { (a b : List ℕ) → IsReadBy self a → IsReadOut result a b }
     {
-        let meaning = self.meaning;
-        meaning.notes
+        match self {
+            FaultOf::Original(fault) => Walked::OriginalFault(fault),
+            FaultOf::Export(fault) => Walked::ExportFault(fault),
+        }
     }
 }
 
-/// Reads the file of one side, or finds its first fault.
-fn read_side<S: Source>(
+/// Begins to read the file of one side, or finds the fault of its header.
+///
+/// The error is want of memory, or a failure of the source.
+fn open<S: Source>(
     alloc: Global,
     source: &mut S,
     side: Side,
-) -> Result<Result<WholeFile, Fault>, CheckStop>
-    ensures bounded { IfOk result (λ read. IfOk read (λ file. IsBounded file.meaning)) }
-    ensures file { IfOk result (λ read. IfOk read (λ file. IsTrue (S.is_honest source.old) → IsReadAs (S.left source.old) (S.left source.new) file.header file.meaning)) }
-    ensures fault { IfOk result (λ read. IfErr read (λ fault. IsTrue (S.is_honest source.old) → file_fault (S.left source.old) ≡ Some fault)) }
+) -> Result<Result<Reading, Fault>, CheckStop>
+    ensures begun { IfOk result (λ opened. IfOk opened (λ r. HasBegun r.reader × (r.notes.items ≡ []))) }
+    ensures honesty { IfOk result (λ opened. IfOk opened (λ r. IsTrue (S.is_honest source.old) → IsTrue (S.is_honest source.new))) }
+    ensures failures { IfOk result (λ opened. IfOk opened (λ r. S.failures source.new ≡ S.failures source.old)) }
+    ensures stands { IfOk result (λ opened. IfOk opened (λ r. IsTrue (S.is_honest source.old) → StandsIn r.reader (S.left source.new) (S.left source.old))) }
+    ensures fault { IfOk result (λ opened. IfErr opened (λ fault. IsTrue (S.is_honest source.old) → file_fault (S.left source.old) ≡ Some fault)) }
     ensures stop { IfErr result (SideStops side (Rises (S.failures source.old) (S.failures source.new))) }
 {
-    match whole_file(alloc, source) {
-        Ok((header, meaning)) => Ok(Ok(WholeFile { header, meaning })),
+    match FileReader::begin(alloc, source) {
+        Ok(reader) => Ok(Ok(Reading {
+            reader,
+            notes: Vec::new(alloc),
+        })),
         Err(Stop::Fault(fault)) => Ok(Err(fault)),
-        Err(Stop::OutOfMemory) => Err(CheckStop::OutOfMemory),
         Err(Stop::ReadFailed) => Err(CheckStop::ReadFailed(side)),
+        Err(Stop::OutOfMemory) => Err(CheckStop::OutOfMemory),
     }
 }
 
-/// The first difference of the samples of two files whose headers agree.
+/// What a fault of the export's header comes to: the original is read to its end, and its fault goes
+/// before it.
 ///
-/// The error is want of memory.
-fn compare_samples(
-    alloc: Global,
-    original: &WholeFile,
-    export: &WholeFile,
-    clock: Clock,
-    claim: &Claim,
-) -> Result<Option<SampleDifference>, AllocError>
-    requires original { IsBounded original.now.meaning }
-    requires export { IsBounded export.now.meaning }
-    requires clock { IsClock original.now.header claim.now clock }
-    ensures { IfOk result (λ found. (o e : List ℕ) → ArePair o e original.now.header original.now.meaning export.now.header export.now.meaning → HeadsAgree (head_of o) (head_of e) claim.now → MatchOption found
-        (SameSamples o e claim.now)
-        (λ d. IsFirstMismatch (KeptAt o claim.now) (ExportedAt o e claim.now) d.label d.at_ps d.mismatch)) }
+/// The error is a failure of the original's source.
+fn header_behind<S: Source>(
+    original: &mut FileReader,
+    source: &mut S,
+    fault: Fault,
+) -> Result<Walked, CheckStop>
+    requires begun { HasBegun original.old }
+    ensures walked { IfOk result (λ walked. IsTrue (S.is_honest source.old) → (o e : List ℕ) (claim : Terms) → StandsIn original.old (S.left source.old) o → file_fault e ≡ Some fault → IsWalked o e claim walked) }
+    ensures read { IfOk result (λ walked. IsTrue (S.is_honest source.old) → (o left : List ℕ) → StandsIn original.old (S.left source.old) o → IsReadOut walked (S.left source.new) left) }
+    ensures stop { IfErr result (SideStops sides.Original (Rises (S.failures source.old) (S.failures source.new))) }
 {
-    let kept = Night {
-        header: &original.header,
-        samples: &original.meaning.samples,
-        moved: clock.original,
-    };
-    let exported = Night {
-        header: &export.header,
-        samples: &export.meaning.samples,
-        moved: clock.export,
-    };
-    sample_difference(alloc, &kept, &exported, claim)
-}
-
-/// The annotations of an original that the claim keeps, counted from the second at which it starts.
-///
-/// The error is want of memory.
-fn original_notes(
-    alloc: Global,
-    notes: Vec<Note>,
-    clock: Clock,
-    claim: &Claim,
-) -> Result<Vec<Note>, AllocError>
-    requires near { All IsNear notes.items }
-    requires by { unsigned_abs (clock.original).ps < 2 ^ 80 }
-    ensures { IfOk result (λ v. map note_value v.items ≡ notes_kept claim.now clock (map note_value notes.items)) }
-{
-    kept_notes(alloc, notes, clock.original, claim)
-}
-
-/// The annotations of an export, counted from the second at which the original starts, before the shift.
-///
-/// The error is want of memory.
-fn export_notes(alloc: Global, notes: Vec<Note>, clock: Clock) -> Result<Vec<Note>, AllocError>
-    requires near { All IsNear notes.items }
-    requires by { unsigned_abs (clock.export).ps < 2 ^ 80 }
-    ensures { IfOk result (λ v. map note_value v.items ≡ notes_moved clock (map note_value notes.items)) }
-{
-    moved_notes(alloc, notes, clock.export)
-}
-
-/// The first difference of the annotations of two files.
-///
-/// The error is want of memory.
-fn compare_notes(
-    alloc: Global,
-    original: Vec<Note>,
-    export: Vec<Note>,
-    clock: Clock,
-    claim: &Claim,
-) -> Result<Option<NoteDifference>, AllocError>
-    requires original { All IsNear original.items }
-    requires export { All IsNear export.items }
-    requires original_by { unsigned_abs (clock.original).ps < 2 ^ 80 }
-    requires export_by { unsigned_abs (clock.export).ps < 2 ^ 80 }
-    ensures { IfOk result (λ found. MatchOption found
-        (SameNotes (notes_kept claim.now clock (map note_value original.items)) (notes_moved clock (map note_value export.items)))
-        (λ d. IsFirstNote (notes_kept claim.now clock (map note_value original.items)) (notes_moved clock (map note_value export.items)) (note_mismatch d).mismatch (note_mismatch d).note)) }
-{
-    let kept = original_notes(alloc, original, clock, claim)?;
-    let exported = export_notes(alloc, export, clock)?;
-    note_difference(alloc, kept, exported)
-}
-
-/// How much a file holds.
-#[tactic(auto, using(crate::proofs::WalkFacts::counted_of))]
-fn summary_of(file: &WholeFile) -> Summary
-    ensures { (e : List ℕ) → file.now.header ≡ head_of e → Means e (head_of e) file.now.meaning → AreCounts e result.channels result.samples result.annotations }
-{
-    Summary::of(&file.header, file.meaning.notes.len() as u64)
-}
-
-/// Compares the annotations of two files that conform, whose headers agree and whose samples are the same.
-///
-/// The error is want of memory.
-fn compare_annotations(
-    alloc: Global,
-    original: WholeFile,
-    export: WholeFile,
-    clock: Clock,
-    claim: &Claim,
-) -> Result<Walked, AllocError>
-    requires original { IsBounded original.meaning }
-    requires export { IsBounded export.meaning }
-    requires clock { IsClock original.header claim.now clock }
-    ensures walked { IfOk result (λ walked. (o e : List ℕ) → ArePair o e original.header original.meaning export.header export.meaning → BothAgree o e claim.now → SameSamples o e claim.now → IsWalked o e claim.now walked) }
-    ensures compared { IfOk result IsCompared }
-{
-    let summary = summary_of(&export);
-    let kept = original.into_notes();
-    let exported = export.into_notes();
-    match compare_notes(alloc, kept, exported, clock, claim)? {
-        Some(difference) => Ok(Walked::NotesDiffer(difference)),
-        None => Ok(Walked::Same(summary)),
+    match read_out(original, source, Side::Original) {
+        Ok(None) => Ok(Walked::ExportFault(fault)),
+        Ok(Some(first)) => Ok(Walked::OriginalFault(first)),
+        Err(stop) => Err(stop),
     }
 }
 
-/// Compares the samples of two files that conform and whose headers agree, and then their annotations.
+/// What two files come to whose headers differ: both are read to their ends, and a fault goes before the
+/// difference.
 ///
-/// The error is want of memory.
-fn compare_contents(
-    alloc: Global,
-    original: WholeFile,
-    export: WholeFile,
-    claim: &Claim,
-) -> Result<Walked, AllocError>
-    requires original { IsBounded original.meaning }
-    requires export { IsBounded export.meaning }
-    ensures walked { IfOk result (λ walked. (o e : List ℕ) → ArePair o e original.header original.meaning export.header export.meaning → BothAgree o e claim.now → IsWalked o e claim.now walked) }
-    ensures compared { IfOk result IsCompared }
+/// The error is a failure of one of the sources.
+fn heads_differ<O: Source, E: Source>(
+    original: &mut FileReader,
+    o: &mut O,
+    export: &mut FileReader,
+    e: &mut E,
+    verdict: Verdict,
+) -> Result<Walked, CheckStop>
+    requires original { HasBegun original.old }
+    requires export { HasBegun export.old }
+    ensures walked { IfOk result (λ walked. IsTrue (O.is_honest o.old) → IsTrue (E.is_honest e.old) → (a b : List ℕ) (claim : Terms) → StandsIn original.old (O.left o.old) a → StandsIn export.old (E.left e.old) b
+        → IsHeadVerdict original.old.head export.old.head claim verdict → IsWalked a b claim walked) }
+    ensures read { IfOk result (λ walked. IsTrue (O.is_honest o.old) → IsTrue (E.is_honest e.old) → (a b : List ℕ) → StandsIn original.old (O.left o.old) a → StandsIn export.old (E.left e.old) b → IsReadOut walked (O.left o.new) (E.left e.new)) }
+    ensures stop { IfErr result (CheckStops (Rises (O.failures o.old) (O.failures o.new)) (Rises (E.failures e.old) (E.failures e.new))) }
 {
-    let clock = Clock::new(&original.header, claim);
-    match compare_samples(alloc, &original, &export, clock, claim)? {
-        Some(difference) => Ok(Walked::SamplesDiffer(difference)),
-        None => compare_annotations(alloc, original, export, clock, claim),
+    match read_out(original, o, Side::Original) {
+        Ok(None) => match read_out(export, e, Side::Export) {
+            Ok(None) => Ok(Walked::HeadsDiffer(verdict)),
+            Ok(Some(fault)) => Ok(Walked::ExportFault(fault)),
+            Err(stop) => Err(stop),
+        },
+        Ok(Some(fault)) => Ok(Walked::OriginalFault(fault)),
+        Err(stop) => Err(stop),
     }
 }
 
-/// Compares two files that conform: their headers, then their samples, then their annotations.
-///
-/// The error is want of memory.
-fn compare(
-    alloc: Global,
-    original: WholeFile,
-    export: WholeFile,
-    claim: &Claim,
-) -> Result<Walked, AllocError>
-    requires original { IsBounded original.meaning }
-    requires export { IsBounded export.meaning }
-    ensures walked { IfOk result (λ walked. (o e : List ℕ) → ArePair o e original.header original.meaning export.header export.meaning → IsWalked o e claim.now walked) }
-    ensures compared { IfOk result IsCompared }
+/// How much a file with this header holds that has these annotations.
+fn summary_of(header: &Header, notes: &[Note]) -> Summary
+    ensures channels { result.channels ≡ length (channels_among header.now.signals) }
+    ensures samples { result.samples ≡ header.now.records * samples_together (channels_among header.now.signals) }
+    ensures annotations { result.annotations ≡ length notes.now }
 {
-    match head_difference(alloc, &original.header, &export.header, claim)? {
-        Some(verdict) => Ok(Walked::HeadsDiffer(verdict)),
-        None => compare_contents(alloc, original, export, claim),
-    }
+    Summary::of(header, notes.len() as u64)
 }
 
-/// Reads both files to their ends and compares them: the original first, and the export only where the
-/// original conforms.
+/// Reads on in two files whose headers agree, and compares them.
 ///
 /// The error is want of memory, or a failure of one of the sources.
+fn walk_contents<O: Source, E: Source>(
+    alloc: Global,
+    first: Reading,
+    o: &mut O,
+    second: Reading,
+    e: &mut E,
+    claim: &Claim,
+) -> Result<Walked, CheckStop>
+    requires original { HasBegun first.reader × (first.notes.items ≡ []) }
+    requires export { HasBegun second.reader × (second.notes.items ≡ []) }
+    ensures walked { IfOk result (λ walked. IsTrue (O.is_honest o.old) → IsTrue (E.is_honest e.old) → (a b : List ℕ) → StandsIn first.reader (O.left o.old) a → StandsIn second.reader (E.left e.old) b
+        → HeadsAgree (first.reader).head (second.reader).head claim.now → IsWalked a b claim.now walked) }
+    ensures read { IfOk result (λ walked. IsTrue (O.is_honest o.old) → IsTrue (E.is_honest e.old) → (a b : List ℕ) → StandsIn first.reader (O.left o.old) a → StandsIn second.reader (E.left e.old) b → IsReadOut walked (O.left o.new) (E.left e.new)) }
+    ensures stop { IfErr result (CheckStops (Rises (O.failures o.old) (O.failures o.new)) (Rises (E.failures e.old) (E.failures e.new))) }
+{
+    let mut original = first;
+    let mut export = second;
+    let clock = Clock::new(original.reader.header(), claim);
+    let labels = in_order(alloc, claim.channels())?;
+    let pairs = pairs_of(
+        alloc,
+        original.reader.header(),
+        export.reader.header(),
+        &labels,
+    )?;
+    let frame = Frame { clock, claim };
+    match walk_records(alloc, &mut original, o, &mut export, e, &pairs, frame) {
+        Ok(Ok(found)) => {
+            let summary = summary_of(export.reader.header(), &export.notes);
+            let walked = conclude(
+                alloc,
+                found,
+                &labels,
+                original.notes,
+                export.notes,
+                summary,
+            )?;
+            Ok(walked)
+        }
+        Ok(Err(fault)) => Ok(fault.walked()),
+        Err(stop) => Err(stop),
+    }
+}
+
+/// Reads both files to their ends, data record by data record, and compares them. Where the original has a
+/// fault, the export isn't read on; where the export has one, the original is read to its end.
+///
+/// A data record of each file is in memory at a time, and the annotations that are compared. The error is
+/// want of memory, or a failure of one of the sources.
 pub(crate) fn walk<O: Source, E: Source>(
     alloc: Global,
     original: &mut O,
@@ -257,14 +213,35 @@ pub(crate) fn walk<O: Source, E: Source>(
         IsReadOut walked (O.left original.new) (E.left export.new)) }
     ensures stop { IfErr result (CheckStops (Rises (O.failures original.old) (O.failures original.new)) (Rises (E.failures export.old) (E.failures export.new))) }
 {
-    let first = match read_side(alloc, original, Side::Original)? {
-        Ok(file) => file,
-        Err(fault) => return Ok(Walked::OriginalFault(fault)),
+    let mut first = match open(alloc, original, Side::Original) {
+        Ok(Ok(reading)) => reading,
+        Ok(Err(fault)) => return Ok(Walked::OriginalFault(fault)),
+        Err(stop) => return Err(stop),
     };
-    let second = match read_side(alloc, export, Side::Export)? {
-        Ok(file) => file,
-        Err(fault) => return Ok(Walked::ExportFault(fault)),
+    let mut second = match open(alloc, export, Side::Export) {
+        Ok(Ok(reading)) => reading,
+        Ok(Err(fault)) => match header_behind(&mut first.reader, original, fault) {
+            Ok(walked) => return Ok(walked),
+            Err(stop) => return Err(stop),
+        },
+        Err(stop) => return Err(stop),
     };
-    let walked = compare(alloc, first, second, claim)?;
-    Ok(walked)
+    match head_difference(alloc, first.reader.header(), second.reader.header(), claim)? {
+        Some(verdict) => {
+            match heads_differ(
+                &mut first.reader,
+                original,
+                &mut second.reader,
+                export,
+                verdict,
+            ) {
+                Ok(walked) => Ok(walked),
+                Err(stop) => Err(stop),
+            }
+        }
+        None => match walk_contents(alloc, first, original, second, export, claim) {
+            Ok(walked) => Ok(walked),
+            Err(stop) => Err(stop),
+        },
+    }
 }
