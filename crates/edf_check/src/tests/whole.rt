@@ -29,6 +29,14 @@ struct WholeFile {
     meaning: Meaning,
 }
 
+impl WholeFile {
+    /// Its annotations, in order of data record, annotation signal, TAL and text.
+    fn into_notes(self) -> Vec<Note> {
+        let meaning = self.meaning;
+        meaning.notes
+    }
+}
+
 /// Reads the file of one side, or finds its first fault.
 fn read_side<S: Source>(
     alloc: Global,
@@ -231,8 +239,8 @@ fn compare_contents(
         return Ok(Verdict::No(found));
     }
     let summary = Summary::of(&export.header, export.meaning.notes.len() as u64);
-    let kept = notes_of(alloc, original.meaning.notes, by, Some(claim))?;
-    let exported = notes_of(alloc, export.meaning.notes, back, None)?;
+    let kept = notes_of(alloc, original.into_notes(), by, Some(claim))?;
+    let exported = notes_of(alloc, export.into_notes(), back, None)?;
     match note_difference(alloc, kept, exported)? {
         Some(found) => Ok(Verdict::No(Difference::Annotation {
             mismatch: found.mismatch,
