@@ -15,6 +15,8 @@ mod head;
 #[cfg(test)]
 mod headers;
 #[cfg(test)]
+mod large;
+#[cfg(test)]
 mod lines;
 #[cfg(test)]
 mod meaning;
@@ -36,3 +38,5 @@ mod sizes;
 mod sources;
 #[cfg(test)]
 mod texts;
+#[cfg(test)]
+mod timed;

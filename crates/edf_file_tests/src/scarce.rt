@@ -4,7 +4,11 @@ use crate::file::{Edit, edited, is_reference};
 use crate::headers::{Answer, answer_of, claim, read};
 use crate::meaning::is_that_of_reference;
 use crate::record::{LANES, recorded, timed};
+use crate::timed::Timed;
+use edf_check::check::check;
 use edf_check::head_difference::head_difference;
+use edf_check::side::CheckStop;
+use edf_check::verdict::Verdict;
 use edf_claim::claim::Claim;
 use edf_fields::cause::FieldCause;
 use edf_fields::source::SliceSource;
@@ -16,6 +20,7 @@ use edf_stream::conform::conform;
 use edf_stream::meaning::whole_meaning;
 use edf_stream::reader::FileReader;
 use std::alloc::{AllocError, Global};
+use std::test::Fail;
 
 type Blocks = Vec<Vec<u8>>;
 
@@ -73,8 +78,9 @@ struct Pair<'a> {
 }
 
 /// One of the calls: reading a header that has this fault or none, reading a whole file that conforms,
-/// reading what the reference file means, at once or behind its header, saying the longest fault, or
-/// comparing two headers whose second channel has another calibration.
+/// reading what the reference file means, at once or behind its header, saying the longest fault, comparing
+/// two headers whose second channel has another calibration, or checking a file that keeps the time for so
+/// many seconds against itself.
 #[derive(Clone, Copy)]
 enum Call<'a> {
     Reading(Option<Fault>),
@@ -83,6 +89,7 @@ enum Call<'a> {
     ReadingOn,
     Saying,
     Comparing(Pair<'a>),
+    Checking(usize, &'a Claim),
 }
 
 /// Whether the header is read, or refused for this fault; or none where that wants memory.
@@ -133,6 +140,18 @@ fn is_recalibrated(alloc: Global, pair: Pair) -> Option<bool> {
     Some(answer_of(&found) == Answer::Calibration(b"ECG"))
 }
 
+/// Whether the check of a file of so many seconds against itself, with this header, answers how many samples
+/// it has; or none where it wants memory.
+fn is_taken(alloc: Global, header: &[u8], seconds: usize, claim: &Claim) -> Option<bool> {
+    let mut original = Timed::new(header, seconds);
+    let mut export = Timed::new(header, seconds);
+    match check(alloc, &mut original, &mut export, claim) {
+        Ok(Verdict::Yes { samples, .. }) => Some(samples == 6 * seconds as u64),
+        Err(CheckStop::OutOfMemory) => None,
+        _ => Some(false),
+    }
+}
+
 /// Whether the call ends as it should, or none where it wants memory.
 fn called(alloc: Global, call: Call, file: &[u8]) -> Option<bool> {
     match call {
@@ -141,6 +160,7 @@ fn called(alloc: Global, call: Call, file: &[u8]) -> Option<bool> {
         Call::Meaning => is_meant(alloc, file),
         Call::ReadingOn => is_meant_behind_header(alloc, file),
         Call::Comparing(pair) => is_recalibrated(alloc, pair),
+        Call::Checking(seconds, claim) => is_taken(alloc, file, seconds, claim),
         Call::Saying => {
             let text = LONGEST.text(alloc).ok()?;
             Some(text.as_str() == WORDS)
@@ -262,5 +282,31 @@ fn compares_headers_or_wants_memory(rt: HostRuntime) -> Result<(), AllocError> {
     };
     let (is_right, refused) = rise(alloc, Call::Comparing(pair), b"")?;
     assert!(rt; is_right && refused > 4, "{refused}");
+    Ok(())
+}
+
+/// The header of a file of so many data records of 1 s, and the claim that keeps them all.
+fn lasting(alloc: Global, seconds: usize) -> Result<(Vec<u8>, Claim), Fail> {
+    let count = seconds.to_string(alloc)?;
+    let header = edited(
+        alloc,
+        &[(Place::AtField(FixedField::Records), count.as_str())],
+    )?;
+    let text = format!(in alloc;
+        "format = 1\nchannels = [\"EEG Fpz-Cz\", \"ECG\"]\n[[keep]]\nfrom = \"0\"\nto = \"{seconds}\"\n"
+    )?;
+    let claim = Claim::read(alloc, text.as_bytes())?;
+    Ok((header, claim))
+}
+
+/// A check wants the memory of both headers and of a data record of each file, however many they have.
+#[test]
+fn checks_in_the_memory_of_two_records(rt: HostRuntime) -> Result<(), Fail> {
+    let (header, claim) = lasting(rt.alloc(), 4)?;
+    let (is_right, refused) = rise(rt.alloc(), Call::Checking(4, &claim), &header)?;
+    assert!(rt; is_right && refused >= 64, "{refused}");
+    let (header, claim) = lasting(rt.alloc(), 400)?;
+    let of_long = rise(rt.alloc(), Call::Checking(400, &claim), &header)?;
+    assert_eq!(rt; of_long, (true, refused));
     Ok(())
 }

@@ -1,7 +1,8 @@
 //! Samples at even distances, cut at times and compared.
 
 use crate::difference::PointDifference;
-use crate::stretch::{Stretch, Time, between, stretch_difference};
+use crate::stretch::{Stretch, between, stretch_difference};
+use crate::time::Time;
 use crate::verdict::SampleMismatch;
 use edf_stream::instant::Instant;
 use std::process::Abort;

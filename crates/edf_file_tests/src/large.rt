@@ -1,0 +1,134 @@
+//! A header that announces the largest data records and the most of them, as either side of a check: its data
+//! record is held, and nothing else of the file.
+
+ghost use Rattle.std.specs.Prelude.{[], false};
+
+use crate::file::{Edit, header_of, put};
+use crate::record::push_lane;
+use edf_check::outcome::Outcome;
+use edf_check::run::run;
+use edf_fields::sink::SliceSink;
+use edf_fields::source::{ReadFault, SliceSource, Source};
+use edf_header::fault::Place::{AtField, AtSignal};
+use edf_header::layout::{FixedField as Fixed, SignalField as Field};
+use std::alloc::{AllocError, Global};
+use std::test::Fail;
+
+/// Gives its bytes, so many zeros behind them, and the last bytes. It makes the zeros as they are read, and
+/// the proofs know nothing of it.
+#[derive(Drop)]
+struct Padded<'a> {
+    first: &'a [u8],
+    zeros: usize,
+    last: &'a [u8],
+}
+
+impl<'a> Source for Padded<'a> {
+    ghost left = { λ _. [] };
+
+    ghost failures = { λ _. 0 };
+
+    ghost is_honest = { λ _. false };
+
+    fn read(&mut self, buf: &mut [u8]) -> Result<usize, ReadFault> {
+        if self.first.is_empty() && self.zeros > 0 {
+            let count = buf.len().min(self.zeros);
+            buf[..count].fill(0);
+            self.zeros -= count;
+            return Ok(count);
+        }
+        if self.first.is_empty() {
+            self.first = self.last;
+            self.last = b"";
+        }
+        let count = buf.len().min(self.first.len());
+        let (front, rest) = self.first.split_at(count);
+        buf[..count].copy_from_slice(front);
+        self.first = rest;
+        Ok(count)
+    }
+}
+
+/// A channel `Temp` in place of the second one of the reference file.
+const TEMP: &[Edit] = &[
+    (AtField(Fixed::HeaderBytes), "768"),
+    (AtField(Fixed::Records), "1"),
+    (AtField(Fixed::Signals), "2"),
+    (AtSignal(0, Field::Label), "Temp"),
+    (AtSignal(0, Field::Transducer), ""),
+    (AtSignal(0, Field::Dimension), "degC"),
+    (AtSignal(0, Field::PhysicalMinimum), "30"),
+    (AtSignal(0, Field::PhysicalMaximum), "40"),
+    (AtSignal(0, Field::Prefilter), ""),
+    (AtSignal(0, Field::Samples), "2"),
+    (AtSignal(1, Field::Samples), "16"),
+];
+
+/// Data records of 16,777,216 bytes: 8,388,600 samples, and a lane of 16 bytes.
+const LARGEST: &[Edit] = &[
+    (AtField(Fixed::Records), "99999999"),
+    (AtSignal(0, Field::Samples), "8388600"),
+    (AtSignal(1, Field::Samples), "8"),
+];
+
+/// The header of a file with the channel, with other texts in some of its fields.
+fn temp_header(alloc: Global, edits: &[Edit]) -> Result<Vec<u8>, AllocError> {
+    let mut file = header_of(alloc, &[1, 2])?;
+    for (place, text) in TEMP {
+        put(&mut file, *place, text);
+    }
+    for (place, text) in edits {
+        put(&mut file, *place, text);
+    }
+    Ok(file)
+}
+
+/// A file of one data record of 1 s with two samples, 7 and -7.
+fn small_file(alloc: Global) -> Result<Vec<u8>, AllocError> {
+    let mut file = temp_header(alloc, &[])?;
+    file.extend_from_slice(b"\x07\0\xf9\xff")?;
+    push_lane(&mut file, b"+0\x14\x14\0", 32)?;
+    Ok(file)
+}
+
+/// A source of a file with this header that ends behind its first data record.
+fn largest(header: &[u8]) -> Padded<'_> {
+    Padded {
+        first: header,
+        zeros: 16_777_200,
+        last: b"+0\x14\x14\0\0\0\0\0\0\0\0\0\0\0\0",
+    }
+}
+
+/// The claim that keeps the channel for six seconds.
+const CLAIM: &[u8] = b"format = 1\nchannels = [\"Temp\"]\n[[keep]]\nfrom = \"0\"\nto = \"6\"\n";
+
+#[test]
+fn holds_one_record_of_the_original(rt: HostRuntime) -> Result<(), Fail> {
+    let alloc = rt.alloc();
+    let header = temp_header(alloc, LARGEST)?;
+    let small = small_file(alloc)?;
+    let mut room = [0u8; 64];
+    let mut sink = SliceSink::new(&mut room);
+    let mut original = largest(&header);
+    let mut export = SliceSource::new(&small);
+    let outcome = run(alloc, &mut original, &mut export, CLAIM, &mut sink)?;
+    let want = "NO 1 original fault: Truncated at record 1\n";
+    assert_eq!(rt; (outcome, sink.written()), (Outcome::No, want.as_bytes()));
+    Ok(())
+}
+
+#[test]
+fn holds_one_record_of_the_export(rt: HostRuntime) -> Result<(), Fail> {
+    let alloc = rt.alloc();
+    let header = temp_header(alloc, LARGEST)?;
+    let small = small_file(alloc)?;
+    let mut room = [0u8; 64];
+    let mut sink = SliceSink::new(&mut room);
+    let mut original = SliceSource::new(&small);
+    let mut export = largest(&header);
+    let outcome = run(alloc, &mut original, &mut export, CLAIM, &mut sink)?;
+    let want = "NO 2 export fault: Truncated at record 1\n";
+    assert_eq!(rt; (outcome, sink.written()), (Outcome::No, want.as_bytes()));
+    Ok(())
+}
