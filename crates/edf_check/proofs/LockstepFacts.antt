@@ -1,5 +1,5 @@
 -- One step of a walk over two files, and its end.
-use Rattle.std.proofs.Common.{◌≡◌, ℕ, ℤ, ◌<ℤ◌, ◌≤ℤ◌, ◌+ℤ◌, ◌*ℤ◌, ◌<◌, ◌^◌, pos, neg_ℤ, unsigned_abs, Bool, true, false, cond, List, [], ◌∷◌, map, All, Option, None, Some, option_map, IfSome, refl, sym, ap, ◌∙◌, arith, subst}
+use Rattle.std.proofs.Common.{◌≡◌, ℕ, ℤ, ◌<ℤ◌, ◌≤ℤ◌, ◌<◌, ◌^◌, pos, neg_ℤ, unsigned_abs, false, List, [], ◌∷◌, map, Option, None, Some, option_map, IfSome, refl, sym, ap, ◌∙◌, arith, subst}
 use Rattle.std.proofs.lemmas.Int.{ints}
 use Rattle.std.proofs.lemmas.List.Elements.{All-head, All-tail}
 use Rattle.std.specs.Option.{option_or}
@@ -18,7 +18,7 @@ use Rattle.edf_check.specs.declared.earliest.Found.{Found}
 use Rattle.edf_check.specs.declared.lockstep.FaultOf.{FaultOf}
 use Rattle.edf_check.specs.declared.track.Pair.{Pair}
 use Rattle.edf_check.specs.declared.track.Track.{Track}
-use Rattle.edf_check.specs.Windows.{sampled, Places, places_of, ArePairs, IsTrack, IsPlaceIn, whole_difference, rest_difference, window_difference, Shows, ArePast, Reaches, IsGoing, IsAt, IsThere, Covers, gathered_of, behind, IsFaultOf, IsReadThrough, AreWalked}
+use Rattle.edf_check.specs.Windows.{sampled, places_of, ArePairs, IsTrack, IsPlaceIn, whole_difference, rest_difference, window_difference, Shows, ArePast, Reaches, IsGoing, IsAt, Covers, gathered_of, behind, IsFaultOf, IsReadThrough, AreWalked}
 use Rattle.edf_check.proofs.PassFacts.{ended_is}
 use Rattle.edf_check.proofs.SplitFacts.{ArePlaces, step, at_start, at_end}
 

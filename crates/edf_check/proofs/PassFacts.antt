@@ -1,11 +1,10 @@
 -- A reader that goes on.
-use Rattle.std.proofs.Common.{inl, inr, ◌≡◌, ℕ, zero, suc, ◌+◌, ◌<◌, ◌≤◌, ℤ, pos, ◌+ℤ◌, ◌≤ℤ◌, ◌<ℤ◌, Bool, true, false, List, [], ◌∷◌, ◌++◌, map, filter, length, Option, Some, None, Ok, IfNone, refl, sym, ap, ◌∙◌, arith, subst}
+use Rattle.std.proofs.Common.{inl, inr, ◌≡◌, ℕ, suc, ◌+◌, ◌≤◌, ℤ, ◌+ℤ◌, ◌≤ℤ◌, ◌<ℤ◌, Bool, true, false, List, [], ◌∷◌, ◌++◌, map, filter, Option, Some, None, Ok, IfNone, refl, sym, ap, ◌∙◌, arith, subst}
 use Rattle.std.proofs.lemmas.Int.{ints}
 use Rattle.std.proofs.lemmas.Bool.{cases_lt}
 use Rattle.std.proofs.lemmas.List.{append-nil}
 use Rattle.std.proofs.lemmas.List.Elements.{filter-append}
 use Rattle.edf_claim.specs.Claims.{Terms}
-use Rattle.edf_header.specs.declared.fault.Fault.{Fault}
 use Rattle.edf_header.specs.Heads.{Head}
 use Rattle.edf_stream.specs.declared.status.Status.{Status}
 use Rattle.edf_stream.specs.declared.status.Status.TheVariants.{Begun, Current, Ended, Stopped}
@@ -14,7 +13,7 @@ use Rattle.edf_stream.specs.Faults.{body_fault}
 use Rattle.edf_stream.specs.Notes.{NoteValue, moved_by, notes_in, moved_notes_in, moved_notes_before}
 use Rattle.edf_stream.specs.Readers.{Reader, IsOpen, is_current, status_after, StandsIn, Comes}
 use Rattle.edf_stream.specs.Records.{record_at}
-use Rattle.edf_stream.specs.Starts.{file_start, end_at, end_before}
+use Rattle.edf_stream.specs.Starts.{file_start, end_before}
 use Rattle.edf_check.specs.Windows.{ArePast, end_by, ends_at, Shows, IsGoing, counts_by, gathered_of, gathered_in, IsAt, IsThere, Moves, Follows}
 
 -- what was answered is what is at hand

@@ -1,12 +1,12 @@
 -- The products of a check fit 128 bits.
-use Rattle.std.proofs.Common.{◌≡◌, ℕ, ◌<◌, ◌≤◌, ◌+◌, ◌*◌, ◌^◌, ℤ, pos, neg_ℤ, ◌+ℤ◌, ◌*ℤ◌, List, unsigned_abs, subst, arith}
+use Rattle.std.proofs.Common.{ℕ, ◌≤◌, ◌+◌, ◌*◌, ◌^◌, ℤ, pos, neg_ℤ, ◌*ℤ◌, List, unsigned_abs, subst, arith}
 use Rattle.std.proofs.lemmas.Int.{ints, unsigned_abs-mul}
 use Rattle.std.proofs.Math.Nat.{mul-le-mul}
 use Rattle.edf_claim.specs.Claims.{Terms, IsClaim, IsInterval}
 use Rattle.edf_claim.specs.declared.interval.Interval.{Interval}
 use Rattle.edf_fields.specs.Lists.{Has}
 use Rattle.edf_fields.proofs.ForCallers.{at-has, get-index, get-within}
-use Rattle.edf_header.specs.Heads.{SignalHead, Head, head_of, start_second}
+use Rattle.edf_header.specs.Heads.{SignalHead, Head, head_of}
 use Rattle.edf_header.specs.Sound.{IsSound, IsSoundSignal}
 use Rattle.edf_header.proofs.ForCallers.{calibrations_fit}
 use Rattle.edf_stream.specs.declared.instant.Instant.{Instant}

@@ -1,5 +1,5 @@
 -- What a reader shows between two times.
-use Rattle.std.proofs.Common.{◌≡◌, ℕ, ◌<◌, ℤ, ◌*ℤ◌, ◌+ℤ◌, ◌≤ℤ◌, ◌<ℤ◌, pos, Bool, true, false, not, List, [], ◌∷◌, Option, Some, None, IfSome, option_map, map, drop, filter, refl, sym, ap, ◌∙◌, arith, subst}
+use Rattle.std.proofs.Common.{◌≡◌, ℕ, ◌<◌, ℤ, ◌≤ℤ◌, true, false, not, List, [], ◌∷◌, Option, Some, None, IfSome, option_map, map, drop, filter, refl, sym, ap, ◌∙◌, arith, subst}
 use Rattle.std.proofs.lemmas.Int.{ints}
 use Rattle.edf_claim.specs.Claims.{Terms}
 use Rattle.edf_claim.specs.Keeps.{IsUncut, keeps_instant}
@@ -21,7 +21,7 @@ use Rattle.edf_check.specs.Columns.{Sampled}
 use Rattle.edf_check.specs.Earliest.{found, earlier, earliest}
 use Rattle.edf_check.specs.Differences.{instant, first_difference_of}
 use Rattle.edf_check.specs.Instants.{IsModest, is_before}
-use Rattle.edf_check.specs.Windows.{whole, since, until, sampled, points_at, kept_at, Places, places_of, window_of, window_difference, IsPlaceIn, shown_points, Shows, ends_at, end_by, Covers}
+use Rattle.edf_check.specs.Windows.{whole, since, until, sampled, points_at, kept_at, Places, places_of, window_of, window_difference, IsPlaceIn, shown_points, Shows, ends_at, Covers}
 use Rattle.edf_check.proofs.CutFacts.{until-before, since-from}
 use Rattle.edf_check.proofs.FilterFacts.{filter_all, filter_none, filters_swap}
 use Rattle.edf_check.proofs.SplitFacts.{earlier_both, mapped}

@@ -1,5 +1,5 @@
 -- The earliest difference from a time on is that before a later time, or else that from there on.
-use Rattle.std.proofs.Common.{◌≡◌, ℕ, ◌+◌, ◌<◌, ℤ, ◌+ℤ◌, ◌≤ℤ◌, Bool, true, false, not, cond, List, [], ◌∷◌, ◌++◌, map, filter, Option, Some, None, option_map, IfSome, refl, sym, ap, ◌∙◌, arith, lit<, subst}
+use Rattle.std.proofs.Common.{◌≡◌, ℕ, ◌+◌, ◌<◌, ℤ, ◌+ℤ◌, ◌≤ℤ◌, Bool, true, false, not, cond, List, [], ◌∷◌, ◌++◌, map, filter, Option, Some, None, option_map, IfSome, refl, sym, ap, ◌∙◌, lit<, subst}
 use Rattle.std.specs.Option.{option_or}
 use Rattle.edf_claim.specs.Claims.{Terms}
 use Rattle.edf_claim.specs.Keeps.{keeps_instant}
@@ -17,7 +17,7 @@ use Rattle.edf_check.specs.Differences.{instant, first_difference_of, IsAscendin
 use Rattle.edf_check.specs.Earliest.{found, earlier, earliest}
 use Rattle.edf_check.specs.Instants.{IsBefore, is_before}
 use Rattle.edf_check.specs.Windows.{whole, since, until, sampled, points_at, kept_at, Places, rest_of, window_of, whole_difference, rest_difference, window_difference, IsPlaceIn, ArePast}
-use Rattle.edf_check.proofs.CutFacts.{since_split, since-from, until-before, since_all, filter-ascending, earlier_from}
+use Rattle.edf_check.proofs.CutFacts.{since_split, since-from, until-before, since_all, filter-ascending}
 use Rattle.edf_check.proofs.DifferenceFacts.{difference_splits, difference-before, difference-from}
 use Rattle.edf_check.proofs.FilterFacts.{filters_swap}
 use Rattle.edf_check.proofs.FractionFacts.{before-not_before, before_below, true-is_before, false-is_before}
@@ -93,7 +93,6 @@ earliest-splits t k (p ∷ ps) s =
     rw (or_mapped k p.0 p.1, earliest-splits t (k + 1) ps s.2)
     (regroup t (option_map (found k) p.0) (option_map (found k) p.1) (earliest (k + 1) (map (λ q. q.0) ps)) (earliest (k + 1) (map (λ q. q.1) ps))
     (mapped (λ f. IsBefore f.difference.at t) k p.0 s.0) (mapped P k p.1 s.1) (fronts_before t (k + 1) ps s.2) (backs_from t (k + 1) ps s.2))
-
 
 map_map : {A B C : Type 0} (f : B → C) (g : A → B) (xs : List A) → map f (map g xs) ≡ map (λ x. f (g x)) xs
 map_map f g [] = refl

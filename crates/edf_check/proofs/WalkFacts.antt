@@ -1,5 +1,5 @@
 -- From the parts of a walk to what it found.
-use Rattle.std.proofs.Common.{◌≡◌, ◌*◌, ℕ, ℤ, neg_ℤ, ◌+ℤ◌, Bor, List, [], ◌∷◌, length, map, filter, suc, ◌<◌, Option, Some, None, IfSome, Result, Ok, Err, IfOk, refl, sym, ap, ◌∙◌, subst}
+use Rattle.std.proofs.Common.{◌≡◌, ◌*◌, ℕ, neg_ℤ, ◌+ℤ◌, Bor, List, [], ◌∷◌, length, map, filter, suc, ◌<◌, Option, Some, None, IfSome, Result, Ok, Err, IfOk, refl, sym, ap, ◌∙◌, subst}
 use Rattle.edf_claim.specs.Claims.{Terms}
 use Rattle.edf_claim.specs.Keeps.{keeps_annotation}
 use Rattle.edf_header.specs.declared.fault.Fault.{Fault}
@@ -26,13 +26,11 @@ use Rattle.edf_check.specs.declared.walk.Walked.TheVariants.{OriginalFault, Expo
 use Rattle.edf_check.specs.declared.verdict.Verdict.{Verdict}
 use Rattle.edf_check.specs.declared.verdict.Verdict.TheVariants.{Yes, No}
 use Rattle.edf_check.specs.declared.verdict.Difference.TheVariants as differences
-use Rattle.edf_check.specs.declared.verdict.AnnotationMismatch.{AnnotationMismatch}
-use Rattle.edf_check.specs.Annotations.{IsFirstNote, SameNotes}
 use Rattle.edf_check.specs.Checks.{AreRead, YesMeans}
 use Rattle.edf_check.specs.Columns.{channel_at, Sampled, difference_at, label_difference, AreNights}
 use Rattle.edf_check.specs.Comparisons.{AreSorted}
 use Rattle.edf_check.specs.Earliest.{earliest}
-use Rattle.edf_check.specs.Exports.{BothConform, AreCounts}
+use Rattle.edf_check.specs.Exports.{BothConform}
 use Rattle.edf_check.specs.HeadVerdicts.{HeadsAgree, IsHeadVerdict}
 use Rattle.edf_check.specs.Instants.{IsModest}
 use Rattle.edf_check.specs.Kept.{start_of, shift_of, kept_notes, exported_notes}

@@ -227,7 +227,7 @@ pub record IsReadThrough (file : List ℕ) (h : Head) (left : List ℕ) (notes :
 
 -- the same of both files, and this is the first difference of their channels
 pub record AreWalked (o : List ℕ) (h : Head) (left : List ℕ) (notes : List NoteValue) (e : List ℕ) (g : Head) (left' : List ℕ) (notes' : List NoteValue)
-  (claim : Terms) (a b : ℤ) (places : List Places) (found : Option Found) : Type 0 where
+    (claim : Terms) (a b : ℤ) (places : List Places) (found : Option Found) : Type 0 where
   pub original : IsReadThrough o h left notes (Some claim) a
   pub export : IsReadThrough e g left' notes' None b
   pub first : found ≡ whole_difference claim (sampled o h a) (sampled e g b) places

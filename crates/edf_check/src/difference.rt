@@ -1,8 +1,7 @@
-//! The first difference between the samples of one channel in two files.
+//! The difference of two samples of one channel, each of another file.
 
-ghost use Rattle.std.specs.Prelude.{◌≡◌, ◌<◌, ◌≤◌, ◌^◌, ◌⊎◌, length, IfSome, MatchOption, unsigned_abs};
-ghost use Rattle.std.specs.List.{All};
-ghost use Rattle.edf_check.specs.Differences.{first_difference_of, heads, IsAscending, Match, IsLeastDifference};
+ghost use Rattle.std.specs.Prelude.{◌≡◌, ◌<◌, ◌≤◌, ◌^◌, IfSome, unsigned_abs};
+ghost use Rattle.edf_check.specs.Differences.{heads};
 ghost use Rattle.edf_check.specs.Instants.{IsModest};
 
 use crate::instants::is_before;
@@ -48,58 +47,4 @@ pub(crate) fn difference_of_heads(x: Point, n: u32, y: Point, m: u32) -> Option<
             mismatch: SampleMismatch::Value(x.value, y.value),
         })
     }
-}
-
-/// The difference where one of the two lists at least has ended.
-fn difference_of_ends(xs: &[Point], n: u32, ys: &[Point], m: u32) -> Option<PointDifference>
-    requires ended { (length xs.now ≡ 0) ⊎ (length ys.now ≡ 0) }
-    requires xs { All (λ x. unsigned_abs x.num < 2 ^ 104) xs.now }
-    requires ys { All (λ y. unsigned_abs y.num < 2 ^ 104) ys.now }
-    requires some { 0 < n }
-    requires n { n ≤ 2 ^ 23 }
-    requires more { 0 < m }
-    requires m { m ≤ 2 ^ 23 }
-    ensures value { result ≡ first_difference_of n xs.now m ys.now }
-    ensures modest { IfSome result (λ d. IsModest d.at) }
-{
-    if let [x, ..] = xs {
-        return Some(PointDifference {
-            at: Instant { num: x.num, den: n },
-            mismatch: SampleMismatch::Missing,
-        });
-    }
-    if let [y, ..] = ys {
-        return Some(PointDifference {
-            at: Instant { num: y.num, den: m },
-            mismatch: SampleMismatch::Extra,
-        });
-    }
-    None
-}
-
-/// The first difference of two rising lists of samples of one channel, `xs` with `n` and `ys` with `m`
-/// samples a data record, read from the left.
-pub(crate) fn first_difference(
-    xs: &[Point],
-    n: u32,
-    ys: &[Point],
-    m: u32,
-) -> Option<PointDifference>
-    requires xs { All (λ x. unsigned_abs x.num < 2 ^ 104) xs.now }
-    requires ys { All (λ y. unsigned_abs y.num < 2 ^ 104) ys.now }
-    requires some { 0 < n }
-    requires n { n ≤ 2 ^ 23 }
-    requires more { 0 < m }
-    requires m { m ≤ 2 ^ 23 }
-    ensures value { result ≡ first_difference_of n xs.now m ys.now }
-    ensures modest { IfSome result (λ d. IsModest d.at) }
-{
-    let both = xs.len().min(ys.len());
-    for i in 0..both {
-        let found = difference_of_heads(xs[i], n, ys[i], m);
-        if found.is_some() {
-            return found;
-        }
-    }
-    difference_of_ends(&xs[both..], n, &ys[both..], m)
 }

@@ -41,5 +41,5 @@ mod time;
 mod track;
 mod unequal;
 pub mod verdict;
-mod window;
 mod walk;
+mod window;

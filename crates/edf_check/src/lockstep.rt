@@ -134,8 +134,30 @@ fn pass_both<O: Source, E: Source>(
         IsFaultOf a (original.old.reader).head b (export.old.reader).head fault)) }
     ensures stop { IfErr result (CheckStops (Rises (O.failures o.old) (O.failures o.new)) (Rises (E.failures e.old) (E.failures e.new))) }
 {
-    match pass(alloc, original, o, Side::Original, View { moved: frame.clock.original, claim: Some(frame.claim) }, from, to) {
-        Ok(None) => match pass(alloc, export, e, Side::Export, View { moved: frame.clock.export, claim: None }, from, to) {
+    match pass(
+        alloc,
+        original,
+        o,
+        Side::Original,
+        View {
+            moved: frame.clock.original,
+            claim: Some(frame.claim),
+        },
+        from,
+        to,
+    ) {
+        Ok(None) => match pass(
+            alloc,
+            export,
+            e,
+            Side::Export,
+            View {
+                moved: frame.clock.export,
+                claim: None,
+            },
+            from,
+            to,
+        ) {
             Ok(None) => Ok(None),
             Ok(Some(fault)) => match export_fault(&mut original.reader, o, fault) {
                 Ok(found) => Ok(Some(found)),
@@ -174,8 +196,28 @@ fn start_both<O: Source, E: Source>(
         IsFaultOf a (original.old.reader).head b (export.old.reader).head fault)) }
     ensures stop { IfErr result (CheckStops (Rises (O.failures o.old) (O.failures o.new)) (Rises (E.failures e.old) (E.failures e.new))) }
 {
-    match start(alloc, original, o, Side::Original, View { moved: frame.clock.original, claim: Some(frame.claim) }, time) {
-        Ok(None) => match start(alloc, export, e, Side::Export, View { moved: frame.clock.export, claim: None }, time) {
+    match start(
+        alloc,
+        original,
+        o,
+        Side::Original,
+        View {
+            moved: frame.clock.original,
+            claim: Some(frame.claim),
+        },
+        time,
+    ) {
+        Ok(None) => match start(
+            alloc,
+            export,
+            e,
+            Side::Export,
+            View {
+                moved: frame.clock.export,
+                claim: None,
+            },
+            time,
+        ) {
             Ok(None) => Ok(None),
             Ok(Some(fault)) => match export_fault(&mut original.reader, o, fault) {
                 Ok(found) => Ok(Some(found)),

@@ -266,8 +266,5 @@ pub(crate) fn lesser_end(
     ensures later { IfSome result (λ t. (s : ℤ) → IsAhead original.now original_by.ps s → IsAhead export.now export_by.ps s → s <ℤ t.ps) }
     ensures small { IfSome result (λ t. unsigned_abs t.ps < 2 ^ 82) }
 {
-    earlier_time(
-        end_of(original, original_by),
-        end_of(export, export_by),
-    )
+    earlier_time(end_of(original, original_by), end_of(export, export_by))
 }

@@ -21,7 +21,11 @@ pub(crate) struct SampleDifference {
 /// A difference with the label of its channel, which is one of these.
 ///
 /// The error is want of memory.
-pub(crate) fn with_label(alloc: Global, labels: &[&[u8]], found: Found) -> Result<SampleDifference, AllocError>
+pub(crate) fn with_label(
+    alloc: Global,
+    labels: &[&[u8]],
+    found: Found,
+) -> Result<SampleDifference, AllocError>
     requires channel { found.channel < length labels.now }
     requires some { 0 < found.difference.at.den }
     ensures label { IfOk result (λ d. slice_get (map (λ label. label.now) labels.now) found.channel ≡ Some d.label) }

@@ -181,14 +181,7 @@ fn walk_contents<O: Source, E: Source>(
     match walk_records(alloc, &mut original, o, &mut export, e, &pairs, frame) {
         Ok(Ok(found)) => {
             let summary = summary_of(export.reader.header(), &export.notes);
-            let walked = conclude(
-                alloc,
-                found,
-                &labels,
-                original.notes,
-                export.notes,
-                summary,
-            )?;
+            let walked = conclude(alloc, found, &labels, original.notes, export.notes, summary)?;
             Ok(walked)
         }
         Ok(Err(fault)) => Ok(fault.walked()),

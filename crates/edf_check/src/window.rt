@@ -90,7 +90,13 @@ fn lane_stretch<'a>(reader: &'a FileReader, track: Track, moved: Offset) -> Stre
 }
 
 /// The samples of a channel between two times.
-fn window<'a>(reader: &'a FileReader, track: Track, moved: Offset, from: Time, to: Time) -> Stretch<'a>
+fn window<'a>(
+    reader: &'a FileReader,
+    track: Track,
+    moved: Offset,
+    from: Time,
+    to: Time,
+) -> Stretch<'a>
     requires track { IsTrack reader.now.head track }
     requires near { unsigned_abs moved.ps < 2 ^ 80 }
     requires from { unsigned_abs from.ps < 2 ^ 100 }

@@ -13,7 +13,7 @@ returns-in_ok-with_label-in-Some-clause-walked c = λ o e claim r.
     let first = rw c.in-Some.is at r.first in (
       r.both,
       subst (λ (p : ℤ). IsFirstMismatch (KeptAt o claim) (ExportedAt o e claim) d.label p d.mismatch) (sym with.at_ps)
-      (subst (λ (m : SampleMismatch). IsFirstMismatch (KeptAt o claim) (ExportedAt o e claim) d.label (floor_of found.difference.at) m) (sym with.mismatch) (first d.label with.label)),
+          (subst (λ (m : SampleMismatch). IsFirstMismatch (KeptAt o claim) (ExportedAt o e claim) d.label (floor_of found.difference.at) m) (sym with.mismatch) (first d.label with.label)),
     )
 
 pub returns-in_ok-walked-in-None-clause-walked : goal.returns-in_ok-walked-in-None-clause-walked

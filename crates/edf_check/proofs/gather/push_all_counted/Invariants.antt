@@ -1,4 +1,4 @@
-use Rattle.std.proofs.Common.{◌≡◌, ◌++◌, map, Option, option_map}
+use Rattle.std.proofs.Common.{◌≡◌, ◌++◌, map, option_map}
 use Rattle.edf_stream.specs.Views.{note_value, notes_left}
 use Rattle.edf_check.specs.Windows.{gathered_of}
 use Rattle.edf_check.proofs.gather.push_all_counted.Given as goal

@@ -1,5 +1,4 @@
-use Rattle.std.proofs.Common.{arith, refl, map}
-use Rattle.std.proofs.lemmas.Int.{ints}
+use Rattle.std.proofs.Common.{refl, map}
 use Rattle.edf_stream.specs.Views.{note_value}
 use Rattle.edf_check.specs.Windows.{claim_of}
 use Rattle.edf_check.proofs.PassFacts.{ahead_next, at_next, at_later, current_open}

@@ -1,7 +1,6 @@
-use Rattle.std.proofs.Common.{◌≡◌, ◌*◌, ◌∙◌, Bor, List, ℕ, Option, length, map, sym, ap, subst}
+use Rattle.std.proofs.Common.{◌≡◌, ◌*◌, ◌∙◌, Bor, List, ℕ, length, map, sym, ap, subst}
 use Rattle.edf_header.specs.Heads.{Head, samples_together}
 use Rattle.edf_stream.specs.Summaries.{channels_among}
-use Rattle.edf_check.specs.declared.channel_place.ChannelPlace.{ChannelPlace}
 use Rattle.edf_check.specs.Columns.{channel_at}
 use Rattle.edf_check.specs.Comparisons.{AreSorted}
 use Rattle.edf_check.specs.Windows.{Places, places_of}

@@ -1,4 +1,3 @@
-use Rattle.std.proofs.Common.{◌∙◌}
 use Rattle.edf_check.specs.Windows.{sampled}
 use Rattle.edf_check.specs.Stretches.{points_in}
 use Rattle.edf_check.proofs.ShownFacts.{pair_window}

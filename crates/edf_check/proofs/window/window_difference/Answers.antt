@@ -1,7 +1,6 @@
-use Rattle.std.proofs.Common.{◌≡◌, ◌+◌, ◌-◌, ◌<◌, length, map, drop, arith, List, ℕ, Option, ap, ◌∙◌, sym}
+use Rattle.std.proofs.Common.{◌≡◌, ◌+◌, ◌-◌, ◌<◌, length, arith, Option}
 use Rattle.edf_check.specs.declared.difference.PointDifference.{PointDifference}
 use Rattle.edf_check.specs.declared.track.Pair.{Pair}
-use Rattle.edf_check.specs.Earliest.{earliest}
 use Rattle.edf_check.specs.Windows.{sampled, window_of, places_of}
 use Rattle.edf_check.proofs.EarliestFacts.{earliest-step}
 use Rattle.edf_check.proofs.ShownFacts.{windows_are, channel_more, both_some}
