@@ -12,7 +12,7 @@ use edf_fields::source::{ReadFault, SliceSource, Source};
 use edf_header::fault::Place::{AtField, AtSignal};
 use edf_header::layout::{FixedField as Fixed, SignalField as Field};
 use std::alloc::{AllocError, Global};
-use std::test::Fail;
+use std::process::Abort;
 
 /// Gives its bytes, so many zeros behind them, and the last bytes. It makes the zeros as they are read, and
 /// the proofs know nothing of it.
@@ -103,32 +103,39 @@ fn largest(header: &[u8]) -> Padded<'_> {
 /// The claim that keeps the channel for six seconds.
 const CLAIM: &[u8] = b"format = 1\nchannels = [\"Temp\"]\n[[keep]]\nfrom = \"0\"\nto = \"6\"\n";
 
-#[test]
-fn holds_one_record_of_the_original(rt: HostRuntime) -> Result<(), Fail> {
-    let alloc = rt.alloc();
-    let header = temp_header(alloc, LARGEST)?;
-    let small = small_file(alloc)?;
-    let mut room = [0u8; 64];
+/// Asserts the line of a run on two files.
+fn assert_line<O: Source, E: Source>(
+    rt: &impl Abort,
+    alloc: Global,
+    original: &mut O,
+    export: &mut E,
+    want: &str,
+) {
+    let mut room = [0; 64];
     let mut sink = SliceSink::new(&mut room);
+    let outcome = run(alloc, original, export, CLAIM, &mut sink);
+    assert_eq!(rt; outcome, Ok(Outcome::No));
+    assert_eq!(rt; sink.written(), want.as_bytes());
+}
+
+#[test]
+fn holds_one_record_of_the_original(rt: HostRuntime) -> Result<(), AllocError> {
+    let header = temp_header(rt.alloc(), LARGEST)?;
+    let small = small_file(rt.alloc())?;
     let mut original = largest(&header);
     let mut export = SliceSource::new(&small);
-    let outcome = run(alloc, &mut original, &mut export, CLAIM, &mut sink)?;
     let want = "NO 1 original fault: Truncated at record 1\n";
-    assert_eq!(rt; (outcome, sink.written()), (Outcome::No, want.as_bytes()));
+    assert_line(&rt, rt.alloc(), &mut original, &mut export, want);
     Ok(())
 }
 
 #[test]
-fn holds_one_record_of_the_export(rt: HostRuntime) -> Result<(), Fail> {
-    let alloc = rt.alloc();
-    let header = temp_header(alloc, LARGEST)?;
-    let small = small_file(alloc)?;
-    let mut room = [0u8; 64];
-    let mut sink = SliceSink::new(&mut room);
+fn holds_one_record_of_the_export(rt: HostRuntime) -> Result<(), AllocError> {
+    let header = temp_header(rt.alloc(), LARGEST)?;
+    let small = small_file(rt.alloc())?;
     let mut original = SliceSource::new(&small);
     let mut export = largest(&header);
-    let outcome = run(alloc, &mut original, &mut export, CLAIM, &mut sink)?;
     let want = "NO 2 export fault: Truncated at record 1\n";
-    assert_eq!(rt; (outcome, sink.written()), (Outcome::No, want.as_bytes()));
+    assert_line(&rt, rt.alloc(), &mut original, &mut export, want);
     Ok(())
 }

@@ -146,7 +146,7 @@ fn is_taken(alloc: Global, header: &[u8], seconds: usize, claim: &Claim) -> Opti
     let mut original = Timed::new(header, seconds);
     let mut export = Timed::new(header, seconds);
     match check(alloc, &mut original, &mut export, claim) {
-        Ok(Verdict::Yes { samples, .. }) => Some(samples == 6 * seconds as u64),
+        Ok(Verdict::Yes { samples, .. }) => Some(samples == 6u64.saturating_mul(seconds as u64)),
         Err(CheckStop::OutOfMemory) => None,
         _ => Some(false),
     }
