@@ -40,6 +40,6 @@ oracle:
 speed:
 	@tools/speed.sh
 
-# How fast the built program is on a night of 8 hours; no part of the gate.
+# How fast the built program is on nights of 8 and of 80 hours; no part of the gate.
 bench: build
 	@tools/bench.sh $(PROGRAM)

@@ -1,11 +1,11 @@
 """Measures a program on a night, beside tools of the system.
 
-usage: bench.py PROGRAM FOLDER CHECKED
+usage: bench.py PROGRAM FOLDER SECONDS..
 
-It writes to FOLDER a night of 8 hours and 22 channels, and of the night's first CHECKED seconds an export, which
-has all samples in data records of another length, with its claim. It prints a table: of each command the
-processor's time, the time by the clock and the most memory that it held, as medians of five runs; and the
-times as multiples of those of `cmp` on as many bytes.
+Of each length in SECONDS it writes to FOLDER a night of 22 channels, a copy of it, and an export that has all
+samples in data records of another length, with its claim. It prints tables: of each command the processor's
+time, the time by the clock and the most memory that it held, as medians of five runs; and the times as
+multiples of those of `cmp` on the night and its copy.
 """
 
 import os
@@ -17,7 +17,6 @@ import time
 
 import night
 
-SECONDS = 28_800
 SAMPLES = 170
 RUNS = 5
 
@@ -76,33 +75,26 @@ def print_table(title, commands):
     print()
 
 
-def main(program, folder, checked):
-    folder = pathlib.Path(folder)
-    files = {name: str(folder / name) for name in ("night", "copy", "original", "same", "export", "claim")}
+def measure(program, folder, seconds):
+    """Writes a night of so many seconds, and prints its table."""
+    files = {name: str(folder / name) for name in ("night", "copy", "export", "claim")}
     for name in ("night", "copy"):
-        night.write(files[name], SECONDS, SAMPLES, 1)
-    for name, whole in (("original", "night"), ("same", "copy")):
-        if checked == SECONDS:
-            files[name] = files[whole]
-        else:
-            night.write(files[name], checked, SAMPLES, 1)
-    night.write(files["export"], checked, SAMPLES, 5)
+        night.write(files[name], seconds, SAMPLES, 1)
+    night.write(files["export"], seconds, SAMPLES, 5)
     labels = ", ".join(f'"{label}"' for label in night.labels())
     keep = '[[keep]]\nfrom = "0"\nto = "999999999"\n'
     pathlib.Path(files["claim"]).write_text(f"format = 1\nchannels = [{labels}]\n{keep}", encoding="utf-8")
-    size = [os.path.getsize(files[name]) / 1e6 for name in ("night", "original", "export")]
-    print_table(f"a night of {SECONDS} s, {size[0]:.1f} MB", [
+    size = [os.path.getsize(files[name]) / 1e6 for name in ("night", "export")]
+    print_table(f"a night of {seconds} s, {size[0]:.1f} MB, and an export of {size[1]:.1f} MB", [
         ("`cmp`, with a copy", ["cmp", files["night"], files["copy"]], ""),
         ("`edfclaim conform`", [program, "conform", files["night"]], "CONFORMS "),
+        ("`edfclaim check`, with the copy", [program, "check", files["night"], files["copy"], files["claim"]], "YES "),
+        ("`edfclaim check`, with the export", [program, "check", files["night"], files["export"], files["claim"]], "YES "),
         ("`cat`", ["cat", files["night"]], ""),
         ("`sha256sum`", ["sha256sum", files["night"]], ""),
-    ])
-    part = "all of it" if checked == SECONDS else f"its first {checked} s"
-    print_table(f"{part}: an original of {size[1]:.1f} MB and an export of {size[2]:.1f} MB", [
-        ("`cmp`, the original with a copy", ["cmp", files["original"], files["same"]], ""),
-        ("`edfclaim check`", [program, "check", files["original"], files["export"], files["claim"]], "YES "),
     ])
 
 
 if __name__ == "__main__":
-    main(sys.argv[1], sys.argv[2], int(sys.argv[3]))
+    for length in sys.argv[3:]:
+        measure(sys.argv[1], pathlib.Path(sys.argv[2]), int(length))
