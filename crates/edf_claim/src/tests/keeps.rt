@@ -53,6 +53,37 @@ fn keeps_the_half_picosecond_before_the_end(rt: HostRuntime) -> Result<(), Fail>
     Ok(())
 }
 
+/// Two times, the later one last, and the first time behind the earlier one at which a stretch begins or
+/// ends; the later one where there is none before it.
+const BORDERS: &[(i128, i128, i128)] = &[
+    (-5, 7_000_000_000_000, 0),
+    (-5, -4, -4),
+    (0, 7_000_000_000_000, 1_000_000_000_000),
+    (0, 1_000_000_000_000, 1_000_000_000_000),
+    (0, 999_999_999_999, 999_999_999_999),
+    (1_000_000_000_000, 7_000_000_000_000, 3_000_000_000_000),
+    (2_999_999_999_999, 7_000_000_000_000, 3_000_000_000_000),
+    (3_000_000_000_000, 7_000_000_000_000, 4_000_000_000_001),
+    (4_000_000_000_001, 7_000_000_000_000, 7_000_000_000_000),
+];
+
+/// Whether the first time behind one of these is the one that is wanted. Times that don't rise have none.
+fn is_border(claim: &Claim, from: i128, to: i128, want: i128) -> bool {
+    from < to && claim.border_behind(from, to) == want
+}
+
+#[test]
+fn finds_where_stretches_begin_and_end(rt: HostRuntime) -> Result<(), Fail> {
+    let claim = Claim::read(rt.alloc(), CLAIM.as_bytes())?;
+    for (from, to, want) in BORDERS {
+        assert!(rt;
+            is_border(&claim, *from, *to, *want),
+            "behind {from}, to {to}"
+        );
+    }
+    Ok(())
+}
+
 /// The onset and the text of an annotation, and whether it is kept.
 const ANNOTATIONS: &[(i128, &str, bool)] = &[
     (0, "Apnea", true),
