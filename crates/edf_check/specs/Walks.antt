@@ -79,5 +79,6 @@ pub record AreRemaining (original export : List ℕ) (claim : Terms) (kept expor
 pub record AreFound (original export : List ℕ) (claim : Terms) (found : Option Found) (labels : List (List ℕ)) (kept exported : List Note) (summary : Summary) : Type 0 where
   pub both : BothAgree original export claim
   pub first : MatchOption found (SameSamples original export claim)
-      (λ f. (label : List ℕ) → slice_get labels f.channel ≡ Some label → IsFirstMismatch (KeptAt original claim) (ExportedAt original export claim) label (floor_of f.difference.at) f.difference.mismatch)
+      (λ f. (label : List ℕ) → slice_get labels f.channel ≡ Some label
+      → IsFirstMismatch (KeptAt original claim) (ExportedAt original export claim) label (floor_of f.difference.at) f.difference.mismatch)
   pub notes : AreNotes original export claim kept exported summary
