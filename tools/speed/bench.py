@@ -1,24 +1,27 @@
-"""Measures a program on a night, beside tools of the system.
+"""Measures a program on nights, beside tools of the system.
 
 usage: bench.py PROGRAM FOLDER SECONDS..
 
-Of each length in SECONDS it writes to FOLDER a night of 22 channels, a copy of it, and an export that has all
-samples in data records of another length, with its claim. It prints tables: of each command the processor's
-time, the time by the clock and the most memory that it held, as medians of five runs; and the times as
-multiples of those of `cmp` on the night and its copy.
+Of each length in SECONDS it writes to FOLDER a night of 22 channels, a copy of it, and exports that have all
+samples in data records of other lengths. It also writes nights that are large in one respect: in how many data
+records they have, channels, intervals that the claim keeps, annotations, texts that it removes. It prints tables:
+of each command the processor's time, the time by the clock and the most memory that it held, as medians of five
+runs; and the times as multiples of those of `cmp` on the night and its copy.
 """
 
 import os
 import pathlib
 import resource
+import shutil
 import statistics
 import sys
 import time
 
-import night
+from night import Night, remarks, stages, write
 
-SAMPLES = 170
 RUNS = 5
+WHOLE = [("0", "999999999")]
+EIGHT_HOURS = 28800
 
 
 def memory_of(process):
@@ -71,30 +74,69 @@ def print_table(title, commands):
         work, clock, memory = median(words, front)
         base = base or (work, clock)
         print(f"| {name} | {work:.3f} s | {clock:.3f} s | {memory_text(memory)} "
-              f"| {work / base[0]:.1f} | {clock / base[1]:.1f} |", flush=True)
+              f"| {work / base[0]:.2f} | {clock / base[1]:.2f} |", flush=True)
     print()
 
 
-def measure(program, folder, seconds):
-    """Writes a night of so many seconds, and prints its table."""
-    files = {name: str(folder / name) for name in ("night", "copy", "export", "claim")}
-    for name in ("night", "copy"):
-        night.write(files[name], seconds, SAMPLES, 1)
-    night.write(files["export"], seconds, SAMPLES, 5)
-    labels = ", ".join(f'"{label}"' for label in night.labels())
-    keep = '[[keep]]\nfrom = "0"\nto = "999999999"\n'
-    pathlib.Path(files["claim"]).write_text(f"format = 1\nchannels = [{labels}]\n{keep}", encoding="utf-8")
-    size = [os.path.getsize(files[name]) / 1e6 for name in ("night", "export")]
-    print_table(f"a night of {seconds} s, {size[0]:.1f} MB, and an export of {size[1]:.1f} MB", [
-        ("`cmp`, with a copy", ["cmp", files["night"], files["copy"]], ""),
-        ("`edfclaim conform`", [program, "conform", files["night"]], "CONFORMS "),
-        ("`edfclaim check`, with the copy", [program, "check", files["night"], files["copy"], files["claim"]], "YES "),
-        ("`edfclaim check`, with the export", [program, "check", files["night"], files["export"], files["claim"]], "YES "),
-        ("`cat`", ["cat", files["night"]], ""),
-        ("`sha256sum`", ["sha256sum", files["night"]], ""),
-    ])
+def claim(night, keep, remove):
+    """The text of a claim: all channels, these intervals, these texts."""
+    quoted = ", ".join(f'"{label}"' for label in night.labels())
+    removed = f"remove = [{', '.join(f'{chr(34)}{text}{chr(34)}' for text in remove)}]\n" if remove else ""
+    kept = "".join(f'[[keep]]\nfrom = "{begin}"\nto = "{end}"\n' for begin, end in keep)
+    return f"format = 1\nchannels = [{quoted}]\n{removed}{kept}"
+
+
+def measure(program, folder, title, night, exports, keep=WHOLE, remove=(), others=()):
+    """Writes a night, a copy of it and its exports, each with a name, and prints their table."""
+    paths = {name: str(folder / name) for name in ("night", "copy", "claim")}
+    write(paths["night"], night)
+    shutil.copyfile(paths["night"], paths["copy"])
+    pathlib.Path(paths["claim"]).write_text(claim(night, keep, remove), encoding="utf-8")
+    commands = [("`cmp`, with a copy", ["cmp", paths["night"], paths["copy"]], "")]
+    commands += [(f"`{' '.join(words)}`", [words[0], *words[1:], paths["night"]], "") for words in others]
+    commands.append(("`edfclaim conform`", [program, "conform", paths["night"]], "CONFORMS "))
+    for number, (name, export) in enumerate(exports):
+        path = paths["copy"]
+        if export is not night:
+            path = str(folder / f"export{number}")
+            write(path, export)
+        commands.append((f"`edfclaim check`, with {name}", [program, "check", paths["night"], path, paths["claim"]], "YES "))
+    print_table(f"{title}, {os.path.getsize(paths['night']) / 1e6:.1f} MB", commands)
+    for path in folder.iterdir():
+        path.unlink()
+
+
+def measure_length(program, folder, seconds):
+    night = Night(seconds)
+    measure(program, folder, f"a night of {seconds} s", night, [
+        ("the copy", night),
+        ("an export in data records of 10 s", Night(seconds, tenths=100, lane=256)),
+    ], others=(["cat"], ["sha256sum"]))
+
+
+def measure_shapes(program, folder):
+    """Nights that are large in one respect."""
+    sevenths = Night(28770)
+    measure(program, folder, "a night of 28,770 s", sevenths,
+            [("an export in data records of 0.7 s", Night(28770, tenths=7, lane=96))])
+    small = Night(2_000_000, channels=1, rate=20, lane=12, notes=[])
+    measure(program, folder, "2,000,000 data records of 52 bytes", small, [("the copy", small)])
+    for rate, seconds in ((100, 100), (1, 5000)):
+        wide = Night(seconds, channels=9998, rate=rate)
+        measure(program, folder, f"9,999 signals, samples of a channel in a data record: {rate}", wide, [("the copy", wide)])
+    night = Night(EIGHT_HOURS)
+    bounds = [f"{288 * k // 10}.{288 * k % 10}" for k in range(1001)]
+    measure(program, folder, "a claim of 1,000 intervals", night, [("the copy", night)], keep=list(zip(bounds, bounds[1:])))
+    noted = Night(EIGHT_HOURS, lane=1024, notes=remarks(["Spike"] * 1_000_000, EIGHT_HOURS))
+    measure(program, folder, "1,000,000 annotations", noted, [("the copy", noted)])
+    texts = [f"remark {k}" for k in range(8000)]
+    scored = stages(EIGHT_HOURS)
+    remarked = Night(EIGHT_HOURS, notes=sorted(scored + remarks(texts, EIGHT_HOURS)))
+    measure(program, folder, "a claim that removes 8,000 texts", remarked,
+            [("an export without them", Night(EIGHT_HOURS))], remove=texts)
 
 
 if __name__ == "__main__":
     for length in sys.argv[3:]:
-        measure(sys.argv[1], pathlib.Path(sys.argv[2]), int(length))
+        measure_length(sys.argv[1], pathlib.Path(sys.argv[2]), int(length))
+    measure_shapes(sys.argv[1], pathlib.Path(sys.argv[2]))

@@ -1,16 +1,43 @@
-"""Writes a night for measurements: a contiguous EDF+ file of 22 channels.
+"""Writes nights for measurements: contiguous EDF+ files.
 
-usage: night.py FILE SECONDS SAMPLES [LENGTH]
+usage: night.py FILE SECONDS SAMPLES
 
-Each channel has SAMPLES samples a second, in data records of LENGTH seconds, 1 to 60, and 1 where none is said.
-Each data record has a lane of 128 bytes with its time-keeping TAL and, every 30 s, a scored stage. Nights with
-other lengths of data records hold the same samples and annotations.
+The night has 22 channels of SAMPLES samples a second, in data records of 1 s, and a scored stage every 30 s.
+Nights of the same samples and annotations may have data records of other lengths.
 """
 
+import dataclasses
 import sys
 
-CHANNELS = 22
-LANE = 128
+
+def onset(tenth):
+    """So many tenths of a second, as an onset is spelled."""
+    return b"+%d.%d" % divmod(tenth, 10) if tenth % 10 else b"+%d" % (tenth // 10)
+
+
+def stages(seconds):
+    """A scored stage every 30 s: the tenth of a second at which each begins, and its TAL."""
+    return [(10 * s, b"+%d\x1530\x14Sleep stage N2\x14\0" % s) for s in range(0, seconds, 30)]
+
+
+def remarks(texts, seconds):
+    """Annotations with these texts, evenly spread."""
+    starts = [10 * seconds * k // len(texts) for k in range(len(texts))]
+    return [(t, onset(t) + b"\x14%s\x14\0" % text.encode()) for t, text in zip(starts, texts)]
+
+
+@dataclasses.dataclass
+class Night:
+    """What a night holds. Its length is a multiple of that of its data records."""
+    seconds: int
+    channels: int = 22
+    rate: int = 170  # samples of a channel in a second
+    tenths: int = 10  # the length of a data record, in tenths of a second
+    lane: int = 128  # bytes of the annotation lane of a data record
+    notes: list | None = None  # in the order of their onsets; none: the stages
+
+    def labels(self):
+        return [f"EEG {c}" for c in range(self.channels)]
 
 
 def field(text, width):
@@ -18,47 +45,41 @@ def field(text, width):
     return text.encode().ljust(width)
 
 
-def labels():
-    return ["EEG %d" % c for c in range(CHANNELS)]
-
-
-def header(records, samples, length):
-    """The header of so many data records of so many samples and seconds."""
-    signals = CHANNELS + 1
+def header(night):
+    signals = night.channels + 1
+    length = f"{night.tenths / 10:g}"
     fixed = [("0", 8), ("X X X X", 80), ("Startdate X X X X", 80), ("02.03.02", 8), ("22.00.00", 8),
-             (str(256 * (signals + 1)), 8), ("EDF+C", 44), (str(records), 8), (str(length), 8), (str(signals), 4)]
-    columns = [(labels() + ["EDF Annotations"], 16), ([""] * signals, 80),
-               (["uV"] * CHANNELS + [""], 8), (["-100"] * signals, 8), (["100"] * signals, 8),
-               (["-2048"] * CHANNELS + ["-32768"], 8), (["2047"] * CHANNELS + ["32767"], 8),
-               ([""] * signals, 80), ([str(samples)] * CHANNELS + [str(LANE // 2)], 8), ([""] * signals, 32)]
+             (str(256 * (signals + 1)), 8), ("EDF+C", 44), (str(10 * night.seconds // night.tenths), 8), (length, 8),
+             (str(signals), 4)]
+    columns = [(night.labels() + ["EDF Annotations"], 16), ([""] * signals, 80),
+               (["uV"] * night.channels + [""], 8), (["-100"] * signals, 8), (["100"] * signals, 8),
+               (["-2048"] * night.channels + ["-32768"], 8), (["2047"] * night.channels + ["32767"], 8),
+               ([""] * signals, 80),
+               ([str(night.rate * night.tenths // 10)] * night.channels + [str(night.lane // 2)], 8),
+               ([""] * signals, 32)]
     parts = [field(text, width) for text, width in fixed]
     for texts, width in columns:
         parts += [field(text, width) for text in texts]
     return b"".join(parts)
 
 
-def lane(start, length):
-    """The annotation lane of the data record of these seconds."""
-    text = b"+%d\x14\x14\0" % start
-    for second in range(start, start + length):
-        if second % 30 == 0:
-            text += b"+%d\x1530\x14Sleep stage N2\x14\0" % second
-    return text.ljust(LANE, b"\0")
-
-
-def write(path, seconds, samples, length):
-    """Writes the night; its seconds are a multiple of the length of a data record."""
-    size = 2 * samples
-    values = bytes(range(256)) * (CHANNELS * size // 256 + 2)
-    with open(path, "wb") as night:
-        night.write(header(seconds // length, samples * length, length))
-        for start in range(0, seconds, length):
-            # where the values of each second of the data record begin
-            places = [second % 256 for second in range(start, start + length)]
-            channels = [values[at + first:at + first + size]
-                        for first in range(0, CHANNELS * size, size) for at in places]
-            night.write(b"".join(channels) + lane(start, length))
+def write(path, night):
+    """Writes the night."""
+    size = 2 * (night.rate * night.tenths // 10)
+    values = bytes(range(256)) * (size // 256 + 2)
+    notes = iter(night.notes if night.notes is not None else stages(night.seconds))
+    note = next(notes, None)
+    with open(path, "wb") as file:
+        file.write(header(night))
+        for start in range(0, 10 * night.seconds, night.tenths):
+            text = onset(start) + b"\x14\x14\0"
+            while note and note[0] < start + night.tenths:
+                text += note[1]
+                note = next(notes, None)
+            # where in the values the samples of each channel begin
+            places = [(2 * (night.rate * start // 10) + 38 * c) % 256 for c in range(night.channels)]
+            file.write(b"".join([values[at:at + size] for at in places]) + text.ljust(night.lane, b"\0"))
 
 
 if __name__ == "__main__":
-    write(sys.argv[1], int(sys.argv[2]), int(sys.argv[3]), int(sys.argv[4]) if len(sys.argv) > 4 else 1)
+    write(sys.argv[1], Night(int(sys.argv[2]), rate=int(sys.argv[3])))

@@ -28,7 +28,9 @@ pub mod NoteOrderFacts
 pub mod WalkFacts
 pub mod RunFacts
 pub mod ProductFacts
+pub mod BlockFacts
 pub mod StretchFacts
+pub mod LayoutFacts
 pub mod FilterFacts
 pub mod CutFacts
 pub mod RecordFacts

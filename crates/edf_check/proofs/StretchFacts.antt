@@ -1,15 +1,20 @@
 -- Samples at even distances: those behind a place, a part of them, and how many stand before a time.
 use Rattle.std.proofs.Common.{min, ◌≡◌, ℕ, zero, suc, ◌+◌, ◌-◌, ◌*◌, ◌<◌, ◌≤◌, ℤ, pos, ◌+ℤ◌, ◌-ℤ◌, ◌*ℤ◌, ◌<ℤ◌, ◌≤ℤ◌, unsigned_abs, List, [], ◌∷◌, length, slice_index, drop, take, Some, None, true, false, inl, inr, refl, sym, ap, ◌∙◌, subst, arith}
+use Rattle.std.specs.Ordering.{int_eq}
+use Rattle.std.proofs.lemmas.Bool.Decides.{Decides-int_eq}
 use Rattle.std.proofs.lemmas.Int.{ints}
+use Rattle.std.proofs.lemmas.List.{get_or-take}
 use Rattle.std.proofs.Math.Nat.{lt_of_mul-lt-mul_right}
+use Rattle.edf_fields.proofs.ForCallers.{and-true}
 use Rattle.edf_fields.specs.Lists.{Has}
 use Rattle.edf_stream.specs.Values.{digital, digital_value}
 use Rattle.edf_check.specs.declared.point.Point.{Point}
 use Rattle.edf_check.specs.declared.stretch.Stretch.{Stretch}
 use Rattle.edf_check.specs.declared.verdict.SampleMismatch.TheVariants.{Missing, Extra}
-use Rattle.edf_check.specs.Differences.{first_difference_of, IsAscending}
+use Rattle.edf_check.specs.Alike.{AreAlikeBefore}
+use Rattle.edf_check.specs.Differences.{heads, first_difference_of, IsAscending}
 use Rattle.edf_check.specs.Instants.{is_before}
-use Rattle.edf_check.specs.Stretches.{stretch_points, points_in, points_behind, front_count}
+use Rattle.edf_check.specs.Stretches.{stretch_points, points_in, points_behind, front_count, are_on_one_grid}
 use Rattle.edf_check.specs.Windows.{whole}
 use Rattle.edf_check.proofs.FractionFacts.{true-is_before, false-is_before}
 
@@ -82,6 +87,57 @@ behind_none x y n m here there le ge =
     let f : m ≡ n = omega arith in
     let g : length y.bytes.now ≤ 2 * n + 1 = omega (arith, there, f) in
     rw (e, behind-end x n here, behind-end y n g) refl
+
+-- ---- bytes that are the same
+
+-- samples of one value at one instant don't differ
+pub alike-heads : (n m : ℕ) (a b v : ℤ) → a *ℤ pos m ≡ b *ℤ pos n → heads n (record { num = a; value = v }) m (record { num = b; value = v }) ≡ None
+alike-heads n m a b v s =
+    let e : is_before (record { num = a; den = n }) (record { num = b; den = m }) ≡ false = false-is_before (record { num = a; den = n }) (record { num = b; den = m }) (omega (arith, ints)) in
+    let f : is_before (record { num = b; den = m }) (record { num = a; den = n }) ≡ false = false-is_before (record { num = b; den = m }) (record { num = a; den = n }) (omega (arith, ints)) in
+    let g : int_eq v v ≡ true = (Decides-int_eq v v).1 refl in
+    rw (e, f, g) refl
+
+sum-scaled : (m : ℕ) (a d z : ℤ) → z ≡ a +ℤ d → z *ℤ pos m ≡ (a *ℤ pos m) +ℤ (d *ℤ pos m)
+sum-scaled zero a d z e = omega (arith, ints)
+sum-scaled (suc m) a d z e = let r : z *ℤ pos m ≡ (a *ℤ pos m) +ℤ (d *ℤ pos m) = sum-scaled m a d z e in omega (arith, ints)
+
+-- the next samples stand at the same instant, too
+next-instant : (n m : ℕ) (a b d e : ℤ) → a *ℤ pos m ≡ b *ℤ pos n → d *ℤ pos m ≡ e *ℤ pos n → (a +ℤ d) *ℤ pos m ≡ (b +ℤ e) *ℤ pos n
+next-instant n m a b d e s t = sum-scaled m a d (a +ℤ d) refl ∙ ap (λ z. z +ℤ (d *ℤ pos m)) s ∙ ap (λ z. (b *ℤ pos n) +ℤ z) t ∙ sym (sum-scaled n b e (b +ℤ e) refl)
+
+-- the same bytes at the same instants are passed over
+alike-front : (k n m : ℕ) (a b d e : ℤ) (xs ys : List ℕ) → a *ℤ pos m ≡ b *ℤ pos n → d *ℤ pos m ≡ e *ℤ pos n → 2 * k ≤ length xs → 2 * k ≤ length ys → AreAlikeBefore (2 * k) xs ys
+    → first_difference_of n (stretch_points (a +ℤ pos k *ℤ d) d (drop (2 * k) xs)) m (stretch_points (b +ℤ pos k *ℤ e) e (drop (2 * k) ys))
+    ≡ first_difference_of n (stretch_points a d xs) m (stretch_points b e ys)
+alike-front zero n m a b d e xs ys s t lx ly alike =
+    ap (λ z. first_difference_of n (stretch_points z d xs) m (stretch_points (b +ℤ pos 0 *ℤ e) e ys)) (none-on a d)
+    ∙ ap (λ z. first_difference_of n (stretch_points a d xs) m (stretch_points z e ys)) (none-on b e)
+alike-front (suc k) n m a b d e [] ys s t lx ly alike = absurd (omega (arith, lx))
+alike-front (suc k) n m a b d e (x ∷ []) ys s t lx ly alike = absurd (omega (arith, lx))
+alike-front (suc k) n m a b d e (x ∷ x' ∷ xs) [] s t lx ly alike = absurd (omega (arith, ly))
+alike-front (suc k) n m a b d e (x ∷ x' ∷ xs) (y ∷ []) s t lx ly alike = absurd (omega (arith, ly))
+alike-front (suc k) n m a b d e (x ∷ x' ∷ xs) (y ∷ y' ∷ ys) s t lx ly alike =
+    let two : 2 * suc k ≡ suc (suc (2 * k)) = two-more k in
+    let low : x ≡ y = alike 0 (omega (arith, two)) in
+    let high : x' ≡ y' = alike 1 (omega (arith, two)) in
+    let rest : first_difference_of n (stretch_points ((a +ℤ d) +ℤ pos k *ℤ d) d (drop (2 * k) xs)) m (stretch_points ((b +ℤ e) +ℤ pos k *ℤ e) e (drop (2 * k) ys)) ≡ first_difference_of n (stretch_points (a +ℤ d) d xs) m (stretch_points (b +ℤ e) e ys) =
+    alike-front k n m (a +ℤ d) (b +ℤ e) d e xs ys (next-instant n m a b d e s t) t (omega (arith, lx, two)) (omega (arith, ly, two)) (λ j lt. alike (suc (suc j)) (omega (arith, lt, two))) in
+    rw (two, ← one-first a d k, ← one-first b e k, low, high, alike-heads n m a b (digital y y') s) rest
+
+pub alike_behind : (x y : Stretch) (k : ℕ) → are_on_one_grid x y ≡ true → 2 * k ≤ length x.bytes.now → 2 * k ≤ length y.bytes.now → AreAlikeBefore (2 * k) x.bytes.now y.bytes.now
+    → first_difference_of x.den (points_behind x k) y.den (points_behind y k) ≡ first_difference_of x.den (points_in x) y.den (points_in y)
+unfolding points_behind
+alike_behind x y k grid lx ly alike =
+    let both = and-true (int_eq (x.num *ℤ pos y.den) (y.num *ℤ pos x.den)) (int_eq (x.step *ℤ pos y.den) (y.step *ℤ pos x.den)) grid in
+    alike-front k x.den y.den x.num y.num x.step y.step x.bytes.now y.bytes.now
+    ((Decides-int_eq (x.num *ℤ pos y.den) (y.num *ℤ pos x.den)).0 both.0) ((Decides-int_eq (x.step *ℤ pos y.den) (y.step *ℤ pos x.den)).0 both.1) lx ly alike
+
+-- the first n bytes are alike as far as the lists are that they were taken from
+pub alike_taken : (n p k : ℕ) (xs ys : List ℕ) → AreAlikeBefore p (take n xs) (take n ys) → 2 * k ≤ p → p ≤ n → AreAlikeBefore (2 * k) xs ys
+alike_taken n p k xs ys alike le within j lt =
+    let l : j < n = omega (arith, le, within, lt) in
+    sym (get_or-take n xs j 0 l) ∙ alike j (omega (arith, le, lt)) ∙ get_or-take n ys j 0 l
 
 -- ---- a part
 

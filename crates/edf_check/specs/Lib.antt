@@ -28,3 +28,5 @@ pub mod NoteOrder
 pub mod Walks
 pub mod Stretches
 pub mod Windows
+pub mod Alike
+pub mod Layouts

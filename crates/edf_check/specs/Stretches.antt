@@ -1,5 +1,6 @@
 -- Samples of a channel at even distances, as a lane holds them. EDF (1992), "Data record".
-use Rattle.std.specs.Prelude.{ℕ, suc, ◌+◌, ◌*◌, ◌<◌, ◌≤◌, ◌^◌, ℤ, pos, ◌+ℤ◌, ◌*ℤ◌, ◌<ℤ◌, unsigned_abs, List, [], ◌∷◌, length, drop, if◌then◌else◌}
+use Rattle.std.specs.Prelude.{ℕ, suc, ◌+◌, ◌*◌, ◌<◌, ◌≤◌, ◌^◌, ℤ, pos, ◌+ℤ◌, ◌*ℤ◌, ◌<ℤ◌, unsigned_abs, List, [], ◌∷◌, length, drop, Bool, ◌&&◌, if◌then◌else◌}
+use Rattle.std.specs.Ordering.{int_eq}
 use Rattle.edf_stream.specs.Values.{digital}
 use Rattle.edf_stream.specs.declared.instant.Instant.{Instant}
 use Rattle.edf_check.specs.declared.point.Point.{Point}
@@ -27,6 +28,10 @@ IsLane s = (unsigned_abs s.num < 3 * 2 ^ 102) × (pos 0 <ℤ s.step) × (unsigne
 -- a part of such a lane: each of its samples stands at a modest instant
 abbrev pub IsPart : Stretch → Type 0
 IsPart s = (unsigned_abs s.num < 3 * 2 ^ 102 + 2 ^ 93) × (unsigned_abs s.step < 2 ^ 68) × (0 < s.den) × (s.den ≤ 2 ^ 23) × (length s.bytes.now ≤ 2 ^ 24)
+
+-- the samples stand at the same instants, one by one: the first ones do, and the distances are the same
+abbrev pub are_on_one_grid : Stretch → Stretch → Bool
+are_on_one_grid x y = int_eq (x.num *ℤ pos y.den) (y.num *ℤ pos x.den) && int_eq (x.step *ℤ pos y.den) (y.step *ℤ pos x.den)
 
 -- how many samples from the front are before t
 abbrev pub front_count : ℕ → List Point → Instant → ℕ

@@ -1,8 +1,9 @@
 //! Two files read in step, a data record of each at a time, and compared as far as both have come.
 
-ghost use Rattle.std.specs.Prelude.{◌≡◌, ◌<◌, ◌^◌, ℕ, ℤ, neg_ℤ, pos, ◌≤ℤ◌, ◌<ℤ◌, List, [], map, length, None, Some, IfOk, IfErr, IfSome, IfNone, IsTrue, unsigned_abs};
+ghost use Rattle.std.specs.Prelude.{◌≡◌, ◌<◌, ◌^◌, ℕ, ℤ, neg_ℤ, pos, ◌≤ℤ◌, ◌<ℤ◌, List, [], map, length, None, Some, IfOk, IfErr, IfSome, IfNone, IsTrue, unsigned_abs, true};
 ghost use Rattle.std.specs.Option.{option_or};
-ghost use Rattle.edf_claim.specs.Keeps.{IsUncut};
+ghost use Rattle.std.specs.List.{All};
+ghost use Rattle.edf_claim.specs.Keeps.{IsUncut, keeps_instant};
 ghost use Rattle.edf_fields.specs.Sources.{Rises};
 ghost use Rattle.edf_stream.specs.Faults.{body_fault};
 ghost use Rattle.edf_stream.specs.Readers.{HasBegun, StandsIn};
@@ -10,11 +11,13 @@ ghost use Rattle.edf_stream.specs.Views.{note_value};
 ghost use Rattle.edf_check.specs.declared.side.Side.TheVariants as sides;
 ghost use Rattle.edf_check.specs.Checks.{CheckStops, SideStops};
 ghost use Rattle.edf_check.specs.Instants.{IsModest};
+ghost use Rattle.edf_check.specs.Layouts.{AreLaidAlike, AreAlike};
 ghost use Rattle.edf_check.specs.Windows.{sampled, places_of, ArePairs, Covers, IsGoing, IsAt, IsThere, Moves, Follows, Reaches, window_difference as difference_between, behind, IsFaultOf, IsReadBy, AreWalked};
 
 use crate::clock::Clock;
 use crate::earliest::Found;
 use crate::gather::View;
+use crate::layout::are_alike;
 use crate::reading::{Reading, finish, lesser_end, pass, start};
 use crate::side::{CheckStop, Side};
 use crate::time::Time;
@@ -36,12 +39,14 @@ pub(crate) enum FaultOf {
     Export(Fault),
 }
 
-/// How two files lie beside each other: by how much each is moved, and what the claim keeps of the
-/// original.
+/// How two files lie beside each other: by how much each is moved, what the claim keeps of the original,
+/// and how many bytes of a data record reach to the end of the channels that are compared, where these have
+/// the same places in both files.
 #[derive(Clone, Copy)]
 pub(crate) struct Frame<'a> {
     pub clock: Clock,
     pub claim: &'a Claim,
+    pub room: Option<usize>,
 }
 
 /// What a fault of the export comes to: the original is read to its end, and its fault goes before it.
@@ -64,6 +69,48 @@ pub(crate) fn export_fault<S: Source>(
     }
 }
 
+/// Whether the data records at hand show the same, all of which is kept, from a time on.
+fn shows_the_same(original: &FileReader, export: &FileReader, frame: Frame<'_>, from: Time) -> bool
+    requires original_near { unsigned_abs (frame.clock.original).ps < 2 ^ 80 }
+    requires export_near { unsigned_abs (frame.clock.export).ps < 2 ^ 80 }
+    ensures { IsTrue result → (keeps_instant frame.entry.claim.now from.ps 1 ≡ true) × ((n : ℕ) × (frame.entry.room ≡ Some n) × AreAlike original.now export.now n (frame.entry.clock.original).ps (frame.entry.clock.export).ps) }
+{
+    match frame.room {
+        Some(room) => {
+            frame.claim.keeps_instant(from.ps, 1) && are_alike(original, export, room, frame.clock)
+        }
+        None => false,
+    }
+}
+
+/// The earliest difference of the channels between two times. Where the data records at hand show the same,
+/// there is none.
+fn difference_in(
+    original: &FileReader,
+    export: &FileReader,
+    pairs: &[Pair],
+    frame: Frame<'_>,
+    from: Time,
+    to: Time,
+) -> Option<Found>
+    requires pairs { ArePairs original.now.head export.now.head pairs.now }
+    requires laid { IfSome frame.room (λ n. All (AreLaidAlike original.now.head export.now.head n) pairs.now) }
+    requires original_near { unsigned_abs (frame.clock.original).ps < 2 ^ 80 }
+    requires export_near { unsigned_abs (frame.clock.export).ps < 2 ^ 80 }
+    requires from { unsigned_abs from.ps < 2 ^ 100 }
+    requires to { unsigned_abs to.ps < 2 ^ 100 }
+    requires order { from.ps ≤ℤ to.ps }
+    requires uncut { IsUncut frame.claim.now.keep from.ps to.ps }
+    ensures value { (o e : List ℕ) → Covers original.now o (frame.entry.clock.original).ps from.ps to.ps → Covers export.now e (frame.entry.clock.export).ps from.ps to.ps →
+        result ≡ difference_between frame.entry.claim.now (sampled o original.now.head (frame.entry.clock.original).ps) (sampled e export.now.head (frame.entry.clock.export).ps) (map places_of pairs.now) from.ps to.ps }
+    ensures modest { IfSome result (λ f. IsModest f.difference.at × (f.channel < length pairs.now)) }
+{
+    if shows_the_same(original, export, frame, from) {
+        return None;
+    }
+    window_difference(original, export, pairs, frame.clock, frame.claim, from, to)
+}
+
 /// What is held, or else the first difference between two times.
 fn held_or(
     held: Option<Found>,
@@ -76,6 +123,7 @@ fn held_or(
 ) -> Option<Found>
     requires held { IfSome held (λ f. IsModest f.difference.at × (f.channel < length pairs.now)) }
     requires pairs { ArePairs original.now.head export.now.head pairs.now }
+    requires laid { IfSome frame.room (λ n. All (AreLaidAlike original.now.head export.now.head n) pairs.now) }
     requires original_near { unsigned_abs (frame.clock.original).ps < 2 ^ 80 }
     requires export_near { unsigned_abs (frame.clock.export).ps < 2 ^ 80 }
     requires from { unsigned_abs from.ps < 2 ^ 100 }
@@ -88,7 +136,7 @@ fn held_or(
 {
     match held {
         Some(_) => held,
-        None => window_difference(original, export, pairs, frame.clock, frame.claim, from, to),
+        None => difference_in(original, export, pairs, frame, from, to),
     }
 }
 
@@ -248,6 +296,7 @@ pub(crate) fn walk_records<O: Source, E: Source>(
     requires original { HasBegun original.old.reader × ((original.old.notes).items ≡ []) }
     requires export { HasBegun export.old.reader × ((export.old.notes).items ≡ []) }
     requires pairs { ArePairs (original.old.reader).head (export.old.reader).head pairs.now }
+    requires laid { IfSome frame.room (λ n. All (AreLaidAlike (original.old.reader).head (export.old.reader).head n) pairs.now) }
     requires original_near { unsigned_abs (frame.clock.original).ps < 2 ^ 80 }
     requires export_near { unsigned_abs (frame.clock.export).ps < 2 ^ 80 }
     ensures modest { IfOk result (λ walked. IfOk walked (λ found. IfSome found (λ f. IsModest f.difference.at × (f.channel < length pairs.now)))) }

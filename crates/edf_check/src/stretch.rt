@@ -1,14 +1,17 @@
 //! Samples of a channel that stand at even distances, as they lie in a lane of a data record. EDF (1992),
 //! "Data record".
 
-ghost use Rattle.std.specs.Prelude.{◌≡◌, ◌<◌, ◌≤◌, ◌+◌, ◌-◌, ◌*◌, ◌^◌, pos, ◌+ℤ◌, ◌-ℤ◌, ◌*ℤ◌, ◌≤ℤ◌, length, take, drop, min, [], IfSome, unsigned_abs};
+ghost use Rattle.std.specs.Prelude.{◌≡◌, ◌<◌, ◌≤◌, ◌+◌, ◌-◌, ◌*◌, ◌^◌, pos, ◌+ℤ◌, ◌-ℤ◌, ◌*ℤ◌, ◌≤ℤ◌, length, take, drop, min, [], IfSome, IsTrue, unsigned_abs};
+ghost use Rattle.std.specs.Ordering.{int_eq};
 ghost use Rattle.edf_stream.specs.Values.{digital_value};
+ghost use Rattle.edf_check.specs.Alike.{AreAlikeBefore};
 ghost use Rattle.edf_check.specs.Differences.{first_difference_of};
 ghost use Rattle.edf_check.specs.Instants.{IsModest};
-ghost use Rattle.edf_check.specs.Stretches.{points_in, points_behind, front_count, IsLane, IsPart};
+ghost use Rattle.edf_check.specs.Stretches.{points_in, points_behind, front_count, IsLane, IsPart, are_on_one_grid};
 ghost use Rattle.edf_check.specs.Windows.{whole, since, until};
 
 use crate::difference::{PointDifference, difference_of_heads};
+use crate::first_difference::first_difference;
 use crate::point::Point;
 use crate::time::Time;
 use crate::verdict::SampleMismatch;
@@ -137,7 +140,63 @@ fn difference_behind(
     None
 }
 
-/// The first difference of two stretches of one channel, read from the left.
+/// A numerator over one denominator, in units of 1 / (both denominators).
+fn over(num: i128, den: u32) -> i128
+    requires num { unsigned_abs num < 2 ^ 104 }
+    requires den { den ≤ 2 ^ 23 }
+    ensures value { result ≡ num *ℤ pos den }
+{
+    num * i128::from(den)
+}
+
+/// Whether two fractions are the same.
+fn is_same(num: i128, den: u32, other_num: i128, other_den: u32) -> bool
+    requires num { unsigned_abs num < 2 ^ 104 }
+    requires den { den ≤ 2 ^ 23 }
+    requires other_num { unsigned_abs other_num < 2 ^ 104 }
+    requires other_den { other_den ≤ 2 ^ 23 }
+    ensures { result ≡ int_eq (num *ℤ pos other_den) (other_num *ℤ pos den) }
+{
+    over(num, other_den) == over(other_num, den)
+}
+
+/// Whether the samples of two stretches stand at the same instants, one by one.
+fn is_one_grid(x: Stretch, y: Stretch) -> bool
+    requires x { IsPart x }
+    requires y { IsPart y }
+    ensures { result ≡ are_on_one_grid x.entry y.entry }
+{
+    is_same(x.num, x.den, y.num, y.den) && is_same(x.step, x.den, y.step, y.den)
+}
+
+/// How many of the first bytes are the same.
+fn alike_bytes(a: &[u8], b: &[u8]) -> usize
+    requires { length a.now ≡ length b.now }
+    ensures within { result ≤ length a.now }
+    ensures alike { AreAlikeBefore result a.now b.now }
+{
+    first_difference(a, b).unwrap_or(a.len())
+}
+
+/// How many of the first `count` samples of two stretches are the same, as far as their bytes show it: where
+/// the stretches don't stand at the same instants, none.
+#[tactic(auto, using(crate::proofs::StretchFacts::behind_zero))]
+fn alike_count(x: Stretch, y: Stretch, count: usize) -> usize
+    requires x { IsPart x }
+    requires y { IsPart y }
+    requires x_within { 2 * count ≤ length x.bytes.now }
+    requires y_within { 2 * count ≤ length y.bytes.now }
+    ensures within { result ≤ count }
+    ensures value { first_difference_of x.entry.den (points_behind x.entry result) y.entry.den (points_behind y.entry result) ≡ first_difference_of x.entry.den (points_in x.entry) y.entry.den (points_in y.entry) }
+{
+    if !is_one_grid(x, y) {
+        return 0;
+    }
+    alike_bytes(&x.bytes[..2 * count], &y.bytes[..2 * count]) / 2
+}
+
+/// The first difference of two stretches of one channel, read from the left: those bytes of them that are the
+/// same are passed over, and behind them the samples are compared one by one.
 #[tactic(auto, using(crate::proofs::StretchFacts::behind_step, crate::proofs::StretchFacts::behind_zero))]
 pub(crate) fn stretch_difference(x: Stretch, y: Stretch) -> Option<PointDifference>
     requires x { IsPart x }
@@ -147,7 +206,8 @@ pub(crate) fn stretch_difference(x: Stretch, y: Stretch) -> Option<PointDifferen
 {
     let x_count = count_in(x.bytes);
     let y_count = count_in(y.bytes);
-    for i in 0..x_count.min(y_count) {
+    let both = x_count.min(y_count);
+    for i in alike_count(x, y, both)..both {
         let found = difference_of_heads(point_at(x, i), x.den, point_at(y, i), y.den);
         if found.is_some() {
             return found;

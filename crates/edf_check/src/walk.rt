@@ -17,6 +17,7 @@ use crate::clock::Clock;
 use crate::conclude::conclude;
 use crate::head_difference::head_difference;
 use crate::labels::in_order;
+use crate::layout::common_room;
 use crate::lockstep::{FaultOf, Frame, walk_records};
 use crate::note_difference::NoteDifference;
 use crate::reading::{Reading, read_out};
@@ -177,7 +178,8 @@ fn walk_contents<O: Source, E: Source>(
         export.reader.header(),
         &labels,
     )?;
-    let frame = Frame { clock, claim };
+    let room = common_room(original.reader.header(), export.reader.header(), &pairs);
+    let frame = Frame { clock, claim, room };
     match walk_records(alloc, &mut original, o, &mut export, e, &pairs, frame) {
         Ok(Ok(found)) => {
             let summary = summary_of(export.reader.header(), &export.notes);

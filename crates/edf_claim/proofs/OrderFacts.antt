@@ -32,7 +32,7 @@ kept_behind is k h = record { each = All-drop IsInterval k is h.each; in_order =
 pub kept_before : (is : List Interval) (k : ℕ) → AreKept is → AreKept (take k is)
 kept_before is k h = record { each = All-take IsInterval k is h.each; in_order = order-take k is h.in_order }
 
-kept-tail : (i : Interval) (is : List Interval) → AreKept (i ∷ is) → AreKept is
+pub kept-tail : (i : Interval) (is : List Interval) → AreKept (i ∷ is) → AreKept is
 kept-tail i is h = record { each = All-tail IsInterval i is h.each; in_order = h.in_order.1 }
 
 -- a product grows with its first factor
@@ -58,7 +58,7 @@ lt-fails x y h = lt-case x y (int_lt x y) refl h
     lt-case x y false e h = refl
 
 -- an interval ends before each one behind it begins, or where it does
-ends-before : (i : Interval) (is : List Interval) (k : ℕ) (d : Interval) → AreKept (i ∷ is) → k < length is → i.to_ps ≤ℤ (get_or is k d).from_ps
+pub ends-before : (i : Interval) (is : List Interval) (k : ℕ) (d : Interval) → AreKept (i ∷ is) → k < length is → i.to_ps ≤ℤ (get_or is k d).from_ps
 ends-before i [] k d h lt = absurd (omega (arith, lt))
 ends-before i (j ∷ is) zero d h lt = h.in_order.0
 ends-before i (j ∷ is) (suc k) d h lt =

@@ -1,7 +1,8 @@
 //! Where kept intervals begin and end.
 
-ghost use Rattle.std.specs.Prelude.{◌≡◌, ◌⊎◌, ◌<◌, ◌≤ℤ◌, ◌<ℤ◌};
-ghost use Rattle.edf_claim.specs.Keeps.{IsOutside, IsUncut, HasBorder};
+ghost use Rattle.std.specs.Prelude.{◌≡◌, ◌⊎◌, ◌≤◌, ◌<◌, ◌≤ℤ◌, ◌<ℤ◌, int_le, length, true, false};
+ghost use Rattle.std.specs.List.Sorted.{IsPartitionPoint};
+ghost use Rattle.edf_claim.specs.Keeps.{AreKept, IsOutside, IsUncut, HasBorder};
 
 use crate::claim::Claim;
 use crate::interval::Interval;
@@ -44,21 +45,35 @@ fn cut_by(interval: Interval, from: Time, to: Time) -> Time
     cut_at(end, from, cut_at(begin, from, to))
 }
 
-/// The same of several intervals.
+/// How many of the intervals, from the first on, end at a time or before.
+fn ended_count(intervals: &[Interval], time: Time) -> usize
+    requires kept { AreKept intervals.now }
+    ensures within { result ≤ length intervals.now }
+    ensures point { IsPartitionPoint (λ i. int_le i.to_ps time.ps ≡ true) (λ i. int_le i.to_ps time.ps ≡ false) intervals.now result }
+{
+    intervals.partition_point(
+        |interval: &Interval| -> bool
+            ensures { result ≡ int_le interval.now.to_ps time.ps }
+        { interval.to_ps <= time.ps },
+    )
+}
+
+/// The same of several intervals: of those that end behind `from`, the first is the one that counts.
+#[tactic(auto, using(crate::proofs::BorderFacts::uncut_nowhere))]
 fn cut_by_all(intervals: &[Interval], from: Time, to: Time) -> Time
-    requires { from.ps <ℤ to.ps }
+    requires kept { AreKept intervals.now }
+    requires order { from.ps <ℤ to.ps }
     ensures later { from.ps <ℤ result.ps }
     ensures within { result.ps ≤ℤ to.ps }
     ensures uncut { IsUncut intervals.now from.ps result.ps }
     ensures border { (result.ps ≡ to.ps) ⊎ HasBorder intervals.now result.ps }
 {
-    let mut next = to;
-    let mut i = intervals.len();
-    while i > 0 {
-        i -= 1;
-        next = cut_by(intervals[i], from, next);
+    let place = ended_count(intervals, from);
+    if place < intervals.len() {
+        cut_by(intervals[place], from, to)
+    } else {
+        to
     }
-    next
 }
 
 impl Claim {

@@ -46,6 +46,14 @@ impl FileReader {
         self.progress.ended_ps
     }
 
+    /// The bytes of the data record at hand (EDF, "Data record").
+    pub fn record(&self) -> &[u8]
+        requires { IsTrue (is_current self.now.status) }
+        ensures { result.now ≡ self.entry.now.current }
+    {
+        &self.buffer
+    }
+
     /// The lane of a signal in the data record at hand: its samples, two bytes each, the low byte first
     /// (EDF, "Data record"), or the bytes of its TALs.
     pub fn run(&self, signal: usize) -> &[u8]

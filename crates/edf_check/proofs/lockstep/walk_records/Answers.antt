@@ -1,4 +1,7 @@
-use Rattle.std.proofs.Common.{refl, arith, neg_ℤ, pos, map, ◌^◌}
+use Rattle.std.proofs.Common.{refl, arith, neg_ℤ, pos, map, ◌^◌, IfSome, sym, subst}
+use Rattle.std.specs.List.{All}
+use Rattle.edf_header.specs.Heads.{Head}
+use Rattle.edf_check.specs.Layouts.{AreLaidAlike}
 use Rattle.std.proofs.lemmas.Int.{ints}
 use Rattle.edf_stream.specs.Views.{note_value}
 use Rattle.edf_check.specs.Windows.{sampled, places_of, whole_difference}
@@ -68,3 +71,9 @@ returns-in-Ok-Some-pass_both-clause-out g c = λ ho he a b so se.
     let inv = c.loop-end.invariant in
     let out = rw c.in-Ok-Some-pass_both.field-0-is at c.in-Ok-Some-pass_both.ensures.out in
     out ((inv.original).honesty ho) ((inv.export).honesty he) a b ((inv.original).comes ho a so) ((inv.export).comes he b se)
+
+pub held_or-held-requires-clause-laid : goal.held_or-held-requires-clause-laid
+held_or-held-requires-clause-laid g c =
+    let inv = c.loop-end.invariant in
+    let P : Head → Head → Type 0 = λ h k. IfSome c.args.frame.room (λ n. All (AreLaidAlike h k n) c.args.pairs.now) in
+    subst (λ h. P h (c.loop-end.export.reader).head) (sym (inv.original).head) (subst (λ k. P (c.args.original.now.reader).head k) (sym (inv.export).head) c.requires.laid)

@@ -1,16 +1,10 @@
-use Rattle.std.proofs.Common.{arith}
-use Rattle.std.proofs.lemmas.Int.{ints}
-use Rattle.edf_claim.proofs.BorderFacts.{uncut_more, border_more}
+use Rattle.edf_claim.proofs.BorderFacts.{uncut_there, border_there}
 use Rattle.edf_claim.proofs.borders.cut_by_all.Goals as goal
 
-pub loop-i-preserved : goal.loop-i-preserved
-loop-i-preserved c =
-    let inv = c.loop-i.invariant in
-    let new = c.cut_by-next.ensures in
-    record {
-      within = omega (arith, inv.within);
-      later = new.later;
-      earlier = (let a = new.within in let b = inv.earlier in omega (arith, ints));
-      uncut = uncut_more c.loop-i.i c.args.intervals.now _ c.args.from.ps c.loop-i.next.ps c.cut_by-next.result.ps (omega arith) inv.within new.within new.begin new.end inv.uncut;
-      border = border_more c.loop-i.i c.args.intervals.now _ c.args.to.ps c.loop-i.next.ps c.cut_by-next.result.ps (omega arith) inv.within new.one inv.border;
-    }
+pub returns-then-place-intervals-clause-uncut : goal.returns-then-place-intervals-clause-uncut
+returns-then-place-intervals-clause-uncut c =
+    uncut_there c.args.intervals.now c.ended_count-place.result _ c.args.from.ps c.cut_by.result.ps c.requires.kept c.ended_count-place.ensures.point c.if-place-intervals.true c.cut_by.ensures.begin c.cut_by.ensures.end
+
+pub returns-then-place-intervals-clause-border : goal.returns-then-place-intervals-clause-border
+returns-then-place-intervals-clause-border c =
+    border_there c.args.intervals.now c.ended_count-place.result _ c.args.to.ps c.cut_by.result.ps c.if-place-intervals.true c.cut_by.ensures.one
