@@ -69,9 +69,10 @@ pub both_laid : (h g : Head) (here there : Track) (x y : SignalHead) (r : Option
 both_laid h g here there x y None tx ty ex ey off few room = tt
 both_laid h g here there x y (Some n) tx ty ex ey off few room =
     let p : x ≡ (tx.place).channel = ex ∙ get-index h.signals here.signal (tx.place).channel x tx.stands in
-    let q : y ≡ (ty.place).channel = ey ∙ get-index g.signals there.signal (ty.place).channel y ty.stands in
-    ((tx.place).samples ∙ ap (λ (s : SignalHead). s.samples) (sym p) ∙ few ∙ ap (λ (s : SignalHead). s.samples) q ∙ sym (ty.place).samples,
-     laid_alike h g here.signal there.signal x y n (tx.stands ∙ ap Some (sym p)) (ty.stands ∙ ap Some (sym q)) off few room)
+    let q : y ≡ (ty.place).channel = ey ∙ get-index g.signals there.signal (ty.place).channel y ty.stands in (
+      (tx.place).samples ∙ ap (λ (s : SignalHead). s.samples) (sym p) ∙ few ∙ ap (λ (s : SignalHead). s.samples) q ∙ sym (ty.place).samples,
+      laid_alike h g here.signal there.signal x y n (tx.stands ∙ ap Some (sym p)) (ty.stands ∙ ap Some (sym q)) off few room,
+    )
 
 -- inside a list it's all one what stands for what is beyond
 get-any : (pairs : List Pair) (i : ℕ) (d e : Pair) → i < length pairs → get_or pairs i d ≡ get_or pairs i e

@@ -104,9 +104,7 @@ fn are_together(original: &FileReader, export: &FileReader, clock: Clock) -> boo
 fn has_same_front(a: &[u8], b: &[u8], room: usize) -> bool
     ensures { IsTrue result → take room a.now ≡ take room b.now }
 {
-    room <= a.len()
-        && room <= b.len()
-        && first_difference(&a[..room], &b[..room]).is_none()
+    room <= a.len() && room <= b.len() && first_difference(&a[..room], &b[..room]).is_none()
 }
 
 /// Whether the data records at hand begin at one time, last as long, and have the same first bytes, as many
