@@ -1,6 +1,6 @@
 //! The annotations of the data record at hand, as they are compared.
 
-ghost use Rattle.std.specs.Prelude.{◌≡◌, ◌<◌, ◌^◌, ◌*◌, [], ◌∷◌, ◌++◌, ◌+ℤ◌, map, unsigned_abs, true, Option, option_map, IfOk, OnOk, IsTrue};
+ghost use Rattle.std.specs.Prelude.{◌≡◌, ◌<◌, ◌^◌, ◌*◌, ◌+◌, [], ◌∷◌, ◌++◌, ◌+ℤ◌, length, map, unsigned_abs, true, Option, option_map, IfOk, OnOk, IsTrue};
 ghost use Rattle.edf_stream.specs.Notes.{moved_by, moved_notes_in, notes_in};
 ghost use Rattle.edf_stream.specs.Readers.{is_current};
 ghost use Rattle.edf_stream.specs.Starts.{file_start};
@@ -75,16 +75,18 @@ fn push_all_counted(
 }
 
 /// Puts the annotations of the data record at hand, where there is one, behind `notes`, as the view has
-/// them.
+/// them; the data records before it have `before` of them.
 ///
 /// The error is want of memory.
-#[tactic(auto, using(crate::proofs::PassFacts::gathered_here, crate::proofs::PassFacts::gathered_nothing))]
+#[tactic(auto, using(crate::proofs::PassFacts::gathered_here, crate::proofs::PassFacts::gathered_nothing, crate::proofs::PassFacts::gathered_none))]
 pub(crate) fn gather(
     alloc: Global,
     reader: &FileReader,
+    before: u32,
     view: View<'_>,
     notes: &mut Vec<Note>,
 ) -> Result<(), AllocError>
+    requires before { is_current reader.now.status ≡ true → reader.now.notes ≡ before + length (notes_in reader.now.head reader.now.current) }
     requires near { unsigned_abs (view.moved).ps < 2 ^ 80 }
     ensures start { OnOk result (is_current reader.now.status ≡ true → unsigned_abs (file_start reader.now.head) < 2 ^ 39 * 10 ^ 12) }
     ensures gathered { OnOk result (map note_value notes.new.items ≡ map note_value notes.old.items ++ gathered_in (claim_of view.entry) (view.entry.moved).ps reader.now) }
@@ -95,5 +97,8 @@ pub(crate) fn gather(
     let by = Offset {
         ps: file_start_ps(reader.header()) + view.moved.ps,
     };
+    if reader.note_count() == before {
+        return Ok(());
+    }
     push_all_counted(alloc, notes, reader.annotations(), by, view.claim)
 }

@@ -1,10 +1,10 @@
 //! A file of the two while it is read, data record by data record.
 
-ghost use Rattle.std.specs.Prelude.{◌≡◌, ◌<◌, ◌≤◌, ◌+◌, ◌++◌, ◌^◌, ◌*◌, ℕ, ℤ, ◌≤ℤ◌, ◌<ℤ◌, ◌+ℤ◌, ◌⊎◌, neg_ℤ, pos, true, false, List, [], map, None, Some, Option, option_map, IfOk, IfErr, OnOk, IfSome, IfNone, IsTrue, MatchOption, if◌then◌else◌, unsigned_abs};
+ghost use Rattle.std.specs.Prelude.{◌≡◌, ◌<◌, ◌≤◌, ◌+◌, ◌++◌, ◌^◌, ◌*◌, ℕ, ℤ, ◌≤ℤ◌, ◌<ℤ◌, ◌+ℤ◌, ◌⊎◌, neg_ℤ, pos, true, false, List, [], length, map, None, Some, Option, option_map, IfOk, IfErr, OnOk, IfSome, IfNone, IsTrue, MatchOption, if◌then◌else◌, unsigned_abs};
 ghost use Rattle.edf_fields.specs.Sources.{Rises};
 ghost use Rattle.edf_stream.specs.Conforming.{Conforms};
 ghost use Rattle.edf_stream.specs.Faults.{body_fault};
-ghost use Rattle.edf_stream.specs.Notes.{moved_notes_in};
+ghost use Rattle.edf_stream.specs.Notes.{notes_in, moved_notes_in};
 ghost use Rattle.edf_stream.specs.Readers.{HasBegun, IsOpen, is_current, StandsIn, Comes};
 ghost use Rattle.edf_stream.specs.Starts.{file_start};
 ghost use Rattle.edf_stream.specs.Views.{note_value};
@@ -44,6 +44,7 @@ fn go_on<S: Source>(
     ensures going { IfOk result (λ found. IfNone found (IsGoing reader.new.status)) }
     ensures later { IfOk result (λ found. IfNone found (is_current reader.new.status ≡ true → reader.old.ended <ℤ reader.new.ended)) }
     ensures count { IfOk result (λ found. IfNone found (is_current reader.new.status ≡ true → (reader.new.read ≡ reader.old.read + 1) × (reader.new.read ≤ (reader.new.head).records))) }
+    ensures notes { IfOk result (λ found. IfNone found (is_current reader.new.status ≡ true → reader.new.notes ≡ reader.old.notes + length (notes_in reader.new.head reader.new.current))) }
     ensures honesty { IfOk result (λ found. IfNone found (IsTrue (S.is_honest source.old) → IsTrue (S.is_honest source.new))) }
     ensures failures { IfOk result (λ found. IfNone found (S.failures source.new ≡ S.failures source.old)) }
     ensures comes { IfOk result (λ found. IfNone found (IsTrue (S.is_honest source.old) → (file : List ℕ) → StandsIn reader.old (S.left source.old) file → Comes (is_current reader.new.status) reader.old reader.new (S.left source.new) file)) }
@@ -130,8 +131,9 @@ fn take<S: Source>(
     ensures fault { IfOk result (λ found. IfSome found (λ fault. IsTrue (S.is_honest source.old) → (file : List ℕ) → StandsIn reading.old.reader (S.left source.old) file → body_fault file (reading.old.reader).head ≡ Some fault)) }
     ensures stop { IfErr result (SideStops side (Rises (S.failures source.old) (S.failures source.new))) }
 {
+    let before = reading.reader.note_count();
     match go_on(&mut reading.reader, source, side) {
-        Ok(None) => match gather(alloc, &reading.reader, view, &mut reading.notes) {
+        Ok(None) => match gather(alloc, &reading.reader, before, view, &mut reading.notes) {
             Ok(()) => Ok(None),
             Err(_) => Err(CheckStop::OutOfMemory),
         },

@@ -49,11 +49,7 @@ pub(crate) fn lane_at<'a>(header: &Header, bytes: &'a [u8], signal: usize) -> &'
 fn text_count(tal: &Tal<'_>) -> u32
     ensures { result ≡ min (length (tal_view tal.now).texts) (2 ^ 32 - 1) }
 {
-    let mut count = 0u32;
-    for _text in tal.texts() {
-        count = count.saturating_add(1);
-    }
-    count
+    tal.text_count().min(u32::MAX as usize) as u32
 }
 
 /// How many texts stand in the TALs that are left of a lane, with `count` texts before them, up to the

@@ -6,6 +6,7 @@ ghost use Rattle.edf_fields.specs.Tests.{first};
 ghost use Rattle.edf_header.specs.declared.fault.Place.TheVariants.{AtRecord, AtEnd};
 ghost use Rattle.edf_header.specs.declared.fault.Cause.TheVariants.{TrailingBytes};
 ghost use Rattle.edf_header.specs.Heads.{record_bytes};
+ghost use Rattle.edf_stream.specs.Notes.{notes_in};
 ghost use Rattle.edf_stream.specs.Starts.{start_in};
 ghost use Rattle.edf_stream.specs.Faults.{records_tests, body_fault};
 ghost use Rattle.edf_stream.specs.Readers.{HasPassed, StandsAt, StopsReading, StopsAt, place_behind};
@@ -33,6 +34,7 @@ fn read_record<S: Source>(
     ensures small { IfOk result (λ after. unsigned_abs after.ended_ps < 2 ^ 71) }
     ensures later { IfOk result (λ after. (k ≡ 0 → before.ended_ps ≡ pos 0) → before.ended_ps <ℤ after.ended_ps) }
     ensures end { IfOk result (λ after. after.ended_ps ≡ start_in header.now buffer.new +ℤ header.now.duration) }
+    ensures notes { IfOk result (λ after. after.notes ≡ before.notes + length (notes_in header.now buffer.new)) }
     ensures full { OnOk result (length buffer.new ≡ length buffer.old) }
     ensures failures { OnOk result (S.failures source.new ≡ S.failures source.old) }
     ensures honesty { OnOk result (IsTrue (S.is_honest source.old) → IsTrue (S.is_honest source.new)) }
@@ -94,6 +96,7 @@ pub(crate) fn advance<S: Source>(
     ensures small { IfOk result (λ found. IfSome found (λ after. unsigned_abs after.ended_ps < 2 ^ 71)) }
     ensures later { IfOk result (λ found. IfSome found (λ after. (k ≡ 0 → before.ended_ps ≡ pos 0) → before.ended_ps <ℤ after.ended_ps)) }
     ensures end { IfOk result (λ found. IfSome found (λ after. after.ended_ps ≡ start_in header.now buffer.new +ℤ header.now.duration)) }
+    ensures notes { IfOk result (λ found. IfSome found (λ after. after.notes ≡ before.notes + length (notes_in header.now buffer.new))) }
     ensures full { OnOk result (length buffer.new ≡ length buffer.old) }
     ensures room { IfOk result (λ found. MatchOption found (header.now.records ≤ k) (λ _. k < header.now.records)) }
     ensures failures { OnOk result (S.failures source.new ≡ S.failures source.old) }

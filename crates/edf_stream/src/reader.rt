@@ -7,6 +7,7 @@ ghost use Rattle.edf_header.specs.Faults.{header_fault};
 ghost use Rattle.edf_header.specs.Heads.{record_bytes};
 ghost use Rattle.edf_header.specs.Stops.{Stops};
 ghost use Rattle.edf_stream.specs.declared.status.Status.TheVariants.{Ended, Stopped};
+ghost use Rattle.edf_stream.specs.Notes.{notes_in};
 ghost use Rattle.edf_stream.specs.Starts.{start_in};
 ghost use Rattle.edf_stream.specs.Faults.{body_fault};
 ghost use Rattle.edf_stream.specs.Views.{IsContent};
@@ -85,6 +86,7 @@ impl FileReader {
         ensures head { self.new.head ≡ self.old.head }
         ensures room { length self.new.current ≡ record_bytes self.new.head }
         ensures count { IfOk result (λ more. IsTrue more → (self.new.read ≡ self.old.read + 1) × (self.new.read ≤ (self.new.head).records)) }
+        ensures notes { IfOk result (λ more. IsTrue more → self.new.notes ≡ self.old.notes + length (notes_in self.new.head self.new.current)) }
         ensures near { unsigned_abs self.new.ended < 2 ^ 71 }
         ensures later { IfOk result (λ more. IsTrue more → (self.old.ended <ℤ self.new.ended) × (self.new.ended ≡ start_in self.new.head self.new.current +ℤ (self.new.head).duration)) }
         ensures failures { OnOk result (S.failures source.new ≡ S.failures source.old) }
@@ -125,6 +127,14 @@ impl FileReader {
                 }
             }
         }
+    }
+
+    /// How many annotations the data records have that were read so far; the time-keeping texts are none
+    /// of them.
+    pub fn note_count(&self) -> u32
+        ensures { result ≡ self.now.notes }
+    {
+        self.progress.notes
     }
 
     /// The header of the file.

@@ -1,10 +1,13 @@
 -- A lane's list or its fault, and where its data record starts.
-use Rattle.std.proofs.Common.{◌≡◌, ◌↔◌, ◌⊎◌, ℕ, zero, suc, ℤ, ◌<◌, List, [], ◌∷◌, ◌++◌, map, length, refl, sym, ◌∙◌, ap, arith, inl, inr, Result, Ok, Err, ◌^◌, unsigned_abs, subst}
+use Rattle.std.proofs.Common.{◌≡◌, ◌≢◌, ◌==◌, false, cond, slice_index, ◌↔◌, ◌⊎◌, ℕ, zero, suc, ℤ, ◌<◌, List, [], ◌∷◌, ◌++◌, map, length, refl, sym, ◌∙◌, ap, arith, inl, inr, Result, Ok, Err, ◌^◌, unsigned_abs, subst}
 use Rattle.std.proofs.lemmas.List.{length-append}
 use Rattle.edf_fields.specs.declared.cause.TalCause.{TalCause}
 use Rattle.edf_fields.proofs.ForCallers.{onset_small}
 use Rattle.edf_tal.specs.Tals.{TalValue, SpellsTal, StartsAt, BeginsSilent, KeepsNoTime}
-use Rattle.edf_tal.specs.Reading.{Item, onto, tal_of, items_of}
+use Rattle.std.specs.List.{onto_first}
+use Rattle.std.proofs.lemmas.Bool.{false_from_ne_true, eqb-true}
+use Rattle.edf_tal.specs.Reading.{Item, onto, tal_of, items_of, pieces, closed, texts_of}
+use Rattle.edf_tal.proofs.TextFacts.{texts_of-first}
 use Rattle.edf_tal.specs.Faults.{HasFault, HasListOrFault}
 use Rattle.edf_tal.specs.Views.{kept_time, start_of}
 use Rattle.edf_tal.specs.declared.start.StartCause.{StartCause}
@@ -126,3 +129,26 @@ keeps-no-time r lane e = (λ h. silence-said lane (sym e ∙ h), λ s. e ∙ sil
 -- the start of a data record is less than 10^9 seconds in size
 pub start_small : (lane : List ℕ) (v : ℤ) → StartsAt lane v → unsigned_abs v < 10 ^ 21
 start_small lane v starts = subst (λ (z : ℤ). unsigned_abs z < 10 ^ 21) starts.onset (onset_small (starts.spelled).onset (starts.tal).onset (starts.spelled).onset_is)
+
+-- ---- the first text
+
+pub time_kept : (onset : ℤ) (bs : List ℕ) → 0 < length bs → slice_index bs 0 ≡ 20 → kept_time onset (texts_of bs) ≡ Ok onset
+time_kept onset [] lt e = absurd (omega (arith, lt))
+time_kept onset (c ∷ rest) lt e =
+    let P : ℕ → Type 0 = λ b. kept_time onset (texts_of (b ∷ rest)) ≡ Ok onset in
+    subst P (sym e) (rw (texts_of-first (20 ∷ rest) (omega arith)) refl)
+
+pub no_text : (onset : ℤ) (bs : List ℕ) → length bs ≡ 0 → kept_time onset (texts_of bs) ≡ Err start.NoTimekeeping
+no_text onset [] e = refl
+no_text onset (c ∷ rest) e = absurd (omega (arith, e))
+
+onto-other : (onset : ℤ) (c : ℕ) (parts : List (List ℕ)) → kept_time onset (closed (onto_first c parts)) ≡ Err start.NoTimekeeping
+onto-other onset c [] = refl
+onto-other onset c (x ∷ []) = refl
+onto-other onset c (x ∷ y ∷ more) = refl
+
+pub no_time_kept : (onset : ℤ) (bs : List ℕ) → slice_index bs 0 ≢ 20 → kept_time onset (texts_of bs) ≡ Err start.NoTimekeeping
+no_time_kept onset [] e = refl
+no_time_kept onset (c ∷ rest) e =
+    let other : (c == 20) ≡ false = false_from_ne_true _ (λ holds. e (eqb-true c 20 holds)) in
+    ap (λ t. kept_time onset (closed (cond t ([] ∷ pieces 20 rest) (onto_first c (pieces 20 rest))))) other ∙ onto-other onset c (pieces 20 rest)

@@ -1,9 +1,9 @@
 -- Texts, cut at the byte 20 and judged one by one.
-use Rattle.std.proofs.Common.{◌≡◌, ℕ, ◌<◌, ◌==◌, List, [], ◌∷◌, length, refl, ◌∙◌, ap, arith, true, false}
-use Rattle.std.specs.List.{position_or_len}
+use Rattle.std.proofs.Common.{◌≡◌, ℕ, ◌<◌, ◌-◌, ◌==◌, List, [], ◌∷◌, length, refl, sym, subst, ◌∙◌, ap, arith, true, false}
+use Rattle.std.specs.List.{position_or_len, count_by}
 use Rattle.std.proofs.lemmas.List.Splits.{slice_split_first, slice_split_none, length-slice_split}
 use Rattle.std.proofs.lemmas.List.Sums.{fails_before_first}
-use Rattle.std.proofs.lemmas.Str.{IsUtf8-from_is_utf8, is_utf8-from_IsUtf8}
+use Rattle.std.proofs.lemmas.Str.{IsUtf8-nil, IsUtf8-from_is_utf8, is_utf8-from_IsUtf8}
 use Rattle.std.proofs.lemmas.Bool.{false_from_ne_true}
 use Rattle.std.specs.Str.{IsUtf8, is_utf8}
 use Rattle.std.specs.List.{list_any}
@@ -13,7 +13,7 @@ use Rattle.std.proofs.Common.{length-drop}
 use Rattle.edf_fields.specs.declared.cause.TalCause.{TalCause}
 use Rattle.edf_fields.specs.declared.cause.TalCause.TheVariants.{NotUtf8, ControlByte}
 use Rattle.edf_tal.specs.Tals.{is_control}
-use Rattle.edf_tal.specs.Reading.{until, behind, closed, texts_of, judge_texts, judge_text}
+use Rattle.edf_tal.specs.Reading.{until, behind, pieces, closed, texts_of, judge_texts, judge_text, IsClosed}
 
 pub closed-cons : (x : List ℕ) (parts : List (List ℕ)) → 0 < length parts → closed (x ∷ parts) ≡ x ∷ closed parts
 closed-cons x [] h = absurd (omega arith)
@@ -52,3 +52,25 @@ first_text_at bs (Some x) h = (
   texts_of-first bs h.0 ∙ rw (h.1, h.2),
   rw (h.2, length-drop) (omega arith),
 )
+
+-- ---- how many texts there are
+
+length-closed : (parts : List (List ℕ)) → length (closed parts) ≡ length parts - 1
+length-closed [] = refl
+length-closed (x ∷ []) = refl
+length-closed (x ∷ y ∷ more) = let r = length-closed (y ∷ more) in omega (arith, r)
+
+pub ends_counted : (bs : List ℕ) → length (texts_of bs) ≡ count_by (λ b. b == 20) bs
+ends_counted bs =
+    let closed-ones = length-closed (pieces 20 bs) in
+    let parts = length-slice_split (λ b. b == 20) bs in
+    omega (arith, closed-ones, parts)
+
+-- a single byte that ends a text
+pub lone_end : (bs : List ℕ) → length bs ≡ 1 → IsClosed bs → (20 ∷ [] ≡ bs) × (judge_texts (texts_of bs) ≡ Ok tt)
+lone_end [] e closes = absurd (omega (arith, e))
+lone_end (b ∷ c ∷ more) e closes = absurd (omega (arith, e))
+lone_end (b ∷ []) e closes =
+    let same : 20 ≡ b = sym (closes (omega arith)) in
+    let fine : judge_text [] ≡ Ok tt = is_fine [] IsUtf8-nil refl in
+    (ap (λ x. x ∷ []) same, let P : ℕ → Type 0 = λ x. judge_texts (texts_of (x ∷ [])) ≡ Ok tt in subst P same (judged-more [] [] fine))

@@ -11,6 +11,7 @@ ghost use Rattle.edf_tal.specs.declared.start.StartCause.TheVariants as start;
 
 use crate::tal::Tal;
 use crate::tals::Tals;
+use crate::text::END;
 use edf_fields::cause::TalCause;
 
 /// Why a lane doesn't say where its data record starts (EDF+, "Time keeping of data records").
@@ -22,21 +23,17 @@ pub enum StartCause {
     NoTimekeeping,
 }
 
-/// The onset of a TAL whose first text is empty.
+/// The onset of a TAL whose first text is empty: its texts begin with the byte that ends one.
+#[tactic(auto, using(crate::proofs::StartFacts::time_kept, crate::proofs::StartFacts::no_time_kept, crate::proofs::StartFacts::no_text))]
 fn kept_time(tal: &Tal<'_>) -> Result<i128, StartCause>
     ensures value { result ≡ kept_time (tal_view tal.now).onset (tal_view tal.now).texts }
     ensures small { IfOk result (λ v. unsigned_abs v < 10 ^ 21) }
 {
-    match tal.texts().next() {
-        None => Err(StartCause::NoTimekeeping),
-        Some(text) => {
-            if text.is_empty() {
-                Ok(tal.onset())
-            } else {
-                Err(StartCause::NoTimekeeping)
-            }
-        }
+    let texts = tal.body.as_bytes();
+    if !texts.is_empty() && texts[0] == END {
+        return Ok(tal.onset());
     }
+    Err(StartCause::NoTimekeeping)
 }
 
 /// Where a data record starts, by the first item of its lane.

@@ -1,8 +1,10 @@
 //! One TAL.
 
-ghost use Rattle.std.specs.Prelude.{◌<◌, ◌^◌, ◌≤ℤ◌, pos, unsigned_abs, IfSome};
+ghost use Rattle.std.specs.Prelude.{◌≡◌, ◌<◌, ◌^◌, ◌≤ℤ◌, pos, length, unsigned_abs, IfSome};
 ghost use Rattle.std.proofs.Props.{props};
+ghost use Rattle.edf_tal.specs.Reading.{texts_of};
 
+use crate::text::END;
 use crate::texts::Texts;
 
 /// A time-stamped annotation list: an onset, maybe a duration, and texts (EDF+, "Time-stamped Annotations
@@ -17,8 +19,21 @@ pub struct Tal<'a> {
     ghost not_negative: { IfSome duration (λ v. pos 0 ≤ℤ v) } by { Prim.hlevel props },
 }
 
+/// How many texts there are: each ends before a byte 20.
+#[tactic(auto, using(crate::proofs::TextFacts::ends_counted))]
+fn count_ends(body: &[u8]) -> usize
+    ensures { result ≡ length (texts_of body.now) }
+{
+    let mut count = 0;
+    for byte in body {
+        if *byte == END {
+            count += 1;
+        }
+    }
+    count
+}
+
 impl<'a> Tal<'a> {
-    ghost use Rattle.std.specs.Prelude.{◌≡◌};
     ghost use Rattle.edf_tal.specs.Views.{tal_view, texts_left};
 
     /// The onset in picoseconds after the start of the file, below 0 where it lies before it. The profile
@@ -45,5 +60,12 @@ impl<'a> Tal<'a> {
         ensures { texts_left result ≡ (tal_view self.now).texts }
     {
         Texts { rest: self.body }
+    }
+
+    /// How many texts there are.
+    pub fn text_count(&self) -> usize
+        ensures { result ≡ length (tal_view self.now).texts }
+    {
+        count_ends(self.body.as_bytes())
     }
 }
