@@ -18,7 +18,7 @@ use Rattle.edf_check.specs.Comparisons.{is_ordinary, channel_of, AreByLabel, IsC
 use Rattle.edf_check.proofs.LabelFacts.{equal-tested}
 use Rattle.edf_check.proofs.ListFacts.{has-get}
 
-same-label : (x y : List ℕ) → slice_cmp nat_cmp x y ≡ Equal → x ≡ y
+pub same-label : (x y : List ℕ) → slice_cmp nat_cmp x y ≡ Equal → x ≡ y
 same-label x y e = (bytes_eq-Decides x y).0 (sym (equal-tested x y) ∙ ap is_eq e)
 
 -- ---- one signal of a sorted list

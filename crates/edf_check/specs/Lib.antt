@@ -30,3 +30,4 @@ pub mod Stretches
 pub mod Windows
 pub mod Alike
 pub mod Layouts
+pub mod Tracks
