@@ -82,31 +82,41 @@ fn notes_of(alloc: Global, reader: &FileReader) -> Result<Option<String>, AllocE
 }
 
 /// Of each data record of the reference file: where it starts and ends, the first sample of its second
-/// channel, and its annotations.
-const RECORDS: [(i128, i128, u8, &str); 4] = [
-    (0, 1_000_000_000_000, 100, "500000000000:Lights off;"),
+/// channel, how many annotations it and those before it have, and its annotations.
+const RECORDS: [(i128, i128, u8, u32, &str); 4] = [
+    (0, 1_000_000_000_000, 100, 1, "500000000000:Lights off;"),
     (
         1_000_000_000_000,
         2_000_000_000_000,
         102,
+        2,
         "1500000000000/1000000000000:Apnea;",
     ),
-    (2_000_000_000_000, 3_000_000_000_000, 104, ""),
+    (2_000_000_000_000, 3_000_000_000_000, 104, 2, ""),
     (
         3_000_000_000_000,
         4_000_000_000_000,
         106,
+        3,
         "3000000000000:Apnea;",
     ),
 ];
 
-/// The start and the end of the data record at hand, and the first byte of its second channel.
-fn seen(reader: &FileReader) -> Option<(i128, i128, Option<u8>)> {
+/// The start and the end of the data record at hand, the first byte of its second channel, which stands
+/// behind four samples, by its lane and by its place, and how many annotations there are so far.
+fn seen(reader: &FileReader) -> Option<(i128, i128, Option<u8>, Option<u8>, u32)> {
     if !reader.has_current() || reader.header().signals().len() < 2 {
         return None;
     }
     let first = reader.run(1).first().copied();
-    Some((reader.start_ps(), reader.end_ps(), first))
+    let there = reader.record().get(8).copied();
+    Some((
+        reader.start_ps(),
+        reader.end_ps(),
+        first,
+        there,
+        reader.note_count(),
+    ))
 }
 
 #[test]
@@ -115,9 +125,12 @@ fn reads_the_reference_file(rt: HostRuntime) -> Result<(), Fail> {
     let mut source = SliceSource::new(&file);
     let mut reader = FileReader::begin(rt.alloc(), &mut source)?;
     assert!(rt; !reader.has_current());
-    for (start, end, value, want) in RECORDS {
+    for (start, end, value, count, want) in RECORDS {
         assert_eq!(rt; reader.next(&mut source), Ok(true));
-        assert_eq!(rt; seen(&reader), Some((start, end, Some(value))));
+        assert_eq!(rt;
+            seen(&reader),
+            Some((start, end, Some(value), Some(value), count))
+        );
         let notes = notes_of(rt.alloc(), &reader)?;
         assert!(rt; notes.is_some_and(|shown| shown.as_str() == want));
     }

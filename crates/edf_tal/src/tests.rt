@@ -237,6 +237,21 @@ fn reads_texts(rt: HostRuntime) -> Result<(), AllocError> {
     Ok(())
 }
 
+/// Lanes, and how many texts their first TAL has.
+const COUNTS: &[(&[u8], usize)] = &[
+    (b"+0\x14\0", 0),
+    (b"+0\x14\x14\0+1\x14a\x14b\x14\0", 1),
+    (b"+0\x14a\x14b\x14\x14c d\x14\0", 4),
+];
+
+#[test]
+fn counts_texts(rt: HostRuntime) {
+    for (lane, want) in COUNTS {
+        let first = Tals::new(lane).next();
+        assert!(rt; matches!(first, Some(Ok(tal)) if tal.text_count() == *want));
+    }
+}
+
 /// Lanes, and where their data records start.
 const STARTS: &[(&[u8], Result<i128, StartCause>)] = &[
     (b"+1.5\x14\x14\0+2\x14N2\x14\0", Ok(1_500_000_000_000)),
