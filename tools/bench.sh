@@ -1,11 +1,12 @@
 #!/usr/bin/env bash
-# Measures the built program on nights of 22 channels, beside `cmp`, `cat` and `sha256sum`
-# (tools/speed/bench.py): the processor's time, the time by the clock, the most memory.
+# Measures the built program on nights, beside `cmp`, `cat` and `sha256sum` (tools/speed/bench.py): the
+# processor's time, the time by the clock, the most memory.
 #
 # usage: tools/bench.sh PROGRAM [SECONDS..]
 #
-# Each of SECONDS is the length of a night, a multiple of 30. Where none is said, it is one of 8 hours (219 MB)
-# and one of 80 hours. What is written to a temporary folder has three times a night's size.
+# Each of SECONDS is the length of a night of 22 channels, a multiple of 30. Where none is said, it is one of 8
+# hours (219 MB) and one of 80 hours. Nights follow that are large in one respect, each of 100 to 250 MB. What is
+# written to a temporary folder has three times a night's size.
 set -euo pipefail
 
 if [ "$#" -lt 1 ] || [ ! -x "$1" ]; then

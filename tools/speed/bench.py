@@ -17,7 +17,7 @@ import statistics
 import sys
 import time
 
-from night import Night, remarks, stages, write
+from night import Night, remarks, short, stages, write
 
 RUNS = 5
 WHOLE = [("0", "999999999")]
@@ -80,10 +80,12 @@ def print_table(title, commands):
 
 def claim(night, keep, remove):
     """The text of a claim: all channels, these intervals, these texts."""
-    quoted = ", ".join(f'"{label}"' for label in night.labels())
-    removed = f"remove = [{', '.join(f'{chr(34)}{text}{chr(34)}' for text in remove)}]\n" if remove else ""
+    def listed(texts):
+        return "[" + ",".join(f'"{text}"' for text in texts) + "]"
+
+    removed = f"remove = {listed(remove)}\n" if remove else ""
     kept = "".join(f'[[keep]]\nfrom = "{begin}"\nto = "{end}"\n' for begin, end in keep)
-    return f"format = 1\nchannels = [{quoted}]\n{removed}{kept}"
+    return f"format = 1\nchannels = {listed(night.labels())}\n{removed}{kept}"
 
 
 def measure(program, folder, title, night, exports, keep=WHOLE, remove=(), others=()):
@@ -129,7 +131,7 @@ def measure_shapes(program, folder):
     measure(program, folder, "a claim of 1,000 intervals", night, [("the copy", night)], keep=list(zip(bounds, bounds[1:])))
     noted = Night(EIGHT_HOURS, lane=1024, notes=remarks(["Spike"] * 1_000_000, EIGHT_HOURS))
     measure(program, folder, "1,000,000 annotations", noted, [("the copy", noted)])
-    texts = [f"remark {k}" for k in range(8000)]
+    texts = [short(k) for k in range(8000)]
     scored = stages(EIGHT_HOURS)
     remarked = Night(EIGHT_HOURS, notes=sorted(scored + remarks(texts, EIGHT_HOURS)))
     measure(program, folder, "a claim that removes 8,000 texts", remarked,

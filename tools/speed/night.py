@@ -10,6 +10,12 @@ import dataclasses
 import sys
 
 
+def short(number):
+    """A name of three letters and digits, another one for each number below 46,656."""
+    digits = "0123456789abcdefghijklmnopqrstuvwxyz"
+    return digits[number // 1296] + digits[number // 36 % 36] + digits[number % 36]
+
+
 def onset(tenth):
     """So many tenths of a second, as an onset is spelled."""
     return b"+%d.%d" % divmod(tenth, 10) if tenth % 10 else b"+%d" % (tenth // 10)
@@ -37,7 +43,8 @@ class Night:
     notes: list | None = None  # in the order of their onsets; none: the stages
 
     def labels(self):
-        return [f"EEG {c}" for c in range(self.channels)]
+        """Those of many channels are short, since a claim that names them all has at most 65,536 bytes."""
+        return [f"EEG {c}" if self.channels < 100 else short(c) for c in range(self.channels)]
 
 
 def field(text, width):

@@ -1,8 +1,9 @@
 -- Labels that no earlier channel has.
-use Rattle.std.proofs.Common.{◌≡◌, ℕ, zero, suc, ◌+◌, ◌-◌, ◌<◌, ◌&&◌, List, [], ◌∷◌, length, take, get_or, Some, None, Bool, true, false, not, cond, inl, inr, refl, sym, ap, ◌∙◌, subst, arith}
+use Rattle.std.proofs.Common.{◌≡◌, ℕ, zero, suc, ◌+◌, ◌-◌, ◌<◌, ◌≤◌, ◌&&◌, List, [], ◌∷◌, length, take, get_or, Some, None, Bool, true, false, not, cond, inl, inr, refl, sym, ap, ◌∙◌, subst, arith}
 use Rattle.std.specs.List.{position_from}
 use Rattle.std.specs.Option.{is_some}
 use Rattle.std.specs.Str.{bytes_eq}
+use Rattle.std.proofs.lemmas.List.{length-take}
 use Rattle.std.proofs.lemmas.Slice.Eq.{bytes_eq-Decides}
 use Rattle.edf_header.specs.declared.fault.Place.TheVariants.{AtSignal}
 use Rattle.edf_header.specs.declared.fault.Cause.TheVariants.{DuplicateLabel}
@@ -86,3 +87,36 @@ labels-from signals s (suc m) alone e =
 
 pub labels_pass : (signals : List SignalHead) → are_distinct (channel_labels signals) ≡ true → first (labels_faults signals 0 (length signals)) ≡ None
 labels_pass signals alone = labels-from signals 0 (length signals) alone (omega arith)
+
+-- ---- a front of the signals
+
+take-front : (s m : ℕ) (xs : List SignalHead) → s ≤ m → take s (take m xs) ≡ take s xs
+take-front zero m xs le = refl
+take-front (suc s) zero xs le = absurd (omega (arith, le))
+take-front (suc s) (suc m) [] le = refl
+take-front (suc s) (suc m) (x ∷ xs) le = ap (λ ys. x ∷ ys) (take-front s m xs (omega (arith, le)))
+
+label-front : (s m : ℕ) (xs : List SignalHead) → s < m → label_at (take m xs) s ≡ label_at xs s
+label-front s zero xs lt = absurd (omega (arith, lt))
+label-front s (suc m) [] lt = refl
+label-front zero (suc m) (x ∷ xs) lt = refl
+label-front (suc s) (suc m) (x ∷ xs) lt = label-front s m xs (omega (arith, lt))
+
+-- no signal of a front whose labels are distinct repeats one
+none-in-front : (signals : List SignalHead) (m s : ℕ) → m ≤ length signals → s < m → are_distinct (channel_labels (take m signals)) ≡ true → is_repeated signals s ≡ false
+none-in-front signals m s le lt alone =
+    let whole : length (take m signals) ≡ m = omega (arith, length-take m signals, le) in
+    ap (λ l. is_some (position_from (is_channel_of l) 0 (take s signals))) (sym (label-front s m signals lt))
+    ∙ ap (λ xs. is_some (position_from (is_channel_of (label_at (take m signals) s)) 0 xs)) (sym (take-front s m signals (omega (arith, lt))))
+    ∙ none-repeated (take m signals) s 0 alone (omega (arith, whole, lt))
+
+front-from : (signals : List SignalHead) (m s k : ℕ) → m ≤ length signals → s + k ≡ m → are_distinct (channel_labels (take m signals)) ≡ true
+    → first (labels_faults signals s (length signals - s)) ≡ first (labels_faults signals m (length signals - m))
+front-from signals m s zero le e alone = ap (λ j. first (labels_faults signals j (length signals - j))) (let z : s ≡ m = omega (arith, e) in z)
+front-from signals m s (suc k) le e alone =
+    label_passed signals s (length signals) (omega (arith, le, e)) (none-in-front signals m s le (omega (arith, e)) alone)
+    ∙ front-from signals m (s + 1) k le (omega (arith, e)) alone
+
+pub front_passes : (signals : List SignalHead) (m : ℕ) → m ≤ length signals → are_distinct (channel_labels (take m signals)) ≡ true
+    → first (labels_faults signals 0 (length signals)) ≡ first (labels_faults signals m (length signals - m))
+front_passes signals m le alone = ap (λ n. first (labels_faults signals 0 n)) (let z : length signals ≡ length signals - 0 = omega arith in z) ∙ front-from signals m 0 m le (omega arith) alone

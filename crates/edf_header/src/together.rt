@@ -1,6 +1,6 @@
 //! The tests of a header's signals together.
 
-ghost use Rattle.std.specs.Prelude.{◌≡◌, ◌*◌, ◌≤◌, ◌<◌, ◌^◌, nat_le, true, false, length, None, Some, IfSome, IfOk, IfErr, MatchOption, MatchResult, map};
+ghost use Rattle.std.specs.Prelude.{◌≡◌, ◌*◌, ◌≤◌, ◌<◌, ◌-◌, ◌^◌, IsTrue, nat_le, true, false, length, take, None, Some, IfSome, IfOk, IfErr, MatchOption, MatchResult, map};
 ghost use Rattle.std.specs.List.{list_any, list_all};
 ghost use Rattle.edf_header.specs.Channels.{is_channel_of as is_channel_of_label, channel_labels as labels_of_channels, channel_place, is_repeated as is_repeated_label};
 ghost use Rattle.edf_header.specs.Faults.{no_annotation_signal, no_ordinary_signal, labels_faults, record_too_large, joint_faults};
@@ -90,16 +90,18 @@ fn is_repeated(signals: &[Signal], s: usize) -> bool
     find_channel(&signals[..s], signals[s].label()).is_some()
 }
 
-/// The first channel that has the label of an earlier one, if there is one: each label is looked up
-/// among all signals before it, so the time grows as the square of their number.
+/// The first channel that has the label of an earlier one, if there is one; those before `from` have none.
+/// Each label from there on is looked up among all signals before it.
 #[tactic(auto, using(crate::proofs::RepeatFacts::label_passed, crate::proofs::RepeatFacts::label_found))]
-fn judge_labels(signals: &[Signal]) -> Result<(), Fault>
-    requires { length signals.now < 2 ^ 16 }
+fn judge_labels(signals: &[Signal], from: usize) -> Result<(), Fault>
+    requires few { length signals.now < 2 ^ 16 }
+    requires within { from ≤ length signals.now }
+    requires front { first (labels_faults signals.now 0 (length signals.now)) ≡ first (labels_faults signals.now from (length signals.now - from)) }
     ensures { MatchResult result
         (λ _. first (labels_faults signals.now 0 (length signals.now)) ≡ None)
         (λ f. first (labels_faults signals.now 0 (length signals.now)) ≡ Some f) }
 {
-    for s in 0..signals.len() {
+    for s in from..signals.len() {
         if is_repeated(signals, s) {
             return Err(Fault {
                 place: Place::AtSignal(s as u16, SignalField::Label),
@@ -131,10 +133,28 @@ fn has_distinct_labels(alloc: Global, signals: &[Signal]) -> Result<bool, AllocE
     Ok(are_distinct(&mut labels))
 }
 
-/// Whether no channel has the label of an earlier one. Where the labels are distinct, a sort of them
-/// says so. Only where they aren't is the first channel searched for that repeats one: a header
-/// without this fault is judged fast, and one with it slowly.
-#[tactic(auto, using(crate::proofs::RepeatFacts::labels_pass))]
+/// How many signals, from the first on, have channels of distinct labels: all those before the first channel
+/// that has the label of an earlier one. It is searched for by halves, with a sort for each.
+fn distinct_front(alloc: Global, signals: &[Signal]) -> Result<usize, AllocError>
+    ensures within { IfOk result (λ m. m ≤ length signals.now) }
+    ensures distinct { IfOk result (λ m. IsTrue (are_distinct_texts (labels_of_channels (take m signals.now)))) }
+{
+    let mut low = 0;
+    let mut high = signals.len();
+    while low < high {
+        let middle = high - (high - low) / 2;
+        if has_distinct_labels(alloc, &signals[..middle])? {
+            low = middle;
+        } else {
+            high = middle - 1;
+        }
+    }
+    Ok(low)
+}
+
+/// Whether no channel has the label of an earlier one. Where the labels are distinct, one sort of them
+/// says so.
+#[tactic(auto, using(crate::proofs::RepeatFacts::labels_pass, crate::proofs::RepeatFacts::front_passes))]
 fn distinct_labels(alloc: Global, signals: &[Signal]) -> Result<(), Stop>
     requires { length signals.now < 2 ^ 16 }
     ensures ok { IfOk result (λ _. first (labels_faults signals.now 0 (length signals.now)) ≡ None) }
@@ -143,7 +163,8 @@ fn distinct_labels(alloc: Global, signals: &[Signal]) -> Result<(), Stop>
     if has_distinct_labels(alloc, signals)? {
         return Ok(());
     }
-    judge_labels(signals)?;
+    let front = distinct_front(alloc, signals)?;
+    judge_labels(signals, front)?;
     Ok(())
 }
 
