@@ -40,7 +40,8 @@ fn duration_in(head: &[u8]) -> Result<Option<i128>, TalCause>
     }
 }
 
-/// A TAL of what stands before its first byte 20, and what stands behind it.
+/// A TAL of what stands before its first byte 20, and what stands behind it: first the onset is read, then the
+/// duration, then the texts.
 #[tactic(auto, unfolding(crate::specs::Reading::tal_of_parts))]
 fn read_parts<'a>(head: &[u8], body: &'a [u8]) -> Result<Tal<'a>, TalCause>
     requires { IsClosed body.now }
@@ -62,6 +63,25 @@ fn read_parts<'a>(head: &[u8], body: &'a [u8]) -> Result<Tal<'a>, TalCause>
     }
 }
 
+/// The same. Most TALs have no duration: what stands in front is an onset and nothing else.
+#[tactic(auto, using(crate::proofs::ReadFacts::onset_alone))]
+fn read_most<'a>(head: &[u8], body: &'a [u8]) -> Result<Tal<'a>, TalCause>
+    requires { IsClosed body.now }
+    ensures { item_view result ≡ tal_of_parts head.now body.now }
+{
+    let Some(time) = onset(head) else {
+        return read_parts(head, body);
+    };
+    match checked(body) {
+        Err(cause) => Err(cause),
+        Ok(body) => Ok(Tal {
+            onset: time,
+            duration: None,
+            body,
+        }),
+    }
+}
+
 /// A TAL of what stands before a byte 0, or the first cause why it is none.
 #[tactic(auto, using(crate::proofs::LaneFacts::open_piece, crate::proofs::LaneFacts::closed_piece, crate::proofs::LaneFacts::closed_cut, crate::proofs::LaneFacts::closed_after))]
 pub(crate) fn read_tal(piece: &[u8]) -> Result<Tal<'_>, TalCause>
@@ -72,7 +92,7 @@ pub(crate) fn read_tal(piece: &[u8]) -> Result<Tal<'_>, TalCause>
         return Err(TalCause::NoEnd);
     }
     match cut(piece, END) {
-        Some((head, body)) => read_parts(head, body),
+        Some((head, body)) => read_most(head, body),
         None => Err(TalCause::NoEnd),
     }
 }
