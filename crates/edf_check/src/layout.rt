@@ -12,6 +12,8 @@ ghost use Rattle.edf_check.specs.Windows.{IsTrack, ArePairs};
 use crate::clock::{Clock, start_ps_of};
 use crate::first_difference::first_difference;
 use crate::offset::Offset;
+use crate::reading::end_ps_of;
+use crate::time::Time;
 use crate::track::{Pair, Track};
 use edf_header::header::Header;
 use edf_header::signal::Signal;
@@ -100,6 +102,14 @@ fn are_together(original: &FileReader, export: &FileReader, clock: Clock) -> boo
     )
 }
 
+/// Whether the data record at hand lies between two times: no border cuts it.
+fn lies_between(reader: &FileReader, by: Offset, from: Time, to: Time) -> bool
+    requires current { IsTrue (is_current reader.now.status) }
+    requires near { unsigned_abs by.ps < 2 ^ 80 }
+{
+    from.ps <= begin_of(reader, by) && end_ps_of(reader, by) <= to.ps
+}
+
 /// Whether two slices have the same first bytes, as many as are said.
 fn has_same_front(a: &[u8], b: &[u8], room: usize) -> bool
     ensures { IsTrue result → take room a.now ≡ take room b.now }
@@ -108,12 +118,15 @@ fn has_same_front(a: &[u8], b: &[u8], room: usize) -> bool
 }
 
 /// Whether the data records at hand begin at one time, last as long, and have the same first bytes, as many
-/// as are said.
+/// as are said. It may say no where one of them reaches beyond the two times: the bytes of a data record that
+/// is cut are then compared part by part, and not all of them for each part.
 pub(crate) fn are_alike(
     original: &FileReader,
     export: &FileReader,
     room: usize,
     clock: Clock,
+    from: Time,
+    to: Time,
 ) -> bool
     requires original_near { unsigned_abs (clock.original).ps < 2 ^ 80 }
     requires export_near { unsigned_abs (clock.export).ps < 2 ^ 80 }
@@ -122,6 +135,7 @@ pub(crate) fn are_alike(
     if !original.has_current() || !export.has_current() {
         return false;
     }
-    are_together(original, export, clock)
+    lies_between(original, clock.original, from, to)
+        && are_together(original, export, clock)
         && has_same_front(original.record(), export.record(), room)
 }

@@ -69,15 +69,22 @@ pub(crate) fn export_fault<S: Source>(
     }
 }
 
-/// Whether the data records at hand show the same, all of which is kept, from a time on.
-fn shows_the_same(original: &FileReader, export: &FileReader, frame: Frame<'_>, from: Time) -> bool
+/// Whether the data records at hand lie between two times and show the same, all of which is kept.
+fn shows_the_same(
+    original: &FileReader,
+    export: &FileReader,
+    frame: Frame<'_>,
+    from: Time,
+    to: Time,
+) -> bool
     requires original_near { unsigned_abs (frame.clock.original).ps < 2 ^ 80 }
     requires export_near { unsigned_abs (frame.clock.export).ps < 2 ^ 80 }
     ensures { IsTrue result → (keeps_instant frame.entry.claim.now from.ps 1 ≡ true) × ((n : ℕ) × (frame.entry.room ≡ Some n) × AreAlike original.now export.now n (frame.entry.clock.original).ps (frame.entry.clock.export).ps) }
 {
     match frame.room {
         Some(room) => {
-            frame.claim.keeps_instant(from.ps, 1) && are_alike(original, export, room, frame.clock)
+            frame.claim.keeps_instant(from.ps, 1)
+                && are_alike(original, export, room, frame.clock, from, to)
         }
         None => false,
     }
@@ -105,7 +112,7 @@ fn difference_in(
         result ≡ difference_between frame.entry.claim.now (sampled o original.now.head (frame.entry.clock.original).ps) (sampled e export.now.head (frame.entry.clock.export).ps) (map places_of pairs.now) from.ps to.ps }
     ensures modest { IfSome result (λ f. IsModest f.difference.at × (f.channel < length pairs.now)) }
 {
-    if shows_the_same(original, export, frame, from) {
+    if shows_the_same(original, export, frame, from, to) {
         return None;
     }
     window_difference(original, export, pairs, frame.clock, frame.claim, from, to)

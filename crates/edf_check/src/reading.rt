@@ -143,7 +143,7 @@ fn take<S: Source>(
 }
 
 /// Where the data record at hand ends, in picoseconds.
-fn end_ps_of(reader: &FileReader, by: Offset) -> i128
+pub(crate) fn end_ps_of(reader: &FileReader, by: Offset) -> i128
     requires current { IsTrue (is_current reader.now.status) }
     requires near { unsigned_abs by.ps < 2 ^ 80 }
     ensures value { result ≡ ends_at reader.now by.ps }

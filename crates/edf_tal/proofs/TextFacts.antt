@@ -66,11 +66,12 @@ ends_counted bs =
     let parts = length-slice_split (λ b. b == 20) bs in
     omega (arith, closed-ones, parts)
 
--- a single byte that ends a text
-pub lone_end : (bs : List ℕ) → length bs ≡ 1 → IsClosed bs → (20 ∷ [] ≡ bs) × (judge_texts (texts_of bs) ≡ Ok tt)
+-- a single byte, which ends a text
+pub lone_end : (bs : List ℕ) → length bs ≡ 1 → IsClosed bs → judge_texts (texts_of bs) ≡ Ok tt
 lone_end [] e closes = absurd (omega (arith, e))
 lone_end (b ∷ c ∷ more) e closes = absurd (omega (arith, e))
 lone_end (b ∷ []) e closes =
     let same : 20 ≡ b = sym (closes (omega arith)) in
     let fine : judge_text [] ≡ Ok tt = is_fine [] IsUtf8-nil refl in
-    (ap (λ x. x ∷ []) same, let P : ℕ → Type 0 = λ x. judge_texts (texts_of (x ∷ [])) ≡ Ok tt in subst P same (judged-more [] [] fine))
+    let P : ℕ → Type 0 = λ x. judge_texts (texts_of (x ∷ [])) ≡ Ok tt in
+    subst P same (judged-more [] [] fine)

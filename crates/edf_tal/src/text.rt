@@ -78,11 +78,9 @@ pub(crate) fn checked(body: &[u8]) -> Result<&str, TalCause>
         (λ text. (text.now ≡ body.now) × (judge_texts (texts_of body.now) ≡ Ok tt))
         (λ cause. judge_texts (texts_of body.now) ≡ Err cause) }
 {
-    // no more than the empty text that keeps the time, as in most data records
-    if body.len() == 1 {
-        return Ok("\u{14}");
-    }
     match simdutf8::basic::from_utf8(body) {
+        // no more than the empty text that keeps the time, as in most data records
+        Ok(text) if body.len() == 1 => Ok(text),
         Ok(text) => match judge_utf8(text) {
             Ok(()) => Ok(text),
             Err(cause) => Err(cause),

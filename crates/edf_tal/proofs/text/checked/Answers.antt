@@ -6,5 +6,5 @@ use Rattle.edf_tal.proofs.text.checked.Goals as goal
 pub returns-in-Ok-judge_one_by_one : goal.returns-in-Ok-judge_one_by_one
 returns-in-Ok-judge_one_by_one c = absurd (c.in-Err.ensures (closed-IsUtf8 c.args.body.now c.requires (sym c.in-Ok-judge_one_by_one.ensures)))
 
-pub returns-then-body-eq1 : goal.returns-then-body-eq1
-returns-then-body-eq1 c = lone_end c.args.body.now c.if-body-eq1.true c.requires
+pub returns-in-Ok : goal.returns-in-Ok
+returns-in-Ok c = (c.in-Ok.ensures.0, lone_end c.args.body.now c.if-body-eq1.true c.requires)
