@@ -22,7 +22,7 @@ use crate::reading::{Reading, finish, lesser_end, pass, start};
 use crate::side::{CheckStop, Side};
 use crate::time::Time;
 use crate::track::Pair;
-use crate::window::window_difference;
+use crate::window::{keeps_at, window_difference};
 use edf_claim::claim::Claim;
 use edf_fields::source::Source;
 use edf_header::fault::Fault;
@@ -83,8 +83,7 @@ fn shows_the_same(
 {
     match frame.room {
         Some(room) => {
-            frame.claim.keeps_instant(from.ps, 1)
-                && are_alike(original, export, room, frame.clock, from, to)
+            keeps_at(frame.claim, from) && are_alike(original, export, room, frame.clock, from, to)
         }
         None => false,
     }

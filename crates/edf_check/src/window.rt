@@ -114,7 +114,7 @@ fn window<'a>(
 }
 
 /// Whether a claim keeps what stands at a time.
-fn keeps_at(claim: &Claim, time: Time) -> bool
+pub(crate) fn keeps_at(claim: &Claim, time: Time) -> bool
     ensures { result ≡ keeps_instant claim.now time.ps 1 }
 {
     claim.keeps_instant(time.ps, 1)
