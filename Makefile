@@ -40,6 +40,7 @@ oracle:
 speed:
 	@tools/speed.sh
 
-# How fast the built program is on nights of 8 and of 80 hours; no part of the gate.
+# How fast the built program is on nights of 8 and of 80 hours, and on nights that are large in one respect; no
+# part of the gate.
 bench: build
 	@tools/bench.sh $(PROGRAM)
