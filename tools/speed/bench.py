@@ -103,9 +103,17 @@ def measure(program, folder, title, night, exports, keep=WHOLE, remove=(), other
             path = str(folder / f"export{number}")
             write(path, export)
         commands.append((f"`edfclaim check`, with {name}", [program, "check", paths["night"], path, paths["claim"]], "YES "))
+    # what was written goes to the disk now, and not while it is measured
+    os.sync()
     print_table(f"{title}, {os.path.getsize(paths['night']) / 1e6:.1f} MB", commands)
     for path in folder.iterdir():
         path.unlink()
+
+
+def touching(seconds):
+    """1,000 intervals, each of which begins where the one before ends."""
+    bounds = [f"{seconds * k // 1000}.{seconds * k % 1000:03}" for k in range(1001)]
+    return list(zip(bounds, bounds[1:]))
 
 
 def measure_length(program, folder, seconds):
@@ -118,8 +126,8 @@ def measure_length(program, folder, seconds):
 
 def measure_shapes(program, folder):
     """Nights that are large in one respect."""
-    sevenths = Night(28770)
-    measure(program, folder, "a night of 28,770 s", sevenths,
+    seconds = Night(28770)
+    measure(program, folder, "a night of 28,770 s", seconds,
             [("an export in data records of 0.7 s", Night(28770, tenths=7, lane=96))])
     small = Night(2_000_000, channels=1, rate=20, lane=12, notes=[])
     measure(program, folder, "2,000,000 data records of 52 bytes", small, [("the copy", small)])
@@ -127,8 +135,9 @@ def measure_shapes(program, folder):
         wide = Night(seconds, channels=9998, rate=rate)
         measure(program, folder, f"9,999 signals, samples of a channel in a data record: {rate}", wide, [("the copy", wide)])
     night = Night(EIGHT_HOURS)
-    bounds = [f"{288 * k // 10}.{288 * k % 10}" for k in range(1001)]
-    measure(program, folder, "a claim of 1,000 intervals", night, [("the copy", night)], keep=list(zip(bounds, bounds[1:])))
+    measure(program, folder, "a claim of 1,000 intervals", night, [("the copy", night)], keep=touching(EIGHT_HOURS))
+    long = Night(28600, tenths=22000, lane=4096)
+    measure(program, folder, "the same, and data records of 16.5 MB", long, [("the copy", long)], keep=touching(28600))
     noted = Night(EIGHT_HOURS, lane=1024, notes=remarks(["Spike"] * 1_000_000, EIGHT_HOURS))
     measure(program, folder, "1,000,000 annotations", noted, [("the copy", noted)])
     texts = [short(k) for k in range(8000)]
