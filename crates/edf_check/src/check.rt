@@ -15,9 +15,9 @@ use std::alloc::Global;
 /// Checks whether the export is the original, cut and made anonymous as the claim says, and nothing else.
 ///
 /// The verdict is the first difference in the order of `Difference`, or Yes. Both files are read from the
-/// first byte to the end; where the original has a fault, the export isn't read to its end, and where the
-/// export has one, the original is. The error is want of memory, or a failure of one of the sources; on an
-/// error nothing is said of the files, and the sources are made anew before another check.
+/// first byte to the end; where the original has a fault, the export isn't read on, and where the export has
+/// one, the original is read to its end. The error is want of memory, or a failure of one of the sources; on
+/// an error nothing is said of the files, and the sources are made anew before another check.
 pub fn check<O: Source, E: Source>(
     alloc: Global,
     original: &mut O,

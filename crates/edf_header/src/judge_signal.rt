@@ -14,7 +14,7 @@ use crate::calibration::Calibration;
 use crate::fault::{Cause, Fault, Place};
 use crate::field::{count, printable, some_number, two_bytes};
 use crate::layout::{SignalField, signal_field};
-use crate::signal::{ANNOTATIONS, Signal};
+use crate::signal::{ANNOTATIONS, Signal, is_annotation_label};
 use crate::stop::Stop;
 use edf_fields::number::{header_number, header_whole, text};
 use std::alloc::{AllocError, Global};
@@ -276,8 +276,10 @@ pub(crate) fn judge_signal(
         calibration,
         samples,
     } = fields.numbers()?;
+    let label = fields.own_text(alloc, SignalField::Label)?;
+    let holds_annotations = is_annotation_label(&label);
     Ok(Signal {
-        label: fields.own_text(alloc, SignalField::Label)?,
+        label,
         transducer: fields.own_text(alloc, SignalField::Transducer)?,
         dimension: fields.own_text(alloc, SignalField::Dimension)?,
         prefilter: fields.own_text(alloc, SignalField::Prefilter)?,
@@ -285,5 +287,6 @@ pub(crate) fn judge_signal(
         calibration,
         samples,
         offset,
+        holds_annotations,
     })
 }

@@ -22,14 +22,26 @@ pub struct Signal {
     pub(crate) calibration: Calibration,
     pub(crate) samples: u32,
     pub(crate) offset: u64,
+    /// Whether the label is that of a signal that holds annotations.
+    pub(crate) holds_annotations: bool,
+}
+
+/// Whether this is the label of a signal that holds annotations.
+pub(crate) fn is_annotation_label(label: &[u8]) -> bool
+    ensures { result ≡ is_annotations label.now }
+{
+    label == ANNOTATIONS
 }
 
 impl Model for Signal {
-    ghost use Rattle.edf_header.specs.Heads.{SignalHead};
+    ghost use Rattle.std.specs.Prelude.{◌≡◌};
+    ghost use Rattle.edf_header.specs.Heads.{SignalHead, is_annotations};
 
     ghost Value = { SignalHead };
 
     ghost view = { λ s. record { label = s.label.items; transducer = s.transducer.items; dimension = s.dimension.items; prefilter = s.prefilter.items; reserved = s.reserved.items; calibration = s.calibration; samples = s.samples; offset = s.offset } };
+
+    ghost invariant = { λ s. s.holds_annotations ≡ is_annotations s.label.items };
 }
 
 impl Signal {
@@ -95,6 +107,6 @@ impl Signal {
     pub fn is_annotations(&self) -> bool
         ensures { result ≡ is_annotations self.now.label }
     {
-        self.label.as_slice() == ANNOTATIONS
+        self.holds_annotations
     }
 }
