@@ -92,9 +92,9 @@ fn fraction_picoseconds(bytes: &[u8]) -> Option<u64>
     Some(in_picoseconds(fraction, front.len() as u32))
 }
 
-/// The time that a text with no sign spells, in picoseconds; none where it spells none.
+/// The time that a text with no sign spells, which may have a dot, as `time`.
 #[tactic(auto, using(crate::proofs::OnsetFacts::dot_stands))]
-fn time(text: &[u8]) -> Option<u128>
+fn time_with_dot(text: &[u8]) -> Option<u128>
     ensures { MatchOption result (¬ IsTime text.now)
         (λ v. IsTime text.now × (v ≡ time_of text.now) × (v < 10 ^ 21)) }
 {
@@ -105,6 +105,18 @@ fn time(text: &[u8]) -> Option<u128>
     let seconds = whole_seconds(whole)?;
     let picoseconds = fraction_picoseconds(fraction)?;
     Some(u128::from(seconds) * 1_000_000_000_000 + u128::from(picoseconds))
+}
+
+/// The time that a text with no sign spells, in picoseconds; none where it spells none. Most texts are whole
+/// seconds.
+fn time(text: &[u8]) -> Option<u128>
+    ensures { MatchOption result (¬ IsTime text.now)
+        (λ v. IsTime text.now × (v ≡ time_of text.now) × (v < 10 ^ 21)) }
+{
+    match whole_seconds(text) {
+        Some(seconds) => Some(u128::from(seconds) * 1_000_000_000_000),
+        None => time_with_dot(text),
+    }
 }
 
 /// Whether a minus stands in front, and what stands behind the sign; none where no sign does.

@@ -13,7 +13,7 @@ ghost use Rattle.edf_stream.specs.Views.{start_with, texts_said};
 use edf_fields::cause::TalCause;
 use edf_header::header::Header;
 use edf_header::signal::Signal;
-use edf_tal::start::{StartCause, start_by_first};
+use edf_tal::start::{StartCause, start_by_first, time_alone};
 use edf_tal::tal::Tal;
 use edf_tal::tals::Tals;
 
@@ -76,8 +76,8 @@ pub(crate) struct Said {
     pub texts: u32,
 }
 
-/// What one lane says, or why it is no list of TALs.
-fn said_by_lane(lane: &[u8]) -> Result<Said, TalCause>
+/// What one lane says, or why it is no list of TALs, by its TALs.
+fn said_by_tals(lane: &[u8]) -> Result<Said, TalCause>
     ensures said { MatchResult result
         (λ said. (cause_of (items_of lane.now) ≡ None) × (said.start ≡ start_of (items_of lane.now)) × (said.texts ≡ min (length (notes_of_lane lane.now)) (2 ^ 32 - 1)))
         (λ cause. cause_of (items_of lane.now) ≡ Some cause) }
@@ -93,6 +93,22 @@ fn said_by_lane(lane: &[u8]) -> Result<Said, TalCause>
     };
     let texts = rest_texts(tals, count)?;
     Ok(Said { start, texts })
+}
+
+/// What one lane says, or why it is no list of TALs. In most lanes the TAL that keeps the time stands alone.
+fn said_by_lane(lane: &[u8]) -> Result<Said, TalCause>
+    ensures said { MatchResult result
+        (λ said. (cause_of (items_of lane.now) ≡ None) × (said.start ≡ start_of (items_of lane.now)) × (said.texts ≡ min (length (notes_of_lane lane.now)) (2 ^ 32 - 1)))
+        (λ cause. cause_of (items_of lane.now) ≡ Some cause) }
+    ensures small { IfOk result (λ said. IfOk said.start (λ v. unsigned_abs v < 10 ^ 21)) }
+{
+    match time_alone(lane) {
+        Some(start) => Ok(Said {
+            start: Ok(start),
+            texts: 1,
+        }),
+        None => said_by_tals(lane),
+    }
 }
 
 impl Said {

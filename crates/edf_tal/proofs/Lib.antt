@@ -4,4 +4,5 @@ pub mod ReadFacts
 pub mod StartFacts
 pub mod LawFacts
 pub mod FaultFacts
+pub mod AloneFacts
 pub mod ForCallers

@@ -1,12 +1,12 @@
 -- What a lane gives to a reader that goes from the left: its TALs, and the first cause why it isn't one.
-use Rattle.std.specs.Prelude.{◌≡◌, ℕ, ◌-◌, ◌<◌, Bool, true, false, ◌==◌, nat_lt, ℤ, List, [], ◌∷◌, length, slice_index, Option, Some, None, Result, Ok, Err, if◌then◌else◌}
+use Rattle.std.specs.Prelude.{◌≡◌, ℕ, ◌-◌, ◌<◌, Bool, true, false, ◌==◌, nat_lt, ◌&&◌, ℤ, List, [], ◌∷◌, length, drop, slice_index, Option, Some, None, Result, Ok, Err, if◌then◌else◌}
 use Rattle.std.specs.List.{slice_split, before_first, after_first, position_or_len, list_any, list_all}
 use Rattle.std.specs.Option.{ok_or}
 use Rattle.std.specs.Str.{is_utf8}
 use Rattle.edf_fields.specs.Onsets.{onset_of, span_of}
 use Rattle.edf_fields.specs.declared.cause.TalCause.{TalCause}
 use Rattle.edf_fields.specs.declared.cause.TalCause.TheVariants.{BadOnset, BadDuration, NoEnd, NotUtf8, ControlByte, NotZeroFilled}
-use Rattle.edf_tal.specs.Tals.{TalValue, is_control}
+use Rattle.edf_tal.specs.Tals.{TalValue, is_control, are_zeros}
 
 -- what stands before the first byte c
 abbrev pub until : ℕ → List ℕ → List ℕ
@@ -94,3 +94,14 @@ items_of_pieces (piece ∷ next ∷ more) =
 -- the items of a lane
 unfoldable pub items_of : List ℕ → List Item
 items_of lane = items_of_pieces (pieces 0 lane)
+
+-- what stands behind the first byte 20 is the end of an empty text, and zeros
+abbrev pub ends_alone : List ℕ → Bool
+ends_alone texts = nat_lt 1 (length texts) && (slice_index texts 0 == 20 && are_zeros (drop 1 texts))
+
+-- the onset of a lane that holds the TAL that keeps the time and nothing else
+unfoldable pub time_alone_of : List ℕ → Option ℤ
+time_alone_of lane =
+    if nat_lt (position_or_len (λ b. b == 20) lane) (length lane) && ends_alone (behind 20 lane)
+    then onset_of (until 20 lane)
+    else None

@@ -10,6 +10,10 @@ pub record TalValue : Type 0 where
   pub duration : Option ℤ
   pub texts : List (List ℕ)
 
+-- the TAL of this onset that only keeps the time
+abbrev pub time_tal : ℤ → TalValue
+time_tal v = record { onset = v; duration = None; texts = [] ∷ [] }
+
 -- a byte from 0 to 31 other than 9, 10 and 13 (which of them may stand in a text is this project's profile)
 abbrev pub is_control : ℕ → Bool
 is_control b = nat_lt b 32 && not (b == 9 || (b == 10 || b == 13))
@@ -75,6 +79,11 @@ pub record BeginsSilent (lane : List ℕ) : Type 0 where
 -- with a TAL whose first text isn't the empty one. EDF+ (2003), "Time keeping of data records"
 abbrev pub KeepsNoTime : List ℕ → Type 0
 KeepsNoTime lane = (are_zeros lane ≡ true) ⊎ BeginsSilent lane
+
+-- the lane holds the TAL that keeps the time and nothing else: this onset, no duration, no text but the empty one. EDF+ (2003),
+-- "Time keeping of data records"
+abbrev pub IsTimeAlone : List ℕ → ℤ → Type 0
+IsTimeAlone lane v = IsLaneOf lane (time_tal v ∷ [])
 
 -- a lane has at most one list of TALs
 abbrev pub HasOneList : Type 0

@@ -13,7 +13,7 @@ use crate::tal::Tal;
 use edf_fields::cause::TalCause;
 
 /// Whether the bytes are zeros alone.
-fn are_zeros(bytes: &[u8]) -> bool
+pub(crate) fn are_zeros(bytes: &[u8]) -> bool
     ensures { result ≡ are_zeros bytes.now }
 {
     bytes.iter().all(|byte| *byte == 0)

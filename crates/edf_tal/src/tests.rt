@@ -1,6 +1,6 @@
 //! Lanes by hand: their TALs or first fault, and where their data records start.
 
-use crate::start::{StartCause, record_start, start_by_first};
+use crate::start::{StartCause, record_start, start_by_first, time_alone};
 use crate::tal::Tal;
 use crate::tals::Tals;
 use edf_fields::cause::TalCause;
@@ -286,4 +286,33 @@ fn says_nothing_behind_a_fault(rt: HostRuntime) {
     assert!(rt; matches!(tals.next(), Some(Err(TalCause::NoEnd))));
     assert!(rt; tals.next().is_none());
     assert!(rt; tals.next().is_none());
+}
+
+/// Lanes, and where their data records start where the TAL that keeps the time stands alone.
+const ALONE: &[(&[u8], Option<i128>)] = &[
+    (b"+0\x14\x14\0", Some(0)),
+    (b"-1\x14\x14\0\0\0", Some(-1_000_000_000_000)),
+    (b"+001.50\x14\x14\0\0", Some(1_500_000_000_000)),
+    (b"", None),
+    (b"\0\0", None),
+    (b"+0\x14", None),
+    (b"+0\x14\x14", None),
+    (b"+0\x14\0", None),
+    (b"+0\x14\x14x", None),
+    (b"+0\x14x\x14\0", None),
+    (b"+0\x14\x14x\x14\0", None),
+    (b"+0\x14\x14\x14\0", None),
+    (b"+0\x151\x14\x14\0", None),
+    (b"0\x14\x14\0", None),
+    (b"\0+0\x14\x14\0", None),
+    (b"+0\0\x14\x14\0", None),
+    (b"+0\x14\x14\0\0\x01", None),
+    (b"+0\x14\x14\0+1\x14x\x14\0", None),
+];
+
+#[test]
+fn reads_a_time_that_stands_alone(rt: HostRuntime) {
+    for (lane, want) in ALONE {
+        assert_eq!(rt; time_alone(lane), *want);
+    }
 }
