@@ -36,8 +36,9 @@ use Rattle.edf_check.specs.Instants.{IsModest}
 use Rattle.edf_check.specs.Kept.{start_of, shift_of, kept_notes, exported_notes}
 use Rattle.edf_check.specs.Verdicts.{IsVerdict}
 use Rattle.edf_check.specs.Walks.{IsClock, IsCompared, IsReadOut, IsWalked, AreNotes, AreFound}
-use Rattle.edf_check.specs.Windows.{sampled, counts_by, Places, places_of, whole_difference, IsReadThrough, AreWalked}
+use Rattle.edf_check.specs.Windows.{sampled, counts_by, gathered_of, Places, places_of, whole_difference, AreWalked}
 use Rattle.edf_check.proofs.NightFacts.{first-found}
+use Rattle.edf_check.proofs.PassFacts.{if_none}
 use Rattle.edf_check.proofs.RearrangedFacts.{notes_in_words}
 use Rattle.edf_check.proofs.WordsFacts.{samples_in_words}
 
@@ -90,17 +91,17 @@ map-twice f g [] = refl
 map-twice f g (x ∷ xs) = ap (λ ys. f (g x) ∷ ys) (map-twice f g xs)
 
 -- the annotations and the counts of two files that were read through
-notes-are : (o e : List ℕ) (claim : Terms) (h g : Head) (left left' : List ℕ) (kept exported : List Note) (clock : Clock) (summary : Summary) → h ≡ head_of o → g ≡ head_of e → IsClock h claim clock
-    → IsReadThrough o h left (map note_value kept) (Some claim) (clock.original).ps → IsReadThrough e g left' (map note_value exported) None (clock.export).ps
+notes-are : (o e : List ℕ) (claim : Terms) (h g : Head) (kept exported : List Note) (clock : Clock) (summary : Summary) → h ≡ head_of o → g ≡ head_of e → IsClock h claim clock
+    → map note_value kept ≡ gathered_of (Some claim) (clock.original).ps (notes_of o h) → map note_value exported ≡ gathered_of None (clock.export).ps (notes_of e g)
     → summary.channels ≡ length (channels_among g.signals) → summary.samples ≡ g.records * samples_together (channels_among g.signals) → summary.annotations ≡ length exported
     → AreNotes o e claim kept exported summary
-notes-are o e claim h g left left' kept exported clock summary ho he c one two channels samples annotations =
+notes-are o e claim h g kept exported clock summary ho he c one two channels samples annotations =
     let out : map note_value exported ≡ exported_notes o e claim =
-    two.gathered ∙ all-counted (map (moved_by (clock.export).ps) (notes_of e g))
+    two ∙ all-counted (map (moved_by (clock.export).ps) (notes_of e g))
     ∙ ap (λ ps. map (moved_by ps) (notes_of e g)) (clock-export o h claim clock ho c)
     ∙ ap (λ (x : Head). map (moved_by (neg_ℤ (start_of o +ℤ shift_of claim))) (notes_of e x)) he in
     record {
-      kept_are = one.gathered ∙ ap (λ ps. filter (λ (n : NoteValue). keeps_annotation claim n.onset n.text) (map (moved_by ps) (notes_of o h))) (clock-original o h claim clock ho c)
+      kept_are = one ∙ ap (λ ps. filter (λ (n : NoteValue). keeps_annotation claim n.onset n.text) (map (moved_by ps) (notes_of o h))) (clock-original o h claim clock ho c)
           ∙ ap (λ (x : Head). filter (λ (n : NoteValue). keeps_annotation claim n.onset n.text) (map (moved_by (neg_ℤ (start_of o))) (notes_of o x))) ho;
       exported_are = out;
       counts = record {
@@ -148,7 +149,8 @@ found-of o e claim r s a b left left' kept exported clock summary pairs labels f
     record {
       both = record { conform = both; agree = same };
       first = first-found o e claim x y labels found nights sorted (walked.first ∙ ap (whole_difference claim x y) places ∙ labels-walked claim x y r.head s.head labels refl refl);
-      notes = notes-are o e claim r.head s.head left left' kept exported clock summary ho he c walked.original walked.export channels samples annotations;
+      notes = if_none found ((map note_value kept ≡ gathered_of (Some claim) (clock.original).ps (notes_of o r.head)) × (map note_value exported ≡ gathered_of None (clock.export).ps (notes_of e s.head))) (AreNotes o e claim kept exported summary)
+          (λ gathered. notes-are o e claim r.head s.head kept exported clock summary ho he c gathered.0 gathered.1 channels samples annotations) walked.gathered;
     }
 
 -- a verdict on the headers is the verdict on the files

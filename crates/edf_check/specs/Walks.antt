@@ -1,5 +1,5 @@
 -- What reading both files to their ends found.
-use Rattle.std.specs.Prelude.{◌≡◌, ℕ, neg_ℤ, ◌+ℤ◌, ◌^◌, ◌<◌, unsigned_abs, List, [], Option, None, Some, map, MatchOption, slice_get}
+use Rattle.std.specs.Prelude.{◌≡◌, ℕ, neg_ℤ, ◌+ℤ◌, ◌^◌, ◌<◌, unsigned_abs, List, [], Option, None, Some, map, MatchOption, IfNone, slice_get}
 use Rattle.edf_claim.specs.Claims.{Terms}
 use Rattle.edf_header.specs.Heads.{Head, head_of}
 use Rattle.edf_stream.specs.declared.conform.Summary.{Summary}
@@ -75,10 +75,11 @@ pub record AreRemaining (original export : List ℕ) (claim : Terms) (kept expor
   pub samples : SameSamples original export claim
   pub notes : AreNotes original export claim kept exported summary
 
--- both files conform, their headers agree, and this is the first difference of their samples, by the place of its label; and the rest
+-- both files conform, their headers agree, and this is the first difference of their samples, by the place of its label; where there is
+-- none, this is the rest
 pub record AreFound (original export : List ℕ) (claim : Terms) (found : Option Found) (labels : List (List ℕ)) (kept exported : List Note) (summary : Summary) : Type 0 where
   pub both : BothAgree original export claim
   pub first : MatchOption found (SameSamples original export claim)
       (λ f. (label : List ℕ) → slice_get labels f.channel ≡ Some label
       → IsFirstMismatch (KeptAt original claim) (ExportedAt original export claim) label (floor_of f.difference.at) f.difference.mismatch)
-  pub notes : AreNotes original export claim kept exported summary
+  pub notes : IfNone found (AreNotes original export claim kept exported summary)

@@ -1,6 +1,6 @@
 -- Two files cut at times, and what a reader of a file shows between two times. Times are picoseconds after the second at which the
 -- original starts, before the shift. These are steps between the definitions and the code.
-use Rattle.std.specs.Prelude.{◌≡◌, ℕ, suc, ℤ, ◌+ℤ◌, ◌*ℤ◌, pos, ◌<◌, ◌≤◌, ◌<ℤ◌, ◌≤ℤ◌, ◌^◌, IsTrue, Bool, true, not, List, [], map, filter, Option, None, Some, option_map, slice_get, IfSome, if◌then◌else◌}
+use Rattle.std.specs.Prelude.{◌≡◌, ℕ, suc, ℤ, ◌+ℤ◌, ◌*ℤ◌, pos, ◌<◌, ◌≤◌, ◌<ℤ◌, ◌≤ℤ◌, ◌^◌, IsTrue, Bool, true, not, List, [], map, filter, Option, None, Some, option_map, slice_get, IfSome, IfNone, if◌then◌else◌}
 use Rattle.std.specs.List.{All}
 use Rattle.edf_claim.specs.Claims.{Terms}
 use Rattle.edf_claim.specs.Keeps.{keeps_annotation}
@@ -218,16 +218,16 @@ abbrev pub IsReadBy : FaultOf → List ℕ → Type 0
 IsReadBy (OfOriginal fault) left = Unit {0}
 IsReadBy (OfExport fault) left = left ≡ []
 
--- the data records of a file were read to the end, the file conforms, and these annotations were gathered
-pub record IsReadThrough (file : List ℕ) (h : Head) (left : List ℕ) (notes : List NoteValue) (claim : Option Terms) (ps : ℤ) : Type 0 where
+-- the data records of a file were read to the end, and the file conforms
+pub record IsReadThrough (file : List ℕ) (h : Head) (left : List ℕ) : Type 0 where
   pub fault : body_fault file h ≡ None
   pub conforms : Conforms file h
   pub gone : left ≡ []
-  pub gathered : notes ≡ gathered_of claim ps (notes_of file h)
 
--- the same of both files, and this is the first difference of their channels
+-- the same of both files, and this is the first difference of their channels; where there is none, these annotations were gathered
 pub record AreWalked (o : List ℕ) (h : Head) (left : List ℕ) (notes : List NoteValue) (e : List ℕ) (g : Head) (left' : List ℕ) (notes' : List NoteValue)
     (claim : Terms) (a b : ℤ) (places : List Places) (found : Option Found) : Type 0 where
-  pub original : IsReadThrough o h left notes (Some claim) a
-  pub export : IsReadThrough e g left' notes' None b
+  pub original : IsReadThrough o h left
+  pub export : IsReadThrough e g left'
   pub first : found ≡ whole_difference claim (sampled o h a) (sampled e g b) places
+  pub gathered : IfNone found ((notes ≡ gathered_of (Some claim) a (notes_of o h)) × (notes' ≡ gathered_of None b (notes_of e g)))

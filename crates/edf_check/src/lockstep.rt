@@ -1,7 +1,6 @@
 //! Two files read in step, a data record of each at a time, and compared as far as both have come.
 
 ghost use Rattle.std.specs.Prelude.{◌≡◌, ◌<◌, ◌^◌, ℕ, ℤ, neg_ℤ, pos, ◌≤ℤ◌, ◌<ℤ◌, List, [], map, length, None, Some, IfOk, IfErr, IfSome, IfNone, IsTrue, unsigned_abs, true};
-ghost use Rattle.std.specs.Option.{option_or};
 ghost use Rattle.std.specs.List.{All};
 ghost use Rattle.edf_claim.specs.Keeps.{IsUncut, keeps_instant};
 ghost use Rattle.edf_fields.specs.Sources.{Rises};
@@ -12,7 +11,7 @@ ghost use Rattle.edf_check.specs.declared.side.Side.TheVariants as sides;
 ghost use Rattle.edf_check.specs.Checks.{CheckStops, SideStops};
 ghost use Rattle.edf_check.specs.Instants.{IsModest};
 ghost use Rattle.edf_check.specs.Layouts.{AreLaidAlike, AreAlike};
-ghost use Rattle.edf_check.specs.Windows.{sampled, places_of, ArePairs, Covers, IsGoing, IsAt, IsThere, Moves, Follows, Reaches, window_difference as difference_between, behind, IsFaultOf, IsReadBy, AreWalked};
+ghost use Rattle.edf_check.specs.Windows.{sampled, places_of, ArePairs, Covers, IsGoing, IsAt, IsThere, Moves, Follows, Reaches, window_difference as difference_between, behind, IsFaultOf, IsReadBy, IsReadThrough, AreWalked};
 
 use crate::clock::Clock;
 use crate::earliest::Found;
@@ -117,32 +116,34 @@ fn difference_in(
     window_difference(original, export, pairs, frame.clock, frame.claim, from, to)
 }
 
-/// What is held, or else the first difference between two times.
-fn held_or(
-    held: Option<Found>,
-    original: &FileReader,
-    export: &FileReader,
-    pairs: &[Pair],
-    frame: Frame<'_>,
-    from: Time,
-    to: Time,
-) -> Option<Found>
-    requires held { IfSome held (λ f. IsModest f.difference.at × (f.channel < length pairs.now)) }
-    requires pairs { ArePairs original.now.head export.now.head pairs.now }
-    requires laid { IfSome frame.room (λ n. All (AreLaidAlike original.now.head export.now.head n) pairs.now) }
-    requires original_near { unsigned_abs (frame.clock.original).ps < 2 ^ 80 }
-    requires export_near { unsigned_abs (frame.clock.export).ps < 2 ^ 80 }
-    requires from { unsigned_abs from.ps < 2 ^ 100 }
-    requires to { unsigned_abs to.ps < 2 ^ 100 }
-    requires order { from.ps ≤ℤ to.ps }
-    requires uncut { IsUncut frame.claim.now.keep from.ps to.ps }
-    ensures value { (o e : List ℕ) → Covers original.now o (frame.entry.clock.original).ps from.ps to.ps → Covers export.now e (frame.entry.clock.export).ps from.ps to.ps →
-        result ≡ option_or held (difference_between frame.entry.claim.now (sampled o original.now.head (frame.entry.clock.original).ps) (sampled e export.now.head (frame.entry.clock.export).ps) (map places_of pairs.now) from.ps to.ps) }
-    ensures modest { IfSome result (λ f. IsModest f.difference.at × (f.channel < length pairs.now)) }
+/// Reads two files to their ends, of which a difference is known, and answers their fault: that of the
+/// original, or else that of the export.
+///
+/// The error is a failure of one of the sources.
+fn finish_both<O: Source, E: Source>(
+    original: &mut FileReader,
+    o: &mut O,
+    export: &mut FileReader,
+    e: &mut E,
+) -> Result<Option<FaultOf>, CheckStop>
+    requires original { IsGoing original.old.status }
+    requires export { IsGoing export.old.status }
+    ensures heads { IfOk result (λ found. (original.new.head ≡ original.old.head) × (export.new.head ≡ export.old.head)) }
+    ensures through { IfOk result (λ found. IfNone found (IsTrue (O.is_honest o.old) → IsTrue (E.is_honest e.old) → (a b : List ℕ) → IsThere original.old (O.left o.old) a → IsThere export.old (E.left e.old) b →
+        IsReadThrough a original.old.head (O.left o.new) × IsReadThrough b export.old.head (E.left e.new))) }
+    ensures fault { IfOk result (λ found. IfSome found (λ fault. IsTrue (O.is_honest o.old) → IsTrue (E.is_honest e.old) → (a b : List ℕ) → IsThere original.old (O.left o.old) a → IsThere export.old (E.left e.old) b →
+        IsFaultOf a original.old.head b export.old.head fault)) }
+    ensures out { IfOk result (λ found. IfSome found (λ fault. IsTrue (O.is_honest o.old) → IsTrue (E.is_honest e.old) → (a b : List ℕ) → IsThere original.old (O.left o.old) a → IsThere export.old (E.left e.old) b → IsReadBy fault (O.left o.new))) }
+    ensures stop { IfErr result (CheckStops (Rises (O.failures o.old) (O.failures o.new)) (Rises (E.failures e.old) (E.failures e.new))) }
 {
-    match held {
-        Some(_) => held,
-        None => difference_in(original, export, pairs, frame, from, to),
+    match finish(original, o, Side::Original) {
+        Ok(None) => match finish(export, e, Side::Export) {
+            Ok(None) => Ok(None),
+            Ok(Some(fault)) => Ok(Some(FaultOf::Export(fault))),
+            Err(stop) => Err(stop),
+        },
+        Ok(Some(fault)) => Ok(Some(FaultOf::Original(fault))),
+        Err(stop) => Err(stop),
     }
 }
 
@@ -285,8 +286,8 @@ fn start_both<O: Source, E: Source>(
 }
 
 /// Reads the data records of two files to their ends, and answers the first difference of the channels of
-/// the pairs; or the first fault of the original, or else of the export. Of both, the annotations are
-/// gathered that count.
+/// the pairs; or the first fault of the original, or else of the export. Where the channels don't differ, the
+/// annotations of both are gathered that count; behind a difference nothing is compared or kept.
 ///
 /// A data record of each is in memory at a time. The error is want of memory, or a failure of one of the
 /// sources.
@@ -321,7 +322,6 @@ pub(crate) fn walk_records<O: Source, E: Source>(
         Ok(Some(fault)) => return Ok(Err(fault)),
         Err(stop) => return Err(stop),
     }
-    let mut held = None;
     while let Some(end) = lesser_end(
         &original.reader,
         frame.clock.original,
@@ -329,15 +329,20 @@ pub(crate) fn walk_records<O: Source, E: Source>(
         frame.clock.export,
     ) {
         let next = border(frame.claim, time, end);
-        held = held_or(
-            held,
+        if let Some(found) = difference_in(
             &original.reader,
             &export.reader,
             pairs,
             frame,
             time,
             next,
-        );
+        ) {
+            return match finish_both(&mut original.reader, o, &mut export.reader, e) {
+                Ok(None) => Ok(Ok(Some(found))),
+                Ok(Some(fault)) => Ok(Err(fault)),
+                Err(stop) => Err(stop),
+            };
+        }
         match pass_both(alloc, original, o, export, e, frame, time, next) {
             Ok(None) => {}
             Ok(Some(fault)) => return Ok(Err(fault)),
@@ -345,5 +350,5 @@ pub(crate) fn walk_records<O: Source, E: Source>(
         }
         time = next;
     }
-    Ok(Ok(held))
+    Ok(Ok(None))
 }

@@ -68,6 +68,7 @@ pub(crate) fn finish<S: Source>(
     side: Side,
 ) -> Result<Option<Fault>, CheckStop>
     requires going { IsGoing reader.old.status }
+    ensures head { reader.new.head ≡ reader.old.head }
     ensures found { IfOk result (λ found. IsTrue (S.is_honest source.old) → (file : List ℕ) → IsThere reader.old (S.left source.old) file → body_fault file reader.old.head ≡ found) }
     ensures out { IfOk result (λ found. IfNone found (IsTrue (S.is_honest source.old) → (file : List ℕ) → IsThere reader.old (S.left source.old) file → (S.left source.new ≡ []) × Conforms file reader.old.head)) }
     ensures stop { IfErr result (SideStops side (Rises (S.failures source.old) (S.failures source.new))) }

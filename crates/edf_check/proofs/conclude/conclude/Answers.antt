@@ -18,4 +18,4 @@ returns-in_ok-with_label-in-Some-clause-walked c = λ o e claim r.
 
 pub returns-in_ok-walked-in-None-clause-walked : goal.returns-in_ok-walked-in-None-clause-walked
 returns-in_ok-walked-in-None-clause-walked c = λ o e claim r.
-    c.in_ok-walked-in-None.ensures.walked o e claim (record { both = r.both; samples = rw c.in-None.is at r.first; notes = r.notes })
+    c.in_ok-walked-in-None.ensures.walked o e claim (record { both = r.both; samples = rw c.in-None.is at r.first; notes = rw c.in-None.is at r.notes })

@@ -1,9 +1,7 @@
-use Rattle.std.proofs.Common.{◌≡◌, ◌^◌, ◌<◌, ℕ, pos, neg_ℤ, ◌-ℤ◌, ◌≤ℤ◌, ◌<ℤ◌, List, length, map, Some, None, IfSome, IsTrue, unsigned_abs}
-use Rattle.std.specs.Option.{option_or}
+use Rattle.std.proofs.Common.{◌≡◌, ◌^◌, ℕ, pos, neg_ℤ, ◌-ℤ◌, ◌≤ℤ◌, ◌<ℤ◌, List, map, Some, None, IsTrue, unsigned_abs}
 use Rattle.edf_stream.specs.Conforming.{Conforms}
 use Rattle.edf_stream.specs.Readers.{StandsIn}
 use Rattle.edf_stream.specs.Views.{note_value}
-use Rattle.edf_check.specs.Instants.{IsModest}
 use Rattle.edf_check.specs.Windows.{Follows, sampled, places_of, whole_difference, rest_difference}
 use Rattle.edf_check.proofs.lockstep.walk_records.Given as goal
 
@@ -15,11 +13,10 @@ invariant-loop-end g l = record {
       (map note_value (l.export).notes.items) None ((l.frame).clock.export).ps l.time.ps;
   low : neg_ℤ (pos (2 ^ 90)) ≤ℤ l.time.ps;
   high : l.time.ps <ℤ pos (2 ^ 83);
-  modest : IfSome l.held (λ f. IsModest f.difference.at × (f.channel < length l.pairs));
-  held : IsTrue (g.O.Source.is_honest l.fn.o) → IsTrue (g.E.Source.is_honest l.fn.e) → (a b : List ℕ) → StandsIn (l.fn.original).reader (g.O.Source.left l.fn.o) a → StandsIn (l.fn.export).reader (g.E.Source.left l.fn.e) b
+  first : IsTrue (g.O.Source.is_honest l.fn.o) → IsTrue (g.E.Source.is_honest l.fn.e) → (a b : List ℕ) → StandsIn (l.fn.original).reader (g.O.Source.left l.fn.o) a → StandsIn (l.fn.export).reader (g.E.Source.left l.fn.e) b
       → Conforms a ((l.fn.original).reader).head → Conforms b ((l.fn.export).reader).head
       → whole_difference (l.frame).claim.now (sampled a ((l.fn.original).reader).head ((l.frame).clock.original).ps) (sampled b ((l.fn.export).reader).head ((l.frame).clock.export).ps) (map places_of l.pairs)
-      ≡ option_or l.held (rest_difference (l.frame).claim.now (sampled a ((l.fn.original).reader).head ((l.frame).clock.original).ps) (sampled b ((l.fn.export).reader).head ((l.frame).clock.export).ps) (map places_of l.pairs) l.time.ps);
+      ≡ rest_difference (l.frame).claim.now (sampled a ((l.fn.original).reader).head ((l.frame).clock.original).ps) (sampled b ((l.fn.export).reader).head ((l.frame).clock.export).ps) (map places_of l.pairs) l.time.ps;
 }
 
 abbrev pub decreases-loop-end : goal.decreases-loop-end
