@@ -102,7 +102,7 @@ fn are_together(original: &FileReader, export: &FileReader, clock: Clock) -> boo
     )
 }
 
-/// Whether the data record at hand lies between two times: no border cuts it.
+/// Whether the data record at hand lies between two times: no border cuts it. Only speed rests on the answer.
 fn lies_between(reader: &FileReader, by: Offset, from: Time, to: Time) -> bool
     requires current { IsTrue (is_current reader.now.status) }
     requires near { unsigned_abs by.ps < 2 ^ 80 }

@@ -68,7 +68,8 @@ pub(crate) fn export_fault<S: Source>(
     }
 }
 
-/// Whether the data records at hand lie between two times and show the same, all of which is kept.
+/// Whether the data records at hand show the same, all of which is kept. It may say no where one of them
+/// reaches beyond the two times.
 fn shows_the_same(
     original: &FileReader,
     export: &FileReader,

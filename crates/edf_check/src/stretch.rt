@@ -169,7 +169,7 @@ fn is_one_grid(x: Stretch, y: Stretch) -> bool
     is_same(x.num, x.den, y.num, y.den) && is_same(x.step, x.den, y.step, y.den)
 }
 
-/// How many of the first bytes are the same.
+/// So many of the first bytes are the same. That there are no more isn't said: only speed rests on it.
 fn alike_bytes(a: &[u8], b: &[u8]) -> usize
     requires { length a.now ≡ length b.now }
     ensures within { result ≤ length a.now }
@@ -178,8 +178,9 @@ fn alike_bytes(a: &[u8], b: &[u8]) -> usize
     first_difference(a, b).unwrap_or(a.len())
 }
 
-/// How many of the first `count` samples of two stretches are the same, as far as their bytes show it: where
-/// the stretches don't stand at the same instants, none.
+/// How many of the first `count` samples of two stretches may be passed over, since they are the same as far as
+/// their bytes show it: where the stretches don't stand at the same instants, none. Only speed rests on how many
+/// they are.
 #[tactic(auto, using(crate::proofs::StretchFacts::behind_zero))]
 fn alike_count(x: Stretch, y: Stretch, count: usize) -> usize
     requires x { IsPart x }

@@ -78,8 +78,8 @@ fn cut_by_all(intervals: &[Interval], from: Time, to: Time) -> Time
 
 impl Claim {
     /// The first time behind `from_ps` at which a kept interval begins or ends, or `to_ps`, where that is
-    /// earlier. Between `from_ps` and the answer the claim keeps all or nothing. Times are picoseconds
-    /// after the second at which the original starts.
+    /// earlier. No interval begins or ends before it, and so the claim keeps all or nothing between the two.
+    /// Times are picoseconds after the second at which the original starts.
     pub fn border_behind(&self, from_ps: i128, to_ps: i128) -> i128
         requires { from_ps <ℤ to_ps }
         ensures later { from_ps <ℤ result }

@@ -133,8 +133,9 @@ fn has_distinct_labels(alloc: Global, signals: &[Signal]) -> Result<bool, AllocE
     Ok(are_distinct(&mut labels))
 }
 
-/// How many signals, from the first on, have channels of distinct labels: all those before the first channel
-/// that has the label of an earlier one. It is searched for by halves, with a sort for each.
+/// So many signals, from the first on, have channels of distinct labels. They are all those before the first
+/// channel that has the label of an earlier one; but only speed rests on there being no more, and no clause says
+/// it. The number is searched for by halves, with a sort for each.
 fn distinct_front(alloc: Global, signals: &[Signal]) -> Result<usize, AllocError>
     ensures within { IfOk result (λ m. m ≤ length signals.now) }
     ensures distinct { IfOk result (λ m. IsTrue (are_distinct_texts (labels_of_channels (take m signals.now)))) }
