@@ -16,5 +16,6 @@ pub mod RepeatFacts
 pub mod SaidFacts
 pub mod SignalFacts
 pub mod SoundFacts
+pub mod TextFacts
 pub mod TogetherFacts
 pub mod ValueFacts

@@ -10,4 +10,5 @@ pub mod Judged
 pub mod Layout
 pub mod Sound
 pub mod Stops
+pub mod Texts
 pub mod Views

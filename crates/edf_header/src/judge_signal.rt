@@ -8,6 +8,7 @@ ghost use Rattle.edf_header.specs.Extremes.{extremes_line};
 ghost use Rattle.edf_header.specs.Faults.{text_fault, physical_fault, digital_fault, samples_fault, digital_order_fault, physical_differ_fault, annotation_fault, naming_faults, extreme_faults, sampling_faults, agreement_faults, signal_faults};
 ghost use Rattle.edf_fields.specs.Tests.{first};
 ghost use Rattle.edf_header.specs.Heads.{line_of, signal_of};
+ghost use Rattle.edf_header.specs.Layout.{column_width};
 ghost use Rattle.edf_header.specs.Stops.{Stops};
 
 use crate::calibration::Calibration;
@@ -16,6 +17,7 @@ use crate::field::{count, printable, some_number, two_bytes};
 use crate::layout::{SignalField, signal_field};
 use crate::signal::{ANNOTATIONS, Signal, is_annotation_label};
 use crate::stop::Stop;
+use crate::texts::Texts;
 use edf_fields::number::{header_number, header_whole, text};
 use std::alloc::{AllocError, Global};
 
@@ -121,11 +123,12 @@ struct SignalFields<'a> {
 }
 
 impl<'a> SignalFields<'a> {
-    ghost use Rattle.edf_header.specs.Views.{field_in};
+    ghost use Rattle.edf_header.specs.Views.{field_in, texts_of};
 
     /// The bytes of a field.
     fn bytes(self, field: SignalField) -> &'a [u8]
-        ensures { result.now ≡ field_in self.entry field }
+        ensures value { result.now ≡ field_in self.entry field }
+        ensures len { length result.now ≡ column_width field }
     {
         signal_field(
             self.columns,
@@ -245,11 +248,18 @@ impl<'a> SignalFields<'a> {
         })
     }
 
-    /// The text of a field, in memory of its own.
-    fn own_text(self, alloc: Global, field: SignalField) -> Result<Vec<u8>, AllocError>
-        ensures { IfOk result (λ v. v.items ≡ text_of (field_in self.entry field)) }
+    /// The texts of the fields, in memory of their own.
+    fn texts(self, alloc: Global) -> Result<Texts, AllocError>
+        ensures { IfOk result (λ t. t ≡ texts_of self.entry) }
     {
-        Vec::from_slice(alloc, text(self.bytes(field)))
+        Texts::new(
+            alloc,
+            text(self.bytes(SignalField::Label)),
+            text(self.bytes(SignalField::Transducer)),
+            text(self.bytes(SignalField::Dimension)),
+            text(self.bytes(SignalField::Prefilter)),
+            text(self.bytes(SignalField::Reserved)),
+        )
     }
 }
 
@@ -276,14 +286,10 @@ pub(crate) fn judge_signal(
         calibration,
         samples,
     } = fields.numbers()?;
-    let label = fields.own_text(alloc, SignalField::Label)?;
-    let holds_annotations = is_annotation_label(&label);
+    let texts = fields.texts(alloc)?;
+    let holds_annotations = is_annotation_label(texts.label());
     Ok(Signal {
-        label,
-        transducer: fields.own_text(alloc, SignalField::Transducer)?,
-        dimension: fields.own_text(alloc, SignalField::Dimension)?,
-        prefilter: fields.own_text(alloc, SignalField::Prefilter)?,
-        reserved: fields.own_text(alloc, SignalField::Reserved)?,
+        texts,
         calibration,
         samples,
         offset,

@@ -18,4 +18,5 @@ mod read;
 pub mod signal;
 mod startdate;
 pub mod stop;
+mod texts;
 mod together;

@@ -4,6 +4,7 @@ ghost use Rattle.std.specs.Prelude.{◌≡◌, ◌<◌, ◌^◌};
 ghost use Rattle.edf_header.specs.Heads.{is_annotations};
 
 use crate::calibration::Calibration;
+use crate::texts::Texts;
 use std::marker::Model;
 
 /// The label of a signal that holds annotations (EDF+, "The 'EDF Annotations' signal").
@@ -14,11 +15,7 @@ pub(crate) const ANNOTATIONS: &[u8] = b"EDF Annotations";
 /// The texts are those of its fields (EDF, "Header record"), without trailing spaces.
 #[derive(Debug, Drop)]
 pub struct Signal {
-    pub(crate) label: Vec<u8>,
-    pub(crate) transducer: Vec<u8>,
-    pub(crate) dimension: Vec<u8>,
-    pub(crate) prefilter: Vec<u8>,
-    pub(crate) reserved: Vec<u8>,
+    pub(crate) texts: Texts,
     pub(crate) calibration: Calibration,
     pub(crate) samples: u32,
     pub(crate) offset: u64,
@@ -39,9 +36,9 @@ impl Model for Signal {
 
     ghost Value = { SignalHead };
 
-    ghost view = { λ s. record { label = s.label.items; transducer = s.transducer.items; dimension = s.dimension.items; prefilter = s.prefilter.items; reserved = s.reserved.items; calibration = s.calibration; samples = s.samples; offset = s.offset } };
+    ghost view = { λ s. record { label = (s.texts).label; transducer = (s.texts).transducer; dimension = (s.texts).dimension; prefilter = (s.texts).prefilter; reserved = (s.texts).reserved; calibration = s.calibration; samples = s.samples; offset = s.offset } };
 
-    ghost invariant = { λ s. s.holds_annotations ≡ is_annotations s.label.items };
+    ghost invariant = { λ s. s.holds_annotations ≡ is_annotations (s.texts).label };
 }
 
 impl Signal {
@@ -49,35 +46,35 @@ impl Signal {
     pub fn label(&self) -> &[u8]
         ensures { result.now ≡ self.entry.now.label }
     {
-        &self.label
+        self.texts.label()
     }
 
     /// The kind of the transducer (EDF, "Header record").
     pub fn transducer(&self) -> &[u8]
         ensures { result.now ≡ self.entry.now.transducer }
     {
-        &self.transducer
+        self.texts.transducer()
     }
 
     /// The physical dimension, as `uV` (EDF, "Header record").
     pub fn dimension(&self) -> &[u8]
         ensures { result.now ≡ self.entry.now.dimension }
     {
-        &self.dimension
+        self.texts.dimension()
     }
 
     /// How the signal was filtered before it was sampled, as `HP:0.1Hz` (EDF, "Header record").
     pub fn prefilter(&self) -> &[u8]
         ensures { result.now ≡ self.entry.now.prefilter }
     {
-        &self.prefilter
+        self.texts.prefilter()
     }
 
     /// The free text of the signal's reserved field (EDF, "Header record").
     pub fn reserved(&self) -> &[u8]
         ensures { result.now ≡ self.entry.now.reserved }
     {
-        &self.reserved
+        self.texts.reserved()
     }
 
     /// The line from digital to physical values (EDF, "Header record": digital and physical minimum
