@@ -7,6 +7,7 @@ pub mod FaultTexts
 pub mod Faults
 pub mod Heads
 pub mod Judged
+pub mod Lanes
 pub mod Layout
 pub mod Sound
 pub mod Stops

@@ -4,11 +4,13 @@ ghost use Rattle.std.specs.Prelude.{◌≡◌, ◌<◌, ◌≤◌, ◌≤ℤ◌,
 ghost use Rattle.edf_fields.specs.Dates.{civil_day};
 ghost use Rattle.edf_fields.specs.Identifications.{patient_of, recording_of};
 ghost use Rattle.edf_header.specs.Heads.{start_second, record_bytes};
+ghost use Rattle.edf_header.specs.Lanes.{annotation_places};
 ghost use Rattle.edf_header.specs.Sound.{IsSound};
 
 use crate::fixed::{Extent, Start};
 use crate::judge_columns::Body;
 use crate::kind::Kind;
+use crate::lane_place::LanePlace;
 use crate::layout::{FixedField, fixed_field};
 use crate::signal::Signal;
 use edf_fields::identification::{PatientId, RecordingId};
@@ -30,14 +32,16 @@ pub struct Header {
 }
 
 impl Model for Header {
+    ghost use Rattle.std.specs.Prelude.{◌≡◌};
     ghost use Rattle.edf_header.specs.Heads.{Head};
+    ghost use Rattle.edf_header.specs.Lanes.{annotation_places};
     ghost use Rattle.edf_header.specs.Views.{head_view, IsKept};
 
     ghost Value = { Head };
 
     ghost view = { λ h. head_view h.front.items h.start h.extent h.body.signals.items };
 
-    ghost invariant = { λ h. IsKept h.front.items h.start h.extent h.body.signals.items h.body.record_bytes };
+    ghost invariant = { λ h. IsKept h.front.items h.start h.extent h.body.signals.items h.body.record_bytes × (h.body.annotations.items ≡ annotation_places h.body.signals.items) };
 }
 
 /// The seconds of so many days.
@@ -143,5 +147,13 @@ impl Header {
         ensures sound { IsSound self.entry.now }
     {
         &self.body.signals
+    }
+
+    /// Where the lanes of the signals that hold annotations lie in each data record, in file order (EDF,
+    /// "Data record"; EDF+, "The 'EDF Annotations' signal").
+    pub fn annotation_places(&self) -> &[LanePlace]
+        ensures { result.now ≡ annotation_places self.entry.now.signals }
+    {
+        &self.body.annotations
     }
 }

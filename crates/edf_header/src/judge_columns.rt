@@ -4,11 +4,13 @@ ghost use Rattle.std.specs.Prelude.{◌≡◌, ◌*◌, ◌≤◌, ◌<◌, ◌^
 ghost use Rattle.edf_header.specs.Faults.{signals_faults, columns_tests};
 ghost use Rattle.edf_fields.specs.Tests.{first};
 ghost use Rattle.edf_header.specs.Heads.{signals_in, samples_together};
+ghost use Rattle.edf_header.specs.Lanes.{annotation_places as places_of_annotations};
 ghost use Rattle.edf_header.specs.Stops.{Stops};
 
 use crate::columns::missing_column;
 use crate::fault::{Cause, Fault, Place};
 use crate::judge_signal::{Columns, judge_signal};
+use crate::lane_place::{LanePlace, annotation_places};
 use crate::signal::Signal;
 use crate::stop::Stop;
 use crate::together::judge_together;
@@ -36,6 +38,8 @@ fn judge_signals(alloc: Global, columns: Columns<'_>) -> Result<Vec<Signal>, Sto
 #[derive(Debug, Drop)]
 pub(crate) struct Body {
     pub signals: Vec<Signal>,
+    /// Where the lanes of those that hold annotations lie.
+    pub annotations: Vec<LanePlace>,
     /// How many bytes a data record has.
     pub record_bytes: u32,
 }
@@ -47,7 +51,8 @@ pub(crate) fn judge_columns(alloc: Global, columns: Columns<'_>) -> Result<Body,
     ensures ok { IfOk result (λ v. (first (columns_tests columns.entry.signals columns.entry.bytes.now) ≡ None)
         × (256 * columns.entry.signals ≤ length columns.entry.bytes.now)
         × (v.signals.items ≡ signals_in columns.entry.signals columns.entry.bytes.now)
-        × (v.record_bytes ≡ 2 * samples_together v.signals.items) × (v.record_bytes ≤ 16777216)) }
+        × (v.record_bytes ≡ 2 * samples_together v.signals.items) × (v.record_bytes ≤ 16777216)
+        × (v.annotations.items ≡ places_of_annotations v.signals.items)) }
     ensures stop { IfErr result (Stops (λ f. first (columns_tests columns.entry.signals columns.entry.bytes.now) ≡ Some f) ⊥ (Unit {0})) }
 {
     if let Some((signal, field)) = missing_column(columns.signals, columns.bytes.len()) {
@@ -58,8 +63,10 @@ pub(crate) fn judge_columns(alloc: Global, columns: Columns<'_>) -> Result<Body,
     }
     let signals = judge_signals(alloc, columns)?;
     let record_bytes = judge_together(alloc, &signals)?;
+    let annotations = annotation_places(alloc, &signals)?;
     Ok(Body {
         signals,
+        annotations,
         record_bytes,
     })
 }

@@ -12,6 +12,7 @@ pub mod header;
 mod judge_columns;
 mod judge_signal;
 pub mod kind;
+pub mod lane_place;
 pub mod laws;
 pub mod layout;
 mod read;

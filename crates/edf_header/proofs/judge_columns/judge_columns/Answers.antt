@@ -42,4 +42,5 @@ returns-clause-ok c =
     let n = c.args.columns.signals in
     let passed = rw (c.deref.ensures.value, c.in_ok-signals.ensures.ok.1) at c.in_ok-record_bytes.ensures.ok.0 in
     let size = rw c.deref.ensures.value at c.in_ok-record_bytes.ensures.ok.1 in
-    (joint-left n bytes c.in_default.ensures.0 c.in_ok-signals.ensures.ok.0 ∙ passed, c.in_default.ensures.1, c.in_ok-signals.ensures.ok.1, size, c.in_ok-record_bytes.ensures.ok.2)
+    let places = rw c.deref-2.ensures.value at c.in_ok-annotations.ensures in
+    (joint-left n bytes c.in_default.ensures.0 c.in_ok-signals.ensures.ok.0 ∙ passed, c.in_default.ensures.1, c.in_ok-signals.ensures.ok.1, size, c.in_ok-record_bytes.ensures.ok.2, places)

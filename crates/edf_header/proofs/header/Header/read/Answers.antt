@@ -46,9 +46,11 @@ returns-in_err-body-clause-stop g c =
 pub invariant_of-result : goal.invariant_of-result
 invariant_of-result g c =
     let said = rw c.deref.ensures.value at c.in_ok-fixed.ensures in
-    let k = c.in_ok-body.ensures.ok in
-    kept c.in_ok-front.front.items c.deref-2.result.now c.in_ok-fixed.fixed.start c.in_ok-fixed.fixed.extent c.in_ok-body.body.signals.items c.in_ok-body.body.record_bytes
-    said.1 said.2 said.3 said.0 k.0 k.2 k.3 k.4
+    let k = c.in_ok-body.ensures.ok in (
+      kept c.in_ok-front.front.items c.deref-2.result.now c.in_ok-fixed.fixed.start c.in_ok-fixed.fixed.extent c.in_ok-body.body.signals.items c.in_ok-body.body.record_bytes
+          said.1 said.2 said.3 said.0 k.0 k.2 k.3 k.4,
+      k.5,
+    )
 
 pub returns-clause-sound : goal.returns-clause-sound
 returns-clause-sound g c =
