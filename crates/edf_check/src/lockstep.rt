@@ -91,6 +91,7 @@ fn shows_the_same(
 
 /// The earliest difference of the channels between two times. Where the data records at hand show the same,
 /// there is none.
+#[inline(always)]
 fn difference_in(
     original: &FileReader,
     export: &FileReader,

@@ -128,6 +128,7 @@ impl<R: Read + Drop> Source for ReadSource<R> {
 ///
 /// An `Err` comes only from a read that failed, and then at once. For an empty `buf` nothing is
 /// read.
+#[inline(always)]
 pub fn fill<S: Source>(source: &mut S, buf: &mut [u8]) -> Result<usize, ReadFault>
     ensures within { IfOk result (λ k. k ≤ length buf.old) }
     ensures failures { OnOk result (S.failures source.new ≡ S.failures source.old) }

@@ -115,6 +115,16 @@ fn says_its_signals(rt: HostRuntime) -> Result<(), Fail> {
     assert_signals(&rt, header.signals())
 }
 
+#[test]
+fn says_where_its_annotations_lie(rt: HostRuntime) -> Result<(), Fail> {
+    let header = header(rt.alloc(), &[])?;
+    for place in header.annotation_places() {
+        assert_eq!(rt; (place.offset, place.samples), (12, 20));
+    }
+    assert_eq!(rt; header.annotation_places().len(), 1);
+    Ok(())
+}
+
 /// Startdates and starttimes, and what they say.
 const STARTS: &[(&str, &str, (i16, i8, i8, i64))] = &[
     ("01.01.85", "00.00.00", (1985, 1, 1, 473_385_600)),

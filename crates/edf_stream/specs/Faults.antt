@@ -60,6 +60,10 @@ start_fault kind k ended start = fault_unless (may_start kind k ended start) (At
 unfoldable pub notes_fault : ℕ → ℕ → Option Fault
 notes_fault k notes = fault_unless (nat_le notes 1000000) (AtRecord k) TooManyAnnotations
 
+-- the first tests of the bytes of data record k: their annotation lanes are lists of TALs, and say when it starts
+abbrev pub timed_faults : Head → ℕ → List ℕ → List (Option Fault)
+timed_faults h k bytes = lanes_fault k (cause_of_lanes (annotation_lanes h.signals bytes)) ∷ time_fault k (said_start h bytes) ∷ []
+
 -- the tests of the bytes of data record k, where the records before it end at `ended` and have so many annotations
 abbrev pub record_faults : Head → ℕ → ℤ → ℕ → List ℕ → List (Option Fault)
 record_faults h k ended notes bytes =

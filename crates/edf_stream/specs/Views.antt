@@ -1,5 +1,8 @@
 -- What the code's values say, in the words of the definitions.
-use Rattle.std.specs.Prelude.{◌≡◌, ℕ, ℤ, pos, ◌≤◌, ◌<◌, ◌+ℤ◌, ◌^◌, IsTrue, unsigned_abs, List, [], ◌++◌, map, length, Option, Some, None, Result, string_bytes}
+use Rattle.std.specs.Prelude.{◌≡◌, ℕ, ℤ, pos, ◌≤◌, ◌<◌, ◌+ℤ◌, ◌^◌, ◌*◌, ◌-◌, min, MatchResult, IsTrue, unsigned_abs, List, [], ◌++◌, map, length, Option, Some, None, Result, Ok, string_bytes}
+use Rattle.edf_fields.specs.declared.cause.TalCause.{TalCause}
+use Rattle.edf_fields.specs.Parts.{part}
+use Rattle.edf_header.specs.declared.lane_place.LanePlace.{LanePlace}
 use Rattle.edf_header.specs.Heads.{Head, record_bytes}
 use Rattle.edf_header.specs.Sound.{IsSound}
 use Rattle.edf_tal.specs.declared.start.StartCause.{StartCause}
@@ -16,7 +19,7 @@ use Rattle.edf_stream.specs.declared.note.NoteRef.{NoteRef}
 use Rattle.edf_stream.specs.declared.notes.Note.{Note}
 use Rattle.edf_stream.specs.declared.note.TalNotes.{TalNotes}
 use Rattle.edf_stream.specs.Notes.{NoteValue, notes_of_items, notes_of_lanes}
-use Rattle.edf_stream.specs.Records.{annotation_lanes}
+use Rattle.edf_stream.specs.Faults.{cause_of_lanes}
 
 -- the start that lanes say, with these lanes behind them
 abbrev pub start_with : Option Said → List (List ℕ) → Result ℤ StartCause
@@ -27,6 +30,28 @@ start_with None lanes = start_by_lanes lanes
 abbrev pub texts_said : Option Said → ℕ
 texts_said None = 0
 texts_said (Some said) = said.texts
+
+-- what lanes say together, or the cause of the first of them that is no list of TALs
+abbrev pub IsSaidBy : List (List ℕ) → Result (Option Said) TalCause → Type 0
+IsSaidBy lanes result = MatchResult result
+    (λ found. (cause_of_lanes lanes ≡ None)
+    × (start_with found [] ≡ start_by_lanes lanes)
+    × (texts_said found ≡ min (length (notes_of_lanes lanes)) (2 ^ 32 - 1)))
+    (λ cause. cause_of_lanes lanes ≡ Some cause)
+
+-- these lanes are one list of TALs each, and say this time and nothing else
+pub record IsTimedAlone (lanes : List (List ℕ)) (start : ℤ) : Type 0 where
+  pub fine : cause_of_lanes lanes ≡ None
+  pub said : start_by_lanes lanes ≡ Ok start
+  pub texts : length (notes_of_lanes lanes) ≡ 1
+
+-- the lane at a place in the bytes of a data record
+abbrev pub placed_lane : LanePlace → List ℕ → List ℕ
+placed_lane place bytes = part bytes place.offset (2 * place.samples)
+
+-- the lanes at these places
+abbrev pub placed_lanes : List LanePlace → List ℕ → List (List ℕ)
+placed_lanes places bytes = map (λ place. placed_lane place bytes) places
 
 -- reading data records takes no memory, so want of it stops no reader
 abbrev pub IsContent : Status → Type 0
@@ -71,4 +96,4 @@ lane_notes_left lane = notes_of_said lane.tal ++ notes_of_items (items_left lane
 
 -- those of a data record
 abbrev pub notes_left : Annotations → List NoteValue
-notes_left notes = lane_notes_left notes.lane ++ notes_of_lanes (annotation_lanes notes.signals.now notes.bytes.now)
+notes_left notes = lane_notes_left notes.lane ++ notes_of_lanes (placed_lanes notes.places.now notes.bytes.now)

@@ -4,13 +4,12 @@
 ghost use Rattle.std.specs.Prelude.{◌≡◌, ◌∷◌, ◌++◌, ◌<◌, [], length, Some, IfSome, MatchOption};
 ghost use Rattle.edf_tal.specs.Views.{tal_view, items_left};
 ghost use Rattle.edf_stream.specs.Notes.{notes_of_tal, notes_of_lane, notes_of_lanes, notes_in};
-ghost use Rattle.edf_stream.specs.Records.{annotation_lanes};
-ghost use Rattle.edf_stream.specs.Views.{note_view, notes_of_said, lane_notes_left, notes_left};
+ghost use Rattle.edf_stream.specs.Views.{note_view, notes_of_said, lane_notes_left, notes_left, placed_lanes};
 
-use crate::lanes::lane_of;
+use crate::lanes::placed_lane;
 use crate::note::{NoteRef, TalNotes};
 use edf_header::header::Header;
-use edf_header::signal::Signal;
+use edf_header::lane_place::LanePlace;
 use edf_tal::tal::Tal;
 use edf_tal::tals::Tals;
 
@@ -91,29 +90,29 @@ impl<'a> LaneNotes<'a> {
 #[derive(Debug, Drop)]
 pub struct Annotations<'a> {
     lane: LaneNotes<'a>,
-    signals: &'a [Signal],
+    places: &'a [LanePlace],
     bytes: &'a [u8],
 }
 
 impl<'a> Annotations<'a> {
-    /// Those of the annotation signals among these, with the time-keeping text.
+    /// Those of the lanes at these places, with the time-keeping text.
     #[tactic(auto, unfolding(edf_tal::specs::Reading::items_of))]
-    fn all(signals: &'a [Signal], bytes: &'a [u8]) -> Annotations<'a>
-        ensures { notes_left result ≡ notes_of_lanes (annotation_lanes signals.now bytes.now) }
+    fn all(places: &'a [LanePlace], bytes: &'a [u8]) -> Annotations<'a>
+        ensures { notes_left result ≡ notes_of_lanes (placed_lanes places.now bytes.now) }
     {
         Annotations {
             lane: LaneNotes::new(&[]),
-            signals,
+            places,
             bytes,
         }
     }
 
     /// Those of the data record of these bytes: all texts but the first.
-    #[tactic(auto, unfolding(crate::specs::Notes::notes_in))]
+    #[tactic(auto, unfolding(crate::specs::Notes::notes_in), using(crate::proofs::SignalFacts::lanes_placed))]
     pub(crate) fn new(header: &'a Header, bytes: &'a [u8]) -> Annotations<'a>
         ensures { notes_left result ≡ notes_in header.now bytes.now }
     {
-        let mut notes = Annotations::all(header.signals(), bytes);
+        let mut notes = Annotations::all(header.annotation_places(), bytes);
         // the first text keeps the time
         match notes.next_note() {
             Some(_time) => notes,
@@ -124,18 +123,18 @@ impl<'a> Annotations<'a> {
     /// The lane of the next annotation signal, where there is one more.
     fn next_lane(&mut self) -> Option<LaneNotes<'a>>
         ensures lane { MatchOption result
-            ((annotation_lanes self.old.signals.now self.old.bytes.now ≡ []) × (annotation_lanes self.new.signals.now self.new.bytes.now ≡ []))
-            (λ lane. notes_of_lanes (annotation_lanes self.old.signals.now self.old.bytes.now) ≡ lane_notes_left lane ++ notes_of_lanes (annotation_lanes self.new.signals.now self.new.bytes.now)) }
+            ((placed_lanes self.old.places.now self.old.bytes.now ≡ []) × (placed_lanes self.new.places.now self.new.bytes.now ≡ []))
+            (λ lane. notes_of_lanes (placed_lanes self.old.places.now self.old.bytes.now) ≡ lane_notes_left lane ++ notes_of_lanes (placed_lanes self.new.places.now self.new.bytes.now)) }
         ensures here { self.new.lane ≡ self.old.lane }
-        ensures fewer { IfSome result (λ _. length self.new.signals.now < length self.old.signals.now) }
+        ensures fewer { IfSome result (λ _. length self.new.places.now < length self.old.places.now) }
     {
-        while let [signal, signals @ ..] = self.signals {
-            self.signals = signals;
-            if signal.is_annotations() {
-                return Some(LaneNotes::new(lane_of(signal, self.bytes)));
+        match self.places {
+            [place, places @ ..] => {
+                self.places = places;
+                Some(LaneNotes::new(placed_lane(*place, self.bytes)))
             }
+            [] => None,
         }
-        None
     }
 
     /// The next one.

@@ -8,23 +8,35 @@ ghost use Rattle.edf_stream.specs.Records.{lane_of as lane_of_signal, numbered_l
 ghost use Rattle.edf_stream.specs.Notes.{notes_of_items, notes_of_lane, notes_of_lanes};
 ghost use Rattle.edf_stream.specs.Starts.{start_by_lanes};
 ghost use Rattle.edf_stream.specs.Faults.{cause_of, cause_of_lanes};
-ghost use Rattle.edf_stream.specs.Views.{start_with, texts_said};
+ghost use Rattle.edf_stream.specs.Views.{texts_said, placed_lane, placed_lanes, IsSaidBy, IsTimedAlone};
 
 use edf_fields::cause::TalCause;
 use edf_header::header::Header;
+use edf_header::lane_place::LanePlace;
 use edf_header::signal::Signal;
 use edf_tal::start::{StartCause, start_by_first, time_alone};
 use edf_tal::tal::Tal;
 use edf_tal::tals::Tals;
 
+/// The lane at a place in the bytes of a data record, cut short where they end.
+pub(crate) fn placed_lane(place: LanePlace, bytes: &[u8]) -> &[u8]
+    ensures { result.now ≡ placed_lane place bytes.entry.now }
+{
+    let from = place.offset.min(bytes.len());
+    let behind = &bytes[from..];
+    let count = (2 * place.samples as usize).min(behind.len());
+    &behind[..count]
+}
+
 /// The lane of a signal in the bytes of a data record, cut short where they end.
 pub(crate) fn lane_of<'a>(signal: &Signal, bytes: &'a [u8]) -> &'a [u8]
     ensures { result.now ≡ lane_of_signal signal.now bytes.entry.now }
 {
-    let from = signal.offset().min(bytes.len());
-    let behind = &bytes[from..];
-    let count = (2 * signal.samples() as usize).min(behind.len());
-    &behind[..count]
+    let place = LanePlace {
+        offset: signal.offset(),
+        samples: signal.samples(),
+    };
+    placed_lane(place, bytes)
 }
 
 /// The lane of one of the signals, by its number.
@@ -111,6 +123,18 @@ fn said_by_lane(lane: &[u8]) -> Result<Said, TalCause>
     }
 }
 
+/// What the only annotation lane of a data record says, where the TAL that keeps the time stands alone in it;
+/// none elsewhere.
+pub(crate) fn lone_time(header: &Header, bytes: &[u8]) -> Option<i128>
+    ensures alone { IfSome result (λ v. IsTimedAlone (annotation_lanes header.now.signals bytes.now) v) }
+    ensures small { IfSome result (λ v. unsigned_abs v < 10 ^ 21) }
+{
+    match header.annotation_places() {
+        [place] => time_alone(placed_lane(*place, bytes)),
+        _ => None,
+    }
+}
+
 impl Said {
     /// With what one lane more says.
     fn with(self, lane: Said) -> Said
@@ -140,22 +164,25 @@ fn said_with(found: Option<Said>, said: Said) -> Said
     }
 }
 
-/// What the annotation lanes in the bytes of a data record say, none where there is no such lane; or
-/// why the first bad one is no list of TALs.
-pub(crate) fn said_by_lanes(signals: &[Signal], bytes: &[u8]) -> Result<Option<Said>, TalCause>
-    ensures said { MatchResult result
-        (λ found. (cause_of_lanes (annotation_lanes signals.now bytes.now) ≡ None)
-        × (start_with found [] ≡ start_by_lanes (annotation_lanes signals.now bytes.now))
-        × (texts_said found ≡ min (length (notes_of_lanes (annotation_lanes signals.now bytes.now))) (2 ^ 32 - 1)))
-        (λ cause. cause_of_lanes (annotation_lanes signals.now bytes.now) ≡ Some cause) }
+/// What the lanes at these places say, none where there is no lane; or why the first bad one is no list of
+/// TALs.
+fn said_at_places(places: &[LanePlace], bytes: &[u8]) -> Result<Option<Said>, TalCause>
+    ensures said { IsSaidBy (placed_lanes places.now bytes.now) result }
     ensures small { IfOk result (λ found. IfSome found (λ s. IfOk s.start (λ v. unsigned_abs v < 10 ^ 21))) }
 {
     let mut found = None;
-    for signal in signals {
-        if signal.is_annotations() {
-            let said = said_by_lane(lane_of(signal, bytes))?;
-            found = Some(said_with(found, said));
-        }
+    for place in places {
+        let said = said_by_lane(placed_lane(*place, bytes))?;
+        found = Some(said_with(found, said));
     }
     Ok(found)
+}
+
+/// What the annotation lanes in the bytes of a data record say, none where there is no such lane; or
+/// why the first bad one is no list of TALs.
+pub(crate) fn said_by_lanes(header: &Header, bytes: &[u8]) -> Result<Option<Said>, TalCause>
+    ensures said { IsSaidBy (annotation_lanes header.now.signals bytes.now) result }
+    ensures small { IfOk result (λ found. IfSome found (λ s. IfOk s.start (λ v. unsigned_abs v < 10 ^ 21))) }
+{
+    said_at_places(header.annotation_places(), bytes)
 }

@@ -6,10 +6,11 @@ ghost use Rattle.edf_header.specs.Heads.{record_bytes};
 ghost use Rattle.edf_stream.specs.Records.{annotation_lanes};
 ghost use Rattle.edf_stream.specs.Notes.{notes_in, notes_of_lanes};
 ghost use Rattle.edf_stream.specs.Starts.{start_by_lanes, said_start, start_in};
-ghost use Rattle.edf_stream.specs.Faults.{cause_of_lanes, lanes_fault, time_fault, notes_fault, record_fault};
+ghost use Rattle.edf_fields.specs.Tests.{first};
+ghost use Rattle.edf_stream.specs.Faults.{cause_of_lanes, lanes_fault, time_fault, notes_fault, timed_faults, record_fault};
 ghost use Rattle.edf_stream.specs.Views.{start_with, texts_said};
 
-use crate::lanes::{Said, said_by_lanes};
+use crate::lanes::{Said, lone_time, said_by_lanes};
 use crate::start::{Progress, Start, judge_start};
 use edf_header::fault::{Cause, Fault, Place};
 use edf_header::header::Header;
@@ -48,7 +49,7 @@ fn judge_lanes(header: &Header, k: u32, bytes: &[u8]) -> Result<Option<Said>, Fa
     ensures small { IfOk result (λ found. IfSome found (λ s. IfOk s.start (λ v. unsigned_abs v < 10 ^ 21))) }
     ensures place { IfErr result (λ f. f.place ≡ AtRecord k) }
 {
-    match said_by_lanes(header.signals(), bytes) {
+    match said_by_lanes(header, bytes) {
         Ok(found) => Ok(found),
         Err(cause) => Err(Fault {
             place: Place::AtRecord(k),
@@ -85,9 +86,45 @@ fn texts_of(found: Option<Said>) -> u32
     }
 }
 
+/// Where a data record starts, and how many texts its annotation lanes have, up to the most that fit.
+#[derive(Debug, Clone, Copy)]
+struct Timed {
+    start: Start,
+    texts: u32,
+}
+
+/// Where data record `k` says that it starts, with how many texts its annotation lanes have; or the first
+/// fault of these lanes. In most data records there is one such lane, in which the TAL that keeps the time
+/// stands alone.
+#[tactic(auto, unfolding(crate::specs::Faults::lanes_fault, crate::specs::Faults::time_fault, crate::specs::Starts::said_start))]
+fn judge_timed(header: &Header, k: u32, bytes: &[u8]) -> Result<Timed, Fault>
+    ensures judged { MatchResult result
+        (λ timed. (lanes_fault k (cause_of_lanes (annotation_lanes header.now.signals bytes.now)) ≡ None)
+        × (time_fault k (said_start header.now bytes.now) ≡ None)
+        × (said_start header.now bytes.now ≡ Ok timed.start.ps)
+        × (timed.texts ≡ min (length (notes_of_lanes (annotation_lanes header.now.signals bytes.now))) (2 ^ 32 - 1)))
+        (λ f. first (timed_faults header.now k bytes.now) ≡ Some f) }
+    ensures small { IfOk result (λ timed. unsigned_abs timed.start.ps < 10 ^ 21) }
+    ensures place { IfErr result (λ f. f.place ≡ AtRecord k) }
+{
+    if let Some(ps) = lone_time(header, bytes) {
+        return Ok(Timed {
+            start: Start { ps },
+            texts: 1,
+        });
+    }
+    let found = judge_lanes(header, k, bytes)?;
+    let start = judge_time(k, found)?;
+    Ok(Timed {
+        start,
+        texts: texts_of(found),
+    })
+}
+
 /// Judges the bytes of data record `k`, and answers how far the records were followed with it; or its
 /// first fault.
-#[tactic(auto, unfolding(crate::specs::Faults::record_fault, crate::specs::Notes::notes_in))]
+#[inline(always)]
+#[tactic(auto, unfolding(crate::specs::Faults::record_fault, crate::specs::Notes::notes_in), using(crate::proofs::NoteFacts::timed_found))]
 pub(crate) fn judge_record(
     header: &Header,
     k: u32,
@@ -106,11 +143,10 @@ pub(crate) fn judge_record(
     ensures later { IfOk result (λ after. (k ≡ 0 → before.ended_ps ≡ pos 0) → before.ended_ps <ℤ after.ended_ps) }
     ensures place { IfErr result (λ f. f.place ≡ AtRecord k) }
 {
-    let found = judge_lanes(header, k, bytes)?;
-    let start = judge_time(k, found)?;
-    judge_start(header.kind(), k, before, start)?;
-    match judge_notes(k, before.notes, texts_of(found)) {
-        Ok(notes) => Ok(start.with(header, notes)),
+    let timed = judge_timed(header, k, bytes)?;
+    judge_start(header.kind(), k, before, timed.start)?;
+    match judge_notes(k, before.notes, timed.texts) {
+        Ok(notes) => Ok(timed.start.with(header, notes)),
         Err(fault) => Err(fault),
     }
 }

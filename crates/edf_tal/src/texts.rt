@@ -8,6 +8,9 @@ fn first_text_of(body: &str) -> Option<(&str, &str)>
     ensures { MatchOption result (texts_of body.now ≡ []) (λ x.
         (texts_of body.now ≡ x.0.now ∷ texts_of x.1.now) × (length x.1.now < length body.now)) }
 {
+    if body.is_empty() {
+        return None;
+    }
     body.split_once('\u{14}')
 }
 

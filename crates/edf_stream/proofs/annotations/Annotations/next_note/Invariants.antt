@@ -6,4 +6,4 @@ abbrev pub invariant-loop-note : goal.invariant-loop-note
 invariant-loop-note l = notes_left l.self ≡ notes_left l.initial.self
 
 abbrev pub decreases-loop-note : goal.decreases-loop-note
-decreases-loop-note l = length (l.self).signals.now
+decreases-loop-note l = length (l.self).places.now

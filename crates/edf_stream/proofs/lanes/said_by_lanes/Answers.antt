@@ -1,0 +1,9 @@
+use Rattle.std.proofs.Common.{ap, ◌∙◌, subst}
+use Rattle.edf_stream.specs.Views.{placed_lanes, IsSaidBy}
+use Rattle.edf_stream.proofs.SignalFacts.{lanes_placed}
+use Rattle.edf_stream.proofs.lanes.said_by_lanes.Goals as goal
+
+pub returns-clause-said : goal.returns-clause-said
+returns-clause-said c =
+    let e = ap (λ places. placed_lanes places c.args.bytes.now) c.annotation_places.ensures ∙ lanes_placed c.args.header.now.signals c.args.bytes.now in
+    subst (λ lanes. IsSaidBy lanes c.said_at_places.result) e c.said_at_places.ensures.said
