@@ -1,5 +1,5 @@
 -- Channels found by their labels.
-use Rattle.std.proofs.Common.{◌≡◌, ◌≢◌, ℕ, ◌<◌, Equal, true, false, not, ◌&&◌, List, length, get_or, map, filter, Bor, Option, Some, None, option_map, slice_get, MatchOption, Ok, Err, inl, inr, refl, sym, ap, ◌∙◌, subst, arith}
+use Rattle.std.proofs.Common.{◌≡◌, ◌≢◌, ℕ, ◌<◌, true, false, not, ◌&&◌, List, length, get_or, map, filter, Bor, Option, Some, None, option_map, slice_get, MatchOption, Ok, Err, inl, inr, refl, sym, ap, ◌∙◌, subst, arith}
 use Rattle.std.specs.Cmp.Lexicographic.{slice_cmp}
 use Rattle.std.specs.List.Sorted.{IsBinarySearchResult, IsPermutation}
 use Rattle.std.specs.Ordering.{nat_cmp, is_eq}
@@ -15,11 +15,8 @@ use Rattle.edf_header.specs.Heads.{SignalHead, Head, is_annotations}
 use Rattle.edf_header.specs.Sound.{IsSound}
 use Rattle.edf_check.specs.Channels.{IsChannelOf, HasNoChannel}
 use Rattle.edf_check.specs.Comparisons.{is_ordinary, channel_of, AreByLabel, IsChannelIndex}
-use Rattle.edf_check.proofs.LabelFacts.{equal-tested}
+use Rattle.edf_check.proofs.LabelFacts.{equal-tested, same-label}
 use Rattle.edf_check.proofs.ListFacts.{has-get}
-
-pub same-label : (x y : List ℕ) → slice_cmp nat_cmp x y ≡ Equal → x ≡ y
-same-label x y e = (bytes_eq-Decides x y).0 (sym (equal-tested x y) ∙ ap is_eq e)
 
 -- ---- one signal of a sorted list
 

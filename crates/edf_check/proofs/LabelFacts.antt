@@ -1,16 +1,20 @@
 -- Labels in the order of their bytes, and one of them found.
-use Rattle.std.proofs.Common.{◌≡◌, ℕ, ◌<◌, Equal, Bool, true, false, cond, not, nat_lt, nat_eq, ◌||◌, List, [], ◌∷◌, length, get_or, map, Bor, Ok, Err, inl, inr, refl, sym, ap, ◌∙◌, arith}
+use Rattle.std.proofs.Common.{◌≡◌, ℕ, ◌<◌, Equal, Bool, true, false, cond, not, nat_lt, nat_eq, ◌||◌, List, [], ◌∷◌, length, get_or, map, slice_get, Bor, Option, Some, None, is_some, MatchOption, Ok, Err, inl, inr, refl, sym, subst, ap, ◌∙◌, arith}
 use Rattle.std.specs.Cmp.Lexicographic.{slice_cmp}
-use Rattle.std.specs.List.{list_any}
+use Rattle.std.specs.List.{list_any, AllByRecursion, IsDistinct}
 use Rattle.std.specs.List.Sorted.{IsSorted, IsPermutation, IsBinarySearchResult}
 use Rattle.std.specs.Ordering.{nat_cmp, is_eq, is_lt}
 use Rattle.std.specs.Str.{bytes_eq}
 use Rattle.std.proofs.lemmas.Bool.{cases_lt}
 use Rattle.std.proofs.lemmas.Bool.Decides.{nat_tests}
 use Rattle.std.proofs.lemmas.Cmp.{same_from_slice_cmp, nat_list_cmp_total}
-use Rattle.std.proofs.lemmas.List.Folds.{list_any_at, list_any_none}
+use Rattle.std.proofs.lemmas.List.Folds.{list_any_none}
 use Rattle.std.proofs.lemmas.List.Sorted.{searchable_from_sorted, list_any-IsPermutation, IsPermutation-map}
-use Rattle.edf_fields.specs.Lists.{is_one_of}
+use Rattle.std.proofs.lemmas.Map.Keys.{IsDistinct-cons, IsDistinct-head, IsDistinct-tail, IsDistinct-IsPermutation, IsDistinct-from_apart}
+use Rattle.std.proofs.lemmas.Option.{slice_get-get_or}
+use Rattle.std.proofs.lemmas.Slice.Eq.{bytes_eq-Decides}
+use Rattle.edf_fields.specs.Lists.{Has, AreDistinct, is_one_of}
+use Rattle.edf_fields.proofs.ForCallers.{get-map, has-at, has-one_of, one_of-has}
 use Rattle.edf_check.specs.Comparisons.{AreSorted}
 use Rattle.edf_check.specs.Labels.{IsNotAbove}
 
@@ -18,21 +22,21 @@ use Rattle.edf_check.specs.Labels.{IsNotAbove}
 pub equal-tested : (xs ys : List ℕ) → is_eq (slice_cmp nat_cmp xs ys) ≡ bytes_eq xs ys
 equal-tested xs ys = same_from_slice_cmp nat_cmp is_eq bytes_eq refl (λ _ _. refl) (λ _ _. refl) (λ x y us vs o h. grind (arith, nat_tests)) xs ys (slice_cmp nat_cmp xs ys) refl
 
+pub same-label : (x y : List ℕ) → slice_cmp nat_cmp x y ≡ Equal → x ≡ y
+same-label x y e = (bytes_eq-Decides x y).0 (sym (equal-tested x y) ∙ ap is_eq e)
+
 any-map : {X Y : Type 0} (p : Y → Bool) (f : X → Y) (xs : List X) → list_any p (map f xs) ≡ list_any (λ x. p (f x)) xs
 any-map p f [] = refl
 any-map p f (x ∷ xs) = ap (λ b. p (f x) || b) (any-map p f xs)
 
-pub found_there : (texts : List (Bor (List ℕ))) (text : List ℕ) (i : ℕ) → IsSorted (λ x y. slice_cmp nat_cmp x.now y.now) texts
-    → IsBinarySearchResult (λ y. slice_cmp nat_cmp y.now text) texts (Ok i) → i < length texts → true ≡ is_one_of (map (λ t. t.now) texts) text
-found_there texts text i up h within =
-    sym (any-map (λ other. bytes_eq other text) (λ (t : Bor (List ℕ)). t.now) texts ∙ at texts h within)
-  where
-    at : (texts : List (Bor (List ℕ))) → ((d : Bor (List ℕ)) → slice_cmp nat_cmp (get_or texts i d).now text ≡ Equal) → i < length texts → list_any (λ t. bytes_eq t.now text) texts ≡ true
-    at [] h lt = absurd (omega (arith, lt))
-    at (t ∷ ts) h lt =
-        list_any_at (λ (t : Bor (List ℕ)). bytes_eq t.now text) (t ∷ ts) i t lt (sym (equal-tested (get_or (t ∷ ts) i t).now text) ∙ ap is_eq (h t))
+-- the label that was found stands at its place
+pub place_there : (texts : List (Bor (List ℕ))) (text : List ℕ) (i : ℕ) → IsBinarySearchResult (λ y. slice_cmp nat_cmp y.now text) texts (Ok i) → i < length texts
+    → slice_get (map (λ t. t.now) texts) i ≡ Some text
+place_there [] text i h within = absurd (omega (arith, within))
+place_there (t ∷ ts) text i h within =
+    get-map (λ (u : Bor (List ℕ)). u.now) (t ∷ ts) i (get_or (t ∷ ts) i t) (slice_get-get_or (t ∷ ts) i t within) ∙ ap Some (same-label (get_or (t ∷ ts) i t).now text (h t))
 
-pub found_nowhere : (texts : List (Bor (List ℕ))) (text : List ℕ) (i : ℕ) → IsSorted (λ x y. slice_cmp nat_cmp x.now y.now) texts
+found_nowhere : (texts : List (Bor (List ℕ))) (text : List ℕ) (i : ℕ) → IsSorted (λ x y. slice_cmp nat_cmp x.now y.now) texts
     → IsBinarySearchResult (λ y. slice_cmp nat_cmp y.now text) texts (Err i) → false ≡ is_one_of (map (λ t. t.now) texts) text
 found_nowhere texts text i up h =
     let parts = h (searchable_from_sorted nat_list_cmp_total (λ (t : Bor (List ℕ)). t.now) texts text up) in
@@ -44,12 +48,68 @@ found_nowhere texts text i up h =
       | inr behind ↦ ap is_eq (parts.1 k d behind lt)
     ]))
 
+-- where none was found, the label is none of them
+pub place_nowhere : (texts : List (Bor (List ℕ))) (text : List ℕ) (i : ℕ) → IsSorted (λ x y. slice_cmp nat_cmp x.now y.now) texts
+    → IsBinarySearchResult (λ y. slice_cmp nat_cmp y.now text) texts (Err i) → Has (map (λ t. t.now) texts) text → ⊥
+place_nowhere texts text i up h there =
+    let e : false ≡ true = found_nowhere texts text i up h ∙ has-one_of (map (λ t. t.now) texts) text there in cc
+
+-- a label has a place exactly where it is one of them
+pub found_said : (texts : List (List ℕ)) (text : List ℕ) (place : Option ℕ) → MatchOption place (Has texts text → ⊥) (λ p. slice_get texts p ≡ Some text) → is_some place ≡ is_one_of texts text
+found_said texts text None nowhere = sym (not-is-true (is_one_of texts text) (λ e. nowhere (one_of-has texts text e)))
+  where
+    not-is-true : (b : Bool) → (b ≡ true → ⊥) → b ≡ false
+    not-is-true true never = absurd (never refl)
+    not-is-true false never = refl
+found_said texts text (Some p) there = sym (has-one_of texts text (has-at texts p text there))
+
 -- a sort puts labels in the order of their bytes, and leaves them the same labels
 pub labels_sorted : (texts : List (List ℕ)) (before after : List (Bor (List ℕ))) → map (λ t. t.now) before ≡ texts → IsPermutation before after → IsSorted (λ x y. slice_cmp nat_cmp x.now y.now) after → AreSorted texts after
 labels_sorted texts before after same p up = record {
   order = up;
   same = λ t. sym (list_any-IsPermutation (λ other. bytes_eq other t) (map (λ (v : Bor (List ℕ)). v.now) before) (map (λ (v : Bor (List ℕ)). v.now) after) (IsPermutation-map (λ (v : Bor (List ℕ)). v.now) before after p)) ∙ ap (λ ts. is_one_of ts t) same;
 }
+
+-- std's word for texts of which none stands twice, and the one of this project
+apart : (t : List ℕ) (ts : List (List ℕ)) → (Has ts t → ⊥) → AllByRecursion (λ u. bytes_eq t u ≡ false) ts
+apart t [] nowhere = tt
+apart t (u ∷ ts) nowhere = (untrue (bytes_eq t u) (λ e. nowhere (inl (sym ((bytes_eq-Decides t u).0 e)))), apart t ts (λ h. nowhere (inr h)))
+  where
+    untrue : (b : Bool) → (b ≡ true → ⊥) → b ≡ false
+    untrue true never = absurd (never refl)
+    untrue false never = refl
+
+nowhere-apart : (t : List ℕ) (ts : List (List ℕ)) → AllByRecursion (λ u. bytes_eq t u ≡ false) ts → Has ts t → ⊥
+nowhere-apart t [] all there = there
+nowhere-apart t (u ∷ ts) all (inl e) = let f : true ≡ false = sym ((bytes_eq-Decides t u).1 (sym e)) ∙ all.0 in cc
+nowhere-apart t (u ∷ ts) all (inr there) = nowhere-apart t ts all.1 there
+
+std-distinct : (ts : List (List ℕ)) → AreDistinct ts → IsDistinct bytes_eq ts
+std-distinct [] d = IsDistinct-from_apart bytes_eq [] (λ i j u before within. absurd (omega (arith, within)))
+std-distinct (t ∷ ts) d = IsDistinct-cons bytes_eq t ts (apart t ts d.0) (std-distinct ts d.1)
+
+distinct-std : (ts : List (List ℕ)) → IsDistinct bytes_eq ts → AreDistinct ts
+distinct-std [] d = tt
+distinct-std (t ∷ ts) d = (nowhere-apart t ts (IsDistinct-head bytes_eq t ts d), distinct-std ts (IsDistinct-tail bytes_eq t ts d))
+
+same-flipped : (x y : List ℕ) → bytes_eq x y ≡ bytes_eq y x
+same-flipped x y = both-ways (bytes_eq x y) (bytes_eq y x) (flip x y) (flip y x)
+  where
+    flip : (x y : List ℕ) → bytes_eq x y ≡ true → bytes_eq y x ≡ true
+    flip x y e = (bytes_eq-Decides y x).1 (sym ((bytes_eq-Decides x y).0 e))
+
+    both-ways : (a b : Bool) → (a ≡ true → b ≡ true) → (b ≡ true → a ≡ true) → a ≡ b
+    both-ways true b there back = sym (there refl)
+    both-ways false true there back = back refl
+    both-ways false false there back = refl
+
+-- and no label twice that didn't stand there twice
+pub labels_distinct : (texts : List (List ℕ)) (before after : List (Bor (List ℕ))) → map (λ t. t.now) before ≡ texts → IsPermutation before after → AreDistinct texts → AreDistinct (map (λ t. t.now) after)
+labels_distinct texts before after same p d =
+    let old = map (λ (t : Bor (List ℕ)). t.now) before in
+    let new = map (λ (t : Bor (List ℕ)). t.now) after in
+    distinct-std new (IsDistinct-IsPermutation bytes_eq same-flipped old new (IsPermutation-map (λ (t : Bor (List ℕ)). t.now) before after p)
+    (std-distinct old (subst (λ (ts : List (List ℕ)). AreDistinct ts) (sym same) d)))
 
 -- ---- the order of labels
 

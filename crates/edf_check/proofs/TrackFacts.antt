@@ -1,29 +1,25 @@
--- The channels of a header with their labels, and the lane of a channel.
-use Rattle.std.proofs.Common.{◌≡◌, ℕ, zero, suc, ◌+◌, ◌<◌, ◌≤◌, ◌^◌, true, false, List, [], ◌∷◌, ◌++◌, length, drop, get_or, Option, Some, None, Ok, Err, slice_get, inl, inr, ⊎_elim, refl, sym, ap, ◌∙◌, subst, arith}
-use Rattle.std.specs.Cmp.Lexicographic.{slice_cmp}
-use Rattle.std.specs.List.Sorted.{IsBinarySearchResult, IsPermutation}
+-- The channels of a header, each found at its label, and the lane of a channel.
+use Rattle.std.proofs.Common.{◌≡◌, ℕ, zero, suc, ◌+◌, ◌<◌, ◌≤◌, ◌^◌, true, false, List, [], ◌∷◌, ◌++◌, length, take, drop, map, replicate, set, get_or, Bor, Option, Some, None, IfSome, slice_get, inl, inr, ⊎_elim, refl, sym, ap, ◌∙◌, subst, arith}
 use Rattle.std.specs.Option.{option_map_or}
-use Rattle.std.specs.Ordering.{nat_cmp, is_eq}
-use Rattle.std.proofs.lemmas.Bool.{cases_lt}
-use Rattle.std.proofs.lemmas.Cmp.{nat_list_cmp_total}
-use Rattle.std.proofs.lemmas.List.{drop_all}
-use Rattle.std.proofs.lemmas.List.Sorted.{searchable_from_sorted, IsPermutation-sym}
-use Rattle.std.proofs.lemmas.Slice.Eq.{bytes_eq-Decides}
-use Rattle.edf_fields.specs.Lists.{Has}
-use Rattle.edf_fields.proofs.ForCallers.{at-has, has-at, has-append, has-front, has-back, has-permutation, get-index, get-within}
+use Rattle.std.proofs.lemmas.Bool.{cases_eq}
+use Rattle.std.proofs.lemmas.List.{drop_all, map-set, length-map, length-replicate}
+use Rattle.std.proofs.lemmas.List.Elements.{All-nil, All-cons}
+use Rattle.std.proofs.Math.Seq.{map-set_same}
+use Rattle.edf_fields.specs.Lists.{Has, AreDistinct}
+use Rattle.edf_fields.proofs.ForCallers.{has-at, get-within, map-get, get-map}
 use Rattle.edf_header.specs.Heads.{SignalHead, Head, is_annotations}
 use Rattle.edf_header.specs.Sound.{IsSound}
 use Rattle.edf_stream.specs.Records.{lane_of, lane_in, lane_bytes, samples_at}
 use Rattle.edf_stream.specs.Summaries.{channels_among}
 use Rattle.edf_check.specs.declared.channel_place.ChannelPlace.{ChannelPlace}
-use Rattle.edf_check.specs.declared.track.Named.{Named}
+use Rattle.edf_check.specs.declared.side.Side.{Side}
+use Rattle.edf_check.specs.declared.side.Side.TheVariants.{Original, Export}
+use Rattle.edf_check.specs.declared.track.Pair.{Pair}
 use Rattle.edf_check.specs.declared.track.Track.{Track}
 use Rattle.edf_check.specs.Columns.{channel_at}
-use Rattle.edf_check.specs.Tracks.{IsNamed, AreNamedTo, AreNamed, AreByName}
-use Rattle.edf_check.specs.Windows.{IsPlaceIn, IsTrack}
-use Rattle.edf_check.proofs.ChannelFacts.{same-label}
-use Rattle.edf_check.proofs.LabelFacts.{equal-tested}
-use Rattle.edf_check.proofs.ListFacts.{has-get}
+use Rattle.edf_check.specs.Tracks.{track_on, tracks_on, IsNamed, IsFoundTo, AreFoundTo, IsFound, AreFound, IsPutAt}
+use Rattle.edf_check.specs.Windows.{IsPlaceIn, IsTrack, ArePairs, places_of}
+use Rattle.edf_check.proofs.ListFacts.{one-place, get-set-same, get-set-other, written_over}
 use Rattle.edf_check.proofs.PlaceFacts.{at-found, at-there, one-number, channels-distinct, channel-bounds}
 
 pub track_within : (h : Head) (track : Track) → IsTrack h track → track.signal < length h.signals
@@ -59,109 +55,180 @@ get-at [] i x lt e = absurd (omega (arith, lt))
 get-at (y ∷ ys) zero x lt e = ap Some (sym e)
 get-at (y ∷ ys) (suc i) x lt e = get-at ys i x (omega (arith, lt)) e
 
-pub none_named : (h : Head) → AreNamedTo h 0 0 []
-none_named h = record { rest = λ k. ap (slice_get (channels_among h.signals)) (let z : k ≡ 0 + k = omega arith in z); tracks = λ x i. absurd i; all = λ channel i. inl i }
-
-pub skip_named : (h : Head) (i number : ℕ) (x : SignalHead) (named : List Named) → i < length h.signals → x ≡ get_or h.signals i x → is_annotations x.label ≡ true → AreNamedTo h i number named → AreNamedTo h (i + 1) number named
-skip_named h i number x named lt e f before =
-    let same = among-skipped h.signals i x lt e f in
-    let one : i + 1 ≡ suc i = omega arith in
-    rw one (record {
-      rest = λ k. ap (λ xs. slice_get xs k) (sym same) ∙ before.rest k;
-      tracks = before.tracks;
-      all = λ channel there. ⊎_elim (λ left. inl (subst (λ xs. Has xs channel) same left)) (λ listed. inr listed) (before.all channel there);
-    })
-
-pub next_named : (h : Head) (i number : ℕ) (x : SignalHead) (new : Named) (named after : List Named) → IsSound h → i < length h.signals → x ≡ get_or h.signals i x → is_annotations x.label ≡ false
-    → after ≡ named ++ new ∷ [] → new.label.now ≡ x.label → new.track ≡ record { signal = i; place = record { number = number; samples = x.samples } } → AreNamedTo h i number named → AreNamedTo h (i + 1) (number + 1) after
-next_named h i number x new named after sound lt e f pushed label track before =
-    let same = among-here h.signals i x lt e f in
-    let here : slice_get (channels_among h.signals) number ≡ Some x =
-    ap (slice_get (channels_among h.signals)) (let z : number ≡ number + 0 = omega arith in z) ∙ sym (before.rest 0) ∙ ap (λ xs. slice_get xs 0) same in
-    let bounds = channel-bounds h x sound (has-at (channels_among h.signals) number x here) in
-    let mine : IsNamed h (record { label = new.label; track = record { signal = i; place = record { number = number; samples = x.samples } } }) = record {
-      track = record { place = record { channel = x; there = here; samples = refl; some = bounds.0; few = bounds.1 }; stands = get-at h.signals i x lt e };
-      label = sym label;
-    } in
-    let mine' : IsNamed h new = (let P : Track → Type 0 = λ t. IsNamed h (record { label = new.label; track = t }) in subst P (sym track) mine) in
-    let one : i + 1 ≡ suc i = omega arith in
-    let last : Has after new = subst (λ ns. Has ns new) (sym pushed) (has-back named (new ∷ []) new (inl refl)) in
-    rw one (record {
-      rest = λ k. ap (λ xs. slice_get xs (suc k)) (sym same) ∙ before.rest (suc k) ∙ ap (slice_get (channels_among h.signals)) (let z : number + suc k ≡ (number + 1) + k = omega arith in z);
-      tracks = λ y there. ⊎_elim (λ old. before.tracks y old) (λ fresh. ⊎_elim (λ is. let P : Named → Type 0 = IsNamed h in subst P is mine') (λ no. absurd no) fresh) (has-append named (new ∷ []) y (subst (λ ns. Has ns y) pushed there));
-      all = λ channel there.
-          ⊎_elim
-          (λ left. ⊎_elim (λ is. inr (new, last, label ∙ ap (λ (s : SignalHead). s.label) is)) (λ more. inl more) (let Q : List SignalHead → Type 0 = λ xs. Has xs channel in subst Q same left))
-          (λ listed. inr (listed.0, subst (λ ns. Has ns listed.0) (sym pushed) (has-front named (new ∷ []) listed.0 listed.1), listed.2)) (before.all channel there);
-    })
-
-pub all_named : (h : Head) (i number : ℕ) (named : List Named) → IsSound h → length h.signals ≤ i → AreNamedTo h i number named → AreNamed h named
-all_named h i number named sound le done =
-    let none : channels_among (drop i h.signals) ≡ [] = ap channels_among (drop_all i h.signals le) in
-    record {
-      sound = sound;
-      tracks = done.tracks;
-      all = λ channel there. ⊎_elim (λ left. absurd (let Q : List SignalHead → Type 0 = λ xs. Has xs channel in subst Q none left)) (λ listed. listed) (done.all channel there);
-    }
-
-pub sorted_named : (h : Head) (before after : List Named) → IsPermutation before after → AreNamed h before → AreNamed h after
-sorted_named h before after same named = record {
-  sound = named.sound;
-  tracks = λ x there. named.tracks x (has-permutation after before x (IsPermutation-sym before after same) there);
-  all = λ channel there. let listed = named.all channel there in (listed.0, has-permutation before after listed.0 same listed.1, listed.2);
-}
-
 -- ---- the channel of a label
 
--- the track of a label is that of its channel
-pub track_found : (h : Head) (x : Named) (label : List ℕ) → IsSound h → IsNamed h x → x.label.now ≡ label → Some x.track.place ≡ channel_at label h
-track_found h x label sound named same = by-case (channel_at label h) refl
-  where
-    p : IsPlaceIn h x.track.place
-    p = (named.track).place
+one-place-of : (p q : ChannelPlace) → p.number ≡ q.number → p.samples ≡ q.samples → p ≡ q
+one-place-of p q number samples = ap (λ n. record { number = n; samples = p.samples }) number ∙ ap (λ m. record { number = q.number; samples = m }) samples
 
-    by-case : (o : Option ChannelPlace) → channel_at label h ≡ o → Some x.track.place ≡ o
-    by-case None e = absurd (at-there h label e p.channel (has-at (channels_among h.signals) x.track.place.number p.channel p.there) (named.label ∙ same))
+-- the track of a label is that of its channel
+track_found : (h : Head) (label : List ℕ) (track : Track) → IsSound h → IsNamed h label track → Some track.place ≡ channel_at label h
+track_found h label track sound named = by-case (channel_at label h) refl
+  where
+    p : IsPlaceIn h track.place
+    p = (named.is).place
+
+    by-case : (o : Option ChannelPlace) → channel_at label h ≡ o → Some track.place ≡ o
+    by-case None e = absurd (at-there h label e p.channel (has-at (channels_among h.signals) track.place.number p.channel p.there) named.labelled)
     by-case (Some place) e =
         let r = at-found h label place e in
-        let one : x.track.place.number ≡ r.at =
-        one-number (channels_among h.signals) (channels-distinct h sound) x.track.place.number r.at p.channel r.channel p.there r.there (named.label ∙ same ∙ sym r.labelled) in
+        let one : track.place.number ≡ r.at =
+        one-number (channels_among h.signals) (channels-distinct h sound) track.place.number r.at p.channel r.channel p.there r.there (named.labelled ∙ sym r.labelled) in
         let number = r.number in
         let there : slice_get (channels_among h.signals) r.at ≡ Some p.channel = ap (slice_get (channels_among h.signals)) (sym one) ∙ p.there in
         let channels : Some p.channel ≡ Some r.channel = sym there ∙ r.there in
         let channel : p.channel ≡ r.channel = cc in
-        let samples : x.track.place.samples ≡ place.samples = p.samples ∙ ap (λ (s : SignalHead). s.samples) channel ∙ sym r.samples in
-        let numbers : x.track.place.number ≡ place.number = omega (arith, one, number) in
-        ap Some (ap (λ n. record { number = n; samples = x.track.place.samples }) numbers ∙ ap (λ m. record { number = place.number; samples = m }) samples)
+        let samples : track.place.samples ≡ place.samples = p.samples ∙ ap (λ (s : SignalHead). s.samples) channel ∙ sym r.samples in
+        let numbers : track.place.number ≡ place.number = omega (arith, one, number) in
+        ap Some (one-place-of track.place place numbers samples)
 
 -- where none of the channels has the label, the header has none
-pub track_missing : (h : Head) (named : List Named) (label : List ℕ) → AreNamed h named → ((x : Named) → Has named x → x.label.now ≡ label → ⊥) → None ≡ channel_at label h
-track_missing h named label are nowhere = by-case (channel_at label h) refl
+track_missing : (h : Head) (label : List ℕ) → ((channel : SignalHead) → Has (channels_among h.signals) channel → channel.label ≡ label → ⊥) → None ≡ channel_at label h
+track_missing h label nowhere = by-case (channel_at label h) refl
   where
     by-case : (o : Option ChannelPlace) → channel_at label h ≡ o → None ≡ o
     by-case None e = refl
-    by-case (Some place) e =
-        let r = at-found h label place e in
-        let listed = are.all r.channel (has-at (channels_among h.signals) r.at r.channel r.there) in
-        absurd (nowhere listed.0 listed.1 (listed.2 ∙ r.labelled))
+    by-case (Some place) e = let r = at-found h label place e in absurd (nowhere r.channel (has-at (channels_among h.signals) r.at r.channel r.there) r.labelled)
 
--- ---- by a binary search
+-- ---- the channels of the signals, each found at its label
 
-pub named_there : (sorted : List Named) (label : List ℕ) (i : ℕ) (d : Named) → IsBinarySearchResult (λ x. slice_cmp nat_cmp x.label.now label) sorted (Ok i) → i < length sorted
-    → Has sorted (get_or sorted i d) × ((get_or sorted i d).label.now ≡ label)
-named_there sorted label i d h lt = (has-get sorted i d lt, same-label (get_or sorted i d).label.now label (h d))
+later-found : (h : Head) (i j : ℕ) (label : List ℕ) (found : Option Track) → ((channel : SignalHead) → channel.label ≡ label → Has (channels_among (drop i h.signals)) channel → Has (channels_among (drop j h.signals)) channel)
+    → IsFoundTo h i label found → IsFoundTo h j label found
+later-found h i j label None on before = λ channel there same. on channel same (before channel there same)
+later-found h i j label (Some track) on before = before
 
-pub named_nowhere : (sorted : List Named) (label : List ℕ) (i : ℕ) → AreByName sorted → IsBinarySearchResult (λ x. slice_cmp nat_cmp x.label.now label) sorted (Err i)
-    → (x : Named) → Has sorted x → x.label.now ≡ label → ⊥
-named_nowhere sorted label i up h x there same =
-    let parts = h (searchable_from_sorted nat_list_cmp_total (λ (y : Named). y.label.now) sorted label up) in
-    let at = at-has sorted x there in
-    let within : at.0 < length sorted = get-within sorted at.0 x at.1 in
-    let here : get_or sorted at.0 x ≡ x = get-index sorted at.0 x x at.1 in
-    let label-here : (get_or sorted at.0 x).label.now ≡ label = ap (λ (y : Named). y.label.now) here ∙ same in
-    let tie : is_eq (slice_cmp nat_cmp (get_or sorted at.0 x).label.now label) ≡ true =
-    equal-tested (get_or sorted at.0 x).label.now label ∙ (bytes_eq-Decides (get_or sorted at.0 x).label.now label).1 label-here in
-    elim (cases_lt at.0 i) [
-      | inl before ↦ let f : true ≡ false = sym tie ∙ ap is_eq (parts.0 at.0 x (omega arith) before) in cc
-      | inr behind ↦ let f : true ≡ false = sym tie ∙ ap is_eq (parts.1 at.0 x behind within) in cc
-    ]
+pub none_found : (h : Head) (labels : List (Bor (List ℕ))) (tracks : List (Option Track)) → tracks ≡ map (λ label. None) labels → AreFoundTo h 0 0 (map (λ label. label.now) labels) tracks
+none_found h labels tracks e = record {
+  rest = λ k. ap (slice_get (channels_among h.signals)) (let z : k ≡ 0 + k = omega arith in z);
+  each = λ k label at.
+      let there = map-get (λ (l : Bor (List ℕ)). l.now) labels k label at in
+      let none : Bor (List ℕ) → Option Track = λ l. None in
+      (None, ap (λ ts. slice_get ts k) e ∙ get-map none labels k there.0 there.1, λ channel i same. i);
+}
+
+pub skip_found : (h : Head) (i number : ℕ) (x : SignalHead) (labels : List (List ℕ)) (tracks : List (Option Track)) → i < length h.signals → x ≡ get_or h.signals i x → is_annotations x.label ≡ true
+    → AreFoundTo h i number labels tracks → AreFoundTo h (i + 1) number labels tracks
+skip_found h i number x labels tracks lt e f before =
+    let same = among-skipped h.signals i x lt e f in
+    let one : i + 1 ≡ suc i = omega arith in
+    rw one (record {
+      rest = λ k. ap (λ xs. slice_get xs k) (sym same) ∙ before.rest k;
+      each = λ k label at. let was = before.each k label at in (was.0, was.1, later-found h i (suc i) label was.0 (λ channel named there. subst (λ xs. Has xs channel) same there) was.2);
+    })
+
+pub next_found : (h : Head) (i number : ℕ) (x : SignalHead) (track : Track) (labels : List (List ℕ)) (old new : List (Option Track)) → IsSound h → i < length h.signals → x ≡ get_or h.signals i x → is_annotations x.label ≡ false
+    → track ≡ record { signal = i; place = record { number = number; samples = x.samples } } → IsPutAt labels x.label track old new → AreFoundTo h i number labels old → AreFoundTo h (i + 1) (number + 1) labels new
+next_found h i number x track labels old new sound lt e f is put before =
+    let same = among-here h.signals i x lt e f in
+    let here : slice_get (channels_among h.signals) number ≡ Some x =
+    ap (slice_get (channels_among h.signals)) (let z : number ≡ number + 0 = omega arith in z) ∙ sym (before.rest 0) ∙ ap (λ xs. slice_get xs 0) same in
+    let bounds = channel-bounds h x sound (has-at (channels_among h.signals) number x here) in
+    let mine : IsNamed h x.label (record { signal = i; place = record { number = number; samples = x.samples } }) = record {
+      is = record { place = record { channel = x; there = here; samples = refl; some = bounds.0; few = bounds.1 }; stands = get-at h.signals i x lt e };
+      labelled = refl;
+    } in
+    let named : IsNamed h x.label track = (let P : Track → Type 0 = IsNamed h x.label in subst P (sym is) mine) in
+    let one : i + 1 ≡ suc i = omega arith in
+    rw one (record {
+      rest = λ k. ap (λ xs. slice_get xs (suc k)) (sym same) ∙ before.rest (suc k) ∙ ap (slice_get (channels_among h.signals)) (let z : number + suc k ≡ (number + 1) + k = omega arith in z);
+      each = λ k label at.
+          ⊎_elim
+          (λ it. (Some track, it.1, (let P : List ℕ → Type 0 = λ l. IsNamed h l track in subst P (sym it.0) named)))
+          (λ other.
+          let was = before.each k label at in (
+            was.0,
+            other.1 ∙ was.1,
+            later-found h i (suc i) label was.0 (λ channel has there.
+                ⊎_elim (λ first. absurd (other.0 (sym has ∙ sym (ap (λ (s : SignalHead). s.label) first)))) (λ more. more) (let Q : List SignalHead → Type 0 = λ xs. Has xs channel in subst Q same there)) was.2,
+          ))
+          (put k label at);
+    })
+
+found-is : (h : Head) (i : ℕ) (label : List ℕ) (found : Option Track) → IsSound h → channels_among (drop i h.signals) ≡ [] → IsFoundTo h i label found → IsFound h label found
+found-is h i label None sound none done = record {
+  place = track_missing h label (λ channel there same. let Q : List SignalHead → Type 0 = λ xs. Has xs channel in subst Q none (done channel there same));
+  is = tt;
+}
+found-is h i label (Some track) sound none done = record { place = track_found h label track sound done; is = done.is }
+
+pub all_found : (h : Head) (i number : ℕ) (labels : List (List ℕ)) (tracks : List (Option Track)) → IsSound h → length h.signals ≤ i → AreFoundTo h i number labels tracks → AreFound h labels tracks
+all_found h i number labels tracks sound le done = λ k label at.
+    let none : channels_among (drop i h.signals) ≡ [] = ap channels_among (drop_all i h.signals le) in
+    let last = done.each k label at in
+    (last.0, last.1, found-is h i label last.0 sound none last.2)
+
+-- ---- a track put at its label
+
+pub put_here : (labels : List (List ℕ)) (pairs : List Pair) (side : Side) (place : ℕ) (label : List ℕ) (track : Track) (new : Pair) → AreDistinct labels → slice_get labels place ≡ Some label → length pairs ≡ length labels
+    → track_on side new ≡ Some track → IsPutAt labels label track (tracks_on side pairs) (tracks_on side (set pairs place new))
+put_here labels pairs side place label track new distinct there room e =
+    let old = tracks_on side pairs in
+    let is : tracks_on side (set pairs place new) ≡ set old place (Some track) = map-set (track_on side) pairs place new ∙ ap (λ t. set old place t) e in
+    let within = get-within labels place label there in
+    let many = length-map pairs (track_on side) in
+    let P : List (Option Track) → Type 0 = IsPutAt labels label track old in
+    subst P (sym is) (λ k text at.
+    elim (cases_eq k place) [
+      | inl same ↦
+          let both : Some text ≡ Some label = sym at ∙ ap (slice_get labels) same ∙ there in
+          inl ((let z : text ≡ label = cc in z), ap (slice_get (set old place (Some track))) same ∙ get-set-same old place (Some track) (omega (arith, within, many, room)))
+      | inr apart ↦ inr (λ same. apart (one-place labels distinct k place label (at ∙ ap Some same) there), get-set-other old place k (Some track) apart)
+    ])
+
+pub put_nowhere : (labels : List (List ℕ)) (label : List ℕ) (track : Track) (tracks : List (Option Track)) → (Has labels label → ⊥) → IsPutAt labels label track tracks tracks
+put_nowhere labels label track tracks nowhere = λ k text at. inr (λ same. nowhere (subst (λ t. Has labels t) same (has-at labels k text at)), refl)
+
+pub put_there : (pairs : List Pair) (side : Side) (place : ℕ) (new d : Pair) → track_on side new ≡ track_on side (get_or pairs place d) → tracks_on side (set pairs place new) ≡ tracks_on side pairs
+put_there pairs side place new d e = map-set_same (track_on side) pairs place new d e
+
+-- ---- the pairs
+
+-- no pair has a channel as yet
+abbrev AreEmpty : List Pair → ℕ → Type 0
+AreEmpty pairs n = pairs ≡ replicate n (record { original = None; export = None })
+
+pub empty_side : (side : Side) (labels : List (Bor (List ℕ))) (pairs : List Pair) → AreEmpty pairs (length labels) → tracks_on side pairs ≡ map (λ label. None) labels
+empty_side side labels pairs e = ap (tracks_on side) e ∙ none side labels
+  where
+    none : (side : Side) (labels : List (Bor (List ℕ))) → tracks_on side (replicate (length labels) (record { original = None; export = None })) ≡ map (λ label. None) labels
+    none side [] = refl
+    none Original (l ∷ ls) = ap (λ ts. None ∷ ts) (none Original ls)
+    none Export (l ∷ ls) = ap (λ ts. None ∷ ts) (none Export ls)
+
+found-place : (h : Head) (label : List ℕ) (track found : Option Track) → Some track ≡ Some found → IsFound h label found → IsFound h label track
+found-place h label track found e is = (let same : found ≡ track = cc in subst (λ (o : Option Track). IsFound h label o) same is)
+
+pub pairs_found : (h g : Head) (labels : List (Bor (List ℕ))) (pairs : List Pair) → length pairs ≡ length labels → AreFound h (map (λ label. label.now) labels) (tracks_on Original pairs)
+    → AreFound g (map (λ label. label.now) labels) (tracks_on Export pairs) → (map places_of pairs ≡ map (λ label. (channel_at label.now h, channel_at label.now g)) labels) × ArePairs h g pairs
+pairs_found h g [] [] room o x = (refl, All-nil (λ (p : Pair). IfSome p.original (IsTrack h) × IfSome p.export (IsTrack g)))
+pairs_found h g [] (p ∷ pairs) room o x = absurd (omega (arith, room))
+pairs_found h g (l ∷ labels) [] room o x = absurd (omega (arith, room))
+pairs_found h g (l ∷ labels) (p ∷ pairs) room o x =
+    let more = pairs_found h g labels pairs (omega (arith, room)) (λ k. o (suc k)) (λ k. x (suc k)) in
+    let was = o 0 l.now refl in
+    let is = x 0 l.now refl in
+    let here = found-place h l.now p.original was.0 was.1 was.2 in
+    let there = found-place g l.now p.export is.0 is.1 is.2 in
+    let both : places_of p ≡ (channel_at l.now h, channel_at l.now g) = ap (λ a. (a, (places_of p).1)) here.place ∙ ap (λ b. (channel_at l.now h, b)) there.place in (
+      ap (λ q. q ∷ map places_of pairs) both ∙ ap (λ qs. (channel_at l.now h, channel_at l.now g) ∷ qs) more.0,
+      All-cons (λ (q : Pair). IfSome q.original (IsTrack h) × IfSome q.export (IsTrack g)) p pairs (here.is, there.is) more.1,
+    )
+
+-- both files' channels were put at the pairs, one after the other
+pub pairs_said : (h g : Head) (labels : List (Bor (List ℕ))) (n : ℕ) (empty items first middle second old : List Pair) → AreEmpty empty (length labels) → length empty ≡ n
+    → length first ≡ length empty → AreFound h (map (λ label. label.now) labels) (tracks_on Original first) → middle ≡ take n (first ++ drop (length first) items)
+    → length second ≡ length middle → AreFound g (map (λ label. label.now) labels) (tracks_on Export second) → tracks_on Original second ≡ tracks_on Original middle
+    → (map places_of (take n (second ++ drop (length second) old)) ≡ map (λ label. (channel_at label.now h, channel_at label.now g)) labels) × ArePairs h g (take n (second ++ drop (length second) old))
+pairs_said h g labels n empty items first middle second old none many room-first here between room-second there kept =
+    let same : middle ≡ first = between ∙ written_over n first items (room-first ∙ many) in
+    let long : length second ≡ n = room-second ∙ ap length same ∙ room-first ∙ many in
+    let all : length second ≡ length labels = long ∙ sym many ∙ ap length none ∙ length-replicate (length labels) (record { original = None; export = None }) in
+    let L : List (List ℕ) = map (λ (l : Bor (List ℕ)). l.now) labels in
+    let P : List (Option Track) → Type 0 = AreFound h L in
+    let Q : List Pair → Type 0 = λ ps. (map places_of ps ≡ map (λ label. (channel_at label.now h, channel_at label.now g)) labels) × ArePairs h g ps in
+    subst Q (sym (written_over n second old long)) (pairs_found h g labels second all (subst P (sym (kept ∙ ap (tracks_on Original) same)) here) there)
+
+-- the other file has no channel at the pairs as yet
+pub still_empty : (labels : List (Bor (List ℕ))) (n : ℕ) (empty items first middle : List Pair) → AreEmpty empty (length labels) → length empty ≡ n → length first ≡ length empty
+    → middle ≡ take n (first ++ drop (length first) items) → tracks_on Export first ≡ tracks_on Export empty → tracks_on Export middle ≡ map (λ label. None) labels
+still_empty labels n empty items first middle none many room between kept =
+    ap (tracks_on Export) (between ∙ written_over n first items (room ∙ many)) ∙ kept ∙ empty_side Export labels empty none

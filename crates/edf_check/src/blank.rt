@@ -48,7 +48,7 @@ fn first_with_text<'a>(claimed: &[ClaimedChannel<'a>]) -> Option<&'a [u8]>
         if let Some(export) = channel.export
             && !export.reserved().is_empty()
         {
-            return Some(channel.label);
+            return Some(channel.label.text());
         }
     }
     None

@@ -35,7 +35,7 @@ fn first_recalibrated<'a>(claimed: &[ClaimedChannel<'a>]) -> Option<&'a [u8]>
 {
     for channel in claimed {
         if channel.is_recalibrated() {
-            return Some(channel.label);
+            return Some(channel.label.text());
         }
     }
     None

@@ -10,6 +10,7 @@ ghost use Rattle.edf_check.specs.Channels.{IsLeastExtra};
 ghost use Rattle.edf_check.specs.Comparisons.{is_ordinary, channel_of, claimed_of, claimed_view, AreByLabel, AreSorted, HasNoExtra};
 
 use crate::labels::is_found;
+use edf_fields::label::SignalLabel;
 use edf_header::header::Header;
 use edf_header::signal::Signal;
 use std::alloc::{AllocError, Global};
@@ -19,7 +20,7 @@ use std::marker::Model;
 /// A claimed label, and the channels of this label in the two headers, where there are such.
 #[derive(Clone, Copy, Debug)]
 pub(crate) struct ClaimedChannel<'a> {
-    pub(crate) label: &'a [u8],
+    pub(crate) label: &'a SignalLabel,
     pub(crate) original: Option<&'a Signal>,
     pub(crate) export: Option<&'a Signal>,
 }
@@ -137,16 +138,16 @@ pub(crate) fn claimed_channels<'a>(
     alloc: Global,
     original: &IndexedHeader<'a>,
     export: &IndexedHeader<'a>,
-    labels: &'a [Vec<u8>],
+    labels: &'a [SignalLabel],
 ) -> Result<Vec<ClaimedChannel<'a>>, AllocError>
-    ensures { IfOk result (λ v. map claimed_view v.items ≡ map (claimed_of original.now.signals export.now.signals) (map (λ label. label.items) labels.entry.now)) }
+    ensures { IfOk result (λ v. map claimed_view v.items ≡ map (claimed_of original.now.signals export.now.signals) labels.entry.now) }
 {
     let mut claimed = Vec::with_capacity(alloc, labels.len())?;
     for label in labels {
         claimed.push(ClaimedChannel {
             label,
-            original: original.channel(label),
-            export: export.channel(label),
+            original: original.channel(label.text()),
+            export: export.channel(label.text()),
         })?;
     }
     Ok(claimed)

@@ -40,7 +40,7 @@ fn first_unknown<'a>(claimed: &[ClaimedChannel<'a>]) -> Option<&'a [u8]>
 {
     for channel in claimed {
         if channel.original.is_none() {
-            return Some(channel.label);
+            return Some(channel.label.text());
         }
     }
     None
@@ -52,7 +52,7 @@ fn first_missing<'a>(claimed: &[ClaimedChannel<'a>]) -> Option<&'a [u8]>
 {
     for channel in claimed {
         if channel.export.is_none() {
-            return Some(channel.label);
+            return Some(channel.label.text());
         }
     }
     None

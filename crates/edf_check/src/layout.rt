@@ -33,8 +33,8 @@ fn room_of_both(original: &Header, here: Track, export: &Header, there: Track) -
     ensures { IfSome result (λ n. (here.place.samples ≡ there.place.samples)
         × ((xs ys : List ℕ) → take n xs ≡ take n ys → lane_in original.now xs here.signal ≡ lane_in export.now ys there.signal)) }
 {
-    let x = &original.signals()[here.signal];
-    let y = &export.signals()[there.signal];
+    let x = &original.signals()[usize::from(here.signal)];
+    let y = &export.signals()[usize::from(there.signal)];
     if x.offset() == y.offset() && x.samples() == y.samples() {
         end_of(x)
     } else {

@@ -36,8 +36,6 @@ mod sample_difference;
 pub mod side;
 mod stretch;
 mod subfields;
-#[cfg(test)]
-mod tests;
 mod texts;
 mod time;
 mod track;

@@ -45,7 +45,7 @@ fn first_text_difference<'a>(claimed: &[ClaimedChannel<'a>]) -> Option<TextDiffe
     for channel in claimed {
         if let Some(field) = channel.text_difference() {
             return Some(TextDifference {
-                label: channel.label,
+                label: channel.label.text(),
                 field,
             });
         }

@@ -1,23 +1,26 @@
 //! Where the channels of a label stand in two files.
 
-ghost use Rattle.std.specs.Prelude.{◌≡◌, List, IfOk, IfSome, map, option_map};
+ghost use Rattle.std.specs.Prelude.{◌≡◌, ◌<◌, ◌^◌, IfOk, IfSome, None, Some, length, map, replicate};
 ghost use Rattle.std.specs.Cmp.Lexicographic.{slice_cmp};
-ghost use Rattle.std.specs.List.Sorted.{IsPermutation};
+ghost use Rattle.std.specs.List.Sorted.{IsSorted};
 ghost use Rattle.std.specs.Ordering.{nat_cmp};
+ghost use Rattle.edf_fields.specs.Lists.{AreDistinct};
 ghost use Rattle.edf_check.specs.Columns.{channel_at as channel_in};
-ghost use Rattle.edf_check.specs.Tracks.{AreNamed, AreByName};
-ghost use Rattle.edf_check.specs.Windows.{IsTrack, ArePairs, places_of};
-ghost use Rattle.edf_header.specs.Heads.{Head};
+ghost use Rattle.edf_check.specs.Tracks.{other_side, track_on, tracks_on, AreFound, IsPutAt};
+ghost use Rattle.edf_check.specs.Windows.{ArePairs, places_of};
 
 use crate::channel_place::ChannelPlace;
+use crate::labels::place_of;
+use crate::side::Side;
 use edf_header::header::Header;
+use edf_header::signal::Signal;
 use std::alloc::{AllocError, Global};
-use std::cmp::Ordering;
+use std::mem::size_of;
 
 /// A channel of a file: which of the signals it is, and which of the channels.
 #[derive(Debug, Clone, Copy, PartialEq, Eq)]
 pub struct Track {
-    pub signal: usize,
+    pub signal: u16,
     pub place: ChannelPlace,
 }
 
@@ -28,80 +31,97 @@ pub struct Pair {
     pub export: Option<Track>,
 }
 
-/// A channel and its label.
-#[derive(Debug, Clone, Copy)]
-pub struct Named<'a> {
-    pub label: &'a [u8],
-    pub track: Track,
+// A check holds a pair for each claimed channel, of which there are up to 9,998.
+const _: () = prove!(size_of::<Pair>() == 32);
+
+impl Track {
+    /// The channel that is the signal at this place, with so many channels before it.
+    fn new(at: usize, number: u16, signal: &Signal) -> Track
+        requires { at < 2 ^ 16 }
+        ensures { result ≡ record { signal = at; place = record { number = number; samples = signal.now.samples } } }
+    {
+        Track {
+            signal: at as u16,
+            place: ChannelPlace {
+                number,
+                samples: signal.samples(),
+            },
+        }
+    }
 }
 
-/// The channels of a file with this header, in file order.
+impl Pair {
+    /// The pair with this channel in one of the files.
+    fn with(self, side: Side, track: Track) -> Pair
+        ensures here { track_on side result ≡ Some track }
+        ensures there { track_on (other_side side) result ≡ track_on (other_side side) self }
+    {
+        match side {
+            Side::Original => Pair {
+                original: Some(track),
+                export: self.export,
+            },
+            Side::Export => Pair {
+                original: self.original,
+                export: Some(track),
+            },
+        }
+    }
+}
+
+/// So many pairs of no channels.
 ///
 /// The error is want of memory.
-fn channels_of(alloc: Global, header: &Header) -> Result<Vec<Named<'_>>, AllocError>
-    ensures { IfOk result (λ v. AreNamed header.entry.now v.items) }
+fn empty_pairs(alloc: Global, count: usize) -> Result<Vec<Pair>, AllocError>
+    ensures { IfOk result (λ pairs. pairs.items ≡ replicate count (record { original = None; export = None })) }
+{
+    let empty = Pair {
+        original: None,
+        export: None,
+    };
+    let pairs = vec![in alloc; empty; count]?;
+    Ok(pairs)
+}
+
+/// Puts a channel of this label at the pair of the label, if it is one of these. They are in the order of
+/// their bytes, and none stands twice.
+fn put_track(pairs: &mut [Pair], labels: &[&[u8]], label: &[u8], side: Side, track: Track)
+    requires order { IsSorted (λ x y. slice_cmp nat_cmp x.now y.now) labels.now }
+    requires distinct { AreDistinct (map (λ label. label.now) labels.now) }
+    requires room { length pairs.old ≡ length labels.now }
+    ensures room { length pairs.new ≡ length pairs.old }
+    ensures here { IsPutAt (map (λ label. label.now) labels.now) label.now track (tracks_on side pairs.old) (tracks_on side pairs.new) }
+    ensures there { tracks_on (other_side side) pairs.new ≡ tracks_on (other_side side) pairs.old }
+{
+    if let Some(place) = place_of(labels, label) {
+        pairs[place] = pairs[place].with(side, track);
+    }
+}
+
+/// Puts the channels of one file at the pairs of their labels, where no channel of that file stands yet. The
+/// labels are in the order of their bytes, and none stands twice.
+fn put_tracks(pairs: &mut [Pair], labels: &[&[u8]], side: Side, header: &Header)
+    requires order { IsSorted (λ x y. slice_cmp nat_cmp x.now y.now) labels.now }
+    requires distinct { AreDistinct (map (λ label. label.now) labels.now) }
+    requires empty { tracks_on side pairs.old ≡ map (λ label. None) labels.now }
+    ensures room { length pairs.new ≡ length pairs.old }
+    ensures here { AreFound header.now (map (λ label. label.now) labels.now) (tracks_on side pairs.new) }
+    ensures there { tracks_on (other_side side) pairs.new ≡ tracks_on (other_side side) pairs.old }
 {
     let signals = header.signals();
-    let mut channels = Vec::with_capacity(alloc, signals.len())?;
     let mut number = 0;
     for i in 0..signals.len() {
         let signal = &signals[i];
         if !signal.is_annotations() {
-            let place = ChannelPlace {
-                number,
-                samples: signal.samples(),
-            };
-            channels.push(Named {
-                label: signal.label(),
-                track: Track { signal: i, place },
-            })?;
+            let track = Track::new(i, number, signal);
+            put_track(pairs, labels, signal.label(), side, track);
             number += 1;
         }
     }
-    Ok(channels)
 }
 
-/// Puts the channels in the order of their labels.
-fn sort_by_label(channels: &mut Vec<Named<'_>>)
-    ensures order { AreByName channels.new.items }
-    ensures same { IsPermutation channels.old.items channels.new.items }
-{
-    channels.sort_unstable_by(
-        |x: &Named, y: &Named| -> Ordering
-            ensures { result ≡ slice_cmp nat_cmp x.now.label.now y.now.label.now }
-        { x.label.cmp(y.label) },
-    );
-}
-
-/// The channels of a file with this header, in the order of their labels.
-///
-/// The error is want of memory.
-fn channels_by_label(alloc: Global, header: &Header) -> Result<Vec<Named<'_>>, AllocError>
-    ensures named { IfOk result (λ v. AreNamed header.entry.now v.items) }
-    ensures order { IfOk result (λ v. AreByName v.items) }
-{
-    let mut channels = channels_of(alloc, header)?;
-    sort_by_label(&mut channels);
-    Ok(channels)
-}
-
-/// The channel of this label among these, which are in the order of their labels.
-fn track_at(channels: &[Named<'_>], label: &[u8]) -> Option<Track>
-    requires { AreByName channels.now }
-    ensures place { (h : Head) → AreNamed h channels.now → option_map (λ track. track.place) result ≡ channel_in label.now h }
-    ensures track { (h : Head) → AreNamed h channels.now → IfSome result (IsTrack h) }
-{
-    match channels.binary_search_by(
-        |other: &Named| -> Ordering
-            ensures { result ≡ slice_cmp nat_cmp other.now.label.now label.entry.now }
-        { other.label.cmp(label) },
-    ) {
-        Ok(place) => Some(channels[place].track),
-        Err(_) => None,
-    }
-}
-
-/// The channels of each of these labels in two files.
+/// The channels of each of these labels in two files. The labels are in the order of their bytes, and none
+/// stands twice.
 ///
 /// The error is want of memory.
 pub(crate) fn pairs_of(
@@ -110,17 +130,13 @@ pub(crate) fn pairs_of(
     export: &Header,
     labels: &[&[u8]],
 ) -> Result<Vec<Pair>, AllocError>
+    requires order { IsSorted (λ x y. slice_cmp nat_cmp x.now y.now) labels.now }
+    requires distinct { AreDistinct (map (λ label. label.now) labels.now) }
     ensures places { IfOk result (λ pairs. map places_of pairs.items ≡ map (λ label. (channel_in label.now original.now, channel_in label.now export.now)) labels.now) }
     ensures pairs { IfOk result (λ pairs. ArePairs original.now export.now pairs.items) }
 {
-    let here = channels_by_label(alloc, original)?;
-    let there = channels_by_label(alloc, export)?;
-    let mut pairs = Vec::with_capacity(alloc, labels.len())?;
-    for label in labels {
-        pairs.push(Pair {
-            original: track_at(&here, label),
-            export: track_at(&there, label),
-        })?;
-    }
+    let mut pairs = empty_pairs(alloc, labels.len())?;
+    put_tracks(&mut pairs, labels, Side::Original, original);
+    put_tracks(&mut pairs, labels, Side::Export, export);
     Ok(pairs)
 }

@@ -68,7 +68,7 @@ fn lane_at<'a>(reader: &'a FileReader, track: Track) -> &'a [u8]
     ensures value { (t : IsTrack reader.now.head track) → result.now ≡ lane_of (t.place).channel reader.now.current }
     ensures short { length result.now ≤ 2 ^ 24 }
 {
-    reader.run(track.signal)
+    reader.run(usize::from(track.signal))
 }
 
 /// The samples of a channel in the data record at hand.

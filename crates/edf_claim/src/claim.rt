@@ -9,12 +9,13 @@ ghost use Rattle.edf_claim.specs.Keeps.{AreKept, KeepsInstant, KeepsAnnotation, 
 use crate::interval::Interval;
 use crate::texts::{is_found, is_one_of};
 use crate::which::Which;
+use edf_fields::label::SignalLabel;
 use std::marker::Model;
 
 /// What an export keeps of its original, as a sleep centre claims it.
 #[derive(Debug, Drop)]
 pub struct Claim {
-    pub(crate) channels: Vec<Vec<u8>>,
+    pub(crate) channels: Vec<SignalLabel>,
     pub(crate) keep: Vec<Interval>,
     pub(crate) anonymous: Vec<Which>,
     pub(crate) shift: i64,
@@ -30,9 +31,9 @@ impl Model for Claim {
 
     ghost Value = { Terms };
 
-    ghost view = { λ c. record { channels = map (λ t. t.items) c.channels.items; keep = c.keep.items; anonymous = c.anonymous.items; shift = c.shift; remove = map (λ t. t.items) c.remove.items } };
+    ghost view = { λ c. record { channels = c.channels.items; keep = c.keep.items; anonymous = c.anonymous.items; shift = c.shift; remove = map (λ t. t.items) c.remove.items } };
 
-    ghost invariant = { λ c. IsClaim (record { channels = map (λ t. t.items) c.channels.items; keep = c.keep.items; anonymous = c.anonymous.items; shift = c.shift; remove = map (λ t. t.items) c.remove.items }) × IsIndex (map (λ t. t.items) c.remove.items) c.sorted.items };
+    ghost invariant = { λ c. IsClaim (record { channels = c.channels.items; keep = c.keep.items; anonymous = c.anonymous.items; shift = c.shift; remove = map (λ t. t.items) c.remove.items }) × IsIndex (map (λ t. t.items) c.remove.items) c.sorted.items };
 }
 
 /// The half of the intervals in which the instant `num / den` can be: the second one where its first
@@ -86,8 +87,8 @@ fn is_among(whiches: &[Which], which: Which) -> bool
 
 impl Claim {
     /// The labels of the channels that are kept, in the claim's order.
-    pub fn channels(&self) -> &[Vec<u8>]
-        ensures channels { map (λ t. t.items) result.now ≡ self.entry.now.channels }
+    pub fn channels(&self) -> &[SignalLabel]
+        ensures channels { result.now ≡ self.entry.now.channels }
         ensures sound { IsClaim self.entry.now }
     {
         &self.channels

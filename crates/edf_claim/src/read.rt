@@ -20,6 +20,7 @@ use crate::stop::ClaimStop;
 use crate::table::has_claim_keys;
 use crate::texts::sorted_copies;
 use crate::which::Which;
+use edf_fields::label::SignalLabel;
 use std::alloc::Global;
 use toml::Table;
 
@@ -41,7 +42,7 @@ fn read_table(alloc: Global, text: &[u8]) -> Result<Table, ClaimStop>
 /// The claim of these parts, which are those that the table says.
 fn claim_of(
     _table: &Table,
-    channels: Vec<Vec<u8>>,
+    channels: Vec<SignalLabel>,
     keep: Vec<Interval>,
     anonymous: Vec<Which>,
     shift: i64,
@@ -49,7 +50,7 @@ fn claim_of(
     sorted: Vec<Vec<u8>>,
 ) -> Claim
     requires passed { claim_fault (table_view _table.now) ≡ None }
-    requires channels { channels_of (table_view _table.now) ≡ Some (map (λ t. t.items) channels.items) }
+    requires channels { channels_of (table_view _table.now) ≡ Some channels.items }
     requires keep { keep_of (table_view _table.now) ≡ Some keep.items }
     requires anonymous { anonymous_of (table_view _table.now) ≡ Some anonymous.items }
     requires shift { shift_of (table_view _table.now) ≡ Some shift }

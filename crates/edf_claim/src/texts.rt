@@ -10,6 +10,7 @@ ghost use Rattle.edf_claim.specs.Keeps.{IsIndex};
 ghost use Rattle.edf_claim.specs.Reading.{texts_of as texts_of_items, distinct_texts as distinct_texts_of};
 
 use edf_fields::distinct::are_distinct;
+use edf_fields::label::SignalLabel;
 use std::alloc::{AllocError, Global};
 use std::cmp::Ordering;
 use toml::Value;
@@ -51,12 +52,12 @@ fn same_copies(alloc: Global, texts: &[Vec<u8>]) -> Result<Vec<Vec<u8>>, AllocEr
     Ok(copies)
 }
 
-/// Whether the text is one of these, which are copies.
-pub(crate) fn is_one_of(texts: &[Vec<u8>], text: &[u8]) -> bool
-    ensures { result ≡ is_one_of_texts (map (λ t. t.items) texts.now) text.now }
+/// Whether these are the bytes of one of the labels.
+pub(crate) fn is_one_of(labels: &[SignalLabel], text: &[u8]) -> bool
+    ensures { result ≡ is_one_of_texts labels.now text.now }
 {
-    for other in texts {
-        if other.as_slice() == text {
+    for other in labels {
+        if other.text() == text {
             return true;
         }
     }

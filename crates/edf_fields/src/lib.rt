@@ -7,6 +7,7 @@ pub mod cause;
 pub mod date;
 pub mod distinct;
 pub mod identification;
+pub mod label;
 pub mod laws;
 pub mod number;
 pub mod onset;

@@ -1,15 +1,20 @@
 //! Tests of `edf_header`, `edf_stream` and `edf_check` by their public names: the values of a given header
 //! and of given data records, what whole files mean, worked faults in words, the order of two faults, the
-//! worked differences of two headers, what a call does where a source or memory gives out, and large
-//! headers and records.
+//! worked differences of two headers, files that are cut into data records of several lengths, the line of
+//! each kind of verdict, a run that refuses its claim, where two slices of bytes differ first, what a call
+//! does where a source or memory gives out, signals that say the same, and large headers and records.
 #![tactic(auto)]
 
 #[cfg(test)]
 mod conforming;
 #[cfg(test)]
+mod cuts;
+#[cfg(test)]
 mod ends;
 #[cfg(test)]
 mod file;
+#[cfg(test)]
+mod first_difference;
 #[cfg(test)]
 mod head;
 #[cfg(test)]
@@ -29,9 +34,13 @@ mod record;
 #[cfg(test)]
 mod rows;
 #[cfg(test)]
+mod runs;
+#[cfg(test)]
 mod samples;
 #[cfg(test)]
 mod scarce;
+#[cfg(test)]
+mod signals;
 #[cfg(test)]
 mod sizes;
 #[cfg(test)]
@@ -40,3 +49,7 @@ mod sources;
 mod texts;
 #[cfg(test)]
 mod timed;
+#[cfg(test)]
+mod verdict_lines;
+#[cfg(test)]
+mod whole;

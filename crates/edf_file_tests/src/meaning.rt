@@ -325,20 +325,21 @@ fn means_what_many_data_records_say(rt: HostRuntime) -> Result<(), AllocError> {
     Ok(())
 }
 
-/// Two reads take the header, one each data record, and one asks for a byte behind them.
+/// Eleven reads take the header, its fixed part and ten columns, one takes each data record, and one asks for a
+/// byte behind them.
 #[test]
 fn answers_each_failed_read(rt: HostRuntime) -> Result<(), AllocError> {
     let file = recorded(rt.alloc(), &[], LANES)?;
-    for passes in 0..7u32 {
+    for passes in 0..16u32 {
         let mut source = tape_of(&file, passes);
         let stop = whole_meaning(rt.alloc(), &mut source).err();
         let counts = (source.reads, source.failures);
         assert_eq!(rt; (stop, counts), (Some(Stop::ReadFailed), (passes + 1, 1)));
     }
-    let mut source = tape_of(&file, 7);
+    let mut source = tape_of(&file, 16);
     let found = whole_meaning(rt.alloc(), &mut source).ok();
     assert!(rt; found.is_some_and(|meaning| is_that_of_reference(&meaning)));
-    assert_eq!(rt; (source.reads, source.failures), (7, 0));
+    assert_eq!(rt; (source.reads, source.failures), (16, 0));
     Ok(())
 }
 

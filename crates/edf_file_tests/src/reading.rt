@@ -197,8 +197,8 @@ fn answers_the_same_again(rt: HostRuntime) -> Result<(), Fail> {
         tape_of(short, 100),
         (1, Err(Stop::Fault(fault))),
     )?;
-    for passes in 2..7u32 {
-        let want = (passes - 2, Err(Stop::ReadFailed));
+    for passes in 11..16u32 {
+        let want = (passes - 11, Err(Stop::ReadFailed));
         assert_last(&rt, rt.alloc(), tape_of(&file, passes), want)?;
     }
     Ok(())

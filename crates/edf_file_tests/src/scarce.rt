@@ -233,7 +233,7 @@ fn judges_the_fixed_part_before_it_asks_for_more(rt: HostRuntime) -> Result<(), 
     Ok(())
 }
 
-/// A fault of the columns wants memory for their 768 bytes beside.
+/// A fault of the columns wants memory for the columns beside.
 #[test]
 fn wants_memory_before_it_judges_the_columns(rt: HostRuntime) -> Result<(), AllocError> {
     let edit = (Place::AtSignal(0, SignalField::Label), "\x1f");

@@ -56,7 +56,7 @@ fn fed<'a>(rest: &'a [u8], most: usize, reads: u32) -> Feed<'a> {
 }
 
 /// How many bytes a read gives at the most, and how many reads the header takes.
-const READS: [(usize, u32); 2] = [(4096, 2), (1, 1024)];
+const READS: [(usize, u32); 2] = [(4096, 11), (1, 1024)];
 
 #[test]
 fn answers_each_failed_read(rt: HostRuntime) -> Result<(), AllocError> {

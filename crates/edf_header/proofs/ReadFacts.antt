@@ -34,10 +34,6 @@ columns-left b front bytes n e count cols passed =
     ∙ ap (λ k. first (columns_tests k (columns_part k b))) m
     ∙ ap (λ xs. first (columns_tests n xs)) (sym cols)
 
--- the bytes that were read behind the fixed part are the columns
-pub columns-read : (b bytes items rest : List ℕ) (n m : ℕ) → bytes ≡ items → items ≡ take (256 * m) rest → rest ≡ drop 256 b → m ≡ n → bytes ≡ take (256 * n) (drop 256 b)
-columns-read b bytes items rest n m e read behind count = e ∙ read ∙ ap (take (256 * m)) behind ∙ ap (λ k. take (256 * k) (drop 256 b)) count
-
 -- what the code holds is what its bytes say
 pub view-is : (front bytes : List ℕ) (start : Start) (extent : Extent) (signals : List SignalHead)
     → SaysStart front start → SaysExtent front extent → signals ≡ signals_in extent.signals bytes

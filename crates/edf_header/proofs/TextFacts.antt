@@ -1,5 +1,5 @@
 -- The texts of a signal, one behind the other.
-use Rattle.std.proofs.Common.{◌≡◌, ℕ, refl, length, ◌+◌, ◌-◌, ◌≤◌, List, [], ◌++◌, take, drop, sym, ap, ◌∙◌, arith, append_assoc}
+use Rattle.std.proofs.Common.{◌≡◌, ℕ, length, ◌+◌, ◌-◌, List, ◌++◌, take, drop, sym, ap, ◌∙◌, arith, append_assoc}
 use Rattle.std.proofs.Math.Seq.{take-append_seam, drop-append_seam}
 use Rattle.std.proofs.lemmas.List.{length-append}
 use Rattle.edf_header.specs.Texts.{SignalTexts, between, texts_between, AreBehind}
@@ -14,40 +14,33 @@ between-is xs ys zs from to f t =
     ∙ take-append_seam ys zs
 
 -- texts that were put one behind the other stand between the places at which they ended
-pub texts_kept : (a b c d e : List ℕ) (i j k l : ℕ) → i ≡ length a → j ≡ length a + length b → k ≡ length (a ++ b) + length c → l ≡ length ((a ++ b) ++ c) + length d
-    → texts_between ((((a ++ b) ++ c) ++ d) ++ e) i j k l ≡ record { label = a; transducer = b; dimension = c; prefilter = d; reserved = e }
-texts_kept a b c d e i j k l at-i at-j at-k at-l =
-    let all : List ℕ = (((a ++ b) ++ c) ++ d) ++ e in
-    let three : all ≡ ((a ++ b) ++ c) ++ (d ++ e) = append_assoc ((a ++ b) ++ c) d e in
-    let two : all ≡ (a ++ b) ++ (c ++ (d ++ e)) = three ∙ append_assoc (a ++ b) c (d ++ e) in
-    let one : all ≡ a ++ (b ++ (c ++ (d ++ e))) = two ∙ append_assoc a b (c ++ (d ++ e)) in
+pub texts_kept : (a b c d : List ℕ) (i j k : ℕ) → i ≡ length a → j ≡ length a + length b → k ≡ length (a ++ b) + length c
+    → texts_between (((a ++ b) ++ c) ++ d) i j k ≡ record { transducer = a; dimension = b; prefilter = c; reserved = d }
+texts_kept a b c d i j k at-i at-j at-k =
+    let all : List ℕ = ((a ++ b) ++ c) ++ d in
+    let two : all ≡ (a ++ b) ++ (c ++ d) = append_assoc (a ++ b) c d in
+    let one : all ≡ a ++ (b ++ (c ++ d)) = two ∙ append_assoc a b (c ++ d) in
     let j-at : j ≡ length (a ++ b) = at-j ∙ sym (length-append a b) in
     let k-at : k ≡ length ((a ++ b) ++ c) = at-k ∙ sym (length-append (a ++ b) c) in
-    let l-at : l ≡ length (((a ++ b) ++ c) ++ d) = at-l ∙ sym (length-append ((a ++ b) ++ c) d) in
-    let label : take i all ≡ a = ap (take i) one ∙ ap (λ n. take n (a ++ (b ++ (c ++ (d ++ e))))) at-i ∙ take-append_seam a (b ++ (c ++ (d ++ e))) in
-    let transducer : between i j all ≡ b = ap (between i j) one ∙ between-is a b (c ++ (d ++ e)) i j at-i at-j in
-    let dimension : between j k all ≡ c = ap (between j k) two ∙ between-is (a ++ b) c (d ++ e) j k j-at at-k in
-    let prefilter : between k l all ≡ d = ap (between k l) three ∙ between-is ((a ++ b) ++ c) d e k l k-at at-l in
-    let reserved : drop l all ≡ e = ap (λ n. drop n all) l-at ∙ drop-append_seam (((a ++ b) ++ c) ++ d) e in
-    let made : List ℕ → List ℕ → List ℕ → List ℕ → List ℕ → SignalTexts =
-    λ v w x y z. record { label = v; transducer = w; dimension = x; prefilter = y; reserved = z } in
-    ap (λ v. made v (between i j all) (between j k all) (between k l all) (drop l all)) label
-    ∙ ap (λ w. made a w (between j k all) (between k l all) (drop l all)) transducer
-    ∙ ap (λ x. made a b x (between k l all) (drop l all)) dimension
-    ∙ ap (λ y. made a b c y (drop l all)) prefilter
-    ∙ ap (λ z. made a b c d z) reserved
+    let transducer : take i all ≡ a = ap (take i) one ∙ ap (λ n. take n (a ++ (b ++ (c ++ d)))) at-i ∙ take-append_seam a (b ++ (c ++ d)) in
+    let dimension : between i j all ≡ b = ap (between i j) one ∙ between-is a b (c ++ d) i j at-i at-j in
+    let prefilter : between j k all ≡ c = ap (between j k) two ∙ between-is (a ++ b) c d j k j-at at-k in
+    let reserved : drop k all ≡ d = ap (λ n. drop n all) k-at ∙ drop-append_seam ((a ++ b) ++ c) d in
+    let made : List ℕ → List ℕ → List ℕ → List ℕ → SignalTexts = λ w x y z. record { transducer = w; dimension = x; prefilter = y; reserved = z } in
+    ap (λ w. made w (between i j all) (between j k all) (drop k all)) transducer
+    ∙ ap (λ x. made a x (between j k all) (drop k all)) dimension
+    ∙ ap (λ y. made a b y (drop k all)) prefilter
+    ∙ ap (λ z. made a b c z) reserved
 
 -- and each ends where the next one begins
-pub texts_behind : (a b c d e : List ℕ) (i j k l : ℕ) → i ≡ length a → j ≡ length a + length b → k ≡ length (a ++ b) + length c → l ≡ length ((a ++ b) ++ c) + length d
-    → AreBehind ((((a ++ b) ++ c) ++ d) ++ e) i j k l
-texts_behind a b c d e i j k l at-i at-j at-k at-l =
+pub texts_behind : (a b c d : List ℕ) (i j k : ℕ) → i ≡ length a → j ≡ length a + length b → k ≡ length (a ++ b) + length c
+    → AreBehind (((a ++ b) ++ c) ++ d) i j k
+texts_behind a b c d i j k at-i at-j at-k =
     let two : length (a ++ b) ≡ length a + length b = length-append a b in
     let three : length ((a ++ b) ++ c) ≡ length (a ++ b) + length c = length-append (a ++ b) c in
     let four : length (((a ++ b) ++ c) ++ d) ≡ length ((a ++ b) ++ c) + length d = length-append ((a ++ b) ++ c) d in
-    let five : length ((((a ++ b) ++ c) ++ d) ++ e) ≡ length (((a ++ b) ++ c) ++ d) + length e = length-append (((a ++ b) ++ c) ++ d) e in
     record {
       first = omega (arith, at-i, at-j);
       second = omega (arith, at-j, at-k, two);
-      third = omega (arith, at-k, at-l, three);
-      fourth = omega (arith, at-l, four, five);
+      third = omega (arith, at-k, three, four);
     }

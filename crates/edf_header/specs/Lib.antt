@@ -9,6 +9,7 @@ pub mod Heads
 pub mod Judged
 pub mod Lanes
 pub mod Layout
+pub mod Narrow
 pub mod Sound
 pub mod Stops
 pub mod Texts

@@ -4,16 +4,17 @@ use Rattle.jiff.specs.Words.{epoch_day}
 use Rattle.edf_fields.specs.Dates.{civil_day}
 use Rattle.edf_fields.specs.Parts.{text_of}
 use Rattle.edf_fields.specs.Identifications.{patient_cause, recording_cause}
+use Rattle.edf_header.specs.declared.details.Details.{Details}
+use Rattle.edf_header.specs.declared.details.TextsOf.{TextsOf}
 use Rattle.edf_header.specs.declared.fixed.Start.{Start}
 use Rattle.edf_header.specs.declared.fixed.Extent.{Extent}
 use Rattle.edf_header.specs.declared.judge_signal.SignalFields.{SignalFields}
 use Rattle.edf_header.specs.declared.layout.FixedField.TheVariants as fixed
 use Rattle.edf_header.specs.declared.layout.SignalField.{SignalField}
-use Rattle.edf_header.specs.declared.layout.SignalField.TheVariants as signal
+use Rattle.edf_header.specs.Calibrations.{Line}
 use Rattle.edf_header.specs.Layout.{fixed_field, signal_field}
 use Rattle.edf_header.specs.Heads.{SignalHead, Head, patient_in, recording_in, record_bytes}
 use Rattle.edf_header.specs.Sound.{IsSound}
-use Rattle.edf_header.specs.Texts.{SignalTexts}
 
 -- a header
 abbrev pub head_view : List ℕ → Start → Extent → List SignalHead → Head
@@ -40,14 +41,11 @@ pub record IsKept (front : List ℕ) (start : Start) (extent : Extent) (signals 
 
 -- the bytes of a field of the signal
 abbrev pub field_in : SignalFields → SignalField → List ℕ
-field_in fields field = signal_field fields.columns.now fields.signals fields.signal field
+field_in fields field = signal_field (fields.columns.now).bytes (fields.columns.now).signals fields.signal field
 
--- the texts of the fields of the signal
-abbrev pub texts_of : SignalFields → SignalTexts
-texts_of fields = record {
-  label = text_of (field_in fields signal.Label);
-  transducer = text_of (field_in fields signal.Transducer);
-  dimension = text_of (field_in fields signal.Dimension);
-  prefilter = text_of (field_in fields signal.Prefilter);
-  reserved = text_of (field_in fields signal.Reserved);
+-- what a signal of these texts and this calibration says besides its label
+abbrev pub details_of : TextsOf → Line → Details
+details_of texts calibration = record {
+  texts = record { transducer = texts.transducer.now; dimension = texts.dimension.now; prefilter = texts.prefilter.now; reserved = texts.reserved.now };
+  calibration = calibration;
 }

@@ -101,6 +101,16 @@ impl Calibration {
         (self.digital_minimum, self.digital_maximum)
     }
 
+    /// Whether both are given by the same extremes.
+    pub(crate) fn has_extremes_of(&self, other: &Calibration) -> bool
+        ensures { IsTrue result ↔ (self.now ≡ other.now) }
+    {
+        self.physical_minimum == other.physical_minimum
+            && self.physical_maximum == other.physical_maximum
+            && self.digital_minimum == other.digital_minimum
+            && self.digital_maximum == other.digital_maximum
+    }
+
     /// The physical maximum less the physical minimum, in units of 10^-7.
     fn physical_span(&self) -> i128
         ensures value { result ≡ physical_span_of self.now }

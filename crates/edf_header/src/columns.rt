@@ -1,41 +1,45 @@
-//! The columns of a header, by the first byte of them that is missing.
+//! The columns of a header, which hold the fields of its signals.
 
-ghost use Rattle.std.specs.Prelude.{◌≡◌, ◌*◌, ◌≤◌, None, Some, MatchOption};
-ghost use Rattle.edf_header.specs.declared.fault.Place.TheVariants.{AtSignal};
-ghost use Rattle.edf_header.specs.declared.fault.Cause.TheVariants.{Truncated};
-ghost use Rattle.edf_header.specs.Layout.{columns, next_before, AreAdjacent};
-ghost use Rattle.edf_header.specs.Faults.{columns_missing};
-ghost use Rattle.edf_fields.specs.Tests.{first};
+ghost use Rattle.std.specs.Prelude.{◌≡◌, ◌<◌};
+ghost use Rattle.edf_header.specs.Layout.{signal_field as signal_field_of};
+ghost use Rattle.edf_header.specs.Narrow.{SaysTheSame};
 
-use crate::layout::{COLUMNS, SignalField};
+use crate::column::Column;
+use crate::layout::SignalField;
+use std::marker::Model;
 
-/// The signal and the field of the first missing byte of columns that stand one behind the other,
-/// of which there are `len` bytes.
-fn missing_in(fields: &[SignalField], signals: u16, len: usize) -> Option<(u16, SignalField)>
-    requires adjacent { AreAdjacent fields.now }
-    requires start { next_before fields.now * signals ≤ len }
-    ensures { MatchOption result
-        ((first (columns_missing fields.now signals len) ≡ None) × (256 * signals ≤ len))
-        (λ x. first (columns_missing fields.now signals len) ≡ Some (record { place = AtSignal x.0 x.1; cause = Truncated })) }
-{
-    let count = usize::from(signals);
-    for field in fields {
-        let (before, width) = field.column();
-        let start = before * count;
-        if len < start + width * count {
-            return Some((((len - start) / width) as u16, *field));
-        }
-    }
-    None
+/// The columns of a header: ten, one behind the other in the file, each with one field of every signal (EDF,
+/// "Header record"). A signal's fields lie far apart there, so all columns are in memory while they are judged.
+#[derive(Debug, Drop)]
+pub(crate) struct Columns {
+    pub columns: Vec<Column>,
+    pub signals: u16,
 }
 
-/// The signal and the field of the first missing byte of the columns, of which there are `len`
-/// bytes.
-#[tactic(auto, unfolding(crate::specs::Layout::columns))]
-pub(crate) fn missing_column(signals: u16, len: usize) -> Option<(u16, SignalField)>
-    ensures { MatchOption result
-        ((first (columns_missing columns signals len) ≡ None) × (256 * signals ≤ len))
-        (λ x. first (columns_missing columns signals len) ≡ Some (record { place = AtSignal x.0 x.1; cause = Truncated })) }
-{
-    missing_in(&COLUMNS, signals, len)
+impl Model for Columns {
+    ghost use Rattle.edf_header.specs.Layout.{columns as fields};
+    ghost use Rattle.edf_header.specs.Narrow.{WideColumns, all_bytes, AreColumns};
+
+    ghost Value = { WideColumns };
+
+    ghost view = { λ c. record { signals = c.signals; bytes = all_bytes c.columns.items } };
+
+    ghost invariant = { λ c. AreColumns c.signals fields c.columns.items };
+}
+
+impl Columns {
+    /// How many signals there are.
+    pub(crate) fn signals(&self) -> u16
+        ensures { result ≡ self.now.signals }
+    {
+        self.signals
+    }
+
+    /// A field of a signal; spaces at its end may be missing.
+    pub(crate) fn field(&self, signal: u16, field: SignalField) -> &[u8]
+        requires { signal < self.now.signals }
+        ensures { SaysTheSame result.now (signal_field_of (self.entry.now).bytes (self.entry.now).signals signal field) }
+    {
+        self.columns[field.place()].field(usize::from(signal))
+    }
 }

@@ -3,30 +3,25 @@
 ghost use Rattle.std.specs.Prelude.{◌≡◌, ◌*◌, ◌+◌, ◌≢◌, ◌≤◌, ◌<◌, ◌^◌, ◌<ℤ◌, pos, length, None, Some, MatchResult, IfOk, IfErr, unwrap_or, unsigned_abs};
 ghost use Rattle.edf_fields.specs.Parts.{text_of};
 ghost use Rattle.edf_fields.specs.Numbers.{whole_number_of, header_number_of};
-ghost use Rattle.edf_header.specs.declared.layout.SignalField.TheVariants.{Samples};
+ghost use Rattle.edf_header.specs.declared.layout.SignalField.TheVariants.{Label, Transducer, Dimension, Prefilter, Samples, Reserved};
 ghost use Rattle.edf_header.specs.Extremes.{extremes_line};
 ghost use Rattle.edf_header.specs.Faults.{text_fault, physical_fault, digital_fault, samples_fault, digital_order_fault, physical_differ_fault, annotation_fault, naming_faults, extreme_faults, sampling_faults, agreement_faults, signal_faults};
 ghost use Rattle.edf_fields.specs.Tests.{first};
 ghost use Rattle.edf_header.specs.Heads.{line_of, signal_of};
 ghost use Rattle.edf_header.specs.Layout.{column_width};
+ghost use Rattle.edf_header.specs.Narrow.{SaysTheSame};
 ghost use Rattle.edf_header.specs.Stops.{Stops};
 
 use crate::calibration::Calibration;
+use crate::columns::Columns;
+use crate::details::TextsOf;
 use crate::fault::{Cause, Fault, Place};
 use crate::field::{count, printable, some_number, two_bytes};
-use crate::layout::{SignalField, signal_field};
-use crate::signal::{ANNOTATIONS, Signal, is_annotation_label};
+use crate::layout::SignalField;
+use crate::signal::{ANNOTATIONS, Signal};
 use crate::stop::Stop;
-use crate::texts::Texts;
 use edf_fields::number::{header_number, header_whole, text};
-use std::alloc::{AllocError, Global};
-
-/// The columns of a header's signals.
-#[derive(Clone, Copy)]
-pub(crate) struct Columns<'a> {
-    pub bytes: &'a [u8],
-    pub signals: u16,
-}
+use std::alloc::Global;
 
 /// The extremes that the fields of a signal spell.
 #[derive(Debug, Clone, Copy)]
@@ -93,53 +88,29 @@ fn annotation_extremes(signal: u16, label: &[u8], extremes: &Extremes) -> Result
     })
 }
 
-/// The line that the fields of a signal give together.
-fn judge_agreement(signal: u16, label: &[u8], extremes: &Extremes) -> Result<Calibration, Fault>
-    requires small_minimum { unsigned_abs extremes.now.physical_minimum < 10 ^ 15 }
-    requires small_maximum { unsigned_abs extremes.now.physical_maximum < 10 ^ 15 }
-    ensures { MatchResult result
-        (λ v. (first (agreement_faults signal label.now (extremes_line extremes.now)) ≡ None) × (v ≡ extremes_line extremes.now))
-        (λ f. first (agreement_faults signal label.now (extremes_line extremes.now)) ≡ Some f) }
-{
-    digital_order(signal, extremes)?;
-    physical_differ(signal, extremes)?;
-    annotation_extremes(signal, label, extremes)?;
-    Ok(Calibration::new(
-        extremes.physical_minimum,
-        extremes.physical_maximum,
-        extremes.digital_minimum,
-        extremes.digital_maximum,
-    ))
-}
-
 /// The fields of one signal of the columns.
 #[derive(Clone, Copy)]
 struct SignalFields<'a> {
-    columns: &'a [u8],
-    signals: u16,
+    columns: &'a Columns,
     signal: u16,
-    ghost some: { signal < signals },
-    ghost whole: { 256 * signals ≤ length columns.now },
+    ghost some: { signal < (columns.now).signals },
 }
 
 impl<'a> SignalFields<'a> {
-    ghost use Rattle.edf_header.specs.Views.{field_in, texts_of};
+    ghost use Rattle.edf_header.specs.Views.{field_in};
 
-    /// The bytes of a field.
+    /// The bytes of a field; spaces at its end may be missing.
+    #[tactic(auto, using(crate::proofs::WideFacts::field_short))]
     fn bytes(self, field: SignalField) -> &'a [u8]
-        ensures value { result.now ≡ field_in self.entry field }
-        ensures len { length result.now ≡ column_width field }
+        ensures same { SaysTheSame result.now (field_in self.entry field) }
+        ensures len { length result.now ≤ column_width field }
+        ensures whole { length (field_in self.entry field) ≤ column_width field }
     {
-        signal_field(
-            self.columns,
-            usize::from(self.signals),
-            usize::from(self.signal),
-            field,
-        )
+        self.columns.field(self.signal, field)
     }
 
     /// A field that holds a text.
-    #[tactic(auto, unfolding(crate::specs::Faults::text_fault))]
+    #[tactic(auto, using(crate::proofs::TextSameFacts::same_printable), unfolding(crate::specs::Faults::text_fault))]
     fn text(self, field: SignalField) -> Result<(), Fault>
         ensures { MatchResult result
             (λ _. text_fault self.entry.signal field (field_in self.entry field) ≡ None)
@@ -149,8 +120,9 @@ impl<'a> SignalFields<'a> {
     }
 
     /// A physical extreme, in units of 10^-7.
-    #[tactic(auto, unfolding(crate::specs::Faults::physical_fault))]
+    #[tactic(auto, using(crate::proofs::TextSameFacts::same_printable, crate::proofs::TextSameFacts::same_header_number), unfolding(crate::specs::Faults::physical_fault))]
     fn physical(self, field: SignalField) -> Result<i64, Fault>
+        requires { column_width field ≤ 8 }
         ensures { MatchResult result
             (λ v. (physical_fault self.entry.signal field (field_in self.entry field) ≡ None)
             × (unwrap_or (header_number_of (field_in self.entry field)) (pos 0) ≡ v) × (unsigned_abs v < 10 ^ 15))
@@ -162,8 +134,9 @@ impl<'a> SignalFields<'a> {
     }
 
     /// A digital extreme.
-    #[tactic(auto, unfolding(crate::specs::Faults::digital_fault))]
+    #[tactic(auto, using(crate::proofs::TextSameFacts::same_printable, crate::proofs::TextSameFacts::same_whole_number), unfolding(crate::specs::Faults::digital_fault))]
     fn digital(self, field: SignalField) -> Result<i16, Fault>
+        requires { column_width field ≤ 8 }
         ensures { MatchResult result
             (λ v. (digital_fault self.entry.signal field (field_in self.entry field) ≡ None)
             × (unwrap_or (whole_number_of (field_in self.entry field)) (pos 0) ≡ v))
@@ -175,7 +148,7 @@ impl<'a> SignalFields<'a> {
     }
 
     /// How many samples the signal has in a data record: a whole number from 1 on.
-    #[tactic(auto, unfolding(crate::specs::Faults::samples_fault))]
+    #[tactic(auto, using(crate::proofs::TextSameFacts::same_printable, crate::proofs::TextSameFacts::same_whole_number), unfolding(crate::specs::Faults::samples_fault))]
     fn samples(self) -> Result<u32, Fault>
         ensures { MatchResult result
             (λ v. (samples_fault self.entry.signal (field_in self.entry Samples) ≡ None)
@@ -191,8 +164,8 @@ impl<'a> SignalFields<'a> {
     /// Label, transducer and dimension.
     fn judge_naming(self) -> Result<(), Fault>
         ensures { MatchResult result
-            (λ _. first (naming_faults self.entry.columns.now self.entry.signals self.entry.signal) ≡ None)
-            (λ f. first (naming_faults self.entry.columns.now self.entry.signals self.entry.signal) ≡ Some f) }
+            (λ _. first (naming_faults (self.entry.columns.now).bytes (self.entry.columns.now).signals self.entry.signal) ≡ None)
+            (λ f. first (naming_faults (self.entry.columns.now).bytes (self.entry.columns.now).signals self.entry.signal) ≡ Some f) }
     {
         self.text(SignalField::Label)?;
         self.text(SignalField::Transducer)?;
@@ -202,10 +175,10 @@ impl<'a> SignalFields<'a> {
     /// The extremes.
     fn judge_extremes(self) -> Result<Extremes, Fault>
         ensures { MatchResult result
-            (λ v. (first (extreme_faults self.entry.columns.now self.entry.signals self.entry.signal) ≡ None)
-            × (extremes_line v ≡ line_of self.entry.columns.now self.entry.signals self.entry.signal)
+            (λ v. (first (extreme_faults (self.entry.columns.now).bytes (self.entry.columns.now).signals self.entry.signal) ≡ None)
+            × (extremes_line v ≡ line_of (self.entry.columns.now).bytes (self.entry.columns.now).signals self.entry.signal)
             × (unsigned_abs v.physical_minimum < 10 ^ 15) × (unsigned_abs v.physical_maximum < 10 ^ 15))
-            (λ f. first (extreme_faults self.entry.columns.now self.entry.signals self.entry.signal) ≡ Some f) }
+            (λ f. first (extreme_faults (self.entry.columns.now).bytes (self.entry.columns.now).signals self.entry.signal) ≡ Some f) }
     {
         Ok(Extremes {
             physical_minimum: self.physical(SignalField::PhysicalMinimum)?,
@@ -218,9 +191,9 @@ impl<'a> SignalFields<'a> {
     /// Prefilter, samples and reserved: how many samples the signal has in a data record.
     fn judge_sampling(self) -> Result<u32, Fault>
         ensures { MatchResult result
-            (λ v. (first (sampling_faults self.entry.columns.now self.entry.signals self.entry.signal) ≡ None)
+            (λ v. (first (sampling_faults (self.entry.columns.now).bytes (self.entry.columns.now).signals self.entry.signal) ≡ None)
             × (whole_number_of (field_in self.entry Samples) ≡ Some (pos v)) × (v < 10 ^ 8))
-            (λ f. first (sampling_faults self.entry.columns.now self.entry.signals self.entry.signal) ≡ Some f) }
+            (λ f. first (sampling_faults (self.entry.columns.now).bytes (self.entry.columns.now).signals self.entry.signal) ≡ Some f) }
     {
         self.text(SignalField::Prefilter)?;
         let samples = self.samples()?;
@@ -228,71 +201,91 @@ impl<'a> SignalFields<'a> {
         Ok(samples)
     }
 
+    /// Whether an annotation signal has the digital extremes that it has to have.
+    #[tactic(auto, using(crate::proofs::TextSameFacts::same_annotation))]
+    fn judge_annotation(self, extremes: &Extremes) -> Result<(), Fault>
+        ensures { MatchResult result
+            (λ _. annotation_fault self.entry.signal (field_in self.entry Label) (extremes_line extremes.now) ≡ None)
+            (λ f. annotation_fault self.entry.signal (field_in self.entry Label) (extremes_line extremes.now) ≡ Some f) }
+    {
+        annotation_extremes(self.signal, self.bytes(SignalField::Label), extremes)
+    }
+
+    /// The line that the fields of the signal give together.
+    fn judge_agreement(self, extremes: &Extremes) -> Result<Calibration, Fault>
+        requires small_minimum { unsigned_abs extremes.now.physical_minimum < 10 ^ 15 }
+        requires small_maximum { unsigned_abs extremes.now.physical_maximum < 10 ^ 15 }
+        ensures { MatchResult result
+            (λ v. (first (agreement_faults self.entry.signal (field_in self.entry Label) (extremes_line extremes.now)) ≡ None) × (v ≡ extremes_line extremes.now))
+            (λ f. first (agreement_faults self.entry.signal (field_in self.entry Label) (extremes_line extremes.now)) ≡ Some f) }
+    {
+        digital_order(self.signal, extremes)?;
+        physical_differ(self.signal, extremes)?;
+        self.judge_annotation(extremes)?;
+        Ok(Calibration::new(
+            extremes.physical_minimum,
+            extremes.physical_maximum,
+            extremes.digital_minimum,
+            extremes.digital_maximum,
+        ))
+    }
+
     /// The numbers of the signal, or the first fault of its fields.
     #[tactic(auto, using(crate::proofs::SignalFacts::naming_found))]
     fn numbers(self) -> Result<Numbers, Fault>
         ensures { MatchResult result
-            (λ v. (first (signal_faults self.entry.columns.now self.entry.signals self.entry.signal) ≡ None)
-            × (v.calibration ≡ line_of self.entry.columns.now self.entry.signals self.entry.signal)
+            (λ v. (first (signal_faults (self.entry.columns.now).bytes (self.entry.columns.now).signals self.entry.signal) ≡ None)
+            × (v.calibration ≡ line_of (self.entry.columns.now).bytes (self.entry.columns.now).signals self.entry.signal)
             × (whole_number_of (field_in self.entry Samples) ≡ Some (pos v.samples)) × (v.samples < 10 ^ 8))
-            (λ f. first (signal_faults self.entry.columns.now self.entry.signals self.entry.signal) ≡ Some f) }
+            (λ f. first (signal_faults (self.entry.columns.now).bytes (self.entry.columns.now).signals self.entry.signal) ≡ Some f) }
     {
         self.judge_naming()?;
         let extremes = self.judge_extremes()?;
         let samples = self.judge_sampling()?;
-        let label = self.bytes(SignalField::Label);
-        let calibration = judge_agreement(self.signal, label, &extremes)?;
+        let calibration = self.judge_agreement(&extremes)?;
         Ok(Numbers {
             calibration,
             samples,
         })
     }
 
-    /// The texts of the fields, in memory of their own.
-    fn texts(self, alloc: Global) -> Result<Texts, AllocError>
-        ensures { IfOk result (λ t. t ≡ texts_of self.entry) }
+    /// The texts of the fields.
+    fn texts(self) -> TextsOf<'a>
+        ensures label { (result.label.now ≡ text_of (field_in self.entry Label)) × (length result.label.now ≤ 16) }
+        ensures transducer { (result.transducer.now ≡ text_of (field_in self.entry Transducer)) × (length result.transducer.now ≤ 80) }
+        ensures dimension { (result.dimension.now ≡ text_of (field_in self.entry Dimension)) × (length result.dimension.now ≤ 8) }
+        ensures prefilter { (result.prefilter.now ≡ text_of (field_in self.entry Prefilter)) × (length result.prefilter.now ≤ 80) }
+        ensures reserved { (result.reserved.now ≡ text_of (field_in self.entry Reserved)) × (length result.reserved.now ≤ 32) }
     {
-        Texts::new(
-            alloc,
-            text(self.bytes(SignalField::Label)),
-            text(self.bytes(SignalField::Transducer)),
-            text(self.bytes(SignalField::Dimension)),
-            text(self.bytes(SignalField::Prefilter)),
-            text(self.bytes(SignalField::Reserved)),
-        )
+        TextsOf {
+            label: text(self.bytes(SignalField::Label)),
+            transducer: text(self.bytes(SignalField::Transducer)),
+            dimension: text(self.bytes(SignalField::Dimension)),
+            prefilter: text(self.bytes(SignalField::Prefilter)),
+            reserved: text(self.bytes(SignalField::Reserved)),
+        }
     }
 }
 
-/// A signal, with `offset` bytes before it in a data record, or the first fault of its fields.
+/// A signal, with `offset` bytes and this signal before it in a data record, or the first fault of its
+/// fields.
 pub(crate) fn judge_signal(
     alloc: Global,
-    columns: Columns<'_>,
+    columns: &Columns,
     signal: u16,
     offset: u64,
+    before: Option<&Signal>,
 ) -> Result<Signal, Stop>
-    requires some { signal < columns.signals }
-    requires whole { 256 * columns.signals ≤ length columns.bytes.now }
-    ensures ok { IfOk result (λ v. (first (signal_faults columns.entry.bytes.now columns.entry.signals signal) ≡ None)
-        × (v ≡ signal_of columns.entry.bytes.now columns.entry.signals signal offset)
+    requires { signal < columns.now.signals }
+    ensures ok { IfOk result (λ v. (first (signal_faults columns.entry.now.bytes columns.entry.now.signals signal) ≡ None)
+        × (v ≡ signal_of columns.entry.now.bytes columns.entry.now.signals signal offset)
         × (v.samples < 10 ^ 8)) }
-    ensures stop { IfErr result (Stops (λ f. first (signal_faults columns.entry.bytes.now columns.entry.signals signal) ≡ Some f) ⊥ (Unit {0})) }
+    ensures stop { IfErr result (Stops (λ f. first (signal_faults columns.entry.now.bytes columns.entry.now.signals signal) ≡ Some f) ⊥ (Unit {0})) }
 {
-    let fields = SignalFields {
-        columns: columns.bytes,
-        signals: columns.signals,
-        signal,
-    };
+    let fields = SignalFields { columns, signal };
     let Numbers {
         calibration,
         samples,
     } = fields.numbers()?;
-    let texts = fields.texts(alloc)?;
-    let holds_annotations = is_annotation_label(texts.label());
-    Ok(Signal {
-        texts,
-        calibration,
-        samples,
-        offset,
-        holds_annotations,
-    })
+    Ok(Signal::new(alloc, fields.texts(), calibration, samples, offset, before)?)
 }

@@ -1,8 +1,9 @@
 //! The layout of a header (EDF, "Header record"): a fixed part of 256 bytes, then ten columns, each
 //! with one field of every signal.
 
-ghost use Rattle.std.specs.Prelude.{◌≡◌, ◌+◌, ◌*◌, ◌≤◌, ◌<◌, ◌^◌, length};
-ghost use Rattle.edf_header.specs.Layout.{fixed_from, fixed_bytes, fixed_field as fixed_field_of, fixed_field_name, column_before, column_width, signal_field as signal_field_of, signal_field_name};
+ghost use Rattle.std.specs.Prelude.{◌≡◌, ◌+◌, ◌≤◌, ◌<◌, length, get_or};
+ghost use Rattle.edf_header.specs.declared.layout.SignalField.TheVariants.{Label};
+ghost use Rattle.edf_header.specs.Layout.{fixed_from, fixed_bytes, fixed_field as fixed_field_of, fixed_field_name, column_before, column_width, columns, signal_field_name};
 
 use edf_fields::number::part;
 
@@ -154,21 +155,24 @@ impl SignalField {
             SignalField::Reserved => (224, 32),
         }
     }
-}
 
-/// The bytes of a field of signal `signal` of `signals`, in their columns.
-pub(crate) fn signal_field(
-    columns: &[u8],
-    signals: usize,
-    signal: usize,
-    field: SignalField,
-) -> &[u8]
-    requires some { signal < signals }
-    requires few { signals < 2 ^ 16 }
-    requires whole { 256 * signals ≤ length columns.now }
-    ensures value { result.now ≡ signal_field_of columns.entry.now signals signal field }
-    ensures len { length result.now ≡ column_width field }
-{
-    let (before, width) = field.column();
-    part(columns, before * signals + width * signal, width)
+    /// Which of the columns it is.
+    #[tactic(auto, unfolding(crate::specs::Layout::columns))]
+    pub(crate) fn place(self) -> usize
+        ensures within { result < length columns }
+        ensures field { get_or columns result Label ≡ self }
+    {
+        match self {
+            SignalField::Label => 0,
+            SignalField::Transducer => 1,
+            SignalField::Dimension => 2,
+            SignalField::PhysicalMinimum => 3,
+            SignalField::PhysicalMaximum => 4,
+            SignalField::DigitalMinimum => 5,
+            SignalField::DigitalMaximum => 6,
+            SignalField::Prefilter => 7,
+            SignalField::Samples => 8,
+            SignalField::Reserved => 9,
+        }
+    }
 }

@@ -3,7 +3,9 @@
 #![tactic(auto)]
 
 pub mod calibration;
+mod column;
 mod columns;
+mod details;
 pub mod fault;
 mod fault_text;
 mod field;

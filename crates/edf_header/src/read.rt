@@ -1,17 +1,25 @@
 //! Reading a header from a source.
 
-ghost use Rattle.std.specs.Prelude.{◌≡◌, ◌+◌, ◌*◌, ◌≤◌, ◌<◌, ◌^◌, length, take, drop, None, Some, IfOk, IfErr, OnOk, IsTrue};
+ghost use Rattle.std.specs.Prelude.{◌≡◌, ◌+◌, ◌*◌, ◌/◌, ◌≤◌, ◌<◌, ◌^◌, length, take, drop, None, Some, IfOk, IfErr, OnOk, IsTrue};
 ghost use Rattle.edf_fields.specs.Sources.{Rises};
+ghost use Rattle.edf_fields.specs.Tests.{first};
+ghost use Rattle.edf_header.specs.declared.fault.Cause.TheVariants.{Truncated};
+ghost use Rattle.edf_header.specs.declared.fault.Place.TheVariants.{AtSignal};
 ghost use Rattle.edf_header.specs.Conforming.{HeaderConforms};
-ghost use Rattle.edf_header.specs.Faults.{header_fault};
+ghost use Rattle.edf_header.specs.Faults.{columns_missing, header_fault};
 ghost use Rattle.edf_header.specs.Heads.{HasHead, head_of, header_bytes};
+ghost use Rattle.edf_header.specs.Layout.{columns as all_columns, next_before, AreAdjacent};
+ghost use Rattle.edf_header.specs.Narrow.{all_bytes, AreColumns};
 ghost use Rattle.edf_header.specs.Sound.{IsSound};
 ghost use Rattle.edf_header.specs.Stops.{Stops};
 
+use crate::column::Column;
+use crate::columns::Columns;
+use crate::fault::{Cause, Fault, Place};
 use crate::fixed::judge_fixed;
 use crate::header::Header;
 use crate::judge_columns::judge_columns;
-use crate::judge_signal::Columns;
+use crate::layout::{COLUMNS, SignalField};
 use crate::stop::Stop;
 use edf_fields::source::{Source, fill};
 use std::alloc::Global;
@@ -29,6 +37,65 @@ fn next_bytes<S: Source>(alloc: Global, source: &mut S, count: usize) -> Result<
     let got = fill(source, &mut bytes)?;
     bytes.truncate(got);
     Ok(bytes)
+}
+
+/// What is wrong with a column of which only the first bytes are there: its first missing byte.
+fn cut_short(field: SignalField, width: usize, there: usize) -> Fault
+    requires some { 0 < width }
+    requires few { there / width < 2 ^ 16 }
+    ensures { result ≡ record { place = AtSignal (there / width) field; cause = Truncated } }
+{
+    Fault {
+        place: Place::AtSignal((there / width) as u16, field),
+        cause: Cause::Truncated,
+    }
+}
+
+/// The columns of these fields, which stand one behind the other up to the end of the header, or the first
+/// byte of them that is missing. The bytes of one column at a time are in memory as they stand in the file.
+fn read_each<S: Source>(
+    alloc: Global,
+    source: &mut S,
+    fields: &[SignalField],
+    signals: u16,
+) -> Result<Vec<Column>, Stop>
+    requires adjacent { AreAdjacent fields.now }
+    requires start { next_before fields.now ≡ 0 }
+    ensures honesty { OnOk result (IsTrue (S.is_honest source.old) → IsTrue (S.is_honest source.new)) }
+    ensures failures { OnOk result (S.failures source.new ≡ S.failures source.old) }
+    ensures columns { IfOk result (λ v. AreColumns signals fields.now v.items) }
+    ensures front { IfOk result (λ v. IsTrue (S.is_honest source.old) → all_bytes v.items ≡ take (256 * signals) (S.left source.old)) }
+    ensures behind { OnOk result (IsTrue (S.is_honest source.old) → S.left source.new ≡ drop (256 * signals) (S.left source.old)) }
+    ensures stop { IfErr result (Stops (λ f. IsTrue (S.is_honest source.old) → first (columns_missing fields.now signals (length (take (256 * signals) (S.left source.old)))) ≡ Some f)
+        (Rises (S.failures source.old) (S.failures source.new)) (S.failures source.new ≡ S.failures source.old)) }
+{
+    let count = usize::from(signals);
+    let mut columns = Vec::with_capacity(alloc, fields.len())?;
+    for field in fields {
+        let (_, width) = field.column();
+        let bytes = next_bytes(alloc, source, width * count)?;
+        if bytes.len() < width * count {
+            return Err(Stop::Fault(cut_short(*field, width, bytes.len())));
+        }
+        columns.push(Column::new(alloc, &bytes, width, count)?)?;
+    }
+    Ok(columns)
+}
+
+/// The columns of so many signals, or the first byte of them that is missing.
+#[tactic(auto, unfolding(crate::specs::Layout::columns))]
+fn read_columns<S: Source>(alloc: Global, source: &mut S, signals: u16) -> Result<Columns, Stop>
+    ensures honesty { OnOk result (IsTrue (S.is_honest source.old) → IsTrue (S.is_honest source.new)) }
+    ensures failures { OnOk result (S.failures source.new ≡ S.failures source.old) }
+    ensures signals { IfOk result (λ c. c.signals ≡ signals) }
+    ensures whole { IfOk result (λ c. 256 * c.signals ≤ length c.bytes) }
+    ensures front { IfOk result (λ c. IsTrue (S.is_honest source.old) → c.bytes ≡ take (256 * signals) (S.left source.old)) }
+    ensures behind { OnOk result (IsTrue (S.is_honest source.old) → S.left source.new ≡ drop (256 * signals) (S.left source.old)) }
+    ensures stop { IfErr result (Stops (λ f. IsTrue (S.is_honest source.old) → first (columns_missing all_columns signals (length (take (256 * signals) (S.left source.old)))) ≡ Some f)
+        (Rises (S.failures source.old) (S.failures source.new)) (S.failures source.new ≡ S.failures source.old)) }
+{
+    let columns = read_each(alloc, source, &COLUMNS, signals)?;
+    Ok(Columns { columns, signals })
 }
 
 impl Header {
@@ -59,14 +126,8 @@ impl Header {
     {
         let front = next_bytes(alloc, source, 256)?;
         let fixed = judge_fixed(&front)?;
-        let columns = next_bytes(alloc, source, 256 * usize::from(fixed.extent.signals))?;
-        let body = judge_columns(
-            alloc,
-            Columns {
-                bytes: &columns,
-                signals: fixed.extent.signals,
-            },
-        )?;
+        let columns = read_columns(alloc, source, fixed.extent.signals)?;
+        let body = judge_columns(alloc, &columns)?;
         Ok(Header {
             front,
             start: fixed.start,

@@ -1,11 +1,14 @@
 //! One signal of a file.
 
-ghost use Rattle.std.specs.Prelude.{◌≡◌, ◌<◌, ◌^◌};
+ghost use Rattle.std.specs.Prelude.{◌≡◌, ◌≤◌, length, IfOk};
 ghost use Rattle.edf_header.specs.Heads.{is_annotations};
 
 use crate::calibration::Calibration;
-use crate::texts::Texts;
+use crate::details::{Details, TextsOf};
+use edf_fields::label::SignalLabel;
+use std::alloc::{AllocError, Global};
 use std::marker::Model;
+use std::rc::Rc;
 
 /// The label of a signal that holds annotations (EDF+, "The 'EDF Annotations' signal").
 pub(crate) const ANNOTATIONS: &[u8] = b"EDF Annotations";
@@ -13,15 +16,20 @@ pub(crate) const ANNOTATIONS: &[u8] = b"EDF Annotations";
 /// One signal of a file: a channel, or a signal that holds annotations.
 ///
 /// The texts are those of its fields (EDF, "Header record"), without trailing spaces.
+///
+/// A header has up to 9,999 signals, so what each of them takes counts: one that says what the one before
+/// says but for its label takes 40 bytes.
 #[derive(Debug, Drop)]
 pub struct Signal {
-    pub(crate) texts: Texts,
-    pub(crate) calibration: Calibration,
-    pub(crate) samples: u32,
-    pub(crate) offset: u64,
+    offset: u64,
+    details: Rc<Details>,
+    samples: u32,
+    label: SignalLabel,
     /// Whether the label is that of a signal that holds annotations.
-    pub(crate) holds_annotations: bool,
+    holds_annotations: bool,
 }
+
+const _: () = prove!(size_of::<Signal>() == 40);
 
 /// Whether this is the label of a signal that holds annotations.
 pub(crate) fn is_annotation_label(label: &[u8]) -> bool
@@ -36,45 +44,74 @@ impl Model for Signal {
 
     ghost Value = { SignalHead };
 
-    ghost view = { λ s. record { label = (s.texts).label; transducer = (s.texts).transducer; dimension = (s.texts).dimension; prefilter = (s.texts).prefilter; reserved = (s.texts).reserved; calibration = s.calibration; samples = s.samples; offset = s.offset } };
+    ghost view = { λ s. record { label = s.label; transducer = s.details.value.texts.transducer; dimension = s.details.value.texts.dimension; prefilter = s.details.value.texts.prefilter; reserved = s.details.value.texts.reserved; calibration = s.details.value.calibration; samples = s.samples; offset = s.offset } };
 
-    ghost invariant = { λ s. s.holds_annotations ≡ is_annotations (s.texts).label };
+    ghost invariant = { λ s. s.holds_annotations ≡ is_annotations s.label };
 }
 
 impl Signal {
+    /// A signal of these texts and numbers. It shares memory with the one before, where both say the same.
+    pub(crate) fn new(
+        alloc: Global,
+        texts: TextsOf<'_>,
+        calibration: Calibration,
+        samples: u32,
+        offset: u64,
+        before: Option<&Signal>,
+    ) -> Result<Signal, AllocError>
+        requires label { length texts.label.now ≤ 16 }
+        requires transducer { length texts.transducer.now ≤ 80 }
+        requires dimension { length texts.dimension.now ≤ 8 }
+        requires prefilter { length texts.prefilter.now ≤ 80 }
+        requires reserved { length texts.reserved.now ≤ 32 }
+        ensures { IfOk result (λ s. s ≡ record { label = texts.entry.label.now; transducer = texts.entry.transducer.now; dimension = texts.entry.dimension.now; prefilter = texts.entry.prefilter.now; reserved = texts.entry.reserved.now; calibration = calibration; samples = samples; offset = offset }) }
+    {
+        let before = match before {
+            Some(signal) => Some(&signal.details),
+            None => None,
+        };
+        Ok(Signal {
+            offset,
+            details: Details::shared(alloc, texts, calibration, before)?,
+            samples,
+            label: SignalLabel::new(texts.label),
+            holds_annotations: is_annotation_label(texts.label),
+        })
+    }
+
     /// The label (EDF, "Header record").
     pub fn label(&self) -> &[u8]
         ensures { result.now ≡ self.entry.now.label }
     {
-        self.texts.label()
+        self.label.text()
     }
 
     /// The kind of the transducer (EDF, "Header record").
     pub fn transducer(&self) -> &[u8]
         ensures { result.now ≡ self.entry.now.transducer }
     {
-        self.texts.transducer()
+        self.details.texts.transducer()
     }
 
     /// The physical dimension, as `uV` (EDF, "Header record").
     pub fn dimension(&self) -> &[u8]
         ensures { result.now ≡ self.entry.now.dimension }
     {
-        self.texts.dimension()
+        self.details.texts.dimension()
     }
 
     /// How the signal was filtered before it was sampled, as `HP:0.1Hz` (EDF, "Header record").
     pub fn prefilter(&self) -> &[u8]
         ensures { result.now ≡ self.entry.now.prefilter }
     {
-        self.texts.prefilter()
+        self.details.texts.prefilter()
     }
 
     /// The free text of the signal's reserved field (EDF, "Header record").
     pub fn reserved(&self) -> &[u8]
         ensures { result.now ≡ self.entry.now.reserved }
     {
-        self.texts.reserved()
+        self.details.texts.reserved()
     }
 
     /// The line from digital to physical values (EDF, "Header record": digital and physical minimum
@@ -82,7 +119,7 @@ impl Signal {
     pub fn calibration(&self) -> &Calibration
         ensures { result.now ≡ self.entry.now.calibration }
     {
-        &self.calibration
+        &self.details.calibration
     }
 
     /// How many samples it has in a data record, two bytes each (EDF, "Header record").

@@ -1,4 +1,4 @@
-//! The texts of one signal.
+//! The texts of one signal but for its label.
 
 ghost use Rattle.std.specs.Prelude.{◌≡◌, ◌+◌, ◌<◌, ◌++◌, length, IfOk, OnOk};
 ghost use Rattle.edf_header.specs.Texts.{SignalTexts};
@@ -6,13 +6,12 @@ ghost use Rattle.edf_header.specs.Texts.{SignalTexts};
 use std::alloc::{AllocError, Global};
 use std::marker::Model;
 
-/// The texts of a signal's fields, one behind the other in one piece of memory. A header has up to 9,999
-/// signals, so what each of them takes counts.
+/// The texts of a signal's fields but for its label, one behind the other in one piece of memory. A header
+/// has up to 9,999 signals, so what each of them takes counts.
 #[derive(Debug, Drop)]
 pub(crate) struct Texts {
     bytes: Vec<u8>,
-    /// Where the label ends, and so on; the reserved text ends where the bytes do.
-    label: u8,
+    /// Where the transducer ends, and so on; the reserved text ends where the bytes do.
     transducer: u8,
     dimension: u8,
     prefilter: u8,
@@ -23,9 +22,9 @@ impl Model for Texts {
 
     ghost Value = { SignalTexts };
 
-    ghost view = { λ t. texts_between t.bytes.items t.label t.transducer t.dimension t.prefilter };
+    ghost view = { λ t. texts_between t.bytes.items t.transducer t.dimension t.prefilter };
 
-    ghost invariant = { λ t. AreBehind t.bytes.items t.label t.transducer t.dimension t.prefilter };
+    ghost invariant = { λ t. AreBehind t.bytes.items t.transducer t.dimension t.prefilter };
 }
 
 /// Puts a text behind others, and answers where it ends.
@@ -43,45 +42,35 @@ impl Texts {
     #[tactic(auto, using(crate::proofs::TextFacts::texts_kept, crate::proofs::TextFacts::texts_behind))]
     pub(crate) fn new(
         alloc: Global,
-        label: &[u8],
         transducer: &[u8],
         dimension: &[u8],
         prefilter: &[u8],
         reserved: &[u8],
     ) -> Result<Texts, AllocError>
-        requires { length label.now + length transducer.now + length dimension.now + length prefilter.now + length reserved.now < 256 }
-        ensures { IfOk result (λ t. t ≡ record { label = label.now; transducer = transducer.now; dimension = dimension.now; prefilter = prefilter.now; reserved = reserved.now }) }
+        requires { length transducer.now + length dimension.now + length prefilter.now + length reserved.now < 256 }
+        ensures { IfOk result (λ t. t ≡ record { transducer = transducer.now; dimension = dimension.now; prefilter = prefilter.now; reserved = reserved.now }) }
     {
         let mut bytes = Vec::with_capacity(
             alloc,
-            label.len() + transducer.len() + dimension.len() + prefilter.len() + reserved.len(),
+            transducer.len() + dimension.len() + prefilter.len() + reserved.len(),
         )?;
-        let label_end = put_behind(&mut bytes, label)?;
         let transducer_end = put_behind(&mut bytes, transducer)?;
         let dimension_end = put_behind(&mut bytes, dimension)?;
         let prefilter_end = put_behind(&mut bytes, prefilter)?;
         put_behind(&mut bytes, reserved)?;
         Ok(Texts {
             bytes,
-            label: label_end,
             transducer: transducer_end,
             dimension: dimension_end,
             prefilter: prefilter_end,
         })
     }
 
-    /// The label.
-    pub(crate) fn label(&self) -> &[u8]
-        ensures { result.now ≡ self.entry.now.label }
-    {
-        &self.bytes[..usize::from(self.label)]
-    }
-
     /// The transducer.
     pub(crate) fn transducer(&self) -> &[u8]
         ensures { result.now ≡ self.entry.now.transducer }
     {
-        &self.bytes[usize::from(self.label)..usize::from(self.transducer)]
+        &self.bytes[..usize::from(self.transducer)]
     }
 
     /// The dimension.

@@ -13,7 +13,7 @@ use std::rt::Files;
 
 /// How many bytes are read ahead of what is asked for. A read that asks for as many or more goes past
 /// the buffer where this is empty.
-const STRETCH: usize = 65_536;
+const STRETCH: usize = 32_768;
 
 /// How many bytes of a claim are read at most: one more than a claim may have, so that a longer one is
 /// seen to be too long.

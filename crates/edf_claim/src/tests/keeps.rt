@@ -109,9 +109,7 @@ fn keeps_annotations_by_onset_and_text(rt: HostRuntime) -> Result<(), Fail> {
 /// Whether the claim keeps these channels, in this order, and no other.
 fn has_channels(claim: &Claim) -> bool {
     match claim.channels() {
-        [eeg, ecg] => {
-            eeg.as_slice() == b"EEG Fpz-Cz".as_slice() && ecg.as_slice() == b"ECG".as_slice()
-        }
+        [eeg, ecg] => { eeg.text() == b"EEG Fpz-Cz".as_slice() && ecg.text() == b"ECG".as_slice() }
         _ => false,
     }
 }

@@ -106,8 +106,9 @@ fn reads_byte_by_byte(rt: HostRuntime) -> Result<(), Fail> {
     Ok(())
 }
 
-/// Two reads take the header of the night, one each of its data records, and one asks for a byte behind them.
-const READS: u32 = 7;
+/// Eleven reads take the header of the night, its fixed part and ten columns, one takes each of its four data
+/// records, and one asks for a byte behind them.
+const READS: u32 = 16;
 
 /// Asserts whose failed read is answered where so many reads of the original and of the export pass.
 fn assert_stop(rt: &impl Abort, alloc: Global, passes: (u32, u32), side: Side) -> Result<(), Fail> {

@@ -5,4 +5,4 @@ use Rattle.edf_check.proofs.channels.claimed_channels.Given as goal
 abbrev pub invariant-loop-label : goal.invariant-loop-label
 invariant-loop-label l =
     map claimed_view l.claimed.items
-    ≡ map (claimed_of l.original.signals l.export.signals) (map (λ label. label.items) (take l.label-index l.labels))
+    ≡ map (claimed_of l.original.signals l.export.signals) (take l.label-index l.labels)

@@ -11,7 +11,7 @@ pub invariant_of-result : goal.invariant_of-result
 invariant_of-result c =
     let fits : SFits w64 c.args.shift = c.ranges.shift in
     let m = table_view c.args._table.now in
-    let channels : List (List ℕ) = map (λ t. t.items) c.args.channels.items in
+    let channels : List (List ℕ) = c.args.channels.items in
     let remove : List (List ℕ) = map (λ t. t.items) c.args.remove.items in
     let same = terms-are m channels c.args.keep.items c.args.anonymous.items c.args.shift remove c.requires.channels c.requires.keep c.requires.anonymous c.requires.shift c.requires.remove in
     rw (to_z-of_z fits) (subst (λ (t : Terms). IsClaim t) (sym same) (said-sound m (terms_of m) (table-says m c.requires.passed)), c.requires.sorted)
@@ -19,5 +19,5 @@ invariant_of-result c =
 pub returns : goal.returns
 returns c =
     let fits : SFits w64 c.args.shift = c.ranges.shift in
-    rw (to_z-of_z fits) (terms-are (table_view c.args._table.now) (map (λ t. t.items) c.args.channels.items) c.args.keep.items c.args.anonymous.items c.args.shift (map (λ t. t.items) c.args.remove.items)
+    rw (to_z-of_z fits) (terms-are (table_view c.args._table.now) c.args.channels.items c.args.keep.items c.args.anonymous.items c.args.shift (map (λ t. t.items) c.args.remove.items)
     c.requires.channels c.requires.keep c.requires.anonymous c.requires.shift c.requires.remove)

@@ -1,6 +1,6 @@
 //! A run that refuses its claim: it says why, and writes nothing.
 
-use crate::run::{RunStop, run};
+use edf_check::run::{RunStop, run};
 use edf_claim::stop::ClaimStop;
 use edf_fields::sink::SliceSink;
 use edf_fields::source::SliceSource;
