@@ -1,13 +1,11 @@
 -- The time of a text, as a relation and as a function.
-use Rattle.std.proofs.Common.{◌≡◌, ℕ, suc, ℤ, Bool, true, false, not, [], ◌∷◌, ◌^◌, ◌*◌, ◌-◌, ◌<◌, ◌≤◌, ◌≤ℤ◌, ◌<ℤ◌, lit<, List, length, drop, arith, refl, ap, ◌∙◌, sym, Option, Some, None, MatchOption, nat_le, nat_lt, ◌&&◌, ◌||◌, cond, pos, unsigned_abs, subst, take_all, le-ltb, eqb-true, true≢false}
-use Rattle.std.specs.List.{list_all, position_or_len}
-use Rattle.std.proofs.lemmas.Bool.{false_from_ne_true}
-use Rattle.std.proofs.Math.ListN.{drop_of_length-le}
+use Rattle.std.proofs.Common.{◌≡◌, ℕ, ℤ, Bool, true, false, not, [], ◌∷◌, ◌^◌, ◌*◌, ◌-◌, ◌<◌, ◌≤◌, ◌≤ℤ◌, ◌<ℤ◌, lit<, List, length, drop, arith, refl, ap, ◌∙◌, sym, Option, Some, None, MatchOption, nat_le, nat_lt, ◌&&◌, ◌||◌, cond, pos, unsigned_abs, subst}
+use Rattle.std.specs.List.{list_all}
 use Rattle.std.proofs.lemmas.Bool.Decides.{nat_tests}
 use Rattle.std.proofs.lemmas.Grind.{common_steps}
 use Rattle.std.proofs.lemmas.Int.{ints}
 use Rattle.std.proofs.Math.Nat.{pow-le-pow_right}
-use Rattle.edf_fields.specs.Numbers.{AreDigits, is_digit, is_dot, weight, signed, has_minus, before_dot, behind_dot}
+use Rattle.edf_fields.specs.Numbers.{AreDigits, is_digit, weight, signed, has_minus, before_dot, behind_dot}
 use Rattle.edf_fields.specs.Onsets.{without_leading_zeros, without_trailing_zeros, has_dot, has_sign, AreSeconds, IsFraction, IsTime, time_of, SpellsOnset, SpellsSpan, are_seconds, is_fraction, is_time, onset_of, span_of, OnsetIsSpelled, SpanIsSpelled}
 use Rattle.edf_fields.proofs.DigitFacts.{below_power}
 use Rattle.edf_fields.proofs.NumberFacts.{digits_tested, tested_digits}
@@ -32,25 +30,6 @@ fraction_read f h few = (digits_trailing f h, few)
 pub dot_stands : (u : List ℕ) → has_dot u ≡ nat_lt (length (before_dot u)) (length u)
 dot_stands [] = refl
 dot_stands (c ∷ cs) = grind (arith, nat_tests, common_steps, dot_stands cs)
-
--- digits have no dot among them
-digits_alone : (u : List ℕ) → AreDigits u → position_or_len is_dot u ≡ length u
-digits_alone [] h = refl
-digits_alone (c ∷ cs) h =
-    let low = (h 0 (omega arith)).0 in
-    let other : is_dot c ≡ false = false_from_ne_true _ (λ holds. omega (arith, eqb-true c 46 holds, low)) in
-    rw other (omega (arith, digits_alone cs (λ k lt. h (suc k) (omega arith))))
-
--- seconds with no dot are a time
-pub whole_time : (u : List ℕ) → AreSeconds u → IsTime u × (time_of u ≡ weight (without_leading_zeros u) * 10 ^ 12)
-whole_time u h =
-    let none = digits_alone u h.0 in
-    let front : before_dot u ≡ u = take_all _ u (omega (arith, none)) in
-    let back : behind_dot u ≡ [] = drop_of_length-le u (omega (arith, none)) in
-    let dotless : has_dot u ≡ false = dot_stands u ∙ ap (λ w. nat_lt (length w) (length u)) front ∙ le-ltb (length u) (length u) (omega arith) in (
-      (subst AreSeconds (sym front) h, subst IsFraction (sym back) (λ k lt. absurd (omega (arith, lt)), omega arith), λ dot. absurd (true≢false (sym dot ∙ dotless))),
-      rw (front, back) (omega arith),
-    )
 
 -- both tests
 both : (a b : Bool) → a ≡ true → b ≡ true → (a && b) ≡ true

@@ -64,15 +64,37 @@ fn whole_seconds(bytes: &[u8]) -> Option<u64>
     digits(rest)
 }
 
+/// Ten to the power of this exponent.
+fn power_of_ten(exponent: usize) -> u64
+    requires { exponent ≤ 12 }
+    ensures { result ≡ 10 ^ exponent }
+{
+    match exponent {
+        0 => 1,
+        1 => 10,
+        2 => 100,
+        3 => 1_000,
+        4 => 10_000,
+        5 => 100_000,
+        6 => 1_000_000,
+        7 => 10_000_000,
+        8 => 100_000_000,
+        9 => 1_000_000_000,
+        10 => 10_000_000_000,
+        11 => 100_000_000_000,
+        _ => 1_000_000_000_000,
+    }
+}
+
 /// `fraction`, which has that many decimal places, in picoseconds.
 #[tactic(auto, using(crate::proofs::ZeroFacts::fraction_under))]
-fn in_picoseconds(fraction: u64, places: u32) -> u64
+fn in_picoseconds(fraction: u64, places: usize) -> u64
     requires places { places ≤ 12 }
     requires fraction { fraction < 10 ^ places }
     ensures value { result ≡ fraction * 10 ^ (12 - places) }
     ensures small { result < 10 ^ 12 }
 {
-    fraction * 10u64.pow(12 - places)
+    fraction * power_of_ten(12 - places)
 }
 
 /// The picoseconds that the digits behind a dot spell; none where a byte is no digit, and where
@@ -89,12 +111,12 @@ fn fraction_picoseconds(bytes: &[u8]) -> Option<u64>
         return None;
     }
     let fraction = digits(front)?;
-    Some(in_picoseconds(fraction, front.len() as u32))
+    Some(in_picoseconds(fraction, front.len()))
 }
 
-/// The time that a text with no sign spells, which may have a dot, as `time`.
+/// The time that a text with no sign spells, in picoseconds; none where it spells none.
 #[tactic(auto, using(crate::proofs::OnsetFacts::dot_stands))]
-fn time_with_dot(text: &[u8]) -> Option<u128>
+fn time(text: &[u8]) -> Option<u128>
     ensures { MatchOption result (¬ IsTime text.now)
         (λ v. IsTime text.now × (v ≡ time_of text.now) × (v < 10 ^ 21)) }
 {
@@ -105,18 +127,6 @@ fn time_with_dot(text: &[u8]) -> Option<u128>
     let seconds = whole_seconds(whole)?;
     let picoseconds = fraction_picoseconds(fraction)?;
     Some(u128::from(seconds) * 1_000_000_000_000 + u128::from(picoseconds))
-}
-
-/// The time that a text with no sign spells, in picoseconds; none where it spells none. Most texts are whole
-/// seconds.
-fn time(text: &[u8]) -> Option<u128>
-    ensures { MatchOption result (¬ IsTime text.now)
-        (λ v. IsTime text.now × (v ≡ time_of text.now) × (v < 10 ^ 21)) }
-{
-    match whole_seconds(text) {
-        Some(seconds) => Some(u128::from(seconds) * 1_000_000_000_000),
-        None => time_with_dot(text),
-    }
 }
 
 /// Whether a minus stands in front, and what stands behind the sign; none where no sign does.

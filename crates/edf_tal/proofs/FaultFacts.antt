@@ -1,5 +1,5 @@
 -- The first fault of a lane, in words and as it is read.
-use Rattle.std.proofs.Common.{◌≡◌, ◌≢◌, ℕ, suc, ℤ, ◌+◌, ◌-◌, ◌<◌, ◌==◌, ◌&&◌, true, false, cond, List, [], ◌∷◌, ◌++◌, map, length, take, get_or, Option, Some, None, Result, Ok, Err, inl, inr, refl, sym, ap, ◌∙◌, subst, arith, append_assoc, length-append, eqb-true, lt-ltb, le-ltb, true≢false}
+use Rattle.std.proofs.Common.{◌≡◌, ◌≢◌, ℕ, suc, ℤ, ◌+◌, ◌-◌, ◌<◌, ◌==◌, ◌&&◌, true, false, cond, List, [], ◌∷◌, ◌++◌, map, length, get_or, Option, Some, None, Result, Ok, Err, inl, inr, refl, sym, ap, ◌∙◌, subst, arith, append_assoc, length-append, eqb-true, lt-ltb, le-ltb, true≢false}
 use Rattle.std.specs.Prelude.{IsUtf8}
 use Rattle.std.specs.List.{position_or_len, list_any, onto_first}
 use Rattle.std.specs.Option.{ok_or}
@@ -14,7 +14,7 @@ use Rattle.edf_fields.specs.declared.cause.TalCause.TheVariants.{BadOnset, BadDu
 use Rattle.edf_tal.specs.Tals.{TalValue, AreTexts, is_control, ended, are_zeros}
 use Rattle.edf_tal.specs.Reading.{Item, until, behind, pieces, closed, texts_of, duration_of, judge_text, judge_texts, IsClosed, onto, tal_of, tal_of_parts, items_of, ◌then◌}
 use Rattle.edf_tal.specs.Faults.{Lacks, BeginsWith, SpellsHead, FirstBadText, HasFault, FaultAfter}
-use Rattle.edf_tal.proofs.TextFacts.{closed-cons, not_utf8, has_control, is_fine, judged-bad, judged-more}
+use Rattle.edf_tal.proofs.TextFacts.{closed-cons, not_utf8, has_control, is_fine, judged-bad, judged-more, until-more}
 use Rattle.edf_tal.proofs.LaneFacts.{items_of-nil, items_of-zero, items_of-endless, items_of-tal, spelled-texts_of, judged-ok, closed_cut, closed_after, first-not_nil, open_piece, position-le}
 use Rattle.edf_tal.proofs.ReadFacts.{before-lacks, after-lacks, position-lacks, split-lacks, lacks-text, onset-lacks, duration-read, last-is, tal-lacks, tal-some, tal-read, items_of-front}
 use Rattle.edf_tal.proofs.LawFacts.{head-spelled, parted, onto-ok, tal-spelled, lane-cases}
@@ -78,9 +78,6 @@ bad-read (t ∷ ts) text after cause good l bad =
     ∙ bad-read ts text after cause good.1 l bad
 
 -- ---- what a lane begins with
-
-until-more : (c b : ℕ) (bytes : List ℕ) → (b == c) ≡ false → until c (b ∷ bytes) ≡ b ∷ until c bytes
-until-more c b bytes f = rw f (ap (λ n. take n (b ∷ bytes)) (let e : 1 + position_or_len (λ x. x == c) bytes ≡ suc (position_or_len (λ x. x == c) bytes) = omega arith in e))
 
 until-lacks : (c : ℕ) (bytes : List ℕ) → Lacks c (until c bytes)
 until-lacks c [] = tt

@@ -1,10 +1,13 @@
 -- Texts, cut at the byte 20 and judged one by one.
-use Rattle.std.proofs.Common.{◌≡◌, ℕ, ◌<◌, ◌-◌, ◌==◌, List, [], ◌∷◌, length, refl, sym, subst, ◌∙◌, ap, arith, true, false}
+use Rattle.std.proofs.Common.{◌≡◌, ℕ, zero, suc, ◌+◌, ◌<◌, ◌≤◌, ◌-◌, ◌==◌, get_or, eqb-true, inl, inr, List, [], ◌∷◌, length, take, drop, refl, sym, ◌∙◌, ap, arith, true, false, not, ◌&&◌}
 use Rattle.std.specs.List.{position_or_len, count_by}
 use Rattle.std.proofs.lemmas.List.Splits.{slice_split_first, slice_split_none, length-slice_split}
 use Rattle.std.proofs.lemmas.List.Sums.{fails_before_first}
-use Rattle.std.proofs.lemmas.Str.{IsUtf8-nil, IsUtf8-from_is_utf8, is_utf8-from_IsUtf8}
-use Rattle.std.proofs.lemmas.Bool.{false_from_ne_true}
+use Rattle.std.proofs.lemmas.Str.{IsUtf8-from_is_utf8, is_utf8-from_IsUtf8, IsUtf8-take, IsUtf8-drop, IsCharBoundary-before_ascii, IsCharBoundary-after_ascii}
+use Rattle.std.proofs.lemmas.Bool.{cases_Bool, cases_lt, false_from_ne_true, or_parts}
+use Rattle.std.proofs.Math.Bool.{and-true}
+use Rattle.std.proofs.lemmas.Bool.Decides.{nat_tests}
+use Rattle.std.proofs.lemmas.Grind.{common_steps}
 use Rattle.std.specs.Str.{IsUtf8, is_utf8}
 use Rattle.std.specs.List.{list_any}
 use Rattle.std.specs.Prelude.{Ok, Err, Option, Some, None, MatchOption}
@@ -13,7 +16,7 @@ use Rattle.std.proofs.Common.{length-drop}
 use Rattle.edf_fields.specs.declared.cause.TalCause.{TalCause}
 use Rattle.edf_fields.specs.declared.cause.TalCause.TheVariants.{NotUtf8, ControlByte}
 use Rattle.edf_tal.specs.Tals.{is_control}
-use Rattle.edf_tal.specs.Reading.{until, behind, pieces, closed, texts_of, judge_texts, judge_text, IsClosed}
+use Rattle.edf_tal.specs.Reading.{until, behind, pieces, closed, texts_of, judge_texts, judge_text, is_foreign}
 
 pub closed-cons : (x : List ℕ) (parts : List (List ℕ)) → 0 < length parts → closed (x ∷ parts) ≡ x ∷ closed parts
 closed-cons x [] h = absurd (omega arith)
@@ -66,12 +69,64 @@ ends_counted bs =
     let parts = length-slice_split (λ b. b == 20) bs in
     omega (arith, closed-ones, parts)
 
--- a single byte, which ends a text
-pub lone_end : (bs : List ℕ) → length bs ≡ 1 → IsClosed bs → judge_texts (texts_of bs) ≡ Ok tt
-lone_end [] e closes = absurd (omega (arith, e))
-lone_end (b ∷ c ∷ more) e closes = absurd (omega (arith, e))
-lone_end (b ∷ []) e closes =
-    let same : 20 ≡ b = sym (closes (omega arith)) in
-    let fine : judge_text [] ≡ Ok tt = is_fine [] IsUtf8-nil refl in
-    let P : ℕ → Type 0 = λ x. judge_texts (texts_of (x ∷ [])) ≡ Ok tt in
-    subst P same (judged-more [] [] fine)
+-- ---- texts among which no control byte stands but those that end one
+
+-- a byte that isn't looked for, in front
+pub until-more : (c b : ℕ) (bytes : List ℕ) → (b == c) ≡ false → until c (b ∷ bytes) ≡ b ∷ until c bytes
+until-more c b bytes f = rw f (ap (λ n. take n (b ∷ bytes)) (let e : 1 + position_or_len (λ x. x == c) bytes ≡ suc (position_or_len (λ x. x == c) bytes) = omega arith in e))
+
+behind-more : (c b : ℕ) (bytes : List ℕ) → (b == c) ≡ false → behind c (b ∷ bytes) ≡ behind c bytes
+behind-more c b bytes f = rw f (ap (λ n. drop n (b ∷ bytes)) (let e : 1 + position_or_len (λ x. x == c) bytes + 1 ≡ suc (position_or_len (λ x. x == c) bytes + 1) = omega arith in e))
+
+-- none in the first of them
+clean_first : (bs : List ℕ) → list_any is_foreign bs ≡ false → list_any is_control (until 20 bs) ≡ false
+clean_first [] h = refl
+clean_first (b ∷ bs) h = elim (cases_Bool (b == 20)) [
+  | inl holds ↦ rw holds refl
+  | inr other ↦
+      let parts = or_parts (is_foreign b) (list_any is_foreign bs) h in
+      let here : is_control b ≡ false = sym (and-true (is_control b)) ∙ ap (λ t. is_control b && not t) (sym other) ∙ parts.0 in
+      ap (list_any is_control) (until-more 20 b bs other) ∙ rw here (clean_first bs parts.1)
+]
+
+-- nor in the others
+clean_rest : (bs : List ℕ) → list_any is_foreign bs ≡ false → list_any is_foreign (behind 20 bs) ≡ false
+clean_rest [] h = refl
+clean_rest (b ∷ bs) h =
+    let parts = or_parts (is_foreign b) (list_any is_foreign bs) h in
+    elim (cases_Bool (b == 20)) [
+      | inl holds ↦ let same : behind 20 (b ∷ bs) ≡ bs = rw holds refl in ap (list_any is_foreign) same ∙ parts.1
+      | inr other ↦ ap (list_any is_foreign) (behind-more 20 b bs other) ∙ clean_rest bs parts.1
+    ]
+
+-- where the first of them ends
+ends_within : (bs : List ℕ) → position_or_len (λ b. b == 20) bs ≤ length bs
+ends_within [] = omega arith
+ends_within (c ∷ cs) = grind (arith, nat_tests, common_steps, ends_within cs)
+
+at_end : (bs : List ℕ) → position_or_len (λ b. b == 20) bs < length bs → get_or bs (position_or_len (λ b. b == 20) bs) 0 ≡ 20
+at_end [] h = absurd (omega (arith, h))
+at_end (c ∷ cs) h = elim (cases_Bool (c == 20)) [
+  | inl holds ↦ rw holds (eqb-true c 20 holds)
+  | inr other ↦
+      let place : position_or_len (λ b. b == 20) (c ∷ cs) ≡ suc (position_or_len (λ b. b == 20) cs) = rw other (omega arith) in
+      ap (λ k. get_or (c ∷ cs) k 0) place ∙ at_end cs (omega (arith, h, place))
+]
+
+-- texts that are UTF-8 together are each of the profile, where no other control byte stands among them
+fine_within : (n : ℕ) (bs : List ℕ) → length bs < n → IsUtf8 bs → list_any is_foreign bs ≡ false → judge_texts (texts_of bs) ≡ Ok tt
+fine_within zero bs few utf8 clean = absurd (omega (arith, few))
+fine_within (suc n) bs few utf8 clean = elim (cases_lt (position_or_len (λ b. b == 20) bs) (length bs)) [
+  | inl inside ↦
+      let k : ℕ = position_or_len (λ b. b == 20) bs in
+      let ascii : get_or bs k 0 < 128 = omega (arith, at_end bs inside) in
+      let first = IsUtf8-take bs k utf8 (IsCharBoundary-before_ascii bs k inside ascii) in
+      let rest = IsUtf8-drop bs (k + 1) utf8 (IsCharBoundary-after_ascii bs k utf8 inside ascii) in
+      ap judge_texts (texts_of-first bs inside)
+      ∙ judged-more (until 20 bs) (texts_of (behind 20 bs)) (is_fine (until 20 bs) first (clean_first bs clean))
+      ∙ fine_within n (behind 20 bs) (omega (arith, few, length-drop (k + 1) bs)) rest (clean_rest bs clean)
+  | inr outside ↦ ap judge_texts (texts_of-none bs (omega (arith, outside, ends_within bs)))
+]
+
+pub fine_together : (bs : List ℕ) → IsUtf8 bs → list_any is_foreign bs ≡ false → judge_texts (texts_of bs) ≡ Ok tt
+fine_together bs utf8 clean = fine_within (suc (length bs)) bs (omega arith) utf8 clean

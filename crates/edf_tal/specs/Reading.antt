@@ -1,5 +1,5 @@
 -- What a lane gives to a reader that goes from the left: its TALs, and the first cause why it isn't one.
-use Rattle.std.specs.Prelude.{◌≡◌, ℕ, ◌-◌, ◌<◌, Bool, true, false, ◌==◌, nat_lt, ◌&&◌, ℤ, List, [], ◌∷◌, length, drop, slice_index, Option, Some, None, Result, Ok, Err, if◌then◌else◌}
+use Rattle.std.specs.Prelude.{◌≡◌, ℕ, ◌-◌, ◌<◌, Bool, true, false, not, ◌==◌, nat_lt, ◌&&◌, ℤ, List, [], ◌∷◌, length, drop, slice_index, Option, Some, None, Result, Ok, Err, if◌then◌else◌}
 use Rattle.std.specs.List.{slice_split, before_first, after_first, position_or_len, list_any, list_all}
 use Rattle.std.specs.Option.{ok_or}
 use Rattle.std.specs.Str.{is_utf8}
@@ -46,6 +46,10 @@ texts_of body = closed (pieces 20 body)
 -- a text is none of the profile: first its encoding is looked at, then its control bytes
 abbrev pub judge_text : List ℕ → Result (Unit {0}) TalCause
 judge_text text = if is_utf8 text then (if list_any is_control text then Err ControlByte else Ok tt) else Err NotUtf8
+
+-- a control byte that ends no text
+abbrev pub is_foreign : ℕ → Bool
+is_foreign b = is_control b && not (b == 20)
 
 -- text by text
 abbrev pub judge_texts : List (List ℕ) → Result (Unit {0}) TalCause

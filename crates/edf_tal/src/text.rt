@@ -3,7 +3,7 @@
 ghost use Rattle.std.specs.Prelude.{◌≡◌, ◌<◌, ◌∷◌, [], length, Ok, Err, MatchOption, MatchResult};
 ghost use Rattle.std.specs.List.{list_any};
 ghost use Rattle.edf_tal.specs.Tals.{is_control};
-ghost use Rattle.edf_tal.specs.Reading.{texts_of, judge_text, judge_texts, IsClosed};
+ghost use Rattle.edf_tal.specs.Reading.{texts_of, judge_text, judge_texts, is_foreign, IsClosed};
 
 use crate::separator::cut;
 use crate::texts::Texts;
@@ -12,11 +12,25 @@ use edf_fields::cause::TalCause;
 /// The byte that ends a text.
 pub(crate) const END: u8 = 20;
 
-/// Whether a control byte other than 9, 10 and 13 stands among the bytes.
+/// Whether a byte is a control byte other than 9, 10 and 13.
+fn is_control(byte: u8) -> bool
+    ensures { result ≡ is_control byte }
+{
+    byte < 32 && !(byte == 9 || byte == 10 || byte == 13)
+}
+
+/// Whether one of them stands among the bytes.
 fn has_control(bytes: &[u8]) -> bool
     ensures { result ≡ list_any is_control bytes.now }
 {
-    bytes.iter().any(|byte| *byte < 32 && !(*byte == 9 || *byte == 10 || *byte == 13))
+    bytes.iter().any(|byte| is_control(*byte))
+}
+
+/// Whether one of them stands among the bytes that doesn't end a text.
+fn has_foreign(body: &[u8]) -> bool
+    ensures { result ≡ list_any is_foreign body.now }
+{
+    body.iter().any(|byte| is_control(*byte) && *byte != END)
 }
 
 /// The first text, and what stands behind it.
@@ -70,8 +84,8 @@ fn judge_utf8(body: &str) -> Result<(), TalCause>
     Ok(())
 }
 
-/// The texts' part of a TAL as one text, or the first fault of the texts. Its encoding is checked once,
-/// for all of them together.
+/// The texts' part of a TAL as one text, or the first fault of the texts. Its encoding is checked once, for all
+/// of them together, and so are their control bytes; only where one stands there the texts are gone through.
 pub(crate) fn checked(body: &[u8]) -> Result<&str, TalCause>
     requires { IsClosed body.now }
     ensures { MatchResult result
@@ -79,8 +93,7 @@ pub(crate) fn checked(body: &[u8]) -> Result<&str, TalCause>
         (λ cause. judge_texts (texts_of body.now) ≡ Err cause) }
 {
     match simdutf8::basic::from_utf8(body) {
-        // no more than the empty text that keeps the time, as in most data records
-        Ok(text) if body.len() == 1 => Ok(text),
+        Ok(text) if !has_foreign(body) => Ok(text),
         Ok(text) => match judge_utf8(text) {
             Ok(()) => Ok(text),
             Err(cause) => Err(cause),
