@@ -1,5 +1,6 @@
 pub mod Records
 pub mod Notes
+pub mod Texts
 pub mod Starts
 pub mod Faults
 pub mod Conforming

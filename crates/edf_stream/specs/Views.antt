@@ -1,5 +1,5 @@
 -- What the code's values say, in the words of the definitions.
-use Rattle.std.specs.Prelude.{◌≡◌, ℕ, ℤ, pos, ◌≤◌, ◌<◌, ◌+ℤ◌, ◌^◌, ◌*◌, ◌-◌, min, MatchResult, IsTrue, unsigned_abs, List, [], ◌++◌, map, length, Option, Some, None, Result, Ok, string_bytes}
+use Rattle.std.specs.Prelude.{◌≡◌, ℕ, ℤ, pos, ◌≤◌, ◌<◌, ◌+ℤ◌, ◌^◌, ◌*◌, ◌-◌, min, MatchResult, IsTrue, unsigned_abs, List, [], ◌++◌, map, length, Option, Some, None, Result, Ok}
 use Rattle.edf_fields.specs.declared.cause.TalCause.{TalCause}
 use Rattle.edf_fields.specs.Parts.{part}
 use Rattle.edf_header.specs.declared.lane_place.LanePlace.{LanePlace}
@@ -79,7 +79,7 @@ note_view note = record { onset = note.onset; duration = note.duration; text = n
 
 -- an annotation with a text of its own
 abbrev pub note_value : Note → NoteValue
-note_value note = record { onset = note.onset; duration = note.duration; text = string_bytes note.text }
+note_value note = record { onset = note.onset; duration = note.duration; text = note.text }
 
 -- the onset of an annotation of any file, whatever its source, is less than 2^80 ps from 1970
 abbrev pub IsNear : Note → Type 0

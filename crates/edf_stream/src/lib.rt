@@ -12,6 +12,7 @@ pub mod laws;
 pub mod meaning;
 pub mod note;
 pub mod notes;
+pub mod own_text;
 mod read_record;
 pub mod reader;
 mod record;

@@ -8,7 +8,9 @@ ghost use Rattle.edf_stream.specs.Views.{note_view, note_value, notes_left, IsNe
 
 use crate::annotations::Annotations;
 use crate::note::NoteRef;
+use crate::own_text::OwnText;
 use std::alloc::{AllocError, Global};
+use std::mem::size_of;
 
 /// An annotation with a text of its own. Annotations are ordered by their onset, then by their duration,
 /// none before any, then by the bytes of their texts.
@@ -19,8 +21,11 @@ pub struct Note {
     /// The duration in picoseconds, where it has one.
     pub duration: Option<i128>,
     /// The text.
-    pub text: String,
+    pub text: OwnText,
 }
+
+// A check holds all annotations that count, of which a file has up to 1,000,000.
+const _: () = prove!(size_of::<Note>() == 80);
 
 impl Note {
     /// The annotation, in a file that starts at `start_ps`.
@@ -32,12 +37,13 @@ impl Note {
         Ok(Note {
             onset: start_ps + note.onset,
             duration: note.duration,
-            text: String::from_str(alloc, note.text)?,
+            text: OwnText::new(alloc, note.text)?,
         })
     }
 }
 
 /// Puts an annotation behind `notes`, in a file that starts at `start_ps`.
+#[tactic(auto, using(crate::proofs::ListFacts::near_more))]
 fn push_note(
     alloc: Global,
     notes: &mut Vec<Note>,
