@@ -1,5 +1,5 @@
 -- The comparison of two lists of annotations in order is exact.
-use Rattle.std.proofs.Common.{Ordering, Less, Equal, Greater, ◌≡◌, ◌≢◌, ℕ, suc, ◌<◌, ◌+◌, Bool, true, false, cond, List, [], ◌∷◌, get_or, map, Option, Some, None, MatchOption, inl, inr, ⊎_elim, refl, sym, ap, ◌∙◌, subst, arith}
+use Rattle.std.proofs.Common.{Ordering, Less, Equal, Greater, ◌≡◌, ◌≢◌, ℕ, suc, ◌≤◌, ◌<◌, ◌+◌, ◌⊎◌, Bool, true, false, cond, List, [], ◌∷◌, get_or, length, map, Option, Some, None, MatchOption, inl, inr, ⊎_elim, refl, sym, ap, ◌∙◌, subst, arith}
 use Rattle.std.specs.List.Sorted.{IsSorted, IsPermutation}
 use Rattle.std.specs.Ordering.{is_eq, is_lt, ordering_reverse}
 use Rattle.std.proofs.lemmas.Cmp.{tied_itself}
@@ -150,3 +150,15 @@ counted kept sorted exported ordered o p q up on e =
           differ = more-with d.mismatch (times (map note_value sorted) d.note) (times (map note_value ordered) d.note) 0 (times (map note_value kept) d.note) (times (map note_value exported) d.note) (omega (arith, a)) (omega (arith, b)) h.differ;
           least = λ n l. counts-same kept sorted p n ∙ (h.least n l ∙ sym (counts-same exported ordered q n));
         }
+
+-- where one of two lists has ended, the difference is what stands first in the other
+pub missing_first : (kept exported : List Note) (note : Note) → note ≡ get_or kept 0 note → 1 ≤ length kept → (length kept ≡ 0) ⊎ (length exported ≡ 0) → Some (record { mismatch = Missing; note = note_value note }) ≡ first_unequal_of (map note_value kept) (map note_value exported)
+missing_first [] exported note is some ended = absurd (omega (arith, some))
+missing_first (x ∷ xs) [] note is some ended = ap (λ (n : Note). first_unequal_of (note_value n ∷ []) []) is
+missing_first (x ∷ xs) (y ∷ ys) note is some (inl e) = absurd (omega (arith, e))
+missing_first (x ∷ xs) (y ∷ ys) note is some (inr e) = absurd (omega (arith, e))
+
+pub extra_first : (kept exported : List Note) (note : Note) → note ≡ get_or exported 0 note → 1 ≤ length exported → length kept < 1 → Some (record { mismatch = Extra; note = note_value note }) ≡ first_unequal_of (map note_value kept) (map note_value exported)
+extra_first [] [] note is some none = absurd (omega (arith, some))
+extra_first [] (y ∷ ys) note is some none = ap (λ (n : Note). first_unequal_of [] (note_value n ∷ [])) is
+extra_first (x ∷ xs) exported note is some none = absurd (omega (arith, none))

@@ -13,6 +13,7 @@ use edf_stream::annotations::Annotations;
 use edf_stream::grid::file_start_ps;
 use edf_stream::note::NoteRef;
 use edf_stream::notes::Note;
+use edf_stream::own_text::OwnText;
 use edf_stream::reader::FileReader;
 use std::alloc::{AllocError, Global};
 
@@ -50,7 +51,7 @@ fn push_counted(
         notes.push(Note {
             onset,
             duration: note.duration,
-            text: String::from_str(alloc, note.text)?,
+            text: OwnText::new(alloc, note.text)?,
         })?;
     }
     Ok(())

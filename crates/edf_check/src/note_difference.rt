@@ -40,6 +40,7 @@ fn order(x: &Note, y: &Note) -> Ordering
 }
 
 /// The annotation that two lists don't have equally often, where one of them at least has ended.
+#[tactic(auto, using(crate::proofs::NoteOrderFacts::missing_first, crate::proofs::NoteOrderFacts::extra_first))]
 fn unequal_of_ends<'a>(kept: &'a [Note], exported: &'a [Note]) -> Option<Unequal<'a>>
     requires { (length kept.now ≡ 0) ⊎ (length exported.now ≡ 0) }
     ensures { option_map unequal_view result ≡ first_unequal_of (map note_value kept.entry.now) (map note_value exported.entry.now) }
