@@ -1,6 +1,6 @@
 //! The text of an annotation, where the annotation stands by itself.
 
-ghost use Rattle.std.specs.Prelude.{◌≡◌, IfOk, Some, refl};
+ghost use Rattle.std.specs.Prelude.{◌≡◌, ◌≤◌, length, IfOk, IsOk, Some, refl};
 ghost use Rattle.std.specs.Cmp.Lexicographic.{slice_cmp, nat_list_cmp_total, texts_po, texts_ties};
 ghost use Rattle.std.specs.Cmp.Rules.{comparing};
 ghost use Rattle.std.specs.Ordering.{nat_cmp};
@@ -41,9 +41,10 @@ impl Model for OwnText {
 impl OwnText {
     /// A copy of a text.
     ///
-    /// The error is want of memory.
+    /// The error is want of memory, of which a text of at most 16 bytes takes none.
     pub fn new(alloc: Global, text: &str) -> Result<OwnText, AllocError>
-        ensures { IfOk result (λ t. t ≡ text.now) }
+        ensures value { IfOk result (λ t. t ≡ text.now) }
+        ensures short { length text.now ≤ 16 → IsOk result }
     {
         let kept = match ArrayString::from(text) {
             Ok(short) => Kept::Inline(short),
