@@ -12,6 +12,7 @@ use edf_header::layout::{FixedField as Fixed, SignalField as Field};
 use edf_header::stop::Stop;
 use edf_stream::meaning::{Meaning, whole_meaning};
 use edf_stream::notes::Note;
+use edf_stream::own_text::OwnText;
 use edf_stream::reader::FileReader;
 use edf_stream::sample::Sample;
 use std::alloc::{AllocError, Global};
@@ -362,7 +363,7 @@ fn note_of(alloc: Global, row: &NoteRow) -> Result<Note, AllocError> {
     Ok(Note {
         onset: *onset,
         duration: *duration,
-        text: String::from_str(alloc, text)?,
+        text: OwnText::new(alloc, text)?,
     })
 }
 

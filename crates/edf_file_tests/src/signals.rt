@@ -23,6 +23,14 @@ const CUP: &str = "cup";
 
 const TEXTS: Texts = [CUP, "uV", "HP:1Hz", ""];
 
+/// Texts that fill their fields.
+const FULL: Texts = [
+    "AgAgCl cup electrode, left mastoid, AgAgCl cup electrode, left mastoid, AgAgCl 1",
+    "uV x 100",
+    "HP:0.1Hz LP:75Hz N:50Hz, HP:0.1Hz LP:75Hz N:50Hz, HP:0.1Hz LP:75Hz N:50Hz, HP:02",
+    "reserved for the next, reserved3",
+];
+
 const SPELLED: Spelled = ["-100", "100", "-2048", "2047"];
 
 const EXTREMES: Extremes = (-1_000_000_000, 1_000_000_000, -2048, 2047);
@@ -43,8 +51,8 @@ const MOST: Spelled = ["-100", "100", "-2048", "2048"];
 
 const MOST_EXTREMES: Extremes = (-1_000_000_000, 1_000_000_000, -2048, 2048);
 
-/// Labels and what the signals say: each but `the same` differs in one thing from the one before, or in where
-/// one text ends and the next begins.
+/// Labels and what the signals say: each but `the same` and the last one, whose texts fill their fields, differs
+/// in one thing from the one before, or in where one text ends and the next begins.
 const ROWS: &[(&str, Texts, Spelled, Extremes)] = &[
     ("the first", TEXTS, SPELLED, EXTREMES),
     ("the same", TEXTS, SPELLED, EXTREMES),
@@ -80,7 +88,7 @@ const ROWS: &[(&str, Texts, Spelled, Extremes)] = &[
         SPELLED,
         EXTREMES,
     ),
-    ("and of 16 bytes.", TEXTS, SPELLED, EXTREMES),
+    ("and of 16 bytes.", FULL, SPELLED, EXTREMES),
 ];
 
 /// By their numbers in the reference file.

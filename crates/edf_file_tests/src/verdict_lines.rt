@@ -4,6 +4,7 @@
 use crate::file::{Done, Edit};
 use crate::headers::{Built, claim, read};
 use crate::record::recorded;
+use crate::whole::line_of_whole;
 use edf_check::check::check;
 use edf_check::head_difference::head_difference;
 use edf_check::quote::push_quoted;
@@ -116,6 +117,7 @@ const CHANNELS: &[(Built<'static>, &str, &str)] = &[
         "[\"EEG Fpz-Cz\", \"ECG\", \"EMG\"]",
         "NO 3 unknown channel \"EMG\"\n",
     ),
+    ((ALL, &[]), "[\"\", \"ECG\"]", "NO 3 unknown channel \"\"\n"),
     (
         (ALL, &[]),
         "['\"', \"ECG\"]",
@@ -279,6 +281,37 @@ fn verdict_on(
     Ok(verdict)
 }
 
+/// The line of the same, by the check that has both files in memory.
+fn whole_line_on(
+    rt: &impl Abort,
+    alloc: Global,
+    original: File,
+    export: File,
+) -> Result<Vec<u8>, Fail> {
+    let original = recorded(alloc, original.0, original.1)?;
+    let export = recorded(alloc, export.0, export.1)?;
+    let claim = claim(alloc, rt, BOTH, "")?;
+    let mut original = SliceSource::new(&original);
+    let mut export = SliceSource::new(&export);
+    let line = line_of_whole(alloc, &mut original, &mut export, &claim)?;
+    Ok(line)
+}
+
+/// Asserts the line of both checks.
+fn assert_both(
+    rt: &impl Abort,
+    alloc: Global,
+    original: File,
+    export: File,
+    want: &str,
+) -> Result<(), Fail> {
+    let verdict = verdict_on(rt, alloc, original, export)?;
+    assert_line(rt, alloc, &verdict, want)?;
+    let line = whole_line_on(rt, alloc, original, export)?;
+    assert_eq!(rt; line.as_slice(), want.as_bytes());
+    Ok(())
+}
+
 const ONE: &[Edit<'static>] = &[(AtField(FixedField::Records), "1")];
 
 const TWO: &[Edit<'static>] = &[(AtField(FixedField::Records), "2")];
@@ -333,8 +366,7 @@ const SAMPLES: &[(File<'static>, File<'static>, &str)] = &[
 #[test]
 fn writes_samples(rt: HostRuntime) -> Result<(), Fail> {
     for (original, export, want) in SAMPLES {
-        let verdict = verdict_on(&rt, rt.alloc(), *original, *export)?;
-        assert_line(&rt, rt.alloc(), &verdict, want)?;
+        assert_both(&rt, rt.alloc(), *original, *export, want)?;
     }
     Ok(())
 }
@@ -386,8 +418,13 @@ const NOTES: &[(&[u8], &[u8], &str)] = &[
 #[test]
 fn writes_annotations(rt: HostRuntime) -> Result<(), Fail> {
     for (original, export, want) in NOTES {
-        let verdict = verdict_on(&rt, rt.alloc(), (ONE, &[*original]), (ONE, &[*export]))?;
-        assert_line(&rt, rt.alloc(), &verdict, want)?;
+        assert_both(
+            &rt,
+            rt.alloc(),
+            (ONE, &[*original]),
+            (ONE, &[*export]),
+            want,
+        )?;
     }
     Ok(())
 }
@@ -399,5 +436,15 @@ fn gives_the_text_of_an_annotation(rt: HostRuntime) -> Result<(), Fail> {
         return Err(Fail::new("no difference of annotations"));
     };
     assert_eq!(rt; text.as_str(), "Lights off");
+    Ok(())
+}
+
+#[test]
+fn equal_verdicts_are_equal(rt: HostRuntime) -> Result<(), Fail> {
+    let verdict = verdict_on(&rt, rt.alloc(), (ONE, &[FIRST]), (ONE, &[LIGHTS]))?;
+    let same = verdict_on(&rt, rt.alloc(), (ONE, &[FIRST]), (ONE, &[LIGHTS]))?;
+    assert!(rt; verdict == same);
+    let other = verdict_on(&rt, rt.alloc(), (ONE, &[FIRST]), (ONE, &[EMPTY]))?;
+    assert!(rt; verdict != other);
     Ok(())
 }

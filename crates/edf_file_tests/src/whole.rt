@@ -225,7 +225,7 @@ fn notes_of(
     for note in notes {
         let onset = note.onset.wrapping_add(by);
         let is_kept = match claim {
-            Some(claim) => claim.keeps_annotation(onset, &note.text),
+            Some(claim) => claim.keeps_annotation(onset, note.text.as_str()),
             None => true,
         };
         if is_kept {
@@ -273,7 +273,7 @@ fn note_line(
     };
     let words = format!(in alloc; "NO 11 annotation {mismatch} at {times} text ")?;
     let mut line = Vec::new(alloc);
-    push_with_quoted(&mut line, words.as_str(), note.text.as_bytes())?;
+    push_with_quoted(&mut line, words.as_str(), note.text.as_str().as_bytes())?;
     line.push(b'\n')?;
     Ok(line)
 }

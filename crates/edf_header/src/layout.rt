@@ -3,7 +3,7 @@
 
 ghost use Rattle.std.specs.Prelude.{◌≡◌, ◌+◌, ◌≤◌, ◌<◌, length, get_or};
 ghost use Rattle.edf_header.specs.declared.layout.SignalField.TheVariants.{Label};
-ghost use Rattle.edf_header.specs.Layout.{fixed_from, fixed_bytes, fixed_field as fixed_field_of, fixed_field_name, column_before, column_width, columns, signal_field_name};
+ghost use Rattle.edf_header.specs.Layout.{fixed_from, fixed_bytes, fixed_field as fixed_field_of, fixed_field_name, column_width, columns, signal_field_name};
 
 use edf_fields::number::part;
 
@@ -135,24 +135,22 @@ impl SignalField {
         }
     }
 
-    /// How many bytes of each signal stand in the columns before this one, and how many in it.
-    pub(crate) fn column(self) -> (usize, usize)
-        ensures before { result.0 ≡ column_before self }
-        ensures width { result.1 ≡ column_width self }
-        ensures within { result.0 + result.1 ≤ 256 }
-        ensures some { 8 ≤ result.1 }
+    /// How many bytes it has.
+    pub(crate) fn width(self) -> usize
+        ensures width { result ≡ column_width self }
+        ensures within { result ≤ 80 }
+        ensures some { 8 ≤ result }
     {
         match self {
-            SignalField::Label => (0, 16),
-            SignalField::Transducer => (16, 80),
-            SignalField::Dimension => (96, 8),
-            SignalField::PhysicalMinimum => (104, 8),
-            SignalField::PhysicalMaximum => (112, 8),
-            SignalField::DigitalMinimum => (120, 8),
-            SignalField::DigitalMaximum => (128, 8),
-            SignalField::Prefilter => (136, 80),
-            SignalField::Samples => (216, 8),
-            SignalField::Reserved => (224, 32),
+            SignalField::Label => 16,
+            SignalField::Transducer | SignalField::Prefilter => 80,
+            SignalField::Reserved => 32,
+            SignalField::Dimension
+            | SignalField::PhysicalMinimum
+            | SignalField::PhysicalMaximum
+            | SignalField::DigitalMinimum
+            | SignalField::DigitalMaximum
+            | SignalField::Samples => 8,
         }
     }
 

@@ -72,7 +72,7 @@ fn read_each<S: Source>(
     let count = usize::from(signals);
     let mut columns = Vec::with_capacity(alloc, fields.len())?;
     for field in fields {
-        let (_, width) = field.column();
+        let width = field.width();
         let bytes = next_bytes(alloc, source, width * count)?;
         if bytes.len() < width * count {
             return Err(Stop::Fault(cut_short(*field, width, bytes.len())));
