@@ -27,8 +27,9 @@ install: build
 check:
 	@cd crates && rt all check --jobs "$$(../tools/lanes.sh)"
 
-# The whole gate: all proofs, tests, must-fail edits and runs from nothing; then the built program where it
-# refuses, on the example night, and with each growth of memory refused in turn.
+# The whole gate: all proofs, tests, must-fail edits and runs; then the built program where it refuses, on the
+# example night, and with each growth of memory refused in turn. What it passed earlier on this machine isn't
+# proved again as long as nothing changes that it stands on.
 test:
 	@tools/gate.sh
 

@@ -1,8 +1,10 @@
 #!/usr/bin/env bash
-# The whole gate. First `rt ci`: all proofs, tests, must-fail edits and runs, from nothing. Then what the
-# crates cite of one another's proofs, and the program that it built: on command lines and files that it
-# refuses, on the example night, and with each growth of memory refused in turn. The last line is
-# 'N passed, M failed': that of `rt ci`, with one more for each of these four.
+# The whole gate. First `rt ci`: all proofs, tests, must-fail edits and runs; what it passed earlier on this
+# machine isn't proved again as long as nothing changes that it stands on. Then what the crates cite of one
+# another's proofs, and the program that it built: on command lines and files that it refuses, on the example
+# night, and with each growth of memory refused in turn. The last line is 'N passed, M failed': that of
+# `rt ci`, with one more for each of these four, and with a failure for each must-fail edit that says nothing
+# of a contract.
 #
 # usage: tools/gate.sh
 set -uo pipefail
@@ -35,6 +37,10 @@ failed=${BASH_REMATCH[2]}
 if [ "$status" -ne 0 ] && [ "$failed" -eq 0 ]; then
     failed=1
 fi
+
+# `rt ci` only tells of an edit that can't be applied, compiled or read
+bad=$(grep -c '^rt: .*: BAD EDIT: ' "$log")
+failed=$((failed + bad))
 
 # Runs a command, and counts it.
 counted() {

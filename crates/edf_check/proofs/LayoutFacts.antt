@@ -21,7 +21,7 @@ use Rattle.edf_check.specs.declared.track.Pair.{Pair}
 use Rattle.edf_check.specs.declared.track.Track.{Track}
 use Rattle.edf_check.specs.Differences.{first_difference_of}
 use Rattle.edf_check.specs.Earliest.{earliest}
-use Rattle.edf_check.specs.Layouts.{AreLaidAlike, AreAlike}
+use Rattle.edf_check.specs.Layouts.{AreLaidAlike, AreRecordsAlike}
 use Rattle.edf_check.specs.Stretches.{stretch_points}
 use Rattle.edf_check.specs.Windows.{sampled, since, until, points_at, Places, places_of, window_of, window_difference, IsTrack, ArePairs, shown_points, Covers}
 use Rattle.edf_check.proofs.ShownFacts.{covers_current, kept_all}
@@ -109,7 +109,7 @@ same-start n f a s f' a' s' e =
     let r : whole ≡ (f' +ℤ s') +ℤ a' = omega (arith, ints, e) in
     sym (scaled-sum n (f +ℤ s) a whole l) ∙ scaled-sum n (f' +ℤ s') a' whole r
 
-same-shown : (r s : Reader) (n : ℕ) (a b : ℤ) (pair : Pair) (x y : Track) → AreAlike r s n a b → AreLaidAlike r.head s.head n pair → pair.original ≡ Some x → pair.export ≡ Some y
+same-shown : (r s : Reader) (n : ℕ) (a b : ℤ) (pair : Pair) (x y : Track) → AreRecordsAlike r s n a b → AreLaidAlike r.head s.head n pair → pair.original ≡ Some x → pair.export ≡ Some y
     → (tx : IsTrack r.head x) (ty : IsTrack s.head y) → shown_points r.head a (tx.place).channel r.current ≡ shown_points s.head b (ty.place).channel s.current
 same-shown r s n a b pair x y alike laid ex ey tx ty =
     let p = tx.place in
@@ -132,7 +132,7 @@ same-shown r s n a b pair x y alike laid ex ey tx ty =
 
 -- ---- no difference
 
-none-window : (claim : Terms) (o e : List ℕ) (r s : Reader) (n : ℕ) (a b t u : ℤ) (pair : Pair) → AreAlike r s n a b → AreLaidAlike r.head s.head n pair → IfSome pair.original (IsTrack r.head) → IfSome pair.export (IsTrack s.head)
+none-window : (claim : Terms) (o e : List ℕ) (r s : Reader) (n : ℕ) (a b t u : ℤ) (pair : Pair) → AreRecordsAlike r s n a b → AreLaidAlike r.head s.head n pair → IfSome pair.original (IsTrack r.head) → IfSome pair.export (IsTrack s.head)
     → IsUncut claim.keep t u → keeps_instant claim t 1 ≡ true → Covers r o a t u → Covers s e b t u
     → window_of claim (sampled o r.head a) (sampled e s.head b) t u (places_of pair).0 (places_of pair).1 ≡ None
 none-window claim o e r s n a b t u pair alike laid here there uncut keeps ro se = by-case pair.original pair.export refl refl here there
@@ -162,7 +162,7 @@ none-earliest k of (p ∷ ps) none =
     let here : of (places_of p) ≡ None = All-head (λ q. of (places_of q) ≡ None) p ps none in
     rw here (none-earliest (k + 1) of ps (All-tail (λ q. of (places_of q) ≡ None) p ps none))
 
-pub none_different : (claim : Terms) (o e : List ℕ) (r s : Reader) (n : ℕ) (a b t u : ℤ) (pairs : List Pair) → AreAlike r s n a b → All (AreLaidAlike r.head s.head n) pairs → ArePairs r.head s.head pairs
+pub none_different : (claim : Terms) (o e : List ℕ) (r s : Reader) (n : ℕ) (a b t u : ℤ) (pairs : List Pair) → AreRecordsAlike r s n a b → All (AreLaidAlike r.head s.head n) pairs → ArePairs r.head s.head pairs
     → IsUncut claim.keep t u → keeps_instant claim t 1 ≡ true → Covers r o a t u → Covers s e b t u
     → None ≡ window_difference claim (sampled o r.head a) (sampled e s.head b) (map places_of pairs) t u
 unfolding window_difference

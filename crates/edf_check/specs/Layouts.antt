@@ -20,7 +20,7 @@ are_together r s a b =
     && int_eq (r.head).duration (s.head).duration
 
 -- two readers, one moved by a, the other by b, have data records at hand that begin at one time, last as long, and have the same first n bytes
-pub record AreAlike (r s : Reader) (n : ℕ) (a b : ℤ) : Type 0 where
+pub record AreRecordsAlike (r s : Reader) (n : ℕ) (a b : ℤ) : Type 0 where
   pub original : is_current r.status ≡ true
   pub export : is_current s.status ≡ true
   pub together : are_together r s a b ≡ true

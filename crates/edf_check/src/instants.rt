@@ -7,7 +7,7 @@ ghost use Rattle.edf_check.specs.Instants.{IsModest, floor_of, is_before as is_b
 use edf_stream::instant::Instant;
 
 /// The product of a numerator and the other instant's denominator.
-fn product(num: i128, den: u32) -> i128
+pub(crate) fn product(num: i128, den: u32) -> i128
     requires num { unsigned_abs num < 2 ^ 104 }
     requires den { den ≤ 2 ^ 23 }
     ensures { result ≡ num *ℤ pos den }

@@ -22,10 +22,10 @@ impl Model for Label {
 }
 
 impl Label {
-    /// A label of these bytes.
+    /// A label of these bytes, which may be any.
     ///
     /// The error is want of memory.
-    pub(crate) fn new(alloc: Global, bytes: &[u8]) -> Result<Label, AllocError>
+    pub fn new(alloc: Global, bytes: &[u8]) -> Result<Label, AllocError>
         ensures { IfOk result (λ label. label ≡ bytes.now) }
     {
         Ok(Label {

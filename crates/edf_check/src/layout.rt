@@ -6,7 +6,7 @@ ghost use Rattle.std.specs.Ordering.{int_eq};
 ghost use Rattle.edf_stream.specs.Readers.{is_current};
 ghost use Rattle.edf_stream.specs.Records.{lane_in};
 ghost use Rattle.edf_stream.specs.Starts.{file_start, start_in};
-ghost use Rattle.edf_check.specs.Layouts.{AreLaidAlike, are_together as begin_together, AreAlike};
+ghost use Rattle.edf_check.specs.Layouts.{AreLaidAlike, are_together as begin_together, AreRecordsAlike};
 ghost use Rattle.edf_check.specs.Windows.{IsTrack, ArePairs};
 
 use crate::clock::{Clock, start_ps_of};
@@ -20,7 +20,7 @@ use edf_header::signal::Signal;
 use edf_stream::reader::FileReader;
 
 /// Where the lane of a signal ends in a data record.
-fn end_of(signal: &Signal) -> Option<usize>
+fn lane_end(signal: &Signal) -> Option<usize>
     ensures { IfSome result (λ end. end ≡ signal.now.offset + 2 * signal.now.samples) }
 {
     signal.offset().checked_add(2 * signal.samples() as usize)
@@ -36,7 +36,7 @@ fn room_of_both(original: &Header, here: Track, export: &Header, there: Track) -
     let x = &original.signals()[usize::from(here.signal)];
     let y = &export.signals()[usize::from(there.signal)];
     if x.offset() == y.offset() && x.samples() == y.samples() {
-        end_of(x)
+        lane_end(x)
     } else {
         None
     }
@@ -79,7 +79,7 @@ fn begin_of(reader: &FileReader, by: Offset) -> i128
 }
 
 /// Whether two numbers of picoseconds are the same.
-fn is_one(a: i128, b: i128) -> bool
+fn is_equal(a: i128, b: i128) -> bool
     ensures { result ≡ int_eq a b }
 {
     a == b
@@ -93,10 +93,10 @@ fn are_together(original: &FileReader, export: &FileReader, clock: Clock) -> boo
     requires export_near { unsigned_abs (clock.export).ps < 2 ^ 80 }
     ensures { result ≡ begin_together original.now export.now (clock.original).ps (clock.export).ps }
 {
-    is_one(
+    is_equal(
         begin_of(original, clock.original),
         begin_of(export, clock.export),
-    ) && is_one(
+    ) && is_equal(
         original.header().duration_ps(),
         export.header().duration_ps(),
     )
@@ -130,7 +130,7 @@ pub(crate) fn are_alike(
 ) -> bool
     requires original_near { unsigned_abs (clock.original).ps < 2 ^ 80 }
     requires export_near { unsigned_abs (clock.export).ps < 2 ^ 80 }
-    ensures { IsTrue result → AreAlike original.now export.now room (clock.original).ps (clock.export).ps }
+    ensures { IsTrue result → AreRecordsAlike original.now export.now room (clock.original).ps (clock.export).ps }
 {
     if !original.has_current() || !export.has_current() {
         return false;

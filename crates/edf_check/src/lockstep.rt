@@ -10,7 +10,7 @@ ghost use Rattle.edf_stream.specs.Views.{note_value};
 ghost use Rattle.edf_check.specs.declared.side.Side.TheVariants as sides;
 ghost use Rattle.edf_check.specs.Checks.{CheckStops, SideStops};
 ghost use Rattle.edf_check.specs.Instants.{IsModest};
-ghost use Rattle.edf_check.specs.Layouts.{AreLaidAlike, AreAlike};
+ghost use Rattle.edf_check.specs.Layouts.{AreLaidAlike, AreRecordsAlike};
 ghost use Rattle.edf_check.specs.Windows.{sampled, places_of, ArePairs, Covers, IsGoing, IsAt, IsThere, Moves, Follows, Reaches, window_difference as difference_between, behind, IsFaultOf, IsReadBy, IsReadThrough, AreWalked};
 
 use crate::clock::Clock;
@@ -79,7 +79,7 @@ fn shows_the_same(
 ) -> bool
     requires original_near { unsigned_abs (frame.clock.original).ps < 2 ^ 80 }
     requires export_near { unsigned_abs (frame.clock.export).ps < 2 ^ 80 }
-    ensures { IsTrue result → (keeps_instant frame.entry.claim.now from.ps 1 ≡ true) × ((n : ℕ) × (frame.entry.room ≡ Some n) × AreAlike original.now export.now n (frame.entry.clock.original).ps (frame.entry.clock.export).ps) }
+    ensures { IsTrue result → (keeps_instant frame.entry.claim.now from.ps 1 ≡ true) × ((n : ℕ) × (frame.entry.room ≡ Some n) × AreRecordsAlike original.now export.now n (frame.entry.clock.original).ps (frame.entry.clock.export).ps) }
 {
     match frame.room {
         Some(room) => {

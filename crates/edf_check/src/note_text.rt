@@ -23,7 +23,7 @@ impl Model for NoteText {
 
 impl NoteText {
     /// This text.
-    pub(crate) fn new(text: String) -> NoteText
+    pub fn new(text: String) -> NoteText
         ensures { result ≡ string_bytes text }
     {
         NoteText { text }

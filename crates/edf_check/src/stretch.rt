@@ -12,6 +12,7 @@ ghost use Rattle.edf_check.specs.Windows.{whole, since, until};
 
 use crate::difference::{PointDifference, difference_of_heads};
 use crate::first_difference::first_difference;
+use crate::instants::product;
 use crate::point::Point;
 use crate::time::Time;
 use crate::verdict::SampleMismatch;
@@ -44,12 +45,20 @@ pub(crate) fn no_samples<'a>(den: u32) -> Stretch<'a>
     }
 }
 
+/// How many samples so many bytes hold whole.
+fn whole_samples(bytes: usize) -> usize
+    ensures within { 2 * result ≤ bytes }
+    ensures all { bytes ≤ 2 * result + 1 }
+{
+    bytes / 2
+}
+
 /// How many samples lie in these bytes.
 fn count_in(bytes: &[u8]) -> usize
     ensures within { 2 * result ≤ length bytes.now }
     ensures all { length bytes.now ≤ 2 * result + 1 }
 {
-    bytes.len() / 2
+    whole_samples(bytes.len())
 }
 
 /// The digital value of the sample at a place.
@@ -140,15 +149,6 @@ fn difference_behind(
     None
 }
 
-/// A numerator over one denominator, in units of 1 / (both denominators).
-fn over(num: i128, den: u32) -> i128
-    requires num { unsigned_abs num < 2 ^ 104 }
-    requires den { den ≤ 2 ^ 23 }
-    ensures value { result ≡ num *ℤ pos den }
-{
-    num * i128::from(den)
-}
-
 /// Whether two fractions are the same.
 fn is_same(num: i128, den: u32, other_num: i128, other_den: u32) -> bool
     requires num { unsigned_abs num < 2 ^ 104 }
@@ -157,7 +157,7 @@ fn is_same(num: i128, den: u32, other_num: i128, other_den: u32) -> bool
     requires other_den { other_den ≤ 2 ^ 23 }
     ensures { result ≡ int_eq (num *ℤ pos other_den) (other_num *ℤ pos den) }
 {
-    over(num, other_den) == over(other_num, den)
+    product(num, other_den) == product(other_num, den)
 }
 
 /// Whether the samples of two stretches stand at the same instants, one by one.
@@ -193,7 +193,7 @@ fn alike_count(x: Stretch, y: Stretch, count: usize) -> usize
     if !is_one_grid(x, y) {
         return 0;
     }
-    alike_bytes(&x.bytes[..2 * count], &y.bytes[..2 * count]) / 2
+    whole_samples(alike_bytes(&x.bytes[..2 * count], &y.bytes[..2 * count]))
 }
 
 /// The first difference of two stretches of one channel, read from the left: those bytes of them that are the

@@ -1,7 +1,7 @@
 //! Files with one change, and what `conform` answers to each.
 
 use crate::file::{Done, Edit};
-use crate::record::{LANES, crowded, recorded, sparse, twofold};
+use crate::record::{LANES, crowded, recorded, small_file, sparse, twofold};
 use edf_fields::source::SliceSource;
 use edf_header::fault::Place::{AtField, AtSignal};
 use edf_header::layout::{FixedField as Fixed, SignalField as Field};
@@ -33,6 +33,27 @@ const INTERRUPTED: Edit = (AtField(Fixed::Reserved), "EDF+D");
 /// The lanes of the first and the last data record, as a cut with a gap has them.
 const GAP: &[&[u8]] = &[
     b"+0\x14\x14\0+0.5\x14Lights off\x14\0",
+    b"+3\x14\x14\0+3\x14Apnea\x14\0",
+];
+
+/// The same, where the second one starts too early.
+const EARLY_GAP: &[&[u8]] = &[
+    b"+0\x14\x14\0+0.5\x14Lights off\x14\0",
+    b"+0.9\x14\x14\0+3\x14Apnea\x14\0",
+];
+
+/// The reference file's, where the first one starts too late, and where the third one is silent.
+const LATE_START: &[&[u8]] = &[
+    b"+1\x14\x14\0+0.5\x14Lights off\x14\0",
+    b"+1\x14\x14\0+1.5\x151\x14Apnea\x14\0",
+    b"+2\x14\x14\0",
+    b"+3\x14\x14\0+3\x14Apnea\x14\0",
+];
+
+const SILENT_THIRD: &[&[u8]] = &[
+    b"+0\x14\x14\0+0.5\x14Lights off\x14\0",
+    b"+1\x14\x14\0+1.5\x151\x14Apnea\x14\0",
+    b"",
     b"+3\x14\x14\0+3\x14Apnea\x14\0",
 ];
 
@@ -70,6 +91,9 @@ pub const ROWS: &[(&[Edit], &[&[u8]], &str)] = &[
     (&[INTERRUPTED], LANES, "4, 2, 24, 3"),
     (&[TWO, INTERRUPTED], GAP, "2, 2, 12, 2"),
     (&[TWO], GAP, "NotContiguous at record 1"),
+    (&[TWO, INTERRUPTED], EARLY_GAP, "Overlap at record 1"),
+    (&[], LATE_START, "BadFirstStart at record 0"),
+    (&[], SILENT_THIRD, "NoTimekeeping at record 2"),
     (&[TWO, INTERRUPTED], EARLY, "Overlap at record 1"),
     (&[TWO], EARLY, "NotContiguous at record 1"),
     (&[TWO], HAIR_EARLY, "NotContiguous at record 1"),
@@ -110,6 +134,12 @@ fn answers_each_file(rt: HostRuntime) -> Result<(), AllocError> {
         assert_answer(&rt, rt.alloc(), &file, want)?;
     }
     Ok(())
+}
+
+#[test]
+fn counts_two_samples(rt: HostRuntime) -> Result<(), AllocError> {
+    let file = small_file(rt.alloc())?;
+    assert_answer(&rt, rt.alloc(), &file, "1, 1, 2, 0")
 }
 
 #[test]

@@ -1,8 +1,10 @@
 //! Twelve seconds of one channel, cut into data records of several lengths: how they are cut changes no
 //! verdict.
 
-use crate::whole::line_of_whole;
+use crate::whole::check_whole;
 use edf_check::check::check;
+use edf_check::label::Label;
+use edf_check::verdict::{Difference, SampleMismatch, Verdict};
 use edf_claim::claim::Claim;
 use edf_fields::source::SliceSource;
 use std::alloc::{AllocError, Global};
@@ -115,13 +117,19 @@ fn cut_file(alloc: Global, cut: Cut, raised: Option<i16>) -> Result<Vec<u8>, All
 }
 
 /// What a check of the export says where this value of it is raised.
-fn line_of(alloc: Global, raised: Option<i16>) -> Result<String, AllocError> {
-    let Some(second) = raised else {
-        return String::from_str(alloc, "YES channels 1 samples 12 annotations 0\n");
-    };
-    let at_ps = i128::from(second) * 1_000_000_000_000;
-    let value = second.saturating_add(1);
-    format!(in alloc; "NO 10 sample \"Temp\" at {at_ps} ps original {second} export {value}\n")
+fn verdict_of(alloc: Global, raised: Option<i16>) -> Result<Verdict, AllocError> {
+    Ok(match raised {
+        Some(second) => Verdict::No(Difference::Sample {
+            label: Label::new(alloc, b"Temp")?,
+            at_ps: i128::from(second) * 1_000_000_000_000,
+            mismatch: SampleMismatch::Value(second, second.saturating_add(1)),
+        }),
+        None => Verdict::Yes {
+            channels: 1,
+            samples: 12,
+            annotations: 0,
+        },
+    })
 }
 
 /// Asserts what both checks say of exports that are cut in each way, of which this value is raised.
@@ -132,18 +140,17 @@ fn assert_exports(
     claim: &Claim,
     raised: Option<i16>,
 ) -> Result<(), Fail> {
-    let want = line_of(alloc, raised)?;
+    let want = verdict_of(alloc, raised)?;
     for cut in CUTS {
         let export = cut_file(alloc, *cut, raised)?;
         let mut first = SliceSource::new(original);
         let mut second = SliceSource::new(&export);
-        let verdict = check(alloc, &mut first, &mut second, claim)?;
-        let found = verdict.line(alloc)?;
-        assert_eq!(rt; found.as_slice(), want.as_bytes());
+        let found = check(alloc, &mut first, &mut second, claim)?;
+        assert_eq!(rt; found, want);
         let mut first = SliceSource::new(original);
         let mut second = SliceSource::new(&export);
-        let found = line_of_whole(alloc, &mut first, &mut second, claim)?;
-        assert_eq!(rt; found.as_slice(), want.as_bytes());
+        let found = check_whole(alloc, &mut first, &mut second, claim)?;
+        assert_eq!(rt; found, want);
     }
     Ok(())
 }

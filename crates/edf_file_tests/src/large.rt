@@ -3,8 +3,8 @@
 
 ghost use Rattle.std.specs.Prelude.{[], false};
 
-use crate::file::{Edit, header_of, put};
-use crate::record::push_lane;
+use crate::file::Edit;
+use crate::record::{small_file, temp_header};
 use edf_check::outcome::Outcome;
 use edf_check::run::run;
 use edf_fields::sink::SliceSink;
@@ -49,47 +49,12 @@ impl<'a> Source for Padded<'a> {
     }
 }
 
-/// A channel `Temp` in place of the second one of the reference file.
-const TEMP: &[Edit] = &[
-    (AtField(Fixed::HeaderBytes), "768"),
-    (AtField(Fixed::Records), "1"),
-    (AtField(Fixed::Signals), "2"),
-    (AtSignal(0, Field::Label), "Temp"),
-    (AtSignal(0, Field::Transducer), ""),
-    (AtSignal(0, Field::Dimension), "degC"),
-    (AtSignal(0, Field::PhysicalMinimum), "30"),
-    (AtSignal(0, Field::PhysicalMaximum), "40"),
-    (AtSignal(0, Field::Prefilter), ""),
-    (AtSignal(0, Field::Samples), "2"),
-    (AtSignal(1, Field::Samples), "16"),
-];
-
 /// Data records of 16,777,216 bytes: 8,388,600 samples, and a lane of 16 bytes.
 const LARGEST: &[Edit] = &[
     (AtField(Fixed::Records), "99999999"),
     (AtSignal(0, Field::Samples), "8388600"),
     (AtSignal(1, Field::Samples), "8"),
 ];
-
-/// The header of a file with the channel, with other texts in some of its fields.
-fn temp_header(alloc: Global, edits: &[Edit]) -> Result<Vec<u8>, AllocError> {
-    let mut file = header_of(alloc, &[1, 2])?;
-    for (place, text) in TEMP {
-        put(&mut file, *place, text);
-    }
-    for (place, text) in edits {
-        put(&mut file, *place, text);
-    }
-    Ok(file)
-}
-
-/// A file of one data record of 1 s with two samples, 7 and -7.
-fn small_file(alloc: Global) -> Result<Vec<u8>, AllocError> {
-    let mut file = temp_header(alloc, &[])?;
-    file.extend_from_slice(b"\x07\0\xf9\xff")?;
-    push_lane(&mut file, b"+0\x14\x14\0", 32)?;
-    Ok(file)
-}
 
 /// A source of a file with this header that ends behind its first data record.
 fn largest(header: &[u8]) -> Padded<'_> {

@@ -1,9 +1,9 @@
 //! Tests of `edf_header`, `edf_stream` and `edf_check` by their public names: the values of a given header
 //! and of given data records, what whole files mean, texts of annotations, worked faults in words, the order
 //! of two faults, the worked differences of two headers, files that are cut into data records of several
-//! lengths, the line of each kind of verdict, a run that refuses its claim, where two slices of bytes differ
-//! first, what a call does where a source or memory gives out, signals that say the same, and large headers
-//! and records.
+//! lengths, samples that differ in a single byte, the line of each kind of verdict, a run that refuses its
+//! claim, where two slices of bytes differ first, what a call does where a source or memory gives out,
+//! signals that say the same, and large headers and records.
 #![tactic(auto)]
 
 #[cfg(test)]
@@ -44,6 +44,8 @@ mod samples;
 mod scarce;
 #[cfg(test)]
 mod signals;
+#[cfg(test)]
+mod single_bytes;
 #[cfg(test)]
 mod sizes;
 #[cfg(test)]

@@ -2,7 +2,7 @@
 
 ghost use Rattle.std.specs.Prelude.{[], false};
 
-use crate::record::{LANES, recorded, twofold};
+use crate::record::{LANES, recorded, small_file, twofold};
 use edf_fields::source::{ReadFault, SliceSource, Source};
 use edf_header::fault::{Cause, Fault, Place};
 use edf_header::stop::Stop;
@@ -184,6 +184,8 @@ fn assert_last(
 
 #[test]
 fn answers_the_same_again(rt: HostRuntime) -> Result<(), Fail> {
+    let small = small_file(rt.alloc())?;
+    assert_last(&rt, rt.alloc(), tape_of(&small, 100), (1, Ok(false)))?;
     let file = recorded(rt.alloc(), &[], LANES)?;
     let short = file.get(..1100).unwrap_or(&[]);
     let fault = Fault {

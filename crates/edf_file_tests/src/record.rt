@@ -13,6 +13,41 @@ pub const LANES: &[&[u8]] = &[
     b"+3\x14\x14\0+3\x14Apnea\x14\0",
 ];
 
+/// A channel `Temp` in place of the second one of the reference file.
+const TEMP: &[Edit] = &[
+    (AtField(Fixed::HeaderBytes), "768"),
+    (AtField(Fixed::Records), "1"),
+    (AtField(Fixed::Signals), "2"),
+    (AtSignal(0, Field::Label), "Temp"),
+    (AtSignal(0, Field::Transducer), ""),
+    (AtSignal(0, Field::Dimension), "degC"),
+    (AtSignal(0, Field::PhysicalMinimum), "30"),
+    (AtSignal(0, Field::PhysicalMaximum), "40"),
+    (AtSignal(0, Field::Prefilter), ""),
+    (AtSignal(0, Field::Samples), "2"),
+    (AtSignal(1, Field::Samples), "16"),
+];
+
+/// The header of a file with that channel, with other texts in some of its fields.
+pub fn temp_header(alloc: Global, edits: &[Edit]) -> Result<Vec<u8>, AllocError> {
+    let mut file = header_of(alloc, &[1, 2])?;
+    for (place, text) in TEMP {
+        put(&mut file, *place, text);
+    }
+    for (place, text) in edits {
+        put(&mut file, *place, text);
+    }
+    Ok(file)
+}
+
+/// A file of one data record of 1 s with two samples, 7 and -7.
+pub fn small_file(alloc: Global) -> Result<Vec<u8>, AllocError> {
+    let mut file = temp_header(alloc, &[])?;
+    file.extend_from_slice(b"\x07\0\xf9\xff")?;
+    push_lane(&mut file, b"+0\x14\x14\0", 32)?;
+    Ok(file)
+}
+
 /// Puts a sample behind the file: two bytes, the low one first.
 fn push_sample(file: &mut Vec<u8>, value: u16) -> Result<(), AllocError> {
     file.push(value.to_le_bytes()[0])?;
@@ -56,17 +91,18 @@ pub fn timed(alloc: Global, records: u16) -> Result<Vec<u8>, AllocError> {
     Ok(file)
 }
 
-/// A file of one channel with one sample in each data record of 0.1 s, and an annotation signal: an
-/// interrupted one with these lanes.
+/// An interrupted file with the channel `Temp`, which has one sample in each data record of 0.1 s, and with
+/// these lanes.
 pub fn sparse(alloc: Global, records: &str, lanes: &[&[u8]]) -> Result<Vec<u8>, AllocError> {
-    let mut file = header_of(alloc, &[1, 2])?;
-    put(&mut file, AtField(Fixed::HeaderBytes), "768");
-    put(&mut file, AtField(Fixed::Reserved), "EDF+D");
-    put(&mut file, AtField(Fixed::Records), records);
-    put(&mut file, AtField(Fixed::Duration), "0.1");
-    put(&mut file, AtField(Fixed::Signals), "2");
-    put(&mut file, AtSignal(0, Field::Samples), "1");
-    put(&mut file, AtSignal(1, Field::Samples), "16");
+    let mut file = temp_header(
+        alloc,
+        &[
+            (AtField(Fixed::Reserved), "EDF+D"),
+            (AtField(Fixed::Records), records),
+            (AtField(Fixed::Duration), "0.1"),
+            (AtSignal(0, Field::Samples), "1"),
+        ],
+    )?;
     for lane in lanes {
         push_sample(&mut file, 1)?;
         push_lane(&mut file, lane, 32)?;
@@ -85,14 +121,10 @@ pub fn twofold(alloc: Global, first: &[u8], second: &[u8]) -> Result<Vec<u8>, Al
     Ok(file)
 }
 
-/// A file of one data record with one channel of two samples, and an annotation lane of 1,000,006 bytes:
-/// an onset, so many bytes 20, and zeros.
+/// A file of one data record with two samples of the channel `Temp`, and an annotation lane of 1,000,006
+/// bytes: an onset, so many bytes 20, and zeros.
 pub fn crowded(alloc: Global, separators: usize) -> Result<Vec<u8>, AllocError> {
-    let mut file = header_of(alloc, &[1, 2])?;
-    put(&mut file, AtField(Fixed::HeaderBytes), "768");
-    put(&mut file, AtField(Fixed::Records), "1");
-    put(&mut file, AtField(Fixed::Signals), "2");
-    put(&mut file, AtSignal(1, Field::Samples), "500003");
+    let mut file = temp_header(alloc, &[(AtSignal(1, Field::Samples), "500003")])?;
     let lane = file.len().saturating_add(4);
     file.resize(lane.saturating_add(1_000_006), 0)?;
     for (byte, slot) in file.iter_mut().enumerate().skip(lane) {

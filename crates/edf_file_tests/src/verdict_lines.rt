@@ -4,9 +4,12 @@
 use crate::file::{Done, Edit};
 use crate::headers::{Built, claim, read};
 use crate::record::recorded;
-use crate::whole::line_of_whole;
+use crate::whole::check_whole;
 use edf_check::check::check;
 use edf_check::head_difference::head_difference;
+use edf_check::label::Label;
+use edf_check::note_text::NoteText;
+use edf_check::outcome::Outcome;
 use edf_check::quote::push_quoted;
 use edf_check::verdict::{Difference, FreeText, SampleMismatch, SubfieldMismatch, Verdict};
 use edf_claim::which::Which;
@@ -281,23 +284,23 @@ fn verdict_on(
     Ok(verdict)
 }
 
-/// The line of the same, by the check that has both files in memory.
-fn whole_line_on(
+/// The same by the check that has both files in memory.
+fn whole_verdict_on(
     rt: &impl Abort,
     alloc: Global,
     original: File,
     export: File,
-) -> Result<Vec<u8>, Fail> {
+) -> Result<Verdict, Fail> {
     let original = recorded(alloc, original.0, original.1)?;
     let export = recorded(alloc, export.0, export.1)?;
     let claim = claim(alloc, rt, BOTH, "")?;
     let mut original = SliceSource::new(&original);
     let mut export = SliceSource::new(&export);
-    let line = line_of_whole(alloc, &mut original, &mut export, &claim)?;
-    Ok(line)
+    let verdict = check_whole(alloc, &mut original, &mut export, &claim)?;
+    Ok(verdict)
 }
 
-/// Asserts the line of both checks.
+/// Asserts the line of a check, and that both checks say the same.
 fn assert_both(
     rt: &impl Abort,
     alloc: Global,
@@ -307,8 +310,8 @@ fn assert_both(
 ) -> Result<(), Fail> {
     let verdict = verdict_on(rt, alloc, original, export)?;
     assert_line(rt, alloc, &verdict, want)?;
-    let line = whole_line_on(rt, alloc, original, export)?;
-    assert_eq!(rt; line.as_slice(), want.as_bytes());
+    let whole = whole_verdict_on(rt, alloc, original, export)?;
+    assert!(rt; verdict == whole);
     Ok(())
 }
 
@@ -437,6 +440,64 @@ fn gives_the_text_of_an_annotation(rt: HostRuntime) -> Result<(), Fail> {
     };
     assert_eq!(rt; text.as_str(), "Lights off");
     Ok(())
+}
+
+/// Bytes of a label, and characters of the text of an annotation: each is given as it was made.
+const MADE: &[&str] = &["", "ECG", " \"\\\t\u{7f}é"];
+
+#[test]
+fn labels_and_texts_are_those_they_were_made_of(rt: HostRuntime) -> Result<(), Fail> {
+    for text in MADE {
+        let label = Label::new(rt.alloc(), text.as_bytes())?;
+        assert_eq!(rt; label.bytes(), text.as_bytes());
+        let made = NoteText::new(String::from_str(rt.alloc(), text)?);
+        assert_eq!(rt; made.as_str(), *text);
+    }
+    Ok(())
+}
+
+#[test]
+fn a_yes_alone_is_a_yes(rt: HostRuntime) {
+    let yes = Verdict::Yes {
+        channels: 1,
+        samples: 2,
+        annotations: 0,
+    };
+    let no = Verdict::No(Difference::NotClean(FreeText::Header));
+    let found = (yes.outcome(), no.outcome());
+    assert_eq!(rt; found, (Outcome::Yes, Outcome::No));
+    let joined = (
+        Outcome::Yes.and(Outcome::Yes),
+        Outcome::Yes.and(Outcome::No),
+        Outcome::No.and(Outcome::Yes),
+        Outcome::No.and(Outcome::No),
+    );
+    assert_eq!(rt;
+        joined,
+        (Outcome::Yes, Outcome::No, Outcome::No, Outcome::No)
+    );
+}
+
+/// The subfields in the order of the verdicts.
+const NAMES: [&str; 10] = [
+    "code",
+    "sex",
+    "birthdate",
+    "name",
+    "patient-extras",
+    "date",
+    "administration",
+    "technician",
+    "equipment",
+    "recording-extras",
+];
+
+#[test]
+fn all_subfields_stand_in_order(rt: HostRuntime) {
+    assert_eq!(rt; Which::all().len(), NAMES.len());
+    for (which, name) in Which::all().iter().zip(&NAMES) {
+        assert_eq!(rt; which.name(), *name);
+    }
 }
 
 #[test]

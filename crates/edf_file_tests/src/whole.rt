@@ -1,11 +1,11 @@
-//! The line of a check of two files that are in memory at once, the plain slow way: the check of two streams is
-//! judged by it.
+//! The check of two files that are in memory at once, the plain slow way: the check of two streams is judged by
+//! it.
 //!
 //! No bound of a number is known here, so sums and products wrap; they don't for the files of the tests.
 
 use edf_check::head_difference::head_difference;
-use edf_check::note_times::NoteTimes;
-use edf_check::quote::push_with_quoted;
+use edf_check::label::Label;
+use edf_check::note_text::NoteText;
 use edf_check::side::{CheckStop, Side};
 use edf_check::verdict::{AnnotationMismatch, Difference, SampleMismatch, Verdict};
 use edf_claim::claim::Claim;
@@ -175,26 +175,14 @@ fn in_order(alloc: Global, labels: &[SignalLabel]) -> Result<Vec<&[u8]>, AllocEr
     Ok(sorted)
 }
 
-/// The line of a difference of two samples.
-fn sample_line(alloc: Global, label: &[u8], found: Unlike) -> Result<Vec<u8>, AllocError> {
-    let at_ps = found.at.num.checked_div_euclid(i128::from(found.at.den));
-    let at_ps = at_ps.unwrap_or(0);
-    let mismatch = found.mismatch;
-    let words = format!(in alloc; " at {at_ps} ps {mismatch}\n")?;
-    let mut line = Vec::new(alloc);
-    push_with_quoted(&mut line, "NO 10 sample ", label)?;
-    line.extend_from_slice(words.as_bytes())?;
-    Ok(line)
-}
-
-/// The line of the first difference of the samples of two files, which are so many picoseconds later: the
-/// earliest, and at one instant that of the least label.
+/// The first difference of the samples of two files, which are so many picoseconds later: the earliest, and
+/// at one instant that of the least label.
 fn sample_difference(
     alloc: Global,
     original: (&WholeFile, i128),
     export: (&WholeFile, i128),
     claim: &Claim,
-) -> Result<Option<Vec<u8>>, AllocError> {
+) -> Result<Option<Difference>, AllocError> {
     let mut held: Option<(&[u8], Unlike)> = None;
     let labels = in_order(alloc, claim.channels())?;
     for &label in &labels {
@@ -209,7 +197,15 @@ fn sample_difference(
         };
     }
     match held {
-        Some((label, found)) => Ok(Some(sample_line(alloc, label, found)?)),
+        Some((label, found)) => Ok(Some(Difference::Sample {
+            label: Label::new(alloc, label)?,
+            at_ps: found
+                .at
+                .num
+                .checked_div_euclid(i128::from(found.at.den))
+                .unwrap_or(0),
+            mismatch: found.mismatch,
+        })),
         None => Ok(None),
     }
 }
@@ -261,29 +257,12 @@ fn least_more<'a>(notes: &'a [Note], others: &[Note]) -> Option<&'a Note> {
     held
 }
 
-/// The line of an annotation that doesn't stand equally often on both sides.
-fn note_line(
-    alloc: Global,
-    mismatch: AnnotationMismatch,
-    note: &Note,
-) -> Result<Vec<u8>, AllocError> {
-    let times = NoteTimes {
-        onset: note.onset,
-        duration: note.duration,
-    };
-    let words = format!(in alloc; "NO 11 annotation {mismatch} at {times} text ")?;
-    let mut line = Vec::new(alloc);
-    push_with_quoted(&mut line, words.as_str(), note.text.as_str().as_bytes())?;
-    line.push(b'\n')?;
-    Ok(line)
-}
-
-/// The line of the least annotation that doesn't stand equally often among the kept ones and in the export.
+/// The least annotation that doesn't stand equally often among the kept ones and in the export.
 fn note_difference(
     alloc: Global,
     kept: &[Note],
     exported: &[Note],
-) -> Result<Option<Vec<u8>>, AllocError> {
+) -> Result<Option<Difference>, AllocError> {
     let (mismatch, note) = match (least_more(kept, exported), least_more(exported, kept)) {
         (None, None) => return Ok(None),
         (Some(note), None) => (AnnotationMismatch::Missing, note),
@@ -296,7 +275,12 @@ fn note_difference(
             }
         }
     };
-    Ok(Some(note_line(alloc, mismatch, note)?))
+    Ok(Some(Difference::Annotation {
+        mismatch,
+        onset: note.onset,
+        duration: note.duration,
+        text: NoteText::new(String::from_str(alloc, note.text.as_str())?),
+    }))
 }
 
 /// Compares the samples of two files that conform and whose headers agree, and then their annotations.
@@ -305,51 +289,44 @@ fn compare_contents(
     original: WholeFile,
     export: WholeFile,
     claim: &Claim,
-) -> Result<Vec<u8>, AllocError> {
+) -> Result<Verdict, AllocError> {
     let start = file_start_ps(&original.header);
     let by = start.wrapping_neg();
     let back = start.wrapping_add(claim.shift_ps()).wrapping_neg();
-    if let Some(line) = sample_difference(alloc, (&original, by), (&export, back), claim)? {
-        return Ok(line);
+    if let Some(found) = sample_difference(alloc, (&original, by), (&export, back), claim)? {
+        return Ok(Verdict::No(found));
     }
     let summary = Summary::of(&export.header, export.meaning.notes.len() as u64);
     let kept = notes_of(alloc, original.into_notes(), by, Some(claim))?;
     let exported = notes_of(alloc, export.into_notes(), back, None)?;
-    if let Some(line) = note_difference(alloc, &kept, &exported)? {
-        return Ok(line);
+    if let Some(found) = note_difference(alloc, &kept, &exported)? {
+        return Ok(Verdict::No(found));
     }
-    let yes = Verdict::Yes {
+    Ok(Verdict::Yes {
         channels: summary.channels,
         samples: summary.samples,
         annotations: summary.annotations,
-    };
-    yes.line(alloc)
+    })
 }
 
-/// The line of what `check` says, by two files that are in memory at once.
-pub fn line_of_whole<O: Source, E: Source>(
+/// What `check` says, by two files that are in memory at once.
+pub fn check_whole<O: Source, E: Source>(
     alloc: Global,
     original: &mut O,
     export: &mut E,
     claim: &Claim,
-) -> Result<Vec<u8>, CheckStop> {
+) -> Result<Verdict, CheckStop> {
     let first = match read_side(alloc, original, Side::Original)? {
         Ok(file) => file,
-        Err(fault) => {
-            let verdict = Verdict::No(Difference::OriginalFault(fault));
-            return Ok(verdict.line(alloc)?);
-        }
+        Err(fault) => return Ok(Verdict::No(Difference::OriginalFault(fault))),
     };
     let second = match read_side(alloc, export, Side::Export)? {
         Ok(file) => file,
-        Err(fault) => {
-            let verdict = Verdict::No(Difference::ExportFault(fault));
-            return Ok(verdict.line(alloc)?);
-        }
+        Err(fault) => return Ok(Verdict::No(Difference::ExportFault(fault))),
     };
     if let Some(verdict) = head_difference(alloc, &first.header, &second.header, claim)? {
-        return Ok(verdict.line(alloc)?);
+        return Ok(verdict);
     }
-    let line = compare_contents(alloc, first, second, claim)?;
-    Ok(line)
+    let verdict = compare_contents(alloc, first, second, claim)?;
+    Ok(verdict)
 }
