@@ -5,6 +5,7 @@ pub mod Conforming
 pub mod Extremes
 pub mod FaultTexts
 pub mod Faults
+pub mod HeaderParts
 pub mod Heads
 pub mod Judged
 pub mod Lanes

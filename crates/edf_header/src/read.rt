@@ -8,6 +8,7 @@ ghost use Rattle.edf_header.specs.declared.fault.Place.TheVariants.{AtSignal};
 ghost use Rattle.edf_header.specs.Conforming.{HeaderConforms};
 ghost use Rattle.edf_header.specs.Faults.{columns_missing, header_fault};
 ghost use Rattle.edf_header.specs.Heads.{HasHead, head_of, header_bytes};
+ghost use Rattle.edf_header.specs.HeaderParts.{IsFixed, IsBody};
 ghost use Rattle.edf_header.specs.Layout.{columns as all_columns, next_before, AreAdjacent};
 ghost use Rattle.edf_header.specs.Narrow.{all_bytes, AreColumns};
 ghost use Rattle.edf_header.specs.Sound.{IsSound};
@@ -16,9 +17,9 @@ ghost use Rattle.edf_header.specs.Stops.{Stops};
 use crate::column::Column;
 use crate::columns::Columns;
 use crate::fault::{Cause, Fault, Place};
-use crate::fixed::judge_fixed;
+use crate::fixed::{Fixed, judge_fixed};
 use crate::header::Header;
-use crate::judge_columns::judge_columns;
+use crate::judge_columns::{Body, judge_columns};
 use crate::layout::{COLUMNS, SignalField};
 use crate::stop::Stop;
 use edf_fields::source::{Source, fill};
@@ -98,6 +99,42 @@ fn read_columns<S: Source>(alloc: Global, source: &mut S, signals: u16) -> Resul
     Ok(Columns { columns, signals })
 }
 
+/// The parts of a header, once their tests have passed: the fixed part and what it says, the columns and what
+/// they say.
+#[derive(Drop)]
+struct Parts {
+    front: Vec<u8>,
+    fixed: Fixed,
+    columns: Columns,
+    body: Body,
+}
+
+/// The parts of the header of a file, or the first fault of the header.
+fn read_parts<S: Source>(alloc: Global, source: &mut S) -> Result<Parts, Stop>
+    ensures failures { OnOk result (S.failures source.new ≡ S.failures source.old) }
+    ensures stop { IfErr result (Stops (λ f. IsTrue (S.is_honest source.old) → header_fault (S.left source.old) ≡ Some f) (Rises (S.failures source.old) (S.failures source.new)) (S.failures source.new ≡ S.failures source.old)) }
+    ensures fixed { IfOk result (λ p. IsFixed p.front.items p.fixed) }
+    ensures signals { IfOk result (λ p. p.columns.signals ≡ p.fixed.extent.signals) }
+    ensures body { IfOk result (λ p. IsBody p.columns p.body) }
+
+    // What an honest source gives.
+    ensures honesty { OnOk result (IsTrue (S.is_honest source.old) → IsTrue (S.is_honest source.new)) }
+    ensures front { IfOk result (λ p. IsTrue (S.is_honest source.old) → p.front.items ≡ take 256 (S.left source.old)) }
+    ensures bytes { IfOk result (λ p. IsTrue (S.is_honest source.old) → p.columns.bytes ≡ take (256 * p.fixed.extent.signals) (drop 256 (S.left source.old))) }
+    ensures behind { IfOk result (λ p. IsTrue (S.is_honest source.old) → S.left source.new ≡ drop (256 * p.fixed.extent.signals) (drop 256 (S.left source.old))) }
+{
+    let front = next_bytes(alloc, source, 256)?;
+    let fixed = judge_fixed(&front)?;
+    let columns = read_columns(alloc, source, fixed.extent.signals)?;
+    let body = judge_columns(alloc, &columns)?;
+    Ok(Parts {
+        front,
+        fixed,
+        columns,
+        body,
+    })
+}
+
 impl Header {
     /// Reads the header of a file, from its first byte on, and takes no byte behind it.
     ///
@@ -124,15 +161,12 @@ impl Header {
         ensures whole { IfOk result (λ h. IsTrue (S.is_honest source.old) → header_bytes h ≤ length (S.left source.old)) }
         ensures behind { IfOk result (λ h. IsTrue (S.is_honest source.old) → S.left source.new ≡ drop (header_bytes h) (S.left source.old)) }
     {
-        let front = next_bytes(alloc, source, 256)?;
-        let fixed = judge_fixed(&front)?;
-        let columns = read_columns(alloc, source, fixed.extent.signals)?;
-        let body = judge_columns(alloc, &columns)?;
+        let parts = read_parts(alloc, source)?;
         Ok(Header {
-            front,
-            start: fixed.start,
-            extent: fixed.extent,
-            body,
+            front: parts.front,
+            start: parts.fixed.start,
+            extent: parts.fixed.extent,
+            body: parts.body,
         })
     }
 }

@@ -4,9 +4,9 @@ use Rattle.std.proofs.lemmas.Bool.Decides.{nat_tests}
 use Rattle.clap.specs.Takes.{takes}
 use Rattle.clap.proofs.OnLiterals.{clap_on_literals}
 use Rattle.edfclaim.specs.Commands.{program_app}
-use Rattle.edfclaim.specs.Jobs.{ArePlain, SaysJob}
-use Rattle.edfclaim.specs.declared.command.Job.{Job}
-use Rattle.edfclaim.specs.declared.command.Job.TheVariants.{Check, Conform, Show, Notes, Vectors}
+use Rattle.edf_command.specs.Jobs.{ArePlain, SaysJob}
+use Rattle.edf_command.specs.declared.command.Job.{Job}
+use Rattle.edf_command.specs.declared.command.Job.TheVariants.{Check, Conform, Show, Notes, Vectors}
 
 takes_vectors : (w : List ℕ) → takes program_app (w ∷ codes "vectors" ∷ []) ≡ true
 unfolding clap_on_literals

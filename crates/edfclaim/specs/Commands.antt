@@ -1,7 +1,7 @@
 -- The program's commands, as a parse reads them.
-use Rattle.std.specs.Prelude.{codes, true}
+use Rattle.std.specs.Prelude.{[], codes, true}
 use Rattle.clap.specs.Walk.{Rule, Text}
-use Rattle.clap.specs.Simple.{App, new_app, new_rule, with_rule, with_subcommand}
+use Rattle.clap.specs.Simple.{App, new_app, new_shape, new_rule, with_rule, with_subcommand}
 
 -- an argument that has to be there
 abbrev pub needed : Text → Rule
@@ -14,6 +14,10 @@ check_app = with_rule (with_rule (with_rule (new_app (codes "check")) (needed (c
 abbrev pub file_app : Text → App
 file_app name = with_rule (new_app name) (needed (codes "FILE"))
 
+-- the program with its version, and without a command
+abbrev pub bare_app : App
+bare_app = record { top = record (new_shape (codes "edfclaim")) { has_version = true }; subs = [] }
+
 abbrev pub program_app : App
-program_app = with_subcommand (with_subcommand (with_subcommand (with_subcommand (with_subcommand (new_app (codes "edfclaim"))
+program_app = with_subcommand (with_subcommand (with_subcommand (with_subcommand (with_subcommand bare_app
     check_app.top) (file_app (codes "conform")).top) (file_app (codes "show")).top) (file_app (codes "notes")).top) (new_app (codes "vectors")).top

@@ -2,9 +2,9 @@
 
 ghost use Rattle.std.specs.Prelude.{◌≡◌, take, IfOk, IfErr, IsTrue};
 ghost use Rattle.edf_fields.specs.Sources.{Rises};
-ghost use Rattle.edfclaim.specs.Refusals.{ClaimReadStops};
+ghost use Rattle.edf_command.specs.Refusals.{ClaimReadStops};
 
-use crate::refusal::{Refusal, Role};
+use edf_command::refusal::{Refusal, Role};
 use edf_fields::source::{ReadSource, Source, fill};
 use std::alloc::Global;
 use std::fs;

@@ -6,32 +6,15 @@ ghost use Rattle.std.specs.Prelude.{◌≡◌, ◌≢◌, codes, false, IfOk, If
 ghost use Rattle.clap.specs.Simple.{app_of, new_app, with_rule, with_subcommand};
 ghost use Rattle.clap.specs.Values.{kind_of};
 ghost use Rattle.clap.specs.declared.builder.command.Command.TheViews.{out-Command as fields_of};
-ghost use Rattle.edfclaim.specs.Commands.{needed, check_app, file_app, program_app};
-ghost use Rattle.edfclaim.specs.Jobs.{ArePlain, SaysJob, SaysNoJob, behind_first};
+ghost use Rattle.edfclaim.specs.Commands.{needed, bare_app, check_app, file_app, program_app};
+ghost use Rattle.edf_command.specs.Jobs.{ArePlain, SaysJob, SaysNoJob, behind_first};
 
-use crate::command::Job;
 use clap::error::ErrorKind;
 use clap::{Arg, Command, Error};
+use edf_command::VERSION;
+use edf_command::command::Job;
+use edf_command::words::job_of;
 use std::alloc::{AllocError, Global};
-
-/// The job that the words behind the first one are.
-fn job_of<'a>(words: &'a [&'a str]) -> Option<Job<'a>>
-    ensures some { IfSome result (SaysJob (behind_first words.entry.now)) }
-    ensures none { IfNone result (SaysNoJob (behind_first words.entry.now)) }
-{
-    match words {
-        [_, "check", original, export, claim] => Some(Job::Check {
-            original,
-            export,
-            claim,
-        }),
-        [_, "conform", path] => Some(Job::Conform(path)),
-        [_, "show", path] => Some(Job::Show(path)),
-        [_, "notes", path] => Some(Job::Notes(path)),
-        [_, "vectors"] => Some(Job::Vectors),
-        _ => None,
-    }
-}
 
 /// The command with one more argument, which has to be there.
 fn needing<'a>(
@@ -53,7 +36,7 @@ fn check_command<'a>(alloc: Global) -> Result<Command<'a>, AllocError>
     ensures local { IfOk result (λ c. (fields_of c).has_globals ≡ false) }
 {
     let named = Command::new(alloc, "check").about(
-        "Checks that an export is its original, cut and de-identified as a claim says",
+        "Checks that an export is its original, cut and made anonymous as a claim says",
     );
     let one = needing(alloc, named, "ORIGINAL", "The recording that is kept")?;
     let two = needing(alloc, one, "EXPORT", "The recording that is handed out")?;
@@ -90,12 +73,19 @@ fn vectors_command<'a>(alloc: Global) -> Command<'a>
     Command::new(alloc, "vectors").about("Runs the worked rows")
 }
 
+/// The program with its version, and without a command.
+fn bare_program<'a>(alloc: Global) -> Command<'a>
+    ensures { app_of result ≡ bare_app }
+{
+    Command::new(alloc, "edfclaim").version(VERSION)
+}
+
 /// The program with all of its commands.
 fn program<'a>(alloc: Global) -> Result<Command<'a>, AllocError>
     ensures { IfOk result (λ c. app_of c ≡ program_app) }
 {
     let check = check_command(alloc)?;
-    let first = Command::new(alloc, "edfclaim").subcommand(check)?;
+    let first = bare_program(alloc).subcommand(check)?;
     let second = with_report(alloc, first, "conform", "Says whether a file conforms")?;
     let third = with_report(alloc, second, "show", "Shows what a file's header says")?;
     let fourth = with_report(alloc, third, "notes", "Lists a file's annotations")?;
@@ -105,7 +95,7 @@ fn program<'a>(alloc: Global) -> Result<Command<'a>, AllocError>
 /// Reads the program's words, of which the first is the program's name: `None` where `clap` takes a
 /// line that is no command with its arguments, as where nothing stands behind the name.
 ///
-/// The error is `clap`'s fault, also for a request for help, or want of memory. A line whose words
+/// The error is `clap`'s fault, also for a request for help or for the version, or want of memory. A line whose words
 /// behind the first aren't empty and don't begin with `-` is such a fault only where it is no job.
 pub fn job<'a>(alloc: Global, words: &'a [&'a str]) -> Result<Option<Job<'a>>, Error>
     ensures some { IfOk result (λ found. IfSome found (SaysJob (behind_first words.entry.now))) }

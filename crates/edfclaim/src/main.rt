@@ -6,23 +6,14 @@
 //! (`status`). Why a job is refused is a `Refusal`, whose one line goes to standard error.
 #![tactic(auto)]
 
-mod command;
-mod conform;
 mod files;
 mod job;
-mod notes;
 mod perform;
-mod refusal;
-pub mod report;
-mod show;
-mod status;
-#[cfg(test)]
-mod tests;
-pub mod vectors;
 
-use crate::command::Job;
-use crate::refusal::Refusal;
 use clap::error::ErrorKind;
+use edf_command::command::Job;
+use edf_command::refusal::Refusal;
+use edf_command::status;
 use std::process::ExitCode;
 use std::rt::{Env, Files};
 use std::{env, io};
@@ -36,7 +27,7 @@ fn refuse(rt: &impl Eprint, line: &str) -> u8 {
 }
 
 /// Answers a line that `clap` doesn't take, and gives the status: its text on standard error and 2, or on
-/// standard output and 0 where help was asked for.
+/// standard output and 0 where help or the version was asked for.
 fn answer_fault(rt: &(impl Print + Eprint), fault: &clap::Error) -> u8 {
     if fault.kind() == ErrorKind::OutOfMemory {
         return refuse(rt, Refusal::Memory.text());

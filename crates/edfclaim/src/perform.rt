@@ -1,14 +1,14 @@
 //! The commands, on files and standard output.
 
-use crate::command::Job;
-use crate::conform::conform_to;
 use crate::files::{claim_text, recording};
-use crate::notes::notes_to;
-use crate::refusal::{Refusal, Role};
-use crate::show::show_to;
-use crate::vectors::vectors_to;
 use edf_check::outcome::Outcome;
 use edf_check::run;
+use edf_command::command::Job;
+use edf_command::conform::conform_to;
+use edf_command::notes::notes_to;
+use edf_command::refusal::{Refusal, Role};
+use edf_command::show::show_to;
+use edf_command::vectors::vectors_to;
 use edf_fields::sink::{Sink, WriteSink};
 use std::io;
 use std::rt::Files;

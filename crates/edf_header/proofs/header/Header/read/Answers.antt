@@ -1,101 +1,46 @@
-use Rattle.std.proofs.Common.{◌≡◌, ◌∙◌, ◌*◌, ap, sym, subst, refl, length, take, drop, Some, IsTrue}
-use Rattle.std.proofs.lemmas.Result.{err_from_is_err_and}
-use Rattle.edf_fields.specs.Sources.{Rises}
+use Rattle.std.proofs.Common.{◌∙◌, ap, sym, subst, drop}
 use Rattle.edf_header.specs.Conforming.{HeaderConforms}
-use Rattle.edf_header.specs.Faults.{columns_missing, columns_tests, header_fault}
-use Rattle.edf_header.specs.Layout.{columns}
-use Rattle.edf_fields.specs.Tests.{first}
 use Rattle.edf_header.specs.Heads.{Head, HasHead, header_bytes}
 use Rattle.edf_header.proofs.ConformingFacts.{passing-conforms}
-use Rattle.edf_header.proofs.FirstFacts.{stops-weaker}
 use Rattle.edf_header.proofs.HeadFacts.{has-head}
 use Rattle.edf_header.proofs.KeptFacts.{kept}
-use Rattle.edf_header.proofs.ReadFacts.{front_found, columns-left, view-is, head-is, rest-is}
-use Rattle.edf_header.proofs.TogetherFacts.{column_found}
+use Rattle.edf_header.proofs.ReadFacts.{columns-left, view-is, head-is, rest-is}
 use Rattle.edf_header.proofs.header.Header.read.Goals as goal
-
-pub returns-in_err-fixed-clause-stop : goal.returns-in_err-fixed-clause-stop
-returns-in_err-fixed-clause-stop g c =
-    let p = err_from_is_err_and c.from_residual-in_err-fixed.result c.from_residual-in_err-fixed.ensures.1 in
-    rw (p.1, p.2) ((λ h. front_found _ _ _ (c.deref.ensures.value ∙ c.in_ok-front.ensures.front h) c.in_err-fixed.ensures), c.in_ok-front.ensures.failures)
-
-pub returns-in_err-columns-clause-stop : goal.returns-in_err-columns-clause-stop
-returns-in_err-columns-clause-stop g c =
-    let p = err_from_is_err_and c.from_residual-in_err-columns.result c.from_residual-in_err-columns.ensures.1 in
-    let failures = g.S.Source.failures in
-    let honest = g.S.Source.is_honest in
-    let left = g.S.Source.left in
-    let b = left c.args.source.now in
-    let front = c.in_ok-front.front.items in
-    let n = c.in_ok-fixed.fixed.extent.signals in
-    let said = rw c.deref.ensures.value at c.in_ok-fixed.ensures in
-    let old = c.next_bytes.new.source in
-    let new = c.read_columns.new.source in
-    rw (p.1, p.2) (stops-weaker (λ f. IsTrue (honest old) → first (columns_missing columns n (length (take (256 * n) (left old)))) ≡ Some f)
-    (λ f. IsTrue (honest c.args.source.now) → header_fault b ≡ Some f)
-    (Rises (failures old) (failures new)) (Rises (failures c.args.source.now) (failures new))
-    (failures new ≡ failures old) (failures new ≡ failures c.args.source.now)
-    (λ f q h.
-    let rest : left old ≡ drop 256 b = c.in_ok-front.ensures.behind h in
-    let short : first (columns_missing columns n (length (take (256 * n) (drop 256 b)))) ≡ Some f = ap (λ xs. first (columns_missing columns n (length (take (256 * n) xs)))) (sym rest) ∙ q (c.in_ok-front.ensures.honesty h) in
-    columns-left b front (take (256 * n) (drop 256 b)) n (c.in_ok-front.ensures.front h) said.3.signals refl said.0 ∙ column_found n (take (256 * n) (drop 256 b)) f short)
-    (λ q. rw (sym c.in_ok-front.ensures.failures) q) (λ q. q ∙ c.in_ok-front.ensures.failures) _ c.in_err-columns.ensures.stop)
-
-pub returns-in_err-body-clause-stop : goal.returns-in_err-body-clause-stop
-returns-in_err-body-clause-stop g c =
-    let p = err_from_is_err_and c.from_residual-in_err-body.result c.from_residual-in_err-body.ensures.1 in
-    let failures = g.S.Source.failures in
-    let b = g.S.Source.left c.args.source.now in
-    let front = c.in_ok-front.front.items in
-    let bytes = c.in_ok-columns.columns.bytes in
-    let n = c.in_ok-fixed.fixed.extent.signals in
-    let said = rw c.deref.ensures.value at c.in_ok-fixed.ensures in
-    rw (p.1, p.2) (stops-weaker (λ f. first (columns_tests n bytes) ≡ Some f)
-    (λ f. IsTrue (g.S.Source.is_honest c.args.source.now) → header_fault b ≡ Some f)
-    ⊥ (Rises (failures c.args.source.now) (failures c.read_columns.new.source)) (Unit {0}) (failures c.read_columns.new.source ≡ failures c.args.source.now)
-    (λ f q h.
-    let cols = c.in_ok-columns.ensures.front (c.in_ok-front.ensures.honesty h) ∙ ap (take (256 * n)) (c.in_ok-front.ensures.behind h) in
-    columns-left b front bytes n (c.in_ok-front.ensures.front h) said.3.signals cols said.0 ∙ q)
-    (λ q. absurd q) (λ _. c.in_ok-columns.ensures.failures ∙ c.in_ok-front.ensures.failures) _ (rw c.in_ok-columns.ensures.signals at c.in_err-body.ensures.stop))
 
 pub invariant_of-result : goal.invariant_of-result
 invariant_of-result g c =
-    let said = rw c.deref.ensures.value at c.in_ok-fixed.ensures in
-    let k = rw c.in_ok-columns.ensures.signals at c.in_ok-body.ensures.ok in (
-      kept c.in_ok-front.front.items c.in_ok-columns.columns.bytes c.in_ok-fixed.fixed.start c.in_ok-fixed.fixed.extent c.in_ok-body.body.signals.items c.in_ok-body.body.record_bytes
-          said.1 said.2 said.3 said.0 k.0 k.2 k.3 k.4,
-      k.5,
+    let p = c.in_ok-parts.parts in
+    let f = c.in_ok-parts.ensures.fixed in
+    let k = rw c.in_ok-parts.ensures.signals at c.in_ok-parts.ensures.body in (
+      kept p.front.items p.columns.bytes p.fixed.start p.fixed.extent p.body.signals.items p.body.record_bytes
+          f.whole f.starts f.extends f.passed k.passed k.signals_are k.record_bytes_are k.small,
+      k.annotations_are,
     )
 
 pub returns-clause-sound : goal.returns-clause-sound
 returns-clause-sound g c =
-    let said = rw c.deref.ensures.value at c.in_ok-fixed.ensures in
-    let k = rw c.in_ok-columns.ensures.signals at c.in_ok-body.ensures.ok in
-    (kept c.in_ok-front.front.items c.in_ok-columns.columns.bytes c.in_ok-fixed.fixed.start c.in_ok-fixed.fixed.extent c.in_ok-body.body.signals.items c.in_ok-body.body.record_bytes
-    said.1 said.2 said.3 said.0 k.0 k.2 k.3 k.4).sound
-
-pub returns-clause-honesty : goal.returns-clause-honesty
-returns-clause-honesty g c = λ h. c.in_ok-columns.ensures.honesty (c.in_ok-front.ensures.honesty h)
+    let p = c.in_ok-parts.parts in
+    let f = c.in_ok-parts.ensures.fixed in
+    let k = rw c.in_ok-parts.ensures.signals at c.in_ok-parts.ensures.body in
+    (kept p.front.items p.columns.bytes p.fixed.start p.fixed.extent p.body.signals.items p.body.record_bytes
+    f.whole f.starts f.extends f.passed k.passed k.signals_are k.record_bytes_are k.small).sound
 
 pub returns-clause-passed : goal.returns-clause-passed
 returns-clause-passed g c = λ h.
-    let b = g.S.Source.left c.args.source.now in
-    let front = c.in_ok-front.front.items in
-    let bytes = c.in_ok-columns.columns.bytes in
-    let n = c.in_ok-fixed.fixed.extent.signals in
-    let said = rw c.deref.ensures.value at c.in_ok-fixed.ensures in
-    let cols = c.in_ok-columns.ensures.front (c.in_ok-front.ensures.honesty h) ∙ ap (take (256 * n)) (c.in_ok-front.ensures.behind h) in
-    columns-left b front bytes n (c.in_ok-front.ensures.front h) said.3.signals cols said.0 ∙ (rw c.in_ok-columns.ensures.signals at c.in_ok-body.ensures.ok).0
+    let p = c.in_ok-parts.parts in
+    let f = c.in_ok-parts.ensures.fixed in
+    let k = rw c.in_ok-parts.ensures.signals at c.in_ok-parts.ensures.body in
+    columns-left (g.S.Source.left c.args.source.now) p.front.items p.columns.bytes p.fixed.extent.signals
+    (c.in_ok-parts.ensures.front h) f.extends.signals (c.in_ok-parts.ensures.bytes h) f.passed ∙ k.passed
 
 pub returns-clause-value : goal.returns-clause-value
 returns-clause-value g c = λ h.
-    let b = g.S.Source.left c.args.source.now in
-    let front = c.in_ok-front.front.items in
-    let bytes = c.in_ok-columns.columns.bytes in
-    let n = c.in_ok-fixed.fixed.extent.signals in
-    let said = rw c.deref.ensures.value at c.in_ok-fixed.ensures in
-    let cols = c.in_ok-columns.ensures.front (c.in_ok-front.ensures.honesty h) ∙ ap (take (256 * n)) (c.in_ok-front.ensures.behind h) in
-    view-is front bytes c.in_ok-fixed.fixed.start c.in_ok-fixed.fixed.extent c.in_ok-body.body.signals.items said.2 said.3 (rw c.in_ok-columns.ensures.signals at c.in_ok-body.ensures.ok).2 ∙ head-is b front bytes n (c.in_ok-front.ensures.front h) said.3.signals cols
+    let p = c.in_ok-parts.parts in
+    let f = c.in_ok-parts.ensures.fixed in
+    let k = rw c.in_ok-parts.ensures.signals at c.in_ok-parts.ensures.body in
+    view-is p.front.items p.columns.bytes p.fixed.start p.fixed.extent p.body.signals.items f.starts f.extends k.signals_are
+    ∙ head-is (g.S.Source.left c.args.source.now) p.front.items p.columns.bytes p.fixed.extent.signals
+    (c.in_ok-parts.ensures.front h) f.extends.signals (c.in_ok-parts.ensures.bytes h)
 
 pub returns-clause-says : goal.returns-clause-says
 returns-clause-says g c = λ h.
@@ -113,9 +58,8 @@ returns-clause-whole g c = λ h. (returns-clause-conforms g c h).whole
 pub returns-clause-behind : goal.returns-clause-behind
 returns-clause-behind g c = λ h.
     let b = g.S.Source.left c.args.source.now in
-    let front = c.in_ok-front.front.items in
-    let bytes = c.in_ok-columns.columns.bytes in
-    let n = c.in_ok-fixed.fixed.extent.signals in
-    let said = rw c.deref.ensures.value at c.in_ok-fixed.ensures in
-    let rest = c.in_ok-columns.ensures.behind (c.in_ok-front.ensures.honesty h) ∙ ap (drop (256 * n)) (c.in_ok-front.ensures.behind h) in
-    rest-is b front bytes (g.S.Source.left c.read_columns.new.source) n said.3.signals rest ∙ ap (λ (head : Head). drop (header_bytes head) b) (sym (view-is front bytes c.in_ok-fixed.fixed.start c.in_ok-fixed.fixed.extent c.in_ok-body.body.signals.items said.2 said.3 (rw c.in_ok-columns.ensures.signals at c.in_ok-body.ensures.ok).2))
+    let p = c.in_ok-parts.parts in
+    let f = c.in_ok-parts.ensures.fixed in
+    let k = rw c.in_ok-parts.ensures.signals at c.in_ok-parts.ensures.body in
+    rest-is b p.front.items p.columns.bytes (g.S.Source.left c.read_parts.new.source) p.fixed.extent.signals f.extends.signals (c.in_ok-parts.ensures.behind h)
+    ∙ ap (λ (head : Head). drop (header_bytes head) b) (sym (view-is p.front.items p.columns.bytes p.fixed.start p.fixed.extent p.body.signals.items f.starts f.extends k.signals_are))

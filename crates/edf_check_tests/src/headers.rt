@@ -1,0 +1,173 @@
+//! The headers of an original and an export, and what `head_difference` answers; `tools/cases` has many more.
+
+use edf_check::head_difference::head_difference;
+use edf_check::verdict::{Difference, FreeText, SubfieldMismatch, TextField, Verdict};
+use edf_claim::claim::Claim;
+use edf_claim::which::Which;
+use edf_fields::source::SliceSource;
+use edf_header::fault::Place::{AtField, AtSignal};
+use edf_header::header::Header;
+use edf_header::layout::{FixedField as Fixed, SignalField as Field};
+use edf_test_files::file::{Done, Edit, header_of, put};
+use std::alloc::{AllocError, Global};
+use std::process::Abort;
+
+/// What `head_difference` answers, with labels as they stand in a table.
+#[derive(Debug, Clone, Copy, PartialEq, Eq)]
+pub enum Answer<'a> {
+    Agree,
+    Unknown(&'a [u8]),
+    Missing(&'a [u8]),
+    Extra(&'a [u8]),
+    Text(&'a [u8], TextField),
+    Calibration(&'a [u8]),
+    Subfield(Which, SubfieldMismatch),
+    Header,
+    Channel(&'a [u8]),
+    Other,
+}
+
+/// The answer of a verdict.
+pub fn answer_of(found: &Option<Verdict>) -> Answer<'_> {
+    let Some(verdict) = found else {
+        return Answer::Agree;
+    };
+    let Verdict::No(difference) = verdict else {
+        return Answer::Other;
+    };
+    match difference {
+        Difference::UnknownChannel(label) => Answer::Unknown(label.bytes()),
+        Difference::MissingChannel(label) => Answer::Missing(label.bytes()),
+        Difference::ExtraChannel(label) => Answer::Extra(label.bytes()),
+        Difference::ChannelText(label, field) => Answer::Text(label.bytes(), *field),
+        Difference::Calibration(label) => Answer::Calibration(label.bytes()),
+        Difference::Subfield(which, fault) => Answer::Subfield(*which, *fault),
+        Difference::NotClean(FreeText::Header) => Answer::Header,
+        Difference::NotClean(FreeText::Channel(label)) => Answer::Channel(label.bytes()),
+        _ => Answer::Other,
+    }
+}
+
+/// A header: these of the reference file's signals, by their numbers, and other texts in some fields.
+pub type Built<'a> = (&'a [usize], &'a [Edit<'a>]);
+
+/// The bytes of the header.
+fn bytes_of(alloc: Global, built: Built) -> Result<Vec<u8>, AllocError> {
+    let (signals, edits) = built;
+    let count = signals.len().to_string(alloc)?;
+    let size = signals.len().saturating_add(1).saturating_mul(256);
+    let size = size.to_string(alloc)?;
+    let mut file = header_of(alloc, signals)?;
+    put(&mut file, AtField(Fixed::Signals), count.as_str());
+    put(&mut file, AtField(Fixed::HeaderBytes), size.as_str());
+    for (place, text) in edits {
+        put(&mut file, *place, text);
+    }
+    Ok(file)
+}
+
+/// The header, which has no fault.
+pub fn read(alloc: Global, rt: &impl Abort, built: Built) -> Result<Header, AllocError> {
+    let file = bytes_of(alloc, built)?;
+    let header = Header::read(alloc, &mut SliceSource::new(&file));
+    Ok(header.expect(rt, "a header without a fault"))
+}
+
+/// A claim that keeps the first four seconds of these channels, with further keys.
+pub fn claim(
+    alloc: Global,
+    rt: &impl Abort,
+    channels: &str,
+    keys: &str,
+) -> Result<Claim, AllocError> {
+    let text = format!(in alloc;
+        "format = 1\nchannels = {channels}\n{keys}\n[[keep]]\nfrom = \"0\"\nto = \"4\"\n"
+    )?;
+    let claim = Claim::read(alloc, text.as_bytes());
+    Ok(claim.expect(rt, "a claim"))
+}
+
+/// What a comparison answers: the original, the export, the claimed channels, further keys of the claim,
+/// and the answer.
+type Row<'a> = (Built<'a>, Built<'a>, &'a str, &'a str, Answer<'a>);
+
+/// Asserts that a comparison answers what the row says.
+fn assert_row(alloc: Global, rt: &impl Abort, row: &Row, at: usize) -> Done {
+    let (original, export, channels, keys, want) = row;
+    let original = read(alloc, rt, *original)?;
+    let export = read(alloc, rt, *export)?;
+    let claim = claim(alloc, rt, channels, keys)?;
+    let found = head_difference(alloc, &original, &export, &claim)?;
+    let answer = answer_of(&found);
+    assert_eq!(rt; answer, *want, "at row {at}");
+    Ok(())
+}
+
+/// Asserts each row of a table.
+fn assert_rows(alloc: Global, rt: &impl Abort, rows: &[Row]) -> Done {
+    for (at, row) in rows.iter().enumerate() {
+        assert_row(alloc, rt, row, at)?;
+    }
+    Ok(())
+}
+
+const ALL: &[usize] = &[0, 1, 2];
+
+const A: Built<'static> = (ALL, &[]);
+
+const BOTH: &str = "[\"EEG Fpz-Cz\", \"ECG\"]";
+
+const EEG: &[u8] = b"EEG Fpz-Cz";
+
+const ECG: &[u8] = b"ECG";
+
+/// Comparisons: one that finds nothing, and one for each of several kinds of difference.
+const ROWS: &[Row<'static>] = &[
+    (
+        A,
+        (
+            ALL,
+            &[
+                (AtSignal(0, Field::PhysicalMinimum), "-100.0"),
+                (AtSignal(0, Field::PhysicalMaximum), "100.00"),
+            ],
+        ),
+        BOTH,
+        "",
+        Answer::Agree,
+    ),
+    (
+        A,
+        A,
+        "[\"EEG Fpz-Cz\", \"ECG\", \"EMG\"]",
+        "",
+        Answer::Unknown(b"EMG"),
+    ),
+    (A, A, "[\"ECG\"]", "", Answer::Extra(EEG)),
+    (
+        A,
+        (ALL, &[(AtSignal(1, Field::Prefilter), "HP:1Hz")]),
+        BOTH,
+        "",
+        Answer::Text(ECG, TextField::Prefilter),
+    ),
+    (
+        A,
+        (ALL, &[(AtSignal(0, Field::PhysicalMaximum), "100.0001")]),
+        BOTH,
+        "",
+        Answer::Calibration(EEG),
+    ),
+    (
+        A,
+        A,
+        BOTH,
+        "anonymous = [\"name\"]",
+        Answer::Subfield(Which::Name, SubfieldMismatch::NotX),
+    ),
+];
+
+#[test]
+fn compares_headers(rt: HostRuntime) -> Done {
+    assert_rows(rt.alloc(), &rt, ROWS)
+}

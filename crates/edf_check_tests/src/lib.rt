@@ -1,0 +1,23 @@
+//! Tests of `edf_check` by its public names: the differences of two headers, checks and their lines, a run that
+//! refuses its claim, where two slices of bytes differ first, and what a call does where a source, a sink or
+//! memory gives out.
+#![tactic(auto)]
+
+#[cfg(test)]
+mod first_difference;
+#[cfg(test)]
+mod headers;
+#[cfg(test)]
+mod large;
+#[cfg(test)]
+mod night;
+#[cfg(test)]
+mod scarce;
+#[cfg(test)]
+mod sinks;
+#[cfg(test)]
+mod sources;
+#[cfg(test)]
+mod timed;
+#[cfg(test)]
+mod verdict_lines;

@@ -1,0 +1,3 @@
+pub mod VectorsFacts
+pub mod ReportFacts
+pub mod NotesFacts

@@ -1,0 +1,12 @@
+//! Tests of `edf_command` by its public names: the reports on one file, the worked rows, the command that some
+//! words are, the line and the status of each refusal, and what is written where a sink or memory gives out.
+#![tactic(auto)]
+
+#[cfg(test)]
+mod refusals;
+#[cfg(test)]
+mod reports;
+#[cfg(test)]
+mod rows;
+#[cfg(test)]
+mod words;

@@ -1,0 +1,136 @@
+//! The worked rows: their text, what a sink holds of it that is too small, and the same under ever more memory.
+
+use edf_check::outcome::Outcome;
+use edf_command::report::ReportStop;
+use edf_command::vectors::line::Line;
+use edf_command::vectors::vectors_to;
+use edf_fields::sink::SliceSink;
+use edf_test_files::scarce::Scarce;
+use std::alloc::{AllocError, Global};
+use std::test::Fail;
+
+/// The rows, a line each.
+const TEXT: &str = concat!(
+    "1 YES channels 1 samples 2 annotations 0\n",
+    "2 YES channels 2 samples 24 annotations 3\n",
+    "3 YES channels 2 samples 24 annotations 3\n",
+    "4 YES channels 2 samples 12 annotations 1\n",
+    "5 NO 10 sample \"ECG\" at 3000000000000 ps extra\n",
+    "6 YES channels 2 samples 12 annotations 2\n",
+    "7 NO 2 export fault: NotContiguous at record 1\n",
+    "8 NO 10 sample \"EEG Fpz-Cz\" at 750000000000 ps original 30 export 31\n",
+    "9 NO 10 sample \"ECG\" at 2500000000000 ps original 105 export 104\n",
+    "10 YES channels 1 samples 6 annotations 0\n",
+    "11 NO 10 sample \"Temp\" at 1000000000000 ps missing\n",
+    "12 NO 10 sample \"Temp\" at 333333333333 ps extra\n",
+    "13 NO 10 sample \"Temp\" at 333333333333 ps original 2 export 9\n",
+    "14 YES channels 2 samples 24 annotations 3\n",
+    "15 YES channels 2 samples 24 annotations 3\n",
+    "16 NO 7 calibration \"EEG Fpz-Cz\"\n",
+    "17 NO 7 calibration \"EEG Fpz-Cz\"\n",
+    "18 NO 8 subfield name not X\n",
+    "19 NO 8 subfield sex changed\n",
+    "20 YES channels 2 samples 24 annotations 3\n",
+    "21 NO 8 subfield patient-extras not X\n",
+    "22 NO 8 subfield patient-extras changed\n",
+    "23 YES channels 2 samples 24 annotations 3\n",
+    "24 NO 8 subfield date changed\n",
+    "25 NO 2 export fault: StartdateDiffers at header field startdate\n",
+    "26 YES channels 2 samples 24 annotations 3\n",
+    "27 NO 11 annotation missing at 1500000000000 ps duration 1000000000000 ps text \"Apnea\"\n",
+    "28 NO 11 annotation extra at 500000000000 ps duration none text \"Lights off\"\n",
+    "29 NO 2 export fault: Truncated at record 3\n",
+    "30 NO 2 export fault: TrailingBytes at end\n",
+    "31 NO 1 original fault: Truncated at header field version\n",
+    "32 NO 2 export fault: Truncated at signal 2 field label\n",
+    "33 NO 2 export fault: BadTal(NotUtf8) at record 3\n",
+    "34 NO 1 original fault: BadRange at header field records\n",
+    "35 NO 9 not clean header\n",
+    "36 NO 9 not clean \"ECG\"\n",
+    "37 YES channels 2 samples 24 annotations 3\n",
+    "38 NO 5 extra channel \"EEG Fpz-Cz\"\n",
+    "39 NO 4 missing channel \"ECG\"\n",
+    "40 NO 6 channel text \"ECG\" prefilter\n",
+    "41 NO 3 unknown channel \"EMG\"\n",
+    "42 NO 2 export fault: BadStart at header field startdate\n",
+);
+
+#[test]
+fn writes_the_rows(rt: HostRuntime) -> Result<(), Fail> {
+    let mut text = Line::new(rt.alloc());
+    let outcome = vectors_to(rt.alloc(), &mut text);
+    assert_eq!(rt; outcome, Ok(Outcome::Yes));
+    assert_eq!(rt; text.bytes(), TEXT.as_bytes());
+    Ok(())
+}
+
+/// How writing the rows into so many bytes ended, and what stands in them then.
+fn rows_into(
+    alloc: Global,
+    count: usize,
+) -> Result<(Result<Outcome, ReportStop>, Vec<u8>), AllocError> {
+    let mut room = vec![in alloc; 0; count]?;
+    let mut sink = SliceSink::new(&mut room);
+    let outcome = vectors_to(alloc, &mut sink);
+    let written = Vec::from_slice(alloc, sink.written())?;
+    Ok((outcome, written))
+}
+
+#[test]
+fn holds_the_front_of_the_rows(rt: HostRuntime) -> Result<(), Fail> {
+    let alloc = rt.alloc();
+    assert_eq!(rt; TEXT.len(), 1904);
+    for count in [0usize, 4, 40, 41, 42, 82, 83, 1903] {
+        let (outcome, written) = rows_into(alloc, count)?;
+        assert_eq!(rt; outcome, Err(ReportStop::WriteFailed));
+        assert_eq!(rt; written.len(), count);
+        assert!(rt; TEXT.as_bytes().starts_with(&written));
+    }
+    let (outcome, written) = rows_into(alloc, 1904)?;
+    assert_eq!(rt; outcome, Ok(Outcome::Yes));
+    assert_eq!(rt; &written[..], TEXT.as_bytes());
+    Ok(())
+}
+
+/// The most steps.
+const STEPS: usize = 1200;
+
+/// The size of the region that a step gives back, of which it leaves a part.
+const REGION: usize = 96 << 10;
+
+/// Whether the rows are written; or none where that wants memory, and then a front of their text is written.
+fn is_written(alloc: Global) -> Option<bool> {
+    let mut room = [0u8; 2048];
+    let mut sink = SliceSink::new(&mut room);
+    let outcome = vectors_to(alloc, &mut sink);
+    let text = sink.written();
+    match outcome {
+        Ok(Outcome::Yes) => Some(text == TEXT.as_bytes()),
+        Err(ReportStop::OutOfMemory) if TEXT.as_bytes().starts_with(text) => None,
+        _ => Some(false),
+    }
+}
+
+/// Writes the rows with ever more memory, 80 bytes more in each step, until none is wanted: whether they were
+/// written then, and how often memory was wanted before.
+fn rise(alloc: Global) -> Result<(bool, u64), AllocError> {
+    let mut scarce = Scarce::new(alloc, STEPS, REGION)?;
+    let mut refused = 0u64;
+    for step in 2..STEPS {
+        scarce.leave(alloc, 80 * step)?;
+        let found = is_written(alloc);
+        scarce.take_back(alloc);
+        if let Some(right) = found {
+            return Ok((right, refused));
+        }
+        refused = refused.saturating_add(1);
+    }
+    Ok((false, refused))
+}
+
+#[test]
+fn writes_the_rows_or_wants_memory(rt: HostRuntime) -> Result<(), Fail> {
+    let (is_right, refused) = rise(rt.alloc())?;
+    assert!(rt; is_right && refused > 0, "{refused}");
+    Ok(())
+}

@@ -1,0 +1,44 @@
+//! The command that some words are.
+
+use edf_command::command::Job;
+use edf_command::words::job_of;
+
+/// Words, and the command that they are.
+const WORDS: &[(&[&str], Option<Job<'static>>)] = &[
+    (
+        &["edfclaim", "check", "night.edf", "export.edf", "claim.toml"],
+        Some(Job::Check {
+            original: "night.edf",
+            export: "export.edf",
+            claim: "claim.toml",
+        }),
+    ),
+    (
+        &["edfclaim", "conform", "night.edf"],
+        Some(Job::Conform("night.edf")),
+    ),
+    (
+        &["edfclaim", "show", "night.edf"],
+        Some(Job::Show("night.edf")),
+    ),
+    (
+        &["edfclaim", "notes", "night.edf"],
+        Some(Job::Notes("night.edf")),
+    ),
+    (&["edfclaim", "vectors"], Some(Job::Vectors)),
+    (&["another name", "vectors"], Some(Job::Vectors)),
+    (&["edfclaim", "show", "vectors"], Some(Job::Show("vectors"))),
+    (&["edfclaim", "show", ""], Some(Job::Show(""))),
+    (&["edfclaim", "show", "-"], Some(Job::Show("-"))),
+    (&["edfclaim"], None),
+    (&[], None),
+    (&["edfclaim", "show", "--", "-night.edf"], None),
+    (&["edfclaim", "vectors", "--"], None),
+];
+
+#[test]
+fn tells_the_commands(rt: HostRuntime) {
+    for (words, job) in WORDS {
+        assert_eq!(rt; job_of(words), *job, "at {words:?}");
+    }
+}
