@@ -150,6 +150,24 @@ fn summary_of(header: &Header, notes: &[Note]) -> Summary
     Summary::of(header, notes.len() as u64)
 }
 
+/// Two files that were read to their ends.
+#[derive(Clone, Copy)]
+struct BothRead<'a> {
+    original: &'a Reading,
+    export: &'a Reading,
+}
+
+impl<'a> BothRead<'a> {
+    /// How much the export holds.
+    fn exported(self) -> Summary
+        ensures channels { result.channels ≡ length (channels_among (self.entry.export.now.reader.head).signals) }
+        ensures samples { result.samples ≡ (self.entry.export.now.reader.head).records * samples_together (channels_among (self.entry.export.now.reader.head).signals) }
+        ensures annotations { result.annotations ≡ length self.entry.export.now.notes.items }
+    {
+        summary_of(self.export.reader.header(), &self.export.notes)
+    }
+}
+
 /// Reads on in two files whose headers agree, and compares them.
 ///
 /// The error is want of memory, or a failure of one of the sources.
@@ -182,7 +200,11 @@ fn walk_contents<O: Source, E: Source>(
     let frame = Frame { clock, claim, room };
     match walk_records(alloc, &mut original, o, &mut export, e, &pairs, frame) {
         Ok(Ok(found)) => {
-            let summary = summary_of(export.reader.header(), &export.notes);
+            let summary = BothRead {
+                original: &original,
+                export: &export,
+            }
+            .exported();
             let walked = conclude(alloc, found, &labels, original.notes, export.notes, summary)?;
             Ok(walked)
         }

@@ -9,6 +9,8 @@ use edf_check::run::{RunStop, run};
 use edf_check::side::CheckStop;
 use edf_check::verdict::Verdict;
 use edf_claim::claim::Claim;
+use edf_claim::stop::ClaimStop;
+use edf_claim::which::Which;
 use edf_fields::sink::SliceSink;
 use edf_fields::source::SliceSource;
 use edf_header::fault::Place;
@@ -25,7 +27,7 @@ use std::test::Fail;
 const STEPS: usize = 1200;
 
 /// The size of the region that a step gives back, of which it leaves a part.
-const REGION: usize = 1 << 15;
+const REGION: usize = 40 << 10;
 
 /// Two headers and a claim.
 #[derive(Clone, Copy)]
@@ -44,10 +46,13 @@ struct Run<'a> {
     line: &'a str,
 }
 
-/// One of the calls: comparing two headers whose second channel has another calibration, checking a file with
-/// this header that keeps the time for so many seconds against itself, or a run.
+/// One of the calls: reading a claim, refusing one, comparing two headers whose second channel has another
+/// calibration, checking a file with this header that keeps the time for so many seconds against itself, or a
+/// run.
 #[derive(Clone, Copy)]
 enum Call<'a> {
+    Claiming,
+    Refusing,
     Comparing(Pair<'a>),
     Checking(&'a [u8], usize, &'a Claim),
     Running(Run<'a>),
@@ -92,22 +97,73 @@ fn is_run(alloc: Global, call: Run) -> Option<bool> {
     }
 }
 
+/// A claim that has each key.
+const CLAIM: &str = "format = 1
+channels = [\"ECG\"]
+anonymous = [\"name\"]
+shift = -1
+remove = [\"Lights off\"]
+[[keep]]
+from = \"0\"
+to = \"4\"
+";
+
+/// The same with a text twice.
+const BAD_REMOVE: &str = "format = 1
+channels = [\"ECG\"]
+remove = [\"Lights off\", \"Lights off\"]
+[[keep]]
+from = \"0\"
+to = \"4\"
+";
+
+/// Whether the claim is the one that has each key, as far as its channels and its rest go.
+fn is_known(claim: &Claim) -> bool {
+    claim.channels().len() == 1
+        && claim.keeps_channel(b"ECG")
+        && claim.is_anonymous(Which::Name)
+        && claim.shift_ps() == -1_000_000_000_000
+        && claim.keeps_annotation(0, "Apnea")
+        && !claim.keeps_annotation(0, "Lights off")
+        && !claim.keeps_annotation(4_000_000_000_000, "Apnea")
+}
+
+/// Whether a claim is read; or none where that wants memory.
+fn is_claimed(alloc: Global) -> Option<bool> {
+    match Claim::read(alloc, CLAIM.as_bytes()) {
+        Ok(claim) => Some(is_known(&claim)),
+        Err(ClaimStop::OutOfMemory) => None,
+        Err(_) => Some(false),
+    }
+}
+
+/// Whether a claim is refused as it should; or none where that wants memory.
+fn is_refused(alloc: Global) -> Option<bool> {
+    match Claim::read(alloc, BAD_REMOVE.as_bytes()) {
+        Err(ClaimStop::OutOfMemory) => None,
+        Err(stop) => Some(stop == ClaimStop::BadRemove),
+        Ok(_) => Some(false),
+    }
+}
+
 /// Whether the call ends as it should, or none where it wants memory.
 fn called(alloc: Global, call: Call) -> Option<bool> {
     match call {
+        Call::Claiming => is_claimed(alloc),
+        Call::Refusing => is_refused(alloc),
         Call::Comparing(pair) => is_recalibrated(alloc, pair),
         Call::Checking(header, seconds, claim) => is_taken(alloc, header, seconds, claim),
         Call::Running(run) => is_run(alloc, run),
     }
 }
 
-/// Calls with ever more memory, 16 bytes more in each step, until a call doesn't want any: whether that one
+/// Calls with ever more memory, 32 bytes more in each step, until a call doesn't want any: whether that one
 /// ended as it should, and how many did want memory before.
 fn rise(alloc: Global, call: Call) -> Result<(bool, u64), AllocError> {
     let mut scarce = Scarce::new(alloc, STEPS, REGION)?;
     let mut refused = 0u64;
     for step in 2..STEPS {
-        scarce.leave(alloc, 16 * step)?;
+        scarce.leave(alloc, 32 * step)?;
         let found = called(alloc, call);
         scarce.take_back(alloc);
         if let Some(right) = found {
@@ -116,6 +172,15 @@ fn rise(alloc: Global, call: Call) -> Result<(bool, u64), AllocError> {
         refused = refused.saturating_add(1);
     }
     Ok((false, refused))
+}
+
+#[test]
+fn reads_a_claim_or_wants_memory(rt: HostRuntime) -> Result<(), Fail> {
+    for call in [Call::Claiming, Call::Refusing] {
+        let (is_right, refused) = rise(rt.alloc(), call)?;
+        assert!(rt; is_right && refused > 0, "{refused}");
+    }
+    Ok(())
 }
 
 /// A comparison of two headers wants memory for what it looks up, and for the label that it answers.
@@ -132,7 +197,7 @@ fn compares_headers_or_wants_memory(rt: HostRuntime) -> Result<(), AllocError> {
         claim: &claim,
     };
     let (is_right, refused) = rise(alloc, Call::Comparing(pair))?;
-    assert!(rt; is_right && refused > 4, "{refused}");
+    assert!(rt; is_right && refused > 2, "{refused}");
     Ok(())
 }
 
@@ -155,7 +220,7 @@ fn lasting(alloc: Global, seconds: usize) -> Result<(Vec<u8>, Claim), Fail> {
 fn checks_in_the_memory_of_two_records(rt: HostRuntime) -> Result<(), Fail> {
     let (header, claim) = lasting(rt.alloc(), 4)?;
     let (is_right, refused) = rise(rt.alloc(), Call::Checking(&header, 4, &claim))?;
-    assert!(rt; is_right && refused >= 64, "{refused}");
+    assert!(rt; is_right && refused >= 32, "{refused}");
     let (header, claim) = lasting(rt.alloc(), 400)?;
     let of_long = rise(rt.alloc(), Call::Checking(&header, 400, &claim))?;
     assert_eq!(rt; of_long, (true, refused));

@@ -1,6 +1,4 @@
-//! What no clause says: claims as a sleep centre writes them, their refusals, and memory that runs out.
+//! What no clause says: what a claim keeps, and the refusals by their names.
 
 mod keeps;
-mod long;
 mod refusals;
-mod scarce;

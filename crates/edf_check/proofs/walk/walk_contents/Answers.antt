@@ -16,34 +16,33 @@ use Rattle.edf_check.proofs.walk.walk_contents.Goals as goal
 
 pub conclude-requires : goal.conclude-requires
 conclude-requires g c =
-    let labels = c.deref-in-Ok-Ok-2.result.now in
+    let labels = c.deref-in-Ok-Ok.result.now in
     let f : Bor (List ℕ) → Places = λ label. (channel_at label.now c.header-2.result.now, channel_at label.now c.header-3.result.now) in
     let modest = rw c.in-Ok-Ok.field-0-is at c.in-Ok-Ok.ensures.modest in
     found_within c.deref-3.result.now labels f c.in-Ok-Ok.found
-    (ap (map places_of) c.deref-3.ensures.value ∙ c.in_ok-pairs.ensures.places ∙ ap (map f) (c.deref.ensures.value ∙ sym c.deref-in-Ok-Ok-2.ensures.value)) modest
+    (ap (map places_of) c.deref-3.ensures.value ∙ c.in_ok-pairs.ensures.places ∙ ap (map f) (c.deref.ensures.value ∙ sym c.deref-in-Ok-Ok.ensures.value)) modest
 
 pub returns-in_ok-walked-in-Ok-Ok-clause-walked : goal.returns-in_ok-walked-in-Ok-Ok-clause-walked
 returns-in_ok-walked-in-Ok-Ok-clause-walked g c = λ ho he a b so se agree.
     let claim = c.args.claim.now in
     let r = c.args.first.reader in
     let s = c.args.second.reader in
-    let labels = c.deref-in-Ok-Ok-2.result.now in
+    let labels = c.deref-in-Ok-Ok.result.now in
     let clock = c.new-clock.result in
     let heads = rw c.in-Ok-Ok.field-0-is at c.in-Ok-Ok.ensures.heads in
     let found = rw c.in-Ok-Ok.field-0-is at c.in-Ok-Ok.ensures.found in
-    let head : c.header-in-Ok-Ok.result.now ≡ s.head = c.header-in-Ok-Ok.ensures ∙ heads.1 in
     let f : Head → Head → Bor (List ℕ) → Places = λ h k label. (channel_at label.now h, channel_at label.now k) in
-    let places = ap (map places_of) c.deref-3.ensures.value ∙ c.in_ok-pairs.ensures.places ∙ ap (map (f c.header-2.result.now c.header-3.result.now)) (c.deref.ensures.value ∙ sym c.deref-in-Ok-Ok-2.ensures.value)
+    let places = ap (map places_of) c.deref-3.ensures.value ∙ c.in_ok-pairs.ensures.places ∙ ap (map (f c.header-2.result.now c.header-3.result.now)) (c.deref.ensures.value ∙ sym c.deref-in-Ok-Ok.ensures.value)
     ∙ ap (λ h. map (f h c.header-3.result.now) labels) c.header-2.ensures ∙ ap (λ k. map (f r.head k) labels) c.header-3.ensures in
     let sorted = subst (λ (ls : List (List ℕ)). AreSorted ls c.in_ok-labels.labels.items) c.channels.ensures.channels c.in_ok-labels.ensures.sorted in
-    let here = subst (AreSorted claim.channels) (sym c.deref-in-Ok-Ok-2.ensures.value) sorted in
+    let here = subst (AreSorted claim.channels) (sym c.deref-in-Ok-Ok.ensures.value) sorted in
     c.in_ok-walked-in-Ok-Ok.ensures.walked a b claim
     (found-of a b claim r s (g.O.Source.left c.args.o.now) (g.E.Source.left c.args.e.now) (g.O.Source.left c.walk_records.new.o) (g.E.Source.left c.walk_records.new.e)
-    (c.walk_records.new.original.notes).items (c.walk_records.new.export.notes).items clock c.summary_of-summary.result (map places_of c.deref-3.result.now) labels c.in-Ok-Ok.found so se agree
+    (c.walk_records.new.original.notes).items (c.walk_records.new.export.notes).items clock c.exported-summary.result (map places_of c.deref-3.result.now) labels c.in-Ok-Ok.found so se agree
     (rw c.header.ensures at c.new-clock.ensures) here places (found ho he a b so se)
-    (c.summary_of-summary.ensures.channels ∙ ap (λ (h : Head). length (channels_among h.signals)) head)
-    (c.summary_of-summary.ensures.samples ∙ ap (λ (h : Head). h.records * samples_together (channels_among h.signals)) head)
-    (c.summary_of-summary.ensures.annotations ∙ ap length c.deref-in-Ok-Ok.ensures.value))
+    (c.exported-summary.ensures.channels ∙ ap (λ (h : Head). length (channels_among h.signals)) heads.1)
+    (c.exported-summary.ensures.samples ∙ ap (λ (h : Head). h.records * samples_together (channels_among h.signals)) heads.1)
+    c.exported-summary.ensures.annotations)
 
 pub returns-in_ok-walked-in-Ok-Ok-clause-read : goal.returns-in_ok-walked-in-Ok-Ok-clause-read
 returns-in_ok-walked-in-Ok-Ok-clause-read g c = λ ho he a b so se.
