@@ -157,13 +157,13 @@ fn called(alloc: Global, call: Call) -> Option<bool> {
     }
 }
 
-/// Calls with ever more memory, 32 bytes more in each step, until a call doesn't want any: whether that one
-/// ended as it should, and how many did want memory before.
-fn rise(alloc: Global, call: Call) -> Result<(bool, u64), AllocError> {
+/// Calls with ever more memory, so many bytes more in each step, until a call doesn't want any: whether that
+/// one ended as it should, and how many did want memory before.
+fn rise(alloc: Global, call: Call, more: u8) -> Result<(bool, u64), AllocError> {
     let mut scarce = Scarce::new(alloc, STEPS, REGION)?;
     let mut refused = 0u64;
     for step in 2..STEPS {
-        scarce.leave(alloc, 32 * step)?;
+        scarce.leave(alloc, usize::from(more) * step)?;
         let found = called(alloc, call);
         scarce.take_back(alloc);
         if let Some(right) = found {
@@ -177,7 +177,7 @@ fn rise(alloc: Global, call: Call) -> Result<(bool, u64), AllocError> {
 #[test]
 fn reads_a_claim_or_wants_memory(rt: HostRuntime) -> Result<(), Fail> {
     for call in [Call::Claiming, Call::Refusing] {
-        let (is_right, refused) = rise(rt.alloc(), call)?;
+        let (is_right, refused) = rise(rt.alloc(), call, 32)?;
         assert!(rt; is_right && refused > 0, "{refused}");
     }
     Ok(())
@@ -196,8 +196,8 @@ fn compares_headers_or_wants_memory(rt: HostRuntime) -> Result<(), AllocError> {
         export: &export,
         claim: &claim,
     };
-    let (is_right, refused) = rise(alloc, Call::Comparing(pair))?;
-    assert!(rt; is_right && refused > 2, "{refused}");
+    let (is_right, refused) = rise(alloc, Call::Comparing(pair), 16)?;
+    assert!(rt; is_right && refused > 4, "{refused}");
     Ok(())
 }
 
@@ -219,10 +219,10 @@ fn lasting(alloc: Global, seconds: usize) -> Result<(Vec<u8>, Claim), Fail> {
 #[test]
 fn checks_in_the_memory_of_two_records(rt: HostRuntime) -> Result<(), Fail> {
     let (header, claim) = lasting(rt.alloc(), 4)?;
-    let (is_right, refused) = rise(rt.alloc(), Call::Checking(&header, 4, &claim))?;
-    assert!(rt; is_right && refused >= 32, "{refused}");
+    let (is_right, refused) = rise(rt.alloc(), Call::Checking(&header, 4, &claim), 16)?;
+    assert!(rt; is_right && refused >= 64, "{refused}");
     let (header, claim) = lasting(rt.alloc(), 400)?;
-    let of_long = rise(rt.alloc(), Call::Checking(&header, 400, &claim))?;
+    let of_long = rise(rt.alloc(), Call::Checking(&header, 400, &claim), 16)?;
     assert_eq!(rt; of_long, (true, refused));
     Ok(())
 }
@@ -242,7 +242,7 @@ fn assert_rise(
         claim,
         line,
     };
-    let (is_right, refused) = rise(alloc, Call::Running(run))?;
+    let (is_right, refused) = rise(alloc, Call::Running(run), 16)?;
     assert!(rt; is_right && refused > 0, "{refused}");
     Ok(())
 }

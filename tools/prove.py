@@ -1,0 +1,187 @@
+#!/usr/bin/env python3
+"""Proves the crates, the lowest first and as many side by side as the machine bears, over what earlier runs kept.
+
+usage: tools/prove.py build     what the program stands on and the program itself, which is left at
+                                crates/edfclaim/out/edfclaim
+       tools/prove.py check     all crates, and no program
+       tools/prove.py current   proves nothing: whether the program there is that of the sources as they are
+
+It prints a line where a crate is done and each half minute, and keeps all that the toolchain says in
+out/build.log or out/check.log.
+"""
+
+import hashlib
+import os
+import pathlib
+import re
+import subprocess
+import sys
+import threading
+import time
+
+TOP = pathlib.Path(__file__).resolve().parent.parent
+PROGRAM = "edfclaim"
+BUILT = TOP / "crates" / PROGRAM / "out" / PROGRAM
+SUM = TOP / "out" / "built.sum"
+EACH = 30
+
+
+def crates():
+    """The crates by name, each with those of them that it stands on, and how many lines it has."""
+    below = {}
+    for line in (TOP / "crates.txt").read_text(encoding="utf-8").splitlines():
+        name, colon, libraries = line.partition("#")[0].partition(":")
+        if colon:
+            below[name.split()[0]] = libraries.split()
+    below = {name: [it for it in libraries if it in below] for name, libraries in below.items()}
+    return below, {name: sum(len(text.splitlines()) for _, text in sources([name])) for name in below}
+
+
+def sources(names):
+    """Each file that a proof of these crates reads, and its text."""
+    for name in sorted(names):
+        for part in ("src", "specs", "proofs"):
+            for file in sorted((TOP / "crates" / name / part).rglob("*")):
+                if file.is_file():
+                    yield file.relative_to(TOP), file.read_bytes()
+
+
+def needed(below, name):
+    """The crate and all that it stands on."""
+    return {name}.union(*[needed(below, it) for it in below[name]])
+
+
+def sum_of_all(below):
+    """A sum of what the program is made of, the toolchain's name among it."""
+    made = hashlib.sha256(subprocess.run(["rt", "version"], capture_output=True).stdout)
+    for file in ("crates.txt", "HANDLES"):
+        made.update((TOP / file).read_bytes())
+    for file, text in sources(needed(below, PROGRAM)):
+        made.update(f"{file} {len(text)}\n".encode() + text)
+    return made.hexdigest()
+
+
+def is_current(below):
+    """Whether the program that stands there is that of the sources as they are."""
+    try:
+        said = SUM.read_text(encoding="utf-8").split()
+        return said == [sum_of_all(below), hashlib.sha256(BUILT.read_bytes()).hexdigest()]
+    except OSError:
+        return False
+
+
+def clock(seconds):
+    return f"{int(seconds) // 60}:{int(seconds) % 60:02}"
+
+
+class Run:
+    """The proof of a crate, which goes on."""
+
+    def __init__(self, name, words, log):
+        self.name, self.done, self.all = name, 0, 0
+        how = {"stdin": subprocess.DEVNULL, "stdout": subprocess.PIPE, "stderr": subprocess.STDOUT}
+        self.process = subprocess.Popen(words, cwd=TOP / "crates" / name, **how)
+        self.said, self.log, self.lines = threading.Thread(target=self.read), log, []
+        self.said.start()
+
+    def read(self):
+        for line in self.process.stdout:
+            line = line.decode(errors="replace").rstrip("\n")
+            self.log.write(f"{self.name}: {line}\n")
+            self.lines.append(line)
+            of = re.match(r"(?:checked .*, |so far: )(\d+) of (\d+)", line)
+            if of:
+                self.done, self.all = int(of[1]), int(of[2])
+
+    def status(self):
+        """How it ended, or none while it goes on."""
+        status = self.process.poll()
+        if status is not None:
+            self.said.join()
+        return status
+
+    def so_far(self):
+        return f"{self.name} {self.done} of {self.all}" if self.all else f"{self.name} reads"
+
+
+def words_of(name, verb, has_users, jobs):
+    """The command that proves a crate."""
+    flags = ["--progress", "--jobs", str(jobs)]
+    if verb == "build" and name == PROGRAM:
+        return ["rt", "run", *flags, "--", "vectors"]
+    return ["rt", "lib", *flags] if has_users else ["rt", "check", "--jobs", str(jobs)]
+
+
+def prove_all(verb, below, lines, names, lanes, log):
+    """Proves these crates. Returns the one that failed, or none."""
+    def behind(name):
+        return lines[name] + max([behind(it) for it in names if name in below[it]], default=0)
+
+    begun, left, running, done = time.time(), sorted(names, key=behind, reverse=True), [], set()
+    told = begun
+    while left or running:
+        ready = [name for name in left if done.issuperset(below[name])]
+        free = lanes - sum(jobs for _, jobs in running)
+        for name in ready:
+            # the one with the most behind it gets what the others leave free
+            jobs = max(1, min(4, free - len(ready) + 1)) if name == ready[0] else 1
+            if free < 1:
+                break
+            has_users = any(name in below[it] for it in names)
+            running.append((Run(name, words_of(name, verb, has_users, jobs), log), jobs))
+            left.remove(name)
+            free -= jobs
+        time.sleep(0.2)
+        for run, jobs in list(running):
+            status = run.status()
+            if status is None:
+                continue
+            running.remove((run, jobs))
+            if status:
+                for other, _ in running:
+                    other.process.terminate()
+                return run
+            done.add(run.name)
+            print(f"{clock(time.time() - begun)}  {run.name} proved", flush=True)
+            told = time.time()
+        if running and time.time() - told >= EACH:
+            told = time.time()
+            print(f"{clock(told - begun)}  {', '.join(run.so_far() for run, _ in running)}", flush=True)
+    return None
+
+
+def main():
+    below, lines = crates()
+    if sys.argv[1:] == ["current"]:
+        return 0 if is_current(below) else 1
+    if sys.argv[1:] not in (["build"], ["check"]):
+        print(f"usage: {sys.argv[0]} build | check | current", file=sys.stderr)
+        return 2
+    verb = sys.argv[1]
+    if verb == "build" and is_current(below):
+        print(f"{BUILT.relative_to(TOP)} stands there already, proved")
+        return 0
+    names = needed(below, PROGRAM) if verb == "build" else set(below)
+    lanes = int(subprocess.run([TOP / "tools" / "lanes.sh"], capture_output=True, check=True).stdout)
+    made = sum_of_all(below)
+    (TOP / "out").mkdir(exist_ok=True)
+    path = TOP / "out" / f"{verb}.log"
+    print(f"proving {len(names)} crates, up to {lanes} side by side; all that is said: {path.relative_to(TOP)}", flush=True)
+    begun = time.time()
+    with open(path, "w", buffering=1, encoding="utf-8") as log:
+        failed = prove_all(verb, below, lines, names, lanes, log)
+    if failed:
+        faults = [line for line in failed.lines if "error" in line or "not proved" in line] or failed.lines
+        print("\n".join(line[:300] for line in faults[:10]))
+        print(f"{failed.name} isn't proved; all that is said: {path.relative_to(TOP)}")
+        return 1
+    took = clock(time.time() - begun)
+    if verb == "build":
+        SUM.write_text(f"{made} {hashlib.sha256(BUILT.read_bytes()).hexdigest()}\n", encoding="utf-8")
+        print(f"built {BUILT.relative_to(TOP)}, proved, in {took} minutes")
+    else:
+        print(f"all proved in {took} minutes")
+    return 0
+
+
+sys.exit(main())
