@@ -14,7 +14,5 @@ mod remove;
 mod shift;
 pub mod stop;
 mod table;
-#[cfg(test)]
-mod tests;
 mod texts;
 pub mod which;

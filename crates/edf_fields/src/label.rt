@@ -43,20 +43,3 @@ impl SignalLabel {
         &self.bytes[..usize::from(self.length)]
     }
 }
-
-#[cfg(test)]
-mod tests {
-    use super::*;
-
-    /// Labels of no byte, of some, and of as many as there may be.
-    const LABELS: &[&[u8]] = &[b"", b"ECG", b"EDF Annotations", b"Saturation SpO2 "];
-
-    #[test]
-    fn gives_the_bytes_again(rt: HostRuntime) {
-        for bytes in LABELS {
-            let label = SignalLabel::new(bytes);
-            let same = label.text() == *bytes;
-            assert!(rt; same);
-        }
-    }
-}

@@ -87,24 +87,3 @@ impl<'a> Iterator for Subfields<'a> {
         }
     }
 }
-
-#[cfg(test)]
-mod tests {
-    use super::*;
-
-    #[test]
-    fn skips_runs_of_spaces(rt: HostRuntime) {
-        let mut subfields = Subfields::new(b"  MCH-0234567 F   02-MAY-1951 ");
-        assert_eq!(rt; subfields.next(), Some("MCH-0234567".as_bytes()));
-        assert_eq!(rt; subfields.next(), Some("F".as_bytes()));
-        assert_eq!(rt; subfields.next(), Some("02-MAY-1951".as_bytes()));
-        assert_eq!(rt; subfields.next(), None);
-        assert_eq!(rt; subfields.next(), None);
-    }
-
-    #[test]
-    fn finds_none_in_spaces(rt: HostRuntime) {
-        assert_eq!(rt; Subfields::new(b"").next(), None);
-        assert_eq!(rt; Subfields::new(b"    ").next(), None);
-    }
-}

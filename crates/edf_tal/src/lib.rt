@@ -9,7 +9,5 @@ mod separator;
 pub mod start;
 pub mod tal;
 pub mod tals;
-#[cfg(test)]
-mod tests;
 mod text;
 pub mod texts;

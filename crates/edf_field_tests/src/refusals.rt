@@ -1,7 +1,7 @@
 //! A claim, and a text for each refusal.
 
-use crate::claim::Claim;
-use crate::stop::ClaimStop;
+use edf_claim::claim::Claim;
+use edf_claim::stop::ClaimStop;
 use std::test::Fail;
 
 /// Texts, and why they are refused, or none; `tools/cases/claims.py` has many more.

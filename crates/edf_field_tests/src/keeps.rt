@@ -1,7 +1,7 @@
 //! What claims keep.
 
-use crate::claim::Claim;
-use crate::which::Which;
+use edf_claim::claim::Claim;
+use edf_claim::which::Which;
 use std::test::Fail;
 
 const CLAIM: &str = "format = 1
@@ -53,7 +53,7 @@ fn keeps_the_half_picosecond_before_the_end(rt: HostRuntime) -> Result<(), Fail>
     Ok(())
 }
 
-/// Two times, the later one last, and the first time behind the earlier one at which a stretch begins or
+/// Two times, the later one last, and the first time behind the earlier one at which an interval begins or
 /// ends; the later one where there is none before it.
 const BORDERS: &[(i128, i128, i128)] = &[
     (-5, 7_000_000_000_000, 0),
@@ -73,7 +73,7 @@ fn is_border(claim: &Claim, from: i128, to: i128, want: i128) -> bool {
 }
 
 #[test]
-fn finds_where_stretches_begin_and_end(rt: HostRuntime) -> Result<(), Fail> {
+fn finds_where_intervals_begin_and_end(rt: HostRuntime) -> Result<(), Fail> {
     let claim = Claim::read(rt.alloc(), CLAIM.as_bytes())?;
     for (from, to, want) in BORDERS {
         assert!(rt;
