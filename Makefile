@@ -1,35 +1,33 @@
-# Proves, builds, runs and tests. All that is needed is the Rattle toolchain (`rt`).
+# Shows, proves, builds and tests. All that is needed is the Rattle toolchain (`rt`).
 .PHONY: run build install check test oracle speed bench
 
 PREFIX = /usr/local
 PROGRAM = crates/edfclaim/out/edfclaim
+PAGES = START.md CLAIM.md READING-THE-ANSWER.md PROFILE.md
 
-# Proves the crates, builds the program, and shows a Yes and a No of it on the example night. A No is an
-# answer: its status 1 is the one that is wanted.
-run: build
-	@cd examples/night && set -- check original.edf cut.edf cut.toml && \
-	echo "$$ edfclaim $$*" && ../../$(PROGRAM) "$$@"
-	@cd examples/night && set -- check original.edf remark-left.edf cut.toml && \
-	echo "$$ edfclaim $$*" && { ../../$(PROGRAM) "$$@"; [ $$? -eq 1 ]; }
+# Shows a Yes and a No of the example night, without proofs where no proved program stands there: a minute or so.
+run:
+	@tools/first.sh
 
 # Proves the crates, and leaves the program at crates/edfclaim/out/edfclaim.
 build:
-	@cd crates/edfclaim && rt run -- vectors > /dev/null
-	@echo "built $(PROGRAM)"
+	@tools/prove.py build
 
-# Builds the program, and installs it with its manual page.
-install: build
-	install -d "$(DESTDIR)$(PREFIX)/bin" "$(DESTDIR)$(PREFIX)/share/man/man1"
+# Installs the program with its manual page and the users' pages. Where it stands there, and is that of the sources
+# as they are, it is installed as it stands.
+install:
+	@tools/prove.py current || tools/prove.py build
+	install -d "$(DESTDIR)$(PREFIX)/bin" "$(DESTDIR)$(PREFIX)/share/man/man1" "$(DESTDIR)$(PREFIX)/share/doc/edfclaim"
 	install -m 755 $(PROGRAM) "$(DESTDIR)$(PREFIX)/bin/edfclaim"
 	install -m 644 docs/edfclaim.1 "$(DESTDIR)$(PREFIX)/share/man/man1/edfclaim.1"
+	for page in $(PAGES); do install -m 644 "docs/$$page" "$(DESTDIR)$(PREFIX)/share/doc/edfclaim/$$page" || exit 1; done
 
 # All proofs and no more, over what earlier runs kept: for the daily loop.
 check:
-	@cd crates && rt all check --jobs "$$(../tools/lanes.sh)"
+	@tools/prove.py check
 
-# The whole gate: all proofs, tests, must-fail edits and runs; then the built program where it refuses, on the
-# example night, and with each growth of memory refused in turn. What it passed earlier on this machine isn't
-# proved again as long as nothing changes that it stands on.
+# The whole gate: all proofs, tests, must-fail edits and runs; then the scripts over the built program. What it
+# passed earlier on this machine isn't proved again as long as nothing changes that it stands on.
 test:
 	@tools/gate.sh
 

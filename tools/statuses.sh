@@ -53,7 +53,7 @@ faults() {
     judge $? "words: $*" "$status"
 }
 
-# Runs the program on these words, which ask for help.
+# Runs the program on these words, which ask for help or for the version.
 helps() {
     "$program" "$@" >"$work/out" 2>"$work/err"
     status=$?
@@ -84,7 +84,7 @@ for words in '' 'Vectors' 'vectors x' 'explain original.edf' 'conform' 'conform 
     # shellcheck disable=SC2086
     if [ -z "$words" ]; then faults ''; else faults $words; fi
 done
-for words in --help -h help 'help check' 'check --help'; do
+for words in --help -h help 'help check' 'check --help' --version -V; do
     # shellcheck disable=SC2086
     helps $words
 done
