@@ -1,0 +1,1 @@
+"""The tables of tools/cases.sh and tools/claims.py."""

@@ -1,0 +1,114 @@
+"""What the annotations of the night decide beside the worked rows."""
+
+from cases.files import bytes_of, claim_of, field, lane, recording, signal, values
+from cases.night import ALL, DARK, FOUR, L0, L1, L2, L3, NIGHT, S0, S1, S2, S3, YES
+
+# The night with an annotation before its start.
+EARLY = recording(
+    parts=[S0, lane(40, b'+0\x14\x14\x00-0.5\x14Alarm\x14\x00+0.5\x14Lights off\x14\x00'), S1, L1, S2, L2, S3, L3],
+    base=NIGHT,
+)
+
+# No interval begins before 0 s, so the annotation is kept nowhere.
+EARLY_ROWS = [
+    (EARLY, NIGHT, ALL, YES),
+    (EARLY, EARLY, ALL, 'NO 11 annotation extra at -500000000000 ps duration none text "Alarm"\n'),
+    (NIGHT, EARLY, ALL, 'NO 11 annotation extra at -500000000000 ps duration none text "Alarm"\n'),
+]
+
+# The night with an annotation that has no duration.
+BARE = recording(parts=[S0, L0, S1, L1, S2, lane(40, b'+2\x14\x14\x00+2.5\x14x\x14\x00'), S3, L3], base=NIGHT)
+
+# The same with a duration of 0 s.
+MOMENT = recording(parts=[S0, L0, S1, L1, S2, lane(40, b'+2\x14\x14\x00+2.5\x150\x14x\x14\x00'), S3, L3], base=NIGHT)
+
+# The night with both.
+TWINS = recording(
+    parts=[S0, L0, S1, L1, S2, lane(40, b'+2\x14\x14\x00+2.5\x150\x14x\x14\x00+2.5\x14x\x14\x00'), S3, L3],
+    base=NIGHT,
+)
+
+NO_DURATION_MISSING = 'NO 11 annotation missing at 2500000000000 ps duration none text "x"\n'
+
+# No duration comes before a duration of 0 s, and isn't the same.
+DURATION_ROWS = [
+    (TWINS, TWINS, ALL, 'YES channels 2 samples 24 annotations 5\n'),
+    (TWINS, MOMENT, ALL, NO_DURATION_MISSING),
+    (TWINS, NIGHT, ALL, NO_DURATION_MISSING),
+    (BARE, MOMENT, ALL, NO_DURATION_MISSING),
+    (TWINS, BARE, ALL, 'NO 11 annotation missing at 2500000000000 ps duration 0 ps text "x"\n'),
+    (MOMENT, BARE, ALL, 'NO 11 annotation extra at 2500000000000 ps duration none text "x"\n'),
+]
+
+# The night with a text that isn't printed as it stands.
+ODD = recording(
+    parts=[S0, L0, S1, L1, S2, lane(40, b'+2\x14\x14\x00+2.5\x14a\tb\n\r\x7f"\\\xc3\xa9\x14\x00'), S3, L3],
+    base=NIGHT,
+)
+
+# The night without its first annotation.
+UNLIT = recording(parts=[S0, lane(40, b'+0\x14\x14\x00'), S1, L1, S2, L2, S3, L3], base=NIGHT)
+
+TEXT_ROWS = [
+    (
+        ODD,
+        NIGHT,
+        ALL,
+        'NO 11 annotation missing at 2500000000000 ps duration none text "a\\x09b\\x0a\\x0d\\x7f\\x22\\x5cé"\n',
+    ),
+    (ODD, ODD, ALL, 'YES channels 2 samples 24 annotations 4\n'),
+    (NIGHT, UNLIT, DARK, 'YES channels 2 samples 24 annotations 2\n'),
+    (NIGHT, UNLIT, ALL, 'NO 11 annotation missing at 500000000000 ps duration none text "Lights off"\n'),
+]
+
+BLANK = lane(32, b'')
+
+# The night with a second annotation signal, which is blank.
+BLANK_SECOND = recording(
+    signals=[0, 1, 2, 4],
+    edits=[FOUR],
+    parts=[S0, L0, BLANK, S1, L1, BLANK, S2, L2, BLANK, S3, L3, BLANK],
+    length=None,
+)
+
+# The same with the last annotation in the second signal.
+MOVED = recording(
+    parts=[
+        S0,
+        L0,
+        BLANK,
+        S1,
+        L1,
+        BLANK,
+        S2,
+        L2,
+        BLANK,
+        S3,
+        lane(40, b'+3\x14\x14\x00'),
+        lane(32, b'+3\x14Apnea\x14\x00'),
+    ],
+    base=BLANK_SECOND,
+)
+
+# The same with one annotation more, in the second signal.
+COUGH = recording(
+    parts=[S0, L0, BLANK, S1, L1, lane(32, b'+1.25\x14Cough\x14\x00'), S2, L2, BLANK, S3, L3, BLANK],
+    base=BLANK_SECOND,
+)
+
+SECOND_ROWS = [
+    (NIGHT, BLANK_SECOND, ALL, YES),
+    (BLANK_SECOND, NIGHT, ALL, YES),
+    (NIGHT, MOVED, ALL, YES),
+    (COUGH, COUGH, ALL, 'YES channels 2 samples 24 annotations 4\n'),
+    (NIGHT, COUGH, ALL, 'NO 11 annotation extra at 1250000000000 ps duration none text "Cough"\n'),
+    (COUGH, NIGHT, ALL, 'NO 11 annotation missing at 1250000000000 ps duration none text "Cough"\n'),
+]
+
+
+
+def cases():
+    """Each check: the original, the export, the claim and the line."""
+    for row in EARLY_ROWS + DURATION_ROWS + TEXT_ROWS + SECOND_ROWS:
+        original, export, claim, line = row
+        yield "check", bytes_of(original), bytes_of(export), claim_of(*claim), line

@@ -1,0 +1,165 @@
+"""Small EDF+ files and claims, as the tables describe them."""
+
+import struct
+
+PATIENT = "MCH-0234567 F 02-MAY-1951 Haagse_Harry"
+RECORDING = "Startdate 02-MAR-2002 PSG-1234/2002 NN Telemetry03"
+
+# The fields of the fixed part: the name, how many bytes it has, and its text; a file says of itself how long its
+# header is and how many signals it has.
+FIXED = [
+    ("version", 8, "0"),
+    ("patient", 80, PATIENT),
+    ("recording", 80, RECORDING),
+    ("startdate", 8, "02.03.02"),
+    ("starttime", 8, "22.00.00"),
+    ("header-bytes", 8, None),
+    ("reserved", 44, "EDF+C"),
+    ("records", 8, "1"),
+    ("duration", 8, "1"),
+    ("signals", 4, None),
+]
+
+# The columns: the name, how many bytes of a signal it has, and the texts of five signals: two channels of the
+# night, its annotation signal, a channel `Temp`, and the annotation signal beside it.
+COLUMNS = [
+    ("label", 16, ["EEG Fpz-Cz", "ECG", "EDF Annotations", "Temp", "EDF Annotations"]),
+    ("transducer", 80, ["AgAgCl electrode", "AgAgCl electrode", "", "", ""]),
+    ("dimension", 8, ["uV", "mV", "", "degC", ""]),
+    ("physical-minimum", 8, ["-100", "-10", "-1", "30", "-1"]),
+    ("physical-maximum", 8, ["100", "10", "1", "40", "1"]),
+    ("digital-minimum", 8, ["-2048", "-2048", "-32768", "-2048", "-32768"]),
+    ("digital-maximum", 8, ["2047", "2047", "32767", "2047", "32767"]),
+    ("prefilter", 80, ["HP:0.1Hz LP:75Hz", "HP:0.1Hz LP:75Hz", "", "", ""]),
+    ("samples", 8, ["4", "2", "20", "2", "16"]),
+    ("reserved", 32, ["", "", "", "", ""]),
+]
+
+
+def field(name):
+    """The place of a field of the fixed part."""
+    return None, name
+
+
+def signal(number, name):
+    """The place of a field of a signal."""
+    return number, name
+
+
+def words(place):
+    """The place as a fault names it."""
+    number, name = place
+    return f"header field {name}" if number is None else f"signal {number} field {name}"
+
+
+def extent(place, signals):
+    """Where a field begins in a header of so many signals, and how many bytes it has."""
+    at = 0
+    for name, width, _ in FIXED:
+        if place == field(name):
+            return at, width
+        at += width
+    for name, width, _ in COLUMNS:
+        if place[1] == name:
+            return at + width * place[0], width
+        at += width * signals
+    raise ValueError(place)
+
+
+def put(file, signals, place, text):
+    """Puts another text into a field of a file with so many signals."""
+    at, width = extent(place, signals)
+    file[at:at + width] = text.encode("latin1").ljust(width)[:width]
+
+
+def header(signals, edits=()):
+    """A header of these signals, by their numbers among the five, with other texts in some fields."""
+    count = len(signals)
+    file = bytearray(256 * (count + 1))
+    for name, _, text in FIXED:
+        own = {"header-bytes": str(len(file)), "signals": str(count)}
+        put(file, count, field(name), text if text is not None else own[name])
+    for name, _, texts in COLUMNS:
+        for number, kind in enumerate(signals):
+            put(file, count, signal(number, name), texts[kind])
+    for place, text in edits:
+        put(file, count, place, text)
+    return file
+
+
+def values(samples):
+    """Samples, two bytes each, the low one first."""
+    return struct.pack(f"<{len(samples)}h", *samples)
+
+
+def lane(size, text):
+    """A lane of so many bytes, with zeros behind the text."""
+    return text.ljust(size, b"\0")
+
+
+def recording(base=None, **said):
+    """A file: its signals by their numbers, other texts in fields, what stands behind the header, and how many
+    bytes are left of it all where the end is cut off. What isn't said is that of the base."""
+    return {**(base or {"signals": [], "edits": [], "parts": [], "length": None}), **said}
+
+
+def bytes_of(file):
+    """The bytes of a file."""
+    whole = bytes(header(file["signals"], file["edits"])) + b"".join(file["parts"])
+    return whole[:file["length"]]
+
+
+def claim_of(channels, keys, keep):
+    """The text of a claim: the value of `channels`, further lines, and the intervals that are kept."""
+    tables = "".join(f'[[keep]]\nfrom = "{start}"\nto = "{end}"\n' for start, end in keep)
+    return f"format = 1\nchannels = {channels}\n{keys}\n{tables}"
+
+
+# How the samples of the channel `Temp` are cut into data records: how many there are, how long each is, how many
+# samples it has; the values of each and the onset of its start; whether the annotation signal comes first.
+def cut(base=None, **said):
+    first = {"records": "1", "duration": "1", "samples": "2", "parts": [], "is_lane_first": False, "kind": "EDF+C"}
+    return {**(base or first), **said}
+
+
+def temp_file(cut):
+    """The bytes of a file that is cut so."""
+    signals, channel = ([4, 3], 1) if cut["is_lane_first"] else ([3, 4], 0)
+    edits = [
+        (field("reserved"), cut["kind"]),
+        (field("records"), cut["records"]),
+        (field("duration"), cut["duration"]),
+        (signal(channel, "samples"), cut["samples"]),
+    ]
+    parts = []
+    for samples, onset in cut["parts"]:
+        both = [values(samples), lane(32, onset.encode() + b"\x14\x14")]
+        parts += reversed(both) if cut["is_lane_first"] else both
+    return bytes_of(recording(signals=signals, edits=edits, parts=parts))
+
+
+# The reference file: two channels and an annotation signal, four data records of 1 s.
+ALL_SIGNALS = [0, 1, 2]
+LANES = [
+    b"+0\x14\x14\0+0.5\x14Lights off\x14\0",
+    b"+1\x14\x14\0+1.5\x151\x14Apnea\x14\0",
+    b"+2\x14\x14\0",
+    b"+3\x14\x14\0+3\x14Apnea\x14\0",
+]
+
+
+def reference_header(edits=(), signals=ALL_SIGNALS):
+    return header(signals, [(field("records"), "4"), *edits])
+
+
+def recorded(edits=(), lanes=LANES):
+    """The reference file with other texts in some of its fields, and these lanes."""
+    file = reference_header(edits)
+    for k, text in enumerate(lanes):
+        file += values([40 * k + 10 * i for i in range(4)] + [100 + 2 * k + i for i in range(2)]) + lane(40, text)
+    return bytes(file)
+
+
+def small_file():
+    """A file of one data record of 1 s with two samples, 7 and -7: 804 bytes."""
+    return bytes_of(recording(signals=[3, 4], parts=[values([7, -7]), lane(32, b"+0\x14\x14")]))

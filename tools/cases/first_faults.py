@@ -1,0 +1,128 @@
+"""Which of two faults of a header is answered: the one that stands first in the order of the tests."""
+
+from cases.files import field, put, reference_header, signal, words
+
+LEADING_SPACE = 'BadSubfields(LeadingSpace)'
+
+# Faults of the fixed part, in the order of their tests.
+FIXED = [
+    ('version', '1\x1f', 'NotPrintable'),
+    ('version', '1', 'BadVersion'),
+    ('patient', ' \x1f', 'NotPrintable'),
+    ('patient', ' ', LEADING_SPACE),
+    ('recording', ' \x1f', 'NotPrintable'),
+    ('recording', ' ', LEADING_SPACE),
+    ('startdate', 'x\x1f', 'NotPrintable'),
+    ('startdate', 'x', 'BadStart'),
+    ('startdate', '03.03.02', 'StartdateDiffers'),
+    ('starttime', 'x\x1f', 'NotPrintable'),
+    ('starttime', 'x', 'BadStart'),
+    ('header-bytes', 'x\x1f', 'NotPrintable'),
+    ('header-bytes', 'x', 'BadNumber'),
+    ('reserved', 'x\x1f', 'NotPrintable'),
+    ('reserved', 'x', 'NotEdfPlus'),
+    ('records', 'x\x1f', 'NotPrintable'),
+    ('records', 'x', 'BadNumber'),
+    ('duration', '0\x1f', 'NotPrintable'),
+    ('duration', '0', 'BadRange'),
+    ('signals', '0\x1f', 'NotPrintable'),
+    ('signals', '0', 'BadRange'),
+    ('header-bytes', '1280', 'BadHeaderSize'),
+]
+
+SMALL_LANE = [
+    ('digital-minimum', '5'),
+    ('label', 'EDF Annotations'),
+]
+
+# Faults of any signal, in the order of their tests. Each stands at its last field.
+SIGNAL = [
+    ([('label', '\x1f')], 'NotPrintable'),
+    ([('transducer', '\x1f')], 'NotPrintable'),
+    ([('dimension', '\x1f')], 'NotPrintable'),
+    ([('physical-minimum', 'x\x1f')], 'NotPrintable'),
+    ([('physical-minimum', 'x')], 'BadNumber'),
+    ([('physical-maximum', 'x\x1f')], 'NotPrintable'),
+    ([('physical-maximum', 'x')], 'BadNumber'),
+    ([('digital-minimum', '40000\x1f')], 'NotPrintable'),
+    ([('digital-minimum', '40000')], 'BadRange'),
+    ([('digital-maximum', 'x\x1f')], 'NotPrintable'),
+    ([('digital-maximum', 'x')], 'BadNumber'),
+    ([('prefilter', '\x1f')], 'NotPrintable'),
+    ([('samples', '0\x1f')], 'NotPrintable'),
+    ([('samples', '0')], 'BadRange'),
+    ([('reserved', '\x1f')], 'NotPrintable'),
+    ([('digital-maximum', '-32768')], 'BadRange'),
+    ([('physical-minimum', '5'), ('physical-maximum', '5')], 'BadRange'),
+    (SMALL_LANE, 'BadAnnotationSignal'),
+]
+
+SIGNALS = field('signals')
+
+FIRST = signal(0, 'label')
+
+SECOND = signal(1, 'label')
+
+THIRD = signal(2, 'label')
+
+# The channels as annotation signals.
+NOTES = [
+    (FIRST, 'EDF Annotations'),
+    (signal(0, 'digital-minimum'), '-32768'),
+    (signal(0, 'digital-maximum'), '32767'),
+    (SECOND, 'EDF Annotations'),
+    (signal(1, 'digital-minimum'), '-32768'),
+    (signal(1, 'digital-maximum'), '32767'),
+]
+
+# Both channels with one label.
+ALIKE = [
+    (FIRST, 'ECG'),
+    (SECOND, 'ECG'),
+]
+
+# More samples than a data record can have.
+LARGE = [
+    (signal(0, 'samples'), '99999999'),
+]
+
+# Faults of the signals together, in the order of their tests. A file has only one of the first two.
+JOINT = [
+    ([(THIRD, 'EDF Notes')], SIGNALS, 'NoAnnotationSignal'),
+    (NOTES, SIGNALS, 'NoOrdinarySignal'),
+    (ALIKE, SECOND, 'DuplicateLabel'),
+    (LARGE, SIGNALS, 'RecordTooLarge'),
+]
+
+
+
+def spoil_signal(number, edits, cause):
+    """A fault of this signal: what makes it, its place and its cause."""
+    return [(signal(number, name), text) for name, text in edits], signal(number, edits[-1][0]), cause
+
+
+def faults():
+    """All faults in the order of their tests."""
+    for name, text, cause in FIXED:
+        yield [(field(name), text)], field(name), cause
+    for number in range(3):
+        for edits, cause in SIGNAL:
+            yield spoil_signal(number, edits, cause)
+    yield from JOINT
+
+
+def cases():
+    """Each header with two faults, and the line of `show`, which reads the header alone."""
+    all_faults = list(faults())
+    no_annotations = len(all_faults) - len(JOINT)
+    for later in range(len(all_faults)):
+        for first in range(later + 1):
+            # no file has no annotation signal and no channel
+            if (first, later) == (no_annotations, no_annotations + 1):
+                continue
+            file = reference_header()
+            for edits, _, _ in [all_faults[later], all_faults[first]]:
+                for place, text in edits:
+                    put(file, 3, place, text)
+            _, place, cause = all_faults[first]
+            yield "show", bytes(file), f"FAULT {cause} at {words(place)}\n"

@@ -1,0 +1,319 @@
+"""The worked rows, each on files that are written apart from those of the program."""
+
+from cases.files import bytes_of, claim_of, field, lane, recording, signal, values
+from cases.night import (
+    ALL, DARK, DATELESS, DAY_BEFORE, ENDS, EXCERPT, EXCHANGED, FOUR, FROM_ONE, GAP, INTERRUPTED, L0, L1, L2, L3, MIDDLE,
+    NAMELESS, NIGHT, NO_EXTRAS, NOBODY, ONE, S0, S1, S2, S3, SIX_SECONDS, TWO, UNKNOWN, WARD, YES,
+)
+
+# Two samples in 1 s; 804 bytes.
+SMALL = recording(signals=[3, 4], edits=[], parts=[values([7, -7]), lane(32, b'+0\x14\x14\x00')], length=None)
+
+# Six samples, two in a data record of 2 s.
+PAIRS = recording(
+    edits=[(field('records'), '3'), (field('duration'), '2')],
+    parts=[
+        values([1, 2]),
+        lane(32, b'+0\x14\x14\x00'),
+        values([3, 4]),
+        lane(32, b'+2\x14\x14\x00'),
+        values([5, 6]),
+        lane(32, b'+4\x14\x14\x00'),
+    ],
+    base=SMALL,
+)
+
+# The same, three in a data record of 3 s.
+TRIPLES = recording(
+    edits=[TWO, (field('duration'), '3'), (signal(0, 'samples'), '3')],
+    parts=[values([1, 2, 3]), lane(32, b'+0\x14\x14\x00'), values([4, 5, 6]), lane(32, b'+3\x14\x14\x00')],
+    base=SMALL,
+)
+
+# Of these the first in each data record.
+SPARSE = recording(
+    edits=[TWO, (field('duration'), '3'), (signal(0, 'samples'), '1')],
+    parts=[values([1]), lane(32, b'+0\x14\x14\x00'), values([4]), lane(32, b'+3\x14\x14\x00')],
+    base=SMALL,
+)
+
+# Three samples in 1 s.
+THIRDS = recording(
+    edits=[(signal(0, 'samples'), '3')],
+    parts=[values([1, 2, 3]), lane(32, b'+0\x14\x14\x00')],
+    base=SMALL,
+)
+
+# The same in data records of their own, which start at whole picoseconds.
+SPREAD = recording(
+    edits=[
+        (field('reserved'), 'EDF+D'),
+        (field('records'), '3'),
+        (field('duration'), '0.1'),
+        (signal(0, 'samples'), '1'),
+    ],
+    parts=[
+        values([1]),
+        lane(32, b'+0\x14\x14\x00'),
+        values([2]),
+        lane(32, b'+0.333333333333\x14\x14\x00'),
+        values([3]),
+        lane(32, b'+0.666666666666\x14\x14\x00'),
+    ],
+    base=SMALL,
+)
+
+# What the samples of the channel `Temp` decide.
+TEMP_ROWS = [
+    (SMALL, SMALL, SIX_SECONDS, 'YES channels 1 samples 2 annotations 0\n'),
+    (PAIRS, TRIPLES, SIX_SECONDS, 'YES channels 1 samples 6 annotations 0\n'),
+    (PAIRS, SPARSE, SIX_SECONDS, 'NO 10 sample "Temp" at 1000000000000 ps missing\n'),
+    (THIRDS, SPREAD, SIX_SECONDS, 'NO 10 sample "Temp" at 333333333333 ps extra\n'),
+    (
+        THIRDS,
+        recording(parts=[values([1, 9, 3]), lane(32, b'+0\x14\x14\x00')], base=THIRDS),
+        SIX_SECONDS,
+        'NO 10 sample "Temp" at 333333333333 ps original 2 export 9\n',
+    ),
+]
+
+# What the samples of the night decide.
+NIGHT_ROWS = [
+    (NIGHT, NIGHT, ALL, YES),
+    (NIGHT, EXCHANGED, ALL, YES),
+    (NIGHT, EXCERPT, MIDDLE, 'YES channels 2 samples 12 annotations 1\n'),
+    (
+        NIGHT,
+        recording(
+            edits=[
+                (field('records'), '3'),
+                NOBODY,
+                DAY_BEFORE,
+                (field('startdate'), '01.03.02'),
+                (field('starttime'), '22.00.01'),
+            ],
+            parts=[S1, FROM_ONE, S2, lane(40, b'+1\x14\x14\x00'), S3, lane(40, b'+2\x14\x14\x00')],
+            base=EXCERPT,
+        ),
+        MIDDLE,
+        'NO 10 sample "ECG" at 3000000000000 ps extra\n',
+    ),
+    (NIGHT, GAP, ENDS, 'YES channels 2 samples 12 annotations 2\n'),
+    (NIGHT, recording(edits=[TWO], base=GAP), ENDS, 'NO 2 export fault: NotContiguous at record 1\n'),
+    (
+        NIGHT,
+        recording(parts=[values([0, 10, 20, 31, 100, 101]), L0, S1, L1, S2, L2, S3, L3], base=NIGHT),
+        ALL,
+        'NO 10 sample "EEG Fpz-Cz" at 750000000000 ps original 30 export 31\n',
+    ),
+    (
+        NIGHT,
+        recording(parts=[S0, L0, S1, L1, values([80, 90, 100, 0, 104, 104]), L2, S3, L3], base=NIGHT),
+        ALL,
+        'NO 10 sample "ECG" at 2500000000000 ps original 105 export 104\n',
+    ),
+]
+
+# The night without its recording date.
+NO_DAY = recording(edits=[FOUR, (field('recording'), 'Startdate X PSG-1234/2002 NN Telemetry03')], base=NIGHT)
+
+# What the calibrations, subfields and dates decide.
+HEADER_ROWS = [
+    (
+        NIGHT,
+        recording(
+            edits=[FOUR, (signal(0, 'physical-minimum'), '-100.0'), (signal(0, 'physical-maximum'), '100.00')],
+            base=NIGHT,
+        ),
+        ALL,
+        YES,
+    ),
+    (
+        NIGHT,
+        recording(
+            edits=[FOUR, (signal(0, 'physical-maximum'), '-60'), (signal(0, 'digital-maximum'), '-1229')],
+            base=NIGHT,
+        ),
+        ALL,
+        YES,
+    ),
+    (
+        NIGHT,
+        recording(edits=[FOUR, (signal(0, 'physical-maximum'), '100.0001')], base=NIGHT),
+        ALL,
+        'NO 7 calibration "EEG Fpz-Cz"\n',
+    ),
+    (
+        NIGHT,
+        recording(
+            edits=[FOUR, (signal(0, 'physical-minimum'), '-99'), (signal(0, 'physical-maximum'), '101')],
+            base=NIGHT,
+        ),
+        ALL,
+        'NO 7 calibration "EEG Fpz-Cz"\n',
+    ),
+    (NIGHT, NIGHT, NAMELESS, 'NO 8 subfield name not X\n'),
+    (
+        NIGHT,
+        recording(edits=[FOUR, (field('patient'), 'MCH-0234567 X 02-MAY-1951 Haagse_Harry')], base=NIGHT),
+        ALL,
+        'NO 8 subfield sex changed\n',
+    ),
+    (WARD, NIGHT, NO_EXTRAS, YES),
+    (WARD, WARD, NO_EXTRAS, 'NO 8 subfield patient-extras not X\n'),
+    (WARD, NIGHT, ALL, 'NO 8 subfield patient-extras changed\n'),
+    (NIGHT, NO_DAY, DATELESS, YES),
+    (NIGHT, NO_DAY, ALL, 'NO 8 subfield date changed\n'),
+    (
+        NIGHT,
+        recording(
+            edits=[TWO, NOBODY, (field('startdate'), '01.03.02'), (field('starttime'), '22.00.01')],
+            base=EXCERPT,
+        ),
+        MIDDLE,
+        'NO 2 export fault: StartdateDiffers at header field startdate\n',
+    ),
+]
+
+# What the free texts, the channels and their texts decide.
+CHANNEL_ROWS = [
+    (
+        NIGHT,
+        recording(edits=[FOUR, (field('reserved'), 'EDF+C by J')], base=NIGHT),
+        ALL,
+        'NO 9 not clean header\n',
+    ),
+    (
+        NIGHT,
+        recording(edits=[FOUR, (signal(1, 'reserved'), 'room 4')], base=NIGHT),
+        ALL,
+        'NO 9 not clean "ECG"\n',
+    ),
+    (
+        recording(
+            edits=[FOUR, (signal(1, 'reserved'), 'room 4'), (signal(2, 'prefilter'), 'n/a')],
+            base=NIGHT,
+        ),
+        NIGHT,
+        ALL,
+        YES,
+    ),
+    (NIGHT, NIGHT, ONE, 'NO 5 extra channel "EEG Fpz-Cz"\n'),
+    (
+        NIGHT,
+        recording(
+            signals=[0, 2],
+            edits=[FOUR],
+            parts=[
+                values([0, 10, 20, 30]),
+                L0,
+                values([40, 50, 60, 70]),
+                L1,
+                values([80, 90, 100, 110]),
+                L2,
+                values([120, 130, 140, 150]),
+                L3,
+            ],
+            length=None,
+        ),
+        ALL,
+        'NO 4 missing channel "ECG"\n',
+    ),
+    (
+        NIGHT,
+        recording(edits=[FOUR, (signal(1, 'prefilter'), 'HP:1Hz')], base=NIGHT),
+        ALL,
+        'NO 6 channel text "ECG" prefilter\n',
+    ),
+    (NIGHT, NIGHT, UNKNOWN, 'NO 3 unknown channel "EMG"\n'),
+]
+
+# What the annotations decide.
+NOTE_ROWS = [
+    (
+        NIGHT,
+        recording(
+            parts=[
+                S0,
+                L0,
+                S1,
+                lane(40, b'+1\x14\x14\x00'),
+                S2,
+                L2,
+                S3,
+                lane(40, b'+3\x14\x14\x00+3\x14Apnea\x14\x00+1.50\x151\x14Apnea\x14\x00'),
+            ],
+            base=NIGHT,
+        ),
+        ALL,
+        YES,
+    ),
+    (
+        recording(
+            parts=[
+                S0,
+                L0,
+                S1,
+                lane(40, b'+1\x14\x14\x00+1.5\x151\x14Apnea\x14\x00+1.5\x151\x14Apnea\x14\x00'),
+                S2,
+                L2,
+                S3,
+                L3,
+            ],
+            base=NIGHT,
+        ),
+        NIGHT,
+        ALL,
+        'NO 11 annotation missing at 1500000000000 ps duration 1000000000000 ps text "Apnea"\n',
+    ),
+    (NIGHT, NIGHT, DARK, 'NO 11 annotation extra at 500000000000 ps duration none text "Lights off"\n'),
+]
+
+# The night with another first sample, and a last text that isn't UTF-8.
+BAD_TEXT = recording(
+    parts=[
+        values([1, 10, 20, 30, 100, 101]),
+        L0,
+        S1,
+        L1,
+        S2,
+        L2,
+        S3,
+        lane(40, b'+3\x14\x14\x00+3\x14\xffpnea\x14\x00'),
+    ],
+    base=NIGHT,
+)
+
+# What a fault decides.
+FAULT_ROWS = [
+    (NIGHT, recording(length=1231, base=NIGHT), ALL, 'NO 2 export fault: Truncated at record 3\n'),
+    (
+        NIGHT,
+        recording(parts=[S0, L0, S1, L1, S2, L2, S3, L3, lane(1, b'\x00')], base=NIGHT),
+        ALL,
+        'NO 2 export fault: TrailingBytes at end\n',
+    ),
+    (recording(length=0, base=NIGHT), NIGHT, ALL, 'NO 1 original fault: Truncated at header field version\n'),
+    (NIGHT, recording(length=300, base=NIGHT), ALL, 'NO 2 export fault: Truncated at signal 2 field label\n'),
+    (NIGHT, BAD_TEXT, ALL, 'NO 2 export fault: BadTal(NotUtf8) at record 3\n'),
+    (
+        recording(edits=[(field('records'), '-1')], base=NIGHT),
+        BAD_TEXT,
+        ALL,
+        'NO 1 original fault: BadRange at header field records\n',
+    ),
+    (
+        NIGHT,
+        recording(edits=[FOUR, (field('startdate'), '02.03.yy')], base=NIGHT),
+        ALL,
+        'NO 2 export fault: BadStart at header field startdate\n',
+    ),
+]
+
+
+
+def cases():
+    """Each check: the original, the export, the claim and the line."""
+    for row in TEMP_ROWS + NIGHT_ROWS + HEADER_ROWS + CHANNEL_ROWS + NOTE_ROWS + FAULT_ROWS:
+        original, export, claim, line = row
+        yield "check", bytes_of(original), bytes_of(export), claim_of(*claim), line

@@ -1,0 +1,102 @@
+"""Runs PROGRAM on the small files that the tables of tools/cases describe, and compares what it writes.
+
+usage: run.py PROGRAM, by tools/cases.sh
+
+A case is a command, its files in memory, and the line that is stored for them: that of `conform`, that of `check`
+under a claim, or the fault that `show` names, and none where it shows the header. The status is 0 where the line
+says Yes or there is none, and 1 where it says No; standard error stays empty. The checks are judged by the second
+reading of the rules (tools/oracle), too: the stored line has to be the one that these give. What isn't as it
+should be is said, at most twenty times. The last line of the output counts the cases that passed and failed.
+"""
+
+import importlib
+import os
+import pathlib
+import subprocess
+import sys
+import tempfile
+
+sys.dont_write_bytecode = True
+TOOLS = pathlib.Path(__file__).resolve().parent.parent
+sys.path[:0] = [str(TOOLS), str(TOOLS / "oracle")]
+
+TABLES = [
+    "fields", "ends", "first_faults", "conforming", "head_differences", "verdict_lines", "rows", "differences", "channels",
+    "labels", "headers", "samples", "shifts", "annotations", "cuts", "single_bytes",
+]
+
+try:
+    import tomllib
+except ImportError:
+    # before Python 3.11: the second reading of the rules reads claims by it
+    tomllib = None
+
+
+def second_reading(original, export, claim):
+    """The line of a check by the second reading of the rules."""
+    import verdict_rules
+
+    return verdict_rules.line(original, export, claim.encode())
+
+
+class Runs:
+    """The program in a folder of its own."""
+
+    def __init__(self, program, work):
+        self.program, self.work = program, work
+        self.kept = {}
+
+    def path(self, name, content):
+        """A file with this content; one that stands there already isn't written again."""
+        path = os.path.join(self.work, name)
+        if self.kept.get(name) != content:
+            with open(path, "wb") as file:
+                file.write(content)
+            self.kept[name] = content
+        return path
+
+    def fault(self, case):
+        """What is wrong with what the program does, or none."""
+        command, line = case[0], case[-1]
+        if command == "check":
+            _, original, export, claim, _ = case
+            if tomllib:
+                # it writes bytes as the signs of their numbers
+                read = second_reading(original, export, claim).encode("latin1") + b"\n"
+                if read != line.encode():
+                    return f"the second reading says {read!r}"
+            words = [self.path("original", original), self.path("export", export), self.path("claim", claim.encode())]
+        else:
+            words = [self.path("file", case[1])]
+        # (without close_fds a process is begun in a tenth of the time)
+        how = {"stdin": subprocess.DEVNULL, "stdout": subprocess.PIPE, "stderr": subprocess.PIPE, "close_fds": False}
+        ran = subprocess.run([self.program, command, *words], **how)
+        status = 0 if line is None or line.startswith(("YES ", "CONFORMS ")) else 1
+        said = ran.stdout.startswith(b"kind ") if line is None else ran.stdout == line.encode()
+        if ran.returncode != status or not said or ran.stderr:
+            return f"status {ran.returncode} with {ran.stdout[:200]!r} and {ran.stderr[:200]!r}"
+        return None
+
+
+def main():
+    if len(sys.argv) != 2 or not os.access(sys.argv[1], os.X_OK):
+        print(f"usage: {sys.argv[0]} PROGRAM", file=sys.stderr)
+        return 2
+    shared = "/dev/shm" if os.access("/dev/shm", os.W_OK) else None
+    passed, failed = 0, 0
+    with tempfile.TemporaryDirectory(dir=shared) as work:
+        runs = Runs(os.path.abspath(sys.argv[1]), work)
+        for name in TABLES:
+            for number, case in enumerate(importlib.import_module(f"cases.{name}").cases()):
+                fault = runs.fault(case)
+                if fault is None:
+                    passed += 1
+                    continue
+                failed += 1
+                if failed <= 20:
+                    print(f"{name}, case {number}: {fault}; wanted: {case[-1]!r}")
+    print(f"{passed} passed, {failed} failed")
+    return 0 if passed and not failed else 1
+
+
+sys.exit(main())
