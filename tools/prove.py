@@ -78,7 +78,7 @@ class Run:
     """The proof of a crate, which goes on."""
 
     def __init__(self, name, words, log):
-        self.name, self.done, self.all = name, 0, 0
+        self.name, self.begun, self.count = name, time.time(), ""
         how = {"stdin": subprocess.DEVNULL, "stdout": subprocess.PIPE, "stderr": subprocess.STDOUT}
         self.process = subprocess.Popen(words, cwd=TOP / "crates" / name, **how)
         self.said, self.log, self.lines = threading.Thread(target=self.read), log, []
@@ -89,9 +89,12 @@ class Run:
             line = line.decode(errors="replace").rstrip("\n")
             self.log.write(f"{self.name}: {line}\n")
             self.lines.append(line)
-            of = re.match(r"(?:checked .*, |so far: )(\d+) of (\d+)", line)
+            of = re.match(r"(?:checked .*, |so far: )(\d+ of \d+)", line)
             if of:
-                self.done, self.all = int(of[1]), int(of[2])
+                self.count = f" {of[1]}"
+            of = re.match(r"logic=proved functions=(\d+)", line)
+            if of:
+                self.count = f", {of[1]} functions"
 
     def status(self):
         """How it ended, or none while it goes on."""
@@ -101,15 +104,15 @@ class Run:
         return status
 
     def so_far(self):
-        return f"{self.name} {self.done} of {self.all}" if self.all else f"{self.name} reads"
+        return f"{self.name}{self.count} since {clock(time.time() - self.begun)}"
 
 
 def words_of(name, verb, has_users, jobs):
     """The command that proves a crate."""
-    flags = ["--progress", "--jobs", str(jobs)]
+    flags = ["--jobs", str(jobs)]
     if verb == "build" and name == PROGRAM:
         return ["rt", "run", *flags, "--", "vectors"]
-    return ["rt", "lib", *flags] if has_users else ["rt", "check", "--jobs", str(jobs)]
+    return ["rt", "lib" if has_users else "check", *flags]
 
 
 def prove_all(verb, below, lines, names, lanes, log):
@@ -142,11 +145,11 @@ def prove_all(verb, below, lines, names, lanes, log):
                     other.process.terminate()
                 return run
             done.add(run.name)
-            print(f"{clock(time.time() - begun)}  {run.name} proved", flush=True)
+            print(f"{clock(time.time() - begun)}  {run.name} proved{run.count}", flush=True)
             told = time.time()
         if running and time.time() - told >= EACH:
             told = time.time()
-            print(f"{clock(told - begun)}  {', '.join(run.so_far() for run, _ in running)}", flush=True)
+            print(f"{clock(told - begun)}  at {', '.join(run.so_far() for run, _ in running)}", flush=True)
     return None
 
 
