@@ -146,7 +146,7 @@ X_AND_WARD = (ALL, [(field('patient'), 'X X X X X Ward7')])
 SMALL_X = (ALL, [(field('patient'), 'X F 02-MAY-1951 x')])
 
 # The same subfields with more spaces between them.
-SPACED = (ALL, [(field('patient'), 'MCH-0234567 F 02-MAY-1951 Haagse_Harry')])
+SPACED = (ALL, [(field('patient'), 'MCH-0234567  F   02-MAY-1951 Haagse_Harry')])
 
 NOTHING_TOLD = 'anonymous = ["code", "sex", "birthdate", "name", "patient-extras"]'
 
