@@ -12,7 +12,6 @@ import fractions
 import re
 import struct
 import sys
-import tomllib
 
 MONTHS = ["JAN", "FEB", "MAR", "APR", "MAY", "JUN", "JUL", "AUG", "SEP", "OCT", "NOV", "DEC"]
 ANNOTATIONS = b"EDF Annotations"
@@ -359,6 +358,9 @@ def intervals(tables):
 
 def claim(document):
     """The labels, the stretches, the subfields that are made anonymous, the shift and the removed texts."""
+    # from Python 3.11 on; the other rules need no more than Python 3.8
+    import tomllib
+
     if len(document) > 65536:
         raise Refused("TooLong")
     try:
