@@ -1,6 +1,6 @@
 """What the annotations of the night decide beside the worked rows."""
 
-from cases.files import bytes_of, claim_of, field, lane, recording, signal, values
+from cases.files import bytes_of, claim_of, lane, recording
 from cases.night import ALL, DARK, FOUR, L0, L1, L2, L3, NIGHT, S0, S1, S2, S3, YES
 
 # The night with an annotation before its start.
@@ -104,7 +104,6 @@ SECOND_ROWS = [
     (NIGHT, COUGH, ALL, 'NO 11 annotation extra at 1250000000000 ps duration none text "Cough"\n'),
     (COUGH, NIGHT, ALL, 'NO 11 annotation missing at 1250000000000 ps duration none text "Cough"\n'),
 ]
-
 
 
 def cases():

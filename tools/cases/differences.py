@@ -1,6 +1,6 @@
 """Lines of files that pass every test, and of files with a byte too few or too many."""
 
-from cases.files import bytes_of, claim_of, cut, field, put, signal, small_file, temp_file
+from cases.files import claim_of, cut, put, signal, small_file, temp_file
 from cases.night import SIX_SECONDS
 
 # One data record of 1 s with two samples, 7 and -7.

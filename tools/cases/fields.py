@@ -50,7 +50,6 @@ FILES = [
 ]
 
 
-
 def line_of(answer):
     """The line of `show`, or none where it shows the header."""
     return None if answer == "Sound" else f"FAULT {answer}\n"

@@ -95,7 +95,6 @@ JOINT = [
 ]
 
 
-
 def spoil_signal(number, edits, cause):
     """A fault of this signal: what makes it, its place and its cause."""
     return [(signal(number, name), text) for name, text in edits], signal(number, edits[-1][0]), cause

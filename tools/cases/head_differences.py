@@ -186,7 +186,6 @@ ORDER = [
 ]
 
 
-
 def file_of(signals, edits):
     """A file of four data records that hold zeros and keep the time."""
     file = bytes(header(signals, [(field("records"), "4"), *edits]))

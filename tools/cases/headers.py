@@ -1,6 +1,6 @@
 """What else the headers of the night decide: free texts of the annotation signal, and negative gain."""
 
-from cases.files import bytes_of, claim_of, field, lane, recording, signal, values
+from cases.files import bytes_of, claim_of, field, recording, signal
 from cases.night import ALL, FOUR, NIGHT, YES
 
 # The night with a text in the annotation signal.
@@ -30,7 +30,6 @@ ROWS = [
     (NIGHT, TURNED, ALL, RECALIBRATED),
     (TURNED, NIGHT, ALL, RECALIBRATED),
 ]
-
 
 
 def cases():

@@ -2,7 +2,7 @@
 
 from cases.files import bytes_of, claim_of, field, lane, recording, signal, values
 from cases.night import (
-    ALL, DARK, DATELESS, DAY_BEFORE, ENDS, EXCERPT, EXCHANGED, FOUR, FROM_ONE, GAP, INTERRUPTED, L0, L1, L2, L3, MIDDLE,
+    ALL, DARK, DATELESS, DAY_BEFORE, ENDS, EXCERPT, EXCHANGED, FOUR, FROM_ONE, GAP, L0, L1, L2, L3, MIDDLE,
     NAMELESS, NIGHT, NO_EXTRAS, NOBODY, ONE, S0, S1, S2, S3, SIX_SECONDS, TWO, UNKNOWN, WARD, YES,
 )
 
@@ -309,7 +309,6 @@ FAULT_ROWS = [
         'NO 2 export fault: BadStart at header field startdate\n',
     ),
 ]
-
 
 
 def cases():

@@ -80,7 +80,7 @@ class Runs:
 
 def main():
     if len(sys.argv) != 2 or not os.access(sys.argv[1], os.X_OK):
-        print(f"usage: {sys.argv[0]} PROGRAM", file=sys.stderr)
+        print("usage: tools/cases.sh PROGRAM", file=sys.stderr)
         return 2
     shared = "/dev/shm" if os.access("/dev/shm", os.W_OK) else None
     passed, failed = 0, 0
@@ -95,6 +95,8 @@ def main():
                 failed += 1
                 if failed <= 20:
                     print(f"{name}, case {number}: {fault}; wanted: {case[-1]!r}")
+    if not tomllib:
+        print("Python is older than 3.11: the second reading of the rules is left out")
     print(f"{passed} passed, {failed} failed")
     return 0 if passed and not failed else 1
 

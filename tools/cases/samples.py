@@ -72,7 +72,6 @@ SHIFT_ROWS = [
 ]
 
 
-
 def cases():
     """Each check: the original, the export, the claim and the line."""
     for row in START_ROWS + GAP_ROWS + SHIFT_ROWS:

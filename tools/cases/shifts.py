@@ -1,6 +1,6 @@
 """Cuts that begin past midnight, shifts as far as they go, and a claim that keeps no sample."""
 
-from cases.files import bytes_of, claim_of, field, lane, recording, signal, values
+from cases.files import bytes_of, claim_of, field, lane, recording
 from cases.night import FROM_ONE, NIGHT, S1, S2, TWO
 
 # The night, from a second before midnight on.
@@ -40,7 +40,6 @@ ROWS = [
     (NIGHT, NIGHT, FAR_ON, 'NO 10 sample "ECG" at -10000000000000000000000 ps extra\n'),
     (NIGHT, NIGHT, FAR_BACK, 'NO 10 sample "ECG" at 0 ps missing\n'),
 ]
-
 
 
 def cases():

@@ -76,7 +76,6 @@ NOTES = [
 ]
 
 
-
 def cases():
     """Each check: the original, the export, the claim and the line."""
     four = [("0", "4")]
