@@ -80,10 +80,12 @@ refuses 'edfclaim: not a command'
 refuses 'edfclaim: not a command' show -- -night.edf
 refuses 'edfclaim: not a command' conform "$(printf 'night\377')"
 for words in '' 'Vectors' 'vectors x' 'explain original.edf' 'conform' 'conform original.edf cut.edf' \
-    'check original.edf cut.edf' 'check original.edf cut.edf cut.toml cut.toml' '--quiet vectors'; do
+    'check original.edf cut.edf' 'check original.edf cut.edf cut.toml cut.toml' '--quiet vectors' 'check-all' \
+    '-- vectors' 'show -night.edf' 'show original.edf cut.edf'; do
     # shellcheck disable=SC2086
     if [ -z "$words" ]; then faults ''; else faults $words; fi
 done
+faults vectors ''
 for words in --help -h help 'help check' 'check --help' --version -V; do
     # shellcheck disable=SC2086
     helps $words
