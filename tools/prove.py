@@ -126,8 +126,9 @@ def prove_all(verb, below, lines, names, lanes, log):
         ready = [name for name in left if done.issuperset(below[name])]
         free = lanes - sum(jobs for _, jobs in running)
         for name in ready:
-            # the one with the most behind it gets what the others leave free
-            jobs = max(1, min(4, free - len(ready) + 1)) if name == ready[0] else 1
+            # the one with the most behind it gets all but one lane, which is for the others, one after the other
+            first = max(1, min(4, free - (len(ready) > 1)))
+            jobs = first if name == ready[0] and free > 1 else 1
             if free < 1:
                 break
             has_users = any(name in below[it] for it in names)
