@@ -1,5 +1,5 @@
 #!/usr/bin/env python3
-"""Proves the crates, the lowest first and as many side by side as the machine bears, over what earlier runs kept.
+"""Proves the crates, the lowest first, over what earlier runs kept, on as many processors as the machine bears.
 
 usage: tools/prove.py build     what the program stands on and the program itself, which is left at
                                 crates/edfclaim/out/edfclaim
@@ -7,15 +7,19 @@ usage: tools/prove.py build     what the program stands on and the program itsel
        tools/prove.py current   proves nothing: whether the program there is that of the sources as they are
 
 It prints a line where a crate is done and each half minute, and keeps all that the toolchain says in
-out/build.log or out/check.log.
+out/build.log or out/check.log. A run of the toolchain in a crate keeps others out of the crates below it. So
+what is built beside one is proved in a copy of the sources, from which the toolchain takes it; a check leaves
+its work for the next one, and goes crate by crate.
 """
 
 import hashlib
 import os
 import pathlib
 import re
+import shutil
 import subprocess
 import sys
+import tempfile
 import threading
 import time
 
@@ -74,13 +78,25 @@ def clock(seconds):
     return f"{int(seconds) // 60}:{int(seconds) % 60:02}"
 
 
+def copy_of(names, room):
+    """A copy of the sources of these crates, in a folder of its own."""
+    top = pathlib.Path(tempfile.mkdtemp(dir=room))
+    for file, text in sources(names):
+        (top / file).parent.mkdir(parents=True, exist_ok=True)
+        (top / file).write_bytes(text)
+    shutil.copy(TOP / "HANDLES", top)
+    lines = (TOP / "crates.txt").read_text(encoding="utf-8").splitlines(keepends=True)
+    (top / "crates.txt").write_text("".join(line for line in lines if line.split(":")[0] in names), encoding="utf-8")
+    return top
+
+
 class Run:
     """The proof of a crate, which goes on."""
 
-    def __init__(self, name, words, log):
+    def __init__(self, name, words, log, top):
         self.name, self.begun, self.count = name, time.time(), ""
         how = {"stdin": subprocess.DEVNULL, "stdout": subprocess.PIPE, "stderr": subprocess.STDOUT}
-        self.process = subprocess.Popen(words, cwd=TOP / "crates" / name, **how)
+        self.process = subprocess.Popen(words, cwd=top / "crates" / name, **how)
         self.said, self.log, self.lines = threading.Thread(target=self.read), log, []
         self.said.start()
 
@@ -115,8 +131,8 @@ def words_of(name, verb, has_users, jobs):
     return ["rt", "lib" if has_users else "check", *flags]
 
 
-def prove_all(verb, below, lines, names, lanes, log):
-    """Proves these crates. Returns the one that failed, or none."""
+def prove_all(verb, below, lines, names, lanes, log, room):
+    """Proves these crates, with copies in this folder. Returns the one that failed, or none."""
     def behind(name):
         return lines[name] + max([behind(it) for it in names if name in below[it]], default=0)
 
@@ -127,12 +143,13 @@ def prove_all(verb, below, lines, names, lanes, log):
         free = lanes - sum(jobs for _, jobs in running)
         for name in ready:
             # the one with the most behind it gets all but one lane, which is for the others, one after the other
-            first = max(1, min(4, free - (len(ready) > 1)))
-            jobs = first if name == ready[0] and free > 1 else 1
-            if free < 1:
+            is_alone = verb == "check" or len(ready) == 1
+            jobs = max(1, min(4, free - (not is_alone))) if name == ready[0] else 1
+            if free < 1 or verb == "check" and running:
                 break
             has_users = any(name in below[it] for it in names)
-            running.append((Run(name, words_of(name, verb, has_users, jobs), log), jobs))
+            top = copy_of(needed(below, name), room) if running else TOP
+            running.append((Run(name, words_of(name, verb, has_users, jobs), log, top), jobs))
             left.remove(name)
             free -= jobs
         time.sleep(0.2)
@@ -170,10 +187,10 @@ def main():
     made = sum_of_all(below)
     (TOP / "out").mkdir(exist_ok=True)
     path = TOP / "out" / f"{verb}.log"
-    print(f"proving {len(names)} crates, up to {lanes} side by side; all that is said: {path.relative_to(TOP)}", flush=True)
+    print(f"proving {len(names)} crates, on {lanes} processors; all that is said: {path.relative_to(TOP)}", flush=True)
     begun = time.time()
-    with open(path, "w", buffering=1, encoding="utf-8") as log:
-        failed = prove_all(verb, below, lines, names, lanes, log)
+    with open(path, "w", buffering=1, encoding="utf-8") as log, tempfile.TemporaryDirectory() as room:
+        failed = prove_all(verb, below, lines, names, lanes, log, room)
     if failed:
         faults = [line for line in failed.lines if "error" in line or "not proved" in line] or failed.lines
         print("\n".join(line[:300] for line in faults[:10]))
