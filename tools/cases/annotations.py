@@ -1,11 +1,11 @@
 """What the annotations of the night decide beside the worked rows."""
 
 from cases.files import bytes_of, claim_of, lane, recording
-from cases.night import ALL, DARK, FOUR, L0, L1, L2, L3, NIGHT, S0, S1, S2, S3, YES
+from cases.night import ALL, DARK, FOUR, LANE_0, LANE_1, LANE_2, LANE_3, NIGHT, VALUES_0, VALUES_1, VALUES_2, VALUES_3, YES
 
 # The night with an annotation before its start.
 EARLY = recording(
-    parts=[S0, lane(40, b'+0\x14\x14\x00-0.5\x14Alarm\x14\x00+0.5\x14Lights off\x14\x00'), S1, L1, S2, L2, S3, L3],
+    parts=[VALUES_0, lane(40, b'+0\x14\x14\x00-0.5\x14Alarm\x14\x00+0.5\x14Lights off\x14\x00'), VALUES_1, LANE_1, VALUES_2, LANE_2, VALUES_3, LANE_3],
     base=NIGHT,
 )
 
@@ -17,14 +17,14 @@ EARLY_ROWS = [
 ]
 
 # The night with an annotation that has no duration.
-BARE = recording(parts=[S0, L0, S1, L1, S2, lane(40, b'+2\x14\x14\x00+2.5\x14x\x14\x00'), S3, L3], base=NIGHT)
+BARE = recording(parts=[VALUES_0, LANE_0, VALUES_1, LANE_1, VALUES_2, lane(40, b'+2\x14\x14\x00+2.5\x14x\x14\x00'), VALUES_3, LANE_3], base=NIGHT)
 
 # The same with a duration of 0 s.
-MOMENT = recording(parts=[S0, L0, S1, L1, S2, lane(40, b'+2\x14\x14\x00+2.5\x150\x14x\x14\x00'), S3, L3], base=NIGHT)
+MOMENT = recording(parts=[VALUES_0, LANE_0, VALUES_1, LANE_1, VALUES_2, lane(40, b'+2\x14\x14\x00+2.5\x150\x14x\x14\x00'), VALUES_3, LANE_3], base=NIGHT)
 
 # The night with both.
 TWINS = recording(
-    parts=[S0, L0, S1, L1, S2, lane(40, b'+2\x14\x14\x00+2.5\x150\x14x\x14\x00+2.5\x14x\x14\x00'), S3, L3],
+    parts=[VALUES_0, LANE_0, VALUES_1, LANE_1, VALUES_2, lane(40, b'+2\x14\x14\x00+2.5\x150\x14x\x14\x00+2.5\x14x\x14\x00'), VALUES_3, LANE_3],
     base=NIGHT,
 )
 
@@ -42,12 +42,12 @@ DURATION_ROWS = [
 
 # The night with a text that isn't printed as it stands.
 ODD = recording(
-    parts=[S0, L0, S1, L1, S2, lane(40, b'+2\x14\x14\x00+2.5\x14a\tb\n\r\x7f"\\\xc3\xa9\x14\x00'), S3, L3],
+    parts=[VALUES_0, LANE_0, VALUES_1, LANE_1, VALUES_2, lane(40, b'+2\x14\x14\x00+2.5\x14a\tb\n\r\x7f"\\\xc3\xa9\x14\x00'), VALUES_3, LANE_3],
     base=NIGHT,
 )
 
 # The night without its first annotation.
-UNLIT = recording(parts=[S0, lane(40, b'+0\x14\x14\x00'), S1, L1, S2, L2, S3, L3], base=NIGHT)
+UNLIT = recording(parts=[VALUES_0, lane(40, b'+0\x14\x14\x00'), VALUES_1, LANE_1, VALUES_2, LANE_2, VALUES_3, LANE_3], base=NIGHT)
 
 TEXT_ROWS = [
     (
@@ -67,23 +67,23 @@ BLANK = lane(32, b'')
 BLANK_SECOND = recording(
     signals=[0, 1, 2, 4],
     edits=[FOUR],
-    parts=[S0, L0, BLANK, S1, L1, BLANK, S2, L2, BLANK, S3, L3, BLANK],
+    parts=[VALUES_0, LANE_0, BLANK, VALUES_1, LANE_1, BLANK, VALUES_2, LANE_2, BLANK, VALUES_3, LANE_3, BLANK],
     length=None,
 )
 
 # The same with the last annotation in the second signal.
 MOVED = recording(
     parts=[
-        S0,
-        L0,
+        VALUES_0,
+        LANE_0,
         BLANK,
-        S1,
-        L1,
+        VALUES_1,
+        LANE_1,
         BLANK,
-        S2,
-        L2,
+        VALUES_2,
+        LANE_2,
         BLANK,
-        S3,
+        VALUES_3,
         lane(40, b'+3\x14\x14\x00'),
         lane(32, b'+3\x14Apnea\x14\x00'),
     ],
@@ -92,7 +92,7 @@ MOVED = recording(
 
 # The same with one annotation more, in the second signal.
 COUGH = recording(
-    parts=[S0, L0, BLANK, S1, L1, lane(32, b'+1.25\x14Cough\x14\x00'), S2, L2, BLANK, S3, L3, BLANK],
+    parts=[VALUES_0, LANE_0, BLANK, VALUES_1, LANE_1, lane(32, b'+1.25\x14Cough\x14\x00'), VALUES_2, LANE_2, BLANK, VALUES_3, LANE_3, BLANK],
     base=BLANK_SECOND,
 )
 

@@ -3,27 +3,27 @@
 from cases.files import field, lane, recording, signal, values
 
 # The four data records of the night: the samples of both channels, then the lane.
-S0 = values([0, 10, 20, 30, 100, 101])
+VALUES_0 = values([0, 10, 20, 30, 100, 101])
 
-S1 = values([40, 50, 60, 70, 102, 103])
+VALUES_1 = values([40, 50, 60, 70, 102, 103])
 
-S2 = values([80, 90, 100, 110, 104, 105])
+VALUES_2 = values([80, 90, 100, 110, 104, 105])
 
-S3 = values([120, 130, 140, 150, 106, 107])
+VALUES_3 = values([120, 130, 140, 150, 106, 107])
 
-L0 = lane(40, b'+0\x14\x14\x00+0.5\x14Lights off\x14\x00')
+LANE_0 = lane(40, b'+0\x14\x14\x00+0.5\x14Lights off\x14\x00')
 
-L1 = lane(40, b'+1\x14\x14\x00+1.5\x151\x14Apnea\x14\x00')
+LANE_1 = lane(40, b'+1\x14\x14\x00+1.5\x151\x14Apnea\x14\x00')
 
-L2 = lane(40, b'+2\x14\x14\x00')
+LANE_2 = lane(40, b'+2\x14\x14\x00')
 
-L3 = lane(40, b'+3\x14\x14\x00+3\x14Apnea\x14\x00')
+LANE_3 = lane(40, b'+3\x14\x14\x00+3\x14Apnea\x14\x00')
 
 # The night; 1,232 bytes.
 NIGHT = recording(
     signals=[0, 1, 2],
     edits=[(field('records'), '4')],
-    parts=[S0, L0, S1, L1, S2, L2, S3, L3],
+    parts=[VALUES_0, LANE_0, VALUES_1, LANE_1, VALUES_2, LANE_2, VALUES_3, LANE_3],
     length=None,
 )
 
@@ -58,12 +58,12 @@ FROM_ONE = lane(40, b'+0\x14\x14\x00+0.5\x151\x14Apnea\x14\x00')
 # Its second and third second, anonymous and a day earlier.
 EXCERPT = recording(
     edits=[TWO, NOBODY, DAY_BEFORE, (field('startdate'), '01.03.02'), (field('starttime'), '22.00.01')],
-    parts=[S1, FROM_ONE, S2, lane(40, b'+1\x14\x14\x00')],
+    parts=[VALUES_1, FROM_ONE, VALUES_2, lane(40, b'+1\x14\x14\x00')],
     base=NIGHT,
 )
 
 # Its first and its last second.
-GAP = recording(edits=[TWO, INTERRUPTED], parts=[S0, L0, S3, L3], base=NIGHT)
+GAP = recording(edits=[TWO, INTERRUPTED], parts=[VALUES_0, LANE_0, VALUES_3, LANE_3], base=NIGHT)
 
 # The night with an additional subfield of the patient.
 WARD = recording(edits=[FOUR, (field('patient'), 'MCH-0234567 F 02-MAY-1951 Haagse_Harry Ward7')], base=NIGHT)

@@ -2,8 +2,8 @@
 
 from cases.files import bytes_of, claim_of, field, lane, recording, signal, values
 from cases.night import (
-    ALL, DARK, DATELESS, DAY_BEFORE, ENDS, EXCERPT, EXCHANGED, FOUR, FROM_ONE, GAP, L0, L1, L2, L3, MIDDLE,
-    NAMELESS, NIGHT, NO_EXTRAS, NOBODY, ONE, S0, S1, S2, S3, SIX_SECONDS, TWO, UNKNOWN, WARD, YES,
+    ALL, DARK, DATELESS, DAY_BEFORE, ENDS, EXCERPT, EXCHANGED, FOUR, FROM_ONE, GAP, LANE_0, LANE_1, LANE_2, LANE_3, MIDDLE,
+    NAMELESS, NIGHT, NO_EXTRAS, NOBODY, ONE, VALUES_0, VALUES_1, VALUES_2, VALUES_3, SIX_SECONDS, TWO, UNKNOWN, WARD, YES,
 )
 
 # Two samples in 1 s; 804 bytes.
@@ -92,7 +92,7 @@ NIGHT_ROWS = [
                 (field('startdate'), '01.03.02'),
                 (field('starttime'), '22.00.01'),
             ],
-            parts=[S1, FROM_ONE, S2, lane(40, b'+1\x14\x14\x00'), S3, lane(40, b'+2\x14\x14\x00')],
+            parts=[VALUES_1, FROM_ONE, VALUES_2, lane(40, b'+1\x14\x14\x00'), VALUES_3, lane(40, b'+2\x14\x14\x00')],
             base=EXCERPT,
         ),
         MIDDLE,
@@ -102,13 +102,13 @@ NIGHT_ROWS = [
     (NIGHT, recording(edits=[TWO], base=GAP), ENDS, 'NO 2 export fault: NotContiguous at record 1\n'),
     (
         NIGHT,
-        recording(parts=[values([0, 10, 20, 31, 100, 101]), L0, S1, L1, S2, L2, S3, L3], base=NIGHT),
+        recording(parts=[values([0, 10, 20, 31, 100, 101]), LANE_0, VALUES_1, LANE_1, VALUES_2, LANE_2, VALUES_3, LANE_3], base=NIGHT),
         ALL,
         'NO 10 sample "EEG Fpz-Cz" at 750000000000 ps original 30 export 31\n',
     ),
     (
         NIGHT,
-        recording(parts=[S0, L0, S1, L1, values([80, 90, 100, 0, 104, 104]), L2, S3, L3], base=NIGHT),
+        recording(parts=[VALUES_0, LANE_0, VALUES_1, LANE_1, values([80, 90, 100, 0, 104, 104]), LANE_2, VALUES_3, LANE_3], base=NIGHT),
         ALL,
         'NO 10 sample "ECG" at 2500000000000 ps original 105 export 104\n',
     ),
@@ -206,13 +206,13 @@ CHANNEL_ROWS = [
             edits=[FOUR],
             parts=[
                 values([0, 10, 20, 30]),
-                L0,
+                LANE_0,
                 values([40, 50, 60, 70]),
-                L1,
+                LANE_1,
                 values([80, 90, 100, 110]),
-                L2,
+                LANE_2,
                 values([120, 130, 140, 150]),
-                L3,
+                LANE_3,
             ],
             length=None,
         ),
@@ -234,13 +234,13 @@ NOTE_ROWS = [
         NIGHT,
         recording(
             parts=[
-                S0,
-                L0,
-                S1,
+                VALUES_0,
+                LANE_0,
+                VALUES_1,
                 lane(40, b'+1\x14\x14\x00'),
-                S2,
-                L2,
-                S3,
+                VALUES_2,
+                LANE_2,
+                VALUES_3,
                 lane(40, b'+3\x14\x14\x00+3\x14Apnea\x14\x00+1.50\x151\x14Apnea\x14\x00'),
             ],
             base=NIGHT,
@@ -251,14 +251,14 @@ NOTE_ROWS = [
     (
         recording(
             parts=[
-                S0,
-                L0,
-                S1,
+                VALUES_0,
+                LANE_0,
+                VALUES_1,
                 lane(40, b'+1\x14\x14\x00+1.5\x151\x14Apnea\x14\x00+1.5\x151\x14Apnea\x14\x00'),
-                S2,
-                L2,
-                S3,
-                L3,
+                VALUES_2,
+                LANE_2,
+                VALUES_3,
+                LANE_3,
             ],
             base=NIGHT,
         ),
@@ -273,12 +273,12 @@ NOTE_ROWS = [
 BAD_TEXT = recording(
     parts=[
         values([1, 10, 20, 30, 100, 101]),
-        L0,
-        S1,
-        L1,
-        S2,
-        L2,
-        S3,
+        LANE_0,
+        VALUES_1,
+        LANE_1,
+        VALUES_2,
+        LANE_2,
+        VALUES_3,
         lane(40, b'+3\x14\x14\x00+3\x14\xffpnea\x14\x00'),
     ],
     base=NIGHT,
@@ -289,7 +289,7 @@ FAULT_ROWS = [
     (NIGHT, recording(length=1231, base=NIGHT), ALL, 'NO 2 export fault: Truncated at record 3\n'),
     (
         NIGHT,
-        recording(parts=[S0, L0, S1, L1, S2, L2, S3, L3, lane(1, b'\x00')], base=NIGHT),
+        recording(parts=[VALUES_0, LANE_0, VALUES_1, LANE_1, VALUES_2, LANE_2, VALUES_3, LANE_3, lane(1, b'\x00')], base=NIGHT),
         ALL,
         'NO 2 export fault: TrailingBytes at end\n',
     ),

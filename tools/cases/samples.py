@@ -1,7 +1,7 @@
 """What the instants of the samples decide beside the worked rows: other starts, gaps and shifts."""
 
 from cases.files import bytes_of, claim_of, field, lane, recording, signal, values
-from cases.night import ALL, ENDS, EXCERPT, FOUR, FROM_ONE, GAP, INTERRUPTED, MIDDLE, NIGHT, NOBODY, S1, S2, SIX_SECONDS, TWO, YES
+from cases.night import ALL, ENDS, EXCERPT, FOUR, FROM_ONE, GAP, INTERRUPTED, MIDDLE, NIGHT, NOBODY, VALUES_1, VALUES_2, SIX_SECONDS, TWO, YES
 
 # The night, a second earlier.
 EARLIER = recording(edits=[FOUR, (field('starttime'), '21.59.59')], base=NIGHT)
@@ -56,7 +56,7 @@ NEXT_DAY = recording(
         (field('startdate'), '03.03.02'),
         (field('starttime'), '22.00.01'),
     ],
-    parts=[S1, FROM_ONE, S2, lane(40, b'+1\x14\x14\x00')],
+    parts=[VALUES_1, FROM_ONE, VALUES_2, lane(40, b'+1\x14\x14\x00')],
     base=NIGHT,
 )
 

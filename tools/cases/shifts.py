@@ -1,7 +1,7 @@
 """Cuts that begin past midnight, shifts as far as they go, and a claim that keeps no sample."""
 
 from cases.files import bytes_of, claim_of, field, lane, recording
-from cases.night import FROM_ONE, NIGHT, S1, S2, TWO
+from cases.night import FROM_ONE, NIGHT, VALUES_1, VALUES_2, TWO
 
 # The night, from a second before midnight on.
 LATE = recording(edits=[(field('records'), '4'), (field('starttime'), '23.59.59')], base=NIGHT)
@@ -14,7 +14,7 @@ AFTER_MIDNIGHT = recording(
         (field('startdate'), '03.03.02'),
         (field('starttime'), '00.00.00'),
     ],
-    parts=[S1, FROM_ONE, S2, lane(40, b'+1\x14\x14\x00')],
+    parts=[VALUES_1, FROM_ONE, VALUES_2, lane(40, b'+1\x14\x14\x00')],
     base=NIGHT,
 )
 
