@@ -6,14 +6,14 @@ use Rattle.edf_stream.specs.declared.instant.Instant.{Instant}
 use Rattle.edf_stream.specs.Instants.{IsNotBefore}
 use Rattle.edf_check.specs.declared.difference.PointDifference.{PointDifference}
 use Rattle.edf_check.specs.declared.earliest.Found.{Found}
-use Rattle.edf_check.specs.declared.verdict.SampleMismatch.{SampleMismatch}
-use Rattle.edf_check.specs.declared.verdict.SampleMismatch.TheVariants.{Missing, Extra, Value}
+use Rattle.edf_verdict.specs.declared.verdict.SampleMismatch.{SampleMismatch}
+use Rattle.edf_verdict.specs.declared.verdict.SampleMismatch.TheVariants.{Missing, Extra, Value}
 use Rattle.edf_check.specs.Columns.{Column, label_of, KeptIn, ExportedIn, IsColumn, AreColumns, difference_of}
 use Rattle.edf_check.specs.Courses.{Agree, DifferAt, IsFirstMismatch}
 use Rattle.edf_check.specs.Differences.{HasValue, Match, Differ, IsLeastDifference}
 use Rattle.edf_check.specs.Earliest.{earliest, IsEarliest, AreInstants}
 use Rattle.edf_check.specs.Instants.{floor_of}
-use Rattle.edf_check.specs.Labels.{IsNotAbove}
+use Rattle.edf_heads.specs.Labels.{IsNotAbove}
 use Rattle.edf_check.proofs.DifferenceFacts.{exact, partner_at, match_not_differ}
 use Rattle.edf_check.proofs.EarliestFacts.{earliest-is-least}
 use Rattle.edf_check.proofs.FractionFacts.{same_below, from_below, before_not, by_before, both_same}

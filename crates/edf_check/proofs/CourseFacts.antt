@@ -2,12 +2,13 @@
 use Rattle.std.proofs.Common.{◌≡◌, ℕ, ◌<◌, ℤ, List, [], ◌∷◌, inl, inr, refl, sym, ap, ◌∙◌, subst, arith}
 use Rattle.edf_stream.specs.declared.instant.Instant.{Instant}
 use Rattle.edf_stream.specs.Instants.{IsSame}
-use Rattle.edf_check.specs.declared.verdict.SampleMismatch.{SampleMismatch}
-use Rattle.edf_check.specs.declared.verdict.SampleMismatch.TheVariants.{Missing, Extra, Value}
+use Rattle.edf_verdict.specs.declared.verdict.SampleMismatch.{SampleMismatch}
+use Rattle.edf_verdict.specs.declared.verdict.SampleMismatch.TheVariants.{Missing, Extra, Value}
 use Rattle.edf_check.specs.Courses.{Course, Agree, DifferAt, IsFirstMismatch}
-use Rattle.edf_check.specs.Labels.{IsNotAbove}
+use Rattle.edf_heads.specs.Labels.{IsNotAbove}
 use Rattle.edf_check.proofs.FractionFacts.{same_back, by_before, both_same}
 use Rattle.edf_check.proofs.FloorFacts.{floor-same}
+use Rattle.edf_heads.proofs.ForCallers.{one-label}
 
 -- what a course has at an instant it has at the same instant, and that is one value
 pub record IsCourse (K : Course) : Type 0 where
@@ -61,16 +62,6 @@ one-mismatch K E k e l t Extra (Value v w) p d f = absurd (d.1 v f.0)
 one-mismatch K E k e l t (Value a b) Missing p d f = absurd (f.1 b d.1)
 one-mismatch K E k e l t (Value a b) Extra p d f = absurd (f.1 a d.0)
 one-mismatch K E k e l t (Value a b) (Value v w) p d f = ap (λ x. Value x b) (k.one l t a v p d.0 f.0) ∙ ap (λ x. Value v x) (e.one l t b w p d.1 f.1)
-
--- two labels of which neither is above the other
-pub one-label : (l other : List ℕ) → IsNotAbove l other → IsNotAbove other l → l ≡ other
-one-label [] [] h i = refl
-one-label [] (y ∷ other) h i = absurd i
-one-label (x ∷ l) [] h i = absurd h
-one-label (x ∷ l) (y ∷ other) (inl h) (inl i) = absurd (omega (arith, h, i))
-one-label (x ∷ l) (y ∷ other) (inl h) (inr i) = absurd (let e = i.0 in omega (arith, h, e))
-one-label (x ∷ l) (y ∷ other) (inr h) (inl i) = absurd (let e = h.0 in omega (arith, e, i))
-one-label (x ∷ l) (y ∷ other) (inr h) (inr i) = ap (λ z. z ∷ l) h.0 ∙ ap (λ z. y ∷ z) (one-label l other h.1 i.1)
 
 -- the first mismatch is one
 pub one-first : (K E : Course) → IsCourse K → IsCourse E → (l other : List ℕ) (ps qs : ℤ) (m n : SampleMismatch) → IsFirstMismatch K E l ps m → IsFirstMismatch K E other qs n → (l ≡ other) × (ps ≡ qs) × (m ≡ n)

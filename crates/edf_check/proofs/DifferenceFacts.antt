@@ -7,8 +7,8 @@ use Rattle.std.specs.Option.{option_or}
 use Rattle.std.specs.Ordering.{int_eq}
 use Rattle.edf_stream.specs.declared.instant.Instant.{Instant}
 use Rattle.edf_check.specs.declared.point.Point.{Point}
-use Rattle.edf_check.specs.declared.verdict.SampleMismatch.{SampleMismatch}
-use Rattle.edf_check.specs.declared.verdict.SampleMismatch.TheVariants.{Missing, Extra, Value}
+use Rattle.edf_verdict.specs.declared.verdict.SampleMismatch.{SampleMismatch}
+use Rattle.edf_verdict.specs.declared.verdict.SampleMismatch.TheVariants.{Missing, Extra, Value}
 use Rattle.edf_check.specs.declared.difference.PointDifference.{PointDifference}
 use Rattle.edf_stream.specs.Instants.{IsNotBefore, IsSame}
 use Rattle.edf_check.specs.Instants.{IsBefore, is_before}

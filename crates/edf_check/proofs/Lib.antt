@@ -1,10 +1,4 @@
-pub mod ChannelFacts
-pub mod ComparisonFacts
-pub mod ContentFacts
-pub mod HeadFacts
-pub mod LabelFacts
 pub mod ListFacts
-pub mod SubfieldFacts
 pub mod TrackFacts
 pub mod ShownFacts
 pub mod LockstepFacts
@@ -14,7 +8,6 @@ pub mod FloorFacts
 pub mod CourseFacts
 pub mod KeptFacts
 pub mod NoteFacts
-pub mod OneHeadFacts
 pub mod VerdictFacts
 pub mod WordsFacts
 pub mod RearrangedFacts

@@ -25,9 +25,9 @@ use Rattle.edf_stream.specs.Summaries.{channels_among}
 use Rattle.edf_stream.proofs.ForCallers.{samples_are_listed, samples_are_of_channels, samples_rise}
 use Rattle.edf_check.specs.declared.channel_place.ChannelPlace.{ChannelPlace}
 use Rattle.edf_check.specs.declared.point.Point.{Point}
-use Rattle.edf_check.specs.Channels.{HasChannel}
+use Rattle.edf_heads.specs.Channels.{HasChannel}
 use Rattle.edf_check.specs.Columns.{channel_at, Sampled, point_of, is_of, is_kept, points_of, difference_at, label_difference, Column, label_of, KeptIn, ExportedIn, IsColumn, LabelsRise, AreColumns, difference_of, AreNights}
-use Rattle.edf_check.specs.Comparisons.{AreSorted}
+use Rattle.edf_heads.specs.Comparisons.{AreSorted}
 use Rattle.edf_check.specs.Courses.{Agree, IsFirstMismatch}
 use Rattle.edf_check.specs.declared.earliest.Found.{Found}
 use Rattle.edf_check.specs.Earliest.{earliest}
@@ -40,11 +40,11 @@ use Rattle.edf_check.specs.declared.difference.PointDifference.{PointDifference}
 use Rattle.edf_check.specs.Differences.{instant, HasValue, IsAscending}
 use Rattle.edf_check.specs.Instants.{later}
 use Rattle.edf_check.specs.Kept.{start_of, shift_of, ValueAt, KeptAt, ExportedAt}
-use Rattle.edf_check.specs.Labels.{IsNotAbove}
+use Rattle.edf_heads.specs.Labels.{IsNotAbove}
 use Rattle.edf_check.proofs.FractionFacts.{same_back}
-use Rattle.edf_check.proofs.HeadFacts.{has-label, label-has}
+use Rattle.edf_heads.proofs.ForCallers.{has-label, label-has}
 use Rattle.edf_check.proofs.KeptFacts.{later-same, keeps-same}
-use Rattle.edf_check.proofs.LabelFacts.{not_below}
+use Rattle.edf_heads.proofs.ForCallers.{not_below}
 use Rattle.edf_check.proofs.PlaceFacts.{one-number, channels-distinct, at-found, at-there, channel-bounds}
 use Rattle.edf_check.proofs.WordsFacts.{later-back, since-same}
 

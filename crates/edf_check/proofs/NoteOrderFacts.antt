@@ -10,8 +10,8 @@ use Rattle.edf_fields.proofs.ForCallers.{map-has, at-has, get-index, get-within}
 use Rattle.edf_stream.specs.declared.notes.Note.{Note}
 use Rattle.edf_stream.specs.Notes.{NoteValue}
 use Rattle.edf_stream.specs.Views.{note_value}
-use Rattle.edf_check.specs.declared.verdict.AnnotationMismatch.{AnnotationMismatch}
-use Rattle.edf_check.specs.declared.verdict.AnnotationMismatch.TheVariants.{Missing, Extra}
+use Rattle.edf_verdict.specs.declared.verdict.AnnotationMismatch.{AnnotationMismatch}
+use Rattle.edf_verdict.specs.declared.verdict.AnnotationMismatch.TheVariants.{Missing, Extra}
 use Rattle.edf_check.specs.Annotations.{note_cmp, times, IsMore, IsFirstNote, SameNotes}
 use Rattle.edf_check.specs.NoteOrder.{AreInOrder, NoteMismatch, by_order, first_unequal_of}
 use Rattle.edf_check.proofs.NoteFacts.{note-total}

@@ -10,7 +10,7 @@ use Rattle.edf_header.specs.Sound.{IsSound, IsSoundSignal}
 use Rattle.edf_stream.specs.Summaries.{channels_among}
 use Rattle.edf_check.specs.declared.channel_place.ChannelPlace.{ChannelPlace}
 use Rattle.edf_check.specs.Columns.{place_from, channel_at}
-use Rattle.edf_check.proofs.HeadFacts.{labels-distinct}
+use Rattle.edf_heads.proofs.ForCallers.{labels-distinct}
 
 -- the place that was found: its channel has the label, and so many samples
 pub record IsPlace (channels : List SignalHead) (label : List ℕ) (k : ℕ) (place : ChannelPlace) : Type 0 where

@@ -9,7 +9,7 @@ use Rattle.edf_fields.specs.Lists.{Has}
 use Rattle.edf_stream.specs.Notes.{NoteValue}
 use Rattle.edf_check.specs.Annotations.{note_cmp, times, SameNotes}
 use Rattle.edf_check.specs.Laws.{NotesInWords}
-use Rattle.edf_check.proofs.ListFacts.{parted}
+use Rattle.edf_heads.proofs.ForCallers.{parted}
 use Rattle.edf_check.proofs.NoteFacts.{note-total, note-exact}
 
 -- how often one annotation counts as another: once or not at all

@@ -5,8 +5,8 @@ use Rattle.edf_claim.specs.declared.stop.ClaimStop.{ClaimStop}
 use Rattle.edf_claim.specs.declared.stop.ClaimStop.TheVariants as claims
 use Rattle.edf_fields.specs.Sinks.{HoldsPrefix}
 use Rattle.edf_check.specs.Checks.{YesMeans}
-use Rattle.edf_check.specs.declared.verdict.Verdict.{Verdict}
-use Rattle.edf_check.specs.Lines.{verdict_line}
+use Rattle.edf_verdict.specs.declared.verdict.Verdict.{Verdict}
+use Rattle.edf_verdict.specs.Lines.{verdict_line}
 use Rattle.edf_check.specs.Runs.{IsPartOfReport, RunStops, stop_of_claim}
 use Rattle.edf_check.specs.Verdicts.{IsVerdict}
 

@@ -10,7 +10,7 @@ use Rattle.edf_fields.specs.Lists.{Has}
 use Rattle.edf_stream.specs.Values.{digital, digital_value}
 use Rattle.edf_check.specs.declared.point.Point.{Point}
 use Rattle.edf_check.specs.declared.stretch.Stretch.{Stretch}
-use Rattle.edf_check.specs.declared.verdict.SampleMismatch.TheVariants.{Missing, Extra}
+use Rattle.edf_verdict.specs.declared.verdict.SampleMismatch.TheVariants.{Missing, Extra}
 use Rattle.edf_check.specs.Alike.{AreAlikeBefore}
 use Rattle.edf_check.specs.Differences.{heads, first_difference_of, IsAscending}
 use Rattle.edf_check.specs.Instants.{is_before}

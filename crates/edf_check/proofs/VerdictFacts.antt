@@ -7,23 +7,23 @@ use Rattle.edf_stream.specs.Faults.{file_fault}
 use Rattle.edf_stream.specs.Notes.{NoteValue, notes_of}
 use Rattle.edf_stream.specs.Summaries.{channels_among}
 use Rattle.edf_stream.proofs.ForCallers.{conforming_is_faultless}
-use Rattle.edf_check.specs.declared.verdict.Verdict.{Verdict}
-use Rattle.edf_check.specs.declared.verdict.Verdict.TheVariants.{Yes, No}
-use Rattle.edf_check.specs.declared.verdict.Difference.TheVariants as differences
-use Rattle.edf_check.specs.declared.verdict.SampleMismatch.{SampleMismatch}
-use Rattle.edf_check.specs.declared.verdict.AnnotationMismatch.{AnnotationMismatch}
+use Rattle.edf_verdict.specs.declared.verdict.Verdict.{Verdict}
+use Rattle.edf_verdict.specs.declared.verdict.Verdict.TheVariants.{Yes, No}
+use Rattle.edf_verdict.specs.declared.verdict.Difference.TheVariants as differences
+use Rattle.edf_verdict.specs.declared.verdict.SampleMismatch.{SampleMismatch}
+use Rattle.edf_verdict.specs.declared.verdict.AnnotationMismatch.{AnnotationMismatch}
 use Rattle.edf_check.specs.Annotations.{IsFirstNote, SameNotes}
 use Rattle.edf_check.specs.Courses.{IsFirstMismatch}
 use Rattle.edf_check.specs.Exports.{BothConform, SameSamples, AreCounts}
-use Rattle.edf_check.specs.HeadVerdicts.{HeadsAgree, IsHeadVerdict}
+use Rattle.edf_heads.specs.HeadVerdicts.{HeadsAgree, IsHeadVerdict}
 use Rattle.edf_check.specs.Kept.{KeptAt, ExportedAt, kept_notes, exported_notes}
 use Rattle.edf_check.specs.Laws.{OneVerdict, YesExactly}
 use Rattle.edf_check.specs.Verdicts.{IsVerdict}
 use Rattle.edf_check.proofs.CourseFacts.{first-apart, one-first}
-use Rattle.edf_check.proofs.HeadFacts.{agree-apart}
+use Rattle.edf_heads.proofs.ForCallers.{agree-apart}
 use Rattle.edf_check.proofs.KeptFacts.{kept-course, exported-course}
 use Rattle.edf_check.proofs.NoteFacts.{note-apart, one-note}
-use Rattle.edf_check.proofs.OneHeadFacts.{either-one, one_head_verdict}
+use Rattle.edf_heads.proofs.ForCallers.{either-one, one_head_verdict}
 
 -- a file that conforms has no fault
 no-fault : (file : List ℕ) (fault : Fault) → file_fault file ≡ Some fault → file_fault file ≡ None → ⊥

@@ -23,15 +23,15 @@ use Rattle.edf_check.specs.declared.sample_difference.SampleDifference.{SampleDi
 use Rattle.edf_check.specs.declared.track.Pair.{Pair}
 use Rattle.edf_check.specs.declared.walk.Walked.{Walked}
 use Rattle.edf_check.specs.declared.walk.Walked.TheVariants.{OriginalFault, ExportFault, HeadsDiffer, SamplesDiffer, NotesDiffer, Same}
-use Rattle.edf_check.specs.declared.verdict.Verdict.{Verdict}
-use Rattle.edf_check.specs.declared.verdict.Verdict.TheVariants.{Yes, No}
-use Rattle.edf_check.specs.declared.verdict.Difference.TheVariants as differences
+use Rattle.edf_verdict.specs.declared.verdict.Verdict.{Verdict}
+use Rattle.edf_verdict.specs.declared.verdict.Verdict.TheVariants.{Yes, No}
+use Rattle.edf_verdict.specs.declared.verdict.Difference.TheVariants as differences
 use Rattle.edf_check.specs.Checks.{AreRead, YesMeans}
 use Rattle.edf_check.specs.Columns.{channel_at, Sampled, difference_at, label_difference, AreNights}
-use Rattle.edf_check.specs.Comparisons.{AreSorted}
+use Rattle.edf_heads.specs.Comparisons.{AreSorted}
 use Rattle.edf_check.specs.Earliest.{earliest}
 use Rattle.edf_check.specs.Exports.{BothConform}
-use Rattle.edf_check.specs.HeadVerdicts.{HeadsAgree, IsHeadVerdict}
+use Rattle.edf_heads.specs.HeadVerdicts.{HeadsAgree, IsHeadVerdict}
 use Rattle.edf_check.specs.Instants.{IsModest}
 use Rattle.edf_check.specs.Kept.{start_of, shift_of, kept_notes, exported_notes}
 use Rattle.edf_check.specs.Verdicts.{IsVerdict}

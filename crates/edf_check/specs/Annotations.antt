@@ -7,8 +7,8 @@ use Rattle.std.specs.Ordering.{is_eq, int_cmp, nat_cmp, on, then_cmp}
 use Rattle.std.specs.declared.cmp.Ordering.{Ordering}
 use Rattle.std.specs.declared.cmp.Ordering.TheVariants.{Less}
 use Rattle.edf_stream.specs.Notes.{NoteValue}
-use Rattle.edf_check.specs.declared.verdict.AnnotationMismatch.{AnnotationMismatch}
-use Rattle.edf_check.specs.declared.verdict.AnnotationMismatch.TheVariants.{Missing, Extra}
+use Rattle.edf_verdict.specs.declared.verdict.AnnotationMismatch.{AnnotationMismatch}
+use Rattle.edf_verdict.specs.declared.verdict.AnnotationMismatch.TheVariants.{Missing, Extra}
 
 -- the order of annotations: by onset, then by duration, none before any, then by the bytes of the text
 abbrev pub note_cmp : NoteValue → NoteValue → Ordering

@@ -3,21 +3,21 @@ use Rattle.std.specs.Prelude.{◌≡◌, ℕ, List, []}
 use Rattle.std.specs.List.Sorted.{IsPermutation}
 use Rattle.edf_claim.specs.Claims.{Terms}
 use Rattle.edf_header.specs.Heads.{head_of}
-use Rattle.edf_check.specs.Blank.{IsBlank}
-use Rattle.edf_check.specs.Calibrations.{SameCalibrations}
-use Rattle.edf_check.specs.Channels.{SameChannels}
+use Rattle.edf_heads.specs.Blank.{IsBlank}
+use Rattle.edf_heads.specs.Calibrations.{SameCalibrations}
+use Rattle.edf_heads.specs.Channels.{SameChannels}
 use Rattle.edf_check.specs.declared.side.CheckStop.{CheckStop}
 use Rattle.edf_check.specs.declared.side.CheckStop.TheVariants.{OutOfMemory, ReadFailed}
 use Rattle.edf_check.specs.declared.side.Side.{Side}
 use Rattle.edf_check.specs.declared.side.Side.TheVariants as sides
-use Rattle.edf_check.specs.declared.verdict.Difference.TheVariants.{OriginalFault, ExportFault, UnknownChannel, MissingChannel, ExtraChannel, ChannelText, Calibration, Subfield, NotClean, Sample, Annotation}
-use Rattle.edf_check.specs.declared.verdict.Verdict.{Verdict}
-use Rattle.edf_check.specs.declared.verdict.Verdict.TheVariants.{Yes, No}
+use Rattle.edf_verdict.specs.declared.verdict.Difference.TheVariants.{OriginalFault, ExportFault, UnknownChannel, MissingChannel, ExtraChannel, ChannelText, Calibration, Subfield, NotClean, Sample, Annotation}
+use Rattle.edf_verdict.specs.declared.verdict.Verdict.{Verdict}
+use Rattle.edf_verdict.specs.declared.verdict.Verdict.TheVariants.{Yes, No}
 use Rattle.edf_check.specs.Exports.{BothConform, AreCounts}
 use Rattle.edf_check.specs.Kept.{kept_notes, exported_notes}
 use Rattle.edf_check.specs.Laws.{SamplesAsKept}
-use Rattle.edf_check.specs.Subfields.{SubfieldsAsClaimed}
-use Rattle.edf_check.specs.Texts.{SameTexts}
+use Rattle.edf_heads.specs.Subfields.{SubfieldsAsClaimed}
+use Rattle.edf_heads.specs.Texts.{SameTexts}
 
 -- The headline. Both files conform to the profile; the export's channels are exactly the claimed ones, with their texts and
 -- calibrations; its samples are exactly the original's samples of those channels in the claimed intervals, value for value, at the

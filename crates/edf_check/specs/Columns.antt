@@ -14,10 +14,10 @@ use Rattle.edf_check.specs.declared.point.Point.{Point}
 use Rattle.edf_check.specs.Courses.{Course}
 use Rattle.edf_check.specs.Differences.{HasValue, IsAscending, first_difference_of}
 use Rattle.edf_check.specs.Exports.{BothConform}
-use Rattle.edf_check.specs.HeadVerdicts.{HeadsAgree}
+use Rattle.edf_heads.specs.HeadVerdicts.{HeadsAgree}
 use Rattle.edf_check.specs.Instants.{later}
 use Rattle.edf_check.specs.Kept.{start_of, shift_of}
-use Rattle.edf_check.specs.Labels.{IsNotAbove}
+use Rattle.edf_heads.specs.Labels.{IsNotAbove}
 
 -- the first of these channels, the first of which has number k, that has the label
 abbrev pub place_from : List ℕ → ℕ → List SignalHead → Option ChannelPlace

@@ -2,10 +2,10 @@
 use Rattle.std.specs.Prelude.{◌≡◌, ◌≢◌, ◌↔◌, ℕ, ◌<◌, ℤ, List}
 use Rattle.edf_stream.specs.declared.instant.Instant.{Instant}
 use Rattle.edf_stream.specs.Instants.{IsSame}
-use Rattle.edf_check.specs.declared.verdict.SampleMismatch.{SampleMismatch}
-use Rattle.edf_check.specs.declared.verdict.SampleMismatch.TheVariants.{Missing, Extra, Value}
+use Rattle.edf_verdict.specs.declared.verdict.SampleMismatch.{SampleMismatch}
+use Rattle.edf_verdict.specs.declared.verdict.SampleMismatch.TheVariants.{Missing, Extra, Value}
 use Rattle.edf_check.specs.Instants.{IsBefore, floor_of}
-use Rattle.edf_check.specs.Labels.{IsNotAbove}
+use Rattle.edf_heads.specs.Labels.{IsNotAbove}
 
 -- which value the channel of a label has at an instant
 abbrev pub Course : Type 1

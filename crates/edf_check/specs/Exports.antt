@@ -7,7 +7,7 @@ use Rattle.edf_stream.specs.Notes.{notes_of}
 use Rattle.edf_stream.specs.Summaries.{channels_among}
 use Rattle.edf_check.specs.Annotations.{SameNotes}
 use Rattle.edf_check.specs.Courses.{Agree}
-use Rattle.edf_check.specs.HeadVerdicts.{HeadsAgree}
+use Rattle.edf_heads.specs.HeadVerdicts.{HeadsAgree}
 use Rattle.edf_check.specs.Kept.{KeptAt, ExportedAt, kept_notes, exported_notes}
 
 -- both files conform to the profile (docs/PROFILE.md)

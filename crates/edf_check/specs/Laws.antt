@@ -11,8 +11,8 @@ use Rattle.edf_stream.specs.Instants.{IsSame}
 use Rattle.edf_stream.specs.Notes.{NoteValue}
 use Rattle.edf_stream.specs.Samples.{SampleValue, IsSample}
 use Rattle.edf_check.specs.Annotations.{SameNotes}
-use Rattle.edf_check.specs.declared.verdict.Verdict.{Verdict}
-use Rattle.edf_check.specs.declared.verdict.Verdict.TheVariants.{Yes}
+use Rattle.edf_verdict.specs.declared.verdict.Verdict.{Verdict}
+use Rattle.edf_verdict.specs.declared.verdict.Verdict.TheVariants.{Yes}
 use Rattle.edf_check.specs.Exports.{BothConform, SameSamples, IsExport}
 use Rattle.edf_check.specs.Instants.{later}
 use Rattle.edf_check.specs.Kept.{start_of, shift_of}

@@ -1,13 +1,3 @@
-pub mod Blank
-pub mod Calibrations
-pub mod Channels
-pub mod Comparisons
-pub mod Firsts
-pub mod HeadDifferences
-pub mod HeadVerdicts
-pub mod Labels
-pub mod Subfields
-pub mod Texts
 pub mod Instants
 pub mod Courses
 pub mod Kept
@@ -15,11 +5,7 @@ pub mod Annotations
 pub mod Exports
 pub mod Verdicts
 pub mod Laws
-pub mod Outcomes
 pub mod Checks
-pub mod Quotes
-pub mod NoteTimes
-pub mod Lines
 pub mod Runs
 pub mod Differences
 pub mod Earliest

@@ -7,8 +7,8 @@ use Rattle.edf_stream.specs.Notes.{NoteValue}
 use Rattle.edf_stream.specs.Views.{note_value}
 use Rattle.edf_check.specs.declared.note_difference.NoteDifference.{NoteDifference}
 use Rattle.edf_check.specs.declared.unequal.Unequal.{Unequal}
-use Rattle.edf_check.specs.declared.verdict.AnnotationMismatch.{AnnotationMismatch}
-use Rattle.edf_check.specs.declared.verdict.AnnotationMismatch.TheVariants.{Missing, Extra}
+use Rattle.edf_verdict.specs.declared.verdict.AnnotationMismatch.{AnnotationMismatch}
+use Rattle.edf_verdict.specs.declared.verdict.AnnotationMismatch.TheVariants.{Missing, Extra}
 use Rattle.edf_check.specs.Annotations.{note_cmp}
 
 -- no annotation is before one that stands ahead of it

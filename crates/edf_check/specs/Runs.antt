@@ -5,15 +5,15 @@ use Rattle.edf_claim.specs.declared.stop.ClaimStop.{ClaimStop}
 use Rattle.edf_claim.specs.declared.stop.ClaimStop.TheVariants as claims
 use Rattle.edf_fields.specs.Sinks.{HoldsPrefix}
 use Rattle.edf_check.specs.Checks.{YesMeans}
-use Rattle.edf_check.specs.declared.outcome.Outcome.{Outcome}
+use Rattle.edf_verdict.specs.declared.outcome.Outcome.{Outcome}
 use Rattle.edf_check.specs.declared.run.RunStop.{RunStop}
 use Rattle.edf_check.specs.declared.run.RunStop.TheVariants.{OutOfMemory, ReadFailed, Claim, WriteFailed}
 use Rattle.edf_check.specs.declared.side.CheckStop.{CheckStop}
 use Rattle.edf_check.specs.declared.side.CheckStop.TheVariants as checks
 use Rattle.edf_check.specs.declared.side.Side.TheVariants as sides
-use Rattle.edf_check.specs.declared.verdict.Verdict.{Verdict}
-use Rattle.edf_check.specs.Lines.{verdict_line}
-use Rattle.edf_check.specs.Outcomes.{outcome_of}
+use Rattle.edf_verdict.specs.declared.verdict.Verdict.{Verdict}
+use Rattle.edf_verdict.specs.Lines.{verdict_line}
+use Rattle.edf_verdict.specs.Outcomes.{outcome_of}
 use Rattle.edf_check.specs.Verdicts.{IsVerdict}
 
 -- this is the verdict on two files under the claim that a text says

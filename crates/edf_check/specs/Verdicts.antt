@@ -6,11 +6,11 @@ use Rattle.edf_stream.specs.Faults.{file_fault}
 use Rattle.edf_check.specs.Annotations.{IsFirstNote}
 use Rattle.edf_check.specs.Courses.{IsFirstMismatch}
 use Rattle.edf_check.specs.Exports.{BothConform, SameSamples, IsExport, AreCounts}
-use Rattle.edf_check.specs.HeadVerdicts.{HeadsAgree, IsHeadVerdict}
+use Rattle.edf_heads.specs.HeadVerdicts.{HeadsAgree, IsHeadVerdict}
 use Rattle.edf_check.specs.Kept.{KeptAt, ExportedAt, kept_notes, exported_notes}
-use Rattle.edf_check.specs.declared.verdict.Verdict.{Verdict}
-use Rattle.edf_check.specs.declared.verdict.Verdict.TheVariants.{Yes, No}
-use Rattle.edf_check.specs.declared.verdict.Difference.TheVariants.{OriginalFault, ExportFault, UnknownChannel, MissingChannel, ExtraChannel, ChannelText, Calibration, Subfield, NotClean, Sample, Annotation}
+use Rattle.edf_verdict.specs.declared.verdict.Verdict.{Verdict}
+use Rattle.edf_verdict.specs.declared.verdict.Verdict.TheVariants.{Yes, No}
+use Rattle.edf_verdict.specs.declared.verdict.Difference.TheVariants.{OriginalFault, ExportFault, UnknownChannel, MissingChannel, ExtraChannel, ChannelText, Calibration, Subfield, NotClean, Sample, Annotation}
 
 -- both files conform, and the headers differ so
 abbrev pub HeadsDiffer : List ℕ → List ℕ → Terms → Verdict → Type 0

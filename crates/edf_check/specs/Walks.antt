@@ -14,7 +14,7 @@ use Rattle.edf_check.specs.declared.walk.Walked.TheVariants.{OriginalFault, Expo
 use Rattle.edf_check.specs.Annotations.{IsFirstNote, SameNotes}
 use Rattle.edf_check.specs.Courses.{IsFirstMismatch}
 use Rattle.edf_check.specs.Exports.{BothConform, SameSamples, AreCounts}
-use Rattle.edf_check.specs.HeadVerdicts.{HeadsAgree, IsHeadVerdict}
+use Rattle.edf_heads.specs.HeadVerdicts.{HeadsAgree, IsHeadVerdict}
 use Rattle.edf_check.specs.Instants.{floor_of}
 use Rattle.edf_check.specs.Kept.{shift_of, KeptAt, ExportedAt, kept_notes, exported_notes}
 use Rattle.edf_check.specs.NoteOrder.{note_mismatch}

@@ -3,16 +3,16 @@
 ghost use Rattle.std.specs.Prelude.{◌≡◌, ℕ, List};
 ghost use Rattle.edf_claim.specs.Claims.{Terms};
 ghost use Rattle.edf_check.specs.Checks.{AreRead};
-ghost use Rattle.edf_check.specs.declared.verdict.Verdict.TheVariants as verdicts;
-ghost use Rattle.edf_check.specs.declared.verdict.Difference.TheVariants as differences;
+ghost use Rattle.edf_verdict.specs.declared.verdict.Verdict.TheVariants as verdicts;
+ghost use Rattle.edf_verdict.specs.declared.verdict.Difference.TheVariants as differences;
 ghost use Rattle.edf_check.specs.Verdicts.{IsVerdict};
 ghost use Rattle.edf_check.specs.Walks.{IsReadOut, IsWalked};
 
 use crate::note_difference::NoteDifference;
 use crate::sample_difference::SampleDifference;
-use crate::verdict::{Difference, Verdict};
 use crate::walk::Walked;
 use edf_stream::conform::Summary;
+use edf_verdict::verdict::{Difference, Verdict};
 
 impl SampleDifference {
     /// The verdict No for this difference.

@@ -6,10 +6,10 @@ ghost use Rattle.edf_check.specs.Checks.{AreRead, CheckStops, YesMeans};
 ghost use Rattle.edf_check.specs.Verdicts.{IsVerdict};
 
 use crate::side::CheckStop;
-use crate::verdict::Verdict;
 use crate::walk::walk;
 use edf_claim::claim::Claim;
 use edf_fields::source::Source;
+use edf_verdict::verdict::Verdict;
 use std::alloc::Global;
 
 /// Checks whether the export is the original, cut and made anonymous as the claim says, and nothing else.

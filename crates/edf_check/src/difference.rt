@@ -6,8 +6,8 @@ ghost use Rattle.edf_check.specs.Instants.{IsModest};
 
 use crate::instants::is_before;
 use crate::point::Point;
-use crate::verdict::SampleMismatch;
 use edf_stream::instant::Instant;
+use edf_verdict::verdict::SampleMismatch;
 
 /// A difference and the instant where it stands.
 #[derive(Debug, Clone, Copy, PartialEq, Eq)]

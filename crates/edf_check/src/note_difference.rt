@@ -6,10 +6,10 @@ ghost use Rattle.edf_stream.specs.Views.{note_value};
 ghost use Rattle.edf_check.specs.Annotations.{note_cmp, IsFirstNote, SameNotes};
 ghost use Rattle.edf_check.specs.NoteOrder.{first_unequal_of, note_mismatch, unequal_view};
 
-use crate::note_text::NoteText;
 use crate::unequal::Unequal;
-use crate::verdict::AnnotationMismatch;
 use edf_stream::notes::Note;
+use edf_verdict::note_text::NoteText;
+use edf_verdict::verdict::AnnotationMismatch;
 use std::alloc::{AllocError, Global};
 use std::cmp::Ordering;
 

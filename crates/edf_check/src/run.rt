@@ -8,12 +8,12 @@ ghost use Rattle.edf_check.specs.declared.run.RunStop.TheVariants as stops;
 ghost use Rattle.edf_check.specs.Runs.{IsReport, IsPartOfReport, IsFrontOfALine, RunStops, stop_of_claim, stop_of_check};
 
 use crate::check::check;
-use crate::outcome::Outcome;
 use crate::side::{CheckStop, Side};
 use edf_claim::claim::Claim;
 use edf_claim::stop::ClaimStop;
 use edf_fields::sink::{Sink, WriteFault, put_all};
 use edf_fields::source::Source;
+use edf_verdict::outcome::Outcome;
 use std::alloc::{AllocError, Global};
 
 /// Why a run stopped before its line was written.

@@ -5,8 +5,8 @@ ghost use Rattle.edf_check.specs.Instants.{floor_of};
 
 use crate::earliest::Found;
 use crate::instants::floor;
-use crate::label::Label;
-use crate::verdict::SampleMismatch;
+use edf_verdict::label::Label;
+use edf_verdict::verdict::SampleMismatch;
 use std::alloc::{AllocError, Global};
 
 /// The first difference between the kept samples of an original and those of an export.

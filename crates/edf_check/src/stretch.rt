@@ -15,9 +15,9 @@ use crate::first_difference::first_difference;
 use crate::instants::product;
 use crate::point::Point;
 use crate::time::Time;
-use crate::verdict::SampleMismatch;
 use byteorder::{ByteOrder, LittleEndian};
 use edf_stream::instant::Instant;
+use edf_verdict::verdict::SampleMismatch;
 
 /// Samples of a channel at even distances: the first stands at the instant `num / den` picoseconds, each
 /// further one `step / den` picoseconds behind the one before it. Each takes two of the bytes.

@@ -10,10 +10,10 @@ ghost use Rattle.edf_check.specs.Tracks.{other_side, track_on, tracks_on, AreFou
 ghost use Rattle.edf_check.specs.Windows.{ArePairs, places_of};
 
 use crate::channel_place::ChannelPlace;
-use crate::labels::place_of;
 use crate::side::Side;
 use edf_header::header::Header;
 use edf_header::signal::Signal;
+use edf_heads::labels::place_of;
 use std::alloc::{AllocError, Global};
 use std::mem::size_of;
 

@@ -7,7 +7,7 @@ ghost use Rattle.edf_header.specs.Heads.{samples_together};
 ghost use Rattle.edf_stream.specs.Faults.{file_fault};
 ghost use Rattle.edf_stream.specs.Readers.{Reader, HasBegun, StandsIn};
 ghost use Rattle.edf_stream.specs.Summaries.{channels_among};
-ghost use Rattle.edf_check.specs.HeadVerdicts.{HeadsAgree, IsHeadVerdict};
+ghost use Rattle.edf_heads.specs.HeadVerdicts.{HeadsAgree, IsHeadVerdict};
 ghost use Rattle.edf_check.specs.Checks.{CheckStops, SideStops};
 ghost use Rattle.edf_check.specs.Walks.{IsReadOut, IsWalked};
 ghost use Rattle.edf_check.specs.Windows.{IsFaultOf, IsReadBy};
@@ -15,8 +15,6 @@ ghost use Rattle.edf_check.specs.declared.side.Side.TheVariants as sides;
 
 use crate::clock::Clock;
 use crate::conclude::conclude;
-use crate::head_difference::head_difference;
-use crate::labels::in_order;
 use crate::layout::common_room;
 use crate::lockstep::{FaultOf, Frame, walk_records};
 use crate::note_difference::NoteDifference;
@@ -24,15 +22,17 @@ use crate::reading::{Reading, read_out};
 use crate::sample_difference::SampleDifference;
 use crate::side::{CheckStop, Side};
 use crate::track::pairs_of;
-use crate::verdict::Verdict;
 use edf_claim::claim::Claim;
 use edf_fields::source::Source;
 use edf_header::fault::Fault;
 use edf_header::header::Header;
 use edf_header::stop::Stop;
+use edf_heads::head_difference::head_difference;
+use edf_heads::labels::in_order;
 use edf_stream::conform::Summary;
 use edf_stream::notes::Note;
 use edf_stream::reader::FileReader;
+use edf_verdict::verdict::Verdict;
 use std::alloc::Global;
 
 /// What reading both files to their ends found.

@@ -1,7 +1,7 @@
 //! The headers of an original and an export, and what `head_difference` answers; `tools/cases` has many more.
 
-use edf_check::head_difference::head_difference;
-use edf_check::verdict::{Difference, FreeText, SubfieldMismatch, TextField, Verdict};
+use edf_heads::head_difference::head_difference;
+use edf_verdict::verdict::{Difference, FreeText, SubfieldMismatch, TextField, Verdict};
 use edf_claim::claim::Claim;
 use edf_claim::which::Which;
 use edf_fields::source::SliceSource;

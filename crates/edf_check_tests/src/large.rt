@@ -3,7 +3,7 @@
 
 ghost use Rattle.std.specs.Prelude.{[], false};
 
-use edf_check::outcome::Outcome;
+use edf_verdict::outcome::Outcome;
 use edf_check::run::run;
 use edf_fields::sink::SliceSink;
 use edf_fields::source::{ReadFault, SliceSource, Source};

@@ -1,7 +1,7 @@
 //! A run into a sink that is soon full, and runs under a text that says no claim.
 
 use crate::night::{ALL, YES};
-use edf_check::outcome::Outcome;
+use edf_verdict::outcome::Outcome;
 use edf_check::run::{RunStop, run};
 use edf_claim::stop::ClaimStop;
 use edf_fields::sink::SliceSink;

@@ -3,11 +3,11 @@
 
 use crate::headers::claim;
 use edf_check::check::check;
-use edf_check::label::Label;
-use edf_check::note_text::NoteText;
-use edf_check::outcome::Outcome;
-use edf_check::quote::push_quoted;
-use edf_check::verdict::{Difference, FreeText, SampleMismatch, SubfieldMismatch, Verdict};
+use edf_verdict::label::Label;
+use edf_verdict::note_text::NoteText;
+use edf_verdict::outcome::Outcome;
+use edf_verdict::quote::push_quoted;
+use edf_verdict::verdict::{Difference, FreeText, SampleMismatch, SubfieldMismatch, Verdict};
 use edf_claim::which::Which;
 use edf_fields::cause::TalCause;
 use edf_fields::source::SliceSource;

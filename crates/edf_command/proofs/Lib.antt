@@ -1,3 +1,1 @@
 pub mod VectorsFacts
-pub mod ReportFacts
-pub mod NotesFacts

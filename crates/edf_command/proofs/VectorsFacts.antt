@@ -4,8 +4,8 @@ use Rattle.std.specs.List.{flat_map}
 use Rattle.std.proofs.lemmas.List.{map-append, append-nil, map_more}
 use Rattle.std.proofs.lemmas.List.Concat.{flat_map-append}
 use Rattle.std.proofs.lemmas.List.Elements.{All-push, All-pop}
-use Rattle.edf_check.specs.declared.outcome.Outcome.{Outcome}
-use Rattle.edf_check.specs.declared.outcome.Outcome.TheVariants as outcomes
+use Rattle.edf_verdict.specs.declared.outcome.Outcome.{Outcome}
+use Rattle.edf_verdict.specs.declared.outcome.Outcome.TheVariants as outcomes
 use Rattle.edf_command.specs.declared.vectors.rows.Row.{Row}
 use Rattle.edf_command.specs.Vectors.{WorkedRow, CheckedRow, checked_text, IsStored, row_of, row_text, AreRowsWritten, IsRowWritten}
 

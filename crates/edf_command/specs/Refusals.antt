@@ -10,8 +10,8 @@ use Rattle.edf_command.specs.declared.refusal.Refusal.{Refusal}
 use Rattle.edf_command.specs.declared.refusal.Refusal.TheVariants as refusals
 use Rattle.edf_command.specs.declared.refusal.Role.{Role}
 use Rattle.edf_command.specs.declared.refusal.Role.TheVariants as roles
-use Rattle.edf_command.specs.declared.report.ReportStop.{ReportStop}
-use Rattle.edf_command.specs.declared.report.ReportStop.TheVariants as reports
+use Rattle.edf_report.specs.declared.report.ReportStop.{ReportStop}
+use Rattle.edf_report.specs.declared.report.ReportStop.TheVariants as reports
 
 -- the word for a file
 abbrev pub role_word : Role → List ℕ

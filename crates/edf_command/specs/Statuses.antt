@@ -1,7 +1,7 @@
 -- The status with which the program ends.
 use Rattle.std.specs.Prelude.{ℕ, Result, Ok, Err}
-use Rattle.edf_check.specs.declared.outcome.Outcome.{Outcome}
-use Rattle.edf_check.specs.declared.outcome.Outcome.TheVariants.{Yes, No}
+use Rattle.edf_verdict.specs.declared.outcome.Outcome.{Outcome}
+use Rattle.edf_verdict.specs.declared.outcome.Outcome.TheVariants.{Yes, No}
 use Rattle.edf_command.specs.declared.refusal.Refusal.{Refusal}
 
 -- 0 for Yes, 1 for No, 2 for a refusal

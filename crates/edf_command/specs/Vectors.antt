@@ -2,13 +2,13 @@
 use Rattle.std.specs.Prelude.{◌≡◌, ◌↔◌, ℕ, List, [], ◌∷◌, ◌++◌, map, codes}
 use Rattle.std.specs.Fmt.{decimal}
 use Rattle.std.specs.List.{All, flat_map}
-use Rattle.edf_check.specs.declared.outcome.Outcome.{Outcome}
-use Rattle.edf_check.specs.declared.outcome.Outcome.TheVariants as outcomes
-use Rattle.edf_check.specs.declared.verdict.Verdict.{Verdict}
-use Rattle.edf_check.specs.Lines.{verdict_line}
+use Rattle.edf_verdict.specs.declared.outcome.Outcome.{Outcome}
+use Rattle.edf_verdict.specs.declared.outcome.Outcome.TheVariants as outcomes
+use Rattle.edf_verdict.specs.declared.verdict.Verdict.{Verdict}
+use Rattle.edf_verdict.specs.Lines.{verdict_line}
 use Rattle.edf_check.specs.Runs.{IsVerdictUnder}
-use Rattle.edf_command.specs.declared.report.ReportStop.{ReportStop}
-use Rattle.edf_command.specs.Reports.{ReportStops}
+use Rattle.edf_report.specs.declared.report.ReportStop.{ReportStop}
+use Rattle.edf_report.specs.Reports.{ReportStops}
 use Rattle.edf_command.specs.declared.vectors.rows.Row.{Row}
 
 -- a worked row, in what its text says: its number, and the line that is stored for it

@@ -3,11 +3,7 @@
 #![tactic(auto)]
 
 pub mod command;
-pub mod conform;
-pub mod notes;
 pub mod refusal;
-pub mod report;
-pub mod show;
 pub mod status;
 pub mod vectors;
 pub mod words;

@@ -4,11 +4,11 @@ ghost use Rattle.std.specs.Prelude.{◌≡◌};
 ghost use Rattle.edf_command.specs.declared.refusal.Refusal.TheVariants as refusals;
 ghost use Rattle.edf_command.specs.Refusals.{claim_text, opening_text, reading_text, refusal_of_report, refusal_of_run, refusal_text, role_of};
 
-use crate::report::ReportStop;
 use edf_check::run::RunStop;
 use edf_check::side::Side;
 use edf_claim::stop::ClaimStop;
 use edf_fields::sink::WriteFault;
+use edf_report::report::ReportStop;
 use std::alloc::AllocError;
 
 /// What a file is to the command that reads it.

@@ -11,14 +11,14 @@ pub mod files;
 pub mod line;
 pub mod rows;
 
-use crate::report::ReportStop;
 use crate::vectors::build::bytes_of;
 use crate::vectors::line::Line;
 use crate::vectors::rows::{Row, worked_rows};
-use edf_check::outcome::Outcome;
 use edf_check::run::{RunStop, run};
 use edf_fields::sink::{Sink, put_all};
 use edf_fields::source::SliceSource;
+use edf_report::report::ReportStop;
+use edf_verdict::outcome::Outcome;
 use std::alloc::{AllocError, Global};
 
 /// The line that a run writes on two files in memory.

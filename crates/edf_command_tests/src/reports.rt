@@ -1,11 +1,11 @@
 //! The reports on one file: their texts, and what stands in a sink that is soon full; `tools/cases` has more of
 //! their texts.
 
-use edf_check::outcome::Outcome;
-use edf_command::conform::conform_to;
-use edf_command::notes::notes_to;
-use edf_command::report::ReportStop;
-use edf_command::show::show_to;
+use edf_verdict::outcome::Outcome;
+use edf_report::conform::conform_to;
+use edf_report::notes::notes_to;
+use edf_report::report::ReportStop;
+use edf_report::show::show_to;
 use edf_command::vectors::line::Line;
 use edf_fields::sink::{Sink, SliceSink};
 use edf_fields::source::SliceSource;

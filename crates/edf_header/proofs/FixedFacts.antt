@@ -7,7 +7,7 @@ use Rattle.edf_header.specs.declared.fault.Cause.TheVariants.{Truncated}
 use Rattle.edf_header.specs.declared.layout.FixedField.{FixedField}
 use Rattle.edf_header.specs.declared.layout.FixedField.TheVariants as fixed
 use Rattle.edf_header.specs.Layout.{fixed_from, fixed_bytes, fixed_fields}
-use Rattle.edf_header.specs.Faults.{fault, truncated, fixed_missing, start_faults, extent_faults, fixed_tests}
+use Rattle.edf_header.specs.Faults.{fault, truncated, fixed_missing, start_faults, extent_faults, fixed_fault}
 use Rattle.edf_header.proofs.ColumnFacts.{there, not_there}
 use Rattle.edf_header.proofs.PassedFacts.{fault_unless-passed}
 use Rattle.edf_fields.specs.Tests.{first}
@@ -55,20 +55,24 @@ pub part_whole : (len : ℕ) → first (fixed_missing fixed_fields len) ≡ None
 part_whole len h =
     last-there (fixed.Version ∷ fixed.Patient ∷ fixed.Recording ∷ fixed.Startdate ∷ fixed.Starttime ∷ fixed.HeaderBytes ∷ fixed.Reserved ∷ fixed.Records ∷ fixed.Duration ∷ []) len h
 
-pub missing_found : (front : List ℕ) (f : Fault) → first (fixed_missing fixed_fields (length front)) ≡ Some f → first (fixed_tests front) ≡ Some f
+pub missing_found : (front : List ℕ) (f : Fault) → first (fixed_missing fixed_fields (length front)) ≡ Some f → fixed_fault front ≡ Some f
+unfolding fixed_fault
 missing_found front f h = first-found (fixed_missing fixed_fields (length front)) (start_faults front ++ extent_faults front) f h
 
-pub start_found : (front : List ℕ) (f : Fault) → first (fixed_missing fixed_fields (length front)) ≡ None → first (start_faults front) ≡ Some f → first (fixed_tests front) ≡ Some f
+pub start_found : (front : List ℕ) (f : Fault) → first (fixed_missing fixed_fields (length front)) ≡ None → first (start_faults front) ≡ Some f → fixed_fault front ≡ Some f
+unfolding fixed_fault
 start_found front f there h =
     first-passed (fixed_missing fixed_fields (length front)) (start_faults front ++ extent_faults front) there
     ∙ first-found (start_faults front) (extent_faults front) f h
 
-pub extent_found : (front : List ℕ) (f : Fault) → first (fixed_missing fixed_fields (length front)) ≡ None → first (start_faults front) ≡ None → first (extent_faults front) ≡ Some f → first (fixed_tests front) ≡ Some f
+pub extent_found : (front : List ℕ) (f : Fault) → first (fixed_missing fixed_fields (length front)) ≡ None → first (start_faults front) ≡ None → first (extent_faults front) ≡ Some f → fixed_fault front ≡ Some f
+unfolding fixed_fault
 extent_found front f there start h =
     first-passed (fixed_missing fixed_fields (length front)) (start_faults front ++ extent_faults front) there
     ∙ first-passed (start_faults front) (extent_faults front) start ∙ h
 
-pub fixed_passed : (front : List ℕ) → first (fixed_missing fixed_fields (length front)) ≡ None → first (start_faults front) ≡ None → first (extent_faults front) ≡ None → first (fixed_tests front) ≡ None
+pub fixed_passed : (front : List ℕ) → first (fixed_missing fixed_fields (length front)) ≡ None → first (start_faults front) ≡ None → first (extent_faults front) ≡ None → fixed_fault front ≡ None
+unfolding fixed_fault
 fixed_passed front there start h =
     first-passed (fixed_missing fixed_fields (length front)) (start_faults front ++ extent_faults front) there
     ∙ first-passed (start_faults front) (extent_faults front) start ∙ h

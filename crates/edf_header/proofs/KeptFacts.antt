@@ -17,7 +17,7 @@ use Rattle.edf_header.specs.Heads.{SignalHead, AreSideBySide, day_number, first_
 use Rattle.edf_header.specs.Judged.{SaysStart, SaysExtent}
 use Rattle.edf_header.specs.Sound.{IsSoundSignal}
 use Rattle.edf_header.specs.Views.{IsKept}
-use Rattle.edf_header.specs.Faults.{fault_unless, not_printable, not_named, is_same_day, version_fault, patient_fault, recording_fault, startdate_fault, starttime_fault, fixed_missing, start_faults, extent_faults, fixed_tests, columns_missing, signals_faults, joint_faults, columns_tests}
+use Rattle.edf_header.specs.Faults.{fault_unless, not_printable, not_named, is_same_day, version_fault, patient_fault, recording_fault, startdate_fault, starttime_fault, fixed_missing, start_faults, extent_faults, fixed_fault, columns_missing, signals_faults, joint_faults, columns_tests}
 use Rattle.edf_fields.specs.Tests.{first}
 use Rattle.edf_header.proofs.PassedFacts.{fault_unless-passed}
 use Rattle.edf_header.proofs.SaidFacts.{patient_is, recording_is}
@@ -56,7 +56,8 @@ same-day date o n h named =
     (named.1).2 ∙ same-number (civil_day day) o (ap (λ r. is_same_day r o) read ∙ h)
 
 -- the test of the startdate among those of the fields up to the starttime
-startdate-of : (front : List ℕ) → first (fixed_tests front) ≡ None → startdate_fault (recording_in (fixed_field front fixed.Recording)).date (fixed_field front fixed.Startdate) ≡ None
+startdate-of : (front : List ℕ) → fixed_fault front ≡ None → startdate_fault (recording_in (fixed_field front fixed.Recording)).date (fixed_field front fixed.Startdate) ≡ None
+unfolding fixed_fault
 startdate-of front h =
     let a = first-none (fixed_missing fixed_fields (length front)) (start_faults front ++ extent_faults front) h in
     let b = first-none (start_faults front) (extent_faults front) a.1 in
@@ -71,7 +72,7 @@ startdate-of front h =
     (first-cons startdate (starttime ∷ []) c2.1).0
 
 pub kept : (front bytes : List ℕ) (start : Start) (extent : Extent) (signals : List SignalHead) (size : ℕ) → 256 ≤ length front
-    → SaysStart front start → SaysExtent front extent → first (fixed_tests front) ≡ None → first (columns_tests extent.signals bytes) ≡ None
+    → SaysStart front start → SaysExtent front extent → fixed_fault front ≡ None → first (columns_tests extent.signals bytes) ≡ None
     → signals ≡ signals_in extent.signals bytes → size ≡ 2 * samples_together signals → size ≤ 16777216
     → IsKept front start extent signals size
 kept front bytes start extent signals size long s x passed columns-passed e total small =

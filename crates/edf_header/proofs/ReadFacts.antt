@@ -10,7 +10,7 @@ use Rattle.edf_fields.specs.Dates.{CivilDay}
 use Rattle.edf_fields.specs.Parts.{text_of}
 use Rattle.edf_header.specs.declared.layout.FixedField.TheVariants as fixed
 use Rattle.edf_header.specs.Layout.{fixed_part, fixed_field, columns_part}
-use Rattle.edf_header.specs.Faults.{fixed_tests, columns_tests, header_fault}
+use Rattle.edf_header.specs.Faults.{fixed_tests, fixed_fault, columns_tests, header_fault}
 use Rattle.edf_fields.specs.Tests.{first}
 use Rattle.edf_header.specs.Heads.{SignalHead, Head, patient_in, recording_in, signals_of, signals_in, head_in, head_of, header_bytes}
 use Rattle.edf_header.specs.Judged.{SaysStart, SaysExtent}
@@ -18,15 +18,15 @@ use Rattle.edf_header.specs.Views.{head_view}
 use Rattle.edf_fields.proofs.ForCallers.{first-passed, first-found}
 use Rattle.edf_header.proofs.SignalFacts.{length-signals}
 
-pub front_found : (b front : List ℕ) (f : Fault) → front ≡ take 256 b → first (fixed_tests front) ≡ Some f → header_fault b ≡ Some f
-unfolding header_fault
+pub front_found : (b front : List ℕ) (f : Fault) → front ≡ take 256 b → fixed_fault front ≡ Some f → header_fault b ≡ Some f
+unfolding fixed_fault header_fault
 front_found b front f e h =
     first-found (fixed_tests (fixed_part b)) (columns_tests (signals_of (fixed_part b)) (columns_part (signals_of (fixed_part b)) b)) f
     (ap (λ xs. first (fixed_tests xs)) (sym e) ∙ h)
 
 pub columns-left : (b front bytes : List ℕ) (n : ℕ) → front ≡ take 256 b → signals_of front ≡ n → bytes ≡ take (256 * n) (drop 256 b)
-    → first (fixed_tests front) ≡ None → header_fault b ≡ first (columns_tests n bytes)
-unfolding header_fault
+    → fixed_fault front ≡ None → header_fault b ≡ first (columns_tests n bytes)
+unfolding fixed_fault header_fault
 columns-left b front bytes n e count cols passed =
     let m : signals_of (fixed_part b) ≡ n = ap signals_of (sym e) ∙ count in
     first-passed (fixed_tests (fixed_part b)) (columns_tests (signals_of (fixed_part b)) (columns_part (signals_of (fixed_part b)) b))

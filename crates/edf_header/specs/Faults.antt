@@ -291,6 +291,10 @@ joint_faults signals =
 abbrev pub fixed_tests : List ℕ → List (Option Fault)
 fixed_tests front = fixed_missing fixed_fields (length front) ++ (start_faults front ++ extent_faults front)
 
+-- the first fault of the fixed part, or of as much of it as there is
+unfoldable pub fixed_fault : List ℕ → Option Fault
+fixed_fault front = first (fixed_tests front)
+
 -- the tests of the columns of n signals, or of as much of them as there is
 abbrev pub columns_tests : ℕ → List ℕ → List (Option Fault)
 columns_tests n bytes =

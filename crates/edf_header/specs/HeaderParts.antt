@@ -3,7 +3,7 @@ use Rattle.std.specs.Prelude.{◌≡◌, ℕ, ◌*◌, ◌≤◌, List, None, le
 use Rattle.edf_fields.specs.Tests.{first}
 use Rattle.edf_header.specs.declared.fixed.Fixed.{Fixed}
 use Rattle.edf_header.specs.declared.judge_columns.Body.{Body}
-use Rattle.edf_header.specs.Faults.{fixed_tests, columns_tests}
+use Rattle.edf_header.specs.Faults.{fixed_fault, columns_tests}
 use Rattle.edf_header.specs.Heads.{signals_in, samples_together}
 use Rattle.edf_header.specs.Judged.{SaysStart, SaysExtent}
 use Rattle.edf_header.specs.Lanes.{annotation_places}
@@ -11,7 +11,7 @@ use Rattle.edf_header.specs.Narrow.{WideColumns}
 
 -- of the fixed part
 pub record IsFixed (front : List ℕ) (v : Fixed) : Type 0 where
-  pub passed : first (fixed_tests front) ≡ None
+  pub passed : fixed_fault front ≡ None
   pub whole : 256 ≤ length front
   pub starts : SaysStart front v.start
   pub extends : SaysExtent front v.extent

@@ -9,10 +9,11 @@ ghost use Rattle.edf_fields.specs.Dates.{civil_day, dotted_day_of, clock_time_of
 ghost use Rattle.edf_fields.specs.Identifications.{patient_cause, recording_cause, recording_of};
 ghost use Rattle.edf_header.specs.declared.fault.Place.TheVariants.{AtField};
 ghost use Rattle.edf_header.specs.declared.fault.Cause.TheVariants.{Truncated};
+ghost use Rattle.edf_header.specs.HeaderParts.{IsFixed};
 ghost use Rattle.edf_header.specs.Layout.{fixed_fields};
 ghost use Rattle.edf_header.specs.Heads.{first_day, kind_of, recording_in, in_picoseconds};
 ghost use Rattle.edf_header.specs.Judged.{SaysStart, SaysExtent};
-ghost use Rattle.edf_header.specs.Faults.{fixed_missing, start_faults, extent_faults, fixed_tests, version_fault, patient_fault, recording_fault, startdate_fault, starttime_fault, header_bytes_fault, reserved_fault, records_fault, duration_fault, signals_fault, header_size_fault};
+ghost use Rattle.edf_header.specs.Faults.{fixed_missing, start_faults, extent_faults, fixed_fault, version_fault, patient_fault, recording_fault, startdate_fault, starttime_fault, header_bytes_fault, reserved_fault, records_fault, duration_fault, signals_fault, header_size_fault};
 ghost use Rattle.edf_fields.specs.Tests.{first};
 
 use crate::fault::{Cause, Fault, Place};
@@ -258,11 +259,10 @@ fn missing_field(len: usize) -> Option<FixedField>
 }
 
 /// What the fixed part says, or its first fault; of a file that is shorter, `front` is all of it.
-#[tactic(auto, using(crate::proofs::FixedFacts::missing_found))]
 pub(crate) fn judge_fixed(front: &[u8]) -> Result<Fixed, Fault>
     ensures { MatchResult result
-        (λ v. (first (fixed_tests front.now) ≡ None) × (256 ≤ length front.now) × SaysStart front.now v.start × SaysExtent front.now v.extent)
-        (λ f. first (fixed_tests front.now) ≡ Some f) }
+        (IsFixed front.now)
+        (λ f. fixed_fault front.now ≡ Some f) }
 {
     if let Some(field) = missing_field(front.len()) {
         return Err(Fault {

@@ -3,8 +3,8 @@
 ghost use Rattle.std.specs.Prelude.{◌≡◌, ◌*◌, ◌≤◌, ◌<◌, ◌^◌, None, Some, length, IfOk, IfErr};
 ghost use Rattle.edf_header.specs.Faults.{signals_faults, columns_tests};
 ghost use Rattle.edf_fields.specs.Tests.{first};
-ghost use Rattle.edf_header.specs.Heads.{signals_in, samples_together};
-ghost use Rattle.edf_header.specs.Lanes.{annotation_places as places_of_annotations};
+ghost use Rattle.edf_header.specs.HeaderParts.{IsBody};
+ghost use Rattle.edf_header.specs.Heads.{signals_in};
 ghost use Rattle.edf_header.specs.Stops.{Stops};
 
 use crate::columns::Columns;
@@ -47,11 +47,7 @@ pub(crate) struct Body {
 pub(crate) fn judge_columns(alloc: Global, columns: &Columns) -> Result<Body, Stop>
     requires few { columns.now.signals < 10 ^ 4 }
     requires whole { 256 * columns.now.signals ≤ length columns.now.bytes }
-    ensures ok { IfOk result (λ v. (first (columns_tests columns.entry.now.signals columns.entry.now.bytes) ≡ None)
-        × (256 * columns.entry.now.signals ≤ length columns.entry.now.bytes)
-        × (v.signals.items ≡ signals_in columns.entry.now.signals columns.entry.now.bytes)
-        × (v.record_bytes ≡ 2 * samples_together v.signals.items) × (v.record_bytes ≤ 16777216)
-        × (v.annotations.items ≡ places_of_annotations v.signals.items)) }
+    ensures ok { IfOk result (IsBody columns.entry.now) }
     ensures stop { IfErr result (Stops (λ f. first (columns_tests columns.entry.now.signals columns.entry.now.bytes) ≡ Some f) ⊥ (Unit {0})) }
 {
     let signals = judge_signals(alloc, columns)?;

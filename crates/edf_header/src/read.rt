@@ -6,7 +6,7 @@ ghost use Rattle.edf_fields.specs.Tests.{first};
 ghost use Rattle.edf_header.specs.declared.fault.Cause.TheVariants.{Truncated};
 ghost use Rattle.edf_header.specs.declared.fault.Place.TheVariants.{AtSignal};
 ghost use Rattle.edf_header.specs.Conforming.{HeaderConforms};
-ghost use Rattle.edf_header.specs.Faults.{columns_missing, header_fault};
+ghost use Rattle.edf_header.specs.Faults.{columns_missing, columns_tests, header_fault};
 ghost use Rattle.edf_header.specs.Heads.{HasHead, head_of, header_bytes};
 ghost use Rattle.edf_header.specs.HeaderParts.{IsFixed, IsBody};
 ghost use Rattle.edf_header.specs.Layout.{columns as all_columns, next_before, AreAdjacent};
@@ -99,40 +99,74 @@ fn read_columns<S: Source>(alloc: Global, source: &mut S, signals: u16) -> Resul
     Ok(Columns { columns, signals })
 }
 
-/// The parts of a header, once their tests have passed: the fixed part and what it says, the columns and what
-/// they say.
+/// The fixed part of a header, once its tests have passed: its bytes, and what they say.
+#[derive(Drop)]
+struct FixedPart {
+    bytes: Vec<u8>,
+    said: Fixed,
+}
+
+/// The columns of a header, once their tests have passed, and what they say.
+#[derive(Drop)]
+struct BodyPart {
+    columns: Columns,
+    said: Body,
+}
+
+/// The parts of a header, once their tests have passed.
 #[derive(Drop)]
 struct Parts {
-    front: Vec<u8>,
-    fixed: Fixed,
-    columns: Columns,
-    body: Body,
+    fixed: FixedPart,
+    body: BodyPart,
+}
+
+/// The fixed part of the header of a file, or the first fault of the header.
+fn read_fixed<S: Source>(alloc: Global, source: &mut S) -> Result<FixedPart, Stop>
+    ensures failures { OnOk result (S.failures source.new ≡ S.failures source.old) }
+    ensures stop { IfErr result (Stops (λ f. IsTrue (S.is_honest source.old) → header_fault (S.left source.old) ≡ Some f) (Rises (S.failures source.old) (S.failures source.new)) (S.failures source.new ≡ S.failures source.old)) }
+    ensures said { IfOk result (λ p. IsFixed p.bytes.items p.said) }
+    ensures honesty { OnOk result (IsTrue (S.is_honest source.old) → IsTrue (S.is_honest source.new)) }
+    ensures front { IfOk result (λ p. IsTrue (S.is_honest source.old) → p.bytes.items ≡ take 256 (S.left source.old)) }
+    ensures behind { OnOk result (IsTrue (S.is_honest source.old) → S.left source.new ≡ drop 256 (S.left source.old)) }
+{
+    let bytes = next_bytes(alloc, source, 256)?;
+    let said = judge_fixed(&bytes)?;
+    Ok(FixedPart { bytes, said })
+}
+
+/// The columns of so many signals, or the first fault of the columns.
+fn read_body<S: Source>(alloc: Global, source: &mut S, signals: u16) -> Result<BodyPart, Stop>
+    requires few { signals < 10 ^ 4 }
+    ensures failures { OnOk result (S.failures source.new ≡ S.failures source.old) }
+    ensures stop { IfErr result (Stops (λ f. IsTrue (S.is_honest source.old) → first (columns_tests signals (take (256 * signals) (S.left source.old))) ≡ Some f) (Rises (S.failures source.old) (S.failures source.new)) (S.failures source.new ≡ S.failures source.old)) }
+    ensures signals { IfOk result (λ p. p.columns.signals ≡ signals) }
+    ensures said { IfOk result (λ p. IsBody p.columns p.said) }
+    ensures honesty { OnOk result (IsTrue (S.is_honest source.old) → IsTrue (S.is_honest source.new)) }
+    ensures front { IfOk result (λ p. IsTrue (S.is_honest source.old) → p.columns.bytes ≡ take (256 * signals) (S.left source.old)) }
+    ensures behind { OnOk result (IsTrue (S.is_honest source.old) → S.left source.new ≡ drop (256 * signals) (S.left source.old)) }
+{
+    let columns = read_columns(alloc, source, signals)?;
+    let said = judge_columns(alloc, &columns)?;
+    Ok(BodyPart { columns, said })
 }
 
 /// The parts of the header of a file, or the first fault of the header.
 fn read_parts<S: Source>(alloc: Global, source: &mut S) -> Result<Parts, Stop>
     ensures failures { OnOk result (S.failures source.new ≡ S.failures source.old) }
     ensures stop { IfErr result (Stops (λ f. IsTrue (S.is_honest source.old) → header_fault (S.left source.old) ≡ Some f) (Rises (S.failures source.old) (S.failures source.new)) (S.failures source.new ≡ S.failures source.old)) }
-    ensures fixed { IfOk result (λ p. IsFixed p.front.items p.fixed) }
-    ensures signals { IfOk result (λ p. p.columns.signals ≡ p.fixed.extent.signals) }
-    ensures body { IfOk result (λ p. IsBody p.columns p.body) }
+    ensures fixed { IfOk result (λ p. IsFixed p.fixed.bytes.items p.fixed.said) }
+    ensures signals { IfOk result (λ p. p.body.columns.signals ≡ p.fixed.said.extent.signals) }
+    ensures body { IfOk result (λ p. IsBody p.body.columns p.body.said) }
 
     // What an honest source gives.
     ensures honesty { OnOk result (IsTrue (S.is_honest source.old) → IsTrue (S.is_honest source.new)) }
-    ensures front { IfOk result (λ p. IsTrue (S.is_honest source.old) → p.front.items ≡ take 256 (S.left source.old)) }
-    ensures bytes { IfOk result (λ p. IsTrue (S.is_honest source.old) → p.columns.bytes ≡ take (256 * p.fixed.extent.signals) (drop 256 (S.left source.old))) }
-    ensures behind { IfOk result (λ p. IsTrue (S.is_honest source.old) → S.left source.new ≡ drop (256 * p.fixed.extent.signals) (drop 256 (S.left source.old))) }
+    ensures front { IfOk result (λ p. IsTrue (S.is_honest source.old) → p.fixed.bytes.items ≡ take 256 (S.left source.old)) }
+    ensures bytes { IfOk result (λ p. IsTrue (S.is_honest source.old) → p.body.columns.bytes ≡ take (256 * p.fixed.said.extent.signals) (drop 256 (S.left source.old))) }
+    ensures behind { IfOk result (λ p. IsTrue (S.is_honest source.old) → S.left source.new ≡ drop (256 * p.fixed.said.extent.signals) (drop 256 (S.left source.old))) }
 {
-    let front = next_bytes(alloc, source, 256)?;
-    let fixed = judge_fixed(&front)?;
-    let columns = read_columns(alloc, source, fixed.extent.signals)?;
-    let body = judge_columns(alloc, &columns)?;
-    Ok(Parts {
-        front,
-        fixed,
-        columns,
-        body,
-    })
+    let fixed = read_fixed(alloc, source)?;
+    let body = read_body(alloc, source, fixed.said.extent.signals)?;
+    Ok(Parts { fixed, body })
 }
 
 impl Header {
@@ -163,10 +197,10 @@ impl Header {
     {
         let parts = read_parts(alloc, source)?;
         Ok(Header {
-            front: parts.front,
-            start: parts.fixed.start,
-            extent: parts.fixed.extent,
-            body: parts.body,
+            front: parts.fixed.bytes,
+            start: parts.fixed.said.start,
+            extent: parts.fixed.said.extent,
+            body: parts.body.said,
         })
     }
 }

@@ -1,15 +1,15 @@
 //! The commands, on files and standard output.
 
 use crate::files::{claim_text, recording};
-use edf_check::outcome::Outcome;
 use edf_check::run;
 use edf_command::command::Job;
-use edf_command::conform::conform_to;
-use edf_command::notes::notes_to;
 use edf_command::refusal::{Refusal, Role};
-use edf_command::show::show_to;
 use edf_command::vectors::vectors_to;
 use edf_fields::sink::{Sink, WriteSink};
+use edf_report::conform::conform_to;
+use edf_report::notes::notes_to;
+use edf_report::show::show_to;
+use edf_verdict::outcome::Outcome;
 use std::io;
 use std::rt::Files;
 

@@ -1,5 +1,5 @@
 use Rattle.std.proofs.Common.{ℤ, sym, subst}
-use Rattle.edf_check.specs.declared.verdict.SampleMismatch.{SampleMismatch}
+use Rattle.edf_verdict.specs.declared.verdict.SampleMismatch.{SampleMismatch}
 use Rattle.edf_check.specs.Courses.{IsFirstMismatch}
 use Rattle.edf_check.specs.Instants.{floor_of}
 use Rattle.edf_check.specs.Kept.{KeptAt, ExportedAt}

@@ -7,7 +7,7 @@ use Rattle.edf_fields.specs.Lists.{AreDistinct}
 use Rattle.edf_header.specs.Heads.{Head, samples_together}
 use Rattle.edf_stream.specs.Summaries.{channels_among}
 use Rattle.edf_check.specs.Columns.{channel_at}
-use Rattle.edf_check.specs.Comparisons.{AreSorted}
+use Rattle.edf_heads.specs.Comparisons.{AreSorted}
 use Rattle.edf_check.specs.declared.track.Pair.{Pair}
 use Rattle.edf_check.specs.Layouts.{AreLaidAlike}
 use Rattle.edf_check.specs.Windows.{Places, places_of}

@@ -1,6 +1,9 @@
 use Rattle.std.proofs.lemmas.Result.{err_from_is_err_and}
-use Rattle.edf_header.proofs.FixedFacts.{start_found, extent_found, fixed_passed}
+use Rattle.edf_header.proofs.FixedFacts.{missing_found, start_found, extent_found, fixed_passed}
 use Rattle.edf_header.proofs.fixed.judge_fixed.Goals as goal
+
+pub returns-in-Some : goal.returns-in-Some
+returns-in-Some c = missing_found c.args.front.now _ c.in-Some.ensures
 
 pub returns-in_err-start : goal.returns-in_err-start
 returns-in_err-start c =
@@ -13,5 +16,9 @@ returns-in_err-extent c =
     rw (p.1, p.2) (extent_found c.args.front.now _ c.in_default.ensures.0 c.in_ok-start.ensures.0 c.in_err-extent.ensures)
 
 pub returns : goal.returns
-returns c =
-    (fixed_passed c.args.front.now c.in_default.ensures.0 c.in_ok-start.ensures.0 c.in_ok-extent.ensures.0, c.in_default.ensures.1, c.in_ok-start.ensures.1, c.in_ok-extent.ensures.1)
+returns c = record {
+  passed = fixed_passed c.args.front.now c.in_default.ensures.0 c.in_ok-start.ensures.0 c.in_ok-extent.ensures.0;
+  whole = c.in_default.ensures.1;
+  starts = c.in_ok-start.ensures.1;
+  extends = c.in_ok-extent.ensures.1;
+}

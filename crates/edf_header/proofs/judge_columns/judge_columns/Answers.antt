@@ -43,4 +43,10 @@ returns-clause-ok c =
     let passed = rw (c.deref.ensures.value, c.in_ok-signals.ensures.ok.1) at c.in_ok-record_bytes.ensures.ok.0 in
     let size = rw c.deref.ensures.value at c.in_ok-record_bytes.ensures.ok.1 in
     let places = rw c.deref-2.ensures.value at c.in_ok-annotations.ensures in
-    (joint-left n bytes (columns-whole columns n (length bytes) columns-adjacent c.requires.whole) c.in_ok-signals.ensures.ok.0 ∙ passed, c.requires.whole, c.in_ok-signals.ensures.ok.1, size, c.in_ok-record_bytes.ensures.ok.2, places)
+    record {
+      passed = joint-left n bytes (columns-whole columns n (length bytes) columns-adjacent c.requires.whole) c.in_ok-signals.ensures.ok.0 ∙ passed;
+      signals_are = c.in_ok-signals.ensures.ok.1;
+      record_bytes_are = size;
+      small = c.in_ok-record_bytes.ensures.ok.2;
+      annotations_are = places;
+    }

@@ -12,7 +12,7 @@ invariant_of-result g c =
     let p = c.in_ok-parts.parts in
     let f = c.in_ok-parts.ensures.fixed in
     let k = rw c.in_ok-parts.ensures.signals at c.in_ok-parts.ensures.body in (
-      kept p.front.items p.columns.bytes p.fixed.start p.fixed.extent p.body.signals.items p.body.record_bytes
+      kept p.fixed.bytes.items p.body.columns.bytes p.fixed.said.start p.fixed.said.extent p.body.said.signals.items p.body.said.record_bytes
           f.whole f.starts f.extends f.passed k.passed k.signals_are k.record_bytes_are k.small,
       k.annotations_are,
     )
@@ -22,7 +22,7 @@ returns-clause-sound g c =
     let p = c.in_ok-parts.parts in
     let f = c.in_ok-parts.ensures.fixed in
     let k = rw c.in_ok-parts.ensures.signals at c.in_ok-parts.ensures.body in
-    (kept p.front.items p.columns.bytes p.fixed.start p.fixed.extent p.body.signals.items p.body.record_bytes
+    (kept p.fixed.bytes.items p.body.columns.bytes p.fixed.said.start p.fixed.said.extent p.body.said.signals.items p.body.said.record_bytes
     f.whole f.starts f.extends f.passed k.passed k.signals_are k.record_bytes_are k.small).sound
 
 pub returns-clause-passed : goal.returns-clause-passed
@@ -30,7 +30,7 @@ returns-clause-passed g c = λ h.
     let p = c.in_ok-parts.parts in
     let f = c.in_ok-parts.ensures.fixed in
     let k = rw c.in_ok-parts.ensures.signals at c.in_ok-parts.ensures.body in
-    columns-left (g.S.Source.left c.args.source.now) p.front.items p.columns.bytes p.fixed.extent.signals
+    columns-left (g.S.Source.left c.args.source.now) p.fixed.bytes.items p.body.columns.bytes p.fixed.said.extent.signals
     (c.in_ok-parts.ensures.front h) f.extends.signals (c.in_ok-parts.ensures.bytes h) f.passed ∙ k.passed
 
 pub returns-clause-value : goal.returns-clause-value
@@ -38,8 +38,8 @@ returns-clause-value g c = λ h.
     let p = c.in_ok-parts.parts in
     let f = c.in_ok-parts.ensures.fixed in
     let k = rw c.in_ok-parts.ensures.signals at c.in_ok-parts.ensures.body in
-    view-is p.front.items p.columns.bytes p.fixed.start p.fixed.extent p.body.signals.items f.starts f.extends k.signals_are
-    ∙ head-is (g.S.Source.left c.args.source.now) p.front.items p.columns.bytes p.fixed.extent.signals
+    view-is p.fixed.bytes.items p.body.columns.bytes p.fixed.said.start p.fixed.said.extent p.body.said.signals.items f.starts f.extends k.signals_are
+    ∙ head-is (g.S.Source.left c.args.source.now) p.fixed.bytes.items p.body.columns.bytes p.fixed.said.extent.signals
     (c.in_ok-parts.ensures.front h) f.extends.signals (c.in_ok-parts.ensures.bytes h)
 
 pub returns-clause-says : goal.returns-clause-says
@@ -61,5 +61,5 @@ returns-clause-behind g c = λ h.
     let p = c.in_ok-parts.parts in
     let f = c.in_ok-parts.ensures.fixed in
     let k = rw c.in_ok-parts.ensures.signals at c.in_ok-parts.ensures.body in
-    rest-is b p.front.items p.columns.bytes (g.S.Source.left c.read_parts.new.source) p.fixed.extent.signals f.extends.signals (c.in_ok-parts.ensures.behind h)
-    ∙ ap (λ (head : Head). drop (header_bytes head) b) (sym (view-is p.front.items p.columns.bytes p.fixed.start p.fixed.extent p.body.signals.items f.starts f.extends k.signals_are))
+    rest-is b p.fixed.bytes.items p.body.columns.bytes (g.S.Source.left c.read_parts.new.source) p.fixed.said.extent.signals f.extends.signals (c.in_ok-parts.ensures.behind h)
+    ∙ ap (λ (head : Head). drop (header_bytes head) b) (sym (view-is p.fixed.bytes.items p.body.columns.bytes p.fixed.said.start p.fixed.said.extent p.body.said.signals.items f.starts f.extends k.signals_are))

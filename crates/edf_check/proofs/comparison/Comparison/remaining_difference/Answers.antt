@@ -1,7 +1,0 @@
-use Rattle.std.proofs.Common.{refl}
-use Rattle.edf_check.proofs.HeadFacts.{heads_agree}
-use Rattle.edf_check.proofs.comparison.Comparison.remaining_difference.Goals as goal
-
-pub returns : goal.returns
-returns c = λ agree.
-    heads_agree c.args.self.now.original c.args.self.now.export c.args.self.now.claim agree c.in_default.ensures (c.if-not-is_header_blank.ensures.0 refl) c.in_default-channel_with_text.ensures

@@ -1,8 +1,0 @@
-use Rattle.std.proofs.Common.{◌≡◌}
-use Rattle.edf_fields.specs.Subfields.{subfields_left}
-use Rattle.edf_check.specs.Comparisons.{are_same}
-use Rattle.edf_check.proofs.subfields.are_same.Given as goal
-
-abbrev pub invariant-loop-subfield : goal.invariant-loop-subfield
-invariant-loop-subfield l =
-    are_same (subfields_left l.fn.subfields) (subfields_left l.fn.others) ≡ are_same (subfields_left l.subfield-iterator) (subfields_left l.others)

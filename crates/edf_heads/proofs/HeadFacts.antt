@@ -1,0 +1,145 @@
+-- The headers as a whole: they agree, or differ.
+use Rattle.std.proofs.Common.{◌≡◌, ◌≢◌, ◌↔◌, ℕ, suc, Bool, true, false, cond, List, [], ◌∷◌, Bor, Option, Some, None, MatchOption, inl, inr, ⊎_elim, refl, sym, ap, ◌∙◌, arith}
+use Rattle.std.proofs.lemmas.List.Sorted.{IsPermutation-sym}
+use Rattle.edf_fields.specs.Lists.{Has, AreDistinct, is_one_of}
+use Rattle.edf_fields.proofs.ForCallers.{one_of-has, has-one_of, at-has, has-permutation}
+use Rattle.edf_header.specs.Channels.{HasDistinctChannels, channel_labels}
+use Rattle.edf_header.specs.Heads.{SignalHead, Head, is_annotations}
+use Rattle.edf_header.specs.Sound.{IsSound}
+use Rattle.edf_claim.specs.Claims.{Terms, IsClaim}
+use Rattle.edf_heads.specs.Blank.{IsBlankHeader, IsBlank, HasFreeText}
+use Rattle.edf_heads.specs.Calibrations.{HaveSameCalibration}
+use Rattle.edf_heads.specs.Channels.{HasChannel, HasNoChannel, HasAll, IsLeastExtra, SameChannels, Differ, AllAlike, IsFirstUnlike}
+use Rattle.edf_heads.specs.Comparisons.{HasNoExtra, HasOnly, HasNoFreeText}
+use Rattle.edf_heads.specs.HeadVerdicts.{HeadsAgree, SignalsAgree, IsHeadVerdict}
+use Rattle.edf_heads.specs.Subfields.{IsAsClaimed, SubfieldsAsClaimed, all_subfields}
+use Rattle.edf_heads.specs.Texts.{HaveSameTexts}
+use Rattle.edf_verdict.specs.declared.verdict.Verdict.{Verdict}
+use Rattle.edf_verdict.specs.declared.verdict.Verdict.TheVariants.{Yes, No}
+use Rattle.edf_verdict.specs.declared.verdict.Difference.TheVariants as differences
+use Rattle.edf_verdict.specs.declared.verdict.FreeText.TheVariants.{Header, Channel}
+use Rattle.edf_heads.proofs.ContentFacts.{alike-differ}
+use Rattle.edf_heads.proofs.ListFacts.{first-has, same-members}
+
+-- ---- the labels of the channels of a header
+
+labels-case : (b : Bool) (x : List ℕ) (xs : List (List ℕ)) (P : List (List ℕ) → Type 0) → (b ≡ true → P xs) → (b ≡ false → P (x ∷ xs)) → P (cond b xs (x ∷ xs))
+labels-case true x xs P f g = f refl
+labels-case false x xs P f g = g refl
+
+labels-of : (signals : List SignalHead) (l : List ℕ) → Has (channel_labels signals) l → (x : SignalHead) × Has signals x × (x.label ≡ l) × (is_annotations l ≡ false)
+labels-of [] l h = absurd h
+labels-of (x ∷ xs) l h =
+    labels-case (is_annotations x.label) x.label (channel_labels xs) (λ ls. Has ls l → (y : SignalHead) × Has (x ∷ xs) y × (y.label ≡ l) × (is_annotations l ≡ false))
+    (λ t i. let r = labels-of xs l i in (r.0, inr r.1, r.2, r.3))
+    (λ f i. ⊎_elim (λ e. (x, inl refl, e, ap is_annotations (sym e) ∙ f)) (λ j. let r = labels-of xs l j in (r.0, inr r.1, r.2, r.3)) i) h
+
+of-labels : (signals : List SignalHead) (x : SignalHead) (l : List ℕ) → Has signals x → x.label ≡ l → is_annotations l ≡ false → Has (channel_labels signals) l
+of-labels [] x l h e f = absurd h
+of-labels (z ∷ zs) x l h e f =
+    labels-case (is_annotations z.label) z.label (channel_labels zs) (λ ls. Has ls l)
+    (λ t. ⊎_elim (λ q. absurd (let g : true ≡ false = sym t ∙ ap (λ (s : SignalHead). is_annotations s.label) q ∙ ap is_annotations e ∙ f in cc)) (λ i. of-labels zs x l i e f) h)
+    (λ t. ⊎_elim (λ q. inl (ap (λ (s : SignalHead). s.label) q ∙ e)) (λ i. inr (of-labels zs x l i e f)) h)
+
+pub labels-distinct : (signals : List SignalHead) → HasDistinctChannels signals → AreDistinct (channel_labels signals)
+labels-distinct [] d = tt
+labels-distinct (x ∷ xs) d =
+    labels-case (is_annotations x.label) x.label (channel_labels xs) (λ ls. AreDistinct ls)
+    (λ t. labels-distinct xs behind)
+    (λ f. (λ h. let r = labels-of xs x.label h in let at = at-has xs r.0 r.1 in let e : 0 ≡ suc at.0 = d 0 (suc at.0) x.label (x, refl, refl, f) (r.0, at.1, r.2, r.3) in omega (arith, e), labels-distinct xs behind))
+  where
+    behind : HasDistinctChannels xs
+    behind s t label a b = let e : suc s ≡ suc t = d (suc s) (suc t) label a b in omega (arith, e)
+
+pub has-label : (h : Head) (l : List ℕ) → HasChannel h l → Has (channel_labels h.signals) l
+has-label h l c = of-labels h.signals c.0 l c.1.there c.1.labelled c.1.ordinary
+
+pub label-has : (h : Head) (l : List ℕ) → Has (channel_labels h.signals) l → HasChannel h l
+label-has h l i = let r = labels-of h.signals l i in (r.0, record { there = r.1; labelled = r.2; ordinary = r.3 })
+
+-- ---- which channels the headers have
+
+claimed-unless : (labels : List (List ℕ)) (l : List ℕ) → ((Has labels l → ⊥) → ⊥) → Has labels l
+claimed-unless labels l h = unless-case (is_one_of labels l) refl
+  where
+    unless-case : (b : Bool) → is_one_of labels l ≡ b → Has labels l
+    unless-case true t = one_of-has labels l t
+    unless-case false f = absurd (h (λ i. let g : true ≡ false = sym (has-one_of labels l i) ∙ f in cc))
+
+has_only : (h : Head) (claim : Terms) → IsSound h → IsClaim claim → HasNoExtra h claim.channels → HasOnly h claim.channels
+has_only h claim sound is none = λ there.
+    same-members claim.channels (channel_labels h.signals) is.distinct_channels (labels-distinct h.signals sound.standard.distinct)
+    (λ l i. has-label h l (there l i))
+    (λ l i. claimed-unless claim.channels l (λ out. none l (record { there = label-has h l i; unclaimed = out })))
+
+pub only_said : (h : Head) (claim : Terms) (o : Option (Bor (List ℕ))) → IsSound h → IsClaim claim
+    → MatchOption o (HasNoExtra h claim.channels) (λ label. IsLeastExtra h claim.channels label.now) → MatchOption o (HasOnly h claim.channels) (λ label. IsLeastExtra h claim.channels label.now)
+only_said h claim None sound is none = has_only h claim sound is none
+only_said h claim (Some x) sound is extra = extra
+
+pub same_channels : (o e : Head) (claim : Terms) → HasAll o claim.channels → HasAll e claim.channels → HasOnly e claim.channels → SameChannels o e claim
+same_channels o e claim there here only = record { in_original = there; in_export = only here }
+
+pub in-export : (o e : Head) (claim : Terms) → SameChannels o e claim → HasAll e claim.channels
+in-export o e claim same l i = label-has e l (has-permutation claim.channels (channel_labels e.signals) l same.in_export i)
+
+pub claimed-in : (o e : Head) (claim : Terms) → SameChannels o e claim → (l : List ℕ) → HasChannel e l → Has claim.channels l
+claimed-in o e claim same l c = has-permutation (channel_labels e.signals) claim.channels l (IsPermutation-sym claim.channels (channel_labels e.signals) same.in_export) (has-label e l c)
+
+-- ---- free text
+
+empty-unless : (xs : List ℕ) → (xs ≢ [] → ⊥) → xs ≡ []
+empty-unless [] h = refl
+empty-unless (x ∷ xs) h = absurd (h (λ e. let f : x ∷ xs ≡ [] = e in cc))
+
+is_blank : (o e : Head) (claim : Terms) → SameChannels o e claim → IsBlankHeader e → HasNoFreeText e claim → IsBlank e
+is_blank o e claim same blank none = record {
+  header = blank;
+  channels = λ l x c. empty-unless x.reserved (λ text. none l (claimed-in o e claim same l (x, c)) (x, c, text));
+}
+
+pub heads_agree : (o e : Head) (claim : Terms) → SignalsAgree o e claim → SubfieldsAsClaimed o e claim → IsBlankHeader e → HasNoFreeText e claim → HeadsAgree o e claim
+heads_agree o e claim agree subfields blank none = record {
+  channels = agree.channels;
+  texts = agree.texts;
+  calibrations = agree.calibrations;
+  subfields = subfields;
+  blank = is_blank o e claim agree.channels blank none;
+}
+
+-- ---- no verdict applies where the headers agree
+
+pub unlike-alike : (Alike : SignalHead → SignalHead → Type 0) (o e : Head) (claim : Terms) (l : List ℕ) → AllAlike Alike o e claim → IsFirstUnlike Alike o e claim l → ⊥
+unlike-alike Alike o e claim l all first =
+    let r = first-has (Differ Alike o e) claim.channels l first in
+    alike-differ Alike o e l (all l r.0) r.1
+
+pub agree-apart : (o e : Head) (claim : Terms) (v : Verdict) → IsHeadVerdict o e claim v → HeadsAgree o e claim → ⊥
+agree-apart o e claim (Yes channels samples annotations) v h = v
+agree-apart o e claim (No (differences.OriginalFault fault)) v h = v
+agree-apart o e claim (No (differences.ExportFault fault)) v h = v
+agree-apart o e claim (No (differences.UnknownChannel label)) v h =
+    let r = first-has (HasNoChannel o) claim.channels label v in
+    r.1 (h.channels.in_original label r.0)
+agree-apart o e claim (No (differences.MissingChannel label)) v h =
+    let r = first-has (HasNoChannel e) claim.channels label v.1 in
+    r.1 (in-export o e claim h.channels label r.0)
+agree-apart o e claim (No (differences.ExtraChannel label)) v h =
+    let x = (v.2).extra in
+    x.unclaimed (claimed-in o e claim h.channels label x.there)
+agree-apart o e claim (No (differences.ChannelText label field)) v h = unlike-alike HaveSameTexts o e claim label h.texts (v.1).channel
+agree-apart o e claim (No (differences.Calibration label)) v h = unlike-alike HaveSameCalibration o e claim label h.calibrations v.2
+agree-apart o e claim (No (differences.Subfield which mismatch)) v h =
+    let r = first-has (λ w. IsAsClaimed o e claim w → ⊥) all_subfields which (v.1).subfield in
+    r.1 (h.subfields which)
+agree-apart o e claim (No (differences.NotClean Header)) v h = v.2 h.blank.header
+agree-apart o e claim (No (differences.NotClean (Channel label))) v h =
+    let r = first-has (HasFreeText e) claim.channels label v.3 in
+    (r.1).2 (h.blank.channels label (r.1).0 (r.1).1)
+agree-apart o e claim (No (differences.Sample label at_ps mismatch)) v h = v
+agree-apart o e claim (No (differences.Annotation mismatch onset duration text)) v h = v
+
+-- none is answered exactly where the headers agree
+pub agree_or_differ : (o e : Head) (claim : Terms) (found : Option Verdict) → MatchOption found (HeadsAgree o e claim) (IsHeadVerdict o e claim) → (found ≡ None) ↔ HeadsAgree o e claim
+agree_or_differ o e claim None h = (λ q. h, λ q. refl)
+agree_or_differ o e claim (Some v) h = (λ q. absurd (let f : Some v ≡ None = q in cc), λ agree. absurd (agree-apart o e claim v h agree))

@@ -1,0 +1,135 @@
+-- The subfields of two headers, in words.
+use Rattle.std.proofs.Common.{◌≡◌, ◌↔◌, ℕ, Bool, true, false, IsTrue, List, [], ◌∷◌, drop, length, ◌<◌, ◌≤◌, ◌+◌, get_or, Option, Some, None, MatchOption, inl, inr, ⊎_elim, refl, sym, ap, ◌∙◌, subst, add-one}
+use Rattle.std.specs.List.{list_all}
+use Rattle.std.specs.Str.{bytes_eq}
+use Rattle.std.proofs.Math.Seq.{drop-cons}
+use Rattle.std.proofs.lemmas.List.{drop_all}
+use Rattle.std.proofs.lemmas.Slice.Eq.{bytes_eq-Decides}
+use Rattle.edf_fields.specs.Lists.{Has}
+use Rattle.edf_fields.proofs.ForCallers.{and-true, both-true}
+use Rattle.edf_header.specs.Heads.{Head}
+use Rattle.edf_claim.specs.Claims.{Terms}
+use Rattle.edf_claim.specs.declared.which.Which.{Which}
+use Rattle.edf_claim.specs.declared.which.Which.TheVariants.{Code, Sex, Birthdate, Name, PatientExtras, Date, Administration, Technician, Equipment, RecordingExtras}
+use Rattle.edf_heads.specs.Comparisons.{is_x, are_same, IsAnonymous, IsUnchanged, IsFoundAmong}
+use Rattle.edf_heads.specs.Subfields.{IsX, AreAllX, ByClaim, IsAsClaimed, SubfieldsAsClaimed, IsMismatch, IsSubfieldDifference, all_subfields}
+use Rattle.edf_heads.specs.declared.subfields.SubfieldDifference.{SubfieldDifference}
+use Rattle.edf_verdict.specs.declared.verdict.SubfieldMismatch.{SubfieldMismatch}
+
+-- ---- the tests
+
+pub x_tested : (b : Bool) (t : List ℕ) → b ≡ is_x t → IsTrue b ↔ IsX t
+x_tested b t e = (λ h. (bytes_eq-Decides t _).0 (sym e ∙ h), λ h. e ∙ (bytes_eq-Decides t _).1 h)
+
+all-x : (ts : List (List ℕ)) → list_all is_x ts ≡ true → AreAllX ts
+all-x [] h t there = absurd there
+all-x (u ∷ us) h t there =
+    let both = and-true (is_x u) (list_all is_x us) h in
+    ⊎_elim (λ e. sym e ∙ (bytes_eq-Decides u _).0 both.0) (λ i. all-x us both.1 t i) there
+
+x-all : (ts : List (List ℕ)) → AreAllX ts → list_all is_x ts ≡ true
+x-all [] h = refl
+x-all (u ∷ us) h = both-true (is_x u) (list_all is_x us) ((bytes_eq-Decides u _).1 (h u (inl refl))) (x-all us (λ t i. h t (inr i)))
+
+pub all_x_tested : (b : Bool) (ts : List (List ℕ)) → b ≡ list_all is_x ts → IsTrue b ↔ AreAllX ts
+all_x_tested b ts e = (λ h. all-x ts (sym e ∙ h), λ h. e ∙ x-all ts h)
+
+same-is : (ts us : List (List ℕ)) → are_same ts us ≡ true → ts ≡ us
+same-is [] [] h = refl
+same-is [] (u ∷ us) h = absurd (let f : false ≡ true = h in cc)
+same-is (t ∷ ts) [] h = absurd (let f : false ≡ true = h in cc)
+same-is (t ∷ ts) (u ∷ us) h =
+    let both = and-true (bytes_eq t u) (are_same ts us) h in
+    ap (λ x. x ∷ ts) ((bytes_eq-Decides t u).0 both.0) ∙ ap (λ xs. u ∷ xs) (same-is ts us both.1)
+
+same-self : (ts : List (List ℕ)) → are_same ts ts ≡ true
+same-self [] = refl
+same-self (t ∷ ts) = both-true (bytes_eq t t) (are_same ts ts) ((bytes_eq-Decides t t).1 refl) (same-self ts)
+
+pub same_tested : (b : Bool) (ts us : List (List ℕ)) → b ≡ are_same ts us → IsTrue b ↔ (ts ≡ us)
+same_tested b ts us e = (λ h. same-is ts us (sym e ∙ h), λ h. e ∙ subst (λ xs. are_same ts xs ≡ true) h (same-self ts))
+
+-- ---- a subfield is as claimed
+
+-- it is `X` where it is claimed anonymous, and else the original's
+to-claimed : (o e : Head) (claim : Terms) (w : Which) → ByClaim claim w (IsAnonymous e w) (IsUnchanged o e w) → IsAsClaimed o e claim w
+to-claimed o e claim Code h = h
+to-claimed o e claim Sex h = h
+to-claimed o e claim Birthdate h = h
+to-claimed o e claim Name h = h
+to-claimed o e claim PatientExtras h = h
+to-claimed o e claim Date h = h
+to-claimed o e claim Administration h = h
+to-claimed o e claim Technician h = h
+to-claimed o e claim Equipment h = h
+to-claimed o e claim RecordingExtras h = h
+
+of-claimed : (o e : Head) (claim : Terms) (w : Which) → IsAsClaimed o e claim w → ByClaim claim w (IsAnonymous e w) (IsUnchanged o e w)
+of-claimed o e claim Code h = h
+of-claimed o e claim Sex h = h
+of-claimed o e claim Birthdate h = h
+of-claimed o e claim Name h = h
+of-claimed o e claim PatientExtras h = h
+of-claimed o e claim Date h = h
+of-claimed o e claim Administration h = h
+of-claimed o e claim Technician h = h
+of-claimed o e claim Equipment h = h
+of-claimed o e claim RecordingExtras h = h
+
+pub claimed_anonymous : (o e : Head) (claim : Terms) (w : Which) → Has claim.anonymous w → IsAnonymous e w → IsAsClaimed o e claim w
+claimed_anonymous o e claim w there h = to-claimed o e claim w (record { claimed = λ i. h; unclaimed = λ out. absurd (out there) })
+
+pub claimed_unchanged : (o e : Head) (claim : Terms) (w : Which) → (Has claim.anonymous w → ⊥) → IsUnchanged o e w → IsAsClaimed o e claim w
+claimed_unchanged o e claim w out h = to-claimed o e claim w (record { claimed = λ i. absurd (out i); unclaimed = λ i. h })
+
+pub not_anonymous : (o e : Head) (claim : Terms) (w : Which) → Has claim.anonymous w → (IsAnonymous e w → ⊥) → IsAsClaimed o e claim w → ⊥
+not_anonymous o e claim w there other h = other ((of-claimed o e claim w h).claimed there)
+
+pub not_unchanged : (o e : Head) (claim : Terms) (w : Which) → (Has claim.anonymous w → ⊥) → (IsUnchanged o e w → ⊥) → IsAsClaimed o e claim w → ⊥
+not_unchanged o e claim w out other h = other ((of-claimed o e claim w h).unclaimed out)
+
+-- ---- the first that isn't
+
+-- what stands at a place of a list, and what stands behind it
+cut-at : (ws : List Which) (i : ℕ) (d : Which) → i < length ws → drop i ws ≡ get_or ws i d ∷ drop (i + 1) ws
+cut-at ws i d lt = drop-cons ws i d lt ∙ ap (λ k. get_or ws i d ∷ drop k ws) (sym (add-one i))
+
+pub found_here : (o e : Head) (claim : Terms) (ws : List Which) (i : ℕ) (d w : Which) (mismatch : SubfieldMismatch) → i < length ws → get_or ws i d ≡ w → (IsAsClaimed o e claim w → ⊥) → IsMismatch claim w mismatch
+    → IsFoundAmong o e claim (drop i ws) (Some (record { which = w; mismatch = mismatch }))
+found_here o e claim ws i d w mismatch lt here other is =
+    subst (λ (xs : List Which). IsFoundAmong o e claim xs (Some (record { which = w; mismatch = mismatch }))) (sym (cut-at ws i d lt))
+    (inl (here, subst (λ (v : Which). IsAsClaimed o e claim v → ⊥) (sym here) other), is)
+
+pub found_later : (o e : Head) (claim : Terms) (ws : List Which) (i : ℕ) (d w : Which) (r : Option SubfieldDifference) → i < length ws → get_or ws i d ≡ w → IsAsClaimed o e claim w
+    → IsFoundAmong o e claim (drop (i + 1) ws) r → IsFoundAmong o e claim (drop i ws) r
+found_later o e claim ws i d w r lt here same rest =
+    subst (λ (xs : List Which). IsFoundAmong o e claim xs r) (sym (cut-at ws i d lt)) (later r rest)
+  where
+    at : IsAsClaimed o e claim (get_or ws i d)
+    at = subst (λ (v : Which). IsAsClaimed o e claim v) (sym here) same
+
+    later : (r : Option SubfieldDifference) → IsFoundAmong o e claim (drop (i + 1) ws) r → IsFoundAmong o e claim (get_or ws i d ∷ drop (i + 1) ws) r
+    later None h = λ v there. ⊎_elim (λ q. subst (λ (u : Which). IsAsClaimed o e claim u) q at) (λ j. h v j) there
+    later (Some x) h = (inr ((λ other. other at), h.0), h.1)
+
+pub found_none : (o e : Head) (claim : Terms) (ws : List Which) (i : ℕ) → length ws ≤ i → IsFoundAmong o e claim (drop i ws) None
+found_none o e claim ws i le = subst (λ (xs : List Which). IsFoundAmong o e claim xs None) (sym (drop_all i ws le)) (λ w h. absurd h)
+
+-- every subfield is one of them
+has-all : (w : Which) → Has all_subfields w
+unfolding all_subfields
+has-all Code = inl refl
+has-all Sex = inr (inl refl)
+has-all Birthdate = inr (inr (inl refl))
+has-all Name = inr (inr (inr (inl refl)))
+has-all PatientExtras = inr (inr (inr (inr (inl refl))))
+has-all Date = inr (inr (inr (inr (inr (inl refl)))))
+has-all Administration = inr (inr (inr (inr (inr (inr (inl refl))))))
+has-all Technician = inr (inr (inr (inr (inr (inr (inr (inl refl)))))))
+has-all Equipment = inr (inr (inr (inr (inr (inr (inr (inr (inl refl))))))))
+has-all RecordingExtras = inr (inr (inr (inr (inr (inr (inr (inr (inr (inl refl)))))))))
+
+pub subfields_said : (o e : Head) (claim : Terms) (r : Option SubfieldDifference) → IsFoundAmong o e claim all_subfields r
+    → MatchOption r (SubfieldsAsClaimed o e claim) (λ d. IsSubfieldDifference o e claim d.which d.mismatch)
+subfields_said o e claim None h = λ w. h w (has-all w)
+subfields_said o e claim (Some d) h = record { subfield = h.0; mismatch_is = h.1 }

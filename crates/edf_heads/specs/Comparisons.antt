@@ -1,0 +1,174 @@
+-- What a comparison of two headers holds: the channels of each claimed label, found once. These are steps between the definitions and the code.
+use Rattle.std.specs.Prelude.{◌≡◌, ◌↔◌, ℕ, ◌==◌, Bool, true, false, not, ◌&&◌, ◌||◌, List, [], ◌∷◌, length, map, filter, find, Option, None, Some, option_map, MatchOption, ◌*ℤ◌, codes, if◌then◌else◌}
+use Rattle.std.specs.Borrow.{Bor}
+use Rattle.std.specs.Cmp.Lexicographic.{slice_cmp}
+use Rattle.std.specs.List.Sorted.{IsSorted, IsPermutation}
+use Rattle.std.specs.Option.{option_or}
+use Rattle.std.specs.Ordering.{nat_cmp, int_eq}
+use Rattle.std.specs.Str.{bytes_eq}
+use Rattle.edf_fields.specs.Lists.{Has, is_one_of}
+use Rattle.edf_header.specs.Calibrations.{Line, physical_span, digital_span, offset_times_span}
+use Rattle.edf_header.specs.Channels.{is_channel_of, channel_labels}
+use Rattle.edf_header.specs.Heads.{SignalHead, Head, is_annotations}
+use Rattle.edf_header.specs.Sound.{IsSound}
+use Rattle.edf_claim.specs.Claims.{Terms, IsClaim}
+use Rattle.edf_claim.specs.declared.which.Which.{Which}
+use Rattle.edf_claim.specs.declared.which.Which.TheVariants.{Code, Sex, Birthdate, Name, PatientExtras, Date, Administration, Technician, Equipment, RecordingExtras}
+use Rattle.edf_heads.specs.Blank.{HasFreeText}
+use Rattle.edf_heads.specs.Channels.{HasAll, IsExtra}
+use Rattle.edf_heads.specs.Firsts.{IsFirstWith}
+use Rattle.edf_heads.specs.Subfields.{IsX, AreAllX, IsAsClaimed, IsMismatch}
+use Rattle.edf_heads.specs.declared.channels.ClaimedChannel.{ClaimedChannel}
+use Rattle.edf_heads.specs.declared.subfields.SubfieldDifference.{SubfieldDifference}
+use Rattle.edf_verdict.specs.declared.verdict.TextField.{TextField}
+use Rattle.edf_verdict.specs.declared.verdict.TextField.TheVariants.{Transducer, Prefilter}
+
+-- the signal is a channel
+abbrev pub is_ordinary : SignalHead → Bool
+is_ordinary signal = not (is_annotations signal.label)
+
+-- the first channel of this label among the signals
+abbrev pub channel_of : List ℕ → List SignalHead → Option SignalHead
+channel_of label signals = find (is_channel_of label) signals
+
+-- the labels of borrowed signals rise in the order of bytes
+abbrev pub AreByLabel : List (Bor SignalHead) → Type 0
+AreByLabel = IsSorted (λ x y. slice_cmp nat_cmp x.now.label y.now.label)
+
+-- the channels of a header that is sound, in the order of their labels
+pub record IsChannelIndex (h : Head) (sorted : List (Bor SignalHead)) : Type 0 where
+  pub sound : IsSound h
+  pub order : AreByLabel sorted
+  pub same : IsPermutation (filter is_ordinary h.signals) (map (λ x. x.now) sorted)
+
+-- a claimed label, and the channels of this label in the two headers, where there are such
+pub record Claimed : Type 0 where
+  pub label : List ℕ
+  pub original : Option SignalHead
+  pub export : Option SignalHead
+
+-- what the code's value says
+abbrev pub claimed_view : ClaimedChannel → Claimed
+claimed_view c = record { label = c.label.now; original = option_map (λ x. x.now) c.original; export = option_map (λ x. x.now) c.export }
+
+-- a label with its channels
+abbrev pub claimed_of : List SignalHead → List SignalHead → List ℕ → Claimed
+claimed_of original export label = record { label = label; original = channel_of label original; export = channel_of label export }
+
+-- two headers and a claim
+pub record Compared : Type 0 where
+  pub original : Head
+  pub export : Head
+  pub claim : Terms
+
+-- labels in the order of their bytes, the same as these
+pub record AreSorted (labels : List (List ℕ)) (sorted : List (Bor (List ℕ))) : Type 0 where
+  pub order : IsSorted (λ x y. slice_cmp nat_cmp x.now y.now) sorted
+  pub same : (label : List ℕ) → is_one_of (map (λ t. t.now) sorted) label ≡ is_one_of labels label
+
+-- what holds of every comparison
+pub record IsComparison (original export : Head) (claim : Terms) (claimed : List ClaimedChannel) (labels : List (Bor (List ℕ))) : Type 0 where
+  pub original_sound : IsSound original
+  pub export_sound : IsSound export
+  pub claim_sound : IsClaim claim
+  pub claimed_are : map claimed_view claimed ≡ map (claimed_of original.signals export.signals) claim.channels
+  pub labels_are : AreSorted claim.channels labels
+
+-- the first text in which two channels differ
+abbrev pub text_difference : SignalHead → SignalHead → Option TextField
+text_difference x y =
+    if bytes_eq x.transducer y.transducer then (if bytes_eq x.prefilter y.prefilter then None else Some Prefilter) else Some Transducer
+
+-- the same where both are there
+abbrev pub text_difference_of : Option SignalHead → Option SignalHead → Option TextField
+text_difference_of None y = None
+text_difference_of (Some x) None = None
+text_difference_of (Some x) (Some y) = text_difference x y
+
+-- the first label whose channels differ in a text, with that text
+abbrev pub first_text_difference : List Claimed → Option (List ℕ × TextField)
+first_text_difference [] = None
+first_text_difference (c ∷ cs) =
+    option_or (option_map (λ field. (c.label, field)) (text_difference_of c.original c.export)) (first_text_difference cs)
+
+-- the header has no channel whose label is none of these
+abbrev pub HasNoExtra : Head → List (List ℕ) → Type 0
+HasNoExtra h labels = (label : List ℕ) → IsExtra h labels label → ⊥
+
+-- where the header has a channel of each of these labels, its channels have these labels, in some order
+abbrev pub HasOnly : Head → List (List ℕ) → Type 0
+HasOnly h labels = HasAll h labels → IsPermutation labels (channel_labels h.signals)
+
+-- `SameLine` as a test
+abbrev pub is_same_line : Line → Line → Bool
+is_same_line l m =
+    int_eq (physical_span l *ℤ digital_span m) (physical_span m *ℤ digital_span l)
+    && int_eq (offset_times_span l *ℤ digital_span m) (offset_times_span m *ℤ digital_span l)
+
+-- two channels have another dimension, or another line from digital to physical values
+abbrev pub has_other_calibration : SignalHead → SignalHead → Bool
+has_other_calibration x y = not (bytes_eq x.dimension y.dimension) || not (is_same_line x.calibration y.calibration)
+
+-- the test of both channels where both are there
+abbrev pub of_both : (SignalHead → SignalHead → Bool) → Option SignalHead → Option SignalHead → Bool
+of_both test None y = false
+of_both test (Some x) None = false
+of_both test (Some x) (Some y) = test x y
+
+-- the channel is there and has free text
+abbrev pub has_text : Option SignalHead → Bool
+has_text None = false
+has_text (Some x) = not (length x.reserved == 0)
+
+-- no claimed channel has free text in the export
+abbrev pub HasNoFreeText : Head → Terms → Type 0
+HasNoFreeText export claim = (label : List ℕ) → Has claim.channels label → HasFreeText export label → ⊥
+
+-- the signal is a channel, or has no text but its label
+abbrev pub is_blank_signal : SignalHead → Bool
+is_blank_signal x =
+    not (is_annotations x.label)
+    || ((length x.transducer == 0) && ((length x.dimension == 0) && ((length x.prefilter == 0) && (length x.reserved == 0))))
+
+-- `IsX` as a test
+abbrev pub is_x : List ℕ → Bool
+is_x text = bytes_eq text (codes "X")
+
+-- the lists have the same texts
+abbrev pub are_same : List (List ℕ) → List (List ℕ) → Bool
+are_same [] [] = true
+are_same [] (u ∷ us) = false
+are_same (t ∷ ts) [] = false
+are_same (t ∷ ts) (u ∷ us) = bytes_eq t u && are_same ts us
+
+-- this subfield is `X` in the header
+abbrev pub IsAnonymous : Head → Which → Type 0
+IsAnonymous h Code = IsX h.patient.code
+IsAnonymous h Sex = IsX h.patient.sex
+IsAnonymous h Birthdate = IsX h.patient.birthdate
+IsAnonymous h Name = IsX h.patient.name
+IsAnonymous h PatientExtras = AreAllX h.patient.extras
+IsAnonymous h Date = IsX h.recording.date
+IsAnonymous h Administration = IsX h.recording.admin
+IsAnonymous h Technician = IsX h.recording.technician
+IsAnonymous h Equipment = IsX h.recording.equipment
+IsAnonymous h RecordingExtras = AreAllX h.recording.extras
+
+-- this subfield of the export is the original's
+abbrev pub IsUnchanged : Head → Head → Which → Type 0
+IsUnchanged original export Code = export.patient.code ≡ original.patient.code
+IsUnchanged original export Sex = export.patient.sex ≡ original.patient.sex
+IsUnchanged original export Birthdate = export.patient.birthdate ≡ original.patient.birthdate
+IsUnchanged original export Name = export.patient.name ≡ original.patient.name
+IsUnchanged original export PatientExtras = export.patient.extras ≡ original.patient.extras
+IsUnchanged original export Date = IsX export.recording.date ↔ IsX original.recording.date
+IsUnchanged original export Administration = export.recording.admin ≡ original.recording.admin
+IsUnchanged original export Technician = export.recording.technician ≡ original.recording.technician
+IsUnchanged original export Equipment = export.recording.equipment ≡ original.recording.equipment
+IsUnchanged original export RecordingExtras = export.recording.extras ≡ original.recording.extras
+
+-- the first of these subfields that isn't as claimed, and how it isn't; or all are as claimed
+abbrev pub IsFoundAmong : Head → Head → Terms → List Which → Option SubfieldDifference → Type 0
+IsFoundAmong original export claim whiches found =
+    MatchOption found ((which : Which) → Has whiches which → IsAsClaimed original export claim which)
+    (λ d. IsFirstWith (λ w. IsAsClaimed original export claim w → ⊥) whiches d.which × IsMismatch claim d.which d.mismatch)

@@ -1,0 +1,51 @@
+-- The verdict on the headers of an original and an export.
+use Rattle.edf_header.specs.Heads.{Head}
+use Rattle.edf_claim.specs.Claims.{Terms}
+use Rattle.edf_heads.specs.Firsts.{IsFirstWith}
+use Rattle.edf_heads.specs.Channels.{HasNoChannel, HasAll, IsLeastExtra, SameChannels}
+use Rattle.edf_heads.specs.Texts.{SameTexts, IsTextDifference}
+use Rattle.edf_heads.specs.Calibrations.{SameCalibrations, IsCalibrationDifference}
+use Rattle.edf_heads.specs.Subfields.{SubfieldsAsClaimed, IsSubfieldDifference}
+use Rattle.edf_heads.specs.Blank.{IsBlankHeader, IsBlank, IsFirstWithFreeText}
+use Rattle.edf_verdict.specs.declared.verdict.Verdict.{Verdict}
+use Rattle.edf_verdict.specs.declared.verdict.Verdict.TheVariants.{Yes, No}
+use Rattle.edf_verdict.specs.declared.verdict.Difference.TheVariants.{OriginalFault, ExportFault, UnknownChannel, MissingChannel, ExtraChannel, ChannelText, Calibration, Subfield, NotClean, Sample, Annotation}
+use Rattle.edf_verdict.specs.declared.verdict.FreeText.TheVariants.{Header, Channel}
+
+-- the export's header is what the claim says of the original's
+pub record HeadsAgree (original export : Head) (claim : Terms) : Type 0 where
+  pub channels : SameChannels original export claim
+  pub texts : SameTexts original export claim
+  pub calibrations : SameCalibrations original export claim
+  pub subfields : SubfieldsAsClaimed original export claim
+  pub blank : IsBlank export
+
+-- the headers agree up to their calibrations
+pub record SignalsAgree (original export : Head) (claim : Terms) : Type 0 where
+  pub channels : SameChannels original export claim
+  pub texts : SameTexts original export claim
+  pub calibrations : SameCalibrations original export claim
+
+-- the verdict is the first difference of the headers; each says that those before it don't apply
+abbrev pub IsHeadVerdict : Head → Head → Terms → Verdict → Type 0
+IsHeadVerdict original export claim (Yes channels samples annotations) = ⊥
+IsHeadVerdict original export claim (No (OriginalFault fault)) = ⊥
+IsHeadVerdict original export claim (No (ExportFault fault)) = ⊥
+IsHeadVerdict original export claim (No (UnknownChannel label)) =
+    IsFirstWith (HasNoChannel original) claim.channels label
+IsHeadVerdict original export claim (No (MissingChannel label)) =
+    HasAll original claim.channels × IsFirstWith (HasNoChannel export) claim.channels label
+IsHeadVerdict original export claim (No (ExtraChannel label)) =
+    HasAll original claim.channels × HasAll export claim.channels × IsLeastExtra export claim.channels label
+IsHeadVerdict original export claim (No (ChannelText label field)) =
+    SameChannels original export claim × IsTextDifference original export claim label field
+IsHeadVerdict original export claim (No (Calibration label)) =
+    SameChannels original export claim × SameTexts original export claim × IsCalibrationDifference original export claim label
+IsHeadVerdict original export claim (No (Subfield which mismatch)) =
+    SignalsAgree original export claim × IsSubfieldDifference original export claim which mismatch
+IsHeadVerdict original export claim (No (NotClean Header)) =
+    SignalsAgree original export claim × SubfieldsAsClaimed original export claim × (IsBlankHeader export → ⊥)
+IsHeadVerdict original export claim (No (NotClean (Channel label))) =
+    SignalsAgree original export claim × SubfieldsAsClaimed original export claim × IsBlankHeader export × IsFirstWithFreeText export claim label
+IsHeadVerdict original export claim (No (Sample label at_ps mismatch)) = ⊥
+IsHeadVerdict original export claim (No (Annotation mismatch onset duration text)) = ⊥

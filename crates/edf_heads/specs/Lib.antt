@@ -1,0 +1,10 @@
+pub mod Blank
+pub mod Calibrations
+pub mod Channels
+pub mod Comparisons
+pub mod Firsts
+pub mod HeadDifferences
+pub mod HeadVerdicts
+pub mod Labels
+pub mod Subfields
+pub mod Texts

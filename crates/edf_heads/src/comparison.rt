@@ -1,0 +1,112 @@
+//! Two headers and a claim, with the channels that are claimed.
+
+ghost use Rattle.std.specs.Prelude.{◌≡◌, map, find, option_map, is_none, IfOk, MatchOption};
+ghost use Rattle.edf_heads.specs.Channels.{HasAll, HasNoChannel, IsLeastExtra};
+ghost use Rattle.edf_heads.specs.Comparisons.{claimed_view, HasOnly};
+ghost use Rattle.edf_heads.specs.Firsts.{IsFirstWith};
+
+use crate::channels::{ClaimedChannel, IndexedHeader, claimed_channels};
+use crate::labels::in_order;
+use edf_claim::claim::Claim;
+use edf_header::header::Header;
+use std::alloc::{AllocError, Global};
+use std::marker::Model;
+
+/// Two headers and a claim. The channels of each claimed label are found once.
+#[derive(Drop)]
+pub(crate) struct Comparison<'a> {
+    pub(crate) original: &'a Header,
+    pub(crate) export: IndexedHeader<'a>,
+    pub(crate) claim: &'a Claim,
+    /// The claimed channels, in claim's order.
+    pub(crate) claimed: Vec<ClaimedChannel<'a>>,
+    /// The claimed labels, in the order of their bytes.
+    pub(crate) labels: Vec<&'a [u8]>,
+}
+
+impl<'a> Model for Comparison<'a> {
+    ghost use Rattle.edf_heads.specs.Comparisons.{Compared, IsComparison};
+
+    ghost Value = { Compared };
+
+    ghost view = { λ c. record { original = c.original.now; export = c.export; claim = c.claim.now } };
+
+    ghost invariant = { λ c. IsComparison c.original.now c.export c.claim.now c.claimed.items c.labels.items };
+}
+
+/// The first claimed label whose channel isn't in the original.
+fn first_unknown<'a>(claimed: &[ClaimedChannel<'a>]) -> Option<&'a [u8]>
+    ensures { option_map (λ label. label.now) result ≡ option_map (λ c. c.label) (find (λ c. is_none c.original) (map claimed_view claimed.now)) }
+{
+    for channel in claimed {
+        if channel.original.is_none() {
+            return Some(channel.label.text());
+        }
+    }
+    None
+}
+
+/// The first claimed label whose channel isn't in the export.
+fn first_missing<'a>(claimed: &[ClaimedChannel<'a>]) -> Option<&'a [u8]>
+    ensures { option_map (λ label. label.now) result ≡ option_map (λ c. c.label) (find (λ c. is_none c.export) (map claimed_view claimed.now)) }
+{
+    for channel in claimed {
+        if channel.export.is_none() {
+            return Some(channel.label.text());
+        }
+    }
+    None
+}
+
+impl<'a> Comparison<'a> {
+    /// The comparison of these headers by this claim.
+    ///
+    /// The error is want of memory.
+    pub(crate) fn new(
+        alloc: Global,
+        original: &'a Header,
+        export: &'a Header,
+        claim: &'a Claim,
+    ) -> Result<Comparison<'a>, AllocError>
+        ensures { IfOk result (λ c. c ≡ record { original = original.entry.now; export = export.entry.now; claim = claim.entry.now }) }
+    {
+        let labels = in_order(alloc, claim.channels())?;
+        let channels = IndexedHeader::new(alloc, original)?;
+        let export = IndexedHeader::new(alloc, export)?;
+        let claimed = claimed_channels(alloc, &channels, &export, claim.channels())?;
+        Ok(Comparison {
+            original,
+            export,
+            claim,
+            claimed,
+            labels,
+        })
+    }
+
+    /// The first claimed label that no channel of the original has.
+    pub(crate) fn unknown_channel(&self) -> Option<&'a [u8]>
+        ensures { MatchOption result
+            (HasAll self.now.original self.now.claim.channels)
+            (λ label. IsFirstWith (HasNoChannel self.now.original) self.now.claim.channels label.now) }
+    {
+        first_unknown(&self.claimed)
+    }
+
+    /// The first claimed label that no channel of the export has.
+    pub(crate) fn missing_channel(&self) -> Option<&'a [u8]>
+        ensures { MatchOption result
+            (HasAll self.now.export self.now.claim.channels)
+            (λ label. IsFirstWith (HasNoChannel self.now.export) self.now.claim.channels label.now) }
+    {
+        first_missing(&self.claimed)
+    }
+
+    /// The least label, in the order of bytes, of the export's channels that aren't claimed.
+    pub(crate) fn extra_channel(&self) -> Option<&'a [u8]>
+        ensures { MatchOption result
+            (HasOnly self.now.export self.now.claim.channels)
+            (λ label. IsLeastExtra self.now.export self.now.claim.channels label.now) }
+    {
+        self.export.least_extra(&self.labels)
+    }
+}

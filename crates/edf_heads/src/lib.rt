@@ -1,0 +1,12 @@
+//! Whether the header of an export is what a claim says of its original's: the channels, their texts and
+//! calibrations, the subfields of the identifications, and no free text.
+#![tactic(auto)]
+
+mod blank;
+mod calibrations;
+mod channels;
+mod comparison;
+pub mod head_difference;
+pub mod labels;
+mod subfields;
+mod texts;

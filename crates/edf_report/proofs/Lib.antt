@@ -1,0 +1,2 @@
+pub mod ReportFacts
+pub mod NotesFacts

@@ -1,0 +1,4 @@
+pub mod Reports
+pub mod ConformTexts
+pub mod ShowTexts
+pub mod NotesTexts

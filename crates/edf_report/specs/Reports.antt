@@ -1,0 +1,52 @@
+-- What a report on one file writes, and why it stops.
+use Rattle.std.specs.Prelude.{◌≡◌, ℕ, List, [], ◌∷◌, ◌++◌, Option, None, Some, codes}
+use Rattle.edf_header.specs.declared.fault.Fault.{Fault}
+use Rattle.edf_header.specs.declared.stop.Stop.{Stop}
+use Rattle.edf_header.specs.declared.stop.Stop.TheVariants as reads
+use Rattle.edf_header.specs.FaultTexts.{fault_text}
+use Rattle.edf_verdict.specs.declared.outcome.Outcome.{Outcome}
+use Rattle.edf_verdict.specs.declared.outcome.Outcome.TheVariants as outcomes
+use Rattle.edf_report.specs.declared.report.ReportStop.{ReportStop}
+use Rattle.edf_report.specs.declared.report.ReportStop.TheVariants.{OutOfMemory, ReadFailed, WriteFailed}
+
+-- the line of a fault
+abbrev pub fault_line : Fault → List ℕ
+fault_line fault = codes "FAULT " ++ (fault_text fault ++ (10 ∷ []))
+
+-- what is written in the end: this text, or the line of the fault where there is one
+abbrev pub text_or_fault : List ℕ → Option Fault → List ℕ
+text_or_fault text None = text
+text_or_fault text (Some fault) = fault_line fault
+
+-- Yes exactly where there is no fault
+abbrev pub outcome_of_fault : Option Fault → Outcome
+outcome_of_fault None = outcomes.Yes
+outcome_of_fault (Some fault) = outcomes.No
+
+-- the text stands behind what was held, and the outcome is that of the fault
+abbrev pub IsReported : List ℕ → Option Fault → List ℕ → List ℕ → Outcome → Type 0
+IsReported text fault old new outcome = (new ≡ old ++ text) × (outcome ≡ outcome_of_fault fault)
+
+-- of a failed read the first is said, of a failed write the second
+abbrev pub ReportStops : Type 0 → Type 0 → ReportStop → Type 0
+ReportStops read written OutOfMemory = Unit {0}
+ReportStops read written ReadFailed = read
+ReportStops read written WriteFailed = written
+
+-- the text and the outcome of a fault that stopped the reading of a file
+abbrev pub IsFaultReport : Stop → List ℕ → Outcome → Type 0
+IsFaultReport reads.OutOfMemory text outcome = ⊥
+IsFaultReport reads.ReadFailed text outcome = ⊥
+IsFaultReport (reads.Fault fault) text outcome = (text ≡ fault_line fault) × (outcome ≡ outcomes.No)
+
+-- what is written of this stop: the line of its fault, if it is one
+abbrev pub stop_line : Stop → List ℕ
+stop_line reads.OutOfMemory = []
+stop_line reads.ReadFailed = []
+stop_line (reads.Fault fault) = fault_line fault
+
+-- the line of the fault stands behind what was held, and the outcome is No
+abbrev pub IsStopWritten : Stop → List ℕ → List ℕ → Outcome → Type 0
+IsStopWritten reads.OutOfMemory old new outcome = ⊥
+IsStopWritten reads.ReadFailed old new outcome = ⊥
+IsStopWritten (reads.Fault fault) old new outcome = (new ≡ old ++ fault_line fault) × (outcome ≡ outcomes.No)

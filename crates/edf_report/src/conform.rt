@@ -1,0 +1,64 @@
+//! Whether a file conforms to the profile, in one line.
+
+ghost use Rattle.std.specs.Prelude.{◌≡◌, ◌≢◌, IfOk, IfErr, OnErr, IsTrue};
+ghost use Rattle.edf_fields.specs.Sinks.{HoldsPrefix};
+ghost use Rattle.edf_fields.specs.Sources.{Rises};
+ghost use Rattle.edf_stream.specs.Faults.{file_fault};
+ghost use Rattle.edf_report.specs.declared.report.ReportStop.TheVariants as stops;
+ghost use Rattle.edf_report.specs.ConformTexts.{counts_line, conform_text};
+ghost use Rattle.edf_report.specs.Reports.{IsReported, ReportStops, outcome_of_fault};
+
+use crate::report::{Report, ReportStop};
+use edf_fields::sink::Sink;
+use edf_fields::source::Source;
+use edf_stream::conform::{Summary, conform};
+use edf_verdict::outcome::Outcome;
+use std::alloc::{AllocError, Global};
+
+/// The line of how much a file holds.
+#[tactic(auto, unfolding(crate::specs::ConformTexts::counts_line))]
+fn counts_line(alloc: Global, summary: &Summary) -> Result<Vec<u8>, AllocError>
+    ensures { IfOk result (λ line. line.items ≡ counts_line summary.now.records summary.now.channels summary.now.samples summary.now.annotations) }
+{
+    let line = format!(in alloc;
+        "CONFORMS records {} channels {} samples {} annotations {}\n",
+        summary.records, summary.channels, summary.samples, summary.annotations
+    )?;
+    Ok(line.into_bytes())
+}
+
+/// The line of a file, and `Yes` where it conforms.
+fn report<S: Source>(alloc: Global, source: &mut S) -> Result<Report, ReportStop>
+    ensures report { IfOk result (λ report. IsTrue (S.is_honest source.old) →
+        (report.text.items ≡ conform_text (S.left source.old)) × (report.outcome ≡ outcome_of_fault (file_fault (S.left source.old)))) }
+    ensures stop { IfErr result (ReportStops (Rises (S.failures source.old) (S.failures source.new)) ⊥) }
+{
+    match conform(alloc, source) {
+        Ok(summary) => Ok(Report {
+            text: counts_line(alloc, &summary)?,
+            outcome: Outcome::Yes,
+        }),
+        Err(stop) => Report::of_stop(alloc, stop),
+    }
+}
+
+/// Reads a whole file, and writes one line: how much it holds, where it conforms to the profile, which
+/// docs/PROFILE.md tells, or its first fault.
+///
+/// The outcome is `Yes` exactly where the file conforms. The errors are want of memory, a failed read and
+/// a failed write. Nothing is written before the file was read; where the sink fails, a front of the line
+/// was written.
+pub fn conform_to<S: Source, K: Sink>(
+    alloc: Global,
+    source: &mut S,
+    sink: &mut K,
+) -> Result<Outcome, ReportStop>
+    ensures written { IfOk result (λ outcome. IsTrue (S.is_honest source.old) → IsTrue (K.is_honest sink.old) →
+        IsReported (conform_text (S.left source.old)) (file_fault (S.left source.old)) (K.held sink.old) (K.held sink.new) outcome) }
+    ensures nothing { IfErr result (λ stop. stop ≢ stops.WriteFailed → sink.new ≡ sink.old) }
+    ensures part { OnErr result (IsTrue (S.is_honest source.old) → IsTrue (K.is_honest sink.old) → HoldsPrefix (K.held sink.old) (K.held sink.new) (conform_text (S.left source.old))) }
+    ensures stop { IfErr result (ReportStops (Rises (S.failures source.old) (S.failures source.new)) (Rises (K.failures sink.old) (K.failures sink.new))) }
+{
+    let report = report(alloc, source)?;
+    report.put(sink)
+}

@@ -1,0 +1,7 @@
+//! The reports on one EDF+ file: whether it conforms, what its header says, and its annotations.
+#![tactic(auto)]
+
+pub mod conform;
+pub mod notes;
+pub mod report;
+pub mod show;

@@ -1,0 +1,109 @@
+//! The annotations of a file, line by line.
+
+ghost use Rattle.std.specs.Prelude.{◌≡◌, ℕ, List, ◌++◌, IfOk, IfErr, OnOk, OnErr, IsTrue};
+ghost use Rattle.edf_fields.specs.Sinks.{HoldsPrefix};
+ghost use Rattle.edf_fields.specs.Sources.{Rises};
+ghost use Rattle.edf_stream.specs.Faults.{body_fault, file_fault};
+ghost use Rattle.edf_stream.specs.Notes.{notes_in};
+ghost use Rattle.edf_stream.specs.Readers.{is_current, HasBegun, StandsIn};
+ghost use Rattle.edf_stream.specs.Views.{note_view, notes_left};
+ghost use Rattle.edf_report.specs.NotesTexts.{note_line, note_lines, body_text, notes_text};
+ghost use Rattle.edf_report.specs.Reports.{IsReported, ReportStops};
+
+use crate::report::{ReportStop, put_stop};
+use edf_fields::sink::{Sink, put_all};
+use edf_fields::source::Source;
+use edf_stream::annotations::Annotations;
+use edf_stream::note::NoteRef;
+use edf_stream::reader::FileReader;
+use edf_verdict::note_times::NoteTimes;
+use edf_verdict::outcome::Outcome;
+use edf_verdict::quote::push_with_quoted;
+use std::alloc::{AllocError, Global};
+
+/// Puts the line of an annotation behind the text.
+#[tactic(auto, unfolding(crate::specs::NotesTexts::note_line))]
+fn push_note(text: &mut Vec<u8>, alloc: Global, note: NoteRef<'_>) -> Result<(), AllocError>
+    ensures { OnOk result (text.new.items ≡ text.old.items ++ note_line (note_view note.entry)) }
+{
+    let times = NoteTimes {
+        onset: note.onset,
+        duration: note.duration,
+    };
+    let words = format!(in alloc; "{times} text ")?;
+    push_with_quoted(text, &words, note.text.as_bytes())?;
+    text.push(b'\n')?;
+    Ok(())
+}
+
+/// The lines of these annotations.
+fn lines_of(alloc: Global, annotations: Annotations<'_>) -> Result<Vec<u8>, AllocError>
+    ensures { IfOk result (λ text. text.items ≡ note_lines (notes_left annotations.entry)) }
+{
+    let mut text = Vec::new(alloc);
+    for note in annotations {
+        push_note(&mut text, alloc, note)?;
+    }
+    Ok(text)
+}
+
+/// Writes the annotations of the data record at hand.
+fn put_notes<K: Sink>(alloc: Global, reader: &FileReader, sink: &mut K) -> Result<(), ReportStop>
+    requires { IsTrue (is_current reader.now.status) }
+    ensures failures { OnOk result (K.failures sink.new ≡ K.failures sink.old) }
+    ensures honesty { IsTrue (K.is_honest sink.old) → IsTrue (K.is_honest sink.new) }
+    ensures written { OnOk result (IsTrue (K.is_honest sink.old) → K.held sink.new ≡ K.held sink.old ++ note_lines (notes_in reader.now.head reader.now.current)) }
+    ensures part { OnErr result (IsTrue (K.is_honest sink.old) → HoldsPrefix (K.held sink.old) (K.held sink.new) (note_lines (notes_in reader.now.head reader.now.current))) }
+    ensures stop { IfErr result (ReportStops ⊥ (Rises (K.failures sink.old) (K.failures sink.new))) }
+{
+    let text = lines_of(alloc, reader.annotations())?;
+    put_all(sink, &text)?;
+    Ok(())
+}
+
+/// Reads the data records of a file of which the header was read, and writes their annotations; behind
+/// those of the data records before a fault stands its line.
+fn put_records<S: Source, K: Sink>(
+    alloc: Global,
+    reader: &mut FileReader,
+    source: &mut S,
+    sink: &mut K,
+) -> Result<Outcome, ReportStop>
+    requires { HasBegun reader.old }
+    ensures written { IfOk result (λ outcome. IsTrue (S.is_honest source.old) → IsTrue (K.is_honest sink.old) → (file : List ℕ) → StandsIn reader.old (S.left source.old) file →
+        IsReported (body_text file reader.old.head) (body_fault file reader.old.head) (K.held sink.old) (K.held sink.new) outcome) }
+    ensures part { OnErr result (IsTrue (S.is_honest source.old) → IsTrue (K.is_honest sink.old) → (file : List ℕ) → StandsIn reader.old (S.left source.old) file →
+        HoldsPrefix (K.held sink.old) (K.held sink.new) (body_text file reader.old.head)) }
+    ensures stop { IfErr result (ReportStops (Rises (S.failures source.old) (S.failures source.new)) (Rises (K.failures sink.old) (K.failures sink.new))) }
+{
+    loop {
+        match reader.next(source) {
+            Ok(true) => put_notes(alloc, reader, sink)?,
+            Ok(false) => return Ok(Outcome::Yes),
+            Err(stop) => return put_stop(alloc, sink, stop),
+        }
+    }
+}
+
+/// Reads a whole file, and writes its annotations, a line each, in the order of data record, annotation
+/// signal, TAL and text, with onsets as the file has them. The annotations of a data record are written
+/// before the next one is read.
+///
+/// Where the file has a fault, the annotations of the data records before it are written and then the line
+/// of the fault; the outcome is `Yes` exactly where it has none. The errors are want of memory, a failed
+/// read and a failed write; a front of the text was written then.
+pub fn notes_to<S: Source, K: Sink>(
+    alloc: Global,
+    source: &mut S,
+    sink: &mut K,
+) -> Result<Outcome, ReportStop>
+    ensures written { IfOk result (λ outcome. IsTrue (S.is_honest source.old) → IsTrue (K.is_honest sink.old) →
+        IsReported (notes_text (S.left source.old)) (file_fault (S.left source.old)) (K.held sink.old) (K.held sink.new) outcome) }
+    ensures part { OnErr result (IsTrue (S.is_honest source.old) → IsTrue (K.is_honest sink.old) → HoldsPrefix (K.held sink.old) (K.held sink.new) (notes_text (S.left source.old))) }
+    ensures stop { IfErr result (ReportStops (Rises (S.failures source.old) (S.failures source.new)) (Rises (K.failures sink.old) (K.failures sink.new))) }
+{
+    match FileReader::begin(alloc, source) {
+        Ok(mut reader) => put_records(alloc, &mut reader, source, sink),
+        Err(stop) => put_stop(alloc, sink, stop),
+    }
+}

@@ -1,0 +1,109 @@
+//! What a report on one file writes, and why it stops.
+
+ghost use Rattle.std.specs.Prelude.{◌≡◌, ◌++◌, IfOk, IfErr, OnErr, IsTrue};
+ghost use Rattle.edf_fields.specs.Sinks.{HoldsPrefix};
+ghost use Rattle.edf_fields.specs.Sources.{Rises};
+ghost use Rattle.edf_header.specs.declared.stop.Stop.TheVariants as read_stops;
+ghost use Rattle.edf_report.specs.declared.report.ReportStop.TheVariants as stops;
+ghost use Rattle.edf_report.specs.Reports.{fault_line, stop_line, IsFaultReport, IsStopWritten, ReportStops};
+
+use edf_fields::sink::{Sink, WriteFault, put_all};
+use edf_header::fault::Fault;
+use edf_header::stop::Stop;
+use edf_verdict::outcome::Outcome;
+use std::alloc::{AllocError, AllocFailed, Global};
+
+/// Why a report stopped before its end.
+#[derive(Debug, Clone, Copy, PartialEq, Eq)]
+pub enum ReportStop {
+    /// Memory ran out.
+    OutOfMemory,
+    /// The source failed.
+    ReadFailed,
+    /// The sink failed.
+    WriteFailed,
+}
+
+impl From<AllocError> for ReportStop {
+    ghost from_gives = { λ _ e. e ≡ stops.OutOfMemory };
+
+    fn from(_error: AllocError) -> ReportStop {
+        ReportStop::OutOfMemory
+    }
+}
+
+impl<T: Drop> From<AllocFailed<T>> for ReportStop {
+    ghost from_gives = { λ _ e. e ≡ stops.OutOfMemory };
+
+    fn from(_error: AllocFailed<T>) -> ReportStop {
+        ReportStop::OutOfMemory
+    }
+}
+
+impl From<WriteFault> for ReportStop {
+    ghost from_gives = { λ _ e. e ≡ stops.WriteFailed };
+
+    fn from(_error: WriteFault) -> ReportStop {
+        ReportStop::WriteFailed
+    }
+}
+
+/// The text of a report and its outcome.
+#[derive(Debug, Drop)]
+pub(crate) struct Report {
+    pub(crate) text: Vec<u8>,
+    pub(crate) outcome: Outcome,
+}
+
+/// The line of a fault.
+fn fault_line(alloc: Global, fault: &Fault) -> Result<Vec<u8>, AllocError>
+    ensures { IfOk result (λ line. line.items ≡ fault_line fault.now) }
+{
+    let mut line = Vec::new(alloc);
+    line.extend_from_slice("FAULT ".as_bytes())?;
+    line.extend_from_slice(fault.text(alloc)?.as_bytes())?;
+    line.push(b'\n')?;
+    Ok(line)
+}
+
+impl Report {
+    /// What stopped the reading of a file: a fault is reported, and all else stops the report, too.
+    pub(crate) fn of_stop(alloc: Global, stop: Stop) -> Result<Report, ReportStop>
+        ensures report { IfOk result (λ report. IsFaultReport stop report.text.items report.outcome) }
+        ensures stop { IfErr result (ReportStops (stop ≡ read_stops.ReadFailed) ⊥) }
+    {
+        match stop {
+            Stop::Fault(fault) => Ok(Report {
+                text: fault_line(alloc, &fault)?,
+                outcome: Outcome::No,
+            }),
+            Stop::OutOfMemory => Err(ReportStop::OutOfMemory),
+            Stop::ReadFailed => Err(ReportStop::ReadFailed),
+        }
+    }
+
+    /// Writes the report: its outcome, or that the sink failed.
+    pub(crate) fn put<K: Sink>(&self, sink: &mut K) -> Result<Outcome, ReportStop>
+        ensures written { IfOk result (λ outcome. (outcome ≡ self.now.outcome) × (IsTrue (K.is_honest sink.old) → K.held sink.new ≡ K.held sink.old ++ self.now.text.items)) }
+        ensures part { OnErr result (IsTrue (K.is_honest sink.old) → HoldsPrefix (K.held sink.old) (K.held sink.new) self.now.text.items) }
+        ensures stop { IfErr result (λ stop. (stop ≡ stops.WriteFailed) × Rises (K.failures sink.old) (K.failures sink.new)) }
+    {
+        put_all(sink, &self.text)?;
+        Ok(self.outcome)
+    }
+}
+
+/// Writes what stopped the reading of a file: the line of a fault, with the outcome `No`. All else stops the
+/// report, too.
+pub(crate) fn put_stop<K: Sink>(
+    alloc: Global,
+    sink: &mut K,
+    stop: Stop,
+) -> Result<Outcome, ReportStop>
+    ensures written { IfOk result (λ outcome. IsTrue (K.is_honest sink.old) → IsStopWritten stop (K.held sink.old) (K.held sink.new) outcome) }
+    ensures part { OnErr result (IsTrue (K.is_honest sink.old) → HoldsPrefix (K.held sink.old) (K.held sink.new) (stop_line stop)) }
+    ensures stop { IfErr result (ReportStops (stop ≡ read_stops.ReadFailed) (Rises (K.failures sink.old) (K.failures sink.new))) }
+{
+    let report = Report::of_stop(alloc, stop)?;
+    report.put(sink)
+}

@@ -1,0 +1,4 @@
+pub mod Outcomes
+pub mod Quotes
+pub mod NoteTimes
+pub mod Lines

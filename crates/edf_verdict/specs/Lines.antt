@@ -1,0 +1,97 @@
+-- The line of text of a verdict.
+use Rattle.std.specs.Prelude.{ℕ, ℤ, List, [], ◌∷◌, ◌++◌, Option, codes}
+use Rattle.std.specs.Fmt.{decimal, signed_decimal}
+use Rattle.edf_claim.specs.Claims.{name_of}
+use Rattle.edf_claim.specs.declared.which.Which.{Which}
+use Rattle.edf_header.specs.FaultTexts.{fault_text}
+use Rattle.edf_verdict.specs.declared.verdict.AnnotationMismatch.{AnnotationMismatch}
+use Rattle.edf_verdict.specs.declared.verdict.AnnotationMismatch.TheVariants as notes
+use Rattle.edf_verdict.specs.declared.verdict.Difference.{Difference}
+use Rattle.edf_verdict.specs.declared.verdict.Difference.TheVariants.{OriginalFault, ExportFault, UnknownChannel, MissingChannel, ExtraChannel, ChannelText, Calibration, Subfield, NotClean, Sample, Annotation}
+use Rattle.edf_verdict.specs.declared.verdict.FreeText.{FreeText}
+use Rattle.edf_verdict.specs.declared.verdict.FreeText.TheVariants.{Header, Channel}
+use Rattle.edf_verdict.specs.declared.verdict.SampleMismatch.{SampleMismatch}
+use Rattle.edf_verdict.specs.declared.verdict.SampleMismatch.TheVariants as samples
+use Rattle.edf_verdict.specs.declared.verdict.SubfieldMismatch.{SubfieldMismatch}
+use Rattle.edf_verdict.specs.declared.verdict.SubfieldMismatch.TheVariants.{NotX, Changed}
+use Rattle.edf_verdict.specs.declared.verdict.TextField.{TextField}
+use Rattle.edf_verdict.specs.declared.verdict.TextField.TheVariants.{Transducer, Prefilter}
+use Rattle.edf_verdict.specs.declared.verdict.Verdict.{Verdict}
+use Rattle.edf_verdict.specs.declared.verdict.Verdict.TheVariants.{Yes, No}
+use Rattle.edf_verdict.specs.NoteTimes.{note_times}
+use Rattle.edf_verdict.specs.Quotes.{with_quoted}
+
+-- which text of a channel
+abbrev pub field_text : TextField → List ℕ
+field_text Transducer = codes "transducer"
+field_text Prefilter = codes "prefilter"
+
+-- a difference of a channel's texts
+abbrev pub channel_text : List ℕ → TextField → List ℕ
+channel_text label field = with_quoted (codes "NO 6 channel text ") label ++ (codes " " ++ field_text field)
+
+-- how a subfield isn't as claimed
+abbrev pub subfield_mismatch_text : SubfieldMismatch → List ℕ
+subfield_mismatch_text NotX = codes "not X"
+subfield_mismatch_text Changed = codes "changed"
+
+-- a difference of subfields, by the name that a claim gives the subfield
+abbrev pub subfield_text : Which → SubfieldMismatch → List ℕ
+subfield_text which mismatch = codes "NO 8 subfield " ++ (name_of which ++ (codes " " ++ subfield_mismatch_text mismatch))
+
+-- where the export has free text
+abbrev pub not_clean_text : FreeText → List ℕ
+not_clean_text Header = codes "NO 9 not clean header"
+not_clean_text (Channel label) = with_quoted (codes "NO 9 not clean ") label
+
+-- how the samples at an instant differ
+abbrev pub sample_mismatch_text : SampleMismatch → List ℕ
+sample_mismatch_text samples.Missing = codes "missing"
+sample_mismatch_text samples.Extra = codes "extra"
+sample_mismatch_text (samples.Value original export) = codes "original " ++ (signed_decimal original ++ (codes " export " ++ signed_decimal export))
+
+-- the instant in picoseconds, and how the samples there differ
+unfoldable pub moment_text : ℤ → SampleMismatch → List ℕ
+moment_text at_ps mismatch = codes " at " ++ (signed_decimal at_ps ++ (codes " ps " ++ sample_mismatch_text mismatch))
+
+-- a difference of samples
+abbrev pub sample_text : List ℕ → ℤ → SampleMismatch → List ℕ
+sample_text label at_ps mismatch = with_quoted (codes "NO 10 sample ") label ++ moment_text at_ps mismatch
+
+-- how often an annotation stands in the export
+abbrev pub note_mismatch_text : AnnotationMismatch → List ℕ
+note_mismatch_text notes.Missing = codes "missing"
+note_mismatch_text notes.Extra = codes "extra"
+
+-- the words in front of an annotation's text: how often it stands in the export, its onset and its duration
+unfoldable pub note_words : AnnotationMismatch → ℤ → Option ℤ → List ℕ
+note_words mismatch onset duration =
+    codes "NO 11 annotation " ++ (note_mismatch_text mismatch ++ (codes " at " ++ (note_times onset duration ++ codes " text ")))
+
+-- a difference in words: NO, its number, its kind, and what it is about
+abbrev pub difference_text : Difference → List ℕ
+difference_text (OriginalFault fault) = codes "NO 1 original fault: " ++ fault_text fault
+difference_text (ExportFault fault) = codes "NO 2 export fault: " ++ fault_text fault
+difference_text (UnknownChannel label) = with_quoted (codes "NO 3 unknown channel ") label
+difference_text (MissingChannel label) = with_quoted (codes "NO 4 missing channel ") label
+difference_text (ExtraChannel label) = with_quoted (codes "NO 5 extra channel ") label
+difference_text (ChannelText label field) = channel_text label field
+difference_text (Calibration label) = with_quoted (codes "NO 7 calibration ") label
+difference_text (Subfield which mismatch) = subfield_text which mismatch
+difference_text (NotClean text) = not_clean_text text
+difference_text (Sample label at_ps mismatch) = sample_text label at_ps mismatch
+difference_text (Annotation mismatch onset duration text) = with_quoted (note_words mismatch onset duration) text
+
+-- what was compared
+abbrev pub counts_text : ℕ → ℕ → ℕ → List ℕ
+counts_text channels samples annotations =
+    codes "YES channels " ++ (decimal channels ++ (codes " samples " ++ (decimal samples ++ (codes " annotations " ++ decimal annotations))))
+
+-- a verdict in words
+abbrev pub verdict_text : Verdict → List ℕ
+verdict_text (Yes channels samples annotations) = counts_text channels samples annotations
+verdict_text (No difference) = difference_text difference
+
+-- the verdict as one line, with its end
+abbrev pub verdict_line : Verdict → List ℕ
+verdict_line verdict = verdict_text verdict ++ (10 ∷ [])

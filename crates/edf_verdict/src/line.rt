@@ -1,0 +1,285 @@
+//! The line of text of a verdict.
+
+ghost use Rattle.std.specs.Prelude.{◌≡◌, ◌++◌, Some, IfOk, OnOk};
+ghost use Rattle.edf_header.specs.FaultTexts.{fault_text};
+ghost use Rattle.edf_verdict.specs.Quotes.{with_quoted};
+ghost use Rattle.edf_verdict.specs.Lines.{field_text, channel_text, subfield_mismatch_text, subfield_text, not_clean_text, sample_mismatch_text, moment_text, sample_text, note_mismatch_text, note_words, counts_text, difference_text, verdict_text, verdict_line};
+
+use crate::label::Label;
+use crate::note_text::NoteText;
+use crate::note_times::NoteTimes;
+use crate::quote::push_with_quoted;
+use crate::verdict::{
+    AnnotationMismatch, Difference, FreeText, SampleMismatch, SubfieldMismatch, TextField, Verdict,
+};
+use edf_claim::which::Which;
+use edf_header::fault::Fault;
+use std::alloc::{AllocError, Global};
+use std::fmt;
+
+impl fmt::Display for TextField {
+    ghost output = { λ field. Some (field_text field) };
+
+    fn fmt<W: fmt::Write>(&self, f: &mut fmt::Formatter<W>) -> fmt::Result {
+        match self {
+            TextField::Transducer => write!(f, "transducer"),
+            TextField::Prefilter => write!(f, "prefilter"),
+        }
+    }
+}
+
+impl fmt::Display for SubfieldMismatch {
+    ghost output = { λ mismatch. Some (subfield_mismatch_text mismatch) };
+
+    fn fmt<W: fmt::Write>(&self, f: &mut fmt::Formatter<W>) -> fmt::Result {
+        match self {
+            SubfieldMismatch::NotX => write!(f, "not X"),
+            SubfieldMismatch::Changed => write!(f, "changed"),
+        }
+    }
+}
+
+impl fmt::Display for SampleMismatch {
+    ghost output = { λ mismatch. Some (sample_mismatch_text mismatch) };
+
+    fn fmt<W: fmt::Write>(&self, f: &mut fmt::Formatter<W>) -> fmt::Result {
+        match self {
+            SampleMismatch::Missing => write!(f, "missing"),
+            SampleMismatch::Extra => write!(f, "extra"),
+            SampleMismatch::Value(original, export) => {
+                write!(f, "original {original} export {export}")
+            }
+        }
+    }
+}
+
+impl fmt::Display for AnnotationMismatch {
+    ghost output = { λ mismatch. Some (note_mismatch_text mismatch) };
+
+    fn fmt<W: fmt::Write>(&self, f: &mut fmt::Formatter<W>) -> fmt::Result {
+        match self {
+            AnnotationMismatch::Missing => write!(f, "missing"),
+            AnnotationMismatch::Extra => write!(f, "extra"),
+        }
+    }
+}
+
+/// The instant at which samples differ, in picoseconds, and how they do.
+#[derive(Clone, Copy)]
+struct Moment {
+    at_ps: i128,
+    mismatch: SampleMismatch,
+}
+
+impl fmt::Display for Moment {
+    ghost output = { λ moment. Some (moment_text moment.at_ps moment.mismatch) };
+
+    #[tactic(auto, unfolding(crate::specs::Lines::moment_text))]
+    fn fmt<W: fmt::Write>(&self, f: &mut fmt::Formatter<W>) -> fmt::Result {
+        write!(f, " at {} ps {}", self.at_ps, self.mismatch)
+    }
+}
+
+/// An annotation, but for its text, and how often it stands in the export.
+#[derive(Clone, Copy)]
+struct Note {
+    mismatch: AnnotationMismatch,
+    times: NoteTimes,
+}
+
+impl fmt::Display for Note {
+    ghost output = { λ note. Some (note_words note.mismatch (note.times).onset (note.times).duration) };
+
+    #[tactic(auto, unfolding(crate::specs::Lines::note_words))]
+    fn fmt<W: fmt::Write>(&self, f: &mut fmt::Formatter<W>) -> fmt::Result {
+        write!(
+            f,
+            "NO 11 annotation {} at {} text ",
+            self.mismatch, self.times
+        )
+    }
+}
+
+/// Puts the words and the fault behind the line.
+fn push_fault(
+    line: &mut Vec<u8>,
+    alloc: Global,
+    words: &str,
+    fault: &Fault,
+) -> Result<(), AllocError>
+    ensures { OnOk result (line.new.items ≡ line.old.items ++ (words.now ++ fault_text fault.now)) }
+{
+    let text = fault.text(alloc)?;
+    line.extend_from_slice(words.as_bytes())?;
+    line.extend_from_slice(text.as_bytes())
+}
+
+/// Puts the words and the quoted label behind the line.
+fn push_label(line: &mut Vec<u8>, words: &str, label: &Label) -> Result<(), AllocError>
+    ensures { OnOk result (line.new.items ≡ line.old.items ++ with_quoted words.now label.now) }
+{
+    push_with_quoted(line, words, label.bytes())
+}
+
+/// Puts the words, the quoted label and further words behind the line.
+fn push_around(line: &mut Vec<u8>, words: &str, label: &Label, more: &str) -> Result<(), AllocError>
+    ensures { OnOk result (line.new.items ≡ line.old.items ++ (with_quoted words.now label.now ++ more.now)) }
+{
+    push_label(line, words, label)?;
+    line.extend_from_slice(more.as_bytes())
+}
+
+/// Puts a difference of a channel's texts behind the line.
+fn push_channel_text(
+    line: &mut Vec<u8>,
+    alloc: Global,
+    label: &Label,
+    field: TextField,
+) -> Result<(), AllocError>
+    ensures { OnOk result (line.new.items ≡ line.old.items ++ channel_text label.now field) }
+{
+    let words = format!(in alloc; " {field}")?;
+    push_around(line, "NO 6 channel text ", label, &words)
+}
+
+/// Puts a difference of subfields behind the line.
+fn push_subfield(
+    line: &mut Vec<u8>,
+    alloc: Global,
+    which: Which,
+    mismatch: SubfieldMismatch,
+) -> Result<(), AllocError>
+    ensures { OnOk result (line.new.items ≡ line.old.items ++ subfield_text which mismatch) }
+{
+    let words = format!(in alloc; "NO 8 subfield {} {mismatch}", which.name())?;
+    line.extend_from_slice(words.as_bytes())
+}
+
+/// Puts where the export has free text behind the line.
+fn push_not_clean(line: &mut Vec<u8>, text: &FreeText) -> Result<(), AllocError>
+    ensures { OnOk result (line.new.items ≡ line.old.items ++ not_clean_text text.now) }
+{
+    match text {
+        FreeText::Header => line.extend_from_slice("NO 9 not clean header".as_bytes()),
+        FreeText::Channel(label) => push_label(line, "NO 9 not clean ", label),
+    }
+}
+
+/// Puts a difference of samples behind the line.
+fn push_sample(
+    line: &mut Vec<u8>,
+    alloc: Global,
+    label: &Label,
+    moment: Moment,
+) -> Result<(), AllocError>
+    ensures { OnOk result (line.new.items ≡ line.old.items ++ sample_text label.now moment.at_ps moment.mismatch) }
+{
+    let words = moment.to_string(alloc)?;
+    push_around(line, "NO 10 sample ", label, &words)
+}
+
+/// Puts a difference of annotations behind the line.
+fn push_note(
+    line: &mut Vec<u8>,
+    alloc: Global,
+    note: Note,
+    text: &NoteText,
+) -> Result<(), AllocError>
+    ensures { OnOk result (line.new.items ≡ line.old.items ++ with_quoted (note_words note.mismatch (note.times).onset (note.times).duration) text.now) }
+{
+    let words = note.to_string(alloc)?;
+    push_with_quoted(line, &words, text.as_str().as_bytes())
+}
+
+/// Puts what was compared behind the line.
+fn push_counts(
+    line: &mut Vec<u8>,
+    alloc: Global,
+    channels: u64,
+    samples: u64,
+    annotations: u64,
+) -> Result<(), AllocError>
+    ensures { OnOk result (line.new.items ≡ line.old.items ++ counts_text channels samples annotations) }
+{
+    let words = format!(in alloc;
+        "YES channels {channels} samples {samples} annotations {annotations}"
+    )?;
+    line.extend_from_slice(words.as_bytes())
+}
+
+impl Difference {
+    /// Puts the difference in words behind the line: `NO`, its number, its kind and what it is about.
+    fn push(&self, line: &mut Vec<u8>, alloc: Global) -> Result<(), AllocError>
+        ensures { OnOk result (line.new.items ≡ line.old.items ++ difference_text self.now) }
+    {
+        match self {
+            Difference::OriginalFault(fault) => {
+                push_fault(line, alloc, "NO 1 original fault: ", fault)
+            }
+            Difference::ExportFault(fault) => {
+                push_fault(line, alloc, "NO 2 export fault: ", fault)
+            }
+            Difference::UnknownChannel(label) => push_label(line, "NO 3 unknown channel ", label),
+            Difference::MissingChannel(label) => push_label(line, "NO 4 missing channel ", label),
+            Difference::ExtraChannel(label) => push_label(line, "NO 5 extra channel ", label),
+            Difference::ChannelText(label, field) => push_channel_text(line, alloc, label, *field),
+            Difference::Calibration(label) => push_label(line, "NO 7 calibration ", label),
+            Difference::Subfield(which, mismatch) => push_subfield(line, alloc, *which, *mismatch),
+            Difference::NotClean(text) => push_not_clean(line, text),
+            Difference::Sample {
+                label,
+                at_ps,
+                mismatch,
+            } => {
+                let moment = Moment {
+                    at_ps: *at_ps,
+                    mismatch: *mismatch,
+                };
+                push_sample(line, alloc, label, moment)
+            }
+            Difference::Annotation {
+                mismatch,
+                onset,
+                duration,
+                text,
+            } => {
+                let note = Note {
+                    mismatch: *mismatch,
+                    times: NoteTimes {
+                        onset: *onset,
+                        duration: *duration,
+                    },
+                };
+                push_note(line, alloc, note, text)
+            }
+        }
+    }
+}
+
+impl Verdict {
+    /// Puts the verdict in words behind the line.
+    fn push(&self, line: &mut Vec<u8>, alloc: Global) -> Result<(), AllocError>
+        ensures { OnOk result (line.new.items ≡ line.old.items ++ verdict_text self.now) }
+    {
+        match self {
+            Verdict::Yes {
+                channels,
+                samples,
+                annotations,
+            } => push_counts(line, alloc, *channels, *samples, *annotations),
+            Verdict::No(difference) => difference.push(line, alloc),
+        }
+    }
+
+    /// The verdict as one line, with its end.
+    ///
+    /// The error is want of memory.
+    pub fn line(&self, alloc: Global) -> Result<Vec<u8>, AllocError>
+        ensures { IfOk result (λ line. line.items ≡ verdict_line self.now) }
+    {
+        let mut line = Vec::new(alloc);
+        self.push(&mut line, alloc)?;
+        line.push(b'\n')?;
+        Ok(line)
+    }
+}
