@@ -140,18 +140,17 @@ def prove_all(verb, below, lines, names, lanes, log, room):
     told = begun
     while left or running:
         ready = [name for name in left if done.issuperset(below[name])]
-        free = lanes - sum(jobs for _, jobs in running)
         for name in ready:
-            # the one with the most behind it gets all but one lane, which is for the others, one after the other
-            is_alone = verb == "check" or len(ready) == 1
-            jobs = max(1, min(4, free - (not is_alone))) if name == ready[0] else 1
+            # the one with the most behind it goes first on all processors, and others use what it leaves
+            is_first = all(behind(name) >= behind(run.name) for run, _ in running)
+            free = (1 if verb == "check" else 2) * lanes - sum(jobs for _, jobs in running)
             if free < 1 or verb == "check" and running:
                 break
-            has_users = any(name in below[it] for it in names)
+            jobs = min(4, lanes if is_first else 2, free)
+            words = words_of(name, verb, any(name in below[it] for it in names), jobs)
             top = copy_of(needed(below, name), room) if running else TOP
-            running.append((Run(name, words_of(name, verb, has_users, jobs), log, top), jobs))
+            running.append((Run(name, words if is_first else ["nice", *words], log, top), jobs))
             left.remove(name)
-            free -= jobs
         time.sleep(0.2)
         for run, jobs in list(running):
             status = run.status()

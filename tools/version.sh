@@ -12,7 +12,7 @@ if [ "$#" -ne 1 ] || [ ! -x "$1" ]; then
 fi
 program=$(CDPATH='' cd -- "$(dirname -- "$1")" && pwd)/$(basename -- "$1") || exit 2
 CDPATH='' cd -- "$(dirname -- "$0")/.." || exit 2
-version=$(sed -n 's/^pub const VERSION: &str = "\(.*\)";$/\1/p' crates/edf_command/src/lib.rt)
+version=$(sed -n 's/^pub const VERSION: &str = "\(.*\)";$/\1/p' crates/edf_command_line/src/lib.rt)
 passed=0
 failed=0
 

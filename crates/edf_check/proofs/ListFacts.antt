@@ -1,5 +1,5 @@
 -- What stands at a place of a list.
-use Rattle.std.proofs.Common.{◌≡◌, ℕ, zero, suc, List, [], ◌∷◌, ◌++◌, length, take, drop, set, slice_get, Some, None, inl, refl, sym, subst, ap, ◌∙◌, ◌<◌, arith}
+use Rattle.std.proofs.Common.{◌≡◌, ℕ, zero, suc, List, [], ◌∷◌, ◌++◌, length, take, drop, set, slice_get, Some, None, refl, sym, subst, ap, ◌∙◌, ◌<◌, arith}
 use Rattle.std.proofs.Math.Seq.{take-append_seam}
 use Rattle.edf_fields.specs.Lists.{Has, AreDistinct}
 use Rattle.edf_fields.proofs.ForCallers.{has-at}

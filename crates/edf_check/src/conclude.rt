@@ -19,11 +19,11 @@ use std::alloc::{AllocError, Global};
 /// The error is want of memory.
 fn conclude_notes(
     alloc: Global,
-    kept: Vec<Note>,
-    exported: Vec<Note>,
+    kept: &mut Vec<Note>,
+    exported: &mut Vec<Note>,
     summary: Summary,
 ) -> Result<Walked, AllocError>
-    ensures walked { IfOk result (λ walked. (o e : List ℕ) (claim : Terms) → AreRemaining o e claim kept.items exported.items summary → IsWalked o e claim walked) }
+    ensures walked { IfOk result (λ walked. (o e : List ℕ) (claim : Terms) → AreRemaining o e claim kept.old.items exported.old.items summary → IsWalked o e claim walked) }
     ensures compared { IfOk result IsCompared }
 {
     match note_difference(alloc, kept, exported)? {
@@ -40,12 +40,12 @@ pub(crate) fn conclude(
     alloc: Global,
     found: Option<Found>,
     labels: &[&[u8]],
-    kept: Vec<Note>,
-    exported: Vec<Note>,
+    kept: &mut Vec<Note>,
+    exported: &mut Vec<Note>,
     summary: Summary,
 ) -> Result<Walked, AllocError>
     requires { IfSome found (λ f. IsModest f.difference.at × (f.channel < length labels.now)) }
-    ensures walked { IfOk result (λ walked. (o e : List ℕ) (claim : Terms) → AreFound o e claim found (map (λ label. label.now) labels.now) kept.items exported.items summary → IsWalked o e claim walked) }
+    ensures walked { IfOk result (λ walked. (o e : List ℕ) (claim : Terms) → AreFound o e claim found (map (λ label. label.now) labels.now) kept.old.items exported.old.items summary → IsWalked o e claim walked) }
     ensures compared { IfOk result IsCompared }
 {
     match found {

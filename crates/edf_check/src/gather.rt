@@ -35,6 +35,19 @@ fn counts(claim: Option<&Claim>, onset: i128, text: &str) -> bool
     }
 }
 
+/// The annotation at this onset, with a text of its own.
+///
+/// The error is want of memory.
+fn note_at(alloc: Global, note: NoteRef<'_>, onset: i128) -> Result<Note, AllocError>
+    ensures { IfOk result (λ v. note_value v ≡ record { onset = onset; duration = (note_view note.entry).duration; text = (note_view note.entry).text }) }
+{
+    Ok(Note {
+        onset,
+        duration: note.duration,
+        text: OwnText::new(alloc, note.text)?,
+    })
+}
+
 /// Puts an annotation, so much later, behind `notes`, where it counts.
 fn push_counted(
     alloc: Global,
@@ -48,11 +61,7 @@ fn push_counted(
 {
     let onset = by.ps + note.onset;
     if counts(claim, onset, note.text) {
-        notes.push(Note {
-            onset,
-            duration: note.duration,
-            text: OwnText::new(alloc, note.text)?,
-        })?;
+        notes.push(note_at(alloc, note, onset)?)?;
     }
     Ok(())
 }

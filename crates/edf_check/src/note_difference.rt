@@ -109,19 +109,19 @@ fn with_text(alloc: Global, unequal: Unequal<'_>) -> Result<NoteDifference, Allo
 /// none before any, then the bytes of the text, that doesn't stand equally often in both. None exactly
 /// where each stands equally often in both.
 ///
-/// The error is want of memory.
+/// Both lists are put in order. The error is want of memory.
 pub(crate) fn note_difference(
     alloc: Global,
-    mut kept: Vec<Note>,
-    mut exported: Vec<Note>,
+    kept: &mut Vec<Note>,
+    exported: &mut Vec<Note>,
 ) -> Result<Option<NoteDifference>, AllocError>
     ensures { IfOk result (λ found. MatchOption found
-        (SameNotes (map note_value kept.items) (map note_value exported.items))
-        (λ d. IsFirstNote (map note_value kept.items) (map note_value exported.items) (note_mismatch d).mismatch (note_mismatch d).note)) }
+        (SameNotes (map note_value kept.old.items) (map note_value exported.old.items))
+        (λ d. IsFirstNote (map note_value kept.old.items) (map note_value exported.old.items) (note_mismatch d).mismatch (note_mismatch d).note)) }
 {
-    sort_notes(&mut kept);
-    sort_notes(&mut exported);
-    match first_unequal(&kept, &exported) {
+    sort_notes(kept);
+    sort_notes(exported);
+    match first_unequal(kept, exported) {
         Some(unequal) => Ok(Some(with_text(alloc, unequal)?)),
         None => Ok(None),
     }

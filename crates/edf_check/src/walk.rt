@@ -1,9 +1,10 @@
 //! Two files read to their ends and compared.
 
-ghost use Rattle.std.specs.Prelude.{◌≡◌, ◌*◌, ℕ, List, [], length, Some, IfOk, IfErr, IsTrue};
+ghost use Rattle.std.specs.Prelude.{◌≡◌, ◌*◌, ℕ, List, [], length, Some, IfOk, IfErr, IfSome, IfNone, IsTrue};
 ghost use Rattle.edf_claim.specs.Claims.{Terms};
 ghost use Rattle.edf_fields.specs.Sources.{Rises};
 ghost use Rattle.edf_header.specs.Heads.{samples_together};
+ghost use Rattle.edf_stream.specs.Conforming.{Conforms};
 ghost use Rattle.edf_stream.specs.Faults.{file_fault};
 ghost use Rattle.edf_stream.specs.Readers.{Reader, HasBegun, StandsIn};
 ghost use Rattle.edf_stream.specs.Summaries.{channels_among};
@@ -112,6 +113,37 @@ fn header_behind<S: Source>(
     }
 }
 
+/// Reads two files to their ends behind their headers, and answers their fault: that of the original, or else
+/// that of the export.
+///
+/// The error is a failure of one of the sources.
+fn read_both_out<O: Source, E: Source>(
+    original: &mut FileReader,
+    o: &mut O,
+    export: &mut FileReader,
+    e: &mut E,
+) -> Result<Option<FaultOf>, CheckStop>
+    requires original { HasBegun original.old }
+    requires export { HasBegun export.old }
+    ensures through { IfOk result (λ found. IfNone found (IsTrue (O.is_honest o.old) → IsTrue (E.is_honest e.old) → (a b : List ℕ) → StandsIn original.old (O.left o.old) a → StandsIn export.old (E.left e.old) b
+        → ((O.left o.new ≡ []) × Conforms a original.old.head) × ((E.left e.new ≡ []) × Conforms b export.old.head))) }
+    ensures fault { IfOk result (λ found. IfSome found (λ fault. IsTrue (O.is_honest o.old) → IsTrue (E.is_honest e.old) → (a b : List ℕ) → StandsIn original.old (O.left o.old) a → StandsIn export.old (E.left e.old) b
+        → IsFaultOf a original.old.head b export.old.head fault)) }
+    ensures out { IfOk result (λ found. IfSome found (λ fault. IsTrue (O.is_honest o.old) → IsTrue (E.is_honest e.old) → (a b : List ℕ) → StandsIn original.old (O.left o.old) a → StandsIn export.old (E.left e.old) b
+        → IsReadBy fault (O.left o.new))) }
+    ensures stop { IfErr result (CheckStops (Rises (O.failures o.old) (O.failures o.new)) (Rises (E.failures e.old) (E.failures e.new))) }
+{
+    match read_out(original, o, Side::Original) {
+        Ok(None) => match read_out(export, e, Side::Export) {
+            Ok(None) => Ok(None),
+            Ok(Some(fault)) => Ok(Some(FaultOf::Export(fault))),
+            Err(stop) => Err(stop),
+        },
+        Ok(Some(fault)) => Ok(Some(FaultOf::Original(fault))),
+        Err(stop) => Err(stop),
+    }
+}
+
 /// What two files come to whose headers differ: both are read to their ends, and a fault goes before the
 /// difference.
 ///
@@ -130,13 +162,9 @@ fn heads_differ<O: Source, E: Source>(
     ensures read { IfOk result (λ walked. IsTrue (O.is_honest o.old) → IsTrue (E.is_honest e.old) → (a b : List ℕ) → StandsIn original.old (O.left o.old) a → StandsIn export.old (E.left e.old) b → IsReadOut walked (O.left o.new) (E.left e.new)) }
     ensures stop { IfErr result (CheckStops (Rises (O.failures o.old) (O.failures o.new)) (Rises (E.failures e.old) (E.failures e.new))) }
 {
-    match read_out(original, o, Side::Original) {
-        Ok(None) => match read_out(export, e, Side::Export) {
-            Ok(None) => Ok(Walked::HeadsDiffer(verdict)),
-            Ok(Some(fault)) => Ok(Walked::ExportFault(fault)),
-            Err(stop) => Err(stop),
-        },
-        Ok(Some(fault)) => Ok(Walked::OriginalFault(fault)),
+    match read_both_out(original, o, export, e) {
+        Ok(None) => Ok(Walked::HeadsDiffer(verdict)),
+        Ok(Some(fault)) => Ok(fault.walked()),
         Err(stop) => Err(stop),
     }
 }
@@ -173,21 +201,19 @@ impl<'a> BothRead<'a> {
 /// The error is want of memory, or a failure of one of the sources.
 fn walk_contents<O: Source, E: Source>(
     alloc: Global,
-    first: Reading,
+    original: &mut Reading,
     o: &mut O,
-    second: Reading,
+    export: &mut Reading,
     e: &mut E,
     claim: &Claim,
 ) -> Result<Walked, CheckStop>
-    requires original { HasBegun first.reader × (first.notes.items ≡ []) }
-    requires export { HasBegun second.reader × (second.notes.items ≡ []) }
-    ensures walked { IfOk result (λ walked. IsTrue (O.is_honest o.old) → IsTrue (E.is_honest e.old) → (a b : List ℕ) → StandsIn first.reader (O.left o.old) a → StandsIn second.reader (E.left e.old) b
-        → HeadsAgree (first.reader).head (second.reader).head claim.now → IsWalked a b claim.now walked) }
-    ensures read { IfOk result (λ walked. IsTrue (O.is_honest o.old) → IsTrue (E.is_honest e.old) → (a b : List ℕ) → StandsIn first.reader (O.left o.old) a → StandsIn second.reader (E.left e.old) b → IsReadOut walked (O.left o.new) (E.left e.new)) }
+    requires original { HasBegun original.old.reader × ((original.old.notes).items ≡ []) }
+    requires export { HasBegun export.old.reader × ((export.old.notes).items ≡ []) }
+    ensures walked { IfOk result (λ walked. IsTrue (O.is_honest o.old) → IsTrue (E.is_honest e.old) → (a b : List ℕ) → StandsIn original.old.reader (O.left o.old) a → StandsIn export.old.reader (E.left e.old) b
+        → HeadsAgree (original.old.reader).head (export.old.reader).head claim.now → IsWalked a b claim.now walked) }
+    ensures read { IfOk result (λ walked. IsTrue (O.is_honest o.old) → IsTrue (E.is_honest e.old) → (a b : List ℕ) → StandsIn original.old.reader (O.left o.old) a → StandsIn export.old.reader (E.left e.old) b → IsReadOut walked (O.left o.new) (E.left e.new)) }
     ensures stop { IfErr result (CheckStops (Rises (O.failures o.old) (O.failures o.new)) (Rises (E.failures e.old) (E.failures e.new))) }
 {
-    let mut original = first;
-    let mut export = second;
     let clock = Clock::new(original.reader.header(), claim);
     let labels = in_order(alloc, claim.channels())?;
     let pairs = pairs_of(
@@ -198,14 +224,12 @@ fn walk_contents<O: Source, E: Source>(
     )?;
     let room = common_room(original.reader.header(), export.reader.header(), &pairs);
     let frame = Frame { clock, claim, room };
-    match walk_records(alloc, &mut original, o, &mut export, e, &pairs, frame) {
+    match walk_records(alloc, original, o, export, e, &pairs, frame) {
         Ok(Ok(found)) => {
-            let summary = BothRead {
-                original: &original,
-                export: &export,
-            }
-            .exported();
-            let walked = conclude(alloc, found, &labels, original.notes, export.notes, summary)?;
+            let summary = BothRead { original, export }.exported();
+            let kept = &mut original.notes;
+            let exported = &mut export.notes;
+            let walked = conclude(alloc, found, &labels, kept, exported, summary)?;
             Ok(walked)
         }
         Ok(Err(fault)) => Ok(fault.walked()),
@@ -256,7 +280,7 @@ pub(crate) fn walk<O: Source, E: Source>(
                 Err(stop) => Err(stop),
             }
         }
-        None => match walk_contents(alloc, first, original, second, export, claim) {
+        None => match walk_contents(alloc, &mut first, original, &mut second, export, claim) {
             Ok(walked) => Ok(walked),
             Err(stop) => Err(stop),
         },

@@ -1,4 +1,3 @@
 pub mod Vectors
 pub mod Refusals
 pub mod Statuses
-pub mod Jobs

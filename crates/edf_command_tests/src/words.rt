@@ -1,7 +1,7 @@
 //! The command that some words are.
 
-use edf_command::command::Job;
-use edf_command::words::job_of;
+use edf_job::job::Job;
+use edf_job::words::job_of;
 
 /// Words, and the command that they are.
 const WORDS: &[(&[&str], Option<Job<'static>>)] = &[

@@ -2,18 +2,18 @@
 //! nothing else.
 //!
 //! The check is `edf_check::check::check`; what its Yes means is the first clause of its contract. The
-//! program reads its words (`job`), does the job (`perform`), and ends with the status of its outcome
+//! program reads its words (`edf_command_line`), does the job (`perform`), and ends with the status of its outcome
 //! (`status`). Why a job is refused is a `Refusal`, whose one line goes to standard error.
 #![tactic(auto)]
 
 mod files;
-mod job;
 mod perform;
 
 use clap::error::ErrorKind;
-use edf_command::command::Job;
 use edf_command::refusal::Refusal;
 use edf_command::status;
+use edf_command_line::command;
+use edf_job::job::Job;
 use std::process::ExitCode;
 use std::rt::{Env, Files};
 use std::{env, io};
@@ -53,7 +53,7 @@ fn answer_job(rt: &(impl Files + Print + Eprint + AllocGlobal), asked: Job<'_>) 
 
 /// Does what the words say, of which the first is the program's name, and gives the status.
 fn answer(rt: &(impl Files + Print + Eprint + AllocGlobal), words: &[&str]) -> u8 {
-    match job::job(rt.alloc(), words) {
+    match command::job(rt.alloc(), words) {
         Ok(Some(asked)) => answer_job(rt, asked),
         Ok(None) => refuse(rt, "edfclaim: not a command"),
         Err(fault) => answer_fault(rt, &fault),

@@ -2,10 +2,10 @@
 
 use crate::files::{claim_text, recording};
 use edf_check::run;
-use edf_command::command::Job;
 use edf_command::refusal::{Refusal, Role};
 use edf_command::vectors::vectors_to;
 use edf_fields::sink::{Sink, WriteSink};
+use edf_job::job::Job;
 use edf_report::conform::conform_to;
 use edf_report::notes::notes_to;
 use edf_report::show::show_to;
@@ -30,32 +30,52 @@ fn check<R: Files + AllocGlobal, K: Sink>(
     Ok(run::run(rt.alloc(), &mut first, &mut second, &text, sink)?)
 }
 
+/// Says whether a file conforms.
+fn conform<R: Files + AllocGlobal, K: Sink>(
+    rt: &R,
+    path: &str,
+    sink: &mut K,
+) -> Result<Outcome, Refusal> {
+    let mut source = recording(rt, path, Role::File)?;
+    Ok(conform_to(rt.alloc(), &mut source, sink)?)
+}
+
+/// Shows what the header of a file says.
+fn show<R: Files + AllocGlobal, K: Sink>(
+    rt: &R,
+    path: &str,
+    sink: &mut K,
+) -> Result<Outcome, Refusal> {
+    let mut source = recording(rt, path, Role::File)?;
+    Ok(show_to(rt.alloc(), &mut source, sink)?)
+}
+
+/// Lists the annotations of a file.
+fn notes<R: Files + AllocGlobal, K: Sink>(
+    rt: &R,
+    path: &str,
+    sink: &mut K,
+) -> Result<Outcome, Refusal> {
+    let mut source = recording(rt, path, Role::File)?;
+    Ok(notes_to(rt.alloc(), &mut source, sink)?)
+}
+
 /// Does a job, and writes its text to the sink.
 fn report<R: Files + AllocGlobal, K: Sink>(
     rt: &R,
     job: Job<'_>,
     sink: &mut K,
 ) -> Result<Outcome, Refusal> {
-    let alloc = rt.alloc();
     match job {
         Job::Check {
             original,
             export,
             claim,
         } => check(rt, original, export, claim, sink),
-        Job::Conform(path) => {
-            let mut source = recording(rt, path, Role::File)?;
-            Ok(conform_to(alloc, &mut source, sink)?)
-        }
-        Job::Show(path) => {
-            let mut source = recording(rt, path, Role::File)?;
-            Ok(show_to(alloc, &mut source, sink)?)
-        }
-        Job::Notes(path) => {
-            let mut source = recording(rt, path, Role::File)?;
-            Ok(notes_to(alloc, &mut source, sink)?)
-        }
-        Job::Vectors => Ok(vectors_to(alloc, sink)?),
+        Job::Conform(path) => conform(rt, path, sink),
+        Job::Show(path) => show(rt, path, sink),
+        Job::Notes(path) => notes(rt, path, sink),
+        Job::Vectors => Ok(vectors_to(rt.alloc(), sink)?),
     }
 }
 

@@ -22,11 +22,11 @@ conclude-requires g c =
     found_within c.deref-3.result.now labels f c.in-Ok-Ok.found
     (ap (map places_of) c.deref-3.ensures.value ∙ c.in_ok-pairs.ensures.places ∙ ap (map f) (c.deref.ensures.value ∙ sym c.deref-in-Ok-Ok.ensures.value)) modest
 
-pub returns-in_ok-walked-in-Ok-Ok-clause-walked : goal.returns-in_ok-walked-in-Ok-Ok-clause-walked
-returns-in_ok-walked-in-Ok-Ok-clause-walked g c = λ ho he a b so se agree.
+pub returns-in-Ok-Ok-clause-walked : goal.returns-in-Ok-Ok-clause-walked
+returns-in-Ok-Ok-clause-walked g c = λ ho he a b so se agree.
     let claim = c.args.claim.now in
-    let r = c.args.first.reader in
-    let s = c.args.second.reader in
+    let r = c.args.original.now.reader in
+    let s = c.args.export.now.reader in
     let labels = c.deref-in-Ok-Ok.result.now in
     let clock = c.new-clock.result in
     let heads = rw c.in-Ok-Ok.field-0-is at c.in-Ok-Ok.ensures.heads in
@@ -44,8 +44,8 @@ returns-in_ok-walked-in-Ok-Ok-clause-walked g c = λ ho he a b so se agree.
     (c.exported-summary.ensures.samples ∙ ap (λ (h : Head). h.records * samples_together (channels_among h.signals)) heads.1)
     c.exported-summary.ensures.annotations)
 
-pub returns-in_ok-walked-in-Ok-Ok-clause-read : goal.returns-in_ok-walked-in-Ok-Ok-clause-read
-returns-in_ok-walked-in-Ok-Ok-clause-read g c = λ ho he a b so se.
+pub returns-in-Ok-Ok-clause-read : goal.returns-in-Ok-Ok-clause-read
+returns-in-Ok-Ok-clause-read g c = λ ho he a b so se.
     let found = rw c.in-Ok-Ok.field-0-is at c.in-Ok-Ok.ensures.found in
     let both = found ho he a b so se in
     read-out c.in_ok-walked-in-Ok-Ok.walked (g.O.Source.left c.walk_records.new.o) (g.E.Source.left c.walk_records.new.e) c.in_ok-walked-in-Ok-Ok.ensures.compared (both.original).gone (both.export).gone
@@ -53,7 +53,7 @@ returns-in_ok-walked-in-Ok-Ok-clause-read g c = λ ho he a b so se.
 pub returns-in-Ok-Err-clause-walked : goal.returns-in-Ok-Err-clause-walked
 returns-in-Ok-Err-clause-walked g c = λ ho he a b so se agree.
     let fault = rw c.in-Ok-Err.field-0-is at c.in-Ok-Err.ensures.fault in
-    c.walked.ensures.walked a b c.args.claim.now c.args.first.reader c.args.second.reader (g.O.Source.left c.args.o.now) (g.E.Source.left c.args.e.now) so se (fault ho he a b so se)
+    c.walked.ensures.walked a b c.args.claim.now c.args.original.now.reader c.args.export.now.reader (g.O.Source.left c.args.o.now) (g.E.Source.left c.args.e.now) so se (fault ho he a b so se)
 
 pub returns-in-Ok-Err-clause-read : goal.returns-in-Ok-Err-clause-read
 returns-in-Ok-Err-clause-read g c = λ ho he a b so se.
@@ -72,5 +72,5 @@ pub walk_records-requires-clause-laid : goal.walk_records-requires-clause-laid
 walk_records-requires-clause-laid g c =
     let of : Head → Head → List Pair → Type 0 = λ h k pairs. IfSome c.common_room-room.result (λ n. All (AreLaidAlike h k n) pairs) in
     let same : c.deref-2.result.now ≡ c.deref-3.result.now = c.deref-2.ensures.value ∙ sym c.deref-3.ensures.value in
-    subst (λ h. of h c.args.second.reader.head c.deref-3.result.now) c.header-4.ensures
+    subst (λ h. of h c.args.export.now.reader.head c.deref-3.result.now) c.header-4.ensures
     (subst (λ k. of c.header-4.result.now k c.deref-3.result.now) c.header-5.ensures (subst (of c.header-4.result.now c.header-5.result.now) same c.common_room-room.ensures))

@@ -1,9 +1,9 @@
 //! Which command some words are.
 
 ghost use Rattle.std.specs.Prelude.{IfSome, IfNone};
-ghost use Rattle.edf_command.specs.Jobs.{SaysJob, SaysNoJob, behind_first};
+ghost use Rattle.edf_job.specs.Jobs.{SaysJob, SaysNoJob, behind_first};
 
-use crate::command::Job;
+use crate::job::Job;
 
 /// The command that the words behind the first one are, which is the program's name; or none where they
 /// are no command with its arguments.

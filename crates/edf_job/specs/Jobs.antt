@@ -1,8 +1,8 @@
 -- What a command line asks for.
 use Rattle.std.specs.Prelude.{◌≡◌, ◌≢◌, ℕ, ◌<◌, List, [], ◌∷◌, length, map, drop, slice_index, slice_index_or, codes}
 use Rattle.std.specs.Borrow.{Bor}
-use Rattle.edf_command.specs.declared.command.Job.{Job}
-use Rattle.edf_command.specs.declared.command.Job.TheVariants.{Check, Conform, Show, Notes, Vectors}
+use Rattle.edf_job.specs.declared.job.Job.{Job}
+use Rattle.edf_job.specs.declared.job.Job.TheVariants.{Check, Conform, Show, Notes, Vectors}
 
 -- the words behind the first, which is the program's name
 abbrev pub behind_first : List (Bor (List ℕ)) → List (List ℕ)

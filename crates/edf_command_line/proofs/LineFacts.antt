@@ -3,10 +3,10 @@ use Rattle.std.proofs.Common.{◌≡◌, ◌≢◌, ℕ, ◌<◌, List, [], ◌�
 use Rattle.std.proofs.lemmas.Bool.Decides.{nat_tests}
 use Rattle.clap.specs.Takes.{takes}
 use Rattle.clap.proofs.OnLiterals.{clap_on_literals}
-use Rattle.edfclaim.specs.Commands.{program_app}
-use Rattle.edf_command.specs.Jobs.{ArePlain, SaysJob}
-use Rattle.edf_command.specs.declared.command.Job.{Job}
-use Rattle.edf_command.specs.declared.command.Job.TheVariants.{Check, Conform, Show, Notes, Vectors}
+use Rattle.edf_command_line.specs.Commands.{program_app}
+use Rattle.edf_job.specs.Jobs.{ArePlain, SaysJob}
+use Rattle.edf_job.specs.declared.job.Job.{Job}
+use Rattle.edf_job.specs.declared.job.Job.TheVariants.{Check, Conform, Show, Notes, Vectors}
 
 takes_vectors : (w : List ℕ) → takes program_app (w ∷ codes "vectors" ∷ []) ≡ true
 unfolding clap_on_literals

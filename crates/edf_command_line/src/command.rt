@@ -6,14 +6,14 @@ ghost use Rattle.std.specs.Prelude.{◌≡◌, ◌≢◌, codes, false, IfOk, If
 ghost use Rattle.clap.specs.Simple.{app_of, new_app, with_rule, with_subcommand};
 ghost use Rattle.clap.specs.Values.{kind_of};
 ghost use Rattle.clap.specs.declared.builder.command.Command.TheViews.{out-Command as fields_of};
-ghost use Rattle.edfclaim.specs.Commands.{needed, bare_app, check_app, file_app, program_app};
-ghost use Rattle.edf_command.specs.Jobs.{ArePlain, SaysJob, SaysNoJob, behind_first};
+ghost use Rattle.edf_command_line.specs.Commands.{needed, bare_app, check_app, file_app, program_app};
+ghost use Rattle.edf_job.specs.Jobs.{ArePlain, SaysJob, SaysNoJob, behind_first};
 
+use crate::VERSION;
 use clap::error::ErrorKind;
 use clap::{Arg, Command, Error};
-use edf_command::VERSION;
-use edf_command::command::Job;
-use edf_command::words::job_of;
+use edf_job::job::Job;
+use edf_job::words::job_of;
 use std::alloc::{AllocError, Global};
 
 /// The command with one more argument, which has to be there.

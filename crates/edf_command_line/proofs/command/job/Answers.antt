@@ -1,8 +1,8 @@
 use Rattle.std.proofs.Common.{map, ap, ◌∙◌}
 use Rattle.clap.specs.Simple.{App}
 use Rattle.clap.specs.Takes.{takes}
-use Rattle.edfclaim.proofs.LineFacts.{taken}
-use Rattle.edfclaim.proofs.job.job.Goals as goal
+use Rattle.edf_command_line.proofs.LineFacts.{taken}
+use Rattle.edf_command_line.proofs.command.job.Goals as goal
 
 pub returns-clause-fault : goal.returns-clause-fault
 returns-clause-fault c = λ plain other j says.
