@@ -1,5 +1,5 @@
 # Shows, proves, builds and tests. All that is needed is the Rattle toolchain (`rt`).
-.PHONY: run build install check test oracle speed bench
+.PHONY: run build install check test headline oracle speed bench
 
 PREFIX = /usr/local
 PROGRAM = crates/edfclaim/out/edfclaim
@@ -30,6 +30,11 @@ check:
 # passed earlier on this machine isn't proved again as long as nothing changes that it stands on.
 test:
 	@tools/gate.sh
+
+# What a Yes means, for an auditor: the contract of the check and each definition that it stands on, in order of
+# need, as out/headline.txt and as a page, out/headline.html.
+headline:
+	@tools/headline.py
 
 # The readers and the check against a second reading of the rules, on random cases; no part of the gate.
 oracle:
