@@ -33,7 +33,7 @@ answers() {
     fi
 }
 
-for crate in edf_fields edf_header edf_tal edf_stream edf_claim edf_check; do
+for crate in edf_fields edf_header edf_tal edf_stream edf_claim edf_verdict edf_heads edf_check; do
     take "$work" "$crate"
 done
 
@@ -44,7 +44,7 @@ add() {
     echo "$1: $2" >>"$work/crates.txt"
 }
 
-add answers "edf_fields edf_header edf_tal edf_stream edf_claim edf_check jiff"
+add answers "edf_fields edf_header edf_tal edf_stream edf_claim edf_heads edf_verdict jiff"
 add verdicts "edf_fields edf_claim edf_check"
 failed=0
 

@@ -3,7 +3,6 @@
 
 ghost use Rattle.std.specs.Prelude.{[], false};
 
-use edf_verdict::outcome::Outcome;
 use edf_check::run::run;
 use edf_fields::sink::SliceSink;
 use edf_fields::source::{ReadFault, SliceSource, Source};
@@ -11,6 +10,7 @@ use edf_header::fault::Place::{AtField, AtSignal};
 use edf_header::layout::{FixedField as Fixed, SignalField as Field};
 use edf_test_files::file::Edit;
 use edf_test_files::record::{small_file, temp_header};
+use edf_verdict::outcome::Outcome;
 use std::alloc::{AllocError, Global};
 use std::process::Abort;
 

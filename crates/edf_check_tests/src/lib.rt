@@ -8,6 +8,8 @@ mod first_difference;
 #[cfg(test)]
 mod headers;
 #[cfg(test)]
+mod labels;
+#[cfg(test)]
 mod large;
 #[cfg(test)]
 mod night;

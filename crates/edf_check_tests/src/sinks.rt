@@ -1,12 +1,12 @@
 //! A run into a sink that is soon full, and runs under a text that says no claim.
 
 use crate::night::{ALL, YES};
-use edf_verdict::outcome::Outcome;
 use edf_check::run::{RunStop, run};
 use edf_claim::stop::ClaimStop;
 use edf_fields::sink::SliceSink;
 use edf_fields::source::SliceSource;
 use edf_test_files::record::{LANES, recorded};
+use edf_verdict::outcome::Outcome;
 use std::alloc::{AllocError, Global};
 use std::test::Fail;
 

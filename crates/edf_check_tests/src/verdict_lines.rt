@@ -3,11 +3,6 @@
 
 use crate::headers::claim;
 use edf_check::check::check;
-use edf_verdict::label::Label;
-use edf_verdict::note_text::NoteText;
-use edf_verdict::outcome::Outcome;
-use edf_verdict::quote::push_quoted;
-use edf_verdict::verdict::{Difference, FreeText, SampleMismatch, SubfieldMismatch, Verdict};
 use edf_claim::which::Which;
 use edf_fields::cause::TalCause;
 use edf_fields::source::SliceSource;
@@ -16,6 +11,11 @@ use edf_header::fault::{Cause, Fault, Place};
 use edf_header::layout::{FixedField, SignalField};
 use edf_test_files::file::{Done, Edit};
 use edf_test_files::record::recorded;
+use edf_verdict::label::Label;
+use edf_verdict::note_text::NoteText;
+use edf_verdict::outcome::Outcome;
+use edf_verdict::quote::push_quoted;
+use edf_verdict::verdict::{Difference, FreeText, SampleMismatch, SubfieldMismatch, Verdict};
 use std::alloc::Global;
 use std::process::Abort;
 use std::test::Fail;
