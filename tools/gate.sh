@@ -1,9 +1,9 @@
 #!/usr/bin/env bash
 # The whole gate. First `rt ci`: all proofs, tests, must-fail edits and runs; what it passed earlier on this
 # machine isn't proved again as long as nothing changes that it stands on. Then the scripts: the table of wrong
-# bodies, what the crates cite of one another's proofs, and the program that was built, on command lines and
-# files that it refuses, on the example night, on the tables of cases and of claims, and with each growth of
-# memory refused in turn.
+# bodies, what the crates cite of one another's proofs, whether the document of the headline is whole, and the
+# program that was built, on command lines and files that it refuses, on the example night, on the tables of
+# cases and of claims, and with each growth of memory refused in turn.
 #
 # usage: tools/gate.sh
 #
@@ -78,6 +78,7 @@ counted() {
 
 counted tools/wrong_bodies.py --check
 counted tools/imports.sh
+counted tools/headline.py --check
 counted tools/version.sh "$program"
 counted tools/statuses.sh "$program"
 counted tools/night.sh "$program"

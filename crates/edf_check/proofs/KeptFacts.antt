@@ -13,7 +13,7 @@ use Rattle.edf_stream.proofs.ForCallers.{one_at_an_instant}
 use Rattle.edf_check.specs.Instants.{IsBefore, later}
 use Rattle.edf_check.specs.Kept.{start_of, shift_of, ValueAt, KeptAt, ExportedAt}
 use Rattle.edf_check.proofs.CourseFacts.{IsCourse}
-use Rattle.edf_check.proofs.FractionFacts.{same_through, same_back, same_below, same_before, from_below}
+use Rattle.edf_check.proofs.samples.FractionFacts.{same_through, same_back, same_below, same_before, from_below}
 
 pub positive : (file : List ℕ) (x : SampleValue) → IsSample file (head_of file) x → 0 < (x.instant).den
 positive file x s = omega (arith, s.in_lane)

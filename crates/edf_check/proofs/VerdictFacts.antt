@@ -22,7 +22,7 @@ use Rattle.edf_check.specs.Verdicts.{IsVerdict}
 use Rattle.edf_check.proofs.CourseFacts.{first-apart, one-first}
 use Rattle.edf_heads.proofs.ForCallers.{agree-apart}
 use Rattle.edf_check.proofs.KeptFacts.{kept-course, exported-course}
-use Rattle.edf_check.proofs.NoteFacts.{note-apart, one-note}
+use Rattle.edf_check.proofs.notes.NoteFacts.{note-apart, one-note}
 use Rattle.edf_heads.proofs.ForCallers.{either-one, one_head_verdict}
 
 -- a file that conforms has no fault

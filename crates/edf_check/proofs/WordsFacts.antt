@@ -9,7 +9,7 @@ use Rattle.edf_check.specs.Instants.{later}
 use Rattle.edf_check.specs.Exports.{SameSamples}
 use Rattle.edf_check.specs.Kept.{start_of, shift_of}
 use Rattle.edf_check.specs.Laws.{SamplesAsKept, SamplesInWords}
-use Rattle.edf_check.proofs.FractionFacts.{same_through, same_back}
+use Rattle.edf_check.proofs.samples.FractionFacts.{same_through, same_back}
 use Rattle.edf_check.proofs.KeptFacts.{positive, later-same, keeps-same}
 
 -- later by one number and then by another

@@ -6,8 +6,8 @@ use Rattle.edf_header.specs.Heads.{head_of}
 use Rattle.edf_heads.specs.Blank.{IsBlank}
 use Rattle.edf_heads.specs.Calibrations.{SameCalibrations}
 use Rattle.edf_heads.specs.Channels.{SameChannels}
-use Rattle.edf_check.specs.declared.side.CheckStop.{CheckStop}
-use Rattle.edf_check.specs.declared.side.CheckStop.TheVariants.{OutOfMemory, ReadFailed}
+use Rattle.edf_check.specs.declared.stop.CheckStop.{CheckStop}
+use Rattle.edf_check.specs.declared.stop.CheckStop.TheVariants.{OutOfMemory, ReadFailed}
 use Rattle.edf_check.specs.declared.side.Side.{Side}
 use Rattle.edf_check.specs.declared.side.Side.TheVariants as sides
 use Rattle.edf_verdict.specs.declared.verdict.Difference.TheVariants.{OriginalFault, ExportFault, UnknownChannel, MissingChannel, ExtraChannel, ChannelText, Calibration, Subfield, NotClean, Sample, Annotation}

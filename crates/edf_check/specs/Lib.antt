@@ -7,13 +7,6 @@ pub mod Verdicts
 pub mod Laws
 pub mod Checks
 pub mod Runs
-pub mod Differences
-pub mod Earliest
-pub mod Columns
-pub mod NoteOrder
-pub mod Walks
-pub mod Stretches
-pub mod Windows
-pub mod Alike
-pub mod Layouts
-pub mod Tracks
+pub mod samples
+pub mod notes
+pub mod walk

@@ -8,8 +8,8 @@ use Rattle.edf_check.specs.Checks.{YesMeans}
 use Rattle.edf_verdict.specs.declared.outcome.Outcome.{Outcome}
 use Rattle.edf_check.specs.declared.run.RunStop.{RunStop}
 use Rattle.edf_check.specs.declared.run.RunStop.TheVariants.{OutOfMemory, ReadFailed, Claim, WriteFailed}
-use Rattle.edf_check.specs.declared.side.CheckStop.{CheckStop}
-use Rattle.edf_check.specs.declared.side.CheckStop.TheVariants as checks
+use Rattle.edf_check.specs.declared.stop.CheckStop.{CheckStop}
+use Rattle.edf_check.specs.declared.stop.CheckStop.TheVariants as checks
 use Rattle.edf_check.specs.declared.side.Side.TheVariants as sides
 use Rattle.edf_verdict.specs.declared.verdict.Verdict.{Verdict}
 use Rattle.edf_verdict.specs.Lines.{verdict_line}

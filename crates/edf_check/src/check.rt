@@ -5,7 +5,7 @@ ghost use Rattle.edf_fields.specs.Sources.{Rises};
 ghost use Rattle.edf_check.specs.Checks.{AreRead, CheckStops, YesMeans};
 ghost use Rattle.edf_check.specs.Verdicts.{IsVerdict};
 
-use crate::side::CheckStop;
+use crate::stop::CheckStop;
 use crate::walk::walk;
 use edf_claim::claim::Claim;
 use edf_fields::source::Source;

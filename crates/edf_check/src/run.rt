@@ -8,7 +8,8 @@ ghost use Rattle.edf_check.specs.declared.run.RunStop.TheVariants as stops;
 ghost use Rattle.edf_check.specs.Runs.{IsReport, IsPartOfReport, IsFrontOfALine, RunStops, stop_of_claim, stop_of_check};
 
 use crate::check::check;
-use crate::side::{CheckStop, Side};
+use crate::side::Side;
+use crate::stop::CheckStop;
 use edf_claim::claim::Claim;
 use edf_claim::stop::ClaimStop;
 use edf_fields::sink::{Sink, WriteFault, put_all};

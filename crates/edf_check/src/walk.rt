@@ -10,19 +10,32 @@ ghost use Rattle.edf_stream.specs.Readers.{Reader, HasBegun, StandsIn};
 ghost use Rattle.edf_stream.specs.Summaries.{channels_among};
 ghost use Rattle.edf_heads.specs.HeadVerdicts.{HeadsAgree, IsHeadVerdict};
 ghost use Rattle.edf_check.specs.Checks.{CheckStops, SideStops};
-ghost use Rattle.edf_check.specs.Walks.{IsReadOut, IsWalked};
-ghost use Rattle.edf_check.specs.Windows.{IsFaultOf, IsReadBy};
+ghost use Rattle.edf_check.specs.walk.Walks.{IsReadOut, IsWalked};
+ghost use Rattle.edf_check.specs.walk.Ends.{IsFaultOf, IsReadBy};
 ghost use Rattle.edf_check.specs.declared.side.Side.TheVariants as sides;
 
-use crate::clock::Clock;
-use crate::conclude::conclude;
-use crate::layout::common_room;
-use crate::lockstep::{FaultOf, Frame, walk_records};
-use crate::note_difference::NoteDifference;
-use crate::reading::{Reading, read_out};
-use crate::sample_difference::SampleDifference;
-use crate::side::{CheckStop, Side};
-use crate::track::pairs_of;
+pub mod channel_place;
+pub mod clock;
+pub mod conclude;
+pub mod gather;
+pub mod layout;
+pub mod lockstep;
+pub mod offset;
+pub mod reading;
+pub mod time;
+pub mod track;
+pub mod walked;
+pub mod window;
+
+use crate::side::Side;
+use crate::stop::CheckStop;
+use crate::walk::clock::Clock;
+use crate::walk::conclude::conclude;
+use crate::walk::layout::common_room;
+use crate::walk::lockstep::{Frame, walk_records};
+use crate::walk::reading::{Reading, read_out};
+use crate::walk::track::pairs_of;
+use crate::walk::walked::{FaultOf, Walked};
 use edf_claim::claim::Claim;
 use edf_fields::source::Source;
 use edf_header::fault::Fault;
@@ -35,36 +48,6 @@ use edf_stream::notes::Note;
 use edf_stream::reader::FileReader;
 use edf_verdict::verdict::Verdict;
 use std::alloc::Global;
-
-/// What reading both files to their ends found.
-#[derive(Debug, Drop)]
-pub(crate) enum Walked {
-    /// The original has a fault: its first one.
-    OriginalFault(Fault),
-    /// The export has a fault: its first one.
-    ExportFault(Fault),
-    /// The headers differ: the verdict.
-    HeadsDiffer(Verdict),
-    /// The samples differ: their first difference.
-    SamplesDiffer(SampleDifference),
-    /// The annotations differ: their first difference.
-    NotesDiffer(NoteDifference),
-    /// Nothing differs: what the export holds.
-    Same(Summary),
-}
-
-impl FaultOf {
-    /// What a fault of one of the files comes to.
-    fn walked(self) -> Walked
-        ensures walked { (o e : List ℕ) (claim : Terms) (r s : Reader) (a b : List ℕ) → StandsIn r a o → StandsIn s b e → IsFaultOf o r.head e s.head self → IsWalked o e claim result }
-        ensures read { (a b : List ℕ) → IsReadBy self a → IsReadOut result a b }
-    {
-        match self {
-            FaultOf::Original(fault) => Walked::OriginalFault(fault),
-            FaultOf::Export(fault) => Walked::ExportFault(fault),
-        }
-    }
-}
 
 /// Begins to read the file of one side, or finds the fault of its header.
 ///

@@ -5,7 +5,7 @@ use crate::night::{ALL, SIX_SECONDS};
 use crate::timed::Timed;
 use edf_check::check::check;
 use edf_check::run::{RunStop, run};
-use edf_check::side::CheckStop;
+use edf_check::stop::CheckStop;
 use edf_claim::claim::Claim;
 use edf_claim::stop::ClaimStop;
 use edf_claim::which::Which;

@@ -3,7 +3,8 @@
 use crate::night::{ALL, SIX_SECONDS, YES};
 use edf_check::check::check;
 use edf_check::run::{RunStop, run};
-use edf_check::side::{CheckStop, Side};
+use edf_check::side::Side;
+use edf_check::stop::CheckStop;
 use edf_claim::claim::Claim;
 use edf_fields::sink::SliceSink;
 use edf_test_files::record::{LANES, recorded, small_file};

@@ -1,10 +1,9 @@
 -- What stands in a list, and what is found first there.
-use Rattle.std.proofs.Common.{◌≡◌, ℕ, zero, suc, Bool, true, false, cond, List, [], ◌∷◌, ◌++◌, find, length, take, drop, get_or, set, slice_get, Option, Some, None, MatchOption, inl, inr, ⊎_elim, refl, sym, subst, ap, ◌∙◌, ◌<◌, arith}
+use Rattle.std.proofs.Common.{◌≡◌, ℕ, zero, suc, Bool, true, false, cond, List, [], ◌∷◌, ◌++◌, find, length, get_or, Option, Some, None, MatchOption, inl, inr, ⊎_elim, refl, sym, subst, ap, ◌<◌, arith}
 use Rattle.std.specs.List.Sorted.{IsPermutation}
 use Rattle.std.proofs.lemmas.List.Sorted.{IsPermutation-refl, IsPermutation-sym, IsPermutation-cons, IsPermutation-trans, IsPermutation-middle}
-use Rattle.std.proofs.Math.Seq.{take-append_seam}
 use Rattle.edf_fields.specs.Lists.{Has, AreDistinct}
-use Rattle.edf_fields.proofs.ForCallers.{has-append, has-front, has-back, has-at}
+use Rattle.edf_fields.proofs.ForCallers.{has-append, has-front, has-back}
 use Rattle.edf_heads.specs.Firsts.{IsFirstWith}
 
 -- what stands at a place within the list stands in it

@@ -1,4 +1,4 @@
-use Rattle.edf_check.proofs.WalkFacts.{headline_of}
+use Rattle.edf_check.proofs.walk.WalkFacts.{headline_of}
 use Rattle.edf_check.proofs.check.check.Goals as goal
 
 pub returns-clause-verdict : goal.returns-clause-verdict

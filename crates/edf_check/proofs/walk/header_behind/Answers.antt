@@ -1,5 +1,5 @@
 use Rattle.std.proofs.Common.{◌∙◌}
-use Rattle.edf_check.proofs.WalkFacts.{fault_is}
+use Rattle.edf_check.proofs.walk.WalkFacts.{fault_is}
 use Rattle.edf_check.proofs.walk.header_behind.Goals as goal
 
 pub returns-in-Ok-None-clause-walked : goal.returns-in-Ok-None-clause-walked

@@ -1,4 +1,4 @@
-use Rattle.edf_check.proofs.WalkFacts.{of_headers}
+use Rattle.edf_check.proofs.walk.WalkFacts.{of_headers}
 use Rattle.edf_check.proofs.walk.heads_differ.Goals as goal
 
 pub returns-in-Ok-None-clause-walked : goal.returns-in-Ok-None-clause-walked

@@ -1,5 +1,5 @@
 use Rattle.std.proofs.Common.{Some, ◌∙◌, ap, sym}
-use Rattle.edf_check.proofs.WalkFacts.{header_fault_first}
+use Rattle.edf_check.proofs.walk.WalkFacts.{header_fault_first}
 use Rattle.edf_check.proofs.walk.open.Goals as goal
 
 pub returns-in-Err-Fault-clause-fault : goal.returns-in-Err-Fault-clause-fault

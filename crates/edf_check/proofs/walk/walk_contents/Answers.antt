@@ -6,12 +6,12 @@ use Rattle.std.specs.Ordering.{nat_cmp}
 use Rattle.edf_fields.specs.Lists.{AreDistinct}
 use Rattle.edf_header.specs.Heads.{Head, samples_together}
 use Rattle.edf_stream.specs.Summaries.{channels_among}
-use Rattle.edf_check.specs.Columns.{channel_at}
+use Rattle.edf_check.specs.samples.Columns.{channel_at}
 use Rattle.edf_heads.specs.Comparisons.{AreSorted}
-use Rattle.edf_check.specs.declared.track.Pair.{Pair}
-use Rattle.edf_check.specs.Layouts.{AreLaidAlike}
-use Rattle.edf_check.specs.Windows.{Places, places_of}
-use Rattle.edf_check.proofs.WalkFacts.{found_within, found-of, read-out}
+use Rattle.edf_check.specs.declared.walk.track.Pair.{Pair}
+use Rattle.edf_check.specs.walk.Layouts.{AreLaidAlike}
+use Rattle.edf_check.specs.walk.Pairs.{Places, places_of}
+use Rattle.edf_check.proofs.walk.WalkFacts.{found_within, found-of, read-out}
 use Rattle.edf_check.proofs.walk.walk_contents.Goals as goal
 
 pub conclude-requires : goal.conclude-requires

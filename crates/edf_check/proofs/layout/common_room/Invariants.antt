@@ -1,6 +1,0 @@
-use Rattle.std.specs.List.{AllWithin}
-use Rattle.edf_check.specs.Layouts.{AreLaidAlike}
-use Rattle.edf_check.proofs.layout.common_room.Given as goal
-
-abbrev pub invariant-loop-pair : goal.invariant-loop-pair
-invariant-loop-pair l = AllWithin (AreLaidAlike l.original l.export l.room) l.pairs 0 l.pair-index

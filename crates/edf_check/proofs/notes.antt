@@ -1,0 +1,3 @@
+pub mod NoteFacts
+pub mod RearrangedFacts
+pub mod NoteOrderFacts

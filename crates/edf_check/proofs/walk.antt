@@ -1,0 +1,11 @@
+pub mod ListFacts
+pub mod TrackFacts
+pub mod ShownFacts
+pub mod LockstepFacts
+pub mod SplitFacts
+pub mod PassFacts
+pub mod PlaceFacts
+pub mod NightFacts
+pub mod WalkFacts
+pub mod LayoutFacts
+pub mod RecordFacts

@@ -1,0 +1,23 @@
+use Rattle.std.proofs.Common.{◌∙◌, sym}
+use Rattle.edf_check.proofs.walk.PassFacts.{there_next, current_open}
+use Rattle.edf_check.proofs.walk.reading.finish.Goals as goal
+
+pub loop-side-preserved : goal.loop-side-preserved
+loop-side-preserved g c =
+    let inv = c.loop-side.invariant in
+    let ok = c.in-Ok-None.ensures in
+    let none = c.in-Ok-None.field-0-is in
+    let head = c.go_on.ensures.head in
+    let current = sym c.has_current.ensures ∙ c.loop-side-test.true in
+    let going = rw none at ok.going in
+    let failures = rw none at ok.failures in
+    let honesty = rw none at ok.honesty in
+    let comes = rw none at ok.comes in
+    record {
+      going = going;
+      head = head ∙ inv.head;
+      failures = failures ∙ inv.failures;
+      honesty = λ h. honesty (inv.honesty h);
+      there = λ h file at. there_next c.loop-side.reader c.go_on.new.reader (g.S.Source.left c.go_on.new.source) file going head
+          (comes (inv.honesty h) file ((inv.there h file at).stands (current_open (c.loop-side.reader).status current)));
+    }

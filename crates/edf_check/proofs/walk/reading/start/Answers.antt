@@ -1,0 +1,28 @@
+use Rattle.std.proofs.Common.{◌∙◌, ◌++◌, ap, map, arith}
+use Rattle.std.proofs.lemmas.Int.{ints}
+use Rattle.edf_check.specs.walk.Gathered.{claim_of, gathered_in}
+use Rattle.edf_check.proofs.walk.PassFacts.{at_first}
+use Rattle.edf_stream.specs.Views.{note_value}
+use Rattle.edf_check.proofs.walk.reading.start.Goals as goal
+
+pub returns-in-Ok-None-clause-follows : goal.returns-in-Ok-None-clause-follows
+returns-in-Ok-None-clause-follows g c =
+    let ok = c.in-Ok-None.ensures in
+    let none = c.in-Ok-None.field-0-is in
+    let going = rw none at ok.going in
+    let comes = rw none at ok.comes in
+    let gathered = rw none at ok.gathered in
+    let start = rw none at ok.start in
+    let near = c.take.ensures.near in
+    let by = c.requires.near in
+    let time = c.requires.time in
+    record {
+      head = c.take.ensures.head;
+      going = going;
+      ahead = λ e. (let s = start e in omega (arith, ints, s, near, by, time));
+      honesty = rw none at ok.honesty;
+      failures = rw none at ok.failures;
+      comes = λ h file s. at_first c.args.reading.now.reader c.take.new.reading.reader (g.S.Source.left c.take.new.source) (map note_value (c.take.new.reading.notes).items) file (claim_of c.args.view) (c.args.view.moved).ps c.args.time.ps
+          (c.requires.begun).1 going c.take.ensures.head (rw none at ok.count)
+          (gathered ∙ ap (λ ns. map note_value ns ++ gathered_in (claim_of c.args.view) (c.args.view.moved).ps c.take.new.reading.reader) c.requires.none) (comes h file s);
+    }

@@ -1,0 +1,19 @@
+use Rattle.std.proofs.Common.{◌≡◌, ◌<◌, ◌≤◌, List, ℕ, drop, map, length, IfSome}
+use Rattle.edf_check.specs.samples.Earliest.{earliest}
+use Rattle.edf_check.specs.Instants.{IsModest}
+use Rattle.edf_check.specs.walk.Shown.{Covers}
+use Rattle.edf_check.specs.walk.Windows.{sampled, window_of}
+use Rattle.edf_check.specs.walk.Pairs.{places_of}
+use Rattle.edf_check.proofs.walk.window.window_difference.Given as goal
+
+abbrev pub invariant-loop-i : goal.invariant-loop-i
+invariant-loop-i l = record {
+  within : l.i ≤ length l.pairs;
+  value : (o e : List ℕ) → Covers l.original o (l.clock.original).ps l.from.ps l.to.ps → Covers l.export e (l.clock.export).ps l.from.ps l.to.ps →
+      l.held ≡ earliest l.i (map (λ p. window_of l.claim (sampled o l.original.head (l.clock.original).ps) (sampled e l.export.head (l.clock.export).ps) l.from.ps l.to.ps (places_of p).0 (places_of p).1) (drop l.i l.pairs));
+  modest : IfSome l.held (λ f. IsModest f.difference.at);
+  channel : IfSome l.held (λ f. f.channel < length l.pairs);
+}
+
+abbrev pub decreases-loop-i : goal.decreases-loop-i
+decreases-loop-i l = l.i

@@ -1,0 +1,39 @@
+-- Samples of a channel at even distances, as a lane holds them. EDF (1992), "Data record".
+use Rattle.std.specs.Prelude.{ℕ, suc, ◌+◌, ◌*◌, ◌<◌, ◌≤◌, ◌^◌, ℤ, pos, ◌+ℤ◌, ◌*ℤ◌, ◌<ℤ◌, unsigned_abs, List, [], ◌∷◌, length, drop, Bool, ◌&&◌, if◌then◌else◌}
+use Rattle.std.specs.Ordering.{int_eq}
+use Rattle.edf_stream.specs.Values.{digital}
+use Rattle.edf_stream.specs.declared.instant.Instant.{Instant}
+use Rattle.edf_check.specs.declared.samples.point.Point.{Point}
+use Rattle.edf_check.specs.declared.samples.stretch.Stretch.{Stretch}
+use Rattle.edf_check.specs.samples.Differences.{instant}
+use Rattle.edf_check.specs.Instants.{is_before}
+
+-- the samples of these bytes, two bytes each: the first at the numerator a, each further one d behind the one before
+abbrev pub stretch_points : ℤ → ℤ → List ℕ → List Point
+stretch_points a d [] = []
+stretch_points a d (byte ∷ []) = []
+stretch_points a d (low ∷ high ∷ rest) = record { num = a; value = digital low high } ∷ stretch_points (a +ℤ d) d rest
+
+abbrev pub points_in : Stretch → List Point
+points_in s = stretch_points s.num s.step s.bytes.now
+
+-- those behind the first k
+unfoldable pub points_behind : Stretch → ℕ → List Point
+points_behind s k = stretch_points (s.num +ℤ pos k *ℤ s.step) s.step (drop (2 * k) s.bytes.now)
+
+-- a lane of a data record: its times, and the distances from times to its samples, fit 128 bits
+abbrev pub IsLane : Stretch → Type 0
+IsLane s = (unsigned_abs s.num < 3 * 2 ^ 102) × (pos 0 <ℤ s.step) × (unsigned_abs s.step < 2 ^ 68) × (0 < s.den) × (s.den ≤ 2 ^ 23) × (length s.bytes.now ≤ 2 ^ 24)
+
+-- a part of such a lane: each of its samples stands at a modest instant
+abbrev pub IsPart : Stretch → Type 0
+IsPart s = (unsigned_abs s.num < 3 * 2 ^ 102 + 2 ^ 93) × (unsigned_abs s.step < 2 ^ 68) × (0 < s.den) × (s.den ≤ 2 ^ 23) × (length s.bytes.now ≤ 2 ^ 24)
+
+-- the samples stand at the same instants, one by one: the first ones do, and the distances are the same
+abbrev pub are_on_one_grid : Stretch → Stretch → Bool
+are_on_one_grid x y = int_eq (x.num *ℤ pos y.den) (y.num *ℤ pos x.den) && int_eq (x.step *ℤ pos y.den) (y.step *ℤ pos x.den)
+
+-- how many samples from the front are before t
+abbrev pub front_count : ℕ → List Point → Instant → ℕ
+front_count n [] t = 0
+front_count n (x ∷ xs) t = if is_before (instant n x) t then suc (front_count n xs t) else 0

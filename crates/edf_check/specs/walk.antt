@@ -1,0 +1,9 @@
+pub mod Walks
+pub mod Layouts
+pub mod Tracks
+pub mod Pairs
+pub mod Windows
+pub mod Shown
+pub mod Gathered
+pub mod Readings
+pub mod Ends

@@ -1,0 +1,43 @@
+-- What a walk over the data records of two files finds. These are steps between the definitions and the code.
+use Rattle.std.specs.Prelude.{ℕ, ℤ, ◌≡◌, List, [], Option, None, Some, IfNone}
+use Rattle.edf_claim.specs.Claims.{Terms}
+use Rattle.edf_header.specs.declared.fault.Fault.{Fault}
+use Rattle.edf_header.specs.Heads.{Head}
+use Rattle.edf_stream.specs.Conforming.{Conforms}
+use Rattle.edf_stream.specs.Faults.{body_fault}
+use Rattle.edf_stream.specs.Notes.{NoteValue, notes_of}
+use Rattle.edf_check.specs.declared.samples.earliest.Found.{Found}
+use Rattle.edf_check.specs.declared.walk.walked.FaultOf.{FaultOf}
+use Rattle.edf_check.specs.declared.walk.walked.FaultOf.TheVariants.{Original as OfOriginal, Export as OfExport}
+use Rattle.edf_check.specs.walk.Pairs.{Places}
+use Rattle.edf_check.specs.walk.Windows.{sampled, whole_difference}
+use Rattle.edf_check.specs.walk.Gathered.{gathered_of}
+
+-- what a fault of the export comes to, behind that of the original
+abbrev pub behind : Option Fault → Fault → FaultOf
+behind None fault = OfExport fault
+behind (Some first) fault = OfOriginal first
+
+-- the first fault of the data records of the first file, or else of the second
+abbrev pub IsFaultOf : List ℕ → Head → List ℕ → Head → FaultOf → Type 0
+IsFaultOf o h e g (OfOriginal fault) = body_fault o h ≡ Some fault
+IsFaultOf o h e g (OfExport fault) = (body_fault o h ≡ None) × (body_fault e g ≡ Some fault)
+
+-- behind a fault of the export nothing of the original is left
+abbrev pub IsReadBy : FaultOf → List ℕ → Type 0
+IsReadBy (OfOriginal fault) left = Unit {0}
+IsReadBy (OfExport fault) left = left ≡ []
+
+-- the data records of a file were read to the end, and the file conforms
+pub record IsReadThrough (file : List ℕ) (h : Head) (left : List ℕ) : Type 0 where
+  pub fault : body_fault file h ≡ None
+  pub conforms : Conforms file h
+  pub gone : left ≡ []
+
+-- the same of both files, and this is the first difference of their channels; where there is none, these annotations were gathered
+pub record AreWalked (o : List ℕ) (h : Head) (left : List ℕ) (notes : List NoteValue) (e : List ℕ) (g : Head) (left' : List ℕ) (notes' : List NoteValue)
+    (claim : Terms) (a b : ℤ) (places : List Places) (found : Option Found) : Type 0 where
+  pub original : IsReadThrough o h left
+  pub export : IsReadThrough e g left'
+  pub first : found ≡ whole_difference claim (sampled o h a) (sampled e g b) places
+  pub gathered : IfNone found ((notes ≡ gathered_of (Some claim) a (notes_of o h)) × (notes' ≡ gathered_of None b (notes_of e g)))

@@ -1,0 +1,4 @@
+//! The annotations of two files, compared by how often each stands.
+
+pub mod note_difference;
+pub mod unequal;

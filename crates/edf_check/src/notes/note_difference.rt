@@ -1,0 +1,128 @@
+//! The first difference between the annotations that a claim keeps of an original and those of an export.
+
+ghost use Rattle.std.specs.Prelude.{◌≡◌, [], ◌∷◌, ◌⊎◌, map, length, option_map, IfOk, MatchOption};
+ghost use Rattle.std.specs.List.Sorted.{IsPermutation, IsSorted};
+ghost use Rattle.edf_stream.specs.Views.{note_value};
+ghost use Rattle.edf_check.specs.Annotations.{note_cmp, IsFirstNote, SameNotes};
+ghost use Rattle.edf_check.specs.notes.NoteOrder.{first_unequal_of, note_mismatch, unequal_view};
+
+use crate::notes::unequal::Unequal;
+use edf_stream::notes::Note;
+use edf_verdict::note_text::NoteText;
+use edf_verdict::verdict::AnnotationMismatch;
+use std::alloc::{AllocError, Global};
+use std::cmp::Ordering;
+
+/// An annotation that doesn't stand equally often among the kept ones and in the export.
+#[derive(Debug, Drop)]
+pub struct NoteDifference {
+    pub mismatch: AnnotationMismatch,
+    /// In picoseconds after the second at which the original starts, before the shift.
+    pub onset: i128,
+    /// In picoseconds, where there is one.
+    pub duration: Option<i128>,
+    pub text: NoteText,
+}
+
+/// Puts annotations in order.
+fn sort_notes(notes: &mut Vec<Note>)
+    ensures same { IsPermutation notes.old.items notes.new.items }
+    ensures order { IsSorted (λ x y. note_cmp (note_value x) (note_value y)) notes.new.items }
+{
+    notes.sort_unstable();
+}
+
+/// Which of two annotations is before the other.
+fn order(x: &Note, y: &Note) -> Ordering
+    ensures { result ≡ note_cmp (note_value x.now) (note_value y.now) }
+{
+    x.cmp(y)
+}
+
+/// The annotation that two lists don't have equally often, where one of them at least has ended.
+#[tactic(auto, using(crate::proofs::notes::NoteOrderFacts::missing_first, crate::proofs::notes::NoteOrderFacts::extra_first))]
+fn unequal_of_ends<'a>(kept: &'a [Note], exported: &'a [Note]) -> Option<Unequal<'a>>
+    requires { (length kept.now ≡ 0) ⊎ (length exported.now ≡ 0) }
+    ensures { option_map unequal_view result ≡ first_unequal_of (map note_value kept.entry.now) (map note_value exported.entry.now) }
+{
+    if let [note, ..] = kept {
+        return Some(Unequal {
+            mismatch: AnnotationMismatch::Missing,
+            note,
+        });
+    }
+    if let [note, ..] = exported {
+        return Some(Unequal {
+            mismatch: AnnotationMismatch::Extra,
+            note,
+        });
+    }
+    None
+}
+
+/// The one of two annotations that is before the other.
+fn unequal_of_heads<'a>(kept: &'a Note, exported: &'a Note) -> Option<Unequal<'a>>
+    ensures { option_map unequal_view result ≡ first_unequal_of (note_value kept.entry.now ∷ []) (note_value exported.entry.now ∷ []) }
+{
+    match order(kept, exported) {
+        Ordering::Less => Some(Unequal {
+            mismatch: AnnotationMismatch::Missing,
+            note: kept,
+        }),
+        Ordering::Equal => None,
+        Ordering::Greater => Some(Unequal {
+            mismatch: AnnotationMismatch::Extra,
+            note: exported,
+        }),
+    }
+}
+
+/// The first annotation that two lists in order don't have equally often.
+fn first_unequal<'a>(kept: &'a [Note], exported: &'a [Note]) -> Option<Unequal<'a>>
+    ensures { option_map unequal_view result ≡ first_unequal_of (map note_value kept.entry.now) (map note_value exported.entry.now) }
+{
+    let both = kept.len().min(exported.len());
+    for i in 0..both {
+        let found = unequal_of_heads(&kept[i], &exported[i]);
+        if found.is_some() {
+            return found;
+        }
+    }
+    unequal_of_ends(&kept[both..], &exported[both..])
+}
+
+/// The difference with a text of its own.
+///
+/// The error is want of memory.
+fn with_text(alloc: Global, unequal: Unequal<'_>) -> Result<NoteDifference, AllocError>
+    ensures { IfOk result (λ d. note_mismatch d ≡ unequal_view unequal.entry) }
+{
+    Ok(NoteDifference {
+        mismatch: unequal.mismatch,
+        onset: unequal.note.onset,
+        duration: unequal.note.duration,
+        text: NoteText::new(String::from_str(alloc, unequal.note.text.as_str())?),
+    })
+}
+
+/// The first difference between kept annotations and those of an export: the least by onset, then duration,
+/// none before any, then the bytes of the text, that doesn't stand equally often in both. None exactly
+/// where each stands equally often in both.
+///
+/// Both lists are put in order. The error is want of memory.
+pub(crate) fn note_difference(
+    alloc: Global,
+    kept: &mut Vec<Note>,
+    exported: &mut Vec<Note>,
+) -> Result<Option<NoteDifference>, AllocError>
+    ensures { IfOk result (λ found. MatchOption found
+        (SameNotes (map note_value kept.old.items) (map note_value exported.old.items))
+        (λ d. IsFirstNote (map note_value kept.old.items) (map note_value exported.old.items) (note_mismatch d).mismatch (note_mismatch d).note)) }
+{
+    sort_notes(kept);
+    sort_notes(exported);
+    match first_unequal(kept, exported) {
+        Some(unequal) => Ok(Some(with_text(alloc, unequal)?)),
+        None => Ok(None),
+    }
+}

@@ -1,0 +1,8 @@
+//! The samples of a channel of two files, compared at their instants.
+
+pub mod difference;
+pub mod earliest;
+pub mod instants;
+pub mod point;
+pub mod sample_difference;
+pub mod stretch;

@@ -1,0 +1,51 @@
+//! The earliest difference of several channels.
+
+ghost use Rattle.std.specs.Prelude.{◌≡◌, IfSome};
+ghost use Rattle.std.specs.Option.{option_map};
+ghost use Rattle.edf_check.specs.samples.Earliest.{earlier as earlier_of, found};
+ghost use Rattle.edf_check.specs.Instants.{IsModest};
+
+use crate::samples::difference::PointDifference;
+use crate::samples::instants::is_before;
+
+/// A difference, and the place of its channel among those that were compared.
+#[derive(Debug, Clone, Copy, PartialEq, Eq)]
+pub struct Found {
+    pub channel: usize,
+    pub difference: PointDifference,
+}
+
+/// A difference of the channel at a place.
+pub(crate) fn found_in(channel: usize, difference: Option<PointDifference>) -> Option<Found>
+    requires { IfSome difference (λ d. IsModest d.at) }
+    ensures value { result ≡ option_map (found channel) difference }
+    ensures modest { IfSome result (λ f. IsModest f.difference.at) }
+{
+    match difference {
+        Some(difference) => Some(Found {
+            channel,
+            difference,
+        }),
+        None => None,
+    }
+}
+
+/// The earlier of two differences, and the first where they are at one instant.
+pub(crate) fn earlier(a: Option<Found>, b: Option<Found>) -> Option<Found>
+    requires a { IfSome a (λ f. IsModest f.difference.at) }
+    requires b { IfSome b (λ f. IsModest f.difference.at) }
+    ensures value { result ≡ earlier_of a b }
+    ensures modest { IfSome result (λ f. IsModest f.difference.at) }
+{
+    match (a, b) {
+        (Some(x), Some(y)) => {
+            if is_before(y.difference.at, x.difference.at) {
+                b
+            } else {
+                a
+            }
+        }
+        (Some(_), None) => a,
+        (None, _) => b,
+    }
+}
