@@ -28,17 +28,20 @@ PROGRAM = "edfclaim"
 BUILT = TOP / "crates" / PROGRAM / "out" / PROGRAM
 SUM = TOP / "out" / "built.sum"
 EACH = 30
+# a proof takes as long as so many lines of code before its first function
+TO_BEGIN = 300
 
 
 def crates():
-    """The crates by name, each with those of them that it stands on, and how many lines it has."""
+    """The crates by name, each with those of them that it stands on, and how long its proof takes, in lines of code."""
     below = {}
     for line in (TOP / "crates.txt").read_text(encoding="utf-8").splitlines():
         name, colon, libraries = line.partition("#")[0].partition(":")
         if colon:
             below[name.split()[0]] = libraries.split()
     below = {name: [it for it in libraries if it in below] for name, libraries in below.items()}
-    return below, {name: sum(len(text.splitlines()) for _, text in sources([name])) for name in below}
+    code = {name: [text for file, text in sources([name]) if file.suffix == ".rt"] for name in below}
+    return below, {name: TO_BEGIN + sum(len(text.splitlines()) for text in code[name]) for name in below}
 
 
 def sources(names):
@@ -131,10 +134,10 @@ def words_of(name, verb, has_users, jobs):
     return ["rt", "lib" if has_users else "check", *flags]
 
 
-def prove_all(verb, below, lines, names, lanes, log, room):
+def prove_all(verb, below, length, names, lanes, log, room):
     """Proves these crates, with copies in this folder. Returns the one that failed, or none."""
     def behind(name):
-        return lines[name] + max([behind(it) for it in names if name in below[it]], default=0)
+        return length[name] + max([behind(it) for it in names if name in below[it]], default=0)
 
     begun, left, running, done = time.time(), sorted(names, key=behind, reverse=True), [], set()
     told = begun
@@ -171,7 +174,7 @@ def prove_all(verb, below, lines, names, lanes, log, room):
 
 
 def main():
-    below, lines = crates()
+    below, length = crates()
     if sys.argv[1:] == ["current"]:
         return 0 if is_current(below) else 1
     if sys.argv[1:] not in (["build"], ["check"]):
@@ -189,7 +192,7 @@ def main():
     print(f"proving {len(names)} crates, on {lanes} processors; all that is said: {path.relative_to(TOP)}", flush=True)
     begun = time.time()
     with open(path, "w", buffering=1, encoding="utf-8") as log, tempfile.TemporaryDirectory() as room:
-        failed = prove_all(verb, below, lines, names, lanes, log, room)
+        failed = prove_all(verb, below, length, names, lanes, log, room)
     if failed:
         faults = [line for line in failed.lines if "error" in line or "not proved" in line] or failed.lines
         print("\n".join(line[:300] for line in faults[:10]))
