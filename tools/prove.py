@@ -144,7 +144,8 @@ def prove_all(verb, below, length, names, lanes, log, room):
     while left or running:
         ready = [name for name in left if done.issuperset(below[name])]
         for name in ready:
-            # the one with the most behind it goes first on all processors, and others use what it leaves
+            # the one with the most behind it goes first on all processors; others yield to it, the more the less
+            # is behind them
             is_first = all(behind(name) >= behind(run.name) for run, _ in running)
             free = (1 if verb == "check" else 2) * lanes - sum(jobs for _, jobs in running)
             if free < 1 or verb == "check" and running:
@@ -152,7 +153,8 @@ def prove_all(verb, below, length, names, lanes, log, room):
             jobs = min(4, lanes if is_first else 2, free)
             words = words_of(name, verb, any(name in below[it] for it in names), jobs)
             top = copy_of(needed(below, name), room) if running else TOP
-            running.append((Run(name, words if is_first else ["nice", *words], log, top), jobs))
+            nice = 0 if is_first else min(19, 38 - 38 * behind(name) // max(behind(run.name) for run, _ in running))
+            running.append((Run(name, ["nice", "-n", str(nice), *words], log, top), jobs))
             left.remove(name)
         time.sleep(0.2)
         for run, jobs in list(running):

@@ -2,16 +2,19 @@
 use Rattle.std.proofs.Common.{◌≡◌, ℕ, ◌<◌, ◌+◌, ◌*◌, ◌<ℤ◌, ◌≤ℤ◌, ℤ, pos, ◌+ℤ◌, ◌*ℤ◌, List, refl, sym, ap, ◌∙◌, arith}
 use Rattle.std.proofs.lemmas.Int.{ints}
 use borrow.Author.Differences.{up, down}
-use Rattle.edf_claim.specs.Claims.{Terms}
+use Rattle.edf_claim.specs.Terms.{Terms}
 use Rattle.edf_claim.specs.Keeps.{KeepsInstant}
-use Rattle.edf_header.specs.Heads.{head_of}
+use Rattle.edf_header.specs.HeadsReading.{head_of}
 use Rattle.edf_stream.specs.declared.instant.Instant.{Instant}
 use Rattle.edf_stream.specs.Conforming.{Conforms}
-use Rattle.edf_stream.specs.Instants.{IsNotBefore, IsSame}
+use Rattle.edf_stream.specs.Instants.{IsSame}
+use Rattle.edf_stream.specs.InstantOrder.{IsNotBefore}
 use Rattle.edf_stream.specs.Samples.{SampleValue, IsSample}
 use Rattle.edf_stream.proofs.ForCallers.{one_at_an_instant}
-use Rattle.edf_check.specs.Instants.{IsBefore, later}
-use Rattle.edf_check.specs.Kept.{start_of, shift_of, ValueAt, KeptAt, ExportedAt}
+use Rattle.edf_check.specs.Instants.{later}
+use Rattle.edf_check.specs.InstantOrder.{IsBefore}
+use Rattle.edf_check.specs.Kept.{shift_ps}
+use Rattle.edf_check.specs.KeptReading.{origin_of, ValueAt, KeptAt, ExportedAt}
 use Rattle.edf_check.proofs.CourseFacts.{IsCourse}
 use Rattle.edf_check.proofs.samples.FractionFacts.{same_through, same_back, same_below, same_before, from_below}
 
@@ -60,15 +63,15 @@ keeps-same claim t u pt pu s (interval, there, within) =
 pub kept-course : (o : List ℕ) (claim : Terms) → Conforms o (head_of o) → IsCourse (KeptAt o claim)
 kept-course o claim c = record {
   moves = λ l t u v pt pu s h.
-      let ps = start_of o in
+      let ps = origin_of o in
       (h.0, keeps-same claim t u pt pu s h.1, value-moves o l (later ps t) (later ps u) v pt pu (later-same ps t u s) h.2);
-  one = λ l t v w p g h. one-value o c l (later (start_of o) t) v w p g.2 h.2;
+  one = λ l t v w p g h. one-value o c l (later (origin_of o) t) v w p g.2 h.2;
 }
 
 pub exported-course : (o e : List ℕ) (claim : Terms) → Conforms e (head_of e) → IsCourse (ExportedAt o e claim)
 exported-course o e claim c = record {
   moves = λ l t u v pt pu s h.
-      let ps = start_of o +ℤ shift_of claim in
+      let ps = origin_of o +ℤ shift_ps claim in
       value-moves e l (later ps t) (later ps u) v pt pu (later-same ps t u s) h;
-  one = λ l t v w p g h. one-value e c l (later (start_of o +ℤ shift_of claim) t) v w p g h;
+  one = λ l t v w p g h. one-value e c l (later (origin_of o +ℤ shift_ps claim) t) v w p g h;
 }

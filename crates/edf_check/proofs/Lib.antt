@@ -4,3 +4,4 @@ pub mod VerdictFacts
 pub mod WordsFacts
 pub mod RunFacts
 pub mod ProductFacts
+pub mod HeadlineFacts

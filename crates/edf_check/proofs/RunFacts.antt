@@ -1,10 +1,11 @@
 -- What a run that stops has said and written.
 use Rattle.std.proofs.Common.{◌≡◌, ◌≢◌, ℕ, List, subst}
-use Rattle.edf_claim.specs.Claims.{Terms, SaysClaimText}
+use Rattle.edf_claim.specs.Claims.{SaysClaimText}
+use Rattle.edf_claim.specs.Terms.{Terms}
 use Rattle.edf_claim.specs.declared.stop.ClaimStop.{ClaimStop}
 use Rattle.edf_claim.specs.declared.stop.ClaimStop.TheVariants as claims
 use Rattle.edf_fields.specs.Sinks.{HoldsPrefix}
-use Rattle.edf_check.specs.Checks.{YesMeans}
+use Rattle.edf_check.specs.Headline.{YesMeans}
 use Rattle.edf_verdict.specs.declared.verdict.Verdict.{Verdict}
 use Rattle.edf_verdict.specs.Lines.{verdict_line}
 use Rattle.edf_check.specs.Runs.{IsPartOfReport, RunStops, stop_of_claim}

@@ -1,11 +1,13 @@
 -- Two files have one verdict at most, and it is a Yes exactly for an export.
 use Rattle.std.proofs.Common.{◌≡◌, ℕ, ℤ, ◌*◌, length, List, None, Some, ◌⊎◌, inl, inr, refl, sym, ap, ◌∙◌, subst}
-use Rattle.edf_claim.specs.Claims.{Terms}
+use Rattle.edf_claim.specs.Terms.{Terms}
 use Rattle.edf_header.specs.declared.fault.Fault.{Fault}
-use Rattle.edf_header.specs.Heads.{head_of, samples_together}
+use Rattle.edf_header.specs.Heads.{samples_together}
+use Rattle.edf_header.specs.HeadsReading.{head_of}
 use Rattle.edf_stream.specs.Faults.{file_fault}
-use Rattle.edf_stream.specs.Notes.{NoteValue, notes_of}
-use Rattle.edf_stream.specs.Summaries.{channels_among}
+use Rattle.edf_stream.specs.Notes.{NoteValue}
+use Rattle.edf_stream.specs.NotesReading.{notes_of}
+use Rattle.edf_header.specs.Channels.{channels_among}
 use Rattle.edf_stream.proofs.ForCallers.{conforming_is_faultless}
 use Rattle.edf_verdict.specs.declared.verdict.Verdict.{Verdict}
 use Rattle.edf_verdict.specs.declared.verdict.Verdict.TheVariants.{Yes, No}
@@ -14,16 +16,15 @@ use Rattle.edf_verdict.specs.declared.verdict.SampleMismatch.{SampleMismatch}
 use Rattle.edf_verdict.specs.declared.verdict.AnnotationMismatch.{AnnotationMismatch}
 use Rattle.edf_check.specs.Annotations.{IsFirstNote, SameNotes}
 use Rattle.edf_check.specs.Courses.{IsFirstMismatch}
-use Rattle.edf_check.specs.Exports.{BothConform, SameSamples, AreCounts}
+use Rattle.edf_check.specs.Exports.{BothConform, SameSamples, HasCounts}
 use Rattle.edf_heads.specs.HeadVerdicts.{HeadsAgree, IsHeadVerdict}
-use Rattle.edf_check.specs.Kept.{KeptAt, ExportedAt, kept_notes, exported_notes}
+use Rattle.edf_check.specs.KeptReading.{KeptAt, ExportedAt, kept_notes, exported_notes}
 use Rattle.edf_check.specs.Laws.{OneVerdict, YesExactly}
 use Rattle.edf_check.specs.Verdicts.{IsVerdict}
 use Rattle.edf_check.proofs.CourseFacts.{first-apart, one-first}
-use Rattle.edf_heads.proofs.ForCallers.{agree-apart}
+use Rattle.edf_heads.proofs.ForCallers.{agree-apart, either-one, one_head_verdict}
 use Rattle.edf_check.proofs.KeptFacts.{kept-course, exported-course}
 use Rattle.edf_check.proofs.notes.NoteFacts.{note-apart, one-note}
-use Rattle.edf_heads.proofs.ForCallers.{either-one, one_head_verdict}
 
 -- a file that conforms has no fault
 no-fault : (file : List ℕ) (fault : Fault) → file_fault file ≡ Some fault → file_fault file ≡ None → ⊥
@@ -51,7 +52,7 @@ OfNotes o e c v =
     (mismatch : AnnotationMismatch) × (note : NoteValue) × (v ≡ No (differences.Annotation mismatch note.onset note.duration note.text)) × IsFirstNote (kept_notes o c) (exported_notes o e c) mismatch note
 
 abbrev OfYes : List ℕ → List ℕ → Terms → Verdict → Type 0
-OfYes o e c v = (channels samples annotations : ℕ) × (v ≡ Yes channels samples annotations) × AreCounts e channels samples annotations
+OfYes o e c v = (channels samples annotations : ℕ) × (v ≡ Yes channels samples annotations) × HasCounts e channels samples annotations
 
 -- from each kind on
 abbrev FromNotes : List ℕ → List ℕ → Terms → Verdict → Type 0

@@ -1,14 +1,16 @@
 -- That the samples agree, in the words of samples.
 use Rattle.std.proofs.Common.{◌≡◌, ℕ, zero, suc, ℤ, pos, ◌+ℤ◌, ◌*ℤ◌, neg_ℤ, List, refl, sym, ap, ◌∙◌, subst, arith}
 use Rattle.std.proofs.lemmas.Int.{ints}
-use Rattle.edf_claim.specs.Claims.{Terms}
+use Rattle.edf_claim.specs.Terms.{Terms}
 use Rattle.edf_fields.specs.Lists.{Has}
+use Rattle.edf_header.specs.HeadsReading.{head_of}
 use Rattle.edf_stream.specs.declared.instant.Instant.{Instant}
 use Rattle.edf_stream.specs.Instants.{IsSame}
 use Rattle.edf_check.specs.Instants.{later}
 use Rattle.edf_check.specs.Exports.{SameSamples}
-use Rattle.edf_check.specs.Kept.{start_of, shift_of}
-use Rattle.edf_check.specs.Laws.{SamplesAsKept, SamplesInWords}
+use Rattle.edf_check.specs.Kept.{shift_ps, SamplesAsKept}
+use Rattle.edf_check.specs.KeptReading.{origin_of}
+use Rattle.edf_check.specs.Laws.{SamplesInWords}
 use Rattle.edf_check.proofs.samples.FractionFacts.{same_through, same_back}
 use Rattle.edf_check.proofs.KeptFacts.{positive, later-same, keeps-same}
 
@@ -57,19 +59,19 @@ unshifted-same s h x t g =
     let e : later (neg_ℤ h) (later (s +ℤ h) t) ≡ later s t = later-later (s +ℤ h) (neg_ℤ h) s t (omega (arith, ints)) in
     subst (λ z. IsSame z (later s t)) (later-forth h x) (subst (IsSame (later (neg_ℤ h) (later h x))) e k)
 
-to-words : (o e : List ℕ) (c : Terms) → SameSamples o e c → SamplesAsKept o e c
+to-words : (o e : List ℕ) (c : Terms) → SameSamples o e c → SamplesAsKept o e (head_of o) (head_of e) c
 to-words o e c a = record {
   all_kept = λ x k.
-      let s = start_of o in
+      let s = origin_of o in
       let t : Instant = later (neg_ℤ s) x.instant in
       let here = subst (IsSame x.instant) (sym (later-back s x.instant)) refl in
       let r = (a x.label t x.value (positive o x k.sample)).0 (k.channel, k.instant, (x, k.sample, refl, here, refl)) in
       let y = r.0 in
-      let g = subst (IsSame y.instant) (later-later (neg_ℤ s) (s +ℤ shift_of c) (shift_of c) x.instant (omega (arith, ints))) r.3 in
-      (y, r.1, r.2, r.4, sym g);
+      let g = subst (IsSame y.instant) (later-later (neg_ℤ s) (s +ℤ shift_ps c) (shift_ps c) x.instant (omega (arith, ints))) r.3 in
+      (y, r.1, record { label = r.2; value = r.4; instant = sym g });
   none_else = λ y h.
-      let s = start_of o in
-      let d = s +ℤ shift_of c in
+      let s = origin_of o in
+      let d = s +ℤ shift_ps c in
       let t : Instant = later (neg_ℤ d) y.instant in
       let py = positive e y h in
       let here = subst (IsSame y.instant) (sym (later-back d y.instant)) refl in
@@ -78,17 +80,17 @@ to-words o e c a = record {
       let x = found.0 in
       let px = positive o x found.1 in
       let w : IsSame (later (neg_ℤ s) x.instant) t = since-same s x.instant t found.3 in
-      let z : IsSame (later (shift_of c) x.instant) (later d t) = shifted-same s (shift_of c) x.instant t found.3 in
+      let z : IsSame (later (shift_ps c) x.instant) (later d t) = shifted-same s (shift_ps c) x.instant t found.3 in
       let channel = subst (Has c.channels) (sym found.2) r.0 in
       let instant = keeps-same c t (later (neg_ℤ s) x.instant) py px (same_back (later (neg_ℤ s) x.instant) t w) r.1 in
-      (x, record { sample = found.1; channel = channel; instant = instant }, sym found.2, sym found.4, subst (IsSame (later (shift_of c) x.instant)) (later-back d y.instant) z);
+      (x, record { sample = found.1; channel = channel; instant = instant }, record { label = sym found.2; value = sym found.4; instant = subst (IsSame (later (shift_ps c) x.instant)) (later-back d y.instant) z });
 }
 
-of-words : (o e : List ℕ) (c : Terms) → SamplesAsKept o e c → SameSamples o e c
+of-words : (o e : List ℕ) (c : Terms) → SamplesAsKept o e (head_of o) (head_of e) c → SameSamples o e c
 of-words o e c a l t v p = (
   λ k.
-      let s = start_of o in
-      let d = s +ℤ shift_of c in
+      let s = origin_of o in
+      let d = s +ℤ shift_ps c in
       let found = k.2 in
       let x = found.0 in
       let px = positive o x found.1 in
@@ -96,18 +98,18 @@ of-words o e c a l t v p = (
       let instant = keeps-same c t (later (neg_ℤ s) x.instant) p px (same_back (later (neg_ℤ s) x.instant) t w) k.1 in
       let r = a.all_kept x (record { sample = found.1; channel = subst (Has c.channels) (sym found.2) k.0; instant = instant }) in
       let y = r.0 in
-      (y, r.1, r.2 ∙ found.2, same_through y.instant (later (shift_of c) x.instant) (later d t) (positive e y r.1) px p (sym r.4) (shifted-same s (shift_of c) x.instant t found.3), r.3 ∙ found.4),
+      (y, r.1, (r.2).label ∙ found.2, same_through y.instant (later (shift_ps c) x.instant) (later d t) (positive e y r.1) px p (sym (r.2).instant) (shifted-same s (shift_ps c) x.instant t found.3), (r.2).value ∙ found.4),
   λ found.
-      let s = start_of o in
-      let d = s +ℤ shift_of c in
+      let s = origin_of o in
+      let d = s +ℤ shift_ps c in
       let y = found.0 in
       let r = a.none_else y found.1 in
       let x = r.0 in
       let k = r.1 in
       let px = positive o x k.sample in
-      let z : IsSame x.instant (later s t) = unshifted-same s (shift_of c) x.instant t (same_through (later (shift_of c) x.instant) y.instant (later d t) px (positive e y found.1) p r.4 found.3) in
-      let label = sym r.2 ∙ found.2 in
-      (subst (Has c.channels) label k.channel, keeps-same c (later (neg_ℤ s) x.instant) t px p (since-same s x.instant t z) k.instant, (x, k.sample, label, z, sym r.3 ∙ found.4)),
+      let z : IsSame x.instant (later s t) = unshifted-same s (shift_ps c) x.instant t (same_through (later (shift_ps c) x.instant) y.instant (later d t) px (positive e y found.1) p (r.2).instant found.3) in
+      let label = sym (r.2).label ∙ found.2 in
+      (subst (Has c.channels) label k.channel, keeps-same c (later (neg_ℤ s) x.instant) t px p (since-same s x.instant t z) k.instant, (x, k.sample, label, z, sym (r.2).value ∙ found.4)),
 )
 
 pub samples_in_words : SamplesInWords

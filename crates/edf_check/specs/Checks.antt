@@ -1,11 +1,5 @@
--- What a check promises.
+-- What a check leaves.
 use Rattle.std.specs.Prelude.{◌≡◌, ℕ, List, []}
-use Rattle.std.specs.List.Sorted.{IsPermutation}
-use Rattle.edf_claim.specs.Claims.{Terms}
-use Rattle.edf_header.specs.Heads.{head_of}
-use Rattle.edf_heads.specs.Blank.{IsBlank}
-use Rattle.edf_heads.specs.Calibrations.{SameCalibrations}
-use Rattle.edf_heads.specs.Channels.{SameChannels}
 use Rattle.edf_check.specs.declared.stop.CheckStop.{CheckStop}
 use Rattle.edf_check.specs.declared.stop.CheckStop.TheVariants.{OutOfMemory, ReadFailed}
 use Rattle.edf_check.specs.declared.side.Side.{Side}
@@ -13,30 +7,6 @@ use Rattle.edf_check.specs.declared.side.Side.TheVariants as sides
 use Rattle.edf_verdict.specs.declared.verdict.Difference.TheVariants.{OriginalFault, ExportFault, UnknownChannel, MissingChannel, ExtraChannel, ChannelText, Calibration, Subfield, NotClean, Sample, Annotation}
 use Rattle.edf_verdict.specs.declared.verdict.Verdict.{Verdict}
 use Rattle.edf_verdict.specs.declared.verdict.Verdict.TheVariants.{Yes, No}
-use Rattle.edf_check.specs.Exports.{BothConform, AreCounts}
-use Rattle.edf_check.specs.Kept.{kept_notes, exported_notes}
-use Rattle.edf_check.specs.Laws.{SamplesAsKept}
-use Rattle.edf_heads.specs.Subfields.{SubfieldsAsClaimed}
-use Rattle.edf_heads.specs.Texts.{SameTexts}
-
--- The headline. Both files conform to the profile; the export's channels are exactly the claimed ones, with their texts and
--- calibrations; its samples are exactly the original's samples of those channels in the claimed intervals, value for value, at the
--- claimed shift; its annotations are exactly the kept ones, in some order; every subfield is `X` where it is claimed anonymous, and
--- else the original's after the shift; and the export has no free text.
-pub record Headline (original export : List ℕ) (claim : Terms) : Type 0 where
-  pub conform : BothConform original export
-  pub channels : SameChannels (head_of original) (head_of export) claim
-  pub texts : SameTexts (head_of original) (head_of export) claim
-  pub calibrations : SameCalibrations (head_of original) (head_of export) claim
-  pub samples : SamplesAsKept original export claim
-  pub annotations : IsPermutation (kept_notes original claim) (exported_notes original export claim)
-  pub subfields : SubfieldsAsClaimed (head_of original) (head_of export) claim
-  pub blank : IsBlank (head_of export)
-
--- what a Yes means: the headline, and its counts are the export's
-abbrev pub YesMeans : List ℕ → List ℕ → Terms → Verdict → Type 0
-YesMeans original export claim (No difference) = Unit {0}
-YesMeans original export claim (Yes channels samples annotations) = Headline original export claim × AreCounts export channels samples annotations
 
 -- how far both files were read, by what they have left: to their ends, but for a fault; where the export has one, the original was
 abbrev pub AreRead : Verdict → List ℕ → List ℕ → Type 0

@@ -1,14 +1,14 @@
 -- When a file is the export of an original under a claim.
-use Rattle.std.specs.Prelude.{◌≡◌, ℕ, ◌*◌, List, length}
-use Rattle.edf_claim.specs.Claims.{Terms}
-use Rattle.edf_header.specs.Heads.{head_of, samples_together}
+use Rattle.std.specs.Prelude.{ℕ, List}
+use Rattle.edf_claim.specs.Terms.{Terms}
+use Rattle.edf_header.specs.HeadsReading.{head_of}
 use Rattle.edf_stream.specs.Conforming.{Conforms}
-use Rattle.edf_stream.specs.Notes.{notes_of}
-use Rattle.edf_stream.specs.Summaries.{channels_among}
+use Rattle.edf_stream.specs.NotesReading.{notes_of}
 use Rattle.edf_check.specs.Annotations.{SameNotes}
 use Rattle.edf_check.specs.Courses.{Agree}
+use Rattle.edf_check.specs.Headline.{AreCounts}
 use Rattle.edf_heads.specs.HeadVerdicts.{HeadsAgree}
-use Rattle.edf_check.specs.Kept.{KeptAt, ExportedAt, kept_notes, exported_notes}
+use Rattle.edf_check.specs.KeptReading.{KeptAt, ExportedAt, kept_notes, exported_notes}
 
 -- both files conform to the profile (docs/PROFILE.md)
 pub record BothConform (original export : List ℕ) : Type 0 where
@@ -26,8 +26,6 @@ pub record IsExport (original export : List ℕ) (claim : Terms) : Type 0 where
   pub samples : SameSamples original export claim
   pub notes : SameNotes (kept_notes original claim) (exported_notes original export claim)
 
--- what a Yes counts in the export: channels, samples of all channels, annotations
-pub record AreCounts (export : List ℕ) (channels samples annotations : ℕ) : Type 0 where
-  pub channels_are : channels ≡ length (channels_among (head_of export).signals)
-  pub samples_are : samples ≡ (head_of export).records * samples_together (channels_among (head_of export).signals)
-  pub annotations_are : annotations ≡ length (notes_of export (head_of export))
+-- what a Yes counts in the export
+abbrev pub HasCounts : List ℕ → ℕ → ℕ → ℕ → Type 0
+HasCounts export channels samples annotations = AreCounts (head_of export) (notes_of export (head_of export)) channels samples annotations

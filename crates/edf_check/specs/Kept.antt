@@ -1,43 +1,43 @@
--- What a claim keeps of an original, and what an export holds with the shift taken off, at instants counted from the second at which the original starts.
-use Rattle.std.specs.Prelude.{◌≡◌, ℕ, ℤ, pos, neg_ℤ, ◌+ℤ◌, ◌*ℤ◌, ◌^◌, List, filter, map}
-use Rattle.edf_claim.specs.Claims.{Terms}
+-- What a claim keeps of an original, and how it stands in an export.
+use Rattle.std.specs.Prelude.{◌≡◌, ℕ, ℤ, pos, neg_ℤ, ◌+ℤ◌, ◌-ℤ◌, ◌*ℤ◌, ◌^◌, List, filter, map}
+use Rattle.edf_claim.specs.Terms.{Terms}
 use Rattle.edf_claim.specs.Keeps.{KeepsInstant, keeps_annotation}
 use Rattle.edf_fields.specs.Lists.{Has}
-use Rattle.edf_header.specs.Heads.{head_of}
+use Rattle.edf_header.specs.Heads.{Head}
 use Rattle.edf_stream.specs.Instants.{IsSame}
-use Rattle.edf_stream.specs.Notes.{NoteValue, moved_by, notes_of}
+use Rattle.edf_stream.specs.Notes.{NoteValue, moved_by}
 use Rattle.edf_stream.specs.Samples.{SampleValue, IsSample}
 use Rattle.edf_stream.specs.Starts.{file_start}
-use Rattle.edf_check.specs.Courses.{Course}
 use Rattle.edf_check.specs.Instants.{later}
 
--- the start of a file, in picoseconds after 1970-01-01 00:00:00
-abbrev pub start_of : List ℕ → ℤ
-start_of file = file_start (head_of file)
-
 -- by how much a claim moves what it keeps, in picoseconds
-abbrev pub shift_of : Terms → ℤ
-shift_of claim = claim.shift *ℤ pos (10 ^ 12)
+abbrev pub shift_ps : Terms → ℤ
+shift_ps claim = claim.shift *ℤ pos (10 ^ 12)
 
--- the file has a sample of this channel and this value at the instant, which is counted from 1970-01-01 00:00:00
-abbrev pub ValueAt : List ℕ → Course
-ValueAt file label at value = (x : SampleValue) × IsSample file (head_of file) x × (x.label ≡ label) × IsSame x.instant at × (x.value ≡ value)
+-- a sample of the original, whose header this is, that the claim keeps: its channel is claimed, and its instant, counted from the
+-- second at which the original starts, is in an interval
+pub record IsKeptSample (original : List ℕ) (h : Head) (claim : Terms) (x : SampleValue) : Type 0 where
+  pub sample : IsSample original h x
+  pub channel : Has claim.channels x.label
+  pub instant : KeepsInstant claim (later (neg_ℤ (file_start h)) x.instant).num (x.instant).den
 
--- the claim keeps a value of the original: the channel is claimed, the instant is in an interval, and the original has it there
-abbrev pub KeptAt : List ℕ → Terms → Course
-KeptAt original claim label at value =
-    Has claim.channels label × KeepsInstant claim at.num at.den × ValueAt original label (later (start_of original) at) value
+-- the second sample is the first one at its instant moved by the claimed shift
+pub record IsShifted (claim : Terms) (x y : SampleValue) : Type 0 where
+  pub label : y.label ≡ x.label
+  pub value : y.value ≡ x.value
+  pub instant : IsSame (later (shift_ps claim) x.instant) y.instant
 
--- the export has a value at the instant moved by the shift
-abbrev pub ExportedAt : List ℕ → List ℕ → Terms → Course
-ExportedAt original export claim label at value = ValueAt export label (later (start_of original +ℤ shift_of claim) at) value
+-- the samples of the export, whose header is g, are those that the claim keeps of the original, whose header is h, each moved by
+-- the claimed shift, and no others
+pub record SamplesAsKept (original export : List ℕ) (h g : Head) (claim : Terms) : Type 0 where
+  pub all_kept : (x : SampleValue) → IsKeptSample original h claim x → (y : SampleValue) × IsSample export g y × IsShifted claim x y
+  pub none_else : (y : SampleValue) → IsSample export g y → (x : SampleValue) × IsKeptSample original h claim x × IsShifted claim x y
 
--- the annotations that the claim keeps of the original, with onsets after the second at which it starts
-abbrev pub kept_notes : List ℕ → Terms → List NoteValue
-kept_notes original claim =
-    filter (λ note. keeps_annotation claim note.onset note.text) (map (moved_by (neg_ℤ (start_of original))) (notes_of original (head_of original)))
+-- those of the original's annotations that the claim keeps
+abbrev pub kept_of : Terms → List NoteValue → List NoteValue
+kept_of claim notes = filter (λ note. keeps_annotation claim note.onset note.text) notes
 
--- the annotations of the export with the shift taken off, with onsets after the second at which the original starts
-abbrev pub exported_notes : List ℕ → List ℕ → Terms → List NoteValue
-exported_notes original export claim =
-    map (moved_by (neg_ℤ (start_of original +ℤ shift_of claim))) (notes_of export (head_of export))
+-- the annotations of the export, whose header is g, with the shift taken off, and with onsets after the second at which the
+-- original starts, whose header is h
+abbrev pub unshifted : Head → Head → Terms → List NoteValue → List NoteValue
+unshifted h g claim notes = map (moved_by (file_start g -ℤ (file_start h +ℤ shift_ps claim))) notes

@@ -1,13 +1,13 @@
 -- What follows from the definition of the verdict.
 use Rattle.std.specs.Prelude.{◌≡◌, ◌↔◌, ◌<◌, ◌^◌, ◌*ℤ◌, ℕ, pos, neg_ℤ, unsigned_abs, List}
 use Rattle.std.specs.List.Sorted.{IsPermutation}
-use Rattle.edf_claim.specs.Claims.{Terms, IsClaim}
+use Rattle.edf_claim.specs.Claims.{IsClaim}
+use Rattle.edf_claim.specs.Terms.{Terms}
 use Rattle.edf_claim.specs.declared.interval.Interval.{Interval}
-use Rattle.edf_claim.specs.Keeps.{KeepsInstant}
 use Rattle.edf_fields.specs.Lists.{Has}
 use Rattle.edf_header.specs.CalibrationLaws.{FitTogether}
-use Rattle.edf_header.specs.Heads.{SignalHead, head_of}
-use Rattle.edf_stream.specs.Instants.{IsSame}
+use Rattle.edf_header.specs.Heads.{SignalHead}
+use Rattle.edf_header.specs.HeadsReading.{head_of}
 use Rattle.edf_stream.specs.Notes.{NoteValue}
 use Rattle.edf_stream.specs.Samples.{SampleValue, IsSample}
 use Rattle.edf_check.specs.Annotations.{SameNotes}
@@ -15,7 +15,9 @@ use Rattle.edf_verdict.specs.declared.verdict.Verdict.{Verdict}
 use Rattle.edf_verdict.specs.declared.verdict.Verdict.TheVariants.{Yes}
 use Rattle.edf_check.specs.Exports.{BothConform, SameSamples, IsExport}
 use Rattle.edf_check.specs.Instants.{later}
-use Rattle.edf_check.specs.Kept.{start_of, shift_of}
+use Rattle.edf_check.specs.Headline.{Headline}
+use Rattle.edf_check.specs.Kept.{SamplesAsKept, shift_ps}
+use Rattle.edf_check.specs.KeptReading.{origin_of}
 use Rattle.edf_check.specs.Verdicts.{IsVerdict}
 
 -- there is one verdict at most
@@ -31,24 +33,15 @@ abbrev pub YesExactly : Type 0
 YesExactly = (original export : List ℕ) (claim : Terms) (v : Verdict) → IsVerdict original export claim v →
     (BothConform original export × IsExport original export claim) ↔ IsYes v
 
--- a sample of the original that the claim keeps: its channel is claimed, and its instant, counted from the second at which the
--- original starts, is in an interval
-pub record IsKeptSample (original : List ℕ) (claim : Terms) (x : SampleValue) : Type 0 where
-  pub sample : IsSample original (head_of original) x
-  pub channel : Has claim.channels x.label
-  pub instant : KeepsInstant claim (later (neg_ℤ (start_of original)) x.instant).num (x.instant).den
-
--- for each kept sample the export has one of the same channel and value, at its instant moved by the shift; and for each sample of the
--- export there is such a kept one
-pub record SamplesAsKept (original export : List ℕ) (claim : Terms) : Type 0 where
-  pub all_kept : (x : SampleValue) → IsKeptSample original claim x →
-      (y : SampleValue) × IsSample export (head_of export) y × (y.label ≡ x.label) × (y.value ≡ x.value) × IsSame (later (shift_of claim) x.instant) y.instant
-  pub none_else : (y : SampleValue) → IsSample export (head_of export) y →
-      (x : SampleValue) × IsKeptSample original claim x × (y.label ≡ x.label) × (y.value ≡ x.value) × IsSame (later (shift_of claim) x.instant) y.instant
+-- the headline holds exactly where both files conform and the second is the export of the first
+abbrev pub HeadlineExactly : Type 0
+HeadlineExactly = (original export : List ℕ) (claim : Terms) →
+    Headline original export claim ↔ (BothConform original export × IsExport original export claim)
 
 -- the samples are the same at all instants exactly where they are so one by one
 abbrev pub SamplesInWords : Type 0
-SamplesInWords = (original export : List ℕ) (claim : Terms) → SameSamples original export claim ↔ SamplesAsKept original export claim
+SamplesInWords = (original export : List ℕ) (claim : Terms) →
+    SameSamples original export claim ↔ SamplesAsKept original export (head_of original) (head_of export) claim
 
 -- each annotation stands equally often in two lists exactly where one is a rearrangement of the other
 abbrev pub NotesInWords : Type 0
@@ -60,10 +53,10 @@ pub record ProductsFit (original export : List ℕ) (claim : Terms) : Type 0 whe
   pub bounds : (x : SampleValue) (i : Interval) → IsSample original (head_of original) x → Has claim.keep i →
       (unsigned_abs (i.from_ps *ℤ pos (x.instant).den) < 2 ^ 127) × (unsigned_abs (i.to_ps *ℤ pos (x.instant).den) < 2 ^ 127)
   pub shifts : (x : SampleValue) → IsSample original (head_of original) x →
-      (unsigned_abs (start_of original *ℤ pos (x.instant).den) < 2 ^ 127) × (unsigned_abs (shift_of claim *ℤ pos (x.instant).den) < 2 ^ 127)
-  pub kept : (x : SampleValue) → IsSample original (head_of original) x → unsigned_abs (later (neg_ℤ (start_of original)) x.instant).num < 2 ^ 127
+      (unsigned_abs (origin_of original *ℤ pos (x.instant).den) < 2 ^ 127) × (unsigned_abs (shift_ps claim *ℤ pos (x.instant).den) < 2 ^ 127)
+  pub kept : (x : SampleValue) → IsSample original (head_of original) x → unsigned_abs (later (neg_ℤ (origin_of original)) x.instant).num < 2 ^ 127
   pub moved : (x y : SampleValue) → IsSample original (head_of original) x → IsSample export (head_of export) y →
-      (unsigned_abs ((later (shift_of claim) x.instant).num *ℤ pos (y.instant).den) < 2 ^ 127) × (unsigned_abs ((y.instant).num *ℤ pos (x.instant).den) < 2 ^ 127)
+      (unsigned_abs ((later (shift_ps claim) x.instant).num *ℤ pos (y.instant).den) < 2 ^ 127) × (unsigned_abs ((y.instant).num *ℤ pos (x.instant).den) < 2 ^ 127)
   pub calibrations : (x y : SignalHead) → Has (head_of original).signals x → Has (head_of export).signals y → FitTogether x.calibration y.calibration × FitTogether y.calibration x.calibration
 
 abbrev pub AllProductsFit : Type 0

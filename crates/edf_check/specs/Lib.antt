@@ -1,6 +1,10 @@
 pub mod Instants
+pub mod InstantOrder
 pub mod Courses
+pub mod Premises
 pub mod Kept
+pub mod KeptReading
+pub mod Headline
 pub mod Annotations
 pub mod Exports
 pub mod Verdicts

@@ -1,10 +1,11 @@
 -- What a run of the check writes, and why it stops.
 use Rattle.std.specs.Prelude.{◌≡◌, ℕ, List, ◌++◌}
-use Rattle.edf_claim.specs.Claims.{Terms, SaysClaimText}
+use Rattle.edf_claim.specs.Claims.{SaysClaimText}
+use Rattle.edf_claim.specs.Terms.{Terms}
 use Rattle.edf_claim.specs.declared.stop.ClaimStop.{ClaimStop}
 use Rattle.edf_claim.specs.declared.stop.ClaimStop.TheVariants as claims
 use Rattle.edf_fields.specs.Sinks.{HoldsPrefix}
-use Rattle.edf_check.specs.Checks.{YesMeans}
+use Rattle.edf_check.specs.Headline.{YesMeans}
 use Rattle.edf_verdict.specs.declared.outcome.Outcome.{Outcome}
 use Rattle.edf_check.specs.declared.run.RunStop.{RunStop}
 use Rattle.edf_check.specs.declared.run.RunStop.TheVariants.{OutOfMemory, ReadFailed, Claim, WriteFailed}

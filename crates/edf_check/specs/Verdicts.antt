@@ -1,13 +1,13 @@
 -- The verdict on an original and an export: the first difference in the order of `Difference`, or Yes.
 use Rattle.std.specs.Prelude.{◌≡◌, ℕ, List, None, Some}
-use Rattle.edf_claim.specs.Claims.{Terms}
-use Rattle.edf_header.specs.Heads.{head_of}
+use Rattle.edf_claim.specs.Terms.{Terms}
+use Rattle.edf_header.specs.HeadsReading.{head_of}
 use Rattle.edf_stream.specs.Faults.{file_fault}
 use Rattle.edf_check.specs.Annotations.{IsFirstNote}
 use Rattle.edf_check.specs.Courses.{IsFirstMismatch}
-use Rattle.edf_check.specs.Exports.{BothConform, SameSamples, IsExport, AreCounts}
+use Rattle.edf_check.specs.Exports.{BothConform, SameSamples, IsExport, HasCounts}
 use Rattle.edf_heads.specs.HeadVerdicts.{HeadsAgree, IsHeadVerdict}
-use Rattle.edf_check.specs.Kept.{KeptAt, ExportedAt, kept_notes, exported_notes}
+use Rattle.edf_check.specs.KeptReading.{KeptAt, ExportedAt, kept_notes, exported_notes}
 use Rattle.edf_verdict.specs.declared.verdict.Verdict.{Verdict}
 use Rattle.edf_verdict.specs.declared.verdict.Verdict.TheVariants.{Yes, No}
 use Rattle.edf_verdict.specs.declared.verdict.Difference.TheVariants.{OriginalFault, ExportFault, UnknownChannel, MissingChannel, ExtraChannel, ChannelText, Calibration, Subfield, NotClean, Sample, Annotation}
@@ -34,4 +34,4 @@ IsVerdict original export claim (No (Annotation mismatch onset duration text)) =
     BothConform original export × HeadsAgree (head_of original) (head_of export) claim × SameSamples original export claim
     × IsFirstNote (kept_notes original claim) (exported_notes original export claim) mismatch (record { onset = onset; duration = duration; text = text })
 IsVerdict original export claim (Yes channels samples annotations) =
-    BothConform original export × IsExport original export claim × AreCounts export channels samples annotations
+    BothConform original export × IsExport original export claim × HasCounts export channels samples annotations

@@ -2,7 +2,8 @@
 
 ghost use Rattle.std.specs.Prelude.{◌≡◌, IfOk, IfErr, IsTrue};
 ghost use Rattle.edf_fields.specs.Sources.{Rises};
-ghost use Rattle.edf_check.specs.Checks.{AreRead, CheckStops, YesMeans};
+ghost use Rattle.edf_check.specs.Checks.{AreRead, CheckStops};
+ghost use Rattle.edf_check.specs.Headline.{YesMeans};
 ghost use Rattle.edf_check.specs.Verdicts.{IsVerdict};
 
 use crate::stop::CheckStop;
@@ -30,7 +31,8 @@ pub fn check<O: Source, E: Source>(
         IsVerdict (O.left original.old) (E.left export.old) claim.now verdict) }
     ensures read { IfOk result (λ verdict. IsTrue (O.is_honest original.old) → IsTrue (E.is_honest export.old) →
         AreRead verdict (O.left original.new) (E.left export.new)) }
-    ensures stop { IfErr result (CheckStops (Rises (O.failures original.old) (O.failures original.new)) (Rises (E.failures export.old) (E.failures export.new))) }
+    ensures stop { IfErr result (CheckStops (Rises (O.failures original.old) (O.failures original.new)) (Rises (E.failures export.old)
+        (E.failures export.new))) }
 {
     let walked = walk(alloc, original, export, claim)?;
     Ok(walked.verdict())

@@ -1,6 +1,6 @@
 //! Laws of the definitions, each the contract of a function that does nothing.
 
-ghost use Rattle.edf_check.specs.Laws.{OneVerdict, YesExactly, SamplesInWords, NotesInWords, AllProductsFit};
+ghost use Rattle.edf_check.specs.Laws.{OneVerdict, YesExactly, HeadlineExactly, SamplesInWords, NotesInWords, AllProductsFit};
 
 /// Two files have one verdict at most.
 pub fn there_is_one_verdict()
@@ -8,9 +8,10 @@ pub fn there_is_one_verdict()
 {}
 
 /// Where there is a verdict, it is a Yes exactly where both files conform and the second is the export of
-/// the first.
+/// the first; and that is so exactly where the headline holds of them.
 pub fn a_yes_is_given_exactly_for_an_export()
-    ensures { YesExactly }
+    ensures yes { YesExactly }
+    ensures headline { HeadlineExactly }
 {}
 
 /// The samples of an export are the kept ones at all instants exactly where they are so one by one, both

@@ -84,7 +84,8 @@ pub fn run<O: Source, E: Source, K: Sink>(
     ensures failures { OnOk result (K.failures sink.new ≡ K.failures sink.old) }
     ensures honesty { IsTrue (K.is_honest sink.old) → IsTrue (K.is_honest sink.new) }
     ensures nothing { IfErr result (λ stop. stop ≢ stops.WriteFailed → sink.new ≡ sink.old) }
-    ensures part { IfErr result (λ stop. stop ≡ stops.WriteFailed → IsTrue (O.is_honest original.old) → IsTrue (E.is_honest export.old) → IsTrue (K.is_honest sink.old) →
+    ensures part { IfErr result (λ stop. stop ≡ stops.WriteFailed → IsTrue (O.is_honest original.old) → IsTrue (E.is_honest export.old) →
+        IsTrue (K.is_honest sink.old) →
         IsPartOfReport (O.left original.old) (E.left export.old) claim_text.now (K.held sink.old) (K.held sink.new)) }
     ensures front { IfErr result (λ stop. stop ≡ stops.WriteFailed → IsTrue (K.is_honest sink.old) → IsFrontOfALine (K.held sink.old) (K.held sink.new)) }
     ensures stop { IfErr result (RunStops

@@ -1,14 +1,15 @@
 //! Two files read to their ends and compared.
 
 ghost use Rattle.std.specs.Prelude.{◌≡◌, ◌*◌, ℕ, List, [], length, Some, IfOk, IfErr, IfSome, IfNone, IsTrue};
-ghost use Rattle.edf_claim.specs.Claims.{Terms};
+ghost use Rattle.edf_claim.specs.Terms.{Terms};
 ghost use Rattle.edf_fields.specs.Sources.{Rises};
 ghost use Rattle.edf_header.specs.Heads.{samples_together};
 ghost use Rattle.edf_stream.specs.Conforming.{Conforms};
 ghost use Rattle.edf_stream.specs.Faults.{file_fault};
 ghost use Rattle.edf_stream.specs.Readers.{Reader, HasBegun, StandsIn};
-ghost use Rattle.edf_stream.specs.Summaries.{channels_among};
+ghost use Rattle.edf_header.specs.Channels.{channels_among};
 ghost use Rattle.edf_heads.specs.HeadVerdicts.{HeadsAgree, IsHeadVerdict};
+ghost use Rattle.edf_check.specs.Premises.{OfFiles};
 ghost use Rattle.edf_check.specs.Checks.{CheckStops, SideStops};
 ghost use Rattle.edf_check.specs.walk.Walks.{IsReadOut, IsWalked};
 ghost use Rattle.edf_check.specs.walk.Ends.{IsFaultOf, IsReadBy};
@@ -85,8 +86,10 @@ fn header_behind<S: Source>(
     fault: Fault,
 ) -> Result<Walked, CheckStop>
     requires begun { HasBegun original.old }
-    ensures walked { IfOk result (λ walked. IsTrue (S.is_honest source.old) → (o e : List ℕ) (claim : Terms) → StandsIn original.old (S.left source.old) o → file_fault e ≡ Some fault → IsWalked o e claim walked) }
-    ensures read { IfOk result (λ walked. IsTrue (S.is_honest source.old) → (o left : List ℕ) → StandsIn original.old (S.left source.old) o → IsReadOut walked (S.left source.new) left) }
+    ensures walked { IfOk result (λ walked. IsTrue (S.is_honest source.old) → (o e : List ℕ) (claim : Terms) →
+        StandsIn original.old (S.left source.old) o → file_fault e ≡ Some fault → IsWalked o e claim walked) }
+    ensures read { IfOk result (λ walked. IsTrue (S.is_honest source.old) → (o left : List ℕ) → StandsIn original.old (S.left source.old) o →
+        IsReadOut walked (S.left source.new) left) }
     ensures stop { IfErr result (SideStops sides.Original (Rises (S.failures source.old) (S.failures source.new))) }
 {
     match read_out(original, source, Side::Original) {
@@ -108,12 +111,15 @@ fn read_both_out<O: Source, E: Source>(
 ) -> Result<Option<FaultOf>, CheckStop>
     requires original { HasBegun original.old }
     requires export { HasBegun export.old }
-    ensures through { IfOk result (λ found. IfNone found (IsTrue (O.is_honest o.old) → IsTrue (E.is_honest e.old) → (a b : List ℕ) → StandsIn original.old (O.left o.old) a → StandsIn export.old (E.left e.old) b
-        → ((O.left o.new ≡ []) × Conforms a original.old.head) × ((E.left e.new ≡ []) × Conforms b export.old.head))) }
-    ensures fault { IfOk result (λ found. IfSome found (λ fault. IsTrue (O.is_honest o.old) → IsTrue (E.is_honest e.old) → (a b : List ℕ) → StandsIn original.old (O.left o.old) a → StandsIn export.old (E.left e.old) b
-        → IsFaultOf a original.old.head b export.old.head fault)) }
-    ensures out { IfOk result (λ found. IfSome found (λ fault. IsTrue (O.is_honest o.old) → IsTrue (E.is_honest e.old) → (a b : List ℕ) → StandsIn original.old (O.left o.old) a → StandsIn export.old (E.left e.old) b
-        → IsReadBy fault (O.left o.new))) }
+    ensures through { IfOk result (λ found. IfNone found (OfFiles (O.is_honest o.old) (E.is_honest e.old)
+        (StandsIn original.old (O.left o.old)) (StandsIn export.old (E.left e.old))
+        (λ a b. ((O.left o.new ≡ []) × Conforms a original.old.head) × ((E.left e.new ≡ []) × Conforms b export.old.head)))) }
+    ensures fault { IfOk result (λ found. IfSome found (λ fault. OfFiles (O.is_honest o.old) (E.is_honest e.old)
+        (StandsIn original.old (O.left o.old)) (StandsIn export.old (E.left e.old))
+        (λ a b. IsFaultOf a original.old.head b export.old.head fault))) }
+    ensures out { IfOk result (λ found. IfSome found (λ fault. OfFiles (O.is_honest o.old) (E.is_honest e.old)
+        (StandsIn original.old (O.left o.old)) (StandsIn export.old (E.left e.old))
+        (λ a b. IsReadBy fault (O.left o.new)))) }
     ensures stop { IfErr result (CheckStops (Rises (O.failures o.old) (O.failures o.new)) (Rises (E.failures e.old) (E.failures e.new))) }
 {
     match read_out(original, o, Side::Original) {
@@ -140,9 +146,12 @@ fn heads_differ<O: Source, E: Source>(
 ) -> Result<Walked, CheckStop>
     requires original { HasBegun original.old }
     requires export { HasBegun export.old }
-    ensures walked { IfOk result (λ walked. IsTrue (O.is_honest o.old) → IsTrue (E.is_honest e.old) → (a b : List ℕ) (claim : Terms) → StandsIn original.old (O.left o.old) a → StandsIn export.old (E.left e.old) b
+    ensures walked { IfOk result (λ walked. IsTrue (O.is_honest o.old) → IsTrue (E.is_honest e.old) → (a b : List ℕ) (claim : Terms) →
+        StandsIn original.old (O.left o.old) a → StandsIn export.old (E.left e.old) b
         → IsHeadVerdict original.old.head export.old.head claim verdict → IsWalked a b claim walked) }
-    ensures read { IfOk result (λ walked. IsTrue (O.is_honest o.old) → IsTrue (E.is_honest e.old) → (a b : List ℕ) → StandsIn original.old (O.left o.old) a → StandsIn export.old (E.left e.old) b → IsReadOut walked (O.left o.new) (E.left e.new)) }
+    ensures read { IfOk result (λ walked. OfFiles (O.is_honest o.old) (E.is_honest e.old)
+        (StandsIn original.old (O.left o.old)) (StandsIn export.old (E.left e.old))
+        (λ a b. IsReadOut walked (O.left o.new) (E.left e.new))) }
     ensures stop { IfErr result (CheckStops (Rises (O.failures o.old) (O.failures o.new)) (Rises (E.failures e.old) (E.failures e.new))) }
 {
     match read_both_out(original, o, export, e) {
@@ -192,9 +201,12 @@ fn walk_contents<O: Source, E: Source>(
 ) -> Result<Walked, CheckStop>
     requires original { HasBegun original.old.reader × ((original.old.notes).items ≡ []) }
     requires export { HasBegun export.old.reader × ((export.old.notes).items ≡ []) }
-    ensures walked { IfOk result (λ walked. IsTrue (O.is_honest o.old) → IsTrue (E.is_honest e.old) → (a b : List ℕ) → StandsIn original.old.reader (O.left o.old) a → StandsIn export.old.reader (E.left e.old) b
-        → HeadsAgree (original.old.reader).head (export.old.reader).head claim.now → IsWalked a b claim.now walked) }
-    ensures read { IfOk result (λ walked. IsTrue (O.is_honest o.old) → IsTrue (E.is_honest e.old) → (a b : List ℕ) → StandsIn original.old.reader (O.left o.old) a → StandsIn export.old.reader (E.left e.old) b → IsReadOut walked (O.left o.new) (E.left e.new)) }
+    ensures walked { IfOk result (λ walked. OfFiles (O.is_honest o.old) (E.is_honest e.old)
+        (StandsIn original.old.reader (O.left o.old)) (StandsIn export.old.reader (E.left e.old))
+        (λ a b. HeadsAgree (original.old.reader).head (export.old.reader).head claim.now → IsWalked a b claim.now walked)) }
+    ensures read { IfOk result (λ walked. OfFiles (O.is_honest o.old) (E.is_honest e.old)
+        (StandsIn original.old.reader (O.left o.old)) (StandsIn export.old.reader (E.left e.old))
+        (λ a b. IsReadOut walked (O.left o.new) (E.left e.new))) }
     ensures stop { IfErr result (CheckStops (Rises (O.failures o.old) (O.failures o.new)) (Rises (E.failures e.old) (E.failures e.new))) }
 {
     let clock = Clock::new(original.reader.header(), claim);
@@ -235,7 +247,8 @@ pub(crate) fn walk<O: Source, E: Source>(
         IsWalked (O.left original.old) (E.left export.old) claim.now walked) }
     ensures read { IfOk result (λ walked. IsTrue (O.is_honest original.old) → IsTrue (E.is_honest export.old) →
         IsReadOut walked (O.left original.new) (E.left export.new)) }
-    ensures stop { IfErr result (CheckStops (Rises (O.failures original.old) (O.failures original.new)) (Rises (E.failures export.old) (E.failures export.new))) }
+    ensures stop { IfErr result (CheckStops (Rises (O.failures original.old) (O.failures original.new)) (Rises (E.failures export.old)
+        (E.failures export.new))) }
 {
     let mut first = match open(alloc, original, Side::Original) {
         Ok(Ok(reading)) => reading,

@@ -1,7 +1,7 @@
 //! Labels in the order of their bytes, and their places there.
 
 use edf_fields::label::SignalLabel;
-use edf_heads::labels::{in_order, is_found, place_of};
+use edf_heads::labels::{in_order, is_found, found_at};
 use std::alloc::AllocError;
 use std::process::Abort;
 
@@ -28,8 +28,8 @@ fn puts_labels_in_the_order_of_their_bytes(rt: HostRuntime) -> Result<(), AllocE
     ];
     let sorted = in_order(rt.alloc(), &labels)?;
     assert_places(&rt, &sorted);
-    assert_eq!(rt; place_of(&sorted, b"EEG 2"), Some(2));
-    assert_eq!(rt; place_of(&sorted, b"EE"), None);
+    assert_eq!(rt; found_at(&sorted, b"EEG 2"), Some(2));
+    assert_eq!(rt; found_at(&sorted, b"EE"), None);
     assert!(rt; is_found(&sorted, b"ecg"));
     assert!(rt; !is_found(&sorted, b"ECG"));
     Ok(())

@@ -2,10 +2,12 @@
 use Rattle.std.proofs.Common.{◌≡◌, ◌≢◌, ◌↔◌, ℕ, ℤ, pos, ◌+◌, ◌*ℤ◌, ◌<◌, ◌^◌, int_le, int_lt, not, ◌||◌, Bool, true, false, List, [], ◌∷◌, length, get_or, drop, unsigned_abs, inl, inr, ⊎_elim, refl, sym, ap, ◌∙◌, subst, add-one, arith}
 use Rattle.std.specs.List.{All, list_any}
 use Rattle.std.proofs.lemmas.Int.{ints}
-use Rattle.edf_claim.specs.Claims.{Terms, IsInterval}
+use Rattle.edf_claim.specs.Claims.{IsInterval}
+use Rattle.edf_claim.specs.Terms.{Terms}
 use Rattle.edf_claim.specs.declared.interval.Interval.{Interval}
 use Rattle.edf_claim.specs.declared.which.Which.{Which}
-use Rattle.edf_claim.specs.Keeps.{IsWithin, KeepsInstant, KeepsAnnotation, is_within, keeps_instant, keeps_annotation}
+use Rattle.edf_claim.specs.Keeps.{IsWithin, KeepsInstant, is_within, keeps_instant, keeps_annotation}
+use Rattle.edf_claim.specs.KeepsReading.{KeepsAnnotation}
 use Rattle.edf_fields.specs.Lists.{Has, is_one_of}
 use Rattle.edf_fields.proofs.ForCallers.{has-one_of, one_of-has, and-true, not-true, both-true, not-is, le-passes, lt-passes}
 use Rattle.std.proofs.Math.Seq.{drop-cons}

@@ -7,11 +7,13 @@ use Rattle.std.proofs.lemmas.Int.{ints}
 use Rattle.std.proofs.lemmas.List.Elements.{All-nil, All-cons}
 use Rattle.std.proofs.lemmas.Slice.Eq.{bytes_eq-Decides}
 use Rattle.toml.specs.Data.{Data, string, integer, float, boolean, datetime, array, table, Items, no_items, item, Members, no_members, member, get_member, as_str, as_integer, as_array, as_table}
-use Rattle.edf_fields.specs.Printable.{is_printable}
-use Rattle.edf_fields.specs.Onsets.{span_of}
+use Rattle.edf_fields.specs.PrintableReading.{is_printable}
+use Rattle.edf_fields.specs.OnsetsReading.{span_of}
 use Rattle.edf_fields.proofs.ForCallers.{le_decided, span_of_some, span_small, and-true, not-true, one_of-has, distinct-tested, first-cons, unless-passed, printable_decided}
-use Rattle.edf_claim.specs.Claims.{Terms, name_of, text_items, HasOnlyKeys, claim_keys, interval_keys, IsLabel, SaysInterval, AreIntervals, IsFollowedBy, AreInOrder, IsInterval, IsClaim, SaysFormat, SaysChannels, SaysKeep, SaysAnonymous, SaysShift, SaysRemove, SaysClaim}
-use Rattle.edf_fields.specs.Lists.{Has, AreDistinct, is_one_of, are_distinct}
+use Rattle.edf_claim.specs.Claims.{name_of, text_items, HasOnlyKeys, claim_keys, interval_keys, IsLabel, SaysInterval, AreIntervals, IsFollowedBy, AreInOrder, IsInterval, IsClaim, SaysFormat, SaysChannels, SaysKeep, SaysAnonymous, SaysShift, SaysRemove, SaysClaim}
+use Rattle.edf_claim.specs.Terms.{Terms}
+use Rattle.edf_fields.specs.Lists.{Has, is_one_of}
+use Rattle.edf_fields.specs.Distinct.{AreDistinct, are_distinct}
 use Rattle.edf_claim.specs.Reading.{integer_of, text_at, keys_are, texts_of, distinct_texts, option_is, is_format_one, is_label, channels_of, span_at, interval_from, interval_of, intervals_of, is_followed_by, are_in_order, keep_of, named_in, all_names, which_of, whiches_of, or_default, anonymous_of, shift_within, shift_of, remove_of, claim_fault, terms_of}
 use Rattle.edf_fields.specs.Tests.{unless}
 use Rattle.edf_claim.specs.declared.interval.Interval.{Interval}

@@ -5,12 +5,15 @@ use Rattle.std.specs.Str.{bytes_eq}
 use Rattle.std.proofs.lemmas.Bool.Decides.{nat_tests}
 use Rattle.std.proofs.lemmas.Slice.Eq.{bytes_eq-Decides}
 use Rattle.toml.specs.Data.{Data, string, array, Items, Members, no_members, member, get_member, as_str, as_integer, as_array}
-use Rattle.edf_fields.specs.Printable.{is_printable}
-use Rattle.edf_fields.specs.Onsets.{SpellsSpan, span_of}
+use Rattle.edf_fields.specs.PrintableReading.{is_printable}
+use Rattle.edf_fields.specs.Onsets.{SpellsSpan}
+use Rattle.edf_fields.specs.OnsetsReading.{span_of}
 use Rattle.edf_fields.proofs.ForCallers.{le_decided, span_of_spelled, has-one_of, both-true, not-is, distinct-passes, le-passes, lt-passes, printable_decided}
-use Rattle.edf_claim.specs.Claims.{Terms, name_of, text_items, HasOnlyKeys, claim_keys, interval_keys, IsLabel, SaysInterval, AreIntervals, IsFollowedBy, AreInOrder, IsInterval, SaysFormat, SaysChannels, SaysKeep, SaysAnonymous, SaysShift, SaysRemove, SaysClaim, SaysOneClaim}
+use Rattle.edf_claim.specs.Claims.{name_of, text_items, HasOnlyKeys, claim_keys, interval_keys, IsLabel, SaysInterval, AreIntervals, IsFollowedBy, AreInOrder, IsInterval, SaysFormat, SaysChannels, SaysKeep, SaysAnonymous, SaysShift, SaysRemove, SaysClaim, SaysOneClaim}
+use Rattle.edf_claim.specs.Terms.{Terms}
 use Rattle.edf_claim.specs.Faults.{FailsOr, FirstTableFault, ThereIs, SaysClaimOrFault, FaultIsFirst}
-use Rattle.edf_fields.specs.Lists.{Has, AreDistinct, is_one_of, are_distinct}
+use Rattle.edf_fields.specs.Lists.{Has, is_one_of}
+use Rattle.edf_fields.specs.Distinct.{AreDistinct, are_distinct}
 use Rattle.edf_claim.specs.Reading.{option_is, keys_are, texts_of, distinct_texts, is_format_one, is_label, channels_of, span_at, interval_from, interval_of, intervals_of, is_followed_by, are_in_order, keep_of, which_of, whiches_of, or_default, anonymous_of, shift_within, shift_of, remove_of, claim_fault, terms_of}
 use Rattle.edf_fields.specs.Tests.{first, unless}
 use Rattle.edf_claim.specs.declared.interval.Interval.{Interval}

@@ -12,7 +12,7 @@ use Rattle.std.proofs.lemmas.Cmp.{same_from_slice_cmp, nat_list_cmp_total}
 use Rattle.std.proofs.lemmas.List.Folds.{list_any_at, list_any_none}
 use Rattle.std.proofs.lemmas.List.Sorted.{searchable_from_sorted, list_any-IsPermutation, IsPermutation-map}
 use Rattle.edf_fields.specs.Lists.{is_one_of}
-use Rattle.edf_claim.specs.Keeps.{IsIndex}
+use Rattle.edf_claim.specs.KeepsReading.{IsIndex}
 
 -- texts are the same where they compare as equal
 equal-tested : (xs ys : List ℕ) → is_eq (slice_cmp nat_cmp xs ys) ≡ bytes_eq xs ys

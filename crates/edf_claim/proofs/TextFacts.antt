@@ -3,7 +3,8 @@ use Rattle.std.proofs.Common.{◌≡◌, ◌≢◌, ℕ, ◌≤◌, List, length
 use Rattle.std.specs.Prelude.{IsUtf8, IfOk, IfErr, OnOk}
 use Rattle.toml.specs.Data.{Members}
 use Rattle.toml.specs.Parse.{parse_document}
-use Rattle.edf_claim.specs.Claims.{Terms, SaysClaimText}
+use Rattle.edf_claim.specs.Claims.{SaysClaimText}
+use Rattle.edf_claim.specs.Terms.{Terms}
 use Rattle.edf_claim.specs.Faults.{FirstClaimFault}
 use Rattle.edf_claim.specs.Reading.{claim_fault, terms_of}
 use Rattle.edf_claim.specs.declared.stop.ClaimStop.{ClaimStop}

@@ -2,22 +2,15 @@
 use Rattle.std.specs.Prelude.{◌≡◌, ◌≢◌, ℕ, ℤ, pos, neg_ℤ, ◌-◌, ◌≤ℤ◌, ◌<ℤ◌, ◌≤◌, ◌^◌, ◌⊎◌, List, [], ◌∷◌, length, map, slice_index, Some, None, codes, IsUtf8}
 use Rattle.std.specs.List.{All}
 use Rattle.edf_fields.specs.Onsets.{SpellsSpan}
-use Rattle.edf_fields.specs.Lists.{Has, AreDistinct}
+use Rattle.edf_fields.specs.Lists.{Has}
+use Rattle.edf_fields.specs.Distinct.{AreDistinct}
 use Rattle.edf_claim.specs.declared.interval.Interval.{Interval}
 use Rattle.edf_claim.specs.declared.which.Which.{Which}
 use Rattle.edf_claim.specs.declared.which.Which.TheVariants.{Code, Sex, Birthdate, Name, PatientExtras, Date, Administration, Technician, Equipment, RecordingExtras}
 use Rattle.toml.specs.Data.{string, integer, array, table, Items, no_items, item, Members, no_members, member, get_member}
 use Rattle.toml.specs.Parse.{parse_document}
 use Rattle.edf_fields.specs.Printable.{IsPrintable}
-
--- a claim: the labels of the channels, the intervals that are kept, what is made anonymous, the shift in seconds, and the texts of annotations that are removed
--- intervals count picoseconds after the second at which the original starts
-pub record Terms : Type 0 where
-  pub channels : List (List ℕ)
-  pub keep : List Interval
-  pub anonymous : List Which
-  pub shift : ℤ
-  pub remove : List (List ℕ)
+use Rattle.edf_claim.specs.Terms.{Terms}
 
 -- the name of each subfield, as a claim writes it
 abbrev pub name_of : Which → List ℕ

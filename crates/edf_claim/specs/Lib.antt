@@ -1,4 +1,6 @@
 pub mod Claims
+pub mod Terms
 pub mod Faults
 pub mod Keeps
+pub mod KeepsReading
 pub mod Reading

@@ -1,13 +1,14 @@
 -- The claim that a table says, as functions, and the first fault of a table that says none.
-use Rattle.std.specs.Prelude.{ℕ, ℤ, pos, neg_ℤ, ◌-◌, ◌^◌, ◌==◌, nat_le, nat_lt, int_le, int_lt, not, ◌&&◌, Bool, true}
-use Rattle.std.specs.Prelude.{false, if◌then◌else◌, List, [], ◌∷◌, length, slice_index, Option, Some, None, is_some, unwrap_or, option_map, option_and_then, codes}
+use Rattle.std.specs.Prelude.{ℕ, ℤ, pos, neg_ℤ, ◌-◌, ◌^◌, ◌==◌, nat_le, nat_lt, int_le, int_lt, not, ◌&&◌, Bool, true, false, if◌then◌else◌, List, [], ◌∷◌, length, slice_index, Option, Some, None, is_some, unwrap_or, option_map, option_and_then, codes}
 use Rattle.std.specs.List.{list_all}
 use Rattle.std.specs.Ordering.{int_eq}
 use Rattle.std.specs.Str.{bytes_eq}
-use Rattle.edf_fields.specs.Printable.{is_printable}
-use Rattle.edf_fields.specs.Onsets.{span_of}
-use Rattle.edf_claim.specs.Claims.{Terms, name_of, claim_keys, interval_keys}
-use Rattle.edf_fields.specs.Lists.{is_one_of, are_distinct}
+use Rattle.edf_fields.specs.PrintableReading.{is_printable}
+use Rattle.edf_fields.specs.OnsetsReading.{span_of}
+use Rattle.edf_claim.specs.Claims.{name_of, claim_keys, interval_keys}
+use Rattle.edf_claim.specs.Terms.{Terms}
+use Rattle.edf_fields.specs.Lists.{is_one_of}
+use Rattle.edf_fields.specs.Distinct.{are_distinct}
 use Rattle.edf_claim.specs.declared.interval.Interval.{Interval}
 use Rattle.edf_claim.specs.declared.stop.ClaimStop.{ClaimStop}
 use Rattle.edf_claim.specs.declared.stop.ClaimStop.TheVariants.{BadFormat, UnknownKey, BadChannels, BadKeep, BadAnonymous, BadShift, BadRemove}

@@ -5,7 +5,7 @@ ghost use Rattle.toml.specs.View.{view, table_view};
 ghost use Rattle.edf_claim.specs.Reading.{whiches_of, anonymous_of};
 
 use crate::table::value_at;
-use crate::texts::distinct_texts;
+use crate::text_arrays::distinct_texts;
 use crate::which::{Which, which_of};
 use std::alloc::{AllocError, Global};
 use toml::Table;

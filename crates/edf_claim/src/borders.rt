@@ -2,19 +2,19 @@
 
 ghost use Rattle.std.specs.Prelude.{◌≡◌, ◌⊎◌, ◌≤◌, ◌<◌, ◌≤ℤ◌, ◌<ℤ◌, int_le, length, true, false};
 ghost use Rattle.std.specs.List.Sorted.{IsPartitionPoint};
-ghost use Rattle.edf_claim.specs.Keeps.{AreKept, IsOutside, IsUncut, HasBorder};
+ghost use Rattle.edf_claim.specs.KeepsReading.{AreKept, IsOutside, IsUncut, HasBorder};
 
 use crate::claim::Claim;
 use crate::interval::Interval;
 
 /// A time, in picoseconds after the second at which the original starts.
 #[derive(Clone, Copy)]
-struct Time {
+struct Moment {
     ps: i128,
 }
 
 /// `at` where it lies between two times, else the later one of these.
-fn cut_at(at: Time, from: Time, to: Time) -> Time
+fn cut_at(at: Moment, from: Moment, to: Moment) -> Moment
     requires { from.ps <ℤ to.ps }
     ensures later { from.ps <ℤ result.ps }
     ensures within { result.ps ≤ℤ to.ps }
@@ -30,7 +30,7 @@ fn cut_at(at: Time, from: Time, to: Time) -> Time
 
 /// The first time behind `from` at which the interval begins or ends, or `to`, where that is earlier.
 #[tactic(auto, using(crate::proofs::BorderFacts::outside_earlier))]
-fn cut_by(interval: Interval, from: Time, to: Time) -> Time
+fn cut_by(interval: Interval, from: Moment, to: Moment) -> Moment
     requires { from.ps <ℤ to.ps }
     ensures later { from.ps <ℤ result.ps }
     ensures within { result.ps ≤ℤ to.ps }
@@ -38,15 +38,15 @@ fn cut_by(interval: Interval, from: Time, to: Time) -> Time
     ensures end { IsOutside from.ps result.ps interval.to_ps }
     ensures one { (result.ps ≡ to.ps) ⊎ (result.ps ≡ interval.from_ps) ⊎ (result.ps ≡ interval.to_ps) }
 {
-    let begin = Time {
+    let begin = Moment {
         ps: interval.from_ps,
     };
-    let end = Time { ps: interval.to_ps };
+    let end = Moment { ps: interval.to_ps };
     cut_at(end, from, cut_at(begin, from, to))
 }
 
 /// How many of the intervals, from the first on, end at a time or before.
-fn ended_count(intervals: &[Interval], time: Time) -> usize
+fn ended_count(intervals: &[Interval], time: Moment) -> usize
     requires kept { AreKept intervals.now }
     ensures within { result ≤ length intervals.now }
     ensures point { IsPartitionPoint (λ i. int_le i.to_ps time.ps ≡ true) (λ i. int_le i.to_ps time.ps ≡ false) intervals.now result }
@@ -60,7 +60,7 @@ fn ended_count(intervals: &[Interval], time: Time) -> usize
 
 /// The same of several intervals: of those that end behind `from`, the first is the one that counts.
 #[tactic(auto, using(crate::proofs::BorderFacts::uncut_nowhere))]
-fn cut_by_all(intervals: &[Interval], from: Time, to: Time) -> Time
+fn cut_by_all(intervals: &[Interval], from: Moment, to: Moment) -> Moment
     requires kept { AreKept intervals.now }
     requires order { from.ps <ℤ to.ps }
     ensures later { from.ps <ℤ result.ps }
@@ -87,8 +87,8 @@ impl Claim {
         ensures uncut { IsUncut self.now.keep from_ps result }
         ensures border { (result ≡ to_ps) ⊎ HasBorder self.now.keep result }
     {
-        let from = Time { ps: from_ps };
-        let to = Time { ps: to_ps };
+        let from = Moment { ps: from_ps };
+        let to = Moment { ps: to_ps };
         cut_by_all(&self.keep, from, to).ps
     }
 }

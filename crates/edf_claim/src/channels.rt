@@ -6,7 +6,7 @@ ghost use Rattle.toml.specs.View.{view, table_view};
 ghost use Rattle.edf_claim.specs.Reading.{is_label as is_label_text, distinct_texts as distinct_texts_of, channels_of};
 
 use crate::table::value_at;
-use crate::texts::distinct_texts;
+use crate::text_arrays::distinct_texts;
 use edf_fields::label::SignalLabel;
 use edf_fields::printable::is_printable;
 use std::alloc::{AllocError, Global};

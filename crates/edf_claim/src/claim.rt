@@ -4,10 +4,11 @@ ghost use Rattle.std.specs.Prelude.{◌≡◌, ◌↔◌, ◌<◌, ◌≤◌, �
 ghost use Rattle.std.specs.List.{list_any};
 ghost use Rattle.edf_claim.specs.Claims.{IsClaim};
 ghost use Rattle.edf_fields.specs.Lists.{Has, is_one_of as is_one_of_texts};
-ghost use Rattle.edf_claim.specs.Keeps.{AreKept, KeepsInstant, KeepsAnnotation, is_within, keeps_instant, keeps_annotation};
+ghost use Rattle.edf_claim.specs.Keeps.{KeepsInstant, is_within, keeps_instant, keeps_annotation};
+ghost use Rattle.edf_claim.specs.KeepsReading.{AreKept, KeepsAnnotation};
 
 use crate::interval::Interval;
-use crate::texts::{is_found, is_one_of};
+use crate::text_arrays::{is_found, is_one_of};
 use crate::which::Which;
 use edf_fields::label::SignalLabel;
 use std::marker::Model;
@@ -26,8 +27,9 @@ pub struct Claim {
 
 impl Model for Claim {
     ghost use Rattle.std.specs.Prelude.{map};
-    ghost use Rattle.edf_claim.specs.Claims.{Terms, IsClaim};
-    ghost use Rattle.edf_claim.specs.Keeps.{IsIndex};
+    ghost use Rattle.edf_claim.specs.Claims.{IsClaim};
+    ghost use Rattle.edf_claim.specs.Terms.{Terms};
+    ghost use Rattle.edf_claim.specs.KeepsReading.{IsIndex};
 
     ghost Value = { Terms };
 

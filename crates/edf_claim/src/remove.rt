@@ -5,7 +5,7 @@ ghost use Rattle.toml.specs.View.{view, table_view};
 ghost use Rattle.edf_claim.specs.Reading.{remove_of};
 
 use crate::table::value_at;
-use crate::texts::{copies_of, distinct_texts};
+use crate::text_arrays::{copies_of, distinct_texts};
 use std::alloc::{AllocError, Global};
 use toml::Table;
 

@@ -8,7 +8,7 @@ ghost use Rattle.edf_claim.specs.Claims.{claim_keys, interval_keys};
 ghost use Rattle.edf_fields.specs.Lists.{is_one_of};
 ghost use Rattle.edf_claim.specs.Reading.{integer_of, text_at as text_at_key, keys_are};
 
-use crate::texts::stands_in;
+use crate::text_arrays::stands_in;
 use toml::{Table, Value};
 
 /// The value at a key.

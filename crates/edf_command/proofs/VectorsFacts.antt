@@ -6,8 +6,9 @@ use Rattle.std.proofs.lemmas.List.Concat.{flat_map-append}
 use Rattle.std.proofs.lemmas.List.Elements.{All-push, All-pop}
 use Rattle.edf_verdict.specs.declared.outcome.Outcome.{Outcome}
 use Rattle.edf_verdict.specs.declared.outcome.Outcome.TheVariants as outcomes
-use Rattle.edf_command.specs.declared.vectors.rows.Row.{Row}
-use Rattle.edf_command.specs.Vectors.{WorkedRow, CheckedRow, checked_text, IsStored, row_of, row_text, AreRowsWritten, IsRowWritten}
+use Rattle.edf_rows.specs.declared.rows.Row.{Row}
+use Rattle.edf_command.specs.Vectors.{CheckedRow, checked_text, IsStored, row_text, AreRowsWritten, IsRowWritten}
+use Rattle.edf_rows.specs.Rows.{WorkedRow, row_of}
 
 -- one row more: Yes is said of them all exactly where it was said of those before and of this one
 pub row_behind : {rows : List WorkedRow} {row : WorkedRow} {old middle new : List ℕ} {before this all : Outcome}

@@ -3,21 +3,18 @@
 
 ghost use Rattle.std.specs.Prelude.{◌≡◌, ◌++◌, map, IfOk, IfErr, OnOk, IsTrue};
 ghost use Rattle.edf_fields.specs.Sources.{Rises};
-ghost use Rattle.edf_command.specs.Vectors.{worked_rows, row_of, row_text, RowStops, IsLine, IsRowWritten, AreRowsWritten};
+ghost use Rattle.edf_command.specs.Vectors.{row_text, RowStops, IsLine, IsRowWritten, AreRowsWritten};
+ghost use Rattle.edf_rows.specs.Rows.{worked_rows, row_of};
 
-mod build;
-mod claims;
-pub mod files;
 pub mod line;
-pub mod rows;
 
-use crate::vectors::build::bytes_of;
 use crate::vectors::line::Line;
-use crate::vectors::rows::{Row, worked_rows};
 use edf_check::run::{RunStop, run};
 use edf_fields::sink::{Sink, put_all};
 use edf_fields::source::SliceSource;
 use edf_report::report::ReportStop;
+use edf_rows::build::bytes_of;
+use edf_rows::rows::{Row, worked_rows};
 use edf_verdict::outcome::Outcome;
 use std::alloc::{AllocError, Global};
 
@@ -71,7 +68,8 @@ fn write_row<K: Sink>(alloc: Global, row: &Row, sink: &mut K) -> Result<Outcome,
 
 /// Writes these rows, one after the other: `Yes` where each line is the stored one.
 fn write_rows<K: Sink>(alloc: Global, rows: &[Row], sink: &mut K) -> Result<Outcome, ReportStop>
-    ensures written { IfOk result (λ outcome. IsTrue (K.is_honest sink.old) → AreRowsWritten (map row_of rows.now) (K.held sink.old) (K.held sink.new) outcome) }
+    ensures written { IfOk result (λ outcome. IsTrue (K.is_honest sink.old) → AreRowsWritten
+        (map row_of rows.now) (K.held sink.old) (K.held sink.new) outcome) }
     ensures stop { IfErr result (RowStops (Rises (K.failures sink.old) (K.failures sink.new))) }
 {
     let mut outcome = Outcome::Yes;

@@ -7,9 +7,11 @@ use Rattle.std.proofs.lemmas.Int.{ints}
 use Rattle.jiff.specs.Types.{Date}
 use Rattle.jiff.specs.Words.{IsYmd, epoch_day, days_in_month}
 use Rattle.jiff.proofs.Family.{epoch_day_injective, epoch_day_same}
-use Rattle.edf_fields.specs.Numbers.{AreDigits, is_digit}
+use Rattle.edf_fields.specs.Numbers.{AreDigits}
+use Rattle.edf_fields.specs.NumbersReading.{is_digit}
 use Rattle.edf_fields.specs.Parts.{part}
-use Rattle.edf_fields.specs.Dates.{number_at, full_year, month_of, IsDayNumber, IsDotted, IsDashed, NamesDottedDay, NamesDashedDay, NamesClockTime, CivilDay, civil_day, is_day, day_if_any, is_dotted, is_dashed, dotted_day_of, dashed_day_of, clock_time_of, NamesOneDottedDay, NamesOneDashedDay, NamesOneClockTime, DottedDayIsNamed, DashedDayIsNamed, ClockTimeIsNamed}
+use Rattle.edf_fields.specs.Dates.{number_at, full_year, month_of, IsDayNumber, IsDotted, IsDashed, NamesDottedDay, NamesDashedDay, NamesClockTime, CivilDay, civil_day}
+use Rattle.edf_fields.specs.DatesReading.{is_day, day_if_any, is_dotted, is_dashed, dotted_day_of, dashed_day_of, clock_time_of, NamesOneDottedDay, NamesOneDashedDay, NamesOneClockTime, DottedDayIsNamed, DashedDayIsNamed, ClockTimeIsNamed}
 use Rattle.edf_fields.proofs.NumberFacts.{digits_tested, tested_digits}
 
 -- what a reader of a day says

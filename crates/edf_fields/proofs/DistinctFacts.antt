@@ -11,7 +11,8 @@ use Rattle.std.proofs.lemmas.List.Sorted.{IsPermutation-map, sum_by-IsPermutatio
 use Rattle.std.proofs.lemmas.List.Sums.{sum_by-cons}
 use Rattle.std.proofs.lemmas.Map.Text.{is_eq-slice_cmp}
 use Rattle.std.proofs.lemmas.Slice.Eq.{bytes_eq-Decides}
-use Rattle.edf_fields.specs.Lists.{AreDistinct, is_one_of, are_distinct}
+use Rattle.edf_fields.specs.Lists.{is_one_of}
+use Rattle.edf_fields.specs.Distinct.{AreDistinct, are_distinct}
 use Rattle.edf_fields.proofs.BoolFacts.{and-true, both-true, not-true}
 use Rattle.edf_fields.proofs.ListFacts.{distinct-tested, distinct-passes}
 

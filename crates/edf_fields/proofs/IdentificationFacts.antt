@@ -6,10 +6,11 @@ use Rattle.std.specs.Str.{bytes_eq}
 use Rattle.std.proofs.lemmas.Bool.Decides.{Decides-or, Decides-not, Decides-eqb, nat_tests}
 use Rattle.std.proofs.lemmas.Grind.{common_steps}
 use Rattle.std.proofs.lemmas.Slice.Eq.{bytes_eq-Decides}
-use Rattle.edf_fields.specs.Identifications.{ListsSubfields, IsSex, IsDateOrX, Patient, SaysPatient, Recording, SaysRecording, is_sex, is_date_or_x, subfield, field_cause, patient_cause, recording_cause, SaysOnePatient, SaysOneRecording, SaysPatientOrCause, SaysRecordingOrCause}
+use Rattle.edf_fields.specs.Identifications.{ListsSubfields, IsSex, IsDateOrX, Patient, SaysPatient, Recording, SaysRecording}
+use Rattle.edf_fields.specs.IdentificationsReading.{is_sex, is_date_or_x, subfield, field_cause, patient_cause, recording_cause, SaysOnePatient, SaysOneRecording, SaysPatientOrCause, SaysRecordingOrCause}
 use Rattle.edf_fields.specs.Parts.{text_of}
-use Rattle.edf_fields.specs.Printable.{is_printable}
-use Rattle.edf_fields.specs.Subfields.{subfields_of}
+use Rattle.edf_fields.specs.PrintableReading.{is_printable}
+use Rattle.edf_fields.specs.SubfieldsReading.{subfields_of}
 use Rattle.edf_fields.specs.declared.cause.FieldCause.TheVariants.{NotPrintable, LeadingSpace, TooFewSubfields, BadSex, BadDate, NoStartdateWord}
 use Rattle.edf_fields.proofs.DateFacts.{le_decided, dashed_day_decided}
 use Rattle.edf_fields.proofs.PrintableFacts.{printable_decided}

@@ -2,7 +2,8 @@
 use Rattle.std.proofs.Common.{◌≡◌, ℕ, not, ◌||◌, Bool, true, false, List, [], ◌∷◌, inl, inr, refl, sym, ap, ◌∙◌}
 use Rattle.std.specs.Str.{bytes_eq}
 use Rattle.std.proofs.lemmas.Slice.Eq.{bytes_eq-Decides}
-use Rattle.edf_fields.specs.Lists.{Has, AreDistinct, is_one_of, are_distinct}
+use Rattle.edf_fields.specs.Lists.{Has, is_one_of}
+use Rattle.edf_fields.specs.Distinct.{AreDistinct, are_distinct}
 use Rattle.edf_fields.proofs.BoolFacts.{and-true, both-true, not-true, not-is}
 
 pub has-one_of : (ts : List (List ℕ)) (t : List ℕ) → Has ts t → is_one_of ts t ≡ true

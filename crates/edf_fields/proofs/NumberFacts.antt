@@ -2,7 +2,8 @@
 use Rattle.std.proofs.Common.{◌≡◌, ℕ, ℤ, Bool, true, false, zero, suc, ◌+◌, ◌<◌, ◌≤◌, List, [], ◌∷◌, length, arith, refl, ap, ◌∙◌, sym, Option, Some, None, MatchOption, nat_le, nat_lt, ◌&&◌, cond}
 use Rattle.std.specs.List.{list_all}
 use Rattle.std.proofs.lemmas.Bool.Decides.{nat_tests}
-use Rattle.edf_fields.specs.Numbers.{weight, unsigned, signed, has_minus, whole_part, fraction_part, decimal, AreDigits, SpellsWholeNumber, SpellsHeaderNumber, SpellsOneHeaderNumber, SpellsOneWholeNumber, is_digit, is_whole, is_decimal, whole_number_of, header_number_of, WholeNumberIsSpelled, HeaderNumberIsSpelled}
+use Rattle.edf_fields.specs.Numbers.{weight, unsigned, signed, has_minus, whole_part, fraction_part, decimal, AreDigits, SpellsWholeNumber, SpellsHeaderNumber}
+use Rattle.edf_fields.specs.NumbersReading.{SpellsOneHeaderNumber, SpellsOneWholeNumber, is_digit, is_whole, is_decimal, whole_number_of, header_number_of, WholeNumberIsSpelled, HeaderNumberIsSpelled}
 use Rattle.edf_fields.specs.Parts.{text_of}
 
 digit_tested : (d : ℕ) → 48 ≤ d → d ≤ 57 → is_digit d ≡ true

@@ -3,8 +3,10 @@ use Rattle.std.proofs.Common.{◌≡◌, ℕ, ℤ, Bool, true, zero, suc, ◌<�
 use Rattle.std.specs.List.{list_all}
 use Rattle.std.proofs.lemmas.Bool.Decides.{nat_tests}
 use Rattle.std.proofs.lemmas.Grind.{common_steps}
-use Rattle.edf_fields.specs.Numbers.{is_digit, is_dot, before_dot, behind_dot}
-use Rattle.edf_fields.specs.Onsets.{has_sign, onset_of, span_of}
+use Rattle.edf_fields.specs.Numbers.{is_dot, before_dot, behind_dot}
+use Rattle.edf_fields.specs.NumbersReading.{is_digit}
+use Rattle.edf_fields.specs.Onsets.{has_sign}
+use Rattle.edf_fields.specs.OnsetsReading.{onset_of, span_of}
 use Rattle.edf_fields.proofs.NumberFacts.{digits_tested}
 use Rattle.edf_fields.proofs.OnsetFacts.{and_true, onset_of_some, span_of_some}
 

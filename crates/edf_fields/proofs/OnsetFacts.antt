@@ -5,8 +5,10 @@ use Rattle.std.proofs.lemmas.Bool.Decides.{nat_tests}
 use Rattle.std.proofs.lemmas.Grind.{common_steps}
 use Rattle.std.proofs.lemmas.Int.{ints}
 use Rattle.std.proofs.Math.Nat.{pow-le-pow_right}
-use Rattle.edf_fields.specs.Numbers.{AreDigits, is_digit, weight, signed, has_minus, before_dot, behind_dot}
-use Rattle.edf_fields.specs.Onsets.{without_leading_zeros, without_trailing_zeros, has_dot, has_sign, AreSeconds, IsFraction, IsTime, time_of, SpellsOnset, SpellsSpan, are_seconds, is_fraction, is_time, onset_of, span_of, OnsetIsSpelled, SpanIsSpelled}
+use Rattle.edf_fields.specs.Numbers.{AreDigits, weight, signed, has_minus, before_dot, behind_dot}
+use Rattle.edf_fields.specs.NumbersReading.{is_digit}
+use Rattle.edf_fields.specs.Onsets.{without_leading_zeros, without_trailing_zeros, has_dot, has_sign, AreSeconds, IsFraction, IsTime, time_of, SpellsOnset, SpellsSpan}
+use Rattle.edf_fields.specs.OnsetsReading.{are_seconds, is_fraction, is_time, onset_of, span_of, OnsetIsSpelled, SpanIsSpelled}
 use Rattle.edf_fields.proofs.DigitFacts.{below_power}
 use Rattle.edf_fields.proofs.NumberFacts.{digits_tested, tested_digits}
 use Rattle.edf_fields.proofs.ZeroFacts.{leading_digits, digits_leading, trailing_digits, digits_trailing, fraction_under}

@@ -3,7 +3,8 @@ use Rattle.std.proofs.Common.{◌≡◌, ◌↔◌, ℕ, ◌≤◌, Bool, true, 
 use Rattle.std.specs.Bool.{Decides}
 use Rattle.std.specs.List.{list_all}
 use Rattle.std.proofs.lemmas.Bool.Decides.{Decides-and, Decides-by_and}
-use Rattle.edf_fields.specs.Printable.{IsPrintable, is_printable}
+use Rattle.edf_fields.specs.Printable.{IsPrintable}
+use Rattle.edf_fields.specs.PrintableReading.{is_printable}
 use Rattle.edf_fields.proofs.DateFacts.{le_decided}
 
 pub printable_decided : (field : List ℕ) → Decides (list_all is_printable field) (IsPrintable field)

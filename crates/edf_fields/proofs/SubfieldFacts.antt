@@ -5,7 +5,7 @@ use Rattle.std.proofs.lemmas.Bool.Decides.{nat_tests}
 use Rattle.std.proofs.lemmas.List.{length-take}
 use Rattle.std.proofs.lemmas.List.Splits.{slice_split_first, slice_split_none}
 use Rattle.std.proofs.lemmas.List.Sums.{passes_at_first, fails_before_first}
-use Rattle.edf_fields.specs.Subfields.{is_space, subfields_of}
+use Rattle.edf_fields.specs.SubfieldsReading.{is_space, subfields_of}
 use Rattle.edf_fields.proofs.PlaceFacts.{place_found, place_missing}
 use Rattle.edf_fields.proofs.ZeroFacts.{at_place}
 

@@ -5,7 +5,8 @@ use Rattle.std.proofs.lemmas.Bool.{cases_lt}
 use Rattle.std.proofs.lemmas.Bool.Decides.{nat_tests}
 use Rattle.std.proofs.lemmas.Grind.{common_steps}
 use Rattle.std.proofs.lemmas.List.Splits.{slice_split_at, slice_split_none}
-use Rattle.edf_fields.specs.Subfields.{is_space, subfields_of, IsSubfield, HasSubfields, HasOneListOfSubfields, FindsSubfields}
+use Rattle.edf_fields.specs.Subfields.{IsSubfield, HasSubfields}
+use Rattle.edf_fields.specs.SubfieldsReading.{is_space, subfields_of, HasOneListOfSubfields, FindsSubfields}
 use Rattle.std.proofs.lemmas.List.{length-take, get_or-take, get_or-drop, take-append-drop}
 use Rattle.std.proofs.lemmas.List.Sums.{passes_at_first, fails_before_first}
 use Rattle.edf_fields.proofs.PlaceFacts.{place_found}

@@ -7,7 +7,8 @@ use Rattle.std.proofs.lemmas.Nat.{pow-add}
 use Rattle.std.proofs.lemmas.Bool.Decides.{nat_tests}
 use Rattle.std.proofs.lemmas.Grind.{common_steps}
 use Rattle.std.proofs.lemmas.List.{take_more}
-use Rattle.edf_fields.specs.Numbers.{AreDigits, is_digit}
+use Rattle.edf_fields.specs.Numbers.{AreDigits}
+use Rattle.edf_fields.specs.NumbersReading.{is_digit}
 use Rattle.edf_fields.specs.Onsets.{is_zero, without_leading_zeros, without_trailing_zeros}
 use Rattle.edf_fields.proofs.NumberFacts.{digits_tested, tested_digits}
 

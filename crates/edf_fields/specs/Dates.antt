@@ -1,11 +1,11 @@
 -- Which texts name a day or a time of the day, and which one.
-use Rattle.std.specs.Prelude.{◌≡◌, ℕ, ℤ, pos, Bool, Option, Some, None, nat_le, ◌&&◌, ◌==◌, ◌+◌, ◌*◌, ◌≤◌, List, [], ◌∷◌, length, slice_index, codes, if◌then◌else◌, ◌↔◌}
-use Rattle.std.specs.List.{list_all, position}
+use Rattle.std.specs.Prelude.{◌≡◌, ℕ, ℤ, pos, nat_le, ◌+◌, ◌*◌, ◌≤◌, List, [], ◌∷◌, length, slice_index, codes, if◌then◌else◌}
+use Rattle.std.specs.List.{position}
 use Rattle.std.specs.Option.{option_map_or}
 use Rattle.std.specs.Str.{bytes_eq}
 use Rattle.jiff.specs.Types.{Date}
-use Rattle.jiff.specs.Words.{IsYmd, epoch_day, days_in_month}
-use Rattle.edf_fields.specs.Numbers.{AreDigits, is_digit, weight}
+use Rattle.jiff.specs.Words.{IsYmd, epoch_day}
+use Rattle.edf_fields.specs.Numbers.{AreDigits, weight}
 use Rattle.edf_fields.specs.Parts.{part}
 
 -- the number that the n digits from place `at` on spell
@@ -71,70 +71,3 @@ pub record CivilDay : Type 0 where
 -- the day that a date is
 abbrev pub civil_day : Date → CivilDay
 civil_day date = record { year = date.year; month = date.month; day = date.day }
-
--- the calendar has this day
-abbrev pub is_day : ℕ → ℕ → ℕ → Bool
-is_day year month day =
-    nat_le year 9999
-    && (nat_le 1 month && (nat_le month 12
-    && (nat_le 1 day && nat_le day (days_in_month (pos year) month))))
-
--- the day with this year, month and day, or none
-abbrev pub day_if_any : ℕ → ℕ → ℕ → Option CivilDay
-day_if_any year month day =
-    if is_day year month day then Some (record { year = pos year; month = month; day = day }) else None
-
--- `IsDotted` as a test
-abbrev pub is_dotted : List ℕ → Bool
-is_dotted t =
-    (length t == 8)
-    && (((slice_index t 2 == 46) && (slice_index t 5 == 46))
-    && (list_all is_digit (part t 0 2) && (list_all is_digit (part t 3 2) && list_all is_digit (part t 6 2))))
-
--- `IsDashed` as a test
-abbrev pub is_dashed : List ℕ → Bool
-is_dashed t =
-    (length t == 11)
-    && (((slice_index t 2 == 45) && (slice_index t 6 == 45))
-    && (list_all is_digit (part t 0 2) && list_all is_digit (part t 7 4)))
-
--- the day that a text names by `NamesDottedDay`, or none
-unfoldable pub dotted_day_of : List ℕ → Option CivilDay
-dotted_day_of t =
-    if is_dotted t then day_if_any (full_year (number_at t 6 2)) (number_at t 3 2) (number_at t 0 2) else None
-
--- the day that a text names by `NamesDashedDay`, or none
-unfoldable pub dashed_day_of : List ℕ → Option CivilDay
-dashed_day_of t =
-    if is_dashed t then day_if_any (number_at t 7 4) (month_of (part t 3 3)) (number_at t 0 2) else None
-
--- the second of the day that a text names by `NamesClockTime`, or none
-unfoldable pub clock_time_of : List ℕ → Option ℕ
-clock_time_of t =
-    if is_dotted t && (nat_le (number_at t 0 2) 23 && (nat_le (number_at t 3 2) 59 && nat_le (number_at t 6 2) 59))
-    then Some (number_at t 0 2 * 3600 + number_at t 3 2 * 60 + number_at t 6 2)
-    else None
-
--- a text names at most one day in the form dd.mm.yy
-abbrev pub NamesOneDottedDay : Type 0
-NamesOneDottedDay = (t : List ℕ) (m n : ℤ) → NamesDottedDay t m → NamesDottedDay t n → m ≡ n
-
--- a text names at most one day in the form dd-MMM-yyyy
-abbrev pub NamesOneDashedDay : Type 0
-NamesOneDashedDay = (t : List ℕ) (m n : ℤ) → NamesDashedDay t m → NamesDashedDay t n → m ≡ n
-
--- a text names at most one time of the day
-abbrev pub NamesOneClockTime : Type 0
-NamesOneClockTime = (t : List ℕ) (m n : ℕ) → NamesClockTime t m → NamesClockTime t n → m ≡ n
-
--- the day that is read of a text is the one that it names, in the form dd.mm.yy
-abbrev pub DottedDayIsNamed : Type 0
-DottedDayIsNamed = (t : List ℕ) (day : CivilDay) → (dotted_day_of t ≡ Some day) ↔ ((date : Date) × NamesDottedDay t (epoch_day date) × (civil_day date ≡ day))
-
--- and in the form dd-MMM-yyyy
-abbrev pub DashedDayIsNamed : Type 0
-DashedDayIsNamed = (t : List ℕ) (day : CivilDay) → (dashed_day_of t ≡ Some day) ↔ ((date : Date) × NamesDashedDay t (epoch_day date) × (civil_day date ≡ day))
-
--- the second that is read of a text is the one that it names
-abbrev pub ClockTimeIsNamed : Type 0
-ClockTimeIsNamed = (t : List ℕ) (second : ℕ) → (clock_time_of t ≡ Some second) ↔ NamesClockTime t second

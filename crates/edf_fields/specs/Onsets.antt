@@ -1,7 +1,7 @@
 -- Which texts spell the onset or the duration of an annotation, and which time.
-use Rattle.std.specs.Prelude.{◌≡◌, ℕ, ℤ, Bool, not, Option, Some, None, IsTrue, nat_le, nat_lt, ◌&&◌, ◌||◌, ◌==◌, ◌<◌, ◌≤◌, pos, List, [], ◌∷◌, length, slice_index, drop, if◌then◌else◌, ◌↔◌}
+use Rattle.std.specs.Prelude.{◌≡◌, ℕ, ℤ, Bool, IsTrue, ◌||◌, ◌==◌, ◌<◌, ◌≤◌, pos, List, [], ◌∷◌, length, slice_index, drop, if◌then◌else◌}
 use Rattle.std.specs.List.{list_all, list_any}
-use Rattle.edf_fields.specs.Numbers.{AreDigits, is_digit, is_dot, before_dot, behind_dot, decimal, has_minus, signed}
+use Rattle.edf_fields.specs.Numbers.{AreDigits, is_dot, before_dot, behind_dot, decimal, has_minus, signed}
 
 -- the byte is the digit 0
 abbrev pub is_zero : ℕ → Bool
@@ -51,41 +51,3 @@ SpellsOnset t v = IsTrue (has_sign t) × IsTime (drop 1 t) × (v ≡ signed (has
 -- the text is a time with no sign, and has this value in picoseconds (EDF+, "Time-stamped Annotations Lists (TALs) in an 'EDF Annotations' signal": the duration)
 abbrev pub SpellsSpan : List ℕ → ℤ → Type 0
 SpellsSpan t v = IsTime t × (v ≡ pos (time_of t))
-
--- `AreSeconds` as a test
-abbrev pub are_seconds : List ℕ → Bool
-are_seconds w = list_all is_digit w && (nat_lt 0 (length w) && nat_le (length (without_leading_zeros w)) 9)
-
--- `IsFraction` as a test
-abbrev pub is_fraction : List ℕ → Bool
-is_fraction f = list_all is_digit f && nat_le (length (without_trailing_zeros f)) 12
-
--- `IsTime` as a test
-abbrev pub is_time : List ℕ → Bool
-is_time u =
-    are_seconds (before_dot u)
-    && (is_fraction (behind_dot u) && (not (has_dot u) || nat_lt 0 (length (behind_dot u))))
-
--- the onset that a text spells by `SpellsOnset`, or none
-unfoldable pub onset_of : List ℕ → Option ℤ
-onset_of t = if has_sign t && is_time (drop 1 t) then Some (signed (has_minus t) (time_of (drop 1 t))) else None
-
--- the duration that a text spells by `SpellsSpan`, or none
-unfoldable pub span_of : List ℕ → Option ℤ
-span_of t = if is_time t then Some (pos (time_of t)) else None
-
--- a text spells at most one onset
-abbrev pub SpellsOneOnset : Type 0
-SpellsOneOnset = (t : List ℕ) (v w : ℤ) → SpellsOnset t v → SpellsOnset t w → v ≡ w
-
--- a text spells at most one duration
-abbrev pub SpellsOneSpan : Type 0
-SpellsOneSpan = (t : List ℕ) (v w : ℤ) → SpellsSpan t v → SpellsSpan t w → v ≡ w
-
--- the onset that is read of a text is the one that it spells
-abbrev pub OnsetIsSpelled : Type 0
-OnsetIsSpelled = (t : List ℕ) (v : ℤ) → (onset_of t ≡ Some v) ↔ SpellsOnset t v
-
--- the duration that is read of a text is the one that it spells
-abbrev pub SpanIsSpelled : Type 0
-SpanIsSpelled = (t : List ℕ) (v : ℤ) → (span_of t ≡ Some v) ↔ SpellsSpan t v

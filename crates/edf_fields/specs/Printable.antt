@@ -1,10 +1,6 @@
 -- Printable ASCII (EDF, "Header record"; EDF+, "Additional specifications in EDF+").
-use Rattle.std.specs.Prelude.{ℕ, Bool, nat_le, ◌&&◌, ◌≤◌, List, All}
+use Rattle.std.specs.Prelude.{ℕ, ◌≤◌, List, All}
 
 -- each byte is printable ASCII, 32 to 126
 abbrev pub IsPrintable : List ℕ → Type 0
 IsPrintable bytes = All (λ b. (32 ≤ b) × (b ≤ 126)) bytes
-
--- the byte is printable ASCII
-abbrev pub is_printable : ℕ → Bool
-is_printable b = nat_le 32 b && nat_le b 126

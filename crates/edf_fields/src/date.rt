@@ -6,7 +6,8 @@
 //! a field, without the spaces that fill it.
 ghost use Rattle.std.specs.Prelude.{◌≡◌, ◌+◌, ◌≤◌, ◌<◌, ◌^◌, ℕ, ℤ, pos, length, MatchOption, IfSome, option_map};
 ghost use Rattle.jiff.specs.Words.{IsYmd, epoch_day};
-ghost use Rattle.edf_fields.specs.Dates.{number_at, month_of, full_year, IsDayNumber, IsDotted, NamesDottedDay, NamesDashedDay, NamesClockTime, civil_day, dotted_day_of, dashed_day_of, clock_time_of};
+ghost use Rattle.edf_fields.specs.Dates.{number_at, month_of, full_year, IsDayNumber, IsDotted, NamesDottedDay, NamesDashedDay, NamesClockTime, civil_day};
+ghost use Rattle.edf_fields.specs.DatesReading.{dotted_day_of, dashed_day_of, clock_time_of};
 ghost use Rattle.edf_fields.specs.Numbers.{AreDigits};
 ghost use Rattle.edf_fields.specs.Parts.{part};
 

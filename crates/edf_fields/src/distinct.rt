@@ -4,7 +4,7 @@ ghost use Rattle.std.specs.Prelude.{◌≡◌, ◌↔◌, IsTrue, map};
 ghost use Rattle.std.specs.Cmp.Lexicographic.{slice_cmp};
 ghost use Rattle.std.specs.List.Sorted.{IsSorted, IsPermutation};
 ghost use Rattle.std.specs.Ordering.{nat_cmp};
-ghost use Rattle.edf_fields.specs.Lists.{AreDistinct, are_distinct as are_distinct_texts};
+ghost use Rattle.edf_fields.specs.Distinct.{AreDistinct, are_distinct as are_distinct_texts};
 
 /// Whether no text stands twice among these, which are in the order of their bytes: equal ones
 /// would be neighbours.

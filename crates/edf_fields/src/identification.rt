@@ -5,8 +5,8 @@
 ghost use Rattle.std.specs.Prelude.{◌≡◌, ◌<◌, ◌∷◌, ◌==◌, None, Some, length, slice_index, IfOk, MatchOption, MatchResult, is_some, codes};
 ghost use Rattle.std.specs.Result.{result_err};
 ghost use Rattle.std.specs.Str.{bytes_eq};
-ghost use Rattle.edf_fields.specs.Dates.{dashed_day_of};
-ghost use Rattle.edf_fields.specs.Identifications.{is_sex, is_date_or_x, field_cause};
+ghost use Rattle.edf_fields.specs.DatesReading.{dashed_day_of};
+ghost use Rattle.edf_fields.specs.IdentificationsReading.{is_sex, is_date_or_x, field_cause};
 ghost use Rattle.edf_fields.specs.Parts.{text_of};
 
 use crate::cause::FieldCause;
@@ -23,7 +23,7 @@ fn begins_with_space(field: &[u8]) -> bool
 }
 
 /// The text of an identification field, or the first cause that both fields can have.
-#[tactic(auto, unfolding(crate::specs::Identifications::field_cause))]
+#[tactic(auto, unfolding(crate::specs::IdentificationsReading::field_cause))]
 fn printable_text(field: &[u8]) -> Result<&[u8], FieldCause>
     ensures { MatchResult result
         (λ t. (t.now ≡ text_of field.entry.now) × (field_cause field.entry.now ≡ None))
@@ -87,8 +87,9 @@ pub struct PatientId<'a> {
 }
 
 impl<'a> PatientId<'a> {
-    ghost use Rattle.edf_fields.specs.Subfields.{subfields_of, subfields_left};
-    ghost use Rattle.edf_fields.specs.Identifications.{SaysPatient, patient_of, patient_cause};
+    ghost use Rattle.edf_fields.specs.SubfieldsReading.{subfields_of, subfields_left};
+    ghost use Rattle.edf_fields.specs.Identifications.{SaysPatient};
+    ghost use Rattle.edf_fields.specs.IdentificationsReading.{patient_of, patient_cause};
 
     /// The first four subfields of a text, and those behind them; none where there are fewer.
     fn split(text: &'a [u8]) -> Option<PatientId<'a>>
@@ -117,7 +118,7 @@ impl<'a> PatientId<'a> {
     /// any number of others (EDF+, "Additional specifications in EDF+"). `NotPrintable`,
     /// `LeadingSpace`, `TooFewSubfields` (fewer than four), `BadSex` and `BadDate` say what is
     /// otherwise, and of several the first in this order is answered.
-    #[tactic(auto, using(crate::proofs::IdentificationFacts::patient_said), unfolding(crate::specs::Identifications::patient_cause))]
+    #[tactic(auto, using(crate::proofs::IdentificationFacts::patient_said), unfolding(crate::specs::IdentificationsReading::patient_cause))]
     pub fn read(field: &'a [u8]) -> Result<PatientId<'a>, FieldCause>
         ensures said { IfOk result (λ p. SaysPatient field.entry.now (patient_of p)) }
         ensures cause { result_err result ≡ patient_cause field.entry.now }
@@ -205,8 +206,9 @@ struct WordAndRecording<'a> {
 }
 
 impl<'a> RecordingId<'a> {
-    ghost use Rattle.edf_fields.specs.Subfields.{subfields_of, subfields_left};
-    ghost use Rattle.edf_fields.specs.Identifications.{SaysRecording, recording_of, recording_cause};
+    ghost use Rattle.edf_fields.specs.SubfieldsReading.{subfields_of, subfields_left};
+    ghost use Rattle.edf_fields.specs.Identifications.{SaysRecording};
+    ghost use Rattle.edf_fields.specs.IdentificationsReading.{recording_of, recording_cause};
 
     /// The first five subfields of a text, and those behind them; none where there are fewer.
     fn split(text: &'a [u8]) -> Option<WordAndRecording<'a>>
@@ -242,7 +244,7 @@ impl<'a> RecordingId<'a> {
     /// specifications in EDF+"). `NotPrintable`, `LeadingSpace`, `TooFewSubfields` (fewer than
     /// five), `BadDate` and `NoStartdateWord` say what is otherwise, and of several the first in
     /// this order is answered.
-    #[tactic(auto, using(crate::proofs::IdentificationFacts::recording_said), unfolding(crate::specs::Identifications::recording_cause))]
+    #[tactic(auto, using(crate::proofs::IdentificationFacts::recording_said), unfolding(crate::specs::IdentificationsReading::recording_cause))]
     pub fn read(field: &'a [u8]) -> Result<RecordingId<'a>, FieldCause>
         ensures said { IfOk result (λ r. SaysRecording field.entry.now (recording_of r)) }
         ensures cause { result_err result ≡ recording_cause field.entry.now }

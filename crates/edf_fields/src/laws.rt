@@ -1,9 +1,9 @@
 //! Laws of the definitions, each the contract of a function that does nothing.
-ghost use Rattle.edf_fields.specs.Dates.{NamesOneDottedDay, NamesOneDashedDay, NamesOneClockTime, DottedDayIsNamed, DashedDayIsNamed, ClockTimeIsNamed};
-ghost use Rattle.edf_fields.specs.Identifications.{SaysOnePatient, SaysOneRecording, SaysPatientOrCause, SaysRecordingOrCause};
-ghost use Rattle.edf_fields.specs.Numbers.{SpellsOneHeaderNumber, SpellsOneWholeNumber, HeaderNumberIsSpelled, WholeNumberIsSpelled};
-ghost use Rattle.edf_fields.specs.Onsets.{SpellsOneOnset, SpellsOneSpan, OnsetIsSpelled, SpanIsSpelled};
-ghost use Rattle.edf_fields.specs.Subfields.{HasOneListOfSubfields, FindsSubfields};
+ghost use Rattle.edf_fields.specs.DatesReading.{NamesOneDottedDay, NamesOneDashedDay, NamesOneClockTime, DottedDayIsNamed, DashedDayIsNamed, ClockTimeIsNamed};
+ghost use Rattle.edf_fields.specs.IdentificationsReading.{SaysOnePatient, SaysOneRecording, SaysPatientOrCause, SaysRecordingOrCause};
+ghost use Rattle.edf_fields.specs.NumbersReading.{SpellsOneHeaderNumber, SpellsOneWholeNumber, HeaderNumberIsSpelled, WholeNumberIsSpelled};
+ghost use Rattle.edf_fields.specs.OnsetsReading.{SpellsOneOnset, SpellsOneSpan, OnsetIsSpelled, SpanIsSpelled};
+ghost use Rattle.edf_fields.specs.SubfieldsReading.{HasOneListOfSubfields, FindsSubfields};
 
 /// A field spells at most one number, as a header number and as a whole number.
 pub fn fields_spell_one_number()

@@ -6,7 +6,8 @@
 ghost use Rattle.std.specs.Prelude.{◌≡◌, ℤ, ◌+◌, ◌-◌, ◌*◌, ◌≤◌, ◌<◌, ◌^◌, length, take, MatchOption, IfSome, unsigned_abs};
 ghost use Rattle.std.specs.List.{position};
 ghost use Rattle.edf_fields.specs.Parts.{part, text_of};
-ghost use Rattle.edf_fields.specs.Numbers.{AreDigits, IsDecimal, weight, decimal, before_dot, behind_dot, has_minus, unsigned, signed, is_dot, SpellsHeaderNumber, SpellsWholeNumber, header_number_of, whole_number_of};
+ghost use Rattle.edf_fields.specs.Numbers.{AreDigits, IsDecimal, weight, decimal, before_dot, behind_dot, has_minus, unsigned, signed, is_dot, SpellsHeaderNumber, SpellsWholeNumber};
+ghost use Rattle.edf_fields.specs.NumbersReading.{header_number_of, whole_number_of};
 
 /// The `count` bytes from place `at` on.
 pub fn part(bytes: &[u8], at: usize, count: usize) -> &[u8]

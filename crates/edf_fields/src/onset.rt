@@ -5,7 +5,8 @@
 //! count; that 9 digits of seconds and 12 of the fraction may be left is this project's profile.
 ghost use Rattle.std.specs.Prelude.{◌≡◌, ℤ, ◌+◌, ◌-◌, ◌*◌, ◌≤◌, ◌<◌, ◌≤ℤ◌, ◌^◌, pos, drop, length, take, IsTrue, MatchOption, IfSome, unsigned_abs};
 ghost use Rattle.edf_fields.specs.Numbers.{weight, has_minus, signed};
-ghost use Rattle.edf_fields.specs.Onsets.{without_leading_zeros, without_trailing_zeros, has_dot, has_sign, AreSeconds, IsFraction, IsTime, time_of, SpellsOnset, SpellsSpan, onset_of, span_of};
+ghost use Rattle.edf_fields.specs.Onsets.{without_leading_zeros, without_trailing_zeros, has_dot, has_sign, AreSeconds, IsFraction, IsTime, time_of, SpellsOnset, SpellsSpan};
+ghost use Rattle.edf_fields.specs.OnsetsReading.{onset_of, span_of};
 
 use crate::number::{digits, split_dot};
 

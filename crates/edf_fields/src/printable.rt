@@ -1,7 +1,8 @@
 //! Printable ASCII, in which the fields of a header are written.
 ghost use Rattle.std.specs.Prelude.{◌≡◌, ◌↔◌, IsTrue};
 ghost use Rattle.std.specs.List.{list_all};
-ghost use Rattle.edf_fields.specs.Printable.{IsPrintable, is_printable as is_printable_byte};
+ghost use Rattle.edf_fields.specs.Printable.{IsPrintable};
+ghost use Rattle.edf_fields.specs.PrintableReading.{is_printable as is_printable_byte};
 
 /// Whether each byte is printable ASCII, as `is_printable`.
 fn are_printable(bytes: &[u8]) -> bool

@@ -4,7 +4,7 @@
 //! EDF+"); that more than one space may stand between two of them is this project's profile.
 ghost use Rattle.std.specs.Prelude.{◌≡◌, ◌≢◌, ◌≤◌, ◌<◌, ◌∷◌, [], drop, length, slice_index, MatchOption, IfSome};
 ghost use Rattle.std.specs.List.{position};
-ghost use Rattle.edf_fields.specs.Subfields.{is_space, subfields_of, subfields_left};
+ghost use Rattle.edf_fields.specs.SubfieldsReading.{is_space, subfields_of, subfields_left};
 
 /// The subfields of a text, in order.
 #[derive(Clone, Copy, Debug)]
@@ -69,7 +69,7 @@ impl<'a> Subfields<'a> {
 
 impl<'a> Iterator for Subfields<'a> {
     ghost use Rattle.std.specs.Iterator.{YieldsFirstRef, item_count};
-    ghost use Rattle.edf_fields.specs.Subfields.{subfields_left};
+    ghost use Rattle.edf_fields.specs.SubfieldsReading.{subfields_left};
 
     type Item = &'a [u8];
 

@@ -3,7 +3,8 @@ use Rattle.std.proofs.Common.{◌≡◌, ℕ, ◌<◌, ◌+◌, ◌*◌, ◌/◌
 use Rattle.std.proofs.Math.Nat.{mul-div_cancel}
 use Rattle.std.proofs.lemmas.Int.{ints}
 use borrow.Author.Differences.{up, down}
-use Rattle.edf_header.specs.Calibrations.{Line, SameLine, SameLineIsEquivalence, digital_span, physical_span, offset_times_span}
+use Rattle.edf_header.specs.CalibrationLaws.{SameLineIsEquivalence}
+use Rattle.edf_header.specs.Calibrations.{Line, SameLine, digital_span, physical_span, offset_times_span}
 
 -- a positive factor is taken away
 cancelled : (x y e : ℕ) → 0 < e → x * e ≡ y * e → x ≡ y

@@ -10,10 +10,11 @@ use Rattle.edf_header.specs.declared.layout.FixedField.TheVariants as fixed
 use Rattle.edf_header.specs.declared.layout.SignalField.TheVariants as signal
 use Rattle.edf_fields.proofs.ForCallers.{le_decided, first-none, first-cons, not-true}
 use Rattle.edf_header.specs.Heads.{SignalHead, is_annotations, samples_together}
-use Rattle.edf_header.specs.Channels.{IsChannel, HasDistinctChannels, is_channel_of, channel_place, label_at, is_repeated}
+use Rattle.edf_header.specs.Channels.{IsChannel, HasDistinctChannels}
+use Rattle.edf_header.specs.ChannelsReading.{is_channel_of, channel_place, label_at, is_repeated}
 use Rattle.edf_header.specs.Faults.{no_annotation_signal, no_ordinary_signal, label_fault, labels_faults, record_too_large, joint_faults}
 use Rattle.edf_fields.specs.Tests.{first}
-use Rattle.edf_header.specs.Sound.{HasAnnotationSignal, HasSomeChannel}
+use Rattle.edf_header.specs.Standard.{HasAnnotationSignal, HasSomeChannel}
 use Rattle.edf_header.proofs.PassedFacts.{fault_unless-passed}
 
 -- a member with this answer of the test, and its place

@@ -9,7 +9,8 @@ use Rattle.edf_header.specs.declared.fault.Place.TheVariants.{AtSignal}
 use Rattle.edf_header.specs.declared.fault.Cause.TheVariants.{Truncated}
 use Rattle.edf_header.specs.declared.layout.SignalField.{SignalField}
 use Rattle.edf_header.specs.declared.layout.SignalField.TheVariants as signal
-use Rattle.edf_header.specs.Layout.{column_before, column_width, columns, next_before, AreAdjacent}
+use Rattle.edf_header.specs.Layout.{column_before, column_width}
+use Rattle.edf_header.specs.LayoutReading.{columns, next_before, AreAdjacent}
 use Rattle.edf_header.specs.Faults.{fault, truncated, column_missing, columns_missing}
 use Rattle.edf_fields.specs.Tests.{first}
 use Rattle.edf_fields.proofs.ForCallers.{first-passed, first-found}

@@ -10,9 +10,12 @@ use Rattle.std.proofs.lemmas.List.{length-take, length-drop}
 use Rattle.std.proofs.lemmas.Slice.Eq.{bytes_eq-Decides}
 use Rattle.jiff.specs.Types.{Date}
 use Rattle.edf_fields.specs.Parts.{text_of}
-use Rattle.edf_fields.specs.Numbers.{SpellsWholeNumber, whole_number_of}
-use Rattle.edf_fields.specs.Dates.{CivilDay, NamesDashedDay, civil_day, dotted_day_of, dashed_day_of, clock_time_of}
-use Rattle.edf_fields.specs.Printable.{is_printable, IsPrintable}
+use Rattle.edf_fields.specs.Numbers.{SpellsWholeNumber}
+use Rattle.edf_fields.specs.NumbersReading.{whole_number_of}
+use Rattle.edf_fields.specs.Dates.{CivilDay, NamesDashedDay, civil_day}
+use Rattle.edf_fields.specs.DatesReading.{dotted_day_of, dashed_day_of, clock_time_of}
+use Rattle.edf_fields.specs.Printable.{IsPrintable}
+use Rattle.edf_fields.specs.PrintableReading.{is_printable}
 use Rattle.edf_fields.proofs.ForCallers.{le_decided, dotted_day_read, dashed_day_read, dashed_day_decided, clock_time_read, patient_or_cause, recording_or_cause, whole_number_of-spelled, header_number_of-spelled, whole_number_of-some, first-none, first-cons, and-true, not-true, pass-cons, pass-append, not-is, printable_decided}
 use Rattle.edf_header.specs.declared.fault.Place.{Place}
 use Rattle.edf_header.specs.declared.fault.Place.TheVariants.{AtField, AtSignal}
@@ -21,13 +24,18 @@ use Rattle.edf_header.specs.declared.layout.FixedField.{FixedField}
 use Rattle.edf_header.specs.declared.layout.FixedField.TheVariants as fixed
 use Rattle.edf_header.specs.declared.layout.SignalField.{SignalField}
 use Rattle.edf_header.specs.declared.layout.SignalField.TheVariants as signal
-use Rattle.edf_header.specs.Channels.{IsChannel, HasDistinctChannels, is_channel_of, label_at, is_repeated}
-use Rattle.edf_header.specs.Layout.{fixed_from, fixed_bytes, fixed_part, fixed_field, fixed_fields, column_before, column_width, columns, columns_part, signal_field}
-use Rattle.edf_header.specs.Heads.{SignalHead, Head, HasSignal, count_of, day_number, line_of, recording_in, signals_of, signals_in, head_of, header_bytes, in_picoseconds, is_annotations, samples_together}
+use Rattle.edf_header.specs.Channels.{IsChannel, HasDistinctChannels}
+use Rattle.edf_header.specs.ChannelsReading.{is_channel_of, label_at, is_repeated}
+use Rattle.edf_header.specs.Layout.{fixed_from, fixed_bytes, fixed_part, fixed_field, column_before, column_width, columns_part, signal_field}
+use Rattle.edf_header.specs.LayoutReading.{fixed_fields, columns}
+use Rattle.edf_header.specs.Heads.{SignalHead, Head, HasSignal, day_number, header_bytes, in_picoseconds, is_annotations, samples_together}
+use Rattle.edf_header.specs.HeadsReading.{count_of, line_of, recording_in, signals_of, signals_in, head_of}
 use Rattle.edf_header.specs.Faults.{truncated, fault_unless, not_printable, no_number, is_same_day, version_fault, patient_fault, recording_fault, startdate_fault, starttime_fault, header_bytes_fault, reserved_fault, records_fault, duration_fault, signals_fault, header_size_fault, text_fault, physical_fault, digital_fault, samples_fault, naming_faults, extreme_faults, sampling_faults, agreement_faults, signal_faults, no_annotation_signal, no_ordinary_signal, label_fault, labels_faults, record_too_large, joint_faults, fixed_missing, start_faults, extent_faults, fixed_tests, column_missing, columns_missing, signals_faults, columns_tests, header_fault}
 use Rattle.edf_fields.specs.Tests.{first}
-use Rattle.edf_header.specs.Conforming.{HeaderConforms, PassingIsConforming}
-use Rattle.edf_header.specs.Sound.{IsSoundSignal, HasAnnotationSignal, HasSomeChannel}
+use Rattle.edf_header.specs.Conforming.{HeaderConforms}
+use Rattle.edf_header.specs.ConformingLaws.{PassingIsConforming, ConformingIsSound}
+use Rattle.edf_header.specs.Sound.{IsSound}
+use Rattle.edf_header.specs.Standard.{IsSoundSignal, HasAnnotationSignal, HasSomeChannel}
 use Rattle.edf_header.proofs.PassedFacts.{fault_unless-passed, number-passed}
 use Rattle.edf_header.proofs.PassingFacts.{fault_unless-true, version-passes, patient-passes, recording-passes, startdate-passes, starttime-passes, header_bytes-passes, reserved-passes, records-passes, duration-passes, signals-passes, header_size-passes, signals-pass-tests}
 use Rattle.edf_header.proofs.ColumnFacts.{there, column-whole}
@@ -341,7 +349,7 @@ passing-conforms file h =
       version = version-said (fixed_field front fixed.Version) p.version;
       size = subst (λ k. SpellsWholeNumber (fixed_field front fixed.HeaderBytes) (pos k)) size (size-said n (fixed_field front fixed.HeaderBytes) p.size p.whole);
       head = has-head file h;
-      sound = sound-head file h;
+      standard = (sound-head file h).standard;
     }
 
 -- the recording date, where it is a day, is that of the header
@@ -367,7 +375,7 @@ fixed-pass file h c count =
     let front : List ℕ = fixed_part file in
     let at : FixedField → List ℕ = λ field. fixed_field front field in
     let has = c.head in
-    let sound = c.sound.standard in
+    let sound = c.standard in
     let size = c.whole in
     let taken = length-take 256 (drop 0 file) in
     let long : 256 ≤ length front = omega (arith, size, taken) in
@@ -414,7 +422,7 @@ columns-pass : (file : List ℕ) (h : Head) (n : ℕ) → HeaderConforms file h 
 columns-pass file h n c count read =
     let bytes : List ℕ = columns_part n file in
     let has = c.head in
-    let sound = c.sound.standard in
+    let sound = c.standard in
     let size = c.whole in
     let taken = length-take (256 * n) (drop 256 file) in
     let left = length-drop 256 file in
@@ -443,3 +451,6 @@ conforming-passes file h c =
 
 pub passing_is_conforming : PassingIsConforming
 passing_is_conforming file = (λ h. (head_of file, passing-conforms file h), λ found. conforming-passes file found.0 found.1)
+
+pub conforming_is_sound : ConformingIsSound
+conforming_is_sound file h c = subst IsSound (sym (head-read file h c.head)) (sound-head file (conforming-passes file h c))

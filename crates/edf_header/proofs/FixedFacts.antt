@@ -6,7 +6,8 @@ use Rattle.edf_header.specs.declared.fault.Place.TheVariants.{AtField}
 use Rattle.edf_header.specs.declared.fault.Cause.TheVariants.{Truncated}
 use Rattle.edf_header.specs.declared.layout.FixedField.{FixedField}
 use Rattle.edf_header.specs.declared.layout.FixedField.TheVariants as fixed
-use Rattle.edf_header.specs.Layout.{fixed_from, fixed_bytes, fixed_fields}
+use Rattle.edf_header.specs.Layout.{fixed_from, fixed_bytes}
+use Rattle.edf_header.specs.LayoutReading.{fixed_fields}
 use Rattle.edf_header.specs.Faults.{fault, truncated, fixed_missing, start_faults, extent_faults, fixed_fault}
 use Rattle.edf_header.proofs.ColumnFacts.{there, not_there}
 use Rattle.edf_header.proofs.PassedFacts.{fault_unless-passed}

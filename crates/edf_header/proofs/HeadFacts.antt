@@ -4,9 +4,12 @@ use Rattle.std.specs.Str.{bytes_eq}
 use Rattle.std.proofs.lemmas.Slice.Eq.{bytes_eq-Decides}
 use Rattle.jiff.specs.Words.{epoch_day}
 use Rattle.edf_fields.specs.Parts.{text_of, part}
-use Rattle.edf_fields.specs.Numbers.{SpellsWholeNumber, SpellsHeaderNumber, whole_number_of, header_number_of}
-use Rattle.edf_fields.specs.Dates.{CivilDay, NamesClockTime, dotted_day_of, dashed_day_of, clock_time_of}
-use Rattle.edf_fields.specs.Identifications.{Patient, Recording, patient_cause, recording_cause}
+use Rattle.edf_fields.specs.Numbers.{SpellsWholeNumber, SpellsHeaderNumber}
+use Rattle.edf_fields.specs.NumbersReading.{whole_number_of, header_number_of}
+use Rattle.edf_fields.specs.Dates.{CivilDay, NamesClockTime}
+use Rattle.edf_fields.specs.DatesReading.{dotted_day_of, dashed_day_of, clock_time_of}
+use Rattle.edf_fields.specs.Identifications.{Patient, Recording}
+use Rattle.edf_fields.specs.IdentificationsReading.{patient_cause, recording_cause}
 use Rattle.edf_fields.proofs.ForCallers.{dotted_day_read, clock_time_read, dotted_day-some, clock_time-some, whole_number_of-some, header_number_of-some, whole_number_of-spelled, header_number_of-spelled, header_number-below, first-none, first-cons}
 use Rattle.edf_header.specs.declared.fault.Place.TheVariants.{AtField}
 use Rattle.edf_header.specs.declared.fault.Cause.TheVariants.{NotEdfPlus, BadStart, StartdateDiffers, BadSubfields}
@@ -17,9 +20,11 @@ use Rattle.edf_header.specs.declared.kind.Kind.TheVariants.{Contiguous, Interrup
 use Rattle.edf_header.specs.declared.layout.FixedField.TheVariants as fixed
 use Rattle.edf_header.specs.declared.layout.SignalField.TheVariants as signal
 use Rattle.edf_header.specs.Calibrations.{Line}
-use Rattle.edf_header.specs.Layout.{fixed_part, fixed_field, fixed_fields, columns, columns_part, signal_field}
-use Rattle.edf_header.specs.Heads.{SignalHead, Head, HasSignal, HasHead, HasOneHead, NamesStartdate, AreSideBySide, kind_word, kind_of, in_picoseconds, count_of, day_number, first_day, recording_in, signals_of, line_of, signal_of, signals_from, signals_in, head_in, head_of}
-use Rattle.edf_header.specs.Conforming.{PassingHasHead, PassingIsSound}
+use Rattle.edf_header.specs.Layout.{fixed_part, fixed_field, columns_part, signal_field}
+use Rattle.edf_header.specs.LayoutReading.{fixed_fields, columns}
+use Rattle.edf_header.specs.Heads.{SignalHead, Head, HasSignal, HasHead, NamesStartdate, AreSideBySide, kind_word, in_picoseconds, day_number}
+use Rattle.edf_header.specs.HeadsReading.{HasOneHead, kind_of, count_of, first_day, recording_in, signals_of, line_of, signal_of, signals_from, signals_in, head_in, head_of}
+use Rattle.edf_header.specs.ConformingLaws.{PassingHasHead, PassingIsSound}
 use Rattle.edf_header.specs.Sound.{IsSound}
 use Rattle.jiff_core.proofs.DateLemmas.{epoch_day_range}
 use Rattle.std.proofs.lemmas.Int.{ints}
@@ -29,7 +34,7 @@ use Rattle.edf_fields.specs.Tests.{first}
 use Rattle.edf_header.proofs.PassedFacts.{fault_unless-passed, named-passed, positive-passed}
 use Rattle.edf_header.proofs.SaidFacts.{patient_is, recording_is}
 use Rattle.edf_header.proofs.SignalFacts.{length-signals}
-use Rattle.edf_header.proofs.SoundFacts.{Passes, signal-passes, side-by-side, signals-sound, count-below}
+use Rattle.edf_header.proofs.SoundFacts.{Passes, signal-passes, side-by-side, signals-sound, signals-short, count-below}
 use Rattle.edf_header.proofs.KeptFacts.{patient-said, recording-said, startdate-passed, same-day}
 
 -- the number that a field spells is what is read of it
@@ -377,8 +382,6 @@ sound-head file h =
     let small = together.small in
     record {
       standard = record {
-        patient = patient.written;
-        date = recording.date;
         same_day = λ m named. same-day date (dotted_day_of (text_of (fixed_field front fixed.Startdate))) m (startdate-passed date (fixed_field front fixed.Startdate) p.startdate) named;
         some_records = some-count (fixed_field front fixed.Records) records.0 records.1 records.2;
         some_time = some-time (fixed_field front fixed.Duration) duration.0 duration.1 duration.2;
@@ -386,7 +389,6 @@ sound-head file h =
         channel = together.channel;
         distinct = together.distinct;
         signals = signals-sound bytes n 0 0 n c1.0;
-        offsets = side-by-side bytes n 0 0 n;
         small_record = omega (arith, small);
       };
       bounds = record {
@@ -395,7 +397,11 @@ sound-head file h =
         few_records = few-count front 236 8 records.0 records.1;
         little_time = little-time (fixed_field front fixed.Duration) duration.0 duration.1;
         few_signals = subst (λ k. k < 10 ^ 4) (sym long) few;
+        signals = signals-short bytes n 0 0 n c1.0;
       };
+      patient = patient.written;
+      date = recording.date;
+      offsets = side-by-side bytes n 0 0 n;
     }
 
 pub passing_is_sound : PassingIsSound

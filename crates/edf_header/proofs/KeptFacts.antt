@@ -4,25 +4,30 @@ use Rattle.std.specs.List.{All}
 use Rattle.std.proofs.lemmas.Bool.Decides.{Decides-int_eq}
 use Rattle.jiff.specs.Types.{Date}
 use Rattle.edf_fields.specs.Parts.{text_of}
-use Rattle.edf_fields.specs.Dates.{CivilDay, NamesDashedDay, civil_day, dotted_day_of, dashed_day_of}
-use Rattle.edf_fields.specs.Identifications.{Patient, Recording, SaysPatient, SaysRecording, patient_cause, recording_cause}
+use Rattle.edf_fields.specs.Dates.{CivilDay, NamesDashedDay, civil_day}
+use Rattle.edf_fields.specs.DatesReading.{dotted_day_of, dashed_day_of}
+use Rattle.edf_fields.specs.Identifications.{Patient, Recording, SaysPatient, SaysRecording}
+use Rattle.edf_fields.specs.IdentificationsReading.{patient_cause, recording_cause}
 use Rattle.edf_fields.proofs.ForCallers.{dashed_day_read, patient_or_cause, recording_or_cause, first-none, first-cons}
 use Rattle.edf_header.specs.declared.fault.Place.TheVariants.{AtField}
 use Rattle.edf_header.specs.declared.fault.Cause.TheVariants.{BadStart, StartdateDiffers}
 use Rattle.edf_header.specs.declared.fixed.Start.{Start}
 use Rattle.edf_header.specs.declared.fixed.Extent.{Extent}
 use Rattle.edf_header.specs.declared.layout.FixedField.TheVariants as fixed
-use Rattle.edf_header.specs.Layout.{fixed_fields, fixed_field, columns}
-use Rattle.edf_header.specs.Heads.{SignalHead, AreSideBySide, day_number, first_day, patient_in, recording_in, signals_in, samples_together}
+use Rattle.edf_header.specs.Layout.{fixed_field}
+use Rattle.edf_header.specs.LayoutReading.{fixed_fields, columns}
+use Rattle.edf_header.specs.Heads.{SignalHead, AreSideBySide, day_number, samples_together}
+use Rattle.edf_header.specs.HeadsReading.{first_day, patient_in, recording_in, signals_in}
 use Rattle.edf_header.specs.Judged.{SaysStart, SaysExtent}
-use Rattle.edf_header.specs.Sound.{IsSoundSignal}
+use Rattle.edf_header.specs.Sound.{HasShortNumbers}
+use Rattle.edf_header.specs.Standard.{IsSoundSignal}
 use Rattle.edf_header.specs.Views.{IsKept}
 use Rattle.edf_header.specs.Faults.{fault_unless, not_printable, not_named, is_same_day, version_fault, patient_fault, recording_fault, startdate_fault, starttime_fault, fixed_missing, start_faults, extent_faults, fixed_fault, columns_missing, signals_faults, joint_faults, columns_tests}
 use Rattle.edf_fields.specs.Tests.{first}
 use Rattle.edf_header.proofs.PassedFacts.{fault_unless-passed}
 use Rattle.edf_header.proofs.SaidFacts.{patient_is, recording_is}
 use Rattle.edf_header.proofs.SignalFacts.{length-signals}
-use Rattle.edf_header.proofs.SoundFacts.{side-by-side, signals-sound}
+use Rattle.edf_header.proofs.SoundFacts.{side-by-side, signals-sound, signals-short}
 use Rattle.edf_header.proofs.ChannelFacts.{joint-passed}
 
 pub patient-said : (field : List ℕ) → patient_cause field ≡ None → SaysPatient field (patient_in field)
@@ -87,6 +92,7 @@ kept front bytes start extent signals size long s x passed columns-passed e tota
     λ m named. same-day date (dotted_day_of (text_of (fixed_field front fixed.Startdate))) m (startdate-passed date (fixed_field front fixed.Startdate) (startdate-of front passed)) named ∙ ap day_number s.day in
     let long-signals : length signals ≡ n = ap length e ∙ length-signals bytes n 0 0 n in
     let each : All IsSoundSignal signals = subst (All IsSoundSignal) (sym e) (signals-sound bytes n 0 0 n c1.0) in
+    let short : All HasShortNumbers signals = subst (All HasShortNumbers) (sym e) (signals-short bytes n 0 0 n c1.0) in
     let beside : AreSideBySide 0 signals = subst (AreSideBySide 0) (sym e) (side-by-side bytes n 0 0 n) in
     record {
       long = long;
@@ -96,8 +102,6 @@ kept front bytes start extent signals size long s x passed columns-passed e tota
       record_size = total;
       sound = record {
         standard = record {
-          patient = patient.written;
-          date = recording.date;
           same_day = same;
           some_records = x.some_records;
           some_time = x.some_time;
@@ -105,9 +109,11 @@ kept front bytes start extent signals size long s x passed columns-passed e tota
           channel = rw e together.channel;
           distinct = rw e together.distinct;
           signals = each;
-          offsets = beside;
           small_record = rw (sym total) small;
         };
-        bounds = record { near = s.near; early = s.early; few_records = x.few_records; little_time = x.little_time; few_signals = rw long-signals x.few_signals };
+        bounds = record { near = s.near; early = s.early; few_records = x.few_records; little_time = x.little_time; few_signals = rw long-signals x.few_signals; signals = short };
+        patient = patient.written;
+        date = recording.date;
+        offsets = beside;
       };
     }

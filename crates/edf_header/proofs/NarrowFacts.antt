@@ -6,7 +6,7 @@ use Rattle.std.proofs.lemmas.List.{length-append, length-take-le, length-replica
 use Rattle.std.proofs.lemmas.List.Folds.{list_all-append}
 use Rattle.std.specs.List.{list_all}
 use Rattle.edf_fields.specs.Parts.{part, text_of}
-use Rattle.edf_fields.specs.Printable.{is_printable}
+use Rattle.edf_fields.specs.PrintableReading.{is_printable}
 use Rattle.edf_header.specs.Narrow.{longest_text, narrowed, widened, SaysTheSame}
 
 -- a field of spaces alone

@@ -1,7 +1,7 @@
 -- What tests that passed say.
 use Rattle.std.proofs.Common.{◌≡◌, ℕ, ℤ, pos, negsuc, neg_ℤ, ◌≤◌, ◌≤ℤ◌, ◌&&◌, int_le, Bool, true, false, List, [], ◌∷◌, Option, Some, None, refl, arith}
 use Rattle.std.proofs.lemmas.Int.{ints}
-use Rattle.edf_fields.specs.Numbers.{whole_number_of, header_number_of}
+use Rattle.edf_fields.specs.NumbersReading.{whole_number_of, header_number_of}
 use Rattle.edf_header.specs.declared.fault.Place.{Place}
 use Rattle.edf_header.specs.declared.fault.Place.TheVariants.{AtSignal}
 use Rattle.edf_header.specs.declared.fault.Cause.{Cause}

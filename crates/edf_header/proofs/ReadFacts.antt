@@ -12,7 +12,8 @@ use Rattle.edf_header.specs.declared.layout.FixedField.TheVariants as fixed
 use Rattle.edf_header.specs.Layout.{fixed_part, fixed_field, columns_part}
 use Rattle.edf_header.specs.Faults.{fixed_tests, fixed_fault, columns_tests, header_fault}
 use Rattle.edf_fields.specs.Tests.{first}
-use Rattle.edf_header.specs.Heads.{SignalHead, Head, patient_in, recording_in, signals_of, signals_in, head_in, head_of, header_bytes}
+use Rattle.edf_header.specs.Heads.{SignalHead, Head, header_bytes}
+use Rattle.edf_header.specs.HeadsReading.{patient_in, recording_in, signals_of, signals_in, head_in, head_of}
 use Rattle.edf_header.specs.Judged.{SaysStart, SaysExtent}
 use Rattle.edf_header.specs.Views.{head_view}
 use Rattle.edf_fields.proofs.ForCallers.{first-passed, first-found}

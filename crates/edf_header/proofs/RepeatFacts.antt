@@ -9,10 +9,11 @@ use Rattle.edf_header.specs.declared.fault.Place.TheVariants.{AtSignal}
 use Rattle.edf_header.specs.declared.fault.Cause.TheVariants.{DuplicateLabel}
 use Rattle.edf_header.specs.declared.layout.SignalField.TheVariants as signal
 use Rattle.edf_header.specs.Heads.{SignalHead, is_annotations}
-use Rattle.edf_header.specs.Channels.{is_channel_of, channel_labels, label_at, is_repeated}
+use Rattle.edf_header.specs.ChannelsReading.{channel_labels, is_channel_of, label_at, is_repeated}
 use Rattle.edf_header.specs.Faults.{fault, label_fault, labels_faults}
 use Rattle.edf_fields.specs.Tests.{first}
-use Rattle.edf_fields.specs.Lists.{Has, is_one_of, are_distinct}
+use Rattle.edf_fields.specs.Lists.{Has, is_one_of}
+use Rattle.edf_fields.specs.Distinct.{are_distinct}
 use Rattle.edf_fields.proofs.ForCallers.{first-passed, first-found, and-true, not-true, has-one_of}
 
 pub label_here : (signals : List SignalHead) (s : ℕ) (d : SignalHead) → s < length signals → label_at signals s ≡ (get_or signals s d).label

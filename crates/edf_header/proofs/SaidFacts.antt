@@ -1,9 +1,10 @@
 -- What an identification field says, as a function of its bytes.
 use Rattle.std.proofs.Common.{◌≡◌, ℕ, List, ◌∷◌, drop, sym, ap, codes}
 use Rattle.edf_fields.specs.Parts.{text_of}
-use Rattle.edf_fields.specs.Identifications.{Patient, Recording, SaysPatient, SaysRecording, subfield}
+use Rattle.edf_fields.specs.Identifications.{Patient, Recording, SaysPatient, SaysRecording}
+use Rattle.edf_fields.specs.IdentificationsReading.{subfield}
 use Rattle.edf_fields.proofs.ForCallers.{joined_found}
-use Rattle.edf_header.specs.Heads.{patient_in, recording_in}
+use Rattle.edf_header.specs.HeadsReading.{patient_in, recording_in}
 
 abbrev patient_at : List (List ℕ) → Patient
 patient_at xs = record { code = subfield xs 0; sex = subfield xs 1; birthdate = subfield xs 2; name = subfield xs 3; extras = drop 4 xs }

@@ -8,17 +8,19 @@ use Rattle.std.proofs.lemmas.List.{length-take}
 use Rattle.std.proofs.lemmas.List.Elements.{All-nil, All-cons}
 use Rattle.std.proofs.Math.Nat.{pow-le-pow_right}
 use Rattle.edf_fields.specs.Parts.{text_of, part}
-use Rattle.edf_fields.specs.Numbers.{whole_number_of, header_number_of}
+use Rattle.edf_fields.specs.NumbersReading.{whole_number_of, header_number_of}
 use Rattle.edf_fields.proofs.ForCallers.{whole_number_of-some, header_number_of-some, whole_number-below, header_number-below, first-none, first-cons, and-true, not-true}
 use Rattle.edf_header.specs.declared.layout.SignalField.TheVariants as signal
 use Rattle.edf_header.specs.declared.fault.Place.TheVariants.{AtSignal}
 use Rattle.edf_header.specs.declared.fault.Cause.TheVariants.{BadRange, BadAnnotationSignal}
 use Rattle.edf_header.specs.Calibrations.{Line}
 use Rattle.edf_header.specs.Layout.{column_before, signal_field}
-use Rattle.edf_header.specs.Heads.{AreSideBySide, line_of, signal_of, signals_from, is_annotations}
+use Rattle.edf_header.specs.Heads.{AreSideBySide, is_annotations}
+use Rattle.edf_header.specs.HeadsReading.{line_of, signal_of, signals_from}
 use Rattle.edf_header.specs.Faults.{text_fault, physical_fault, digital_fault, samples_fault, digital_order_fault, physical_differ_fault, annotation_fault, naming_faults, extreme_faults, sampling_faults, agreement_faults, signal_faults, signals_faults}
 use Rattle.edf_fields.specs.Tests.{first}
-use Rattle.edf_header.specs.Sound.{IsSoundSignal}
+use Rattle.edf_header.specs.Sound.{HasShortNumbers}
+use Rattle.edf_header.specs.Standard.{IsSoundSignal}
 use Rattle.edf_header.proofs.PassedFacts.{fault_unless-passed, physical-passed, digital-passed, samples-passed}
 
 pub side-by-side : (bytes : List ℕ) (n s before m : ℕ) → AreSideBySide before (signals_from bytes n s before m)
@@ -121,12 +123,18 @@ passes-sound bytes n s before p = record {
     high = rw (p.digital_maximum).1 (p.digital_maximum).3;
     order = order-passed s (line_of bytes n s) p.order;
     differ = differ-passed s (line_of bytes n s) p.differ;
+  };
+  some_samples = rw (p.samples).1 (p.samples).2;
+  annotations = λ e. annotation-passed s (signal_field bytes n s signal.Label) (line_of bytes n s) p.annotations e;
+}
+
+passes-short : (bytes : List ℕ) (n s before : ℕ) → Passes bytes n s → HasShortNumbers (signal_of bytes n s before)
+passes-short bytes n s before p = record {
+  extremes = record {
     small_minimum = number-small (signal_field bytes n s signal.PhysicalMinimum) (p.physical_minimum).0 (p.physical_minimum).1;
     small_maximum = number-small (signal_field bytes n s signal.PhysicalMaximum) (p.physical_maximum).0 (p.physical_maximum).1;
   };
-  some_samples = rw (p.samples).1 (p.samples).2;
   few_samples = rw (p.samples).1 (count-below bytes (column_before signal.Samples * n + 8 * s) 8 (p.samples).0 (p.samples).1);
-  annotations = λ e. annotation-passed s (signal_field bytes n s signal.Label) (line_of bytes n s) p.annotations e;
 }
 
 pub signals-sound : (bytes : List ℕ) (n s before m : ℕ) → first (signals_faults bytes n s m) ≡ None → All IsSoundSignal (signals_from bytes n s before m)
@@ -136,3 +144,11 @@ signals-sound bytes n s before (suc m) h =
     All-cons IsSoundSignal (signal_of bytes n s before) (signals_from bytes n (s + 1) (before + 2 * (signal_of bytes n s before).samples) m)
     (passes-sound bytes n s before (signal-passes bytes n s parts.0))
     (signals-sound bytes n (s + 1) (before + 2 * (signal_of bytes n s before).samples) m parts.1)
+
+pub signals-short : (bytes : List ℕ) (n s before m : ℕ) → first (signals_faults bytes n s m) ≡ None → All HasShortNumbers (signals_from bytes n s before m)
+signals-short bytes n s before zero h = All-nil HasShortNumbers
+signals-short bytes n s before (suc m) h =
+    let parts = first-none (signal_faults bytes n s) (signals_faults bytes n (s + 1) m) h in
+    All-cons HasShortNumbers (signal_of bytes n s before) (signals_from bytes n (s + 1) (before + 2 * (signal_of bytes n s before).samples) m)
+    (passes-short bytes n s before (signal-passes bytes n s parts.0))
+    (signals-short bytes n (s + 1) (before + 2 * (signal_of bytes n s before).samples) m parts.1)

@@ -3,7 +3,8 @@ use Rattle.std.proofs.Common.{◌≡◌, ℕ, ◌≤◌, ◌&&◌, ◌||◌, not
 use Rattle.std.specs.Ordering.{int_eq}
 use Rattle.std.proofs.lemmas.Bool.Decides.{nat_tests}
 use Rattle.edf_fields.specs.Parts.{text_of}
-use Rattle.edf_fields.specs.Numbers.{header_number_of, whole_number_of, has_minus, unsigned, signed, weight, decimal, whole_part, fraction_part, is_whole, is_decimal}
+use Rattle.edf_fields.specs.Numbers.{has_minus, unsigned, signed, weight, decimal, whole_part, fraction_part}
+use Rattle.edf_fields.specs.NumbersReading.{header_number_of, whole_number_of, is_whole, is_decimal}
 use Rattle.edf_header.specs.declared.fault.Place.{Place}
 use Rattle.edf_header.specs.declared.fault.Cause.TheVariants.{NotPrintable, BadAnnotationSignal}
 use Rattle.edf_header.specs.declared.fault.Place.TheVariants.{AtSignal}

@@ -1,8 +1,9 @@
 -- The stages of the tests of the signals together, and of the columns.
 use Rattle.std.proofs.Common.{◌≡◌, ℕ, List, [], ◌∷◌, ◌++◌, length, Some, None, ap, ◌∙◌}
 use Rattle.edf_header.specs.declared.fault.Fault.{Fault}
-use Rattle.edf_header.specs.Layout.{columns}
-use Rattle.edf_header.specs.Heads.{SignalHead, signals_in}
+use Rattle.edf_header.specs.LayoutReading.{columns}
+use Rattle.edf_header.specs.Heads.{SignalHead}
+use Rattle.edf_header.specs.HeadsReading.{signals_in}
 use Rattle.edf_header.specs.Faults.{no_annotation_signal, no_ordinary_signal, labels_faults, record_too_large, joint_faults, columns_missing, signals_faults, columns_tests}
 use Rattle.edf_fields.specs.Tests.{first}
 use Rattle.edf_fields.proofs.ForCallers.{first-passed, first-found, alone}

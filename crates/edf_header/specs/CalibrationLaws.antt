@@ -1,6 +1,23 @@
--- What being the same line says of the values.
-use Rattle.std.specs.Prelude.{◌≡◌, ◌<◌, ◌^◌, ℤ, ◌+ℤ◌, ◌-ℤ◌, ◌*ℤ◌, ◌↔◌, unsigned_abs}
-use Rattle.edf_header.specs.Calibrations.{Line, IsCalibration, digital_span, physical_span, offset_times_span, SameLine}
+-- Calibrations that were read, and what being the same line says of the values.
+use Rattle.std.specs.Prelude.{◌≡◌, ◌<◌, ◌^◌, ℤ, ◌+ℤ◌, ◌-ℤ◌, ◌*ℤ◌, ◌<ℤ◌, ◌↔◌, unsigned_abs}
+use Rattle.edf_header.specs.Calibrations.{Line, AreExtremes, digital_span, physical_span, offset_times_span, SameLine}
+
+-- 8 bytes spell no number of 10^8, which bounds the physical extremes
+pub record AreShort (l : Line) : Type 0 where
+  pub small_minimum : unsigned_abs l.physical_minimum < 10 ^ 15
+  pub small_maximum : unsigned_abs l.physical_maximum < 10 ^ 15
+
+-- a calibration that was read of fields of 8 bytes
+pub record IsCalibration (l : Line) : Type 0 where
+  pub extremes : AreExtremes l
+  pub short : AreShort l
+
+-- being the same line is an equivalence of calibrations
+abbrev pub SameLineIsEquivalence : Type 0
+SameLineIsEquivalence =
+    ((l : Line) → SameLine l l)
+    × ((l m : Line) → SameLine l m → SameLine m l)
+    × ((l m k : Line) → m.digital_minimum <ℤ m.digital_maximum → SameLine l m → SameLine m k → SameLine l k)
 
 -- the physical value of the digital value v, times the digital span: p * (dmax - dmin) = pmin * (dmax - dmin) + (v - dmin) * (pmax - pmin)
 abbrev pub value_times_span : Line → ℤ → ℤ

@@ -1,5 +1,5 @@
 -- The line from digital to physical values (EDF, "Header record": digital and physical minimum and maximum).
-use Rattle.std.specs.Prelude.{◌≡◌, ◌≢◌, ℤ, pos, ◌-ℤ◌, ◌*ℤ◌, ◌<ℤ◌, ◌≤ℤ◌, ◌<◌, ◌^◌, neg_ℤ, unsigned_abs}
+use Rattle.std.specs.Prelude.{◌≡◌, ◌≢◌, ℤ, pos, ◌-ℤ◌, ◌*ℤ◌, ◌<ℤ◌, ◌≤ℤ◌, neg_ℤ}
 
 -- the extremes of a signal: physical ones in units of 10^-7 of the signal's dimension, and the digital values that they are given for
 pub record Line : Type 0 where
@@ -25,18 +25,9 @@ SameLine l m =
     × (offset_times_span l *ℤ digital_span m ≡ offset_times_span m *ℤ digital_span l)
 
 -- digital extremes are from -32768 to 32767, in order; physical ones differ (EDF, "Header record"; EDF+, "Additional specifications in EDF+")
--- that the gain may be negative is this project's profile; 8 bytes spell no number of 10^8, which bounds the physical ones
-pub record IsCalibration (l : Line) : Type 0 where
+-- that the gain may be negative is this project's profile
+pub record AreExtremes (l : Line) : Type 0 where
   pub low : neg_ℤ (pos 32768) ≤ℤ l.digital_minimum
   pub high : l.digital_maximum ≤ℤ pos 32767
   pub order : l.digital_minimum <ℤ l.digital_maximum
   pub differ : l.physical_minimum ≢ l.physical_maximum
-  pub small_minimum : unsigned_abs l.physical_minimum < 10 ^ 15
-  pub small_maximum : unsigned_abs l.physical_maximum < 10 ^ 15
-
--- being the same line is an equivalence of calibrations
-abbrev pub SameLineIsEquivalence : Type 0
-SameLineIsEquivalence =
-    ((l : Line) → SameLine l l)
-    × ((l m : Line) → SameLine l m → SameLine m l)
-    × ((l m k : Line) → m.digital_minimum <ℤ m.digital_maximum → SameLine l m → SameLine m k → SameLine l k)

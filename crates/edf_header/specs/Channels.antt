@@ -1,8 +1,5 @@
 -- The channels of a header, which are its ordinary signals.
-use Rattle.std.specs.Prelude.{◌≡◌, ℕ, Bool, false, not, ◌&&◌, if◌then◌else◌, List, [], ◌∷◌, Option, Some, slice_get, unwrap_or, option_map, take}
-use Rattle.std.specs.List.{position_from}
-use Rattle.std.specs.Option.{is_some}
-use Rattle.std.specs.Str.{bytes_eq}
+use Rattle.std.specs.Prelude.{◌≡◌, ℕ, Bool, false, not, List, Some, slice_get, filter}
 use Rattle.edf_header.specs.Heads.{SignalHead, is_annotations}
 
 -- signal s is a channel of this label
@@ -14,23 +11,10 @@ IsChannel signals s label =
 abbrev pub HasDistinctChannels : List SignalHead → Type 0
 HasDistinctChannels signals = (s t : ℕ) (label : List ℕ) → IsChannel signals s label → IsChannel signals t label → s ≡ t
 
--- the signal is a channel of this label
-abbrev pub is_channel_of : List ℕ → SignalHead → Bool
-is_channel_of label head = bytes_eq head.label label && not (is_annotations head.label)
+-- a signal that holds no annotations
+abbrev pub is_ordinary : SignalHead → Bool
+is_ordinary signal = not (is_annotations signal.label)
 
--- the place of the first channel of this label among the signals
-abbrev pub channel_place : List ℕ → List SignalHead → Option ℕ
-channel_place label signals = position_from (is_channel_of label) 0 signals
-
--- the labels of the channels, in the order of the signals
-abbrev pub channel_labels : List SignalHead → List (List ℕ)
-channel_labels [] = []
-channel_labels (head ∷ heads) = if is_annotations head.label then channel_labels heads else head.label ∷ channel_labels heads
-
--- the label of signal s
-abbrev pub label_at : List SignalHead → ℕ → List ℕ
-label_at signals s = unwrap_or (option_map (λ head. head.label) (slice_get signals s)) []
-
--- an earlier channel has the label of signal s
-abbrev pub is_repeated : List SignalHead → ℕ → Bool
-is_repeated signals s = is_some (channel_place (label_at signals s) (take s signals))
+-- the channels among the signals
+abbrev pub channels_among : List SignalHead → List SignalHead
+channels_among signals = filter is_ordinary signals

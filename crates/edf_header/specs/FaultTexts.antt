@@ -9,10 +9,8 @@ use Rattle.edf_header.specs.declared.fault.Fault.{Fault}
 use Rattle.edf_header.specs.declared.fault.Place.{Place}
 use Rattle.edf_header.specs.declared.fault.Place.TheVariants.{AtField, AtSignal, AtRecord, AtEnd}
 use Rattle.edf_header.specs.declared.fault.Cause.{Cause}
-use Rattle.edf_header.specs.declared.fault.Cause.TheVariants.{Truncated, NotPrintable, BadVersion, BadSubfields, BadStart, StartdateDiffers, BadHeaderSize, NotEdfPlus, BadNumber, BadRange}
-use Rattle.edf_header.specs.declared.fault.Cause.TheVariants.{BadAnnotationSignal, NoAnnotationSignal, NoOrdinarySignal, DuplicateLabel, RecordTooLarge}
-use Rattle.edf_header.specs.declared.fault.Cause.TheVariants.{BadTal, NoTimekeeping, BadFirstStart, NotContiguous, Overlap, TooManyAnnotations, TrailingBytes}
-use Rattle.edf_header.specs.Layout.{fixed_field_name, signal_field_name}
+use Rattle.edf_header.specs.declared.fault.Cause.TheVariants.{Truncated, NotPrintable, BadVersion, BadSubfields, BadStart, StartdateDiffers, BadHeaderSize, NotEdfPlus, BadNumber, BadRange, BadAnnotationSignal, NoAnnotationSignal, NoOrdinarySignal, DuplicateLabel, RecordTooLarge, BadTal, NoTimekeeping, BadFirstStart, NotContiguous, Overlap, TooManyAnnotations, TrailingBytes}
+use Rattle.edf_header.specs.LayoutReading.{fixed_field_name, signal_field_name}
 
 -- the name of the cause for which an identification field is refused
 abbrev pub field_cause_name : FieldCause → List ℕ

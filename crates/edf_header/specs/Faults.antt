@@ -1,30 +1,31 @@
 -- The tests that a header has to pass, in their written order, and the first that fails. A test is asked only where those before it pass.
-use Rattle.std.specs.Prelude.{ℕ, zero, suc, ℤ, pos, neg_ℤ, ◌+◌, ◌*◌, nat_le, int_le, int_lt, ◌&&◌, ◌||◌, not}
-use Rattle.std.specs.Prelude.{List, [], ◌∷◌, ◌++◌, length, take, Bool, true, false, Option, Some, None, unwrap_or, codes}
+use Rattle.std.specs.Prelude.{ℕ, zero, suc, ℤ, pos, neg_ℤ, ◌+◌, ◌*◌, nat_le, int_le, int_lt, ◌&&◌, ◌||◌, not, List, [], ◌∷◌, ◌++◌, length, take, Bool, true, false, Option, Some, None, unwrap_or, codes}
 use Rattle.std.specs.List.{list_any, list_all}
 use Rattle.std.specs.Ordering.{int_eq}
 use Rattle.std.specs.Str.{bytes_eq}
 use Rattle.edf_fields.specs.declared.cause.FieldCause.{FieldCause}
 use Rattle.edf_fields.specs.Parts.{text_of}
-use Rattle.edf_fields.specs.Numbers.{whole_number_of, header_number_of}
-use Rattle.edf_fields.specs.Dates.{CivilDay, dotted_day_of, dashed_day_of, clock_time_of}
-use Rattle.edf_fields.specs.Identifications.{patient_cause, recording_cause}
-use Rattle.edf_fields.specs.Printable.{is_printable}
+use Rattle.edf_fields.specs.NumbersReading.{whole_number_of, header_number_of}
+use Rattle.edf_fields.specs.Dates.{CivilDay}
+use Rattle.edf_fields.specs.DatesReading.{dotted_day_of, dashed_day_of, clock_time_of}
+use Rattle.edf_fields.specs.IdentificationsReading.{patient_cause, recording_cause}
+use Rattle.edf_fields.specs.PrintableReading.{is_printable}
 use Rattle.edf_fields.specs.Tests.{first, unless}
 use Rattle.edf_header.specs.declared.fault.Fault.{Fault}
 use Rattle.edf_header.specs.declared.fault.Place.{Place}
 use Rattle.edf_header.specs.declared.fault.Place.TheVariants.{AtField, AtSignal}
 use Rattle.edf_header.specs.declared.fault.Cause.{Cause}
-use Rattle.edf_header.specs.declared.fault.Cause.TheVariants.{Truncated, NotPrintable, BadVersion, BadSubfields, BadStart, StartdateDiffers, BadHeaderSize}
-use Rattle.edf_header.specs.declared.fault.Cause.TheVariants.{NotEdfPlus, BadNumber, BadRange, BadAnnotationSignal, NoAnnotationSignal, NoOrdinarySignal, DuplicateLabel, RecordTooLarge}
+use Rattle.edf_header.specs.declared.fault.Cause.TheVariants.{Truncated, NotPrintable, BadVersion, BadSubfields, BadStart, StartdateDiffers, BadHeaderSize, NotEdfPlus, BadNumber, BadRange, BadAnnotationSignal, NoAnnotationSignal, NoOrdinarySignal, DuplicateLabel, RecordTooLarge}
 use Rattle.edf_header.specs.declared.layout.FixedField.{FixedField}
 use Rattle.edf_header.specs.declared.layout.FixedField.TheVariants as fixed
 use Rattle.edf_header.specs.declared.layout.SignalField.{SignalField}
 use Rattle.edf_header.specs.declared.layout.SignalField.TheVariants as signal
 use Rattle.edf_header.specs.Calibrations.{Line}
-use Rattle.edf_header.specs.Channels.{is_repeated}
-use Rattle.edf_header.specs.Layout.{fixed_from, fixed_bytes, fixed_fields, fixed_part, fixed_field, column_before, column_width, columns, columns_part, signal_field}
-use Rattle.edf_header.specs.Heads.{SignalHead, day_number, recording_in, signals_of, line_of, signals_in, is_annotations, samples_together}
+use Rattle.edf_header.specs.ChannelsReading.{is_repeated}
+use Rattle.edf_header.specs.Layout.{fixed_from, fixed_bytes, fixed_part, fixed_field, column_before, column_width, columns_part, signal_field}
+use Rattle.edf_header.specs.LayoutReading.{fixed_fields, columns}
+use Rattle.edf_header.specs.Heads.{SignalHead, day_number, is_annotations, samples_together}
+use Rattle.edf_header.specs.HeadsReading.{recording_in, signals_of, line_of, signals_in}
 
 -- a test that found this
 abbrev pub fault : Place → Cause → Option Fault

@@ -4,7 +4,8 @@ use Rattle.edf_fields.specs.Tests.{first}
 use Rattle.edf_header.specs.declared.fixed.Fixed.{Fixed}
 use Rattle.edf_header.specs.declared.judge_columns.Body.{Body}
 use Rattle.edf_header.specs.Faults.{fixed_fault, columns_tests}
-use Rattle.edf_header.specs.Heads.{signals_in, samples_together}
+use Rattle.edf_header.specs.Heads.{samples_together}
+use Rattle.edf_header.specs.HeadsReading.{signals_in}
 use Rattle.edf_header.specs.Judged.{SaysStart, SaysExtent}
 use Rattle.edf_header.specs.Lanes.{annotation_places}
 use Rattle.edf_header.specs.Narrow.{WideColumns}

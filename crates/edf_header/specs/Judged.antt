@@ -2,14 +2,16 @@
 use Rattle.std.specs.Prelude.{◌≡◌, ℕ, pos, ◌≤◌, ◌<◌, ◌≤ℤ◌, ◌^◌, List, None, unwrap_or, unsigned_abs}
 use Rattle.jiff.specs.Words.{epoch_day}
 use Rattle.edf_fields.specs.Parts.{text_of}
-use Rattle.edf_fields.specs.Numbers.{whole_number_of, header_number_of}
-use Rattle.edf_fields.specs.Dates.{civil_day, dotted_day_of, clock_time_of}
-use Rattle.edf_fields.specs.Identifications.{patient_cause, recording_cause}
+use Rattle.edf_fields.specs.NumbersReading.{whole_number_of, header_number_of}
+use Rattle.edf_fields.specs.Dates.{civil_day}
+use Rattle.edf_fields.specs.DatesReading.{dotted_day_of, clock_time_of}
+use Rattle.edf_fields.specs.IdentificationsReading.{patient_cause, recording_cause}
 use Rattle.edf_header.specs.declared.fixed.Start.{Start}
 use Rattle.edf_header.specs.declared.fixed.Extent.{Extent}
 use Rattle.edf_header.specs.declared.layout.FixedField.TheVariants as fixed
 use Rattle.edf_header.specs.Layout.{fixed_field}
-use Rattle.edf_header.specs.Heads.{first_day, kind_of, count_of, signals_of, in_picoseconds}
+use Rattle.edf_header.specs.Heads.{in_picoseconds}
+use Rattle.edf_header.specs.HeadsReading.{first_day, kind_of, count_of, signals_of}
 
 -- the fields up to the starttime say this
 pub record SaysStart (front : List ℕ) (v : Start) : Type 0 where

@@ -3,7 +3,7 @@ use Rattle.std.specs.Prelude.{◌≡◌, ◌≤◌, None, List, ℕ, length, dro
 use Rattle.jiff.specs.Words.{epoch_day}
 use Rattle.edf_fields.specs.Dates.{civil_day}
 use Rattle.edf_fields.specs.Parts.{text_of}
-use Rattle.edf_fields.specs.Identifications.{patient_cause, recording_cause}
+use Rattle.edf_fields.specs.IdentificationsReading.{patient_cause, recording_cause}
 use Rattle.edf_header.specs.declared.details.Details.{Details}
 use Rattle.edf_header.specs.declared.details.TextsOf.{TextsOf}
 use Rattle.edf_header.specs.declared.fixed.Start.{Start}
@@ -13,7 +13,8 @@ use Rattle.edf_header.specs.declared.layout.FixedField.TheVariants as fixed
 use Rattle.edf_header.specs.declared.layout.SignalField.{SignalField}
 use Rattle.edf_header.specs.Calibrations.{Line}
 use Rattle.edf_header.specs.Layout.{fixed_field, signal_field}
-use Rattle.edf_header.specs.Heads.{SignalHead, Head, patient_in, recording_in, record_bytes}
+use Rattle.edf_header.specs.Heads.{SignalHead, Head, record_bytes}
+use Rattle.edf_header.specs.HeadsReading.{patient_in, recording_in}
 use Rattle.edf_header.specs.Sound.{IsSound}
 
 -- a header

@@ -1,7 +1,8 @@
 //! The line from digital to physical values of a signal.
 
 ghost use Rattle.std.specs.Prelude.{◌≡◌, ◌≢◌, ◌↔◌, ◌<◌, ◌^◌, ◌*ℤ◌, ◌<ℤ◌, pos, unsigned_abs, IsTrue};
-ghost use Rattle.edf_header.specs.Calibrations.{SameLine, IsCalibration, physical_span as physical_span_of, digital_span as digital_span_of, offset_times_span};
+ghost use Rattle.edf_header.specs.CalibrationLaws.{IsCalibration};
+ghost use Rattle.edf_header.specs.Calibrations.{SameLine, physical_span as physical_span_of, digital_span as digital_span_of, offset_times_span};
 
 use std::marker::Model;
 
@@ -20,7 +21,8 @@ pub struct Calibration {
 }
 
 impl Model for Calibration {
-    ghost use Rattle.edf_header.specs.Calibrations.{Line, IsCalibration};
+    ghost use Rattle.edf_header.specs.CalibrationLaws.{IsCalibration};
+    ghost use Rattle.edf_header.specs.Calibrations.{Line};
 
     ghost Value = { Line };
 

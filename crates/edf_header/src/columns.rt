@@ -17,7 +17,7 @@ pub(crate) struct Columns {
 }
 
 impl Model for Columns {
-    ghost use Rattle.edf_header.specs.Layout.{columns as fields};
+    ghost use Rattle.edf_header.specs.LayoutReading.{columns as fields};
     ghost use Rattle.edf_header.specs.Narrow.{WideColumns, all_bytes, AreColumns};
 
     ghost Value = { WideColumns };

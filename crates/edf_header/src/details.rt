@@ -4,7 +4,7 @@ ghost use Rattle.std.specs.Prelude.{◌≡◌, ◌≤◌, length, None, Some, Is
 ghost use Rattle.edf_header.specs.Views.{details_of};
 
 use crate::calibration::Calibration;
-use crate::texts::Texts;
+use crate::signal_texts::Texts;
 use std::alloc::{AllocError, Global};
 use std::rc::Rc;
 

@@ -1,7 +1,7 @@
 //! What the fields of a header have in common: printable bytes and numbers.
 
 ghost use Rattle.std.specs.Prelude.{◌≡◌, ◌≤◌, ◌<◌, ◌^◌, ◌≤ℤ◌, ℤ, pos, neg_ℤ, None, Some, length, MatchResult, unsigned_abs};
-ghost use Rattle.edf_fields.specs.Numbers.{whole_number_of};
+ghost use Rattle.edf_fields.specs.NumbersReading.{whole_number_of};
 ghost use Rattle.edf_header.specs.Faults.{not_printable, no_number, not_within, not_positive};
 
 use crate::fault::{Cause, Fault, Place};

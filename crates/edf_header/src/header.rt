@@ -2,7 +2,7 @@
 
 ghost use Rattle.std.specs.Prelude.{◌≡◌, ◌<◌, ◌≤◌, ◌≤ℤ◌, ◌^◌, ◌*ℤ◌, ◌+ℤ◌, pos, unsigned_abs};
 ghost use Rattle.edf_fields.specs.Dates.{civil_day};
-ghost use Rattle.edf_fields.specs.Identifications.{patient_of, recording_of};
+ghost use Rattle.edf_fields.specs.IdentificationsReading.{patient_of, recording_of};
 ghost use Rattle.edf_header.specs.Heads.{start_second, record_bytes};
 ghost use Rattle.edf_header.specs.Lanes.{annotation_places};
 ghost use Rattle.edf_header.specs.Sound.{IsSound};

@@ -4,7 +4,7 @@ ghost use Rattle.std.specs.Prelude.{◌≡◌, ◌*◌, ◌≤◌, ◌<◌, ◌^
 ghost use Rattle.edf_header.specs.Faults.{signals_faults, columns_tests};
 ghost use Rattle.edf_fields.specs.Tests.{first};
 ghost use Rattle.edf_header.specs.HeaderParts.{IsBody};
-ghost use Rattle.edf_header.specs.Heads.{signals_in};
+ghost use Rattle.edf_header.specs.HeadsReading.{signals_in};
 ghost use Rattle.edf_header.specs.Stops.{Stops};
 
 use crate::columns::Columns;

@@ -2,12 +2,12 @@
 
 ghost use Rattle.std.specs.Prelude.{◌≡◌, ◌*◌, ◌+◌, ◌≢◌, ◌≤◌, ◌<◌, ◌^◌, ◌<ℤ◌, pos, length, None, Some, MatchResult, IfOk, IfErr, unwrap_or, unsigned_abs};
 ghost use Rattle.edf_fields.specs.Parts.{text_of};
-ghost use Rattle.edf_fields.specs.Numbers.{whole_number_of, header_number_of};
+ghost use Rattle.edf_fields.specs.NumbersReading.{whole_number_of, header_number_of};
 ghost use Rattle.edf_header.specs.declared.layout.SignalField.TheVariants.{Label, Transducer, Dimension, Prefilter, Samples, Reserved};
 ghost use Rattle.edf_header.specs.Extremes.{extremes_line};
 ghost use Rattle.edf_header.specs.Faults.{text_fault, physical_fault, digital_fault, samples_fault, digital_order_fault, physical_differ_fault, annotation_fault, naming_faults, extreme_faults, sampling_faults, agreement_faults, signal_faults};
 ghost use Rattle.edf_fields.specs.Tests.{first};
-ghost use Rattle.edf_header.specs.Heads.{line_of, signal_of};
+ghost use Rattle.edf_header.specs.HeadsReading.{line_of, signal_of};
 ghost use Rattle.edf_header.specs.Layout.{column_width};
 ghost use Rattle.edf_header.specs.Narrow.{SaysTheSame};
 ghost use Rattle.edf_header.specs.Stops.{Stops};

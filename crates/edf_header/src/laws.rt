@@ -1,9 +1,8 @@
 //! Laws of the definitions, each the contract of a function that does nothing.
 
-ghost use Rattle.edf_header.specs.CalibrationLaws.{SameLineIsSameValues, CalibrationsFit};
-ghost use Rattle.edf_header.specs.Calibrations.{SameLineIsEquivalence};
-ghost use Rattle.edf_header.specs.Conforming.{PassingHasHead, PassingIsSound, PassingIsConforming};
-ghost use Rattle.edf_header.specs.Heads.{HasOneHead};
+ghost use Rattle.edf_header.specs.CalibrationLaws.{SameLineIsEquivalence, SameLineIsSameValues, CalibrationsFit};
+ghost use Rattle.edf_header.specs.ConformingLaws.{PassingHasHead, PassingIsSound, PassingIsConforming, ConformingIsSound};
+ghost use Rattle.edf_header.specs.HeadsReading.{HasOneHead};
 
 /// Being the same line is an equivalence of calibrations: each is the same line as itself, of two
 /// that are the same line each is that of the other, and two are the same line where a third is that
@@ -36,7 +35,9 @@ pub fn passing_file_has_a_sound_head()
 {}
 
 /// The header of a file has no fault exactly where it is in order: all of it is there, in printable
-/// ASCII, the version is 0, the size is right, and the fields say a header, which is sound.
+/// ASCII, the version is 0, the size is right, and the fields say a header, which meets the standard. Such a
+/// header is sound.
 pub fn passing_is_being_in_order()
-    ensures { PassingIsConforming }
+    ensures passing { PassingIsConforming }
+    ensures sound { ConformingIsSound }
 {}

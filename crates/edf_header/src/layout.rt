@@ -3,7 +3,8 @@
 
 ghost use Rattle.std.specs.Prelude.{◌≡◌, ◌+◌, ◌≤◌, ◌<◌, length, get_or};
 ghost use Rattle.edf_header.specs.declared.layout.SignalField.TheVariants.{Label};
-ghost use Rattle.edf_header.specs.Layout.{fixed_from, fixed_bytes, fixed_field as fixed_field_of, fixed_field_name, column_width, columns, signal_field_name};
+ghost use Rattle.edf_header.specs.Layout.{fixed_from, fixed_bytes, fixed_field as fixed_field_of, column_width};
+ghost use Rattle.edf_header.specs.LayoutReading.{fixed_field_name, columns, signal_field_name};
 
 use edf_fields::number::part;
 
@@ -155,7 +156,7 @@ impl SignalField {
     }
 
     /// Which of the columns it is.
-    #[tactic(auto, unfolding(crate::specs::Layout::columns))]
+    #[tactic(auto, unfolding(crate::specs::LayoutReading::columns))]
     pub(crate) fn place(self) -> usize
         ensures within { result < length columns }
         ensures field { get_or columns result Label ≡ self }

@@ -19,7 +19,7 @@ pub mod laws;
 pub mod layout;
 mod read;
 pub mod signal;
+mod signal_texts;
 mod startdate;
 pub mod stop;
-mod texts;
 mod together;

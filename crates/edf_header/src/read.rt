@@ -7,9 +7,10 @@ ghost use Rattle.edf_header.specs.declared.fault.Cause.TheVariants.{Truncated};
 ghost use Rattle.edf_header.specs.declared.fault.Place.TheVariants.{AtSignal};
 ghost use Rattle.edf_header.specs.Conforming.{HeaderConforms};
 ghost use Rattle.edf_header.specs.Faults.{columns_missing, columns_tests, header_fault};
-ghost use Rattle.edf_header.specs.Heads.{HasHead, head_of, header_bytes};
+ghost use Rattle.edf_header.specs.Heads.{HasHead, header_bytes};
+ghost use Rattle.edf_header.specs.HeadsReading.{head_of};
 ghost use Rattle.edf_header.specs.HeaderParts.{IsFixed, IsBody};
-ghost use Rattle.edf_header.specs.Layout.{columns as all_columns, next_before, AreAdjacent};
+ghost use Rattle.edf_header.specs.LayoutReading.{columns as all_columns, next_before, AreAdjacent};
 ghost use Rattle.edf_header.specs.Narrow.{all_bytes, AreColumns};
 ghost use Rattle.edf_header.specs.Sound.{IsSound};
 ghost use Rattle.edf_header.specs.Stops.{Stops};
@@ -84,7 +85,7 @@ fn read_each<S: Source>(
 }
 
 /// The columns of so many signals, or the first byte of them that is missing.
-#[tactic(auto, unfolding(crate::specs::Layout::columns))]
+#[tactic(auto, unfolding(crate::specs::LayoutReading::columns))]
 fn read_columns<S: Source>(alloc: Global, source: &mut S, signals: u16) -> Result<Columns, Stop>
     ensures honesty { OnOk result (IsTrue (S.is_honest source.old) → IsTrue (S.is_honest source.new)) }
     ensures failures { OnOk result (S.failures source.new ≡ S.failures source.old) }

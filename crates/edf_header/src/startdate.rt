@@ -3,9 +3,10 @@
 
 ghost use Rattle.std.specs.Prelude.{◌≡◌, None, Some, MatchResult, unwrap_or};
 ghost use Rattle.edf_fields.specs.Parts.{text_of};
-ghost use Rattle.edf_fields.specs.Dates.{civil_day, dotted_day_of};
-ghost use Rattle.edf_fields.specs.Identifications.{recording_cause, recording_of};
-ghost use Rattle.edf_header.specs.Heads.{first_day, recording_in};
+ghost use Rattle.edf_fields.specs.Dates.{civil_day};
+ghost use Rattle.edf_fields.specs.DatesReading.{dotted_day_of};
+ghost use Rattle.edf_fields.specs.IdentificationsReading.{recording_cause, recording_of};
+ghost use Rattle.edf_header.specs.HeadsReading.{first_day, recording_in};
 ghost use Rattle.edf_header.specs.Faults.{recording_fault, startdate_fault};
 
 use crate::fault::{Cause, Fault, Place};

@@ -2,9 +2,9 @@
 
 ghost use Rattle.std.specs.Prelude.{◌≡◌, ◌*◌, ◌≤◌, ◌<◌, ◌-◌, ◌^◌, IsTrue, nat_le, true, false, length, take, None, Some, IfSome, IfOk, IfErr, MatchOption, MatchResult, map};
 ghost use Rattle.std.specs.List.{list_any, list_all};
-ghost use Rattle.edf_header.specs.Channels.{is_channel_of as is_channel_of_label, channel_labels as labels_of_channels, channel_place, is_repeated as is_repeated_label};
+ghost use Rattle.edf_header.specs.ChannelsReading.{channel_labels as labels_of_channels, is_channel_of as is_channel_of_label, channel_place, is_repeated as is_repeated_label};
 ghost use Rattle.edf_header.specs.Faults.{no_annotation_signal, no_ordinary_signal, labels_faults, record_too_large, joint_faults};
-ghost use Rattle.edf_fields.specs.Lists.{are_distinct as are_distinct_texts};
+ghost use Rattle.edf_fields.specs.Distinct.{are_distinct as are_distinct_texts};
 ghost use Rattle.edf_fields.specs.Tests.{first};
 ghost use Rattle.edf_header.specs.Heads.{is_annotations, samples_together};
 ghost use Rattle.edf_header.specs.Stops.{Stops};

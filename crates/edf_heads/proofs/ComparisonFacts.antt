@@ -7,9 +7,11 @@ use Rattle.std.proofs.lemmas.List.Sorted.{IsPermutation-sym, sorted_far, ranks_b
 use Rattle.edf_fields.specs.Lists.{Has, is_one_of}
 use Rattle.edf_fields.proofs.ForCallers.{has-one_of, one_of-has, not-true, at-has, get-index, get-within, map-has, has-permutation, has-filtered, filtered-has, find-none, find-some}
 use Rattle.edf_header.specs.Heads.{SignalHead, Head, is_annotations}
-use Rattle.edf_claim.specs.Claims.{Terms}
-use Rattle.edf_heads.specs.Channels.{IsChannelOf, HasChannel, HasNoChannel, HasAll, IsLeastExtra}
-use Rattle.edf_heads.specs.Comparisons.{is_ordinary, channel_of, AreByLabel, IsChannelIndex, Claimed, claimed_of, claimed_view, AreSorted, HasNoExtra, IsComparison}
+use Rattle.edf_claim.specs.Terms.{Terms}
+use Rattle.edf_heads.specs.Channels.{IsChannelOf, HasChannel, HasAll}
+use Rattle.edf_heads.specs.ChannelDifferences.{HasNoChannel, IsLeastExtra}
+use Rattle.edf_heads.specs.Comparisons.{channel_of, AreByLabel, IsChannelIndex, Claimed, claimed_of, claimed_view, AreSorted, HasNoExtra, IsComparison}
+use Rattle.edf_header.specs.Channels.{is_ordinary}
 use Rattle.edf_heads.specs.declared.channels.ClaimedChannel.{ClaimedChannel}
 use Rattle.edf_heads.specs.Firsts.{IsFirstWith}
 use Rattle.edf_heads.specs.Labels.{IsNotAbove}

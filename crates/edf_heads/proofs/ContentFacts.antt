@@ -12,15 +12,19 @@ use Rattle.edf_fields.proofs.ForCallers.{and-true, both-true}
 use Rattle.edf_header.specs.Calibrations.{Line, SameLine, physical_span, digital_span, offset_times_span}
 use Rattle.edf_header.specs.Heads.{SignalHead, Head, is_annotations}
 use Rattle.edf_header.specs.Sound.{IsSound}
-use Rattle.edf_claim.specs.Claims.{Terms}
-use Rattle.edf_heads.specs.Blank.{HasNoTexts, IsBlankHeader, HasFreeText, IsFirstWithFreeText}
-use Rattle.edf_heads.specs.Calibrations.{HaveSameCalibration, SameCalibrations, IsCalibrationDifference}
-use Rattle.edf_heads.specs.Channels.{AreAlike, Differ}
+use Rattle.edf_claim.specs.Terms.{Terms}
+use Rattle.edf_heads.specs.Blank.{HasNoTexts, IsBlankHeader}
+use Rattle.edf_heads.specs.BlankDifference.{HasFreeText, IsFirstWithFreeText}
+use Rattle.edf_heads.specs.Calibrations.{HaveSameCalibration, SameCalibrations}
+use Rattle.edf_heads.specs.CalibrationDifference.{IsCalibrationDifference}
+use Rattle.edf_heads.specs.Channels.{AreAlike}
+use Rattle.edf_heads.specs.ChannelDifferences.{AreUnlike}
 use Rattle.edf_heads.specs.Comparisons.{channel_of, Claimed, claimed_of, claimed_view, IsComparison, text_difference_of, first_text_difference, is_same_line, has_other_calibration, of_both, has_text, HasNoFreeText, is_blank_signal}
 use Rattle.edf_heads.specs.Firsts.{IsFirstWith}
-use Rattle.edf_heads.specs.Texts.{HaveSameText, HaveSameTexts, SameTexts, IsFirstText, IsTextDifference}
+use Rattle.edf_heads.specs.Texts.{HaveSameText, HaveSameTexts, SameTexts}
+use Rattle.edf_heads.specs.TextDifference.{IsFirstText, IsTextDifference}
 use Rattle.edf_heads.specs.declared.channels.ClaimedChannel.{ClaimedChannel}
-use Rattle.edf_heads.specs.declared.texts.TextDifference.{TextDifference}
+use Rattle.edf_heads.specs.declared.channel_texts.TextDifference.{TextDifference}
 use Rattle.edf_verdict.specs.declared.verdict.TextField.{TextField}
 use Rattle.edf_verdict.specs.declared.verdict.TextField.TheVariants.{Transducer, Prefilter}
 use Rattle.edf_heads.proofs.ChannelFacts.{one-channel, channel-some, channel-none, channel-is}
@@ -29,14 +33,14 @@ use Rattle.edf_heads.proofs.ListFacts.{first-found}
 
 -- ---- the two channels of a label
 
-pub alike-differ : (Alike : SignalHead → SignalHead → Type 0) (o e : Head) (l : List ℕ) → AreAlike Alike o e l → Differ Alike o e l → ⊥
+pub alike-differ : (Alike : SignalHead → SignalHead → Type 0) (o e : Head) (l : List ℕ) → AreAlike Alike o e l → AreUnlike Alike o e l → ⊥
 alike-differ Alike o e l a d = d.4 (a d.0 d.1 d.2 d.3)
 
 both-alike : (Alike : SignalHead → SignalHead → Type 0) (o e : Head) (l : List ℕ) (x y : SignalHead) → IsSound o → IsSound e → channel_of l o.signals ≡ Some x → channel_of l e.signals ≡ Some y → Alike x y → AreAlike Alike o e l
 both-alike Alike o e l x y so se there here h u v c d =
     subst (λ (w : SignalHead). Alike w v) (one-channel o l x u so (channel-some o l x there) c) (subst (λ (w : SignalHead). Alike x w) (one-channel e l y v se (channel-some e l y here) d) h)
 
-both-differ : (Alike : SignalHead → SignalHead → Type 0) (o e : Head) (l : List ℕ) (x y : SignalHead) → channel_of l o.signals ≡ Some x → channel_of l e.signals ≡ Some y → (Alike x y → ⊥) → Differ Alike o e l
+both-differ : (Alike : SignalHead → SignalHead → Type 0) (o e : Head) (l : List ℕ) (x y : SignalHead) → channel_of l o.signals ≡ Some x → channel_of l e.signals ≡ Some y → (Alike x y → ⊥) → AreUnlike Alike o e l
 both-differ Alike o e l x y there here h = (x, y, channel-some o l x there, channel-some e l y here, h)
 
 not-left : (Alike : SignalHead → SignalHead → Type 0) (o e : Head) (l : List ℕ) → channel_of l o.signals ≡ None → AreAlike Alike o e l
@@ -46,10 +50,10 @@ not-right : (Alike : SignalHead → SignalHead → Type 0) (o e : Head) (l : Lis
 not-right Alike o e l none u v c d = absurd (channel-none e l none (v, d))
 
 differ-tested : (Alike : SignalHead → SignalHead → Type 0) (test : SignalHead → SignalHead → Bool) (o e : Head) (l : List ℕ) → ((x y : SignalHead) → test x y ≡ true → Alike x y → ⊥)
-    → of_both test (channel_of l o.signals) (channel_of l e.signals) ≡ true → Differ Alike o e l
+    → of_both test (channel_of l o.signals) (channel_of l e.signals) ≡ true → AreUnlike Alike o e l
 differ-tested Alike test o e l unlike t = tested-case (channel_of l o.signals) (channel_of l e.signals) refl refl t
   where
-    tested-case : (p q : Option SignalHead) → channel_of l o.signals ≡ p → channel_of l e.signals ≡ q → of_both test p q ≡ true → Differ Alike o e l
+    tested-case : (p q : Option SignalHead) → channel_of l o.signals ≡ p → channel_of l e.signals ≡ q → of_both test p q ≡ true → AreUnlike Alike o e l
     tested-case None q there here t = absurd (let f : false ≡ true = t in cc)
     tested-case (Some x) None there here t = absurd (let f : false ≡ true = t in cc)
     tested-case (Some x) (Some y) there here t = both-differ Alike o e l x y there here (unlike x y t)
@@ -69,13 +73,13 @@ other-bytes : (x y : List ℕ) → bytes_eq x y ≡ false → x ≡ y → ⊥
 other-bytes x y f e = let g : true ≡ false = sym ((bytes_eq-Decides x y).1 e) ∙ f in cc
 
 text-case : (o e : Head) (l : List ℕ) → IsSound o → IsSound e → (p q : Option SignalHead) → channel_of l o.signals ≡ p → channel_of l e.signals ≡ q
-    → MatchOption (text_difference_of p q) (AreAlike HaveSameTexts o e l) (λ field. Differ HaveSameTexts o e l × IsFirstText o e l field)
+    → MatchOption (text_difference_of p q) (AreAlike HaveSameTexts o e l) (λ field. AreUnlike HaveSameTexts o e l × IsFirstText o e l field)
 text-case o e l so se None q there here = not-left HaveSameTexts o e l there
 text-case o e l so se (Some x) None there here = not-right HaveSameTexts o e l here
 text-case o e l so se (Some x) (Some y) there here = field-case (bytes_eq x.transducer y.transducer) refl (bytes_eq x.prefilter y.prefilter) refl
   where
     field-case : (b : Bool) → bytes_eq x.transducer y.transducer ≡ b → (d : Bool) → bytes_eq x.prefilter y.prefilter ≡ d
-        → MatchOption (cond b (cond d None (Some Prefilter)) (Some Transducer)) (AreAlike HaveSameTexts o e l) (λ field. Differ HaveSameTexts o e l × IsFirstText o e l field)
+        → MatchOption (cond b (cond d None (Some Prefilter)) (Some Transducer)) (AreAlike HaveSameTexts o e l) (λ field. AreUnlike HaveSameTexts o e l × IsFirstText o e l field)
     field-case true t true u = both-alike HaveSameTexts o e l x y so se there here ((bytes_eq-Decides x.transducer y.transducer).0 t, (bytes_eq-Decides x.prefilter y.prefilter).0 u)
     field-case true t false u = (
       both-differ HaveSameTexts o e l x y there here (λ h. other-bytes x.prefilter y.prefilter u h.1),
@@ -92,7 +96,7 @@ text-case o e l so se (Some x) (Some y) there here = field-case (bytes_eq x.tran
 -- what is said of the first of these labels whose channels differ in a text
 abbrev TextsOf : Head → Head → List (List ℕ) → Option (List ℕ × TextField) → Type 0
 TextsOf o e labels found =
-    MatchOption found ((l : List ℕ) → Has labels l → AreAlike HaveSameTexts o e l) (λ d. IsFirstWith (Differ HaveSameTexts o e) labels d.0 × IsFirstText o e d.0 d.1)
+    MatchOption found ((l : List ℕ) → Has labels l → AreAlike HaveSameTexts o e l) (λ d. IsFirstWith (AreUnlike HaveSameTexts o e) labels d.0 × IsFirstText o e d.0 d.1)
 
 texts-found : (o e : Head) → IsSound o → IsSound e → (labels : List (List ℕ)) → TextsOf o e labels (first_text_difference (map (claimed_of o.signals e.signals) labels))
 texts-found o e so se [] = λ l h. absurd h
@@ -100,7 +104,7 @@ texts-found o e so se (l ∷ ls) =
     step (text_difference_of (channel_of l o.signals) (channel_of l e.signals)) (text-case o e l so se (channel_of l o.signals) (channel_of l e.signals) refl refl)
     (first_text_difference (map (claimed_of o.signals e.signals) ls)) (texts-found o e so se ls)
   where
-    step : (t : Option TextField) → MatchOption t (AreAlike HaveSameTexts o e l) (λ field. Differ HaveSameTexts o e l × IsFirstText o e l field)
+    step : (t : Option TextField) → MatchOption t (AreAlike HaveSameTexts o e l) (λ field. AreUnlike HaveSameTexts o e l × IsFirstText o e l field)
         → (rest : Option (List ℕ × TextField)) → TextsOf o e ls rest → TextsOf o e (l ∷ ls) (option_or (option_map (λ field. (l, field)) t) rest)
     step None here None rest = λ m there. ⊎_elim (λ q. subst (λ (k : List ℕ). AreAlike HaveSameTexts o e k) q here) (λ i. rest m i) there
     step None here (Some d) rest = (inr ((λ h. alike-differ HaveSameTexts o e l here h), rest.0), rest.1)
@@ -119,7 +123,7 @@ texts_said o e claim claimed labels seen r is all found =
     said-case (Some d) None e h = absurd (let f : Some (d.label.now, d.field) ≡ None = e in cc)
     said-case (Some d) (Some x) q h =
         let same : (d.label.now, d.field) ≡ x = (let f : Some (d.label.now, d.field) ≡ Some x = q in cc) in
-        let back = subst (λ (p : List ℕ × TextField). IsFirstWith (Differ HaveSameTexts o e) claim.channels p.0 × IsFirstText o e p.0 p.1) (sym same) h in
+        let back = subst (λ (p : List ℕ × TextField). IsFirstWith (AreUnlike HaveSameTexts o e) claim.channels p.0 × IsFirstText o e p.0 p.1) (sym same) h in
         record { channel = back.0; text = back.1 }
 
 -- ---- free text
@@ -231,8 +235,8 @@ pub calibrations_said : (o e : Head) (claim : Terms) (claimed : List ClaimedChan
     → option_map (λ label. label.now) r ≡ option_map (λ (c : Claimed). c.label) (find (λ (c : Claimed). of_both has_other_calibration c.original c.export) (map claimed_view seen))
     → MatchOption r (SameCalibrations o e claim) (λ label. IsCalibrationDifference o e claim label.now)
 calibrations_said o e claim claimed labels seen r is all found =
-    claimed-said (SameCalibrations o e claim) o.signals e.signals claim.channels (map claimed_view seen) (λ (c : Claimed). of_both has_other_calibration c.original c.export) (IsFirstWith (Differ HaveSameCalibration o e) claim.channels) r (ap (map claimed_view) all ∙ is.claimed_are) found
-    (first-found (λ l. of_both has_other_calibration (channel_of l o.signals) (channel_of l e.signals)) (Differ HaveSameCalibration o e) (AreAlike HaveSameCalibration o e) claim.channels
+    claimed-said (SameCalibrations o e claim) o.signals e.signals claim.channels (map claimed_view seen) (λ (c : Claimed). of_both has_other_calibration c.original c.export) (IsFirstWith (AreUnlike HaveSameCalibration o e) claim.channels) r (ap (map claimed_view) all ∙ is.claimed_are) found
+    (first-found (λ l. of_both has_other_calibration (channel_of l o.signals) (channel_of l e.signals)) (AreUnlike HaveSameCalibration o e) (AreAlike HaveSameCalibration o e) claim.channels
     (λ l there t. differ-tested HaveSameCalibration has_other_calibration o e l other-calibration t)
     (λ l there f. alike-tested HaveSameCalibration has_other_calibration o e l is.original_sound is.export_sound same-calibration f)
     (λ l a d. alike-differ HaveSameCalibration o e l a d))

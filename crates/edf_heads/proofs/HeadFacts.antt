@@ -1,18 +1,25 @@
 -- The headers as a whole: they agree, or differ.
-use Rattle.std.proofs.Common.{◌≡◌, ◌≢◌, ◌↔◌, ℕ, suc, Bool, true, false, cond, List, [], ◌∷◌, Bor, Option, Some, None, MatchOption, inl, inr, ⊎_elim, refl, sym, ap, ◌∙◌, arith}
+use Rattle.std.proofs.Common.{◌≡◌, ◌≢◌, ◌↔◌, ℕ, suc, Bool, true, false, not, cond, List, [], ◌∷◌, map, Bor, Option, Some, None, MatchOption, inl, inr, ⊎_elim, refl, sym, ap, ◌∙◌, subst, arith}
+use Rattle.std.specs.List.Sorted.{IsPermutation}
 use Rattle.std.proofs.lemmas.List.Sorted.{IsPermutation-sym}
-use Rattle.edf_fields.specs.Lists.{Has, AreDistinct, is_one_of}
+use Rattle.edf_fields.specs.Lists.{Has, is_one_of}
+use Rattle.edf_fields.specs.Distinct.{AreDistinct}
 use Rattle.edf_fields.proofs.ForCallers.{one_of-has, has-one_of, at-has, has-permutation}
-use Rattle.edf_header.specs.Channels.{HasDistinctChannels, channel_labels}
+use Rattle.edf_header.specs.Channels.{HasDistinctChannels, channels_among}
+use Rattle.edf_header.specs.ChannelsReading.{channel_labels}
 use Rattle.edf_header.specs.Heads.{SignalHead, Head, is_annotations}
 use Rattle.edf_header.specs.Sound.{IsSound}
-use Rattle.edf_claim.specs.Claims.{Terms, IsClaim}
-use Rattle.edf_heads.specs.Blank.{IsBlankHeader, IsBlank, HasFreeText}
+use Rattle.edf_claim.specs.Claims.{IsClaim}
+use Rattle.edf_claim.specs.Terms.{Terms}
+use Rattle.edf_heads.specs.Blank.{IsBlankHeader, IsBlank}
+use Rattle.edf_heads.specs.BlankDifference.{HasFreeText}
 use Rattle.edf_heads.specs.Calibrations.{HaveSameCalibration}
-use Rattle.edf_heads.specs.Channels.{HasChannel, HasNoChannel, HasAll, IsLeastExtra, SameChannels, Differ, AllAlike, IsFirstUnlike}
+use Rattle.edf_heads.specs.Channels.{HasChannel, HasAll, SameChannels, AllAlike}
+use Rattle.edf_heads.specs.ChannelDifferences.{HasNoChannel, IsLeastExtra, AreUnlike, IsFirstUnlike}
 use Rattle.edf_heads.specs.Comparisons.{HasNoExtra, HasOnly, HasNoFreeText}
 use Rattle.edf_heads.specs.HeadVerdicts.{HeadsAgree, SignalsAgree, IsHeadVerdict}
-use Rattle.edf_heads.specs.Subfields.{IsAsClaimed, SubfieldsAsClaimed, all_subfields}
+use Rattle.edf_heads.specs.Subfields.{IsAsClaimed, SubfieldsAsClaimed}
+use Rattle.edf_heads.specs.SubfieldDifference.{all_subfields}
 use Rattle.edf_heads.specs.Texts.{HaveSameTexts}
 use Rattle.edf_verdict.specs.declared.verdict.Verdict.{Verdict}
 use Rattle.edf_verdict.specs.declared.verdict.Verdict.TheVariants.{Yes, No}
@@ -77,14 +84,26 @@ pub only_said : (h : Head) (claim : Terms) (o : Option (Bor (List ℕ))) → IsS
 only_said h claim None sound is none = has_only h claim sound is none
 only_said h claim (Some x) sound is extra = extra
 
+-- the labels of the channels are those of the channels among the signals
+pub among-labels : (signals : List SignalHead) → map (λ s. s.label) (channels_among signals) ≡ channel_labels signals
+among-labels [] = refl
+among-labels (x ∷ xs) = by_kind (is_annotations x.label) (channels_among xs) (channel_labels xs) (among-labels xs)
+  where
+    by_kind : (b : Bool) (ys : List SignalHead) (ls : List (List ℕ)) → map (λ s. s.label) ys ≡ ls → map (λ s. s.label) (cond (not b) (x ∷ ys) ys) ≡ cond b ls (x.label ∷ ls)
+    by_kind true ys ls e = e
+    by_kind false ys ls e = ap (λ zs. x.label ∷ zs) e
+
+pub exported-labels : (o e : Head) (claim : Terms) → SameChannels o e claim → IsPermutation claim.channels (channel_labels e.signals)
+exported-labels o e claim same = subst (IsPermutation claim.channels) (among-labels e.signals) same.in_export
+
 pub same_channels : (o e : Head) (claim : Terms) → HasAll o claim.channels → HasAll e claim.channels → HasOnly e claim.channels → SameChannels o e claim
-same_channels o e claim there here only = record { in_original = there; in_export = only here }
+same_channels o e claim there here only = record { in_original = there; in_export = subst (IsPermutation claim.channels) (sym (among-labels e.signals)) (only here) }
 
 pub in-export : (o e : Head) (claim : Terms) → SameChannels o e claim → HasAll e claim.channels
-in-export o e claim same l i = label-has e l (has-permutation claim.channels (channel_labels e.signals) l same.in_export i)
+in-export o e claim same l i = label-has e l (has-permutation claim.channels (channel_labels e.signals) l (exported-labels o e claim same) i)
 
 pub claimed-in : (o e : Head) (claim : Terms) → SameChannels o e claim → (l : List ℕ) → HasChannel e l → Has claim.channels l
-claimed-in o e claim same l c = has-permutation (channel_labels e.signals) claim.channels l (IsPermutation-sym claim.channels (channel_labels e.signals) same.in_export) (has-label e l c)
+claimed-in o e claim same l c = has-permutation (channel_labels e.signals) claim.channels l (IsPermutation-sym claim.channels (channel_labels e.signals) (exported-labels o e claim same)) (has-label e l c)
 
 -- ---- free text
 
@@ -111,7 +130,7 @@ heads_agree o e claim agree subfields blank none = record {
 
 pub unlike-alike : (Alike : SignalHead → SignalHead → Type 0) (o e : Head) (claim : Terms) (l : List ℕ) → AllAlike Alike o e claim → IsFirstUnlike Alike o e claim l → ⊥
 unlike-alike Alike o e claim l all first =
-    let r = first-has (Differ Alike o e) claim.channels l first in
+    let r = first-has (AreUnlike Alike o e) claim.channels l first in
     alike-differ Alike o e l (all l r.0) r.1
 
 pub agree-apart : (o e : Head) (claim : Terms) (v : Verdict) → IsHeadVerdict o e claim v → HeadsAgree o e claim → ⊥

@@ -2,7 +2,8 @@
 use Rattle.std.proofs.Common.{◌≡◌, ℕ, zero, suc, Bool, true, false, cond, List, [], ◌∷◌, ◌++◌, find, length, get_or, Option, Some, None, MatchOption, inl, inr, ⊎_elim, refl, sym, subst, ap, ◌<◌, arith}
 use Rattle.std.specs.List.Sorted.{IsPermutation}
 use Rattle.std.proofs.lemmas.List.Sorted.{IsPermutation-refl, IsPermutation-sym, IsPermutation-cons, IsPermutation-trans, IsPermutation-middle}
-use Rattle.edf_fields.specs.Lists.{Has, AreDistinct}
+use Rattle.edf_fields.specs.Lists.{Has}
+use Rattle.edf_fields.specs.Distinct.{AreDistinct}
 use Rattle.edf_fields.proofs.ForCallers.{has-append, has-front, has-back}
 use Rattle.edf_heads.specs.Firsts.{IsFirstWith}
 

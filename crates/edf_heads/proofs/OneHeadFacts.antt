@@ -1,6 +1,6 @@
 -- Two headers have one first difference at most.
 use Rattle.std.proofs.Common.{◌≡◌, ℕ, List, [], ◌∷◌, ◌⊎◌, inl, inr, refl, sym, ap, ◌∙◌, subst}
-use Rattle.edf_claim.specs.Claims.{Terms}
+use Rattle.edf_claim.specs.Terms.{Terms}
 use Rattle.edf_claim.specs.declared.which.Which.{Which}
 use Rattle.edf_header.specs.Heads.{Head}
 use Rattle.edf_verdict.specs.declared.verdict.Verdict.{Verdict}
@@ -11,13 +11,18 @@ use Rattle.edf_verdict.specs.declared.verdict.TextField.{TextField}
 use Rattle.edf_verdict.specs.declared.verdict.TextField.TheVariants.{Transducer, Prefilter}
 use Rattle.edf_verdict.specs.declared.verdict.SubfieldMismatch.{SubfieldMismatch}
 use Rattle.edf_verdict.specs.declared.verdict.SubfieldMismatch.TheVariants.{NotX, Changed}
-use Rattle.edf_heads.specs.Blank.{IsBlankHeader, HasFreeText, IsFirstWithFreeText}
-use Rattle.edf_heads.specs.Calibrations.{SameCalibrations, HaveSameCalibration, IsCalibrationDifference}
-use Rattle.edf_heads.specs.Channels.{HasNoChannel, HasAll, SameChannels, IsLeastExtra, Differ}
+use Rattle.edf_heads.specs.Blank.{IsBlankHeader}
+use Rattle.edf_heads.specs.BlankDifference.{HasFreeText, IsFirstWithFreeText}
+use Rattle.edf_heads.specs.Calibrations.{SameCalibrations, HaveSameCalibration}
+use Rattle.edf_heads.specs.CalibrationDifference.{IsCalibrationDifference}
+use Rattle.edf_heads.specs.Channels.{HasAll, SameChannels}
+use Rattle.edf_heads.specs.ChannelDifferences.{HasNoChannel, IsLeastExtra, AreUnlike}
 use Rattle.edf_heads.specs.Firsts.{IsFirstWith}
 use Rattle.edf_heads.specs.HeadVerdicts.{SignalsAgree, IsHeadVerdict}
-use Rattle.edf_heads.specs.Subfields.{IsAsClaimed, SubfieldsAsClaimed, IsMismatch, all_subfields, IsSubfieldDifference}
-use Rattle.edf_heads.specs.Texts.{SameTexts, HaveSameText, HaveSameTexts, IsFirstText, IsTextDifference}
+use Rattle.edf_heads.specs.Subfields.{IsAsClaimed, SubfieldsAsClaimed}
+use Rattle.edf_heads.specs.SubfieldDifference.{IsMismatch, all_subfields, IsSubfieldDifference}
+use Rattle.edf_heads.specs.Texts.{SameTexts, HaveSameText, HaveSameTexts}
+use Rattle.edf_heads.specs.TextDifference.{IsFirstText, IsTextDifference}
 use Rattle.edf_heads.proofs.ContentFacts.{alike-differ}
 use Rattle.edf_heads.proofs.LabelFacts.{one-label}
 use Rattle.edf_heads.proofs.HeadFacts.{unlike-alike, claimed-in, in-export}
@@ -135,12 +140,12 @@ one-text : (o e : Head) (c : Terms) (v w : Verdict) → IsOfText o e c v → IsO
 one-text o e c v w x y =
     let a = x.3 in
     let b = y.3 in
-    let label : x.0 ≡ y.0 = one-of-first (Differ HaveSameTexts o e) c.channels x.0 y.0 a.channel b.channel in
+    let label : x.0 ≡ y.0 = one-of-first (AreUnlike HaveSameTexts o e) c.channels x.0 y.0 a.channel b.channel in
     let field : x.1 ≡ y.1 = one-field o e y.0 x.1 y.1 (subst (λ l. IsFirstText o e l x.1) label a.text) b.text in
     x.2 ∙ ap (λ l. No (differences.ChannelText l x.1)) label ∙ ap (λ f. No (differences.ChannelText y.0 f)) field ∙ sym y.2
 
 one-calibration : (o e : Head) (c : Terms) (v w : Verdict) → IsOfCalibration o e c v → IsOfCalibration o e c w → v ≡ w
-one-calibration o e c v w x y = x.1 ∙ ap (λ l. No (differences.Calibration l)) (one-of-first (Differ HaveSameCalibration o e) c.channels x.0 y.0 x.2 y.2) ∙ sym y.1
+one-calibration o e c v w x y = x.1 ∙ ap (λ l. No (differences.Calibration l)) (one-of-first (AreUnlike HaveSameCalibration o e) c.channels x.0 y.0 x.2 y.2) ∙ sym y.1
 
 one-side : (c : Terms) (which : Which) (p q : SubfieldMismatch) → IsMismatch c which p → IsMismatch c which q → p ≡ q
 one-side c which NotX NotX h i = refl

@@ -1,10 +1,8 @@
 -- The free text of a header, which an export may not have (this project's profile).
-use Rattle.std.specs.Prelude.{◌≡◌, ◌≢◌, ℕ, IsTrue, List, []}
+use Rattle.std.specs.Prelude.{◌≡◌, ℕ, IsTrue, List, []}
 use Rattle.edf_fields.specs.Lists.{Has}
 use Rattle.edf_header.specs.Heads.{SignalHead, Head, is_annotations}
-use Rattle.edf_claim.specs.Claims.{Terms}
 use Rattle.edf_heads.specs.Channels.{IsChannelOf}
-use Rattle.edf_heads.specs.Firsts.{IsFirstWith}
 
 -- the texts of a signal but its label are empty (EDF, "Header record": transducer type, physical dimension, prefiltering, reserved)
 pub record HasNoTexts (signal : SignalHead) : Type 0 where
@@ -18,15 +16,7 @@ pub record IsBlankHeader (h : Head) : Type 0 where
   pub free : h.free ≡ []
   pub annotations : (signal : SignalHead) → Has h.signals signal → IsTrue (is_annotations signal.label) → HasNoTexts signal
 
--- the header has free text in the reserved field of a channel of this label (EDF, "Header record": reserved)
-abbrev pub HasFreeText : Head → List ℕ → Type 0
-HasFreeText h label = (channel : SignalHead) × IsChannelOf h label channel × (channel.reserved ≢ [])
-
 -- the header has no free text
 pub record IsBlank (h : Head) : Type 0 where
   pub header : IsBlankHeader h
   pub channels : (label : List ℕ) (channel : SignalHead) → IsChannelOf h label channel → channel.reserved ≡ []
-
--- the first claimed channel that has free text in the export
-abbrev pub IsFirstWithFreeText : Head → Terms → List ℕ → Type 0
-IsFirstWithFreeText export claim label = IsFirstWith (HasFreeText export) claim.channels label

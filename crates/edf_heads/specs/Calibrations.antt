@@ -1,9 +1,9 @@
 -- The calibrations of the channels (EDF, "Header record": physical dimension, digital and physical minimum and maximum).
-use Rattle.std.specs.Prelude.{◌≡◌, ℕ, List}
+use Rattle.std.specs.Prelude.{◌≡◌}
 use Rattle.edf_header.specs.Calibrations.{SameLine}
 use Rattle.edf_header.specs.Heads.{SignalHead, Head}
-use Rattle.edf_claim.specs.Claims.{Terms}
-use Rattle.edf_heads.specs.Channels.{AllAlike, IsFirstUnlike}
+use Rattle.edf_claim.specs.Terms.{Terms}
+use Rattle.edf_heads.specs.Channels.{AllAlike}
 
 -- two channels have the same dimension, and the same line from digital to physical values
 pub record HaveSameCalibration (x y : SignalHead) : Type 0 where
@@ -13,7 +13,3 @@ pub record HaveSameCalibration (x y : SignalHead) : Type 0 where
 -- each claimed channel has the original's calibration in the export
 abbrev pub SameCalibrations : Head → Head → Terms → Type 0
 SameCalibrations original export claim = AllAlike HaveSameCalibration original export claim
-
--- the first claimed channel that hasn't the original's calibration in the export
-abbrev pub IsCalibrationDifference : Head → Head → Terms → List ℕ → Type 0
-IsCalibrationDifference original export claim label = IsFirstUnlike HaveSameCalibration original export claim label

@@ -8,24 +8,24 @@ use Rattle.std.specs.Ordering.{nat_cmp, int_eq}
 use Rattle.std.specs.Str.{bytes_eq}
 use Rattle.edf_fields.specs.Lists.{Has, is_one_of}
 use Rattle.edf_header.specs.Calibrations.{Line, physical_span, digital_span, offset_times_span}
-use Rattle.edf_header.specs.Channels.{is_channel_of, channel_labels}
+use Rattle.edf_header.specs.ChannelsReading.{channel_labels, is_channel_of}
+use Rattle.edf_header.specs.Channels.{is_ordinary}
 use Rattle.edf_header.specs.Heads.{SignalHead, Head, is_annotations}
 use Rattle.edf_header.specs.Sound.{IsSound}
-use Rattle.edf_claim.specs.Claims.{Terms, IsClaim}
+use Rattle.edf_claim.specs.Claims.{IsClaim}
+use Rattle.edf_claim.specs.Terms.{Terms}
 use Rattle.edf_claim.specs.declared.which.Which.{Which}
 use Rattle.edf_claim.specs.declared.which.Which.TheVariants.{Code, Sex, Birthdate, Name, PatientExtras, Date, Administration, Technician, Equipment, RecordingExtras}
-use Rattle.edf_heads.specs.Blank.{HasFreeText}
-use Rattle.edf_heads.specs.Channels.{HasAll, IsExtra}
+use Rattle.edf_heads.specs.BlankDifference.{HasFreeText}
+use Rattle.edf_heads.specs.Channels.{HasAll}
+use Rattle.edf_heads.specs.ChannelDifferences.{IsExtra}
 use Rattle.edf_heads.specs.Firsts.{IsFirstWith}
-use Rattle.edf_heads.specs.Subfields.{IsX, AreAllX, IsAsClaimed, IsMismatch}
+use Rattle.edf_heads.specs.Subfields.{IsX, AreAllX, IsAsClaimed}
+use Rattle.edf_heads.specs.SubfieldDifference.{IsMismatch}
 use Rattle.edf_heads.specs.declared.channels.ClaimedChannel.{ClaimedChannel}
 use Rattle.edf_heads.specs.declared.subfields.SubfieldDifference.{SubfieldDifference}
 use Rattle.edf_verdict.specs.declared.verdict.TextField.{TextField}
 use Rattle.edf_verdict.specs.declared.verdict.TextField.TheVariants.{Transducer, Prefilter}
-
--- the signal is a channel
-abbrev pub is_ordinary : SignalHead → Bool
-is_ordinary signal = not (is_annotations signal.label)
 
 -- the first channel of this label among the signals
 abbrev pub channel_of : List ℕ → List SignalHead → Option SignalHead

@@ -1,13 +1,17 @@
 -- A difference of two headers as the code holds it, with a borrowed label: a step between the definitions and the code.
 use Rattle.edf_header.specs.Heads.{Head}
-use Rattle.edf_claim.specs.Claims.{Terms}
-use Rattle.edf_heads.specs.Blank.{IsBlankHeader, IsFirstWithFreeText}
-use Rattle.edf_heads.specs.Calibrations.{IsCalibrationDifference}
-use Rattle.edf_heads.specs.Channels.{HasNoChannel, HasAll, IsLeastExtra, SameChannels}
+use Rattle.edf_claim.specs.Terms.{Terms}
+use Rattle.edf_heads.specs.Blank.{IsBlankHeader}
+use Rattle.edf_heads.specs.BlankDifference.{IsFirstWithFreeText}
+use Rattle.edf_heads.specs.CalibrationDifference.{IsCalibrationDifference}
+use Rattle.edf_heads.specs.Channels.{HasAll, SameChannels}
+use Rattle.edf_heads.specs.ChannelDifferences.{HasNoChannel, IsLeastExtra}
 use Rattle.edf_heads.specs.Firsts.{IsFirstWith}
 use Rattle.edf_heads.specs.HeadVerdicts.{SignalsAgree}
-use Rattle.edf_heads.specs.Subfields.{SubfieldsAsClaimed, IsSubfieldDifference}
-use Rattle.edf_heads.specs.Texts.{SameTexts, IsTextDifference}
+use Rattle.edf_heads.specs.Subfields.{SubfieldsAsClaimed}
+use Rattle.edf_heads.specs.SubfieldDifference.{IsSubfieldDifference}
+use Rattle.edf_heads.specs.Texts.{SameTexts}
+use Rattle.edf_heads.specs.TextDifference.{IsTextDifference}
 use Rattle.edf_heads.specs.declared.head_difference.HeadDifference.{HeadDifference}
 use Rattle.edf_heads.specs.declared.head_difference.HeadDifference.TheVariants.{UnknownChannel, MissingChannel, ExtraChannel, ChannelText, Calibration, Subfield, FreeTextInHeader, FreeTextInChannel}
 

@@ -1,12 +1,17 @@
 -- The verdict on the headers of an original and an export.
 use Rattle.edf_header.specs.Heads.{Head}
-use Rattle.edf_claim.specs.Claims.{Terms}
+use Rattle.edf_claim.specs.Terms.{Terms}
 use Rattle.edf_heads.specs.Firsts.{IsFirstWith}
-use Rattle.edf_heads.specs.Channels.{HasNoChannel, HasAll, IsLeastExtra, SameChannels}
-use Rattle.edf_heads.specs.Texts.{SameTexts, IsTextDifference}
-use Rattle.edf_heads.specs.Calibrations.{SameCalibrations, IsCalibrationDifference}
-use Rattle.edf_heads.specs.Subfields.{SubfieldsAsClaimed, IsSubfieldDifference}
-use Rattle.edf_heads.specs.Blank.{IsBlankHeader, IsBlank, IsFirstWithFreeText}
+use Rattle.edf_heads.specs.Channels.{HasAll, SameChannels}
+use Rattle.edf_heads.specs.ChannelDifferences.{HasNoChannel, IsLeastExtra}
+use Rattle.edf_heads.specs.Texts.{SameTexts}
+use Rattle.edf_heads.specs.TextDifference.{IsTextDifference}
+use Rattle.edf_heads.specs.Calibrations.{SameCalibrations}
+use Rattle.edf_heads.specs.CalibrationDifference.{IsCalibrationDifference}
+use Rattle.edf_heads.specs.Subfields.{SubfieldsAsClaimed}
+use Rattle.edf_heads.specs.SubfieldDifference.{IsSubfieldDifference}
+use Rattle.edf_heads.specs.Blank.{IsBlankHeader, IsBlank}
+use Rattle.edf_heads.specs.BlankDifference.{IsFirstWithFreeText}
 use Rattle.edf_verdict.specs.declared.verdict.Verdict.{Verdict}
 use Rattle.edf_verdict.specs.declared.verdict.Verdict.TheVariants.{Yes, No}
 use Rattle.edf_verdict.specs.declared.verdict.Difference.TheVariants.{OriginalFault, ExportFault, UnknownChannel, MissingChannel, ExtraChannel, ChannelText, Calibration, Subfield, NotClean, Sample, Annotation}

@@ -1,10 +1,15 @@
 pub mod Blank
+pub mod BlankDifference
 pub mod Calibrations
+pub mod CalibrationDifference
 pub mod Channels
+pub mod ChannelDifferences
 pub mod Comparisons
 pub mod Firsts
 pub mod HeadDifferences
 pub mod HeadVerdicts
 pub mod Labels
 pub mod Subfields
+pub mod SubfieldDifference
 pub mod Texts
+pub mod TextDifference

@@ -1,14 +1,11 @@
 -- The subfields of the patient and of the recording (EDF+, "Additional specifications in EDF+": local patient identification, local recording identification).
 -- What a claim makes anonymous, and that all else stays, is this project's profile.
-use Rattle.std.specs.Prelude.{◌≡◌, ℕ, ◌↔◌, List, [], ◌∷◌, codes}
+use Rattle.std.specs.Prelude.{◌≡◌, ℕ, ◌↔◌, List, codes}
 use Rattle.edf_fields.specs.Lists.{Has}
 use Rattle.edf_header.specs.Heads.{Head}
-use Rattle.edf_claim.specs.Claims.{Terms}
+use Rattle.edf_claim.specs.Terms.{Terms}
 use Rattle.edf_claim.specs.declared.which.Which.{Which}
 use Rattle.edf_claim.specs.declared.which.Which.TheVariants.{Code, Sex, Birthdate, Name, PatientExtras, Date, Administration, Technician, Equipment, RecordingExtras}
-use Rattle.edf_heads.specs.Firsts.{IsFirstWith}
-use Rattle.edf_verdict.specs.declared.verdict.SubfieldMismatch.{SubfieldMismatch}
-use Rattle.edf_verdict.specs.declared.verdict.SubfieldMismatch.TheVariants.{NotX, Changed}
 
 -- the text is `X`, which stands for what isn't told
 abbrev pub IsX : List ℕ → Type 0
@@ -51,18 +48,3 @@ IsAsClaimed original export claim RecordingExtras = AreAllXOrElse claim Recordin
 -- each subfield is as claimed in the export
 abbrev pub SubfieldsAsClaimed : Head → Head → Terms → Type 0
 SubfieldsAsClaimed original export claim = (which : Which) → IsAsClaimed original export claim which
-
--- the subfields, in their written order
-unfoldable pub all_subfields : List Which
-all_subfields =
-    Code ∷ Sex ∷ Birthdate ∷ Name ∷ PatientExtras ∷ Date ∷ Administration ∷ Technician ∷ Equipment ∷ RecordingExtras ∷ []
-
--- how a subfield that isn't as claimed isn't: it should be `X`, or the original's
-abbrev pub IsMismatch : Terms → Which → SubfieldMismatch → Type 0
-IsMismatch claim which NotX = Has claim.anonymous which
-IsMismatch claim which Changed = Has claim.anonymous which → ⊥
-
--- the first subfield that isn't as claimed, and how it isn't
-pub record IsSubfieldDifference (original export : Head) (claim : Terms) (which : Which) (mismatch : SubfieldMismatch) : Type 0 where
-  pub subfield : IsFirstWith (λ w. IsAsClaimed original export claim w → ⊥) all_subfields which
-  pub mismatch_is : IsMismatch claim which mismatch

@@ -1,8 +1,8 @@
 -- The texts of the channels (EDF, "Header record": transducer type, prefiltering).
 use Rattle.std.specs.Prelude.{◌≡◌, ℕ, List}
 use Rattle.edf_header.specs.Heads.{SignalHead, Head}
-use Rattle.edf_claim.specs.Claims.{Terms}
-use Rattle.edf_heads.specs.Channels.{AreAlike, Differ, AllAlike, IsFirstUnlike}
+use Rattle.edf_claim.specs.Terms.{Terms}
+use Rattle.edf_heads.specs.Channels.{AllAlike}
 use Rattle.edf_verdict.specs.declared.verdict.TextField.{TextField}
 use Rattle.edf_verdict.specs.declared.verdict.TextField.TheVariants.{Transducer, Prefilter}
 
@@ -22,14 +22,3 @@ HaveSameTexts x y = HaveSameText Transducer x y × HaveSameText Prefilter x y
 -- each claimed channel has the original's texts in the export
 abbrev pub SameTexts : Head → Head → Terms → Type 0
 SameTexts original export claim = AllAlike HaveSameTexts original export claim
-
--- this is the first text in which the channels of the label differ: the transducer comes before the prefilter
-abbrev pub IsFirstText : Head → Head → List ℕ → TextField → Type 0
-IsFirstText original export label Transducer = Differ (HaveSameText Transducer) original export label
-IsFirstText original export label Prefilter =
-    AreAlike (HaveSameText Transducer) original export label × Differ (HaveSameText Prefilter) original export label
-
--- the first claimed channel that hasn't the original's texts in the export, and its first such text
-pub record IsTextDifference (original export : Head) (claim : Terms) (label : List ℕ) (field : TextField) : Type 0 where
-  pub channel : IsFirstUnlike HaveSameTexts original export claim label
-  pub text : IsFirstText original export label field

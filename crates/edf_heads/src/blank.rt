@@ -2,7 +2,8 @@
 
 ghost use Rattle.std.specs.Prelude.{◌≡◌, ◌↔◌, IsTrue, map, find, option_map, MatchOption};
 ghost use Rattle.std.specs.List.{list_all};
-ghost use Rattle.edf_heads.specs.Blank.{IsBlankHeader, IsFirstWithFreeText};
+ghost use Rattle.edf_heads.specs.Blank.{IsBlankHeader};
+ghost use Rattle.edf_heads.specs.BlankDifference.{IsFirstWithFreeText};
 ghost use Rattle.edf_heads.specs.Comparisons.{claimed_view, is_blank_signal, has_text, HasNoFreeText};
 
 use crate::channels::ClaimedChannel;

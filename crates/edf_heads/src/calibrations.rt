@@ -1,7 +1,8 @@
 //! The calibrations of the channels.
 
 ghost use Rattle.std.specs.Prelude.{◌≡◌, map, find, option_map, MatchOption};
-ghost use Rattle.edf_heads.specs.Calibrations.{SameCalibrations, IsCalibrationDifference};
+ghost use Rattle.edf_heads.specs.Calibrations.{SameCalibrations};
+ghost use Rattle.edf_heads.specs.CalibrationDifference.{IsCalibrationDifference};
 ghost use Rattle.edf_heads.specs.Comparisons.{claimed_view, has_other_calibration, of_both};
 
 use crate::channels::ClaimedChannel;
@@ -31,7 +32,8 @@ impl<'a> ClaimedChannel<'a> {
 
 /// The first of the labels whose channels have another calibration.
 fn first_recalibrated<'a>(claimed: &[ClaimedChannel<'a>]) -> Option<&'a [u8]>
-    ensures { option_map (λ label. label.now) result ≡ option_map (λ c. c.label) (find (λ c. of_both has_other_calibration c.original c.export) (map claimed_view claimed.now)) }
+    ensures { option_map (λ label. label.now) result ≡ option_map (λ c. c.label) (find (λ c. of_both has_other_calibration c.original c.export)
+        (map claimed_view claimed.now)) }
 {
     for channel in claimed {
         if channel.is_recalibrated() {

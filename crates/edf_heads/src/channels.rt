@@ -6,8 +6,9 @@ ghost use Rattle.std.specs.List.Sorted.{IsSorted, IsPermutation};
 ghost use Rattle.std.specs.Ordering.{nat_cmp};
 ghost use Rattle.edf_fields.specs.Lists.{Has, is_one_of};
 ghost use Rattle.edf_header.specs.Sound.{IsSound};
-ghost use Rattle.edf_heads.specs.Channels.{IsLeastExtra};
-ghost use Rattle.edf_heads.specs.Comparisons.{is_ordinary, channel_of, claimed_of, claimed_view, AreByLabel, AreSorted, HasNoExtra};
+ghost use Rattle.edf_heads.specs.ChannelDifferences.{IsLeastExtra};
+ghost use Rattle.edf_heads.specs.Comparisons.{channel_of, claimed_of, claimed_view, AreByLabel, AreSorted, HasNoExtra};
+ghost use Rattle.edf_header.specs.Channels.{is_ordinary};
 
 use crate::labels::is_found;
 use edf_fields::label::SignalLabel;
@@ -18,7 +19,7 @@ use std::cmp::Ordering;
 use std::marker::Model;
 
 /// A claimed label, and the channels of this label in the two headers, where there are such.
-#[derive(Clone, Copy, Debug)]
+#[derive(Clone, Copy)]
 pub(crate) struct ClaimedChannel<'a> {
     pub(crate) label: &'a SignalLabel,
     pub(crate) original: Option<&'a Signal>,
@@ -121,7 +122,8 @@ impl<'a> IndexedHeader<'a> {
 /// The first of the signals whose label is none of these, which are in the order of their bytes.
 fn least_other<'a>(sorted: &[&'a Signal], labels: &[&[u8]]) -> Option<&'a [u8]>
     requires { IsSorted (λ x y. slice_cmp nat_cmp x.now y.now) labels.now }
-    ensures { option_map (λ label. label.now) result ≡ option_map (λ s. s.label) (find (λ s. not (is_one_of (map (λ t. t.now) labels.now) s.label)) (map (λ s. s.now) sorted.now)) }
+    ensures { option_map (λ label. label.now) result ≡ option_map (λ s. s.label) (find (λ s. not (is_one_of (map
+        (λ t. t.now) labels.now) s.label)) (map (λ s. s.now) sorted.now)) }
 {
     for signal in sorted {
         if !is_found(labels, signal.label()) {

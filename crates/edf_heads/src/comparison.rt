@@ -1,7 +1,8 @@
 //! Two headers and a claim, with the channels that are claimed.
 
 ghost use Rattle.std.specs.Prelude.{◌≡◌, map, find, option_map, is_none, IfOk, MatchOption};
-ghost use Rattle.edf_heads.specs.Channels.{HasAll, HasNoChannel, IsLeastExtra};
+ghost use Rattle.edf_heads.specs.Channels.{HasAll};
+ghost use Rattle.edf_heads.specs.ChannelDifferences.{HasNoChannel, IsLeastExtra};
 ghost use Rattle.edf_heads.specs.Comparisons.{claimed_view, HasOnly};
 ghost use Rattle.edf_heads.specs.Firsts.{IsFirstWith};
 

@@ -1,15 +1,15 @@
 //! The first difference of two headers.
 
 ghost use Rattle.std.specs.Prelude.{◌≡◌, ◌↔◌, None, IfOk, IfSome, MatchOption};
-ghost use Rattle.edf_claim.specs.Claims.{Terms};
+ghost use Rattle.edf_claim.specs.Terms.{Terms};
 ghost use Rattle.edf_header.specs.Heads.{Head};
 ghost use Rattle.edf_heads.specs.Channels.{SameChannels};
 ghost use Rattle.edf_heads.specs.HeadDifferences.{IsHeadDifference};
 ghost use Rattle.edf_heads.specs.HeadVerdicts.{HeadsAgree, SignalsAgree, IsHeadVerdict};
 
+use crate::channel_texts::TextDifference;
 use crate::comparison::Comparison;
 use crate::subfields::SubfieldDifference;
-use crate::texts::TextDifference;
 use edf_claim::claim::Claim;
 use edf_claim::which::Which;
 use edf_header::header::Header;
@@ -18,7 +18,7 @@ use edf_verdict::verdict::{Difference, FreeText, SubfieldMismatch, TextField, Ve
 use std::alloc::{AllocError, Global};
 
 /// A difference of two headers; its label is borrowed.
-#[derive(Debug, Clone, Copy)]
+#[derive(Clone, Copy)]
 enum HeadDifference<'a> {
     /// A claimed channel isn't in the original.
     UnknownChannel(&'a [u8]),

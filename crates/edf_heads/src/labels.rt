@@ -4,7 +4,8 @@ ghost use Rattle.std.specs.Prelude.{◌≡◌, map, slice_get, Some, IfOk, Match
 ghost use Rattle.std.specs.Cmp.Lexicographic.{slice_cmp};
 ghost use Rattle.std.specs.List.Sorted.{IsSorted};
 ghost use Rattle.std.specs.Ordering.{nat_cmp};
-ghost use Rattle.edf_fields.specs.Lists.{Has, AreDistinct, is_one_of};
+ghost use Rattle.edf_fields.specs.Lists.{Has, is_one_of};
+ghost use Rattle.edf_fields.specs.Distinct.{AreDistinct};
 ghost use Rattle.edf_heads.specs.Comparisons.{AreSorted};
 
 use edf_fields::label::SignalLabel;
@@ -37,7 +38,7 @@ pub fn in_order(alloc: Global, labels: &[SignalLabel]) -> Result<Vec<&[u8]>, All
 }
 
 /// The place of the label among these, which are in the order of their bytes.
-pub fn place_of(sorted: &[&[u8]], label: &[u8]) -> Option<usize>
+pub fn found_at(sorted: &[&[u8]], label: &[u8]) -> Option<usize>
     requires { IsSorted (λ x y. slice_cmp nat_cmp x.now y.now) sorted.now }
     ensures { MatchOption result
         (Has (map (λ t. t.now) sorted.now) label.now → ⊥)
@@ -59,5 +60,5 @@ pub fn is_found(sorted: &[&[u8]], label: &[u8]) -> bool
     requires { IsSorted (λ x y. slice_cmp nat_cmp x.now y.now) sorted.now }
     ensures { result ≡ is_one_of (map (λ t. t.now) sorted.now) label.now }
 {
-    place_of(sorted, label).is_some()
+    found_at(sorted, label).is_some()
 }

@@ -4,9 +4,9 @@
 
 mod blank;
 mod calibrations;
+mod channel_texts;
 mod channels;
 mod comparison;
 pub mod head_difference;
 pub mod labels;
 mod subfields;
-mod texts;

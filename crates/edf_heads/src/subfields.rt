@@ -2,9 +2,10 @@
 
 ghost use Rattle.std.specs.Prelude.{◌≡◌, ◌↔◌, IsTrue, MatchOption};
 ghost use Rattle.std.specs.List.{list_all};
-ghost use Rattle.edf_fields.specs.Subfields.{subfields_left};
+ghost use Rattle.edf_fields.specs.SubfieldsReading.{subfields_left};
 ghost use Rattle.edf_heads.specs.Comparisons.{is_x as is_x_text, are_same as are_same_texts, IsAnonymous, IsUnchanged, IsFoundAmong};
-ghost use Rattle.edf_heads.specs.Subfields.{IsAsClaimed, IsMismatch, SubfieldsAsClaimed, IsSubfieldDifference};
+ghost use Rattle.edf_heads.specs.Subfields.{IsAsClaimed, SubfieldsAsClaimed};
+ghost use Rattle.edf_heads.specs.SubfieldDifference.{IsMismatch, IsSubfieldDifference};
 
 use crate::comparison::Comparison;
 use edf_claim::claim::Claim;
@@ -14,7 +15,7 @@ use edf_header::header::Header;
 use edf_verdict::verdict::SubfieldMismatch;
 
 /// A subfield that isn't as claimed, and how it isn't.
-#[derive(Debug, Clone, Copy)]
+#[derive(Clone, Copy)]
 pub(crate) struct SubfieldDifference {
     pub(crate) which: Which,
     pub(crate) mismatch: SubfieldMismatch,
@@ -133,7 +134,7 @@ impl<'a> Comparison<'a> {
     }
 
     /// The first subfield that isn't as claimed, in their written order, and how it isn't.
-    #[tactic(auto, using(crate::proofs::SubfieldFacts::subfields_said), unfolding(crate::specs::Subfields::all_subfields))]
+    #[tactic(auto, using(crate::proofs::SubfieldFacts::subfields_said), unfolding(crate::specs::SubfieldDifference::all_subfields))]
     pub(crate) fn subfield_difference(&self) -> Option<SubfieldDifference>
         ensures { MatchOption result
             (SubfieldsAsClaimed self.now.original self.now.export self.now.claim)

@@ -1,9 +1,10 @@
 -- What `conform` writes of a file.
 use Rattle.std.specs.Prelude.{ℕ, ◌*◌, List, [], ◌∷◌, ◌++◌, length, codes}
 use Rattle.std.specs.Fmt.{decimal}
-use Rattle.edf_header.specs.Heads.{Head, head_of, samples_together}
-use Rattle.edf_stream.specs.Summaries.{channels_among}
-use Rattle.edf_stream.specs.Notes.{notes_before}
+use Rattle.edf_header.specs.Heads.{Head, samples_together}
+use Rattle.edf_header.specs.HeadsReading.{head_of}
+use Rattle.edf_header.specs.Channels.{channels_among}
+use Rattle.edf_stream.specs.NotesReading.{notes_before}
 use Rattle.edf_stream.specs.Faults.{file_fault}
 use Rattle.edf_report.specs.Reports.{text_or_fault}
 

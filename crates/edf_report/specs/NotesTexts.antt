@@ -2,8 +2,10 @@
 use Rattle.std.specs.Prelude.{ℕ, zero, suc, List, [], ◌∷◌, ◌++◌, codes}
 use Rattle.std.specs.List.{flat_map}
 use Rattle.edf_header.specs.Faults.{header_fault}
-use Rattle.edf_header.specs.Heads.{Head, head_of}
-use Rattle.edf_stream.specs.Notes.{NoteValue, notes_in}
+use Rattle.edf_header.specs.Heads.{Head}
+use Rattle.edf_header.specs.HeadsReading.{head_of}
+use Rattle.edf_stream.specs.Notes.{NoteValue}
+use Rattle.edf_stream.specs.NotesReading.{notes_in}
 use Rattle.edf_stream.specs.Records.{record_at}
 use Rattle.edf_stream.specs.Faults.{body_fault, records_before}
 use Rattle.edf_verdict.specs.NoteTimes.{note_times}

@@ -1,13 +1,14 @@
 -- What `show` writes of a file: its header, line by line.
-use Rattle.std.specs.Prelude.{◌≡◌, ℕ, ℤ, ◌+◌, ◌/◌, ◌%◌, List, [], ◌∷◌, ◌++◌, drop, codes}
+use Rattle.std.specs.Prelude.{◌≡◌, ℕ, ℤ, ◌/◌, ◌%◌, List, [], ◌∷◌, ◌++◌, drop, codes}
 use Rattle.std.specs.Fmt.{decimal, signed_decimal}
 use Rattle.std.specs.List.{flat_map}
 use Rattle.edf_fields.specs.Dates.{CivilDay}
 use Rattle.edf_fields.specs.Identifications.{Patient, Recording}
 use Rattle.edf_header.specs.Calibrations.{Line}
 use Rattle.edf_header.specs.Faults.{header_fault}
-use Rattle.edf_header.specs.Heads.{SignalHead, Head, head_of, header_bytes, kind_word}
-use Rattle.edf_stream.specs.Summaries.{channels_among}
+use Rattle.edf_header.specs.Heads.{SignalHead, Head, header_bytes, kind_word}
+use Rattle.edf_header.specs.HeadsReading.{head_of}
+use Rattle.edf_header.specs.Channels.{channels_among}
 use Rattle.edf_verdict.specs.declared.outcome.Outcome.{Outcome}
 use Rattle.edf_verdict.specs.declared.outcome.Outcome.TheVariants as outcomes
 use Rattle.edf_verdict.specs.Quotes.{with_quoted}

@@ -56,7 +56,8 @@ pub fn conform_to<S: Source, K: Sink>(
     ensures written { IfOk result (λ outcome. IsTrue (S.is_honest source.old) → IsTrue (K.is_honest sink.old) →
         IsReported (conform_text (S.left source.old)) (file_fault (S.left source.old)) (K.held sink.old) (K.held sink.new) outcome) }
     ensures nothing { IfErr result (λ stop. stop ≢ stops.WriteFailed → sink.new ≡ sink.old) }
-    ensures part { OnErr result (IsTrue (S.is_honest source.old) → IsTrue (K.is_honest sink.old) → HoldsPrefix (K.held sink.old) (K.held sink.new) (conform_text (S.left source.old))) }
+    ensures part { OnErr result (IsTrue (S.is_honest source.old) → IsTrue (K.is_honest sink.old) →
+        HoldsPrefix (K.held sink.old) (K.held sink.new) (conform_text (S.left source.old))) }
     ensures stop { IfErr result (ReportStops (Rises (S.failures source.old) (S.failures source.new)) (Rises (K.failures sink.old) (K.failures sink.new))) }
 {
     let report = report(alloc, source)?;

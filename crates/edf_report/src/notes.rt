@@ -4,7 +4,7 @@ ghost use Rattle.std.specs.Prelude.{◌≡◌, ℕ, List, ◌++◌, IfOk, IfErr,
 ghost use Rattle.edf_fields.specs.Sinks.{HoldsPrefix};
 ghost use Rattle.edf_fields.specs.Sources.{Rises};
 ghost use Rattle.edf_stream.specs.Faults.{body_fault, file_fault};
-ghost use Rattle.edf_stream.specs.Notes.{notes_in};
+ghost use Rattle.edf_stream.specs.NotesReading.{notes_in};
 ghost use Rattle.edf_stream.specs.Readers.{is_current, HasBegun, StandsIn};
 ghost use Rattle.edf_stream.specs.Views.{note_view, notes_left};
 ghost use Rattle.edf_report.specs.NotesTexts.{note_line, note_lines, body_text, notes_text};
@@ -52,7 +52,8 @@ fn put_notes<K: Sink>(alloc: Global, reader: &FileReader, sink: &mut K) -> Resul
     requires { IsTrue (is_current reader.now.status) }
     ensures failures { OnOk result (K.failures sink.new ≡ K.failures sink.old) }
     ensures honesty { IsTrue (K.is_honest sink.old) → IsTrue (K.is_honest sink.new) }
-    ensures written { OnOk result (IsTrue (K.is_honest sink.old) → K.held sink.new ≡ K.held sink.old ++ note_lines (notes_in reader.now.head reader.now.current)) }
+    ensures written { OnOk result (IsTrue (K.is_honest sink.old) → K.held sink.new ≡ K.held sink.old
+        ++ note_lines (notes_in reader.now.head reader.now.current)) }
     ensures part { OnErr result (IsTrue (K.is_honest sink.old) → HoldsPrefix (K.held sink.old) (K.held sink.new) (note_lines (notes_in reader.now.head reader.now.current))) }
     ensures stop { IfErr result (ReportStops ⊥ (Rises (K.failures sink.old) (K.failures sink.new))) }
 {
@@ -70,9 +71,11 @@ fn put_records<S: Source, K: Sink>(
     sink: &mut K,
 ) -> Result<Outcome, ReportStop>
     requires { HasBegun reader.old }
-    ensures written { IfOk result (λ outcome. IsTrue (S.is_honest source.old) → IsTrue (K.is_honest sink.old) → (file : List ℕ) → StandsIn reader.old (S.left source.old) file →
+    ensures written { IfOk result (λ outcome. IsTrue (S.is_honest source.old) → IsTrue (K.is_honest sink.old) → (file : List ℕ) →
+        StandsIn reader.old (S.left source.old) file →
         IsReported (body_text file reader.old.head) (body_fault file reader.old.head) (K.held sink.old) (K.held sink.new) outcome) }
-    ensures part { OnErr result (IsTrue (S.is_honest source.old) → IsTrue (K.is_honest sink.old) → (file : List ℕ) → StandsIn reader.old (S.left source.old) file →
+    ensures part { OnErr result (IsTrue (S.is_honest source.old) → IsTrue (K.is_honest sink.old) → (file : List ℕ) →
+        StandsIn reader.old (S.left source.old) file →
         HoldsPrefix (K.held sink.old) (K.held sink.new) (body_text file reader.old.head)) }
     ensures stop { IfErr result (ReportStops (Rises (S.failures source.old) (S.failures source.new)) (Rises (K.failures sink.old) (K.failures sink.new))) }
 {
@@ -99,7 +102,8 @@ pub fn notes_to<S: Source, K: Sink>(
 ) -> Result<Outcome, ReportStop>
     ensures written { IfOk result (λ outcome. IsTrue (S.is_honest source.old) → IsTrue (K.is_honest sink.old) →
         IsReported (notes_text (S.left source.old)) (file_fault (S.left source.old)) (K.held sink.old) (K.held sink.new) outcome) }
-    ensures part { OnErr result (IsTrue (S.is_honest source.old) → IsTrue (K.is_honest sink.old) → HoldsPrefix (K.held sink.old) (K.held sink.new) (notes_text (S.left source.old))) }
+    ensures part { OnErr result (IsTrue (S.is_honest source.old) → IsTrue (K.is_honest sink.old) →
+        HoldsPrefix (K.held sink.old) (K.held sink.new) (notes_text (S.left source.old))) }
     ensures stop { IfErr result (ReportStops (Rises (S.failures source.old) (S.failures source.new)) (Rises (K.failures sink.old) (K.failures sink.new))) }
 {
     match FileReader::begin(alloc, source) {

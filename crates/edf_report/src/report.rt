@@ -84,7 +84,8 @@ impl Report {
 
     /// Writes the report: its outcome, or that the sink failed.
     pub(crate) fn put<K: Sink>(&self, sink: &mut K) -> Result<Outcome, ReportStop>
-        ensures written { IfOk result (λ outcome. (outcome ≡ self.now.outcome) × (IsTrue (K.is_honest sink.old) → K.held sink.new ≡ K.held sink.old ++ self.now.text.items)) }
+        ensures written { IfOk result (λ outcome. (outcome ≡ self.now.outcome) × (IsTrue (K.is_honest sink.old) →
+            K.held sink.new ≡ K.held sink.old ++ self.now.text.items)) }
         ensures part { OnErr result (IsTrue (K.is_honest sink.old) → HoldsPrefix (K.held sink.old) (K.held sink.new) self.now.text.items) }
         ensures stop { IfErr result (λ stop. (stop ≡ stops.WriteFailed) × Rises (K.failures sink.old) (K.failures sink.new)) }
     {

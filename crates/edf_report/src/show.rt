@@ -2,10 +2,10 @@
 
 ghost use Rattle.std.specs.Prelude.{◌≡◌, ◌≢◌, ◌++◌, IfOk, IfErr, OnOk, OnErr, IsTrue, Some, string_bytes};
 ghost use Rattle.edf_fields.specs.Dates.{civil_day};
-ghost use Rattle.edf_fields.specs.Identifications.{patient_of, recording_of};
+ghost use Rattle.edf_fields.specs.IdentificationsReading.{patient_of, recording_of};
 ghost use Rattle.edf_fields.specs.Sinks.{HoldsPrefix};
 ghost use Rattle.edf_fields.specs.Sources.{Rises};
-ghost use Rattle.edf_fields.specs.Subfields.{subfields_left};
+ghost use Rattle.edf_fields.specs.SubfieldsReading.{subfields_left};
 ghost use Rattle.edf_header.specs.Faults.{header_fault};
 ghost use Rattle.edf_header.specs.Heads.{kind_word};
 ghost use Rattle.edf_report.specs.declared.report.ReportStop.TheVariants as stops;
@@ -253,7 +253,8 @@ pub fn show_to<S: Source, K: Sink>(
         IsReported (show_text (S.left source.old)) (header_fault (S.left source.old)) (K.held sink.old) (K.held sink.new) outcome) }
     ensures behind { IfOk result (λ outcome. IsTrue (S.is_honest source.old) → IsLeftBehind (S.left source.old) (S.left source.new) outcome) }
     ensures nothing { IfErr result (λ stop. stop ≢ stops.WriteFailed → sink.new ≡ sink.old) }
-    ensures part { OnErr result (IsTrue (S.is_honest source.old) → IsTrue (K.is_honest sink.old) → HoldsPrefix (K.held sink.old) (K.held sink.new) (show_text (S.left source.old))) }
+    ensures part { OnErr result (IsTrue (S.is_honest source.old) → IsTrue (K.is_honest sink.old) →
+        HoldsPrefix (K.held sink.old) (K.held sink.new) (show_text (S.left source.old))) }
     ensures stop { IfErr result (ReportStops (Rises (S.failures source.old) (S.failures source.new)) (Rises (K.failures sink.old) (K.failures sink.new))) }
 {
     let report = report(alloc, source)?;

@@ -5,15 +5,19 @@ use Rattle.std.proofs.lemmas.Int.{ints, unsigned_abs-mul}
 use Rattle.std.proofs.Math.Nat.{mul-le-mul, mul-le-mul_right}
 use borrow.Author.Differences.{up, down}
 use Rattle.edf_fields.proofs.ForCallers.{get-index, get-within}
-use Rattle.edf_header.specs.Sound.{IsSoundSignal}
+use Rattle.edf_header.specs.Standard.{IsSoundSignal}
 use Rattle.edf_header.specs.Heads.{SignalHead, Head, samples_together, start_second, day_number, record_bytes}
 use Rattle.edf_tal.proofs.ForCallers.{start_small}
 use Rattle.edf_stream.specs.Conforming.{Conforms}
 use Rattle.edf_stream.specs.Laws.{InstantsFit, StartIsOfLeast}
-use Rattle.edf_stream.specs.Records.{lane_at}
+use Rattle.edf_stream.specs.NotesReading.{notes_in}
+use Rattle.edf_stream.specs.Records.{record_at, lane_at}
 use Rattle.edf_stream.specs.Samples.{SampleValue, IsSample}
-use Rattle.edf_stream.specs.Starts.{file_start, start_at, end_at}
+use Rattle.edf_stream.specs.Starts.{file_start}
+use Rattle.edf_stream.specs.StartsReading.{start_at, end_at}
 use Rattle.edf_stream.specs.Values.{digital_value}
+use Rattle.edf_stream.proofs.ReadFacts.{sound-of, says-read, starts_late, starts_early, sample-at}
+use Rattle.edf_stream.proofs.SaidFacts.{begins}
 use Rattle.edf_stream.proofs.SampleLawFacts.{count-is}
 use Rattle.edf_stream.proofs.RisingFacts.{scale-mono, scale-sum, not-before-start, lasts, starts-behind}
 
@@ -27,7 +31,7 @@ few-samples (x ∷ signals) (suc s) signal e = let r = few-samples signals s sig
 few-in-lane : (file : List ℕ) (h : Head) (x : SampleValue) → Conforms file h → IsSample file h x → (x.instant).den ≤ 8388608
 few-in-lane file h x c r =
     let few = few-samples h.signals r.signal (r.channel).0 (r.channel).1 in
-    let small : record_bytes h ≤ 16777216 = ((c.header).sound).standard.small_record in
+    let small : record_bytes h ≤ 16777216 = (c.header).standard.small_record in
     let count = r.count ∙ count-is h r.signal (r.channel).0 (r.channel).1 in
     omega (arith, few, small, count)
 
@@ -37,8 +41,8 @@ file-near h near early = (omega (arith, ints, near, early), omega (arith, ints, 
 
 start-near : (file : List ℕ) (h : Head) (k : ℕ) → Conforms file h → k < h.records → (neg_ℤ (pos (10 ^ 21)) ≤ℤ start_at file h k) × (start_at file h k <ℤ pos (10 ^ 21))
 start-near file h k c lt =
-    let begins = c.begins k lt in
-    let small = start_small begins.0 (start_at file h k) begins.3 in
+    let found = begins h (record_at file h k) (start_at file h k) (notes_in h (record_at file h k)) (says-read file h c k lt) in
+    let small = start_small found.0 (start_at file h k) found.3 in
     (omega (arith, ints, small), omega (arith, ints, small))
 
 -- the numerator of an instant
@@ -50,13 +54,13 @@ num-small n i s d num few less near short e =
 
 sample-small : (file : List ℕ) (h : Head) (x : SampleValue) → Conforms file h → IsSample file h x → unsigned_abs (x.instant).num < 2 ^ 102
 sample-small file h x c r =
-    let bounds = ((c.header).sound).bounds in
+    let bounds = (sound-of file h c).bounds in
     let few = few-in-lane file h x c r in
     let f = file-near h bounds.near bounds.early in
     let s = start-near file h r.data_record c r.in_file in
     let short : unsigned_abs h.duration < 10 ^ 20 = bounds.little_time in
     num-small (x.instant).den r.place (file_start h +ℤ start_at file h r.data_record) h.duration (x.instant).num few (omega (arith, few, r.in_lane))
-    (omega (arith, ints, f, s)) (omega (arith, short)) r.instant
+    (omega (arith, ints, f, s)) (omega (arith, short)) (sample-at file h x r)
 
 pub instants_fit : InstantsFit
 instants_fit file other h g c d x y p q =
@@ -98,7 +102,7 @@ sound-signal h s signal all e = subst IsSoundSignal (get-index h.signals s signa
 
 pub start_is_of_least : StartIsOfLeast
 start_is_of_least file h c =
-    let standard = ((c.header).sound).standard in
+    let standard = (c.header).standard in
     let channel = standard.channel in
     let s = channel.0 in
     let label = channel.1 in
@@ -117,26 +121,29 @@ start_is_of_least file h c =
           signal = s;
           data_record = 0;
           place = 0;
+          start = start_at file h 0;
+          notes = notes_in h (record_at file h 0);
           channel = channel.2;
           count = sym (count-is h s signal there);
           in_file = omega (arith, records);
           in_lane = omega (arith, some);
+          says = says-read file h c 0 (omega (arith, records));
           instant = refl;
           value_is = refl;
         };
         least = λ y r.
             let m = (y.instant).den in
-            let high = not-before-start m r.place (file_start h +ℤ start_at file h r.data_record) h.duration (y.instant).num (lasts file h c) r.instant in
+            let high = not-before-start m r.place (file_start h +ℤ start_at file h r.data_record) h.duration (y.instant).num (lasts file h c) (sample-at file h y r) in
             let first = first-starts file h r.data_record c r.in_file in
             let low : (pos m *ℤ start) ≤ℤ (pos m *ℤ (file_start h +ℤ start_at file h r.data_record)) = scale-mono m start (file_start h +ℤ start_at file h r.data_record) (omega (arith, ints, first)) in
             crossed n m start num (y.instant).num z (omega (arith, ints, high, low));
         second = record {
           reached =
-              let early = c.not_early in
+              let early = starts_late file h c in
               let q = scale-mono n (file_start h) start (omega (arith, ints, early)) in
               omega (arith, ints, q, z);
           next_is_later =
-              let late = c.in_first_second in
+              let late = starts_early file h c in
               let q = scale-strict n start ((start_second h +ℤ pos 1) *ℤ pos (10 ^ 12)) (omega (arith, some)) (omega (arith, ints, late)) in
               omega (arith, ints, q, z);
         };

@@ -11,22 +11,19 @@ use Rattle.edf_header.specs.declared.kind.Kind.{Kind}
 use Rattle.edf_header.specs.declared.kind.Kind.TheVariants.{Contiguous, Interrupted}
 use Rattle.edf_header.specs.Heads.{Head}
 use Rattle.edf_tal.specs.declared.start.StartCause.{StartCause}
-use Rattle.edf_tal.specs.Reading.{items_of}
-use Rattle.edf_tal.specs.Tals.{StartsAt}
-use Rattle.edf_tal.specs.Views.{start_of}
-use Rattle.edf_tal.proofs.ForCallers.{starts-at}
-use Rattle.edf_stream.specs.Records.{place_of, record_at, annotation_lanes}
-use Rattle.edf_stream.specs.Notes.{notes_in, notes_before}
-use Rattle.edf_stream.specs.Starts.{start_by_lanes, said_start, or_zero, start_in, start_at, end_at, end_before, Begins}
+use Rattle.edf_stream.specs.Records.{record_place, record_at, annotation_lanes}
+use Rattle.edf_stream.specs.NotesReading.{notes_in, notes_before}
+use Rattle.edf_stream.specs.StartsReading.{said_start, or_zero, start_in, start_at, end_at, end_before}
 use Rattle.edf_stream.specs.Faults.{cause_of_lanes, lanes_fault, time_fault, may_start, start_fault, notes_fault, record_fault, records_tests}
-use Rattle.edf_stream.specs.Conforming.{IsLane, FollowsOn, Conforms}
+use Rattle.edf_stream.specs.Conforming.{FollowsOn, Conforms}
 use Rattle.edf_stream.specs.Readers.{HasPassed, StandsAt}
-use Rattle.edf_stream.proofs.ItemFacts.{lanes-are}
+use Rattle.edf_stream.proofs.ItemFacts.{IsLane, lanes-are}
+use Rattle.edf_stream.proofs.SaidFacts.{read-notes, record-says, together-count}
 
 -- what one data record says that passes its tests
 record Passes (file : List ℕ) (h : Head) (k : ℕ) : Type 0 where
   pub lanes : All IsLane (annotation_lanes h.signals (record_at file h k))
-  pub begins : Begins file h k (start_at file h k)
+  pub said : said_start h (record_at file h k) ≡ Ok (start_at file h k)
   pub on_time : may_start h.kind k (end_before file h k) (start_at file h k) ≡ true
   pub few : notes_before file h (suc k) ≤ 1000000
 
@@ -48,14 +45,6 @@ are-few : (k notes : ℕ) → notes_fault k notes ≡ None → notes ≤ 1000000
 unfolding notes_fault
 are-few k notes e = let t : nat_le notes 1000000 ≡ true = unless-passed (nat_le notes 1000000) _ e in grind (arith, nat_tests)
 
-begins-at : (lanes : List (List ℕ)) (start : ℤ) → start_by_lanes lanes ≡ Ok start → (lane : List ℕ) × (more : List (List ℕ)) × (lanes ≡ lane ∷ more) × StartsAt lane start
-begins-at [] start e = absurd (let z : _ = e in cc)
-begins-at (lane ∷ lanes) start e = (lane, lanes, refl, (starts-at (start_of (items_of lane)) lane start refl).0 e)
-
-begins-where : (file : List ℕ) (h : Head) (k : ℕ) → said_start h (record_at file h k) ≡ Ok (start_at file h k) → Begins file h k (start_at file h k)
-unfolding said_start
-begins-where file h k e = begins-at (annotation_lanes h.signals (record_at file h k)) (start_at file h k) e
-
 one-passes : (file : List ℕ) (h : Head) (k : ℕ) → record_fault h k (end_before file h k) (notes_before file h k) (record_at file h k) ≡ None → Passes file h k
 unfolding record_fault
 one-passes file h k e =
@@ -66,7 +55,7 @@ one-passes file h k e =
     let d = first-cons (notes_fault k (notes_before file h k + length (notes_in h bytes))) [] c.1 in
     record {
       lanes = lanes-are (annotation_lanes h.signals bytes) (no-cause k (cause_of_lanes (annotation_lanes h.signals bytes)) a.0);
-      begins = begins-where file h k (some-start k (said_start h bytes) b.0);
+      said = some-start k (said_start h bytes) b.0;
       on_time = starts h.kind k (end_before file h k) (start_in h bytes) c.0;
       few = are-few k (notes_before file h k + length (notes_in h bytes)) d.0;
     }
@@ -76,7 +65,7 @@ at-first : (file : List ℕ) (h : Head) (s n : ℕ) → first (records_tests fil
     → (record_fault h s (end_before file h s) (notes_before file h s) (record_at file h s) ≡ None) × (first (records_tests file h (s + 1) n) ≡ None)
 at-first file h s n e =
     let fault = record_fault h s (end_before file h s) (notes_before file h s) (record_at file h s) in
-    let two = first-cons (truncated (AtRecord s) (place_of h (s + 1)) (length file)) (fault ∷ records_tests file h (s + 1) n) e in
+    let two = first-cons (truncated (AtRecord s) (record_place h (s + 1)) (length file)) (fault ∷ records_tests file h (s + 1) n) e in
     first-cons fault (records_tests file h (s + 1) n) two.1
 
 -- each of the records that pass
@@ -97,21 +86,23 @@ follows-on Interrupted k ended start e = le-tested ended start e
 
 -- behind the last data record nothing is left: the file conforms
 pub conforms : (file : List ℕ) (h : Head) (k : ℕ) (ended : ℤ) (notes : ℕ) (left : List ℕ) → 1 ≤ h.records → HasPassed file h k → StandsAt file h k ended notes left → h.records ≤ k → left ≡ [] → Conforms file h
+unfolding read-notes
 conforms file h k ended notes left some passed at le none =
     let within : k ≤ h.records = passed.within in
     let e : k ≡ h.records = omega arith in
-    let short : length (drop (place_of h k) file) ≡ 0 = ap length (sym at.rest ∙ none) in
+    let short : length (drop (record_place h k) file) ≡ 0 = ap length (sym at.rest ∙ none) in
     let each : (j : ℕ) → j < h.records → Passes file h j = λ j lt. (let z : 0 + j ≡ j = omega arith in subst (Passes file h) z (each-passes file h 0 k j passed.records (omega (arith, lt, e)))) in
     let front = and-true (int_le (pos 0) (start_at file h 0)) (int_lt (start_at file h 0) (pos (10 ^ 12))) (each 0 (omega (arith, some))).on_time in
     record {
       header = passed.in_order;
-      lanes = λ j lt. (each j lt).lanes;
-      begins = λ j lt. (each j lt).begins;
+      starts = λ j. start_at file h j;
+      notes = read-notes file h;
+      say = λ j lt. record-says h (record_at file h j) (start_at file h j) (each j lt).lanes (each j lt).said;
       not_early = le-tested (pos 0) (start_at file h 0) front.0;
       in_first_second = lt-tested (start_at file h 0) (pos (10 ^ 12)) front.1;
       follows = λ j lt. follows-on h.kind j (end_at file h j) (start_at file h (suc j)) (each (suc j) lt).on_time;
-      few = (last h.records some each);
-      size = (let q : length file ≡ place_of h k = omega (arith, short, at.whole, length-drop (place_of h k) file) in q ∙ ap (place_of h) e);
+      few = subst (λ n. n ≤ 1000000) (sym (together-count file h h.records)) (last h.records some each);
+      size = (let q : length file ≡ record_place h k = omega (arith, short, at.whole, length-drop (record_place h k) file) in q ∙ ap (record_place h) e);
     }
   where
     last : (n : ℕ) → 1 ≤ n → ((j : ℕ) → j < n → Passes file h j) → notes_before file h n ≤ 1000000

@@ -4,11 +4,13 @@ use Rattle.std.proofs.lemmas.List.{length-map}
 use Rattle.edf_header.specs.Heads.{SignalHead, Head, samples_together}
 use Rattle.edf_stream.specs.Conforming.{Conforms}
 use Rattle.edf_stream.specs.Laws.{SamplesAreCounted, NotesAreCounted}
-use Rattle.edf_stream.specs.Notes.{notes_in, notes_before, moved_by, moved_notes_in, moved_notes_before, notes_of}
+use Rattle.edf_stream.specs.Notes.{moved_by}
+use Rattle.edf_stream.specs.NotesReading.{notes_in, notes_before, moved_notes_in, moved_notes_before, notes_of}
 use Rattle.edf_stream.specs.Records.{record_at, lane_of}
-use Rattle.edf_stream.specs.Samples.{lane_samples, samples_by, samples_in, samples_before, samples_of}
-use Rattle.edf_stream.specs.Starts.{file_start, start_in}
-use Rattle.edf_stream.specs.Summaries.{channels_among}
+use Rattle.edf_stream.specs.SamplesReading.{lane_samples, samples_by, samples_in, samples_before, samples_of}
+use Rattle.edf_stream.specs.Starts.{file_start}
+use Rattle.edf_stream.specs.StartsReading.{start_in}
+use Rattle.edf_header.specs.Channels.{channels_among}
 use Rattle.edf_stream.proofs.MemberFacts.{channel-among}
 use Rattle.edf_stream.proofs.RisingFacts.{lane-full}
 

@@ -3,7 +3,8 @@ use Rattle.std.proofs.Common.{◌≡◌, ℕ, List, [], ◌∷◌, Some, ap, ◌
 use Rattle.edf_fields.proofs.ForCallers.{first-passed, first-found, alone}
 use Rattle.edf_header.specs.declared.fault.Fault.{Fault}
 use Rattle.edf_header.specs.Faults.{header_fault}
-use Rattle.edf_header.specs.Heads.{Head, head_of}
+use Rattle.edf_header.specs.Heads.{Head}
+use Rattle.edf_header.specs.HeadsReading.{head_of}
 use Rattle.edf_stream.specs.Faults.{body_fault, file_fault}
 use Rattle.edf_stream.specs.Readers.{HasPassed}
 

@@ -3,11 +3,14 @@ use Rattle.std.proofs.Common.{◌≡◌, ℕ, List, [], ◌∷◌, map, Some, No
 use Rattle.std.specs.List.{All}
 use Rattle.std.proofs.lemmas.List.Elements.{All-nil, All-cons, All-head, All-tail}
 use Rattle.edf_fields.proofs.ForCallers.{first-cons, pass-cons}
-use Rattle.edf_tal.specs.Tals.{TalValue}
+use Rattle.edf_tal.specs.Tals.{TalValue, IsLaneOf}
 use Rattle.edf_tal.specs.Reading.{Item, items_of}
 use Rattle.edf_tal.proofs.ForCallers.{lane-spelled, lane-read}
 use Rattle.edf_stream.specs.Faults.{cause_of, cause_of_lanes}
-use Rattle.edf_stream.specs.Conforming.{IsLane}
+
+-- the lane is one of some list of TALs
+abbrev pub IsLane : List ℕ → Type 0
+IsLane lane = (tals : List TalValue) × IsLaneOf lane tals
 
 -- items without a cause
 items-ok : (items : List Item) → cause_of items ≡ None → (tals : List TalValue) × (items ≡ map Ok tals)

@@ -5,6 +5,7 @@ pub mod FileFacts
 pub mod ForCallers
 pub mod FaultlessFacts
 pub mod SaidFacts
+pub mod ReadFacts
 pub mod SignalFacts
 pub mod StopFacts
 pub mod NoteFacts

@@ -2,8 +2,9 @@
 use Rattle.std.proofs.Common.{◌≡◌, ℕ, suc, ◌+◌, List, ◌++◌, refl, sym, ap, ◌∙◌, arith}
 use Rattle.edf_header.specs.Heads.{Head}
 use Rattle.edf_stream.specs.Records.{record_at}
-use Rattle.edf_stream.specs.Samples.{samples_in, samples_before, samples_of}
-use Rattle.edf_stream.specs.Notes.{NoteValue, moved_notes_in, moved_notes_before, notes_of}
+use Rattle.edf_stream.specs.SamplesReading.{samples_in, samples_before, samples_of}
+use Rattle.edf_stream.specs.Notes.{NoteValue}
+use Rattle.edf_stream.specs.NotesReading.{moved_notes_in, moved_notes_before, notes_of}
 use Rattle.edf_stream.specs.declared.sample.Sample.{Sample}
 use Rattle.edf_stream.specs.Readers.{Reader}
 

@@ -7,10 +7,11 @@ use Rattle.edf_fields.proofs.ForCallers.{has-append, has-front, has-back, has-fi
 use Rattle.edf_header.specs.Heads.{SignalHead, Head, is_annotations}
 use Rattle.edf_stream.specs.declared.sample.Sample.{Sample}
 use Rattle.edf_stream.specs.Records.{record_at, lane_of}
-use Rattle.edf_stream.specs.Starts.{file_start, start_in}
-use Rattle.edf_stream.specs.Summaries.{channels_among}
+use Rattle.edf_stream.specs.Starts.{file_start}
+use Rattle.edf_stream.specs.StartsReading.{start_in}
+use Rattle.edf_header.specs.Channels.{channels_among}
 use Rattle.edf_stream.specs.Values.{digital, digital_value}
-use Rattle.edf_stream.specs.Samples.{lane_samples, samples_by, samples_in, samples_before}
+use Rattle.edf_stream.specs.SamplesReading.{lane_samples, samples_by, samples_in, samples_before}
 
 -- the sample of channel c at a place of a lane that begins at the numerator a
 abbrev pub placed : ℕ → ℕ → ℤ → ℤ → List ℕ → ℕ → Sample

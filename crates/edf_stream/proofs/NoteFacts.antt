@@ -6,8 +6,8 @@ use Rattle.edf_header.specs.declared.kind.Kind.{Kind}
 use Rattle.edf_header.specs.Heads.{Head}
 use Rattle.edf_tal.specs.declared.start.StartCause.{StartCause}
 use Rattle.edf_stream.specs.Records.{annotation_lanes}
-use Rattle.edf_stream.specs.Notes.{notes_in, notes_of_lanes}
-use Rattle.edf_stream.specs.Starts.{said_start, or_zero, start_in}
+use Rattle.edf_stream.specs.NotesReading.{notes_in, notes_of_lanes}
+use Rattle.edf_stream.specs.StartsReading.{said_start, or_zero, start_in}
 use Rattle.edf_fields.specs.Tests.{first}
 use Rattle.edf_stream.specs.Faults.{cause_of_lanes, lanes_fault, time_fault, start_fault, notes_fault, timed_faults, record_fault}
 

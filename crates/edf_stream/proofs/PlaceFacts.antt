@@ -1,5 +1,5 @@
 -- How many data records stand before the first fault of a file.
-use Rattle.std.proofs.Common.{arith, ◌≡◌, ℕ, zero, suc, ℤ, ◌+◌, ◌-◌, ◌≤◌, Bool, true, false, List, [], ◌∷◌, ◌++◌, length, Option, Some, None, Result, Ok, Err, refl, sym, ap, ◌∙◌, subst, append_assoc}
+use Rattle.std.proofs.Common.{arith, ◌≡◌, ℕ, zero, suc, ℤ, ◌+◌, ◌-◌, ◌≤◌, Bool, true, false, List, [], ◌∷◌, ◌++◌, length, Option, Some, None, Result, Ok, Err, sym, ap, ◌∙◌, subst, append_assoc}
 use Rattle.edf_fields.specs.declared.cause.TalCause.{TalCause}
 use Rattle.edf_fields.specs.Tests.{first}
 use Rattle.edf_fields.proofs.ForCallers.{first-passed, alone}
@@ -7,11 +7,12 @@ use Rattle.edf_header.specs.declared.fault.Fault.{Fault}
 use Rattle.edf_header.specs.declared.fault.Cause.{Cause}
 use Rattle.edf_header.specs.declared.fault.Place.TheVariants.{AtRecord, AtEnd}
 use Rattle.edf_header.specs.Faults.{fault_unless, truncated, header_fault}
-use Rattle.edf_header.specs.Heads.{Head, head_of}
+use Rattle.edf_header.specs.Heads.{Head}
+use Rattle.edf_header.specs.HeadsReading.{head_of}
 use Rattle.edf_tal.specs.declared.start.StartCause.{StartCause}
-use Rattle.edf_stream.specs.Records.{place_of, record_at, annotation_lanes}
-use Rattle.edf_stream.specs.Notes.{notes_in, notes_before}
-use Rattle.edf_stream.specs.Starts.{said_start, start_in, end_before}
+use Rattle.edf_stream.specs.Records.{record_place, record_at, annotation_lanes}
+use Rattle.edf_stream.specs.NotesReading.{notes_in, notes_before}
+use Rattle.edf_stream.specs.StartsReading.{said_start, start_in, end_before}
 use Rattle.edf_stream.specs.Faults.{cause_of_lanes, lanes_fault, time_fault, start_fault, notes_fault, record_fault, records_tests, trailing_fault, body_fault, file_fault, records_before}
 use Rattle.edf_stream.specs.Readers.{HasPassed}
 use Rattle.edf_stream.proofs.RecordFacts.{tests-split}
@@ -65,10 +66,10 @@ of_records : (file : List ℕ) (h : Head) (k s m : ℕ) (others : List (Option F
     → k ≤ records_before h (first (records_tests file h s m ++ others))
 of_records file h k s zero others all le rest = rest
 of_records file h k s (suc m) others all le rest =
-    let whole = truncated (AtRecord s) (place_of h (s + 1)) (length file) in
+    let whole = truncated (AtRecord s) (record_place h (s + 1)) (length file) in
     let judged = record_fault h s (end_before file h s) (notes_before file h s) (record_at file h s) in
     let more = records_tests file h (s + 1) m ++ others in
-    one-more h k whole (judged ∷ more) (of_end h k s (place_of h (s + 1)) (length file) all le)
+    one-more h k whole (judged ∷ more) (of_end h k s (record_place h (s + 1)) (length file) all le)
     (one-more h k judged more (of_record h k s (end_before file h s) (notes_before file h s) (record_at file h s) all le)
     (of_records file h k (s + 1) m others all (let next : k ≤ s + 1 = omega (arith, le) in next) rest))
 

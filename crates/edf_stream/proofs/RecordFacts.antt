@@ -11,10 +11,11 @@ use Rattle.edf_header.specs.declared.fault.Place.TheVariants.{AtRecord, AtEnd}
 use Rattle.edf_header.specs.declared.fault.Cause.TheVariants.{Truncated, TrailingBytes}
 use Rattle.edf_header.specs.Faults.{truncated, header_fault}
 use Rattle.edf_header.specs.Conforming.{HeaderConforms}
-use Rattle.edf_header.specs.Heads.{Head, head_of, header_bytes, record_bytes}
-use Rattle.edf_stream.specs.Records.{place_of, record_at}
-use Rattle.edf_stream.specs.Notes.{notes_in, notes_before}
-use Rattle.edf_stream.specs.Starts.{start_in, end_before}
+use Rattle.edf_header.specs.Heads.{Head, header_bytes, record_bytes}
+use Rattle.edf_header.specs.HeadsReading.{head_of}
+use Rattle.edf_stream.specs.Records.{record_place, record_at}
+use Rattle.edf_stream.specs.NotesReading.{notes_in, notes_before}
+use Rattle.edf_stream.specs.StartsReading.{start_in, end_before}
 use Rattle.edf_stream.specs.Faults.{record_fault, records_tests, trailing_fault, body_fault}
 use Rattle.edf_stream.specs.Readers.{HasPassed, StandsAt}
 use Rattle.edf_stream.specs.Steps.{IsRead}
@@ -29,7 +30,7 @@ tests-split file h s (suc m) n =
     let f : s + 1 + m ≡ s + suc m = omega arith in
     ap (λ k. records_tests file h s k) e
     ∙ ap
-    (λ (ts : List (Option Fault)). truncated (AtRecord s) (place_of h (s + 1)) (length file) ∷ record_fault h s (end_before file h s) (notes_before file h s) (record_at file h s) ∷ ts)
+    (λ (ts : List (Option Fault)). truncated (AtRecord s) (record_place h (s + 1)) (length file) ∷ record_fault h s (end_before file h s) (notes_before file h s) (record_at file h s) ∷ ts)
     (tests-split file h (s + 1) m n ∙ ap (λ j. records_tests file h (s + 1) m ++ records_tests file h j n) f)
 
 -- of the records up to record k only the last may have a fault
@@ -76,11 +77,11 @@ missing : (place : Place) (end len : ℕ) → len < end → truncated place end 
 unfolding truncated
 missing place end len h = grind (arith, nat_tests)
 
-pub ended : (file : List ℕ) (h : Head) → length file ≤ place_of h h.records → trailing_fault file h ≡ None
+pub ended : (file : List ℕ) (h : Head) → length file ≤ record_place h h.records → trailing_fault file h ≡ None
 unfolding trailing_fault
 ended file h le = grind (arith, nat_tests)
 
-trailing : (file : List ℕ) (h : Head) → place_of h h.records < length file → trailing_fault file h ≡ Some (record { place = AtEnd; cause = TrailingBytes })
+trailing : (file : List ℕ) (h : Head) → record_place h h.records < length file → trailing_fault file h ≡ Some (record { place = AtEnd; cause = TrailingBytes })
 unfolding trailing_fault
 trailing file h lt = grind (arith, nat_tests)
 
@@ -89,46 +90,46 @@ pub ends : (file : List ℕ) (h : Head) (k : ℕ) (end : ℤ) (notes : ℕ) (lef
 ends file h k end notes left passed at le none =
     let within : k ≤ h.records = passed.within in
     let e : k ≡ h.records = omega arith in
-    let short : length (drop (place_of h k) file) ≡ 0 = ap length (sym at.rest ∙ none) in
-    let low : length file ≤ place_of h k = omega (arith, short, length-drop (place_of h k) file) in
-    at_end file h k passed le ∙ ended file h (subst (λ n. length file ≤ place_of h n) e low)
+    let short : length (drop (record_place h k) file) ≡ 0 = ap length (sym at.rest ∙ none) in
+    let low : length file ≤ record_place h k = omega (arith, short, length-drop (record_place h k) file) in
+    at_end file h k passed le ∙ ended file h (subst (λ n. length file ≤ record_place h n) e low)
 
 -- behind the last record something is left
 pub trails : (file : List ℕ) (h : Head) (k : ℕ) (end : ℤ) (notes : ℕ) (left : List ℕ) → HasPassed file h k → StandsAt file h k end notes left → h.records ≤ k → 0 < length left → body_fault file h ≡ Some (record { place = AtEnd; cause = TrailingBytes })
 trails file h k end notes left passed at le some =
     let within : k ≤ h.records = passed.within in
     let e : k ≡ h.records = omega arith in
-    let high : place_of h k < length file = omega (arith, some, ap length at.rest, length-drop (place_of h k) file) in
-    at_end file h k passed le ∙ trailing file h (subst (λ n. place_of h n < length file) e high)
+    let high : record_place h k < length file = omega (arith, some, ap length at.rest, length-drop (record_place h k) file) in
+    at_end file h k passed le ∙ trailing file h (subst (λ n. record_place h n < length file) e high)
 
 -- fewer bytes are left than a record has
 pub cut_short : (file : List ℕ) (h : Head) (k : ℕ) (end : ℤ) (notes got size : ℕ) (left buffer : List ℕ) → StandsAt file h k end notes left → size ≡ record_bytes h → length buffer ≡ size → got < size → take got buffer ≡ take size left
     → first (records_tests file h k 1) ≡ Some (record { place = AtRecord k; cause = Truncated })
 cut_short file h k end notes got size left buffer at is full lt front =
-    let high : length file < place_of h (k + 1) =
-    omega (arith, is, full, lt, at.whole, ap length front, ap length at.rest, length-take got buffer, length-take size left, length-drop (place_of h k) file) in
-    first-found (truncated (AtRecord k) (place_of h (k + 1)) (length file) ∷ []) _ _ (ap (λ t. first (t ∷ [])) (missing (AtRecord k) (place_of h (k + 1)) (length file) high))
+    let high : length file < record_place h (k + 1) =
+    omega (arith, is, full, lt, at.whole, ap length front, ap length at.rest, length-take got buffer, length-take size left, length-drop (record_place h k) file) in
+    first-found (truncated (AtRecord k) (record_place h (k + 1)) (length file) ∷ []) _ _ (ap (λ t. first (t ∷ [])) (missing (AtRecord k) (record_place h (k + 1)) (length file) high))
 
 -- a whole record was read
 pub record WasRead (file : List ℕ) (h : Head) (k : ℕ) (left buffer : List ℕ) : Type 0 where
-  pub there : truncated (AtRecord k) (place_of h (k + 1)) (length file) ≡ None
+  pub there : truncated (AtRecord k) (record_place h (k + 1)) (length file) ≡ None
   pub is : buffer ≡ record_at file h k
-  pub whole : place_of h (k + 1) ≤ length file
-  pub rest : left ≡ drop (place_of h (k + 1)) file
+  pub whole : record_place h (k + 1) ≤ length file
+  pub rest : left ≡ drop (record_place h (k + 1)) file
 
 pub whole_read : (file : List ℕ) (h : Head) (k : ℕ) (end : ℤ) (notes got size : ℕ) (left rest buffer : List ℕ) → StandsAt file h k end notes left → size ≡ record_bytes h → length buffer ≡ size → size ≤ got → got ≤ size
     → take got buffer ≡ take size left → rest ≡ drop size left → WasRead file h k rest buffer
 whole_read file h k end notes got size left rest buffer at is full ge le front behind =
     let same : got ≡ length buffer = omega arith in
     let all : take got buffer ≡ buffer = ap (λ n. take n buffer) same ∙ take-length buffer in
-    let next : place_of h k + record_bytes h ≡ place_of h (k + 1) = omega arith in
-    let low : place_of h (k + 1) ≤ length file =
-    omega (arith, is, full, same, next, at.whole, ap length front, ap length all, ap length at.rest, length-take size left, length-drop (place_of h k) file) in
+    let next : record_place h k + record_bytes h ≡ record_place h (k + 1) = omega arith in
+    let low : record_place h (k + 1) ≤ length file =
+    omega (arith, is, full, same, next, at.whole, ap length front, ap length all, ap length at.rest, length-take size left, length-drop (record_place h k) file) in
     record {
-      there = there (AtRecord k) (place_of h (k + 1)) (length file) low;
-      is = sym all ∙ front ∙ ap (take size) at.rest ∙ ap (λ n. take n (drop (place_of h k) file)) is;
+      there = there (AtRecord k) (record_place h (k + 1)) (length file) low;
+      is = sym all ∙ front ∙ ap (take size) at.rest ∙ ap (λ n. take n (drop (record_place h k) file)) is;
       whole = low;
-      rest = behind ∙ ap (drop size) at.rest ∙ ap (λ n. drop n (drop (place_of h k) file)) is ∙ drop-drop (record_bytes h) (place_of h k) file ∙ ap (λ n. drop n file) next;
+      rest = behind ∙ ap (drop size) at.rest ∙ ap (λ n. drop n (drop (record_place h k) file)) is ∙ drop-drop (record_bytes h) (record_place h k) file ∙ ap (λ n. drop n file) next;
     }
 
 -- the fault of the bytes is that of the record
@@ -142,7 +143,7 @@ one_fault file h k end notes left rest buffer at read =
 one_test : (file : List ℕ) (h : Head) (k : ℕ) (end : ℤ) (notes : ℕ) (left rest buffer : List ℕ) → StandsAt file h k end notes left → WasRead file h k rest buffer
     → first (records_tests file h k 1) ≡ record_fault h k end notes buffer
 one_test file h k end notes left rest buffer at read =
-    first-passed (truncated (AtRecord k) (place_of h (k + 1)) (length file) ∷ []) _ (alone (truncated (AtRecord k) (place_of h (k + 1)) (length file)) ∙ read.there)
+    first-passed (truncated (AtRecord k) (record_place h (k + 1)) (length file) ∷ []) _ (alone (truncated (AtRecord k) (record_place h (k + 1)) (length file)) ∙ read.there)
     ∙ alone (record_fault h k (end_before file h k) (notes_before file h k) (record_at file h k))
     ∙ one_fault file h k end notes left rest buffer at read
 
@@ -168,7 +169,7 @@ passes file h k end next notes more left rest buffer at read none is are = recor
 pub starts_off : (file : List ℕ) (h : Head) (end : ℤ) (notes : ℕ) (left : List ℕ) → h ≡ head_of file → header_fault file ≡ None → HeaderConforms file h → header_bytes h ≤ length file → left ≡ drop (header_bytes h) file
     → end ≡ pos 0 → notes ≡ 0 → HasPassed file h 0 × StandsAt file h 0 end notes left
 starts_off file h end notes left is none in_order long rest at so_far =
-    let place : header_bytes h ≡ place_of h 0 = omega arith in (
+    let place : header_bytes h ≡ record_place h 0 = omega arith in (
       record { head = is; header = none; in_order = in_order; within = omega arith; records = refl },
       record { end_is = at; notes_are = so_far; whole = omega (arith, place, long); rest = rest ∙ ap (λ n. drop n file) place },
     )

@@ -7,12 +7,14 @@ use Rattle.edf_fields.specs.Lists.{Has}
 use Rattle.edf_fields.proofs.ForCallers.{has-append}
 use Rattle.edf_header.specs.Heads.{SignalHead, Head, record_bytes}
 use Rattle.edf_stream.specs.declared.sample.Sample.{Sample}
-use Rattle.edf_stream.specs.Records.{place_of, record_at, lane_of}
-use Rattle.edf_stream.specs.Starts.{file_start, start_in, start_at, end_at}
-use Rattle.edf_stream.specs.Summaries.{channels_among}
+use Rattle.edf_stream.specs.Records.{record_place, record_at, lane_of}
+use Rattle.edf_stream.specs.Starts.{file_start}
+use Rattle.edf_stream.specs.StartsReading.{start_in, start_at, end_at}
+use Rattle.edf_header.specs.Channels.{channels_among}
 use Rattle.edf_stream.specs.Conforming.{Conforms}
-use Rattle.edf_stream.specs.Samples.{lane_samples, samples_by, samples_in, samples_before, AreRising}
+use Rattle.edf_stream.specs.SamplesReading.{lane_samples, samples_by, samples_in, samples_before, AreRising}
 use Rattle.edf_stream.proofs.FaultlessFacts.{records_follow_on}
+use Rattle.edf_stream.proofs.ReadFacts.{sound-of}
 use Rattle.edf_stream.proofs.SignalFacts.{lane_long}
 use Rattle.edf_stream.proofs.MemberFacts.{InRecord, lane-has, record-has, in-has, file-has, channel-among}
 
@@ -57,7 +59,7 @@ before-end n i s d num p lt e =
 
 -- a data record of a file that conforms lasts some time
 pub lasts : (file : List ℕ) (h : Head) → Conforms file h → pos 0 <ℤ h.duration
-lasts file h c = let some : pos 1 ≤ℤ h.duration = ((c.header).sound).standard.some_time in omega (arith, ints, some)
+lasts file h c = let some : pos 1 ≤ℤ h.duration = (c.header).standard.some_time in omega (arith, ints, some)
 
 -- each data record starts where an earlier one ends, or later
 pub starts-behind : (file : List ℕ) (h : Head) (k j : ℕ) → Conforms file h → k < j → j < h.records → end_at file h k ≤ℤ start_at file h j
@@ -76,11 +78,11 @@ starts-behind file h k (suc j) c lt within =
 pub record-long : (file : List ℕ) (h : Head) (k : ℕ) → Conforms file h → k < h.records → length (record_at file h k) ≡ record_bytes h
 record-long file h k c lt =
     let size = c.size in
-    let next : place_of h (suc k) ≤ place_of h h.records = grows (suc k) h.records (omega (arith, lt)) in
-    let one : place_of h (suc k) ≡ place_of h k + record_bytes h = omega arith in
-    omega (arith, size, next, one, length-take (record_bytes h) (drop (place_of h k) file), length-drop (place_of h k) file)
+    let next : record_place h (suc k) ≤ record_place h h.records = grows (suc k) h.records (omega (arith, lt)) in
+    let one : record_place h (suc k) ≡ record_place h k + record_bytes h = omega arith in
+    omega (arith, size, next, one, length-take (record_bytes h) (drop (record_place h k) file), length-drop (record_place h k) file)
   where
-    grows : (i j : ℕ) → i ≤ j → place_of h i ≤ place_of h j
+    grows : (i j : ℕ) → i ≤ j → record_place h i ≤ record_place h j
     grows i zero le = let e : i ≡ 0 = omega (arith, le) in rw e (omega arith)
     grows i (suc j) le =
         elim (cases_lt j i) [
@@ -94,7 +96,7 @@ pub lane-full : (file : List ℕ) (h : Head) (k s : ℕ) (signal : SignalHead) �
 lane-full file h k s signal c lt e =
     let bytes = record_at file h k in
     ap (λ o. length (option_map_or (λ (x : SignalHead). lane_of x bytes) o [])) (sym e)
-    ∙ lane_long h bytes s (c.header).sound (record-long file h k c lt)
+    ∙ lane_long h bytes s (sound-of file h c) (record-long file h k c lt)
     ∙ ap (λ o. 2 * option_map_or (λ (x : SignalHead). x.samples) o 0) e
 
 pub rising-join : (xs ys : List Sample) → AreRising xs → AreRising ys → ((x y : Sample) → Has xs x → Has ys y → y.channel ≡ x.channel → (x.instant).num <ℤ (y.instant).num) → AreRising (xs ++ ys)

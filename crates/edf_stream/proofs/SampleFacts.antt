@@ -6,9 +6,9 @@ use Rattle.edf_stream.specs.declared.instant.Instant.{Instant}
 use Rattle.edf_stream.specs.declared.grid.Grid.{Grid}
 use Rattle.edf_stream.specs.declared.sample.Sample.{Sample}
 use Rattle.edf_stream.specs.Values.{digital_value}
-use Rattle.edf_stream.specs.Samples.{instant_on, lane_samples, samples_by}
+use Rattle.edf_stream.specs.SamplesReading.{instant_on, lane_samples, samples_by}
 use Rattle.edf_stream.specs.Records.{lane_of}
-use Rattle.edf_stream.specs.Summaries.{channels_among}
+use Rattle.edf_header.specs.Channels.{channels_among}
 use Rattle.edf_header.specs.Heads.{SignalHead, is_annotations}
 
 -- two bytes from an even place on

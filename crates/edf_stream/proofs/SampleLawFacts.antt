@@ -7,17 +7,20 @@ use borrow.Author.Differences.{up, down}
 use Rattle.std.proofs.lemmas.Bool.{cases_lt}
 use Rattle.edf_fields.specs.Lists.{Has}
 use Rattle.edf_fields.proofs.ForCallers.{has-map, map-has, not-true, not-is}
-use Rattle.edf_header.specs.Channels.{IsChannel}
+use Rattle.edf_header.specs.Channels.{IsChannel, channels_among}
 use Rattle.edf_header.specs.Heads.{SignalHead, Head, is_annotations}
 use Rattle.edf_stream.specs.declared.sample.Sample.{Sample}
 use Rattle.edf_stream.specs.Conforming.{Conforms}
 use Rattle.edf_stream.specs.Laws.{SamplesAreListed, SamplesAreOfChannels, SamplesRise, OneAtAnInstant}
+use Rattle.edf_stream.specs.NotesReading.{notes_in}
 use Rattle.edf_stream.specs.Records.{record_at, lane_of, lane_at, samples_at}
-use Rattle.edf_stream.specs.Samples.{SampleValue, IsSample, samples_by, samples_before, samples_of, channel_label, labelled}
-use Rattle.edf_stream.specs.Starts.{file_start, start_at, end_at}
-use Rattle.edf_stream.specs.Summaries.{channels_among}
+use Rattle.edf_stream.specs.Samples.{SampleValue, IsSample}
+use Rattle.edf_stream.specs.SamplesReading.{samples_by, samples_before, samples_of, channel_label, labelled}
+use Rattle.edf_stream.specs.Starts.{file_start}
+use Rattle.edf_stream.specs.StartsReading.{start_at, end_at}
 use Rattle.edf_stream.specs.Values.{digital_value}
 use Rattle.edf_stream.proofs.MemberFacts.{placed, InFile, file-has, has-file, has-in, has-record, channel-among, among-channel}
+use Rattle.edf_stream.proofs.ReadFacts.{says-read, sample-at}
 use Rattle.edf_stream.proofs.RisingFacts.{scale-mono, steps-below, not-before-start, before-end, lasts, starts-behind, lane-full, before-rising}
 
 -- the list of samples, and those of all data records
@@ -60,10 +63,13 @@ listed-is file h x c i =
       signal = s.0;
       data_record = k;
       place = (found.lane).place;
+      start = start_at file h k;
+      notes = notes_in h (record_at file h k);
       channel = (signal, s.1, label, ap is_annotations (sym label) ∙ not-true (is_annotations signal.label) s.2);
       count = den ∙ sym (count-is h s.0 signal s.1);
       in_file = r.below;
       in_lane = (let w = (found.lane).within in omega (arith, full, w, den));
+      says = says-read file h c k r.below;
       instant = ap (λ (z : Sample). (z.instant).num) is ∙ ap (λ n. (pos n *ℤ start) +ℤ (pos (found.lane).place *ℤ h.duration)) (sym den);
       value_is = ap (λ (z : Sample). z.value) is ∙ ap (λ l. digital_value l (found.lane).place) (sym (lane-is file h k s.0 signal s.1));
     }
@@ -97,7 +103,7 @@ is-listed file h x c r =
       y,
       list-has file h y (has-file file h h.records k y r.in_file (has-in h bytes y here)),
       same-sample (labelled h y) x (label-is h channel.0 signal channel.1 ∙ named)
-          (ap (λ n. (pos n *ℤ start) +ℤ (pos r.place *ℤ h.duration)) count ∙ sym r.instant) count
+          (ap (λ n. (pos n *ℤ start) +ℤ (pos r.place *ℤ h.duration)) count ∙ sym (sample-at file h x r)) count
           (ap (λ l. digital_value l r.place) (sym (lane-is file h k r.signal signal there)) ∙ sym r.value_is),
     )
 
@@ -174,18 +180,18 @@ one_at_an_instant file h c x y p q label same =
     let one = p.channel in
     let two = q.channel in
     let other : IsChannel h.signals q.signal x.label = (two.0, two.1, two.2 ∙ sym label, ap is_annotations label ∙ two.3) in
-    let signal : p.signal ≡ q.signal = ((c.header).sound).standard.distinct p.signal q.signal x.label (one.0, one.1, one.2, one.3) other in
+    let signal : p.signal ≡ q.signal = ((c.header).standard).distinct p.signal q.signal x.label (one.0, one.1, one.2, one.3) other in
     let den : (y.instant).den ≡ (x.instant).den = q.count ∙ ap (samples_at h) (sym signal) ∙ sym p.count in
     let n = (x.instant).den in
     let start : ℕ → ℤ = λ k. pos n *ℤ (file_start h +ℤ start_at file h k) in
     let num : (x.instant).num ≡ (y.instant).num =
     cancel n (x.instant).num (y.instant).num (omega (arith, p.in_lane)) (ap (λ m. (x.instant).num *ℤ pos m) (sym den) ∙ same) in
-    let at : (y.instant).num ≡ start q.data_record +ℤ (pos q.place *ℤ h.duration) = q.instant ∙ ap (λ m. (pos m *ℤ (file_start h +ℤ start_at file h q.data_record)) +ℤ (pos q.place *ℤ h.duration)) den in
+    let at : (y.instant).num ≡ start q.data_record +ℤ (pos q.place *ℤ h.duration) = sample-at file h y q ∙ ap (λ m. (pos m *ℤ (file_start h +ℤ start_at file h q.data_record)) +ℤ (pos q.place *ℤ h.duration)) den in
     let few : q.place < n = subst (λ m. q.place < m) den q.in_lane in
-    let k : p.data_record ≡ q.data_record = one-record file h p.data_record q.data_record n p.place q.place (x.instant).num (y.instant).num c p.in_file q.in_file p.in_lane few p.instant at num in
+    let k : p.data_record ≡ q.data_record = one-record file h p.data_record q.data_record n p.place q.place (x.instant).num (y.instant).num c p.in_file q.in_file p.in_lane few (sample-at file h x p) at num in
     let place : p.place ≡ q.place =
     one-place p.place q.place h.duration (start q.data_record) (lasts file h c)
-    (ap (λ m. start m +ℤ (pos p.place *ℤ h.duration)) (sym k) ∙ sym p.instant ∙ num ∙ at) in
+    (ap (λ m. start m +ℤ (pos p.place *ℤ h.duration)) (sym k) ∙ sym (sample-at file h x p) ∙ num ∙ at) in
     let value : x.value ≡ y.value =
     p.value_is ∙ ap (λ m. digital_value (lane_at file h m p.signal) p.place) k
     ∙ ap (λ m. digital_value (lane_at file h q.data_record m) p.place) signal

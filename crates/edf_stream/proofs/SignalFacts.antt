@@ -1,17 +1,18 @@
 -- Where the lanes of signals stand in a data record.
-use Rattle.std.proofs.Common.{◌≡◌, ℕ, zero, suc, ◌+◌, ◌*◌, ◌≤◌, ◌<◌, ◌++◌, ℤ, Ok, Option, None, Some, IfSome, get_or, subst, sym, ◌∙◌, Bool, true, false, cond, List, [], ◌∷◌, length, drop, map, filter, slice_get, refl, ap, arith, length-take, length-drop}
+use Rattle.std.proofs.Common.{◌≡◌, ℕ, zero, suc, ◌+◌, ◌*◌, ◌≤◌, ◌<◌, ◌++◌, ℤ, Ok, Option, None, Some, IfSome, get_or, subst, ◌∙◌, Bool, true, false, cond, List, [], ◌∷◌, length, drop, map, filter, slice_get, refl, ap, arith, length-take, length-drop}
 use Rattle.std.specs.Option.{option_map_or}
 use Rattle.edf_fields.specs.Tests.{first}
 use Rattle.edf_header.specs.declared.lane_place.LanePlace.{LanePlace}
 use Rattle.edf_tal.specs.Reading.{items_of}
-use Rattle.edf_tal.specs.Tals.{time_tal}
+use Rattle.edf_tal.specs.Timekeeping.{time_tal}
 use Rattle.edf_tal.specs.Views.{start_of}
 use Rattle.edf_header.specs.Heads.{SignalHead, Head, AreSideBySide, samples_together, record_bytes, is_annotations}
 use Rattle.edf_header.specs.Lanes.{place_of, annotation_places}
 use Rattle.edf_header.specs.Sound.{IsSound}
-use Rattle.edf_stream.specs.Records.{lane_of, lane_in, lane_bytes, annotation_lanes}
+use Rattle.edf_stream.specs.Records.{lane_of, lane_in, annotation_lanes}
+use Rattle.edf_stream.specs.RecordsReading.{lane_bytes}
 use Rattle.edf_stream.specs.Faults.{cause_of}
-use Rattle.edf_stream.specs.Notes.{notes_of_items}
+use Rattle.edf_stream.specs.NotesReading.{notes_of_items}
 use Rattle.edf_stream.specs.Views.{placed_lane, placed_lanes, IsTimedAlone}
 
 long : (signals : List SignalHead) (before s : ℕ) (bytes : List ℕ) → AreSideBySide before signals → before + 2 * samples_together signals ≤ length bytes
@@ -24,7 +25,7 @@ long (signal ∷ signals) before (suc s) bytes beside le = long signals (before 
 
 -- a lane in the bytes of a whole data record has two bytes for each sample
 pub lane_long : (h : Head) (bytes : List ℕ) (s : ℕ) → IsSound h → length bytes ≡ record_bytes h → length (lane_in h bytes s) ≡ lane_bytes h s
-lane_long h bytes s sound e = long h.signals 0 s bytes (sound.standard).offsets (omega (arith, e))
+lane_long h bytes s sound e = long h.signals 0 s bytes sound.offsets (omega (arith, e))
 
 -- the lanes at the places of the annotation signals are those of these signals
 pub lanes_placed : (signals : List SignalHead) (bytes : List ℕ) → placed_lanes (annotation_places signals) bytes ≡ annotation_lanes signals bytes

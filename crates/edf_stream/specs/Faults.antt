@@ -11,12 +11,13 @@ use Rattle.edf_header.specs.declared.fault.Cause.TheVariants.{BadTal, NoTimekeep
 use Rattle.edf_header.specs.declared.kind.Kind.{Kind}
 use Rattle.edf_header.specs.declared.kind.Kind.TheVariants.{Contiguous, Interrupted}
 use Rattle.edf_header.specs.Faults.{fault, fault_unless, truncated, header_fault}
-use Rattle.edf_header.specs.Heads.{Head, head_of}
+use Rattle.edf_header.specs.Heads.{Head}
+use Rattle.edf_header.specs.HeadsReading.{head_of}
 use Rattle.edf_tal.specs.declared.start.StartCause.{StartCause}
 use Rattle.edf_tal.specs.Reading.{Item, items_of}
-use Rattle.edf_stream.specs.Records.{place_of, record_at, annotation_lanes}
-use Rattle.edf_stream.specs.Notes.{notes_in, notes_before}
-use Rattle.edf_stream.specs.Starts.{said_start, start_in, end_before}
+use Rattle.edf_stream.specs.Records.{record_place, record_at, annotation_lanes}
+use Rattle.edf_stream.specs.NotesReading.{notes_in, notes_before}
+use Rattle.edf_stream.specs.StartsReading.{said_start, start_in, end_before}
 
 -- the cause among the items of a lane; there is one at most, and it is the last item
 abbrev pub cause_of : List Item → Option TalCause
@@ -81,13 +82,13 @@ record_fault h k ended notes bytes = first (record_faults h k ended notes bytes)
 abbrev pub records_tests : List ℕ → Head → ℕ → ℕ → List (Option Fault)
 records_tests file h k zero = []
 records_tests file h k (suc m) =
-    truncated (AtRecord k) (place_of h (k + 1)) (length file)
+    truncated (AtRecord k) (record_place h (k + 1)) (length file)
     ∷ record_fault h k (end_before file h k) (notes_before file h k) (record_at file h k)
     ∷ records_tests file h (k + 1) m
 
 -- no byte stands behind the last data record
 unfoldable pub trailing_fault : List ℕ → Head → Option Fault
-trailing_fault file h = fault_unless (nat_le (length file) (place_of h h.records)) AtEnd TrailingBytes
+trailing_fault file h = fault_unless (nat_le (length file) (record_place h h.records)) AtEnd TrailingBytes
 
 -- the first fault of what stands behind the header
 unfoldable pub body_fault : List ℕ → Head → Option Fault

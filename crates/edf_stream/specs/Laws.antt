@@ -1,23 +1,46 @@
 -- What follows from the definitions.
-use Rattle.std.specs.Prelude.{◌≡◌, ◌↔◌, ℕ, pos, ◌*◌, ◌<◌, ◌*ℤ◌, ◌^◌, List, length, map, Some, slice_get, unsigned_abs}
+use Rattle.std.specs.Prelude.{◌≡◌, ◌↔◌, ℕ, suc, ℤ, pos, ◌*◌, ◌<◌, ◌≤ℤ◌, ◌*ℤ◌, ◌^◌, List, length, map, Some, None, slice_get, unsigned_abs}
 use Rattle.edf_header.specs.declared.fault.Fault.{Fault}
 use Rattle.edf_header.specs.Faults.{header_fault}
 use Rattle.edf_fields.specs.Lists.{Has}
 use Rattle.edf_header.specs.Heads.{SignalHead, Head, start_second, samples_together}
 use Rattle.edf_stream.specs.declared.sample.Sample.{Sample}
 use Rattle.edf_stream.specs.Records.{record_at}
-use Rattle.edf_stream.specs.Notes.{NoteValue, SaysNotes, notes_in, notes_before, notes_of}
-use Rattle.edf_stream.specs.Instants.{IsNotBefore, IsSame, IsSmall, IsSecondOf}
-use Rattle.edf_stream.specs.Samples.{SampleValue, IsSample, samples_of, labelled, AreRising}
-use Rattle.edf_stream.specs.Summaries.{channels_among}
+use Rattle.edf_stream.specs.Notes.{NoteValue, SaysRecord, HasNotes, moved_by}
+use Rattle.edf_stream.specs.NotesReading.{notes_in, notes_before, notes_of}
+use Rattle.edf_stream.specs.Starts.{file_start}
+use Rattle.edf_stream.specs.StartsReading.{start_at, end_at}
+use Rattle.edf_stream.specs.Instants.{IsSame}
+use Rattle.edf_stream.specs.InstantOrder.{IsNotBefore, IsSmall, IsSecondOf}
+use Rattle.edf_stream.specs.Samples.{SampleValue, IsSample}
+use Rattle.edf_stream.specs.SamplesReading.{samples_of, labelled, AreRising}
+use Rattle.edf_header.specs.Channels.{channels_among}
 use Rattle.edf_stream.specs.Faults.{body_fault, file_fault}
 use Rattle.edf_stream.specs.Conforming.{Conforms}
 use Rattle.edf_stream.specs.Readers.{Reader, StandsIn}
 
--- each data record of a file that conforms says its annotations, and no others
+-- a file conforms exactly where it has no first fault
+abbrev pub ConformingIsFaultless : Type 0
+ConformingIsFaultless = (file : List ℕ) → (file_fault file ≡ None) ↔ ((h : Head) × Conforms file h)
+
+-- in a file that conforms no data record starts before the one before it ends
+abbrev pub RecordsFollowOn : Type 0
+RecordsFollowOn = (file : List ℕ) (h : Head) → Conforms file h → (k : ℕ) → suc k < h.records → end_at file h k ≤ℤ start_at file h (suc k)
+
+-- each data record of a file that conforms says its start and its annotations, and no others
 abbrev pub NotesAreSaid : Type 0
-NotesAreSaid = (file : List ℕ) (h : Head) → Conforms file h → (k : ℕ) → k < h.records → (notes : List NoteValue) →
-    SaysNotes h (record_at file h k) notes ↔ (notes ≡ notes_in h (record_at file h k))
+NotesAreSaid = (file : List ℕ) (h : Head) → Conforms file h → (k : ℕ) → k < h.records → (start : ℤ) (notes : List NoteValue) →
+    SaysRecord h (record_at file h k) start notes ↔ ((start ≡ start_at file h k) × (notes ≡ notes_in h (record_at file h k)))
+
+-- a file that conforms has annotations, no others, and they are those that are read of it
+pub record HasTheseNotes (file : List ℕ) (h : Head) : Type 0 where
+  pub notes : List NoteValue
+  pub there : HasNotes file h notes
+  pub only : (others : List NoteValue) → HasNotes file h others → others ≡ notes
+  pub read : notes_of file h ≡ map (moved_by (file_start h)) notes
+
+abbrev pub NotesAreRead : Type 0
+NotesAreRead = (file : List ℕ) (h : Head) → Conforms file h → HasTheseNotes file h
 
 -- a fault of the header is the first fault of the file
 abbrev pub HeaderFaultIsFirst : Type 0

@@ -1,7 +1,10 @@
 pub mod Records
+pub mod RecordsReading
 pub mod Notes
+pub mod NotesReading
 pub mod Texts
 pub mod Starts
+pub mod StartsReading
 pub mod Faults
 pub mod Conforming
 pub mod Readers
@@ -11,5 +14,7 @@ pub mod Laws
 pub mod Steps
 pub mod Values
 pub mod Instants
+pub mod InstantOrder
 pub mod Samples
+pub mod SamplesReading
 pub mod Meanings

@@ -8,12 +8,13 @@ use Rattle.edf_header.specs.declared.stop.Stop.{Stop}
 use Rattle.edf_header.specs.declared.stop.Stop.TheVariants as stops
 use Rattle.edf_header.specs.Conforming.{HeaderConforms}
 use Rattle.edf_header.specs.Faults.{header_fault}
-use Rattle.edf_header.specs.Heads.{Head, head_of}
+use Rattle.edf_header.specs.Heads.{Head}
+use Rattle.edf_header.specs.HeadsReading.{head_of}
 use Rattle.edf_stream.specs.declared.status.Status.{Status}
 use Rattle.edf_stream.specs.declared.status.Status.TheVariants.{Begun, Current, Ended, Stopped}
-use Rattle.edf_stream.specs.Records.{place_of, record_at}
-use Rattle.edf_stream.specs.Starts.{end_before}
-use Rattle.edf_stream.specs.Notes.{notes_before}
+use Rattle.edf_stream.specs.Records.{record_place, record_at}
+use Rattle.edf_stream.specs.StartsReading.{end_before}
+use Rattle.edf_stream.specs.NotesReading.{notes_before}
 use Rattle.edf_stream.specs.Faults.{records_tests, body_fault}
 use Rattle.edf_stream.specs.Conforming.{Conforms}
 
@@ -63,8 +64,8 @@ pub record HasPassed (file : List ℕ) (h : Head) (k : ℕ) : Type 0 where
 pub record StandsAt (file : List ℕ) (h : Head) (k : ℕ) (ended : ℤ) (notes : ℕ) (left : List ℕ) : Type 0 where
   pub end_is : ended ≡ end_before file h k
   pub notes_are : notes ≡ notes_before file h k
-  pub whole : place_of h k ≤ length file
-  pub rest : left ≡ drop (place_of h k) file
+  pub whole : record_place h k ≤ length file
+  pub rest : left ≡ drop (record_place h k) file
 
 -- the reader has read the file up to data record r.read, and the source has left the rest of it
 pub record StandsIn (r : Reader) (left file : List ℕ) : Type 0 where

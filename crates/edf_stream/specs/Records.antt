@@ -5,12 +5,12 @@ use Rattle.edf_fields.specs.Parts.{part}
 use Rattle.edf_header.specs.Heads.{SignalHead, Head, header_bytes, record_bytes, is_annotations}
 
 -- where data record k begins in the file, and where the one before it ends
-abbrev pub place_of : Head → ℕ → ℕ
-place_of h k = header_bytes h + k * record_bytes h
+abbrev pub record_place : Head → ℕ → ℕ
+record_place h k = header_bytes h + k * record_bytes h
 
 -- data record k
 abbrev pub record_at : List ℕ → Head → ℕ → List ℕ
-record_at file h k = part file (place_of h k) (record_bytes h)
+record_at file h k = part file (record_place h k) (record_bytes h)
 
 -- the lane of a signal in the bytes of a data record: its samples, two bytes each, behind those of the signals before it
 abbrev pub lane_of : SignalHead → List ℕ → List ℕ
@@ -27,10 +27,6 @@ lane_in h bytes s = numbered_lane h.signals bytes s
 -- how many samples signal s has in a data record
 abbrev pub samples_at : Head → ℕ → ℕ
 samples_at h s = option_map_or (λ signal. signal.samples) (slice_get h.signals s) 0
-
--- how many bytes the lane of signal s has: two for each sample
-abbrev pub lane_bytes : Head → ℕ → ℕ
-lane_bytes h s = 2 * samples_at h s
 
 -- the lane of signal s in data record k
 abbrev pub lane_at : List ℕ → Head → ℕ → ℕ → List ℕ

@@ -1,14 +1,12 @@
 -- How much a file holds.
-use Rattle.std.specs.Prelude.{◌≡◌, ℕ, ◌*◌, not, List, [], filter, length, None}
-use Rattle.edf_header.specs.Heads.{SignalHead, Head, head_of, is_annotations, samples_together}
+use Rattle.std.specs.Prelude.{◌≡◌, ℕ, ◌*◌, List, [], length, None}
+use Rattle.edf_header.specs.Channels.{channels_among}
+use Rattle.edf_header.specs.Heads.{Head, samples_together}
+use Rattle.edf_header.specs.HeadsReading.{head_of}
 use Rattle.edf_stream.specs.declared.conform.Summary.{Summary}
-use Rattle.edf_stream.specs.Notes.{notes_before}
+use Rattle.edf_stream.specs.NotesReading.{notes_before}
 use Rattle.edf_stream.specs.Faults.{file_fault}
 use Rattle.edf_stream.specs.Conforming.{Conforms}
-
--- the channels among the signals: those that hold no annotations
-abbrev pub channels_among : List SignalHead → List SignalHead
-channels_among signals = filter (λ signal. not (is_annotations signal.label)) signals
 
 -- data records, channels, samples of all channels, and annotations of the file with this header
 pub record IsSummary (file : List ℕ) (h : Head) (summary : Summary) : Type 0 where

@@ -10,7 +10,7 @@ use Rattle.edf_header.specs.declared.stop.Stop.TheVariants as stops
 use Rattle.edf_stream.specs.declared.status.Status.{Status}
 use Rattle.edf_stream.specs.declared.status.Status.TheVariants.{Begun, Current, Ended, Stopped}
 use Rattle.edf_stream.specs.Readers.{is_current}
-use Rattle.edf_stream.specs.Starts.{start_by_lanes, start_in}
+use Rattle.edf_stream.specs.StartsReading.{start_by_lanes, start_in}
 use Rattle.edf_tal.specs.Views.{items_left, texts_left}
 use Rattle.edf_stream.specs.declared.lanes.Said.{Said}
 use Rattle.edf_stream.specs.declared.annotations.LaneNotes.{LaneNotes}
@@ -18,7 +18,8 @@ use Rattle.edf_stream.specs.declared.annotations.Annotations.{Annotations}
 use Rattle.edf_stream.specs.declared.note.NoteRef.{NoteRef}
 use Rattle.edf_stream.specs.declared.notes.Note.{Note}
 use Rattle.edf_stream.specs.declared.note.TalNotes.{TalNotes}
-use Rattle.edf_stream.specs.Notes.{NoteValue, notes_of_items, notes_of_lanes}
+use Rattle.edf_stream.specs.Notes.{NoteValue}
+use Rattle.edf_stream.specs.NotesReading.{notes_of_items, notes_of_lanes}
 use Rattle.edf_stream.specs.Faults.{cause_of_lanes}
 
 -- the start that lanes say, with these lanes behind them

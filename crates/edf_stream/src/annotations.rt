@@ -3,7 +3,8 @@
 
 ghost use Rattle.std.specs.Prelude.{◌≡◌, ◌∷◌, ◌++◌, ◌<◌, [], length, Some, IfSome, MatchOption};
 ghost use Rattle.edf_tal.specs.Views.{tal_view, items_left};
-ghost use Rattle.edf_stream.specs.Notes.{notes_of_tal, notes_of_lane, notes_of_lanes, notes_in};
+ghost use Rattle.edf_stream.specs.Notes.{notes_of_tal};
+ghost use Rattle.edf_stream.specs.NotesReading.{notes_of_lane, notes_of_lanes, notes_in};
 ghost use Rattle.edf_stream.specs.Views.{note_view, notes_of_said, lane_notes_left, notes_left, placed_lanes};
 
 use crate::lanes::placed_lane;
@@ -27,7 +28,8 @@ impl<'a> TalNotes<'a> {
 
     /// The next one.
     fn next_note(&mut self) -> Option<NoteRef<'a>>
-        ensures { MatchOption result (notes_of_said (Some self.old) ≡ []) (λ note. notes_of_said (Some self.old) ≡ note_view note ∷ notes_of_said (Some self.new)) }
+        ensures { MatchOption result (notes_of_said (Some self.old) ≡ []) (λ note. notes_of_said (Some self.old)
+            ≡ note_view note ∷ notes_of_said (Some self.new)) }
     {
         let text = self.texts.next()?;
         Some(NoteRef {
@@ -71,7 +73,8 @@ impl<'a> LaneNotes<'a> {
 
     /// The next one.
     fn next_note(&mut self) -> Option<NoteRef<'a>>
-        ensures { MatchOption result ((lane_notes_left self.old ≡ []) × (lane_notes_left self.new ≡ [])) (λ note. lane_notes_left self.old ≡ note_view note ∷ lane_notes_left self.new) }
+        ensures { MatchOption result ((lane_notes_left self.old ≡ []) × (lane_notes_left self.new ≡ []))
+            (λ note. lane_notes_left self.old ≡ note_view note ∷ lane_notes_left self.new) }
     {
         loop {
             if let Some(note) = self.next_of_tal() {
@@ -108,7 +111,7 @@ impl<'a> Annotations<'a> {
     }
 
     /// Those of the data record of these bytes: all texts but the first.
-    #[tactic(auto, unfolding(crate::specs::Notes::notes_in), using(crate::proofs::SignalFacts::lanes_placed))]
+    #[tactic(auto, unfolding(crate::specs::NotesReading::notes_in), using(crate::proofs::SignalFacts::lanes_placed))]
     pub(crate) fn new(header: &'a Header, bytes: &'a [u8]) -> Annotations<'a>
         ensures { notes_left result ≡ notes_in header.now bytes.now }
     {
@@ -124,7 +127,8 @@ impl<'a> Annotations<'a> {
     fn next_lane(&mut self) -> Option<LaneNotes<'a>>
         ensures lane { MatchOption result
             ((placed_lanes self.old.places.now self.old.bytes.now ≡ []) × (placed_lanes self.new.places.now self.new.bytes.now ≡ []))
-            (λ lane. notes_of_lanes (placed_lanes self.old.places.now self.old.bytes.now) ≡ lane_notes_left lane ++ notes_of_lanes (placed_lanes self.new.places.now self.new.bytes.now)) }
+            (λ lane. notes_of_lanes (placed_lanes self.old.places.now self.old.bytes.now) ≡ lane_notes_left lane
+            ++ notes_of_lanes (placed_lanes self.new.places.now self.new.bytes.now)) }
         ensures here { self.new.lane ≡ self.old.lane }
         ensures fewer { IfSome result (λ _. length self.new.places.now < length self.old.places.now) }
     {
@@ -139,7 +143,8 @@ impl<'a> Annotations<'a> {
 
     /// The next one.
     fn next_note(&mut self) -> Option<NoteRef<'a>>
-        ensures { MatchOption result ((notes_left self.old ≡ []) × (notes_left self.new ≡ [])) (λ note. notes_left self.old ≡ note_view note ∷ notes_left self.new) }
+        ensures { MatchOption result ((notes_left self.old ≡ []) × (notes_left self.new ≡ []))
+            (λ note. notes_left self.old ≡ note_view note ∷ notes_left self.new) }
     {
         loop {
             if let Some(note) = self.lane.next_note() {

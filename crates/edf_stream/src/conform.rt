@@ -5,7 +5,8 @@ ghost use Rattle.edf_fields.specs.Sources.{Rises};
 ghost use Rattle.edf_header.specs.Heads.{samples_together};
 ghost use Rattle.edf_header.specs.Stops.{Stops};
 ghost use Rattle.edf_stream.specs.Faults.{file_fault};
-ghost use Rattle.edf_stream.specs.Summaries.{channels_among, IsSummed};
+ghost use Rattle.edf_stream.specs.Summaries.{IsSummed};
+ghost use Rattle.edf_header.specs.Channels.{channels_among};
 
 use crate::reader::FileReader;
 use edf_fields::source::Source;
@@ -94,7 +95,8 @@ impl FileReader {
 pub fn conform<S: Source>(alloc: Global, source: &mut S) -> Result<Summary, Stop>
     ensures failures { OnOk result (S.failures source.new ≡ S.failures source.old) }
     ensures conforms { IfOk result (λ summary. IsTrue (S.is_honest source.old) → IsSummed (S.left source.old) (S.left source.new) summary) }
-    ensures stop { IfErr result (Stops (λ f. IsTrue (S.is_honest source.old) → file_fault (S.left source.old) ≡ Some f) (Rises (S.failures source.old) (S.failures source.new)) (S.failures source.new ≡ S.failures source.old)) }
+    ensures stop { IfErr result (Stops (λ f. IsTrue (S.is_honest source.old) → file_fault (S.left source.old) ≡ Some f) (Rises
+        (S.failures source.old) (S.failures source.new)) (S.failures source.new ≡ S.failures source.old)) }
 {
     let mut reader = match FileReader::begin(alloc, source) {
         Ok(reader) => reader,

@@ -1,8 +1,8 @@
 //! Where data records and the samples of their lanes stand in time, in exact numerators.
 
 ghost use Rattle.std.specs.Prelude.{◌≡◌, ◌<◌, ◌≤◌, ◌*◌, ◌^◌, ◌*ℤ◌, ◌+ℤ◌, pos, unsigned_abs};
-ghost use Rattle.edf_stream.specs.Instants.{IsSmall};
-ghost use Rattle.edf_stream.specs.Samples.{instant_on};
+ghost use Rattle.edf_stream.specs.InstantOrder.{IsSmall};
+ghost use Rattle.edf_stream.specs.SamplesReading.{instant_on};
 ghost use Rattle.edf_stream.specs.Starts.{file_start};
 
 use crate::instant::Instant;
@@ -28,22 +28,22 @@ pub fn file_start_ps(header: &Header) -> i128
 
 /// The time of a data record: where it starts, in picoseconds after 1970-01-01 00:00:00, and how long it
 /// lasts.
-#[derive(Debug, Clone, Copy)]
-pub(crate) struct Stretch {
+#[derive(Clone, Copy)]
+pub(crate) struct RecordTime {
     pub start_ps: i128,
     pub duration_ps: i128,
 }
 
-impl Stretch {
+impl RecordTime {
     /// That of a data record that starts so long after the start of the file.
-    pub(crate) fn new(header: &Header, start_ps: i128) -> Stretch
+    pub(crate) fn new(header: &Header, start_ps: i128) -> RecordTime
         requires { unsigned_abs start_ps < 2 ^ 72 }
         ensures start { result.start_ps ≡ file_start header.now +ℤ start_ps }
         ensures duration { result.duration_ps ≡ header.now.duration }
         ensures near { unsigned_abs result.start_ps < 2 ^ 79 }
         ensures short { unsigned_abs result.duration_ps < 2 ^ 68 }
     {
-        Stretch {
+        RecordTime {
             start_ps: file_start_ps(header) + start_ps,
             duration_ps: header.duration_ps(),
         }
@@ -53,7 +53,7 @@ impl Stretch {
 /// Where the samples of a lane stand: the first at the numerator `start`, each further one `step` behind
 /// the one before, in units of 1 / `den` picoseconds. `den` is the number of samples of the lane, and so
 /// `step` the duration of a data record.
-#[derive(Debug, Clone, Copy)]
+#[derive(Clone, Copy)]
 pub(crate) struct Grid {
     pub start: i128,
     pub step: i128,
@@ -82,17 +82,17 @@ fn scaled(ps: i128, den: u32) -> i128
 
 impl Grid {
     /// The grid of a lane with `den` samples in a data record.
-    pub(crate) fn new(stretch: Stretch, den: u32) -> Grid
-        requires ps { unsigned_abs stretch.start_ps < 2 ^ 79 }
+    pub(crate) fn new(time: RecordTime, den: u32) -> Grid
+        requires ps { unsigned_abs time.start_ps < 2 ^ 79 }
         requires den { den ≤ 2 ^ 23 }
-        ensures start { result.start ≡ pos den *ℤ stretch.start_ps }
-        ensures step { result.step ≡ stretch.duration_ps }
+        ensures start { result.start ≡ pos den *ℤ time.start_ps }
+        ensures step { result.step ≡ time.duration_ps }
         ensures den { result.den ≡ den }
         ensures near { unsigned_abs result.start < 2 ^ 102 }
     {
         Grid {
-            start: scaled(stretch.start_ps, den),
-            step: stretch.duration_ps,
+            start: scaled(time.start_ps, den),
+            step: time.duration_ps,
             den,
         }
     }

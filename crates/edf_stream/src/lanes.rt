@@ -4,9 +4,10 @@ ghost use Rattle.std.specs.Prelude.{◌≡◌, ◌+◌, ◌-◌, ◌*◌, ◌≤
 ghost use Rattle.edf_header.specs.Heads.{record_bytes};
 ghost use Rattle.edf_tal.specs.Views.{tal_view, items_left, start_of};
 ghost use Rattle.edf_tal.specs.Reading.{items_of};
-ghost use Rattle.edf_stream.specs.Records.{lane_of as lane_of_signal, numbered_lane, lane_in, lane_bytes, annotation_lanes};
-ghost use Rattle.edf_stream.specs.Notes.{notes_of_items, notes_of_lane, notes_of_lanes};
-ghost use Rattle.edf_stream.specs.Starts.{start_by_lanes};
+ghost use Rattle.edf_stream.specs.Records.{lane_of as lane_of_signal, numbered_lane, lane_in, annotation_lanes};
+ghost use Rattle.edf_stream.specs.RecordsReading.{lane_bytes};
+ghost use Rattle.edf_stream.specs.NotesReading.{notes_of_items, notes_of_lane, notes_of_lanes};
+ghost use Rattle.edf_stream.specs.StartsReading.{start_by_lanes};
 ghost use Rattle.edf_stream.specs.Faults.{cause_of, cause_of_lanes};
 ghost use Rattle.edf_stream.specs.Views.{texts_said, placed_lane, placed_lanes, IsSaidBy, IsTimedAlone};
 
@@ -80,7 +81,7 @@ fn rest_texts(tals: Tals<'_>, count: u32) -> Result<u32, TalCause>
 }
 
 /// What annotation lanes say together.
-#[derive(Debug, Clone, Copy)]
+#[derive(Clone, Copy)]
 pub(crate) struct Said {
     /// Where the data record starts, by the first of them.
     pub start: Result<i128, StartCause>,
@@ -91,7 +92,8 @@ pub(crate) struct Said {
 /// What one lane says, or why it is no list of TALs, by its TALs.
 fn said_by_tals(lane: &[u8]) -> Result<Said, TalCause>
     ensures said { MatchResult result
-        (λ said. (cause_of (items_of lane.now) ≡ None) × (said.start ≡ start_of (items_of lane.now)) × (said.texts ≡ min (length (notes_of_lane lane.now)) (2 ^ 32 - 1)))
+        (λ said. (cause_of (items_of lane.now) ≡ None) × (said.start ≡ start_of (items_of lane.now))
+        × (said.texts ≡ min (length (notes_of_lane lane.now)) (2 ^ 32 - 1)))
         (λ cause. cause_of (items_of lane.now) ≡ Some cause) }
     ensures small { IfOk result (λ said. IfOk said.start (λ v. unsigned_abs v < 10 ^ 21)) }
 {
@@ -110,7 +112,8 @@ fn said_by_tals(lane: &[u8]) -> Result<Said, TalCause>
 /// What one lane says, or why it is no list of TALs. In most lanes the TAL that keeps the time stands alone.
 fn said_by_lane(lane: &[u8]) -> Result<Said, TalCause>
     ensures said { MatchResult result
-        (λ said. (cause_of (items_of lane.now) ≡ None) × (said.start ≡ start_of (items_of lane.now)) × (said.texts ≡ min (length (notes_of_lane lane.now)) (2 ^ 32 - 1)))
+        (λ said. (cause_of (items_of lane.now) ≡ None) × (said.start ≡ start_of (items_of lane.now))
+        × (said.texts ≡ min (length (notes_of_lane lane.now)) (2 ^ 32 - 1)))
         (λ cause. cause_of (items_of lane.now) ≡ Some cause) }
     ensures small { IfOk result (λ said. IfOk said.start (λ v. unsigned_abs v < 10 ^ 21)) }
 {

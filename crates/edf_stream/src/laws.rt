@@ -1,7 +1,6 @@
 //! Laws of the definitions, each the contract of a function that does nothing.
 
-ghost use Rattle.edf_stream.specs.Conforming.{ConformingIsFaultless, RecordsFollowOn};
-ghost use Rattle.edf_stream.specs.Laws.{NotesAreSaid, HeaderFaultIsFirst, BodyFaultIsFirst, SamplesAreListed, SamplesAreOfChannels, SamplesRise, OneAtAnInstant, InstantsFit, StartIsOfLeast, SamplesAreCounted, NotesAreCounted};
+ghost use Rattle.edf_stream.specs.Laws.{ConformingIsFaultless, RecordsFollowOn, NotesAreSaid, NotesAreRead, HeaderFaultIsFirst, BodyFaultIsFirst, SamplesAreListed, SamplesAreOfChannels, SamplesRise, OneAtAnInstant, InstantsFit, StartIsOfLeast, SamplesAreCounted, NotesAreCounted};
 
 /// A file conforms, in words, exactly where it has no first fault.
 pub fn conforming_is_being_faultless()
@@ -13,9 +12,11 @@ pub fn data_records_follow_on()
     ensures { RecordsFollowOn }
 {}
 
-/// Each data record of a file that conforms says its annotations, in words, and no others.
+/// Each data record of a file that conforms says its start and its annotations, in words, and no others; and so
+/// such a file has annotations, and they are those that are read.
 pub fn annotations_are_said()
-    ensures { NotesAreSaid }
+    ensures said { NotesAreSaid }
+    ensures read { NotesAreRead }
 {}
 
 /// What `begin` and `next` answer as a fault is the first one of the file.

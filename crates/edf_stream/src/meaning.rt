@@ -4,17 +4,17 @@
 ghost use Rattle.std.specs.Prelude.{◌≡◌, ℕ, ◌++◌, [], List, map, Some, IfOk, IfErr, OnOk, IsTrue};
 ghost use Rattle.std.specs.List.{All};
 ghost use Rattle.edf_fields.specs.Sources.{Rises};
-ghost use Rattle.edf_header.specs.Heads.{head_of};
+ghost use Rattle.edf_header.specs.HeadsReading.{head_of};
 ghost use Rattle.edf_header.specs.Stops.{Stops};
 ghost use Rattle.edf_stream.specs.Faults.{body_fault, file_fault};
-ghost use Rattle.edf_stream.specs.Instants.{IsSmall};
+ghost use Rattle.edf_stream.specs.InstantOrder.{IsSmall};
 ghost use Rattle.edf_stream.specs.Meanings.{IsMeaning, IsWhole};
-ghost use Rattle.edf_stream.specs.Notes.{moved_notes_in};
+ghost use Rattle.edf_stream.specs.NotesReading.{moved_notes_in};
 ghost use Rattle.edf_stream.specs.Readers.{HasBegun, is_current, StandsIn};
-ghost use Rattle.edf_stream.specs.Samples.{samples_in};
+ghost use Rattle.edf_stream.specs.SamplesReading.{samples_in};
 ghost use Rattle.edf_stream.specs.Views.{note_value, IsNear};
 
-use crate::grid::{Stretch, file_start_ps};
+use crate::grid::{RecordTime, file_start_ps};
 use crate::notes::{Note, push_notes};
 use crate::reader::FileReader;
 use crate::sample::{Sample, push_samples};
@@ -51,7 +51,8 @@ impl Meaning {
         requires small { All (λ x. IsSmall x.instant) self.old.samples.items }
         requires near { All IsNear self.old.notes.items }
         ensures samples { OnOk result (self.new.samples.items ≡ self.old.samples.items ++ samples_in reader.now.head reader.now.current) }
-        ensures notes { OnOk result (map note_value self.new.notes.items ≡ map note_value self.old.notes.items ++ moved_notes_in reader.now.head reader.now.current) }
+        ensures notes { OnOk result (map note_value self.new.notes.items ≡ map note_value self.old.notes.items
+            ++ moved_notes_in reader.now.head reader.now.current) }
         ensures small { OnOk result (All (λ x. IsSmall x.instant) self.new.samples.items) }
         ensures near { OnOk result (All IsNear self.new.notes.items) }
     {
@@ -62,19 +63,19 @@ impl Meaning {
 
 impl FileReader {
     /// Puts the samples of the data record at hand behind `samples`.
-    #[tactic(auto, unfolding(crate::specs::Samples::samples_in))]
+    #[tactic(auto, unfolding(crate::specs::SamplesReading::samples_in))]
     fn push_samples(&self, samples: &mut Vec<Sample>) -> Result<(), AllocError>
         requires current { IsTrue (is_current self.now.status) }
         requires small { All (λ x. IsSmall x.instant) samples.old.items }
         ensures value { OnOk result (samples.new.items ≡ samples.old.items ++ samples_in self.now.head self.now.current) }
         ensures small { OnOk result (All (λ x. IsSmall x.instant) samples.new.items) }
     {
-        let stretch = Stretch::new(&self.header, self.start_ps());
-        push_samples(samples, &self.header, stretch, &self.buffer)
+        let time = RecordTime::new(&self.header, self.start_ps());
+        push_samples(samples, &self.header, time, &self.buffer)
     }
 
     /// Puts the annotations of the data record at hand behind `notes`.
-    #[tactic(auto, unfolding(crate::specs::Notes::moved_notes_in))]
+    #[tactic(auto, unfolding(crate::specs::NotesReading::moved_notes_in))]
     fn push_notes(&self, alloc: Global, notes: &mut Vec<Note>) -> Result<(), AllocError>
         requires current { IsTrue (is_current self.now.status) }
         requires near { All IsNear notes.old.items }
@@ -99,7 +100,8 @@ impl FileReader {
         ensures near { IfOk result (λ found. All IsNear found.1.notes.items) }
         ensures failures { OnOk result (S.failures source.new ≡ S.failures source.old) }
         ensures honesty { OnOk result (IsTrue (S.is_honest source.old) → IsTrue (S.is_honest source.new)) }
-        ensures meaning { IfOk result (λ found. IsTrue (S.is_honest source.old) → (file : List ℕ) → StandsIn self (S.left source.old) file → IsMeaning file self.head (S.left source.new) found.1) }
+        ensures meaning { IfOk result (λ found. IsTrue (S.is_honest source.old) → (file : List ℕ) → StandsIn self (S.left source.old) file →
+            IsMeaning file self.head (S.left source.new) found.1) }
         ensures stop { IfErr result (Stops
             (λ f. IsTrue (S.is_honest source.old) → (file : List ℕ) → StandsIn self (S.left source.old) file → body_fault file self.head ≡ Some f)
             (Rises (S.failures source.old) (S.failures source.new)) (S.failures source.new ≡ S.failures source.old)) }
@@ -124,7 +126,8 @@ pub fn whole_file<S: Source>(alloc: Global, source: &mut S) -> Result<(Header, M
     ensures failures { OnOk result (S.failures source.new ≡ S.failures source.old) }
     ensures head { IfOk result (λ found. IsTrue (S.is_honest source.old) → found.0 ≡ head_of (S.left source.old)) }
     ensures meaning { IfOk result (λ found. IsTrue (S.is_honest source.old) → IsWhole (S.left source.old) (S.left source.new) found.1) }
-    ensures stop { IfErr result (Stops (λ f. IsTrue (S.is_honest source.old) → file_fault (S.left source.old) ≡ Some f) (Rises (S.failures source.old) (S.failures source.new)) (S.failures source.new ≡ S.failures source.old)) }
+    ensures stop { IfErr result (Stops (λ f. IsTrue (S.is_honest source.old) → file_fault (S.left source.old) ≡ Some f) (Rises
+        (S.failures source.old) (S.failures source.new)) (S.failures source.new ≡ S.failures source.old)) }
 {
     let reader = FileReader::begin(alloc, source)?;
     let (header, meaning) = reader.into_meaning(alloc, source)?;
@@ -137,7 +140,8 @@ pub fn whole_meaning<S: Source>(alloc: Global, source: &mut S) -> Result<Meaning
     ensures near { IfOk result (λ meaning. All IsNear meaning.notes.items) }
     ensures failures { OnOk result (S.failures source.new ≡ S.failures source.old) }
     ensures meaning { IfOk result (λ meaning. IsTrue (S.is_honest source.old) → IsWhole (S.left source.old) (S.left source.new) meaning) }
-    ensures stop { IfErr result (Stops (λ f. IsTrue (S.is_honest source.old) → file_fault (S.left source.old) ≡ Some f) (Rises (S.failures source.old) (S.failures source.new)) (S.failures source.new ≡ S.failures source.old)) }
+    ensures stop { IfErr result (Stops (λ f. IsTrue (S.is_honest source.old) → file_fault (S.left source.old) ≡ Some f) (Rises
+        (S.failures source.old) (S.failures source.new)) (S.failures source.new ≡ S.failures source.old)) }
 {
     match whole_file(alloc, source) {
         Ok((_header, meaning)) => Ok(meaning),

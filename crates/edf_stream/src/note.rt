@@ -4,7 +4,7 @@
 ghost use Rattle.std.specs.Prelude.{◌<◌, ◌≤ℤ◌, ◌^◌, pos, unsigned_abs, IfSome};
 ghost use Rattle.std.proofs.Props.{props};
 
-use edf_tal::texts::Texts;
+use edf_tal::tal_texts::Texts;
 
 /// An annotation. Its onset and its duration are less than 1,000,000,000 s in size, and the duration is not
 /// negative.

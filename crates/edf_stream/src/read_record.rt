@@ -6,8 +6,8 @@ ghost use Rattle.edf_fields.specs.Tests.{first};
 ghost use Rattle.edf_header.specs.declared.fault.Place.TheVariants.{AtRecord, AtEnd};
 ghost use Rattle.edf_header.specs.declared.fault.Cause.TheVariants.{TrailingBytes};
 ghost use Rattle.edf_header.specs.Heads.{record_bytes};
-ghost use Rattle.edf_stream.specs.Notes.{notes_in};
-ghost use Rattle.edf_stream.specs.Starts.{start_in};
+ghost use Rattle.edf_stream.specs.NotesReading.{notes_in};
+ghost use Rattle.edf_stream.specs.StartsReading.{start_in};
 ghost use Rattle.edf_stream.specs.Faults.{records_tests, body_fault};
 ghost use Rattle.edf_stream.specs.Readers.{HasPassed, StandsAt, StopsReading, StopsAt, place_behind};
 ghost use Rattle.edf_stream.specs.Steps.{IsRead, GoesOn};
@@ -38,10 +38,12 @@ fn read_record<S: Source>(
     ensures full { OnOk result (length buffer.new ≡ length buffer.old) }
     ensures failures { OnOk result (S.failures source.new ≡ S.failures source.old) }
     ensures honesty { OnOk result (IsTrue (S.is_honest source.old) → IsTrue (S.is_honest source.new)) }
-    ensures found { IfOk result (λ after. IsTrue (S.is_honest source.old) → (file : List ℕ) → StandsAt file header.now k before.ended_ps before.notes (S.left source.old)
+    ensures found { IfOk result (λ after. IsTrue (S.is_honest source.old) → (file : List ℕ) →
+        StandsAt file header.now k before.ended_ps before.notes (S.left source.old)
         → IsRead file header.now k after.ended_ps after.notes (S.left source.new) buffer.new) }
     ensures stop { IfErr result (StopsReading
-        (λ f. (S.failures source.new ≡ S.failures source.old) × (IsTrue (S.is_honest source.old) → (file : List ℕ) → StandsAt file header.now k before.ended_ps before.notes (S.left source.old) → first (records_tests file header.now k 1) ≡ Some f))
+        (λ f. (S.failures source.new ≡ S.failures source.old) × (IsTrue (S.is_honest source.old) → (file : List ℕ) →
+        StandsAt file header.now k before.ended_ps before.notes (S.left source.old) → first (records_tests file header.now k 1) ≡ Some f))
         (Rises (S.failures source.old) (S.failures source.new))) }
     ensures place { IfErr result (StopsAt (AtRecord k)) }
 {
@@ -67,7 +69,8 @@ fn check_end<S: Source>(source: &mut S) -> Result<(), Stop>
     ensures honesty { OnOk result (IsTrue (S.is_honest source.old) → IsTrue (S.is_honest source.new)) }
     ensures ended { OnOk result (IsTrue (S.is_honest source.old) → (S.left source.old ≡ []) × (S.left source.new ≡ [])) }
     ensures stop { IfErr result (StopsReading
-        (λ f. (S.failures source.new ≡ S.failures source.old) × (IsTrue (S.is_honest source.old) → (0 < length (S.left source.old)) × (f ≡ record { place = AtEnd; cause = TrailingBytes })))
+        (λ f. (S.failures source.new ≡ S.failures source.old) × (IsTrue (S.is_honest source.old) → (0 < length (S.left source.old))
+        × (f ≡ record { place = AtEnd; cause = TrailingBytes })))
         (Rises (S.failures source.old) (S.failures source.new))) }
     ensures place { IfErr result (StopsAt AtEnd) }
 {
@@ -101,10 +104,12 @@ pub(crate) fn advance<S: Source>(
     ensures room { IfOk result (λ found. MatchOption found (header.now.records ≤ k) (λ _. k < header.now.records)) }
     ensures failures { OnOk result (S.failures source.new ≡ S.failures source.old) }
     ensures honesty { OnOk result (IsTrue (S.is_honest source.old) → IsTrue (S.is_honest source.new)) }
-    ensures goes_on { IfOk result (λ found. IsTrue (S.is_honest source.old) → (file : List ℕ) → HasPassed file header.now k → StandsAt file header.now k before.ended_ps before.notes (S.left source.old)
+    ensures goes_on { IfOk result (λ found. IsTrue (S.is_honest source.old) → (file : List ℕ) → HasPassed file header.now k →
+        StandsAt file header.now k before.ended_ps before.notes (S.left source.old)
         → GoesOn file header.now k before found (S.left source.new) buffer.new) }
     ensures stop { IfErr result (StopsReading
-        (λ f. (S.failures source.new ≡ S.failures source.old) × (IsTrue (S.is_honest source.old) → (file : List ℕ) → HasPassed file header.now k → StandsAt file header.now k before.ended_ps before.notes (S.left source.old) → body_fault file header.now ≡ Some f))
+        (λ f. (S.failures source.new ≡ S.failures source.old) × (IsTrue (S.is_honest source.old) → (file : List ℕ) → HasPassed file header.now k →
+        StandsAt file header.now k before.ended_ps before.notes (S.left source.old) → body_fault file header.now ≡ Some f))
         (Rises (S.failures source.old) (S.failures source.new))) }
     ensures place { IfErr result (StopsAt (place_behind header.now k)) }
 {

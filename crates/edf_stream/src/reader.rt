@@ -7,8 +7,8 @@ ghost use Rattle.edf_header.specs.Faults.{header_fault};
 ghost use Rattle.edf_header.specs.Heads.{record_bytes};
 ghost use Rattle.edf_header.specs.Stops.{Stops};
 ghost use Rattle.edf_stream.specs.declared.status.Status.TheVariants.{Ended, Stopped};
-ghost use Rattle.edf_stream.specs.Notes.{notes_in};
-ghost use Rattle.edf_stream.specs.Starts.{start_in};
+ghost use Rattle.edf_stream.specs.NotesReading.{notes_in};
+ghost use Rattle.edf_stream.specs.StartsReading.{start_in};
 ghost use Rattle.edf_stream.specs.Faults.{body_fault};
 ghost use Rattle.edf_stream.specs.Views.{IsContent};
 ghost use Rattle.edf_stream.specs.Readers.{HasBegun, IsOpen, status_after, StandsIn, Comes, StopsReading, StopsAt, place_behind};
@@ -57,7 +57,8 @@ impl FileReader {
         ensures failures { OnOk result (S.failures source.new ≡ S.failures source.old) }
         ensures honesty { OnOk result (IsTrue (S.is_honest source.old) → IsTrue (S.is_honest source.new)) }
         ensures stands { IfOk result (λ r. IsTrue (S.is_honest source.old) → StandsIn r (S.left source.new) (S.left source.old)) }
-        ensures stop { IfErr result (Stops (λ f. IsTrue (S.is_honest source.old) → header_fault (S.left source.old) ≡ Some f) (Rises (S.failures source.old) (S.failures source.new)) (S.failures source.new ≡ S.failures source.old)) }
+        ensures stop { IfErr result (Stops (λ f. IsTrue (S.is_honest source.old) → header_fault (S.left source.old) ≡ Some f) (Rises
+            (S.failures source.old) (S.failures source.new)) (S.failures source.new ≡ S.failures source.old)) }
     {
         let header = Header::read(alloc, source)?;
         let buffer = vec![in alloc; 0u8; header.record_bytes()]?;
@@ -88,14 +89,17 @@ impl FileReader {
         ensures count { IfOk result (λ more. IsTrue more → (self.new.read ≡ self.old.read + 1) × (self.new.read ≤ (self.new.head).records)) }
         ensures notes { IfOk result (λ more. IsTrue more → self.new.notes ≡ self.old.notes + length (notes_in self.new.head self.new.current)) }
         ensures near { unsigned_abs self.new.ended < 2 ^ 71 }
-        ensures later { IfOk result (λ more. IsTrue more → (self.old.ended <ℤ self.new.ended) × (self.new.ended ≡ start_in self.new.head self.new.current +ℤ (self.new.head).duration)) }
+        ensures later { IfOk result (λ more. IsTrue more → (self.old.ended <ℤ self.new.ended)
+            × (self.new.ended ≡ start_in self.new.head self.new.current +ℤ (self.new.head).duration)) }
         ensures failures { OnOk result (S.failures source.new ≡ S.failures source.old) }
         ensures honesty { OnOk result (IsTrue (S.is_honest source.old) → IsTrue (S.is_honest source.new)) }
 
         // The file: the next data record, the end, or the first fault.
-        ensures comes { IfOk result (λ more. IsOpen self.old.status → IsTrue (S.is_honest source.old) → (file : List ℕ) → StandsIn self.old (S.left source.old) file → Comes more self.old self.new (S.left source.new) file) }
+        ensures comes { IfOk result (λ more. IsOpen self.old.status → IsTrue (S.is_honest source.old) → (file : List ℕ) →
+            StandsIn self.old (S.left source.old) file → Comes more self.old self.new (S.left source.new) file) }
         ensures stop { IfErr result (λ s. IsOpen self.old.status → StopsReading
-            (λ f. (S.failures source.new ≡ S.failures source.old) × (IsTrue (S.is_honest source.old) → (file : List ℕ) → StandsIn self.old (S.left source.old) file → body_fault file self.old.head ≡ Some f))
+            (λ f. (S.failures source.new ≡ S.failures source.old) × (IsTrue (S.is_honest source.old) → (file : List ℕ) →
+            StandsIn self.old (S.left source.old) file → body_fault file self.old.head ≡ Some f))
             (Rises (S.failures source.old) (S.failures source.new)) s) }
         ensures place { IfErr result (λ s. IsOpen self.old.status → StopsAt (place_behind self.old.head self.old.read) s) }
     {

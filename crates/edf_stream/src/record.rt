@@ -4,8 +4,8 @@ ghost use Rattle.std.specs.Prelude.{◌≡◌, ℕ, ℤ, pos, ◌+◌, ◌-◌, 
 ghost use Rattle.edf_header.specs.declared.fault.Place.TheVariants.{AtRecord};
 ghost use Rattle.edf_header.specs.Heads.{record_bytes};
 ghost use Rattle.edf_stream.specs.Records.{annotation_lanes};
-ghost use Rattle.edf_stream.specs.Notes.{notes_in, notes_of_lanes};
-ghost use Rattle.edf_stream.specs.Starts.{start_by_lanes, said_start, start_in};
+ghost use Rattle.edf_stream.specs.NotesReading.{notes_in, notes_of_lanes};
+ghost use Rattle.edf_stream.specs.StartsReading.{start_by_lanes, said_start, start_in};
 ghost use Rattle.edf_fields.specs.Tests.{first};
 ghost use Rattle.edf_stream.specs.Faults.{cause_of_lanes, lanes_fault, time_fault, notes_fault, timed_faults, record_fault};
 ghost use Rattle.edf_stream.specs.Views.{start_with, texts_said};
@@ -39,7 +39,7 @@ fn judge_notes(k: u32, before: u32, texts: u32) -> Result<u32, Fault>
 }
 
 /// What the annotation lanes of data record `k` say, or that one of them is no list of TALs.
-#[tactic(auto, unfolding(crate::specs::Faults::lanes_fault, crate::specs::Starts::said_start))]
+#[tactic(auto, unfolding(crate::specs::Faults::lanes_fault, crate::specs::StartsReading::said_start))]
 fn judge_lanes(header: &Header, k: u32, bytes: &[u8]) -> Result<Option<Said>, Fault>
     ensures said { MatchResult result
         (λ found. (lanes_fault k (cause_of_lanes (annotation_lanes header.now.signals bytes.now)) ≡ None)
@@ -87,7 +87,7 @@ fn texts_of(found: Option<Said>) -> u32
 }
 
 /// Where a data record starts, and how many texts its annotation lanes have, up to the most that fit.
-#[derive(Debug, Clone, Copy)]
+#[derive(Clone, Copy)]
 struct Timed {
     start: Start,
     texts: u32,
@@ -96,7 +96,7 @@ struct Timed {
 /// Where data record `k` says that it starts, with how many texts its annotation lanes have; or the first
 /// fault of these lanes. In most data records there is one such lane, in which the TAL that keeps the time
 /// stands alone.
-#[tactic(auto, unfolding(crate::specs::Faults::lanes_fault, crate::specs::Faults::time_fault, crate::specs::Starts::said_start))]
+#[tactic(auto, unfolding(crate::specs::Faults::lanes_fault, crate::specs::Faults::time_fault, crate::specs::StartsReading::said_start))]
 fn judge_timed(header: &Header, k: u32, bytes: &[u8]) -> Result<Timed, Fault>
     ensures judged { MatchResult result
         (λ timed. (lanes_fault k (cause_of_lanes (annotation_lanes header.now.signals bytes.now)) ≡ None)
@@ -124,7 +124,7 @@ fn judge_timed(header: &Header, k: u32, bytes: &[u8]) -> Result<Timed, Fault>
 /// Judges the bytes of data record `k`, and answers how far the records were followed with it; or its
 /// first fault.
 #[inline(always)]
-#[tactic(auto, unfolding(crate::specs::Faults::record_fault, crate::specs::Notes::notes_in), using(crate::proofs::NoteFacts::timed_found))]
+#[tactic(auto, unfolding(crate::specs::Faults::record_fault, crate::specs::NotesReading::notes_in), using(crate::proofs::NoteFacts::timed_found))]
 pub(crate) fn judge_record(
     header: &Header,
     k: u32,

@@ -3,11 +3,11 @@
 ghost use Rattle.std.specs.Prelude.{◌≡◌, ◌∷◌, [], ◌++◌, ◌+◌, ◌-◌, ◌*◌, ◌<◌, ◌≤◌, ◌^◌, length, IfOk, OnOk, unsigned_abs};
 ghost use Rattle.std.specs.List.{All};
 ghost use Rattle.edf_stream.specs.Values.{digital_value};
-ghost use Rattle.edf_stream.specs.Samples.{instant_on, lane_samples, samples_by};
-ghost use Rattle.edf_stream.specs.Instants.{IsSmall};
-ghost use Rattle.edf_stream.specs.Summaries.{channels_among};
+ghost use Rattle.edf_stream.specs.SamplesReading.{instant_on, lane_samples, samples_by};
+ghost use Rattle.edf_stream.specs.InstantOrder.{IsSmall};
+ghost use Rattle.edf_header.specs.Channels.{channels_among};
 
-use crate::grid::{Grid, Stretch};
+use crate::grid::{Grid, RecordTime};
 use crate::instant::Instant;
 use crate::lanes::lane_of;
 use crate::value::value_at;
@@ -73,24 +73,24 @@ pub(crate) fn push_lane(
 fn push_signal(
     samples: &mut Vec<Sample>,
     channel: u16,
-    stretch: Stretch,
+    time: RecordTime,
     signal: &Signal,
     bytes: &[u8],
 ) -> Result<u16, AllocError>
-    requires start { unsigned_abs stretch.start_ps < 2 ^ 79 }
-    requires duration { unsigned_abs stretch.duration_ps < 2 ^ 68 }
+    requires start { unsigned_abs time.start_ps < 2 ^ 79 }
+    requires duration { unsigned_abs time.duration_ps < 2 ^ 68 }
     requires channel { channel < 2 ^ 16 - 1 }
     requires some { 0 < signal.now.samples }
     requires lane { signal.now.samples ≤ 2 ^ 23 }
     requires small { All (λ x. IsSmall x.instant) samples.old.items }
-    ensures value { OnOk result (samples.new.items ≡ samples.old.items ++ samples_by channel stretch.start_ps stretch.duration_ps (channels_among (signal.now ∷ [])) bytes.now) }
+    ensures value { OnOk result (samples.new.items ≡ samples.old.items ++ samples_by channel time.start_ps time.duration_ps (channels_among (signal.now ∷ [])) bytes.now) }
     ensures next { IfOk result (λ next. next ≡ channel + length (channels_among (signal.now ∷ []))) }
     ensures small { OnOk result (All (λ x. IsSmall x.instant) samples.new.items) }
 {
     if signal.is_annotations() {
         return Ok(channel);
     }
-    let grid = Grid::new(stretch, signal.samples());
+    let grid = Grid::new(time, signal.samples());
     push_lane(samples, channel, grid, lane_of(signal, bytes))?;
     Ok(channel + 1)
 }
@@ -99,18 +99,18 @@ fn push_signal(
 pub(crate) fn push_samples(
     samples: &mut Vec<Sample>,
     header: &Header,
-    stretch: Stretch,
+    time: RecordTime,
     bytes: &[u8],
 ) -> Result<(), AllocError>
-    requires start { unsigned_abs stretch.start_ps < 2 ^ 79 }
-    requires duration { unsigned_abs stretch.duration_ps < 2 ^ 68 }
+    requires start { unsigned_abs time.start_ps < 2 ^ 79 }
+    requires duration { unsigned_abs time.duration_ps < 2 ^ 68 }
     requires small { All (λ x. IsSmall x.instant) samples.old.items }
-    ensures value { OnOk result (samples.new.items ≡ samples.old.items ++ samples_by 0 stretch.start_ps stretch.duration_ps (channels_among header.now.signals) bytes.now) }
+    ensures value { OnOk result (samples.new.items ≡ samples.old.items ++ samples_by 0 time.start_ps time.duration_ps (channels_among header.now.signals) bytes.now) }
     ensures small { OnOk result (All (λ x. IsSmall x.instant) samples.new.items) }
 {
     let mut channel = 0;
     for signal in header.signals() {
-        channel = push_signal(samples, channel, stretch, signal, bytes)?;
+        channel = push_signal(samples, channel, time, signal, bytes)?;
     }
     Ok(())
 }

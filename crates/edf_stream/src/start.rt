@@ -9,7 +9,7 @@ use edf_header::header::Header;
 use edf_header::kind::Kind;
 
 /// How far the data records were followed.
-#[derive(Debug, Clone, Copy)]
+#[derive(Clone, Copy)]
 pub(crate) struct Progress {
     /// Where the last one ends, in picoseconds after the start of the file; 0 before the first one.
     pub ended_ps: i128,
@@ -31,7 +31,7 @@ impl Progress {
 }
 
 /// Where a data record starts, in picoseconds after the start of the file.
-#[derive(Debug, Clone, Copy)]
+#[derive(Clone, Copy)]
 pub(crate) struct Start {
     pub ps: i128,
 }

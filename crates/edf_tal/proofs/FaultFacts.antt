@@ -7,7 +7,8 @@ use Rattle.std.specs.Str.{is_utf8}
 use Rattle.std.proofs.lemmas.Bool.{cases_Bool, cases_lt}
 use Rattle.std.proofs.lemmas.List.Splits.{length-slice_split}
 use Rattle.std.proofs.lemmas.Str.{IsUtf8-from_is_utf8, is_utf8-from_IsUtf8}
-use Rattle.edf_fields.specs.Onsets.{SpellsSpan, onset_of, span_of}
+use Rattle.edf_fields.specs.Onsets.{SpellsSpan}
+use Rattle.edf_fields.specs.OnsetsReading.{onset_of, span_of}
 use Rattle.edf_fields.proofs.ForCallers.{onset_of_spelled, onset_of_some, onset_of_none, span_of_spelled, span_of_none}
 use Rattle.edf_fields.specs.declared.cause.TalCause.{TalCause}
 use Rattle.edf_fields.specs.declared.cause.TalCause.TheVariants.{BadOnset, BadDuration, NoEnd, NotUtf8, ControlByte, NotZeroFilled}

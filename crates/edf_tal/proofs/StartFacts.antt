@@ -3,7 +3,8 @@ use Rattle.std.proofs.Common.{◌≡◌, ◌≢◌, ◌==◌, false, cond, slice
 use Rattle.std.proofs.lemmas.List.{length-append}
 use Rattle.edf_fields.specs.declared.cause.TalCause.{TalCause}
 use Rattle.edf_fields.proofs.ForCallers.{onset_small}
-use Rattle.edf_tal.specs.Tals.{TalValue, SpellsTal, StartsAt, BeginsSilent, KeepsNoTime}
+use Rattle.edf_tal.specs.Tals.{TalValue, SpellsTal}
+use Rattle.edf_tal.specs.Timekeeping.{StartsAt, BeginsSilent, KeepsNoTime}
 use Rattle.std.specs.List.{onto_first}
 use Rattle.std.proofs.lemmas.Bool.{false_from_ne_true, eqb-true}
 use Rattle.edf_tal.specs.Reading.{Item, onto, tal_of, items_of, pieces, closed, texts_of}

@@ -5,7 +5,7 @@ use Rattle.edf_tal.specs.Tals.{TalValue}
 use Rattle.edf_tal.specs.Reading.{Item, texts_of, items_of}
 use Rattle.edf_tal.specs.declared.tal.Tal.{Tal}
 use Rattle.edf_tal.specs.declared.tals.Tals.{Tals}
-use Rattle.edf_tal.specs.declared.texts.Texts.{Texts}
+use Rattle.edf_tal.specs.declared.tal_texts.Texts.{Texts}
 use Rattle.edf_tal.specs.declared.start.StartCause.{StartCause}
 use Rattle.edf_tal.specs.declared.start.StartCause.TheVariants as start
 

@@ -1,7 +1,7 @@
 //! Laws over the definitions alone: each is the contract of a function that does nothing.
 
 ghost use Rattle.edf_tal.specs.Faults.{HasListOrFault};
-ghost use Rattle.edf_tal.specs.Tals.{HasOneList};
+ghost use Rattle.edf_tal.specs.Timekeeping.{HasOneList};
 
 /// A lane has at most one list of TALs.
 pub fn lane_has_one_list()

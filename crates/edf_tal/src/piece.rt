@@ -1,13 +1,13 @@
 //! Reading a TAL from a piece of a lane, which a byte 0 follows.
 
 ghost use Rattle.std.specs.Prelude.{◌≡◌, ◌<◌, ◌^◌, ◌≤ℤ◌, pos, length, unsigned_abs, IfSome, IfOk};
-ghost use Rattle.edf_fields.specs.Onsets.{onset_of};
+ghost use Rattle.edf_fields.specs.OnsetsReading.{onset_of};
 ghost use Rattle.edf_tal.specs.Reading.{until, duration_of, tal_of_parts, tal_of, IsClosed};
 ghost use Rattle.edf_tal.specs.Views.{item_view};
 
+use crate::annotation_text::{END, checked};
 use crate::separator::cut;
 use crate::tal::Tal;
-use crate::text::{END, checked};
 use edf_fields::cause::TalCause;
 use edf_fields::onset::{onset, span};
 

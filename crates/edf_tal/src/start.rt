@@ -5,14 +5,14 @@ ghost use Rattle.std.specs.Option.{option_map};
 ghost use Rattle.edf_fields.specs.declared.cause.TalCause.{TalCause};
 ghost use Rattle.edf_tal.specs.Faults.{HasFault};
 ghost use Rattle.edf_tal.specs.Reading.{Item, items_of, ends_alone, time_alone_of};
-ghost use Rattle.edf_tal.specs.Tals.{StartsAt, KeepsNoTime, IsTimeAlone, time_tal};
+ghost use Rattle.edf_tal.specs.Timekeeping.{StartsAt, KeepsNoTime, IsTimeAlone, time_tal};
 ghost use Rattle.edf_tal.specs.Views.{tal_view, item_view, kept_time, first_of, start_by, start_of};
 ghost use Rattle.edf_tal.specs.declared.start.StartCause.TheVariants as start;
 
+use crate::annotation_text::END;
 use crate::separator::cut;
 use crate::tal::Tal;
 use crate::tals::{Tals, are_zeros};
-use crate::text::END;
 use edf_fields::cause::TalCause;
 use edf_fields::onset::onset;
 

@@ -4,8 +4,8 @@ ghost use Rattle.std.specs.Prelude.{◌≡◌, ◌<◌, ◌^◌, ◌≤ℤ◌, p
 ghost use Rattle.std.proofs.Props.{props};
 ghost use Rattle.edf_tal.specs.Reading.{texts_of};
 
-use crate::text::END;
-use crate::texts::Texts;
+use crate::annotation_text::END;
+use crate::tal_texts::Texts;
 
 /// A time-stamped annotation list: an onset, maybe a duration, and texts (EDF+, "Time-stamped Annotations
 /// Lists (TALs) in an 'EDF Annotations' signal").

@@ -82,12 +82,12 @@ impl fmt::Display for Moment {
 
 /// An annotation, but for its text, and how often it stands in the export.
 #[derive(Clone, Copy)]
-struct Note {
+struct NoteWords {
     mismatch: AnnotationMismatch,
     times: NoteTimes,
 }
 
-impl fmt::Display for Note {
+impl fmt::Display for NoteWords {
     ghost output = { λ note. Some (note_words note.mismatch (note.times).onset (note.times).duration) };
 
     #[tactic(auto, unfolding(crate::specs::Lines::note_words))]
@@ -182,7 +182,7 @@ fn push_sample(
 fn push_note(
     line: &mut Vec<u8>,
     alloc: Global,
-    note: Note,
+    note: NoteWords,
     text: &NoteText,
 ) -> Result<(), AllocError>
     ensures { OnOk result (line.new.items ≡ line.old.items ++ with_quoted (note_words note.mismatch (note.times).onset (note.times).duration) text.now) }
@@ -243,7 +243,7 @@ impl Difference {
                 duration,
                 text,
             } => {
-                let note = Note {
+                let note = NoteWords {
                     mismatch: *mismatch,
                     times: NoteTimes {
                         onset: *onset,

@@ -3,7 +3,7 @@ use Rattle.std.proofs.Common.{◌≡◌, ℕ, ◌<◌, ℤ, List, [], ◌∷◌,
 use Rattle.edf_fields.specs.Lists.{Has}
 use Rattle.edf_fields.proofs.ForCallers.{at-has, has-at, map-get, get-map}
 use Rattle.edf_stream.specs.declared.instant.Instant.{Instant}
-use Rattle.edf_stream.specs.Instants.{IsNotBefore}
+use Rattle.edf_stream.specs.InstantOrder.{IsNotBefore}
 use Rattle.edf_check.specs.declared.samples.difference.PointDifference.{PointDifference}
 use Rattle.edf_check.specs.declared.samples.earliest.Found.{Found}
 use Rattle.edf_verdict.specs.declared.verdict.SampleMismatch.{SampleMismatch}
@@ -12,7 +12,7 @@ use Rattle.edf_check.specs.samples.Columns.{Column, label_of, KeptIn, ExportedIn
 use Rattle.edf_check.specs.Courses.{Agree, DifferAt, IsFirstMismatch}
 use Rattle.edf_check.specs.samples.Differences.{HasValue, Match, Differ, IsLeastDifference}
 use Rattle.edf_check.specs.samples.Earliest.{earliest, IsEarliest, AreInstants}
-use Rattle.edf_check.specs.Instants.{floor_of}
+use Rattle.edf_check.specs.InstantOrder.{floor_of}
 use Rattle.edf_heads.specs.Labels.{IsNotAbove}
 use Rattle.edf_check.proofs.samples.DifferenceFacts.{exact, partner_at, match_not_differ}
 use Rattle.edf_check.proofs.samples.EarliestFacts.{earliest-is-least}

@@ -6,10 +6,10 @@ use Rattle.std.proofs.Math.Nat.{mul-le-mul_right}
 use borrow.Author.Differences.{up, down}
 use Rattle.edf_fields.proofs.ForCallers.{has-filtered}
 use Rattle.edf_stream.specs.declared.instant.Instant.{Instant}
-use Rattle.edf_stream.specs.Instants.{IsNotBefore}
+use Rattle.edf_stream.specs.InstantOrder.{IsNotBefore}
 use Rattle.edf_check.specs.declared.samples.point.Point.{Point}
 use Rattle.edf_check.specs.samples.Differences.{instant, IsAscending, AreBefore, AreFrom}
-use Rattle.edf_check.specs.Instants.{IsBefore, is_before}
+use Rattle.edf_check.specs.InstantOrder.{IsBefore, is_before}
 use Rattle.edf_check.specs.samples.Stretches.{front_count}
 use Rattle.edf_check.specs.samples.Cuts.{whole, since, until}
 use Rattle.edf_check.proofs.samples.DifferenceFacts.{head_above}

@@ -6,8 +6,9 @@ use Rattle.std.proofs.lemmas.Int.{ints}
 use Rattle.edf_stream.specs.declared.instant.Instant.{Instant}
 use Rattle.edf_check.specs.declared.samples.difference.PointDifference.{PointDifference}
 use Rattle.edf_check.specs.declared.samples.earliest.Found.{Found}
-use Rattle.edf_stream.specs.Instants.{IsNotBefore, IsSame}
-use Rattle.edf_check.specs.Instants.{IsBefore, is_before}
+use Rattle.edf_stream.specs.Instants.{IsSame}
+use Rattle.edf_stream.specs.InstantOrder.{IsNotBefore}
+use Rattle.edf_check.specs.InstantOrder.{IsBefore, is_before}
 use Rattle.edf_fields.specs.Lists.{Has}
 use Rattle.edf_check.specs.samples.Earliest.{found, earlier, earliest, IsEarliest, AreInstants, EarliestIsLeast}
 use Rattle.edf_check.proofs.samples.FractionFacts.{before_below, is_before-true, is_before-false, before_same_back, from_below}

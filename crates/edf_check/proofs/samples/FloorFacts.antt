@@ -5,7 +5,7 @@ use Rattle.std.proofs.Math.Nat.{mul-div-mul_right, lt-div-mul-add, div-mul-le_se
 use Rattle.std.specs.Int.{int_div_euclid}
 use Rattle.edf_stream.specs.declared.instant.Instant.{Instant}
 use Rattle.edf_stream.specs.Instants.{IsSame}
-use Rattle.edf_check.specs.Instants.{floor_of}
+use Rattle.edf_check.specs.InstantOrder.{floor_of}
 
 -- two fractions that aren't negative: both are quotients of the same products
 quotients : (a b n m : ℕ) → 0 < n → 0 < m → a * m ≡ b * n → a / n ≡ b / m

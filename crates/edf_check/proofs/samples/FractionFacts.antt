@@ -4,8 +4,9 @@ use Rattle.std.proofs.lemmas.Int.{ints, by_lt_z}
 use Rattle.std.proofs.Math.Nat.{lt_of_mul-lt-mul_right, mul-lt-mul_of_pos_right, mul-le-mul_right}
 use borrow.Author.Differences.{up, down, true_is_lt, false_is_lt}
 use Rattle.edf_stream.specs.declared.instant.Instant.{Instant}
-use Rattle.edf_stream.specs.Instants.{IsNotBefore, IsSame}
-use Rattle.edf_check.specs.Instants.{IsBefore, is_before}
+use Rattle.edf_stream.specs.Instants.{IsSame}
+use Rattle.edf_stream.specs.InstantOrder.{IsNotBefore}
+use Rattle.edf_check.specs.InstantOrder.{IsBefore, is_before}
 
 -- with a - a' over n, and so on: the first is below the second, the second at most the third
 cross_lt_le : (a a' b b' c c' n m k : ℕ) → 0 < k → a * m + b' * n < b * n + a' * m → b * k + c' * m ≤ c * m + b' * k → a * k + c' * n < c * n + a' * k

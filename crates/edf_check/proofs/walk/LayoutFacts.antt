@@ -7,14 +7,16 @@ use Rattle.std.proofs.lemmas.Bool.{cases_lt}
 use Rattle.std.proofs.lemmas.Bool.Decides.{Decides-int_eq}
 use Rattle.std.proofs.lemmas.Int.{ints}
 use Rattle.std.proofs.lemmas.List.Elements.{All-head, All-tail}
-use Rattle.edf_claim.specs.Claims.{Terms}
-use Rattle.edf_claim.specs.Keeps.{IsUncut, keeps_instant}
+use Rattle.edf_claim.specs.Terms.{Terms}
+use Rattle.edf_claim.specs.Keeps.{keeps_instant}
+use Rattle.edf_claim.specs.KeepsReading.{IsUncut}
 use Rattle.edf_fields.specs.Parts.{part}
 use Rattle.edf_fields.proofs.ForCallers.{and-true, get-index}
 use Rattle.edf_header.specs.Heads.{SignalHead, Head}
 use Rattle.edf_stream.specs.Readers.{Reader}
 use Rattle.edf_stream.specs.Records.{lane_of, lane_in}
-use Rattle.edf_stream.specs.Starts.{file_start, start_in}
+use Rattle.edf_stream.specs.Starts.{file_start}
+use Rattle.edf_stream.specs.StartsReading.{start_in}
 use Rattle.edf_check.specs.declared.samples.difference.PointDifference.{PointDifference}
 use Rattle.edf_check.specs.declared.samples.point.Point.{Point}
 use Rattle.edf_check.specs.declared.walk.track.Pair.{Pair}

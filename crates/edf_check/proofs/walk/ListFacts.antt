@@ -1,7 +1,8 @@
 -- What stands at a place of a list.
 use Rattle.std.proofs.Common.{◌≡◌, ℕ, zero, suc, List, [], ◌∷◌, ◌++◌, length, take, drop, set, slice_get, Some, None, refl, sym, subst, ap, ◌∙◌, ◌<◌, arith}
 use Rattle.std.proofs.Math.Seq.{take-append_seam}
-use Rattle.edf_fields.specs.Lists.{Has, AreDistinct}
+use Rattle.edf_fields.specs.Lists.{Has}
+use Rattle.edf_fields.specs.Distinct.{AreDistinct}
 use Rattle.edf_fields.proofs.ForCallers.{has-at}
 
 -- what stands at a place that was written, and at every other one

@@ -3,15 +3,17 @@ use Rattle.std.proofs.Common.{◌≡◌, ℕ, ℤ, ◌<ℤ◌, ◌≤ℤ◌, ◌
 use Rattle.std.proofs.lemmas.Int.{ints}
 use Rattle.std.proofs.lemmas.List.Elements.{All-head, All-tail}
 use Rattle.std.specs.Option.{option_or}
-use Rattle.edf_claim.specs.Claims.{Terms}
+use Rattle.edf_claim.specs.Terms.{Terms}
 use Rattle.edf_header.specs.declared.fault.Fault.{Fault}
 use Rattle.edf_header.specs.Heads.{Head}
 use Rattle.edf_header.specs.Sound.{IsSound}
+use Rattle.edf_stream.proofs.ForCallers.{sound-of}
 use Rattle.edf_stream.specs.declared.status.Status.{Status}
 use Rattle.edf_stream.specs.declared.status.Status.TheVariants.{Ended}
 use Rattle.edf_stream.specs.Conforming.{Conforms}
 use Rattle.edf_stream.specs.Faults.{body_fault}
-use Rattle.edf_stream.specs.Notes.{NoteValue, moved_notes_before, notes_of}
+use Rattle.edf_stream.specs.Notes.{NoteValue}
+use Rattle.edf_stream.specs.NotesReading.{moved_notes_before, notes_of}
 use Rattle.edf_stream.specs.Readers.{Reader, is_current}
 use Rattle.edf_stream.specs.Starts.{file_start}
 use Rattle.edf_check.specs.declared.samples.earliest.Found.{Found}
@@ -23,7 +25,7 @@ use Rattle.edf_check.specs.walk.Pairs.{Places, places_of, ArePairs, IsTrack, IsP
 use Rattle.edf_check.specs.walk.Shown.{Shows, ArePast, Reaches, IsGoing, Covers}
 use Rattle.edf_check.specs.walk.Readings.{IsAt}
 use Rattle.edf_check.specs.walk.Gathered.{gathered_of}
-use Rattle.edf_check.specs.walk.Ends.{behind, IsFaultOf, IsReadThrough, AreWalked}
+use Rattle.edf_check.specs.walk.Ends.{first_fault_of, IsFaultOf, IsReadThrough, AreWalked}
 use Rattle.edf_check.proofs.walk.PassFacts.{ended_is}
 use Rattle.edf_check.proofs.walk.SplitFacts.{ArePlaces, step, at_start, at_end}
 
@@ -51,8 +53,8 @@ start-near h s =
 pub rest_start : (claim : Terms) (o e : List ℕ) (h g : Head) (a b t : ℤ) (pairs : List Pair) → Conforms o h → Conforms e g → ArePairs h g pairs → unsigned_abs a < 2 ^ 80 → unsigned_abs b < 2 ^ 80 → t ≡ neg_ℤ (pos (2 ^ 90))
     → whole_difference claim (sampled o h a) (sampled e g b) (map places_of pairs) ≡ rest_difference claim (sampled o h a) (sampled e g b) (map places_of pairs) t
 rest_start claim o e h g a b t pairs co ce all na nb time =
-    let no = start-near h (co.header).sound in
-    let ne = start-near g (ce.header).sound in
+    let no = start-near h (sound-of o h co) in
+    let ne = start-near g (sound-of e g ce) in
     at_start claim o e h g a b t (map places_of pairs) co ce (are_places h g pairs all) (omega (arith, ints, no, na, time)) (omega (arith, ints, ne, nb, time))
 
 -- ---- a step
@@ -145,15 +147,15 @@ walked_behind claim fo fe ro re lo le ns ms x y a b ps found rest ho he both h =
 
 -- ---- faults
 
-fault_behind : (o e : List ℕ) (h g : Head) (x : Option Fault) (f : Fault) → body_fault o h ≡ x → body_fault e g ≡ Some f → IsFaultOf o h e g (behind x f)
+fault_behind : (o e : List ℕ) (h g : Head) (x : Option Fault) (f : Fault) → body_fault o h ≡ x → body_fault e g ≡ Some f → IsFaultOf o h e g (first_fault_of x f)
 fault_behind o e h g None f p q = (p, q)
 fault_behind o e h g (Some first) f p q = p
 
 -- the original's fault, or else that of the export
-pub fault_after : (old new : Reader) (o e : List ℕ) (g : Head) (f : Fault) (w : FaultOf) → new.head ≡ old.head → body_fault e g ≡ Some f → w ≡ behind (body_fault o new.head) f → IsFaultOf o old.head e g w
+pub fault_after : (old new : Reader) (o e : List ℕ) (g : Head) (f : Fault) (w : FaultOf) → new.head ≡ old.head → body_fault e g ≡ Some f → w ≡ first_fault_of (body_fault o new.head) f → IsFaultOf o old.head e g w
 fault_after old new o e g f w head fault is =
     let P : FaultOf → Type 0 = IsFaultOf o old.head e g in
-    subst P (sym (is ∙ ap (λ h. behind (body_fault o h) f) head)) (fault_behind o e old.head g (body_fault o old.head) f refl fault)
+    subst P (sym (is ∙ ap (λ h. first_fault_of (body_fault o h) f) head)) (fault_behind o e old.head g (body_fault o old.head) f refl fault)
 
 pub fault_of_heads : (o e : List ℕ) (h h' g g' : Head) (w : FaultOf) → h ≡ h' → g ≡ g' → IsFaultOf o h e g w → IsFaultOf o h' e g' w
 fault_of_heads o e h h' g g' w p q is =

@@ -8,21 +8,23 @@ use Rattle.std.proofs.lemmas.Bool.Decides.{nat_tests}
 use Rattle.std.proofs.lemmas.Cmp.{nat_list_cmp_total}
 use Rattle.std.proofs.lemmas.Int.{ints}
 use Rattle.std.proofs.lemmas.List.Sorted.{sorted_far, ranks_by, IsPermutation-sym}
-use Rattle.edf_claim.specs.Claims.{Terms}
+use Rattle.edf_claim.specs.Terms.{Terms}
 use Rattle.edf_claim.specs.Keeps.{KeepsInstant, keeps_instant}
 use Rattle.edf_claim.proofs.ForCallers.{instant_kept}
 use Rattle.edf_fields.specs.Lists.{Has}
 use Rattle.edf_fields.proofs.ForCallers.{and-true, both-true, has-map, map-has, has-filtered, filtered-has, has-at, get-index, get-within, has-one_of, one_of-has, has-permutation, map-get, get-map}
-use Rattle.edf_header.specs.Channels.{channel_labels}
-use Rattle.edf_header.specs.Heads.{SignalHead, Head, head_of, is_annotations}
+use Rattle.edf_header.specs.ChannelsReading.{channel_labels}
+use Rattle.edf_header.specs.Heads.{SignalHead, Head, is_annotations}
+use Rattle.edf_header.specs.HeadsReading.{head_of}
 use Rattle.edf_header.specs.Sound.{IsSound}
 use Rattle.edf_stream.specs.declared.instant.Instant.{Instant}
 use Rattle.edf_stream.specs.declared.sample.Sample.{Sample}
 use Rattle.edf_stream.specs.Conforming.{Conforms}
 use Rattle.edf_stream.specs.Instants.{IsSame}
-use Rattle.edf_stream.specs.Samples.{SampleValue, samples_of, channel_label, labelled, AreRising}
-use Rattle.edf_stream.specs.Summaries.{channels_among}
-use Rattle.edf_stream.proofs.ForCallers.{samples_are_listed, samples_are_of_channels, samples_rise}
+use Rattle.edf_stream.specs.Samples.{SampleValue}
+use Rattle.edf_stream.specs.SamplesReading.{samples_of, channel_label, labelled, AreRising}
+use Rattle.edf_header.specs.Channels.{channels_among}
+use Rattle.edf_stream.proofs.ForCallers.{sound-of, samples_are_listed, samples_are_of_channels, samples_rise}
 use Rattle.edf_check.specs.declared.walk.channel_place.ChannelPlace.{ChannelPlace}
 use Rattle.edf_check.specs.declared.samples.point.Point.{Point}
 use Rattle.edf_heads.specs.Channels.{HasChannel}
@@ -32,19 +34,19 @@ use Rattle.edf_check.specs.Courses.{Agree, IsFirstMismatch}
 use Rattle.edf_check.specs.declared.samples.earliest.Found.{Found}
 use Rattle.edf_check.specs.samples.Earliest.{earliest}
 use Rattle.edf_check.specs.Exports.{SameSamples}
-use Rattle.edf_check.specs.Instants.{floor_of}
+use Rattle.edf_check.specs.Instants.{later}
+use Rattle.edf_check.specs.InstantOrder.{floor_of}
 use Rattle.edf_check.proofs.samples.ColumnFacts.{named, first-is-first}
 use Rattle.edf_check.proofs.CourseFacts.{agree-alike, first-alike}
 use Rattle.edf_check.proofs.samples.EarliestFacts.{earliest-some}
 use Rattle.edf_check.specs.declared.samples.difference.PointDifference.{PointDifference}
 use Rattle.edf_check.specs.samples.Differences.{instant, HasValue, IsAscending}
-use Rattle.edf_check.specs.Instants.{later}
-use Rattle.edf_check.specs.Kept.{start_of, shift_of, ValueAt, KeptAt, ExportedAt}
+use Rattle.edf_check.specs.Kept.{shift_ps}
+use Rattle.edf_check.specs.KeptReading.{origin_of, ValueAt, KeptAt, ExportedAt}
 use Rattle.edf_heads.specs.Labels.{IsNotAbove}
 use Rattle.edf_check.proofs.samples.FractionFacts.{same_back}
-use Rattle.edf_heads.proofs.ForCallers.{has-label, label-has}
+use Rattle.edf_heads.proofs.ForCallers.{has-label, label-has, exported-labels, not_below}
 use Rattle.edf_check.proofs.KeptFacts.{later-same, keeps-same}
-use Rattle.edf_heads.proofs.ForCallers.{not_below}
 use Rattle.edf_check.proofs.walk.PlaceFacts.{one-number, channels-distinct, at-found, at-there, channel-bounds}
 use Rattle.edf_check.proofs.WordsFacts.{later-back, since-same}
 
@@ -53,8 +55,8 @@ use Rattle.edf_check.proofs.WordsFacts.{later-back, since-same}
 named-channel : (h : Head) (c : ℕ) (x : SignalHead) → slice_get (channels_among h.signals) c ≡ Some x → channel_label h c ≡ x.label
 named-channel h c x e = ap (λ o. option_map_or (λ (s : SignalHead). s.label) o []) e
 
-pub sound-of : (file : List ℕ) → Conforms file (head_of file) → IsSound (head_of file)
-sound-of file c = (c.header).sound
+pub sound-head : (file : List ℕ) → Conforms file (head_of file) → IsSound (head_of file)
+sound-head file c = sound-of file (head_of file) c
 
 -- a sample of the channel that was found has its label, and its denominator
 pub record IsOfLabel (h : Head) (label : List ℕ) (place : ChannelPlace) (x : Sample) : Type 0 where
@@ -226,7 +228,7 @@ places : (original export : List ℕ) (claim : Terms) (o e : Sampled) (label : L
 places original export claim o e label a i =
     let channels = (a.agree).channels in
     let here = place-there (head_of original) label (channels.in_original label i) in
-    let there = place-there (head_of export) label (label-has (head_of export) label (has-permutation claim.channels (channel_labels (head_of export).signals) label channels.in_export i)) in
+    let there = place-there (head_of export) label (label-has (head_of export) label (has-permutation claim.channels (channel_labels (head_of export).signals) label (exported-labels _ _ claim channels) i)) in
     record { s = here.0; t = there.0; original = ap (channel_at label) a.original_head ∙ here.1; export = ap (channel_at label) a.export_head ∙ there.1 }
 
 -- what is compared for a label is the difference of its column
@@ -260,23 +262,23 @@ kept-instant claim c ps x t = (and-true (is_of c x) (keeps_instant claim (later 
 positive-sample : (file : List ℕ) (x : Sample) → Conforms file (head_of file) → Has (samples_of file (head_of file)) x → 0 < (x.instant).den
 positive-sample file x c i =
     let s = samples_are_of_channels file (head_of file) x i in
-    let b = channel-bounds (head_of file) s.0 (sound-of file c) (has-at (channels_among (head_of file).signals) x.channel s.0 s.1) in
+    let b = channel-bounds (head_of file) s.0 (sound-head file c) (has-at (channels_among (head_of file).signals) x.channel s.0 s.1) in
     let some = b.0 in
     let e = s.2 in
     omega (arith, some, e)
 
 -- the words of `AreNights` put in place
 kept-list : (original export : List ℕ) (claim : Terms) (o e : Sampled) (c : ℕ) → AreNights original export claim o e
-    → points_of (is_kept claim c o.moved) o.moved o.samples ≡ points_of (is_kept claim c (neg_ℤ (start_of original))) (neg_ℤ (start_of original)) (samples_of original (head_of original))
+    → points_of (is_kept claim c o.moved) o.moved o.samples ≡ points_of (is_kept claim c (neg_ℤ (origin_of original))) (neg_ℤ (origin_of original)) (samples_of original (head_of original))
 kept-list original export claim o e c a =
     ap (λ ps. points_of (is_kept claim c ps) ps o.samples) a.original_moved
-    ∙ ap (λ xs. points_of (is_kept claim c (neg_ℤ (start_of original))) (neg_ℤ (start_of original)) xs) a.original_samples
+    ∙ ap (λ xs. points_of (is_kept claim c (neg_ℤ (origin_of original))) (neg_ℤ (origin_of original)) xs) a.original_samples
 
 exported-list : (original export : List ℕ) (claim : Terms) (o e : Sampled) (c : ℕ) → AreNights original export claim o e
-    → points_of (is_of c) e.moved e.samples ≡ points_of (is_of c) (neg_ℤ (start_of original +ℤ shift_of claim)) (samples_of export (head_of export))
+    → points_of (is_of c) e.moved e.samples ≡ points_of (is_of c) (neg_ℤ (origin_of original +ℤ shift_ps claim)) (samples_of export (head_of export))
 exported-list original export claim o e c a =
     ap (λ ps. points_of (is_of c) ps e.samples) a.export_moved
-    ∙ ap (λ xs. points_of (is_of c) (neg_ℤ (start_of original +ℤ shift_of claim)) xs) a.export_samples
+    ∙ ap (λ xs. points_of (is_of c) (neg_ℤ (origin_of original +ℤ shift_ps claim)) xs) a.export_samples
 
 -- the column of a claimed label, with its places
 record IsColumnOf (original export : List ℕ) (claim : Terms) (c : Column) : Type 0 where
@@ -285,9 +287,9 @@ record IsColumnOf (original export : List ℕ) (claim : Terms) (c : Column) : Ty
   original_place : channel_at c.label (head_of original) ≡ Some s
   export_place : channel_at c.label (head_of export) ≡ Some t
   n_is : c.n ≡ s.samples
-  kept_is : c.kept ≡ points_of (is_kept claim s.number (neg_ℤ (start_of original))) (neg_ℤ (start_of original)) (samples_of original (head_of original))
+  kept_is : c.kept ≡ points_of (is_kept claim s.number (neg_ℤ (origin_of original))) (neg_ℤ (origin_of original)) (samples_of original (head_of original))
   m_is : c.m ≡ t.samples
-  exported_is : c.exported ≡ points_of (is_of t.number) (neg_ℤ (start_of original +ℤ shift_of claim)) (samples_of export (head_of export))
+  exported_is : c.exported ≡ points_of (is_of t.number) (neg_ℤ (origin_of original +ℤ shift_ps claim)) (samples_of export (head_of export))
 
 column-is : (original export : List ℕ) (claim : Terms) (o e : Sampled) (label : List ℕ) → AreNights original export claim o e → Has claim.channels label → IsColumnOf original export claim (column_of claim o e label)
 column-is original export claim o e label a i =
@@ -318,12 +320,12 @@ is-column : (original export : List ℕ) (claim : Terms) (c : Column) → Confor
 is-column original export claim c co ce is =
     let s = is.s in
     let t = is.t in
-    let ps = neg_ℤ (start_of original) in
-    let qs = neg_ℤ (start_of original +ℤ shift_of claim) in
+    let ps = neg_ℤ (origin_of original) in
+    let qs = neg_ℤ (origin_of original +ℤ shift_ps claim) in
     let few : (file : List ℕ) (place : ChannelPlace) → Conforms file (head_of file) → channel_at c.label (head_of file) ≡ Some place → 0 < place.samples =
     λ file place cf e.
     (let r = at-found (head_of file) c.label place e in
-    let b = channel-bounds (head_of file) r.channel (sound-of file cf) (has-at (channels_among (head_of file).signals) r.at r.channel r.there) in
+    let b = channel-bounds (head_of file) r.channel (sound-head file cf) (has-at (channels_among (head_of file).signals) r.at r.channel r.there) in
     let some = b.0 in
     let n = r.samples in
     omega (arith, some, n)) in
@@ -342,19 +344,19 @@ kept-there : (original export : List ℕ) (claim : Terms) (c : Column) (at : Ins
     → HasValue c.n c.kept at v → KeptAt original claim c.label at v
 kept-there original export claim c at v co is claimed p h =
     let s = is.s in
-    let ps = neg_ℤ (start_of original) in
+    let ps = neg_ℤ (origin_of original) in
     let test = is_kept claim s.number ps in
     let found : HasValue s.samples (points_of test ps (samples_of original (head_of original))) at v = subst (λ xs. HasValue s.samples xs at v) is.kept_is (subst (λ n. HasValue n c.kept at v) is.n_is h) in
     let r = column-sampled original (head_of original) c.label s test ps at v is.original_place (kept-of claim s.number ps) found in
     let px : 0 < (later ps (r.x).instant).den = positive-sample original r.x co r.there in
     let kept = (keeps_decided claim (later ps (r.x).instant).num ((r.x).instant).den).0 (kept-instant claim s.number ps r.x r.passes) in
-    (claimed, keeps-same claim (later ps (r.x).instant) at px p r.same kept, sampled-value original (start_of original) c.label test at v co r)
+    (claimed, keeps-same claim (later ps (r.x).instant) at px p r.same kept, sampled-value original (origin_of original) c.label test at v co r)
 
 there-kept : (original export : List ℕ) (claim : Terms) (c : Column) (at : Instant) (v : ℤ) → Conforms original (head_of original) → IsColumnOf original export claim c → 0 < at.den
     → KeptAt original claim c.label at v → HasValue c.n c.kept at v
 there-kept original export claim c at v co is p (claimed, kept, value) =
     let s = is.s in
-    let d = start_of original in
+    let d = origin_of original in
     let ps = neg_ℤ d in
     let h = head_of original in
     let test = is_kept claim s.number ps in
@@ -362,17 +364,17 @@ there-kept original export claim c at v co is p (claimed, kept, value) =
     (λ x i named same.
     let px : 0 < (later ps x.instant).den = positive-sample original x co i in
     both-true (is_of s.number x) (keeps_instant claim (later ps x.instant).num (x.instant).den)
-    (label-of original h c.label s x (sound-of original co) is.original_place i named)
+    (label-of original h c.label s x (sound-head original co) is.original_place i named)
     ((keeps_decided claim (later ps x.instant).num (x.instant).den).1 (keeps-same claim at (later ps x.instant) p px (same_back (later ps x.instant) at same) kept)))
     value in
-    let found = sampled-column original h c.label s test ps at v is.original_place (sound-of original co) (kept-of claim s.number ps) r in
+    let found = sampled-column original h c.label s test ps at v is.original_place (sound-head original co) (kept-of claim s.number ps) r in
     subst (λ n. HasValue n c.kept at v) (sym is.n_is) (subst (λ xs. HasValue s.samples xs at v) (sym is.kept_is) found)
 
 exported-there : (original export : List ℕ) (claim : Terms) (c : Column) (at : Instant) (v : ℤ) → Conforms export (head_of export) → IsColumnOf original export claim c
     → HasValue c.m c.exported at v → ExportedAt original export claim c.label at v
 exported-there original export claim c at v ce is h =
     let t = is.t in
-    let d = start_of original +ℤ shift_of claim in
+    let d = origin_of original +ℤ shift_ps claim in
     let found = subst (λ xs. HasValue t.samples xs at v) is.exported_is (subst (λ n. HasValue n c.exported at v) is.m_is h) in
     let r = column-sampled export (head_of export) c.label t (is_of t.number) (neg_ℤ d) at v is.export_place (λ x i. i) found in
     sampled-value export d c.label (is_of t.number) at v ce r
@@ -381,10 +383,10 @@ there-exported : (original export : List ℕ) (claim : Terms) (c : Column) (at :
     → ExportedAt original export claim c.label at v → HasValue c.m c.exported at v
 there-exported original export claim c at v ce is value =
     let t = is.t in
-    let d = start_of original +ℤ shift_of claim in
+    let d = origin_of original +ℤ shift_ps claim in
     let h = head_of export in
-    let r = value-sampled export d c.label (is_of t.number) at v ce (λ x i named same. label-of export h c.label t x (sound-of export ce) is.export_place i named) value in
-    let found = sampled-column export h c.label t (is_of t.number) (neg_ℤ d) at v is.export_place (sound-of export ce) (λ x i. i) r in
+    let r = value-sampled export d c.label (is_of t.number) at v ce (λ x i named same. label-of export h c.label t x (sound-head export ce) is.export_place i named) value in
+    let found = sampled-column export h c.label t (is_of t.number) (neg_ℤ d) at v is.export_place (sound-head export ce) (λ x i. i) r in
     subst (λ n. HasValue n c.exported at v) (sym is.m_is) (subst (λ xs. HasValue t.samples xs at v) (sym is.exported_is) found)
 
 pub kept-agree : (original export : List ℕ) (claim : Terms) (o e : Sampled) (labels : List (List ℕ)) → AreNights original export claim o e → AreClaimed claim labels
@@ -406,7 +408,7 @@ claimed-there original export claim o e label at v a (y, is, named, same, value)
     let channel = is.channel in
     let there : HasChannel h label = (channel.0, record { there = has-at h.signals is.signal channel.0 channel.1; labelled = channel.2 ∙ named; ordinary = ap is_annotations (sym named) ∙ channel.3 }) in
     let channels = (a.agree).channels in
-    has-permutation (channel_labels h.signals) claim.channels label (IsPermutation-sym claim.channels (channel_labels h.signals) channels.in_export) (has-label h label there)
+    has-permutation (channel_labels h.signals) claim.channels label (IsPermutation-sym claim.channels (channel_labels h.signals) (exported-labels _ _ claim channels)) (has-label h label there)
 
 pub exported-agree : (original export : List ℕ) (claim : Terms) (o e : Sampled) (labels : List (List ℕ)) → AreNights original export claim o e → AreClaimed claim labels
     → Agree (ExportedIn (columns_of claim o e labels)) (ExportedAt original export claim)

@@ -4,16 +4,18 @@ use Rattle.std.proofs.lemmas.Int.{ints}
 use Rattle.std.proofs.lemmas.Bool.{cases_lt}
 use Rattle.std.proofs.lemmas.List.{append-nil}
 use Rattle.std.proofs.lemmas.List.Elements.{filter-append}
-use Rattle.edf_claim.specs.Claims.{Terms}
+use Rattle.edf_claim.specs.Terms.{Terms}
 use Rattle.edf_header.specs.Heads.{Head}
 use Rattle.edf_stream.specs.declared.status.Status.{Status}
 use Rattle.edf_stream.specs.declared.status.Status.TheVariants.{Begun, Current, Ended, Stopped}
 use Rattle.edf_stream.specs.Conforming.{Conforms}
 use Rattle.edf_stream.specs.Faults.{body_fault}
-use Rattle.edf_stream.specs.Notes.{NoteValue, moved_by, notes_in, moved_notes_in, moved_notes_before}
+use Rattle.edf_stream.specs.Notes.{NoteValue, moved_by}
+use Rattle.edf_stream.specs.NotesReading.{notes_in, moved_notes_in, moved_notes_before}
 use Rattle.edf_stream.specs.Readers.{Reader, IsOpen, is_current, status_after, StandsIn, Comes}
 use Rattle.edf_stream.specs.Records.{record_at}
-use Rattle.edf_stream.specs.Starts.{file_start, end_before}
+use Rattle.edf_stream.specs.Starts.{file_start}
+use Rattle.edf_stream.specs.StartsReading.{end_before}
 use Rattle.edf_check.specs.walk.Shown.{ArePast, end_by, ends_at, Shows, IsGoing}
 use Rattle.edf_check.specs.walk.Gathered.{counts_by, gathered_of, gathered_in}
 use Rattle.edf_check.specs.walk.Readings.{IsAt, IsThere, Moves, Follows}

@@ -2,15 +2,17 @@
 use Rattle.std.proofs.Common.{◌≡◌, ℕ, zero, suc, ◌+◌, ◌<◌, ◌≤◌, ◌^◌, Bool, true, false, not, cond, List, [], ◌∷◌, map, Option, Some, None, slice_get, IfSome, inl, inr, ⊎_elim, refl, sym, ap, ◌∙◌, subst, arith}
 use Rattle.std.specs.Str.{bytes_eq}
 use Rattle.std.proofs.lemmas.Slice.Eq.{bytes_eq-Decides}
-use Rattle.edf_fields.specs.Lists.{Has, AreDistinct}
+use Rattle.edf_fields.specs.Lists.{Has}
+use Rattle.edf_fields.specs.Distinct.{AreDistinct}
 use Rattle.edf_fields.proofs.ForCallers.{has-at, at-has, has-filtered, has-map, get-index, get-within}
-use Rattle.edf_header.specs.Channels.{channel_labels}
+use Rattle.edf_header.specs.ChannelsReading.{channel_labels}
 use Rattle.edf_header.specs.Heads.{SignalHead, Head, is_annotations, samples_together}
-use Rattle.edf_header.specs.Sound.{IsSound, IsSoundSignal}
-use Rattle.edf_stream.specs.Summaries.{channels_among}
+use Rattle.edf_header.specs.Sound.{IsSound}
+use Rattle.edf_header.specs.Standard.{IsSoundSignal}
+use Rattle.edf_header.specs.Channels.{channels_among}
 use Rattle.edf_check.specs.declared.walk.channel_place.ChannelPlace.{ChannelPlace}
 use Rattle.edf_check.specs.samples.Columns.{place_from, channel_at}
-use Rattle.edf_heads.proofs.ForCallers.{labels-distinct}
+use Rattle.edf_heads.proofs.ForCallers.{labels-distinct, among-labels}
 
 -- the place that was found: its channel has the label, and so many samples
 pub record IsPlace (channels : List SignalHead) (label : List ℕ) (k : ℕ) (place : ChannelPlace) : Type 0 where
@@ -46,15 +48,6 @@ place-there (y ∷ ys) label k e x h same =
     (λ f i. ⊎_elim
     (λ q. let t : bytes_eq y.label label ≡ true = (bytes_eq-Decides y.label label).1 (ap (λ (s : SignalHead). s.label) q ∙ same) in let z : true ≡ false = sym t ∙ f in cc)
     (λ j. place-there ys label (k + 1) i x j same) h) e
-
--- the labels of the channels are those of the channels among the signals
-pub among-labels : (signals : List SignalHead) → map (λ s. s.label) (channels_among signals) ≡ channel_labels signals
-among-labels [] = refl
-among-labels (x ∷ xs) = by_kind (is_annotations x.label) (channels_among xs) (channel_labels xs) (among-labels xs)
-  where
-    by_kind : (b : Bool) (ys : List SignalHead) (ls : List (List ℕ)) → map (λ s. s.label) ys ≡ ls → map (λ s. s.label) (cond (not b) (x ∷ ys) ys) ≡ cond b ls (x.label ∷ ls)
-    by_kind true ys ls e = e
-    by_kind false ys ls e = ap (λ zs. x.label ∷ zs) e
 
 -- where no label stands twice, a label has one place
 pub one-number : (channels : List SignalHead) → AreDistinct (map (λ s. s.label) channels) → (i j : ℕ) (x y : SignalHead) → slice_get channels i ≡ Some x → slice_get channels j ≡ Some y → x.label ≡ y.label → i ≡ j

@@ -6,7 +6,7 @@ use Rattle.std.proofs.lemmas.Int.{ints}
 use Rattle.std.proofs.lemmas.List.{append-nil, map-append}
 use Rattle.std.proofs.lemmas.List.Elements.{filter-append}
 use borrow.Author.Differences.{up, down}
-use Rattle.edf_claim.specs.Claims.{Terms}
+use Rattle.edf_claim.specs.Terms.{Terms}
 use Rattle.edf_claim.specs.Keeps.{keeps_instant}
 use Rattle.edf_fields.specs.Lists.{Has}
 use Rattle.edf_fields.proofs.ForCallers.{has-append, has-filtered}
@@ -14,19 +14,20 @@ use Rattle.edf_header.specs.declared.kind.Kind.{Kind}
 use Rattle.edf_header.specs.declared.kind.Kind.TheVariants.{Contiguous, Interrupted}
 use Rattle.edf_header.specs.Heads.{SignalHead, Head}
 use Rattle.edf_stream.specs.declared.sample.Sample.{Sample}
-use Rattle.edf_stream.specs.Conforming.{Conforms, FollowsOn}
-use Rattle.edf_stream.specs.Instants.{IsNotBefore}
+use Rattle.edf_stream.specs.Conforming.{Conforms}
+use Rattle.edf_stream.specs.InstantOrder.{IsNotBefore}
 use Rattle.edf_stream.specs.Records.{record_at, lane_of}
-use Rattle.edf_stream.specs.Samples.{lane_samples, samples_by, samples_in, samples_before, samples_of}
-use Rattle.edf_stream.specs.Starts.{file_start, start_in, start_at, end_at}
-use Rattle.edf_stream.specs.Summaries.{channels_among}
+use Rattle.edf_stream.specs.SamplesReading.{lane_samples, samples_by, samples_in, samples_before, samples_of}
+use Rattle.edf_stream.specs.Starts.{file_start}
+use Rattle.edf_stream.specs.StartsReading.{start_in, start_at, end_at}
+use Rattle.edf_header.specs.Channels.{channels_among}
 use Rattle.edf_stream.specs.Values.{digital}
-use Rattle.edf_stream.proofs.ForCallers.{samples_are_of_channels, samples_rise}
+use Rattle.edf_stream.proofs.ForCallers.{samples_are_of_channels, samples_rise, records_follow_on, starts_late}
 use Rattle.edf_check.specs.declared.walk.channel_place.ChannelPlace.{ChannelPlace}
 use Rattle.edf_check.specs.declared.samples.point.Point.{Point}
 use Rattle.edf_check.specs.samples.Columns.{point_of, is_of, is_kept, points_of}
 use Rattle.edf_check.specs.samples.Differences.{instant, IsAscending, AreBefore, AreFrom}
-use Rattle.edf_check.specs.Instants.{IsBefore, is_before}
+use Rattle.edf_check.specs.InstantOrder.{IsBefore, is_before}
 use Rattle.edf_check.specs.samples.Stretches.{stretch_points}
 use Rattle.edf_check.specs.samples.Cuts.{whole, since, until}
 use Rattle.edf_check.specs.walk.Windows.{sampled, points_at, kept_at}
@@ -165,7 +166,7 @@ ends_at n d f s ps z e zs es =
     omega (arith, ints, p)
 
 lasts : (file : List ℕ) (h : Head) → Conforms file h → pos 0 <ℤ h.duration
-lasts file h c = let some : pos 1 ≤ℤ h.duration = ((c.header).sound).standard.some_time in omega (arith, ints, some)
+lasts file h c = let some : pos 1 ≤ℤ h.duration = (c.header).standard.some_time in omega (arith, ints, some)
 
 natural : (d : ℤ) → pos 0 <ℤ d → d ≡ pos (unsigned_abs d)
 natural d p = omega (arith, ints)
@@ -214,15 +215,11 @@ record-from file h place ps k c p =
 
 -- ---- data records follow one another
 
-follows-later : (kind : Kind) (ended start : ℤ) → FollowsOn kind ended start → ended ≤ℤ start
-follows-later Contiguous ended start e = let z : start ≡ ended = e in omega (arith, ints, z)
-follows-later Interrupted ended start le = le
-
 -- a data record ends before all that stand behind it
 ends-before : (file : List ℕ) (h : Head) (k j : ℕ) → Conforms file h → k < j → j < h.records → end_at file h k ≤ℤ start_at file h j
 ends-before file h k zero c lt within = absurd (omega (arith, lt))
 ends-before file h k (suc j) c lt within =
-    let next : end_at file h j ≤ℤ start_at file h (suc j) = follows-later h.kind (end_at file h j) (start_at file h (suc j)) (c.follows j within) in
+    let next : end_at file h j ≤ℤ start_at file h (suc j) = records_follow_on file h c j within in
     elim (cases_lt k j) [
       | inl less ↦
           let q : end_at file h k ≤ℤ start_at file h j = ends-before file h k j c less (omega (arith, within)) in
@@ -233,7 +230,7 @@ ends-before file h k (suc j) c lt within =
 
 -- and none starts before the file
 starts-late : (file : List ℕ) (h : Head) (k : ℕ) → Conforms file h → k < h.records → pos 0 ≤ℤ start_at file h k
-starts-late file h zero c lt = c.not_early
+starts-late file h zero c lt = starts_late file h c
 starts-late file h (suc k) c lt =
     let early : pos 0 ≤ℤ start_at file h k = starts-late file h k c (omega (arith, lt)) in
     let next : end_at file h k ≤ℤ start_at file h (suc k) = ends-before file h k (suc k) c (omega arith) lt in

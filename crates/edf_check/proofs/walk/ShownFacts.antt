@@ -1,8 +1,9 @@
 -- What a reader shows between two times.
 use Rattle.std.proofs.Common.{◌≡◌, ℕ, ◌<◌, ℤ, ◌≤ℤ◌, true, false, not, List, [], ◌∷◌, Option, Some, None, IfSome, option_map, map, drop, filter, refl, sym, ap, ◌∙◌, arith, subst}
 use Rattle.std.proofs.lemmas.Int.{ints}
-use Rattle.edf_claim.specs.Claims.{Terms}
-use Rattle.edf_claim.specs.Keeps.{IsUncut, keeps_instant}
+use Rattle.edf_claim.specs.Terms.{Terms}
+use Rattle.edf_claim.specs.Keeps.{keeps_instant}
+use Rattle.edf_claim.specs.KeepsReading.{IsUncut}
 use Rattle.edf_claim.proofs.ForCallers.{kept-alike}
 use Rattle.edf_fields.specs.Lists.{Has}
 use Rattle.edf_fields.proofs.ForCallers.{has-filtered}
@@ -10,7 +11,7 @@ use Rattle.edf_stream.specs.declared.status.Status.{Status}
 use Rattle.edf_stream.specs.declared.status.Status.TheVariants.{Begun, Current, Ended, Stopped}
 use Rattle.edf_stream.specs.Conforming.{Conforms}
 use Rattle.edf_stream.specs.Readers.{Reader, is_current}
-use Rattle.edf_stream.specs.Starts.{end_at}
+use Rattle.edf_stream.specs.StartsReading.{end_at}
 use Rattle.edf_check.specs.declared.walk.channel_place.ChannelPlace.{ChannelPlace}
 use Rattle.edf_check.specs.declared.samples.earliest.Found.{Found}
 use Rattle.edf_check.specs.declared.samples.point.Point.{Point}
@@ -20,7 +21,7 @@ use Rattle.edf_check.specs.declared.walk.track.Track.{Track}
 use Rattle.edf_check.specs.samples.Columns.{Sampled}
 use Rattle.edf_check.specs.samples.Earliest.{found, earlier, earliest}
 use Rattle.edf_check.specs.samples.Differences.{instant, first_difference_of}
-use Rattle.edf_check.specs.Instants.{IsModest, is_before}
+use Rattle.edf_check.specs.InstantOrder.{IsModest, is_before}
 use Rattle.edf_check.specs.samples.Cuts.{whole, since, until}
 use Rattle.edf_check.specs.walk.Windows.{sampled, points_at, kept_at, window_of, window_difference}
 use Rattle.edf_check.specs.walk.Pairs.{Places, places_of, IsPlaceIn}

@@ -1,12 +1,12 @@
 -- The earliest difference from a time on is that before a later time, or else that from there on.
 use Rattle.std.proofs.Common.{◌≡◌, ℕ, ◌+◌, ◌<◌, ℤ, ◌+ℤ◌, ◌≤ℤ◌, Bool, true, false, not, cond, List, [], ◌∷◌, ◌++◌, map, filter, Option, Some, None, option_map, IfSome, refl, sym, ap, ◌∙◌, lit<, subst}
 use Rattle.std.specs.Option.{option_or}
-use Rattle.edf_claim.specs.Claims.{Terms}
+use Rattle.edf_claim.specs.Terms.{Terms}
 use Rattle.edf_claim.specs.Keeps.{keeps_instant}
 use Rattle.edf_header.specs.Heads.{Head}
 use Rattle.edf_stream.specs.declared.instant.Instant.{Instant}
 use Rattle.edf_stream.specs.Conforming.{Conforms}
-use Rattle.edf_stream.specs.Instants.{IsNotBefore}
+use Rattle.edf_stream.specs.InstantOrder.{IsNotBefore}
 use Rattle.edf_stream.specs.Starts.{file_start}
 use Rattle.edf_check.specs.declared.walk.channel_place.ChannelPlace.{ChannelPlace}
 use Rattle.edf_check.specs.declared.samples.difference.PointDifference.{PointDifference}
@@ -15,7 +15,7 @@ use Rattle.edf_check.specs.declared.samples.point.Point.{Point}
 use Rattle.edf_check.specs.samples.Columns.{Sampled, difference_at}
 use Rattle.edf_check.specs.samples.Differences.{instant, first_difference_of, IsAscending, AreFrom}
 use Rattle.edf_check.specs.samples.Earliest.{found, earlier, earliest}
-use Rattle.edf_check.specs.Instants.{IsBefore, is_before}
+use Rattle.edf_check.specs.InstantOrder.{IsBefore, is_before}
 use Rattle.edf_check.specs.samples.Cuts.{whole, since, until}
 use Rattle.edf_check.specs.walk.Windows.{sampled, points_at, kept_at, rest_of, window_of, whole_difference, rest_difference, window_difference}
 use Rattle.edf_check.specs.walk.Pairs.{Places, IsPlaceIn}

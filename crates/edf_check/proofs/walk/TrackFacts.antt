@@ -5,12 +5,14 @@ use Rattle.std.proofs.lemmas.Bool.{cases_eq}
 use Rattle.std.proofs.lemmas.List.{drop_all, map-set, length-map, length-replicate}
 use Rattle.std.proofs.lemmas.List.Elements.{All-nil, All-cons}
 use Rattle.std.proofs.Math.Seq.{map-set_same}
-use Rattle.edf_fields.specs.Lists.{Has, AreDistinct}
+use Rattle.edf_fields.specs.Lists.{Has}
+use Rattle.edf_fields.specs.Distinct.{AreDistinct}
 use Rattle.edf_fields.proofs.ForCallers.{has-at, get-within, map-get, get-map}
 use Rattle.edf_header.specs.Heads.{SignalHead, Head, is_annotations}
 use Rattle.edf_header.specs.Sound.{IsSound}
-use Rattle.edf_stream.specs.Records.{lane_of, lane_in, lane_bytes, samples_at}
-use Rattle.edf_stream.specs.Summaries.{channels_among}
+use Rattle.edf_stream.specs.Records.{lane_of, lane_in, samples_at}
+use Rattle.edf_stream.specs.RecordsReading.{lane_bytes}
+use Rattle.edf_header.specs.Channels.{channels_among}
 use Rattle.edf_check.specs.declared.walk.channel_place.ChannelPlace.{ChannelPlace}
 use Rattle.edf_check.specs.declared.side.Side.{Side}
 use Rattle.edf_check.specs.declared.side.Side.TheVariants.{Original, Export}

@@ -1,19 +1,21 @@
 -- From the parts of a walk to what it found.
 use Rattle.std.proofs.Common.{◌≡◌, ◌*◌, ℕ, neg_ℤ, ◌+ℤ◌, Bor, List, [], ◌∷◌, length, map, filter, suc, ◌<◌, Option, Some, None, IfSome, Result, Ok, Err, IfOk, refl, sym, ap, ◌∙◌, subst}
-use Rattle.edf_claim.specs.Claims.{Terms}
+use Rattle.edf_claim.specs.Terms.{Terms}
 use Rattle.edf_claim.specs.Keeps.{keeps_annotation}
 use Rattle.edf_header.specs.declared.fault.Fault.{Fault}
 use Rattle.edf_header.specs.Faults.{header_fault}
-use Rattle.edf_header.specs.Heads.{Head, head_of, samples_together}
+use Rattle.edf_header.specs.Heads.{Head, samples_together}
+use Rattle.edf_header.specs.HeadsReading.{head_of}
 use Rattle.edf_stream.specs.declared.conform.Summary.{Summary}
 use Rattle.edf_stream.specs.declared.notes.Note.{Note}
 use Rattle.edf_stream.specs.Conforming.{Conforms}
 use Rattle.edf_stream.specs.Faults.{body_fault, file_fault}
-use Rattle.edf_stream.specs.Notes.{NoteValue, moved_by, notes_of}
+use Rattle.edf_stream.specs.Notes.{NoteValue, moved_by}
+use Rattle.edf_stream.specs.NotesReading.{notes_of}
 use Rattle.edf_stream.specs.Readers.{Reader, StandsIn}
-use Rattle.edf_stream.specs.Samples.{samples_of}
+use Rattle.edf_stream.specs.SamplesReading.{samples_of}
 use Rattle.edf_stream.specs.Starts.{file_start}
-use Rattle.edf_stream.specs.Summaries.{channels_among}
+use Rattle.edf_header.specs.Channels.{channels_among}
 use Rattle.edf_stream.specs.Views.{note_value}
 use Rattle.edf_stream.proofs.ForCallers.{fault_is_of_body, header_first}
 use Rattle.edf_check.specs.declared.walk.clock.Clock.{Clock}
@@ -26,31 +28,31 @@ use Rattle.edf_check.specs.declared.walk.walked.Walked.TheVariants.{OriginalFaul
 use Rattle.edf_verdict.specs.declared.verdict.Verdict.{Verdict}
 use Rattle.edf_verdict.specs.declared.verdict.Verdict.TheVariants.{Yes, No}
 use Rattle.edf_verdict.specs.declared.verdict.Difference.TheVariants as differences
-use Rattle.edf_check.specs.Checks.{AreRead, YesMeans}
+use Rattle.edf_check.specs.Checks.{AreRead}
+use Rattle.edf_check.specs.Headline.{YesMeans}
 use Rattle.edf_check.specs.samples.Columns.{channel_at, Sampled, difference_at, label_difference, AreNights}
 use Rattle.edf_heads.specs.Comparisons.{AreSorted}
 use Rattle.edf_check.specs.samples.Earliest.{earliest}
 use Rattle.edf_check.specs.Exports.{BothConform}
 use Rattle.edf_heads.specs.HeadVerdicts.{HeadsAgree, IsHeadVerdict}
-use Rattle.edf_check.specs.Instants.{IsModest}
-use Rattle.edf_check.specs.Kept.{start_of, shift_of, kept_notes, exported_notes}
+use Rattle.edf_check.specs.InstantOrder.{IsModest}
+use Rattle.edf_check.specs.Kept.{shift_ps}
+use Rattle.edf_check.specs.KeptReading.{origin_of, kept_notes, exported_notes}
 use Rattle.edf_check.specs.Verdicts.{IsVerdict}
-use Rattle.edf_check.specs.walk.Walks.{IsClock, IsCompared, IsReadOut, IsWalked, AreNotes, AreFound}
+use Rattle.edf_check.specs.walk.Walks.{IsClock, IsCompared, IsReadOut, IsWalked, AreNotes, AreCompared}
 use Rattle.edf_check.specs.walk.Windows.{sampled, whole_difference}
 use Rattle.edf_check.specs.walk.Gathered.{counts_by, gathered_of}
 use Rattle.edf_check.specs.walk.Pairs.{Places, places_of}
 use Rattle.edf_check.specs.walk.Ends.{AreWalked}
 use Rattle.edf_check.proofs.walk.NightFacts.{first-found}
 use Rattle.edf_check.proofs.walk.PassFacts.{if_none}
-use Rattle.edf_check.proofs.notes.RearrangedFacts.{notes_in_words}
-use Rattle.edf_check.proofs.WordsFacts.{samples_in_words}
 
 -- the clock of an original, in the words of its bytes
-clock-original : (o : List ℕ) (h : Head) (claim : Terms) (clock : Clock) → h ≡ head_of o → IsClock h claim clock → (clock.original).ps ≡ neg_ℤ (start_of o)
+clock-original : (o : List ℕ) (h : Head) (claim : Terms) (clock : Clock) → h ≡ head_of o → IsClock h claim clock → (clock.original).ps ≡ neg_ℤ (origin_of o)
 clock-original o h claim clock e c = c.original ∙ ap (λ (x : Head). neg_ℤ (file_start x)) e
 
-clock-export : (o : List ℕ) (h : Head) (claim : Terms) (clock : Clock) → h ≡ head_of o → IsClock h claim clock → (clock.export).ps ≡ neg_ℤ (start_of o +ℤ shift_of claim)
-clock-export o h claim clock e c = c.export ∙ ap (λ (x : Head). neg_ℤ (file_start x +ℤ shift_of claim)) e
+clock-export : (o : List ℕ) (h : Head) (claim : Terms) (clock : Clock) → h ≡ head_of o → IsClock h claim clock → (clock.export).ps ≡ neg_ℤ (origin_of o +ℤ shift_ps claim)
+clock-export o h claim clock e c = c.export ∙ ap (λ (x : Head). neg_ℤ (file_start x +ℤ shift_ps claim)) e
 
 -- a file in which a reader stands has the first fault of its data records
 pub fault_is : (r : Reader) (left file : List ℕ) → StandsIn r left file → file_fault file ≡ body_fault file r.head
@@ -102,15 +104,15 @@ notes-are o e claim h g kept exported clock summary ho he c one two channels sam
     let out : map note_value exported ≡ exported_notes o e claim =
     two ∙ all-counted (map (moved_by (clock.export).ps) (notes_of e g))
     ∙ ap (λ ps. map (moved_by ps) (notes_of e g)) (clock-export o h claim clock ho c)
-    ∙ ap (λ (x : Head). map (moved_by (neg_ℤ (start_of o +ℤ shift_of claim))) (notes_of e x)) he in
+    ∙ ap (λ (x : Head). map (moved_by (neg_ℤ (origin_of o +ℤ shift_ps claim))) (notes_of e x)) he in
     record {
       kept_are = one ∙ ap (λ ps. filter (λ (n : NoteValue). keeps_annotation claim n.onset n.text) (map (moved_by ps) (notes_of o h))) (clock-original o h claim clock ho c)
-          ∙ ap (λ (x : Head). filter (λ (n : NoteValue). keeps_annotation claim n.onset n.text) (map (moved_by (neg_ℤ (start_of o))) (notes_of o x))) ho;
+          ∙ ap (λ (x : Head). filter (λ (n : NoteValue). keeps_annotation claim n.onset n.text) (map (moved_by (neg_ℤ (origin_of o))) (notes_of o x))) ho;
       exported_are = out;
       counts = record {
         channels_are = channels ∙ ap (λ (x : Head). length (channels_among x.signals)) he;
         samples_are = samples ∙ ap (λ (x : Head). x.records * samples_together (channels_among x.signals)) he;
-        annotations_are = annotations ∙ sym (long-map note_value exported) ∙ ap length out ∙ long-map (moved_by (neg_ℤ (start_of o +ℤ shift_of claim))) (notes_of e (head_of e));
+        annotations_are = annotations ∙ sym (long-map note_value exported) ∙ ap length out ∙ long-map (moved_by (neg_ℤ (origin_of o +ℤ shift_ps claim))) (notes_of e (head_of e));
       };
     }
 
@@ -129,7 +131,7 @@ pub found-of : (o e : List ℕ) (claim : Terms) (r s : Reader) (a b : List ℕ) 
     → pairs ≡ map (λ label. (channel_at label.now r.head, channel_at label.now s.head)) labels
     → AreWalked o r.head left (map note_value kept) e s.head left' (map note_value exported) claim (clock.original).ps (clock.export).ps pairs found
     → summary.channels ≡ length (channels_among (s.head).signals) → summary.samples ≡ (s.head).records * samples_together (channels_among (s.head).signals) → summary.annotations ≡ length exported
-    → AreFound o e claim found (map (λ label. label.now) labels) kept exported summary
+    → AreCompared o e claim found (map (λ label. label.now) labels) kept exported summary
 found-of o e claim r s a b left left' kept exported clock summary pairs labels found so se agree c sorted places walked channels samples annotations =
     let ho = (so.passed).head in
     let he = (se.passed).head in
@@ -195,23 +197,6 @@ all_read (No (differences.Subfield which mismatch)) a b h = h
 all_read (No (differences.NotClean text)) a b h = h
 all_read (No (differences.Sample label at_ps mismatch)) a b h = h
 all_read (No (differences.Annotation mismatch onset duration text)) a b h = h
-
--- the headline of a Yes
-pub headline_of : (o e : List ℕ) (claim : Terms) (v : Verdict) → IsVerdict o e claim v → YesMeans o e claim v
-headline_of o e claim (No difference) is = tt
-headline_of o e claim (Yes channels samples annotations) (both, is, counts) = (
-  record {
-    conform = both;
-    channels = (is.heads).channels;
-    texts = (is.heads).texts;
-    calibrations = (is.heads).calibrations;
-    samples = (samples_in_words o e claim).0 is.samples;
-    annotations = (notes_in_words (kept_notes o claim) (exported_notes o e claim)).0 is.notes;
-    subfields = (is.heads).subfields;
-    blank = (is.heads).blank;
-  },
-  counts,
-)
 
 -- where two files were compared, both were read to their ends
 pub read-out : (w : Walked) (a b : List ℕ) → IsCompared w → a ≡ [] → b ≡ [] → IsReadOut w a b

@@ -1,13 +1,14 @@
 -- What the code compares: for each claimed label, in the order of labels, two rising lists of the samples of one channel.
 use Rattle.std.specs.Prelude.{◌≡◌, ℕ, ◌+◌, ◌<◌, ◌≤◌, ◌==◌, ℤ, neg_ℤ, ◌+ℤ◌, Bool, ◌&&◌, if◌then◌else◌, List, [], ◌∷◌, map, filter, Option, Some, None, slice_get}
 use Rattle.std.specs.Str.{bytes_eq}
-use Rattle.edf_claim.specs.Claims.{Terms}
+use Rattle.edf_claim.specs.Terms.{Terms}
 use Rattle.edf_claim.specs.Keeps.{keeps_instant}
 use Rattle.edf_fields.specs.Lists.{Has}
-use Rattle.edf_header.specs.Heads.{SignalHead, Head, head_of}
+use Rattle.edf_header.specs.Heads.{SignalHead, Head}
+use Rattle.edf_header.specs.HeadsReading.{head_of}
 use Rattle.edf_stream.specs.declared.sample.Sample.{Sample}
-use Rattle.edf_stream.specs.Samples.{samples_of}
-use Rattle.edf_stream.specs.Summaries.{channels_among}
+use Rattle.edf_stream.specs.SamplesReading.{samples_of}
+use Rattle.edf_header.specs.Channels.{channels_among}
 use Rattle.edf_check.specs.declared.walk.channel_place.ChannelPlace.{ChannelPlace}
 use Rattle.edf_check.specs.declared.samples.difference.PointDifference.{PointDifference}
 use Rattle.edf_check.specs.declared.samples.point.Point.{Point}
@@ -16,7 +17,8 @@ use Rattle.edf_check.specs.samples.Differences.{HasValue, IsAscending, first_dif
 use Rattle.edf_check.specs.Exports.{BothConform}
 use Rattle.edf_heads.specs.HeadVerdicts.{HeadsAgree}
 use Rattle.edf_check.specs.Instants.{later}
-use Rattle.edf_check.specs.Kept.{start_of, shift_of}
+use Rattle.edf_check.specs.Kept.{shift_ps}
+use Rattle.edf_check.specs.KeptReading.{origin_of}
 use Rattle.edf_heads.specs.Labels.{IsNotAbove}
 
 -- the first of these channels, the first of which has number k, that has the label
@@ -105,7 +107,7 @@ pub record AreNights (original export : List ℕ) (claim : Terms) (o e : Sampled
   pub agree : HeadsAgree (head_of original) (head_of export) claim
   pub original_head : o.head ≡ head_of original
   pub original_samples : o.samples ≡ samples_of original (head_of original)
-  pub original_moved : o.moved ≡ neg_ℤ (start_of original)
+  pub original_moved : o.moved ≡ neg_ℤ (origin_of original)
   pub export_head : e.head ≡ head_of export
   pub export_samples : e.samples ≡ samples_of export (head_of export)
-  pub export_moved : e.moved ≡ neg_ℤ (start_of original +ℤ shift_of claim)
+  pub export_moved : e.moved ≡ neg_ℤ (origin_of original +ℤ shift_ps claim)

@@ -4,7 +4,7 @@ use Rattle.std.specs.Prelude.{ℕ, ℤ, not, List, filter}
 use Rattle.edf_stream.specs.declared.instant.Instant.{Instant}
 use Rattle.edf_check.specs.declared.samples.point.Point.{Point}
 use Rattle.edf_check.specs.samples.Differences.{instant}
-use Rattle.edf_check.specs.Instants.{is_before}
+use Rattle.edf_check.specs.InstantOrder.{is_before}
 
 -- a whole number of picoseconds
 abbrev pub whole : ℤ → Instant

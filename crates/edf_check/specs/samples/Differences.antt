@@ -8,8 +8,9 @@ use Rattle.edf_verdict.specs.declared.verdict.SampleMismatch.{SampleMismatch}
 use Rattle.edf_verdict.specs.declared.verdict.SampleMismatch.TheVariants.{Missing, Extra, Value}
 use Rattle.edf_check.specs.declared.samples.difference.PointDifference.{PointDifference}
 use Rattle.edf_fields.specs.Lists.{Has}
-use Rattle.edf_stream.specs.Instants.{IsNotBefore, IsSame}
-use Rattle.edf_check.specs.Instants.{IsBefore, is_before}
+use Rattle.edf_stream.specs.Instants.{IsSame}
+use Rattle.edf_stream.specs.InstantOrder.{IsNotBefore}
+use Rattle.edf_check.specs.InstantOrder.{IsBefore, is_before}
 
 -- where a sample of a channel with n samples a record stands
 abbrev pub instant : ℕ → Point → Instant

@@ -4,8 +4,9 @@ use Rattle.std.specs.Option.{option_map}
 use Rattle.std.specs.List.{AllByRecursion}
 use Rattle.edf_check.specs.declared.samples.difference.PointDifference.{PointDifference}
 use Rattle.edf_check.specs.declared.samples.earliest.Found.{Found}
-use Rattle.edf_stream.specs.Instants.{IsNotBefore, IsSame}
-use Rattle.edf_check.specs.Instants.{is_before}
+use Rattle.edf_stream.specs.Instants.{IsSame}
+use Rattle.edf_stream.specs.InstantOrder.{IsNotBefore}
+use Rattle.edf_check.specs.InstantOrder.{is_before}
 
 -- a difference of channel k
 abbrev pub found : ℕ → PointDifference → Found

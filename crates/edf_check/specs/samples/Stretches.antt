@@ -6,7 +6,7 @@ use Rattle.edf_stream.specs.declared.instant.Instant.{Instant}
 use Rattle.edf_check.specs.declared.samples.point.Point.{Point}
 use Rattle.edf_check.specs.declared.samples.stretch.Stretch.{Stretch}
 use Rattle.edf_check.specs.samples.Differences.{instant}
-use Rattle.edf_check.specs.Instants.{is_before}
+use Rattle.edf_check.specs.InstantOrder.{is_before}
 
 -- the samples of these bytes, two bytes each: the first at the numerator a, each further one d behind the one before
 abbrev pub stretch_points : ℤ → ℤ → List ℕ → List Point
@@ -22,8 +22,8 @@ unfoldable pub points_behind : Stretch → ℕ → List Point
 points_behind s k = stretch_points (s.num +ℤ pos k *ℤ s.step) s.step (drop (2 * k) s.bytes.now)
 
 -- a lane of a data record: its times, and the distances from times to its samples, fit 128 bits
-abbrev pub IsLane : Stretch → Type 0
-IsLane s = (unsigned_abs s.num < 3 * 2 ^ 102) × (pos 0 <ℤ s.step) × (unsigned_abs s.step < 2 ^ 68) × (0 < s.den) × (s.den ≤ 2 ^ 23) × (length s.bytes.now ≤ 2 ^ 24)
+abbrev pub IsBounded : Stretch → Type 0
+IsBounded s = (unsigned_abs s.num < 3 * 2 ^ 102) × (pos 0 <ℤ s.step) × (unsigned_abs s.step < 2 ^ 68) × (0 < s.den) × (s.den ≤ 2 ^ 23) × (length s.bytes.now ≤ 2 ^ 24)
 
 -- a part of such a lane: each of its samples stands at a modest instant
 abbrev pub IsPart : Stretch → Type 0

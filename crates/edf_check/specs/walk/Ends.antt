@@ -1,11 +1,12 @@
 -- What a walk over the data records of two files finds. These are steps between the definitions and the code.
 use Rattle.std.specs.Prelude.{ℕ, ℤ, ◌≡◌, List, [], Option, None, Some, IfNone}
-use Rattle.edf_claim.specs.Claims.{Terms}
+use Rattle.edf_claim.specs.Terms.{Terms}
 use Rattle.edf_header.specs.declared.fault.Fault.{Fault}
 use Rattle.edf_header.specs.Heads.{Head}
 use Rattle.edf_stream.specs.Conforming.{Conforms}
 use Rattle.edf_stream.specs.Faults.{body_fault}
-use Rattle.edf_stream.specs.Notes.{NoteValue, notes_of}
+use Rattle.edf_stream.specs.Notes.{NoteValue}
+use Rattle.edf_stream.specs.NotesReading.{notes_of}
 use Rattle.edf_check.specs.declared.samples.earliest.Found.{Found}
 use Rattle.edf_check.specs.declared.walk.walked.FaultOf.{FaultOf}
 use Rattle.edf_check.specs.declared.walk.walked.FaultOf.TheVariants.{Original as OfOriginal, Export as OfExport}
@@ -14,9 +15,9 @@ use Rattle.edf_check.specs.walk.Windows.{sampled, whole_difference}
 use Rattle.edf_check.specs.walk.Gathered.{gathered_of}
 
 -- what a fault of the export comes to, behind that of the original
-abbrev pub behind : Option Fault → Fault → FaultOf
-behind None fault = OfExport fault
-behind (Some first) fault = OfOriginal first
+abbrev pub first_fault_of : Option Fault → Fault → FaultOf
+first_fault_of None fault = OfExport fault
+first_fault_of (Some first) fault = OfOriginal first
 
 -- the first fault of the data records of the first file, or else of the second
 abbrev pub IsFaultOf : List ℕ → Head → List ℕ → Head → FaultOf → Type 0

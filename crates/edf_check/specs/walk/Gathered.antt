@@ -1,8 +1,9 @@
 -- Which annotations are gathered of a file. These are steps between the definitions and the code.
 use Rattle.std.specs.Prelude.{ℕ, ℤ, Bool, true, List, [], map, filter, Option, None, Some, option_map, if◌then◌else◌}
-use Rattle.edf_claim.specs.Claims.{Terms}
+use Rattle.edf_claim.specs.Terms.{Terms}
 use Rattle.edf_claim.specs.Keeps.{keeps_annotation}
-use Rattle.edf_stream.specs.Notes.{NoteValue, moved_by, moved_notes_in}
+use Rattle.edf_stream.specs.Notes.{NoteValue, moved_by}
+use Rattle.edf_stream.specs.NotesReading.{moved_notes_in}
 use Rattle.edf_stream.specs.Readers.{Reader, is_current}
 use Rattle.edf_check.specs.declared.walk.gather.View.{View}
 

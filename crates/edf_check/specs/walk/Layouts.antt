@@ -4,7 +4,8 @@ use Rattle.std.specs.Ordering.{int_eq}
 use Rattle.edf_header.specs.Heads.{Head}
 use Rattle.edf_stream.specs.Readers.{Reader, is_current}
 use Rattle.edf_stream.specs.Records.{lane_in}
-use Rattle.edf_stream.specs.Starts.{file_start, start_in}
+use Rattle.edf_stream.specs.Starts.{file_start}
+use Rattle.edf_stream.specs.StartsReading.{start_in}
 use Rattle.edf_check.specs.declared.walk.track.Pair.{Pair}
 use Rattle.edf_check.specs.declared.walk.track.Track.{Track}
 

@@ -1,10 +1,11 @@
 -- A reader that goes through a file, as far as the walk has come. These are steps between the definitions and the code.
 use Rattle.std.specs.Prelude.{ℕ, ℤ, ◌≡◌, IsTrue, Bool, List, [], Option, None}
-use Rattle.edf_claim.specs.Claims.{Terms}
+use Rattle.edf_claim.specs.Terms.{Terms}
 use Rattle.edf_stream.specs.declared.status.Status.TheVariants.{Ended}
 use Rattle.edf_stream.specs.Conforming.{Conforms}
 use Rattle.edf_stream.specs.Faults.{body_fault}
-use Rattle.edf_stream.specs.Notes.{NoteValue, moved_notes_before}
+use Rattle.edf_stream.specs.Notes.{NoteValue}
+use Rattle.edf_stream.specs.NotesReading.{moved_notes_before}
 use Rattle.edf_stream.specs.Readers.{Reader, IsOpen, StandsIn}
 use Rattle.edf_check.specs.walk.Shown.{Shows, IsAhead, IsGoing}
 use Rattle.edf_check.specs.walk.Gathered.{gathered_of}

@@ -7,7 +7,8 @@ use Rattle.edf_stream.specs.declared.status.Status.TheVariants.{Begun, Current, 
 use Rattle.edf_stream.specs.Conforming.{Conforms}
 use Rattle.edf_stream.specs.Readers.{Reader, is_current}
 use Rattle.edf_stream.specs.Records.{record_at, lane_of}
-use Rattle.edf_stream.specs.Starts.{file_start, start_in, end_at}
+use Rattle.edf_stream.specs.Starts.{file_start}
+use Rattle.edf_stream.specs.StartsReading.{start_in, end_at}
 use Rattle.edf_check.specs.declared.samples.point.Point.{Point}
 use Rattle.edf_check.specs.samples.Stretches.{stretch_points}
 

@@ -2,7 +2,7 @@
 use Rattle.std.specs.Prelude.{◌≡◌, ◌≢◌, ◌⊎◌, ◌+◌, ℕ, List, Option, None, Some, IfSome, option_map, drop, map, slice_get}
 use Rattle.edf_fields.specs.Lists.{Has}
 use Rattle.edf_header.specs.Heads.{SignalHead, Head}
-use Rattle.edf_stream.specs.Summaries.{channels_among}
+use Rattle.edf_header.specs.Channels.{channels_among}
 use Rattle.edf_check.specs.declared.side.Side.{Side}
 use Rattle.edf_check.specs.declared.side.Side.TheVariants.{Original, Export}
 use Rattle.edf_check.specs.declared.walk.track.Pair.{Pair}

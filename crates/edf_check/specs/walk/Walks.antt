@@ -1,7 +1,8 @@
 -- What reading both files to their ends found.
 use Rattle.std.specs.Prelude.{◌≡◌, ℕ, neg_ℤ, ◌+ℤ◌, ◌^◌, ◌<◌, unsigned_abs, List, [], Option, None, Some, map, MatchOption, IfNone, slice_get}
-use Rattle.edf_claim.specs.Claims.{Terms}
-use Rattle.edf_header.specs.Heads.{Head, head_of}
+use Rattle.edf_claim.specs.Terms.{Terms}
+use Rattle.edf_header.specs.Heads.{Head}
+use Rattle.edf_header.specs.HeadsReading.{head_of}
 use Rattle.edf_stream.specs.declared.conform.Summary.{Summary}
 use Rattle.edf_stream.specs.declared.notes.Note.{Note}
 use Rattle.edf_stream.specs.Faults.{file_fault}
@@ -13,16 +14,17 @@ use Rattle.edf_check.specs.declared.walk.walked.Walked.{Walked}
 use Rattle.edf_check.specs.declared.walk.walked.Walked.TheVariants.{OriginalFault, ExportFault, HeadsDiffer, SamplesDiffer, NotesDiffer, Same}
 use Rattle.edf_check.specs.Annotations.{IsFirstNote, SameNotes}
 use Rattle.edf_check.specs.Courses.{IsFirstMismatch}
-use Rattle.edf_check.specs.Exports.{BothConform, SameSamples, AreCounts}
+use Rattle.edf_check.specs.Exports.{BothConform, SameSamples, HasCounts}
 use Rattle.edf_heads.specs.HeadVerdicts.{HeadsAgree, IsHeadVerdict}
-use Rattle.edf_check.specs.Instants.{floor_of}
-use Rattle.edf_check.specs.Kept.{shift_of, KeptAt, ExportedAt, kept_notes, exported_notes}
+use Rattle.edf_check.specs.InstantOrder.{floor_of}
+use Rattle.edf_check.specs.Kept.{shift_ps}
+use Rattle.edf_check.specs.KeptReading.{KeptAt, ExportedAt, kept_notes, exported_notes}
 use Rattle.edf_check.specs.notes.NoteOrder.{note_mismatch}
 
 -- by how much the two files are moved, so that both count from the second at which the original starts, before the shift
 pub record IsClock (h : Head) (claim : Terms) (clock : Clock) : Type 0 where
   pub original : (clock.original).ps ≡ neg_ℤ (file_start h)
-  pub export : (clock.export).ps ≡ neg_ℤ (file_start h +ℤ shift_of claim)
+  pub export : (clock.export).ps ≡ neg_ℤ (file_start h +ℤ shift_ps claim)
   pub original_near : unsigned_abs (clock.original).ps < 2 ^ 80
   pub export_near : unsigned_abs (clock.export).ps < 2 ^ 80
 
@@ -43,7 +45,7 @@ IsWalked original export claim (NotesDiffer d) =
     × IsFirstNote (kept_notes original claim) (exported_notes original export claim) (note_mismatch d).mismatch (note_mismatch d).note
 IsWalked original export claim (Same summary) =
     BothAgree original export claim × SameSamples original export claim × SameNotes (kept_notes original claim) (exported_notes original export claim)
-    × AreCounts export summary.channels summary.samples summary.annotations
+    × HasCounts export summary.channels summary.samples summary.annotations
 
 -- how far both files were read, by what they have left: to their ends, but for a fault; where the export has one, the original was
 abbrev pub IsReadOut : Walked → List ℕ → List ℕ → Type 0
@@ -67,7 +69,7 @@ IsCompared (Same summary) = Unit {0}
 pub record AreNotes (original export : List ℕ) (claim : Terms) (kept exported : List Note) (summary : Summary) : Type 0 where
   pub kept_are : map note_value kept ≡ kept_notes original claim
   pub exported_are : map note_value exported ≡ exported_notes original export claim
-  pub counts : AreCounts export summary.channels summary.samples summary.annotations
+  pub counts : HasCounts export summary.channels summary.samples summary.annotations
 
 -- both files conform, their headers agree, and their samples are the same; this is the rest
 pub record AreRemaining (original export : List ℕ) (claim : Terms) (kept exported : List Note) (summary : Summary) : Type 0 where
@@ -77,7 +79,7 @@ pub record AreRemaining (original export : List ℕ) (claim : Terms) (kept expor
 
 -- both files conform, their headers agree, and this is the first difference of their samples, by the place of its label; where there is
 -- none, this is the rest
-pub record AreFound (original export : List ℕ) (claim : Terms) (found : Option Found) (labels : List (List ℕ)) (kept exported : List Note) (summary : Summary) : Type 0 where
+pub record AreCompared (original export : List ℕ) (claim : Terms) (found : Option Found) (labels : List (List ℕ)) (kept exported : List Note) (summary : Summary) : Type 0 where
   pub both : BothAgree original export claim
   pub first : MatchOption found (SameSamples original export claim)
       (λ f. (label : List ℕ) → slice_get labels f.channel ≡ Some label

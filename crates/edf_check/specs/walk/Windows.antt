@@ -1,9 +1,9 @@
 -- The channels of two files compared between two times, in picoseconds after the second at which the original starts, before the
 -- shift. These are steps between the definitions and the code.
 use Rattle.std.specs.Prelude.{ℕ, ℤ, List, map, Option, None, Some}
-use Rattle.edf_claim.specs.Claims.{Terms}
+use Rattle.edf_claim.specs.Terms.{Terms}
 use Rattle.edf_header.specs.Heads.{Head}
-use Rattle.edf_stream.specs.Samples.{samples_of}
+use Rattle.edf_stream.specs.SamplesReading.{samples_of}
 use Rattle.edf_check.specs.declared.walk.channel_place.ChannelPlace.{ChannelPlace}
 use Rattle.edf_check.specs.declared.samples.difference.PointDifference.{PointDifference}
 use Rattle.edf_check.specs.declared.samples.earliest.Found.{Found}

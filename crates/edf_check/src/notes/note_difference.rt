@@ -14,7 +14,7 @@ use std::alloc::{AllocError, Global};
 use std::cmp::Ordering;
 
 /// An annotation that doesn't stand equally often among the kept ones and in the export.
-#[derive(Debug, Drop)]
+#[derive(Drop)]
 pub struct NoteDifference {
     pub mismatch: AnnotationMismatch,
     /// In picoseconds after the second at which the original starts, before the shift.

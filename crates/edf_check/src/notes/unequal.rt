@@ -4,7 +4,7 @@ use edf_stream::notes::Note;
 use edf_verdict::verdict::AnnotationMismatch;
 
 /// An annotation that two lists don't have equally often, borrowed from one of them.
-#[derive(Debug, Clone, Copy)]
+#[derive(Clone, Copy)]
 pub struct Unequal<'a> {
     pub mismatch: AnnotationMismatch,
     pub note: &'a Note,

@@ -2,7 +2,7 @@
 
 ghost use Rattle.std.specs.Prelude.{◌≡◌, ◌<◌, ◌≤◌, ◌^◌, IfSome, unsigned_abs};
 ghost use Rattle.edf_check.specs.samples.Differences.{heads};
-ghost use Rattle.edf_check.specs.Instants.{IsModest};
+ghost use Rattle.edf_check.specs.InstantOrder.{IsModest};
 
 use crate::samples::instants::is_before;
 use crate::samples::point::Point;
@@ -10,7 +10,7 @@ use edf_stream::instant::Instant;
 use edf_verdict::verdict::SampleMismatch;
 
 /// A difference and the instant where it stands.
-#[derive(Debug, Clone, Copy, PartialEq, Eq)]
+#[derive(Clone, Copy, PartialEq, Eq)]
 pub struct PointDifference {
     pub at: Instant,
     pub mismatch: SampleMismatch,

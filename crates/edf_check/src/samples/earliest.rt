@@ -3,13 +3,13 @@
 ghost use Rattle.std.specs.Prelude.{◌≡◌, IfSome};
 ghost use Rattle.std.specs.Option.{option_map};
 ghost use Rattle.edf_check.specs.samples.Earliest.{earlier as earlier_of, found};
-ghost use Rattle.edf_check.specs.Instants.{IsModest};
+ghost use Rattle.edf_check.specs.InstantOrder.{IsModest};
 
 use crate::samples::difference::PointDifference;
 use crate::samples::instants::is_before;
 
 /// A difference, and the place of its channel among those that were compared.
-#[derive(Debug, Clone, Copy, PartialEq, Eq)]
+#[derive(Clone, Copy, PartialEq, Eq)]
 pub struct Found {
     pub channel: usize,
     pub difference: PointDifference,

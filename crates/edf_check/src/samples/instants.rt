@@ -1,8 +1,9 @@
 //! Instants compared and moved, exactly.
 
 ghost use Rattle.std.specs.Prelude.{◌≡◌, ◌<◌, ◌≤◌, ◌^◌, ◌*ℤ◌, pos, unsigned_abs};
-ghost use Rattle.edf_stream.specs.Instants.{IsSmall};
-ghost use Rattle.edf_check.specs.Instants.{IsModest, floor_of, is_before as is_before_instant, later as later_instant};
+ghost use Rattle.edf_stream.specs.InstantOrder.{IsSmall};
+ghost use Rattle.edf_check.specs.Instants.{later as later_instant};
+ghost use Rattle.edf_check.specs.InstantOrder.{IsModest, floor_of, is_before as is_before_instant};
 
 use edf_stream::instant::Instant;
 

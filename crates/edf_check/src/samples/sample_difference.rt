@@ -1,7 +1,7 @@
 //! The first difference between the samples that a claim keeps of an original and those of an export.
 
 ghost use Rattle.std.specs.Prelude.{◌≡◌, ◌<◌, map, length, Some, slice_get, IfOk};
-ghost use Rattle.edf_check.specs.Instants.{floor_of};
+ghost use Rattle.edf_check.specs.InstantOrder.{floor_of};
 
 use crate::samples::earliest::Found;
 use crate::samples::instants::floor;
@@ -10,7 +10,7 @@ use edf_verdict::verdict::SampleMismatch;
 use std::alloc::{AllocError, Global};
 
 /// The first difference between the kept samples of an original and those of an export.
-#[derive(Debug, Drop)]
+#[derive(Drop)]
 pub(crate) struct SampleDifference {
     pub label: Label,
     /// The floor of the instant, in picoseconds after the second at which the original starts.

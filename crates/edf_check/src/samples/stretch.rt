@@ -6,8 +6,8 @@ ghost use Rattle.std.specs.Ordering.{int_eq};
 ghost use Rattle.edf_stream.specs.Values.{digital_value};
 ghost use Rattle.edf_check.specs.samples.Alike.{AreAlikeBefore};
 ghost use Rattle.edf_check.specs.samples.Differences.{first_difference_of};
-ghost use Rattle.edf_check.specs.Instants.{IsModest};
-ghost use Rattle.edf_check.specs.samples.Stretches.{points_in, points_behind, front_count, IsLane, IsPart, are_on_one_grid};
+ghost use Rattle.edf_check.specs.InstantOrder.{IsModest};
+ghost use Rattle.edf_check.specs.samples.Stretches.{points_in, points_behind, front_count, IsBounded, IsPart, are_on_one_grid};
 ghost use Rattle.edf_check.specs.samples.Cuts.{whole, since, until};
 
 use crate::first_difference::first_difference;
@@ -21,7 +21,7 @@ use edf_verdict::verdict::SampleMismatch;
 
 /// Samples of a channel at even distances: the first stands at the instant `num / den` picoseconds, each
 /// further one `step / den` picoseconds behind the one before it. Each takes two of the bytes.
-#[derive(Debug, Clone, Copy)]
+#[derive(Clone, Copy)]
 pub(crate) struct Stretch<'a> {
     pub(crate) num: i128,
     pub(crate) step: i128,
@@ -188,7 +188,8 @@ fn alike_count(x: Stretch, y: Stretch, count: usize) -> usize
     requires x_within { 2 * count ≤ length x.bytes.now }
     requires y_within { 2 * count ≤ length y.bytes.now }
     ensures within { result ≤ count }
-    ensures value { first_difference_of x.entry.den (points_behind x.entry result) y.entry.den (points_behind y.entry result) ≡ first_difference_of x.entry.den (points_in x.entry) y.entry.den (points_in y.entry) }
+    ensures value { first_difference_of x.entry.den (points_behind x.entry result) y.entry.den (points_behind y.entry result)
+        ≡ first_difference_of x.entry.den (points_in x.entry) y.entry.den (points_in y.entry) }
 {
     if !is_one_grid(x, y) {
         return 0;
@@ -219,7 +220,7 @@ pub(crate) fn stretch_difference(x: Stretch, y: Stretch) -> Option<PointDifferen
 
 /// How far a time lies behind the first sample, times the denominator.
 fn gap_before(stretch: Stretch, time: Time) -> i128
-    requires stretch { IsLane stretch }
+    requires stretch { IsBounded stretch }
     requires time { unsigned_abs time.ps < 2 ^ 100 }
     ensures value { result ≡ time.ps *ℤ pos stretch.entry.den -ℤ stretch.entry.num }
     ensures small { unsigned_abs result < 2 ^ 124 }
@@ -249,7 +250,7 @@ fn steps_below(gap: u128, step: u128) -> u128
 
 /// How many samples stand before a time.
 fn count_before(stretch: Stretch, time: Time) -> usize
-    requires stretch { IsLane stretch }
+    requires stretch { IsBounded stretch }
     requires time { unsigned_abs time.ps < 2 ^ 100 }
     ensures value { result ≡ front_count stretch.entry.den (points_in stretch.entry) (whole time.ps) }
     ensures within { 2 * result ≤ length stretch.entry.bytes.now }
@@ -267,7 +268,7 @@ fn count_before(stretch: Stretch, time: Time) -> usize
 
 /// The samples between two places.
 fn part_of<'a>(stretch: Stretch<'a>, begin: usize, end: usize) -> Stretch<'a>
-    requires stretch { IsLane stretch }
+    requires stretch { IsBounded stretch }
     requires order { begin ≤ end }
     requires within { 2 * end ≤ length stretch.bytes.now }
     ensures part { IsPart result }
@@ -284,7 +285,7 @@ fn part_of<'a>(stretch: Stretch<'a>, begin: usize, end: usize) -> Stretch<'a>
 
 /// The samples that stand at a time or later, and before another.
 pub(crate) fn between<'a>(stretch: Stretch<'a>, from: Time, to: Time) -> Stretch<'a>
-    requires stretch { IsLane stretch }
+    requires stretch { IsBounded stretch }
     requires from { unsigned_abs from.ps < 2 ^ 100 }
     requires to { unsigned_abs to.ps < 2 ^ 100 }
     requires order { from.ps ≤ℤ to.ps }

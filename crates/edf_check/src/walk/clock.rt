@@ -11,7 +11,7 @@ use edf_stream::grid::file_start_ps;
 
 /// By how much an original and an export are moved, so that both count from the second at which
 /// the original starts, before the shift.
-#[derive(Debug, Clone, Copy)]
+#[derive(Clone, Copy)]
 pub struct Clock {
     pub original: Offset,
     pub export: Offset,

@@ -1,9 +1,9 @@
 //! What two files come to that conform and whose headers agree.
 
 ghost use Rattle.std.specs.Prelude.{◌≡◌, ◌<◌, ℕ, List, map, length, IfOk, IfSome};
-ghost use Rattle.edf_claim.specs.Claims.{Terms};
-ghost use Rattle.edf_check.specs.Instants.{IsModest};
-ghost use Rattle.edf_check.specs.walk.Walks.{AreFound, AreRemaining, IsCompared, IsWalked};
+ghost use Rattle.edf_claim.specs.Terms.{Terms};
+ghost use Rattle.edf_check.specs.InstantOrder.{IsModest};
+ghost use Rattle.edf_check.specs.walk.Walks.{AreCompared, AreRemaining, IsCompared, IsWalked};
 
 use crate::notes::note_difference::note_difference;
 use crate::samples::earliest::Found;
@@ -23,7 +23,8 @@ fn conclude_notes(
     exported: &mut Vec<Note>,
     summary: Summary,
 ) -> Result<Walked, AllocError>
-    ensures walked { IfOk result (λ walked. (o e : List ℕ) (claim : Terms) → AreRemaining o e claim kept.old.items exported.old.items summary → IsWalked o e claim walked) }
+    ensures walked { IfOk result (λ walked. (o e : List ℕ) (claim : Terms) → AreRemaining o e claim kept.old.items exported.old.items summary →
+        IsWalked o e claim walked) }
     ensures compared { IfOk result IsCompared }
 {
     match note_difference(alloc, kept, exported)? {
@@ -45,7 +46,8 @@ pub(crate) fn conclude(
     summary: Summary,
 ) -> Result<Walked, AllocError>
     requires { IfSome found (λ f. IsModest f.difference.at × (f.channel < length labels.now)) }
-    ensures walked { IfOk result (λ walked. (o e : List ℕ) (claim : Terms) → AreFound o e claim found (map (λ label. label.now) labels.now) kept.old.items exported.old.items summary → IsWalked o e claim walked) }
+    ensures walked { IfOk result (λ walked. (o e : List ℕ) (claim : Terms) → AreCompared o e claim found (map
+        (λ label. label.now) labels.now) kept.old.items exported.old.items summary → IsWalked o e claim walked) }
     ensures compared { IfOk result IsCompared }
 {
     match found {

@@ -1,7 +1,8 @@
 //! The annotations of the data record at hand, as they are compared.
 
 ghost use Rattle.std.specs.Prelude.{◌≡◌, ◌<◌, ◌^◌, ◌*◌, ◌+◌, [], ◌∷◌, ◌++◌, ◌+ℤ◌, length, map, unsigned_abs, true, Option, option_map, IfOk, OnOk, IsTrue};
-ghost use Rattle.edf_stream.specs.Notes.{moved_by, moved_notes_in, notes_in};
+ghost use Rattle.edf_stream.specs.Notes.{moved_by};
+ghost use Rattle.edf_stream.specs.NotesReading.{moved_notes_in, notes_in};
 ghost use Rattle.edf_stream.specs.Readers.{is_current};
 ghost use Rattle.edf_stream.specs.Starts.{file_start};
 ghost use Rattle.edf_stream.specs.Views.{note_view, note_value, notes_left};
@@ -57,7 +58,8 @@ fn push_counted(
     claim: Option<&Claim>,
 ) -> Result<(), AllocError>
     requires near { unsigned_abs by.ps < 2 ^ 81 }
-    ensures { OnOk result (map note_value notes.new.items ≡ map note_value notes.old.items ++ gathered_of (option_map (λ c. c.now) claim.entry) by.ps (note_view note.entry ∷ [])) }
+    ensures { OnOk result (map note_value notes.new.items ≡ map note_value notes.old.items ++ gathered_of (option_map
+        (λ c. c.now) claim.entry) by.ps (note_view note.entry ∷ [])) }
 {
     let onset = by.ps + note.onset;
     if counts(claim, onset, note.text) {
@@ -76,7 +78,8 @@ fn push_all_counted(
     claim: Option<&Claim>,
 ) -> Result<(), AllocError>
     requires near { unsigned_abs by.ps < 2 ^ 81 }
-    ensures { OnOk result (map note_value notes.new.items ≡ map note_value notes.old.items ++ gathered_of (option_map (λ c. c.now) claim.entry) by.ps (notes_left annotations.entry)) }
+    ensures { OnOk result (map note_value notes.new.items ≡ map note_value notes.old.items ++ gathered_of (option_map
+        (λ c. c.now) claim.entry) by.ps (notes_left annotations.entry)) }
 {
     for note in annotations {
         push_counted(alloc, notes, note, by, claim)?;
@@ -99,7 +102,8 @@ pub(crate) fn gather(
     requires before { is_current reader.now.status ≡ true → reader.now.notes ≡ before + length (notes_in reader.now.head reader.now.current) }
     requires near { unsigned_abs (view.moved).ps < 2 ^ 80 }
     ensures start { OnOk result (is_current reader.now.status ≡ true → unsigned_abs (file_start reader.now.head) < 2 ^ 39 * 10 ^ 12) }
-    ensures gathered { OnOk result (map note_value notes.new.items ≡ map note_value notes.old.items ++ gathered_in (claim_of view.entry) (view.entry.moved).ps reader.now) }
+    ensures gathered { OnOk result (map note_value notes.new.items ≡ map note_value notes.old.items
+        ++ gathered_in (claim_of view.entry) (view.entry.moved).ps reader.now) }
 {
     if !reader.has_current() {
         return Ok(());

@@ -5,7 +5,8 @@ ghost use Rattle.std.specs.List.{All};
 ghost use Rattle.std.specs.Ordering.{int_eq};
 ghost use Rattle.edf_stream.specs.Readers.{is_current};
 ghost use Rattle.edf_stream.specs.Records.{lane_in};
-ghost use Rattle.edf_stream.specs.Starts.{file_start, start_in};
+ghost use Rattle.edf_stream.specs.Starts.{file_start};
+ghost use Rattle.edf_stream.specs.StartsReading.{start_in};
 ghost use Rattle.edf_check.specs.walk.Layouts.{AreLaidAlike, are_together as begin_together, AreRecordsAlike};
 ghost use Rattle.edf_check.specs.walk.Pairs.{IsTrack, ArePairs};
 

@@ -2,20 +2,22 @@
 
 ghost use Rattle.std.specs.Prelude.{◌≡◌, ◌<◌, ◌^◌, ℕ, ℤ, neg_ℤ, pos, ◌≤ℤ◌, ◌<ℤ◌, List, [], map, length, None, Some, IfOk, IfErr, IfSome, IfNone, IsTrue, unsigned_abs, true};
 ghost use Rattle.std.specs.List.{All};
-ghost use Rattle.edf_claim.specs.Keeps.{IsUncut, keeps_instant};
+ghost use Rattle.edf_claim.specs.Keeps.{keeps_instant};
+ghost use Rattle.edf_claim.specs.KeepsReading.{IsUncut};
 ghost use Rattle.edf_fields.specs.Sources.{Rises};
 ghost use Rattle.edf_stream.specs.Faults.{body_fault};
 ghost use Rattle.edf_stream.specs.Readers.{HasBegun, StandsIn};
 ghost use Rattle.edf_stream.specs.Views.{note_value};
+ghost use Rattle.edf_check.specs.Premises.{OfFile, OfFiles};
 ghost use Rattle.edf_check.specs.declared.side.Side.TheVariants as sides;
 ghost use Rattle.edf_check.specs.Checks.{CheckStops, SideStops};
-ghost use Rattle.edf_check.specs.Instants.{IsModest};
+ghost use Rattle.edf_check.specs.InstantOrder.{IsModest};
 ghost use Rattle.edf_check.specs.walk.Layouts.{AreLaidAlike, AreRecordsAlike};
 ghost use Rattle.edf_check.specs.walk.Windows.{sampled, window_difference as difference_between};
 ghost use Rattle.edf_check.specs.walk.Pairs.{places_of, ArePairs};
 ghost use Rattle.edf_check.specs.walk.Shown.{Covers, IsGoing, Reaches};
 ghost use Rattle.edf_check.specs.walk.Readings.{IsAt, IsThere, Moves, Follows};
-ghost use Rattle.edf_check.specs.walk.Ends.{behind, IsFaultOf, IsReadBy, IsReadThrough, AreWalked};
+ghost use Rattle.edf_check.specs.walk.Ends.{first_fault_of, IsFaultOf, IsReadBy, IsReadThrough, AreWalked};
 
 use crate::samples::earliest::Found;
 use crate::side::Side;
@@ -56,8 +58,10 @@ pub(crate) fn export_fault<S: Source>(
     fault: Fault,
 ) -> Result<FaultOf, CheckStop>
     requires going { IsGoing original.old.status }
-    ensures found { IfOk result (λ found. IsTrue (S.is_honest source.old) → (file : List ℕ) → IsThere original.old (S.left source.old) file → found ≡ behind (body_fault file original.old.head) fault) }
-    ensures out { IfOk result (λ found. IsTrue (S.is_honest source.old) → (file : List ℕ) → IsThere original.old (S.left source.old) file → IsReadBy found (S.left source.new)) }
+    ensures found { IfOk result (λ found. OfFile (S.is_honest source.old) (IsThere original.old (S.left source.old))
+        (λ file. found ≡ first_fault_of (body_fault file original.old.head) fault)) }
+    ensures out { IfOk result (λ found. OfFile (S.is_honest source.old) (IsThere original.old (S.left source.old))
+        (λ file. IsReadBy found (S.left source.new))) }
     ensures stop { IfErr result (SideStops sides.Original (Rises (S.failures source.old) (S.failures source.new))) }
 {
     match finish(original, source, Side::Original) {
@@ -78,7 +82,8 @@ fn shows_the_same(
 ) -> bool
     requires original_near { unsigned_abs (frame.clock.original).ps < 2 ^ 80 }
     requires export_near { unsigned_abs (frame.clock.export).ps < 2 ^ 80 }
-    ensures { IsTrue result → (keeps_instant frame.entry.claim.now from.ps 1 ≡ true) × ((n : ℕ) × (frame.entry.room ≡ Some n) × AreRecordsAlike original.now export.now n (frame.entry.clock.original).ps (frame.entry.clock.export).ps) }
+    ensures { IsTrue result → (keeps_instant frame.entry.claim.now from.ps 1 ≡ true) × ((n : ℕ) × (frame.entry.room ≡ Some n)
+        × AreRecordsAlike original.now export.now n (frame.entry.clock.original).ps (frame.entry.clock.export).ps) }
 {
     match frame.room {
         Some(room) => {
@@ -107,8 +112,10 @@ fn difference_in(
     requires to { unsigned_abs to.ps < 2 ^ 100 }
     requires order { from.ps ≤ℤ to.ps }
     requires uncut { IsUncut frame.claim.now.keep from.ps to.ps }
-    ensures value { (o e : List ℕ) → Covers original.now o (frame.entry.clock.original).ps from.ps to.ps → Covers export.now e (frame.entry.clock.export).ps from.ps to.ps →
-        result ≡ difference_between frame.entry.claim.now (sampled o original.now.head (frame.entry.clock.original).ps) (sampled e export.now.head (frame.entry.clock.export).ps) (map places_of pairs.now) from.ps to.ps }
+    ensures value { (o e : List ℕ) → Covers original.now o (frame.entry.clock.original).ps from.ps to.ps →
+        Covers export.now e (frame.entry.clock.export).ps from.ps to.ps →
+        result ≡ difference_between frame.entry.claim.now (sampled o original.now.head (frame.entry.clock.original).ps)
+        (sampled e export.now.head (frame.entry.clock.export).ps) (map places_of pairs.now) from.ps to.ps }
     ensures modest { IfSome result (λ f. IsModest f.difference.at × (f.channel < length pairs.now)) }
 {
     if shows_the_same(original, export, frame, from, to) {
@@ -130,11 +137,15 @@ fn finish_both<O: Source, E: Source>(
     requires original { IsGoing original.old.status }
     requires export { IsGoing export.old.status }
     ensures heads { IfOk result (λ found. (original.new.head ≡ original.old.head) × (export.new.head ≡ export.old.head)) }
-    ensures through { IfOk result (λ found. IfNone found (IsTrue (O.is_honest o.old) → IsTrue (E.is_honest e.old) → (a b : List ℕ) → IsThere original.old (O.left o.old) a → IsThere export.old (E.left e.old) b →
-        IsReadThrough a original.old.head (O.left o.new) × IsReadThrough b export.old.head (E.left e.new))) }
-    ensures fault { IfOk result (λ found. IfSome found (λ fault. IsTrue (O.is_honest o.old) → IsTrue (E.is_honest e.old) → (a b : List ℕ) → IsThere original.old (O.left o.old) a → IsThere export.old (E.left e.old) b →
-        IsFaultOf a original.old.head b export.old.head fault)) }
-    ensures out { IfOk result (λ found. IfSome found (λ fault. IsTrue (O.is_honest o.old) → IsTrue (E.is_honest e.old) → (a b : List ℕ) → IsThere original.old (O.left o.old) a → IsThere export.old (E.left e.old) b → IsReadBy fault (O.left o.new))) }
+    ensures through { IfOk result (λ found. IfNone found (OfFiles (O.is_honest o.old) (E.is_honest e.old)
+        (IsThere original.old (O.left o.old)) (IsThere export.old (E.left e.old))
+        (λ a b. IsReadThrough a original.old.head (O.left o.new) × IsReadThrough b export.old.head (E.left e.new)))) }
+    ensures fault { IfOk result (λ found. IfSome found (λ fault. OfFiles (O.is_honest o.old) (E.is_honest e.old)
+        (IsThere original.old (O.left o.old)) (IsThere export.old (E.left e.old))
+        (λ a b. IsFaultOf a original.old.head b export.old.head fault))) }
+    ensures out { IfOk result (λ found. IfSome found (λ fault. OfFiles (O.is_honest o.old) (E.is_honest e.old)
+        (IsThere original.old (O.left o.old)) (IsThere export.old (E.left e.old))
+        (λ a b. IsReadBy fault (O.left o.new)))) }
     ensures stop { IfErr result (CheckStops (Rises (O.failures o.old) (O.failures o.new)) (Rises (E.failures e.old) (E.failures e.new))) }
 {
     match finish(original, o, Side::Original) {
@@ -181,13 +192,23 @@ fn pass_both<O: Source, E: Source>(
     requires order { from.ps ≤ℤ to.ps }
     requires original_reaches { Reaches original.old.reader (frame.clock.original).ps to.ps }
     requires export_reaches { Reaches export.old.reader (frame.clock.export).ps to.ps }
-    ensures original { IfOk result (λ found. IfNone found (Moves original.old.reader original.new.reader (O.is_honest o.old) (O.is_honest o.new) (O.failures o.old) (O.failures o.new) (O.left o.old) (O.left o.new)
-        (map note_value (original.old.notes).items) (map note_value (original.new.notes).items) (Some frame.entry.claim.now) (frame.entry.clock.original).ps from.ps to.ps)) }
-    ensures export { IfOk result (λ found. IfNone found (Moves export.old.reader export.new.reader (E.is_honest e.old) (E.is_honest e.new) (E.failures e.old) (E.failures e.new) (E.left e.old) (E.left e.new)
+    ensures original { IfOk result (λ found. IfNone found (Moves original.old.reader original.new.reader (O.is_honest o.old) (O.is_honest o.new)
+        (O.failures o.old) (O.failures o.new) (O.left o.old) (O.left o.new)
+        (map note_value (original.old.notes).items) (map note_value (original.new.notes).items) (Some frame.entry.claim.now)
+        (frame.entry.clock.original).ps from.ps to.ps)) }
+    ensures export { IfOk result (λ found. IfNone found (Moves export.old.reader export.new.reader (E.is_honest e.old) (E.is_honest e.new)
+        (E.failures e.old) (E.failures e.new) (E.left e.old) (E.left e.new)
         (map note_value (export.old.notes).items) (map note_value (export.new.notes).items) None (frame.entry.clock.export).ps from.ps to.ps)) }
-    ensures out { IfOk result (λ found. IfSome found (λ fault. IsTrue (O.is_honest o.old) → IsTrue (E.is_honest e.old) → (a b : List ℕ) → IsAt original.old.reader (O.left o.old) (map note_value (original.old.notes).items) a (Some frame.entry.claim.now) (frame.entry.clock.original).ps from.ps → IsAt export.old.reader (E.left e.old) (map note_value (export.old.notes).items) b None (frame.entry.clock.export).ps from.ps → IsReadBy fault (O.left o.new))) }
-    ensures fault { IfOk result (λ found. IfSome found (λ fault. IsTrue (O.is_honest o.old) → IsTrue (E.is_honest e.old) → (a b : List ℕ) → IsAt original.old.reader (O.left o.old) (map note_value (original.old.notes).items) a (Some frame.entry.claim.now) (frame.entry.clock.original).ps from.ps → IsAt export.old.reader (E.left e.old) (map note_value (export.old.notes).items) b None (frame.entry.clock.export).ps from.ps →
-        IsFaultOf a (original.old.reader).head b (export.old.reader).head fault)) }
+    ensures out { IfOk result (λ found. IfSome found (λ fault. OfFiles (O.is_honest o.old) (E.is_honest e.old)
+        (λ a. IsAt original.old.reader (O.left o.old) (map note_value (original.old.notes).items) a (Some frame.entry.claim.now)
+        (frame.entry.clock.original).ps from.ps) (λ b. IsAt export.old.reader (E.left e.old) (map note_value (export.old.notes).items) b None
+        (frame.entry.clock.export).ps from.ps)
+        (λ a b. IsReadBy fault (O.left o.new)))) }
+    ensures fault { IfOk result (λ found. IfSome found (λ fault. OfFiles (O.is_honest o.old) (E.is_honest e.old)
+        (λ a. IsAt original.old.reader (O.left o.old) (map note_value (original.old.notes).items) a (Some frame.entry.claim.now)
+        (frame.entry.clock.original).ps from.ps) (λ b. IsAt export.old.reader (E.left e.old) (map note_value (export.old.notes).items) b None
+        (frame.entry.clock.export).ps from.ps)
+        (λ a b. IsFaultOf a (original.old.reader).head b (export.old.reader).head fault))) }
     ensures stop { IfErr result (CheckStops (Rises (O.failures o.old) (O.failures o.new)) (Rises (E.failures e.old) (E.failures e.new))) }
 {
     match pass(
@@ -243,13 +264,18 @@ fn start_both<O: Source, E: Source>(
     requires original_near { unsigned_abs (frame.clock.original).ps < 2 ^ 80 }
     requires export_near { unsigned_abs (frame.clock.export).ps < 2 ^ 80 }
     requires time { time.ps ≡ neg_ℤ (pos (2 ^ 90)) }
-    ensures original { IfOk result (λ found. IfNone found (Follows original.old.reader original.new.reader (O.is_honest o.old) (O.is_honest o.new) (O.failures o.old) (O.failures o.new) (O.left o.old) (O.left o.new)
+    ensures original { IfOk result (λ found. IfNone found (Follows original.old.reader original.new.reader (O.is_honest o.old)
+        (O.is_honest o.new) (O.failures o.old) (O.failures o.new) (O.left o.old) (O.left o.new)
         (map note_value (original.new.notes).items) (Some frame.entry.claim.now) (frame.entry.clock.original).ps time.ps)) }
-    ensures export { IfOk result (λ found. IfNone found (Follows export.old.reader export.new.reader (E.is_honest e.old) (E.is_honest e.new) (E.failures e.old) (E.failures e.new) (E.left e.old) (E.left e.new)
+    ensures export { IfOk result (λ found. IfNone found (Follows export.old.reader export.new.reader (E.is_honest e.old) (E.is_honest e.new)
+        (E.failures e.old) (E.failures e.new) (E.left e.old) (E.left e.new)
         (map note_value (export.new.notes).items) None (frame.entry.clock.export).ps time.ps)) }
-    ensures out { IfOk result (λ found. IfSome found (λ fault. IsTrue (O.is_honest o.old) → IsTrue (E.is_honest e.old) → (a b : List ℕ) → StandsIn original.old.reader (O.left o.old) a → StandsIn export.old.reader (E.left e.old) b → IsReadBy fault (O.left o.new))) }
-    ensures fault { IfOk result (λ found. IfSome found (λ fault. IsTrue (O.is_honest o.old) → IsTrue (E.is_honest e.old) → (a b : List ℕ) → StandsIn original.old.reader (O.left o.old) a → StandsIn export.old.reader (E.left e.old) b →
-        IsFaultOf a (original.old.reader).head b (export.old.reader).head fault)) }
+    ensures out { IfOk result (λ found. IfSome found (λ fault. OfFiles (O.is_honest o.old) (E.is_honest e.old)
+        (StandsIn original.old.reader (O.left o.old)) (StandsIn export.old.reader (E.left e.old))
+        (λ a b. IsReadBy fault (O.left o.new)))) }
+    ensures fault { IfOk result (λ found. IfSome found (λ fault. OfFiles (O.is_honest o.old) (E.is_honest e.old)
+        (StandsIn original.old.reader (O.left o.old)) (StandsIn export.old.reader (E.left e.old))
+        (λ a b. IsFaultOf a (original.old.reader).head b (export.old.reader).head fault))) }
     ensures stop { IfErr result (CheckStops (Rises (O.failures o.old) (O.failures o.new)) (Rises (E.failures e.old) (E.failures e.new))) }
 {
     match start(
@@ -308,13 +334,19 @@ pub(crate) fn walk_records<O: Source, E: Source>(
     requires original_near { unsigned_abs (frame.clock.original).ps < 2 ^ 80 }
     requires export_near { unsigned_abs (frame.clock.export).ps < 2 ^ 80 }
     ensures modest { IfOk result (λ walked. IfOk walked (λ found. IfSome found (λ f. IsModest f.difference.at × (f.channel < length pairs.now)))) }
-    ensures found { IfOk result (λ walked. IfOk walked (λ found. IsTrue (O.is_honest o.old) → IsTrue (E.is_honest e.old) → (a b : List ℕ) → StandsIn original.old.reader (O.left o.old) a → StandsIn export.old.reader (E.left e.old) b →
-        AreWalked a (original.old.reader).head (O.left o.new) (map note_value (original.new.notes).items) b (export.old.reader).head (E.left e.new) (map note_value (export.new.notes).items)
-        frame.entry.claim.now (frame.entry.clock.original).ps (frame.entry.clock.export).ps (map places_of pairs.now) found)) }
-    ensures heads { IfOk result (λ walked. IfOk walked (λ found. ((original.new.reader).head ≡ (original.old.reader).head) × ((export.new.reader).head ≡ (export.old.reader).head))) }
-    ensures fault { IfOk result (λ walked. IfErr walked (λ fault. IsTrue (O.is_honest o.old) → IsTrue (E.is_honest e.old) → (a b : List ℕ) → StandsIn original.old.reader (O.left o.old) a → StandsIn export.old.reader (E.left e.old) b →
-        IsFaultOf a (original.old.reader).head b (export.old.reader).head fault)) }
-    ensures out { IfOk result (λ walked. IfErr walked (λ fault. IsTrue (O.is_honest o.old) → IsTrue (E.is_honest e.old) → (a b : List ℕ) → StandsIn original.old.reader (O.left o.old) a → StandsIn export.old.reader (E.left e.old) b → IsReadBy fault (O.left o.new))) }
+    ensures found { IfOk result (λ walked. IfOk walked (λ found. OfFiles (O.is_honest o.old) (E.is_honest e.old)
+        (StandsIn original.old.reader (O.left o.old)) (StandsIn export.old.reader (E.left e.old))
+        (λ a b. AreWalked a (original.old.reader).head (O.left o.new) (map note_value (original.new.notes).items)
+        b (export.old.reader).head (E.left e.new) (map note_value (export.new.notes).items)
+        frame.entry.claim.now (frame.entry.clock.original).ps (frame.entry.clock.export).ps (map places_of pairs.now) found))) }
+    ensures heads { IfOk result (λ walked. IfOk walked (λ found. ((original.new.reader).head ≡ (original.old.reader).head)
+        × ((export.new.reader).head ≡ (export.old.reader).head))) }
+    ensures fault { IfOk result (λ walked. IfErr walked (λ fault. OfFiles (O.is_honest o.old) (E.is_honest e.old)
+        (StandsIn original.old.reader (O.left o.old)) (StandsIn export.old.reader (E.left e.old))
+        (λ a b. IsFaultOf a (original.old.reader).head b (export.old.reader).head fault))) }
+    ensures out { IfOk result (λ walked. IfErr walked (λ fault. OfFiles (O.is_honest o.old) (E.is_honest e.old)
+        (StandsIn original.old.reader (O.left o.old)) (StandsIn export.old.reader (E.left e.old))
+        (λ a b. IsReadBy fault (O.left o.new)))) }
     ensures stop { IfErr result (CheckStops (Rises (O.failures o.old) (O.failures o.new)) (Rises (E.failures e.old) (E.failures e.new))) }
 {
     let mut time = BEGINNING;

@@ -1,7 +1,7 @@
 //! By how much instants are moved.
 
 /// So many picoseconds, by which instants are moved.
-#[derive(Debug, Clone, Copy)]
+#[derive(Clone, Copy)]
 pub struct Offset {
     pub ps: i128,
 }

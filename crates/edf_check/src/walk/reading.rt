@@ -4,10 +4,11 @@ ghost use Rattle.std.specs.Prelude.{◌≡◌, ◌<◌, ◌≤◌, ◌+◌, ◌+
 ghost use Rattle.edf_fields.specs.Sources.{Rises};
 ghost use Rattle.edf_stream.specs.Conforming.{Conforms};
 ghost use Rattle.edf_stream.specs.Faults.{body_fault};
-ghost use Rattle.edf_stream.specs.Notes.{notes_in, moved_notes_in};
+ghost use Rattle.edf_stream.specs.NotesReading.{notes_in, moved_notes_in};
 ghost use Rattle.edf_stream.specs.Readers.{HasBegun, IsOpen, is_current, StandsIn, Comes};
 ghost use Rattle.edf_stream.specs.Starts.{file_start};
 ghost use Rattle.edf_stream.specs.Views.{note_value};
+ghost use Rattle.edf_check.specs.Premises.{OfFile};
 ghost use Rattle.edf_check.specs.Checks.{SideStops};
 ghost use Rattle.edf_check.specs.walk.Gathered.{claim_of, gathered_of, gathered_in};
 ghost use Rattle.edf_check.specs.walk.Shown.{ends_at, IsGoing, IsAhead, Reaches};
@@ -46,12 +47,16 @@ fn go_on<S: Source>(
     ensures near { unsigned_abs reader.new.ended < 2 ^ 71 }
     ensures going { IfOk result (λ found. IfNone found (IsGoing reader.new.status)) }
     ensures later { IfOk result (λ found. IfNone found (is_current reader.new.status ≡ true → reader.old.ended <ℤ reader.new.ended)) }
-    ensures count { IfOk result (λ found. IfNone found (is_current reader.new.status ≡ true → (reader.new.read ≡ reader.old.read + 1) × (reader.new.read ≤ (reader.new.head).records))) }
-    ensures notes { IfOk result (λ found. IfNone found (is_current reader.new.status ≡ true → reader.new.notes ≡ reader.old.notes + length (notes_in reader.new.head reader.new.current))) }
+    ensures count { IfOk result (λ found. IfNone found (is_current reader.new.status ≡ true → (reader.new.read ≡ reader.old.read + 1)
+        × (reader.new.read ≤ (reader.new.head).records))) }
+    ensures notes { IfOk result (λ found. IfNone found (is_current reader.new.status ≡ true →
+        reader.new.notes ≡ reader.old.notes + length (notes_in reader.new.head reader.new.current))) }
     ensures honesty { IfOk result (λ found. IfNone found (IsTrue (S.is_honest source.old) → IsTrue (S.is_honest source.new))) }
     ensures failures { IfOk result (λ found. IfNone found (S.failures source.new ≡ S.failures source.old)) }
-    ensures comes { IfOk result (λ found. IfNone found (IsTrue (S.is_honest source.old) → (file : List ℕ) → StandsIn reader.old (S.left source.old) file → Comes (is_current reader.new.status) reader.old reader.new (S.left source.new) file)) }
-    ensures fault { IfOk result (λ found. IfSome found (λ fault. IsTrue (S.is_honest source.old) → (file : List ℕ) → StandsIn reader.old (S.left source.old) file → body_fault file reader.old.head ≡ Some fault)) }
+    ensures comes { IfOk result (λ found. IfNone found (OfFile (S.is_honest source.old) (StandsIn reader.old (S.left source.old))
+        (λ file. Comes (is_current reader.new.status) reader.old reader.new (S.left source.new) file))) }
+    ensures fault { IfOk result (λ found. IfSome found (λ fault. OfFile (S.is_honest source.old) (StandsIn reader.old (S.left source.old))
+        (λ file. body_fault file reader.old.head ≡ Some fault))) }
     ensures stop { IfErr result (SideStops side (Rises (S.failures source.old) (S.failures source.new))) }
 {
     match reader.next(source) {
@@ -72,8 +77,10 @@ pub(crate) fn finish<S: Source>(
 ) -> Result<Option<Fault>, CheckStop>
     requires going { IsGoing reader.old.status }
     ensures head { reader.new.head ≡ reader.old.head }
-    ensures found { IfOk result (λ found. IsTrue (S.is_honest source.old) → (file : List ℕ) → IsThere reader.old (S.left source.old) file → body_fault file reader.old.head ≡ found) }
-    ensures out { IfOk result (λ found. IfNone found (IsTrue (S.is_honest source.old) → (file : List ℕ) → IsThere reader.old (S.left source.old) file → (S.left source.new ≡ []) × Conforms file reader.old.head)) }
+    ensures found { IfOk result (λ found. OfFile (S.is_honest source.old) (IsThere reader.old (S.left source.old))
+        (λ file. body_fault file reader.old.head ≡ found)) }
+    ensures out { IfOk result (λ found. IfNone found (OfFile (S.is_honest source.old) (IsThere reader.old (S.left source.old))
+        (λ file. (S.left source.new ≡ []) × Conforms file reader.old.head))) }
     ensures stop { IfErr result (SideStops side (Rises (S.failures source.old) (S.failures source.new))) }
 {
     while reader.has_current() {
@@ -95,8 +102,10 @@ pub(crate) fn read_out<S: Source>(
     side: Side,
 ) -> Result<Option<Fault>, CheckStop>
     requires begun { HasBegun reader.old }
-    ensures found { IfOk result (λ found. IsTrue (S.is_honest source.old) → (file : List ℕ) → StandsIn reader.old (S.left source.old) file → body_fault file reader.old.head ≡ found) }
-    ensures out { IfOk result (λ found. IfNone found (IsTrue (S.is_honest source.old) → (file : List ℕ) → StandsIn reader.old (S.left source.old) file → (S.left source.new ≡ []) × Conforms file reader.old.head)) }
+    ensures found { IfOk result (λ found. OfFile (S.is_honest source.old) (StandsIn reader.old (S.left source.old))
+        (λ file. body_fault file reader.old.head ≡ found)) }
+    ensures out { IfOk result (λ found. IfNone found (OfFile (S.is_honest source.old) (StandsIn reader.old (S.left source.old))
+        (λ file. (S.left source.new ≡ []) × Conforms file reader.old.head))) }
     ensures stop { IfErr result (SideStops side (Rises (S.failures source.old) (S.failures source.new))) }
 {
     match go_on(reader, source, side) {
@@ -113,7 +122,7 @@ pub(crate) fn read_out<S: Source>(
 /// there.
 ///
 /// The error is want of memory, or a failure of the source.
-fn take<S: Source>(
+fn gather_next<S: Source>(
     alloc: Global,
     reading: &mut Reading,
     source: &mut S,
@@ -125,14 +134,20 @@ fn take<S: Source>(
     ensures head { (reading.new.reader).head ≡ (reading.old.reader).head }
     ensures near { unsigned_abs (reading.new.reader).ended < 2 ^ 71 }
     ensures going { IfOk result (λ found. IfNone found (IsGoing (reading.new.reader).status)) }
-    ensures later { IfOk result (λ found. IfNone found (is_current (reading.new.reader).status ≡ true → (reading.old.reader).ended <ℤ (reading.new.reader).ended)) }
-    ensures count { IfOk result (λ found. IfNone found (is_current (reading.new.reader).status ≡ true → ((reading.new.reader).read ≡ (reading.old.reader).read + 1) × ((reading.new.reader).read ≤ ((reading.new.reader).head).records))) }
-    ensures start { IfOk result (λ found. IfNone found (is_current (reading.new.reader).status ≡ true → unsigned_abs (file_start (reading.new.reader).head) < 2 ^ 39 * 10 ^ 12)) }
-    ensures gathered { IfOk result (λ found. IfNone found (map note_value (reading.new.notes).items ≡ map note_value (reading.old.notes).items ++ gathered_in (claim_of view.entry) (view.entry.moved).ps reading.new.reader)) }
+    ensures later { IfOk result (λ found. IfNone found (is_current (reading.new.reader).status ≡ true →
+        (reading.old.reader).ended <ℤ (reading.new.reader).ended)) }
+    ensures count { IfOk result (λ found. IfNone found (is_current (reading.new.reader).status ≡ true →
+        ((reading.new.reader).read ≡ (reading.old.reader).read + 1) × ((reading.new.reader).read ≤ ((reading.new.reader).head).records))) }
+    ensures start { IfOk result (λ found. IfNone found (is_current (reading.new.reader).status ≡ true →
+        unsigned_abs (file_start (reading.new.reader).head) < 2 ^ 39 * 10 ^ 12)) }
+    ensures gathered { IfOk result (λ found. IfNone found (map note_value (reading.new.notes).items ≡ map note_value (reading.old.notes).items
+        ++ gathered_in (claim_of view.entry) (view.entry.moved).ps reading.new.reader)) }
     ensures honesty { IfOk result (λ found. IfNone found (IsTrue (S.is_honest source.old) → IsTrue (S.is_honest source.new))) }
     ensures failures { IfOk result (λ found. IfNone found (S.failures source.new ≡ S.failures source.old)) }
-    ensures comes { IfOk result (λ found. IfNone found (IsTrue (S.is_honest source.old) → (file : List ℕ) → StandsIn reading.old.reader (S.left source.old) file → Comes (is_current (reading.new.reader).status) reading.old.reader reading.new.reader (S.left source.new) file)) }
-    ensures fault { IfOk result (λ found. IfSome found (λ fault. IsTrue (S.is_honest source.old) → (file : List ℕ) → StandsIn reading.old.reader (S.left source.old) file → body_fault file (reading.old.reader).head ≡ Some fault)) }
+    ensures comes { IfOk result (λ found. IfNone found (OfFile (S.is_honest source.old) (StandsIn reading.old.reader (S.left source.old))
+        (λ file. Comes (is_current (reading.new.reader).status) reading.old.reader reading.new.reader (S.left source.new) file))) }
+    ensures fault { IfOk result (λ found. IfSome found (λ fault. OfFile (S.is_honest source.old) (StandsIn reading.old.reader (S.left source.old))
+        (λ file. body_fault file (reading.old.reader).head ≡ Some fault))) }
     ensures stop { IfErr result (SideStops side (Rises (S.failures source.old) (S.failures source.new))) }
 {
     let before = reading.reader.note_count();
@@ -200,15 +215,17 @@ pub(crate) fn pass<S: Source>(
     requires order { from.ps ≤ℤ to.ps }
     requires reaches { Reaches reading.old.reader (view.moved).ps to.ps }
     ensures head { (reading.new.reader).head ≡ (reading.old.reader).head }
-    ensures moves { IfOk result (λ found. IfNone found (Moves reading.old.reader reading.new.reader (S.is_honest source.old) (S.is_honest source.new) (S.failures source.old) (S.failures source.new) (S.left source.old) (S.left source.new)
+    ensures moves { IfOk result (λ found. IfNone found (Moves reading.old.reader reading.new.reader (S.is_honest source.old)
+        (S.is_honest source.new) (S.failures source.old) (S.failures source.new) (S.left source.old) (S.left source.new)
         (map note_value (reading.old.notes).items) (map note_value (reading.new.notes).items) (claim_of view.entry) (view.entry.moved).ps from.ps to.ps)) }
-    ensures fault { IfOk result (λ found. IfSome found (λ fault. IsTrue (S.is_honest source.old) → (file : List ℕ) → IsThere reading.old.reader (S.left source.old) file → body_fault file (reading.old.reader).head ≡ Some fault)) }
+    ensures fault { IfOk result (λ found. IfSome found (λ fault. OfFile (S.is_honest source.old) (IsThere reading.old.reader (S.left source.old))
+        (λ file. body_fault file (reading.old.reader).head ≡ Some fault))) }
     ensures stop { IfErr result (SideStops side (Rises (S.failures source.old) (S.failures source.new))) }
 {
     if !is_past(&reading.reader, view.moved, to) {
         return Ok(None);
     }
-    match take(alloc, reading, source, side, view) {
+    match gather_next(alloc, reading, source, side, view) {
         Ok(None) => Ok(None),
         Ok(Some(fault)) => Ok(Some(fault)),
         Err(stop) => Err(stop),
@@ -231,12 +248,14 @@ pub(crate) fn start<S: Source>(
     requires near { unsigned_abs (view.moved).ps < 2 ^ 80 }
     requires time { time.ps ≡ neg_ℤ (pos (2 ^ 90)) }
     ensures head { (reading.new.reader).head ≡ (reading.old.reader).head }
-    ensures follows { IfOk result (λ found. IfNone found (Follows reading.old.reader reading.new.reader (S.is_honest source.old) (S.is_honest source.new) (S.failures source.old) (S.failures source.new) (S.left source.old) (S.left source.new)
+    ensures follows { IfOk result (λ found. IfNone found (Follows reading.old.reader reading.new.reader (S.is_honest source.old)
+        (S.is_honest source.new) (S.failures source.old) (S.failures source.new) (S.left source.old) (S.left source.new)
         (map note_value (reading.new.notes).items) (claim_of view.entry) (view.entry.moved).ps time.ps)) }
-    ensures fault { IfOk result (λ found. IfSome found (λ fault. IsTrue (S.is_honest source.old) → (file : List ℕ) → StandsIn reading.old.reader (S.left source.old) file → body_fault file (reading.old.reader).head ≡ Some fault)) }
+    ensures fault { IfOk result (λ found. IfSome found (λ fault. OfFile (S.is_honest source.old) (StandsIn reading.old.reader (S.left source.old))
+        (λ file. body_fault file (reading.old.reader).head ≡ Some fault))) }
     ensures stop { IfErr result (SideStops side (Rises (S.failures source.old) (S.failures source.new))) }
 {
-    match take(alloc, reading, source, side, view) {
+    match gather_next(alloc, reading, source, side, view) {
         Ok(None) => Ok(None),
         Ok(Some(fault)) => Ok(Some(fault)),
         Err(stop) => Err(stop),

@@ -1,7 +1,7 @@
 //! Times at which two files are cut.
 
 /// A time, in picoseconds after the second at which the original starts, before the shift.
-#[derive(Debug, Clone, Copy)]
+#[derive(Clone, Copy)]
 pub struct Time {
     pub ps: i128,
 }

@@ -4,7 +4,7 @@ ghost use Rattle.std.specs.Prelude.{◌≡◌, ◌<◌, ◌^◌, IfOk, IfSome, N
 ghost use Rattle.std.specs.Cmp.Lexicographic.{slice_cmp};
 ghost use Rattle.std.specs.List.Sorted.{IsSorted};
 ghost use Rattle.std.specs.Ordering.{nat_cmp};
-ghost use Rattle.edf_fields.specs.Lists.{AreDistinct};
+ghost use Rattle.edf_fields.specs.Distinct.{AreDistinct};
 ghost use Rattle.edf_check.specs.samples.Columns.{channel_at as channel_in};
 ghost use Rattle.edf_check.specs.walk.Tracks.{other_side, track_on, tracks_on, AreFound, IsPutAt};
 ghost use Rattle.edf_check.specs.walk.Pairs.{ArePairs, places_of};
@@ -13,19 +13,19 @@ use crate::side::Side;
 use crate::walk::channel_place::ChannelPlace;
 use edf_header::header::Header;
 use edf_header::signal::Signal;
-use edf_heads::labels::place_of;
+use edf_heads::labels::found_at;
 use std::alloc::{AllocError, Global};
 use std::mem::size_of;
 
 /// A channel of a file: which of the signals it is, and which of the channels.
-#[derive(Debug, Clone, Copy, PartialEq, Eq)]
+#[derive(Clone, Copy, PartialEq, Eq)]
 pub struct Track {
     pub signal: u16,
     pub place: ChannelPlace,
 }
 
 /// The channels of a label in the original and in the export, where they have such.
-#[derive(Debug, Clone, Copy, PartialEq, Eq)]
+#[derive(Clone, Copy, PartialEq, Eq)]
 pub struct Pair {
     pub original: Option<Track>,
     pub export: Option<Track>,
@@ -93,7 +93,7 @@ fn put_track(pairs: &mut [Pair], labels: &[&[u8]], label: &[u8], side: Side, tra
     ensures here { IsPutAt (map (λ label. label.now) labels.now) label.now track (tracks_on side pairs.old) (tracks_on side pairs.new) }
     ensures there { tracks_on (other_side side) pairs.new ≡ tracks_on (other_side side) pairs.old }
 {
-    if let Some(place) = place_of(labels, label) {
+    if let Some(place) = found_at(labels, label) {
         pairs[place] = pairs[place].with(side, track);
     }
 }

@@ -1,7 +1,7 @@
 //! What reading two files to their ends found, and the verdict on it.
 
 ghost use Rattle.std.specs.Prelude.{◌≡◌, ℕ, List};
-ghost use Rattle.edf_claim.specs.Claims.{Terms};
+ghost use Rattle.edf_claim.specs.Terms.{Terms};
 ghost use Rattle.edf_stream.specs.Readers.{Reader, StandsIn};
 ghost use Rattle.edf_verdict.specs.declared.verdict.Verdict.TheVariants as verdicts;
 ghost use Rattle.edf_verdict.specs.declared.verdict.Difference.TheVariants as differences;
@@ -17,14 +17,14 @@ use edf_stream::conform::Summary;
 use edf_verdict::verdict::{Difference, Verdict};
 
 /// A fault of one of two files. That of the original goes before that of the export.
-#[derive(Debug, Clone, Copy, PartialEq, Eq)]
+#[derive(Clone, Copy, PartialEq, Eq)]
 pub(crate) enum FaultOf {
     Original(Fault),
     Export(Fault),
 }
 
 /// What reading both files to their ends found.
-#[derive(Debug, Drop)]
+#[derive(Drop)]
 pub(crate) enum Walked {
     /// The original has a fault: its first one.
     OriginalFault(Fault),
@@ -43,7 +43,8 @@ pub(crate) enum Walked {
 impl FaultOf {
     /// What a fault of one of the files comes to.
     pub(crate) fn walked(self) -> Walked
-        ensures walked { (o e : List ℕ) (claim : Terms) (r s : Reader) (a b : List ℕ) → StandsIn r a o → StandsIn s b e → IsFaultOf o r.head e s.head self → IsWalked o e claim result }
+        ensures walked { (o e : List ℕ) (claim : Terms) (r s : Reader) (a b : List ℕ) → StandsIn r a o → StandsIn s b e →
+        IsFaultOf o r.head e s.head self → IsWalked o e claim result }
         ensures read { (a b : List ℕ) → IsReadBy self a → IsReadOut result a b }
     {
         match self {

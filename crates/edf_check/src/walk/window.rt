@@ -1,12 +1,14 @@
 //! What two files show between two times.
 
 ghost use Rattle.std.specs.Prelude.{◌≡◌, ◌<◌, ◌≤◌, ◌+ℤ◌, ◌*ℤ◌, ◌^◌, ◌*◌, ℕ, pos, ◌≤ℤ◌, List, map, length, IsTrue, Some, IfSome, unsigned_abs};
-ghost use Rattle.edf_claim.specs.Keeps.{IsUncut, keeps_instant};
+ghost use Rattle.edf_claim.specs.Keeps.{keeps_instant};
+ghost use Rattle.edf_claim.specs.KeepsReading.{IsUncut};
 ghost use Rattle.edf_stream.specs.Readers.{is_current};
 ghost use Rattle.edf_stream.specs.Records.{lane_of};
-ghost use Rattle.edf_stream.specs.Starts.{file_start, start_in};
-ghost use Rattle.edf_check.specs.Instants.{IsModest};
-ghost use Rattle.edf_check.specs.samples.Stretches.{points_in, IsLane, IsPart};
+ghost use Rattle.edf_stream.specs.Starts.{file_start};
+ghost use Rattle.edf_stream.specs.StartsReading.{start_in};
+ghost use Rattle.edf_check.specs.InstantOrder.{IsModest};
+ghost use Rattle.edf_check.specs.samples.Stretches.{points_in, IsBounded, IsPart};
 ghost use Rattle.edf_check.specs.samples.Cuts.{whole, since, until};
 ghost use Rattle.edf_check.specs.walk.Windows.{sampled, points_at, kept_at, window_of, window_difference as difference_between};
 ghost use Rattle.edf_check.specs.walk.Pairs.{places_of, IsTrack, ArePairs};
@@ -79,7 +81,7 @@ fn lane_stretch<'a>(reader: &'a FileReader, track: Track, moved: Offset) -> Stre
     requires current { IsTrue (is_current reader.now.status) }
     requires track { IsTrack reader.now.head track }
     requires near { unsigned_abs moved.ps < 2 ^ 80 }
-    ensures lane { IsLane result }
+    ensures lane { IsBounded result }
     ensures den { result.den ≡ track.place.samples }
     ensures value { (t : IsTrack reader.now.head track) → points_in result ≡ shown_points reader.now.head moved.ps (t.place).channel reader.now.current }
 {
@@ -107,7 +109,8 @@ fn window<'a>(
     requires order { from.ps ≤ℤ to.ps }
     ensures part { IsPart result }
     ensures den { result.den ≡ track.place.samples }
-    ensures value { (file : List ℕ) → Covers reader.now file moved.ps from.ps to.ps → points_in result ≡ until track.place.samples to.ps (since track.place.samples from.ps (points_at (sampled file reader.now.head moved.ps) track.place)) }
+    ensures value { (file : List ℕ) → Covers reader.now file moved.ps from.ps to.ps → points_in result
+        ≡ until track.place.samples to.ps (since track.place.samples from.ps (points_at (sampled file reader.now.head moved.ps) track.place)) }
 {
     if reader.has_current() {
         between(lane_stretch(reader, track, moved), from, to)
@@ -140,7 +143,9 @@ fn kept_window<'a>(
     requires uncut { IsUncut claim.now.keep from.ps to.ps }
     ensures part { IsPart result }
     ensures den { result.den ≡ track.place.samples }
-    ensures value { (file : List ℕ) → Covers reader.now file moved.ps from.ps to.ps → points_in result ≡ until track.place.samples to.ps (since track.place.samples from.ps (kept_at claim.now (sampled file reader.now.head moved.ps) track.place)) }
+    ensures value { (file : List ℕ) → Covers reader.now file moved.ps from.ps to.ps → points_in result
+        ≡ until track.place.samples to.ps (since track.place.samples from.ps (kept_at claim.now
+        (sampled file reader.now.head moved.ps) track.place)) }
 {
     if keeps_at(claim, from) {
         window(reader, track, moved, from, to)
@@ -201,7 +206,8 @@ pub(crate) fn window_difference(
     requires order { from.ps ≤ℤ to.ps }
     requires uncut { IsUncut claim.now.keep from.ps to.ps }
     ensures value { (o e : List ℕ) → Covers original.now o (clock.original).ps from.ps to.ps → Covers export.now e (clock.export).ps from.ps to.ps →
-        result ≡ difference_between claim.now (sampled o original.now.head (clock.original).ps) (sampled e export.now.head (clock.export).ps) (map places_of pairs.now) from.ps to.ps }
+        result ≡ difference_between claim.now (sampled o original.now.head (clock.original).ps) (sampled e export.now.head (clock.export).ps)
+        (map places_of pairs.now) from.ps to.ps }
     ensures modest { IfSome result (λ f. IsModest f.difference.at × (f.channel < length pairs.now)) }
 {
     let mut held = None;

@@ -3,9 +3,9 @@ use Rattle.std.specs.Cmp.Lexicographic.{slice_cmp}
 use Rattle.std.specs.List.{All}
 use Rattle.std.specs.List.Sorted.{IsSorted}
 use Rattle.std.specs.Ordering.{nat_cmp}
-use Rattle.edf_fields.specs.Lists.{AreDistinct}
+use Rattle.edf_fields.specs.Distinct.{AreDistinct}
 use Rattle.edf_header.specs.Heads.{Head, samples_together}
-use Rattle.edf_stream.specs.Summaries.{channels_among}
+use Rattle.edf_header.specs.Channels.{channels_among}
 use Rattle.edf_check.specs.samples.Columns.{channel_at}
 use Rattle.edf_heads.specs.Comparisons.{AreSorted}
 use Rattle.edf_check.specs.declared.walk.track.Pair.{Pair}

@@ -1,6 +1,7 @@
 use Rattle.std.proofs.Common.{◌≡◌, length}
 use Rattle.std.specs.List.{list_any}
-use Rattle.edf_claim.specs.Keeps.{AreKept, is_within}
+use Rattle.edf_claim.specs.Keeps.{is_within}
+use Rattle.edf_claim.specs.KeepsReading.{AreKept}
 use Rattle.edf_claim.proofs.claim.is_in_one.Given as goal
 
 abbrev pub invariant-loop-left : goal.invariant-loop-left

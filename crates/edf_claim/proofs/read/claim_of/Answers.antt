@@ -2,7 +2,8 @@ use Rattle.std.proofs.Common.{sym, subst, map, List, ℕ, SFits}
 use Rattle.std.specs.Int.{w64}
 use Rattle.std.proofs.Math.Facts.{to_z-of_z}
 use Rattle.toml.specs.View.{table_view}
-use Rattle.edf_claim.specs.Claims.{Terms, IsClaim}
+use Rattle.edf_claim.specs.Claims.{IsClaim}
+use Rattle.edf_claim.specs.Terms.{Terms}
 use Rattle.edf_claim.specs.Reading.{terms_of}
 use Rattle.edf_claim.proofs.ReadingFacts.{table-says, terms-are, said-sound}
 use Rattle.edf_claim.proofs.read.claim_of.Goals as goal

@@ -1,5 +1,6 @@
 use Rattle.std.proofs.Common.{◌≡◌, map, take, IsTrue}
-use Rattle.edf_command.specs.Vectors.{row_of, AreRowsWritten}
+use Rattle.edf_command.specs.Vectors.{AreRowsWritten}
+use Rattle.edf_rows.specs.Rows.{row_of}
 use Rattle.edf_command.proofs.vectors.write_rows.Given as goal
 
 abbrev pub invariant-loop-row : goal.invariant-loop-row

@@ -1,5 +1,5 @@
 use Rattle.std.proofs.Common.{◌≡◌, ◌-◌, map, drop}
-use Rattle.edf_fields.specs.Lists.{are_distinct}
+use Rattle.edf_fields.specs.Distinct.{are_distinct}
 use Rattle.edf_fields.proofs.distinct.neighbours_differ.Given as goal
 
 abbrev pub invariant-loop-later : goal.invariant-loop-later

@@ -1,5 +1,5 @@
 use Rattle.std.proofs.Common.{length, ◌-◌, ◌≡◌, ◌≤◌, drop}
-use Rattle.edf_fields.specs.Subfields.{subfields_of}
+use Rattle.edf_fields.specs.SubfieldsReading.{subfields_of}
 use Rattle.edf_fields.proofs.subfields.leading_spaces.Given as goal
 
 abbrev pub invariant-loop-start : goal.invariant-loop-start

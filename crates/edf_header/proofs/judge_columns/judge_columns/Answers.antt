@@ -2,9 +2,9 @@ use Rattle.std.proofs.Common.{◌≡◌, ◌<◌, ◌^◌, ◌∙◌, Some, leng
 use Rattle.std.proofs.lemmas.Result.{err_from_is_err_and}
 use Rattle.edf_header.specs.Faults.{signals_faults, joint_faults, columns_tests}
 use Rattle.edf_fields.specs.Tests.{first}
-use Rattle.edf_header.specs.Heads.{signals_in}
+use Rattle.edf_header.specs.HeadsReading.{signals_in}
 use Rattle.edf_header.proofs.FirstFacts.{stops-weaker}
-use Rattle.edf_header.specs.Layout.{columns}
+use Rattle.edf_header.specs.LayoutReading.{columns}
 use Rattle.edf_header.proofs.ColumnFacts.{columns-adjacent}
 use Rattle.edf_header.proofs.SignalFacts.{length-signals}
 use Rattle.edf_header.proofs.TogetherFacts.{signals_found, joint-left}

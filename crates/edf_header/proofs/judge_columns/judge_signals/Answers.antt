@@ -2,7 +2,7 @@ use Rattle.std.proofs.Common.{◌≡◌, ◌<◌, ◌+◌, ◌-◌, ◌*◌, ◌
 use Rattle.std.proofs.lemmas.Result.{err_from_is_err_and}
 use Rattle.edf_header.specs.Faults.{signal_faults, signals_faults}
 use Rattle.edf_fields.specs.Tests.{first}
-use Rattle.edf_header.specs.Heads.{signals_from, signals_in}
+use Rattle.edf_header.specs.HeadsReading.{signals_from, signals_in}
 use Rattle.edf_header.proofs.FirstFacts.{stops-weaker}
 use Rattle.edf_header.proofs.SignalFacts.{signal-passed, signal-found, signal-more}
 use Rattle.edf_header.proofs.judge_columns.judge_signals.Goals as goal

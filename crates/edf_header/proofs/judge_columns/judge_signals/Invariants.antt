@@ -1,7 +1,7 @@
 use Rattle.std.proofs.Common.{◌≡◌, ◌-◌, ◌*◌, ◌^◌, ◌≤◌, ◌++◌}
 use Rattle.edf_header.specs.Faults.{signals_faults}
 use Rattle.edf_fields.specs.Tests.{first}
-use Rattle.edf_header.specs.Heads.{signals_from, signals_in}
+use Rattle.edf_header.specs.HeadsReading.{signals_from, signals_in}
 use Rattle.edf_header.proofs.judge_columns.judge_signals.Given as goal
 
 abbrev pub invariant-loop-s : goal.invariant-loop-s

@@ -1,4 +1,4 @@
-use Rattle.std.proofs.Common.{◌≡◌, ◌∙◌}
+use Rattle.std.proofs.Common.{◌∙◌}
 use Rattle.std.proofs.lemmas.Result.{err_from_is_err_and}
 use Rattle.edf_header.proofs.ReadFacts.{front_found}
 use Rattle.edf_header.proofs.read.read_fixed.Goals as goal

@@ -1,5 +1,5 @@
 use Rattle.std.proofs.Common.{sym, ◌∙◌}
-use Rattle.edf_fields.specs.Identifications.{recording_of}
+use Rattle.edf_fields.specs.IdentificationsReading.{recording_of}
 use Rattle.edf_header.proofs.SaidFacts.{recording_date_is}
 use Rattle.edf_header.proofs.startdate.read_date.Goals as goal
 

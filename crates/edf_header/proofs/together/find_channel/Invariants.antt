@@ -1,6 +1,6 @@
 use Rattle.std.proofs.Common.{◌≡◌, drop}
 use Rattle.std.specs.List.{position_from}
-use Rattle.edf_header.specs.Channels.{is_channel_of}
+use Rattle.edf_header.specs.ChannelsReading.{is_channel_of}
 use Rattle.edf_header.proofs.together.find_channel.Given as goal
 
 abbrev pub invariant-loop-s : goal.invariant-loop-s

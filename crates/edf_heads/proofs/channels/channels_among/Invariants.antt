@@ -1,5 +1,5 @@
 use Rattle.std.proofs.Common.{◌≡◌, ◌++◌, map, filter, drop}
-use Rattle.edf_heads.specs.Comparisons.{is_ordinary}
+use Rattle.edf_header.specs.Channels.{is_ordinary}
 use Rattle.edf_heads.proofs.channels.channels_among.Given as goal
 
 abbrev pub invariant-loop-signal : goal.invariant-loop-signal

@@ -1,6 +1,6 @@
 use Rattle.std.proofs.Common.{IsTrue, ◌≡◌}
 use Rattle.edf_fields.specs.Sources.{Rises}
-use Rattle.edf_header.specs.Heads.{head_of}
+use Rattle.edf_header.specs.HeadsReading.{head_of}
 use Rattle.edf_stream.specs.Faults.{file_fault}
 use Rattle.edf_report.specs.ConformTexts.{file_counts, conform_text}
 use Rattle.edf_report.proofs.ReportFacts.{fault_reported, counted}

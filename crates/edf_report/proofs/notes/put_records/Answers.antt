@@ -1,7 +1,6 @@
-use Rattle.std.proofs.Common.{◌≡◌, ℕ, List, true, Ok, Some, IsTrue, subst, sym, refl, ap, ◌∙◌}
+use Rattle.std.proofs.Common.{◌≡◌, ℕ, List, Ok, Some, IsTrue, subst, sym, refl, ap, ◌∙◌}
 use Rattle.edf_fields.specs.Sources.{Rises}
 use Rattle.edf_fields.specs.Sinks.{HoldsPrefix}
-use Rattle.edf_header.specs.declared.fault.Fault.{Fault}
 use Rattle.edf_header.specs.Heads.{Head}
 use Rattle.edf_verdict.specs.declared.outcome.Outcome.{Outcome}
 use Rattle.edf_stream.specs.Faults.{body_fault}

@@ -1,7 +1,8 @@
 use Rattle.std.proofs.Common.{IsTrue, ◌≡◌, ap, ◌∙◌, drop}
 use Rattle.edf_fields.specs.Sources.{Rises}
 use Rattle.edf_header.specs.Faults.{header_fault}
-use Rattle.edf_header.specs.Heads.{Head, head_of, header_bytes}
+use Rattle.edf_header.specs.Heads.{Head, header_bytes}
+use Rattle.edf_header.specs.HeadsReading.{head_of}
 use Rattle.edf_report.specs.ShowTexts.{head_text, show_text}
 use Rattle.edf_report.proofs.ReportFacts.{fault_reported, shown}
 use Rattle.edf_report.proofs.show.report.Goals as goal

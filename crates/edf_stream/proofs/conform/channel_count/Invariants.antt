@@ -1,5 +1,5 @@
 use Rattle.std.proofs.Common.{◌≡◌, ◌≤◌, ◌+◌, length, drop}
-use Rattle.edf_stream.specs.Summaries.{channels_among}
+use Rattle.edf_header.specs.Channels.{channels_among}
 use Rattle.edf_stream.proofs.conform.channel_count.Given as goal
 
 abbrev pub invariant-loop-signal : goal.invariant-loop-signal

@@ -1,6 +1,6 @@
 use Rattle.std.proofs.Common.{◌≡◌, ◌≤◌, ◌+◌, drop}
 use Rattle.edf_header.specs.Heads.{samples_together}
-use Rattle.edf_stream.specs.Summaries.{channels_among}
+use Rattle.edf_header.specs.Channels.{channels_among}
 use Rattle.edf_stream.proofs.conform.channel_samples.Given as goal
 
 abbrev pub invariant-loop-signal : goal.invariant-loop-signal

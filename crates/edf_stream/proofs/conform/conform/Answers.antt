@@ -1,11 +1,12 @@
 use Rattle.std.proofs.Common.{◌≡◌, ◌*◌, ℕ, length, List, IsTrue, Some, Ok, subst, sym, ap, ◌∙◌}
 use Rattle.edf_fields.specs.Sources.{Rises}
 use Rattle.edf_header.specs.Faults.{header_fault}
-use Rattle.edf_header.specs.Heads.{Head, head_of, samples_together}
+use Rattle.edf_header.specs.Heads.{Head, samples_together}
+use Rattle.edf_header.specs.HeadsReading.{head_of}
 use Rattle.edf_stream.specs.Faults.{body_fault, file_fault}
 use Rattle.edf_stream.specs.Conforming.{Conforms}
-use Rattle.edf_stream.specs.Notes.{notes_before}
-use Rattle.edf_stream.specs.Summaries.{channels_among}
+use Rattle.edf_stream.specs.NotesReading.{notes_before}
+use Rattle.edf_header.specs.Channels.{channels_among}
 use Rattle.edf_stream.specs.Readers.{IsOpen, status_after, StandsIn, Comes}
 use Rattle.edf_stream.proofs.FileFacts.{header_first, file_is}
 use Rattle.edf_stream.proofs.StopFacts.{stops-first, stops-reading}

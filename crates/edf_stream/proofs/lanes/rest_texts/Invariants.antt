@@ -1,6 +1,6 @@
 use Rattle.std.proofs.Common.{◌≡◌, ◌+◌, ◌-◌, ◌≤◌, ◌^◌, min, length}
 use Rattle.edf_tal.specs.Views.{items_left}
-use Rattle.edf_stream.specs.Notes.{notes_of_items}
+use Rattle.edf_stream.specs.NotesReading.{notes_of_items}
 use Rattle.edf_stream.specs.Faults.{cause_of}
 use Rattle.edf_stream.proofs.lanes.rest_texts.Given as goal
 

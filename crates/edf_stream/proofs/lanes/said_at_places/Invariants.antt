@@ -1,6 +1,6 @@
 use Rattle.std.proofs.Common.{◌≡◌, ◌+◌, ◌-◌, ◌<◌, ◌≤◌, ◌^◌, min, length, drop, IfSome, IfOk, unsigned_abs}
-use Rattle.edf_stream.specs.Notes.{notes_of_lanes}
-use Rattle.edf_stream.specs.Starts.{start_by_lanes}
+use Rattle.edf_stream.specs.NotesReading.{notes_of_lanes}
+use Rattle.edf_stream.specs.StartsReading.{start_by_lanes}
 use Rattle.edf_stream.specs.Faults.{cause_of_lanes}
 use Rattle.edf_stream.specs.Views.{start_with, texts_said, placed_lanes}
 use Rattle.edf_stream.proofs.lanes.said_at_places.Given as goal

@@ -1,5 +1,8 @@
-use Rattle.edf_stream.proofs.SaidFacts.{notes_are_said}
+use Rattle.edf_stream.proofs.ReadFacts.{notes_are_said, notes_are_read}
 use Rattle.edf_stream.proofs.laws.annotations_are_said.Goals as goal
 
-pub returns : goal.returns
-returns c = notes_are_said
+pub returns-clause-said : goal.returns-clause-said
+returns-clause-said c = notes_are_said
+
+pub returns-clause-read : goal.returns-clause-read
+returns-clause-read c = notes_are_read

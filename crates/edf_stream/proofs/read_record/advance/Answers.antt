@@ -38,7 +38,7 @@ returns-in-Ok-check_end-clause-goes_on g c = λ honest file passed at.
       record { end_is = at.end_is; notes_are = at.notes_are; whole = at.whole; rest = over.1 ∙ sym over.0 ∙ at.rest },
       let full : c.args.k ≡ h.records = omega (arith, within, le) in full,
       ends file h c.args.k c.args.before.ended_ps c.args.before.notes left passed at le over.0,
-      conforms file h c.args.k c.args.before.ended_ps c.args.before.notes left ((passed.in_order).sound.standard.some_records) passed at le over.0,
+      conforms file h c.args.k c.args.before.ended_ps c.args.before.notes left ((passed.in_order).standard.some_records) passed at le over.0,
       over.1,
     )
 

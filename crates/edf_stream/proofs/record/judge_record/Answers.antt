@@ -1,7 +1,7 @@
-use Rattle.std.proofs.Common.{length, refl, ◌∙◌}
+use Rattle.std.proofs.Common.{length, refl}
 use Rattle.edf_stream.specs.Records.{annotation_lanes}
-use Rattle.edf_stream.specs.Notes.{notes_of_lanes}
-use Rattle.edf_stream.specs.Starts.{said_start}
+use Rattle.edf_stream.specs.NotesReading.{notes_of_lanes}
+use Rattle.edf_stream.specs.StartsReading.{said_start}
 use Rattle.edf_stream.proofs.NoteFacts.{too_many}
 use Rattle.edf_stream.proofs.record.judge_record.Goals as goal
 

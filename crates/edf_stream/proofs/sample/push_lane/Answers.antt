@@ -1,5 +1,5 @@
 use Rattle.std.proofs.Common.{◌<◌, ◌+◌, ◌*◌, length, arith}
-use Rattle.edf_stream.specs.Instants.{IsSmall}
+use Rattle.edf_stream.specs.InstantOrder.{IsSmall}
 use Rattle.edf_stream.proofs.ListFacts.{all-more}
 use Rattle.edf_stream.proofs.SampleFacts.{lane-more, lane-all}
 use Rattle.edf_stream.proofs.sample.push_lane.Goals as goal

@@ -1,7 +1,7 @@
 use Rattle.std.proofs.Common.{◌≡◌, ◌*◌, ◌++◌, ◌+ℤ◌, ◌*ℤ◌, pos, drop}
 use Rattle.std.specs.List.{All}
-use Rattle.edf_stream.specs.Instants.{IsSmall}
-use Rattle.edf_stream.specs.Samples.{lane_samples}
+use Rattle.edf_stream.specs.InstantOrder.{IsSmall}
+use Rattle.edf_stream.specs.SamplesReading.{lane_samples}
 use Rattle.edf_stream.proofs.sample.push_lane.Given as goal
 
 abbrev pub invariant-loop-place : goal.invariant-loop-place

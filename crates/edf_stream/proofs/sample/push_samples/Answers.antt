@@ -17,7 +17,7 @@ loop-signal-preserved c =
     let split : drop i signals ≡ x ∷ drop (i + 1) signals = drop-cons signals i x there ∙ ap (λ y. y ∷ drop (suc i) signals) (sym is) ∙ ap (λ k. x ∷ drop k signals) e in
     let next = c.in_ok-channel.ensures.next in
     record {
-      value = signal-more c.args.samples.now.items c.loop-signal.samples.items c.push_signal.new.samples.items c.loop-signal.channel c.in_ok-channel.channel c.args.stretch.start_ps c.args.stretch.duration_ps
+      value = signal-more c.args.samples.now.items c.loop-signal.samples.items c.push_signal.new.samples.items c.loop-signal.channel c.in_ok-channel.channel c.args.time.start_ps c.args.time.duration_ps
           x (drop i signals) signals (drop (i + 1) signals) c.args.bytes.now split c.in_ok-channel.ensures.value next before.value;
       small = c.in_ok-channel.ensures.small;
       few = (let here = ap samples_together split in omega (arith, here, before.few));

@@ -1,15 +1,15 @@
 use Rattle.std.proofs.Common.{◌≡◌, ◌≤◌, ◌++◌, drop}
 use Rattle.std.specs.List.{All}
 use Rattle.edf_header.specs.Heads.{samples_together}
-use Rattle.edf_stream.specs.Instants.{IsSmall}
-use Rattle.edf_stream.specs.Samples.{samples_by}
-use Rattle.edf_stream.specs.Summaries.{channels_among}
+use Rattle.edf_stream.specs.InstantOrder.{IsSmall}
+use Rattle.edf_stream.specs.SamplesReading.{samples_by}
+use Rattle.edf_header.specs.Channels.{channels_among}
 use Rattle.edf_stream.proofs.sample.push_samples.Given as goal
 
 abbrev pub invariant-loop-signal : goal.invariant-loop-signal
 invariant-loop-signal l = record {
-  value : l.samples.items ++ samples_by l.channel (l.stretch).start_ps (l.stretch).duration_ps (channels_among (drop l.signal-index (l.header).signals)) l.bytes
-      ≡ (l.initial.samples).items ++ samples_by 0 (l.stretch).start_ps (l.stretch).duration_ps (channels_among (l.header).signals) l.bytes;
+  value : l.samples.items ++ samples_by l.channel (l.time).start_ps (l.time).duration_ps (channels_among (drop l.signal-index (l.header).signals)) l.bytes
+      ≡ (l.initial.samples).items ++ samples_by 0 (l.time).start_ps (l.time).duration_ps (channels_among (l.header).signals) l.bytes;
   small : All (λ x. IsSmall x.instant) l.samples.items;
   few : samples_together (drop l.signal-index (l.header).signals) ≤ samples_together (l.header).signals;
   places : l.channel ≤ l.signal-index;

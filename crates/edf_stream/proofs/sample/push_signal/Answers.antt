@@ -1,5 +1,5 @@
 use Rattle.std.proofs.Common.{◌++◌, ◌∙◌, ◌*ℤ◌, pos, ap}
-use Rattle.edf_stream.specs.Samples.{lane_samples}
+use Rattle.edf_stream.specs.SamplesReading.{lane_samples}
 use Rattle.edf_stream.proofs.SampleFacts.{only-channel}
 use Rattle.edf_stream.proofs.sample.push_signal.Goals as goal
 
@@ -12,7 +12,7 @@ returns-clause-value c =
     c.in_ok-push_lane.ensures.value ∙ ap (λ xs. c.args.samples.now.items ++ xs)
     (ap (λ n. lane_samples c.args.channel n grid.start grid.step lane) made.den
     ∙ ap (λ a. lane_samples c.args.channel c.samples.result a grid.step lane) made.start
-    ∙ ap (λ n. lane_samples c.args.channel n (pos n *ℤ c.args.stretch.start_ps) grid.step lane) c.samples.ensures
-    ∙ ap (λ d. lane_samples c.args.channel signal.samples (pos signal.samples *ℤ c.args.stretch.start_ps) d lane) made.step
-    ∙ ap (lane_samples c.args.channel signal.samples (pos signal.samples *ℤ c.args.stretch.start_ps) c.args.stretch.duration_ps) c.lane_of.ensures
-    ∙ only-channel c.args.channel c.args.stretch.start_ps c.args.stretch.duration_ps signal c.args.bytes.now c.is_annotations.result c.if-is_annotations.false c.is_annotations.ensures)
+    ∙ ap (λ n. lane_samples c.args.channel n (pos n *ℤ c.args.time.start_ps) grid.step lane) c.samples.ensures
+    ∙ ap (λ d. lane_samples c.args.channel signal.samples (pos signal.samples *ℤ c.args.time.start_ps) d lane) made.step
+    ∙ ap (lane_samples c.args.channel signal.samples (pos signal.samples *ℤ c.args.time.start_ps) c.args.time.duration_ps) c.lane_of.ensures
+    ∙ only-channel c.args.channel c.args.time.start_ps c.args.time.duration_ps signal c.args.bytes.now c.is_annotations.result c.if-is_annotations.false c.is_annotations.ensures)

@@ -1,8 +1,8 @@
 use Rattle.std.proofs.Common.{ℤ, sym, subst}
 use Rattle.edf_verdict.specs.declared.verdict.SampleMismatch.{SampleMismatch}
 use Rattle.edf_check.specs.Courses.{IsFirstMismatch}
-use Rattle.edf_check.specs.Instants.{floor_of}
-use Rattle.edf_check.specs.Kept.{KeptAt, ExportedAt}
+use Rattle.edf_check.specs.InstantOrder.{floor_of}
+use Rattle.edf_check.specs.KeptReading.{KeptAt, ExportedAt}
 use Rattle.edf_check.proofs.walk.conclude.conclude.Goals as goal
 
 pub returns-in_ok-with_label-in-Some-clause-walked : goal.returns-in_ok-with_label-in-Some-clause-walked

@@ -2,7 +2,7 @@ use Rattle.std.proofs.Common.{List, map, subst}
 use Rattle.edf_stream.specs.Notes.{NoteValue}
 use Rattle.edf_stream.specs.Views.{note_value}
 use Rattle.edf_check.specs.Annotations.{SameNotes}
-use Rattle.edf_check.specs.Kept.{kept_notes}
+use Rattle.edf_check.specs.KeptReading.{kept_notes}
 use Rattle.edf_check.proofs.walk.conclude.conclude_notes.Goals as goal
 
 pub returns-in-None-clause-walked : goal.returns-in-None-clause-walked

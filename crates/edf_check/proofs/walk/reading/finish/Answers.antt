@@ -1,5 +1,6 @@
-use Rattle.std.proofs.Common.{◌∙◌, sym}
-use Rattle.edf_check.proofs.walk.PassFacts.{there_next, current_open}
+use Rattle.std.proofs.Common.{◌∙◌, sym, subst}
+use Rattle.edf_stream.specs.Conforming.{Conforms}
+use Rattle.edf_check.proofs.walk.PassFacts.{there_next, current_open, ended_is}
 use Rattle.edf_check.proofs.walk.reading.finish.Goals as goal
 
 pub loop-side-preserved : goal.loop-side-preserved
@@ -21,3 +22,10 @@ loop-side-preserved g c =
       there = λ h file at. there_next c.loop-side.reader c.go_on.new.reader (g.S.Source.left c.go_on.new.source) file going head
           (comes (inv.honesty h) file ((inv.there h file at).stands (current_open (c.loop-side.reader).status current)));
     }
+
+pub returns-clause-out : goal.returns-clause-out
+returns-clause-out g c = λ h file at.
+    let inv = c.loop-side.invariant in
+    let past = sym c.has_current.ensures ∙ c.loop-side-test.false in
+    let done = (inv.there h file at).ended (ended_is (c.loop-side.reader).status inv.going past) in
+    (done.2, subst (Conforms file) inv.head done.1)

@@ -22,14 +22,14 @@ returns-in-Ok-None-clause-moves g c =
     let going = rw none at ok.going in
     let later = rw none at ok.later in
     let comes = rw none at ok.comes in
-    let head = c.take.ensures.head in
+    let head = c.gather_next.ensures.head in
     record {
       head = head;
       going = going;
-      ahead = λ e. ahead_next c.args.reading.now.reader c.take.new.reading.reader (c.args.view.moved).ps c.args.to.ps head (later e) (c.requires.reaches past.0);
+      ahead = λ e. ahead_next c.args.reading.now.reader c.gather_next.new.reading.reader (c.args.view.moved).ps c.args.to.ps head (later e) (c.requires.reaches past.0);
       honesty = rw none at ok.honesty;
       failures = rw none at ok.failures;
-      comes = λ h file at. at_next c.args.reading.now.reader c.take.new.reading.reader (g.S.Source.left c.args.source.now) (g.S.Source.left c.take.new.source)
-          (map note_value (c.args.reading.now.notes).items) (map note_value (c.take.new.reading.notes).items) file (claim_of c.args.view) (c.args.view.moved).ps c.args.from.ps c.args.to.ps
+      comes = λ h file at. at_next c.args.reading.now.reader c.gather_next.new.reading.reader (g.S.Source.left c.args.source.now) (g.S.Source.left c.gather_next.new.source)
+          (map note_value (c.args.reading.now.notes).items) (map note_value (c.gather_next.new.reading.notes).items) file (claim_of c.args.view) (c.args.view.moved).ps c.args.from.ps c.args.to.ps
           past.0 c.requires.order past.1 going head (rw none at ok.count) (rw none at ok.gathered) at (comes h file ((at.there).stands (current_open (c.args.reading.now.reader).status past.0)));
     }

@@ -13,16 +13,16 @@ returns-in-Ok-None-clause-follows g c =
     let comes = rw none at ok.comes in
     let gathered = rw none at ok.gathered in
     let start = rw none at ok.start in
-    let near = c.take.ensures.near in
+    let near = c.gather_next.ensures.near in
     let by = c.requires.near in
     let time = c.requires.time in
     record {
-      head = c.take.ensures.head;
+      head = c.gather_next.ensures.head;
       going = going;
       ahead = λ e. (let s = start e in omega (arith, ints, s, near, by, time));
       honesty = rw none at ok.honesty;
       failures = rw none at ok.failures;
-      comes = λ h file s. at_first c.args.reading.now.reader c.take.new.reading.reader (g.S.Source.left c.take.new.source) (map note_value (c.take.new.reading.notes).items) file (claim_of c.args.view) (c.args.view.moved).ps c.args.time.ps
-          (c.requires.begun).1 going c.take.ensures.head (rw none at ok.count)
-          (gathered ∙ ap (λ ns. map note_value ns ++ gathered_in (claim_of c.args.view) (c.args.view.moved).ps c.take.new.reading.reader) c.requires.none) (comes h file s);
+      comes = λ h file s. at_first c.args.reading.now.reader c.gather_next.new.reading.reader (g.S.Source.left c.gather_next.new.source) (map note_value (c.gather_next.new.reading.notes).items) file (claim_of c.args.view) (c.args.view.moved).ps c.args.time.ps
+          (c.requires.begun).1 going c.gather_next.ensures.head (rw none at ok.count)
+          (gathered ∙ ap (λ ns. map note_value ns ++ gathered_in (claim_of c.args.view) (c.args.view.moved).ps c.gather_next.new.reading.reader) c.requires.none) (comes h file s);
     }

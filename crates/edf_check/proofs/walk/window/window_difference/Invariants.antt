@@ -1,6 +1,6 @@
 use Rattle.std.proofs.Common.{◌≡◌, ◌<◌, ◌≤◌, List, ℕ, drop, map, length, IfSome}
 use Rattle.edf_check.specs.samples.Earliest.{earliest}
-use Rattle.edf_check.specs.Instants.{IsModest}
+use Rattle.edf_check.specs.InstantOrder.{IsModest}
 use Rattle.edf_check.specs.walk.Shown.{Covers}
 use Rattle.edf_check.specs.walk.Windows.{sampled, window_of}
 use Rattle.edf_check.specs.walk.Pairs.{places_of}

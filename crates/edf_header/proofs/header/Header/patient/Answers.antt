@@ -1,8 +1,8 @@
 use Rattle.std.proofs.Common.{◌∙◌, ap}
-use Rattle.edf_fields.specs.Identifications.{patient_of}
+use Rattle.edf_fields.specs.IdentificationsReading.{patient_of}
 use Rattle.edf_header.specs.declared.layout.FixedField.TheVariants as fixed
 use Rattle.edf_header.specs.Layout.{fixed_field}
-use Rattle.edf_header.specs.Heads.{patient_in}
+use Rattle.edf_header.specs.HeadsReading.{patient_in}
 use Rattle.edf_header.proofs.SaidFacts.{patient_is}
 use Rattle.edf_header.proofs.header.Header.patient.Goals as goal
 

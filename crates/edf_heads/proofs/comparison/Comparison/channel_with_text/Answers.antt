@@ -1,7 +1,6 @@
 use Rattle.std.proofs.Common.{subst, MatchOption}
-use Rattle.edf_heads.specs.Blank.{IsFirstWithFreeText}
-use Rattle.edf_heads.specs.Comparisons.{HasNoFreeText}
-use Rattle.edf_heads.specs.Comparisons.{Compared}
+use Rattle.edf_heads.specs.BlankDifference.{IsFirstWithFreeText}
+use Rattle.edf_heads.specs.Comparisons.{HasNoFreeText, Compared}
 use Rattle.edf_heads.proofs.ContentFacts.{texts_left_said}
 use Rattle.edf_heads.proofs.comparison.Comparison.channel_with_text.Goals as goal
 

@@ -1,5 +1,6 @@
 use Rattle.std.proofs.Common.{subst, MatchOption}
-use Rattle.edf_heads.specs.Channels.{HasAll, HasNoChannel}
+use Rattle.edf_heads.specs.Channels.{HasAll}
+use Rattle.edf_heads.specs.ChannelDifferences.{HasNoChannel}
 use Rattle.edf_heads.specs.Firsts.{IsFirstWith}
 use Rattle.edf_heads.specs.Comparisons.{Compared}
 use Rattle.edf_heads.proofs.ComparisonFacts.{missing_said}

@@ -1,5 +1,6 @@
 use Rattle.std.proofs.Common.{subst, MatchOption}
-use Rattle.edf_heads.specs.Calibrations.{SameCalibrations, IsCalibrationDifference}
+use Rattle.edf_heads.specs.Calibrations.{SameCalibrations}
+use Rattle.edf_heads.specs.CalibrationDifference.{IsCalibrationDifference}
 use Rattle.edf_heads.specs.Comparisons.{Compared}
 use Rattle.edf_heads.proofs.ContentFacts.{calibrations_said}
 use Rattle.edf_heads.proofs.comparison.Comparison.recalibrated_channel.Goals as goal

@@ -7,11 +7,11 @@ use Rattle.edf_header.specs.Heads.{Head}
 use Rattle.edf_header.specs.Stops.{Stops}
 use Rattle.edf_stream.specs.declared.sample.Sample.{Sample}
 use Rattle.edf_stream.specs.Faults.{body_fault}
-use Rattle.edf_stream.specs.Instants.{IsSmall}
+use Rattle.edf_stream.specs.InstantOrder.{IsSmall}
 use Rattle.edf_stream.specs.Meanings.{IsMeaning}
-use Rattle.edf_stream.specs.Notes.{moved_notes_before}
+use Rattle.edf_stream.specs.NotesReading.{moved_notes_before}
 use Rattle.edf_stream.specs.Readers.{StandsIn, IsOpen, Comes, status_after}
-use Rattle.edf_stream.specs.Samples.{samples_before}
+use Rattle.edf_stream.specs.SamplesReading.{samples_before}
 use Rattle.edf_stream.specs.Views.{note_value, IsNear}
 use Rattle.edf_stream.proofs.StopFacts.{stops-reading, handed-on}
 use Rattle.edf_stream.proofs.MeaningFacts.{samples-more, notes-more, all-samples, all-notes}

@@ -1,9 +1,9 @@
 use Rattle.std.proofs.Common.{◌≡◌, ◌-◌, ℕ, List, map, IsTrue}
 use Rattle.std.specs.List.{All}
-use Rattle.edf_stream.specs.Instants.{IsSmall}
-use Rattle.edf_stream.specs.Notes.{moved_notes_before}
+use Rattle.edf_stream.specs.InstantOrder.{IsSmall}
+use Rattle.edf_stream.specs.NotesReading.{moved_notes_before}
 use Rattle.edf_stream.specs.Readers.{IsOpen, StandsIn}
-use Rattle.edf_stream.specs.Samples.{samples_before}
+use Rattle.edf_stream.specs.SamplesReading.{samples_before}
 use Rattle.edf_stream.specs.Views.{note_value, IsNear}
 use Rattle.edf_stream.proofs.reader.FileReader.into_meaning.Given as goal
 

@@ -1,0 +1,41 @@
+-- What a claim keeps of an original, and what an export holds with the shift taken off, at instants counted from the second at which the original starts.
+use Rattle.std.specs.Prelude.{◌≡◌, ℕ, ℤ, neg_ℤ, ◌+ℤ◌, List, filter, map}
+use Rattle.edf_claim.specs.Terms.{Terms}
+use Rattle.edf_claim.specs.Keeps.{KeepsInstant, keeps_annotation}
+use Rattle.edf_fields.specs.Lists.{Has}
+use Rattle.edf_header.specs.HeadsReading.{head_of}
+use Rattle.edf_stream.specs.Instants.{IsSame}
+use Rattle.edf_stream.specs.Notes.{NoteValue, moved_by}
+use Rattle.edf_stream.specs.NotesReading.{notes_of}
+use Rattle.edf_stream.specs.Samples.{SampleValue, IsSample}
+use Rattle.edf_stream.specs.Starts.{file_start}
+use Rattle.edf_check.specs.Courses.{Course}
+use Rattle.edf_check.specs.Instants.{later}
+use Rattle.edf_check.specs.Kept.{shift_ps}
+
+-- the start of a file, in picoseconds after 1970-01-01 00:00:00
+abbrev pub origin_of : List ℕ → ℤ
+origin_of file = file_start (head_of file)
+
+-- the file has a sample of this channel and this value at the instant, which is counted from 1970-01-01 00:00:00
+abbrev pub ValueAt : List ℕ → Course
+ValueAt file label at value = (x : SampleValue) × IsSample file (head_of file) x × (x.label ≡ label) × IsSame x.instant at × (x.value ≡ value)
+
+-- the claim keeps a value of the original: the channel is claimed, the instant is in an interval, and the original has it there
+abbrev pub KeptAt : List ℕ → Terms → Course
+KeptAt original claim label at value =
+    Has claim.channels label × KeepsInstant claim at.num at.den × ValueAt original label (later (origin_of original) at) value
+
+-- the export has a value at the instant moved by the shift
+abbrev pub ExportedAt : List ℕ → List ℕ → Terms → Course
+ExportedAt original export claim label at value = ValueAt export label (later (origin_of original +ℤ shift_ps claim) at) value
+
+-- the annotations that the claim keeps of the original, with onsets after the second at which it starts
+abbrev pub kept_notes : List ℕ → Terms → List NoteValue
+kept_notes original claim =
+    filter (λ note. keeps_annotation claim note.onset note.text) (map (moved_by (neg_ℤ (origin_of original))) (notes_of original (head_of original)))
+
+-- the annotations of the export with the shift taken off, with onsets after the second at which the original starts
+abbrev pub exported_notes : List ℕ → List ℕ → Terms → List NoteValue
+exported_notes original export claim =
+    map (moved_by (neg_ℤ (origin_of original +ℤ shift_ps claim))) (notes_of export (head_of export))

@@ -1,0 +1,13 @@
+-- What a claim says.
+use Rattle.std.specs.Prelude.{ℕ, ℤ, List}
+use Rattle.edf_claim.specs.declared.interval.Interval.{Interval}
+use Rattle.edf_claim.specs.declared.which.Which.{Which}
+
+-- a claim: the labels of the channels, the intervals that are kept, what is made anonymous, the shift in seconds, and the texts of annotations that are removed
+-- intervals count picoseconds after the second at which the original starts
+pub record Terms : Type 0 where
+  pub channels : List (List ℕ)
+  pub keep : List Interval
+  pub anonymous : List Which
+  pub shift : ℤ
+  pub remove : List (List ℕ)

@@ -1,0 +1,102 @@
+-- The header of a file, as it is read.
+use Rattle.std.specs.Prelude.{◌≡◌, ℕ, zero, suc, ℤ, pos, negsuc, ◌+◌, ◌*◌, List, [], ◌∷◌, drop, take, Option, Some, None, unwrap_or, codes, if◌then◌else◌}
+use Rattle.std.specs.Str.{bytes_eq}
+use Rattle.edf_fields.specs.Parts.{text_of}
+use Rattle.edf_fields.specs.NumbersReading.{whole_number_of, header_number_of}
+use Rattle.edf_fields.specs.Dates.{CivilDay}
+use Rattle.edf_fields.specs.DatesReading.{dotted_day_of, clock_time_of}
+use Rattle.edf_fields.specs.SubfieldsReading.{subfields_of}
+use Rattle.edf_fields.specs.Identifications.{Patient, Recording}
+use Rattle.edf_fields.specs.IdentificationsReading.{subfield}
+use Rattle.edf_header.specs.declared.kind.Kind.{Kind}
+use Rattle.edf_header.specs.declared.kind.Kind.TheVariants.{Contiguous, Interrupted}
+use Rattle.edf_header.specs.declared.layout.FixedField.TheVariants as fixed
+use Rattle.edf_header.specs.declared.layout.SignalField.TheVariants as signal
+use Rattle.edf_header.specs.Calibrations.{Line}
+use Rattle.edf_header.specs.Layout.{fixed_part, fixed_field, columns_part, signal_field}
+use Rattle.edf_header.specs.Heads.{SignalHead, Head, in_picoseconds, HasHead}
+
+-- a number that counts something, or 0 where none is spelled, or one below 0
+abbrev pub count_of : Option ℤ → ℕ
+count_of None = 0
+count_of (Some (pos n)) = n
+count_of (Some (negsuc n)) = 0
+
+-- the day that counts where a text names none: 1970-01-01
+abbrev pub first_day : CivilDay
+first_day = record { year = pos 1970; month = 1; day = 1 }
+
+-- the patient of a field that says one
+abbrev pub patient_in : List ℕ → Patient
+patient_in field =
+    let xs = subfields_of (text_of field) in
+    record { code = subfield xs 0; sex = subfield xs 1; birthdate = subfield xs 2; name = subfield xs 3; extras = drop 4 xs }
+
+-- the recording of a field that says one
+abbrev pub recording_in : List ℕ → Recording
+recording_in field =
+    let xs = subfields_of (text_of field) in
+    record { date = subfield xs 1; admin = subfield xs 2; technician = subfield xs 3; equipment = subfield xs 4; extras = drop 5 xs }
+
+-- the kind of a file that is an EDF+ file
+abbrev pub kind_of : List ℕ → Kind
+kind_of field = if bytes_eq (take 5 field) (codes "EDF+C") then Contiguous else Interrupted
+
+-- how many signals the fixed part announces
+abbrev pub signals_of : List ℕ → ℕ
+signals_of front = count_of (whole_number_of (fixed_field front fixed.Signals))
+
+-- the calibration that signal s of n has; where a number isn't spelled it counts as 0
+abbrev pub line_of : List ℕ → ℕ → ℕ → Line
+line_of bytes n s = record {
+  physical_minimum = unwrap_or (header_number_of (signal_field bytes n s signal.PhysicalMinimum)) (pos 0);
+  physical_maximum = unwrap_or (header_number_of (signal_field bytes n s signal.PhysicalMaximum)) (pos 0);
+  digital_minimum = unwrap_or (whole_number_of (signal_field bytes n s signal.DigitalMinimum)) (pos 0);
+  digital_maximum = unwrap_or (whole_number_of (signal_field bytes n s signal.DigitalMaximum)) (pos 0);
+}
+
+-- signal s of n, with so many bytes before it in a data record
+abbrev pub signal_of : List ℕ → ℕ → ℕ → ℕ → SignalHead
+signal_of bytes n s before = record {
+  label = text_of (signal_field bytes n s signal.Label);
+  transducer = text_of (signal_field bytes n s signal.Transducer);
+  dimension = text_of (signal_field bytes n s signal.Dimension);
+  prefilter = text_of (signal_field bytes n s signal.Prefilter);
+  reserved = text_of (signal_field bytes n s signal.Reserved);
+  calibration = line_of bytes n s;
+  samples = count_of (whole_number_of (signal_field bytes n s signal.Samples));
+  offset = before;
+}
+
+-- the m signals from signal s on, of n, the first of them with so many bytes before it
+abbrev pub signals_from : List ℕ → ℕ → ℕ → ℕ → ℕ → List SignalHead
+signals_from bytes n s before zero = []
+signals_from bytes n s before (suc m) =
+    signal_of bytes n s before
+    ∷ signals_from bytes n (s + 1) (before + 2 * (signal_of bytes n s before).samples) m
+
+-- the signals of the columns of n signals
+abbrev pub signals_in : ℕ → List ℕ → List SignalHead
+signals_in n bytes = signals_from bytes n 0 0 n
+
+-- the header that the fixed part and the columns say; where a number isn't spelled it counts as 0, and where no day is named it is 1970-01-01
+abbrev pub head_in : List ℕ → List ℕ → Head
+head_in front bytes = record {
+  patient = patient_in (fixed_field front fixed.Patient);
+  recording = recording_in (fixed_field front fixed.Recording);
+  day = unwrap_or (dotted_day_of (text_of (fixed_field front fixed.Startdate))) first_day;
+  clock = unwrap_or (clock_time_of (text_of (fixed_field front fixed.Starttime))) 0;
+  kind = kind_of (fixed_field front fixed.Reserved);
+  free = text_of (drop 5 (fixed_field front fixed.Reserved));
+  records = count_of (whole_number_of (fixed_field front fixed.Records));
+  duration = in_picoseconds (unwrap_or (header_number_of (fixed_field front fixed.Duration)) (pos 0));
+  signals = signals_in (signals_of front) bytes;
+}
+
+-- the header of a file
+unfoldable pub head_of : List ℕ → Head
+head_of file = head_in (fixed_part file) (columns_part (signals_of (fixed_part file)) file)
+
+-- a file has at most one header
+abbrev pub HasOneHead : Type 0
+HasOneHead = (file : List ℕ) (h g : Head) → HasHead file h → HasHead file g → h ≡ g

@@ -1,0 +1,66 @@
+//! The texts of the channels.
+
+ghost use Rattle.std.specs.Prelude.{◌≡◌, map, option_map, MatchOption};
+ghost use Rattle.edf_heads.specs.Comparisons.{claimed_view, text_difference, text_difference_of, first_text_difference as first_text_difference_of};
+ghost use Rattle.edf_heads.specs.Texts.{SameTexts};
+ghost use Rattle.edf_heads.specs.TextDifference.{IsTextDifference};
+
+use crate::channels::ClaimedChannel;
+use crate::comparison::Comparison;
+use edf_header::signal::Signal;
+use edf_verdict::verdict::TextField;
+
+/// A claimed label, and a text in which its channels differ.
+#[derive(Clone, Copy)]
+pub(crate) struct TextDifference<'a> {
+    pub(crate) label: &'a [u8],
+    pub(crate) field: TextField,
+}
+
+/// The first text in which two channels differ.
+fn text_difference(original: &Signal, export: &Signal) -> Option<TextField>
+    ensures { result ≡ text_difference original.now export.now }
+{
+    if original.transducer() != export.transducer() {
+        return Some(TextField::Transducer);
+    }
+    if original.prefilter() != export.prefilter() {
+        return Some(TextField::Prefilter);
+    }
+    None
+}
+
+impl<'a> ClaimedChannel<'a> {
+    /// The first text in which the label's two channels differ.
+    fn text_difference(self) -> Option<TextField>
+        ensures { result ≡ text_difference_of (option_map (λ x. x.now) self.entry.original) (option_map (λ x. x.now) self.entry.export) }
+    {
+        text_difference(self.original?, self.export?)
+    }
+}
+
+/// The first of the labels whose channels differ in a text, and the first such text.
+fn first_text_difference<'a>(claimed: &[ClaimedChannel<'a>]) -> Option<TextDifference<'a>>
+    ensures { option_map (λ d. (d.label.now, d.field)) result ≡ first_text_difference_of (map claimed_view claimed.now) }
+{
+    for channel in claimed {
+        if let Some(field) = channel.text_difference() {
+            return Some(TextDifference {
+                label: channel.label.text(),
+                field,
+            });
+        }
+    }
+    None
+}
+
+impl<'a> Comparison<'a> {
+    /// The first claimed channel that hasn't the original's texts in the export, and its first such text.
+    pub(crate) fn text_difference(&self) -> Option<TextDifference<'a>>
+        ensures { MatchOption result
+            (SameTexts self.now.original self.now.export self.now.claim)
+            (λ d. IsTextDifference self.now.original self.now.export self.now.claim d.label.now d.field) }
+    {
+        first_text_difference(&self.claimed)
+    }
+}

@@ -1,0 +1,517 @@
+//! The worked rows: the files, the claim, and the line that is stored for them.
+
+ghost use Rattle.std.specs.Prelude.{◌≡◌, map};
+ghost use Rattle.edf_rows.specs.Rows.{row_of, worked_rows};
+
+use crate::claims;
+use crate::files::{Base, File};
+use edf_header::fault::Place::{AtField, AtSignal};
+use edf_header::layout::{FixedField as Fixed, SignalField as Field};
+
+/// A worked row.
+#[derive(Clone, Copy)]
+pub struct Row {
+    /// Its number, which is printed.
+    pub number: u8,
+    /// The original.
+    pub original: File,
+    /// The export.
+    pub export: File,
+    /// The text of the claim.
+    pub claim: &'static str,
+    /// The line that is stored for them.
+    pub stored: &'static str,
+}
+
+/// The night, as it was recorded.
+const NIGHT: File = File {
+    base: Base::Reference,
+    texts: &[],
+    bytes: &[],
+    length: None,
+};
+
+const EXCHANGED: File = File {
+    base: Base::Exchanged,
+    ..NIGHT
+};
+
+const ONE_CHANNEL: File = File {
+    base: Base::OneChannel,
+    ..NIGHT
+};
+
+const EXCERPT: File = File {
+    base: Base::Excerpt,
+    ..NIGHT
+};
+
+const LONG_EXCERPT: File = File {
+    base: Base::LongExcerpt,
+    ..NIGHT
+};
+
+const GAP: File = File {
+    base: Base::Gap,
+    ..NIGHT
+};
+
+const SMALL: File = File {
+    base: Base::Small,
+    ..NIGHT
+};
+
+const PAIRS: File = File {
+    base: Base::Pairs,
+    ..NIGHT
+};
+
+const TRIPLES: File = File {
+    base: Base::Triples,
+    ..NIGHT
+};
+
+const SPARSE: File = File {
+    base: Base::Sparse,
+    ..NIGHT
+};
+
+const THIRDS: File = File {
+    base: Base::Thirds,
+    ..NIGHT
+};
+
+const SPREAD: File = File {
+    base: Base::Spread,
+    ..NIGHT
+};
+
+/// The night with an additional subfield of the patient.
+const WARD: File = File {
+    texts: &[(
+        AtField(Fixed::Patient),
+        "MCH-0234567 F 02-MAY-1951 Haagse_Harry Ward7",
+    )],
+    ..NIGHT
+};
+
+/// The night without its recording date.
+const DATELESS: File = File {
+    texts: &[(
+        AtField(Fixed::Recording),
+        "Startdate X PSG-1234/2002 NN Telemetry03",
+    )],
+    ..NIGHT
+};
+
+/// The night with the annotation of its second data record in the last one, spelled otherwise.
+const MOVED: File = File {
+    bytes: &[
+        (1088, b"+1\x14\x14\0\0\0\0\0\0\0\0\0\0\0\0\0\0\0"),
+        (
+            1192,
+            b"+3\x14\x14\0+3\x14Apnea\x14\0+1.50\x151\x14Apnea\x14\0",
+        ),
+    ],
+    ..NIGHT
+};
+
+/// The night with that annotation twice.
+const TWICE: File = File {
+    bytes: &[(
+        1088,
+        b"+1\x14\x14\0+1.5\x151\x14Apnea\x14\0+1.5\x151\x14Apnea\x14\0",
+    )],
+    ..NIGHT
+};
+
+/// The night with another first sample, and in the last data record a text that isn't UTF-8.
+const BAD_TEXT: File = File {
+    bytes: &[(1024, &[1]), (1200, &[255])],
+    ..NIGHT
+};
+
+/// The worked rows, in the order in which they are written. The header of the night has 1,024 bytes, and a
+/// data record of it 52, of which the last 40 are the lane.
+const ROWS: &[Row] = &[
+    Row {
+        number: 1,
+        original: SMALL,
+        export: SMALL,
+        claim: claims::TEMP,
+        stored: "YES channels 1 samples 2 annotations 0\n",
+    },
+    Row {
+        number: 2,
+        original: NIGHT,
+        export: NIGHT,
+        claim: claims::ALL,
+        stored: "YES channels 2 samples 24 annotations 3\n",
+    },
+    Row {
+        number: 3,
+        original: NIGHT,
+        export: EXCHANGED,
+        claim: claims::ALL,
+        stored: "YES channels 2 samples 24 annotations 3\n",
+    },
+    Row {
+        number: 4,
+        original: NIGHT,
+        export: EXCERPT,
+        claim: claims::EXCERPT,
+        stored: "YES channels 2 samples 12 annotations 1\n",
+    },
+    Row {
+        number: 5,
+        original: NIGHT,
+        export: LONG_EXCERPT,
+        claim: claims::EXCERPT,
+        stored: "NO 10 sample \"ECG\" at 3000000000000 ps extra\n",
+    },
+    Row {
+        number: 6,
+        original: NIGHT,
+        export: GAP,
+        claim: claims::GAP,
+        stored: "YES channels 2 samples 12 annotations 2\n",
+    },
+    Row {
+        number: 7,
+        original: NIGHT,
+        export: File {
+            texts: &[(AtField(Fixed::Reserved), "EDF+C")],
+            ..GAP
+        },
+        claim: claims::GAP,
+        stored: "NO 2 export fault: NotContiguous at record 1\n",
+    },
+    Row {
+        number: 8,
+        original: NIGHT,
+        export: File {
+            bytes: &[(1030, &[31])],
+            ..NIGHT
+        },
+        claim: claims::ALL,
+        stored: "NO 10 sample \"EEG Fpz-Cz\" at 750000000000 ps original 30 export 31\n",
+    },
+    Row {
+        number: 9,
+        original: NIGHT,
+        export: File {
+            bytes: &[(1134, &[0]), (1138, &[104])],
+            ..NIGHT
+        },
+        claim: claims::ALL,
+        stored: "NO 10 sample \"ECG\" at 2500000000000 ps original 105 export 104\n",
+    },
+    Row {
+        number: 10,
+        original: PAIRS,
+        export: TRIPLES,
+        claim: claims::TEMP,
+        stored: "YES channels 1 samples 6 annotations 0\n",
+    },
+    Row {
+        number: 11,
+        original: PAIRS,
+        export: SPARSE,
+        claim: claims::TEMP,
+        stored: "NO 10 sample \"Temp\" at 1000000000000 ps missing\n",
+    },
+    Row {
+        number: 12,
+        original: THIRDS,
+        export: SPREAD,
+        claim: claims::TEMP,
+        stored: "NO 10 sample \"Temp\" at 333333333333 ps extra\n",
+    },
+    Row {
+        number: 13,
+        original: THIRDS,
+        export: File {
+            bytes: &[(770, &[9])],
+            ..THIRDS
+        },
+        claim: claims::TEMP,
+        stored: "NO 10 sample \"Temp\" at 333333333333 ps original 2 export 9\n",
+    },
+    Row {
+        number: 14,
+        original: NIGHT,
+        export: File {
+            texts: &[
+                (AtSignal(0, Field::PhysicalMinimum), "-100.0"),
+                (AtSignal(0, Field::PhysicalMaximum), "100.00"),
+            ],
+            ..NIGHT
+        },
+        claim: claims::ALL,
+        stored: "YES channels 2 samples 24 annotations 3\n",
+    },
+    Row {
+        number: 15,
+        original: NIGHT,
+        export: File {
+            texts: &[
+                (AtSignal(0, Field::PhysicalMaximum), "-60"),
+                (AtSignal(0, Field::DigitalMaximum), "-1229"),
+            ],
+            ..NIGHT
+        },
+        claim: claims::ALL,
+        stored: "YES channels 2 samples 24 annotations 3\n",
+    },
+    Row {
+        number: 16,
+        original: NIGHT,
+        export: File {
+            texts: &[(AtSignal(0, Field::PhysicalMaximum), "100.0001")],
+            ..NIGHT
+        },
+        claim: claims::ALL,
+        stored: "NO 7 calibration \"EEG Fpz-Cz\"\n",
+    },
+    Row {
+        number: 17,
+        original: NIGHT,
+        export: File {
+            texts: &[
+                (AtSignal(0, Field::PhysicalMinimum), "-99"),
+                (AtSignal(0, Field::PhysicalMaximum), "101"),
+            ],
+            ..NIGHT
+        },
+        claim: claims::ALL,
+        stored: "NO 7 calibration \"EEG Fpz-Cz\"\n",
+    },
+    Row {
+        number: 18,
+        original: NIGHT,
+        export: NIGHT,
+        claim: claims::NO_NAME,
+        stored: "NO 8 subfield name not X\n",
+    },
+    Row {
+        number: 19,
+        original: NIGHT,
+        export: File {
+            texts: &[(
+                AtField(Fixed::Patient),
+                "MCH-0234567 X 02-MAY-1951 Haagse_Harry",
+            )],
+            ..NIGHT
+        },
+        claim: claims::ALL,
+        stored: "NO 8 subfield sex changed\n",
+    },
+    Row {
+        number: 20,
+        original: WARD,
+        export: NIGHT,
+        claim: claims::NO_PATIENT_EXTRAS,
+        stored: "YES channels 2 samples 24 annotations 3\n",
+    },
+    Row {
+        number: 21,
+        original: WARD,
+        export: WARD,
+        claim: claims::NO_PATIENT_EXTRAS,
+        stored: "NO 8 subfield patient-extras not X\n",
+    },
+    Row {
+        number: 22,
+        original: WARD,
+        export: NIGHT,
+        claim: claims::ALL,
+        stored: "NO 8 subfield patient-extras changed\n",
+    },
+    Row {
+        number: 23,
+        original: NIGHT,
+        export: DATELESS,
+        claim: claims::NO_DATE,
+        stored: "YES channels 2 samples 24 annotations 3\n",
+    },
+    Row {
+        number: 24,
+        original: NIGHT,
+        export: DATELESS,
+        claim: claims::ALL,
+        stored: "NO 8 subfield date changed\n",
+    },
+    Row {
+        number: 25,
+        original: NIGHT,
+        export: File {
+            texts: &[(
+                AtField(Fixed::Recording),
+                "Startdate 02-MAR-2002 PSG-1234/2002 NN Telemetry03",
+            )],
+            ..EXCERPT
+        },
+        claim: claims::EXCERPT,
+        stored: "NO 2 export fault: StartdateDiffers at header field startdate\n",
+    },
+    Row {
+        number: 26,
+        original: NIGHT,
+        export: MOVED,
+        claim: claims::ALL,
+        stored: "YES channels 2 samples 24 annotations 3\n",
+    },
+    Row {
+        number: 27,
+        original: TWICE,
+        export: NIGHT,
+        claim: claims::ALL,
+        stored: "NO 11 annotation missing at 1500000000000 ps duration 1000000000000 ps text \"Apnea\"\n",
+    },
+    Row {
+        number: 28,
+        original: NIGHT,
+        export: NIGHT,
+        claim: claims::NO_LIGHTS,
+        stored: "NO 11 annotation extra at 500000000000 ps duration none text \"Lights off\"\n",
+    },
+    Row {
+        number: 29,
+        original: NIGHT,
+        export: File {
+            length: Some(1231),
+            ..NIGHT
+        },
+        claim: claims::ALL,
+        stored: "NO 2 export fault: Truncated at record 3\n",
+    },
+    Row {
+        number: 30,
+        original: NIGHT,
+        export: File {
+            length: Some(1233),
+            ..NIGHT
+        },
+        claim: claims::ALL,
+        stored: "NO 2 export fault: TrailingBytes at end\n",
+    },
+    Row {
+        number: 31,
+        original: File {
+            length: Some(0),
+            ..NIGHT
+        },
+        export: NIGHT,
+        claim: claims::ALL,
+        stored: "NO 1 original fault: Truncated at header field version\n",
+    },
+    Row {
+        number: 32,
+        original: NIGHT,
+        export: File {
+            length: Some(300),
+            ..NIGHT
+        },
+        claim: claims::ALL,
+        stored: "NO 2 export fault: Truncated at signal 2 field label\n",
+    },
+    Row {
+        number: 33,
+        original: NIGHT,
+        export: BAD_TEXT,
+        claim: claims::ALL,
+        stored: "NO 2 export fault: BadTal(NotUtf8) at record 3\n",
+    },
+    Row {
+        number: 34,
+        original: File {
+            texts: &[(AtField(Fixed::Records), "-1")],
+            ..NIGHT
+        },
+        export: BAD_TEXT,
+        claim: claims::ALL,
+        stored: "NO 1 original fault: BadRange at header field records\n",
+    },
+    Row {
+        number: 35,
+        original: NIGHT,
+        export: File {
+            texts: &[(AtField(Fixed::Reserved), "EDF+C by J")],
+            ..NIGHT
+        },
+        claim: claims::ALL,
+        stored: "NO 9 not clean header\n",
+    },
+    Row {
+        number: 36,
+        original: NIGHT,
+        export: File {
+            texts: &[(AtSignal(1, Field::Reserved), "room 4")],
+            ..NIGHT
+        },
+        claim: claims::ALL,
+        stored: "NO 9 not clean \"ECG\"\n",
+    },
+    Row {
+        number: 37,
+        original: File {
+            texts: &[
+                (AtSignal(1, Field::Reserved), "room 4"),
+                (AtSignal(2, Field::Prefilter), "n/a"),
+            ],
+            ..NIGHT
+        },
+        export: NIGHT,
+        claim: claims::ALL,
+        stored: "YES channels 2 samples 24 annotations 3\n",
+    },
+    Row {
+        number: 38,
+        original: NIGHT,
+        export: NIGHT,
+        claim: claims::ECG,
+        stored: "NO 5 extra channel \"EEG Fpz-Cz\"\n",
+    },
+    Row {
+        number: 39,
+        original: NIGHT,
+        export: ONE_CHANNEL,
+        claim: claims::ALL,
+        stored: "NO 4 missing channel \"ECG\"\n",
+    },
+    Row {
+        number: 40,
+        original: NIGHT,
+        export: File {
+            texts: &[(AtSignal(1, Field::Prefilter), "HP:1Hz")],
+            ..NIGHT
+        },
+        claim: claims::ALL,
+        stored: "NO 6 channel text \"ECG\" prefilter\n",
+    },
+    Row {
+        number: 41,
+        original: NIGHT,
+        export: NIGHT,
+        claim: claims::UNKNOWN,
+        stored: "NO 3 unknown channel \"EMG\"\n",
+    },
+    Row {
+        number: 42,
+        original: NIGHT,
+        export: File {
+            texts: &[(AtField(Fixed::Startdate), "02.03.yy")],
+            ..NIGHT
+        },
+        claim: claims::ALL,
+        stored: "NO 2 export fault: BadStart at header field startdate\n",
+    },
+];
+
+/// The worked rows, in the order in which they are written.
+#[tactic(auto, unfolding(crate::specs::Rows::worked_rows))]
+pub fn worked_rows() -> &'static [Row]
+    ensures { map row_of result.now ≡ worked_rows }
+{
+    ROWS
+}
