@@ -18,7 +18,7 @@ use Rattle.edf_verdict.specs.declared.verdict.Verdict.TheVariants.{Yes, No}
 use Rattle.edf_check.specs.Exports.{BothConform, IsExport}
 use Rattle.edf_check.specs.Headline.{Headline, YesMeans}
 use Rattle.edf_check.specs.Kept.{shift_ps, SamplesAsKept, kept_of, unshifted}
-use Rattle.edf_check.specs.KeptReading.{origin_of, kept_notes, exported_notes}
+use Rattle.edf_check.specs.KeptReading.{kept_notes, exported_notes}
 use Rattle.edf_check.specs.Laws.{HeadlineExactly}
 use Rattle.edf_check.specs.Verdicts.{IsVerdict}
 use Rattle.edf_check.proofs.notes.RearrangedFacts.{notes_in_words}

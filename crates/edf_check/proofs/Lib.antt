@@ -5,3 +5,4 @@ pub mod WordsFacts
 pub mod RunFacts
 pub mod ProductFacts
 pub mod HeadlineFacts
+pub mod StartFacts

@@ -1,5 +1,5 @@
 -- The order of instants, and the picosecond of one.
-use Rattle.std.specs.Prelude.{ℤ, pos, ◌+ℤ◌, ◌*ℤ◌, ◌<ℤ◌, Bool, int_lt, ◌<◌, ◌≤◌, ◌^◌, unsigned_abs}
+use Rattle.std.specs.Prelude.{ℤ, pos, ◌*ℤ◌, ◌<ℤ◌, Bool, int_lt, ◌<◌, ◌≤◌, ◌^◌, unsigned_abs}
 use Rattle.std.specs.Int.{int_div_euclid}
 use Rattle.edf_stream.specs.declared.instant.Instant.{Instant}
 

@@ -1,6 +1,5 @@
 -- Instants, beside what `edf_stream` says of them.
-use Rattle.std.specs.Prelude.{ℤ, pos, ◌+ℤ◌, ◌*ℤ◌, ◌<ℤ◌, Bool, int_lt, ◌<◌, ◌≤◌, ◌^◌, unsigned_abs}
-use Rattle.std.specs.Int.{int_div_euclid}
+use Rattle.std.specs.Prelude.{ℤ, pos, ◌+ℤ◌, ◌*ℤ◌}
 use Rattle.edf_stream.specs.declared.instant.Instant.{Instant}
 
 -- an instant later by so many picoseconds

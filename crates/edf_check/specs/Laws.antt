@@ -1,12 +1,14 @@
 -- What follows from the definition of the verdict.
-use Rattle.std.specs.Prelude.{◌≡◌, ◌↔◌, ◌<◌, ◌^◌, ◌*ℤ◌, ℕ, pos, neg_ℤ, unsigned_abs, List}
+use Rattle.std.specs.Prelude.{◌≡◌, ◌↔◌, ◌<◌, ◌^◌, ◌*ℤ◌, ℕ, pos, neg_ℤ, unsigned_abs, List, ℤ, ◌+ℤ◌, ◌<ℤ◌, ◌≤ℤ◌}
 use Rattle.std.specs.List.Sorted.{IsPermutation}
 use Rattle.edf_claim.specs.Claims.{IsClaim}
 use Rattle.edf_claim.specs.Terms.{Terms}
 use Rattle.edf_claim.specs.declared.interval.Interval.{Interval}
+use Rattle.edf_fields.specs.Dates.{NamesDashedDay}
 use Rattle.edf_fields.specs.Lists.{Has}
+use Rattle.edf_stream.specs.InstantOrder.{IsNotBefore, IsSecondOf}
 use Rattle.edf_header.specs.CalibrationLaws.{FitTogether}
-use Rattle.edf_header.specs.Heads.{SignalHead}
+use Rattle.edf_header.specs.Heads.{SignalHead, Head, start_second}
 use Rattle.edf_header.specs.HeadsReading.{head_of}
 use Rattle.edf_stream.specs.Notes.{NoteValue}
 use Rattle.edf_stream.specs.Samples.{SampleValue, IsSample}
@@ -16,7 +18,7 @@ use Rattle.edf_verdict.specs.declared.verdict.Verdict.TheVariants.{Yes}
 use Rattle.edf_check.specs.Exports.{BothConform, SameSamples, IsExport}
 use Rattle.edf_check.specs.Instants.{later}
 use Rattle.edf_check.specs.Headline.{Headline}
-use Rattle.edf_check.specs.Kept.{SamplesAsKept, shift_ps}
+use Rattle.edf_check.specs.Kept.{IsKeptSample, SamplesAsKept, shift_ps}
 use Rattle.edf_check.specs.KeptReading.{origin_of}
 use Rattle.edf_check.specs.Verdicts.{IsVerdict}
 
@@ -61,3 +63,25 @@ pub record ProductsFit (original export : List ℕ) (claim : Terms) : Type 0 whe
 
 abbrev pub AllProductsFit : Type 0
 AllProductsFit = (original export : List ℕ) (claim : Terms) → BothConform original export → IsClaim claim → ProductsFit original export claim
+
+-- of the samples of the original that the claim keeps this is one, and none of them is earlier
+pub record IsFirstKept (original : List ℕ) (h : Head) (claim : Terms) (x : SampleValue) : Type 0 where
+  pub kept : IsKeptSample original h claim x
+  pub least : (y : SampleValue) → IsKeptSample original h claim y → IsNotBefore y.instant x.instant
+
+-- the second is one of the day with this number; both count from 1970-01-01 on
+abbrev pub IsDayOf : ℤ → ℤ → Type 0
+IsDayOf day second = ((pos 86400 *ℤ day) ≤ℤ second) × (second <ℤ (pos 86400 *ℤ (day +ℤ pos 1)))
+
+-- the export starts at the whole second of the first kept sample, moved by the claimed shift; and the date of its recording, where
+-- that is told, is the day of this second
+pub record StartsAsKept (original export : List ℕ) (h g : Head) (claim : Terms) : Type 0 where
+  pub sample : SampleValue
+  pub first : IsFirstKept original h claim sample
+  pub second : IsSecondOf (later (shift_ps claim) sample.instant) (start_second g)
+  pub day : (n : ℤ) → NamesDashedDay g.recording.date n → IsDayOf n (start_second g)
+
+-- under the headline the start of an export, and its date, follow from the samples that are kept
+abbrev pub StartFollows : Type 0
+StartFollows = (original export : List ℕ) (claim : Terms) (r : Headline original export claim) →
+    StartsAsKept original export r.original_head r.export_head claim

@@ -51,6 +51,13 @@ RunStops refused original export failed (ReadFailed sides.Export) = export
 RunStops refused original export failed (Claim cause) = refused cause
 RunStops refused original export failed WriteFailed = failed
 
+-- a line isn't written for want of memory, or where the sink failed, and then this is said
+abbrev pub WriteStops : Type 0 → RunStop → Type 0
+WriteStops failed OutOfMemory = Unit {0}
+WriteStops failed (ReadFailed side) = ⊥
+WriteStops failed (Claim cause) = ⊥
+WriteStops failed WriteFailed = failed
+
 -- how a run stops over a refused claim: by its cause, but for want of memory
 abbrev pub stop_of_claim : ClaimStop → RunStop
 stop_of_claim claims.OutOfMemory = OutOfMemory

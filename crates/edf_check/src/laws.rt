@@ -1,6 +1,6 @@
 //! Laws of the definitions, each the contract of a function that does nothing.
 
-ghost use Rattle.edf_check.specs.Laws.{OneVerdict, YesExactly, HeadlineExactly, SamplesInWords, NotesInWords, AllProductsFit};
+ghost use Rattle.edf_check.specs.Laws.{OneVerdict, YesExactly, HeadlineExactly, SamplesInWords, NotesInWords, StartFollows, AllProductsFit};
 
 /// Two files have one verdict at most.
 pub fn there_is_one_verdict()
@@ -23,6 +23,12 @@ pub fn samples_are_the_same_in_words()
 /// Each annotation stands equally often in two lists exactly where one is a rearrangement of the other.
 pub fn annotations_are_rearranged()
     ensures { NotesInWords }
+{}
+
+/// The start of an export follows from the samples that are kept, and so does its date where that is told: it
+/// starts at the whole second of the first kept sample, moved by the claimed shift.
+pub fn a_start_follows_from_the_samples()
+    ensures { StartFollows }
 {}
 
 /// The products by which the samples of two files that conform are kept and compared under any claim, and

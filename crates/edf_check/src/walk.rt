@@ -232,6 +232,46 @@ fn walk_contents<O: Source, E: Source>(
     }
 }
 
+/// Compares two files that were read up to their headers: the headers, and where these agree, what follows.
+///
+/// The error is want of memory, or a failure of one of the sources.
+fn walk_both<O: Source, E: Source>(
+    alloc: Global,
+    original: &mut Reading,
+    o: &mut O,
+    export: &mut Reading,
+    e: &mut E,
+    claim: &Claim,
+) -> Result<Walked, CheckStop>
+    requires original { HasBegun original.old.reader × ((original.old.notes).items ≡ []) }
+    requires export { HasBegun export.old.reader × ((export.old.notes).items ≡ []) }
+    ensures walked { IfOk result (λ walked. OfFiles (O.is_honest o.old) (E.is_honest e.old)
+        (StandsIn original.old.reader (O.left o.old)) (StandsIn export.old.reader (E.left e.old))
+        (λ a b. IsWalked a b claim.now walked)) }
+    ensures read { IfOk result (λ walked. OfFiles (O.is_honest o.old) (E.is_honest e.old)
+        (StandsIn original.old.reader (O.left o.old)) (StandsIn export.old.reader (E.left e.old))
+        (λ a b. IsReadOut walked (O.left o.new) (E.left e.new))) }
+    ensures stop { IfErr result (CheckStops (Rises (O.failures o.old) (O.failures o.new)) (Rises (E.failures e.old) (E.failures e.new))) }
+{
+    match head_difference(
+        alloc,
+        original.reader.header(),
+        export.reader.header(),
+        claim,
+    )? {
+        Some(verdict) => {
+            match heads_differ(&mut original.reader, o, &mut export.reader, e, verdict) {
+                Ok(walked) => Ok(walked),
+                Err(stop) => Err(stop),
+            }
+        }
+        None => match walk_contents(alloc, original, o, export, e, claim) {
+            Ok(walked) => Ok(walked),
+            Err(stop) => Err(stop),
+        },
+    }
+}
+
 /// Reads both files to their ends, data record by data record, and compares them. Where the original has a
 /// fault, the export isn't read on; where the export has one, the original is read to its end.
 ///
@@ -263,22 +303,8 @@ pub(crate) fn walk<O: Source, E: Source>(
         },
         Err(stop) => return Err(stop),
     };
-    match head_difference(alloc, first.reader.header(), second.reader.header(), claim)? {
-        Some(verdict) => {
-            match heads_differ(
-                &mut first.reader,
-                original,
-                &mut second.reader,
-                export,
-                verdict,
-            ) {
-                Ok(walked) => Ok(walked),
-                Err(stop) => Err(stop),
-            }
-        }
-        None => match walk_contents(alloc, &mut first, original, &mut second, export, claim) {
-            Ok(walked) => Ok(walked),
-            Err(stop) => Err(stop),
-        },
+    match walk_both(alloc, &mut first, original, &mut second, export, claim) {
+        Ok(walked) => Ok(walked),
+        Err(stop) => Err(stop),
     }
 }

@@ -5,7 +5,6 @@ use Rattle.std.proofs.lemmas.Slice.Eq.{bytes_eq-Decides}
 use Rattle.edf_fields.specs.Lists.{Has}
 use Rattle.edf_fields.specs.Distinct.{AreDistinct}
 use Rattle.edf_fields.proofs.ForCallers.{has-at, at-has, has-filtered, has-map, get-index, get-within}
-use Rattle.edf_header.specs.ChannelsReading.{channel_labels}
 use Rattle.edf_header.specs.Heads.{SignalHead, Head, is_annotations, samples_together}
 use Rattle.edf_header.specs.Sound.{IsSound}
 use Rattle.edf_header.specs.Standard.{IsSoundSignal}

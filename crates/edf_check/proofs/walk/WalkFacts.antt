@@ -29,7 +29,6 @@ use Rattle.edf_verdict.specs.declared.verdict.Verdict.{Verdict}
 use Rattle.edf_verdict.specs.declared.verdict.Verdict.TheVariants.{Yes, No}
 use Rattle.edf_verdict.specs.declared.verdict.Difference.TheVariants as differences
 use Rattle.edf_check.specs.Checks.{AreRead}
-use Rattle.edf_check.specs.Headline.{YesMeans}
 use Rattle.edf_check.specs.samples.Columns.{channel_at, Sampled, difference_at, label_difference, AreNights}
 use Rattle.edf_heads.specs.Comparisons.{AreSorted}
 use Rattle.edf_check.specs.samples.Earliest.{earliest}
@@ -37,7 +36,7 @@ use Rattle.edf_check.specs.Exports.{BothConform}
 use Rattle.edf_heads.specs.HeadVerdicts.{HeadsAgree, IsHeadVerdict}
 use Rattle.edf_check.specs.InstantOrder.{IsModest}
 use Rattle.edf_check.specs.Kept.{shift_ps}
-use Rattle.edf_check.specs.KeptReading.{origin_of, kept_notes, exported_notes}
+use Rattle.edf_check.specs.KeptReading.{origin_of, exported_notes}
 use Rattle.edf_check.specs.Verdicts.{IsVerdict}
 use Rattle.edf_check.specs.walk.Walks.{IsClock, IsCompared, IsReadOut, IsWalked, AreNotes, AreCompared}
 use Rattle.edf_check.specs.walk.Windows.{sampled, whole_difference}

@@ -10,7 +10,7 @@ use edf_stream::instant::Instant;
 use edf_verdict::verdict::SampleMismatch;
 
 /// A difference and the instant where it stands.
-#[derive(Clone, Copy, PartialEq, Eq)]
+#[derive(Clone, Copy)]
 pub struct PointDifference {
     pub at: Instant,
     pub mismatch: SampleMismatch,

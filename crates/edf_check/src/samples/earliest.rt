@@ -9,7 +9,7 @@ use crate::samples::difference::PointDifference;
 use crate::samples::instants::is_before;
 
 /// A difference, and the place of its channel among those that were compared.
-#[derive(Clone, Copy, PartialEq, Eq)]
+#[derive(Clone, Copy)]
 pub struct Found {
     pub channel: usize,
     pub difference: PointDifference,

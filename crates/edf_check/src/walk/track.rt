@@ -18,14 +18,14 @@ use std::alloc::{AllocError, Global};
 use std::mem::size_of;
 
 /// A channel of a file: which of the signals it is, and which of the channels.
-#[derive(Clone, Copy, PartialEq, Eq)]
+#[derive(Clone, Copy)]
 pub struct Track {
     pub signal: u16,
     pub place: ChannelPlace,
 }
 
 /// The channels of a label in the original and in the export, where they have such.
-#[derive(Clone, Copy, PartialEq, Eq)]
+#[derive(Clone, Copy)]
 pub struct Pair {
     pub original: Option<Track>,
     pub export: Option<Track>,

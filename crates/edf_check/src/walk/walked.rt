@@ -17,7 +17,7 @@ use edf_stream::conform::Summary;
 use edf_verdict::verdict::{Difference, Verdict};
 
 /// A fault of one of two files. That of the original goes before that of the export.
-#[derive(Clone, Copy, PartialEq, Eq)]
+#[derive(Clone, Copy)]
 pub(crate) enum FaultOf {
     Original(Fault),
     Export(Fault),
@@ -44,7 +44,7 @@ impl FaultOf {
     /// What a fault of one of the files comes to.
     pub(crate) fn walked(self) -> Walked
         ensures walked { (o e : List ℕ) (claim : Terms) (r s : Reader) (a b : List ℕ) → StandsIn r a o → StandsIn s b e →
-        IsFaultOf o r.head e s.head self → IsWalked o e claim result }
+            IsFaultOf o r.head e s.head self → IsWalked o e claim result }
         ensures read { (a b : List ℕ) → IsReadBy self a → IsReadOut result a b }
     {
         match self {
