@@ -24,9 +24,6 @@ since_all n t xs h = filter_all (λ x. not (is_before (instant n x) (whole t))) 
 pub since_none : (n : ℕ) (t : ℤ) (xs : List Point) → AreBefore n xs (whole t) → since n t xs ≡ []
 since_none n t xs h = filter_none (λ x. not (is_before (instant n x) (whole t))) xs (λ x i. ap not (true-is_before (instant n x) (whole t) (h x i)))
 
-pub until_all : (n : ℕ) (t : ℤ) (xs : List Point) → AreBefore n xs (whole t) → until n t xs ≡ xs
-until_all n t xs h = filter_all (λ x. is_before (instant n x) (whole t)) xs (λ x i. true-is_before (instant n x) (whole t) (h x i))
-
 pub until_none : (n : ℕ) (t : ℤ) (xs : List Point) → AreFrom n xs (whole t) → until n t xs ≡ []
 until_none n t xs h = filter_none (λ x. is_before (instant n x) (whole t)) xs (λ x i. false-is_before (instant n x) (whole t) (h x i))
 

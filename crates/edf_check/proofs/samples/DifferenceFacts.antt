@@ -238,16 +238,6 @@ none_of : (n : ℕ) (xs : List Point) (m : ℕ) (ys : List Point) → 0 < n → 
 none_of n xs m ys pn pm a i None h = refl
 none_of n xs m ys pn pm a i (Some d) h = absurd (match_not_differ n xs m ys d.at d.mismatch pn pm h.0.0 a i h.0.1)
 
-pub match_exactly : MatchExactly
-match_exactly n m xs ys pn pm ax ay = (
-  λ e. let P : Option PointDifference → Type 0 = λ o. MatchOption o (Match n xs m ys) (IsLeastDifference n xs m ys) in subst P e (exact n xs m ys pn pm ax ay),
-  λ i. none_of n xs m ys pn pm ay i (first_difference_of n xs m ys) (exact n xs m ys pn pm ax ay),
-)
-
-pub difference_is_least : DifferenceIsLeast
-difference_is_least n m xs ys pn pm ax ay d e =
-    let P : Option PointDifference → Type 0 = λ o. MatchOption o (Match n xs m ys) (IsLeastDifference n xs m ys) in subst P e (exact n xs m ys pn pm ax ay)
-
 difference-missing : (n : ℕ) (x : Point) (xs : List Point) (m : ℕ) (y : Point) (ys : List Point) → IsBefore (instant n x) (instant m y) → first_difference_of n (x ∷ xs) m (y ∷ ys) ≡ Some (missing n x)
 difference-missing n x xs m y ys b = rw (true-is_before (instant n x) (instant m y) b)
 

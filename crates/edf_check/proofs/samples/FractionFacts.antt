@@ -99,10 +99,3 @@ same_before p q r pos_p s b = not_before-before p q r pos_p (same_below p q s) b
 pub from_below : (p q r : Instant) → 0 < q.den → IsNotBefore p q → IsNotBefore q r → IsNotBefore p r
 from_below p q r pq f g =
     by_before p r (λ b. absurd (before_not q r (not_before-before q p r pq f b) g)) (λ h. h)
-
--- two numerators over one denominator, back
-pub num_before : (a b : ℤ) (n : ℕ) → IsBefore (record { num = a; den = n }) (record { num = b; den = n }) → a <ℤ b
-num_before a b n f =
-    let e : (up a + down b) * n < (up b + down a) * n = omega (arith, ints) in
-    let g : up a + down b < up b + down a = lt_of_mul-lt-mul_right n e in
-    omega (arith, ints)

@@ -463,16 +463,6 @@ map-long : {X Y : Type 0} (f : X → Y) (xs : List X) → length (map f xs) ≡ 
 map-long f [] = refl
 map-long f (x ∷ xs) = ap suc (map-long f xs)
 
--- the earliest difference is that of one of the labels
-pub found-within : (f : Bor (List ℕ) → Option PointDifference) (labels : List (Bor (List ℕ))) (found : Option Found) → found ≡ earliest 0 (map f labels) → IfSome found (λ x. x.channel < length labels)
-found-within f labels None e = tt
-found-within f labels (Some x) e =
-    let r = earliest-some 0 (map f labels) x (sym e) in
-    let lt = get-within (map f labels) r.0 (Some x.difference) r.2 in
-    let long = map-long f labels in
-    let at = r.1 in
-    omega (arith, lt, long, at)
-
 -- what is compared for the labels are the differences of the columns
 compared-columns : (original export : List ℕ) (claim : Terms) (o e : Sampled) (labels : List (List ℕ)) → AreNights original export claim o e → AreClaimed claim labels
     → map (label_difference claim o e) labels ≡ map difference_of (columns_of claim o e labels)

@@ -25,10 +25,6 @@ pub answered_current : (s : Status) (more : Bool) → s ≡ status_after (Ok mor
 answered_current s true e = ap is_current e
 answered_current s false e = ap is_current e
 
-pub answered_going : (s : Status) (more : Bool) → s ≡ status_after (Ok more) → IsGoing s
-answered_going s true e = let P : Status → Type 0 = IsGoing in subst P (sym e) tt
-answered_going s false e = let P : Status → Type 0 = IsGoing in subst P (sym e) tt
-
 pub current_is : (s : Status) → is_current s ≡ true → s ≡ Current
 current_is Begun e = absurd (let f : false ≡ true = e in cc)
 current_is Current e = refl
@@ -199,9 +195,6 @@ follows_on first old new a b c f g h left left' left'' notes' notes'' claim ps t
   failures = q.failures ∙ p.failures;
   comes = λ x file s. q.comes (p.honesty x) file (p.comes x file s);
 }
-
-pub there_out : (r : Reader) (left file : List ℕ) → IsThere r left file → IsGoing r.status → is_current r.status ≡ false → left ≡ []
-there_out r left file there going none = (there.ended (ended_is r.status going none)).2
 
 -- the next data record ends later
 pub ahead_next : (old new : Reader) (ps u : ℤ) → new.head ≡ old.head → old.ended <ℤ new.ended → u ≤ℤ ends_at old ps → u <ℤ ends_at new ps

@@ -89,13 +89,3 @@ channel-bounds h x s i =
     let few = few-samples h.signals x there in
     let small = s.standard.small_record in
     (omega (arith, some), omega (arith, few, small))
-
-pub place_bounds : (h : Head) (label : List ℕ) (found : Option ChannelPlace) → IsSound h → found ≡ channel_at label h → IfSome found (λ place. (0 < place.samples) × (place.samples ≤ 2 ^ 23))
-place_bounds h label None s e = tt
-place_bounds h label (Some place) s e =
-    let r = at-found h label place (sym e) in
-    let b = channel-bounds h r.channel s (has-at (channels_among h.signals) r.at r.channel r.there) in
-    let n = r.samples in
-    let low = b.0 in
-    let high = b.1 in
-    (omega (arith, low, n), omega (arith, high, n))

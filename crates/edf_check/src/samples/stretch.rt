@@ -8,13 +8,13 @@ ghost use Rattle.edf_check.specs.samples.Alike.{AreAlikeBefore};
 ghost use Rattle.edf_check.specs.samples.Differences.{first_difference_of};
 ghost use Rattle.edf_check.specs.InstantOrder.{IsModest};
 ghost use Rattle.edf_check.specs.samples.Stretches.{points_in, points_behind, front_count, IsBounded, IsPart, are_on_one_grid};
-ghost use Rattle.edf_check.specs.samples.Cuts.{whole, since, until};
+ghost use Rattle.edf_check.specs.samples.Cuts.{whole, since, until, IsWindow};
 
 use crate::first_difference::first_difference;
 use crate::samples::difference::{PointDifference, difference_of_heads};
 use crate::samples::instants::product;
 use crate::samples::point::Point;
-use crate::walk::time::Time;
+use crate::walk::time::{Time, Window};
 use byteorder::{ByteOrder, LittleEndian};
 use edf_stream::instant::Instant;
 use edf_verdict::verdict::SampleMismatch;
@@ -284,16 +284,14 @@ fn part_of<'a>(stretch: Stretch<'a>, begin: usize, end: usize) -> Stretch<'a>
 }
 
 /// The samples that stand at a time or later, and before another.
-pub(crate) fn between<'a>(stretch: Stretch<'a>, from: Time, to: Time) -> Stretch<'a>
+pub(crate) fn between<'a>(stretch: Stretch<'a>, within: Window) -> Stretch<'a>
     requires stretch { IsBounded stretch }
-    requires from { unsigned_abs from.ps < 2 ^ 100 }
-    requires to { unsigned_abs to.ps < 2 ^ 100 }
-    requires order { from.ps ≤ℤ to.ps }
+    requires window { IsWindow within }
     ensures part { IsPart result }
     ensures den { result.den ≡ stretch.entry.den }
-    ensures value { points_in result ≡ until stretch.entry.den to.ps (since stretch.entry.den from.ps (points_in stretch.entry)) }
+    ensures value { points_in result ≡ until stretch.entry.den (within.to).ps (since stretch.entry.den (within.from).ps (points_in stretch.entry)) }
 {
-    let begin = count_before(stretch, from);
-    let end = count_before(stretch, to);
+    let begin = count_before(stretch, within.from);
+    let end = count_before(stretch, within.to);
     part_of(stretch, begin, end.max(begin))
 }

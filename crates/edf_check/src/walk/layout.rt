@@ -14,7 +14,7 @@ use crate::first_difference::first_difference;
 use crate::walk::clock::{Clock, start_ps_of};
 use crate::walk::offset::Offset;
 use crate::walk::reading::end_ps_of;
-use crate::walk::time::Time;
+use crate::walk::time::Window;
 use crate::walk::track::{Pair, Track};
 use edf_header::header::Header;
 use edf_header::signal::Signal;
@@ -104,11 +104,11 @@ fn are_together(original: &FileReader, export: &FileReader, clock: Clock) -> boo
 }
 
 /// Whether the data record at hand lies between two times: no border cuts it. Only speed rests on the answer.
-fn lies_between(reader: &FileReader, by: Offset, from: Time, to: Time) -> bool
+fn lies_between(reader: &FileReader, by: Offset, within: Window) -> bool
     requires current { IsTrue (is_current reader.now.status) }
     requires near { unsigned_abs by.ps < 2 ^ 80 }
 {
-    from.ps <= begin_of(reader, by) && end_ps_of(reader, by) <= to.ps
+    within.from.ps <= begin_of(reader, by) && end_ps_of(reader, by) <= within.to.ps
 }
 
 /// Whether two slices have the same first bytes, as many as are said.
@@ -126,8 +126,7 @@ pub(crate) fn are_alike(
     export: &FileReader,
     room: usize,
     clock: Clock,
-    from: Time,
-    to: Time,
+    within: Window,
 ) -> bool
     requires original_near { unsigned_abs (clock.original).ps < 2 ^ 80 }
     requires export_near { unsigned_abs (clock.export).ps < 2 ^ 80 }
@@ -136,7 +135,7 @@ pub(crate) fn are_alike(
     if !original.has_current() || !export.has_current() {
         return false;
     }
-    lies_between(original, clock.original, from, to)
+    lies_between(original, clock.original, within)
         && are_together(original, export, clock)
         && has_same_front(original.record(), export.record(), room)
 }

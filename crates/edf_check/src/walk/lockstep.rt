@@ -8,6 +8,7 @@ ghost use Rattle.edf_fields.specs.Sources.{Rises};
 ghost use Rattle.edf_stream.specs.Faults.{body_fault};
 ghost use Rattle.edf_stream.specs.Readers.{HasBegun, StandsIn};
 ghost use Rattle.edf_stream.specs.Views.{note_value};
+ghost use Rattle.edf_check.specs.samples.Cuts.{IsWindow};
 ghost use Rattle.edf_check.specs.Premises.{OfFile, OfFiles};
 ghost use Rattle.edf_check.specs.declared.side.Side.TheVariants as sides;
 ghost use Rattle.edf_check.specs.Checks.{CheckStops, SideStops};
@@ -26,7 +27,7 @@ use crate::walk::clock::Clock;
 use crate::walk::gather::View;
 use crate::walk::layout::are_alike;
 use crate::walk::reading::{Reading, finish, lesser_end, pass, start};
-use crate::walk::time::Time;
+use crate::walk::time::{Time, Window};
 use crate::walk::track::Pair;
 use crate::walk::walked::FaultOf;
 use crate::walk::window::{keeps_at, window_difference};
@@ -77,17 +78,16 @@ fn shows_the_same(
     original: &FileReader,
     export: &FileReader,
     frame: Frame<'_>,
-    from: Time,
-    to: Time,
+    within: Window,
 ) -> bool
     requires original_near { unsigned_abs (frame.clock.original).ps < 2 ^ 80 }
     requires export_near { unsigned_abs (frame.clock.export).ps < 2 ^ 80 }
-    ensures { IsTrue result → (keeps_instant frame.entry.claim.now from.ps 1 ≡ true) × ((n : ℕ) × (frame.entry.room ≡ Some n)
+    ensures { IsTrue result → (keeps_instant frame.entry.claim.now (within.from).ps 1 ≡ true) × ((n : ℕ) × (frame.entry.room ≡ Some n)
         × AreRecordsAlike original.now export.now n (frame.entry.clock.original).ps (frame.entry.clock.export).ps) }
 {
     match frame.room {
         Some(room) => {
-            keeps_at(frame.claim, from) && are_alike(original, export, room, frame.clock, from, to)
+            keeps_at(frame.claim, within.from) && are_alike(original, export, room, frame.clock, within)
         }
         None => false,
     }
@@ -101,27 +101,24 @@ fn difference_in(
     export: &FileReader,
     pairs: &[Pair],
     frame: Frame<'_>,
-    from: Time,
-    to: Time,
+    within: Window,
 ) -> Option<Found>
     requires pairs { ArePairs original.now.head export.now.head pairs.now }
     requires laid { IfSome frame.room (λ n. All (AreLaidAlike original.now.head export.now.head n) pairs.now) }
     requires original_near { unsigned_abs (frame.clock.original).ps < 2 ^ 80 }
     requires export_near { unsigned_abs (frame.clock.export).ps < 2 ^ 80 }
-    requires from { unsigned_abs from.ps < 2 ^ 100 }
-    requires to { unsigned_abs to.ps < 2 ^ 100 }
-    requires order { from.ps ≤ℤ to.ps }
-    requires uncut { IsUncut frame.claim.now.keep from.ps to.ps }
-    ensures value { (o e : List ℕ) → Covers original.now o (frame.entry.clock.original).ps from.ps to.ps →
-        Covers export.now e (frame.entry.clock.export).ps from.ps to.ps →
+    requires window { IsWindow within }
+    requires uncut { IsUncut frame.claim.now.keep (within.from).ps (within.to).ps }
+    ensures value { (o e : List ℕ) → Covers original.now o (frame.entry.clock.original).ps (within.from).ps (within.to).ps →
+        Covers export.now e (frame.entry.clock.export).ps (within.from).ps (within.to).ps →
         result ≡ difference_between frame.entry.claim.now (sampled o original.now.head (frame.entry.clock.original).ps)
-        (sampled e export.now.head (frame.entry.clock.export).ps) (map places_of pairs.now) from.ps to.ps }
+        (sampled e export.now.head (frame.entry.clock.export).ps) (map places_of pairs.now) (within.from).ps (within.to).ps }
     ensures modest { IfSome result (λ f. IsModest f.difference.at × (f.channel < length pairs.now)) }
 {
-    if shows_the_same(original, export, frame, from, to) {
+    if shows_the_same(original, export, frame, within) {
         return None;
     }
-    window_difference(original, export, pairs, frame.clock, frame.claim, from, to)
+    window_difference(original, export, pairs, frame.clock, frame.claim, within)
 }
 
 /// Reads two files to their ends, of which a difference is known, and answers their fault: that of the
@@ -182,32 +179,31 @@ fn pass_both<O: Source, E: Source>(
     export: &mut Reading,
     e: &mut E,
     frame: Frame<'_>,
-    from: Time,
-    to: Time,
+    within: Window,
 ) -> Result<Option<FaultOf>, CheckStop>
     requires original { IsGoing (original.old.reader).status }
     requires export { IsGoing (export.old.reader).status }
     requires original_near { unsigned_abs (frame.clock.original).ps < 2 ^ 80 }
     requires export_near { unsigned_abs (frame.clock.export).ps < 2 ^ 80 }
-    requires order { from.ps ≤ℤ to.ps }
-    requires original_reaches { Reaches original.old.reader (frame.clock.original).ps to.ps }
-    requires export_reaches { Reaches export.old.reader (frame.clock.export).ps to.ps }
+    requires window { IsWindow within }
+    requires original_reaches { Reaches original.old.reader (frame.clock.original).ps (within.to).ps }
+    requires export_reaches { Reaches export.old.reader (frame.clock.export).ps (within.to).ps }
     ensures original { IfOk result (λ found. IfNone found (Moves original.old.reader original.new.reader (O.is_honest o.old) (O.is_honest o.new)
         (O.failures o.old) (O.failures o.new) (O.left o.old) (O.left o.new)
         (map note_value (original.old.notes).items) (map note_value (original.new.notes).items) (Some frame.entry.claim.now)
-        (frame.entry.clock.original).ps from.ps to.ps)) }
+        (frame.entry.clock.original).ps (within.from).ps (within.to).ps)) }
     ensures export { IfOk result (λ found. IfNone found (Moves export.old.reader export.new.reader (E.is_honest e.old) (E.is_honest e.new)
         (E.failures e.old) (E.failures e.new) (E.left e.old) (E.left e.new)
-        (map note_value (export.old.notes).items) (map note_value (export.new.notes).items) None (frame.entry.clock.export).ps from.ps to.ps)) }
+        (map note_value (export.old.notes).items) (map note_value (export.new.notes).items) None (frame.entry.clock.export).ps (within.from).ps (within.to).ps)) }
     ensures out { IfOk result (λ found. IfSome found (λ fault. OfFiles (O.is_honest o.old) (E.is_honest e.old)
         (λ a. IsAt original.old.reader (O.left o.old) (map note_value (original.old.notes).items) a (Some frame.entry.claim.now)
-        (frame.entry.clock.original).ps from.ps) (λ b. IsAt export.old.reader (E.left e.old) (map note_value (export.old.notes).items) b None
-        (frame.entry.clock.export).ps from.ps)
+        (frame.entry.clock.original).ps (within.from).ps) (λ b. IsAt export.old.reader (E.left e.old) (map note_value (export.old.notes).items) b None
+        (frame.entry.clock.export).ps (within.from).ps)
         (λ a b. IsReadBy fault (O.left o.new)))) }
     ensures fault { IfOk result (λ found. IfSome found (λ fault. OfFiles (O.is_honest o.old) (E.is_honest e.old)
         (λ a. IsAt original.old.reader (O.left o.old) (map note_value (original.old.notes).items) a (Some frame.entry.claim.now)
-        (frame.entry.clock.original).ps from.ps) (λ b. IsAt export.old.reader (E.left e.old) (map note_value (export.old.notes).items) b None
-        (frame.entry.clock.export).ps from.ps)
+        (frame.entry.clock.original).ps (within.from).ps) (λ b. IsAt export.old.reader (E.left e.old) (map note_value (export.old.notes).items) b None
+        (frame.entry.clock.export).ps (within.from).ps)
         (λ a b. IsFaultOf a (original.old.reader).head b (export.old.reader).head fault))) }
     ensures stop { IfErr result (CheckStops (Rises (O.failures o.old) (O.failures o.new)) (Rises (E.failures e.old) (E.failures e.new))) }
 {
@@ -220,8 +216,7 @@ fn pass_both<O: Source, E: Source>(
             moved: frame.clock.original,
             claim: Some(frame.claim),
         },
-        from,
-        to,
+        within,
     ) {
         Ok(None) => match pass(
             alloc,
@@ -232,8 +227,7 @@ fn pass_both<O: Source, E: Source>(
                 moved: frame.clock.export,
                 claim: None,
             },
-            from,
-            to,
+            within,
         ) {
             Ok(None) => Ok(None),
             Ok(Some(fault)) => match export_fault(&mut original.reader, o, fault) {
@@ -362,21 +356,18 @@ pub(crate) fn walk_records<O: Source, E: Source>(
         frame.clock.export,
     ) {
         let next = border(frame.claim, time, end);
-        if let Some(found) = difference_in(
-            &original.reader,
-            &export.reader,
-            pairs,
-            frame,
-            time,
-            next,
-        ) {
+        let within = Window {
+            from: time,
+            to: next,
+        };
+        if let Some(found) = difference_in(&original.reader, &export.reader, pairs, frame, within) {
             return match finish_both(&mut original.reader, o, &mut export.reader, e) {
                 Ok(None) => Ok(Ok(Some(found))),
                 Ok(Some(fault)) => Ok(Err(fault)),
                 Err(stop) => Err(stop),
             };
         }
-        match pass_both(alloc, original, o, export, e, frame, time, next) {
+        match pass_both(alloc, original, o, export, e, frame, within) {
             Ok(None) => {}
             Ok(Some(fault)) => return Ok(Err(fault)),
             Err(stop) => return Err(stop),

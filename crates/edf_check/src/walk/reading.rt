@@ -8,6 +8,7 @@ ghost use Rattle.edf_stream.specs.NotesReading.{notes_in, moved_notes_in};
 ghost use Rattle.edf_stream.specs.Readers.{HasBegun, IsOpen, is_current, StandsIn, Comes};
 ghost use Rattle.edf_stream.specs.Starts.{file_start};
 ghost use Rattle.edf_stream.specs.Views.{note_value};
+ghost use Rattle.edf_check.specs.samples.Cuts.{IsWindow};
 ghost use Rattle.edf_check.specs.Premises.{OfFile};
 ghost use Rattle.edf_check.specs.Checks.{SideStops};
 ghost use Rattle.edf_check.specs.walk.Gathered.{claim_of, gathered_of, gathered_in};
@@ -19,7 +20,7 @@ use crate::stop::CheckStop;
 use crate::walk::clock::start_ps_of;
 use crate::walk::gather::{View, gather};
 use crate::walk::offset::Offset;
-use crate::walk::time::Time;
+use crate::walk::time::{Time, Window};
 use edf_fields::source::Source;
 use edf_header::fault::Fault;
 use edf_header::stop::Stop;
@@ -207,22 +208,21 @@ pub(crate) fn pass<S: Source>(
     source: &mut S,
     side: Side,
     view: View<'_>,
-    from: Time,
-    to: Time,
+    within: Window,
 ) -> Result<Option<Fault>, CheckStop>
     requires going { IsGoing (reading.old.reader).status }
     requires near { unsigned_abs (view.moved).ps < 2 ^ 80 }
-    requires order { from.ps ≤ℤ to.ps }
-    requires reaches { Reaches reading.old.reader (view.moved).ps to.ps }
+    requires window { IsWindow within }
+    requires reaches { Reaches reading.old.reader (view.moved).ps (within.to).ps }
     ensures head { (reading.new.reader).head ≡ (reading.old.reader).head }
     ensures moves { IfOk result (λ found. IfNone found (Moves reading.old.reader reading.new.reader (S.is_honest source.old)
         (S.is_honest source.new) (S.failures source.old) (S.failures source.new) (S.left source.old) (S.left source.new)
-        (map note_value (reading.old.notes).items) (map note_value (reading.new.notes).items) (claim_of view.entry) (view.entry.moved).ps from.ps to.ps)) }
+        (map note_value (reading.old.notes).items) (map note_value (reading.new.notes).items) (claim_of view.entry) (view.entry.moved).ps (within.from).ps (within.to).ps)) }
     ensures fault { IfOk result (λ found. IfSome found (λ fault. OfFile (S.is_honest source.old) (IsThere reading.old.reader (S.left source.old))
         (λ file. body_fault file (reading.old.reader).head ≡ Some fault))) }
     ensures stop { IfErr result (SideStops side (Rises (S.failures source.old) (S.failures source.new))) }
 {
-    if !is_past(&reading.reader, view.moved, to) {
+    if !is_past(&reading.reader, view.moved, within.to) {
         return Ok(None);
     }
     match gather_next(alloc, reading, source, side, view) {

@@ -5,3 +5,10 @@
 pub struct Time {
     pub ps: i128,
 }
+
+/// From a time on, and before another.
+#[derive(Clone, Copy)]
+pub struct Window {
+    pub from: Time,
+    pub to: Time,
+}

@@ -9,7 +9,7 @@ ghost use Rattle.edf_stream.specs.Starts.{file_start};
 ghost use Rattle.edf_stream.specs.StartsReading.{start_in};
 ghost use Rattle.edf_check.specs.InstantOrder.{IsModest};
 ghost use Rattle.edf_check.specs.samples.Stretches.{points_in, IsBounded, IsPart};
-ghost use Rattle.edf_check.specs.samples.Cuts.{whole, since, until};
+ghost use Rattle.edf_check.specs.samples.Cuts.{whole, since, until, IsWindow};
 ghost use Rattle.edf_check.specs.walk.Windows.{sampled, points_at, kept_at, window_of, window_difference as difference_between};
 ghost use Rattle.edf_check.specs.walk.Pairs.{places_of, IsTrack, ArePairs};
 ghost use Rattle.edf_check.specs.walk.Shown.{shown_points, Covers};
@@ -19,7 +19,7 @@ use crate::samples::earliest::{Found, earlier, found_in};
 use crate::samples::stretch::{Stretch, between, no_samples, stretch_difference};
 use crate::walk::clock::Clock;
 use crate::walk::offset::Offset;
-use crate::walk::time::Time;
+use crate::walk::time::{Time, Window};
 use crate::walk::track::{Pair, Track};
 use edf_claim::claim::Claim;
 use edf_stream::grid::file_start_ps;
@@ -99,21 +99,18 @@ fn window<'a>(
     reader: &'a FileReader,
     track: Track,
     moved: Offset,
-    from: Time,
-    to: Time,
+    within: Window,
 ) -> Stretch<'a>
     requires track { IsTrack reader.now.head track }
     requires near { unsigned_abs moved.ps < 2 ^ 80 }
-    requires from { unsigned_abs from.ps < 2 ^ 100 }
-    requires to { unsigned_abs to.ps < 2 ^ 100 }
-    requires order { from.ps ≤ℤ to.ps }
+    requires window { IsWindow within }
     ensures part { IsPart result }
     ensures den { result.den ≡ track.place.samples }
-    ensures value { (file : List ℕ) → Covers reader.now file moved.ps from.ps to.ps → points_in result
-        ≡ until track.place.samples to.ps (since track.place.samples from.ps (points_at (sampled file reader.now.head moved.ps) track.place)) }
+    ensures value { (file : List ℕ) → Covers reader.now file moved.ps (within.from).ps (within.to).ps → points_in result
+        ≡ until track.place.samples (within.to).ps (since track.place.samples (within.from).ps (points_at (sampled file reader.now.head moved.ps) track.place)) }
 {
     if reader.has_current() {
-        between(lane_stretch(reader, track, moved), from, to)
+        between(lane_stretch(reader, track, moved), within)
     } else {
         no_samples(track.place.samples)
     }
@@ -132,23 +129,20 @@ fn kept_window<'a>(
     track: Track,
     moved: Offset,
     claim: &Claim,
-    from: Time,
-    to: Time,
+    within: Window,
 ) -> Stretch<'a>
     requires track { IsTrack reader.now.head track }
     requires near { unsigned_abs moved.ps < 2 ^ 80 }
-    requires from { unsigned_abs from.ps < 2 ^ 100 }
-    requires to { unsigned_abs to.ps < 2 ^ 100 }
-    requires order { from.ps ≤ℤ to.ps }
-    requires uncut { IsUncut claim.now.keep from.ps to.ps }
+    requires window { IsWindow within }
+    requires uncut { IsUncut claim.now.keep (within.from).ps (within.to).ps }
     ensures part { IsPart result }
     ensures den { result.den ≡ track.place.samples }
-    ensures value { (file : List ℕ) → Covers reader.now file moved.ps from.ps to.ps → points_in result
-        ≡ until track.place.samples to.ps (since track.place.samples from.ps (kept_at claim.now
+    ensures value { (file : List ℕ) → Covers reader.now file moved.ps (within.from).ps (within.to).ps → points_in result
+        ≡ until track.place.samples (within.to).ps (since track.place.samples (within.from).ps (kept_at claim.now
         (sampled file reader.now.head moved.ps) track.place)) }
 {
-    if keeps_at(claim, from) {
-        window(reader, track, moved, from, to)
+    if keeps_at(claim, within.from) {
+        window(reader, track, moved, within)
     } else {
         no_samples(track.place.samples)
     }
@@ -162,25 +156,22 @@ fn pair_difference(
     pair: Pair,
     clock: Clock,
     claim: &Claim,
-    from: Time,
-    to: Time,
+    within: Window,
 ) -> Option<PointDifference>
     requires original { IfSome pair.original (IsTrack original.now.head) }
     requires export { IfSome pair.export (IsTrack export.now.head) }
     requires original_near { unsigned_abs (clock.original).ps < 2 ^ 80 }
     requires export_near { unsigned_abs (clock.export).ps < 2 ^ 80 }
-    requires from { unsigned_abs from.ps < 2 ^ 100 }
-    requires to { unsigned_abs to.ps < 2 ^ 100 }
-    requires order { from.ps ≤ℤ to.ps }
-    requires uncut { IsUncut claim.now.keep from.ps to.ps }
-    ensures value { (o e : List ℕ) → Covers original.now o (clock.original).ps from.ps to.ps → Covers export.now e (clock.export).ps from.ps to.ps →
-        result ≡ window_of claim.now (sampled o original.now.head (clock.original).ps) (sampled e export.now.head (clock.export).ps) from.ps to.ps (places_of pair).0 (places_of pair).1 }
+    requires window { IsWindow within }
+    requires uncut { IsUncut claim.now.keep (within.from).ps (within.to).ps }
+    ensures value { (o e : List ℕ) → Covers original.now o (clock.original).ps (within.from).ps (within.to).ps → Covers export.now e (clock.export).ps (within.from).ps (within.to).ps →
+        result ≡ window_of claim.now (sampled o original.now.head (clock.original).ps) (sampled e export.now.head (clock.export).ps) (within.from).ps (within.to).ps (places_of pair).0 (places_of pair).1 }
     ensures modest { IfSome result (λ d. IsModest d.at) }
 {
     match (pair.original, pair.export) {
         (Some(here), Some(there)) => stretch_difference(
-            kept_window(original, here, clock.original, claim, from, to),
-            window(export, there, clock.export, from, to),
+            kept_window(original, here, clock.original, claim, within),
+            window(export, there, clock.export, within),
         ),
         (Some(_), None) => None,
         (None, _) => None,
@@ -195,26 +186,23 @@ pub(crate) fn window_difference(
     pairs: &[Pair],
     clock: Clock,
     claim: &Claim,
-    from: Time,
-    to: Time,
+    within: Window,
 ) -> Option<Found>
     requires pairs { ArePairs original.now.head export.now.head pairs.now }
     requires original_near { unsigned_abs (clock.original).ps < 2 ^ 80 }
     requires export_near { unsigned_abs (clock.export).ps < 2 ^ 80 }
-    requires from { unsigned_abs from.ps < 2 ^ 100 }
-    requires to { unsigned_abs to.ps < 2 ^ 100 }
-    requires order { from.ps ≤ℤ to.ps }
-    requires uncut { IsUncut claim.now.keep from.ps to.ps }
-    ensures value { (o e : List ℕ) → Covers original.now o (clock.original).ps from.ps to.ps → Covers export.now e (clock.export).ps from.ps to.ps →
+    requires window { IsWindow within }
+    requires uncut { IsUncut claim.now.keep (within.from).ps (within.to).ps }
+    ensures value { (o e : List ℕ) → Covers original.now o (clock.original).ps (within.from).ps (within.to).ps → Covers export.now e (clock.export).ps (within.from).ps (within.to).ps →
         result ≡ difference_between claim.now (sampled o original.now.head (clock.original).ps) (sampled e export.now.head (clock.export).ps)
-        (map places_of pairs.now) from.ps to.ps }
+        (map places_of pairs.now) (within.from).ps (within.to).ps }
     ensures modest { IfSome result (λ f. IsModest f.difference.at × (f.channel < length pairs.now)) }
 {
     let mut held = None;
     let mut i = pairs.len();
     while i > 0 {
         i -= 1;
-        let next = pair_difference(original, export, pairs[i], clock, claim, from, to);
+        let next = pair_difference(original, export, pairs[i], clock, claim, within);
         held = earlier(found_in(i, next), held);
     }
     held

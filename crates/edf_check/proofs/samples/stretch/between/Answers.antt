@@ -9,5 +9,5 @@ returns-clause-value c =
     let s = c.args.stretch in
     let begin = c.count_before-begin.result in
     c.part_of.ensures.value ∙ ap (λ k. take (k - begin) (drop begin (points_in s))) c.max.ensures
-    ∙ between_is s.den c.args.from.ps c.args.to.ps begin c.count_before-end.result (points_in s) c.requires.stretch.3 (points-ascending s.num s.step s.bytes.now c.requires.stretch.1) c.requires.order
+    ∙ between_is s.den (c.args.within.from).ps (c.args.within.to).ps begin c.count_before-end.result (points_in s) c.requires.stretch.3 (points-ascending s.num s.step s.bytes.now c.requires.stretch.1) c.requires.window.order
     c.count_before-begin.ensures.value c.count_before-end.ensures.value

@@ -11,5 +11,5 @@ returns-then-shows_the_same-clause-value c = λ o e ho he.
     let same = c.if-shows_the_same.ensures refl in
     let n = same.1.0 in
     let P : Option ℕ → Type 0 = λ room. IfSome room (λ m. All (AreLaidAlike r.head s.head m) c.args.pairs.now) in
-    none_different c.args.frame.claim.now o e r s n (c.args.frame.clock.original).ps (c.args.frame.clock.export).ps c.args.from.ps c.args.to.ps c.args.pairs.now
+    none_different c.args.frame.claim.now o e r s n (c.args.frame.clock.original).ps (c.args.frame.clock.export).ps (c.args.within.from).ps (c.args.within.to).ps c.args.pairs.now
     same.1.2 (subst P same.1.1 c.requires.laid) c.requires.pairs c.requires.uncut same.0 ho he

@@ -16,7 +16,7 @@ loop-i-preserved c =
     record {
       within = omega (arith, inv.within);
       value = λ o e ho he.
-          let of : Pair → Option PointDifference = λ p. window_of c.args.claim.now (sampled o c.args.original.now.head (c.args.clock.original).ps) (sampled e c.args.export.now.head (c.args.clock.export).ps) c.args.from.ps c.args.to.ps (places_of p).0 (places_of p).1 in
+          let of : Pair → Option PointDifference = λ p. window_of c.args.claim.now (sampled o c.args.original.now.head (c.args.clock.original).ps) (sampled e c.args.export.now.head (c.args.clock.export).ps) (c.args.within.from).ps (c.args.within.to).ps (places_of p).0 (places_of p).1 in
           earliest-step of c.args.pairs.now c.loop-i.i k _ c.pair_difference-next.result c.found_in.result c.loop-i.held c.earlier-held.result
           next lt (c.pair_difference-next.ensures.value o e ho he) c.found_in.ensures.value c.earlier-held.ensures.value (inv.value o e ho he);
       modest = c.earlier-held.ensures.modest;
@@ -26,7 +26,7 @@ loop-i-preserved c =
 pub returns-clause-value : goal.returns-clause-value
 returns-clause-value c = λ o e ho he.
     let z : c.loop-i.i ≡ 0 = omega (arith, c.loop-i-test.false) in
-    windows_are c.args.claim.now (sampled o c.args.original.now.head (c.args.clock.original).ps) (sampled e c.args.export.now.head (c.args.clock.export).ps) c.args.from.ps c.args.to.ps c.args.pairs.now c.loop-i.i c.loop-i.held z
+    windows_are c.args.claim.now (sampled o c.args.original.now.head (c.args.clock.original).ps) (sampled e c.args.export.now.head (c.args.clock.export).ps) (c.args.within.from).ps (c.args.within.to).ps c.args.pairs.now c.loop-i.i c.loop-i.held z
     (c.loop-i.invariant.value o e ho he)
 
 pub returns-clause-modest : goal.returns-clause-modest

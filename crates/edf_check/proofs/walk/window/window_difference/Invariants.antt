@@ -9,8 +9,8 @@ use Rattle.edf_check.proofs.walk.window.window_difference.Given as goal
 abbrev pub invariant-loop-i : goal.invariant-loop-i
 invariant-loop-i l = record {
   within : l.i ≤ length l.pairs;
-  value : (o e : List ℕ) → Covers l.original o (l.clock.original).ps l.from.ps l.to.ps → Covers l.export e (l.clock.export).ps l.from.ps l.to.ps →
-      l.held ≡ earliest l.i (map (λ p. window_of l.claim (sampled o l.original.head (l.clock.original).ps) (sampled e l.export.head (l.clock.export).ps) l.from.ps l.to.ps (places_of p).0 (places_of p).1) (drop l.i l.pairs));
+  value : (o e : List ℕ) → Covers l.original o (l.clock.original).ps (l.within.from).ps (l.within.to).ps → Covers l.export e (l.clock.export).ps (l.within.from).ps (l.within.to).ps →
+      l.held ≡ earliest l.i (map (λ p. window_of l.claim (sampled o l.original.head (l.clock.original).ps) (sampled e l.export.head (l.clock.export).ps) (l.within.from).ps (l.within.to).ps (places_of p).0 (places_of p).1) (drop l.i l.pairs));
   modest : IfSome l.held (λ f. IsModest f.difference.at);
   channel : IfSome l.held (λ f. f.channel < length l.pairs);
 }
