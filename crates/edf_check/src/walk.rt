@@ -218,8 +218,13 @@ fn walk_contents<O: Source, E: Source>(
         &labels,
     )?;
     let room = common_room(original.reader.header(), export.reader.header(), &pairs);
-    let frame = Frame { clock, claim, room };
-    match walk_records(alloc, original, o, export, e, &pairs, frame) {
+    let frame = Frame {
+        alloc,
+        clock,
+        claim,
+        room,
+    };
+    match walk_records(original, o, export, e, &pairs, frame) {
         Ok(Ok(found)) => {
             let summary = BothRead { original, export }.exported();
             let kept = &mut original.notes;

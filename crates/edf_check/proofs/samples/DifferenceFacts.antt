@@ -14,7 +14,7 @@ use Rattle.edf_stream.specs.Instants.{IsSame}
 use Rattle.edf_stream.specs.InstantOrder.{IsNotBefore}
 use Rattle.edf_check.specs.InstantOrder.{IsBefore, is_before}
 use Rattle.edf_fields.specs.Lists.{Has}
-use Rattle.edf_check.specs.samples.Differences.{instant, IsAscending, HasValue, HasNone, AreIn, Match, Differ, IsDifference, IsLeastDifference, first_difference_of, missing, extra, other, heads, AreBefore, AreFrom, MatchExactly, DifferenceIsLeast, DifferenceSplits}
+use Rattle.edf_check.specs.samples.Differences.{instant, IsAscending, HasValue, HasNone, AreIn, Match, Differ, IsDifference, IsLeastDifference, first_difference_of, missing, extra, other, heads, AreBefore, AreFrom, DifferenceSplits}
 use Rattle.edf_check.proofs.samples.FractionFacts.{before-not_before, same_below, same_above, before_below, before_same, before_same_back, is_before-true, is_before-false, true-is_before, false-is_before, both_same, before_over, same_through, same_before, same_back}
 
 -- what a test gives, by its two cases

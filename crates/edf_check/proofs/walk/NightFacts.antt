@@ -1,5 +1,5 @@
 -- The columns of two files hold what the claim keeps of the original, and what the export holds.
-use Rattle.std.proofs.Common.{◌≡◌, ℕ, suc, ◌<◌, ◌<ℤ◌, ◌+ℤ◌, ◌*ℤ◌, ℤ, pos, neg_ℤ, Bool, true, false, not, cond, Bor, List, [], ◌∷◌, length, get_or, map, filter, Option, Some, None, MatchOption, IfSome, slice_get, unwrap_or, option_map, inl, inr, refl, sym, ap, ◌∙◌, subst, arith}
+use Rattle.std.proofs.Common.{◌≡◌, ℕ, suc, ◌<◌, ◌<ℤ◌, ◌+ℤ◌, ◌*ℤ◌, ℤ, pos, neg_ℤ, Bool, true, false, not, cond, Bor, List, [], ◌∷◌, length, get_or, map, filter, Option, Some, None, MatchOption, slice_get, unwrap_or, option_map, inl, inr, refl, sym, ap, ◌∙◌, subst, arith}
 use Rattle.std.specs.Cmp.Lexicographic.{slice_cmp}
 use Rattle.std.specs.List.Sorted.{IsSorted}
 use Rattle.std.specs.Option.{option_map_or}
@@ -38,8 +38,6 @@ use Rattle.edf_check.specs.Instants.{later}
 use Rattle.edf_check.specs.InstantOrder.{floor_of}
 use Rattle.edf_check.proofs.samples.ColumnFacts.{named, first-is-first}
 use Rattle.edf_check.proofs.CourseFacts.{agree-alike, first-alike}
-use Rattle.edf_check.proofs.samples.EarliestFacts.{earliest-some}
-use Rattle.edf_check.specs.declared.samples.difference.PointDifference.{PointDifference}
 use Rattle.edf_check.specs.samples.Differences.{instant, HasValue, IsAscending}
 use Rattle.edf_check.specs.Kept.{shift_ps}
 use Rattle.edf_check.specs.KeptReading.{origin_of, ValueAt, KeptAt, ExportedAt}

@@ -42,9 +42,10 @@ const BEGINNING: Time = Time { ps: -(1 << 90) };
 
 /// How two files lie beside each other: by how much each is moved, what the claim keeps of the original,
 /// and how many bytes of a data record reach to the end of the channels that are compared, where these have
-/// the same places in both files.
+/// the same places in both files. Memory for their annotations is taken of `alloc`.
 #[derive(Clone, Copy)]
 pub(crate) struct Frame<'a> {
+    pub alloc: Global,
     pub clock: Clock,
     pub claim: &'a Claim,
     pub room: Option<usize>,
@@ -87,7 +88,8 @@ fn shows_the_same(
 {
     match frame.room {
         Some(room) => {
-            keeps_at(frame.claim, within.from) && are_alike(original, export, room, frame.clock, within)
+            keeps_at(frame.claim, within.from)
+                && are_alike(original, export, room, frame.clock, within)
         }
         None => false,
     }
@@ -173,7 +175,6 @@ fn border(claim: &Claim, from: Time, to: Time) -> Time
 ///
 /// The error is want of memory, or a failure of one of the sources.
 fn pass_both<O: Source, E: Source>(
-    alloc: Global,
     original: &mut Reading,
     o: &mut O,
     export: &mut Reading,
@@ -194,7 +195,8 @@ fn pass_both<O: Source, E: Source>(
         (frame.entry.clock.original).ps (within.from).ps (within.to).ps)) }
     ensures export { IfOk result (λ found. IfNone found (Moves export.old.reader export.new.reader (E.is_honest e.old) (E.is_honest e.new)
         (E.failures e.old) (E.failures e.new) (E.left e.old) (E.left e.new)
-        (map note_value (export.old.notes).items) (map note_value (export.new.notes).items) None (frame.entry.clock.export).ps (within.from).ps (within.to).ps)) }
+        (map note_value (export.old.notes).items) (map note_value (export.new.notes).items) None
+        (frame.entry.clock.export).ps (within.from).ps (within.to).ps)) }
     ensures out { IfOk result (λ found. IfSome found (λ fault. OfFiles (O.is_honest o.old) (E.is_honest e.old)
         (λ a. IsAt original.old.reader (O.left o.old) (map note_value (original.old.notes).items) a (Some frame.entry.claim.now)
         (frame.entry.clock.original).ps (within.from).ps) (λ b. IsAt export.old.reader (E.left e.old) (map note_value (export.old.notes).items) b None
@@ -208,7 +210,7 @@ fn pass_both<O: Source, E: Source>(
     ensures stop { IfErr result (CheckStops (Rises (O.failures o.old) (O.failures o.new)) (Rises (E.failures e.old) (E.failures e.new))) }
 {
     match pass(
-        alloc,
+        frame.alloc,
         original,
         o,
         Side::Original,
@@ -219,7 +221,7 @@ fn pass_both<O: Source, E: Source>(
         within,
     ) {
         Ok(None) => match pass(
-            alloc,
+            frame.alloc,
             export,
             e,
             Side::Export,
@@ -245,7 +247,6 @@ fn pass_both<O: Source, E: Source>(
 ///
 /// The error is want of memory, or a failure of one of the sources.
 fn start_both<O: Source, E: Source>(
-    alloc: Global,
     original: &mut Reading,
     o: &mut O,
     export: &mut Reading,
@@ -273,7 +274,7 @@ fn start_both<O: Source, E: Source>(
     ensures stop { IfErr result (CheckStops (Rises (O.failures o.old) (O.failures o.new)) (Rises (E.failures e.old) (E.failures e.new))) }
 {
     match start(
-        alloc,
+        frame.alloc,
         original,
         o,
         Side::Original,
@@ -284,7 +285,7 @@ fn start_both<O: Source, E: Source>(
         time,
     ) {
         Ok(None) => match start(
-            alloc,
+            frame.alloc,
             export,
             e,
             Side::Export,
@@ -313,7 +314,6 @@ fn start_both<O: Source, E: Source>(
 /// A data record of each is in memory at a time. The error is want of memory, or a failure of one of the
 /// sources.
 pub(crate) fn walk_records<O: Source, E: Source>(
-    alloc: Global,
     original: &mut Reading,
     o: &mut O,
     export: &mut Reading,
@@ -344,7 +344,7 @@ pub(crate) fn walk_records<O: Source, E: Source>(
     ensures stop { IfErr result (CheckStops (Rises (O.failures o.old) (O.failures o.new)) (Rises (E.failures e.old) (E.failures e.new))) }
 {
     let mut time = BEGINNING;
-    match start_both(alloc, original, o, export, e, frame, time) {
+    match start_both(original, o, export, e, frame, time) {
         Ok(None) => {}
         Ok(Some(fault)) => return Ok(Err(fault)),
         Err(stop) => return Err(stop),
@@ -367,7 +367,7 @@ pub(crate) fn walk_records<O: Source, E: Source>(
                 Err(stop) => Err(stop),
             };
         }
-        match pass_both(alloc, original, o, export, e, frame, within) {
+        match pass_both(original, o, export, e, frame, within) {
             Ok(None) => {}
             Ok(Some(fault)) => return Ok(Err(fault)),
             Err(stop) => return Err(stop),

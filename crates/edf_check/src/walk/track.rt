@@ -132,7 +132,8 @@ pub(crate) fn pairs_of(
 ) -> Result<Vec<Pair>, AllocError>
     requires order { IsSorted (λ x y. slice_cmp nat_cmp x.now y.now) labels.now }
     requires distinct { AreDistinct (map (λ label. label.now) labels.now) }
-    ensures places { IfOk result (λ pairs. map places_of pairs.items ≡ map (λ label. (channel_in label.now original.now, channel_in label.now export.now)) labels.now) }
+    ensures places { IfOk result (λ pairs. map places_of pairs.items ≡ map
+        (λ label. (channel_in label.now original.now, channel_in label.now export.now)) labels.now) }
     ensures pairs { IfOk result (λ pairs. ArePairs original.now export.now pairs.items) }
 {
     let mut pairs = empty_pairs(alloc, labels.len())?;

@@ -95,19 +95,15 @@ fn lane_stretch<'a>(reader: &'a FileReader, track: Track, moved: Offset) -> Stre
 }
 
 /// The samples of a channel between two times.
-fn window<'a>(
-    reader: &'a FileReader,
-    track: Track,
-    moved: Offset,
-    within: Window,
-) -> Stretch<'a>
+fn window<'a>(reader: &'a FileReader, track: Track, moved: Offset, within: Window) -> Stretch<'a>
     requires track { IsTrack reader.now.head track }
     requires near { unsigned_abs moved.ps < 2 ^ 80 }
     requires window { IsWindow within }
     ensures part { IsPart result }
     ensures den { result.den ≡ track.place.samples }
     ensures value { (file : List ℕ) → Covers reader.now file moved.ps (within.from).ps (within.to).ps → points_in result
-        ≡ until track.place.samples (within.to).ps (since track.place.samples (within.from).ps (points_at (sampled file reader.now.head moved.ps) track.place)) }
+        ≡ until track.place.samples (within.to).ps (since track.place.samples (within.from).ps (points_at
+        (sampled file reader.now.head moved.ps) track.place)) }
 {
     if reader.has_current() {
         between(lane_stretch(reader, track, moved), within)
@@ -164,7 +160,8 @@ fn pair_difference(
     requires export_near { unsigned_abs (clock.export).ps < 2 ^ 80 }
     requires window { IsWindow within }
     requires uncut { IsUncut claim.now.keep (within.from).ps (within.to).ps }
-    ensures value { (o e : List ℕ) → Covers original.now o (clock.original).ps (within.from).ps (within.to).ps → Covers export.now e (clock.export).ps (within.from).ps (within.to).ps →
+    ensures value { (o e : List ℕ) → Covers original.now o (clock.original).ps (within.from).ps (within.to).ps →
+        Covers export.now e (clock.export).ps (within.from).ps (within.to).ps →
         result ≡ window_of claim.now (sampled o original.now.head (clock.original).ps) (sampled e export.now.head (clock.export).ps) (within.from).ps (within.to).ps (places_of pair).0 (places_of pair).1 }
     ensures modest { IfSome result (λ d. IsModest d.at) }
 {
@@ -193,7 +190,8 @@ pub(crate) fn window_difference(
     requires export_near { unsigned_abs (clock.export).ps < 2 ^ 80 }
     requires window { IsWindow within }
     requires uncut { IsUncut claim.now.keep (within.from).ps (within.to).ps }
-    ensures value { (o e : List ℕ) → Covers original.now o (clock.original).ps (within.from).ps (within.to).ps → Covers export.now e (clock.export).ps (within.from).ps (within.to).ps →
+    ensures value { (o e : List ℕ) → Covers original.now o (clock.original).ps (within.from).ps (within.to).ps →
+        Covers export.now e (clock.export).ps (within.from).ps (within.to).ps →
         result ≡ difference_between claim.now (sampled o original.now.head (clock.original).ps) (sampled e export.now.head (clock.export).ps)
         (map places_of pairs.now) (within.from).ps (within.to).ps }
     ensures modest { IfSome result (λ f. IsModest f.difference.at × (f.channel < length pairs.now)) }
