@@ -181,7 +181,8 @@ impl<'a> BothRead<'a> {
     /// How much the export holds.
     fn exported(self) -> Summary
         ensures channels { result.channels ≡ length (channels_among (self.entry.export.now.reader.head).signals) }
-        ensures samples { result.samples ≡ (self.entry.export.now.reader.head).records * samples_together (channels_among (self.entry.export.now.reader.head).signals) }
+        ensures samples { result.samples ≡ (self.entry.export.now.reader.head).records * samples_together
+            (channels_among (self.entry.export.now.reader.head).signals) }
         ensures annotations { result.annotations ≡ length self.entry.export.now.notes.items }
     {
         summary_of(self.export.reader.header(), &self.export.notes)

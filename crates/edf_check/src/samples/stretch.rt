@@ -131,7 +131,8 @@ fn difference_behind(
     requires x_all { length x.bytes.now ≤ 2 * x_count + 1 }
     requires y_within { 2 * y_count ≤ length y.bytes.now }
     requires y_all { length y.bytes.now ≤ 2 * y_count + 1 }
-    ensures value { result ≡ first_difference_of x.entry.den (points_behind x.entry (min x_count y_count)) y.entry.den (points_behind y.entry (min x_count y_count)) }
+    ensures value { result ≡ first_difference_of x.entry.den (points_behind x.entry (min x_count y_count))
+        y.entry.den (points_behind y.entry (min x_count y_count)) }
     ensures modest { IfSome result (λ d. IsModest d.at) }
 {
     if x_count > y_count {

@@ -217,7 +217,8 @@ pub(crate) fn pass<S: Source>(
     ensures head { (reading.new.reader).head ≡ (reading.old.reader).head }
     ensures moves { IfOk result (λ found. IfNone found (Moves reading.old.reader reading.new.reader (S.is_honest source.old)
         (S.is_honest source.new) (S.failures source.old) (S.failures source.new) (S.left source.old) (S.left source.new)
-        (map note_value (reading.old.notes).items) (map note_value (reading.new.notes).items) (claim_of view.entry) (view.entry.moved).ps (within.from).ps (within.to).ps)) }
+        (map note_value (reading.old.notes).items) (map note_value (reading.new.notes).items)
+        (claim_of view.entry) (view.entry.moved).ps (within.from).ps (within.to).ps)) }
     ensures fault { IfOk result (λ found. IfSome found (λ fault. OfFile (S.is_honest source.old) (IsThere reading.old.reader (S.left source.old))
         (λ file. body_fault file (reading.old.reader).head ≡ Some fault))) }
     ensures stop { IfErr result (SideStops side (Rises (S.failures source.old) (S.failures source.new))) }

@@ -162,7 +162,8 @@ fn pair_difference(
     requires uncut { IsUncut claim.now.keep (within.from).ps (within.to).ps }
     ensures value { (o e : List ℕ) → Covers original.now o (clock.original).ps (within.from).ps (within.to).ps →
         Covers export.now e (clock.export).ps (within.from).ps (within.to).ps →
-        result ≡ window_of claim.now (sampled o original.now.head (clock.original).ps) (sampled e export.now.head (clock.export).ps) (within.from).ps (within.to).ps (places_of pair).0 (places_of pair).1 }
+        result ≡ window_of claim.now (sampled o original.now.head (clock.original).ps) (sampled e export.now.head (clock.export).ps)
+        (within.from).ps (within.to).ps (places_of pair).0 (places_of pair).1 }
     ensures modest { IfSome result (λ d. IsModest d.at) }
 {
     match (pair.original, pair.export) {
