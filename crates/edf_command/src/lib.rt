@@ -1,5 +1,5 @@
-//! The commands of `edfclaim` beside the check and the reports: the check of the worked rows, why a command is refused, and
-//! the status with which it ends.
+//! What `edfclaim` does beside the check and the reports: it runs the worked rows, says why a command is refused,
+//! and ends with a status.
 #![tactic(auto)]
 
 pub mod refusal;

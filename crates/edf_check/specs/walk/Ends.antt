@@ -1,4 +1,5 @@
--- What a walk over the data records of two files finds. These are steps between the definitions and the code.
+-- What a walk over the data records of two files finds. By `ps` a file is moved: its times, in picoseconds after 1970-01-01 00:00:00,
+-- then count from the second at which the original starts, before the shift. These are steps between the definitions and the code.
 use Rattle.std.specs.Prelude.{ℕ, ℤ, ◌≡◌, List, [], Option, None, Some, IfNone}
 use Rattle.edf_claim.specs.Terms.{Terms}
 use Rattle.edf_header.specs.declared.fault.Fault.{Fault}

@@ -1,4 +1,4 @@
--- Which annotations are gathered of a file. These are steps between the definitions and the code.
+-- Which annotations are gathered of a file, moved by `ps` picoseconds. These are steps between the definitions and the code.
 use Rattle.std.specs.Prelude.{ℕ, ℤ, Bool, true, List, [], map, filter, Option, None, Some, option_map, if◌then◌else◌}
 use Rattle.edf_claim.specs.Terms.{Terms}
 use Rattle.edf_claim.specs.Keeps.{keeps_annotation}

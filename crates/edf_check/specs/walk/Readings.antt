@@ -1,4 +1,5 @@
--- A reader that goes through a file, as far as the walk has come. These are steps between the definitions and the code.
+-- A reader that goes through a file, as far as the walk has come. Times are picoseconds after the second at which the original
+-- starts, before the shift. These are steps between the definitions and the code.
 use Rattle.std.specs.Prelude.{ℕ, ℤ, ◌≡◌, IsTrue, Bool, List, [], Option, None}
 use Rattle.edf_claim.specs.Terms.{Terms}
 use Rattle.edf_stream.specs.declared.status.Status.TheVariants.{Ended}
