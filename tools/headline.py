@@ -50,17 +50,23 @@ VARIANT = re.compile(r"^    ([A-Z]\w*)", re.M)
 GHOST = re.compile(r"^ *(?:(?:ensures|requires)\b *\w*|ghost \w+(?::| =)) *(?=\{)", re.M)
 
 TITLE = "What a Yes means"
+HEADLINE = "Headline"
 ABOUT = [
     "edfclaim checks an export of a night against its original and a claim: that the export is the original, cut"
     " and made anonymous as the claim says, and nothing else. The call `check` answers this. If it answers Yes, and"
     " each of its two sources gives the bytes of its file, then the statement `Headline` holds of the two files and"
     " the claim, and the counts of the Yes are the export's. This is proved of the code.",
+    "It says this of a Yes alone: what a No says is another clause of `check`, `verdict`. A source over bytes in memory"
+    " gives them, and this is proved; that a file on a disk gives its bytes is assumed. How the text of a claim becomes"
+    " the claim, and that the line of this verdict is printed, are clauses of `run`. The profile is the definition"
+    " `Conforms`: which EDF+ files are judged at all. A channel is a signal whose label isn't `EDF Annotations`; the"
+    " lane of a signal are its bytes in a data record; a TAL is a time-stamped annotations list (EDF+ 2003).",
     "Here stands all of this project that has to be read to know what is proved: first the contract of `check`,"
     " then each definition that it stands on, once. A definition comes behind the first that needs it, so it is"
-    " plain why it comes, and each has a number. All is copied from the files that are named. The prose above a"
-    " definition is its comment: it says in words what the definition says exactly, and the definition is what"
-    " counts. Of a type that the code declares its parts count, and the value that it is to contracts (`impl"
-    " Model`); how the code works is no part of it.",
+    " plain why it comes; of the statement `Headline` all parts come first. Each has a number. All is copied from the"
+    " files that are named. The prose above a definition is its comment: it says in words what the definition says"
+    " exactly, and the definition is what counts. Of a type that the code declares its parts count, and the value that"
+    " it is to contracts (`impl Model`); how the code works is no part of it.",
     "Behind the definitions stands what their files say of themselves, such as from when times count, and at last"
     " the words that no file of this project defines: those of the toolchain's library.",
 ]
@@ -75,23 +81,31 @@ NOTATION = [
     ("A ↔ B", "each follows from the other"),
     ("Type 0", "the kind of all statements; f : A → Type 0 says something of each A"),
     ("ℕ, ℤ", "the whole numbers from 0 on; those with a sign. pos n is the number n of ℤ, negsuc n is -(n + 1)"),
-    ("+ℤ, *ℤ, <ℤ", "what +, * and < are on ℕ, on ℤ. No number has a bound. On ℕ, a - b is never below 0"),
+    ("+ℤ, -ℤ, *ℤ, <ℤ, ≤ℤ", "what +, -, *, < and ≤ are on ℕ, on ℤ. No number has a bound. On ℕ, a - b is never below 0"),
     ("[], x ∷ xs, xs ++ ys", "the empty list; x before the list xs; one list behind the other"),
     ("zero, suc n", "0 and n + 1"),
+    ("take n xs, drop n xs", "the first n of xs; what stands behind them"),
+    ("slice_get xs i", "Some x, or None where there is none at i; slice_index xs i is that number, or 0"),
+    ("map, filter, flat_map", "f of each; those that pass the test; the lists that f gives, one behind the other"),
+    ("All P xs, IsPermutation", "P holds of each of xs; one list is the other, perhaps in another order"),
+    ("list_all p, list_any p", "whether all pass the test p; whether one does"),
+    ("before_first, after_first", "what stands before the first that passes, or all; what stands behind it, or nothing"),
+    ("Some x, None, Ok x, Err e", "a value, or none; what a call gives, or why it gives nothing"),
+    ('codes "EDF+C"', "the bytes of a text"),
     ("λ x. e", "the function that gives e for x"),
     ("record R .. where ..", "a kind of values that have these fields, or a statement: all of its fields hold, and a"
      " field that is a value says that there is one"),
     ("record { a = x }, r.a", "the value with this field; its field a. p.0 and p.1 are the two parts of a pair"),
     ("fixed.Version, Yes n", "a value of a type that the code declares, here with its part n"),
     ("let x = e in ..", "x stands for e in what follows"),
-    ("several lines", "of one word: one for each form of its arguments, of which the first that fits counts"),
+    ("several lines", "of one word: one for each form of its arguments, of which the first that fits counts; _ fits all"),
     ("abbrev, unfoldable, pub", "how other files may use the word; they change nothing of what it says"),
     ("{X : Type 0}", "an argument that isn't written where the word is used"),
     ("◌+◌", "the name of the word +; each ◌ is the place of an argument"),
     ("x.old, x.new, x.now", "in a contract: what x stood for as the call began; as it ended; what it stands for"),
     ("result, v.items", "in a contract: what the call answers; the list in a Vec"),
     ("IfOk r P, IsTrue b", "in a contract: if the call answered Ok x, then P x; the test b gives true"),
-    ("u8 .. usize, i16 .. i128", "whole numbers of the code: to a contract those of ℕ, and those of ℤ"),
+    ("u8 .. usize, i16 .. i128", "whole numbers of the code; a contract takes the first for those of ℕ, the others for ℤ"),
 ]
 STYLE = """
 :root { color-scheme: light dark; --ink: #1c1c1c; --paper: #fdfdfb; --dim: #5f6368; --line: #d8d8d2; --link: #0b57a4; }
@@ -510,9 +524,10 @@ def contract(file, name, clause):
 def in_order(first):
     """The definition and all that it needs, each behind the first that needs it, and what is wrong with them."""
     found, faults = {first.word: first}, []
+    first.number = 1
 
     def go_on(definition):
-        definition.number = len(found)
+        later = []
         place = f"{definition.word.home.relative_to(TOP)}: {definition.word.name}"
         faults.extend(f"{place}: `{token}` is defined nowhere" for token in definition.unknown)
         for word in definition.needs():
@@ -525,8 +540,13 @@ def in_order(first):
             needed.users.append(definition)
             if word not in found:
                 found[word] = needed
-                needed.depth = definition.depth + 1
-                go_on(needed)
+                needed.number, needed.depth = len(found), definition.depth + 1
+                # of the headline all parts come first, and then what each of them needs
+                later.append(needed)
+                if definition.word.name != HEADLINE:
+                    go_on(later.pop())
+        for needed in later:
+            go_on(needed)
 
     go_on(first)
     for file in {word.home for word in found}:

@@ -15,10 +15,11 @@ use Rattle.edf_verdict.specs.declared.verdict.Verdict.{Verdict}
 use Rattle.edf_verdict.specs.declared.verdict.Verdict.TheVariants.{Yes, No}
 use Rattle.edf_check.specs.Kept.{SamplesAsKept, kept_of, unshifted}
 
--- The headline. Both files conform to the profile (docs/PROFILE.md), and say these headers and annotations; the export's channels
--- are exactly the claimed ones, with their texts and calibrations; its samples are exactly the original's samples of those channels
--- in the claimed intervals, value for value, at the claimed shift; its annotations are exactly the kept ones, in some order; every
--- subfield is `X` where it is claimed anonymous, and else the original's after the shift; and the export has no free text.
+-- The headline. Both files conform to the profile, and say these headers and annotations (a file says one header, and one list of
+-- annotations); the export's channels are exactly the claimed ones, with the original's texts and calibrations; its samples are
+-- exactly the original's samples of those channels in the claimed intervals, value for value, at the claimed shift; its annotations
+-- are exactly the kept ones, in some order; every subfield is `X` where it is claimed anonymous, and else the original's, but for the
+-- date, which is that after the shift; and the fields that hold nothing but free text are empty.
 pub record Headline (original export : List ℕ) (claim : Terms) : Type 0 where
   pub original_head : Head
   pub export_head : Head

@@ -37,7 +37,7 @@ pub record SamplesAsKept (original export : List ℕ) (h g : Head) (claim : Term
 abbrev pub kept_of : Terms → List NoteValue → List NoteValue
 kept_of claim notes = filter (λ note. keeps_annotation claim note.onset note.text) notes
 
--- the annotations of the export, whose header is g, with the shift taken off, and with onsets after the second at which the
+-- the annotations of the export, whose header is g, with the shift taken off: their onsets count from the second at which the
 -- original starts, whose header is h
 abbrev pub unshifted : Head → Head → Terms → List NoteValue → List NoteValue
 unshifted h g claim notes = map (moved_by (file_start g -ℤ (file_start h +ℤ shift_ps claim))) notes

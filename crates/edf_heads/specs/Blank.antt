@@ -16,7 +16,7 @@ pub record IsBlankHeader (h : Head) : Type 0 where
   pub free : h.free ≡ []
   pub annotations : (signal : SignalHead) → Has h.signals signal → IsTrue (is_annotations signal.label) → HasNoTexts signal
 
--- the header has no free text
+-- the fields of the header that hold nothing but free text are empty; labels, and the texts of channels, stay
 pub record IsBlank (h : Head) : Type 0 where
   pub header : IsBlankHeader h
   pub channels : (label : List ℕ) (channel : SignalHead) → IsChannelOf h label channel → channel.reserved ≡ []

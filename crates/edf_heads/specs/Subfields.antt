@@ -32,7 +32,7 @@ AreAllXOrElse claim which exported original = ByClaim claim which (AreAllX expor
 abbrev pub IsXOrElseToldAlike : Terms → Which → List ℕ → List ℕ → Type 0
 IsXOrElseToldAlike claim which exported original = ByClaim claim which (IsX exported) (IsX exported ↔ IsX original)
 
--- this subfield is as claimed in the export
+-- in the export this subfield is as the claim says
 abbrev pub IsAsClaimed : Head → Head → Terms → Which → Type 0
 IsAsClaimed original export claim Code = IsXOrElse claim Code export.patient.code original.patient.code
 IsAsClaimed original export claim Sex = IsXOrElse claim Sex export.patient.sex original.patient.sex
@@ -45,6 +45,6 @@ IsAsClaimed original export claim Technician = IsXOrElse claim Technician export
 IsAsClaimed original export claim Equipment = IsXOrElse claim Equipment export.recording.equipment original.recording.equipment
 IsAsClaimed original export claim RecordingExtras = AreAllXOrElse claim RecordingExtras export.recording.extras original.recording.extras
 
--- each subfield is as claimed in the export
+-- in the export each subfield is as the claim says
 abbrev pub SubfieldsAsClaimed : Head → Head → Terms → Type 0
 SubfieldsAsClaimed original export claim = (which : Which) → IsAsClaimed original export claim which

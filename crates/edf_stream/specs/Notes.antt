@@ -16,14 +16,14 @@ pub record NoteValue : Type 0 where
 abbrev pub notes_of_tal : TalValue → List NoteValue
 notes_of_tal tal = map (λ text. record { onset = tal.onset; duration = tal.duration; text = text }) tal.texts
 
--- each of these lanes is one of these TALs
+-- there are as many lanes as lists of TALs, and each lane spells the list at its place
 abbrev pub AreLanesOf : List (List ℕ) → List (List TalValue) → Type 0
 AreLanesOf [] [] = Unit {0}
 AreLanesOf [] (tals ∷ talss) = ⊥
 AreLanesOf (lane ∷ lanes) [] = ⊥
 AreLanesOf (lane ∷ lanes) (tals ∷ talss) = IsLaneOf lane tals × AreLanesOf lanes talss
 
--- what the TALs of several lanes say
+-- what the TALs of several lanes say, lane by lane
 abbrev pub notes_of_tals : List (List TalValue) → List NoteValue
 notes_of_tals talss = flat_map (λ tals. flat_map notes_of_tal tals) talss
 
@@ -42,18 +42,18 @@ pub record SaysRecord (h : Head) (bytes : List ℕ) (start : ℤ) (notes : List 
 abbrev pub SayRecords : List ℕ → Head → (ℕ → ℤ) → (ℕ → List NoteValue) → Type 0
 SayRecords file h starts notes = (k : ℕ) → k < h.records → SaysRecord h (record_at file h k) (starts k) (notes k)
 
--- those of the first k data records, one behind the other
+-- the annotations of the first k data records, one behind the other
 abbrev pub together : (ℕ → List NoteValue) → ℕ → List NoteValue
 together notes zero = []
 together notes (suc k) = together notes k ++ notes k
 
--- these are the annotations of the file, data record by data record, with onsets after its start
+-- these are the annotations of the file, data record by data record, with onsets that count from its start
 pub record HasNotes (file : List ℕ) (h : Head) (all : List NoteValue) : Type 0 where
   pub starts : ℕ → ℤ
   pub notes : ℕ → List NoteValue
   pub say : SayRecords file h starts notes
   pub all_are : all ≡ together notes h.records
 
--- an annotation with its onset so much later
+-- an annotation with its onset later by so many picoseconds
 abbrev pub moved_by : ℤ → NoteValue → NoteValue
 moved_by ps note = record { onset = ps +ℤ note.onset; duration = note.duration; text = note.text }
