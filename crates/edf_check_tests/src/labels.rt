@@ -1,7 +1,7 @@
 //! Labels in the order of their bytes, and their places there.
 
 use edf_fields::label::SignalLabel;
-use edf_heads::labels::{in_order, is_found, found_at};
+use edf_heads::labels::{found_at, in_order, is_found};
 use std::alloc::AllocError;
 use std::process::Abort;
 

@@ -13,7 +13,7 @@ use std::rt::Files;
 
 /// How many bytes are read ahead of what is asked for. A read that asks for as many or more goes past
 /// the buffer where this is empty.
-const STRETCH: usize = 32_768;
+const READ_AHEAD: usize = 32_768;
 
 /// How many bytes of a claim are read at most: one more than a claim may have, so that a longer one is
 /// seen to be too long.
@@ -30,7 +30,7 @@ fn open<R: Files>(rt: &R, path: &str, role: Role) -> Result<R::File, Refusal> {
     }
 }
 
-/// Opens a recording as a source, whose small reads are taken from larger stretches.
+/// Opens a recording as a source, whose small reads are taken from larger ones.
 ///
 /// The error is `CannotOpen`, or want of memory.
 pub fn recording<R: Files + AllocGlobal>(
@@ -39,7 +39,7 @@ pub fn recording<R: Files + AllocGlobal>(
     role: Role,
 ) -> Result<ReadSource<BufReader<R::File>>, Refusal> {
     let file = open(rt, path, role)?;
-    match BufReader::with_capacity(rt.alloc(), STRETCH, file) {
+    match BufReader::with_capacity(rt.alloc(), READ_AHEAD, file) {
         Ok(reader) => Ok(ReadSource::new(reader)),
         Err(_) => Err(Refusal::Memory),
     }
