@@ -10,7 +10,8 @@ needs it. Of a type of the code that is its item, and its value to contracts whe
 bodies of functions are no part of it. At the end stand what the files say of themselves, and the words of the
 toolchain.
 
-A word that is defined nowhere is printed, nothing is written, and the status is 1. The last line of the output
+A word that is defined nowhere is printed, and so is one that stands beside those of the headline in a file of
+definitions and isn't needed; nothing is written then, and the status is 1. The last line of the output
 counts the definitions, and their lines without and with comments. Empty lines never count.
 """
 
@@ -551,6 +552,10 @@ def in_order(first):
     go_on(first)
     for file in {word.home for word in found}:
         faults += [f"{file.relative_to(TOP)}: a line that isn't understood: {line}" for line in opened(file).odd]
+        if file.suffix == ".antt":
+            # what the headline needs stands in files that hold nothing else
+            others = [name for name, one in opened(file).definitions.items() if one.word not in found]
+            faults += [f"{file.relative_to(TOP)}: `{name}` isn't needed by the headline" for name in others]
     for one in found.values():
         one.users.sort(key=lambda user: user.number)
         if one is not first and not (one.users and one.users[0].number < one.number):
