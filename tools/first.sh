@@ -1,5 +1,5 @@
 #!/bin/sh
-# Shows a Yes and a No of the example night, in a minute or so from a clean checkout.
+# Shows a Yes and a No of the example night, in one to two minutes from a clean checkout.
 #
 # usage: tools/first.sh
 #
@@ -42,7 +42,7 @@ if tools/prove.py current; then
     exit 0
 fi
 
-echo "compiling edfclaim with checks and without proofs, and running it on the example night: about a minute"
+echo "compiling edfclaim with checks and without proofs, and running it on the example night: one to two minutes"
 (cd crates/edfclaim && rt try --cases "$work/cases" --data original.edf="$night/original.edf" \
     --data cut.edf="$night/cut.edf" --data remark-left.edf="$night/remark-left.edf" \
     --data cut.toml="$night/cut.toml") >out/run.log 2>&1
