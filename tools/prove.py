@@ -147,7 +147,8 @@ def prove_all(verb, below, length, names, lanes, log, room):
             # the one with the most behind it goes first on all processors; others yield to it, the more the less
             # is behind them
             is_first = all(behind(name) >= behind(run.name) for run, _ in running)
-            free = (1 if verb == "check" else 2) * lanes - sum(jobs for _, jobs in running)
+            before_it = sum(jobs for run, jobs in running if behind(run.name) >= behind(name))
+            free = min(2 * lanes - before_it, 3 * lanes - sum(jobs for _, jobs in running))
             if free < 1 or verb == "check" and running:
                 break
             jobs = min(4, lanes if is_first else 2, free)

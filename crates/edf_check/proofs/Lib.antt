@@ -6,3 +6,4 @@ pub mod RunFacts
 pub mod ProductFacts
 pub mod HeadlineFacts
 pub mod StartFacts
+pub mod VectorsFacts

@@ -8,7 +8,8 @@ use Rattle.edf_fields.specs.Sinks.{HoldsPrefix}
 use Rattle.edf_check.specs.Headline.{YesMeans}
 use Rattle.edf_verdict.specs.declared.verdict.Verdict.{Verdict}
 use Rattle.edf_verdict.specs.Lines.{verdict_line}
-use Rattle.edf_check.specs.Runs.{IsPartOfReport, RunStops, stop_of_claim}
+use Rattle.edf_check.specs.Runs.{IsPartOfReport, RunStops}
+use Rattle.edf_refusal.specs.Stops.{stop_of_claim}
 use Rattle.edf_check.specs.Verdicts.{IsVerdict}
 
 -- what is said of a cause other than want of memory is said of the run that stops by it

@@ -1,7 +1,7 @@
 -- Two files have one verdict at most, and it is a Yes exactly for an export.
 use Rattle.std.proofs.Common.{◌≡◌, ℕ, ℤ, ◌*◌, length, List, None, Some, ◌⊎◌, inl, inr, refl, sym, ap, ◌∙◌, subst}
 use Rattle.edf_claim.specs.Terms.{Terms}
-use Rattle.edf_header.specs.declared.fault.Fault.{Fault}
+use Rattle.edf_fields.specs.declared.fault.Fault.{Fault}
 use Rattle.edf_header.specs.Heads.{samples_together}
 use Rattle.edf_header.specs.HeadsReading.{head_of}
 use Rattle.edf_stream.specs.Faults.{file_fault}

@@ -11,6 +11,7 @@ pub mod Verdicts
 pub mod Laws
 pub mod Checks
 pub mod Runs
+pub mod Vectors
 pub mod samples
 pub mod notes
 pub mod walk

@@ -3,15 +3,12 @@ use Rattle.std.specs.Prelude.{◌≡◌, ℕ, List, ◌++◌}
 use Rattle.edf_claim.specs.Claims.{SaysClaimText}
 use Rattle.edf_claim.specs.Terms.{Terms}
 use Rattle.edf_claim.specs.declared.stop.ClaimStop.{ClaimStop}
-use Rattle.edf_claim.specs.declared.stop.ClaimStop.TheVariants as claims
 use Rattle.edf_fields.specs.Sinks.{HoldsPrefix}
 use Rattle.edf_check.specs.Headline.{YesMeans}
 use Rattle.edf_verdict.specs.declared.outcome.Outcome.{Outcome}
-use Rattle.edf_check.specs.declared.run.RunStop.{RunStop}
-use Rattle.edf_check.specs.declared.run.RunStop.TheVariants.{OutOfMemory, ReadFailed, Claim, WriteFailed}
-use Rattle.edf_check.specs.declared.stop.CheckStop.{CheckStop}
-use Rattle.edf_check.specs.declared.stop.CheckStop.TheVariants as checks
-use Rattle.edf_check.specs.declared.side.Side.TheVariants as sides
+use Rattle.edf_refusal.specs.declared.stop.RunStop.{RunStop}
+use Rattle.edf_refusal.specs.declared.stop.RunStop.TheVariants.{OutOfMemory, ReadFailed, Claim, WriteFailed}
+use Rattle.edf_refusal.specs.declared.side.Side.TheVariants as sides
 use Rattle.edf_verdict.specs.declared.verdict.Verdict.{Verdict}
 use Rattle.edf_verdict.specs.Lines.{verdict_line}
 use Rattle.edf_verdict.specs.Outcomes.{outcome_of}
@@ -57,13 +54,3 @@ WriteStops failed OutOfMemory = Unit {0}
 WriteStops failed (ReadFailed side) = ⊥
 WriteStops failed (Claim cause) = ⊥
 WriteStops failed WriteFailed = failed
-
--- how a run stops over a refused claim: by its cause, but for want of memory
-abbrev pub stop_of_claim : ClaimStop → RunStop
-stop_of_claim claims.OutOfMemory = OutOfMemory
-stop_of_claim cause = Claim cause
-
--- how a run stops over a check that stops: in the same way
-abbrev pub stop_of_check : CheckStop → RunStop
-stop_of_check checks.OutOfMemory = OutOfMemory
-stop_of_check (checks.ReadFailed side) = ReadFailed side

@@ -6,10 +6,10 @@ ghost use Rattle.edf_check.specs.Checks.{AreRead, CheckStops};
 ghost use Rattle.edf_check.specs.Headline.{YesMeans};
 ghost use Rattle.edf_check.specs.Verdicts.{IsVerdict};
 
-use crate::stop::CheckStop;
 use crate::walk::walk;
 use edf_claim::claim::Claim;
 use edf_fields::source::Source;
+use edf_refusal::stop::CheckStop;
 use edf_verdict::verdict::Verdict;
 use std::alloc::Global;
 

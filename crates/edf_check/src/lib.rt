@@ -1,5 +1,5 @@
 //! Whether an export of an EDF+ recording is what a claim says of its original, and nothing else: the
-//! verdict, as it is defined, the check that gives it, and the run that writes its line.
+//! verdict, as it is defined, the check that gives it, the run that writes its line, and the worked rows.
 #![tactic(auto)]
 
 pub mod check;
@@ -8,6 +8,5 @@ pub mod laws;
 mod notes;
 pub mod run;
 mod samples;
-pub mod side;
-pub mod stop;
+pub mod vectors;
 mod walk;

@@ -6,70 +6,17 @@ ghost use Rattle.edf_claim.specs.Faults.{FirstClaimFault};
 ghost use Rattle.edf_fields.specs.Sinks.{HoldsPrefix};
 ghost use Rattle.edf_fields.specs.Sources.{Rises};
 ghost use Rattle.edf_verdict.specs.Lines.{verdict_line};
-ghost use Rattle.edf_check.specs.declared.run.RunStop.TheVariants as stops;
-ghost use Rattle.edf_check.specs.Runs.{IsReport, IsPartOfReport, IsFrontOfALine, RunStops, WriteStops, stop_of_claim, stop_of_check};
+ghost use Rattle.edf_refusal.specs.declared.stop.RunStop.TheVariants as stops;
+ghost use Rattle.edf_check.specs.Runs.{IsReport, IsPartOfReport, IsFrontOfALine, RunStops, WriteStops};
 
 use crate::check::check;
-use crate::side::Side;
-use crate::stop::CheckStop;
 use edf_claim::claim::Claim;
-use edf_claim::stop::ClaimStop;
-use edf_fields::sink::{Sink, WriteFault, put_all};
+use edf_fields::sink::{Sink, put_all};
 use edf_fields::source::Source;
+use edf_refusal::stop::RunStop;
 use edf_verdict::outcome::Outcome;
 use edf_verdict::verdict::Verdict;
-use std::alloc::{AllocError, Global};
-
-/// Why a run stopped before its line was written.
-#[derive(Debug, Clone, Copy, PartialEq, Eq)]
-pub enum RunStop {
-    /// Memory ran out.
-    OutOfMemory,
-    /// The source of this file failed.
-    ReadFailed(Side),
-    /// The text says no claim: its first fault, which isn't want of memory.
-    Claim(ClaimStop),
-    /// The sink failed.
-    WriteFailed,
-}
-
-impl From<AllocError> for RunStop {
-    ghost from_gives = { λ _ e. e ≡ stops.OutOfMemory };
-
-    fn from(_error: AllocError) -> RunStop {
-        RunStop::OutOfMemory
-    }
-}
-
-impl From<ClaimStop> for RunStop {
-    ghost from_gives = { λ stop e. e ≡ stop_of_claim stop };
-
-    fn from(stop: ClaimStop) -> RunStop {
-        match stop {
-            ClaimStop::OutOfMemory => RunStop::OutOfMemory,
-            cause => RunStop::Claim(cause),
-        }
-    }
-}
-
-impl From<CheckStop> for RunStop {
-    ghost from_gives = { λ stop e. e ≡ stop_of_check stop };
-
-    fn from(stop: CheckStop) -> RunStop {
-        match stop {
-            CheckStop::OutOfMemory => RunStop::OutOfMemory,
-            CheckStop::ReadFailed(side) => RunStop::ReadFailed(side),
-        }
-    }
-}
-
-impl From<WriteFault> for RunStop {
-    ghost from_gives = { λ _ e. e ≡ stops.WriteFailed };
-
-    fn from(_error: WriteFault) -> RunStop {
-        RunStop::WriteFailed
-    }
-}
+use std::alloc::Global;
 
 /// Writes the line of a verdict. Where the sink fails, a front of the line was written.
 fn write_line<K: Sink>(alloc: Global, verdict: &Verdict, sink: &mut K) -> Result<(), RunStop>

@@ -1,11 +1,11 @@
 //! The headers of an original and an export, and what `head_difference` answers; `tools/cases` has many more.
 
 use edf_claim::claim::Claim;
-use edf_claim::which::Which;
+use edf_fields::fault::Place::{AtField, AtSignal};
+use edf_fields::layout::{FixedField as Fixed, SignalField as Field};
 use edf_fields::source::SliceSource;
-use edf_header::fault::Place::{AtField, AtSignal};
+use edf_fields::which::Which;
 use edf_header::header::Header;
-use edf_header::layout::{FixedField as Fixed, SignalField as Field};
 use edf_heads::head_difference::head_difference;
 use edf_test_files::file::{Done, Edit, header_of, put};
 use edf_verdict::verdict::{Difference, FreeText, SubfieldMismatch, TextField, Verdict};

@@ -4,10 +4,10 @@
 ghost use Rattle.std.specs.Prelude.{[], false};
 
 use edf_check::run::run;
+use edf_fields::fault::Place::{AtField, AtSignal};
+use edf_fields::layout::{FixedField as Fixed, SignalField as Field};
 use edf_fields::sink::SliceSink;
 use edf_fields::source::{ReadFault, SliceSource, Source};
-use edf_header::fault::Place::{AtField, AtSignal};
-use edf_header::layout::{FixedField as Fixed, SignalField as Field};
 use edf_test_files::file::Edit;
 use edf_test_files::record::{small_file, temp_header};
 use edf_verdict::outcome::Outcome;

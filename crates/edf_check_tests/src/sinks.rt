@@ -1,11 +1,13 @@
 //! A run into a sink that is soon full, and runs under a text that says no claim.
 
-use crate::night::{ALL, YES};
-use edf_check::run::{RunStop, run};
+use crate::night::{ALL, SIX_SECONDS, YES};
+use edf_check::run::run;
 use edf_claim::stop::ClaimStop;
+use edf_fields::faulty_sink::FaultySink;
 use edf_fields::sink::SliceSink;
 use edf_fields::source::SliceSource;
-use edf_test_files::record::{LANES, recorded};
+use edf_refusal::stop::RunStop;
+use edf_test_files::record::{LANES, recorded, small_file};
 use edf_verdict::outcome::Outcome;
 use std::alloc::{AllocError, Global};
 use std::test::Fail;
@@ -36,6 +38,35 @@ fn holds_the_front_of_the_line(rt: HostRuntime) -> Result<(), Fail> {
     let (ended, written) = ran_into(alloc, 40, ALL)?;
     assert_eq!(rt; ended, Ok(Outcome::Yes));
     assert_eq!(rt; &written[..], YES.as_bytes());
+    Ok(())
+}
+
+/// The line of the small file, cut to six seconds.
+const SMALL: &str = "YES channels 1 samples 2 annotations 0\n";
+
+/// A run of the small file whose sink takes one byte a write, and fails behind so many.
+fn ran_with(alloc: Global, passes: u64) -> Result<Ended, AllocError> {
+    let file = small_file(alloc)?;
+    let mut room = [0; 64];
+    let mut first = SliceSource::new(&file);
+    let mut second = SliceSource::new(&file);
+    let mut sink = FaultySink::new(SliceSink::new(&mut room), passes, 1);
+    let text = SIX_SECONDS.as_bytes();
+    let ended = run(alloc, &mut first, &mut second, text, &mut sink);
+    let written = Vec::from_slice(alloc, sink.inner().written())?;
+    Ok((ended, written))
+}
+
+#[test]
+fn stops_at_each_failed_write(rt: HostRuntime) -> Result<(), Fail> {
+    for passes in 0..SMALL.len() {
+        let (ended, written) = ran_with(rt.alloc(), passes as u64)?;
+        assert_eq!(rt; ended, Err(RunStop::WriteFailed));
+        assert_eq!(rt; &written[..], SMALL.as_bytes().get(..passes).unwrap_or(&[]));
+    }
+    let (ended, written) = ran_with(rt.alloc(), SMALL.len() as u64)?;
+    assert_eq!(rt; ended, Ok(Outcome::Yes));
+    assert_eq!(rt; &written[..], SMALL.as_bytes());
     Ok(())
 }
 

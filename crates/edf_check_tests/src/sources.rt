@@ -2,11 +2,11 @@
 
 use crate::night::{ALL, SIX_SECONDS, YES};
 use edf_check::check::check;
-use edf_check::run::{RunStop, run};
-use edf_check::side::Side;
-use edf_check::stop::CheckStop;
+use edf_check::run::run;
 use edf_claim::claim::Claim;
 use edf_fields::sink::SliceSink;
+use edf_refusal::side::Side;
+use edf_refusal::stop::{CheckStop, RunStop};
 use edf_test_files::record::{LANES, recorded, small_file};
 use edf_test_files::tape::{Tape, dripping, endless, tape_of};
 use std::alloc::Global;

@@ -3,12 +3,12 @@
 
 use crate::headers::claim;
 use edf_check::check::check;
-use edf_claim::which::Which;
 use edf_fields::cause::TalCause;
+use edf_fields::fault::Place::{AtField, AtSignal};
+use edf_fields::fault::{Cause, Fault, Place};
+use edf_fields::layout::{FixedField, SignalField};
 use edf_fields::source::SliceSource;
-use edf_header::fault::Place::{AtField, AtSignal};
-use edf_header::fault::{Cause, Fault, Place};
-use edf_header::layout::{FixedField, SignalField};
+use edf_fields::which::Which;
 use edf_test_files::file::{Done, Edit};
 use edf_test_files::record::recorded;
 use edf_verdict::label::Label;

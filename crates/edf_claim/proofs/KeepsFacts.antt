@@ -5,7 +5,7 @@ use Rattle.std.proofs.lemmas.Int.{ints}
 use Rattle.edf_claim.specs.Claims.{IsInterval}
 use Rattle.edf_claim.specs.Terms.{Terms}
 use Rattle.edf_claim.specs.declared.interval.Interval.{Interval}
-use Rattle.edf_claim.specs.declared.which.Which.{Which}
+use Rattle.edf_fields.specs.declared.which.Which.{Which}
 use Rattle.edf_claim.specs.Keeps.{IsWithin, KeepsInstant, is_within, keeps_instant, keeps_annotation}
 use Rattle.edf_claim.specs.KeepsReading.{KeepsAnnotation}
 use Rattle.edf_fields.specs.Lists.{Has, is_one_of}

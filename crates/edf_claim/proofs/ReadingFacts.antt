@@ -10,15 +10,17 @@ use Rattle.toml.specs.Data.{Data, string, integer, float, boolean, datetime, arr
 use Rattle.edf_fields.specs.PrintableReading.{is_printable}
 use Rattle.edf_fields.specs.OnsetsReading.{span_of}
 use Rattle.edf_fields.proofs.ForCallers.{le_decided, span_of_some, span_small, and-true, not-true, one_of-has, distinct-tested, first-cons, unless-passed, printable_decided}
-use Rattle.edf_claim.specs.Claims.{name_of, text_items, HasOnlyKeys, claim_keys, interval_keys, IsLabel, SaysInterval, AreIntervals, IsFollowedBy, AreInOrder, IsInterval, IsClaim, SaysFormat, SaysChannels, SaysKeep, SaysAnonymous, SaysShift, SaysRemove, SaysClaim}
+use Rattle.edf_claim.specs.Claims.{text_items, HasOnlyKeys, claim_keys, interval_keys, IsLabel, SaysInterval, AreIntervals, IsFollowedBy, AreInOrder, IsInterval, IsClaim, SaysFormat, SaysChannels, SaysKeep, SaysAnonymous, SaysShift, SaysRemove, SaysClaim}
+use Rattle.edf_fields.specs.SubfieldNames.{name_of}
 use Rattle.edf_claim.specs.Terms.{Terms}
 use Rattle.edf_fields.specs.Lists.{Has, is_one_of}
 use Rattle.edf_fields.specs.Distinct.{AreDistinct, are_distinct}
-use Rattle.edf_claim.specs.Reading.{integer_of, text_at, keys_are, texts_of, distinct_texts, option_is, is_format_one, is_label, channels_of, span_at, interval_from, interval_of, intervals_of, is_followed_by, are_in_order, keep_of, named_in, all_names, which_of, whiches_of, or_default, anonymous_of, shift_within, shift_of, remove_of, claim_fault, terms_of}
+use Rattle.edf_claim.specs.Reading.{integer_of, text_at, keys_are, texts_of, distinct_texts, option_is, is_format_one, is_label, channels_of, span_at, interval_from, interval_of, intervals_of, is_followed_by, are_in_order, keep_of, whiches_of, or_default, anonymous_of, shift_within, shift_of, remove_of, claim_fault, terms_of}
+use Rattle.edf_fields.specs.SubfieldNamesReading.{named_in, all_subfields, which_of}
 use Rattle.edf_fields.specs.Tests.{unless}
 use Rattle.edf_claim.specs.declared.interval.Interval.{Interval}
 use Rattle.edf_claim.specs.declared.stop.ClaimStop.TheVariants.{BadFormat, UnknownKey, BadChannels, BadKeep, BadAnonymous, BadShift, BadRemove}
-use Rattle.edf_claim.specs.declared.which.Which.{Which}
+use Rattle.edf_fields.specs.declared.which.Which.{Which}
 
 -- what options and tests say that gave something
 bind_some : {X Y : Type 0} (f : X → Option Y) (o : Option X) (y : Y) → option_and_then f o ≡ Some y → (x : X) × (o ≡ Some x) × (f x ≡ Some y)
@@ -229,7 +231,7 @@ named-is (v ∷ more) name w h = named-case v more name w (bytes_eq (name_of v) 
 
 which-is : (name : List ℕ) (w : Which) → which_of name ≡ Some w → name ≡ name_of w
 unfolding which_of
-which-is name w h = named-is all_names name w h
+which-is name w h = named-is all_subfields name w h
 
 whiches-are : (names : List (List ℕ)) (ws : List Which) → whiches_of names ≡ Some ws → names ≡ map name_of ws
 whiches-are [] ws h = ap (map name_of) (let e : Some [] ≡ Some ws = h in let f : [] ≡ ws = cc in f)

@@ -9,16 +9,18 @@ use Rattle.edf_fields.specs.PrintableReading.{is_printable}
 use Rattle.edf_fields.specs.Onsets.{SpellsSpan}
 use Rattle.edf_fields.specs.OnsetsReading.{span_of}
 use Rattle.edf_fields.proofs.ForCallers.{le_decided, span_of_spelled, has-one_of, both-true, not-is, distinct-passes, le-passes, lt-passes, printable_decided}
-use Rattle.edf_claim.specs.Claims.{name_of, text_items, HasOnlyKeys, claim_keys, interval_keys, IsLabel, SaysInterval, AreIntervals, IsFollowedBy, AreInOrder, IsInterval, SaysFormat, SaysChannels, SaysKeep, SaysAnonymous, SaysShift, SaysRemove, SaysClaim, SaysOneClaim}
+use Rattle.edf_claim.specs.Claims.{text_items, HasOnlyKeys, claim_keys, interval_keys, IsLabel, SaysInterval, AreIntervals, IsFollowedBy, AreInOrder, IsInterval, SaysFormat, SaysChannels, SaysKeep, SaysAnonymous, SaysShift, SaysRemove, SaysClaim, SaysOneClaim}
+use Rattle.edf_fields.specs.SubfieldNames.{name_of}
 use Rattle.edf_claim.specs.Terms.{Terms}
 use Rattle.edf_claim.specs.Faults.{FailsOr, FirstTableFault, ThereIs, SaysClaimOrFault, FaultIsFirst}
 use Rattle.edf_fields.specs.Lists.{Has, is_one_of}
 use Rattle.edf_fields.specs.Distinct.{AreDistinct, are_distinct}
-use Rattle.edf_claim.specs.Reading.{option_is, keys_are, texts_of, distinct_texts, is_format_one, is_label, channels_of, span_at, interval_from, interval_of, intervals_of, is_followed_by, are_in_order, keep_of, which_of, whiches_of, or_default, anonymous_of, shift_within, shift_of, remove_of, claim_fault, terms_of}
+use Rattle.edf_claim.specs.Reading.{option_is, keys_are, texts_of, distinct_texts, is_format_one, is_label, channels_of, span_at, interval_from, interval_of, intervals_of, is_followed_by, are_in_order, keep_of, whiches_of, or_default, anonymous_of, shift_within, shift_of, remove_of, claim_fault, terms_of}
+use Rattle.edf_fields.specs.SubfieldNamesReading.{all_subfields, which_of}
 use Rattle.edf_fields.specs.Tests.{first, unless}
 use Rattle.edf_claim.specs.declared.interval.Interval.{Interval}
-use Rattle.edf_claim.specs.declared.which.Which.{Which}
-use Rattle.edf_claim.specs.declared.which.Which.TheVariants.{Code, Sex, Birthdate, Name, PatientExtras, Date, Administration, Technician, Equipment, RecordingExtras}
+use Rattle.edf_fields.specs.declared.which.Which.{Which}
+use Rattle.edf_fields.specs.declared.which.Which.TheVariants.{Code, Sex, Birthdate, Name, PatientExtras, Date, Administration, Technician, Equipment, RecordingExtras}
 use Rattle.edf_claim.proofs.FaultFacts.{all-passed}
 use Rattle.edf_claim.proofs.ReadingFacts.{is-some, keys-tested, format-said, channels-said, keep-said, anonymous-said, shift-said, remove-said, terms-are, table-says}
 use Rattle.edf_claim.specs.declared.stop.ClaimStop.{ClaimStop}
@@ -107,7 +109,7 @@ keep-read entries kept s =
 
 -- each name is that of its subfield
 which-read : (w : Which) → which_of (name_of w) ≡ Some w
-unfolding which_of
+unfolding which_of all_subfields
 which-read Code = refl
 which-read Sex = refl
 which-read Birthdate = refl

@@ -1,29 +1,16 @@
--- What a claim says: which channels, annotations and stretches of time an export keeps of its original, what it makes anonymous, and by how much it moves the rest (this project's profile).
+-- What a claim says: which channels, annotations and intervals of time an export keeps of its original, what it makes anonymous, and by how much it moves the rest (this project's profile).
 use Rattle.std.specs.Prelude.{◌≡◌, ◌≢◌, ℕ, ℤ, pos, neg_ℤ, ◌-◌, ◌≤ℤ◌, ◌<ℤ◌, ◌≤◌, ◌^◌, ◌⊎◌, List, [], ◌∷◌, length, map, slice_index, Some, None, codes, IsUtf8}
 use Rattle.std.specs.List.{All}
 use Rattle.edf_fields.specs.Onsets.{SpellsSpan}
 use Rattle.edf_fields.specs.Lists.{Has}
 use Rattle.edf_fields.specs.Distinct.{AreDistinct}
 use Rattle.edf_claim.specs.declared.interval.Interval.{Interval}
-use Rattle.edf_claim.specs.declared.which.Which.{Which}
-use Rattle.edf_claim.specs.declared.which.Which.TheVariants.{Code, Sex, Birthdate, Name, PatientExtras, Date, Administration, Technician, Equipment, RecordingExtras}
+use Rattle.edf_fields.specs.declared.which.Which.{Which}
+use Rattle.edf_fields.specs.SubfieldNames.{name_of}
 use Rattle.toml.specs.Data.{string, integer, array, table, Items, no_items, item, Members, no_members, member, get_member}
 use Rattle.toml.specs.Parse.{parse_document}
 use Rattle.edf_fields.specs.Printable.{IsPrintable}
 use Rattle.edf_claim.specs.Terms.{Terms}
-
--- the name of each subfield, as a claim writes it
-abbrev pub name_of : Which → List ℕ
-name_of Code = codes "code"
-name_of Sex = codes "sex"
-name_of Birthdate = codes "birthdate"
-name_of Name = codes "name"
-name_of PatientExtras = codes "patient-extras"
-name_of Date = codes "date"
-name_of Administration = codes "administration"
-name_of Technician = codes "technician"
-name_of Equipment = codes "equipment"
-name_of RecordingExtras = codes "recording-extras"
 
 -- the array of these texts
 abbrev pub text_items : List (List ℕ) → Items
@@ -76,7 +63,7 @@ abbrev pub AreInOrder : List Interval → Type 0
 AreInOrder [] = Unit {0}
 AreInOrder (interval ∷ intervals) = IsFollowedBy interval intervals × AreInOrder intervals
 
--- a stretch of time from 0 on, whose end is behind its begin; a duration of 9 digits of seconds is below 10^21 picoseconds
+-- an interval of time from 0 on, whose end is behind its begin; a duration of 9 digits of seconds is below 10^21 picoseconds
 pub record IsInterval (interval : Interval) : Type 0 where
   pub start : pos 0 ≤ℤ interval.from_ps
   pub order : interval.from_ps <ℤ interval.to_ps

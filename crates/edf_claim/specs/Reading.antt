@@ -5,15 +5,15 @@ use Rattle.std.specs.Ordering.{int_eq}
 use Rattle.std.specs.Str.{bytes_eq}
 use Rattle.edf_fields.specs.PrintableReading.{is_printable}
 use Rattle.edf_fields.specs.OnsetsReading.{span_of}
-use Rattle.edf_claim.specs.Claims.{name_of, claim_keys, interval_keys}
+use Rattle.edf_claim.specs.Claims.{claim_keys, interval_keys}
+use Rattle.edf_fields.specs.SubfieldNamesReading.{which_of}
 use Rattle.edf_claim.specs.Terms.{Terms}
 use Rattle.edf_fields.specs.Lists.{is_one_of}
 use Rattle.edf_fields.specs.Distinct.{are_distinct}
 use Rattle.edf_claim.specs.declared.interval.Interval.{Interval}
 use Rattle.edf_claim.specs.declared.stop.ClaimStop.{ClaimStop}
 use Rattle.edf_claim.specs.declared.stop.ClaimStop.TheVariants.{BadFormat, UnknownKey, BadChannels, BadKeep, BadAnonymous, BadShift, BadRemove}
-use Rattle.edf_claim.specs.declared.which.Which.{Which}
-use Rattle.edf_claim.specs.declared.which.Which.TheVariants.{Code, Sex, Birthdate, Name, PatientExtras, Date, Administration, Technician, Equipment, RecordingExtras}
+use Rattle.edf_fields.specs.declared.which.Which.{Which}
 use Rattle.toml.specs.Data.{Data, Items, no_items, item, Members, no_members, member, get_member, as_str, as_integer, as_array, as_table}
 use Rattle.edf_fields.specs.Tests.{first, unless}
 
@@ -97,19 +97,6 @@ unfoldable pub keep_of : Members → Option (List Interval)
 keep_of entries =
     option_and_then (λ is. if nat_lt 0 (length is) && (nat_le (length is) 1000 && are_in_order is) then Some is else None)
     (option_and_then intervals_of (option_and_then as_array (get_member (codes "keep") entries)))
-
--- the subfields in their written order
-abbrev pub all_names : List Which
-all_names = Code ∷ Sex ∷ Birthdate ∷ Name ∷ PatientExtras ∷ Date ∷ Administration ∷ Technician ∷ Equipment ∷ RecordingExtras ∷ []
-
--- the first of these subfields that has this name
-abbrev pub named_in : List Which → List ℕ → Option Which
-named_in [] name = None
-named_in (which ∷ more) name = if bytes_eq (name_of which) name then Some which else named_in more name
-
--- the subfield of this name
-unfoldable pub which_of : List ℕ → Option Which
-which_of name = named_in all_names name
 
 -- the subfields of these names
 abbrev pub whiches_of : List (List ℕ) → Option (List Which)

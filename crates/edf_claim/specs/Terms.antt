@@ -1,7 +1,7 @@
 -- What a claim says.
 use Rattle.std.specs.Prelude.{ℕ, ℤ, List}
 use Rattle.edf_claim.specs.declared.interval.Interval.{Interval}
-use Rattle.edf_claim.specs.declared.which.Which.{Which}
+use Rattle.edf_fields.specs.declared.which.Which.{Which}
 
 -- a claim: the labels of the channels, the intervals that are kept, what is made anonymous, the shift in seconds, and the texts of annotations that are removed
 -- intervals count picoseconds after the second at which the original starts

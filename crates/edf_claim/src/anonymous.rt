@@ -6,7 +6,7 @@ ghost use Rattle.edf_claim.specs.Reading.{whiches_of, anonymous_of};
 
 use crate::table::value_at;
 use crate::text_arrays::distinct_texts;
-use crate::which::{Which, which_of};
+use edf_fields::which::{Which, which_of};
 use std::alloc::{AllocError, Global};
 use toml::Table;
 

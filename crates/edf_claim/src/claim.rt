@@ -8,9 +8,10 @@ ghost use Rattle.edf_claim.specs.Keeps.{KeepsInstant, is_within, keeps_instant, 
 ghost use Rattle.edf_claim.specs.KeepsReading.{AreKept, KeepsAnnotation};
 
 use crate::interval::Interval;
-use crate::text_arrays::{is_found, is_one_of};
-use crate::which::Which;
+use crate::removed::Removed;
+use crate::text_arrays::is_one_of;
 use edf_fields::label::SignalLabel;
+use edf_fields::which::Which;
 use std::marker::Model;
 
 /// What an export keeps of its original, as a sleep centre claims it.
@@ -20,22 +21,30 @@ pub struct Claim {
     pub(crate) keep: Vec<Interval>,
     pub(crate) anonymous: Vec<Which>,
     pub(crate) shift: i64,
-    pub(crate) remove: Vec<Vec<u8>>,
-    /// The texts of `remove` in the order of their bytes.
-    pub(crate) sorted: Vec<Vec<u8>>,
+    pub(crate) remove: Removed,
 }
 
 impl Model for Claim {
-    ghost use Rattle.std.specs.Prelude.{map};
     ghost use Rattle.edf_claim.specs.Claims.{IsClaim};
     ghost use Rattle.edf_claim.specs.Terms.{Terms};
-    ghost use Rattle.edf_claim.specs.KeepsReading.{IsIndex};
 
     ghost Value = { Terms };
 
-    ghost view = { λ c. record { channels = c.channels.items; keep = c.keep.items; anonymous = c.anonymous.items; shift = c.shift; remove = map (λ t. t.items) c.remove.items } };
+    ghost view = { λ c. record {
+      channels = c.channels.items;
+      keep = c.keep.items;
+      anonymous = c.anonymous.items;
+      shift = c.shift;
+      remove = c.remove;
+    } };
 
-    ghost invariant = { λ c. IsClaim (record { channels = c.channels.items; keep = c.keep.items; anonymous = c.anonymous.items; shift = c.shift; remove = map (λ t. t.items) c.remove.items }) × IsIndex (map (λ t. t.items) c.remove.items) c.sorted.items };
+    ghost invariant = { λ c. IsClaim (record {
+      channels = c.channels.items;
+      keep = c.keep.items;
+      anonymous = c.anonymous.items;
+      shift = c.shift;
+      remove = c.remove;
+    }) };
 }
 
 /// The half of the intervals in which the instant `num / den` can be: the second one where its first
@@ -106,7 +115,7 @@ impl Claim {
     }
 
     /// Whether what stands at the instant `num / den` is kept, in picoseconds after the second at
-    /// which the original starts; `den` is from 1 to 8,388,608. A stretch keeps its begin, and not its
+    /// which the original starts; `den` is from 1 to 8,388,608. An interval keeps its begin, and not its
     /// end.
     #[tactic(auto, using(crate::proofs::KeepsFacts::near_bounds))]
     pub fn keeps_instant(&self, num: i128, den: u32) -> bool
@@ -118,13 +127,6 @@ impl Claim {
         is_in_one(&self.keep, num, den)
     }
 
-    /// Whether the text is one of those that are removed.
-    fn is_removed(&self, text: &[u8]) -> bool
-        ensures { result ≡ is_one_of_texts self.now.remove text.now }
-    {
-        is_found(&self.sorted, text)
-    }
-
     /// Whether an annotation is kept that has this onset, in picoseconds after the second at which
     /// the original starts, and this text, which is compared byte for byte with those that are removed.
     #[tactic(auto, using(crate::proofs::KeepsFacts::annotation_kept))]
@@ -132,7 +134,7 @@ impl Claim {
         ensures keeps { IsTrue result ↔ KeepsAnnotation self.now onset text.now }
         ensures value { result ≡ keeps_annotation self.now onset text.now }
     {
-        self.keeps_instant(onset, 1) && !self.is_removed(text.as_bytes())
+        self.keeps_instant(onset, 1) && !self.remove.contains(text.as_bytes())
     }
 
     /// Whether this subfield is made anonymous.

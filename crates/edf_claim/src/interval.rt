@@ -1,9 +1,9 @@
-//! A stretch of time that a claim keeps.
+//! An interval of time that a claim keeps.
 
 ghost use Rattle.std.specs.Prelude.{◌≡◌, ◌<◌, ◌^◌, ◌*ℤ◌, pos, unsigned_abs, int_le};
 ghost use Rattle.edf_claim.specs.Keeps.{is_within};
 
-/// A span of time in picoseconds after the second at which the original starts: `from_ps` is
+/// An interval of time in picoseconds after the second at which the original starts: `from_ps` is
 /// included, `to_ps` is not.
 #[derive(Debug, Clone, Copy, PartialEq, Eq)]
 pub struct Interval {

@@ -1,4 +1,4 @@
-//! The stretches of time that a claim keeps.
+//! The intervals of time that a claim keeps.
 
 ghost use Rattle.std.specs.Prelude.{◌≡◌, ℤ, option_map, option_and_then, IfOk, IfSome, None, Some, length, unsigned_abs, ◌<◌, ◌≤◌, ◌^◌, ◌+◌, codes};
 ghost use Rattle.std.specs.List.{All};

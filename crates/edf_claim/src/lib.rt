@@ -1,4 +1,4 @@
-//! What a sleep centre claims of an export: which channels and stretches of time of the original
+//! What a sleep centre claims of an export: which channels and intervals of time of the original
 //! it keeps, what it makes anonymous, and by how much it moves the rest.
 #![tactic(auto)]
 
@@ -12,8 +12,8 @@ mod keep;
 pub mod laws;
 mod read;
 mod remove;
+mod removed;
 mod shift;
 pub mod stop;
 mod table;
 mod text_arrays;
-pub mod which;

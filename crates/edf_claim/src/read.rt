@@ -1,12 +1,11 @@
 //! Reading a claim from its text.
 
-ghost use Rattle.std.specs.Prelude.{◌≡◌, ◌≢◌, map, IfOk, IfErr, OnOk, None, Some, IsUtf8};
+ghost use Rattle.std.specs.Prelude.{◌≡◌, ◌≢◌, IfOk, IfErr, OnOk, None, Some, IsUtf8};
 ghost use Rattle.toml.specs.Parse.{parse_document};
 ghost use Rattle.toml.specs.View.{table_view};
 ghost use Rattle.edf_claim.specs.declared.stop.ClaimStop.TheVariants as stops;
 ghost use Rattle.edf_claim.specs.Claims.{IsClaim, SaysClaimText};
 ghost use Rattle.edf_claim.specs.Faults.{FirstClaimFault};
-ghost use Rattle.edf_claim.specs.KeepsReading.{IsIndex};
 ghost use Rattle.edf_claim.specs.Reading.{claim_fault, terms_of, channels_of, keep_of, anonymous_of, shift_of, remove_of};
 
 use crate::anonymous::anonymous;
@@ -16,12 +15,12 @@ use crate::format::is_format_one;
 use crate::interval::Interval;
 use crate::keep::keep;
 use crate::remove::remove;
+use crate::removed::Removed;
 use crate::shift::shift;
 use crate::stop::ClaimStop;
 use crate::table::has_claim_keys;
-use crate::text_arrays::sorted_copies;
-use crate::which::Which;
 use edf_fields::label::SignalLabel;
+use edf_fields::which::Which;
 use std::alloc::Global;
 use toml::Table;
 
@@ -47,16 +46,14 @@ fn claim_of(
     keep: Vec<Interval>,
     anonymous: Vec<Which>,
     shift: i64,
-    remove: Vec<Vec<u8>>,
-    sorted: Vec<Vec<u8>>,
+    remove: Removed,
 ) -> Claim
     requires passed { claim_fault (table_view _table.now) ≡ None }
     requires channels { channels_of (table_view _table.now) ≡ Some channels.items }
     requires keep { keep_of (table_view _table.now) ≡ Some keep.items }
     requires anonymous { anonymous_of (table_view _table.now) ≡ Some anonymous.items }
     requires shift { shift_of (table_view _table.now) ≡ Some shift }
-    requires remove { remove_of (table_view _table.now) ≡ Some (map (λ t. t.items) remove.items) }
-    requires sorted { IsIndex (map (λ t. t.items) remove.items) sorted.items }
+    requires remove { remove_of (table_view _table.now) ≡ Some remove }
     ensures { result ≡ terms_of (table_view _table.now) }
 {
     Claim {
@@ -65,7 +62,6 @@ fn claim_of(
         anonymous,
         shift,
         remove,
-        sorted,
     }
 }
 
@@ -97,8 +93,7 @@ fn claim_in(alloc: Global, table: &Table) -> Result<Claim, ClaimStop>
     let Some(remove) = remove(alloc, table)? else {
         return Err(ClaimStop::BadRemove);
     };
-    let sorted = sorted_copies(alloc, &remove)?;
-    Ok(claim_of(table, channels, keep, anonymous, shift, remove, sorted))
+    Ok(claim_of(table, channels, keep, anonymous, shift, remove))
 }
 
 impl Claim {

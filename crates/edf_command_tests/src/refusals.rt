@@ -1,11 +1,10 @@
 //! The line and the status of each refusal, and how a stopped report is refused.
 
-use edf_check::run::RunStop;
-use edf_check::side::Side;
 use edf_claim::stop::ClaimStop;
-use edf_command::refusal::{Refusal, Role};
-use edf_command::status::status;
-use edf_report::report::ReportStop;
+use edf_refusal::refusal::{Refusal, Role};
+use edf_refusal::side::Side;
+use edf_refusal::status::status;
+use edf_refusal::stop::{ReportStop, RunStop};
 use edf_verdict::outcome::Outcome;
 use std::process::Abort;
 

@@ -1,14 +1,14 @@
 //! The reports on one file: their texts, and what stands in a sink that is soon full; `tools/cases` has more of
 //! their texts.
 
-use edf_command::vectors::line::Line;
+use edf_check::vectors::line::Line;
+use edf_fields::fault::Place::{AtField, AtSignal};
+use edf_fields::layout::{FixedField as Fixed, SignalField as Field};
 use edf_fields::sink::{Sink, SliceSink};
 use edf_fields::source::SliceSource;
-use edf_header::fault::Place::{AtField, AtSignal};
-use edf_header::layout::{FixedField as Fixed, SignalField as Field};
+use edf_refusal::stop::ReportStop;
 use edf_report::conform::conform_to;
 use edf_report::notes::notes_to;
-use edf_report::report::ReportStop;
 use edf_report::show::show_to;
 use edf_test_files::file::Edit;
 use edf_test_files::record::{LANES, recorded};

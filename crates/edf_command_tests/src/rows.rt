@@ -1,9 +1,9 @@
 //! The worked rows: their text, what a sink holds of it that is too small, and the same under ever more memory.
 
-use edf_command::vectors::line::Line;
-use edf_command::vectors::vectors_to;
+use edf_check::vectors::line::Line;
+use edf_check::vectors::vectors_to;
 use edf_fields::sink::SliceSink;
-use edf_report::report::ReportStop;
+use edf_refusal::stop::ReportStop;
 use edf_test_files::scarce::Scarce;
 use edf_verdict::outcome::Outcome;
 use std::alloc::{AllocError, Global};

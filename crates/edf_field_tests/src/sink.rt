@@ -1,5 +1,6 @@
 //! Sinks that are too small, slow or interrupted.
 
+use edf_fields::faulty_sink::FaultySink;
 use edf_fields::sink::{SliceSink, WriteFault, WriteSink, put_all};
 use std::io;
 use std::io::Write;
@@ -76,4 +77,22 @@ fn tries_nothing_again(rt: HostRuntime) {
     assert_eq!(rt; put_all(&mut sink, b""), Ok(()));
     assert_eq!(rt; put_all(&mut sink, b"abc"), Err(WriteFault));
     assert_eq!(rt; sink.flush(), Err(WriteFault));
+}
+
+#[test]
+fn fails_behind_the_writes_that_pass(rt: HostRuntime) {
+    let mut room = [0; 8];
+    let mut sink = FaultySink::new(SliceSink::new(&mut room), 3, 2);
+    assert_eq!(rt; put_all(&mut sink, b"abcd"), Ok(()));
+    assert_eq!(rt; put_all(&mut sink, b"efgh"), Err(WriteFault));
+    assert_eq!(rt; put_all(&mut sink, b"gh"), Err(WriteFault));
+    assert_eq!(rt; sink.inner().written(), "abcdef".as_bytes());
+}
+
+#[test]
+fn passes_on_the_failure_of_another_sink(rt: HostRuntime) {
+    let mut room = [0; 3];
+    let mut sink = FaultySink::new(SliceSink::new(&mut room), 9, usize::MAX);
+    assert_eq!(rt; put_all(&mut sink, b"abcd"), Err(WriteFault));
+    assert_eq!(rt; sink.inner().written(), "abc".as_bytes());
 }

@@ -2,6 +2,7 @@
 
 ghost use Rattle.std.specs.Prelude.{[], false, true};
 
+use edf_fields::faulty_source::FaultySource;
 use edf_fields::source::{ReadFault, ReadSource, SliceSource, Source, fill};
 use std::io;
 use std::io::Read;
@@ -164,4 +165,24 @@ fn reads_small_parts_in_larger_ones(rt: HostRuntime) -> Result<(), Fail> {
     }
     assert_eq!(rt; fill(&mut source, &mut byte), Err(ReadFault));
     Ok(())
+}
+
+#[test]
+fn fails_behind_the_reads_that_pass(rt: HostRuntime) {
+    let mut source = FaultySource::new(SliceSource::new("abcdefgh".as_bytes()), 3, 2);
+    let mut buf = [1; 4];
+    assert_eq!(rt; fill(&mut source, &mut buf), Ok(4));
+    assert_eq!(rt; &buf[..], "abcd".as_bytes());
+    assert_eq!(rt; source.read(&mut buf), Ok(2));
+    assert_eq!(rt; &buf[..2], "ef".as_bytes());
+    assert_eq!(rt; source.read(&mut buf), Err(ReadFault));
+    assert_eq!(rt; fill(&mut source, &mut buf), Err(ReadFault));
+}
+
+#[test]
+fn passes_on_the_failure_of_another_source(rt: HostRuntime) {
+    let mut source = FaultySource::new(ReadSource::new(Zeros { reads: 1 }), 9, usize::MAX);
+    let mut buf = [1; 3];
+    assert_eq!(rt; source.read(&mut buf), Ok(3));
+    assert_eq!(rt; source.read(&mut buf), Err(ReadFault));
 }

@@ -1,7 +1,10 @@
 pub mod Dates
 pub mod DatesReading
+pub mod FaultTexts
 pub mod Identifications
 pub mod IdentificationsReading
+pub mod Layout
+pub mod LayoutReading
 pub mod Lists
 pub mod Distinct
 pub mod Numbers
@@ -15,6 +18,8 @@ pub mod Sinks
 pub mod SliceSink
 pub mod SliceSource
 pub mod Sources
+pub mod SubfieldNames
+pub mod SubfieldNamesReading
 pub mod Subfields
 pub mod SubfieldsReading
 pub mod Tests

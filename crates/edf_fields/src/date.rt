@@ -26,7 +26,7 @@ fn number_at(text: &[u8], at: usize, count: usize) -> Option<u16>
 }
 
 /// The three numbers of a text `dd.dd.dd`.
-#[derive(Clone, Copy, Debug)]
+#[derive(Clone, Copy)]
 struct DottedNumbers {
     first: u16,
     second: u16,

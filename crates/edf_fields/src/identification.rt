@@ -199,7 +199,7 @@ pub struct RecordingId<'a> {
 }
 
 /// The first subfield of a recording identification, and what stands behind it.
-#[derive(Clone, Copy, Debug)]
+#[derive(Clone, Copy)]
 struct WordAndRecording<'a> {
     word: &'a [u8],
     recording: RecordingId<'a>,

@@ -4,10 +4,10 @@ use Rattle.std.specs.List.{list_any, list_all, position_from}
 use Rattle.std.specs.Option.{is_some}
 use Rattle.std.proofs.lemmas.Bool.{cases_lt}
 use Rattle.std.proofs.lemmas.Slice.Eq.{bytes_eq-Decides}
-use Rattle.edf_header.specs.declared.fault.Place.TheVariants.{AtField, AtSignal}
-use Rattle.edf_header.specs.declared.fault.Cause.TheVariants.{NoAnnotationSignal, NoOrdinarySignal, DuplicateLabel, RecordTooLarge}
-use Rattle.edf_header.specs.declared.layout.FixedField.TheVariants as fixed
-use Rattle.edf_header.specs.declared.layout.SignalField.TheVariants as signal
+use Rattle.edf_fields.specs.declared.fault.Place.TheVariants.{AtField, AtSignal}
+use Rattle.edf_fields.specs.declared.fault.Cause.TheVariants.{NoAnnotationSignal, NoOrdinarySignal, DuplicateLabel, RecordTooLarge}
+use Rattle.edf_fields.specs.declared.layout.FixedField.TheVariants as fixed
+use Rattle.edf_fields.specs.declared.layout.SignalField.TheVariants as signal
 use Rattle.edf_fields.proofs.ForCallers.{le_decided, first-none, first-cons, not-true}
 use Rattle.edf_header.specs.Heads.{SignalHead, is_annotations, samples_together}
 use Rattle.edf_header.specs.Channels.{IsChannel, HasDistinctChannels}
@@ -88,10 +88,10 @@ earlier : (signals : List SignalHead) (s t : ℕ) (label : List ℕ) → first (
 earlier signals s t label passed cs ct lt =
     let within : t < length signals = get-within signals t ct.0 ct.1 in
     let alone : is_repeated signals t ≡ false = labels-alone signals 0 (length signals) t passed (omega arith) (omega arith) in
-    let named : label_at signals t ≡ label = ap (λ o. unwrap_or (option_map (λ (y : SignalHead). y.label) o) []) ct.1 ∙ ct.2 in
+    let named : label_at signals t ≡ label = ap (λ o. unwrap_or (option_map (λ (y : SignalHead). y.label) o) []) ct.1 ∙ ct.2.0 in
     let none : is_some (channel_place label (take t signals)) ≡ false = ap (λ l. is_some (channel_place l (take t signals))) (sym named) ∙ alone in
     let failed : is_channel_of label cs.0 ≡ false = none-found (is_channel_of label) (take t signals) 0 s cs.0 none (get-taken signals t s lt ∙ cs.1) in
-    let passes : is_channel_of label cs.0 ≡ true = tested label cs.0 cs.2 cs.3 in
+    let passes : is_channel_of label cs.0 ≡ true = tested label cs.0 cs.2.0 cs.2.1 in
     let z : true ≡ false = sym passes ∙ failed in
     cc
 
@@ -128,7 +128,7 @@ unfolding no_ordinary_signal
 channel-there signals h =
     let p : SignalHead → Bool = λ head. is_annotations head.label in
     let r = all-fails p signals (not-true (list_all p signals) (fault_unless-passed (not (list_all p signals)) (AtField fixed.Signals) NoOrdinarySignal h)) in
-    (r.0, (r.1).label, (r.1, r.2, refl, r.3))
+    (r.0, (r.1).label, (r.1, r.2, (refl, r.3)))
 
 pub joint-passed : (signals : List SignalHead) → first (joint_faults signals) ≡ None → Together signals
 joint-passed signals h =

@@ -4,13 +4,13 @@ use Rattle.std.proofs.lemmas.Bool.{cases_lt}
 use Rattle.std.proofs.lemmas.Bool.Decides.{nat_tests}
 use Rattle.std.proofs.Math.Nat.{div-eq_of_lt-le}
 use Rattle.std.proofs.Math.Seq.{drop-cons}
-use Rattle.edf_header.specs.declared.fault.Place.{Place}
-use Rattle.edf_header.specs.declared.fault.Place.TheVariants.{AtSignal}
-use Rattle.edf_header.specs.declared.fault.Cause.TheVariants.{Truncated}
-use Rattle.edf_header.specs.declared.layout.SignalField.{SignalField}
-use Rattle.edf_header.specs.declared.layout.SignalField.TheVariants as signal
-use Rattle.edf_header.specs.Layout.{column_before, column_width}
-use Rattle.edf_header.specs.LayoutReading.{columns, next_before, AreAdjacent}
+use Rattle.edf_fields.specs.declared.fault.Place.{Place}
+use Rattle.edf_fields.specs.declared.fault.Place.TheVariants.{AtSignal}
+use Rattle.edf_fields.specs.declared.fault.Cause.TheVariants.{Truncated}
+use Rattle.edf_fields.specs.declared.layout.SignalField.{SignalField}
+use Rattle.edf_fields.specs.declared.layout.SignalField.TheVariants as signal
+use Rattle.edf_fields.specs.Layout.{column_before, column_width}
+use Rattle.edf_fields.specs.LayoutReading.{columns, next_before, AreAdjacent}
 use Rattle.edf_header.specs.Faults.{fault, truncated, column_missing, columns_missing}
 use Rattle.edf_fields.specs.Tests.{first}
 use Rattle.edf_fields.proofs.ForCallers.{first-passed, first-found}

@@ -17,17 +17,17 @@ use Rattle.edf_fields.specs.DatesReading.{dotted_day_of, dashed_day_of, clock_ti
 use Rattle.edf_fields.specs.Printable.{IsPrintable}
 use Rattle.edf_fields.specs.PrintableReading.{is_printable}
 use Rattle.edf_fields.proofs.ForCallers.{le_decided, dotted_day_read, dashed_day_read, dashed_day_decided, clock_time_read, patient_or_cause, recording_or_cause, whole_number_of-spelled, header_number_of-spelled, whole_number_of-some, first-none, first-cons, and-true, not-true, pass-cons, pass-append, not-is, printable_decided}
-use Rattle.edf_header.specs.declared.fault.Place.{Place}
-use Rattle.edf_header.specs.declared.fault.Place.TheVariants.{AtField, AtSignal}
-use Rattle.edf_header.specs.declared.fault.Cause.TheVariants.{NotPrintable, Truncated, BadVersion, BadHeaderSize, NoAnnotationSignal, NoOrdinarySignal, DuplicateLabel, RecordTooLarge}
-use Rattle.edf_header.specs.declared.layout.FixedField.{FixedField}
-use Rattle.edf_header.specs.declared.layout.FixedField.TheVariants as fixed
-use Rattle.edf_header.specs.declared.layout.SignalField.{SignalField}
-use Rattle.edf_header.specs.declared.layout.SignalField.TheVariants as signal
+use Rattle.edf_fields.specs.declared.fault.Place.{Place}
+use Rattle.edf_fields.specs.declared.fault.Place.TheVariants.{AtField, AtSignal}
+use Rattle.edf_fields.specs.declared.fault.Cause.TheVariants.{NotPrintable, Truncated, BadVersion, BadHeaderSize, NoAnnotationSignal, NoOrdinarySignal, DuplicateLabel, RecordTooLarge}
+use Rattle.edf_fields.specs.declared.layout.FixedField.{FixedField}
+use Rattle.edf_fields.specs.declared.layout.FixedField.TheVariants as fixed
+use Rattle.edf_fields.specs.declared.layout.SignalField.{SignalField}
+use Rattle.edf_fields.specs.declared.layout.SignalField.TheVariants as signal
 use Rattle.edf_header.specs.Channels.{IsChannel, HasDistinctChannels}
 use Rattle.edf_header.specs.ChannelsReading.{is_channel_of, label_at, is_repeated}
-use Rattle.edf_header.specs.Layout.{fixed_from, fixed_bytes, fixed_part, fixed_field, column_before, column_width, columns_part, signal_field}
-use Rattle.edf_header.specs.LayoutReading.{fixed_fields, columns}
+use Rattle.edf_fields.specs.Layout.{fixed_from, fixed_bytes, fixed_part, fixed_field, column_before, column_width, columns_part, signal_field}
+use Rattle.edf_fields.specs.LayoutReading.{fixed_fields, columns}
 use Rattle.edf_header.specs.Heads.{SignalHead, Head, HasSignal, day_number, header_bytes, in_picoseconds, is_annotations, samples_together}
 use Rattle.edf_header.specs.HeadsReading.{count_of, line_of, recording_in, signals_of, signals_in, head_of}
 use Rattle.edf_header.specs.Faults.{truncated, fault_unless, not_printable, no_number, is_same_day, version_fault, patient_fault, recording_fault, startdate_fault, starttime_fault, header_bytes_fault, reserved_fault, records_fault, duration_fault, signals_fault, header_size_fault, text_fault, physical_fault, digital_fault, samples_fault, naming_faults, extreme_faults, sampling_faults, agreement_faults, signal_faults, no_annotation_signal, no_ordinary_signal, label_fault, labels_faults, record_too_large, joint_faults, fixed_missing, start_faults, extent_faults, fixed_tests, column_missing, columns_missing, signals_faults, columns_tests, header_fault}
@@ -78,7 +78,7 @@ unfolding no_ordinary_signal
 channel-passes signals h =
     let p : SignalHead → Bool = λ head. is_annotations head.label in
     let c = h.2 in
-    let failed : p c.0 ≡ false = ap is_annotations c.2 ∙ c.3 in
+    let failed : p c.0 ≡ false = ap is_annotations c.2.0 ∙ c.2.1 in
     fault_unless-true (not (list_all p signals)) (AtField fixed.Signals) NoOrdinarySignal (ap not (all-fails-at p signals h.0 c.0 c.1 failed))
 
 -- a member that is found
@@ -115,8 +115,8 @@ label-alone signals s distinct lt h =
     let both = and-true (bytes_eq (r.1).label label) (not (is_annotations (r.1).label)) r.3 in
     let same : (r.1).label ≡ label = (bytes_eq-Decides (r.1).label label).0 both.0 in
     let ordinary : is_annotations label ≡ false = ap is_annotations (sym same) ∙ not-true (is_annotations (r.1).label) both.1 in
-    let first-one : IsChannel signals r.0 label = (r.1, there.1, same, ordinary) in
-    let second : IsChannel signals s label = (here.0, here.1, named, ordinary) in
+    let first-one : IsChannel signals r.0 label = (r.1, there.1, (same, ordinary)) in
+    let second : IsChannel signals s label = (here.0, here.1, (named, ordinary)) in
     let e : r.0 ≡ s = distinct r.0 s label first-one second in
     let before = there.0 in
     absurd (omega (arith, e, before))

@@ -1,13 +1,13 @@
 -- The stages of the tests of the fixed part.
 use Rattle.std.proofs.Common.{◌≡◌, ℕ, ◌+◌, ◌≤◌, ◌<◌, List, [], ◌∷◌, ◌++◌, length, get_or, drop, Some, None, refl, sym, ap, ◌∙◌, subst, add-one, nat_le}
 use Rattle.std.proofs.Math.Seq.{drop-cons}
-use Rattle.edf_header.specs.declared.fault.Fault.{Fault}
-use Rattle.edf_header.specs.declared.fault.Place.TheVariants.{AtField}
-use Rattle.edf_header.specs.declared.fault.Cause.TheVariants.{Truncated}
-use Rattle.edf_header.specs.declared.layout.FixedField.{FixedField}
-use Rattle.edf_header.specs.declared.layout.FixedField.TheVariants as fixed
-use Rattle.edf_header.specs.Layout.{fixed_from, fixed_bytes}
-use Rattle.edf_header.specs.LayoutReading.{fixed_fields}
+use Rattle.edf_fields.specs.declared.fault.Fault.{Fault}
+use Rattle.edf_fields.specs.declared.fault.Place.TheVariants.{AtField}
+use Rattle.edf_fields.specs.declared.fault.Cause.TheVariants.{Truncated}
+use Rattle.edf_fields.specs.declared.layout.FixedField.{FixedField}
+use Rattle.edf_fields.specs.declared.layout.FixedField.TheVariants as fixed
+use Rattle.edf_fields.specs.Layout.{fixed_from, fixed_bytes}
+use Rattle.edf_fields.specs.LayoutReading.{fixed_fields}
 use Rattle.edf_header.specs.Faults.{fault, truncated, fixed_missing, start_faults, extent_faults, fixed_fault}
 use Rattle.edf_header.proofs.ColumnFacts.{there, not_there}
 use Rattle.edf_header.proofs.PassedFacts.{fault_unless-passed}

@@ -11,17 +11,17 @@ use Rattle.edf_fields.specs.DatesReading.{dotted_day_of, dashed_day_of, clock_ti
 use Rattle.edf_fields.specs.Identifications.{Patient, Recording}
 use Rattle.edf_fields.specs.IdentificationsReading.{patient_cause, recording_cause}
 use Rattle.edf_fields.proofs.ForCallers.{dotted_day_read, clock_time_read, dotted_day-some, clock_time-some, whole_number_of-some, header_number_of-some, whole_number_of-spelled, header_number_of-spelled, header_number-below, first-none, first-cons}
-use Rattle.edf_header.specs.declared.fault.Place.TheVariants.{AtField}
-use Rattle.edf_header.specs.declared.fault.Cause.TheVariants.{NotEdfPlus, BadStart, StartdateDiffers, BadSubfields}
-use Rattle.edf_header.specs.declared.fault.Place.{Place}
+use Rattle.edf_fields.specs.declared.fault.Place.TheVariants.{AtField}
+use Rattle.edf_fields.specs.declared.fault.Cause.TheVariants.{NotEdfPlus, BadStart, StartdateDiffers, BadSubfields}
+use Rattle.edf_fields.specs.declared.fault.Place.{Place}
 use Rattle.edf_fields.specs.declared.cause.FieldCause.{FieldCause}
 use Rattle.edf_header.specs.declared.kind.Kind.{Kind}
 use Rattle.edf_header.specs.declared.kind.Kind.TheVariants.{Contiguous, Interrupted}
-use Rattle.edf_header.specs.declared.layout.FixedField.TheVariants as fixed
-use Rattle.edf_header.specs.declared.layout.SignalField.TheVariants as signal
+use Rattle.edf_fields.specs.declared.layout.FixedField.TheVariants as fixed
+use Rattle.edf_fields.specs.declared.layout.SignalField.TheVariants as signal
 use Rattle.edf_header.specs.Calibrations.{Line}
-use Rattle.edf_header.specs.Layout.{fixed_part, fixed_field, columns_part, signal_field}
-use Rattle.edf_header.specs.LayoutReading.{fixed_fields, columns}
+use Rattle.edf_fields.specs.Layout.{fixed_part, fixed_field, columns_part, signal_field}
+use Rattle.edf_fields.specs.LayoutReading.{fixed_fields, columns}
 use Rattle.edf_header.specs.Heads.{SignalHead, Head, HasSignal, HasHead, NamesStartdate, AreSideBySide, kind_word, in_picoseconds, day_number}
 use Rattle.edf_header.specs.HeadsReading.{HasOneHead, kind_of, count_of, first_day, recording_in, signals_of, line_of, signal_of, signals_from, signals_in, head_in, head_of}
 use Rattle.edf_header.specs.ConformingLaws.{PassingHasHead, PassingIsSound}

@@ -9,13 +9,13 @@ use Rattle.edf_fields.specs.DatesReading.{dotted_day_of, dashed_day_of}
 use Rattle.edf_fields.specs.Identifications.{Patient, Recording, SaysPatient, SaysRecording}
 use Rattle.edf_fields.specs.IdentificationsReading.{patient_cause, recording_cause}
 use Rattle.edf_fields.proofs.ForCallers.{dashed_day_read, patient_or_cause, recording_or_cause, first-none, first-cons}
-use Rattle.edf_header.specs.declared.fault.Place.TheVariants.{AtField}
-use Rattle.edf_header.specs.declared.fault.Cause.TheVariants.{BadStart, StartdateDiffers}
+use Rattle.edf_fields.specs.declared.fault.Place.TheVariants.{AtField}
+use Rattle.edf_fields.specs.declared.fault.Cause.TheVariants.{BadStart, StartdateDiffers}
 use Rattle.edf_header.specs.declared.fixed.Start.{Start}
 use Rattle.edf_header.specs.declared.fixed.Extent.{Extent}
-use Rattle.edf_header.specs.declared.layout.FixedField.TheVariants as fixed
-use Rattle.edf_header.specs.Layout.{fixed_field}
-use Rattle.edf_header.specs.LayoutReading.{fixed_fields, columns}
+use Rattle.edf_fields.specs.declared.layout.FixedField.TheVariants as fixed
+use Rattle.edf_fields.specs.Layout.{fixed_field}
+use Rattle.edf_fields.specs.LayoutReading.{fixed_fields, columns}
 use Rattle.edf_header.specs.Heads.{SignalHead, AreSideBySide, day_number, samples_together}
 use Rattle.edf_header.specs.HeadsReading.{first_day, patient_in, recording_in, signals_in}
 use Rattle.edf_header.specs.Judged.{SaysStart, SaysExtent}

@@ -14,17 +14,17 @@ use Rattle.edf_fields.specs.IdentificationsReading.{patient_cause, recording_cau
 use Rattle.edf_fields.specs.Printable.{IsPrintable}
 use Rattle.edf_fields.specs.PrintableReading.{is_printable}
 use Rattle.edf_fields.proofs.ForCallers.{whole_number_of-spelled, header_number_of-spelled, pass-cons, pass-append, both-true, not-is, le-passes, lt-passes, printable_decided}
-use Rattle.edf_header.specs.declared.fault.Place.{Place}
-use Rattle.edf_header.specs.declared.fault.Place.TheVariants.{AtField, AtSignal}
-use Rattle.edf_header.specs.declared.fault.Cause.{Cause}
-use Rattle.edf_header.specs.declared.fault.Cause.TheVariants.{NotPrintable, BadVersion, BadStart, StartdateDiffers, BadHeaderSize, NotEdfPlus, BadRange, BadAnnotationSignal}
+use Rattle.edf_fields.specs.declared.fault.Place.{Place}
+use Rattle.edf_fields.specs.declared.fault.Place.TheVariants.{AtField, AtSignal}
+use Rattle.edf_fields.specs.declared.fault.Cause.{Cause}
+use Rattle.edf_fields.specs.declared.fault.Cause.TheVariants.{NotPrintable, BadVersion, BadStart, StartdateDiffers, BadHeaderSize, NotEdfPlus, BadRange, BadAnnotationSignal}
 use Rattle.edf_header.specs.declared.kind.Kind.{Kind}
 use Rattle.edf_header.specs.declared.kind.Kind.TheVariants.{Contiguous, Interrupted}
-use Rattle.edf_header.specs.declared.layout.FixedField.TheVariants as fixed
-use Rattle.edf_header.specs.declared.layout.SignalField.{SignalField}
-use Rattle.edf_header.specs.declared.layout.SignalField.TheVariants as signal
+use Rattle.edf_fields.specs.declared.layout.FixedField.TheVariants as fixed
+use Rattle.edf_fields.specs.declared.layout.SignalField.{SignalField}
+use Rattle.edf_fields.specs.declared.layout.SignalField.TheVariants as signal
 use Rattle.edf_header.specs.Calibrations.{Line}
-use Rattle.edf_header.specs.Layout.{signal_field}
+use Rattle.edf_fields.specs.Layout.{signal_field}
 use Rattle.edf_header.specs.Heads.{SignalHead, HasSignal, kind_word, is_annotations}
 use Rattle.edf_header.specs.HeadsReading.{line_of, signal_of, signals_from}
 use Rattle.edf_header.specs.Faults.{fault_unless, not_printable, no_number, not_within, not_positive, not_named, not_read, is_same_day, version_fault, patient_fault, recording_fault, startdate_fault, starttime_fault, header_bytes_fault, reserved_fault, records_fault, duration_fault, signals_fault, header_size_fault, text_fault, physical_fault, digital_fault, samples_fault, digital_order_fault, physical_differ_fault, annotation_fault, naming_faults, extreme_faults, sampling_faults, agreement_faults, signal_faults, signals_faults}

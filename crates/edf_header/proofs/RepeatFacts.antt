@@ -1,15 +1,16 @@
 -- Labels that no earlier channel has.
-use Rattle.std.proofs.Common.{◌≡◌, ℕ, zero, suc, ◌+◌, ◌-◌, ◌<◌, ◌≤◌, ◌&&◌, List, [], ◌∷◌, length, take, get_or, Some, None, Bool, true, false, not, cond, inl, inr, refl, sym, ap, ◌∙◌, subst, arith}
+use Rattle.std.proofs.Common.{◌≡◌, ℕ, zero, suc, ◌+◌, ◌-◌, ◌<◌, ◌≤◌, ◌&&◌, List, [], ◌∷◌, length, map, take, get_or, Some, None, Bool, true, false, not, cond, inl, inr, refl, sym, ap, ◌∙◌, subst, arith}
 use Rattle.std.specs.List.{position_from}
 use Rattle.std.specs.Option.{is_some}
 use Rattle.std.specs.Str.{bytes_eq}
 use Rattle.std.proofs.lemmas.List.{length-take}
 use Rattle.std.proofs.lemmas.Slice.Eq.{bytes_eq-Decides}
-use Rattle.edf_header.specs.declared.fault.Place.TheVariants.{AtSignal}
-use Rattle.edf_header.specs.declared.fault.Cause.TheVariants.{DuplicateLabel}
-use Rattle.edf_header.specs.declared.layout.SignalField.TheVariants as signal
+use Rattle.edf_fields.specs.declared.fault.Place.TheVariants.{AtSignal}
+use Rattle.edf_fields.specs.declared.fault.Cause.TheVariants.{DuplicateLabel}
+use Rattle.edf_fields.specs.declared.layout.SignalField.TheVariants as signal
 use Rattle.edf_header.specs.Heads.{SignalHead, is_annotations}
-use Rattle.edf_header.specs.ChannelsReading.{channel_labels, is_channel_of, label_at, is_repeated}
+use Rattle.edf_header.specs.Channels.{channels_among, channel_labels}
+use Rattle.edf_header.specs.ChannelsReading.{is_channel_of, label_at, is_repeated}
 use Rattle.edf_header.specs.Faults.{fault, label_fault, labels_faults}
 use Rattle.edf_fields.specs.Tests.{first}
 use Rattle.edf_fields.specs.Lists.{Has, is_one_of}
@@ -38,18 +39,26 @@ label_found signals s n lt found =
 
 -- ---- the labels of the channels as one list
 
+labels-step : (x : SignalHead) (xs : List SignalHead) → channel_labels (x ∷ xs) ≡ cond (is_annotations x.label) (channel_labels xs) (x.label ∷ channel_labels xs)
+labels-step x xs = step-case (is_annotations x.label)
+  where
+    step-case : (b : Bool) → map (λ s. s.label) (cond (not b) (x ∷ channels_among xs) (channels_among xs)) ≡ cond b (channel_labels xs) (x.label ∷ channel_labels xs)
+    step-case true = refl
+    step-case false = refl
+
 -- a channel's label stands in the list
 label-listed : (xs : List SignalHead) (s : ℕ) → s < length xs → is_annotations (label_at xs s) ≡ false → Has (channel_labels xs) (label_at xs s)
 label-listed [] s lt channel = absurd (omega (arith, lt))
-label-listed (x ∷ xs) zero lt channel = subst (λ ls. Has ls x.label) (sym (ap (λ b. cond b (channel_labels xs) (x.label ∷ channel_labels xs)) channel)) (inl refl)
-label-listed (x ∷ xs) (suc s) lt channel = listed-case (is_annotations x.label) (label-listed xs s (omega (arith, lt)) channel)
+label-listed (x ∷ xs) zero lt channel = subst (λ ls. Has ls x.label) (sym (labels-step x xs ∙ ap (λ b. cond b (channel_labels xs) (x.label ∷ channel_labels xs)) channel)) (inl refl)
+label-listed (x ∷ xs) (suc s) lt channel =
+    subst (λ ls. Has ls (label_at xs s)) (sym (labels-step x xs)) (listed-case (is_annotations x.label) (label-listed xs s (omega (arith, lt)) channel))
   where
     listed-case : (b : Bool) → Has (channel_labels xs) (label_at xs s) → Has (cond b (channel_labels xs) (x.label ∷ channel_labels xs)) (label_at xs s)
     listed-case true h = h
     listed-case false h = inr h
 
 distinct-tail : (x : SignalHead) (xs : List SignalHead) → are_distinct (channel_labels (x ∷ xs)) ≡ true → are_distinct (channel_labels xs) ≡ true
-distinct-tail x xs h = tail-case (is_annotations x.label) h
+distinct-tail x xs h = tail-case (is_annotations x.label) (sym (ap are_distinct (labels-step x xs)) ∙ h)
   where
     tail-case : (b : Bool) → are_distinct (cond b (channel_labels xs) (x.label ∷ channel_labels xs)) ≡ true → are_distinct (channel_labels xs) ≡ true
     tail-case true h = h
@@ -65,7 +74,7 @@ other-label x xs s alone lt = channel-case (is_annotations x.label) refl (bytes_
     channel-case false ea true eb =
         let same : x.label ≡ label_at xs s = (bytes_eq-Decides x.label (label_at xs s)).0 eb in
         let channel : is_annotations (label_at xs s) ≡ false = ap is_annotations (sym same) ∙ ea in
-        let list : channel_labels (x ∷ xs) ≡ x.label ∷ channel_labels xs = ap (λ b. cond b (channel_labels xs) (x.label ∷ channel_labels xs)) ea in
+        let list : channel_labels (x ∷ xs) ≡ x.label ∷ channel_labels xs = labels-step x xs ∙ ap (λ b. cond b (channel_labels xs) (x.label ∷ channel_labels xs)) ea in
         let both = and-true (not (is_one_of (channel_labels xs) x.label)) (are_distinct (channel_labels xs)) (sym (ap are_distinct list) ∙ alone) in
         let there : is_one_of (channel_labels xs) x.label ≡ true = ap (is_one_of (channel_labels xs)) same ∙ has-one_of (channel_labels xs) (label_at xs s) (label-listed xs s lt channel) in
         absurd (let z : true ≡ false = sym there ∙ not-true (is_one_of (channel_labels xs) x.label) both.0 in cc)

@@ -1,8 +1,8 @@
 -- The stages of the tests of a signal.
 use Rattle.std.proofs.Common.{◌≡◌, ℕ, zero, suc, refl, length, ◌+◌, ◌-◌, ◌*◌, ◌<◌, List, [], ◌∷◌, ◌++◌, Option, Some, None, sym, ap, ◌∙◌, arith, append_assoc}
-use Rattle.edf_header.specs.declared.fault.Fault.{Fault}
-use Rattle.edf_header.specs.declared.layout.SignalField.TheVariants as signal
-use Rattle.edf_header.specs.Layout.{signal_field}
+use Rattle.edf_fields.specs.declared.fault.Fault.{Fault}
+use Rattle.edf_fields.specs.declared.layout.SignalField.TheVariants as signal
+use Rattle.edf_fields.specs.Layout.{signal_field}
 use Rattle.edf_header.specs.Heads.{SignalHead}
 use Rattle.edf_header.specs.HeadsReading.{line_of, signal_of, signals_from}
 use Rattle.edf_header.specs.Faults.{naming_faults, extreme_faults, sampling_faults, agreement_faults, signal_faults, signals_faults}

@@ -5,10 +5,10 @@ use Rattle.std.proofs.lemmas.Bool.Decides.{nat_tests}
 use Rattle.edf_fields.specs.Parts.{text_of}
 use Rattle.edf_fields.specs.Numbers.{has_minus, unsigned, signed, weight, decimal, whole_part, fraction_part}
 use Rattle.edf_fields.specs.NumbersReading.{header_number_of, whole_number_of, is_whole, is_decimal}
-use Rattle.edf_header.specs.declared.fault.Place.{Place}
-use Rattle.edf_header.specs.declared.fault.Cause.TheVariants.{NotPrintable, BadAnnotationSignal}
-use Rattle.edf_header.specs.declared.fault.Place.TheVariants.{AtSignal}
-use Rattle.edf_header.specs.declared.layout.SignalField.TheVariants as signal
+use Rattle.edf_fields.specs.declared.fault.Place.{Place}
+use Rattle.edf_fields.specs.declared.fault.Cause.TheVariants.{NotPrintable, BadAnnotationSignal}
+use Rattle.edf_fields.specs.declared.fault.Place.TheVariants.{AtSignal}
+use Rattle.edf_fields.specs.declared.layout.SignalField.TheVariants as signal
 use Rattle.edf_header.specs.Calibrations.{Line}
 use Rattle.edf_header.specs.Faults.{fault_unless, not_printable, annotation_fault, digital_order_fault, physical_differ_fault, agreement_faults}
 use Rattle.edf_header.specs.Heads.{is_annotations}

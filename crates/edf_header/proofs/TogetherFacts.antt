@@ -1,7 +1,7 @@
 -- The stages of the tests of the signals together, and of the columns.
 use Rattle.std.proofs.Common.{◌≡◌, ℕ, List, [], ◌∷◌, ◌++◌, length, Some, None, ap, ◌∙◌}
-use Rattle.edf_header.specs.declared.fault.Fault.{Fault}
-use Rattle.edf_header.specs.LayoutReading.{columns}
+use Rattle.edf_fields.specs.declared.fault.Fault.{Fault}
+use Rattle.edf_fields.specs.LayoutReading.{columns}
 use Rattle.edf_header.specs.Heads.{SignalHead}
 use Rattle.edf_header.specs.HeadsReading.{signals_in}
 use Rattle.edf_header.specs.Faults.{no_annotation_signal, no_ordinary_signal, labels_faults, record_too_large, joint_faults, columns_missing, signals_faults, columns_tests}

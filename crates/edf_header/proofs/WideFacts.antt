@@ -5,10 +5,10 @@ use Rattle.std.proofs.lemmas.List.{length-append, drop-drop, length-take}
 use Rattle.edf_fields.specs.Parts.{part}
 use Rattle.edf_fields.specs.Tests.{first}
 use Rattle.edf_fields.proofs.ForCallers.{first-passed, part-append}
-use Rattle.edf_header.specs.declared.layout.SignalField.{SignalField}
-use Rattle.edf_header.specs.declared.layout.SignalField.TheVariants as signal
-use Rattle.edf_header.specs.Layout.{column_before, column_width, signal_field}
-use Rattle.edf_header.specs.LayoutReading.{columns, next_before, AreAdjacent}
+use Rattle.edf_fields.specs.declared.layout.SignalField.{SignalField}
+use Rattle.edf_fields.specs.declared.layout.SignalField.TheVariants as signal
+use Rattle.edf_fields.specs.Layout.{column_before, column_width, signal_field}
+use Rattle.edf_fields.specs.LayoutReading.{columns, next_before, AreAdjacent}
 use Rattle.edf_header.specs.Faults.{column_missing, columns_missing}
 use Rattle.edf_header.specs.Narrow.{WideColumn, all_bytes, AreColumns}
 use Rattle.edf_header.proofs.ColumnFacts.{column-whole, columns-adjacent, columns-begin}

@@ -1,5 +1,5 @@
 -- The channels of a header, as they are found.
-use Rattle.std.specs.Prelude.{ℕ, Bool, not, ◌&&◌, if◌then◌else◌, List, [], ◌∷◌, Option, slice_get, unwrap_or, option_map, take}
+use Rattle.std.specs.Prelude.{ℕ, Bool, not, ◌&&◌, List, [], Option, slice_get, unwrap_or, option_map, take}
 use Rattle.std.specs.List.{position_from}
 use Rattle.std.specs.Option.{is_some}
 use Rattle.std.specs.Str.{bytes_eq}
@@ -20,8 +20,3 @@ label_at signals s = unwrap_or (option_map (λ head. head.label) (slice_get sign
 -- an earlier channel has the label of signal s
 abbrev pub is_repeated : List SignalHead → ℕ → Bool
 is_repeated signals s = is_some (channel_place (label_at signals s) (take s signals))
-
--- the labels of the channels, in the order of the signals
-abbrev pub channel_labels : List SignalHead → List (List ℕ)
-channel_labels [] = []
-channel_labels (head ∷ heads) = if is_annotations head.label then channel_labels heads else head.label ∷ channel_labels heads

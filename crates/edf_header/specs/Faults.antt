@@ -11,19 +11,19 @@ use Rattle.edf_fields.specs.DatesReading.{dotted_day_of, dashed_day_of, clock_ti
 use Rattle.edf_fields.specs.IdentificationsReading.{patient_cause, recording_cause}
 use Rattle.edf_fields.specs.PrintableReading.{is_printable}
 use Rattle.edf_fields.specs.Tests.{first, unless}
-use Rattle.edf_header.specs.declared.fault.Fault.{Fault}
-use Rattle.edf_header.specs.declared.fault.Place.{Place}
-use Rattle.edf_header.specs.declared.fault.Place.TheVariants.{AtField, AtSignal}
-use Rattle.edf_header.specs.declared.fault.Cause.{Cause}
-use Rattle.edf_header.specs.declared.fault.Cause.TheVariants.{Truncated, NotPrintable, BadVersion, BadSubfields, BadStart, StartdateDiffers, BadHeaderSize, NotEdfPlus, BadNumber, BadRange, BadAnnotationSignal, NoAnnotationSignal, NoOrdinarySignal, DuplicateLabel, RecordTooLarge}
-use Rattle.edf_header.specs.declared.layout.FixedField.{FixedField}
-use Rattle.edf_header.specs.declared.layout.FixedField.TheVariants as fixed
-use Rattle.edf_header.specs.declared.layout.SignalField.{SignalField}
-use Rattle.edf_header.specs.declared.layout.SignalField.TheVariants as signal
+use Rattle.edf_fields.specs.declared.fault.Fault.{Fault}
+use Rattle.edf_fields.specs.declared.fault.Place.{Place}
+use Rattle.edf_fields.specs.declared.fault.Place.TheVariants.{AtField, AtSignal}
+use Rattle.edf_fields.specs.declared.fault.Cause.{Cause}
+use Rattle.edf_fields.specs.declared.fault.Cause.TheVariants.{Truncated, NotPrintable, BadVersion, BadSubfields, BadStart, StartdateDiffers, BadHeaderSize, NotEdfPlus, BadNumber, BadRange, BadAnnotationSignal, NoAnnotationSignal, NoOrdinarySignal, DuplicateLabel, RecordTooLarge}
+use Rattle.edf_fields.specs.declared.layout.FixedField.{FixedField}
+use Rattle.edf_fields.specs.declared.layout.FixedField.TheVariants as fixed
+use Rattle.edf_fields.specs.declared.layout.SignalField.{SignalField}
+use Rattle.edf_fields.specs.declared.layout.SignalField.TheVariants as signal
 use Rattle.edf_header.specs.Calibrations.{Line}
 use Rattle.edf_header.specs.ChannelsReading.{is_repeated}
-use Rattle.edf_header.specs.Layout.{fixed_from, fixed_bytes, fixed_part, fixed_field, column_before, column_width, columns_part, signal_field}
-use Rattle.edf_header.specs.LayoutReading.{fixed_fields, columns}
+use Rattle.edf_fields.specs.Layout.{fixed_from, fixed_bytes, fixed_part, fixed_field, column_before, column_width, columns_part, signal_field}
+use Rattle.edf_fields.specs.LayoutReading.{fixed_fields, columns}
 use Rattle.edf_header.specs.Heads.{SignalHead, day_number, is_annotations, samples_together}
 use Rattle.edf_header.specs.HeadsReading.{recording_in, signals_of, line_of, signals_in}
 

@@ -10,10 +10,10 @@ use Rattle.edf_fields.specs.Dates.{CivilDay, civil_day, NamesDottedDay, NamesClo
 use Rattle.edf_fields.specs.Identifications.{Patient, Recording, SaysPatient, SaysRecording}
 use Rattle.edf_header.specs.declared.kind.Kind.{Kind}
 use Rattle.edf_header.specs.declared.kind.Kind.TheVariants.{Contiguous, Interrupted}
-use Rattle.edf_header.specs.declared.layout.FixedField.TheVariants as fixed
-use Rattle.edf_header.specs.declared.layout.SignalField.TheVariants as signal
+use Rattle.edf_fields.specs.declared.layout.FixedField.TheVariants as fixed
+use Rattle.edf_fields.specs.declared.layout.SignalField.TheVariants as signal
 use Rattle.edf_header.specs.Calibrations.{Line}
-use Rattle.edf_header.specs.Layout.{fixed_part, fixed_field, columns_part, signal_field}
+use Rattle.edf_fields.specs.Layout.{fixed_part, fixed_field, columns_part, signal_field}
 
 -- one signal: the texts of its fields, its calibration, how many samples it has in a data record, and how many bytes stand before them there
 pub record SignalHead : Type 0 where

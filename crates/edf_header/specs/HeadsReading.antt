@@ -10,10 +10,10 @@ use Rattle.edf_fields.specs.Identifications.{Patient, Recording}
 use Rattle.edf_fields.specs.IdentificationsReading.{subfield}
 use Rattle.edf_header.specs.declared.kind.Kind.{Kind}
 use Rattle.edf_header.specs.declared.kind.Kind.TheVariants.{Contiguous, Interrupted}
-use Rattle.edf_header.specs.declared.layout.FixedField.TheVariants as fixed
-use Rattle.edf_header.specs.declared.layout.SignalField.TheVariants as signal
+use Rattle.edf_fields.specs.declared.layout.FixedField.TheVariants as fixed
+use Rattle.edf_fields.specs.declared.layout.SignalField.TheVariants as signal
 use Rattle.edf_header.specs.Calibrations.{Line}
-use Rattle.edf_header.specs.Layout.{fixed_part, fixed_field, columns_part, signal_field}
+use Rattle.edf_fields.specs.Layout.{fixed_part, fixed_field, columns_part, signal_field}
 use Rattle.edf_header.specs.Heads.{SignalHead, Head, in_picoseconds, HasHead}
 
 -- a number that counts something, or 0 where none is spelled, or one below 0

@@ -8,8 +8,8 @@ use Rattle.edf_fields.specs.DatesReading.{dotted_day_of, clock_time_of}
 use Rattle.edf_fields.specs.IdentificationsReading.{patient_cause, recording_cause}
 use Rattle.edf_header.specs.declared.fixed.Start.{Start}
 use Rattle.edf_header.specs.declared.fixed.Extent.{Extent}
-use Rattle.edf_header.specs.declared.layout.FixedField.TheVariants as fixed
-use Rattle.edf_header.specs.Layout.{fixed_field}
+use Rattle.edf_fields.specs.declared.layout.FixedField.TheVariants as fixed
+use Rattle.edf_fields.specs.Layout.{fixed_field}
 use Rattle.edf_header.specs.Heads.{in_picoseconds}
 use Rattle.edf_header.specs.HeadsReading.{first_day, kind_of, count_of, signals_of}
 

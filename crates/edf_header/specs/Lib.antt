@@ -5,15 +5,12 @@ pub mod ChannelsReading
 pub mod Conforming
 pub mod ConformingLaws
 pub mod Extremes
-pub mod FaultTexts
 pub mod Faults
 pub mod HeaderParts
 pub mod Heads
 pub mod HeadsReading
 pub mod Judged
 pub mod Lanes
-pub mod Layout
-pub mod LayoutReading
 pub mod Narrow
 pub mod Standard
 pub mod Sound

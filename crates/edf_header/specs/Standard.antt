@@ -6,7 +6,8 @@ use Rattle.edf_header.specs.Calibrations.{AreExtremes}
 use Rattle.edf_header.specs.Channels.{IsChannel, HasDistinctChannels}
 use Rattle.edf_header.specs.Heads.{SignalHead, Head, day_number, is_annotations, record_bytes}
 
--- a signal that passed its tests
+-- what the standard asks of a signal: a number of samples, and extremes that give a line from digital to physical values;
+-- of an annotation signal, also which digital extremes it has (EDF, "Header record"; EDF+, "The 'EDF Annotations' signal")
 pub record IsSoundSignal (head : SignalHead) : Type 0 where
   pub calibration : AreExtremes head.calibration
   pub some_samples : 1 ≤ head.samples

@@ -9,10 +9,10 @@ use Rattle.edf_header.specs.declared.details.TextsOf.{TextsOf}
 use Rattle.edf_header.specs.declared.fixed.Start.{Start}
 use Rattle.edf_header.specs.declared.fixed.Extent.{Extent}
 use Rattle.edf_header.specs.declared.judge_signal.SignalFields.{SignalFields}
-use Rattle.edf_header.specs.declared.layout.FixedField.TheVariants as fixed
-use Rattle.edf_header.specs.declared.layout.SignalField.{SignalField}
+use Rattle.edf_fields.specs.declared.layout.FixedField.TheVariants as fixed
+use Rattle.edf_fields.specs.declared.layout.SignalField.{SignalField}
 use Rattle.edf_header.specs.Calibrations.{Line}
-use Rattle.edf_header.specs.Layout.{fixed_field, signal_field}
+use Rattle.edf_fields.specs.Layout.{fixed_field, signal_field}
 use Rattle.edf_header.specs.Heads.{SignalHead, Head, record_bytes}
 use Rattle.edf_header.specs.HeadsReading.{patient_in, recording_in}
 use Rattle.edf_header.specs.Sound.{IsSound}

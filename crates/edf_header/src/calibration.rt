@@ -26,11 +26,26 @@ impl Model for Calibration {
 
     ghost Value = { Line };
 
-    ghost view = { λ c. record { physical_minimum = c.physical_minimum; physical_maximum = c.physical_maximum; digital_minimum = c.digital_minimum; digital_maximum = c.digital_maximum } };
+    ghost view = { λ c. record {
+      physical_minimum = c.physical_minimum;
+      physical_maximum = c.physical_maximum;
+      digital_minimum = c.digital_minimum;
+      digital_maximum = c.digital_maximum;
+    } };
 
-    ghost invariant = { λ c. IsCalibration (record { physical_minimum = c.physical_minimum; physical_maximum = c.physical_maximum; digital_minimum = c.digital_minimum; digital_maximum = c.digital_maximum }) };
+    ghost invariant = { λ c. IsCalibration (record {
+      physical_minimum = c.physical_minimum;
+      physical_maximum = c.physical_maximum;
+      digital_minimum = c.digital_minimum;
+      digital_maximum = c.digital_maximum;
+    }) };
 
-    ghost inverse = { λ l. record { physical_minimum = l.physical_minimum; physical_maximum = l.physical_maximum; digital_minimum = l.digital_minimum; digital_maximum = l.digital_maximum } };
+    ghost inverse = { λ l. record {
+      physical_minimum = l.physical_minimum;
+      physical_maximum = l.physical_maximum;
+      digital_minimum = l.digital_minimum;
+      digital_maximum = l.digital_maximum;
+    } };
 }
 
 /// The product of a digital value and a physical span.
@@ -74,7 +89,12 @@ impl Calibration {
         requires physical_maximum { unsigned_abs physical_maximum < 10 ^ 15 }
         requires differ { physical_minimum ≢ physical_maximum }
         requires order { digital_minimum <ℤ digital_maximum }
-        ensures { result ≡ record { physical_minimum = physical_minimum; physical_maximum = physical_maximum; digital_minimum = digital_minimum; digital_maximum = digital_maximum } }
+        ensures { result ≡ record {
+          physical_minimum = physical_minimum;
+          physical_maximum = physical_maximum;
+          digital_minimum = digital_minimum;
+          digital_maximum = digital_maximum;
+        } }
     {
         Calibration {
             physical_minimum,

@@ -11,7 +11,7 @@ use std::marker::Model;
 /// One column of a header, without the spaces that all of its fields have at their ends (EDF, "Header
 /// record": the fields stand to the left and are filled with spaces). Most texts are far shorter than their
 /// fields, and a header has up to 9,999 signals, so a column takes less memory than it has bytes in the file.
-#[derive(Debug, Drop)]
+#[derive(Drop)]
 pub(crate) struct Column {
     bytes: Vec<u8>,
     /// How many bytes a field has in the file, and how many of them are kept.

@@ -1,23 +1,23 @@
 //! The columns of a header, which hold the fields of its signals.
 
 ghost use Rattle.std.specs.Prelude.{◌≡◌, ◌<◌};
-ghost use Rattle.edf_header.specs.Layout.{signal_field as signal_field_of};
+ghost use Rattle.edf_fields.specs.Layout.{signal_field as signal_field_of};
 ghost use Rattle.edf_header.specs.Narrow.{SaysTheSame};
 
 use crate::column::Column;
-use crate::layout::SignalField;
+use edf_fields::layout::SignalField;
 use std::marker::Model;
 
 /// The columns of a header: ten, one behind the other in the file, each with one field of every signal (EDF,
 /// "Header record"). A signal's fields lie far apart there, so all columns are in memory while they are judged.
-#[derive(Debug, Drop)]
+#[derive(Drop)]
 pub(crate) struct Columns {
     pub columns: Vec<Column>,
     pub signals: u16,
 }
 
 impl Model for Columns {
-    ghost use Rattle.edf_header.specs.LayoutReading.{columns as fields};
+    ghost use Rattle.edf_fields.specs.LayoutReading.{columns as fields};
     ghost use Rattle.edf_header.specs.Narrow.{WideColumns, all_bytes, AreColumns};
 
     ghost Value = { WideColumns };

@@ -20,7 +20,7 @@ pub(crate) struct TextsOf<'a> {
 
 /// The texts of a signal but for its label, and its calibration. Signals that stand one behind the other
 /// mostly agree in these, and then have them together.
-#[derive(Debug, Drop)]
+#[derive(Drop)]
 pub(crate) struct Details {
     pub texts: Texts,
     pub calibration: Calibration,

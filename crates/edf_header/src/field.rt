@@ -4,7 +4,7 @@ ghost use Rattle.std.specs.Prelude.{◌≡◌, ◌≤◌, ◌<◌, ◌^◌, ◌�
 ghost use Rattle.edf_fields.specs.NumbersReading.{whole_number_of};
 ghost use Rattle.edf_header.specs.Faults.{not_printable, no_number, not_within, not_positive};
 
-use crate::fault::{Cause, Fault, Place};
+use edf_fields::fault::{Cause, Fault, Place};
 use edf_fields::number::header_whole;
 use edf_fields::printable::is_printable;
 
@@ -54,7 +54,8 @@ pub(crate) fn positive(place: Place, value: Option<i64>) -> Result<i64, Fault>
 
 /// The number that is spelled, where two bytes can hold it.
 pub(crate) fn two_bytes(place: Place, value: Option<i64>) -> Result<i16, Fault>
-    ensures { MatchResult result (λ v. (not_within place (neg_ℤ (pos 32768)) (pos 32767) value ≡ None) × (value ≡ Some v)) (λ f. not_within place (neg_ℤ (pos 32768)) (pos 32767) value ≡ Some f) }
+    ensures { MatchResult result (λ v. (not_within place (neg_ℤ (pos 32768)) (pos 32767) value ≡ None) × (value ≡ Some v))
+        (λ f. not_within place (neg_ℤ (pos 32768)) (pos 32767) value ≡ Some f) }
 {
     match value {
         Some(number) if number >= -32768 && number <= 32767 => Ok(number as i16),

@@ -8,25 +8,39 @@ ghost use Rattle.edf_fields.specs.NumbersReading.{whole_number_of, header_number
 ghost use Rattle.edf_fields.specs.Dates.{civil_day};
 ghost use Rattle.edf_fields.specs.DatesReading.{dotted_day_of, clock_time_of};
 ghost use Rattle.edf_fields.specs.IdentificationsReading.{patient_cause, recording_cause, recording_of};
-ghost use Rattle.edf_header.specs.declared.fault.Place.TheVariants.{AtField};
-ghost use Rattle.edf_header.specs.declared.fault.Cause.TheVariants.{Truncated};
+ghost use Rattle.edf_fields.specs.declared.fault.Place.TheVariants.{AtField};
+ghost use Rattle.edf_fields.specs.declared.fault.Cause.TheVariants.{Truncated};
 ghost use Rattle.edf_header.specs.HeaderParts.{IsFixed};
-ghost use Rattle.edf_header.specs.LayoutReading.{fixed_fields};
+ghost use Rattle.edf_fields.specs.LayoutReading.{fixed_fields};
 ghost use Rattle.edf_header.specs.Heads.{in_picoseconds};
 ghost use Rattle.edf_header.specs.HeadsReading.{first_day, kind_of, recording_in};
 ghost use Rattle.edf_header.specs.Judged.{SaysStart, SaysExtent};
 ghost use Rattle.edf_header.specs.Faults.{fixed_missing, start_faults, extent_faults, fixed_fault, version_fault, patient_fault, recording_fault, startdate_fault, starttime_fault, header_bytes_fault, reserved_fault, records_fault, duration_fault, signals_fault, header_size_fault};
 ghost use Rattle.edf_fields.specs.Tests.{first};
 
-use crate::fault::{Cause, Fault, Place};
 use crate::field::{count, positive, printable, some_number};
 use crate::kind::Kind;
-use crate::layout::{FIXED, FixedField, fixed_field};
 use crate::startdate::{recording_date, startdate};
 use edf_fields::date::clock_time;
+use edf_fields::fault::{Cause, Fault, Place};
 use edf_fields::identification::PatientId;
+use edf_fields::layout::{FixedField, fixed_field};
 use edf_fields::number::{header_number, header_whole, text};
 use jiff::civil::Date;
+
+/// The fields of the fixed part, in file order.
+const FIXED: [FixedField; 10] = [
+    FixedField::Version,
+    FixedField::Patient,
+    FixedField::Recording,
+    FixedField::Startdate,
+    FixedField::Starttime,
+    FixedField::HeaderBytes,
+    FixedField::Reserved,
+    FixedField::Records,
+    FixedField::Duration,
+    FixedField::Signals,
+];
 
 /// When the recording starts.
 #[derive(Clone, Copy)]
@@ -39,7 +53,7 @@ pub(crate) struct Start {
 }
 
 /// What the fixed part says of the data records.
-#[derive(Debug, Clone, Copy)]
+#[derive(Clone, Copy)]
 pub(crate) struct Extent {
     pub kind: Kind,
     pub records: u32,
@@ -108,7 +122,8 @@ fn starttime(field: &[u8]) -> Result<u32, Fault>
 /// The field that tells how many bytes the header has: whether it spells a whole number.
 #[tactic(auto, unfolding(crate::specs::Faults::header_bytes_fault))]
 fn header_bytes(field: &[u8]) -> Result<i64, Fault>
-    ensures { MatchResult result (λ v. (header_bytes_fault field.now ≡ None) × (whole_number_of field.now ≡ Some v)) (λ f. header_bytes_fault field.now ≡ Some f) }
+    ensures { MatchResult result (λ v. (header_bytes_fault field.now ≡ None) × (whole_number_of field.now ≡ Some v))
+        (λ f. header_bytes_fault field.now ≡ Some f) }
 {
     let place = Place::AtField(FixedField::HeaderBytes);
     printable(place, field)?;

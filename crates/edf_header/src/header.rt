@@ -11,9 +11,9 @@ use crate::fixed::{Extent, Start};
 use crate::judge_columns::Body;
 use crate::kind::Kind;
 use crate::lane_place::LanePlace;
-use crate::layout::{FixedField, fixed_field};
 use crate::signal::Signal;
 use edf_fields::identification::{PatientId, RecordingId};
+use edf_fields::layout::{FixedField, fixed_field};
 use edf_fields::number::text;
 use jiff::civil::Date;
 use std::marker::Model;
@@ -41,7 +41,8 @@ impl Model for Header {
 
     ghost view = { λ h. head_view h.front.items h.start h.extent h.body.signals.items };
 
-    ghost invariant = { λ h. IsKept h.front.items h.start h.extent h.body.signals.items h.body.record_bytes × (h.body.annotations.items ≡ annotation_places h.body.signals.items) };
+    ghost invariant = { λ h. IsKept h.front.items h.start h.extent h.body.signals.items h.body.record_bytes
+        × (h.body.annotations.items ≡ annotation_places h.body.signals.items) };
 }
 
 /// The seconds of so many days.

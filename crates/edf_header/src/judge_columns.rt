@@ -20,7 +20,8 @@ fn judge_signals(alloc: Global, columns: &Columns) -> Result<Vec<Signal>, Stop>
     requires { columns.now.signals < 10 ^ 4 }
     ensures ok { IfOk result (λ v. (first (signals_faults columns.entry.now.bytes columns.entry.now.signals 0 columns.entry.now.signals) ≡ None)
         × (v.items ≡ signals_in columns.entry.now.signals columns.entry.now.bytes)) }
-    ensures stop { IfErr result (Stops (λ f. first (signals_faults columns.entry.now.bytes columns.entry.now.signals 0 columns.entry.now.signals) ≡ Some f) ⊥ (Unit {0})) }
+    ensures stop { IfErr result (Stops
+        (λ f. first (signals_faults columns.entry.now.bytes columns.entry.now.signals 0 columns.entry.now.signals) ≡ Some f) ⊥ (Unit {0})) }
 {
     let signals = columns.signals();
     let mut found = Vec::with_capacity(alloc, usize::from(signals))?;
@@ -34,7 +35,7 @@ fn judge_signals(alloc: Global, columns: &Columns) -> Result<Vec<Signal>, Stop>
 }
 
 /// What the columns of a header say.
-#[derive(Debug, Drop)]
+#[derive(Drop)]
 pub(crate) struct Body {
     pub signals: Vec<Signal>,
     /// Where the lanes of those that hold annotations lie.

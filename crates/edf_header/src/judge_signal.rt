@@ -3,28 +3,28 @@
 ghost use Rattle.std.specs.Prelude.{◌≡◌, ◌*◌, ◌+◌, ◌≢◌, ◌≤◌, ◌<◌, ◌^◌, ◌<ℤ◌, pos, length, None, Some, MatchResult, IfOk, IfErr, unwrap_or, unsigned_abs};
 ghost use Rattle.edf_fields.specs.Parts.{text_of};
 ghost use Rattle.edf_fields.specs.NumbersReading.{whole_number_of, header_number_of};
-ghost use Rattle.edf_header.specs.declared.layout.SignalField.TheVariants.{Label, Transducer, Dimension, Prefilter, Samples, Reserved};
+ghost use Rattle.edf_fields.specs.declared.layout.SignalField.TheVariants.{Label, Transducer, Dimension, Prefilter, Samples, Reserved};
 ghost use Rattle.edf_header.specs.Extremes.{extremes_line};
 ghost use Rattle.edf_header.specs.Faults.{text_fault, physical_fault, digital_fault, samples_fault, digital_order_fault, physical_differ_fault, annotation_fault, naming_faults, extreme_faults, sampling_faults, agreement_faults, signal_faults};
 ghost use Rattle.edf_fields.specs.Tests.{first};
 ghost use Rattle.edf_header.specs.HeadsReading.{line_of, signal_of};
-ghost use Rattle.edf_header.specs.Layout.{column_width};
+ghost use Rattle.edf_fields.specs.Layout.{column_width};
 ghost use Rattle.edf_header.specs.Narrow.{SaysTheSame};
 ghost use Rattle.edf_header.specs.Stops.{Stops};
 
 use crate::calibration::Calibration;
 use crate::columns::Columns;
 use crate::details::TextsOf;
-use crate::fault::{Cause, Fault, Place};
 use crate::field::{count, printable, some_number, two_bytes};
-use crate::layout::SignalField;
 use crate::signal::{ANNOTATIONS, Signal};
 use crate::stop::Stop;
+use edf_fields::fault::{Cause, Fault, Place};
+use edf_fields::layout::SignalField;
 use edf_fields::number::{header_number, header_whole, text};
 use std::alloc::Global;
 
 /// The extremes that the fields of a signal spell.
-#[derive(Debug, Clone, Copy)]
+#[derive(Clone, Copy)]
 pub(crate) struct Extremes {
     pub physical_minimum: i64,
     pub physical_maximum: i64,
@@ -216,7 +216,8 @@ impl<'a> SignalFields<'a> {
         requires small_minimum { unsigned_abs extremes.now.physical_minimum < 10 ^ 15 }
         requires small_maximum { unsigned_abs extremes.now.physical_maximum < 10 ^ 15 }
         ensures { MatchResult result
-            (λ v. (first (agreement_faults self.entry.signal (field_in self.entry Label) (extremes_line extremes.now)) ≡ None) × (v ≡ extremes_line extremes.now))
+            (λ v. (first (agreement_faults self.entry.signal (field_in self.entry Label) (extremes_line extremes.now)) ≡ None)
+            × (v ≡ extremes_line extremes.now))
             (λ f. first (agreement_faults self.entry.signal (field_in self.entry Label) (extremes_line extremes.now)) ≡ Some f) }
     {
         digital_order(self.signal, extremes)?;

@@ -3,26 +3,26 @@
 ghost use Rattle.std.specs.Prelude.{◌≡◌, ◌+◌, ◌*◌, ◌/◌, ◌≤◌, ◌<◌, ◌^◌, length, take, drop, None, Some, IfOk, IfErr, OnOk, IsTrue};
 ghost use Rattle.edf_fields.specs.Sources.{Rises};
 ghost use Rattle.edf_fields.specs.Tests.{first};
-ghost use Rattle.edf_header.specs.declared.fault.Cause.TheVariants.{Truncated};
-ghost use Rattle.edf_header.specs.declared.fault.Place.TheVariants.{AtSignal};
+ghost use Rattle.edf_fields.specs.declared.fault.Cause.TheVariants.{Truncated};
+ghost use Rattle.edf_fields.specs.declared.fault.Place.TheVariants.{AtSignal};
 ghost use Rattle.edf_header.specs.Conforming.{HeaderConforms};
 ghost use Rattle.edf_header.specs.Faults.{columns_missing, columns_tests, header_fault};
 ghost use Rattle.edf_header.specs.Heads.{HasHead, header_bytes};
 ghost use Rattle.edf_header.specs.HeadsReading.{head_of};
 ghost use Rattle.edf_header.specs.HeaderParts.{IsFixed, IsBody};
-ghost use Rattle.edf_header.specs.LayoutReading.{columns as all_columns, next_before, AreAdjacent};
+ghost use Rattle.edf_fields.specs.LayoutReading.{columns as all_columns, next_before, AreAdjacent};
 ghost use Rattle.edf_header.specs.Narrow.{all_bytes, AreColumns};
 ghost use Rattle.edf_header.specs.Sound.{IsSound};
 ghost use Rattle.edf_header.specs.Stops.{Stops};
 
 use crate::column::Column;
 use crate::columns::Columns;
-use crate::fault::{Cause, Fault, Place};
 use crate::fixed::{Fixed, judge_fixed};
 use crate::header::Header;
 use crate::judge_columns::{Body, judge_columns};
-use crate::layout::{COLUMNS, SignalField};
 use crate::stop::Stop;
+use edf_fields::fault::{Cause, Fault, Place};
+use edf_fields::layout::SignalField;
 use edf_fields::source::{Source, fill};
 use std::alloc::Global;
 
@@ -68,7 +68,8 @@ fn read_each<S: Source>(
     ensures columns { IfOk result (λ v. AreColumns signals fields.now v.items) }
     ensures front { IfOk result (λ v. IsTrue (S.is_honest source.old) → all_bytes v.items ≡ take (256 * signals) (S.left source.old)) }
     ensures behind { OnOk result (IsTrue (S.is_honest source.old) → S.left source.new ≡ drop (256 * signals) (S.left source.old)) }
-    ensures stop { IfErr result (Stops (λ f. IsTrue (S.is_honest source.old) → first (columns_missing fields.now signals (length (take (256 * signals) (S.left source.old)))) ≡ Some f)
+    ensures stop { IfErr result (Stops (λ f. IsTrue (S.is_honest source.old)
+        → first (columns_missing fields.now signals (length (take (256 * signals) (S.left source.old)))) ≡ Some f)
         (Rises (S.failures source.old) (S.failures source.new)) (S.failures source.new ≡ S.failures source.old)) }
 {
     let count = usize::from(signals);
@@ -84,8 +85,22 @@ fn read_each<S: Source>(
     Ok(columns)
 }
 
+/// The columns in file order.
+const COLUMNS: [SignalField; 10] = [
+    SignalField::Label,
+    SignalField::Transducer,
+    SignalField::Dimension,
+    SignalField::PhysicalMinimum,
+    SignalField::PhysicalMaximum,
+    SignalField::DigitalMinimum,
+    SignalField::DigitalMaximum,
+    SignalField::Prefilter,
+    SignalField::Samples,
+    SignalField::Reserved,
+];
+
 /// The columns of so many signals, or the first byte of them that is missing.
-#[tactic(auto, unfolding(crate::specs::LayoutReading::columns))]
+#[tactic(auto, unfolding(edf_fields::specs::LayoutReading::columns))]
 fn read_columns<S: Source>(alloc: Global, source: &mut S, signals: u16) -> Result<Columns, Stop>
     ensures honesty { OnOk result (IsTrue (S.is_honest source.old) → IsTrue (S.is_honest source.new)) }
     ensures failures { OnOk result (S.failures source.new ≡ S.failures source.old) }
@@ -93,7 +108,8 @@ fn read_columns<S: Source>(alloc: Global, source: &mut S, signals: u16) -> Resul
     ensures whole { IfOk result (λ c. 256 * c.signals ≤ length c.bytes) }
     ensures front { IfOk result (λ c. IsTrue (S.is_honest source.old) → c.bytes ≡ take (256 * signals) (S.left source.old)) }
     ensures behind { OnOk result (IsTrue (S.is_honest source.old) → S.left source.new ≡ drop (256 * signals) (S.left source.old)) }
-    ensures stop { IfErr result (Stops (λ f. IsTrue (S.is_honest source.old) → first (columns_missing all_columns signals (length (take (256 * signals) (S.left source.old)))) ≡ Some f)
+    ensures stop { IfErr result (Stops (λ f. IsTrue (S.is_honest source.old)
+        → first (columns_missing all_columns signals (length (take (256 * signals) (S.left source.old)))) ≡ Some f)
         (Rises (S.failures source.old) (S.failures source.new)) (S.failures source.new ≡ S.failures source.old)) }
 {
     let columns = read_each(alloc, source, &COLUMNS, signals)?;
@@ -124,7 +140,8 @@ struct Parts {
 /// The fixed part of the header of a file, or the first fault of the header.
 fn read_fixed<S: Source>(alloc: Global, source: &mut S) -> Result<FixedPart, Stop>
     ensures failures { OnOk result (S.failures source.new ≡ S.failures source.old) }
-    ensures stop { IfErr result (Stops (λ f. IsTrue (S.is_honest source.old) → header_fault (S.left source.old) ≡ Some f) (Rises (S.failures source.old) (S.failures source.new)) (S.failures source.new ≡ S.failures source.old)) }
+    ensures stop { IfErr result (Stops (λ f. IsTrue (S.is_honest source.old) → header_fault (S.left source.old) ≡ Some f)
+        (Rises (S.failures source.old) (S.failures source.new)) (S.failures source.new ≡ S.failures source.old)) }
     ensures said { IfOk result (λ p. IsFixed p.bytes.items p.said) }
     ensures honesty { OnOk result (IsTrue (S.is_honest source.old) → IsTrue (S.is_honest source.new)) }
     ensures front { IfOk result (λ p. IsTrue (S.is_honest source.old) → p.bytes.items ≡ take 256 (S.left source.old)) }
@@ -139,7 +156,9 @@ fn read_fixed<S: Source>(alloc: Global, source: &mut S) -> Result<FixedPart, Sto
 fn read_body<S: Source>(alloc: Global, source: &mut S, signals: u16) -> Result<BodyPart, Stop>
     requires few { signals < 10 ^ 4 }
     ensures failures { OnOk result (S.failures source.new ≡ S.failures source.old) }
-    ensures stop { IfErr result (Stops (λ f. IsTrue (S.is_honest source.old) → first (columns_tests signals (take (256 * signals) (S.left source.old))) ≡ Some f) (Rises (S.failures source.old) (S.failures source.new)) (S.failures source.new ≡ S.failures source.old)) }
+    ensures stop { IfErr result (Stops
+        (λ f. IsTrue (S.is_honest source.old) → first (columns_tests signals (take (256 * signals) (S.left source.old))) ≡ Some f)
+        (Rises (S.failures source.old) (S.failures source.new)) (S.failures source.new ≡ S.failures source.old)) }
     ensures signals { IfOk result (λ p. p.columns.signals ≡ signals) }
     ensures said { IfOk result (λ p. IsBody p.columns p.said) }
     ensures honesty { OnOk result (IsTrue (S.is_honest source.old) → IsTrue (S.is_honest source.new)) }
@@ -154,7 +173,8 @@ fn read_body<S: Source>(alloc: Global, source: &mut S, signals: u16) -> Result<B
 /// The parts of the header of a file, or the first fault of the header.
 fn read_parts<S: Source>(alloc: Global, source: &mut S) -> Result<Parts, Stop>
     ensures failures { OnOk result (S.failures source.new ≡ S.failures source.old) }
-    ensures stop { IfErr result (Stops (λ f. IsTrue (S.is_honest source.old) → header_fault (S.left source.old) ≡ Some f) (Rises (S.failures source.old) (S.failures source.new)) (S.failures source.new ≡ S.failures source.old)) }
+    ensures stop { IfErr result (Stops (λ f. IsTrue (S.is_honest source.old) → header_fault (S.left source.old) ≡ Some f)
+        (Rises (S.failures source.old) (S.failures source.new)) (S.failures source.new ≡ S.failures source.old)) }
     ensures fixed { IfOk result (λ p. IsFixed p.fixed.bytes.items p.fixed.said) }
     ensures signals { IfOk result (λ p. p.body.columns.signals ≡ p.fixed.said.extent.signals) }
     ensures body { IfOk result (λ p. IsBody p.body.columns p.body.said) }
@@ -162,8 +182,10 @@ fn read_parts<S: Source>(alloc: Global, source: &mut S) -> Result<Parts, Stop>
     // What an honest source gives.
     ensures honesty { OnOk result (IsTrue (S.is_honest source.old) → IsTrue (S.is_honest source.new)) }
     ensures front { IfOk result (λ p. IsTrue (S.is_honest source.old) → p.fixed.bytes.items ≡ take 256 (S.left source.old)) }
-    ensures bytes { IfOk result (λ p. IsTrue (S.is_honest source.old) → p.body.columns.bytes ≡ take (256 * p.fixed.said.extent.signals) (drop 256 (S.left source.old))) }
-    ensures behind { IfOk result (λ p. IsTrue (S.is_honest source.old) → S.left source.new ≡ drop (256 * p.fixed.said.extent.signals) (drop 256 (S.left source.old))) }
+    ensures bytes { IfOk result (λ p. IsTrue (S.is_honest source.old)
+        → p.body.columns.bytes ≡ take (256 * p.fixed.said.extent.signals) (drop 256 (S.left source.old))) }
+    ensures behind { IfOk result (λ p. IsTrue (S.is_honest source.old)
+        → S.left source.new ≡ drop (256 * p.fixed.said.extent.signals) (drop 256 (S.left source.old))) }
 {
     let fixed = read_fixed(alloc, source)?;
     let body = read_body(alloc, source, fixed.said.extent.signals)?;
@@ -185,7 +207,8 @@ impl Header {
     pub fn read<S: Source>(alloc: Global, source: &mut S) -> Result<Header, Stop>
         ensures sound { IfOk result IsSound }
         ensures failures { OnOk result (S.failures source.new ≡ S.failures source.old) }
-        ensures stop { IfErr result (Stops (λ f. IsTrue (S.is_honest source.old) → header_fault (S.left source.old) ≡ Some f) (Rises (S.failures source.old) (S.failures source.new)) (S.failures source.new ≡ S.failures source.old)) }
+        ensures stop { IfErr result (Stops (λ f. IsTrue (S.is_honest source.old) → header_fault (S.left source.old) ≡ Some f)
+            (Rises (S.failures source.old) (S.failures source.new)) (S.failures source.new ≡ S.failures source.old)) }
 
         // What an honest source gives.
         ensures honesty { OnOk result (IsTrue (S.is_honest source.old) → IsTrue (S.is_honest source.new)) }

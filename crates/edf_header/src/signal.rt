@@ -19,7 +19,7 @@ pub(crate) const ANNOTATIONS: &[u8] = b"EDF Annotations";
 ///
 /// A header has up to 9,999 signals, so what each of them takes counts: one that says what the one before
 /// says but for its label takes 40 bytes.
-#[derive(Debug, Drop)]
+#[derive(Drop)]
 pub struct Signal {
     offset: u64,
     details: Rc<Details>,
@@ -44,7 +44,16 @@ impl Model for Signal {
 
     ghost Value = { SignalHead };
 
-    ghost view = { λ s. record { label = s.label; transducer = s.details.value.texts.transducer; dimension = s.details.value.texts.dimension; prefilter = s.details.value.texts.prefilter; reserved = s.details.value.texts.reserved; calibration = s.details.value.calibration; samples = s.samples; offset = s.offset } };
+    ghost view = { λ s. record {
+      label = s.label;
+      transducer = s.details.value.texts.transducer;
+      dimension = s.details.value.texts.dimension;
+      prefilter = s.details.value.texts.prefilter;
+      reserved = s.details.value.texts.reserved;
+      calibration = s.details.value.calibration;
+      samples = s.samples;
+      offset = s.offset;
+    } };
 
     ghost invariant = { λ s. s.holds_annotations ≡ is_annotations s.label };
 }
@@ -64,7 +73,16 @@ impl Signal {
         requires dimension { length texts.dimension.now ≤ 8 }
         requires prefilter { length texts.prefilter.now ≤ 80 }
         requires reserved { length texts.reserved.now ≤ 32 }
-        ensures { IfOk result (λ s. s ≡ record { label = texts.entry.label.now; transducer = texts.entry.transducer.now; dimension = texts.entry.dimension.now; prefilter = texts.entry.prefilter.now; reserved = texts.entry.reserved.now; calibration = calibration; samples = samples; offset = offset }) }
+        ensures { IfOk result (λ s. s ≡ record {
+          label = texts.entry.label.now;
+          transducer = texts.entry.transducer.now;
+          dimension = texts.entry.dimension.now;
+          prefilter = texts.entry.prefilter.now;
+          reserved = texts.entry.reserved.now;
+          calibration = calibration;
+          samples = samples;
+          offset = offset;
+        }) }
     {
         let before = match before {
             Some(signal) => Some(&signal.details),

@@ -8,7 +8,7 @@ use std::marker::Model;
 
 /// The texts of a signal's fields but for its label, one behind the other in one piece of memory. A header
 /// has up to 9,999 signals, so what each of them takes counts.
-#[derive(Debug, Drop)]
+#[derive(Drop)]
 pub(crate) struct Texts {
     bytes: Vec<u8>,
     /// Where the transducer ends, and so on; the reserved text ends where the bytes do.

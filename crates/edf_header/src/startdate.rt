@@ -9,12 +9,12 @@ ghost use Rattle.edf_fields.specs.IdentificationsReading.{recording_cause, recor
 ghost use Rattle.edf_header.specs.HeadsReading.{first_day, recording_in};
 ghost use Rattle.edf_header.specs.Faults.{recording_fault, startdate_fault};
 
-use crate::fault::{Cause, Fault, Place};
 use crate::field::printable;
-use crate::layout::FixedField;
 use edf_fields::cause::FieldCause;
 use edf_fields::date::{dashed_date, dotted_date};
+use edf_fields::fault::{Cause, Fault, Place};
 use edf_fields::identification::RecordingId;
+use edf_fields::layout::FixedField;
 use edf_fields::number::text;
 use jiff::civil::Date;
 

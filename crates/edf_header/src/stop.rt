@@ -3,7 +3,7 @@
 ghost use Rattle.edf_header.specs.declared.stop.Stop.TheVariants as stops;
 ghost use Rattle.std.specs.Prelude.{◌≡◌};
 
-use crate::fault::Fault;
+use edf_fields::fault::Fault;
 use edf_fields::source::ReadFault;
 use std::alloc::{AllocError, AllocFailed};
 

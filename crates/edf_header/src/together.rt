@@ -2,18 +2,19 @@
 
 ghost use Rattle.std.specs.Prelude.{◌≡◌, ◌*◌, ◌≤◌, ◌<◌, ◌-◌, ◌^◌, IsTrue, nat_le, true, false, length, take, None, Some, IfSome, IfOk, IfErr, MatchOption, MatchResult, map};
 ghost use Rattle.std.specs.List.{list_any, list_all};
-ghost use Rattle.edf_header.specs.ChannelsReading.{channel_labels as labels_of_channels, is_channel_of as is_channel_of_label, channel_place, is_repeated as is_repeated_label};
+ghost use Rattle.edf_header.specs.Channels.{channel_labels as labels_of_channels};
+ghost use Rattle.edf_header.specs.ChannelsReading.{is_channel_of as is_channel_of_label, channel_place, is_repeated as is_repeated_label};
 ghost use Rattle.edf_header.specs.Faults.{no_annotation_signal, no_ordinary_signal, labels_faults, record_too_large, joint_faults};
 ghost use Rattle.edf_fields.specs.Distinct.{are_distinct as are_distinct_texts};
 ghost use Rattle.edf_fields.specs.Tests.{first};
 ghost use Rattle.edf_header.specs.Heads.{is_annotations, samples_together};
 ghost use Rattle.edf_header.specs.Stops.{Stops};
 
-use crate::fault::{Cause, Fault, Place};
-use crate::layout::{FixedField, SignalField};
 use crate::signal::Signal;
 use crate::stop::Stop;
 use edf_fields::distinct::are_distinct;
+use edf_fields::fault::{Cause, Fault, Place};
+use edf_fields::layout::{FixedField, SignalField};
 use std::alloc::{AllocError, Global};
 
 /// The most samples that a data record may have, two bytes each.

@@ -53,18 +53,18 @@ pub channel-tested : (h : Head) (label : List ℕ) (x : SignalHead) → Has h.si
 channel-tested h label x there t =
     let both = and-true (bytes_eq x.label label) (not (is_annotations x.label)) t in
     let same : x.label ≡ label = (bytes_eq-Decides x.label label).0 both.0 in
-    record { there = there; labelled = same; ordinary = ap is_annotations (sym same) ∙ not-true (is_annotations x.label) both.1 }
+    record { there = there; labelled = (same, ap is_annotations (sym same) ∙ not-true (is_annotations x.label) both.1) }
 
 pub tested-channel : (h : Head) (label : List ℕ) (x : SignalHead) → IsChannelOf h label x → is_channel_of label x ≡ true
 tested-channel h label x c =
-    ap (λ b. b && not (is_annotations x.label)) ((bytes_eq-Decides x.label label).1 c.labelled) ∙ ap (λ l. not (is_annotations l)) c.labelled ∙ ap not c.ordinary
+    ap (λ b. b && not (is_annotations x.label)) ((bytes_eq-Decides x.label label).1 c.labelled.0) ∙ ap (λ l. not (is_annotations l)) c.labelled.0 ∙ ap not c.labelled.1
 
 -- a sound header has one channel of a label at most
 pub one-channel : (h : Head) (label : List ℕ) (x y : SignalHead) → IsSound h → IsChannelOf h label x → IsChannelOf h label y → x ≡ y
 one-channel h label x y sound c d =
     let i = at-has h.signals x c.there in
     let j = at-has h.signals y d.there in
-    let same : i.0 ≡ j.0 = sound.standard.distinct i.0 j.0 label (x, i.1, c.labelled, c.ordinary) (y, j.1, d.labelled, d.ordinary) in
+    let same : i.0 ≡ j.0 = sound.standard.distinct i.0 j.0 label (x, i.1, c.labelled) (y, j.1, d.labelled) in
     let e : Some x ≡ Some y = sym i.1 ∙ ap (slice_get h.signals) same ∙ j.1 in
     cc
 
@@ -93,12 +93,12 @@ found-in h sorted label None index nowhere = none-case (channel_of label h.signa
     none-case None e = refl
     none-case (Some y) e =
         let c = channel-some h label y e in
-        let ordinary : is_ordinary y ≡ true = ap (λ l. not (is_annotations l)) c.labelled ∙ ap not c.ordinary in
-        absurd (nowhere y (has-permutation (filter is_ordinary h.signals) (map (λ (s : Bor SignalHead). s.now) sorted) y index.same (filtered-has is_ordinary h.signals y c.there ordinary)) c.labelled)
+        let ordinary : is_ordinary y ≡ true = ap (λ l. not (is_annotations l)) c.labelled.0 ∙ ap not c.labelled.1 in
+        absurd (nowhere y (has-permutation (filter is_ordinary h.signals) (map (λ (s : Bor SignalHead). s.now) sorted) y index.same (filtered-has is_ordinary h.signals y c.there ordinary)) c.labelled.0)
 found-in h sorted label (Some x) index found =
     let back = has-permutation (map (λ (s : Bor SignalHead). s.now) sorted) (filter is_ordinary h.signals) x.now (IsPermutation-sym (filter is_ordinary h.signals) (map (λ (s : Bor SignalHead). s.now) sorted) index.same) found.0 in
     let r = has-filtered is_ordinary h.signals x.now back in
-    let c : IsChannelOf h label x.now = record { there = r.0; labelled = found.1; ordinary = ap is_annotations (sym found.1) ∙ not-true (is_annotations x.now.label) r.1 } in
+    let c : IsChannelOf h label x.now = record { there = r.0; labelled = (found.1, ap is_annotations (sym found.1) ∙ not-true (is_annotations x.now.label) r.1) } in
     sym (channel-is h label x.now index.sound c)
 
 pub channel_found : (h : Head) (sorted seen : List (Bor SignalHead)) (label : List ℕ) (o : Option (Bor SignalHead)) → IsChannelIndex h sorted → seen ≡ sorted

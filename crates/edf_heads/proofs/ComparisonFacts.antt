@@ -101,12 +101,12 @@ first-is-least test (z ∷ zs) x up found y there passes = least-case (test z.no
 indexed : (h : Head) (sorted : List (Bor SignalHead)) (label : List ℕ) (x : SignalHead) → IsChannelIndex h sorted → IsChannelOf h label x → Has (map (λ s. s.now) sorted) x
 indexed h sorted label x index c =
     has-permutation (filter is_ordinary h.signals) (map (λ (s : Bor SignalHead). s.now) sorted) x index.same
-    (filtered-has is_ordinary h.signals x c.there (ap (λ l. not (is_annotations l)) c.labelled ∙ ap not c.ordinary))
+    (filtered-has is_ordinary h.signals x c.there (ap (λ l. not (is_annotations l)) c.labelled.0 ∙ ap not c.labelled.1))
 
 of-index : (h : Head) (sorted : List (Bor SignalHead)) (x : SignalHead) → IsChannelIndex h sorted → Has (map (λ s. s.now) sorted) x → IsChannelOf h x.label x
 of-index h sorted x index there =
     let r = has-filtered is_ordinary h.signals x (has-permutation (map (λ (s : Bor SignalHead). s.now) sorted) (filter is_ordinary h.signals) x (IsPermutation-sym (filter is_ordinary h.signals) (map (λ (s : Bor SignalHead). s.now) sorted) index.same) there) in
-    record { there = r.0; labelled = refl; ordinary = not-true (is_annotations x.label) r.1 }
+    record { there = r.0; labelled = (refl, not-true (is_annotations x.label) r.1) }
 
 -- the label of the signal is none of these
 abbrev pub other_than : List (Bor (List ℕ)) → SignalHead → Bool
@@ -136,7 +136,7 @@ extra_said h sorted seen claimed r labels index all is same =
     extra-case : (o : Option SignalHead) → find (other_than claimed) (map (λ s. s.now) sorted) ≡ o → MatchOption (option_map (λ (s : SignalHead). s.label) o) (HasNoExtra h labels) (IsLeastExtra h labels)
     extra-case None e = λ label x.
         let c = x.there in
-        let passes = unclaimed-other labels claimed is c.0 label c.1.labelled x.unclaimed in
+        let passes = unclaimed-other labels claimed is c.0 label c.1.labelled.0 x.unclaimed in
         let f : true ≡ false = sym passes ∙ find-none (other_than claimed) (map (λ (s : Bor SignalHead). s.now) sorted) e c.0 (indexed h sorted label c.0 index c.1) in
         cc
     extra-case (Some x) e =
@@ -146,6 +146,6 @@ extra_said h sorted seen claimed r labels index all is same =
           extra = record { there = (x, c); unclaimed = other-unclaimed labels claimed is x found.1 };
           least = λ label y.
               let d = y.there in
-              subst (IsNotAbove x.label) d.1.labelled
-              (first-is-least (other_than claimed) sorted x index.order e d.0 (indexed h sorted label d.0 index d.1) (unclaimed-other labels claimed is d.0 label d.1.labelled y.unclaimed));
+              subst (IsNotAbove x.label) d.1.labelled.0
+              (first-is-least (other_than claimed) sorted x index.order e d.0 (indexed h sorted label d.0 index d.1) (unclaimed-other labels claimed is d.0 label d.1.labelled.0 y.unclaimed));
         }

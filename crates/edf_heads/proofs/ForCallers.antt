@@ -1,5 +1,5 @@
 -- What the crates above cite of this crate's proofs; they cite nothing else of it.
-pub use Rattle.edf_heads.proofs.HeadFacts.{labels-distinct, has-label, label-has, among-labels, exported-labels, agree-apart}
+pub use Rattle.edf_heads.proofs.HeadFacts.{labels-distinct, has-label, label-has, agree-apart}
 pub use Rattle.edf_heads.proofs.LabelFacts.{not_below, one-label}
 pub use Rattle.edf_heads.proofs.ListFacts.{Parted, parted}
 pub use Rattle.edf_heads.proofs.OneHeadFacts.{either-one, one_head_verdict}

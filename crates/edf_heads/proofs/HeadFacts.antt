@@ -1,12 +1,10 @@
 -- The headers as a whole: they agree, or differ.
-use Rattle.std.proofs.Common.{◌≡◌, ◌≢◌, ◌↔◌, ℕ, suc, Bool, true, false, not, cond, List, [], ◌∷◌, map, Bor, Option, Some, None, MatchOption, inl, inr, ⊎_elim, refl, sym, ap, ◌∙◌, subst, arith}
-use Rattle.std.specs.List.Sorted.{IsPermutation}
+use Rattle.std.proofs.Common.{◌≡◌, ◌≢◌, ◌↔◌, ℕ, suc, Bool, true, false, not, cond, List, [], ◌∷◌, map, Bor, Option, Some, None, MatchOption, refl, sym, ap, ◌∙◌, subst, arith}
 use Rattle.std.proofs.lemmas.List.Sorted.{IsPermutation-sym}
 use Rattle.edf_fields.specs.Lists.{Has, is_one_of}
 use Rattle.edf_fields.specs.Distinct.{AreDistinct}
-use Rattle.edf_fields.proofs.ForCallers.{one_of-has, has-one_of, at-has, has-permutation}
-use Rattle.edf_header.specs.Channels.{HasDistinctChannels, channels_among}
-use Rattle.edf_header.specs.ChannelsReading.{channel_labels}
+use Rattle.edf_fields.proofs.ForCallers.{one_of-has, has-one_of, at-has, has-permutation, has-map, map-has, has-filtered, filtered-has, not-true}
+use Rattle.edf_header.specs.Channels.{IsLabelled, HasDistinctChannels, is_ordinary, channels_among, channel_labels}
 use Rattle.edf_header.specs.Heads.{SignalHead, Head, is_annotations}
 use Rattle.edf_header.specs.Sound.{IsSound}
 use Rattle.edf_claim.specs.Claims.{IsClaim}
@@ -19,7 +17,7 @@ use Rattle.edf_heads.specs.ChannelDifferences.{HasNoChannel, IsLeastExtra, AreUn
 use Rattle.edf_heads.specs.Comparisons.{HasNoExtra, HasOnly, HasNoFreeText}
 use Rattle.edf_heads.specs.HeadVerdicts.{HeadsAgree, SignalsAgree, IsHeadVerdict}
 use Rattle.edf_heads.specs.Subfields.{IsAsClaimed, SubfieldsAsClaimed}
-use Rattle.edf_heads.specs.SubfieldDifference.{all_subfields}
+use Rattle.edf_fields.specs.SubfieldNamesReading.{all_subfields}
 use Rattle.edf_heads.specs.Texts.{HaveSameTexts}
 use Rattle.edf_verdict.specs.declared.verdict.Verdict.{Verdict}
 use Rattle.edf_verdict.specs.declared.verdict.Verdict.TheVariants.{Yes, No}
@@ -30,39 +28,37 @@ use Rattle.edf_heads.proofs.ListFacts.{first-has, same-members}
 
 -- ---- the labels of the channels of a header
 
-labels-case : (b : Bool) (x : List ℕ) (xs : List (List ℕ)) (P : List (List ℕ) → Type 0) → (b ≡ true → P xs) → (b ≡ false → P (x ∷ xs)) → P (cond b xs (x ∷ xs))
+labels-case : (b : Bool) (x : SignalHead) (xs : List SignalHead) (P : List (List ℕ) → Type 0)
+    → (b ≡ true → P (map (λ s. s.label) xs)) → (b ≡ false → P (x.label ∷ map (λ s. s.label) xs)) → P (map (λ s. s.label) (cond (not b) (x ∷ xs) xs))
 labels-case true x xs P f g = f refl
 labels-case false x xs P f g = g refl
 
-labels-of : (signals : List SignalHead) (l : List ℕ) → Has (channel_labels signals) l → (x : SignalHead) × Has signals x × (x.label ≡ l) × (is_annotations l ≡ false)
-labels-of [] l h = absurd h
-labels-of (x ∷ xs) l h =
-    labels-case (is_annotations x.label) x.label (channel_labels xs) (λ ls. Has ls l → (y : SignalHead) × Has (x ∷ xs) y × (y.label ≡ l) × (is_annotations l ≡ false))
-    (λ t i. let r = labels-of xs l i in (r.0, inr r.1, r.2, r.3))
-    (λ f i. ⊎_elim (λ e. (x, inl refl, e, ap is_annotations (sym e) ∙ f)) (λ j. let r = labels-of xs l j in (r.0, inr r.1, r.2, r.3)) i) h
+labels-of : (signals : List SignalHead) (l : List ℕ) → Has (channel_labels signals) l → (x : SignalHead) × Has signals x × IsLabelled l x
+labels-of signals l h =
+    let m = map-has (λ (s : SignalHead). s.label) (channels_among signals) l h in
+    let r = has-filtered is_ordinary signals m.0 m.1 in
+    (m.0, r.0, (m.2, ap is_annotations (sym m.2) ∙ not-true (is_annotations m.0.label) r.1))
 
-of-labels : (signals : List SignalHead) (x : SignalHead) (l : List ℕ) → Has signals x → x.label ≡ l → is_annotations l ≡ false → Has (channel_labels signals) l
-of-labels [] x l h e f = absurd h
-of-labels (z ∷ zs) x l h e f =
-    labels-case (is_annotations z.label) z.label (channel_labels zs) (λ ls. Has ls l)
-    (λ t. ⊎_elim (λ q. absurd (let g : true ≡ false = sym t ∙ ap (λ (s : SignalHead). is_annotations s.label) q ∙ ap is_annotations e ∙ f in cc)) (λ i. of-labels zs x l i e f) h)
-    (λ t. ⊎_elim (λ q. inl (ap (λ (s : SignalHead). s.label) q ∙ e)) (λ i. inr (of-labels zs x l i e f)) h)
+of-labels : (signals : List SignalHead) (x : SignalHead) (l : List ℕ) → Has signals x → IsLabelled l x → Has (channel_labels signals) l
+of-labels signals x l h is =
+    subst (Has (channel_labels signals)) is.0
+    (has-map (λ (s : SignalHead). s.label) (channels_among signals) x (filtered-has is_ordinary signals x h (ap (λ m. not (is_annotations m)) is.0 ∙ ap not is.1)))
 
 pub labels-distinct : (signals : List SignalHead) → HasDistinctChannels signals → AreDistinct (channel_labels signals)
 labels-distinct [] d = tt
 labels-distinct (x ∷ xs) d =
-    labels-case (is_annotations x.label) x.label (channel_labels xs) (λ ls. AreDistinct ls)
+    labels-case (is_annotations x.label) x (channels_among xs) (λ ls. AreDistinct ls)
     (λ t. labels-distinct xs behind)
-    (λ f. (λ h. let r = labels-of xs x.label h in let at = at-has xs r.0 r.1 in let e : 0 ≡ suc at.0 = d 0 (suc at.0) x.label (x, refl, refl, f) (r.0, at.1, r.2, r.3) in omega (arith, e), labels-distinct xs behind))
+    (λ f. (λ h. let r = labels-of xs x.label h in let at = at-has xs r.0 r.1 in let e : 0 ≡ suc at.0 = d 0 (suc at.0) x.label (x, refl, (refl, f)) (r.0, at.1, r.2) in omega (arith, e), labels-distinct xs behind))
   where
     behind : HasDistinctChannels xs
     behind s t label a b = let e : suc s ≡ suc t = d (suc s) (suc t) label a b in omega (arith, e)
 
 pub has-label : (h : Head) (l : List ℕ) → HasChannel h l → Has (channel_labels h.signals) l
-has-label h l c = of-labels h.signals c.0 l c.1.there c.1.labelled c.1.ordinary
+has-label h l c = of-labels h.signals c.0 l c.1.there c.1.labelled
 
 pub label-has : (h : Head) (l : List ℕ) → Has (channel_labels h.signals) l → HasChannel h l
-label-has h l i = let r = labels-of h.signals l i in (r.0, record { there = r.1; labelled = r.2; ordinary = r.3 })
+label-has h l i = let r = labels-of h.signals l i in (r.0, record { there = r.1; labelled = r.2 })
 
 -- ---- which channels the headers have
 
@@ -84,26 +80,14 @@ pub only_said : (h : Head) (claim : Terms) (o : Option (Bor (List ℕ))) → IsS
 only_said h claim None sound is none = has_only h claim sound is none
 only_said h claim (Some x) sound is extra = extra
 
--- the labels of the channels are those of the channels among the signals
-pub among-labels : (signals : List SignalHead) → map (λ s. s.label) (channels_among signals) ≡ channel_labels signals
-among-labels [] = refl
-among-labels (x ∷ xs) = by_kind (is_annotations x.label) (channels_among xs) (channel_labels xs) (among-labels xs)
-  where
-    by_kind : (b : Bool) (ys : List SignalHead) (ls : List (List ℕ)) → map (λ s. s.label) ys ≡ ls → map (λ s. s.label) (cond (not b) (x ∷ ys) ys) ≡ cond b ls (x.label ∷ ls)
-    by_kind true ys ls e = e
-    by_kind false ys ls e = ap (λ zs. x.label ∷ zs) e
-
-pub exported-labels : (o e : Head) (claim : Terms) → SameChannels o e claim → IsPermutation claim.channels (channel_labels e.signals)
-exported-labels o e claim same = subst (IsPermutation claim.channels) (among-labels e.signals) same.in_export
-
 pub same_channels : (o e : Head) (claim : Terms) → HasAll o claim.channels → HasAll e claim.channels → HasOnly e claim.channels → SameChannels o e claim
-same_channels o e claim there here only = record { in_original = there; in_export = subst (IsPermutation claim.channels) (sym (among-labels e.signals)) (only here) }
+same_channels o e claim there here only = record { in_original = there; in_export = only here }
 
 pub in-export : (o e : Head) (claim : Terms) → SameChannels o e claim → HasAll e claim.channels
-in-export o e claim same l i = label-has e l (has-permutation claim.channels (channel_labels e.signals) l (exported-labels o e claim same) i)
+in-export o e claim same l i = label-has e l (has-permutation claim.channels (channel_labels e.signals) l same.in_export i)
 
 pub claimed-in : (o e : Head) (claim : Terms) → SameChannels o e claim → (l : List ℕ) → HasChannel e l → Has claim.channels l
-claimed-in o e claim same l c = has-permutation (channel_labels e.signals) claim.channels l (IsPermutation-sym claim.channels (channel_labels e.signals) (exported-labels o e claim same)) (has-label e l c)
+claimed-in o e claim same l c = has-permutation (channel_labels e.signals) claim.channels l (IsPermutation-sym claim.channels (channel_labels e.signals) same.in_export) (has-label e l c)
 
 -- ---- free text
 

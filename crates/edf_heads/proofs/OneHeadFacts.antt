@@ -1,7 +1,7 @@
 -- Two headers have one first difference at most.
 use Rattle.std.proofs.Common.{◌≡◌, ℕ, List, [], ◌∷◌, ◌⊎◌, inl, inr, refl, sym, ap, ◌∙◌, subst}
 use Rattle.edf_claim.specs.Terms.{Terms}
-use Rattle.edf_claim.specs.declared.which.Which.{Which}
+use Rattle.edf_fields.specs.declared.which.Which.{Which}
 use Rattle.edf_header.specs.Heads.{Head}
 use Rattle.edf_verdict.specs.declared.verdict.Verdict.{Verdict}
 use Rattle.edf_verdict.specs.declared.verdict.Verdict.TheVariants.{Yes, No}
@@ -20,7 +20,8 @@ use Rattle.edf_heads.specs.ChannelDifferences.{HasNoChannel, IsLeastExtra, AreUn
 use Rattle.edf_heads.specs.Firsts.{IsFirstWith}
 use Rattle.edf_heads.specs.HeadVerdicts.{SignalsAgree, IsHeadVerdict}
 use Rattle.edf_heads.specs.Subfields.{IsAsClaimed, SubfieldsAsClaimed}
-use Rattle.edf_heads.specs.SubfieldDifference.{IsMismatch, all_subfields, IsSubfieldDifference}
+use Rattle.edf_fields.specs.SubfieldNamesReading.{all_subfields}
+use Rattle.edf_heads.specs.SubfieldDifference.{IsMismatch, IsSubfieldDifference}
 use Rattle.edf_heads.specs.Texts.{SameTexts, HaveSameText, HaveSameTexts}
 use Rattle.edf_heads.specs.TextDifference.{IsFirstText, IsTextDifference}
 use Rattle.edf_heads.proofs.ContentFacts.{alike-differ}

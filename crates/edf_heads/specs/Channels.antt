@@ -1,16 +1,15 @@
 -- The channels of two headers and of a claim. Which channels an export has to have is this project's profile.
-use Rattle.std.specs.Prelude.{◌≡◌, ℕ, false, List, map}
+use Rattle.std.specs.Prelude.{ℕ, List}
 use Rattle.std.specs.List.Sorted.{IsPermutation}
 use Rattle.edf_fields.specs.Lists.{Has}
-use Rattle.edf_header.specs.Channels.{channels_among}
-use Rattle.edf_header.specs.Heads.{SignalHead, Head, is_annotations}
+use Rattle.edf_header.specs.Channels.{IsLabelled, channel_labels}
+use Rattle.edf_header.specs.Heads.{SignalHead, Head}
 use Rattle.edf_claim.specs.Terms.{Terms}
 
--- a signal of the header is a channel of this label (EDF, "Header record"; EDF+, "The 'EDF Annotations' signal")
+-- a signal of the header is a channel of this label
 pub record IsChannelOf (h : Head) (label : List ℕ) (channel : SignalHead) : Type 0 where
   pub there : Has h.signals channel
-  pub labelled : channel.label ≡ label
-  pub ordinary : is_annotations label ≡ false
+  pub labelled : IsLabelled label channel
 
 -- the header has a channel of this label
 abbrev pub HasChannel : Head → List ℕ → Type 0
@@ -23,7 +22,7 @@ HasAll h labels = (label : List ℕ) → Has labels label → HasChannel h label
 -- each claimed label is that of a channel of the original, and the labels of the export's channels are the claimed ones, in some order
 pub record SameChannels (original export : Head) (claim : Terms) : Type 0 where
   pub in_original : HasAll original claim.channels
-  pub in_export : IsPermutation claim.channels (map (λ channel. channel.label) (channels_among export.signals))
+  pub in_export : IsPermutation claim.channels (channel_labels export.signals)
 
 -- the channels of this label are alike in the two headers
 abbrev pub AreAlike : (SignalHead → SignalHead → Type 0) → Head → Head → List ℕ → Type 0

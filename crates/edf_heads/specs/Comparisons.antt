@@ -8,14 +8,14 @@ use Rattle.std.specs.Ordering.{nat_cmp, int_eq}
 use Rattle.std.specs.Str.{bytes_eq}
 use Rattle.edf_fields.specs.Lists.{Has, is_one_of}
 use Rattle.edf_header.specs.Calibrations.{Line, physical_span, digital_span, offset_times_span}
-use Rattle.edf_header.specs.ChannelsReading.{channel_labels, is_channel_of}
-use Rattle.edf_header.specs.Channels.{is_ordinary}
+use Rattle.edf_header.specs.ChannelsReading.{is_channel_of}
+use Rattle.edf_header.specs.Channels.{is_ordinary, channel_labels}
 use Rattle.edf_header.specs.Heads.{SignalHead, Head, is_annotations}
 use Rattle.edf_header.specs.Sound.{IsSound}
 use Rattle.edf_claim.specs.Claims.{IsClaim}
 use Rattle.edf_claim.specs.Terms.{Terms}
-use Rattle.edf_claim.specs.declared.which.Which.{Which}
-use Rattle.edf_claim.specs.declared.which.Which.TheVariants.{Code, Sex, Birthdate, Name, PatientExtras, Date, Administration, Technician, Equipment, RecordingExtras}
+use Rattle.edf_fields.specs.declared.which.Which.{Which}
+use Rattle.edf_fields.specs.declared.which.Which.TheVariants.{Code, Sex, Birthdate, Name, PatientExtras, Date, Administration, Technician, Equipment, RecordingExtras}
 use Rattle.edf_heads.specs.BlankDifference.{HasFreeText}
 use Rattle.edf_heads.specs.Channels.{HasAll}
 use Rattle.edf_heads.specs.ChannelDifferences.{IsExtra}

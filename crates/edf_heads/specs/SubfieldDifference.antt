@@ -1,18 +1,13 @@
 -- The first subfield that is not as claimed.
-use Rattle.std.specs.Prelude.{List}
 use Rattle.edf_fields.specs.Lists.{Has}
 use Rattle.edf_header.specs.Heads.{Head}
 use Rattle.edf_claim.specs.Terms.{Terms}
-use Rattle.edf_claim.specs.declared.which.Which.{Which}
+use Rattle.edf_fields.specs.declared.which.Which.{Which}
 use Rattle.edf_heads.specs.Firsts.{IsFirstWith}
 use Rattle.edf_verdict.specs.declared.verdict.SubfieldMismatch.{SubfieldMismatch}
 use Rattle.edf_verdict.specs.declared.verdict.SubfieldMismatch.TheVariants.{NotX, Changed}
-use Rattle.edf_claim.specs.Reading.{all_names}
+use Rattle.edf_fields.specs.SubfieldNamesReading.{all_subfields}
 use Rattle.edf_heads.specs.Subfields.{IsAsClaimed}
-
--- the subfields, in their written order
-unfoldable pub all_subfields : List Which
-all_subfields = all_names
 
 -- how a subfield that isn't as claimed isn't: it should be `X`, or the original's
 abbrev pub IsMismatch : Terms → Which → SubfieldMismatch → Type 0

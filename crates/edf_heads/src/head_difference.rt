@@ -11,7 +11,7 @@ use crate::channel_texts::TextDifference;
 use crate::comparison::Comparison;
 use crate::subfields::SubfieldDifference;
 use edf_claim::claim::Claim;
-use edf_claim::which::Which;
+use edf_fields::which::Which;
 use edf_header::header::Header;
 use edf_verdict::label::Label;
 use edf_verdict::verdict::{Difference, FreeText, SubfieldMismatch, TextField, Verdict};

@@ -9,8 +9,8 @@ ghost use Rattle.edf_heads.specs.SubfieldDifference.{IsMismatch, IsSubfieldDiffe
 
 use crate::comparison::Comparison;
 use edf_claim::claim::Claim;
-use edf_claim::which::Which;
 use edf_fields::subfields::Subfields;
+use edf_fields::which::Which;
 use edf_header::header::Header;
 use edf_verdict::verdict::SubfieldMismatch;
 
@@ -134,7 +134,7 @@ impl<'a> Comparison<'a> {
     }
 
     /// The first subfield that isn't as claimed, in their written order, and how it isn't.
-    #[tactic(auto, using(crate::proofs::SubfieldFacts::subfields_said), unfolding(crate::specs::SubfieldDifference::all_subfields))]
+    #[tactic(auto, using(crate::proofs::SubfieldFacts::subfields_said), unfolding(edf_fields::specs::SubfieldNamesReading::all_subfields))]
     pub(crate) fn subfield_difference(&self) -> Option<SubfieldDifference>
         ensures { MatchOption result
             (SubfieldsAsClaimed self.now.original self.now.export self.now.claim)

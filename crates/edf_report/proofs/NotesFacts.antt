@@ -4,7 +4,7 @@ use Rattle.std.proofs.lemmas.List.{append-nil}
 use Rattle.std.proofs.lemmas.Bool.Decides.{nat_tests}
 use Rattle.edf_fields.specs.Sinks.{HoldsPrefix}
 use Rattle.edf_fields.specs.Tests.{first}
-use Rattle.edf_header.specs.declared.fault.Fault.{Fault}
+use Rattle.edf_fields.specs.declared.fault.Fault.{Fault}
 use Rattle.edf_header.specs.declared.stop.Stop.{Stop}
 use Rattle.edf_header.specs.declared.stop.Stop.TheVariants as reads
 use Rattle.edf_header.specs.Faults.{header_fault}

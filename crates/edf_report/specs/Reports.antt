@@ -1,13 +1,11 @@
--- What a report on one file writes, and why it stops.
+-- What a report on one file writes.
 use Rattle.std.specs.Prelude.{◌≡◌, ℕ, List, [], ◌∷◌, ◌++◌, Option, None, Some, codes}
-use Rattle.edf_header.specs.declared.fault.Fault.{Fault}
+use Rattle.edf_fields.specs.declared.fault.Fault.{Fault}
 use Rattle.edf_header.specs.declared.stop.Stop.{Stop}
 use Rattle.edf_header.specs.declared.stop.Stop.TheVariants as reads
-use Rattle.edf_header.specs.FaultTexts.{fault_text}
+use Rattle.edf_fields.specs.FaultTexts.{fault_text}
 use Rattle.edf_verdict.specs.declared.outcome.Outcome.{Outcome}
 use Rattle.edf_verdict.specs.declared.outcome.Outcome.TheVariants as outcomes
-use Rattle.edf_report.specs.declared.report.ReportStop.{ReportStop}
-use Rattle.edf_report.specs.declared.report.ReportStop.TheVariants.{OutOfMemory, ReadFailed, WriteFailed}
 
 -- the line of a fault
 abbrev pub fault_line : Fault → List ℕ
@@ -26,12 +24,6 @@ outcome_of_fault (Some fault) = outcomes.No
 -- the text stands behind what was held, and the outcome is that of the fault
 abbrev pub IsReported : List ℕ → Option Fault → List ℕ → List ℕ → Outcome → Type 0
 IsReported text fault old new outcome = (new ≡ old ++ text) × (outcome ≡ outcome_of_fault fault)
-
--- of a failed read the first is said, of a failed write the second
-abbrev pub ReportStops : Type 0 → Type 0 → ReportStop → Type 0
-ReportStops read written OutOfMemory = Unit {0}
-ReportStops read written ReadFailed = read
-ReportStops read written WriteFailed = written
 
 -- the text and the outcome of a fault that stopped the reading of a file
 abbrev pub IsFaultReport : Stop → List ℕ → Outcome → Type 0

@@ -8,11 +8,13 @@ ghost use Rattle.edf_stream.specs.NotesReading.{notes_in};
 ghost use Rattle.edf_stream.specs.Readers.{is_current, HasBegun, StandsIn};
 ghost use Rattle.edf_stream.specs.Views.{note_view, notes_left};
 ghost use Rattle.edf_report.specs.NotesTexts.{note_line, note_lines, body_text, notes_text};
-ghost use Rattle.edf_report.specs.Reports.{IsReported, ReportStops};
+ghost use Rattle.edf_report.specs.Reports.{IsReported};
+ghost use Rattle.edf_refusal.specs.Stops.{ReportStops};
 
-use crate::report::{ReportStop, put_stop};
+use crate::report::put_stop;
 use edf_fields::sink::{Sink, put_all};
 use edf_fields::source::Source;
+use edf_refusal::stop::ReportStop;
 use edf_stream::annotations::Annotations;
 use edf_stream::note::NoteRef;
 use edf_stream::reader::FileReader;
@@ -54,7 +56,8 @@ fn put_notes<K: Sink>(alloc: Global, reader: &FileReader, sink: &mut K) -> Resul
     ensures honesty { IsTrue (K.is_honest sink.old) → IsTrue (K.is_honest sink.new) }
     ensures written { OnOk result (IsTrue (K.is_honest sink.old) → K.held sink.new ≡ K.held sink.old
         ++ note_lines (notes_in reader.now.head reader.now.current)) }
-    ensures part { OnErr result (IsTrue (K.is_honest sink.old) → HoldsPrefix (K.held sink.old) (K.held sink.new) (note_lines (notes_in reader.now.head reader.now.current))) }
+    ensures part { OnErr result (IsTrue (K.is_honest sink.old)
+        → HoldsPrefix (K.held sink.old) (K.held sink.new) (note_lines (notes_in reader.now.head reader.now.current))) }
     ensures stop { IfErr result (ReportStops ⊥ (Rises (K.failures sink.old) (K.failures sink.new))) }
 {
     let text = lines_of(alloc, reader.annotations())?;

@@ -1,55 +1,22 @@
-//! What a report on one file writes, and why it stops.
+//! The text of a report on one file, and what is written of a file that can't be read.
 
 ghost use Rattle.std.specs.Prelude.{◌≡◌, ◌++◌, IfOk, IfErr, OnErr, IsTrue};
 ghost use Rattle.edf_fields.specs.Sinks.{HoldsPrefix};
 ghost use Rattle.edf_fields.specs.Sources.{Rises};
 ghost use Rattle.edf_header.specs.declared.stop.Stop.TheVariants as read_stops;
-ghost use Rattle.edf_report.specs.declared.report.ReportStop.TheVariants as stops;
-ghost use Rattle.edf_report.specs.Reports.{fault_line, stop_line, IsFaultReport, IsStopWritten, ReportStops};
+ghost use Rattle.edf_refusal.specs.declared.stop.ReportStop.TheVariants as stops;
+ghost use Rattle.edf_refusal.specs.Stops.{ReportStops};
+ghost use Rattle.edf_report.specs.Reports.{fault_line, stop_line, IsFaultReport, IsStopWritten};
 
-use edf_fields::sink::{Sink, WriteFault, put_all};
-use edf_header::fault::Fault;
+use edf_fields::fault::Fault;
+use edf_fields::sink::{Sink, put_all};
 use edf_header::stop::Stop;
+use edf_refusal::stop::ReportStop;
 use edf_verdict::outcome::Outcome;
-use std::alloc::{AllocError, AllocFailed, Global};
-
-/// Why a report stopped before its end.
-#[derive(Debug, Clone, Copy, PartialEq, Eq)]
-pub enum ReportStop {
-    /// Memory ran out.
-    OutOfMemory,
-    /// The source failed.
-    ReadFailed,
-    /// The sink failed.
-    WriteFailed,
-}
-
-impl From<AllocError> for ReportStop {
-    ghost from_gives = { λ _ e. e ≡ stops.OutOfMemory };
-
-    fn from(_error: AllocError) -> ReportStop {
-        ReportStop::OutOfMemory
-    }
-}
-
-impl<T: Drop> From<AllocFailed<T>> for ReportStop {
-    ghost from_gives = { λ _ e. e ≡ stops.OutOfMemory };
-
-    fn from(_error: AllocFailed<T>) -> ReportStop {
-        ReportStop::OutOfMemory
-    }
-}
-
-impl From<WriteFault> for ReportStop {
-    ghost from_gives = { λ _ e. e ≡ stops.WriteFailed };
-
-    fn from(_error: WriteFault) -> ReportStop {
-        ReportStop::WriteFailed
-    }
-}
+use std::alloc::{AllocError, Global};
 
 /// The text of a report and its outcome.
-#[derive(Debug, Drop)]
+#[derive(Drop)]
 pub(crate) struct Report {
     pub(crate) text: Vec<u8>,
     pub(crate) outcome: Outcome,

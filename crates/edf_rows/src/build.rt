@@ -1,8 +1,8 @@
 //! Building small EDF+ files in memory.
 
 use crate::files::{DataRecord, File, FileText, SignalText, text_of};
-use edf_header::fault::Place;
-use edf_header::layout::{FixedField, SignalField};
+use edf_fields::fault::Place;
+use edf_fields::layout::{FixedField, SignalField};
 use std::alloc::{AllocError, Global};
 
 /// The columns of a header, and how many bytes of each signal stand in them.

@@ -5,8 +5,8 @@ ghost use Rattle.edf_rows.specs.Rows.{row_of, worked_rows};
 
 use crate::claims;
 use crate::files::{Base, File};
-use edf_header::fault::Place::{AtField, AtSignal};
-use edf_header::layout::{FixedField as Fixed, SignalField as Field};
+use edf_fields::fault::Place::{AtField, AtSignal};
+use edf_fields::layout::{FixedField as Fixed, SignalField as Field};
 
 /// A worked row.
 #[derive(Clone, Copy)]

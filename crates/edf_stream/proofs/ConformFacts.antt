@@ -5,7 +5,7 @@ use Rattle.std.specs.List.{All}
 use Rattle.edf_fields.specs.declared.cause.TalCause.{TalCause}
 use Rattle.edf_fields.specs.Tests.{first}
 use Rattle.edf_fields.proofs.ForCallers.{first-cons, and-true, le-tested, lt-tested, unless-passed}
-use Rattle.edf_header.specs.declared.fault.Place.TheVariants.{AtRecord}
+use Rattle.edf_fields.specs.declared.fault.Place.TheVariants.{AtRecord}
 use Rattle.edf_header.specs.Faults.{truncated}
 use Rattle.edf_header.specs.declared.kind.Kind.{Kind}
 use Rattle.edf_header.specs.declared.kind.Kind.TheVariants.{Contiguous, Interrupted}

@@ -4,8 +4,8 @@ use Rattle.std.proofs.Common.{◌≤ℤ◌, ◌≡◌, ℕ, zero, suc, ℤ, pos,
 use Rattle.std.proofs.lemmas.Bool.Decides.{nat_tests, Decides-int_eq}
 use Rattle.edf_fields.specs.Tests.{first}
 use Rattle.edf_fields.proofs.ForCallers.{first-cons, first-none, pass-cons, pass-append, alone, both-true, le-passes, lt-passes, unless-passed, unless-true}
-use Rattle.edf_header.specs.declared.fault.Place.{Place}
-use Rattle.edf_header.specs.declared.fault.Place.TheVariants.{AtRecord}
+use Rattle.edf_fields.specs.declared.fault.Place.{Place}
+use Rattle.edf_fields.specs.declared.fault.Place.TheVariants.{AtRecord}
 use Rattle.edf_header.specs.declared.kind.Kind.{Kind}
 use Rattle.edf_header.specs.declared.kind.Kind.TheVariants.{Contiguous, Interrupted}
 use Rattle.edf_header.specs.Conforming.{HeaderConforms}

@@ -1,7 +1,7 @@
 -- The tests of the bytes of one data record.
 use Rattle.std.proofs.Common.{◌≡◌, ℕ, ℤ, ◌+◌, ◌-◌, List, [], ◌∷◌, length, drop, Some, None, Result, Ok, sym, ap, ◌∙◌, length-drop}
 use Rattle.edf_fields.proofs.ForCallers.{first-passed, first-found, pass-cons, alone}
-use Rattle.edf_header.specs.declared.fault.Fault.{Fault}
+use Rattle.edf_fields.specs.declared.fault.Fault.{Fault}
 use Rattle.edf_header.specs.declared.kind.Kind.{Kind}
 use Rattle.edf_header.specs.Heads.{Head}
 use Rattle.edf_tal.specs.declared.start.StartCause.{StartCause}

@@ -5,10 +5,10 @@ use Rattle.std.proofs.lemmas.List.{drop-drop}
 use Rattle.std.proofs.lemmas.Bool.Decides.{nat_tests}
 use Rattle.edf_fields.specs.Tests.{first}
 use Rattle.edf_fields.proofs.ForCallers.{first-passed, first-found, alone}
-use Rattle.edf_header.specs.declared.fault.Fault.{Fault}
-use Rattle.edf_header.specs.declared.fault.Place.{Place}
-use Rattle.edf_header.specs.declared.fault.Place.TheVariants.{AtRecord, AtEnd}
-use Rattle.edf_header.specs.declared.fault.Cause.TheVariants.{Truncated, TrailingBytes}
+use Rattle.edf_fields.specs.declared.fault.Fault.{Fault}
+use Rattle.edf_fields.specs.declared.fault.Place.{Place}
+use Rattle.edf_fields.specs.declared.fault.Place.TheVariants.{AtRecord, AtEnd}
+use Rattle.edf_fields.specs.declared.fault.Cause.TheVariants.{Truncated, TrailingBytes}
 use Rattle.edf_header.specs.Faults.{truncated, header_fault}
 use Rattle.edf_header.specs.Conforming.{HeaderConforms}
 use Rattle.edf_header.specs.Heads.{Head, header_bytes, record_bytes}

@@ -65,7 +65,7 @@ listed-is file h x c i =
       place = (found.lane).place;
       start = start_at file h k;
       notes = notes_in h (record_at file h k);
-      channel = (signal, s.1, label, ap is_annotations (sym label) ∙ not-true (is_annotations signal.label) s.2);
+      channel = (signal, s.1, (label, ap is_annotations (sym label) ∙ not-true (is_annotations signal.label) s.2));
       count = den ∙ sym (count-is h s.0 signal s.1);
       in_file = r.below;
       in_lane = (let w = (found.lane).within in omega (arith, full, w, den));
@@ -87,8 +87,8 @@ is-listed : (file : List ℕ) (h : Head) (x : SampleValue) → Conforms file h �
 is-listed file h x c r =
     let signal = (r.channel).0 in
     let there = (r.channel).1 in
-    let named : signal.label ≡ x.label = (r.channel).2 in
-    let plain : is_annotations x.label ≡ false = (r.channel).3 in
+    let named : signal.label ≡ x.label = (r.channel).2.0 in
+    let plain : is_annotations x.label ≡ false = (r.channel).2.1 in
     let count : signal.samples ≡ (x.instant).den = sym (r.count ∙ count-is h r.signal signal there) in
     let k = r.data_record in
     let bytes = record_at file h k in
@@ -179,8 +179,8 @@ pub one_at_an_instant : OneAtAnInstant
 one_at_an_instant file h c x y p q label same =
     let one = p.channel in
     let two = q.channel in
-    let other : IsChannel h.signals q.signal x.label = (two.0, two.1, two.2 ∙ sym label, ap is_annotations label ∙ two.3) in
-    let signal : p.signal ≡ q.signal = ((c.header).standard).distinct p.signal q.signal x.label (one.0, one.1, one.2, one.3) other in
+    let other : IsChannel h.signals q.signal x.label = (two.0, two.1, (two.2.0 ∙ sym label, ap is_annotations label ∙ two.2.1)) in
+    let signal : p.signal ≡ q.signal = ((c.header).standard).distinct p.signal q.signal x.label one other in
     let den : (y.instant).den ≡ (x.instant).den = q.count ∙ ap (samples_at h) (sym signal) ∙ sym p.count in
     let n = (x.instant).den in
     let start : ℕ → ℤ = λ k. pos n *ℤ (file_start h +ℤ start_at file h k) in

@@ -1,7 +1,7 @@
 -- What is said of the way in which reading stopped.
 use Rattle.std.proofs.Common.{◌≡◌, Result, Ok, Err, IfErr, sym, subst}
 use Rattle.std.specs.Result.{IsErrAnd}
-use Rattle.edf_header.specs.declared.fault.Fault.{Fault}
+use Rattle.edf_fields.specs.declared.fault.Fault.{Fault}
 use Rattle.edf_header.specs.declared.stop.Stop.{Stop}
 use Rattle.edf_header.specs.declared.stop.Stop.TheVariants as stops
 use Rattle.edf_header.specs.Stops.{Stops}

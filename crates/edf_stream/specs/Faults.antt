@@ -3,11 +3,11 @@ use Rattle.std.specs.Prelude.{ℕ, zero, suc, ℤ, pos, ◌+◌, ◌^◌, nat_le
 use Rattle.std.specs.Ordering.{int_eq}
 use Rattle.edf_fields.specs.declared.cause.TalCause.{TalCause}
 use Rattle.edf_fields.specs.Tests.{first}
-use Rattle.edf_header.specs.declared.fault.Fault.{Fault}
-use Rattle.edf_header.specs.declared.fault.Place.{Place}
-use Rattle.edf_header.specs.declared.fault.Place.TheVariants.{AtField, AtSignal, AtRecord, AtEnd}
-use Rattle.edf_header.specs.declared.fault.Cause.{Cause}
-use Rattle.edf_header.specs.declared.fault.Cause.TheVariants.{BadTal, NoTimekeeping, BadFirstStart, NotContiguous, Overlap, TooManyAnnotations, TrailingBytes}
+use Rattle.edf_fields.specs.declared.fault.Fault.{Fault}
+use Rattle.edf_fields.specs.declared.fault.Place.{Place}
+use Rattle.edf_fields.specs.declared.fault.Place.TheVariants.{AtField, AtSignal, AtRecord, AtEnd}
+use Rattle.edf_fields.specs.declared.fault.Cause.{Cause}
+use Rattle.edf_fields.specs.declared.fault.Cause.TheVariants.{BadTal, NoTimekeeping, BadFirstStart, NotContiguous, Overlap, TooManyAnnotations, TrailingBytes}
 use Rattle.edf_header.specs.declared.kind.Kind.{Kind}
 use Rattle.edf_header.specs.declared.kind.Kind.TheVariants.{Contiguous, Interrupted}
 use Rattle.edf_header.specs.Faults.{fault, fault_unless, truncated, header_fault}

@@ -1,6 +1,6 @@
 -- What follows from the definitions.
 use Rattle.std.specs.Prelude.{◌≡◌, ◌↔◌, ℕ, suc, ℤ, pos, ◌*◌, ◌<◌, ◌≤ℤ◌, ◌*ℤ◌, ◌^◌, List, length, map, Some, None, slice_get, unsigned_abs}
-use Rattle.edf_header.specs.declared.fault.Fault.{Fault}
+use Rattle.edf_fields.specs.declared.fault.Fault.{Fault}
 use Rattle.edf_header.specs.Faults.{header_fault}
 use Rattle.edf_fields.specs.Lists.{Has}
 use Rattle.edf_header.specs.Heads.{SignalHead, Head, start_second, samples_together}

@@ -1,9 +1,9 @@
 -- A reader of a file, data record by data record, as its callers see it.
 use Rattle.std.specs.Prelude.{◌≡◌, ℕ, ℤ, ◌≤◌, nat_lt, if◌then◌else◌, Bool, true, false, List, [], length, drop, None, Result, Ok, Err}
 use Rattle.edf_fields.specs.Tests.{first}
-use Rattle.edf_header.specs.declared.fault.Fault.{Fault}
-use Rattle.edf_header.specs.declared.fault.Place.{Place}
-use Rattle.edf_header.specs.declared.fault.Place.TheVariants.{AtRecord, AtEnd}
+use Rattle.edf_fields.specs.declared.fault.Fault.{Fault}
+use Rattle.edf_fields.specs.declared.fault.Place.{Place}
+use Rattle.edf_fields.specs.declared.fault.Place.TheVariants.{AtRecord, AtEnd}
 use Rattle.edf_header.specs.declared.stop.Stop.{Stop}
 use Rattle.edf_header.specs.declared.stop.Stop.TheVariants as stops
 use Rattle.edf_header.specs.Conforming.{HeaderConforms}

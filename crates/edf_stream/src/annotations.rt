@@ -41,7 +41,7 @@ impl<'a> TalNotes<'a> {
 }
 
 /// The annotations of a lane that are still to come.
-#[derive(Debug, Drop)]
+#[derive(Drop)]
 pub(crate) struct LaneNotes<'a> {
     tal: Option<TalNotes<'a>>,
     tals: Tals<'a>,
@@ -90,7 +90,7 @@ impl<'a> LaneNotes<'a> {
 
 /// The annotations of a data record, in order of annotation signal, TAL and text. The time-keeping text
 /// is none of them.
-#[derive(Debug, Drop)]
+#[derive(Drop)]
 pub struct Annotations<'a> {
     lane: LaneNotes<'a>,
     places: &'a [LanePlace],

@@ -22,7 +22,7 @@ pub struct NoteRef<'a> {
 }
 
 /// The annotations of a TAL that are still to come.
-#[derive(Debug, Drop)]
+#[derive(Drop)]
 pub(crate) struct TalNotes<'a> {
     pub onset: i128,
     pub duration: Option<i128>,

@@ -3,8 +3,8 @@
 ghost use Rattle.std.specs.Prelude.{◌≡◌, ℕ, pos, ◌+◌, ◌≤◌, ◌<◌, ◌+ℤ◌, ◌<ℤ◌, ◌^◌, List, [], length, drop, None, Some, MatchOption, IfSome, IfOk, IfErr, OnOk, IsTrue, unsigned_abs};
 ghost use Rattle.edf_fields.specs.Sources.{Rises};
 ghost use Rattle.edf_fields.specs.Tests.{first};
-ghost use Rattle.edf_header.specs.declared.fault.Place.TheVariants.{AtRecord, AtEnd};
-ghost use Rattle.edf_header.specs.declared.fault.Cause.TheVariants.{TrailingBytes};
+ghost use Rattle.edf_fields.specs.declared.fault.Place.TheVariants.{AtRecord, AtEnd};
+ghost use Rattle.edf_fields.specs.declared.fault.Cause.TheVariants.{TrailingBytes};
 ghost use Rattle.edf_header.specs.Heads.{record_bytes};
 ghost use Rattle.edf_stream.specs.NotesReading.{notes_in};
 ghost use Rattle.edf_stream.specs.StartsReading.{start_in};
@@ -14,8 +14,8 @@ ghost use Rattle.edf_stream.specs.Steps.{IsRead, GoesOn};
 
 use crate::record::judge_record;
 use crate::start::Progress;
+use edf_fields::fault::{Cause, Fault, Place};
 use edf_fields::source::{Source, fill};
-use edf_header::fault::{Cause, Fault, Place};
 use edf_header::header::Header;
 use edf_header::stop::Stop;
 

@@ -41,7 +41,14 @@ impl Model for FileReader {
 
     ghost Value = { Reader };
 
-    ghost view = { λ r. record { head = r.header; read = r.read; ended = r.progress.ended_ps; notes = r.progress.notes; current = r.buffer.items; status = r.status } };
+    ghost view = { λ r. record {
+      head = r.header;
+      read = r.read;
+      ended = r.progress.ended_ps;
+      notes = r.progress.notes;
+      current = r.buffer.items;
+      status = r.status;
+    } };
 
     ghost invariant = { λ r. IsReader r.header r.read r.progress.ended_ps r.progress.notes r.buffer.items r.status };
 }

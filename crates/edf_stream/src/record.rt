@@ -1,7 +1,7 @@
 //! The tests of one data record. EDF (1992), "Data record".
 
 ghost use Rattle.std.specs.Prelude.{◌≡◌, ℕ, ℤ, pos, ◌+◌, ◌-◌, ◌≤◌, ◌<◌, ◌<ℤ◌, ◌+ℤ◌, ◌^◌, min, List, [], length, Ok, None, Some, MatchResult, IfOk, IfErr, IfSome, unsigned_abs};
-ghost use Rattle.edf_header.specs.declared.fault.Place.TheVariants.{AtRecord};
+ghost use Rattle.edf_fields.specs.declared.fault.Place.TheVariants.{AtRecord};
 ghost use Rattle.edf_header.specs.Heads.{record_bytes};
 ghost use Rattle.edf_stream.specs.Records.{annotation_lanes};
 ghost use Rattle.edf_stream.specs.NotesReading.{notes_in, notes_of_lanes};
@@ -12,7 +12,7 @@ ghost use Rattle.edf_stream.specs.Views.{start_with, texts_said};
 
 use crate::lanes::{Said, lone_time, said_by_lanes};
 use crate::start::{Progress, Start, judge_start};
-use edf_header::fault::{Cause, Fault, Place};
+use edf_fields::fault::{Cause, Fault, Place};
 use edf_header::header::Header;
 
 /// The most annotations that a file may have (this project's profile).

@@ -1,10 +1,10 @@
 //! Where a data record may start. EDF+ (2003), "Time keeping of data records".
 
 ghost use Rattle.std.specs.Prelude.{◌≡◌, pos, ◌<◌, ◌^◌, ◌+ℤ◌, ◌<ℤ◌, ◌≤ℤ◌, None, Some, MatchResult, OnOk, IfErr, unsigned_abs};
-ghost use Rattle.edf_header.specs.declared.fault.Place.TheVariants.{AtRecord};
+ghost use Rattle.edf_fields.specs.declared.fault.Place.TheVariants.{AtRecord};
 ghost use Rattle.edf_stream.specs.Faults.{start_fault};
 
-use edf_header::fault::{Cause, Fault, Place};
+use edf_fields::fault::{Cause, Fault, Place};
 use edf_header::header::Header;
 use edf_header::kind::Kind;
 

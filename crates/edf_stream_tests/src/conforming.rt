@@ -1,8 +1,8 @@
 //! What `conform` answers to files with one change; `tools/cases` has many more.
 
+use edf_fields::fault::Place::{AtField, AtSignal};
+use edf_fields::layout::{FixedField as Fixed, SignalField as Field};
 use edf_fields::source::SliceSource;
-use edf_header::fault::Place::{AtField, AtSignal};
-use edf_header::layout::{FixedField as Fixed, SignalField as Field};
 use edf_header::stop::Stop;
 use edf_stream::conform::conform;
 use edf_test_files::file::{Done, Edit};

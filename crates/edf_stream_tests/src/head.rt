@@ -1,11 +1,11 @@
 //! The header of the reference file and of some others, value by value.
 
+use edf_fields::fault::Place::{AtField, AtSignal};
 use edf_fields::identification::{PatientId, RecordingId};
+use edf_fields::layout::{FixedField as Fixed, SignalField as Field};
 use edf_fields::source::SliceSource;
-use edf_header::fault::Place::{AtField, AtSignal};
 use edf_header::header::Header;
 use edf_header::kind::Kind;
-use edf_header::layout::{FixedField as Fixed, SignalField as Field};
 use edf_header::signal::Signal;
 use edf_test_files::file::{Edit, edited};
 use std::alloc::Global;

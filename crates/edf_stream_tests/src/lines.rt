@@ -1,9 +1,9 @@
 //! Which extremes say the same line from digital to physical values.
 
+use edf_fields::fault::Place::AtSignal;
+use edf_fields::layout::SignalField as Field;
 use edf_fields::source::SliceSource;
-use edf_header::fault::Place::AtSignal;
 use edf_header::header::Header;
-use edf_header::layout::SignalField as Field;
 use edf_test_files::file::{edited, put};
 use std::alloc::Global;
 use std::test::Fail;

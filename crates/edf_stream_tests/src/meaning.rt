@@ -3,9 +3,9 @@
 
 use crate::conforming::ROWS;
 use crate::samples::{OF_EXCHANGED, OF_GAP, OF_LED, OF_PAIR, OF_REFERENCE, OF_THIRDS, Row};
+use edf_fields::fault::Place::{AtField, AtSignal};
+use edf_fields::layout::{FixedField as Fixed, SignalField as Field};
 use edf_fields::source::SliceSource;
-use edf_header::fault::Place::{AtField, AtSignal};
-use edf_header::layout::{FixedField as Fixed, SignalField as Field};
 use edf_header::stop::Stop;
 use edf_stream::meaning::{Meaning, whole_meaning};
 use edf_stream::notes::Note;

@@ -1,7 +1,7 @@
 //! A reader of a given file, data record by data record, and what it answers after an end or a stop.
 
+use edf_fields::fault::{Cause, Fault, Place};
 use edf_fields::source::SliceSource;
-use edf_header::fault::{Cause, Fault, Place};
 use edf_header::stop::Stop;
 use edf_stream::note::NoteRef;
 use edf_stream::reader::FileReader;

@@ -2,10 +2,10 @@
 
 use crate::meaning::is_that_of_reference;
 use edf_fields::cause::FieldCause;
+use edf_fields::fault::{Cause, Fault, Place};
+use edf_fields::layout::{FixedField, SignalField};
 use edf_fields::source::SliceSource;
-use edf_header::fault::{Cause, Fault, Place};
 use edf_header::header::Header;
-use edf_header::layout::{FixedField, SignalField};
 use edf_header::stop::Stop;
 use edf_stream::conform::conform;
 use edf_stream::meaning::whole_meaning;

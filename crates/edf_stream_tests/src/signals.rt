@@ -1,9 +1,9 @@
 //! Signals that say what the one before says, and signals that differ from it in one thing.
 
+use edf_fields::fault::Place::{AtField, AtSignal};
+use edf_fields::layout::{FixedField as Fixed, SignalField as Field};
 use edf_fields::source::SliceSource;
-use edf_header::fault::Place::{AtField, AtSignal};
 use edf_header::header::Header;
-use edf_header::layout::{FixedField as Fixed, SignalField as Field};
 use edf_header::signal::Signal;
 use edf_test_files::file::{header_of, put};
 use std::alloc::Global;

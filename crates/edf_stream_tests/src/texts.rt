@@ -1,7 +1,7 @@
 //! Each cause and each place of a fault in words.
 
 use edf_fields::cause::{FieldCause, TalCause};
-use edf_header::fault::{Cause, Fault, Place};
+use edf_fields::fault::{Cause, Fault, Place};
 use edf_test_files::file::{COLUMNS, Done, FIXED};
 use std::alloc::{AllocError, Global};
 use std::process::Abort;

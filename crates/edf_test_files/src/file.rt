@@ -1,8 +1,8 @@
 //! A header in memory, and other texts in its fields.
 
-use edf_header::fault::Place;
+use edf_fields::fault::Place;
+use edf_fields::layout::{FixedField, SignalField};
 use edf_header::header::Header;
-use edf_header::layout::{FixedField, SignalField};
 use std::alloc::{AllocError, Global};
 
 /// The fields of the fixed part: the name, how many bytes it has, and its text in the reference file.

@@ -1,7 +1,7 @@
 //! The line of text of a verdict.
 
 ghost use Rattle.std.specs.Prelude.{◌≡◌, ◌++◌, Some, IfOk, OnOk};
-ghost use Rattle.edf_header.specs.FaultTexts.{fault_text};
+ghost use Rattle.edf_fields.specs.FaultTexts.{fault_text};
 ghost use Rattle.edf_verdict.specs.Quotes.{with_quoted};
 ghost use Rattle.edf_verdict.specs.Lines.{field_text, channel_text, subfield_mismatch_text, subfield_text, not_clean_text, sample_mismatch_text, moment_text, sample_text, note_mismatch_text, note_words, counts_text, difference_text, verdict_text, verdict_line};
 
@@ -12,8 +12,8 @@ use crate::quote::push_with_quoted;
 use crate::verdict::{
     AnnotationMismatch, Difference, FreeText, SampleMismatch, SubfieldMismatch, TextField, Verdict,
 };
-use edf_claim::which::Which;
-use edf_header::fault::Fault;
+use edf_fields::fault::Fault;
+use edf_fields::which::Which;
 use std::alloc::{AllocError, Global};
 use std::fmt;
 

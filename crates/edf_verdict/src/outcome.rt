@@ -1,4 +1,4 @@
-//! How a report ended.
+//! What a check or a report found, as a yes or a no.
 
 ghost use Rattle.std.specs.Prelude.{◌≡◌, ◌↔◌};
 ghost use Rattle.edf_verdict.specs.declared.outcome.Outcome.TheVariants as outcomes;

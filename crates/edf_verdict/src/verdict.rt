@@ -2,8 +2,8 @@
 
 use crate::label::Label;
 use crate::note_text::NoteText;
-use edf_claim::which::Which;
-use edf_header::fault::Fault;
+use edf_fields::fault::Fault;
+use edf_fields::which::Which;
 
 /// What a check says.
 #[derive(Debug, Drop, PartialEq, Eq)]

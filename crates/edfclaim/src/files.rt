@@ -2,10 +2,10 @@
 
 ghost use Rattle.std.specs.Prelude.{◌≡◌, take, IfOk, IfErr, IsTrue};
 ghost use Rattle.edf_fields.specs.Sources.{Rises};
-ghost use Rattle.edf_command.specs.Refusals.{ClaimReadStops};
+ghost use Rattle.edf_refusal.specs.Refusals.{ClaimReadStops};
 
-use edf_command::refusal::{Refusal, Role};
 use edf_fields::source::{ReadSource, Source, fill};
+use edf_refusal::refusal::{Refusal, Role};
 use std::alloc::Global;
 use std::fs;
 use std::io::{BufReader, ErrorKind};

@@ -10,10 +10,10 @@ mod files;
 mod perform;
 
 use clap::error::ErrorKind;
-use edf_command::refusal::Refusal;
-use edf_command::status;
 use edf_command_line::command;
 use edf_job::job::Job;
+use edf_refusal::refusal::Refusal;
+use edf_refusal::status;
 use std::process::ExitCode;
 use std::rt::{Env, Files};
 use std::{env, io};

@@ -2,10 +2,10 @@
 
 use crate::files::{claim_text, recording};
 use edf_check::run;
-use edf_command::refusal::{Refusal, Role};
-use edf_command::vectors::vectors_to;
+use edf_check::vectors::vectors_to;
 use edf_fields::sink::{Sink, WriteSink};
 use edf_job::job::Job;
+use edf_refusal::refusal::{Refusal, Role};
 use edf_report::conform::conform_to;
 use edf_report::notes::notes_to;
 use edf_report::show::show_to;

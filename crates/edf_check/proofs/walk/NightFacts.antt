@@ -13,7 +13,6 @@ use Rattle.edf_claim.specs.Keeps.{KeepsInstant, keeps_instant}
 use Rattle.edf_claim.proofs.ForCallers.{instant_kept}
 use Rattle.edf_fields.specs.Lists.{Has}
 use Rattle.edf_fields.proofs.ForCallers.{and-true, both-true, has-map, map-has, has-filtered, filtered-has, has-at, get-index, get-within, has-one_of, one_of-has, has-permutation, map-get, get-map}
-use Rattle.edf_header.specs.ChannelsReading.{channel_labels}
 use Rattle.edf_header.specs.Heads.{SignalHead, Head, is_annotations}
 use Rattle.edf_header.specs.HeadsReading.{head_of}
 use Rattle.edf_header.specs.Sound.{IsSound}
@@ -23,7 +22,7 @@ use Rattle.edf_stream.specs.Conforming.{Conforms}
 use Rattle.edf_stream.specs.Instants.{IsSame}
 use Rattle.edf_stream.specs.Samples.{SampleValue}
 use Rattle.edf_stream.specs.SamplesReading.{samples_of, channel_label, labelled, AreRising}
-use Rattle.edf_header.specs.Channels.{channels_among}
+use Rattle.edf_header.specs.Channels.{channels_among, channel_labels}
 use Rattle.edf_stream.proofs.ForCallers.{sound-of, samples_are_listed, samples_are_of_channels, samples_rise}
 use Rattle.edf_check.specs.declared.walk.channel_place.ChannelPlace.{ChannelPlace}
 use Rattle.edf_check.specs.declared.samples.point.Point.{Point}
@@ -43,7 +42,7 @@ use Rattle.edf_check.specs.Kept.{shift_ps}
 use Rattle.edf_check.specs.KeptReading.{origin_of, ValueAt, KeptAt, ExportedAt}
 use Rattle.edf_heads.specs.Labels.{IsNotAbove}
 use Rattle.edf_check.proofs.samples.FractionFacts.{same_back}
-use Rattle.edf_heads.proofs.ForCallers.{has-label, label-has, exported-labels, not_below}
+use Rattle.edf_heads.proofs.ForCallers.{has-label, label-has, not_below}
 use Rattle.edf_check.proofs.KeptFacts.{later-same, keeps-same}
 use Rattle.edf_check.proofs.walk.PlaceFacts.{one-number, channels-distinct, at-found, at-there, channel-bounds}
 use Rattle.edf_check.proofs.WordsFacts.{later-back, since-same}
@@ -216,17 +215,17 @@ place-there : (h : Head) (label : List ℕ) → HasChannel h label → (place : 
 place-there h label (x, is) = cases (channel_at label h) refl
   where
     ordinary : not (is_annotations x.label) ≡ true
-    ordinary = ap (λ l. not (is_annotations l)) is.labelled ∙ ap not is.ordinary
+    ordinary = ap (λ l. not (is_annotations l)) is.labelled.0 ∙ ap not is.labelled.1
 
     cases : (o : Option ChannelPlace) → channel_at label h ≡ o → (place : ChannelPlace) × (channel_at label h ≡ Some place)
-    cases None e = absurd (at-there h label e x (filtered-has (λ (y : SignalHead). not (is_annotations y.label)) h.signals x is.there ordinary) is.labelled)
+    cases None e = absurd (at-there h label e x (filtered-has (λ (y : SignalHead). not (is_annotations y.label)) h.signals x is.there ordinary) is.labelled.0)
     cases (Some place) e = (place, e)
 
 places : (original export : List ℕ) (claim : Terms) (o e : Sampled) (label : List ℕ) → AreNights original export claim o e → Has claim.channels label → HasPlaces o e label
 places original export claim o e label a i =
     let channels = (a.agree).channels in
     let here = place-there (head_of original) label (channels.in_original label i) in
-    let there = place-there (head_of export) label (label-has (head_of export) label (has-permutation claim.channels (channel_labels (head_of export).signals) label (exported-labels _ _ claim channels) i)) in
+    let there = place-there (head_of export) label (label-has (head_of export) label (has-permutation claim.channels (channel_labels (head_of export).signals) label channels.in_export i)) in
     record { s = here.0; t = there.0; original = ap (channel_at label) a.original_head ∙ here.1; export = ap (channel_at label) a.export_head ∙ there.1 }
 
 -- what is compared for a label is the difference of its column
@@ -404,9 +403,9 @@ claimed-there : (original export : List ℕ) (claim : Terms) (o e : Sampled) (la
 claimed-there original export claim o e label at v a (y, is, named, same, value) =
     let h = head_of export in
     let channel = is.channel in
-    let there : HasChannel h label = (channel.0, record { there = has-at h.signals is.signal channel.0 channel.1; labelled = channel.2 ∙ named; ordinary = ap is_annotations (sym named) ∙ channel.3 }) in
+    let there : HasChannel h label = (channel.0, record { there = has-at h.signals is.signal channel.0 channel.1; labelled = (channel.2.0 ∙ named, ap is_annotations (sym named) ∙ channel.2.1) }) in
     let channels = (a.agree).channels in
-    has-permutation (channel_labels h.signals) claim.channels label (IsPermutation-sym claim.channels (channel_labels h.signals) (exported-labels _ _ claim channels)) (has-label h label there)
+    has-permutation (channel_labels h.signals) claim.channels label (IsPermutation-sym claim.channels (channel_labels h.signals) channels.in_export) (has-label h label there)
 
 pub exported-agree : (original export : List ℕ) (claim : Terms) (o e : Sampled) (labels : List (List ℕ)) → AreNights original export claim o e → AreClaimed claim labels
     → Agree (ExportedIn (columns_of claim o e labels)) (ExportedAt original export claim)

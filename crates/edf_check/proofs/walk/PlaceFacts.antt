@@ -11,7 +11,7 @@ use Rattle.edf_header.specs.Standard.{IsSoundSignal}
 use Rattle.edf_header.specs.Channels.{channels_among}
 use Rattle.edf_check.specs.declared.walk.channel_place.ChannelPlace.{ChannelPlace}
 use Rattle.edf_check.specs.samples.Columns.{place_from, channel_at}
-use Rattle.edf_heads.proofs.ForCallers.{labels-distinct, among-labels}
+use Rattle.edf_heads.proofs.ForCallers.{labels-distinct}
 
 -- the place that was found: its channel has the label, and so many samples
 pub record IsPlace (channels : List SignalHead) (label : List ℕ) (k : ℕ) (place : ChannelPlace) : Type 0 where
@@ -63,7 +63,7 @@ one-number (z ∷ zs) d (suc i) zero x y p q e =
 one-number (z ∷ zs) d (suc i) (suc j) x y p q e = ap suc (one-number zs d.1 i j x y p q e)
 
 pub channels-distinct : (h : Head) → IsSound h → AreDistinct (map (λ s. s.label) (channels_among h.signals))
-channels-distinct h s = subst AreDistinct (sym (among-labels h.signals)) (labels-distinct h.signals s.standard.distinct)
+channels-distinct h s = labels-distinct h.signals s.standard.distinct
 
 -- the place of a label
 pub at-found : (h : Head) (label : List ℕ) (place : ChannelPlace) → channel_at label h ≡ Some place → IsPlace (channels_among h.signals) label 0 place

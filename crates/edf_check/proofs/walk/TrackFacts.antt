@@ -14,8 +14,8 @@ use Rattle.edf_stream.specs.Records.{lane_of, lane_in, samples_at}
 use Rattle.edf_stream.specs.RecordsReading.{lane_bytes}
 use Rattle.edf_header.specs.Channels.{channels_among}
 use Rattle.edf_check.specs.declared.walk.channel_place.ChannelPlace.{ChannelPlace}
-use Rattle.edf_check.specs.declared.side.Side.{Side}
-use Rattle.edf_check.specs.declared.side.Side.TheVariants.{Original, Export}
+use Rattle.edf_refusal.specs.declared.side.Side.{Side}
+use Rattle.edf_refusal.specs.declared.side.Side.TheVariants.{Original, Export}
 use Rattle.edf_check.specs.declared.walk.track.Pair.{Pair}
 use Rattle.edf_check.specs.declared.walk.track.Track.{Track}
 use Rattle.edf_check.specs.samples.Columns.{channel_at}

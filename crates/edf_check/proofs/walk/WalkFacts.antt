@@ -2,7 +2,7 @@
 use Rattle.std.proofs.Common.{◌≡◌, ◌*◌, ℕ, neg_ℤ, ◌+ℤ◌, Bor, List, [], ◌∷◌, length, map, filter, suc, ◌<◌, Option, Some, None, IfSome, Result, Ok, Err, IfOk, refl, sym, ap, ◌∙◌, subst}
 use Rattle.edf_claim.specs.Terms.{Terms}
 use Rattle.edf_claim.specs.Keeps.{keeps_annotation}
-use Rattle.edf_header.specs.declared.fault.Fault.{Fault}
+use Rattle.edf_fields.specs.declared.fault.Fault.{Fault}
 use Rattle.edf_header.specs.Faults.{header_fault}
 use Rattle.edf_header.specs.Heads.{Head, samples_together}
 use Rattle.edf_header.specs.HeadsReading.{head_of}

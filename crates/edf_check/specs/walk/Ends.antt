@@ -2,7 +2,7 @@
 -- then count from the second at which the original starts, before the shift. These are steps between the definitions and the code.
 use Rattle.std.specs.Prelude.{ℕ, ℤ, ◌≡◌, List, [], Option, None, Some, IfNone}
 use Rattle.edf_claim.specs.Terms.{Terms}
-use Rattle.edf_header.specs.declared.fault.Fault.{Fault}
+use Rattle.edf_fields.specs.declared.fault.Fault.{Fault}
 use Rattle.edf_header.specs.Heads.{Head}
 use Rattle.edf_stream.specs.Conforming.{Conforms}
 use Rattle.edf_stream.specs.Faults.{body_fault}

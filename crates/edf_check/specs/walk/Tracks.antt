@@ -3,8 +3,8 @@ use Rattle.std.specs.Prelude.{◌≡◌, ◌≢◌, ◌⊎◌, ◌+◌, ℕ, Lis
 use Rattle.edf_fields.specs.Lists.{Has}
 use Rattle.edf_header.specs.Heads.{SignalHead, Head}
 use Rattle.edf_header.specs.Channels.{channels_among}
-use Rattle.edf_check.specs.declared.side.Side.{Side}
-use Rattle.edf_check.specs.declared.side.Side.TheVariants.{Original, Export}
+use Rattle.edf_refusal.specs.declared.side.Side.{Side}
+use Rattle.edf_refusal.specs.declared.side.Side.TheVariants.{Original, Export}
 use Rattle.edf_check.specs.declared.walk.track.Pair.{Pair}
 use Rattle.edf_check.specs.declared.walk.track.Track.{Track}
 use Rattle.edf_check.specs.samples.Columns.{channel_at}

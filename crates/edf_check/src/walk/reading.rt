@@ -15,15 +15,15 @@ ghost use Rattle.edf_check.specs.walk.Gathered.{claim_of, gathered_of, gathered_
 ghost use Rattle.edf_check.specs.walk.Shown.{ends_at, IsGoing, IsAhead, Reaches};
 ghost use Rattle.edf_check.specs.walk.Readings.{IsAt, IsThere, Moves, Follows};
 
-use crate::side::Side;
-use crate::stop::CheckStop;
 use crate::walk::clock::start_ps_of;
 use crate::walk::gather::{View, gather};
 use crate::walk::offset::Offset;
 use crate::walk::time::{Time, Window};
+use edf_fields::fault::Fault;
 use edf_fields::source::Source;
-use edf_header::fault::Fault;
 use edf_header::stop::Stop;
+use edf_refusal::side::Side;
+use edf_refusal::stop::CheckStop;
 use edf_stream::notes::Note;
 use edf_stream::reader::FileReader;
 use std::alloc::Global;

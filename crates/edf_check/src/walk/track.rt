@@ -9,11 +9,11 @@ ghost use Rattle.edf_check.specs.samples.Columns.{channel_at as channel_in};
 ghost use Rattle.edf_check.specs.walk.Tracks.{other_side, track_on, tracks_on, AreFound, IsPutAt};
 ghost use Rattle.edf_check.specs.walk.Pairs.{ArePairs, places_of};
 
-use crate::side::Side;
 use crate::walk::channel_place::ChannelPlace;
 use edf_header::header::Header;
 use edf_header::signal::Signal;
 use edf_heads::labels::found_at;
+use edf_refusal::side::Side;
 use std::alloc::{AllocError, Global};
 use std::mem::size_of;
 

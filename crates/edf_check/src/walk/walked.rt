@@ -12,7 +12,7 @@ ghost use Rattle.edf_check.specs.walk.Walks.{IsReadOut, IsWalked};
 
 use crate::notes::note_difference::NoteDifference;
 use crate::samples::sample_difference::SampleDifference;
-use edf_header::fault::Fault;
+use edf_fields::fault::Fault;
 use edf_stream::conform::Summary;
 use edf_verdict::verdict::{Difference, Verdict};
 

@@ -4,7 +4,7 @@ use Rattle.edf_header.specs.Faults.{signals_faults, joint_faults, columns_tests}
 use Rattle.edf_fields.specs.Tests.{first}
 use Rattle.edf_header.specs.HeadsReading.{signals_in}
 use Rattle.edf_header.proofs.FirstFacts.{stops-weaker}
-use Rattle.edf_header.specs.LayoutReading.{columns}
+use Rattle.edf_fields.specs.LayoutReading.{columns}
 use Rattle.edf_header.proofs.ColumnFacts.{columns-adjacent}
 use Rattle.edf_header.proofs.SignalFacts.{length-signals}
 use Rattle.edf_header.proofs.TogetherFacts.{signals_found, joint-left}

@@ -3,7 +3,7 @@ use Rattle.std.proofs.lemmas.Result.{err_from_is_err_and}
 use Rattle.edf_fields.specs.Sources.{Rises}
 use Rattle.edf_fields.specs.Tests.{first}
 use Rattle.edf_header.specs.Faults.{columns_missing, columns_tests}
-use Rattle.edf_header.specs.LayoutReading.{columns}
+use Rattle.edf_fields.specs.LayoutReading.{columns}
 use Rattle.edf_header.proofs.FirstFacts.{stops-weaker}
 use Rattle.edf_header.proofs.TogetherFacts.{column_found}
 use Rattle.edf_header.proofs.read.read_body.Goals as goal

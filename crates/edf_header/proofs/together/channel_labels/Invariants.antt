@@ -1,5 +1,5 @@
 use Rattle.std.proofs.Common.{◌≡◌, ◌++◌, map, drop}
-use Rattle.edf_header.specs.ChannelsReading.{channel_labels}
+use Rattle.edf_header.specs.Channels.{channel_labels}
 use Rattle.edf_header.proofs.together.channel_labels.Given as goal
 
 abbrev pub invariant-loop-signal : goal.invariant-loop-signal

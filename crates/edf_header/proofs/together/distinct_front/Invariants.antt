@@ -1,6 +1,6 @@
 use Rattle.std.proofs.Common.{◌≤◌, ◌-◌, length, take, IsTrue}
 use Rattle.edf_fields.specs.Distinct.{are_distinct}
-use Rattle.edf_header.specs.ChannelsReading.{channel_labels}
+use Rattle.edf_header.specs.Channels.{channel_labels}
 use Rattle.edf_header.proofs.together.distinct_front.Given as goal
 
 abbrev pub invariant-loop-low : goal.invariant-loop-low

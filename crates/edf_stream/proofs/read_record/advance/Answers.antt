@@ -1,8 +1,8 @@
 use Rattle.std.proofs.Common.{arith, ◌≡◌, ◌≤◌, ◌<◌, List, ℕ, length, IsTrue, Some, ◌∙◌, ap, sym}
 use Rattle.edf_fields.specs.Sources.{Rises}
 use Rattle.edf_fields.specs.Tests.{first}
-use Rattle.edf_header.specs.declared.fault.Place.TheVariants.{AtEnd}
-use Rattle.edf_header.specs.declared.fault.Cause.TheVariants.{TrailingBytes}
+use Rattle.edf_fields.specs.declared.fault.Place.TheVariants.{AtEnd}
+use Rattle.edf_fields.specs.declared.fault.Cause.TheVariants.{TrailingBytes}
 use Rattle.edf_stream.specs.Faults.{records_tests, body_fault}
 use Rattle.edf_stream.specs.Readers.{HasPassed, StandsAt}
 use Rattle.edf_stream.proofs.RecordFacts.{fault_at, passed_more, ends, trails}

@@ -1,5 +1,5 @@
 use Rattle.std.proofs.Common.{◌∙◌}
-use Rattle.edf_check.specs.declared.side.Side.TheVariants.{Original}
+use Rattle.edf_refusal.specs.declared.side.Side.TheVariants.{Original}
 use Rattle.edf_check.proofs.walk.TrackFacts.{empty_side, still_empty, pairs_said}
 use Rattle.edf_check.proofs.walk.track.pairs_of.Goals as goal
 

@@ -1,7 +1,7 @@
 use Rattle.std.proofs.Common.{◌≡◌, ℕ, ◌<◌, ◌*◌, ◌∙◌, sym, ap, subst, arith}
 use Rattle.edf_fields.specs.Parts.{part}
-use Rattle.edf_header.specs.Layout.{signal_field}
-use Rattle.edf_header.specs.LayoutReading.{columns}
+use Rattle.edf_fields.specs.Layout.{signal_field}
+use Rattle.edf_fields.specs.LayoutReading.{columns}
 use Rattle.edf_header.specs.Narrow.{WideColumns, SaysTheSame, all_bytes}
 use Rattle.edf_header.proofs.WideFacts.{length-columns, column-said, signal_field-at}
 use Rattle.edf_header.proofs.columns.Columns.field.Goals as goal

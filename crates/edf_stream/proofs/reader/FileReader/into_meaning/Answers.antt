@@ -2,7 +2,7 @@ use Rattle.std.proofs.Common.{◌≡◌, ℕ, List, map, true, Ok, Some, IsTrue,
 use Rattle.std.specs.List.{All}
 use Rattle.std.proofs.lemmas.List.Elements.{All-nil}
 use Rattle.edf_fields.specs.Sources.{Rises}
-use Rattle.edf_header.specs.declared.fault.Fault.{Fault}
+use Rattle.edf_fields.specs.declared.fault.Fault.{Fault}
 use Rattle.edf_header.specs.Heads.{Head}
 use Rattle.edf_header.specs.Stops.{Stops}
 use Rattle.edf_stream.specs.declared.sample.Sample.{Sample}

@@ -1,0 +1,80 @@
+-- Why a command is refused, and the line that says so.
+use Rattle.std.specs.Prelude.{ℕ, List, ◌++◌, codes}
+use Rattle.edf_refusal.specs.declared.stop.RunStop.{RunStop}
+use Rattle.edf_refusal.specs.declared.stop.RunStop.TheVariants as runs
+use Rattle.edf_refusal.specs.declared.side.Side.{Side}
+use Rattle.edf_refusal.specs.declared.side.Side.TheVariants as sides
+use Rattle.edf_claim.specs.declared.stop.ClaimStop.{ClaimStop}
+use Rattle.edf_claim.specs.declared.stop.ClaimStop.TheVariants as claims
+use Rattle.edf_refusal.specs.declared.refusal.Refusal.{Refusal}
+use Rattle.edf_refusal.specs.declared.refusal.Refusal.TheVariants as refusals
+use Rattle.edf_refusal.specs.declared.refusal.Role.{Role}
+use Rattle.edf_refusal.specs.declared.refusal.Role.TheVariants as roles
+use Rattle.edf_refusal.specs.declared.stop.ReportStop.{ReportStop}
+use Rattle.edf_refusal.specs.declared.stop.ReportStop.TheVariants as reports
+
+-- the word for a file
+abbrev pub role_word : Role → List ℕ
+role_word roles.Claim = codes "claim"
+role_word roles.Original = codes "original"
+role_word roles.Export = codes "export"
+role_word roles.File = codes "file"
+
+-- the name of a claim's fault
+abbrev pub stop_word : ClaimStop → List ℕ
+stop_word claims.OutOfMemory = codes "OutOfMemory"
+stop_word claims.TooLong = codes "TooLong"
+stop_word claims.NotToml = codes "NotToml"
+stop_word claims.BadFormat = codes "BadFormat"
+stop_word claims.UnknownKey = codes "UnknownKey"
+stop_word claims.BadChannels = codes "BadChannels"
+stop_word claims.BadKeep = codes "BadKeep"
+stop_word claims.BadAnonymous = codes "BadAnonymous"
+stop_word claims.BadShift = codes "BadShift"
+stop_word claims.BadRemove = codes "BadRemove"
+
+abbrev pub memory_text : List ℕ
+memory_text = codes "edfclaim: out of memory"
+
+abbrev pub opening_text : Role → List ℕ
+opening_text role = codes "edfclaim: cannot open " ++ role_word role
+
+abbrev pub reading_text : Role → List ℕ
+reading_text role = codes "edfclaim: reading " ++ (role_word role ++ codes " failed")
+
+-- want of memory says nothing of the claim
+abbrev pub claim_text : ClaimStop → List ℕ
+claim_text claims.OutOfMemory = memory_text
+claim_text stop = codes "edfclaim: claim refused: " ++ stop_word stop
+
+-- the line of a refusal, without its newline
+abbrev pub refusal_text : Refusal → List ℕ
+refusal_text (refusals.CannotOpen role) = opening_text role
+refusal_text (refusals.Reading role) = reading_text role
+refusal_text (refusals.Claim stop) = claim_text stop
+refusal_text refusals.Memory = memory_text
+refusal_text refusals.Writing = codes "edfclaim: writing failed"
+
+-- what a file of a check is
+abbrev pub role_of : Side → Role
+role_of sides.Original = roles.Original
+role_of sides.Export = roles.Export
+
+-- how a check that stopped is refused
+abbrev pub refusal_of_run : RunStop → Refusal
+refusal_of_run runs.OutOfMemory = refusals.Memory
+refusal_of_run (runs.ReadFailed side) = refusals.Reading (role_of side)
+refusal_of_run (runs.Claim cause) = refusals.Claim cause
+refusal_of_run runs.WriteFailed = refusals.Writing
+
+-- how a report on one file that stopped is refused
+abbrev pub refusal_of_report : ReportStop → Refusal
+refusal_of_report reports.OutOfMemory = refusals.Memory
+refusal_of_report reports.ReadFailed = refusals.Reading roles.File
+refusal_of_report reports.WriteFailed = refusals.Writing
+
+-- a claim isn't read for want of memory, or where a read failed, and then this is said
+abbrev pub ClaimReadStops : Type 0 → Refusal → Type 0
+ClaimReadStops failed refusals.Memory = Unit {0}
+ClaimReadStops failed (refusals.Reading roles.Claim) = failed
+ClaimReadStops failed refusal = ⊥

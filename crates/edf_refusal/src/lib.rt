@@ -1,0 +1,8 @@
+//! How a command ends that gives no answer: why a check or a report of an EDF+ recording stops, the line that says
+//! why a command is refused, and the status of the program.
+#![tactic(auto)]
+
+pub mod refusal;
+pub mod side;
+pub mod status;
+pub mod stop;

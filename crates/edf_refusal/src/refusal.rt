@@ -1,0 +1,148 @@
+//! Why a command is refused, and the line that says so.
+
+ghost use Rattle.std.specs.Prelude.{◌≡◌};
+ghost use Rattle.edf_refusal.specs.declared.refusal.Refusal.TheVariants as refusals;
+ghost use Rattle.edf_refusal.specs.Refusals.{claim_text, opening_text, reading_text, refusal_of_report, refusal_of_run, refusal_text, role_of};
+
+use crate::side::Side;
+use crate::stop::{ReportStop, RunStop};
+use edf_claim::stop::ClaimStop;
+use edf_fields::sink::WriteFault;
+use std::alloc::AllocError;
+
+/// What a file is to the command that reads it.
+#[derive(Debug, Clone, Copy, PartialEq, Eq)]
+pub enum Role {
+    /// The claim of a check.
+    Claim,
+    /// The recording that the sleep centre keeps.
+    Original,
+    /// The recording that it hands out.
+    Export,
+    /// The only file of its command.
+    File,
+}
+
+impl From<Side> for Role {
+    ghost from_gives = { λ side role. role ≡ role_of side };
+
+    fn from(side: Side) -> Role {
+        match side {
+            Side::Original => Role::Original,
+            Side::Export => Role::Export,
+        }
+    }
+}
+
+/// Why a command ended without an outcome.
+#[derive(Debug, Clone, Copy, PartialEq, Eq)]
+pub enum Refusal {
+    /// This file could not be opened.
+    CannotOpen(Role),
+    /// A read of this file failed.
+    Reading(Role),
+    /// The text of the claim says no claim: its first fault.
+    Claim(ClaimStop),
+    /// Memory ran out.
+    Memory,
+    /// Standard output didn't take what was written.
+    Writing,
+}
+
+impl Refusal {
+    /// The line that says so, without its newline.
+    pub fn text(&self) -> &'static str
+        ensures { result.now ≡ refusal_text self.now }
+    {
+        match self {
+            Refusal::CannotOpen(role) => opening(*role),
+            Refusal::Reading(role) => reading(*role),
+            Refusal::Claim(stop) => claim_refused(*stop),
+            Refusal::Memory => "edfclaim: out of memory",
+            Refusal::Writing => "edfclaim: writing failed",
+        }
+    }
+}
+
+/// The line on a file that could not be opened.
+fn opening(role: Role) -> &'static str
+    ensures { result.now ≡ opening_text role }
+{
+    match role {
+        Role::Claim => "edfclaim: cannot open claim",
+        Role::Original => "edfclaim: cannot open original",
+        Role::Export => "edfclaim: cannot open export",
+        Role::File => "edfclaim: cannot open file",
+    }
+}
+
+/// The line on a file of which a read failed.
+fn reading(role: Role) -> &'static str
+    ensures { result.now ≡ reading_text role }
+{
+    match role {
+        Role::Claim => "edfclaim: reading claim failed",
+        Role::Original => "edfclaim: reading original failed",
+        Role::Export => "edfclaim: reading export failed",
+        Role::File => "edfclaim: reading file failed",
+    }
+}
+
+/// The line on a claim that is refused; want of memory says nothing of the claim.
+fn claim_refused(stop: ClaimStop) -> &'static str
+    ensures { result.now ≡ claim_text stop }
+{
+    match stop {
+        ClaimStop::OutOfMemory => "edfclaim: out of memory",
+        ClaimStop::TooLong => "edfclaim: claim refused: TooLong",
+        ClaimStop::NotToml => "edfclaim: claim refused: NotToml",
+        ClaimStop::BadFormat => "edfclaim: claim refused: BadFormat",
+        ClaimStop::UnknownKey => "edfclaim: claim refused: UnknownKey",
+        ClaimStop::BadChannels => "edfclaim: claim refused: BadChannels",
+        ClaimStop::BadKeep => "edfclaim: claim refused: BadKeep",
+        ClaimStop::BadAnonymous => "edfclaim: claim refused: BadAnonymous",
+        ClaimStop::BadShift => "edfclaim: claim refused: BadShift",
+        ClaimStop::BadRemove => "edfclaim: claim refused: BadRemove",
+    }
+}
+
+impl From<AllocError> for Refusal {
+    ghost from_gives = { λ _ refusal. refusal ≡ refusals.Memory };
+
+    fn from(_error: AllocError) -> Refusal {
+        Refusal::Memory
+    }
+}
+
+impl From<WriteFault> for Refusal {
+    ghost from_gives = { λ _ refusal. refusal ≡ refusals.Writing };
+
+    fn from(_error: WriteFault) -> Refusal {
+        Refusal::Writing
+    }
+}
+
+impl From<ReportStop> for Refusal {
+    ghost from_gives = { λ stop refusal. refusal ≡ refusal_of_report stop };
+
+    fn from(stop: ReportStop) -> Refusal {
+        match stop {
+            ReportStop::OutOfMemory => Refusal::Memory,
+            ReportStop::ReadFailed => Refusal::Reading(Role::File),
+            ReportStop::WriteFailed => Refusal::Writing,
+        }
+    }
+}
+
+impl From<RunStop> for Refusal {
+    ghost from_gives = { λ stop refusal. refusal ≡ refusal_of_run stop };
+
+    fn from(stop: RunStop) -> Refusal {
+        match stop {
+            RunStop::OutOfMemory => Refusal::Memory,
+            RunStop::ReadFailed(side) => Refusal::Reading(side.into()),
+            RunStop::Claim(cause) => Refusal::Claim(cause),
+            RunStop::WriteFailed => Refusal::Writing,
+        }
+    }
+}
