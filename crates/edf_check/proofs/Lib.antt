@@ -1,6 +1,7 @@
 pub mod CourseFacts
 pub mod KeptFacts
 pub mod VerdictFacts
+pub mod SomeVerdictFacts
 pub mod WordsFacts
 pub mod RunFacts
 pub mod ProductFacts

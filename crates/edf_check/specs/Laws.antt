@@ -26,6 +26,10 @@ use Rattle.edf_check.specs.Verdicts.{IsVerdict}
 abbrev pub OneVerdict : Type 0
 OneVerdict = (original export : List ℕ) (claim : Terms) (v w : Verdict) → IsVerdict original export claim v → IsVerdict original export claim w → v ≡ w
 
+-- under a claim that is read there is one
+abbrev pub SomeVerdict : Type 0
+SomeVerdict = (original export : List ℕ) (claim : Terms) → IsClaim claim → (v : Verdict) × IsVerdict original export claim v
+
 -- the verdict is a Yes
 abbrev pub IsYes : Verdict → Type 0
 IsYes verdict = (channels samples annotations : ℕ) × (verdict ≡ Yes channels samples annotations)

@@ -1,10 +1,16 @@
 //! Laws of the definitions, each the contract of a function that does nothing.
 
-ghost use Rattle.edf_check.specs.Laws.{OneVerdict, YesExactly, HeadlineExactly, SamplesInWords, NotesInWords, StartFollows, AllProductsFit};
+ghost use Rattle.edf_check.specs.Laws.{OneVerdict, SomeVerdict, YesExactly, HeadlineExactly, SamplesInWords, NotesInWords, StartFollows, AllProductsFit};
 
 /// Two files have one verdict at most.
 pub fn there_is_one_verdict()
     ensures { OneVerdict }
+{}
+
+/// Two files have a verdict under every claim that can be read: of any bytes there is an answer, and by the law before
+/// it is the only one.
+pub fn there_is_a_verdict()
+    ensures { SomeVerdict }
 {}
 
 /// Where there is a verdict, it is a Yes exactly where both files conform and the second is the export of

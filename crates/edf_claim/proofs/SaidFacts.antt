@@ -8,7 +8,7 @@ use Rattle.toml.specs.Data.{Data, string, array, Items, Members, no_members, mem
 use Rattle.edf_fields.specs.PrintableReading.{is_printable}
 use Rattle.edf_fields.specs.Onsets.{SpellsSpan}
 use Rattle.edf_fields.specs.OnsetsReading.{span_of}
-use Rattle.edf_fields.proofs.ForCallers.{le_decided, span_of_spelled, has-one_of, both-true, not-is, distinct-passes, le-passes, lt-passes, printable_decided}
+use Rattle.edf_fields.proofs.ForCallers.{le_decided, span_of_spelled, has-one_of, both-true, not-is, distinct-passes, le-passes, lt-passes, printable_decided, which-read, same-name}
 use Rattle.edf_claim.specs.Claims.{text_items, HasOnlyKeys, claim_keys, interval_keys, IsLabel, SaysInterval, AreIntervals, IsFollowedBy, AreInOrder, IsInterval, SaysFormat, SaysChannels, SaysKeep, SaysAnonymous, SaysShift, SaysRemove, SaysClaim, SaysOneClaim}
 use Rattle.edf_fields.specs.SubfieldNames.{name_of}
 use Rattle.edf_claim.specs.Terms.{Terms}
@@ -16,11 +16,10 @@ use Rattle.edf_claim.specs.Faults.{FailsOr, FirstTableFault, ThereIs, SaysClaimO
 use Rattle.edf_fields.specs.Lists.{Has, is_one_of}
 use Rattle.edf_fields.specs.Distinct.{AreDistinct, are_distinct}
 use Rattle.edf_claim.specs.Reading.{option_is, keys_are, texts_of, distinct_texts, is_format_one, is_label, channels_of, span_at, interval_from, interval_of, intervals_of, is_followed_by, are_in_order, keep_of, whiches_of, or_default, anonymous_of, shift_within, shift_of, remove_of, claim_fault, terms_of}
-use Rattle.edf_fields.specs.SubfieldNamesReading.{all_subfields, which_of}
+use Rattle.edf_fields.specs.SubfieldNamesReading.{which_of}
 use Rattle.edf_fields.specs.Tests.{first, unless}
 use Rattle.edf_claim.specs.declared.interval.Interval.{Interval}
 use Rattle.edf_fields.specs.declared.which.Which.{Which}
-use Rattle.edf_fields.specs.declared.which.Which.TheVariants.{Code, Sex, Birthdate, Name, PatientExtras, Date, Administration, Technician, Equipment, RecordingExtras}
 use Rattle.edf_claim.proofs.FaultFacts.{all-passed}
 use Rattle.edf_claim.proofs.ReadingFacts.{is-some, keys-tested, format-said, channels-said, keep-said, anonymous-said, shift-said, remove-said, terms-are, table-says}
 use Rattle.edf_claim.specs.declared.stop.ClaimStop.{ClaimStop}
@@ -107,28 +106,11 @@ keep-read entries kept s =
     (both-true (nat_lt 0 (length kept)) (nat_le (length kept) 1000 && are_in_order kept) (not-empty kept s.some)
     (both-true (nat_le (length kept) 1000) (are_in_order kept) ((le_decided (length kept) 1000).1 s.few) (order-passes kept s.in_order)))
 
--- each name is that of its subfield
-which-read : (w : Which) → which_of (name_of w) ≡ Some w
-unfolding which_of all_subfields
-which-read Code = refl
-which-read Sex = refl
-which-read Birthdate = refl
-which-read Name = refl
-which-read PatientExtras = refl
-which-read Date = refl
-which-read Administration = refl
-which-read Technician = refl
-which-read Equipment = refl
-which-read RecordingExtras = refl
-
 whiches-read : (ws : List Which) → whiches_of (map name_of ws) ≡ Some ws
 whiches-read [] = refl
 whiches-read (w ∷ ws) =
     ap (λ o. option_and_then (λ v. option_map (λ vs. v ∷ vs) (whiches_of (map name_of ws))) o) (which-read w)
     ∙ ap (option_map (λ vs. w ∷ vs)) (whiches-read ws)
-
-same-name : (v w : Which) → name_of v ≡ name_of w → v ≡ w
-same-name v w e = let h : Some v ≡ Some w = sym (which-read v) ∙ ap which_of e ∙ which-read w in cc
 
 named-has : (ws : List Which) (w : Which) → Has (map name_of ws) (name_of w) → Has ws w
 named-has [] w h = absurd h

@@ -12,5 +12,6 @@ pub use Rattle.edf_fields.proofs.PlaceFacts.{before_at, behind_at, before_none, 
 pub use Rattle.edf_fields.proofs.PrintableFacts.{printable_decided}
 pub use Rattle.edf_fields.proofs.ReadFacts.{take_behind}
 pub use Rattle.edf_fields.proofs.SubfieldLawFacts.{joined_found}
+pub use Rattle.edf_fields.proofs.SubfieldNameFacts.{which-read, same-name}
 pub use Rattle.edf_fields.proofs.TestFacts.{first-passed, first-found, alone, first-none, pass-append, first-cons, pass-cons, unless-passed, unless-true}
 pub use Rattle.edf_fields.proofs.ValueFacts.{whole_number-below, header_number-below}

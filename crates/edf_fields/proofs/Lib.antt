@@ -15,6 +15,7 @@ pub mod PlaceFacts
 pub mod PrintableFacts
 pub mod ReadFacts
 pub mod SubfieldFacts
+pub mod SubfieldNameFacts
 pub mod SubfieldLawFacts
 pub mod TestFacts
 pub mod ValueFacts

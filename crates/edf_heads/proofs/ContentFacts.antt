@@ -49,7 +49,7 @@ not-left Alike o e l none u v c d = absurd (channel-none o l none (u, c))
 not-right : (Alike : SignalHead → SignalHead → Type 0) (o e : Head) (l : List ℕ) → channel_of l e.signals ≡ None → AreAlike Alike o e l
 not-right Alike o e l none u v c d = absurd (channel-none e l none (v, d))
 
-differ-tested : (Alike : SignalHead → SignalHead → Type 0) (test : SignalHead → SignalHead → Bool) (o e : Head) (l : List ℕ) → ((x y : SignalHead) → test x y ≡ true → Alike x y → ⊥)
+pub differ-tested : (Alike : SignalHead → SignalHead → Type 0) (test : SignalHead → SignalHead → Bool) (o e : Head) (l : List ℕ) → ((x y : SignalHead) → test x y ≡ true → Alike x y → ⊥)
     → of_both test (channel_of l o.signals) (channel_of l e.signals) ≡ true → AreUnlike Alike o e l
 differ-tested Alike test o e l unlike t = tested-case (channel_of l o.signals) (channel_of l e.signals) refl refl t
   where
@@ -58,7 +58,7 @@ differ-tested Alike test o e l unlike t = tested-case (channel_of l o.signals) (
     tested-case (Some x) None there here t = absurd (let f : false ≡ true = t in cc)
     tested-case (Some x) (Some y) there here t = both-differ Alike o e l x y there here (unlike x y t)
 
-alike-tested : (Alike : SignalHead → SignalHead → Type 0) (test : SignalHead → SignalHead → Bool) (o e : Head) (l : List ℕ) → IsSound o → IsSound e → ((x y : SignalHead) → test x y ≡ false → Alike x y)
+pub alike-tested : (Alike : SignalHead → SignalHead → Type 0) (test : SignalHead → SignalHead → Bool) (o e : Head) (l : List ℕ) → IsSound o → IsSound e → ((x y : SignalHead) → test x y ≡ false → Alike x y)
     → of_both test (channel_of l o.signals) (channel_of l e.signals) ≡ false → AreAlike Alike o e l
 alike-tested Alike test o e l so se alike f = tested-case (channel_of l o.signals) (channel_of l e.signals) refl refl f
   where
@@ -94,11 +94,11 @@ text-case o e l so se (Some x) (Some y) there here = field-case (bytes_eq x.tran
     )
 
 -- what is said of the first of these labels whose channels differ in a text
-abbrev TextsOf : Head → Head → List (List ℕ) → Option (List ℕ × TextField) → Type 0
+abbrev pub TextsOf : Head → Head → List (List ℕ) → Option (List ℕ × TextField) → Type 0
 TextsOf o e labels found =
     MatchOption found ((l : List ℕ) → Has labels l → AreAlike HaveSameTexts o e l) (λ d. IsFirstWith (AreUnlike HaveSameTexts o e) labels d.0 × IsFirstText o e d.0 d.1)
 
-texts-found : (o e : Head) → IsSound o → IsSound e → (labels : List (List ℕ)) → TextsOf o e labels (first_text_difference (map (claimed_of o.signals e.signals) labels))
+pub texts-found : (o e : Head) → IsSound o → IsSound e → (labels : List (List ℕ)) → TextsOf o e labels (first_text_difference (map (claimed_of o.signals e.signals) labels))
 texts-found o e so se [] = λ l h. absurd h
 texts-found o e so se (l ∷ ls) =
     step (text_difference_of (channel_of l o.signals) (channel_of l e.signals)) (text-case o e l so se (channel_of l o.signals) (channel_of l e.signals) refl refl)
@@ -132,14 +132,14 @@ empty-is : (xs : List ℕ) → (length xs == 0) ≡ true → xs ≡ []
 empty-is [] h = refl
 empty-is (x ∷ xs) h = absurd (let e : suc (length xs) ≡ 0 = (Decides-eqb (suc (length xs)) 0).0 h in omega (arith, e))
 
-text-there : (e : Head) (l : List ℕ) → has_text (channel_of l e.signals) ≡ true → HasFreeText e l
+pub text-there : (e : Head) (l : List ℕ) → has_text (channel_of l e.signals) ≡ true → HasFreeText e l
 text-there e l t = there-case (channel_of l e.signals) refl t
   where
     there-case : (p : Option SignalHead) → channel_of l e.signals ≡ p → has_text p ≡ true → HasFreeText e l
     there-case None q t = absurd (let f : false ≡ true = t in cc)
     there-case (Some x) q t = (x, channel-some e l x q, λ none. let f : false ≡ true = sym (ap (λ (xs : List ℕ). not (length xs == 0)) none) ∙ t in cc)
 
-no-text : (e : Head) (l : List ℕ) → IsSound e → has_text (channel_of l e.signals) ≡ false → HasFreeText e l → ⊥
+pub no-text : (e : Head) (l : List ℕ) → IsSound e → has_text (channel_of l e.signals) ≡ false → HasFreeText e l → ⊥
 no-text e l se f h =
     let g : not (length (h.0).reserved == 0) ≡ false = sym (ap has_text (channel-is e l h.0 se h.1)) ∙ f in
     h.2 (empty-is (h.0).reserved (untrue (length (h.0).reserved == 0) g))
@@ -213,7 +213,7 @@ line-decided l m =
     Decides-and (int_eq (physical_span l *ℤ digital_span m) (physical_span m *ℤ digital_span l)) (int_eq (offset_times_span l *ℤ digital_span m) (offset_times_span m *ℤ digital_span l))
     (Decides-int_eq (physical_span l *ℤ digital_span m) (physical_span m *ℤ digital_span l)) (Decides-int_eq (offset_times_span l *ℤ digital_span m) (offset_times_span m *ℤ digital_span l))
 
-other-calibration : (x y : SignalHead) → has_other_calibration x y ≡ true → HaveSameCalibration x y → ⊥
+pub other-calibration : (x y : SignalHead) → has_other_calibration x y ≡ true → HaveSameCalibration x y → ⊥
 other-calibration x y t h =
     let d = (bytes_eq-Decides x.dimension y.dimension).1 h.dimension in
     let l = (line-decided x.calibration y.calibration).1 h.line in
@@ -221,7 +221,7 @@ other-calibration x y t h =
     let g : true ≡ false = sym t ∙ f in
     cc
 
-same-calibration : (x y : SignalHead) → has_other_calibration x y ≡ false → HaveSameCalibration x y
+pub same-calibration : (x y : SignalHead) → has_other_calibration x y ≡ false → HaveSameCalibration x y
 same-calibration x y f =
     let both = neither (bytes_eq x.dimension y.dimension) (is_same_line x.calibration y.calibration) f in
     record { dimension = (bytes_eq-Decides x.dimension y.dimension).0 both.0; line = (line-decided x.calibration y.calibration).0 both.1 }

@@ -3,3 +3,4 @@ pub use Rattle.edf_heads.proofs.HeadFacts.{labels-distinct, has-label, label-has
 pub use Rattle.edf_heads.proofs.LabelFacts.{not_below, one-label}
 pub use Rattle.edf_heads.proofs.ListFacts.{Parted, parted}
 pub use Rattle.edf_heads.proofs.OneHeadFacts.{either-one, one_head_verdict}
+pub use Rattle.edf_heads.proofs.SomeHeadFacts.{not-above-self, not-above-behind, one-not-above, AgreeOrDiffer, agree_or_differ}

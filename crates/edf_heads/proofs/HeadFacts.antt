@@ -69,7 +69,7 @@ claimed-unless labels l h = unless-case (is_one_of labels l) refl
     unless-case true t = one_of-has labels l t
     unless-case false f = absurd (h (λ i. let g : true ≡ false = sym (has-one_of labels l i) ∙ f in cc))
 
-has_only : (h : Head) (claim : Terms) → IsSound h → IsClaim claim → HasNoExtra h claim.channels → HasOnly h claim.channels
+pub has_only : (h : Head) (claim : Terms) → IsSound h → IsClaim claim → HasNoExtra h claim.channels → HasOnly h claim.channels
 has_only h claim sound is none = λ there.
     same-members claim.channels (channel_labels h.signals) is.distinct_channels (labels-distinct h.signals sound.standard.distinct)
     (λ l i. has-label h l (there l i))

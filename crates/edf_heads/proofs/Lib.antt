@@ -6,4 +6,5 @@ pub mod LabelFacts
 pub mod ListFacts
 pub mod SubfieldFacts
 pub mod OneHeadFacts
+pub mod SomeHeadFacts
 pub mod ForCallers

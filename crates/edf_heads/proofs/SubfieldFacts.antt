@@ -23,20 +23,20 @@ use Rattle.edf_verdict.specs.declared.verdict.SubfieldMismatch.{SubfieldMismatch
 pub x_tested : (b : Bool) (t : List ℕ) → b ≡ is_x t → IsTrue b ↔ IsX t
 x_tested b t e = (λ h. (bytes_eq-Decides t _).0 (sym e ∙ h), λ h. e ∙ (bytes_eq-Decides t _).1 h)
 
-all-x : (ts : List (List ℕ)) → list_all is_x ts ≡ true → AreAllX ts
+pub all-x : (ts : List (List ℕ)) → list_all is_x ts ≡ true → AreAllX ts
 all-x [] h t there = absurd there
 all-x (u ∷ us) h t there =
     let both = and-true (is_x u) (list_all is_x us) h in
     ⊎_elim (λ e. sym e ∙ (bytes_eq-Decides u _).0 both.0) (λ i. all-x us both.1 t i) there
 
-x-all : (ts : List (List ℕ)) → AreAllX ts → list_all is_x ts ≡ true
+pub x-all : (ts : List (List ℕ)) → AreAllX ts → list_all is_x ts ≡ true
 x-all [] h = refl
 x-all (u ∷ us) h = both-true (is_x u) (list_all is_x us) ((bytes_eq-Decides u _).1 (h u (inl refl))) (x-all us (λ t i. h t (inr i)))
 
 pub all_x_tested : (b : Bool) (ts : List (List ℕ)) → b ≡ list_all is_x ts → IsTrue b ↔ AreAllX ts
 all_x_tested b ts e = (λ h. all-x ts (sym e ∙ h), λ h. e ∙ x-all ts h)
 
-same-is : (ts us : List (List ℕ)) → are_same ts us ≡ true → ts ≡ us
+pub same-is : (ts us : List (List ℕ)) → are_same ts us ≡ true → ts ≡ us
 same-is [] [] h = refl
 same-is [] (u ∷ us) h = absurd (let f : false ≡ true = h in cc)
 same-is (t ∷ ts) [] h = absurd (let f : false ≡ true = h in cc)
@@ -44,7 +44,7 @@ same-is (t ∷ ts) (u ∷ us) h =
     let both = and-true (bytes_eq t u) (are_same ts us) h in
     ap (λ x. x ∷ ts) ((bytes_eq-Decides t u).0 both.0) ∙ ap (λ xs. u ∷ xs) (same-is ts us both.1)
 
-same-self : (ts : List (List ℕ)) → are_same ts ts ≡ true
+pub same-self : (ts : List (List ℕ)) → are_same ts ts ≡ true
 same-self [] = refl
 same-self (t ∷ ts) = both-true (bytes_eq t t) (are_same ts ts) ((bytes_eq-Decides t t).1 refl) (same-self ts)
 
@@ -118,7 +118,7 @@ pub found_none : (o e : Head) (claim : Terms) (ws : List Which) (i : ℕ) → le
 found_none o e claim ws i le = subst (λ (xs : List Which). IsFoundAmong o e claim xs None) (sym (drop_all i ws le)) (λ w h. absurd h)
 
 -- every subfield is one of them
-has-all : (w : Which) → Has all_subfields w
+pub has-all : (w : Which) → Has all_subfields w
 unfolding all_subfields
 has-all Code = inl refl
 has-all Sex = inr (inl refl)

@@ -16,20 +16,20 @@ use Rattle.edf_check.specs.Annotations.{note_cmp, times, IsMore, IsFirstNote, Sa
 use Rattle.edf_check.specs.notes.NoteOrder.{AreInOrder, NoteMismatch, by_order, first_unequal_of}
 use Rattle.edf_check.proofs.notes.NoteFacts.{note-total}
 
-abbrev once : Bool → ℕ
+abbrev pub once : Bool → ℕ
 once b = cond b 1 0
 
-turn : (x y : NoteValue) (o : Ordering) → note_cmp x y ≡ o → note_cmp y x ≡ ordering_reverse o
+pub turn : (x y : NoteValue) (o : Ordering) → note_cmp x y ≡ o → note_cmp y x ≡ ordering_reverse o
 turn x y o e = note-total.antisymm y x ∙ ap ordering_reverse e
 
-times-cons : (x : NoteValue) (xs : List NoteValue) (n : NoteValue) → times (x ∷ xs) n ≡ once (is_eq (note_cmp x n)) + times xs n
+pub times-cons : (x : NoteValue) (xs : List NoteValue) (n : NoteValue) → times (x ∷ xs) n ≡ once (is_eq (note_cmp x n)) + times xs n
 times-cons x xs n = sum_by-cons (λ other. once (is_eq (note_cmp other n))) x xs
 
 -- no member is before the annotation
-abbrev AreFrom : NoteValue → List NoteValue → Type 0
+abbrev pub AreFrom : NoteValue → List NoteValue → Type 0
 AreFrom y xs = (m : NoteValue) → Has xs m → note_cmp m y ≢ Less
 
-from-head : (x : NoteValue) (xs : List NoteValue) → AreInOrder (x ∷ xs) → AreFrom x (x ∷ xs)
+pub from-head : (x : NoteValue) (xs : List NoteValue) → AreInOrder (x ∷ xs) → AreFrom x (x ∷ xs)
 from-head x xs a m h e =
     ⊎_elim
     (λ i. let f : note_cmp m x ≡ Equal = subst (λ z. note_cmp z x ≡ Equal) i (tied_itself note-total x) in let g : Less ≡ Equal = sym e ∙ f in absurd (let j : Less ≡ Equal = g in cc))
@@ -74,15 +74,15 @@ with-heads : (x : NoteValue) (xs : List NoteValue) (y : NoteValue) (ys : List No
 with-heads x xs y ys e n =
     (once (is_eq (note_cmp x n)), times-cons x xs n, times-cons y ys n ∙ ap (λ o. once (is_eq o) + times ys n) (sym (note-total.congr x y n e)))
 
-more-with : (m : AnnotationMismatch) (a b k p q : ℕ) → p ≡ k + a → q ≡ k + b → IsMore m a b → IsMore m p q
+pub more-with : (m : AnnotationMismatch) (a b k p q : ℕ) → p ≡ k + a → q ≡ k + b → IsMore m a b → IsMore m p q
 more-with Missing a b k p q e f h = omega (arith, e, f, h)
 more-with Extra a b k p q e f h = omega (arith, e, f, h)
 
-abbrev Answer : List NoteValue → List NoteValue → Option NoteMismatch → Type 0
+abbrev pub Answer : List NoteValue → List NoteValue → Option NoteMismatch → Type 0
 Answer xs ys o = MatchOption o (SameNotes xs ys) (λ d. IsFirstNote xs ys d.mismatch d.note)
 
 -- none exactly where each stands equally often, else the first that doesn't
-unequal-exact : (xs ys : List NoteValue) → AreInOrder xs → AreInOrder ys → Answer xs ys (first_unequal_of xs ys)
+pub unequal-exact : (xs ys : List NoteValue) → AreInOrder xs → AreInOrder ys → Answer xs ys (first_unequal_of xs ys)
 unequal-exact [] [] a b = λ n. refl
 unequal-exact [] (y ∷ ys) a b = head-extra [] y ys b (λ n e. refl) refl
 unequal-exact (x ∷ xs) [] a b = head-missing x xs [] a (λ n e. refl) refl

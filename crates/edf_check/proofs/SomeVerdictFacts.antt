@@ -1,0 +1,224 @@
+-- Two files have a verdict under a claim.
+use Rattle.std.proofs.Common.{Ordering, Less, Equal, Greater, ◌≡◌, ◌≢◌, ℕ, zero, suc, ◌+◌, ◌*◌, ◌≤◌, ℤ, neg_ℤ, ◌+ℤ◌, List, [], ◌∷◌, length, map, Option, Some, None, MatchOption, slice_get, ◌⊎◌, inl, inr, ⊎_elim, refl, sym, ap, ◌∙◌, subst, arith}
+use Rattle.std.specs.Ordering.{is_eq}
+use Rattle.edf_claim.specs.Claims.{IsClaim}
+use Rattle.edf_claim.specs.Terms.{Terms}
+use Rattle.edf_fields.specs.declared.fault.Fault.{Fault}
+use Rattle.edf_fields.specs.Lists.{Has}
+use Rattle.edf_fields.proofs.ForCallers.{has-at}
+use Rattle.edf_header.specs.Channels.{channels_among}
+use Rattle.edf_header.specs.Heads.{samples_together}
+use Rattle.edf_header.specs.HeadsReading.{head_of}
+use Rattle.edf_stream.specs.Conforming.{Conforms}
+use Rattle.edf_stream.specs.Faults.{file_fault}
+use Rattle.edf_stream.specs.Notes.{NoteValue}
+use Rattle.edf_stream.specs.NotesReading.{notes_of}
+use Rattle.edf_stream.specs.SamplesReading.{samples_of}
+use Rattle.edf_stream.proofs.ForCallers.{head-is, conforming_is_faultless}
+use Rattle.edf_verdict.specs.declared.verdict.AnnotationMismatch.{AnnotationMismatch}
+use Rattle.edf_verdict.specs.declared.verdict.SampleMismatch.{SampleMismatch}
+use Rattle.edf_verdict.specs.declared.verdict.Verdict.{Verdict}
+use Rattle.edf_verdict.specs.declared.verdict.Verdict.TheVariants.{Yes, No}
+use Rattle.edf_verdict.specs.declared.verdict.Difference.TheVariants as differences
+use Rattle.edf_heads.specs.HeadVerdicts.{HeadsAgree}
+use Rattle.edf_heads.specs.Labels.{IsNotAbove}
+use Rattle.edf_heads.proofs.ForCallers.{not-above-self, not-above-behind, one-not-above, agree_or_differ}
+use Rattle.edf_check.specs.Annotations.{note_cmp, times, IsFirstNote, SameNotes}
+use Rattle.edf_check.specs.Courses.{Agree, IsFirstMismatch}
+use Rattle.edf_check.specs.Exports.{BothConform, SameSamples}
+use Rattle.edf_check.specs.Kept.{shift_ps}
+use Rattle.edf_check.specs.KeptReading.{origin_of, KeptAt, ExportedAt, kept_notes, exported_notes}
+use Rattle.edf_check.specs.Laws.{SomeVerdict}
+use Rattle.edf_check.specs.Verdicts.{IsVerdict}
+use Rattle.edf_check.specs.declared.samples.earliest.Found.{Found}
+use Rattle.edf_check.specs.notes.NoteOrder.{AreInOrder, NoteMismatch, first_unequal_of}
+use Rattle.edf_check.specs.samples.Columns.{Sampled, Column, KeptIn, ExportedIn, LabelsRise, difference_of, AreNights}
+use Rattle.edf_check.specs.samples.Earliest.{earliest}
+use Rattle.edf_check.proofs.CourseFacts.{agree-alike, first-alike}
+use Rattle.edf_check.proofs.notes.NoteFacts.{note-total}
+use Rattle.edf_check.proofs.notes.NoteOrderFacts.{once, turn, times-cons, from-head, more-with, Answer, unequal-exact}
+use Rattle.edf_check.proofs.samples.ColumnFacts.{named, first-is-first}
+use Rattle.edf_check.proofs.walk.NightFacts.{sound-head, AreClaimed, columns_of, kept-agree, exported-agree, are-columns}
+use Rattle.edf_check.proofs.walk.WalkFacts.{of_heads}
+
+-- ---- labels in order
+
+abbrev Rising : List (List ℕ) → Type 0
+Rising [] = Unit {0}
+Rising (x ∷ xs) = ((y : List ℕ) → Has xs y → IsNotAbove x y) × Rising xs
+
+-- the lists have the same members
+abbrev SameMembers : List (List ℕ) → List (List ℕ) → Type 0
+SameMembers xs ys = (l : List ℕ) → (Has xs l → Has ys l) × (Has ys l → Has xs l)
+
+put-label : (x : List ℕ) (xs : List (List ℕ)) → Rising xs → (ys : List (List ℕ)) × Rising ys × SameMembers ys (x ∷ xs)
+put-label x [] up = (x ∷ [], (λ y h. absurd h, tt), λ l. (λ h. h, λ h. h))
+put-label x (y ∷ ys) up = cases (one-not-above x y) (put-label x ys up.1)
+  where
+    cases : IsNotAbove x y ⊎ IsNotAbove y x → (zs : List (List ℕ)) × Rising zs × SameMembers zs (x ∷ ys) → (zs : List (List ℕ)) × Rising zs × SameMembers zs (x ∷ y ∷ ys)
+    cases (inl le) r = (x ∷ y ∷ ys, (λ z h. ⊎_elim (λ e. subst (IsNotAbove x) e le) (λ i. not-above-behind x y z le (up.0 z i)) h, up), λ l. (λ h. h, λ h. h))
+    cases (inr le) r = (
+      y ∷ r.0,
+      (λ z h. ⊎_elim (λ e. subst (IsNotAbove y) e le) (λ i. up.0 z i) ((r.2 z).0 h), r.1),
+      λ l. (
+        λ h. ⊎_elim (λ e. inr (inl e)) (λ i. ⊎_elim (λ e. inl e) (λ j. inr (inr j)) ((r.2 l).0 i)) h,
+        λ h. ⊎_elim (λ e. inr ((r.2 l).1 (inl e))) (λ i. ⊎_elim (λ e. inl e) (λ j. inr ((r.2 l).1 (inr j))) i) h,
+      ),
+    )
+
+labels-in-order : (xs : List (List ℕ)) → (ys : List (List ℕ)) × Rising ys × SameMembers ys xs
+labels-in-order [] = ([], tt, λ l. (λ h. h, λ h. h))
+labels-in-order (x ∷ xs) =
+    let r = labels-in-order xs in
+    let p = put-label x r.0 r.1 in
+    (p.0, p.1, λ l. (λ h. ⊎_elim (λ e. inl e) (λ i. inr ((r.2 l).0 i)) ((p.2 l).0 h), λ h. (p.2 l).1 (⊎_elim (λ e. inl e) (λ i. inr ((r.2 l).1 i)) h)))
+
+labels-rise : (xs : List (List ℕ)) → Rising xs → LabelsRise xs
+labels-rise [] up i j label other le a b = absurd (let z : None ≡ Some label = a in cc)
+labels-rise (x ∷ xs) up zero zero label other le a b =
+    let p : x ≡ label = (let z : Some x ≡ Some label = a in cc) in
+    let q : x ≡ other = (let z : Some x ≡ Some other = b in cc) in
+    subst (IsNotAbove label) (sym p ∙ q) (not-above-self label)
+labels-rise (x ∷ xs) up zero (suc j) label other le a b =
+    let p : x ≡ label = (let z : Some x ≡ Some label = a in cc) in
+    subst (λ l. IsNotAbove l other) p (up.0 other (has-at xs j other b))
+labels-rise (x ∷ xs) up (suc i) zero label other le a b = absurd (omega (arith, le))
+labels-rise (x ∷ xs) up (suc i) (suc j) label other le a b = labels-rise xs up.1 i j label other (omega (arith, le)) a b
+
+-- ---- annotations in order
+
+put-note : (x : NoteValue) (xs : List NoteValue) → AreInOrder xs
+    → (ys : List NoteValue) × AreInOrder ys × ((n : NoteValue) → Has ys n → Has (x ∷ xs) n) × ((n : NoteValue) → times ys n ≡ times (x ∷ xs) n)
+put-note x [] up = (x ∷ [], (λ y h. absurd h, tt), λ n h. h, λ n. refl)
+put-note x (y ∷ ys) up = cases (note_cmp x y) refl (put-note x ys up.1)
+  where
+    Put : List NoteValue → Type 0
+    Put xs = (zs : List NoteValue) × AreInOrder zs × ((n : NoteValue) → Has zs n → Has (x ∷ xs) n) × ((n : NoteValue) → times zs n ≡ times (x ∷ xs) n)
+
+    front : ((z : NoteValue) → Has (y ∷ ys) z → note_cmp z x ≢ Less) → Put (y ∷ ys)
+    front before = (x ∷ y ∷ ys, (before, up), λ n h. h, λ n. refl)
+
+    cases : (o : Ordering) → note_cmp x y ≡ o → Put ys → Put (y ∷ ys)
+    cases Less e r = front (λ z h l. from-head y ys up z h (note-total.trans z x y l e))
+    cases Equal e r = front (λ z h l. from-head y ys up z h (turn y z Greater (sym (note-total.congr x y z e) ∙ turn z x Less l)))
+    cases Greater e r = (
+      y ∷ r.0,
+      (λ z h l. ⊎_elim (λ q. let f : Greater ≡ Less = sym e ∙ ap (λ w. note_cmp w y) q ∙ l in absurd (let g : Greater ≡ Less = f in cc)) (λ i. up.0 z i l) (r.2 z h), r.1),
+      λ n h. ⊎_elim (λ q. inr (inl q)) (λ i. ⊎_elim (λ q. inl q) (λ j. inr (inr j)) (r.2 n i)) h,
+      λ n.
+          let a = times-cons y r.0 n in
+          let b = r.3 n in
+          let c = times-cons x ys n in
+          let d = times-cons x (y ∷ ys) n in
+          let f = times-cons y ys n in
+          omega (arith, a, b, c, d, f),
+    )
+
+notes-in-order : (xs : List NoteValue) → (ys : List NoteValue) × AreInOrder ys × ((n : NoteValue) → times ys n ≡ times xs n)
+notes-in-order [] = ([], tt, λ n. refl)
+notes-in-order (x ∷ xs) =
+    let r = notes-in-order xs in
+    let p = put-note x r.0 r.1 in
+    (p.0, p.1, λ n. p.3 n ∙ times-cons x r.0 n ∙ ap (λ k. once (is_eq (note_cmp x n)) + k) (r.2 n) ∙ sym (times-cons x xs n))
+
+same-or-first : (kept exported : List NoteValue) → SameNotes kept exported ⊎ ((m : AnnotationMismatch) × (n : NoteValue) × IsFirstNote kept exported m n)
+same-or-first kept exported =
+    let a = notes-in-order kept in
+    let b = notes-in-order exported in
+    back a.0 b.0 a.2 b.2 (first_unequal_of a.0 b.0) (unequal-exact a.0 b.0 a.1 b.1)
+  where
+    back : (xs ys : List NoteValue) → ((n : NoteValue) → times xs n ≡ times kept n) → ((n : NoteValue) → times ys n ≡ times exported n) → (o : Option NoteMismatch) → Answer xs ys o
+        → SameNotes kept exported ⊎ ((m : AnnotationMismatch) × (n : NoteValue) × IsFirstNote kept exported m n)
+    back xs ys p q None h = inl (λ n. sym (p n) ∙ h n ∙ q n)
+    back xs ys p q (Some d) h =
+        let a = p d.note in
+        let b = q d.note in
+        inr (d.mismatch, d.note, record {
+          differ = more-with d.mismatch (times xs d.note) (times ys d.note) 0 (times kept d.note) (times exported d.note) (omega (arith, a)) (omega (arith, b)) h.differ;
+          least = λ n l. sym (p n) ∙ h.least n l ∙ q n;
+        })
+
+-- ---- samples
+
+abbrev OrMismatch : List ℕ → List ℕ → Terms → Type 0
+OrMismatch o e c = SameSamples o e c ⊎ ((l : List ℕ) × (ps : ℤ) × (m : SampleMismatch) × IsFirstMismatch (KeptAt o c) (ExportedAt o e c) l ps m)
+
+agree-or-mismatch : (o e : List ℕ) (c : Terms) → BothConform o e → HeadsAgree (head_of o) (head_of e) c → OrMismatch o e c
+agree-or-mismatch o e c both agree = cases (earliest 0 (map difference_of cs)) (first-is-first cs (are-columns o e c x y labels nights claimed (labels-rise labels sorted.1)))
+  where
+    x : Sampled
+    x = record { head = head_of o; samples = samples_of o (head_of o); moved = neg_ℤ (origin_of o) }
+
+    y : Sampled
+    y = record { head = head_of e; samples = samples_of e (head_of e); moved = neg_ℤ (origin_of o +ℤ shift_ps c) }
+
+    nights : AreNights o e c x y
+    nights = record { conform = both; agree = agree; original_head = refl; original_samples = refl; original_moved = refl; export_head = refl; export_samples = refl; export_moved = refl }
+
+    sorted : (ys : List (List ℕ)) × Rising ys × SameMembers ys c.channels
+    sorted = labels-in-order c.channels
+
+    labels : List (List ℕ)
+    labels = sorted.0
+
+    claimed : AreClaimed c labels
+    claimed l = sorted.2 l
+
+    cs : List Column
+    cs = columns_of c x y labels
+
+    kept : Agree (KeptIn cs) (KeptAt o c)
+    kept = kept-agree o e c x y labels nights claimed
+
+    exported : Agree (ExportedIn cs) (ExportedAt o e c)
+    exported = exported-agree o e c x y labels nights claimed
+
+    cases : (found : Option Found) → MatchOption found (Agree (KeptIn cs) (ExportedIn cs)) (λ f. IsFirstMismatch (KeptIn cs) (ExportedIn cs) (named cs f).label (named cs f).at_ps (named cs f).mismatch) → OrMismatch o e c
+    cases None h = inl (agree-alike (KeptIn cs) (KeptAt o c) (ExportedIn cs) (ExportedAt o e c) kept exported h)
+    cases (Some f) h = inr (
+      (named cs f).label,
+      (named cs f).at_ps,
+      (named cs f).mismatch,
+      first-alike (KeptIn cs) (KeptAt o c) (ExportedIn cs) (ExportedAt o e c) kept exported (named cs f).label (named cs f).at_ps (named cs f).mismatch h,
+    )
+
+-- ---- the verdict, from its last kind to the first
+
+abbrev HasVerdict : List ℕ → List ℕ → Terms → Type 0
+HasVerdict o e c = (v : Verdict) × IsVerdict o e c v
+
+from-notes : (o e : List ℕ) (c : Terms) → BothConform o e → HeadsAgree (head_of o) (head_of e) c → SameSamples o e c → HasVerdict o e c
+from-notes o e c both agree samples =
+    ⊎_elim
+    (λ same. (
+      Yes (length (channels_among (head_of e).signals)) ((head_of e).records * samples_together (channels_among (head_of e).signals)) (length (notes_of e (head_of e))),
+      (both, record { heads = agree; samples = samples; notes = same }, record { channels_are = refl; samples_are = refl; annotations_are = refl }),
+    ))
+    (λ r. (No (differences.Annotation r.0 (r.1).onset (r.1).duration (r.1).text), (both, agree, samples, r.2)))
+    (same-or-first (kept_notes o c) (exported_notes o e c))
+
+from-samples : (o e : List ℕ) (c : Terms) → BothConform o e → HeadsAgree (head_of o) (head_of e) c → HasVerdict o e c
+from-samples o e c both agree =
+    ⊎_elim (λ same. from-notes o e c both agree same) (λ r. (No (differences.Sample r.0 r.1 r.2), (both, agree, r.3))) (agree-or-mismatch o e c both agree)
+
+from-heads : (o e : List ℕ) (c : Terms) → IsClaim c → BothConform o e → HasVerdict o e c
+from-heads o e c is both =
+    ⊎_elim (λ agree. from-samples o e c both agree) (λ r. (r.0, of_heads o e c r.0 both r.1))
+    (agree_or_differ (head_of o) (head_of e) c (sound-head o both.original_conforms) (sound-head e both.export_conforms) is)
+
+conforms-or-not : (file : List ℕ) → Conforms file (head_of file) ⊎ ((fault : Fault) × (file_fault file ≡ Some fault))
+conforms-or-not file = cases (file_fault file) refl
+  where
+    cases : (o : Option Fault) → file_fault file ≡ o → Conforms file (head_of file) ⊎ ((fault : Fault) × (file_fault file ≡ Some fault))
+    cases None e = let r = (conforming_is_faultless file).0 e in inl (subst (Conforms file) (head-is file r.0 (r.1).header).1 r.1)
+    cases (Some fault) e = inr (fault, e)
+
+pub some_verdict : SomeVerdict
+some_verdict o e c is =
+    ⊎_elim
+    (λ there. ⊎_elim
+      (λ here. from-heads o e c is (record { original_conforms = there; export_conforms = here }))
+      (λ r. (No (differences.ExportFault r.0), ((conforming_is_faultless o).1 (head_of o, there), r.1)))
+      (conforms-or-not e))
+    (λ r. (No (differences.OriginalFault r.0), r.1))
+    (conforms-or-not o)
