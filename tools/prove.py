@@ -144,17 +144,16 @@ def prove_all(verb, below, length, names, lanes, log, room):
     while left or running:
         ready = [name for name in left if done.issuperset(below[name])]
         for name in ready:
-            # the one with the most behind it goes first on all processors; others yield to it, the more the less
-            # is behind them
-            is_first = all(behind(name) >= behind(run.name) for run, _ in running)
+            # the one with the most behind it goes first; others yield to it, the more the less is behind them
+            most = max([behind(name)] + [behind(run.name) for run, _ in running])
             before_it = sum(jobs for run, jobs in running if behind(run.name) >= behind(name))
             free = min(2 * lanes - before_it, 3 * lanes - sum(jobs for _, jobs in running))
             if free < 1 or verb == "check" and running:
                 break
-            jobs = min(4, lanes if is_first else 2, free)
+            jobs = min(4, lanes if 2 * behind(name) >= most else 2, free)
             words = words_of(name, verb, any(name in below[it] for it in names), jobs)
             top = copy_of(needed(below, name), room) if running else TOP
-            nice = 0 if is_first else min(19, 38 - 38 * behind(name) // max(behind(run.name) for run, _ in running))
+            nice = min(19, 20 - 20 * behind(name) // most)
             running.append((Run(name, ["nice", "-n", str(nice), *words], log, top), jobs))
             left.remove(name)
         time.sleep(0.2)

@@ -133,10 +133,14 @@ same-or-first kept exported =
     back xs ys p q (Some d) h =
         let a = p d.note in
         let b = q d.note in
-        inr (d.mismatch, d.note, record {
-          differ = more-with d.mismatch (times xs d.note) (times ys d.note) 0 (times kept d.note) (times exported d.note) (omega (arith, a)) (omega (arith, b)) h.differ;
-          least = λ n l. sym (p n) ∙ h.least n l ∙ q n;
-        })
+        inr (
+          d.mismatch,
+          d.note,
+          record {
+            differ = more-with d.mismatch (times xs d.note) (times ys d.note) 0 (times kept d.note) (times exported d.note) (omega (arith, a)) (omega (arith, b)) h.differ;
+            least = λ n l. sym (p n) ∙ h.least n l ∙ q n;
+          },
+        )
 
 -- ---- samples
 
@@ -217,8 +221,8 @@ pub some_verdict : SomeVerdict
 some_verdict o e c is =
     ⊎_elim
     (λ there. ⊎_elim
-      (λ here. from-heads o e c is (record { original_conforms = there; export_conforms = here }))
-      (λ r. (No (differences.ExportFault r.0), ((conforming_is_faultless o).1 (head_of o, there), r.1)))
-      (conforms-or-not e))
+    (λ here. from-heads o e c is (record { original_conforms = there; export_conforms = here }))
+    (λ r. (No (differences.ExportFault r.0), ((conforming_is_faultless o).1 (head_of o, there), r.1)))
+    (conforms-or-not e))
     (λ r. (No (differences.OriginalFault r.0), r.1))
     (conforms-or-not o)

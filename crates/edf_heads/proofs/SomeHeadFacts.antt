@@ -40,15 +40,15 @@ use Rattle.edf_heads.proofs.SubfieldFacts.{all-x, x-all, same-is, same-self, cla
 -- ---- what a test decides
 
 by-test : {P Q : Type 0} (b : Bool) → (b ≡ true → P) → (b ≡ false → Q) → P ⊎ Q
-by-test true yes no = inl (yes refl)
-by-test false yes no = inr (no refl)
+by-test true so not-so = inl (so refl)
+by-test false so not-so = inr (not-so refl)
 
 -- it holds, or it doesn't
 abbrev Decided : Type 0 → Type 0
 Decided P = P ⊎ (P → ⊥)
 
 tested : {P : Type 0} (b : Bool) → (b ≡ true → P) → (P → b ≡ true) → Decided P
-tested b yes no = by-test b yes (λ f p. let g : true ≡ false = sym (no p) ∙ f in cc)
+tested b so back = by-test b so (λ f p. let g : true ≡ false = sym (back p) ∙ f in cc)
 
 -- ---- all of a list, or the first that isn't so
 
