@@ -13,19 +13,19 @@ use Rattle.edf_refusal.specs.Stops.{stop_of_claim}
 use Rattle.edf_check.specs.Verdicts.{IsVerdict}
 
 -- what is said of a cause other than want of memory is said of the run that stops by it
-pub claim_refused : (refused : ClaimStop → Type 0) (original export failed : Type 0) (stop : ClaimStop)
+pub claim_refused : (refused : ClaimStop → Type 0) (original export failed none : Type 0) (stop : ClaimStop) → none
     → (stop ≢ claims.OutOfMemory → refused stop)
-    → RunStops (λ cause. (cause ≢ claims.OutOfMemory) × refused cause) original export failed (stop_of_claim stop)
-claim_refused refused original export failed claims.OutOfMemory h = tt
-claim_refused refused original export failed claims.TooLong h = let n : claims.TooLong ≢ claims.OutOfMemory = λ same. cc in (n, h n)
-claim_refused refused original export failed claims.NotToml h = let n : claims.NotToml ≢ claims.OutOfMemory = λ same. cc in (n, h n)
-claim_refused refused original export failed claims.BadFormat h = let n : claims.BadFormat ≢ claims.OutOfMemory = λ same. cc in (n, h n)
-claim_refused refused original export failed claims.UnknownKey h = let n : claims.UnknownKey ≢ claims.OutOfMemory = λ same. cc in (n, h n)
-claim_refused refused original export failed claims.BadChannels h = let n : claims.BadChannels ≢ claims.OutOfMemory = λ same. cc in (n, h n)
-claim_refused refused original export failed claims.BadKeep h = let n : claims.BadKeep ≢ claims.OutOfMemory = λ same. cc in (n, h n)
-claim_refused refused original export failed claims.BadAnonymous h = let n : claims.BadAnonymous ≢ claims.OutOfMemory = λ same. cc in (n, h n)
-claim_refused refused original export failed claims.BadShift h = let n : claims.BadShift ≢ claims.OutOfMemory = λ same. cc in (n, h n)
-claim_refused refused original export failed claims.BadRemove h = let n : claims.BadRemove ≢ claims.OutOfMemory = λ same. cc in (n, h n)
+    → RunStops (λ cause. (cause ≢ claims.OutOfMemory) × refused cause) original export failed none (stop_of_claim stop)
+claim_refused refused original export failed none claims.OutOfMemory quiet h = quiet
+claim_refused refused original export failed none claims.TooLong quiet h = let n : claims.TooLong ≢ claims.OutOfMemory = λ same. cc in (n, h n)
+claim_refused refused original export failed none claims.NotToml quiet h = let n : claims.NotToml ≢ claims.OutOfMemory = λ same. cc in (n, h n)
+claim_refused refused original export failed none claims.BadFormat quiet h = let n : claims.BadFormat ≢ claims.OutOfMemory = λ same. cc in (n, h n)
+claim_refused refused original export failed none claims.UnknownKey quiet h = let n : claims.UnknownKey ≢ claims.OutOfMemory = λ same. cc in (n, h n)
+claim_refused refused original export failed none claims.BadChannels quiet h = let n : claims.BadChannels ≢ claims.OutOfMemory = λ same. cc in (n, h n)
+claim_refused refused original export failed none claims.BadKeep quiet h = let n : claims.BadKeep ≢ claims.OutOfMemory = λ same. cc in (n, h n)
+claim_refused refused original export failed none claims.BadAnonymous quiet h = let n : claims.BadAnonymous ≢ claims.OutOfMemory = λ same. cc in (n, h n)
+claim_refused refused original export failed none claims.BadShift quiet h = let n : claims.BadShift ≢ claims.OutOfMemory = λ same. cc in (n, h n)
+claim_refused refused original export failed none claims.BadRemove quiet h = let n : claims.BadRemove ≢ claims.OutOfMemory = λ same. cc in (n, h n)
 
 -- a front of the line of the verdict is a part of the report
 pub front_is_part : (original export text old new line : List ℕ) (claim : Terms) (verdict : Verdict)

@@ -23,13 +23,13 @@ AreRead (No (NotClean text)) original export = (original ≡ []) × (export ≡ 
 AreRead (No (Sample label at_ps mismatch)) original export = (original ≡ []) × (export ≡ [])
 AreRead (No (Annotation mismatch onset duration text)) original export = (original ≡ []) × (export ≡ [])
 
--- of a failed read of the original this is said, of one of the export that; of want of memory nothing
-abbrev pub CheckStops : Type 0 → Type 0 → CheckStop → Type 0
-CheckStops original export OutOfMemory = Unit {0}
-CheckStops original export (ReadFailed sides.Original) = original
-CheckStops original export (ReadFailed sides.Export) = export
+-- of a failed read of the original this is said, of one of the export that, and of want of memory the last: that no read failed
+abbrev pub CheckStops : Type 0 → Type 0 → Type 0 → CheckStop → Type 0
+CheckStops original export none OutOfMemory = none
+CheckStops original export none (ReadFailed sides.Original) = original
+CheckStops original export none (ReadFailed sides.Export) = export
 
 -- only the file of this side was read
-abbrev pub SideStops : Side → Type 0 → CheckStop → Type 0
-SideStops side failed OutOfMemory = Unit {0}
-SideStops side failed (ReadFailed other) = (other ≡ side) × failed
+abbrev pub SideStops : Side → Type 0 → Type 0 → CheckStop → Type 0
+SideStops side failed none OutOfMemory = none
+SideStops side failed none (ReadFailed other) = (other ≡ side) × failed

@@ -40,13 +40,14 @@ pub record IsFrontOfALine (old new : List ℕ) : Type 0 where
   pub verdict : Verdict
   pub part : HoldsPrefix old new (verdict_line verdict)
 
--- of a refused claim this is said, of a failed read of the original or of the export that, of a failed write the last
-abbrev pub RunStops : (ClaimStop → Type 0) → Type 0 → Type 0 → Type 0 → RunStop → Type 0
-RunStops refused original export failed OutOfMemory = Unit {0}
-RunStops refused original export failed (ReadFailed sides.Original) = original
-RunStops refused original export failed (ReadFailed sides.Export) = export
-RunStops refused original export failed (Claim cause) = refused cause
-RunStops refused original export failed WriteFailed = failed
+-- of a refused claim this is said, of a failed read of the original or of the export that, of a failed write the fourth, and of want of
+-- memory the last: that no read failed
+abbrev pub RunStops : (ClaimStop → Type 0) → Type 0 → Type 0 → Type 0 → Type 0 → RunStop → Type 0
+RunStops refused original export failed none OutOfMemory = none
+RunStops refused original export failed none (ReadFailed sides.Original) = original
+RunStops refused original export failed none (ReadFailed sides.Export) = export
+RunStops refused original export failed none (Claim cause) = refused cause
+RunStops refused original export failed none WriteFailed = failed
 
 -- a line isn't written for want of memory, or where the sink failed, and then this is said
 abbrev pub WriteStops : Type 0 → RunStop → Type 0

@@ -58,4 +58,4 @@ pub record IsRowWritten (row : WorkedRow) (old new : List ℕ) (outcome : Outcom
 
 -- a report over files in memory stops for want of memory, or where its sink failed, and then this is said
 abbrev pub RowStops : Type 0 → ReportStop → Type 0
-RowStops failed stop = ReportStops ⊥ failed stop
+RowStops failed stop = ReportStops ⊥ failed (Unit {0}) stop

@@ -46,6 +46,7 @@ pub fn run<O: Source, E: Source, K: Sink>(
 ) -> Result<Outcome, RunStop>
     ensures report { IfOk result (λ outcome. IsTrue (O.is_honest original.old) → IsTrue (E.is_honest export.old) → IsTrue (K.is_honest sink.old) →
         IsReport (O.left original.old) (E.left export.old) claim_text.now (K.held sink.old) (K.held sink.new) outcome) }
+    ensures reads { OnOk result ((O.failures original.new ≡ O.failures original.old) × (E.failures export.new ≡ E.failures export.old)) }
     ensures failures { OnOk result (K.failures sink.new ≡ K.failures sink.old) }
     ensures honesty { IsTrue (K.is_honest sink.old) → IsTrue (K.is_honest sink.new) }
     ensures nothing { IfErr result (λ stop. stop ≢ stops.WriteFailed → sink.new ≡ sink.old) }
@@ -57,7 +58,8 @@ pub fn run<O: Source, E: Source, K: Sink>(
         (λ cause. (cause ≢ claim_stops.OutOfMemory) × FirstClaimFault claim_text.now cause)
         (Rises (O.failures original.old) (O.failures original.new))
         (Rises (E.failures export.old) (E.failures export.new))
-        (Rises (K.failures sink.old) (K.failures sink.new))) }
+        (Rises (K.failures sink.old) (K.failures sink.new))
+        ((O.failures original.new ≡ O.failures original.old) × (E.failures export.new ≡ E.failures export.old))) }
 {
     let claim = Claim::read(alloc, claim_text)?;
     let verdict = check(alloc, original, export, &claim)?;

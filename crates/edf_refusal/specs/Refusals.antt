@@ -73,8 +73,8 @@ refusal_of_report reports.OutOfMemory = refusals.Memory
 refusal_of_report reports.ReadFailed = refusals.Reading roles.File
 refusal_of_report reports.WriteFailed = refusals.Writing
 
--- a claim isn't read for want of memory, or where a read failed, and then this is said
-abbrev pub ClaimReadStops : Type 0 → Refusal → Type 0
-ClaimReadStops failed refusals.Memory = Unit {0}
-ClaimReadStops failed (refusals.Reading roles.Claim) = failed
-ClaimReadStops failed refusal = ⊥
+-- a claim isn't read where a read failed, and then the first is said, or for want of memory, and then the second: that none failed
+abbrev pub ClaimReadStops : Type 0 → Type 0 → Refusal → Type 0
+ClaimReadStops failed none refusals.Memory = none
+ClaimReadStops failed none (refusals.Reading roles.Claim) = failed
+ClaimReadStops failed none refusal = ⊥

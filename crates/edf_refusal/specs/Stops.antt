@@ -18,8 +18,8 @@ abbrev pub stop_of_check : CheckStop → RunStop
 stop_of_check checks.OutOfMemory = OutOfMemory
 stop_of_check (checks.ReadFailed side) = ReadFailed side
 
--- of a failed read the first is said, of a failed write the second
-abbrev pub ReportStops : Type 0 → Type 0 → ReportStop → Type 0
-ReportStops read written reports.OutOfMemory = Unit {0}
-ReportStops read written reports.ReadFailed = read
-ReportStops read written reports.WriteFailed = written
+-- of a failed read the first is said, of a failed write the second, and of want of memory the last: that no read failed
+abbrev pub ReportStops : Type 0 → Type 0 → Type 0 → ReportStop → Type 0
+ReportStops read written none reports.OutOfMemory = none
+ReportStops read written none reports.ReadFailed = read
+ReportStops read written none reports.WriteFailed = written

@@ -25,6 +25,12 @@ outcome_of_fault (Some fault) = outcomes.No
 abbrev pub IsReported : List ℕ → Option Fault → List ℕ → List ℕ → Outcome → Type 0
 IsReported text fault old new outcome = (new ≡ old ++ text) × (outcome ≡ outcome_of_fault fault)
 
+-- a fault stopped the reading of a file
+abbrev pub IsFault : Stop → Type 0
+IsFault reads.OutOfMemory = ⊥
+IsFault reads.ReadFailed = ⊥
+IsFault (reads.Fault fault) = Unit {0}
+
 -- the text and the outcome of a fault that stopped the reading of a file
 abbrev pub IsFaultReport : Stop → List ℕ → Outcome → Type 0
 IsFaultReport reads.OutOfMemory text outcome = ⊥

@@ -58,7 +58,7 @@ fn put_notes<K: Sink>(alloc: Global, reader: &FileReader, sink: &mut K) -> Resul
         ++ note_lines (notes_in reader.now.head reader.now.current)) }
     ensures part { OnErr result (IsTrue (K.is_honest sink.old)
         → HoldsPrefix (K.held sink.old) (K.held sink.new) (note_lines (notes_in reader.now.head reader.now.current))) }
-    ensures stop { IfErr result (ReportStops ⊥ (Rises (K.failures sink.old) (K.failures sink.new))) }
+    ensures stop { IfErr result (ReportStops ⊥ (Rises (K.failures sink.old) (K.failures sink.new)) (Unit {0})) }
 {
     let text = lines_of(alloc, reader.annotations())?;
     put_all(sink, &text)?;
@@ -80,7 +80,9 @@ fn put_records<S: Source, K: Sink>(
     ensures part { OnErr result (IsTrue (S.is_honest source.old) → IsTrue (K.is_honest sink.old) → (file : List ℕ) →
         StandsIn reader.old (S.left source.old) file →
         HoldsPrefix (K.held sink.old) (K.held sink.new) (body_text file reader.old.head)) }
-    ensures stop { IfErr result (ReportStops (Rises (S.failures source.old) (S.failures source.new)) (Rises (K.failures sink.old) (K.failures sink.new))) }
+    ensures reads { OnOk result (S.failures source.new ≡ S.failures source.old) }
+    ensures stop { IfErr result (ReportStops (Rises (S.failures source.old) (S.failures source.new)) (Rises (K.failures sink.old) (K.failures sink.new))
+        (S.failures source.new ≡ S.failures source.old)) }
 {
     loop {
         match reader.next(source) {
@@ -107,7 +109,9 @@ pub fn notes_to<S: Source, K: Sink>(
         IsReported (notes_text (S.left source.old)) (file_fault (S.left source.old)) (K.held sink.old) (K.held sink.new) outcome) }
     ensures part { OnErr result (IsTrue (S.is_honest source.old) → IsTrue (K.is_honest sink.old) →
         HoldsPrefix (K.held sink.old) (K.held sink.new) (notes_text (S.left source.old))) }
-    ensures stop { IfErr result (ReportStops (Rises (S.failures source.old) (S.failures source.new)) (Rises (K.failures sink.old) (K.failures sink.new))) }
+    ensures reads { OnOk result (S.failures source.new ≡ S.failures source.old) }
+    ensures stop { IfErr result (ReportStops (Rises (S.failures source.old) (S.failures source.new)) (Rises (K.failures sink.old) (K.failures sink.new))
+        (S.failures source.new ≡ S.failures source.old)) }
 {
     match FileReader::begin(alloc, source) {
         Ok(mut reader) => put_records(alloc, &mut reader, source, sink),

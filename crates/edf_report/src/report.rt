@@ -1,12 +1,12 @@
 //! The text of a report on one file, and what is written of a file that can't be read.
 
-ghost use Rattle.std.specs.Prelude.{◌≡◌, ◌++◌, IfOk, IfErr, OnErr, IsTrue};
+ghost use Rattle.std.specs.Prelude.{◌≡◌, ◌≢◌, ◌++◌, IfOk, IfErr, OnOk, OnErr, IsTrue};
 ghost use Rattle.edf_fields.specs.Sinks.{HoldsPrefix};
 ghost use Rattle.edf_fields.specs.Sources.{Rises};
 ghost use Rattle.edf_header.specs.declared.stop.Stop.TheVariants as read_stops;
 ghost use Rattle.edf_refusal.specs.declared.stop.ReportStop.TheVariants as stops;
 ghost use Rattle.edf_refusal.specs.Stops.{ReportStops};
-ghost use Rattle.edf_report.specs.Reports.{fault_line, stop_line, IsFaultReport, IsStopWritten};
+ghost use Rattle.edf_report.specs.Reports.{fault_line, stop_line, IsFault, IsFaultReport, IsStopWritten};
 
 use edf_fields::fault::Fault;
 use edf_fields::sink::{Sink, put_all};
@@ -37,7 +37,7 @@ impl Report {
     /// What stopped the reading of a file: a fault is reported, and all else stops the report, too.
     pub(crate) fn of_stop(alloc: Global, stop: Stop) -> Result<Report, ReportStop>
         ensures report { IfOk result (λ report. IsFaultReport stop report.text.items report.outcome) }
-        ensures stop { IfErr result (ReportStops (stop ≡ read_stops.ReadFailed) ⊥) }
+        ensures stop { IfErr result (ReportStops (stop ≡ read_stops.ReadFailed) ⊥ (stop ≢ read_stops.ReadFailed)) }
     {
         match stop {
             Stop::Fault(fault) => Ok(Report {
@@ -68,9 +68,11 @@ pub(crate) fn put_stop<K: Sink>(
     sink: &mut K,
     stop: Stop,
 ) -> Result<Outcome, ReportStop>
+    ensures fault { OnOk result (IsFault stop) }
     ensures written { IfOk result (λ outcome. IsTrue (K.is_honest sink.old) → IsStopWritten stop (K.held sink.old) (K.held sink.new) outcome) }
     ensures part { OnErr result (IsTrue (K.is_honest sink.old) → HoldsPrefix (K.held sink.old) (K.held sink.new) (stop_line stop)) }
-    ensures stop { IfErr result (ReportStops (stop ≡ read_stops.ReadFailed) (Rises (K.failures sink.old) (K.failures sink.new))) }
+    ensures stop { IfErr result (ReportStops (stop ≡ read_stops.ReadFailed) (Rises (K.failures sink.old) (K.failures sink.new))
+        (stop ≢ read_stops.ReadFailed)) }
 {
     let report = Report::of_stop(alloc, stop)?;
     report.put(sink)

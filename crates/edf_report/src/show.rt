@@ -228,7 +228,9 @@ fn report<S: Source>(alloc: Global, source: &mut S) -> Result<Report, ReportStop
     ensures report { IfOk result (λ report. IsTrue (S.is_honest source.old) →
         (report.text.items ≡ show_text (S.left source.old)) × (report.outcome ≡ outcome_of_fault (header_fault (S.left source.old)))) }
     ensures behind { IfOk result (λ report. IsTrue (S.is_honest source.old) → IsLeftBehind (S.left source.old) (S.left source.new) report.outcome) }
-    ensures stop { IfErr result (ReportStops (Rises (S.failures source.old) (S.failures source.new)) ⊥) }
+    ensures failures { OnOk result (S.failures source.new ≡ S.failures source.old) }
+    ensures stop { IfErr result (ReportStops (Rises (S.failures source.old) (S.failures source.new)) ⊥
+        (S.failures source.new ≡ S.failures source.old)) }
 {
     match Header::read(alloc, source) {
         Ok(header) => Ok(Report {
@@ -257,7 +259,9 @@ pub fn show_to<S: Source, K: Sink>(
     ensures nothing { IfErr result (λ stop. stop ≢ stops.WriteFailed → sink.new ≡ sink.old) }
     ensures part { OnErr result (IsTrue (S.is_honest source.old) → IsTrue (K.is_honest sink.old) →
         HoldsPrefix (K.held sink.old) (K.held sink.new) (show_text (S.left source.old))) }
-    ensures stop { IfErr result (ReportStops (Rises (S.failures source.old) (S.failures source.new)) (Rises (K.failures sink.old) (K.failures sink.new))) }
+    ensures reads { OnOk result (S.failures source.new ≡ S.failures source.old) }
+    ensures stop { IfErr result (ReportStops (Rises (S.failures source.old) (S.failures source.new)) (Rises (K.failures sink.old) (K.failures sink.new))
+        (S.failures source.new ≡ S.failures source.old)) }
 {
     let report = report(alloc, source)?;
     report.put(sink)

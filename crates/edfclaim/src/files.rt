@@ -50,7 +50,8 @@ pub fn recording<R: Files + AllocGlobal>(
 /// The error is a failed read, or want of memory.
 fn text_of<S: Source>(alloc: Global, source: &mut S, most: usize) -> Result<Vec<u8>, Refusal>
     ensures text { IfOk result (λ text. IsTrue (S.is_honest source.old) → text.items ≡ take most (S.left source.old)) }
-    ensures stop { IfErr result (ClaimReadStops (Rises (S.failures source.old) (S.failures source.new))) }
+    ensures stop { IfErr result (ClaimReadStops (Rises (S.failures source.old) (S.failures source.new))
+        (S.failures source.new ≡ S.failures source.old)) }
 {
     let mut text = vec![in alloc; 0u8; most]?;
     match fill(source, &mut text) {

@@ -1,6 +1,6 @@
 //! Two files read in step, a data record of each at a time, and compared as far as both have come.
 
-ghost use Rattle.std.specs.Prelude.{◌≡◌, ◌<◌, ◌^◌, ℕ, ℤ, neg_ℤ, pos, ◌≤ℤ◌, ◌<ℤ◌, List, [], map, length, None, Some, IfOk, IfErr, IfSome, IfNone, IsTrue, unsigned_abs, true};
+ghost use Rattle.std.specs.Prelude.{◌≡◌, ◌<◌, ◌^◌, ℕ, ℤ, neg_ℤ, pos, ◌≤ℤ◌, ◌<ℤ◌, List, [], map, length, None, Some, IfOk, IfErr, OnOk, IfSome, IfNone, IsTrue, unsigned_abs, true};
 ghost use Rattle.std.specs.List.{All};
 ghost use Rattle.edf_claim.specs.Keeps.{keeps_instant};
 ghost use Rattle.edf_claim.specs.KeepsReading.{IsUncut};
@@ -64,7 +64,9 @@ pub(crate) fn export_fault<S: Source>(
         (λ file. found ≡ first_fault_of (body_fault file original.old.head) fault)) }
     ensures out { IfOk result (λ found. OfFile (S.is_honest source.old) (IsThere original.old (S.left source.old))
         (λ file. IsReadBy found (S.left source.new))) }
-    ensures stop { IfErr result (SideStops sides.Original (Rises (S.failures source.old) (S.failures source.new))) }
+    ensures failures { OnOk result (S.failures source.new ≡ S.failures source.old) }
+    ensures stop { IfErr result (SideStops sides.Original (Rises (S.failures source.old) (S.failures source.new))
+        (S.failures source.new ≡ S.failures source.old)) }
 {
     match finish(original, source, Side::Original) {
         Ok(None) => Ok(FaultOf::Export(fault)),
@@ -145,7 +147,9 @@ fn finish_both<O: Source, E: Source>(
     ensures out { IfOk result (λ found. IfSome found (λ fault. OfFiles (O.is_honest o.old) (E.is_honest e.old)
         (IsThere original.old (O.left o.old)) (IsThere export.old (E.left e.old))
         (λ a b. IsReadBy fault (O.left o.new)))) }
-    ensures stop { IfErr result (CheckStops (Rises (O.failures o.old) (O.failures o.new)) (Rises (E.failures e.old) (E.failures e.new))) }
+    ensures failures { OnOk result ((O.failures o.new ≡ O.failures o.old) × (E.failures e.new ≡ E.failures e.old)) }
+    ensures stop { IfErr result (CheckStops (Rises (O.failures o.old) (O.failures o.new)) (Rises (E.failures e.old) (E.failures e.new))
+        ((O.failures o.new ≡ O.failures o.old) × (E.failures e.new ≡ E.failures e.old))) }
 {
     match finish(original, o, Side::Original) {
         Ok(None) => match finish(export, e, Side::Export) {
@@ -207,7 +211,9 @@ fn pass_both<O: Source, E: Source>(
         (frame.entry.clock.original).ps (within.from).ps) (λ b. IsAt export.old.reader (E.left e.old) (map note_value (export.old.notes).items) b None
         (frame.entry.clock.export).ps (within.from).ps)
         (λ a b. IsFaultOf a (original.old.reader).head b (export.old.reader).head fault))) }
-    ensures stop { IfErr result (CheckStops (Rises (O.failures o.old) (O.failures o.new)) (Rises (E.failures e.old) (E.failures e.new))) }
+    ensures failures { OnOk result ((O.failures o.new ≡ O.failures o.old) × (E.failures e.new ≡ E.failures e.old)) }
+    ensures stop { IfErr result (CheckStops (Rises (O.failures o.old) (O.failures o.new)) (Rises (E.failures e.old) (E.failures e.new))
+        ((O.failures o.new ≡ O.failures o.old) × (E.failures e.new ≡ E.failures e.old))) }
 {
     match pass(
         frame.alloc,
@@ -271,7 +277,9 @@ fn start_both<O: Source, E: Source>(
     ensures fault { IfOk result (λ found. IfSome found (λ fault. OfFiles (O.is_honest o.old) (E.is_honest e.old)
         (StandsIn original.old.reader (O.left o.old)) (StandsIn export.old.reader (E.left e.old))
         (λ a b. IsFaultOf a (original.old.reader).head b (export.old.reader).head fault))) }
-    ensures stop { IfErr result (CheckStops (Rises (O.failures o.old) (O.failures o.new)) (Rises (E.failures e.old) (E.failures e.new))) }
+    ensures failures { OnOk result ((O.failures o.new ≡ O.failures o.old) × (E.failures e.new ≡ E.failures e.old)) }
+    ensures stop { IfErr result (CheckStops (Rises (O.failures o.old) (O.failures o.new)) (Rises (E.failures e.old) (E.failures e.new))
+        ((O.failures o.new ≡ O.failures o.old) × (E.failures e.new ≡ E.failures e.old))) }
 {
     match start(
         frame.alloc,
@@ -341,7 +349,9 @@ pub(crate) fn walk_records<O: Source, E: Source>(
     ensures out { IfOk result (λ walked. IfErr walked (λ fault. OfFiles (O.is_honest o.old) (E.is_honest e.old)
         (StandsIn original.old.reader (O.left o.old)) (StandsIn export.old.reader (E.left e.old))
         (λ a b. IsReadBy fault (O.left o.new)))) }
-    ensures stop { IfErr result (CheckStops (Rises (O.failures o.old) (O.failures o.new)) (Rises (E.failures e.old) (E.failures e.new))) }
+    ensures failures { OnOk result ((O.failures o.new ≡ O.failures o.old) × (E.failures e.new ≡ E.failures e.old)) }
+    ensures stop { IfErr result (CheckStops (Rises (O.failures o.old) (O.failures o.new)) (Rises (E.failures e.old) (E.failures e.new))
+        ((O.failures o.new ≡ O.failures o.old) × (E.failures e.new ≡ E.failures e.old))) }
 {
     let mut time = BEGINNING;
     match start_both(original, o, export, e, frame, time) {

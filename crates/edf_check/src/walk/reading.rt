@@ -53,12 +53,13 @@ fn go_on<S: Source>(
     ensures notes { IfOk result (λ found. IfNone found (is_current reader.new.status ≡ true →
         reader.new.notes ≡ reader.old.notes + length (notes_in reader.new.head reader.new.current))) }
     ensures honesty { IfOk result (λ found. IfNone found (IsTrue (S.is_honest source.old) → IsTrue (S.is_honest source.new))) }
-    ensures failures { IfOk result (λ found. IfNone found (S.failures source.new ≡ S.failures source.old)) }
     ensures comes { IfOk result (λ found. IfNone found (OfFile (S.is_honest source.old) (StandsIn reader.old (S.left source.old))
         (λ file. Comes (is_current reader.new.status) reader.old reader.new (S.left source.new) file))) }
     ensures fault { IfOk result (λ found. IfSome found (λ fault. OfFile (S.is_honest source.old) (StandsIn reader.old (S.left source.old))
         (λ file. body_fault file reader.old.head ≡ Some fault))) }
-    ensures stop { IfErr result (SideStops side (Rises (S.failures source.old) (S.failures source.new))) }
+    ensures failures { OnOk result (S.failures source.new ≡ S.failures source.old) }
+    ensures stop { IfErr result (SideStops side (Rises (S.failures source.old) (S.failures source.new))
+        (S.failures source.new ≡ S.failures source.old)) }
 {
     match reader.next(source) {
         Ok(_) => Ok(None),
@@ -82,7 +83,9 @@ pub(crate) fn finish<S: Source>(
         (λ file. body_fault file reader.old.head ≡ found)) }
     ensures out { IfOk result (λ found. IfNone found (OfFile (S.is_honest source.old) (IsThere reader.old (S.left source.old))
         (λ file. (S.left source.new ≡ []) × Conforms file reader.old.head))) }
-    ensures stop { IfErr result (SideStops side (Rises (S.failures source.old) (S.failures source.new))) }
+    ensures failures { OnOk result (S.failures source.new ≡ S.failures source.old) }
+    ensures stop { IfErr result (SideStops side (Rises (S.failures source.old) (S.failures source.new))
+        (S.failures source.new ≡ S.failures source.old)) }
 {
     while reader.has_current() {
         match go_on(reader, source, side) {
@@ -107,7 +110,9 @@ pub(crate) fn read_out<S: Source>(
         (λ file. body_fault file reader.old.head ≡ found)) }
     ensures out { IfOk result (λ found. IfNone found (OfFile (S.is_honest source.old) (StandsIn reader.old (S.left source.old))
         (λ file. (S.left source.new ≡ []) × Conforms file reader.old.head))) }
-    ensures stop { IfErr result (SideStops side (Rises (S.failures source.old) (S.failures source.new))) }
+    ensures failures { OnOk result (S.failures source.new ≡ S.failures source.old) }
+    ensures stop { IfErr result (SideStops side (Rises (S.failures source.old) (S.failures source.new))
+        (S.failures source.new ≡ S.failures source.old)) }
 {
     match go_on(reader, source, side) {
         Ok(None) => match finish(reader, source, side) {
@@ -144,12 +149,13 @@ fn gather_next<S: Source>(
     ensures gathered { IfOk result (λ found. IfNone found (map note_value (reading.new.notes).items ≡ map note_value (reading.old.notes).items
         ++ gathered_in (claim_of view.entry) (view.entry.moved).ps reading.new.reader)) }
     ensures honesty { IfOk result (λ found. IfNone found (IsTrue (S.is_honest source.old) → IsTrue (S.is_honest source.new))) }
-    ensures failures { IfOk result (λ found. IfNone found (S.failures source.new ≡ S.failures source.old)) }
     ensures comes { IfOk result (λ found. IfNone found (OfFile (S.is_honest source.old) (StandsIn reading.old.reader (S.left source.old))
         (λ file. Comes (is_current (reading.new.reader).status) reading.old.reader reading.new.reader (S.left source.new) file))) }
     ensures fault { IfOk result (λ found. IfSome found (λ fault. OfFile (S.is_honest source.old) (StandsIn reading.old.reader (S.left source.old))
         (λ file. body_fault file (reading.old.reader).head ≡ Some fault))) }
-    ensures stop { IfErr result (SideStops side (Rises (S.failures source.old) (S.failures source.new))) }
+    ensures failures { OnOk result (S.failures source.new ≡ S.failures source.old) }
+    ensures stop { IfErr result (SideStops side (Rises (S.failures source.old) (S.failures source.new))
+        (S.failures source.new ≡ S.failures source.old)) }
 {
     let before = reading.reader.note_count();
     match go_on(&mut reading.reader, source, side) {
@@ -221,7 +227,9 @@ pub(crate) fn pass<S: Source>(
         (claim_of view.entry) (view.entry.moved).ps (within.from).ps (within.to).ps)) }
     ensures fault { IfOk result (λ found. IfSome found (λ fault. OfFile (S.is_honest source.old) (IsThere reading.old.reader (S.left source.old))
         (λ file. body_fault file (reading.old.reader).head ≡ Some fault))) }
-    ensures stop { IfErr result (SideStops side (Rises (S.failures source.old) (S.failures source.new))) }
+    ensures failures { OnOk result (S.failures source.new ≡ S.failures source.old) }
+    ensures stop { IfErr result (SideStops side (Rises (S.failures source.old) (S.failures source.new))
+        (S.failures source.new ≡ S.failures source.old)) }
 {
     if !is_past(&reading.reader, view.moved, within.to) {
         return Ok(None);
@@ -254,7 +262,9 @@ pub(crate) fn start<S: Source>(
         (map note_value (reading.new.notes).items) (claim_of view.entry) (view.entry.moved).ps time.ps)) }
     ensures fault { IfOk result (λ found. IfSome found (λ fault. OfFile (S.is_honest source.old) (StandsIn reading.old.reader (S.left source.old))
         (λ file. body_fault file (reading.old.reader).head ≡ Some fault))) }
-    ensures stop { IfErr result (SideStops side (Rises (S.failures source.old) (S.failures source.new))) }
+    ensures failures { OnOk result (S.failures source.new ≡ S.failures source.old) }
+    ensures stop { IfErr result (SideStops side (Rises (S.failures source.old) (S.failures source.new))
+        (S.failures source.new ≡ S.failures source.old)) }
 {
     match gather_next(alloc, reading, source, side, view) {
         Ok(None) => Ok(None),

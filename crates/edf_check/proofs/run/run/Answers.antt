@@ -1,4 +1,4 @@
-use Rattle.std.proofs.Common.{refl}
+use Rattle.std.proofs.Common.{◌≡◌, refl}
 use Rattle.std.proofs.lemmas.Result.{err_from_is_err_and}
 use Rattle.edf_claim.specs.Faults.{FirstClaimFault}
 use Rattle.edf_fields.specs.Sources.{Rises}
@@ -12,7 +12,8 @@ returns-in_err-claim-clause-stop g c =
     (Rises (g.O.Source.failures c.args.original.now) (g.O.Source.failures c.args.original.now))
     (Rises (g.E.Source.failures c.args.export.now) (g.E.Source.failures c.args.export.now))
     (Rises (g.K.Sink.failures c.args.sink.now) (g.K.Sink.failures c.args.sink.now))
-    c.in_err-claim.field-0.0 c.in_err-claim.ensures.fault)
+    ((g.O.Source.failures c.args.original.now ≡ g.O.Source.failures c.args.original.now) × (g.E.Source.failures c.args.export.now ≡ g.E.Source.failures c.args.export.now))
+    c.in_err-claim.field-0.0 (refl, refl) c.in_err-claim.ensures.fault)
 
 pub returns-in_err-write_line-clause-part : goal.returns-in_err-write_line-clause-part
 returns-in_err-write_line-clause-part g c =

@@ -11,7 +11,7 @@ loop-side-preserved g c =
     let head = c.go_on.ensures.head in
     let current = sym c.has_current.ensures ∙ c.loop-side-test.true in
     let going = rw none at ok.going in
-    let failures = rw none at ok.failures in
+    let failures = ok.failures in
     let honesty = rw none at ok.honesty in
     let comes = rw none at ok.comes in
     record {

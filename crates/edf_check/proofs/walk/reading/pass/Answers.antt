@@ -28,7 +28,7 @@ returns-in-Ok-None-clause-moves g c =
       going = going;
       ahead = λ e. ahead_next c.args.reading.now.reader c.gather_next.new.reading.reader (c.args.view.moved).ps (c.args.within.to).ps head (later e) (c.requires.reaches past.0);
       honesty = rw none at ok.honesty;
-      failures = rw none at ok.failures;
+      failures = ok.failures;
       comes = λ h file at. at_next c.args.reading.now.reader c.gather_next.new.reading.reader (g.S.Source.left c.args.source.now) (g.S.Source.left c.gather_next.new.source)
           (map note_value (c.args.reading.now.notes).items) (map note_value (c.gather_next.new.reading.notes).items) file (claim_of c.args.view) (c.args.view.moved).ps (c.args.within.from).ps (c.args.within.to).ps
           past.0 c.requires.window.order past.1 going head (rw none at ok.count) (rw none at ok.gathered) at (comes h file ((at.there).stands (current_open (c.args.reading.now.reader).status past.0)));

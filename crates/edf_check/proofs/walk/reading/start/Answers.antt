@@ -21,7 +21,7 @@ returns-in-Ok-None-clause-follows g c =
       going = going;
       ahead = λ e. (let s = start e in omega (arith, ints, s, near, by, time));
       honesty = rw none at ok.honesty;
-      failures = rw none at ok.failures;
+      failures = ok.failures;
       comes = λ h file s. at_first c.args.reading.now.reader c.gather_next.new.reading.reader (g.S.Source.left c.gather_next.new.source) (map note_value (c.gather_next.new.reading.notes).items) file (claim_of c.args.view) (c.args.view.moved).ps c.args.time.ps
           (c.requires.begun).1 going c.gather_next.ensures.head (rw none at ok.count)
           (gathered ∙ ap (λ ns. map note_value ns ++ gathered_in (claim_of c.args.view) (c.args.view.moved).ps c.gather_next.new.reading.reader) c.requires.none) (comes h file s);
