@@ -2,3 +2,4 @@
 pub use Rattle.edf_header.proofs.CalibrationFitFacts.{calibrations_fit}
 pub use Rattle.edf_header.proofs.ConformingFacts.{passing-conforms, passing_is_conforming, conforming_is_sound}
 pub use Rattle.edf_header.proofs.HeadFacts.{one_head, passing_has_head}
+pub use Rattle.edf_header.proofs.CalibrationFacts.{same_line_is_equivalence}
