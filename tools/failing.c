@@ -1,12 +1,18 @@
 /* Put before a program by LD_PRELOAD: counts the growths that the program asks of the heap, by malloc,
-   calloc and realloc, and refuses one of them.
+   calloc and realloc, its reads of files, and its writes to standard output; and lets one of them fail.
 
    FAIL_AT=N   the Nth growth is refused, and no other; without it, or with 0, none is
-   GROWTHS=1   at the end of the program one line on standard error: how many growths there were, how
-               many bytes they asked for together, and how many the largest asked for */
+   READ_AT=N   the Nth read of a file fails, as one of a drive that dropped out; the others don't
+   TOLD=FILE   the name of the file that this read was of, without its folder, is written to FILE
+   WRITE_AT=N  the Nth write to standard output fails, as one on a full disk; the others don't
+   ONE_BYTE=1  each read gives one byte at the most, and each write takes one
+   COUNTS=1    at the end of the program one line on standard error: how many growths, reads and writes there
+               were; how many bytes the growths asked for together, and how many the largest asked for */
 #define _GNU_SOURCE
 #include <dlfcn.h>
 #include <errno.h>
+#include <fcntl.h>
+#include <stdarg.h>
 #include <stddef.h>
 #include <stdio.h>
 #include <stdlib.h>
@@ -16,11 +22,15 @@
 static void *(*next_malloc)(size_t);
 static void *(*next_calloc)(size_t, size_t);
 static void *(*next_realloc)(void *, size_t);
+static ssize_t (*next_read)(int, void *, size_t);
+static ssize_t (*next_write)(int, const void *, size_t);
+static int (*next_open)(const char *, int, ...);
 
 /* Counting starts with the program's own code: what the loader and the C library ask for before is
    always given. */
 static int counting;
-static long growths, fail_at;
+static long growths, fail_at, reads, read_at, writes, write_at;
+static int one_byte;
 static size_t together, largest;
 
 /* dlsym may itself call calloc, before that is known: it gets bytes from here, which are never given
@@ -52,25 +62,36 @@ static void find_next(void)
     next_malloc = (void *(*)(size_t))dlsym(RTLD_NEXT, "malloc");
     next_calloc = (void *(*)(size_t, size_t))dlsym(RTLD_NEXT, "calloc");
     next_realloc = (void *(*)(void *, size_t))dlsym(RTLD_NEXT, "realloc");
+    next_read = (ssize_t(*)(int, void *, size_t))dlsym(RTLD_NEXT, "read");
+    next_write = (ssize_t(*)(int, const void *, size_t))dlsym(RTLD_NEXT, "write");
+    next_open = (int (*)(const char *, int, ...))dlsym(RTLD_NEXT, "open");
     finding = 0;
 }
 
 static void tell(void)
 {
-    char line[128];
+    char line[192];
     counting = 0;
-    int n = snprintf(line, sizeof line, "growths %ld bytes %zu largest %zu\n", growths, together,
-                     largest);
+    int n = snprintf(line, sizeof line, "growths %ld reads %ld writes %ld bytes %zu largest %zu\n",
+                     growths, reads, writes, together, largest);
     if (n > 0 && write(2, line, (size_t)n) < 0)
         _exit(3);
+}
+
+static long number(const char *name)
+{
+    const char *at = getenv(name);
+    return at ? atol(at) : 0;
 }
 
 __attribute__((constructor)) static void begin(void)
 {
     find_next();
-    const char *at = getenv("FAIL_AT");
-    fail_at = at ? atol(at) : 0;
-    if (getenv("GROWTHS"))
+    fail_at = number("FAIL_AT");
+    read_at = number("READ_AT");
+    write_at = number("WRITE_AT");
+    one_byte = number("ONE_BYTE") != 0;
+    if (getenv("COUNTS"))
         atexit(tell);
     counting = 1;
 }
@@ -132,4 +153,63 @@ void free(void *p)
     if (!next_free)
         next_free = (void (*)(void *))dlsym(RTLD_NEXT, "free");
     next_free(p);
+}
+
+/* The names of the files that are open. */
+static char names[64][64];
+
+int open(const char *path, int flags, ...)
+{
+    mode_t mode = 0;
+    if (flags & O_CREAT) {
+        va_list rest;
+        va_start(rest, flags);
+        mode = va_arg(rest, mode_t);
+        va_end(rest);
+    }
+    int fd = next_open(path, flags, mode);
+    if (fd >= 0 && fd < 64) {
+        const char *slash = strrchr(path, '/');
+        snprintf(names[fd], sizeof names[fd], "%s", slash ? slash + 1 : path);
+    }
+    return fd;
+}
+
+/* Says of which file the read was that fails. */
+static void tell_of(int fd)
+{
+    const char *path = getenv("TOLD");
+    int told = path ? next_open(path, O_WRONLY | O_CREAT | O_TRUNC, 0666) : -1;
+    const char *name = fd < 64 ? names[fd] : "";
+    if (told >= 0 && next_write(told, name, strlen(name)) < 0)
+        _exit(3);
+    if (told >= 0)
+        close(told);
+}
+
+ssize_t read(int fd, void *bytes, size_t count)
+{
+    if (counting && fd > 2) {
+        if (++reads == read_at) {
+            tell_of(fd);
+            errno = EIO;
+            return -1;
+        }
+        if (one_byte && count > 1)
+            count = 1;
+    }
+    return next_read(fd, bytes, count);
+}
+
+ssize_t write(int fd, const void *bytes, size_t count)
+{
+    if (counting && fd == 1) {
+        if (++writes == write_at) {
+            errno = ENOSPC;
+            return -1;
+        }
+        if (one_byte && count > 1)
+            count = 1;
+    }
+    return next_write(fd, bytes, count);
 }

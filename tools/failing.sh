@@ -1,15 +1,15 @@
 #!/bin/sh
-# Runs each command of PROGRAM with its first, second, third .. growth of memory refused, until a run of it
-# asks for fewer growths than that. The worked rows are those that are stored; the other commands run on the
-# example night.
+# Runs each command of PROGRAM with its first, second, third .. growth of memory refused, read failed and write failed,
+# until a run of it asks for fewer than that; and with reads and writes of single bytes, of which some fail. The worked
+# rows are those that are stored; the other commands run on the example night.
 #
 # usage: tools/failing.sh PROGRAM
 #
-# A run that a refusal stopped has status 2, a front of the text on standard output (of a check nothing) and
-# the line that memory ran out on standard error. A run that succeeded has its status, the whole text and
-# nothing on standard error: the last one, in which nothing was refused, and any before it whose refused
-# growth was the C library's, or was made good. The last line of the output counts the runs that passed and
-# failed.
+# A run that was stopped has status 2, a front of the text on standard output (of a check nothing) and the line that says
+# why on standard error: that memory ran out, of which file a read failed, or that writing failed. A run that succeeded
+# has its status, the whole text and nothing on standard error: the last one, in which nothing failed, and any before it
+# whose refused growth was the C library's, or was made good. The last line of the output counts the runs that passed
+# and failed.
 set -u
 
 if [ "$#" -ne 1 ] || [ ! -x "$1" ]; then
@@ -26,13 +26,18 @@ trap 'exit 2' HUP INT TERM
 # shellcheck disable=SC2086
 ${CC:-cc} -O1 -Wall -Wextra -shared -fPIC -o "$work/failing.so" "$here/failing.c" -ldl || exit 2
 cd -- "$here/../examples/night" || exit 2
-echo "edfclaim: out of memory" >"$work/line"
 
 passed=0
 failed=0
 
-# How the last run ended: `whole`, `stopped`, or what is wrong with it; its status, that of a run without
-# refusals, and how many bytes a run that was stopped may have written.
+# Says that a run failed.
+fail() {
+    failed=$((failed + 1))
+    echo "$*"
+}
+
+# How the last run ended: `whole`, `stopped`, or what is wrong with it; its status, that of a run in which nothing
+# fails, and how many bytes a run that was stopped may have written. The line that says why stands in the file `line`.
 judge() {
     size=$(wc -c <"$work/out")
     head -c "$size" "$work/want" >"$work/front"
@@ -45,60 +50,121 @@ judge() {
     fi
 }
 
-# Runs a command with each of its growths refused: its status without refusals, how many bytes a run that is
-# stopped may have written, and its words. What it writes stands in the file `want`.
-refuse_each() {
-    status=$1
-    most=$2
+# The line on a read of the file of this name that fails, of this command.
+reading_line() {
+    case $1.$2 in
+    check.*.toml) role=claim ;;
+    check.original.edf) role=original ;;
+    check.*) role=export ;;
+    *) role=file ;;
+    esac
+    echo "edfclaim: reading $role failed"
+}
+
+# Runs a command in which something fails: what (FAIL_AT, READ_AT or WRITE_AT), the how manieth of them, whether reads
+# and writes are of one byte, the command's status, how many bytes it may have written, and its words. It prints how the
+# run ended.
+run_failing() {
+    what=$1
+    at=$2
+    single=$3
+    status=$4
+    most=$5
+    shift 5
+    : >"$work/told"
+    env LD_PRELOAD="$work/failing.so" "$what=$at" TOLD="$work/told" ONE_BYTE="$single" "$program" "$@" >"$work/out" 2>"$work/err"
+    ended=$?
+    case $what in
+    FAIL_AT) echo "edfclaim: out of memory" ;;
+    READ_AT) reading_line "$1" "$(cat "$work/told")" ;;
+    WRITE_AT) echo "edfclaim: writing failed" ;;
+    esac >"$work/line"
+    judge "$ended" "$status" "$most"
+}
+
+# Counts a run: how it ended, how it may end (`any`, or `stopped` or `whole` alone), and what it was.
+count_run() {
+    case $1.$2 in
+    whole.any | stopped.any | stopped.stopped | whole.whole) passed=$((passed + 1)) ;;
+    *) fail "$3: $1" ;;
+    esac
+}
+
+# How many growths, reads and writes a run of a command has, where reads and writes are of one byte or not.
+counts_of() {
+    single=$1
+    shift
+    env LD_PRELOAD="$work/failing.so" COUNTS=1 ONE_BYTE="$single" "$program" "$@" 2>&1 >"$work/out" |
+        sed -n 's/^growths \([0-9]*\) reads \([0-9]*\) writes \([0-9]*\) .*/\1 \2 \3/p'
+}
+
+# Lets each growth, each read and each write of a command fail in turn, and some of those of one byte: its status where
+# nothing fails, how many bytes a run that is stopped may have written, and its words. What it writes stands in the file
+# `want`.
+fail_each() {
+    goal=$1
+    limit=$2
     shift 2
-    LD_PRELOAD="$work/failing.so" GROWTHS=1 "$program" "$@" >"$work/out" 2>"$work/err"
-    growths=$(sed -n 's/^growths \([0-9]*\) .*/\1/p' "$work/err")
-    if [ -z "$growths" ]; then
-        failed=$((failed + 1))
-        echo "$*: the growths could not be counted"
+    # shellcheck disable=SC2046
+    set -- $(counts_of 0 "$@") "$@"
+    if [ "$#" -lt 4 ]; then
+        fail "$*: nothing could be counted"
         return
     fi
-    n=1
+    growths=$1
+    reads=$2
+    writes=$3
+    shift 3
     stopped=0
-    last=
-    while [ "$n" -le $((growths + 1)) ]; do
-        LD_PRELOAD="$work/failing.so" FAIL_AT=$n "$program" "$@" >"$work/out" 2>"$work/err"
-        last=$(judge $? "$status" "$most")
-        case $last in
-        whole) passed=$((passed + 1)) ;;
-        stopped)
-            passed=$((passed + 1))
-            stopped=$((stopped + 1))
-            ;;
-        *)
-            failed=$((failed + 1))
-            echo "$*: growth $n refused: $last"
-            ;;
-        esac
+    n=1
+    while [ "$n" -le "$growths" ]; do
+        last=$(run_failing FAIL_AT "$n" 0 "$goal" "$limit" "$@")
+        [ "$last" = stopped ] && stopped=$((stopped + 1))
+        count_run "$last" any "$*: growth $n refused"
         n=$((n + 1))
     done
-    if [ "$last" != whole ]; then
-        failed=$((failed + 1))
-        echo "$*: the run with no refusal did not succeed: $last"
-    fi
-    if [ "$stopped" -eq 0 ]; then
-        failed=$((failed + 1))
-        echo "$*: no refusal stopped a run"
-    fi
-    echo "$*: $growths growths, $stopped runs stopped"
+    [ "$stopped" -gt 0 ] || fail "$*: no refusal stopped a run"
+    n=1
+    while [ "$n" -le "$reads" ]; do
+        count_run "$(run_failing READ_AT "$n" 0 "$goal" "$limit" "$@")" stopped "$*: read $n failed"
+        n=$((n + 1))
+    done
+    n=1
+    while [ "$n" -le "$writes" ]; do
+        count_run "$(run_failing WRITE_AT "$n" 0 "$goal" 1000000 "$@")" stopped "$*: write $n failed"
+        n=$((n + 1))
+    done
+    count_run "$(run_failing FAIL_AT 0 0 "$goal" "$limit" "$@")" whole "$*: nothing failed"
+    count_run "$(run_failing FAIL_AT 0 1 "$goal" "$limit" "$@")" whole "$*: single bytes"
+    # shellcheck disable=SC2046
+    set -- $(counts_of 1 "$@") "$@"
+    singles=$2
+    single_writes=$3
+    shift 3
+    for n in 1 2 5 50 256 257 1000 2000 $((singles / 2)) "$singles"; do
+        if [ "$n" -gt 0 ] && [ "$n" -le "$singles" ]; then
+            count_run "$(run_failing READ_AT "$n" 1 "$goal" "$limit" "$@")" stopped "$*: single bytes, read $n failed"
+        fi
+    done
+    for n in 1 2 3 $((single_writes / 2)) "$single_writes"; do
+        if [ "$n" -gt 0 ] && [ "$n" -le "$single_writes" ]; then
+            count_run "$(run_failing WRITE_AT "$n" 1 "$goal" 1000000 "$@")" stopped "$*: single bytes, write $n failed"
+        fi
+    done
+    echo "$*: $growths growths, $stopped runs stopped by one; $reads reads and $writes writes, of single bytes $singles and $single_writes"
 }
 
 cp "$here/../crates/edfclaim/stdout" "$work/want" || exit 2
-refuse_each 0 1000000 vectors
+fail_each 0 1000000 vectors
 echo 'YES channels 3 samples 13590 annotations 5' >"$work/want"
-refuse_each 0 0 check original.edf cut.edf cut.toml
+fail_each 0 0 check original.edf cut.edf cut.toml
 echo 'NO 8 subfield name not X' >"$work/want"
-refuse_each 1 0 check original.edf name-left.edf cut.toml
+fail_each 1 0 check original.edf name-left.edf cut.toml
 echo 'CONFORMS records 150 channels 5 samples 52650 annotations 10' >"$work/want"
-refuse_each 0 0 conform original.edf
+fail_each 0 0 conform original.edf
 "$program" show original.edf >"$work/want"
-refuse_each 0 0 show original.edf
+fail_each 0 0 show original.edf
 "$program" notes original.edf >"$work/want"
-refuse_each 0 1000000 notes original.edf
+fail_each 0 1000000 notes original.edf
 echo "$passed passed, $failed failed"
 [ "$failed" -eq 0 ]

@@ -167,6 +167,21 @@ refuses 'edfclaim: claim refused: TooLong' check original.edf cut.edf "$work/lon
 if [ -c /dev/zero ]; then
     refuses 'edfclaim: claim refused: TooLong' check original.edf cut.edf /dev/zero
 fi
+# the deepest claim: 80 tables one in the other, each at a key of 80 parts, with half of the stack that systems give
+awk 'BEGIN {
+    key = "a"
+    for (i = 1; i < 80; i++) key = key ".a"
+    printf "[%s]\n", key
+    for (i = 0; i < 80; i++) printf "%s={", key
+    printf "%s=1", key
+    for (i = 0; i < 80; i++) printf "}"
+    print ""
+}' >"$work/deep"
+(
+    ulimit -s 4096
+    exec "$program" check original.edf cut.edf "$work/deep" >"$work/out" 2>"$work/err"
+)
+judge_refusal 'edfclaim: claim refused: BadFormat' 'the deepest claim, with 4 MB of stack' $?
 
 # a pipe gives a file in pieces
 if [ -e /dev/stdin ]; then

@@ -2,6 +2,7 @@ pub mod CourseFacts
 pub mod KeptFacts
 pub mod VerdictFacts
 pub mod SomeVerdictFacts
+pub mod SameFileFacts
 pub mod WordsFacts
 pub mod RunFacts
 pub mod ProductFacts

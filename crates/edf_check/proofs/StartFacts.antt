@@ -16,16 +16,16 @@ use Rattle.edf_check.specs.Laws.{IsFirstKept, IsDayOf, StartFollows}
 use Rattle.edf_check.proofs.samples.FractionFacts.{same_above, same_below, same_before, from_below}
 
 -- an instant, and a whole number of picoseconds
-whole-at : ℤ → Instant
+unfoldable pub whole-at : ℤ → Instant
 whole-at ps = record { num = ps; den = 1 }
 
 turned : (n : ℕ) (z : ℤ) → pos n *ℤ z ≡ z *ℤ pos n
 turned n z = omega (arith, ints)
 
-once : (z : ℤ) → z *ℤ pos 1 ≡ z
+pub once : (z : ℤ) → z *ℤ pos 1 ≡ z
 once z = omega (arith, ints)
 
-reached-at : (p : Instant) (ps : ℤ) → (pos p.den *ℤ ps) ≤ℤ p.num → IsNotBefore p (whole-at ps)
+pub reached-at : (p : Instant) (ps : ℤ) → (pos p.den *ℤ ps) ≤ℤ p.num → IsNotBefore p (whole-at ps)
 unfolding whole-at
 reached-at p ps le = let t = turned p.den ps in let o = once p.num in omega (arith, ints, le, t, o)
 
@@ -33,7 +33,7 @@ at-reached : (p : Instant) (ps : ℤ) → IsNotBefore p (whole-at ps) → (pos p
 unfolding whole-at
 at-reached p ps le = let t = turned p.den ps in let o = once p.num in omega (arith, ints, le, t, o)
 
-before-at : (p : Instant) (ps : ℤ) → p.num <ℤ (pos p.den *ℤ ps) → IsBefore p (whole-at ps)
+pub before-at : (p : Instant) (ps : ℤ) → p.num <ℤ (pos p.den *ℤ ps) → IsBefore p (whole-at ps)
 unfolding whole-at
 before-at p ps lt = let t = turned p.den ps in let o = once p.num in omega (arith, ints, lt, t, o)
 
@@ -42,7 +42,7 @@ unfolding whole-at
 at-before p ps lt = let t = turned p.den ps in let o = once p.num in omega (arith, ints, lt, t, o)
 
 -- the same instants have one whole second
-same-second : (p q : Instant) (second : ℤ) → 0 < p.den → 0 < q.den → IsSame p q → IsSecondOf q second → IsSecondOf p second
+pub same-second : (p q : Instant) (second : ℤ) → 0 < p.den → 0 < q.den → IsSame p q → IsSecondOf q second → IsSecondOf p second
 same-second p q second pp pq same is =
     let low = second *ℤ pos (10 ^ 12) in
     let high = (second +ℤ pos 1) *ℤ pos (10 ^ 12) in

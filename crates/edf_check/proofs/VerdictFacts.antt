@@ -27,53 +27,53 @@ use Rattle.edf_check.proofs.KeptFacts.{kept-course, exported-course}
 use Rattle.edf_check.proofs.notes.NoteFacts.{note-apart, one-note}
 
 -- a file that conforms has no fault
-no-fault : (file : List ℕ) (fault : Fault) → file_fault file ≡ Some fault → file_fault file ≡ None → ⊥
+pub no-fault : (file : List ℕ) (fault : Fault) → file_fault file ≡ Some fault → file_fault file ≡ None → ⊥
 no-fault file fault e none = let z : Some fault ≡ None = sym e ∙ none in cc
 
 faultless : (o e : List ℕ) → BothConform o e → (file_fault o ≡ None) × (file_fault e ≡ None)
 faultless o e both = ((conforming_is_faultless o).1 (head_of o, both.original_conforms), (conforming_is_faultless e).1 (head_of e, both.export_conforms))
 
 -- the kinds of verdicts
-abbrev OfOriginal : List ℕ → List ℕ → Terms → Verdict → Type 0
+abbrev pub OfOriginal : List ℕ → List ℕ → Terms → Verdict → Type 0
 OfOriginal o e c v = (fault : Fault) × (v ≡ No (differences.OriginalFault fault)) × (file_fault o ≡ Some fault)
 
-abbrev OfExport : List ℕ → List ℕ → Terms → Verdict → Type 0
+abbrev pub OfExport : List ℕ → List ℕ → Terms → Verdict → Type 0
 OfExport o e c v = (fault : Fault) × (v ≡ No (differences.ExportFault fault)) × (file_fault e ≡ Some fault)
 
-abbrev OfHeads : List ℕ → List ℕ → Terms → Verdict → Type 0
+abbrev pub OfHeads : List ℕ → List ℕ → Terms → Verdict → Type 0
 OfHeads o e c v = IsHeadVerdict (head_of o) (head_of e) c v
 
-abbrev OfSamples : List ℕ → List ℕ → Terms → Verdict → Type 0
+abbrev pub OfSamples : List ℕ → List ℕ → Terms → Verdict → Type 0
 OfSamples o e c v =
     (label : List ℕ) × (at_ps : ℤ) × (mismatch : SampleMismatch) × (v ≡ No (differences.Sample label at_ps mismatch)) × IsFirstMismatch (KeptAt o c) (ExportedAt o e c) label at_ps mismatch
 
-abbrev OfNotes : List ℕ → List ℕ → Terms → Verdict → Type 0
+abbrev pub OfNotes : List ℕ → List ℕ → Terms → Verdict → Type 0
 OfNotes o e c v =
     (mismatch : AnnotationMismatch) × (note : NoteValue) × (v ≡ No (differences.Annotation mismatch note.onset note.duration note.text)) × IsFirstNote (kept_notes o c) (exported_notes o e c) mismatch note
 
-abbrev OfYes : List ℕ → List ℕ → Terms → Verdict → Type 0
+abbrev pub OfYes : List ℕ → List ℕ → Terms → Verdict → Type 0
 OfYes o e c v = (channels samples annotations : ℕ) × (v ≡ Yes channels samples annotations) × HasCounts e channels samples annotations
 
 -- from each kind on
-abbrev FromNotes : List ℕ → List ℕ → Terms → Verdict → Type 0
+abbrev pub FromNotes : List ℕ → List ℕ → Terms → Verdict → Type 0
 FromNotes o e c v = OfNotes o e c v ⊎ (SameNotes (kept_notes o c) (exported_notes o e c) × OfYes o e c v)
 
-abbrev FromSamples : List ℕ → List ℕ → Terms → Verdict → Type 0
+abbrev pub FromSamples : List ℕ → List ℕ → Terms → Verdict → Type 0
 FromSamples o e c v = OfSamples o e c v ⊎ (SameSamples o e c × FromNotes o e c v)
 
-abbrev FromHeads : List ℕ → List ℕ → Terms → Verdict → Type 0
+abbrev pub FromHeads : List ℕ → List ℕ → Terms → Verdict → Type 0
 FromHeads o e c v = OfHeads o e c v ⊎ (HeadsAgree (head_of o) (head_of e) c × FromSamples o e c v)
 
-abbrev FromExport : List ℕ → List ℕ → Terms → Verdict → Type 0
+abbrev pub FromExport : List ℕ → List ℕ → Terms → Verdict → Type 0
 FromExport o e c v = OfExport o e c v ⊎ (BothConform o e × FromHeads o e c v)
 
-abbrev FromOriginal : List ℕ → List ℕ → Terms → Verdict → Type 0
+abbrev pub FromOriginal : List ℕ → List ℕ → Terms → Verdict → Type 0
 FromOriginal o e c v = OfOriginal o e c v ⊎ ((file_fault o ≡ None) × FromExport o e c v)
 
 from-heads : (o e : List ℕ) (c : Terms) (v : Verdict) → BothConform o e → FromHeads o e c v → FromOriginal o e c v
 from-heads o e c v both kind = inr ((faultless o e both).0, inr (both, kind))
 
-kind-of : (o e : List ℕ) (c : Terms) (v : Verdict) → IsVerdict o e c v → FromOriginal o e c v
+pub kind-of : (o e : List ℕ) (c : Terms) (v : Verdict) → IsVerdict o e c v → FromOriginal o e c v
 kind-of o e c (Yes channels samples annotations) h =
     let x = h.1 in
     from-heads o e c _ h.0 (inr (x.heads, inr (x.samples, inr (x.notes, (channels, samples, annotations, refl, h.2)))))

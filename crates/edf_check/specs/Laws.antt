@@ -20,7 +20,9 @@ use Rattle.edf_check.specs.Instants.{later}
 use Rattle.edf_check.specs.Headline.{Headline}
 use Rattle.edf_check.specs.Kept.{IsKeptSample, SamplesAsKept, shift_ps}
 use Rattle.edf_check.specs.KeptReading.{origin_of}
+use Rattle.edf_check.specs.SameFiles.{HoldTheSame}
 use Rattle.edf_check.specs.Verdicts.{IsVerdict}
+use Rattle.edf_heads.specs.SameHeads.{AreBlankAlike}
 
 -- there is one verdict at most
 abbrev pub OneVerdict : Type 0
@@ -89,3 +91,14 @@ pub record StartsAsKept (original export : List ℕ) (h g : Head) (claim : Terms
 abbrev pub StartFollows : Type 0
 StartFollows = (original export : List ℕ) (claim : Terms) (r : Headline original export claim) →
     StartsAsKept original export r.original_head r.export_head claim
+
+-- however a writer cuts the export, the verdict on it is the same: it is that of every file that holds the same and has free text in
+-- the same places
+abbrev pub AnyCutOfExport : Type 0
+AnyCutOfExport = (original export other : List ℕ) (claim : Terms) (v : Verdict) → HoldTheSame export other → AreBlankAlike (head_of export) (head_of other)
+    → IsVerdict original export claim v → IsVerdict original other claim v
+
+-- the same of the original, whatever free text it has
+abbrev pub AnyCutOfOriginal : Type 0
+AnyCutOfOriginal = (original other export : List ℕ) (claim : Terms) (v : Verdict) → HoldTheSame original other
+    → IsVerdict original export claim v → IsVerdict other export claim v

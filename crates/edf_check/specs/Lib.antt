@@ -8,6 +8,7 @@ pub mod Headline
 pub mod Annotations
 pub mod Exports
 pub mod Verdicts
+pub mod SameFiles
 pub mod Laws
 pub mod Checks
 pub mod Runs

@@ -1,6 +1,6 @@
 //! Laws of the definitions, each the contract of a function that does nothing.
 
-ghost use Rattle.edf_check.specs.Laws.{OneVerdict, SomeVerdict, YesExactly, HeadlineExactly, SamplesInWords, NotesInWords, StartFollows, AllProductsFit};
+ghost use Rattle.edf_check.specs.Laws.{AnyCutOfExport, AnyCutOfOriginal, OneVerdict, SomeVerdict, YesExactly, HeadlineExactly, SamplesInWords, NotesInWords, StartFollows, AllProductsFit};
 
 /// Two files have one verdict at most.
 pub fn there_is_one_verdict()
@@ -41,4 +41,12 @@ pub fn a_start_follows_from_the_samples()
 /// their calibrations, fit 128 bits.
 pub fn products_fit()
     ensures { AllProductsFit }
+{}
+
+/// The verdict doesn't depend on how a writer cut a file into data records, ordered its signals, spelled its numbers or
+/// placed its annotations: files that hold the same have the same verdict beside every other file, as export and as
+/// original, and so a run writes the same line of them.
+pub fn the_cut_does_not_matter()
+    ensures export { AnyCutOfExport }
+    ensures original { AnyCutOfOriginal }
 {}

@@ -7,4 +7,5 @@ pub mod ListFacts
 pub mod SubfieldFacts
 pub mod OneHeadFacts
 pub mod SomeHeadFacts
+pub mod SameHeadFacts
 pub mod ForCallers

@@ -1,5 +1,5 @@
 -- Two sound headers agree under a claim, or have a first difference.
-use Rattle.std.proofs.Common.{◌≡◌, ◌↔◌, ℕ, ◌<◌, Bool, true, false, ◌&&◌, ◌==◌, List, [], ◌∷◌, length, map, Option, Some, None, MatchOption, ◌⊎◌, inl, inr, ⊎_elim, refl, sym, ap, ◌∙◌, subst, arith}
+use Rattle.std.proofs.Common.{◌≡◌, ◌↔◌, ℕ, Bool, true, false, ◌&&◌, ◌==◌, List, [], ◌∷◌, length, map, Option, Some, None, ◌⊎◌, inl, inr, ⊎_elim, refl, sym, ap, ◌∙◌, subst, arith}
 use Rattle.std.specs.List.{list_all}
 use Rattle.std.specs.Str.{bytes_eq}
 use Rattle.std.proofs.lemmas.Bool.{cases_lt}
@@ -30,7 +30,7 @@ use Rattle.edf_heads.specs.Comparisons.{channel_of, claimed_of, first_text_diffe
 use Rattle.edf_heads.specs.Firsts.{IsFirstWith}
 use Rattle.edf_heads.specs.HeadVerdicts.{HeadsAgree, SignalsAgree, IsHeadVerdict}
 use Rattle.edf_heads.specs.Labels.{IsNotAbove}
-use Rattle.edf_heads.specs.Subfields.{IsX, AreAllX, IsAsClaimed, SubfieldsAsClaimed}
+use Rattle.edf_heads.specs.Subfields.{AreAllX, IsAsClaimed, SubfieldsAsClaimed}
 use Rattle.edf_heads.specs.Texts.{SameTexts}
 use Rattle.edf_heads.proofs.ChannelFacts.{channel-some, channel-none}
 use Rattle.edf_heads.proofs.ContentFacts.{alike-differ, alike-tested, differ-tested, TextsOf, texts-found, text-there, no-text, blank_decided, other-calibration, same-calibration}

@@ -54,7 +54,7 @@ same_tested b ts us e = (λ h. same-is ts us (sym e ∙ h), λ h. e ∙ subst (�
 -- ---- a subfield is as claimed
 
 -- it is `X` where it is claimed anonymous, and else the original's
-to-claimed : (o e : Head) (claim : Terms) (w : Which) → ByClaim claim w (IsAnonymous e w) (IsUnchanged o e w) → IsAsClaimed o e claim w
+pub to-claimed : (o e : Head) (claim : Terms) (w : Which) → ByClaim claim w (IsAnonymous e w) (IsUnchanged o e w) → IsAsClaimed o e claim w
 to-claimed o e claim Code h = h
 to-claimed o e claim Sex h = h
 to-claimed o e claim Birthdate h = h
@@ -66,7 +66,7 @@ to-claimed o e claim Technician h = h
 to-claimed o e claim Equipment h = h
 to-claimed o e claim RecordingExtras h = h
 
-of-claimed : (o e : Head) (claim : Terms) (w : Which) → IsAsClaimed o e claim w → ByClaim claim w (IsAnonymous e w) (IsUnchanged o e w)
+pub of-claimed : (o e : Head) (claim : Terms) (w : Which) → IsAsClaimed o e claim w → ByClaim claim w (IsAnonymous e w) (IsUnchanged o e w)
 of-claimed o e claim Code h = h
 of-claimed o e claim Sex h = h
 of-claimed o e claim Birthdate h = h

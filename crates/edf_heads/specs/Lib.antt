@@ -11,5 +11,6 @@ pub mod HeadVerdicts
 pub mod Labels
 pub mod Subfields
 pub mod SubfieldDifference
+pub mod SameHeads
 pub mod Texts
 pub mod TextDifference

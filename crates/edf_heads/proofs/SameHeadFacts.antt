@@ -1,0 +1,310 @@
+-- Headers that say the same agree, or differ first, in the same way under every claim.
+use Rattle.std.proofs.Common.{◌≡◌, ◌↔◌, ℕ, List, [], ◌∷◌, inl, inr, ⊎_elim, refl, sym, ap, ◌∙◌, subst}
+use Rattle.std.specs.List.{All}
+use Rattle.std.proofs.lemmas.List.Elements.{All-head, All-tail}
+use Rattle.std.proofs.lemmas.List.Sorted.{IsPermutation-refl, IsPermutation-sym, IsPermutation-trans}
+use Rattle.edf_claim.specs.Terms.{Terms}
+use Rattle.edf_fields.specs.declared.which.Which.{Which}
+use Rattle.edf_fields.specs.declared.which.Which.TheVariants.{Code, Sex, Birthdate, Name, PatientExtras, Date, Administration, Technician, Equipment, RecordingExtras}
+use Rattle.edf_fields.specs.Identifications.{Patient, Recording}
+use Rattle.edf_fields.specs.Lists.{Has}
+use Rattle.edf_fields.specs.SubfieldNamesReading.{all_subfields}
+use Rattle.edf_fields.proofs.ForCallers.{has-permutation}
+use Rattle.edf_header.specs.Calibrations.{AreExtremes}
+use Rattle.edf_header.specs.Channels.{channel_labels}
+use Rattle.edf_header.specs.Heads.{SignalHead, Head}
+use Rattle.edf_header.specs.Sound.{IsSound}
+use Rattle.edf_header.specs.Standard.{IsSoundSignal}
+use Rattle.edf_header.proofs.ForCallers.{same_line_is_equivalence}
+use Rattle.edf_verdict.specs.declared.verdict.Verdict.{Verdict}
+use Rattle.edf_verdict.specs.declared.verdict.Verdict.TheVariants.{Yes, No}
+use Rattle.edf_verdict.specs.declared.verdict.Difference.TheVariants as differences
+use Rattle.edf_verdict.specs.declared.verdict.FreeText.TheVariants.{Header, Channel}
+use Rattle.edf_verdict.specs.declared.verdict.TextField.{TextField}
+use Rattle.edf_verdict.specs.declared.verdict.TextField.TheVariants.{Transducer, Prefilter}
+use Rattle.edf_heads.specs.BlankDifference.{HasFreeText}
+use Rattle.edf_heads.specs.Calibrations.{HaveSameCalibration}
+use Rattle.edf_heads.specs.Channels.{IsChannelOf, HasChannel, HasAll, SameChannels, AreAlike, AllAlike}
+use Rattle.edf_heads.specs.ChannelDifferences.{HasNoChannel, IsExtra, AreUnlike, IsFirstUnlike}
+use Rattle.edf_heads.specs.Comparisons.{IsAnonymous, IsUnchanged}
+use Rattle.edf_heads.specs.Firsts.{IsFirstWith}
+use Rattle.edf_heads.specs.HeadVerdicts.{HeadsAgree, SignalsAgree, IsHeadVerdict}
+use Rattle.edf_heads.specs.SameHeads.{AreSameChannels, AreSameRecordings, AreSameHeads, AreBlankAlike}
+use Rattle.edf_heads.specs.Subfields.{IsX, AreAllX, IsAsClaimed}
+use Rattle.edf_heads.specs.Texts.{HaveSameText, HaveSameTexts}
+use Rattle.edf_heads.specs.TextDifference.{IsFirstText}
+use Rattle.edf_heads.proofs.ChannelFacts.{one-channel}
+use Rattle.edf_heads.proofs.HeadFacts.{has-label, label-has}
+use Rattle.edf_heads.proofs.SubfieldFacts.{to-claimed, of-claimed}
+
+-- ---- being the same
+
+same-line-back : (x y : SignalHead) → AreSameChannels x y → AreSameChannels y x
+same-line-back x y s = record { transducer = sym s.transducer; dimension = sym s.dimension; prefilter = sym s.prefilter; line = same_line_is_equivalence.1 x.calibration y.calibration s.line }
+
+recordings-back : (r s : Recording) → AreSameRecordings r s → AreSameRecordings s r
+recordings-back r s h = record {
+  date = ⊎_elim (λ e. inl (sym e)) (λ n. inr (n.1, n.0)) h.date;
+  admin = sym h.admin;
+  technician = sym h.technician;
+  equipment = sym h.equipment;
+  extras = sym h.extras;
+}
+
+pub same-heads-back : (h g : Head) → AreSameHeads h g → AreSameHeads g h
+same-heads-back h g s = record {
+  channels = IsPermutation-sym (channel_labels h.signals) (channel_labels g.signals) s.channels;
+  alike = λ l x y cx cy. same-line-back y x (s.alike l y x cy cx);
+  patient = sym s.patient;
+  recording = recordings-back h.recording g.recording s.recording;
+}
+
+pub same-heads-self : (h : Head) → IsSound h → AreSameHeads h h
+same-heads-self h sound = record {
+  channels = IsPermutation-refl (channel_labels h.signals);
+  alike = λ l x y cx cy. subst (λ (z : SignalHead). AreSameChannels x z) (one-channel h l x y sound cx cy)
+      (record { transducer = refl; dimension = refl; prefilter = refl; line = same_line_is_equivalence.0 x.calibration });
+  patient = refl;
+  recording = record { date = inl refl; admin = refl; technician = refl; equipment = refl; extras = refl };
+}
+
+pub blank-alike-back : (h g : Head) → AreBlankAlike h g → AreBlankAlike g h
+blank-alike-back h g b = record {
+  header = (b.header.1, b.header.0);
+  channels = λ l x y cx cy. let both = b.channels l y x cy cx in (both.1, both.0);
+}
+
+pub blank-alike-self : (h : Head) → IsSound h → AreBlankAlike h h
+blank-alike-self h sound = record {
+  header = (λ b. b, λ b. b);
+  channels = λ l x y cx cy. subst (λ (z : SignalHead). (x.reserved ≡ []) ↔ (z.reserved ≡ [])) (one-channel h l x y sound cx cy) (λ e. e, λ e. e);
+}
+
+-- ---- channels
+
+there : (h g : Head) → AreSameHeads h g → (l : List ℕ) → HasChannel h l → HasChannel g l
+there h g s l c = label-has g l (has-permutation (channel_labels h.signals) (channel_labels g.signals) l s.channels (has-label h l c))
+
+sound-channel : (h : Head) (l : List ℕ) (x : SignalHead) → IsSound h → IsChannelOf h l x → AreExtremes x.calibration
+sound-channel h l x sound c = (all-has h.signals sound.standard.signals x c.there).calibration
+  where
+    all-has : (xs : List SignalHead) → All IsSoundSignal xs → (y : SignalHead) → Has xs y → IsSoundSignal y
+    all-has [] all y i = absurd i
+    all-has (z ∷ zs) all y (inl e) = subst IsSoundSignal e (All-head IsSoundSignal z zs all)
+    all-has (z ∷ zs) all y (inr i) = all-has zs (All-tail IsSoundSignal z zs all) y i
+
+-- ---- two headers in place of two others
+
+-- an original and an export, and another original and another export that say the same
+pub record AreSamePairs (o e o' e' : Head) : Type 0 where
+  pub original : AreSameHeads o o'
+  pub export : AreSameHeads e e'
+  pub original_sound : IsSound o
+  pub export_sound : IsSound e
+  pub other_original_sound : IsSound o'
+  pub other_export_sound : IsSound e'
+
+pairs-back : (o e o' e' : Head) → AreSamePairs o e o' e' → AreSamePairs o' e' o e
+pairs-back o e o' e' s = record {
+  original = same-heads-back o o' s.original;
+  export = same-heads-back e e' s.export;
+  original_sound = s.other_original_sound;
+  export_sound = s.other_export_sound;
+  other_original_sound = s.original_sound;
+  other_export_sound = s.export_sound;
+}
+
+first-carried : {X : Type 0} (P Q : X → Type 0) → ((x : X) → P x → Q x) → ((x : X) → Q x → P x) → (xs : List X) (x : X) → IsFirstWith P xs x → IsFirstWith Q xs x
+first-carried P Q there back [] x h = h
+first-carried P Q there back (y ∷ ys) x (inl h) = inl (h.0, there y h.1)
+first-carried P Q there back (y ∷ ys) x (inr h) = inr ((λ q. h.0 (back y q)), first-carried P Q there back ys x h.1)
+
+-- what holds of a channel of the one and one of the other holds of those in their places
+abbrev Carries : (SignalHead → SignalHead → Type 0) → Type 0
+Carries Alike = (x y x' y' : SignalHead) → AreExtremes x.calibration → AreExtremes y.calibration → AreSameChannels x x' → AreSameChannels y y' → Alike x y → Alike x' y'
+
+text-carried : (field : TextField) → Carries (HaveSameText field)
+text-carried Transducer x y x' y' ex ey s r h = sym s.transducer ∙ h ∙ r.transducer
+text-carried Prefilter x y x' y' ex ey s r h = sym s.prefilter ∙ h ∙ r.prefilter
+
+texts-carried : Carries HaveSameTexts
+texts-carried x y x' y' ex ey s r h = (text-carried Transducer x y x' y' ex ey s r h.0, text-carried Prefilter x y x' y' ex ey s r h.1)
+
+calibration-carried : Carries HaveSameCalibration
+calibration-carried x y x' y' ex ey s r h =
+    let through = same_line_is_equivalence.2 in
+    record {
+      dimension = sym s.dimension ∙ h.dimension ∙ r.dimension;
+      line = through x'.calibration x.calibration y'.calibration ex.order (same_line_is_equivalence.1 x.calibration x'.calibration s.line)
+          (through x.calibration y.calibration y'.calibration ey.order h.line r.line);
+    }
+
+alike-carried : (Alike : SignalHead → SignalHead → Type 0) → Carries Alike → (o e o' e' : Head) → AreSamePairs o e o' e' → (l : List ℕ) → AreAlike Alike o e l → AreAlike Alike o' e' l
+alike-carried Alike carries o e o' e' s l a x' y' cx' cy' =
+    let c = there o' o (same-heads-back o o' s.original) l (x', cx') in
+    let d = there e' e (same-heads-back e e' s.export) l (y', cy') in
+    carries c.0 d.0 x' y' (sound-channel o l c.0 s.original_sound c.1) (sound-channel e l d.0 s.export_sound d.1)
+    (s.original.alike l c.0 x' c.1 cx') (s.export.alike l d.0 y' d.1 cy') (a c.0 d.0 c.1 d.1)
+
+unlike-carried : (Alike : SignalHead → SignalHead → Type 0) → Carries Alike → (o e o' e' : Head) → AreSamePairs o e o' e' → (l : List ℕ) → AreUnlike Alike o e l → AreUnlike Alike o' e' l
+unlike-carried Alike carries o e o' e' s l u =
+    let x = u.0 in
+    let y = u.1 in
+    let c = there o o' s.original l (x, u.2) in
+    let d = there e e' s.export l (y, u.3) in (
+      c.0,
+      d.0,
+      c.1,
+      d.1,
+      λ h. u.4 (carries c.0 d.0 x y (sound-channel o' l c.0 s.other_original_sound c.1) (sound-channel e' l d.0 s.other_export_sound d.1)
+          (same-line-back x c.0 (s.original.alike l x c.0 u.2 c.1)) (same-line-back y d.0 (s.export.alike l y d.0 u.3 d.1)) h),
+    )
+
+first-unlike-carried : (Alike : SignalHead → SignalHead → Type 0) → Carries Alike → (o e o' e' : Head) → AreSamePairs o e o' e' → (c : Terms) (l : List ℕ) → IsFirstUnlike Alike o e c l → IsFirstUnlike Alike o' e' c l
+first-unlike-carried Alike carries o e o' e' s c l h =
+    first-carried (AreUnlike Alike o e) (AreUnlike Alike o' e') (unlike-carried Alike carries o e o' e' s) (unlike-carried Alike carries o' e' o e (pairs-back o e o' e' s)) c.channels l h
+
+all-alike-carried : (Alike : SignalHead → SignalHead → Type 0) → Carries Alike → (o e o' e' : Head) → AreSamePairs o e o' e' → (c : Terms) → AllAlike Alike o e c → AllAlike Alike o' e' c
+all-alike-carried Alike carries o e o' e' s c all l i = alike-carried Alike carries o e o' e' s l (all l i)
+
+all-there : (h g : Head) → AreSameHeads h g → (ls : List (List ℕ)) → HasAll h ls → HasAll g ls
+all-there h g s ls all l i = there h g s l (all l i)
+
+same-channels-carried : (o e o' e' : Head) → AreSamePairs o e o' e' → (c : Terms) → SameChannels o e c → SameChannels o' e' c
+same-channels-carried o e o' e' s c h = record {
+  in_original = all-there o o' s.original c.channels h.in_original;
+  in_export = IsPermutation-trans c.channels (channel_labels e.signals) (channel_labels e'.signals) h.in_export s.export.channels;
+}
+
+nowhere-carried : (h g : Head) → AreSameHeads h g → (l : List ℕ) → HasNoChannel h l → HasNoChannel g l
+nowhere-carried h g s l none c = none (there g h (same-heads-back h g s) l c)
+
+first-nowhere-carried : (h g : Head) → AreSameHeads h g → (ls : List (List ℕ)) (l : List ℕ) → IsFirstWith (HasNoChannel h) ls l → IsFirstWith (HasNoChannel g) ls l
+first-nowhere-carried h g s ls l first = first-carried (HasNoChannel h) (HasNoChannel g) (nowhere-carried h g s) (nowhere-carried g h (same-heads-back h g s)) ls l first
+
+extra-carried : (h g : Head) → AreSameHeads h g → (ls : List (List ℕ)) (l : List ℕ) → IsExtra h ls l → IsExtra g ls l
+extra-carried h g s ls l x = record { there = there h g s l x.there; unclaimed = x.unclaimed }
+
+signals-carried : (o e o' e' : Head) → AreSamePairs o e o' e' → (c : Terms) → SignalsAgree o e c → SignalsAgree o' e' c
+signals-carried o e o' e' s c h = record {
+  channels = same-channels-carried o e o' e' s c h.channels;
+  texts = all-alike-carried HaveSameTexts texts-carried o e o' e' s c h.texts;
+  calibrations = all-alike-carried HaveSameCalibration calibration-carried o e o' e' s c h.calibrations;
+}
+
+-- ---- subfields
+
+x-carried : (r s : Recording) → AreSameRecordings r s → IsX r.date → IsX s.date
+x-carried r s h x = ⊎_elim (λ e. sym e ∙ x) (λ n. absurd (n.0 x)) h.date
+
+anonymous-carried : (e e' : Head) → AreSameHeads e e' → (w : Which) → IsAnonymous e w → IsAnonymous e' w
+anonymous-carried e e' s Code h = subst (λ (p : Patient). IsX p.code) s.patient h
+anonymous-carried e e' s Sex h = subst (λ (p : Patient). IsX p.sex) s.patient h
+anonymous-carried e e' s Birthdate h = subst (λ (p : Patient). IsX p.birthdate) s.patient h
+anonymous-carried e e' s Name h = subst (λ (p : Patient). IsX p.name) s.patient h
+anonymous-carried e e' s PatientExtras h = subst (λ (p : Patient). AreAllX p.extras) s.patient h
+anonymous-carried e e' s Date h = x-carried e.recording e'.recording s.recording h
+anonymous-carried e e' s Administration h = subst IsX s.recording.admin h
+anonymous-carried e e' s Technician h = subst IsX s.recording.technician h
+anonymous-carried e e' s Equipment h = subst IsX s.recording.equipment h
+anonymous-carried e e' s RecordingExtras h = subst AreAllX s.recording.extras h
+
+unchanged-carried : (o e o' e' : Head) → AreSameHeads o o' → AreSameHeads e e' → (w : Which) → IsUnchanged o e w → IsUnchanged o' e' w
+unchanged-carried o e o' e' s r Code h = sym (ap (λ (p : Patient). p.code) r.patient) ∙ h ∙ ap (λ (p : Patient). p.code) s.patient
+unchanged-carried o e o' e' s r Sex h = sym (ap (λ (p : Patient). p.sex) r.patient) ∙ h ∙ ap (λ (p : Patient). p.sex) s.patient
+unchanged-carried o e o' e' s r Birthdate h = sym (ap (λ (p : Patient). p.birthdate) r.patient) ∙ h ∙ ap (λ (p : Patient). p.birthdate) s.patient
+unchanged-carried o e o' e' s r Name h = sym (ap (λ (p : Patient). p.name) r.patient) ∙ h ∙ ap (λ (p : Patient). p.name) s.patient
+unchanged-carried o e o' e' s r PatientExtras h = sym (ap (λ (p : Patient). p.extras) r.patient) ∙ h ∙ ap (λ (p : Patient). p.extras) s.patient
+unchanged-carried o e o' e' s r Date h = (
+  λ x. x-carried o.recording o'.recording s.recording (h.0 (x-carried e'.recording e.recording (recordings-back e.recording e'.recording r.recording) x)),
+  λ x. x-carried e.recording e'.recording r.recording (h.1 (x-carried o'.recording o.recording (recordings-back o.recording o'.recording s.recording) x)),
+)
+unchanged-carried o e o' e' s r Administration h = sym r.recording.admin ∙ h ∙ s.recording.admin
+unchanged-carried o e o' e' s r Technician h = sym r.recording.technician ∙ h ∙ s.recording.technician
+unchanged-carried o e o' e' s r Equipment h = sym r.recording.equipment ∙ h ∙ s.recording.equipment
+unchanged-carried o e o' e' s r RecordingExtras h = sym r.recording.extras ∙ h ∙ s.recording.extras
+
+claimed-carried : (o e o' e' : Head) → AreSamePairs o e o' e' → (c : Terms) (w : Which) → IsAsClaimed o e c w → IsAsClaimed o' e' c w
+claimed-carried o e o' e' s c w h =
+    let by = of-claimed o e c w h in
+    to-claimed o' e' c w (record { claimed = λ i. anonymous-carried e e' s.export w (by.claimed i); unclaimed = λ n. unchanged-carried o e o' e' s.original s.export w (by.unclaimed n) })
+
+-- ---- free text
+
+free-carried : (h g : Head) → AreSameHeads h g → AreBlankAlike h g → (l : List ℕ) → HasFreeText h l → HasFreeText g l
+free-carried h g s b l f =
+    let c = there h g s l (f.0, f.1) in
+    (c.0, c.1, λ e. f.2 ((b.channels l f.0 c.0 f.1 c.1).1 e))
+
+-- ---- the headers as a whole
+
+pub agree_carried : (o e o' e' : Head) → AreSamePairs o e o' e' → AreBlankAlike e e' → (c : Terms) → HeadsAgree o e c → HeadsAgree o' e' c
+agree_carried o e o' e' s b c h =
+    let signals = signals-carried o e o' e' s c (record { channels = h.channels; texts = h.texts; calibrations = h.calibrations }) in
+    record {
+      channels = signals.channels;
+      texts = signals.texts;
+      calibrations = signals.calibrations;
+      subfields = λ w. claimed-carried o e o' e' s c w (h.subfields w);
+      blank = record {
+        header = b.header.0 h.blank.header;
+        channels = λ l y' cy'.
+            let d = there e' e (same-heads-back e e' s.export) l (y', cy') in
+            (b.channels l d.0 y' d.1 cy').0 (h.blank.channels l d.0 d.1);
+      };
+    }
+
+text-first-carried : (o e o' e' : Head) → AreSamePairs o e o' e' → (l : List ℕ) (field : TextField) → IsFirstText o e l field → IsFirstText o' e' l field
+text-first-carried o e o' e' s l Transducer h = unlike-carried (HaveSameText Transducer) (text-carried Transducer) o e o' e' s l h
+text-first-carried o e o' e' s l Prefilter h = (
+  alike-carried (HaveSameText Transducer) (text-carried Transducer) o e o' e' s l h.0,
+  unlike-carried (HaveSameText Prefilter) (text-carried Prefilter) o e o' e' s l h.1,
+)
+
+pub head_verdict_carried : (o e o' e' : Head) → AreSamePairs o e o' e' → AreBlankAlike e e' → (c : Terms) (v : Verdict) → IsHeadVerdict o e c v → IsHeadVerdict o' e' c v
+head_verdict_carried o e o' e' s b c (Yes channels samples annotations) h = h
+head_verdict_carried o e o' e' s b c (No (differences.OriginalFault fault)) h = h
+head_verdict_carried o e o' e' s b c (No (differences.ExportFault fault)) h = h
+head_verdict_carried o e o' e' s b c (No (differences.UnknownChannel l)) h = first-nowhere-carried o o' s.original c.channels l h
+head_verdict_carried o e o' e' s b c (No (differences.MissingChannel l)) h = (all-there o o' s.original c.channels h.0, first-nowhere-carried e e' s.export c.channels l h.1)
+head_verdict_carried o e o' e' s b c (No (differences.ExtraChannel l)) h = (
+  all-there o o' s.original c.channels h.0,
+  all-there e e' s.export c.channels h.1,
+  record {
+    extra = extra-carried e e' s.export c.channels l (h.2).extra;
+    least = λ m x. (h.2).least m (extra-carried e' e (same-heads-back e e' s.export) c.channels m x);
+  },
+)
+head_verdict_carried o e o' e' s b c (No (differences.ChannelText l field)) h = (
+  same-channels-carried o e o' e' s c h.0,
+  record {
+    channel = first-unlike-carried HaveSameTexts texts-carried o e o' e' s c l (h.1).channel;
+    text = text-first-carried o e o' e' s l field (h.1).text;
+  },
+)
+head_verdict_carried o e o' e' s b c (No (differences.Calibration l)) h = (
+  same-channels-carried o e o' e' s c h.0,
+  all-alike-carried HaveSameTexts texts-carried o e o' e' s c h.1,
+  first-unlike-carried HaveSameCalibration calibration-carried o e o' e' s c l h.2,
+)
+head_verdict_carried o e o' e' s b c (No (differences.Subfield w mismatch)) h = (
+  signals-carried o e o' e' s c h.0,
+  record {
+    subfield = first-carried (λ v. IsAsClaimed o e c v → ⊥) (λ v. IsAsClaimed o' e' c v → ⊥)
+        (λ v n i. n (claimed-carried o' e' o e (pairs-back o e o' e' s) c v i)) (λ v n i. n (claimed-carried o e o' e' s c v i)) all_subfields w (h.1).subfield;
+    mismatch_is = (h.1).mismatch_is;
+  },
+)
+head_verdict_carried o e o' e' s b c (No (differences.NotClean Header)) h = (
+  signals-carried o e o' e' s c h.0,
+  λ w. claimed-carried o e o' e' s c w (h.1 w),
+  λ blank. h.2 (b.header.1 blank),
+)
+head_verdict_carried o e o' e' s b c (No (differences.NotClean (Channel l))) h = (
+  signals-carried o e o' e' s c h.0,
+  λ w. claimed-carried o e o' e' s c w (h.1 w),
+  b.header.0 h.2,
+  first-carried (HasFreeText e) (HasFreeText e') (free-carried e e' s.export b) (free-carried e' e (same-heads-back e e' s.export) (blank-alike-back e e' b)) c.channels l h.3,
+)
+head_verdict_carried o e o' e' s b c (No (differences.Sample l at_ps mismatch)) h = h
+head_verdict_carried o e o' e' s b c (No (differences.Annotation mismatch onset duration text)) h = h
