@@ -126,3 +126,29 @@ fn reads_the_original_of_a_bad_export(rt: HostRuntime) -> Result<(), Fail> {
     assert_eq!(rt; (first.reads, first.failures), (READS, 0));
     Ok(())
 }
+
+/// How much is left of an original that breaks off, its fault, and how often the export is read then: not at all, or
+/// as far as its header.
+const BROKEN: &[(usize, &str, u32)] = &[
+    (
+        0,
+        "NO 1 original fault: Truncated at header field version\n",
+        0,
+    ),
+    (1050, "NO 1 original fault: Truncated at record 0\n", 11),
+];
+
+/// Behind a fault of the original the export isn't read on.
+#[test]
+fn reads_no_more_behind_a_bad_original(rt: HostRuntime) -> Result<(), Fail> {
+    let alloc = rt.alloc();
+    let file = recorded(alloc, &[], LANES)?;
+    for (count, want, reads) in BROKEN {
+        let mut first = tape_of(file.get(..*count).unwrap_or(&[]), READS);
+        let mut second = tape_of(&file, READS);
+        let (stop, line) = ran_from(alloc, &mut first, &mut second, ALL)?;
+        assert_eq!(rt; (stop, line.as_str()), (None, *want));
+        assert_eq!(rt; second.reads, *reads);
+    }
+    Ok(())
+}

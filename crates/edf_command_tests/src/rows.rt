@@ -1,9 +1,14 @@
 //! The worked rows: their text, what a sink holds of it that is too small, and the same under ever more memory.
 
+use edf_check::run::run;
 use edf_check::vectors::line::Line;
 use edf_check::vectors::vectors_to;
+use edf_fields::faulty_source::FaultySource;
 use edf_fields::sink::SliceSink;
+use edf_fields::source::SliceSource;
 use edf_refusal::stop::ReportStop;
+use edf_rows::build::bytes_of;
+use edf_rows::rows::{Row, worked_rows};
 use edf_test_files::scarce::Scarce;
 use edf_verdict::outcome::Outcome;
 use std::alloc::{AllocError, Global};
@@ -132,5 +137,28 @@ fn rise(alloc: Global) -> Result<(bool, u64), AllocError> {
 fn writes_the_rows_or_wants_memory(rt: HostRuntime) -> Result<(), Fail> {
     let (is_right, refused) = rise(rt.alloc())?;
     assert!(rt; is_right && refused > 0, "{refused}");
+    Ok(())
+}
+
+/// The line of a row whose files are read byte by byte.
+fn line_by_bytes(alloc: Global, row: &Row) -> Result<Line, AllocError> {
+    let original = bytes_of(alloc, &row.original)?;
+    let export = bytes_of(alloc, &row.export)?;
+    let mut first = FaultySource::new(SliceSource::new(&original), u64::MAX, 1);
+    let mut second = FaultySource::new(SliceSource::new(&export), u64::MAX, 1);
+    let mut line = Line::new(alloc);
+    let claim = row.claim.as_bytes();
+    match run(alloc, &mut first, &mut second, claim, &mut line) {
+        Ok(_) => Ok(line),
+        Err(_) => Err(AllocError),
+    }
+}
+
+#[test]
+fn gives_the_same_lines_byte_by_byte(rt: HostRuntime) -> Result<(), Fail> {
+    for row in worked_rows() {
+        let line = line_by_bytes(rt.alloc(), row)?;
+        assert_eq!(rt; line.bytes(), row.stored.as_bytes());
+    }
     Ok(())
 }
