@@ -3,7 +3,7 @@
 # machine isn't proved again as long as nothing changes that it stands on. Then the scripts: the table of wrong
 # bodies, what the crates cite of one another's proofs, whether the document of the headline is whole, and the
 # program that was built, on command lines and files that it refuses, on the example night, on the tables of
-# cases and of claims, and with each growth of memory refused in turn.
+# cases and of claims, and with each growth of memory, each read and each write failing in turn.
 #
 # usage: tools/gate.sh
 #

@@ -1,8 +1,9 @@
 //! The files that a command reads.
 
-ghost use Rattle.std.specs.Prelude.{◌≡◌, take, IfOk, IfErr, IsTrue};
+ghost use Rattle.std.specs.Prelude.{◌≡◌, ◌≤◌, length, take, IfOk, IfErr, IsTrue};
 ghost use Rattle.edf_fields.specs.Sources.{Rises};
 ghost use Rattle.edf_refusal.specs.Refusals.{ClaimReadStops};
+ghost use Rattle.edfclaim.specs.Opening.{ClaimTextStops, OpeningStops};
 
 use edf_fields::source::{ReadSource, Source, fill};
 use edf_refusal::refusal::{Refusal, Role};
@@ -22,7 +23,9 @@ const CLAIM_BYTES: usize = 65_537;
 /// Opens a file to be read.
 ///
 /// The error is `CannotOpen`, or want of memory.
-fn open<R: Files>(rt: &R, path: &str, role: Role) -> Result<R::File, Refusal> {
+fn open<R: Files>(rt: &R, path: &str, role: Role) -> Result<R::File, Refusal>
+    ensures stop { IfErr result (OpeningStops role) }
+{
     match fs::open(rt, path) {
         Ok(file) => Ok(file),
         Err(fault) if fault.kind() == ErrorKind::OutOfMemory => Err(Refusal::Memory),
@@ -37,7 +40,9 @@ pub fn recording<R: Files + AllocGlobal>(
     rt: &R,
     path: &str,
     role: Role,
-) -> Result<ReadSource<BufReader<R::File>>, Refusal> {
+) -> Result<ReadSource<BufReader<R::File>>, Refusal>
+    ensures stop { IfErr result (OpeningStops role) }
+{
     let file = open(rt, path, role)?;
     match BufReader::with_capacity(rt.alloc(), READ_AHEAD, file) {
         Ok(reader) => Ok(ReadSource::new(reader)),
@@ -50,6 +55,7 @@ pub fn recording<R: Files + AllocGlobal>(
 /// The error is a failed read, or want of memory.
 fn text_of<S: Source>(alloc: Global, source: &mut S, most: usize) -> Result<Vec<u8>, Refusal>
     ensures text { IfOk result (λ text. IsTrue (S.is_honest source.old) → text.items ≡ take most (S.left source.old)) }
+    ensures short { IfOk result (λ text. length text.items ≤ most) }
     ensures stop { IfErr result (ClaimReadStops (Rises (S.failures source.old) (S.failures source.new))
         (S.failures source.new ≡ S.failures source.old)) }
 {
@@ -66,7 +72,10 @@ fn text_of<S: Source>(alloc: Global, source: &mut S, most: usize) -> Result<Vec<
 /// Opens a claim and reads its text: all of it, or its first 65,537 bytes.
 ///
 /// The error is `CannotOpen` or `Reading`, of the claim, or want of memory.
-pub fn claim_text<R: Files + AllocGlobal>(rt: &R, path: &str) -> Result<Vec<u8>, Refusal> {
+pub fn claim_text<R: Files + AllocGlobal>(rt: &R, path: &str) -> Result<Vec<u8>, Refusal>
+    ensures short { IfOk result (λ text. length text.items ≤ 65537) }
+    ensures stop { IfErr result ClaimTextStops }
+{
     let file = open(rt, path, Role::Claim)?;
     text_of(rt.alloc(), &mut ReadSource::new(file), CLAIM_BYTES)
 }

@@ -1,5 +1,8 @@
 //! The commands, on files and standard output.
 
+ghost use Rattle.std.specs.Prelude.{IfErr};
+ghost use Rattle.edfclaim.specs.Opening.{ReportIsRefused};
+
 use crate::files::{claim_text, recording};
 use edf_check::run;
 use edf_check::vectors::vectors_to;
@@ -35,7 +38,9 @@ fn conform<R: Files + AllocGlobal, K: Sink>(
     rt: &R,
     path: &str,
     sink: &mut K,
-) -> Result<Outcome, Refusal> {
+) -> Result<Outcome, Refusal>
+    ensures stop { IfErr result ReportIsRefused }
+{
     let mut source = recording(rt, path, Role::File)?;
     Ok(conform_to(rt.alloc(), &mut source, sink)?)
 }
@@ -45,7 +50,9 @@ fn show<R: Files + AllocGlobal, K: Sink>(
     rt: &R,
     path: &str,
     sink: &mut K,
-) -> Result<Outcome, Refusal> {
+) -> Result<Outcome, Refusal>
+    ensures stop { IfErr result ReportIsRefused }
+{
     let mut source = recording(rt, path, Role::File)?;
     Ok(show_to(rt.alloc(), &mut source, sink)?)
 }
@@ -55,7 +62,9 @@ fn notes<R: Files + AllocGlobal, K: Sink>(
     rt: &R,
     path: &str,
     sink: &mut K,
-) -> Result<Outcome, Refusal> {
+) -> Result<Outcome, Refusal>
+    ensures stop { IfErr result ReportIsRefused }
+{
     let mut source = recording(rt, path, Role::File)?;
     Ok(notes_to(rt.alloc(), &mut source, sink)?)
 }

@@ -1,0 +1,27 @@
+-- For what a command on files is refused, beside what is said where a call is made.
+use Rattle.std.specs.Prelude.{◌≡◌}
+use Rattle.edf_refusal.specs.declared.refusal.Refusal.{Refusal}
+use Rattle.edf_refusal.specs.declared.refusal.Refusal.TheVariants as refusals
+use Rattle.edf_refusal.specs.declared.refusal.Role.{Role}
+use Rattle.edf_refusal.specs.declared.refusal.Role.TheVariants as roles
+
+-- the file of this role can't be opened, or memory ran out
+abbrev pub OpeningStops : Role → Refusal → Type 0
+OpeningStops role refusals.Memory = Unit {0}
+OpeningStops role (refusals.CannotOpen other) = other ≡ role
+OpeningStops role refusal = ⊥
+
+-- the claim can't be opened, a read of it failed, or memory ran out
+abbrev pub ClaimTextStops : Refusal → Type 0
+ClaimTextStops refusals.Memory = Unit {0}
+ClaimTextStops (refusals.CannotOpen role) = role ≡ roles.Claim
+ClaimTextStops (refusals.Reading role) = role ≡ roles.Claim
+ClaimTextStops refusal = ⊥
+
+-- the only file of a report can't be opened, or a read of it failed; or memory ran out, or a write failed
+abbrev pub ReportIsRefused : Refusal → Type 0
+ReportIsRefused refusals.Memory = Unit {0}
+ReportIsRefused (refusals.CannotOpen role) = role ≡ roles.File
+ReportIsRefused (refusals.Reading role) = role ≡ roles.File
+ReportIsRefused (refusals.Claim cause) = ⊥
+ReportIsRefused refusals.Writing = Unit {0}
