@@ -167,6 +167,8 @@ int open(const char *path, int flags, ...)
         mode = va_arg(rest, mode_t);
         va_end(rest);
     }
+    if (!next_open)
+        find_next();
     int fd = next_open(path, flags, mode);
     if (fd >= 0 && fd < 64) {
         const char *slash = strrchr(path, '/');
@@ -189,6 +191,8 @@ static void tell_of(int fd)
 
 ssize_t read(int fd, void *bytes, size_t count)
 {
+    if (!next_read)
+        find_next();
     if (counting && fd > 2) {
         if (++reads == read_at) {
             tell_of(fd);
@@ -203,6 +207,8 @@ ssize_t read(int fd, void *bytes, size_t count)
 
 ssize_t write(int fd, const void *bytes, size_t count)
 {
+    if (!next_write)
+        find_next();
     if (counting && fd == 1) {
         if (++writes == write_at) {
             errno = ENOSPC;

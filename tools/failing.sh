@@ -1,11 +1,11 @@
 #!/bin/sh
-# Runs each command of PROGRAM with its first, second, third .. growth of memory refused, read failed and write failed,
-# until a run of it asks for fewer than that; and with reads and writes of single bytes, of which some fail. The worked
+# Runs each command of PROGRAM with each growth of memory refused in turn, each read failing and each write failing, of
+# all that a run of it has; and with reads and writes of single bytes, of which some fail. The worked
 # rows are those that are stored; the other commands run on the example night.
 #
 # usage: tools/failing.sh PROGRAM
 #
-# A run that was stopped has status 2, a front of the text on standard output (of a check nothing) and the line that says
+# A run that was stopped has status 2, a front of the text on standard output (of a check nothing, but where a write failed) and the line that says
 # why on standard error: that memory ran out, of which file a read failed, or that writing failed. A run that succeeded
 # has its status, the whole text and nothing on standard error: the last one, in which nothing failed, and any before it
 # whose refused growth was the C library's, or was made good. The last line of the output counts the runs that passed
@@ -105,12 +105,14 @@ fail_each() {
     goal=$1
     limit=$2
     shift 2
-    # shellcheck disable=SC2046
-    set -- $(counts_of 0 "$@") "$@"
-    if [ "$#" -lt 4 ]; then
+    counts=$(counts_of 0 "$@")
+    single_counts=$(counts_of 1 "$@")
+    if [ -z "$counts" ] || [ -z "$single_counts" ]; then
         fail "$*: nothing could be counted"
         return
     fi
+    # shellcheck disable=SC2086
+    set -- $counts "$@"
     growths=$1
     reads=$2
     writes=$3
@@ -136,8 +138,8 @@ fail_each() {
     done
     count_run "$(run_failing FAIL_AT 0 0 "$goal" "$limit" "$@")" whole "$*: nothing failed"
     count_run "$(run_failing FAIL_AT 0 1 "$goal" "$limit" "$@")" whole "$*: single bytes"
-    # shellcheck disable=SC2046
-    set -- $(counts_of 1 "$@") "$@"
+    # shellcheck disable=SC2086
+    set -- $single_counts "$@"
     singles=$2
     single_writes=$3
     shift 3

@@ -33,7 +33,7 @@ answers() {
     fi
 }
 
-for crate in edf_fields edf_header edf_tal edf_stream edf_claim edf_verdict edf_heads edf_check; do
+for crate in edf_fields edf_header edf_tal edf_stream edf_claim edf_verdict edf_refusal edf_rows edf_heads edf_check; do
     take "$work" "$crate"
 done
 
@@ -45,7 +45,7 @@ add() {
 }
 
 add answers "edf_fields edf_header edf_tal edf_stream edf_claim edf_heads edf_verdict jiff"
-add verdicts "edf_fields edf_claim edf_check"
+add verdicts "edf_fields edf_claim edf_refusal edf_check"
 failed=0
 
 python3 tools/oracle/cases.py "$seed" 2000 >"$work/cases"

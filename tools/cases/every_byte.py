@@ -1,4 +1,4 @@
-"""The night, as original and as export, cut behind each of its bytes, and with each of its bytes made 0, made 255 and with
+"""The night, as original and as export, cut in front of each of its bytes, and with each of its bytes made 0, made 255 and with
 its lowest bit turned; beside the night as it is."""
 
 from cases import BY_RULES

@@ -69,9 +69,7 @@ class Runs:
                 read = second_reading(original, export, claim).encode("latin1") + b"\n"
                 want = read if line is BY_RULES else want
                 if read != want:
-                    return f"the second reading says {read!r}"
-            elif line is BY_RULES:
-                return None
+                    return f"the second reading says {read!r}; wanted: {want!r}"
             words = [self.path("original", original), self.path("export", export), self.path("claim", claim.encode())]
         else:
             words = [self.path("file", case[1])]
@@ -81,7 +79,7 @@ class Runs:
         status = 0 if want is None or want.startswith((b"YES ", b"CONFORMS ")) else 1
         said = ran.stdout.startswith(b"kind ") if want is None else ran.stdout == want
         if ran.returncode != status or not said or ran.stderr:
-            return f"status {ran.returncode} with {ran.stdout[:200]!r} and {ran.stderr[:200]!r}"
+            return f"status {ran.returncode} with {ran.stdout[:200]!r} and {ran.stderr[:200]!r}; wanted: {want!r}"
         return None
 
 
@@ -95,15 +93,17 @@ def main():
         runs = Runs(os.path.abspath(sys.argv[1]), work)
         for name in TABLES:
             for number, case in enumerate(importlib.import_module(f"cases.{name}").cases()):
+                if case[-1] is BY_RULES and not tomllib:
+                    continue
                 fault = runs.fault(case)
                 if fault is None:
                     passed += 1
                     continue
                 failed += 1
                 if failed <= 20:
-                    print(f"{name}, case {number}: {fault}; wanted: {case[-1]!r}")
+                    print(f"{name}, case {number}: {fault}")
     if not tomllib:
-        print("Python is older than 3.11: the second reading of the rules is left out")
+        print("Python is older than 3.11: the second reading of the rules is left out, and what it alone decides")
     print(f"{passed} passed, {failed} failed")
     return 0 if passed and not failed else 1
 

@@ -44,8 +44,8 @@ pub fn products_fit()
 {}
 
 /// The verdict doesn't depend on how a writer cut a file into data records, ordered its signals, spelled its numbers or
-/// placed its annotations: files that hold the same have the same verdict beside every other file, as export and as
-/// original, and so a run writes the same line of them.
+/// placed its annotations: files that hold the same have the same verdict beside every other file, as originals, and as
+/// exports where they also have free text in the same places.
 pub fn the_cut_does_not_matter()
     ensures export { AnyCutOfExport }
     ensures original { AnyCutOfOriginal }

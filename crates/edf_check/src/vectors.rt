@@ -1,5 +1,5 @@
 //! The worked rows: files and claims built in memory, run, and their lines compared with those that are
-//! stored here.
+//! stored for them.
 
 ghost use Rattle.std.specs.Prelude.{◌≡◌, ◌++◌, map, IfOk, IfErr, OnOk, IsTrue};
 ghost use Rattle.edf_fields.specs.Sources.{Rises};

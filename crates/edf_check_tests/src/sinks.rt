@@ -1,4 +1,4 @@
-//! A run into a sink that is soon full, and runs under a text that says no claim.
+//! A run into a sink that is soon full or fails at one of its writes, and runs under a text that says no claim.
 
 use crate::night::{ALL, SIX_SECONDS, YES};
 use edf_check::run::run;

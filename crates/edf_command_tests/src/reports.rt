@@ -1,11 +1,12 @@
-//! The reports on one file: their texts, and what stands in a sink that is soon full; `tools/cases` has more of
-//! their texts.
+//! The reports on one file: their texts, and what stands in a sink that is soon full, or where a read fails;
+//! `tools/cases` has more of their texts.
 
 use edf_check::vectors::line::Line;
 use edf_fields::fault::Place::{AtField, AtSignal};
+use edf_fields::faulty_source::FaultySource;
 use edf_fields::layout::{FixedField as Fixed, SignalField as Field};
 use edf_fields::sink::{Sink, SliceSink};
-use edf_fields::source::SliceSource;
+use edf_fields::source::{SliceSource, Source};
 use edf_refusal::stop::ReportStop;
 use edf_report::conform::conform_to;
 use edf_report::notes::notes_to;
@@ -33,10 +34,20 @@ fn report<K: Sink>(
     sink: &mut K,
 ) -> Result<Outcome, ReportStop> {
     let mut source = SliceSource::new(file);
+    report_of(alloc, asked, &mut source, sink)
+}
+
+/// Writes a report on what a source gives.
+fn report_of<S: Source, K: Sink>(
+    alloc: Global,
+    asked: Asked,
+    source: &mut S,
+    sink: &mut K,
+) -> Result<Outcome, ReportStop> {
     match asked {
-        Asked::Conform => conform_to(alloc, &mut source, sink),
-        Asked::Show => show_to(alloc, &mut source, sink),
-        Asked::Notes => notes_to(alloc, &mut source, sink),
+        Asked::Conform => conform_to(alloc, source, sink),
+        Asked::Show => show_to(alloc, source, sink),
+        Asked::Notes => notes_to(alloc, source, sink),
     }
 }
 
@@ -249,6 +260,47 @@ fn leaves_the_front_of_a_report(rt: HostRuntime) -> Result<(), Fail> {
     for text in TEXTS {
         for size in [0usize, 1, 4, 46, 50] {
             assert_front(&rt, rt.alloc(), &file, *text, &mut room[..size]);
+        }
+    }
+    Ok(())
+}
+
+/// How many reads a report takes: a header of four signals is read in eleven, each of four data records in one, and
+/// one asks for a byte behind them.
+fn reads_of(asked: Asked) -> u64 {
+    match asked {
+        Asked::Show => 11,
+        Asked::Conform | Asked::Notes => 16,
+    }
+}
+
+/// Asserts that a report stops where its file gives so many reads and fails at the next, with a front of the text; or
+/// that it is whole.
+fn assert_stopped(
+    rt: &impl Abort,
+    alloc: Global,
+    file: &[u8],
+    (asked, text): (Asked, &str),
+    passes: u64,
+) {
+    let mut source = FaultySource::new(SliceSource::new(file), passes, usize::MAX);
+    let mut line = Line::new(alloc);
+    let ended = report_of(alloc, asked, &mut source, &mut line);
+    if passes < reads_of(asked) {
+        assert_eq!(rt; ended, Err(ReportStop::ReadFailed));
+        assert!(rt; text.as_bytes().starts_with(line.bytes()));
+    } else {
+        assert_eq!(rt; ended, Ok(Outcome::Yes));
+        assert_eq!(rt; line.bytes(), text.as_bytes());
+    }
+}
+
+#[test]
+fn leaves_a_front_where_a_read_fails(rt: HostRuntime) -> Result<(), Fail> {
+    let file = recorded(rt.alloc(), &[], LANES)?;
+    for text in TEXTS {
+        for passes in 0..17 {
+            assert_stopped(&rt, rt.alloc(), &file, *text, passes);
         }
     }
     Ok(())

@@ -1,4 +1,5 @@
-//! The worked rows: their text, what a sink holds of it that is too small, and the same under ever more memory.
+//! The worked rows: their text, what a sink holds of it that is too small, the same under ever more memory, and their
+//! lines where files are read byte by byte.
 
 use edf_check::run::run;
 use edf_check::vectors::line::Line;

@@ -3,5 +3,5 @@
 
 pub mod conform;
 pub mod notes;
-pub mod report;
+mod report;
 pub mod show;

@@ -81,6 +81,8 @@ fn put_records<S: Source, K: Sink>(
         StandsIn reader.old (S.left source.old) file →
         HoldsPrefix (K.held sink.old) (K.held sink.new) (body_text file reader.old.head)) }
     ensures reads { OnOk result (S.failures source.new ≡ S.failures source.old) }
+    ensures failures { OnOk result (K.failures sink.new ≡ K.failures sink.old) }
+    ensures honesty { IsTrue (K.is_honest sink.old) → IsTrue (K.is_honest sink.new) }
     ensures stop { IfErr result (ReportStops (Rises (S.failures source.old) (S.failures source.new)) (Rises (K.failures sink.old) (K.failures sink.new))
         (S.failures source.new ≡ S.failures source.old)) }
 {
@@ -110,6 +112,8 @@ pub fn notes_to<S: Source, K: Sink>(
     ensures part { OnErr result (IsTrue (S.is_honest source.old) → IsTrue (K.is_honest sink.old) →
         HoldsPrefix (K.held sink.old) (K.held sink.new) (notes_text (S.left source.old))) }
     ensures reads { OnOk result (S.failures source.new ≡ S.failures source.old) }
+    ensures failures { OnOk result (K.failures sink.new ≡ K.failures sink.old) }
+    ensures honesty { IsTrue (K.is_honest sink.old) → IsTrue (K.is_honest sink.new) }
     ensures stop { IfErr result (ReportStops (Rises (S.failures source.old) (S.failures source.new)) (Rises (K.failures sink.old) (K.failures sink.new))
         (S.failures source.new ≡ S.failures source.old)) }
 {

@@ -53,6 +53,8 @@ impl Report {
     pub(crate) fn put<K: Sink>(&self, sink: &mut K) -> Result<Outcome, ReportStop>
         ensures written { IfOk result (λ outcome. (outcome ≡ self.now.outcome) × (IsTrue (K.is_honest sink.old) →
             K.held sink.new ≡ K.held sink.old ++ self.now.text.items)) }
+        ensures failures { OnOk result (K.failures sink.new ≡ K.failures sink.old) }
+        ensures honesty { IsTrue (K.is_honest sink.old) → IsTrue (K.is_honest sink.new) }
         ensures part { OnErr result (IsTrue (K.is_honest sink.old) → HoldsPrefix (K.held sink.old) (K.held sink.new) self.now.text.items) }
         ensures stop { IfErr result (λ stop. (stop ≡ stops.WriteFailed) × Rises (K.failures sink.old) (K.failures sink.new)) }
     {
@@ -70,6 +72,8 @@ pub(crate) fn put_stop<K: Sink>(
 ) -> Result<Outcome, ReportStop>
     ensures fault { OnOk result (IsFault stop) }
     ensures written { IfOk result (λ outcome. IsTrue (K.is_honest sink.old) → IsStopWritten stop (K.held sink.old) (K.held sink.new) outcome) }
+    ensures failures { OnOk result (K.failures sink.new ≡ K.failures sink.old) }
+    ensures honesty { IsTrue (K.is_honest sink.old) → IsTrue (K.is_honest sink.new) }
     ensures part { OnErr result (IsTrue (K.is_honest sink.old) → HoldsPrefix (K.held sink.old) (K.held sink.new) (stop_line stop)) }
     ensures stop { IfErr result (ReportStops (stop ≡ read_stops.ReadFailed) (Rises (K.failures sink.old) (K.failures sink.new))
         (stop ≢ read_stops.ReadFailed)) }

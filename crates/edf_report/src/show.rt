@@ -260,6 +260,8 @@ pub fn show_to<S: Source, K: Sink>(
     ensures part { OnErr result (IsTrue (S.is_honest source.old) → IsTrue (K.is_honest sink.old) →
         HoldsPrefix (K.held sink.old) (K.held sink.new) (show_text (S.left source.old))) }
     ensures reads { OnOk result (S.failures source.new ≡ S.failures source.old) }
+    ensures failures { OnOk result (K.failures sink.new ≡ K.failures sink.old) }
+    ensures honesty { IsTrue (K.is_honest sink.old) → IsTrue (K.is_honest sink.new) }
     ensures stop { IfErr result (ReportStops (Rises (S.failures source.old) (S.failures source.new)) (Rises (K.failures sink.old) (K.failures sink.new))
         (S.failures source.new ≡ S.failures source.old)) }
 {

@@ -1,5 +1,5 @@
 -- For what a command on files is refused, beside what is said where a call is made.
-use Rattle.std.specs.Prelude.{◌≡◌}
+use Rattle.std.specs.Prelude.{◌≡◌, ◌≢◌}
 use Rattle.edf_refusal.specs.declared.refusal.Refusal.{Refusal}
 use Rattle.edf_refusal.specs.declared.refusal.Refusal.TheVariants as refusals
 use Rattle.edf_refusal.specs.declared.refusal.Role.{Role}
@@ -25,3 +25,11 @@ ReportIsRefused (refusals.CannotOpen role) = role ≡ roles.File
 ReportIsRefused (refusals.Reading role) = role ≡ roles.File
 ReportIsRefused (refusals.Claim cause) = ⊥
 ReportIsRefused refusals.Writing = Unit {0}
+
+-- of the three files of a check one can't be opened, or a read of it failed; or the claim is refused, memory ran out, or a write failed
+abbrev pub CheckIsRefused : Refusal → Type 0
+CheckIsRefused refusals.Memory = Unit {0}
+CheckIsRefused (refusals.CannotOpen role) = role ≢ roles.File
+CheckIsRefused (refusals.Reading role) = role ≢ roles.File
+CheckIsRefused (refusals.Claim cause) = Unit {0}
+CheckIsRefused refusals.Writing = Unit {0}

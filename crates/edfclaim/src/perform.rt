@@ -1,7 +1,7 @@
 //! The commands, on files and standard output.
 
 ghost use Rattle.std.specs.Prelude.{IfErr};
-ghost use Rattle.edfclaim.specs.Opening.{ReportIsRefused};
+ghost use Rattle.edfclaim.specs.Opening.{CheckIsRefused, ReportIsRefused};
 
 use crate::files::{claim_text, recording};
 use edf_check::run;
@@ -26,7 +26,9 @@ fn check<R: Files + AllocGlobal, K: Sink>(
     export: &str,
     claim: &str,
     sink: &mut K,
-) -> Result<Outcome, Refusal> {
+) -> Result<Outcome, Refusal>
+    ensures stop { IfErr result CheckIsRefused }
+{
     let text = claim_text(rt, claim)?;
     let mut first = recording(rt, original, Role::Original)?;
     let mut second = recording(rt, export, Role::Export)?;

@@ -85,14 +85,6 @@ AreBefore n xs t = (x : Point) → Has xs x → IsBefore (instant n x) t
 abbrev pub AreFrom : ℕ → List Point → Instant → Type 0
 AreFrom n xs t = (x : Point) → Has xs x → IsNotBefore (instant n x) t
 
--- two rising lists have no first difference exactly where they match
-abbrev pub MatchExactly : Type 0
-MatchExactly = (n m : ℕ) (xs ys : List Point) → 0 < n → 0 < m → IsAscending xs → IsAscending ys → (first_difference_of n xs m ys ≡ None) ↔ Match n xs m ys
-
--- the first difference of two rising lists is the least
-abbrev pub DifferenceIsLeast : Type 0
-DifferenceIsLeast = (n m : ℕ) (xs ys : List Point) → 0 < n → 0 < m → IsAscending xs → IsAscending ys → (d : PointDifference) → first_difference_of n xs m ys ≡ Some d → IsLeastDifference n xs m ys d
-
 -- the first difference of two lists that are cut at one instant is that of the fronts, else that of the rests
 abbrev pub DifferenceSplits : Type 0
 DifferenceSplits = (n m : ℕ) (xs xs' ys ys' : List Point) (t : Instant) → 0 < n → 0 < m → 0 < t.den → AreBefore n xs t → AreBefore m ys t → AreFrom n xs' t → AreFrom m ys' t →
