@@ -20,7 +20,10 @@ export PYTHONDONTWRITEBYTECODE=1
 # Puts a crate as it stands into a folder of crates.
 take() {
     mkdir -p "$1/crates/$2"
-    cp -R "crates/$2/src" "crates/$2/specs" "crates/$2/proofs" "$1/crates/$2/"
+    for part in src specs proofs; do
+        # not every crate has proofs of its own
+        [ ! -d "crates/$2/$part" ] || cp -R "crates/$2/$part" "$1/crates/$2/"
+    done
     grep "^$2:" crates.txt >>"$1/crates.txt"
     cp HANDLES "$1/"
 }
