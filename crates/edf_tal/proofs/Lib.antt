@@ -6,3 +6,4 @@ pub mod LawFacts
 pub mod FaultFacts
 pub mod AloneFacts
 pub mod ForCallers
+pub mod ZeroFacts

@@ -11,3 +11,4 @@ pub mod start;
 pub mod tal;
 pub mod tal_texts;
 pub mod tals;
+mod zeros;

@@ -12,7 +12,8 @@ ghost use Rattle.edf_tal.specs.declared.start.StartCause.TheVariants as start;
 use crate::annotation_text::END;
 use crate::separator::cut;
 use crate::tal::Tal;
-use crate::tals::{Tals, are_zeros};
+use crate::tals::Tals;
+use crate::zeros::are_zeros;
 use edf_fields::cause::TalCause;
 use edf_fields::onset::onset;
 

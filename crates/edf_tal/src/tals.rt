@@ -2,22 +2,16 @@
 
 ghost use Rattle.std.specs.Prelude.{◌≡◌, ◌↔◌, List, map, ◌++◌, [], ◌∷◌, Ok, Err, MatchOption};
 ghost use Rattle.edf_fields.specs.declared.cause.TalCause.{TalCause};
-ghost use Rattle.edf_tal.specs.Tals.{TalValue, IsLaneOf, are_zeros};
+ghost use Rattle.edf_tal.specs.Tals.{TalValue, IsLaneOf};
 ghost use Rattle.edf_tal.specs.Reading.{items_of};
 ghost use Rattle.edf_tal.specs.Faults.{FaultAfter};
 ghost use Rattle.edf_tal.specs.Views.{item_view, items_left};
 
 use crate::piece::read_tal;
-use crate::separator::cut;
+use crate::separator::cut_far;
 use crate::tal::Tal;
+use crate::zeros::are_zeros;
 use edf_fields::cause::TalCause;
-
-/// Whether the bytes are zeros alone.
-pub(crate) fn are_zeros(bytes: &[u8]) -> bool
-    ensures { result ≡ are_zeros bytes.now }
-{
-    bytes.iter().all(|byte| *byte == 0)
-}
 
 /// The first item of a lane, and the lane behind it; behind a fault nothing is left.
 #[tactic(auto, using(crate::proofs::LaneFacts::nothing_there, crate::proofs::LaneFacts::zeros_alone, crate::proofs::LaneFacts::zeros_and_others, crate::proofs::LaneFacts::without_end, crate::proofs::LaneFacts::tal_read, crate::proofs::LaneFacts::tal_refused))]
@@ -35,7 +29,7 @@ fn first_item(lane: &[u8]) -> Option<(Result<Tal<'_>, TalCause>, &[u8])>
             Some((Err(TalCause::NotZeroFilled), &[]))
         };
     }
-    match cut(lane, 0) {
+    match cut_far(lane, 0) {
         None => Some((Err(TalCause::NoEnd), &[])),
         Some((piece, rest)) => match read_tal(piece) {
             Ok(tal) => Some((Ok(tal), rest)),
