@@ -118,17 +118,6 @@ duration-read onset s (Some v) l (digits, is, spelled) =
       ap duration_of whole ∙ ap (λ b. cond b (ok_or (span_of (behind 21 (onset ++ 21 ∷ digits))) BadDuration then λ d. Ok (Some d)) (Ok None)) found ∙ read,
     )
 
--- what spells an onset has no duration behind it
-pub onset_alone : (head body : List ℕ) (v : ℤ) → onset_of head ≡ Some v → tal_of_parts head body ≡ (judge_texts (texts_of body) then λ _. Ok (record { onset = v; duration = None; texts = texts_of body }))
-unfolding tal_of_parts
-onset_alone head body v e =
-    let lacks : Lacks 21 head = high-lacks 21 head (λ k lt. let low = onset_bytes_from head v e k lt in omega (arith, low)) in
-    let both = duration-read head [] None lacks refl in
-    let whole : head ++ [] ≡ head = append-nil head in
-    let front : until 21 head ≡ head = ap (until 21) (sym whole) ∙ both.0 in
-    let none : duration_of head ≡ Ok None = ap duration_of (sym whole) ∙ both.1 in
-    rw (front, none, e) refl
-
 pub last-is : (xs : List ℕ) (ts : List (List ℕ)) → get_or (xs ++ 20 ∷ ended ts) (length (xs ++ 20 ∷ ended ts) - 1) 0 ≡ 20
 last-is xs [] = ap (λ n. get_or (xs ++ 20 ∷ []) n 0) (omega (arith, length-append xs (20 ∷ []))) ∙ get_or-append_seam xs 20 [] 0
 last-is xs (t ∷ ts) =

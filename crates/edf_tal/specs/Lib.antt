@@ -3,3 +3,5 @@ pub mod Timekeeping
 pub mod Reading
 pub mod Faults
 pub mod Views
+pub mod Zeros
+pub mod Times
