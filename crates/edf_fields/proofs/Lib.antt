@@ -20,3 +20,4 @@ pub mod SubfieldLawFacts
 pub mod TestFacts
 pub mod ValueFacts
 pub mod ZeroFacts
+pub mod FrontFacts

@@ -1,9 +1,13 @@
 -- Onsets and durations, as they are read.
-use Rattle.std.specs.Prelude.{◌≡◌, ℕ, ℤ, Bool, not, Option, Some, None, nat_le, nat_lt, ◌&&◌, ◌||◌, pos, List, length, drop, if◌then◌else◌, ◌↔◌}
+use Rattle.std.specs.Prelude.{◌≡◌, ◌<◌, ◌≤◌, slice_index, ℕ, ℤ, Bool, not, Option, Some, None, nat_le, nat_lt, ◌&&◌, ◌||◌, pos, List, length, drop, if◌then◌else◌, ◌↔◌}
 use Rattle.std.specs.List.{list_all}
 use Rattle.edf_fields.specs.Numbers.{before_dot, behind_dot, has_minus, signed}
 use Rattle.edf_fields.specs.NumbersReading.{is_digit}
 use Rattle.edf_fields.specs.Onsets.{without_leading_zeros, without_trailing_zeros, has_dot, has_sign, time_of, SpellsOnset, SpellsSpan}
+
+-- the first n bytes are digits
+abbrev pub AreDigitsBefore : ℕ → List ℕ → Type 0
+AreDigitsBefore n u = (k : ℕ) → k < n → (48 ≤ slice_index u k) × (slice_index u k ≤ 57)
 
 -- `AreSeconds` as a test
 abbrev pub are_seconds : List ℕ → Bool

@@ -6,7 +6,7 @@
 ghost use Rattle.std.specs.Prelude.{◌≡◌, ℤ, ◌+◌, ◌-◌, ◌*◌, ◌≤◌, ◌<◌, ◌≤ℤ◌, ◌^◌, pos, drop, length, take, IsTrue, MatchOption, IfSome, unsigned_abs};
 ghost use Rattle.edf_fields.specs.Numbers.{weight, has_minus, signed};
 ghost use Rattle.edf_fields.specs.Onsets.{without_leading_zeros, without_trailing_zeros, has_dot, has_sign, AreSeconds, IsFraction, IsTime, time_of, SpellsOnset, SpellsSpan};
-ghost use Rattle.edf_fields.specs.OnsetsReading.{onset_of, span_of};
+ghost use Rattle.edf_fields.specs.OnsetsReading.{AreDigitsBefore, onset_of, span_of};
 
 use crate::number::{digits, split_dot};
 
@@ -115,9 +115,19 @@ fn fraction_picoseconds(bytes: &[u8]) -> Option<u64>
     Some(in_picoseconds(fraction, front.len()))
 }
 
-/// The time that a text with no sign spells, in picoseconds; none where it spells none.
+/// So many seconds and picoseconds, in picoseconds.
+fn joined(seconds: u64, picoseconds: u64) -> u128
+    requires seconds { seconds < 10 ^ 9 }
+    requires picoseconds { picoseconds < 10 ^ 12 }
+    ensures value { result ≡ seconds * 10 ^ 12 + picoseconds }
+    ensures small { result < 10 ^ 21 }
+{
+    u128::from(seconds) * 1_000_000_000_000 + u128::from(picoseconds)
+}
+
+/// The time that a text with no sign spells, as `time`, by its two parts.
 #[tactic(auto, using(crate::proofs::OnsetFacts::dot_stands))]
-fn time(text: &[u8]) -> Option<u128>
+fn time_by_parts(text: &[u8]) -> Option<u128>
     ensures { MatchOption result (¬ IsTime text.now)
         (λ v. IsTime text.now × (v ≡ time_of text.now) × (v < 10 ^ 21)) }
 {
@@ -127,7 +137,55 @@ fn time(text: &[u8]) -> Option<u128>
     }
     let seconds = whole_seconds(whole)?;
     let picoseconds = fraction_picoseconds(fraction)?;
-    Some(u128::from(seconds) * 1_000_000_000_000 + u128::from(picoseconds))
+    Some(joined(seconds, picoseconds))
+}
+
+/// The digits in front of a text, 9 at most, and the seconds that they spell.
+#[derive(Clone, Copy)]
+struct Front {
+    count: usize,
+    seconds: u64,
+}
+
+/// The digits in front of a text, 9 at most.
+fn digit_front(text: &[u8]) -> Front
+    ensures within { result.count ≤ length text.now }
+    ensures few { result.count ≤ 9 }
+    ensures digits { AreDigitsBefore result.count text.now }
+    ensures seconds { result.seconds ≡ weight (take result.count text.now) }
+    ensures small { result.seconds < 10 ^ result.count }
+{
+    let most = text.len().min(9);
+    let mut seconds = 0u64;
+    let mut count = 0;
+    while count < most && text[count].is_ascii_digit() {
+        seconds = seconds * 10 + u64::from(text[count] - b'0');
+        count += 1;
+    }
+    Front { count, seconds }
+}
+
+/// The time that a text with no sign spells, in picoseconds; none where it spells none.
+///
+/// Most texts have at most 9 digits, and maybe a dot behind them: these are gone through once.
+fn time(text: &[u8]) -> Option<u128>
+    ensures { MatchOption result (¬ IsTime text.now)
+        (λ v. IsTime text.now × (v ≡ time_of text.now) × (v < 10 ^ 21)) }
+{
+    let front = digit_front(text);
+    if front.count == 0 {
+        return time_by_parts(text);
+    }
+    if front.count == text.len() {
+        return Some(joined(front.seconds, 0));
+    }
+    if text[front.count] != b'.' || front.count + 1 == text.len() {
+        return time_by_parts(text);
+    }
+    match fraction_picoseconds(&text[front.count + 1..]) {
+        Some(picoseconds) => Some(joined(front.seconds, picoseconds)),
+        None => None,
+    }
 }
 
 /// Whether a minus stands in front, and what stands behind the sign; none where no sign does.
