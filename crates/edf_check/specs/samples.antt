@@ -4,3 +4,4 @@ pub mod Columns
 pub mod Stretches
 pub mod Alike
 pub mod Cuts
+pub mod Shares

@@ -2,6 +2,7 @@ pub mod Walks
 pub mod Layouts
 pub mod Tracks
 pub mod Pairs
+pub mod Shares
 pub mod Windows
 pub mod Shown
 pub mod Gathered

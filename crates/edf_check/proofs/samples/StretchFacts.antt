@@ -1,5 +1,5 @@
 -- Samples at even distances: those behind a place, a part of them, and how many stand before a time.
-use Rattle.std.proofs.Common.{min, ◌≡◌, ℕ, zero, suc, ◌+◌, ◌-◌, ◌*◌, ◌<◌, ◌≤◌, ℤ, pos, ◌+ℤ◌, ◌-ℤ◌, ◌*ℤ◌, ◌<ℤ◌, ◌≤ℤ◌, unsigned_abs, List, [], ◌∷◌, length, slice_index, drop, take, Some, None, true, false, inl, inr, refl, sym, ap, ◌∙◌, subst, arith}
+use Rattle.std.proofs.Common.{min, ◌≡◌, ℕ, zero, suc, ◌+◌, ◌-◌, ◌*◌, ◌<◌, ◌≤◌, ℤ, pos, ◌+ℤ◌, ◌-ℤ◌, ◌*ℤ◌, ◌<ℤ◌, ◌≤ℤ◌, unsigned_abs, List, [], ◌∷◌, length, slice_index, drop, take, Some, None, true, false, cond, inl, inr, refl, sym, ap, ◌∙◌, subst, arith}
 use Rattle.std.specs.Ordering.{int_eq}
 use Rattle.std.proofs.lemmas.Bool.Decides.{Decides-int_eq}
 use Rattle.std.proofs.lemmas.Int.{ints}
@@ -8,6 +8,7 @@ use Rattle.std.proofs.Math.Nat.{lt_of_mul-lt-mul_right}
 use Rattle.edf_fields.proofs.ForCallers.{and-true}
 use Rattle.edf_fields.specs.Lists.{Has}
 use Rattle.edf_stream.specs.Values.{digital, digital_value}
+use Rattle.edf_stream.specs.declared.instant.Instant.{Instant}
 use Rattle.edf_check.specs.declared.samples.point.Point.{Point}
 use Rattle.edf_check.specs.declared.samples.stretch.Stretch.{Stretch}
 use Rattle.edf_verdict.specs.declared.verdict.SampleMismatch.TheVariants.{Missing, Extra}
@@ -185,6 +186,17 @@ points-length zero a d (low ∷ high ∷ rest) le ge = absurd (omega (arith, ge)
 points-length (suc c) a d [] le ge = absurd (omega (arith, le))
 points-length (suc c) a d (byte ∷ []) le ge = absurd (omega (arith, le))
 points-length (suc c) a d (low ∷ high ∷ rest) le ge = ap suc (points-length c (a +ℤ d) d rest (omega (arith, le)) (omega (arith, ge)))
+
+-- how many there are depends on how many bytes there are alone
+pub front-alike : (n : ℕ) (a d : ℤ) (t : Instant) (xs ys : List ℕ) → length xs ≡ length ys → front_count n (stretch_points a d xs) t ≡ front_count n (stretch_points a d ys) t
+front-alike n a d t [] [] e = refl
+front-alike n a d t [] (y ∷ ys) e = absurd (omega (arith, e))
+front-alike n a d t (x ∷ xs) [] e = absurd (omega (arith, e))
+front-alike n a d t (x ∷ []) (y ∷ []) e = refl
+front-alike n a d t (x ∷ []) (y ∷ y' ∷ ys) e = absurd (omega (arith, e))
+front-alike n a d t (x ∷ x' ∷ xs) (y ∷ []) e = absurd (omega (arith, e))
+front-alike n a d t (x ∷ x' ∷ xs) (y ∷ y' ∷ ys) e =
+    ap (λ k. cond (is_before (record { num = a; den = n }) t) (suc k) 0) (front-alike n (a +ℤ d) d t xs ys (omega (arith, e)))
 
 -- where the steps up to a place, and no further, stay below a time
 steps-count : (q n s : ℕ) (a t : ℤ) (bytes : List ℕ) → (0 < q → (a +ℤ pos ((q - 1) * s)) <ℤ (t *ℤ pos n)) → (t *ℤ pos n) ≤ℤ (a +ℤ pos (q * s))

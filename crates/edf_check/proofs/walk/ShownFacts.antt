@@ -25,6 +25,9 @@ use Rattle.edf_check.specs.InstantOrder.{IsModest, is_before}
 use Rattle.edf_check.specs.samples.Cuts.{whole, since, until}
 use Rattle.edf_check.specs.walk.Windows.{sampled, points_at, kept_at, window_of, window_difference}
 use Rattle.edf_check.specs.walk.Pairs.{Places, places_of, IsPlaceIn}
+use Rattle.edf_stream.specs.Records.{lane_of}
+use Rattle.edf_check.specs.samples.Stretches.{stretch_points}
+use Rattle.edf_check.specs.walk.Shares.{first_at}
 use Rattle.edf_check.specs.walk.Shown.{shown_points, Shows, ends_at, Covers}
 use Rattle.edf_check.proofs.samples.CutFacts.{until-before, since-from}
 use Rattle.edf_check.proofs.samples.FilterFacts.{filter_all, filter_none, filters_swap}
@@ -57,6 +60,13 @@ covers_current r file place ps t u p covers e = shows_current r.status r file pl
 pub covers_nothing : (r : Reader) (file : List ℕ) (place : ChannelPlace) (ps t u : ℤ) → IsPlaceIn r.head place → Covers r file ps t u → is_current r.status ≡ false
     → until place.samples u (since place.samples t (points_at (sampled file r.head ps) place)) ≡ []
 covers_nothing r file place ps t u p covers e = shows_nothing r.status r file place ps t u covers.conforms p covers.shows e
+
+-- the samples of a channel in the data record at hand, by the bytes of its lane
+pub shown_by : (r : Reader) (ps : ℤ) (place : ChannelPlace) (p : IsPlaceIn r.head place) (lane : List ℕ) → lane ≡ lane_of p.channel r.current
+    → stretch_points (first_at r ps place.samples) (r.head).duration lane ≡ shown_points r.head ps p.channel r.current
+shown_by r ps place p lane e =
+    ap (λ bytes. stretch_points (first_at r ps place.samples) (r.head).duration bytes) e
+    ∙ ap (λ n. stretch_points (first_at r ps n) (r.head).duration (lane_of p.channel r.current)) p.samples
 
 -- ---- what a claim keeps between two times
 

@@ -1,5 +1,5 @@
 -- The channels of a header, each found at its label, and the lane of a channel.
-use Rattle.std.proofs.Common.{◌≡◌, ℕ, zero, suc, ◌+◌, ◌<◌, ◌≤◌, ◌^◌, true, false, List, [], ◌∷◌, ◌++◌, length, take, drop, map, replicate, set, get_or, Bor, Option, Some, None, IfSome, slice_get, inl, inr, ⊎_elim, refl, sym, ap, ◌∙◌, subst, arith}
+use Rattle.std.proofs.Common.{◌≡◌, ℕ, zero, suc, ◌+◌, ◌*◌, ◌<◌, ◌≤◌, ◌^◌, true, false, List, [], ◌∷◌, ◌++◌, length, take, drop, map, replicate, set, get_or, Bor, Option, Some, None, IfSome, slice_get, inl, inr, ⊎_elim, refl, sym, ap, ◌∙◌, subst, arith}
 use Rattle.std.specs.Option.{option_map_or}
 use Rattle.std.proofs.lemmas.Bool.{cases_eq}
 use Rattle.std.proofs.lemmas.List.{drop_all, map-set, length-map, length-replicate}
@@ -30,11 +30,10 @@ track_within h track t = get-within h.signals track.signal (t.place).channel t.s
 pub lane_is : (h : Head) (track : Track) (t : IsTrack h track) (bytes lane : List ℕ) → lane ≡ lane_in h bytes track.signal → lane ≡ lane_of (t.place).channel bytes
 lane_is h track t bytes lane e = e ∙ ap (λ o. option_map_or (λ (s : SignalHead). lane_of s bytes) o []) t.stands
 
-pub lane_short : (h : Head) (track : Track) (n : ℕ) → IsTrack h track → n ≡ lane_bytes h track.signal → n ≤ 2 ^ 24
-lane_short h track n t e =
+pub lane_whole : (h : Head) (track : Track) (n : ℕ) → IsTrack h track → n ≡ lane_bytes h track.signal → n ≡ 2 * track.place.samples
+lane_whole h track n t e =
     let count : samples_at h track.signal ≡ track.place.samples = ap (λ o. option_map_or (λ (s : SignalHead). s.samples) o 0) t.stands ∙ sym (t.place).samples in
-    let few = (t.place).few in
-    omega (arith, e, count, few)
+    omega (arith, e, count)
 
 -- ---- the channels among the signals from a place on
 

@@ -15,21 +15,6 @@ pub struct Found {
     pub difference: PointDifference,
 }
 
-/// A difference of the channel at a place.
-pub(crate) fn found_in(channel: usize, difference: Option<PointDifference>) -> Option<Found>
-    requires { IfSome difference (λ d. IsModest d.at) }
-    ensures value { result ≡ option_map (found channel) difference }
-    ensures modest { IfSome result (λ f. IsModest f.difference.at) }
-{
-    match difference {
-        Some(difference) => Some(Found {
-            channel,
-            difference,
-        }),
-        None => None,
-    }
-}
-
 /// The earlier of two differences, and the first where they are at one instant.
 pub(crate) fn earlier(a: Option<Found>, b: Option<Found>) -> Option<Found>
     requires a { IfSome a (λ f. IsModest f.difference.at) }
@@ -47,5 +32,30 @@ pub(crate) fn earlier(a: Option<Found>, b: Option<Found>) -> Option<Found>
         }
         (Some(_), None) => a,
         (None, _) => b,
+    }
+}
+
+/// The difference of the channel at a place, or the one that is held, where that is earlier. Mostly there is no
+/// difference, and what is held stays.
+#[inline(always)]
+pub(crate) fn earlier_with(
+    channel: usize,
+    difference: Option<PointDifference>,
+    held: Option<Found>,
+) -> Option<Found>
+    requires difference { IfSome difference (λ d. IsModest d.at) }
+    requires held { IfSome held (λ f. IsModest f.difference.at) }
+    ensures value { result ≡ earlier_of (option_map (found channel) difference) held }
+    ensures modest { IfSome result (λ f. IsModest f.difference.at) }
+{
+    match difference {
+        Some(difference) => earlier(
+            Some(Found {
+                channel,
+                difference,
+            }),
+            held,
+        ),
+        None => held,
     }
 }

@@ -8,13 +8,13 @@ ghost use Rattle.edf_check.specs.samples.Alike.{AreAlikeBefore};
 ghost use Rattle.edf_check.specs.samples.Differences.{first_difference_of};
 ghost use Rattle.edf_check.specs.InstantOrder.{IsModest};
 ghost use Rattle.edf_check.specs.samples.Stretches.{points_in, points_behind, front_count, IsBounded, IsPart, are_on_one_grid};
-ghost use Rattle.edf_check.specs.samples.Cuts.{whole, since, until, IsWindow};
+ghost use Rattle.edf_check.specs.samples.Cuts.{whole};
 
 use crate::first_difference::first_difference;
 use crate::samples::difference::{PointDifference, difference_of_heads};
 use crate::samples::instants::product;
 use crate::samples::point::Point;
-use crate::walk::time::{Time, Window};
+use crate::walk::time::Time;
 use byteorder::{ByteOrder, LittleEndian};
 use edf_stream::instant::Instant;
 use edf_verdict::verdict::SampleMismatch;
@@ -80,7 +80,7 @@ fn distance(step: i128, count: usize) -> i128
 }
 
 /// The numerator of the sample at a place.
-fn num_at(num: i128, step: i128, place: usize) -> i128
+pub(crate) fn num_at(num: i128, step: i128, place: usize) -> i128
     requires num { unsigned_abs num < 2 ^ 104 - 2 ^ 92 }
     requires step { unsigned_abs step < 2 ^ 68 }
     requires place { place ≤ 2 ^ 23 }
@@ -192,7 +192,7 @@ fn alike_count(x: Stretch, y: Stretch, count: usize) -> usize
     ensures value { first_difference_of x.entry.den (points_behind x.entry result) y.entry.den (points_behind y.entry result)
         ≡ first_difference_of x.entry.den (points_in x.entry) y.entry.den (points_in y.entry) }
 {
-    if !is_one_grid(x, y) {
+    if count == 0 || !is_one_grid(x, y) {
         return 0;
     }
     whole_samples(alike_bytes(&x.bytes[..2 * count], &y.bytes[..2 * count]))
@@ -250,7 +250,7 @@ fn steps_below(gap: u128, step: u128) -> u128
 }
 
 /// How many samples stand before a time.
-fn count_before(stretch: Stretch, time: Time) -> usize
+pub(crate) fn count_before(stretch: Stretch, time: Time) -> usize
     requires stretch { IsBounded stretch }
     requires time { unsigned_abs time.ps < 2 ^ 100 }
     ensures value { result ≡ front_count stretch.entry.den (points_in stretch.entry) (whole time.ps) }
@@ -265,34 +265,4 @@ fn count_before(stretch: Stretch, time: Time) -> usize
         return count;
     }
     steps_below(gap.unsigned_abs(), stretch.step.unsigned_abs()) as usize
-}
-
-/// The samples between two places.
-fn part_of<'a>(stretch: Stretch<'a>, begin: usize, end: usize) -> Stretch<'a>
-    requires stretch { IsBounded stretch }
-    requires order { begin ≤ end }
-    requires within { 2 * end ≤ length stretch.bytes.now }
-    ensures part { IsPart result }
-    ensures den { result.den ≡ stretch.entry.den }
-    ensures value { points_in result ≡ take (end - begin) (drop begin (points_in stretch.entry)) }
-{
-    Stretch {
-        num: num_at(stretch.num, stretch.step, begin),
-        step: stretch.step,
-        den: stretch.den,
-        bytes: &stretch.bytes[2 * begin..2 * end],
-    }
-}
-
-/// The samples that stand at a time or later, and before another.
-pub(crate) fn between<'a>(stretch: Stretch<'a>, within: Window) -> Stretch<'a>
-    requires stretch { IsBounded stretch }
-    requires window { IsWindow within }
-    ensures part { IsPart result }
-    ensures den { result.den ≡ stretch.entry.den }
-    ensures value { points_in result ≡ until stretch.entry.den (within.to).ps (since stretch.entry.den (within.from).ps (points_in stretch.entry)) }
-{
-    let begin = count_before(stretch, within.from);
-    let end = count_before(stretch, within.to);
-    part_of(stretch, begin, end.max(begin))
 }

@@ -1,22 +1,28 @@
 //! What two files show between two times.
 
-ghost use Rattle.std.specs.Prelude.{◌≡◌, ◌<◌, ◌≤◌, ◌+ℤ◌, ◌*ℤ◌, ◌^◌, ◌*◌, ℕ, pos, ◌≤ℤ◌, List, map, length, IsTrue, Some, IfSome, unsigned_abs};
+ghost use Rattle.std.specs.Prelude.{◌≡◌, ◌<◌, ◌≤◌, ◌+ℤ◌, ◌*ℤ◌, ◌^◌, ◌*◌, ℕ, ℤ, pos, true, List, map, length, IsTrue, Some, IfSome, unsigned_abs};
 ghost use Rattle.edf_claim.specs.Keeps.{keeps_instant};
+ghost use Rattle.edf_claim.specs.Terms.{Terms};
 ghost use Rattle.edf_claim.specs.KeepsReading.{IsUncut};
 ghost use Rattle.edf_stream.specs.Readers.{is_current};
 ghost use Rattle.edf_stream.specs.Records.{lane_of};
 ghost use Rattle.edf_stream.specs.Starts.{file_start};
 ghost use Rattle.edf_stream.specs.StartsReading.{start_in};
+ghost use Rattle.edf_check.specs.declared.walk.clock.Clock.{Clock};
+ghost use Rattle.edf_check.specs.declared.walk.time.Window.{Window};
 ghost use Rattle.edf_check.specs.InstantOrder.{IsModest};
 ghost use Rattle.edf_check.specs.samples.Stretches.{points_in, IsBounded, IsPart};
-ghost use Rattle.edf_check.specs.samples.Cuts.{whole, since, until, IsWindow};
+ghost use Rattle.edf_check.specs.samples.Cuts.{since, until, IsWindow};
 ghost use Rattle.edf_check.specs.walk.Windows.{sampled, points_at, kept_at, window_of, window_difference as difference_between};
 ghost use Rattle.edf_check.specs.walk.Pairs.{places_of, IsTrack, ArePairs};
-ghost use Rattle.edf_check.specs.walk.Shown.{shown_points, Covers};
+ghost use Rattle.edf_check.specs.walk.Shares.{first_at, IsShareIn};
+ghost use Rattle.edf_check.specs.walk.Shown.{Covers};
 
+use crate::samples::between::{part_by, share_of, share_of_none};
 use crate::samples::difference::PointDifference;
-use crate::samples::earliest::{Found, earlier, found_in};
-use crate::samples::stretch::{Stretch, between, no_samples, stretch_difference};
+use crate::samples::earliest::{Found, earlier_with};
+use crate::samples::share::Share;
+use crate::samples::stretch::{Stretch, no_samples, stretch_difference};
 use crate::walk::clock::Clock;
 use crate::walk::offset::Offset;
 use crate::walk::time::{Time, Window};
@@ -66,12 +72,12 @@ fn first_num(reader: &FileReader, samples: u32, moved: Offset) -> i128
 }
 
 /// The lane of a channel in the data record at hand.
-#[tactic(auto, using(crate::proofs::walk::TrackFacts::track_within, crate::proofs::walk::TrackFacts::lane_is, crate::proofs::walk::TrackFacts::lane_short))]
+#[tactic(auto, using(crate::proofs::walk::TrackFacts::track_within, crate::proofs::walk::TrackFacts::lane_is, crate::proofs::walk::TrackFacts::lane_whole))]
 fn lane_at<'a>(reader: &'a FileReader, track: Track) -> &'a [u8]
     requires current { IsTrue (is_current reader.now.status) }
     requires track { IsTrack reader.now.head track }
     ensures value { (t : IsTrack reader.now.head track) → result.now ≡ lane_of (t.place).channel reader.now.current }
-    ensures short { length result.now ≤ 2 ^ 24 }
+    ensures whole { length result.now ≡ 2 * track.place.samples }
 {
     reader.run(usize::from(track.signal))
 }
@@ -82,8 +88,10 @@ fn lane_stretch<'a>(reader: &'a FileReader, track: Track, moved: Offset) -> Stre
     requires track { IsTrack reader.now.head track }
     requires near { unsigned_abs moved.ps < 2 ^ 80 }
     ensures lane { IsBounded result }
+    ensures whole { length result.bytes.now ≡ 2 * result.den }
     ensures den { result.den ≡ track.place.samples }
-    ensures value { (t : IsTrack reader.now.head track) → points_in result ≡ shown_points reader.now.head moved.ps (t.place).channel reader.now.current }
+    ensures num { result.num ≡ first_at reader.now moved.ps track.place.samples }
+    ensures step { result.step ≡ (reader.now.head).duration }
 {
     let samples = track.place.samples;
     Stretch {
@@ -94,19 +102,61 @@ fn lane_stretch<'a>(reader: &'a FileReader, track: Track, moved: Offset) -> Stre
     }
 }
 
-/// The samples of a channel between two times.
-fn window<'a>(reader: &'a FileReader, track: Track, moved: Offset, within: Window) -> Stretch<'a>
+/// Which samples of the lanes with as many samples as a channel's stand between two times in the data record at
+/// hand.
+fn share_at(reader: &FileReader, track: Track, moved: Offset, within: Window) -> Share
+    requires current { IsTrue (is_current reader.now.status) }
     requires track { IsTrack reader.now.head track }
     requires near { unsigned_abs moved.ps < 2 ^ 80 }
     requires window { IsWindow within }
+    ensures samples { result.samples ≡ track.place.samples }
+    ensures share { IsShareIn reader.now moved.ps within result }
+{
+    share_of(lane_stretch(reader, track, moved), within)
+}
+
+/// The same, which is `held` where the channel has as many samples as the lanes of that. Where there is no such
+/// channel, or no data record at hand, it stays.
+#[inline(always)]
+fn share_for(
+    reader: &FileReader,
+    track: Option<Track>,
+    moved: Offset,
+    within: Window,
+    held: Share,
+) -> Share
+    requires track { IfSome track (IsTrack reader.now.head) }
+    requires near { unsigned_abs moved.ps < 2 ^ 80 }
+    requires window { IsWindow within }
+    requires held { IsShareIn reader.now moved.ps within held }
+    ensures samples { IfSome track (λ t. is_current reader.now.status ≡ true → result.samples ≡ t.place.samples) }
+    ensures share { IsShareIn reader.now moved.ps within result }
+{
+    match track {
+        Some(track) => {
+            if held.samples == track.place.samples || !reader.has_current() {
+                held
+            } else {
+                share_at(reader, track, moved, within)
+            }
+        }
+        None => held,
+    }
+}
+
+/// The samples of a channel between two times: those of its share.
+fn window<'a>(reader: &'a FileReader, track: Track, share: Share) -> Stretch<'a>
+    requires track { IsTrack reader.now.head track }
+    requires share { is_current reader.now.status ≡ true → share.samples ≡ track.place.samples }
     ensures part { IsPart result }
     ensures den { result.den ≡ track.place.samples }
-    ensures value { (file : List ℕ) → Covers reader.now file moved.ps (within.from).ps (within.to).ps → points_in result
-        ≡ until track.place.samples (within.to).ps (since track.place.samples (within.from).ps (points_at
-        (sampled file reader.now.head moved.ps) track.place)) }
+    ensures value { (ps : ℤ) (w : Window) → IsWindow w → IsShareIn reader.now ps w share →
+        (file : List ℕ) → Covers reader.now file ps (w.from).ps (w.to).ps → points_in result
+        ≡ until track.place.samples (w.to).ps (since track.place.samples (w.from).ps (points_at
+        (sampled file reader.now.head ps) track.place)) }
 {
     if reader.has_current() {
-        between(lane_stretch(reader, track, moved), within)
+        part_by(lane_at(reader, track), reader.header().duration_ps(), share)
     } else {
         no_samples(track.place.samples)
     }
@@ -119,29 +169,31 @@ pub(crate) fn keeps_at(claim: &Claim, time: Time) -> bool
     claim.keeps_instant(time.ps, 1)
 }
 
-/// Those of them that a claim keeps, where it keeps all or none between the two times.
-fn kept_window<'a>(
-    reader: &'a FileReader,
-    track: Track,
-    moved: Offset,
-    claim: &Claim,
-    within: Window,
-) -> Stretch<'a>
+/// Those of them that a claim keeps, where it keeps all of them or none.
+fn kept_window<'a>(reader: &'a FileReader, track: Track, share: Share, is_kept: bool) -> Stretch<'a>
     requires track { IsTrack reader.now.head track }
-    requires near { unsigned_abs moved.ps < 2 ^ 80 }
-    requires window { IsWindow within }
-    requires uncut { IsUncut claim.now.keep (within.from).ps (within.to).ps }
+    requires share { is_current reader.now.status ≡ true → share.samples ≡ track.place.samples }
     ensures part { IsPart result }
     ensures den { result.den ≡ track.place.samples }
-    ensures value { (file : List ℕ) → Covers reader.now file moved.ps (within.from).ps (within.to).ps → points_in result
-        ≡ until track.place.samples (within.to).ps (since track.place.samples (within.from).ps (kept_at claim.now
-        (sampled file reader.now.head moved.ps) track.place)) }
+    ensures value { (claim : Terms) (ps : ℤ) (w : Window) → IsWindow w → IsShareIn reader.now ps w share →
+        IsUncut claim.keep (w.from).ps (w.to).ps → is_kept ≡ keeps_instant claim (w.from).ps 1 →
+        (file : List ℕ) → Covers reader.now file ps (w.from).ps (w.to).ps → points_in result
+        ≡ until track.place.samples (w.to).ps (since track.place.samples (w.from).ps (kept_at claim
+        (sampled file reader.now.head ps) track.place)) }
 {
-    if keeps_at(claim, within.from) {
-        window(reader, track, moved, within)
+    if is_kept {
+        window(reader, track, share)
     } else {
         no_samples(track.place.samples)
     }
+}
+
+/// Which samples of a pair's channels stand between two times, and whether the claim keeps them.
+#[derive(Clone, Copy)]
+struct Shares {
+    original: Share,
+    export: Share,
+    is_kept: bool,
 }
 
 /// The first difference of the channels of a label between two times; none where one of the files has no
@@ -150,26 +202,25 @@ fn pair_difference(
     original: &FileReader,
     export: &FileReader,
     pair: Pair,
-    clock: Clock,
-    claim: &Claim,
-    within: Window,
+    shares: Shares,
 ) -> Option<PointDifference>
     requires original { IfSome pair.original (IsTrack original.now.head) }
     requires export { IfSome pair.export (IsTrack export.now.head) }
-    requires original_near { unsigned_abs (clock.original).ps < 2 ^ 80 }
-    requires export_near { unsigned_abs (clock.export).ps < 2 ^ 80 }
-    requires window { IsWindow within }
-    requires uncut { IsUncut claim.now.keep (within.from).ps (within.to).ps }
-    ensures value { (o e : List ℕ) → Covers original.now o (clock.original).ps (within.from).ps (within.to).ps →
-        Covers export.now e (clock.export).ps (within.from).ps (within.to).ps →
-        result ≡ window_of claim.now (sampled o original.now.head (clock.original).ps) (sampled e export.now.head (clock.export).ps)
-        (within.from).ps (within.to).ps (places_of pair).0 (places_of pair).1 }
+    requires original_share { IfSome pair.original (λ t. is_current original.now.status ≡ true → (shares.original).samples ≡ t.place.samples) }
+    requires export_share { IfSome pair.export (λ t. is_current export.now.status ≡ true → (shares.export).samples ≡ t.place.samples) }
+    ensures value { (claim : Terms) (clock : Clock) (w : Window) → IsWindow w →
+        IsShareIn original.now (clock.original).ps w shares.original → IsShareIn export.now (clock.export).ps w shares.export →
+        IsUncut claim.keep (w.from).ps (w.to).ps → shares.is_kept ≡ keeps_instant claim (w.from).ps 1 →
+        (o e : List ℕ) → Covers original.now o (clock.original).ps (w.from).ps (w.to).ps →
+        Covers export.now e (clock.export).ps (w.from).ps (w.to).ps →
+        result ≡ window_of claim (sampled o original.now.head (clock.original).ps) (sampled e export.now.head (clock.export).ps)
+        (w.from).ps (w.to).ps (places_of pair).0 (places_of pair).1 }
     ensures modest { IfSome result (λ d. IsModest d.at) }
 {
     match (pair.original, pair.export) {
         (Some(here), Some(there)) => stretch_difference(
-            kept_window(original, here, clock.original, claim, within),
-            window(export, there, clock.export, within),
+            kept_window(original, here, shares.original, shares.is_kept),
+            window(export, there, shares.export),
         ),
         (Some(_), None) => None,
         (None, _) => None,
@@ -177,6 +228,9 @@ fn pair_difference(
 }
 
 /// The earliest difference of the channels between two times.
+///
+/// Which samples stand between these is found once for channels with equally many samples, as long as they
+/// follow one another.
 #[tactic(auto, unfolding(crate::specs::walk::Windows::window_difference))]
 pub(crate) fn window_difference(
     original: &FileReader,
@@ -197,12 +251,23 @@ pub(crate) fn window_difference(
         (map places_of pairs.now) (within.from).ps (within.to).ps }
     ensures modest { IfSome result (λ f. IsModest f.difference.at × (f.channel < length pairs.now)) }
 {
+    let is_kept = keeps_at(claim, within.from);
+    let mut here = share_of_none();
+    let mut there = share_of_none();
     let mut held = None;
     let mut i = pairs.len();
     while i > 0 {
         i -= 1;
-        let next = pair_difference(original, export, pairs[i], clock, claim, within);
-        held = earlier(found_in(i, next), held);
+        let pair = pairs[i];
+        here = share_for(original, pair.original, clock.original, within, here);
+        there = share_for(export, pair.export, clock.export, within, there);
+        let shares = Shares {
+            original: here,
+            export: there,
+            is_kept,
+        };
+        let next = pair_difference(original, export, pair, shares);
+        held = earlier_with(i, next, held);
     }
     held
 }

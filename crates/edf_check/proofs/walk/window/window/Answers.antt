@@ -1,19 +1,40 @@
-use Rattle.std.proofs.Common.{◌∙◌, ap, sym}
-use Rattle.edf_check.specs.samples.Stretches.{points_in}
+use Rattle.std.proofs.Common.{◌≡◌, ℕ, ℤ, ◌<◌, pos, ◌<ℤ◌, ◌∙◌, ap, sym, subst, true, arith, rules}
+use Rattle.std.proofs.lemmas.Int.{ints, to_z-of_z}
+use mir.Val.{SFits}
+use mir.Syntax.{w128}
+use Rattle.edf_header.specs.Heads.{Head}
+use Rattle.edf_check.specs.samples.Stretches.{stretch_points}
 use Rattle.edf_check.specs.samples.Cuts.{since, until}
-use Rattle.edf_check.proofs.walk.ShownFacts.{covers_current, covers_nothing}
+use Rattle.edf_check.specs.samples.Shares.{IsShareOf}
+use Rattle.edf_check.specs.walk.Shares.{first_at}
+use Rattle.edf_stream.specs.Readers.{is_current}
+use Rattle.edf_check.proofs.walk.ShownFacts.{covers_current, covers_nothing, shown_by}
 use Rattle.edf_check.proofs.walk.window.window.Goals as goal
 
 pub returns-then-has_current-clause-value : goal.returns-then-has_current-clause-value
-returns-then-has_current-clause-value c = λ file covers.
-    let t = (c.args.within.from).ps in
-    let u = (c.args.within.to).ps in
-    let n = c.args.track.place.samples in
+returns-then-has_current-clause-value c = λ ps w iw sh file covers.
+    let r = c.args.reader.now in
+    let t = (w.from).ps in
+    let u = (w.to).ps in
     let track = c.requires.track in
-    c.between.ensures.value ∙ ap (λ m. until m u (since m t (points_in c.lane_stretch.result))) c.lane_stretch.ensures.den
-    ∙ ap (λ xs. until n u (since n t xs)) (c.lane_stretch.ensures.value track)
-    ∙ sym (covers_current c.args.reader.now file c.args.track.place (c.args.moved).ps t u track.place covers (sym c.has_current.ensures ∙ c.if-has_current.true))
+    let n = c.args.track.place.samples in
+    let step = c.duration_ps.result in
+    let lasts : step ≡ (r.head).duration = c.duration_ps.ensures.value ∙ ap (λ (h : Head). h.duration) c.header.ensures in
+    let current : is_current r.status ≡ true = sym c.has_current.ensures ∙ c.if-has_current.true in
+    let same : c.args.share.samples ≡ n = c.requires.share current in
+    let some : 0 < c.args.share.samples = (let q = (track.place).some in omega (arith, q, same)) in
+    let P : ℤ → Type 0 = λ d. IsShareOf (first_at r ps c.args.share.samples) d w c.args.share in
+    let mine : IsShareOf (first_at r ps c.args.share.samples) step w c.args.share = subst P (sym lasts) (sh some) in
+    let first = c.duration_ps.ensures.some in
+    let positive : pos 0 <ℤ step = omega (arith, ints, first) in
+    let fits : SFits w128 step = search rules in
+    let value = simp to_z-of_z at c.part_by.ensures.value in
+    value (first_at r ps c.args.share.samples) w positive iw mine
+    ∙ ap (λ m. until m u (since m t (stretch_points (first_at r ps m) step c.lane_at.result.now))) same
+    ∙ ap (λ d. until n u (since n t (stretch_points (first_at r ps n) d c.lane_at.result.now))) lasts
+    ∙ ap (λ xs. until n u (since n t xs)) (shown_by r ps c.args.track.place track.place c.lane_at.result.now (c.lane_at.ensures.value track))
+    ∙ sym (covers_current r file c.args.track.place ps t u track.place covers current)
 
 pub returns-else-has_current-clause-value : goal.returns-else-has_current-clause-value
-returns-else-has_current-clause-value c = λ file covers.
-    c.no_samples.ensures.value ∙ sym (covers_nothing c.args.reader.now file c.args.track.place (c.args.moved).ps (c.args.within.from).ps (c.args.within.to).ps (c.requires.track).place covers (sym c.has_current.ensures ∙ c.if-has_current.false))
+returns-else-has_current-clause-value c = λ ps w iw sh file covers.
+    c.no_samples.ensures.value ∙ sym (covers_nothing c.args.reader.now file c.args.track.place ps (w.from).ps (w.to).ps (c.requires.track).place covers (sym c.has_current.ensures ∙ c.if-has_current.false))

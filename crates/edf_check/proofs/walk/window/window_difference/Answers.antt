@@ -1,4 +1,5 @@
-use Rattle.std.proofs.Common.{◌≡◌, ◌+◌, ◌-◌, ◌<◌, length, arith, Option}
+use Rattle.std.proofs.Common.{◌≡◌, ◌+◌, ◌-◌, ◌<◌, length, arith, Option, option_map, refl}
+use Rattle.edf_check.specs.samples.Earliest.{found}
 use Rattle.edf_check.specs.declared.samples.difference.PointDifference.{PointDifference}
 use Rattle.edf_check.specs.declared.walk.track.Pair.{Pair}
 use Rattle.edf_check.specs.walk.Windows.{sampled, window_of}
@@ -15,12 +16,14 @@ loop-i-preserved c =
     let lt : k < length c.args.pairs.now = omega (arith, inv.within, next) in
     record {
       within = omega (arith, inv.within);
+      here = c.share_for-here.ensures.share;
+      there = c.share_for-there.ensures.share;
       value = λ o e ho he.
           let of : Pair → Option PointDifference = λ p. window_of c.args.claim.now (sampled o c.args.original.now.head (c.args.clock.original).ps) (sampled e c.args.export.now.head (c.args.clock.export).ps) (c.args.within.from).ps (c.args.within.to).ps (places_of p).0 (places_of p).1 in
-          earliest-step of c.args.pairs.now c.loop-i.i k _ c.pair_difference-next.result c.found_in.result c.loop-i.held c.earlier-held.result
-          next lt (c.pair_difference-next.ensures.value o e ho he) c.found_in.ensures.value c.earlier-held.ensures.value (inv.value o e ho he);
-      modest = c.earlier-held.ensures.modest;
-      channel = channel_more k (length c.args.pairs.now) c.pair_difference-next.result c.found_in.result c.loop-i.held c.earlier-held.result lt c.found_in.ensures.value c.earlier-held.ensures.value inv.channel;
+          earliest-step of c.args.pairs.now c.loop-i.i k _ c.pair_difference-next.result (option_map (found k) c.pair_difference-next.result) c.loop-i.held c.earlier_with-held.result
+          next lt (c.pair_difference-next.ensures.value c.args.claim.now c.args.clock c.args.within c.requires.window c.share_for-here.ensures.share c.share_for-there.ensures.share c.requires.uncut c.keeps_at-is_kept.ensures o e ho he) refl c.earlier_with-held.ensures.value (inv.value o e ho he);
+      modest = c.earlier_with-held.ensures.modest;
+      channel = channel_more k (length c.args.pairs.now) c.pair_difference-next.result (option_map (found k) c.pair_difference-next.result) c.loop-i.held c.earlier_with-held.result lt refl c.earlier_with-held.ensures.value inv.channel;
     }
 
 pub returns-clause-value : goal.returns-clause-value

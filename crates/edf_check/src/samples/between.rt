@@ -1,0 +1,60 @@
+//! The samples of a lane that stand between two times.
+
+ghost use Rattle.std.specs.Prelude.{◌≡◌, ◌≤◌, ◌<◌, ◌*◌, ◌^◌, ℤ, pos, ◌<ℤ◌, length, unsigned_abs};
+ghost use Rattle.edf_check.specs.declared.walk.time.Window.{Window};
+ghost use Rattle.edf_check.specs.samples.Cuts.{since, until, IsWindow};
+ghost use Rattle.edf_check.specs.samples.Shares.{IsShareOf};
+ghost use Rattle.edf_check.specs.samples.Stretches.{points_in, stretch_points, IsBounded, IsPart};
+
+use crate::samples::share::Share;
+use crate::samples::stretch::{Stretch, count_before, num_at};
+use crate::walk::time::Window;
+
+/// That of lanes without samples.
+pub(crate) fn share_of_none() -> Share
+    ensures { result.samples ≡ 0 }
+{
+    Share {
+        samples: 0,
+        num: 0,
+        begin: 0,
+        end: 0,
+    }
+}
+
+/// Which samples of a lane stand between two times, and so of each lane that has as many samples.
+pub(crate) fn share_of(lane: Stretch, within: Window) -> Share
+    requires lane { IsBounded lane }
+    requires whole { length lane.bytes.now ≡ 2 * lane.den }
+    requires window { IsWindow within }
+    ensures samples { result.samples ≡ lane.entry.den }
+    ensures share { IsShareOf lane.entry.num lane.entry.step within result }
+{
+    let begin = count_before(lane, within.from);
+    let end = count_before(lane, within.to);
+    Share {
+        samples: lane.den,
+        num: num_at(lane.num, lane.step, begin),
+        begin,
+        end: end.max(begin),
+    }
+}
+
+/// Those samples of a lane.
+pub(crate) fn part_by<'a>(lane: &'a [u8], step: i128, share: Share) -> Stretch<'a>
+    requires lane { length lane.now ≡ 2 * share.samples }
+    requires some { 0 < share.samples }
+    requires few { share.samples ≤ 2 ^ 23 }
+    requires step { unsigned_abs step < 2 ^ 68 }
+    ensures part { IsPart result }
+    ensures den { result.den ≡ share.samples }
+    ensures value { (a : ℤ) (w : Window) → pos 0 <ℤ step → IsWindow w → IsShareOf a step w share → points_in result
+        ≡ until share.samples (w.to).ps (since share.samples (w.from).ps (stretch_points a step lane.entry.now)) }
+{
+    Stretch {
+        num: share.num,
+        step,
+        den: share.samples,
+        bytes: &lane[2 * share.begin..2 * share.end],
+    }
+}
