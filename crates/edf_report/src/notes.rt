@@ -22,35 +22,57 @@ use edf_verdict::note_times::NoteTimes;
 use edf_verdict::outcome::Outcome;
 use edf_verdict::quote::push_with_quoted;
 use std::alloc::{AllocError, Global};
+use std::fmt::Write;
 
-/// Puts the line of an annotation behind the text.
+/// Puts the line of an annotation behind the text. The words in front of its text are made in `words`.
 #[tactic(auto, unfolding(crate::specs::NotesTexts::note_line))]
-fn push_note(text: &mut Vec<u8>, alloc: Global, note: NoteRef<'_>) -> Result<(), AllocError>
+fn push_note(text: &mut Vec<u8>, words: &mut String, note: NoteRef<'_>) -> Result<(), AllocError>
     ensures { OnOk result (text.new.items ≡ text.old.items ++ note_line (note_view note.entry)) }
 {
     let times = NoteTimes {
         onset: note.onset,
         duration: note.duration,
     };
-    let words = format!(in alloc; "{times} text ")?;
-    push_with_quoted(text, &words, note.text.as_bytes())?;
+    words.clear();
+    write!(words, "{times} text ")?;
+    push_with_quoted(text, words, note.text.as_bytes())?;
     text.push(b'\n')?;
     Ok(())
 }
 
-/// The lines of these annotations.
-fn lines_of(alloc: Global, annotations: Annotations<'_>) -> Result<Vec<u8>, AllocError>
-    ensures { IfOk result (λ text. text.items ≡ note_lines (notes_left annotations.entry)) }
+/// Puts the lines of these annotations behind the text.
+fn push_lines(
+    text: &mut Vec<u8>,
+    words: &mut String,
+    annotations: Annotations<'_>,
+) -> Result<(), AllocError>
+    ensures { OnOk result (text.new.items ≡ text.old.items ++ note_lines (notes_left annotations.entry)) }
 {
-    let mut text = Vec::new(alloc);
     for note in annotations {
-        push_note(&mut text, alloc, note)?;
+        push_note(text, words, note)?;
     }
-    Ok(text)
+    Ok(())
+}
+
+/// Where the lines of a data record are made. It is used for all of a file's, so that memory is taken for the
+/// longest ones alone.
+#[derive(Drop)]
+struct Room {
+    text: Vec<u8>,
+    words: String,
+}
+
+/// The lines of these annotations, made in the room.
+fn lines_in<'a>(room: &'a mut Room, annotations: Annotations<'_>) -> Result<&'a [u8], AllocError>
+    ensures { IfOk result (λ text. text.now ≡ note_lines (notes_left annotations.entry)) }
+{
+    room.text.clear();
+    push_lines(&mut room.text, &mut room.words, annotations)?;
+    Ok(&room.text)
 }
 
 /// Writes the annotations of the data record at hand.
-fn put_notes<K: Sink>(alloc: Global, reader: &FileReader, sink: &mut K) -> Result<(), ReportStop>
+fn put_notes<K: Sink>(room: &mut Room, reader: &FileReader, sink: &mut K) -> Result<(), ReportStop>
     requires { IsTrue (is_current reader.now.status) }
     ensures failures { OnOk result (K.failures sink.new ≡ K.failures sink.old) }
     ensures honesty { IsTrue (K.is_honest sink.old) → IsTrue (K.is_honest sink.new) }
@@ -60,8 +82,8 @@ fn put_notes<K: Sink>(alloc: Global, reader: &FileReader, sink: &mut K) -> Resul
         → HoldsPrefix (K.held sink.old) (K.held sink.new) (note_lines (notes_in reader.now.head reader.now.current))) }
     ensures stop { IfErr result (ReportStops ⊥ (Rises (K.failures sink.old) (K.failures sink.new)) (Unit {0})) }
 {
-    let text = lines_of(alloc, reader.annotations())?;
-    put_all(sink, &text)?;
+    let text = lines_in(room, reader.annotations())?;
+    put_all(sink, text)?;
     Ok(())
 }
 
@@ -86,9 +108,13 @@ fn put_records<S: Source, K: Sink>(
     ensures stop { IfErr result (ReportStops (Rises (S.failures source.old) (S.failures source.new)) (Rises (K.failures sink.old) (K.failures sink.new))
         (S.failures source.new ≡ S.failures source.old)) }
 {
+    let mut room = Room {
+        text: Vec::new(alloc),
+        words: String::new(alloc),
+    };
     loop {
         match reader.next(source) {
-            Ok(true) => put_notes(alloc, reader, sink)?,
+            Ok(true) => put_notes(&mut room, reader, sink)?,
             Ok(false) => return Ok(Outcome::Yes),
             Err(stop) => return put_stop(alloc, sink, stop),
         }

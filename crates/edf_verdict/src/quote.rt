@@ -1,6 +1,7 @@
 //! A text between quotation marks, in bytes that a line of text can hold.
 
 ghost use Rattle.std.specs.Prelude.{◌≡◌, ◌<◌, ◌++◌, [], ◌∷◌, OnOk};
+ghost use Rattle.std.specs.List.{flat_map, list_all};
 ghost use Rattle.edf_verdict.specs.Quotes.{is_plain as is_plain_byte, hex_digit as hex_digit_of, quoted_byte, quoted, with_quoted};
 
 use std::alloc::AllocError;
@@ -36,6 +37,35 @@ fn push_byte(line: &mut Vec<u8>, byte: u8) -> Result<(), AllocError>
     Ok(())
 }
 
+/// Whether all bytes stand for themselves between the quotation marks.
+fn are_plain(text: &[u8]) -> bool
+    ensures { result ≡ list_all is_plain_byte text.now }
+{
+    text.iter().all(|byte| is_plain(*byte))
+}
+
+/// Puts the bytes behind the line as they stand between quotation marks, byte by byte.
+fn push_bytes(line: &mut Vec<u8>, text: &[u8]) -> Result<(), AllocError>
+    ensures { OnOk result (line.new.items ≡ line.old.items ++ flat_map quoted_byte text.now) }
+{
+    for byte in text {
+        push_byte(line, *byte)?;
+    }
+    Ok(())
+}
+
+/// Puts the bytes behind the line as they stand between quotation marks: most texts stand there as they are.
+#[tactic(auto, using(crate::proofs::QuoteFacts::plain_quoted))]
+fn push_inner(line: &mut Vec<u8>, text: &[u8]) -> Result<(), AllocError>
+    ensures { OnOk result (line.new.items ≡ line.old.items ++ flat_map quoted_byte text.now) }
+{
+    if are_plain(text) {
+        line.extend_from_slice(text)
+    } else {
+        push_bytes(line, text)
+    }
+}
+
 /// Puts the text behind the line, between quotation marks.
 ///
 /// There each byte below 32, a quotation mark, a backslash and byte 127 is `\x` and two lower-case
@@ -44,9 +74,7 @@ pub fn push_quoted(line: &mut Vec<u8>, text: &[u8]) -> Result<(), AllocError>
     ensures { OnOk result (line.new.items ≡ line.old.items ++ quoted text.now) }
 {
     line.push(b'"')?;
-    for byte in text {
-        push_byte(line, *byte)?;
-    }
+    push_inner(line, text)?;
     line.push(b'"')?;
     Ok(())
 }
