@@ -22,6 +22,7 @@ fn is_same_block(a: &[u8], b: &[u8], place: usize) -> bool
 }
 
 /// So many bytes at the front are the same, as far as whole blocks are.
+#[inline(never)]
 fn alike_blocks(a: &[u8], b: &[u8]) -> usize
     requires { length a.now ≡ length b.now }
     ensures within { result ≤ length a.now }

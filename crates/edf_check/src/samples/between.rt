@@ -41,15 +41,15 @@ pub(crate) fn share_of(lane: Stretch, within: Window) -> Share
 }
 
 /// Those samples of a lane.
-pub(crate) fn part_by<'a>(lane: &'a [u8], step: i128, share: Share) -> Stretch<'a>
-    requires lane { length lane.now ≡ 2 * share.samples }
-    requires some { 0 < share.samples }
-    requires few { share.samples ≤ 2 ^ 23 }
+pub(crate) fn part_by<'a>(lane: &'a [u8], step: i128, share: &Share) -> Stretch<'a>
+    requires lane { length lane.now ≡ 2 * share.now.samples }
+    requires some { 0 < share.now.samples }
+    requires few { share.now.samples ≤ 2 ^ 23 }
     requires step { unsigned_abs step < 2 ^ 68 }
     ensures part { IsPart result }
-    ensures den { result.den ≡ share.samples }
-    ensures value { (a : ℤ) (w : Window) → pos 0 <ℤ step → IsWindow w → IsShareOf a step w share → points_in result
-        ≡ until share.samples (w.to).ps (since share.samples (w.from).ps (stretch_points a step lane.entry.now)) }
+    ensures den { result.den ≡ share.now.samples }
+    ensures value { (a : ℤ) (w : Window) → pos 0 <ℤ step → IsWindow w → IsShareOf a step w share.now → points_in result
+        ≡ until share.now.samples (w.to).ps (since share.now.samples (w.from).ps (stretch_points a step lane.entry.now)) }
 {
     Stretch {
         num: share.num,

@@ -115,42 +115,37 @@ fn share_at(reader: &FileReader, track: Track, moved: Offset, within: Window) ->
     share_of(lane_stretch(reader, track, moved), within)
 }
 
-/// The same, which is `held` where the channel has as many samples as the lanes of that. Where there is no such
-/// channel, or no data record at hand, it stays.
+/// Puts the same in the place of `held`, where the channel has another number of samples than the lanes of that.
+/// Where there is no such channel, or no data record at hand, what is held stays.
 #[inline(always)]
-fn share_for(
+fn keep_share(
     reader: &FileReader,
     track: Option<Track>,
     moved: Offset,
     within: Window,
-    held: Share,
-) -> Share
+    held: &mut Share,
+)
     requires track { IfSome track (IsTrack reader.now.head) }
     requires near { unsigned_abs moved.ps < 2 ^ 80 }
     requires window { IsWindow within }
-    requires held { IsShareIn reader.now moved.ps within held }
-    ensures samples { IfSome track (λ t. is_current reader.now.status ≡ true → result.samples ≡ t.place.samples) }
-    ensures share { IsShareIn reader.now moved.ps within result }
+    requires held { IsShareIn reader.now moved.ps within held.old }
+    ensures samples { IfSome track (λ t. is_current reader.now.status ≡ true → held.new.samples ≡ t.place.samples) }
+    ensures share { IsShareIn reader.now moved.ps within held.new }
 {
-    match track {
-        Some(track) => {
-            if held.samples == track.place.samples || !reader.has_current() {
-                held
-            } else {
-                share_at(reader, track, moved, within)
-            }
+    if let Some(track) = track {
+        if held.samples != track.place.samples && reader.has_current() {
+            *held = share_at(reader, track, moved, within);
         }
-        None => held,
     }
 }
 
 /// The samples of a channel between two times: those of its share.
-fn window<'a>(reader: &'a FileReader, track: Track, share: Share) -> Stretch<'a>
+fn window<'a>(reader: &'a FileReader, track: Track, share: &Share) -> Stretch<'a>
     requires track { IsTrack reader.now.head track }
-    requires share { is_current reader.now.status ≡ true → share.samples ≡ track.place.samples }
+    requires share { is_current reader.now.status ≡ true → share.now.samples ≡ track.place.samples }
     ensures part { IsPart result }
     ensures den { result.den ≡ track.place.samples }
-    ensures value { (ps : ℤ) (w : Window) → IsWindow w → IsShareIn reader.now ps w share →
+    ensures value { (ps : ℤ) (w : Window) → IsWindow w → IsShareIn reader.now ps w share.now →
         (file : List ℕ) → Covers reader.now file ps (w.from).ps (w.to).ps → points_in result
         ≡ until track.place.samples (w.to).ps (since track.place.samples (w.from).ps (points_at
         (sampled file reader.now.head ps) track.place)) }
@@ -170,12 +165,17 @@ pub(crate) fn keeps_at(claim: &Claim, time: Time) -> bool
 }
 
 /// Those of them that a claim keeps, where it keeps all of them or none.
-fn kept_window<'a>(reader: &'a FileReader, track: Track, share: Share, is_kept: bool) -> Stretch<'a>
+fn kept_window<'a>(
+    reader: &'a FileReader,
+    track: Track,
+    share: &Share,
+    is_kept: bool,
+) -> Stretch<'a>
     requires track { IsTrack reader.now.head track }
-    requires share { is_current reader.now.status ≡ true → share.samples ≡ track.place.samples }
+    requires share { is_current reader.now.status ≡ true → share.now.samples ≡ track.place.samples }
     ensures part { IsPart result }
     ensures den { result.den ≡ track.place.samples }
-    ensures value { (claim : Terms) (ps : ℤ) (w : Window) → IsWindow w → IsShareIn reader.now ps w share →
+    ensures value { (claim : Terms) (ps : ℤ) (w : Window) → IsWindow w → IsShareIn reader.now ps w share.now →
         IsUncut claim.keep (w.from).ps (w.to).ps → is_kept ≡ keeps_instant claim (w.from).ps 1 →
         (file : List ℕ) → Covers reader.now file ps (w.from).ps (w.to).ps → points_in result
         ≡ until track.place.samples (w.to).ps (since track.place.samples (w.from).ps (kept_at claim
@@ -202,15 +202,15 @@ fn pair_difference(
     original: &FileReader,
     export: &FileReader,
     pair: Pair,
-    shares: Shares,
+    shares: &Shares,
 ) -> Option<PointDifference>
     requires original { IfSome pair.original (IsTrack original.now.head) }
     requires export { IfSome pair.export (IsTrack export.now.head) }
-    requires original_share { IfSome pair.original (λ t. is_current original.now.status ≡ true → (shares.original).samples ≡ t.place.samples) }
-    requires export_share { IfSome pair.export (λ t. is_current export.now.status ≡ true → (shares.export).samples ≡ t.place.samples) }
+    requires original_share { IfSome pair.original (λ t. is_current original.now.status ≡ true → (shares.now.original).samples ≡ t.place.samples) }
+    requires export_share { IfSome pair.export (λ t. is_current export.now.status ≡ true → (shares.now.export).samples ≡ t.place.samples) }
     ensures value { (claim : Terms) (clock : Clock) (w : Window) → IsWindow w →
-        IsShareIn original.now (clock.original).ps w shares.original → IsShareIn export.now (clock.export).ps w shares.export →
-        IsUncut claim.keep (w.from).ps (w.to).ps → shares.is_kept ≡ keeps_instant claim (w.from).ps 1 →
+        IsShareIn original.now (clock.original).ps w shares.now.original → IsShareIn export.now (clock.export).ps w shares.now.export →
+        IsUncut claim.keep (w.from).ps (w.to).ps → shares.now.is_kept ≡ keeps_instant claim (w.from).ps 1 →
         (o e : List ℕ) → Covers original.now o (clock.original).ps (w.from).ps (w.to).ps →
         Covers export.now e (clock.export).ps (w.from).ps (w.to).ps →
         result ≡ window_of claim (sampled o original.now.head (clock.original).ps) (sampled e export.now.head (clock.export).ps)
@@ -219,8 +219,8 @@ fn pair_difference(
 {
     match (pair.original, pair.export) {
         (Some(here), Some(there)) => stretch_difference(
-            kept_window(original, here, shares.original, shares.is_kept),
-            window(export, there, shares.export),
+            kept_window(original, here, &shares.original, shares.is_kept),
+            window(export, there, &shares.export),
         ),
         (Some(_), None) => None,
         (None, _) => None,
@@ -251,22 +251,31 @@ pub(crate) fn window_difference(
         (map places_of pairs.now) (within.from).ps (within.to).ps }
     ensures modest { IfSome result (λ f. IsModest f.difference.at × (f.channel < length pairs.now)) }
 {
-    let is_kept = keeps_at(claim, within.from);
-    let mut here = share_of_none();
-    let mut there = share_of_none();
+    let mut shares = Shares {
+        original: share_of_none(),
+        export: share_of_none(),
+        is_kept: keeps_at(claim, within.from),
+    };
     let mut held = None;
     let mut i = pairs.len();
     while i > 0 {
         i -= 1;
         let pair = pairs[i];
-        here = share_for(original, pair.original, clock.original, within, here);
-        there = share_for(export, pair.export, clock.export, within, there);
-        let shares = Shares {
-            original: here,
-            export: there,
-            is_kept,
-        };
-        let next = pair_difference(original, export, pair, shares);
+        keep_share(
+            original,
+            pair.original,
+            clock.original,
+            within,
+            &mut shares.original,
+        );
+        keep_share(
+            export,
+            pair.export,
+            clock.export,
+            within,
+            &mut shares.export,
+        );
+        let next = pair_difference(original, export, pair, &shares);
         held = earlier_with(i, next, held);
     }
     held

@@ -10,14 +10,14 @@ use Rattle.edf_check.proofs.samples.between.part_by.Goals as goal
 
 pub returns-clause-value : goal.returns-clause-value
 returns-clause-value c = λ a w p iw sh.
-    let n = c.args.share.samples in
-    let b = c.args.share.begin in
-    let e = c.args.share.end in
+    let n = c.args.share.now.samples in
+    let b = c.args.share.now.begin in
+    let e = c.args.share.now.end in
     let d = c.args.step in
     let lane = c.args.lane.now in
-    let f : SFits w128 c.args.share.num = search rules in
+    let f : SFits w128 c.args.share.now.num = search rules in
     let g : SFits w128 d = search rules in
-    let part : stretch_points c.args.share.num d (take (2 * e - 2 * b) (drop (2 * b) lane)) ≡ until n (w.to).ps (since n (w.from).ps (stretch_points a d lane)) =
+    let part : stretch_points c.args.share.now.num d (take (2 * e - 2 * b) (drop (2 * b) lane)) ≡ until n (w.to).ps (since n (w.from).ps (stretch_points a d lane)) =
     ap (λ z. stretch_points z d (take (2 * e - 2 * b) (drop (2 * b) lane))) sh.num
     ∙ points-part b e a d lane
     ∙ ap (λ k. take (k - b) (drop b (stretch_points a d lane))) (sh.end lane c.requires.lane)

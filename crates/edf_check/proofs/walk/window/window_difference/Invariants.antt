@@ -1,4 +1,5 @@
 use Rattle.std.proofs.Common.{◌≡◌, ◌<◌, ◌≤◌, List, ℕ, drop, map, length, IfSome}
+use Rattle.edf_claim.specs.Keeps.{keeps_instant}
 use Rattle.edf_check.specs.samples.Earliest.{earliest}
 use Rattle.edf_check.specs.InstantOrder.{IsModest}
 use Rattle.edf_check.specs.walk.Shares.{IsShareIn}
@@ -10,8 +11,9 @@ use Rattle.edf_check.proofs.walk.window.window_difference.Given as goal
 abbrev pub invariant-loop-i : goal.invariant-loop-i
 invariant-loop-i l = record {
   within : l.i ≤ length l.pairs;
-  here : IsShareIn l.original (l.clock.original).ps l.within l.here;
-  there : IsShareIn l.export (l.clock.export).ps l.within l.there;
+  here : IsShareIn l.original (l.clock.original).ps l.within (l.shares).original;
+  there : IsShareIn l.export (l.clock.export).ps l.within (l.shares).export;
+  kept : (l.shares).is_kept ≡ keeps_instant l.claim (l.within.from).ps 1;
   value : (o e : List ℕ) → Covers l.original o (l.clock.original).ps (l.within.from).ps (l.within.to).ps → Covers l.export e (l.clock.export).ps (l.within.from).ps (l.within.to).ps →
       l.held ≡ earliest l.i (map (λ p. window_of l.claim (sampled o l.original.head (l.clock.original).ps) (sampled e l.export.head (l.clock.export).ps) (l.within.from).ps (l.within.to).ps (places_of p).0 (places_of p).1) (drop l.i l.pairs));
   modest : IfSome l.held (λ f. IsModest f.difference.at);
