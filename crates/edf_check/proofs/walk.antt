@@ -4,6 +4,7 @@ pub mod ShownFacts
 pub mod LockstepFacts
 pub mod SplitFacts
 pub mod PassFacts
+pub mod KeeperFacts
 pub mod PlaceFacts
 pub mod NightFacts
 pub mod WalkFacts

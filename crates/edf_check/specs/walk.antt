@@ -6,5 +6,6 @@ pub mod Shares
 pub mod Windows
 pub mod Shown
 pub mod Gathered
+pub mod Keepers
 pub mod Readings
 pub mod Ends

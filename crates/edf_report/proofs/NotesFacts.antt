@@ -11,6 +11,7 @@ use Rattle.edf_header.specs.Faults.{header_fault}
 use Rattle.edf_header.specs.Heads.{Head}
 use Rattle.edf_header.specs.HeadsReading.{head_of}
 use Rattle.edf_header.specs.Stops.{Stops}
+use Rattle.edf_stream.specs.Notes.{NoteValue}
 use Rattle.edf_stream.specs.NotesReading.{notes_in}
 use Rattle.edf_stream.specs.Records.{record_at}
 use Rattle.edf_stream.specs.Faults.{body_fault, file_fault, records_before, records_before_place}
@@ -18,6 +19,8 @@ use Rattle.edf_stream.specs.Readers.{HasPassed, StopsReading, StopsAt, place_beh
 use Rattle.edf_stream.proofs.ForCallers.{fault_is_of_body, passed_stand_before}
 use Rattle.edf_verdict.specs.declared.outcome.Outcome.{Outcome}
 use Rattle.edf_verdict.specs.declared.outcome.Outcome.TheVariants as outcomes
+use Rattle.edf_report.specs.declared.notes.Lines.{Lines}
+use Rattle.edf_report.specs.NotesKept.{GotLines, AreLinesOf}
 use Rattle.edf_report.specs.NotesTexts.{note_lines, note_lines_before, body_text, notes_text}
 use Rattle.edf_report.specs.Reports.{fault_line, stop_line, text_or_fault, outcome_of_fault, IsReported, IsStopWritten}
 use Rattle.edf_report.proofs.ReportFacts.{further}
@@ -179,3 +182,7 @@ on-err (Err e) A B is weaker = weaker is
 pub said-on-err : {T E : Type 0} (r : Result T E) (A : Type 0) → A → OnErr r A
 said-on-err (Ok x) A a = tt
 said-on-err (Err e) A a = a
+
+-- lines that were made in an empty place
+pub lines-made : (before after : Lines) (notes : List NoteValue) → before.text.items ≡ [] → GotLines before notes after → AreLinesOf after notes
+lines-made before after notes empty got = λ whole. (got whole).1 ∙ ap (λ front. front ++ note_lines notes) empty

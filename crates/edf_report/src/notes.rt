@@ -1,22 +1,26 @@
 //! The annotations of a file, line by line.
 
-ghost use Rattle.std.specs.Prelude.{◌≡◌, ℕ, List, ◌++◌, IfOk, IfErr, OnOk, OnErr, IsTrue};
+ghost use Rattle.std.specs.Prelude.{◌≡◌, ◌≢◌, ℕ, List, ◌++◌, IfOk, IfErr, OnOk, OnErr, IsTrue};
 ghost use Rattle.edf_fields.specs.Sinks.{HoldsPrefix};
 ghost use Rattle.edf_fields.specs.Sources.{Rises};
+ghost use Rattle.edf_header.specs.declared.stop.Stop.TheVariants as read_stops;
 ghost use Rattle.edf_stream.specs.Faults.{body_fault, file_fault};
-ghost use Rattle.edf_stream.specs.NotesReading.{notes_in};
-ghost use Rattle.edf_stream.specs.Readers.{is_current, HasBegun, StandsIn};
-ghost use Rattle.edf_stream.specs.Views.{note_view, notes_left};
+ghost use Rattle.edf_stream.specs.Keeping.{tal_notes_left};
+ghost use Rattle.edf_stream.specs.Notes.{NoteValue};
+ghost use Rattle.edf_stream.specs.Readers.{HasBegun, StandsIn};
+ghost use Rattle.edf_stream.specs.Views.{note_view};
+ghost use Rattle.edf_report.specs.NotesKept.{AreLinesOf};
 ghost use Rattle.edf_report.specs.NotesTexts.{note_line, note_lines, body_text, notes_text};
-ghost use Rattle.edf_report.specs.Reports.{IsReported};
+ghost use Rattle.edf_report.specs.Reports.{IsFault, IsReported, IsStopWritten, stop_line};
 ghost use Rattle.edf_refusal.specs.Stops.{ReportStops};
 
 use crate::report::put_stop;
 use edf_fields::sink::{Sink, put_all};
 use edf_fields::source::Source;
+use edf_header::stop::Stop;
 use edf_refusal::stop::ReportStop;
-use edf_stream::annotations::Annotations;
-use edf_stream::note::NoteRef;
+use edf_stream::note::{NoteRef, TalNotes};
+use edf_stream::note_keeper::NoteKeeper;
 use edf_stream::reader::FileReader;
 use edf_verdict::note_times::NoteTimes;
 use edf_verdict::outcome::Outcome;
@@ -44,9 +48,9 @@ fn push_note(text: &mut Vec<u8>, words: &mut String, note: NoteRef<'_>) -> Resul
 fn push_lines(
     text: &mut Vec<u8>,
     words: &mut String,
-    annotations: Annotations<'_>,
+    annotations: TalNotes<'_>,
 ) -> Result<(), AllocError>
-    ensures { OnOk result (text.new.items ≡ text.old.items ++ note_lines (notes_left annotations.entry)) }
+    ensures { OnOk result (text.new.items ≡ text.old.items ++ note_lines (tal_notes_left annotations.entry)) }
 {
     for note in annotations {
         push_note(text, words, note)?;
@@ -54,37 +58,69 @@ fn push_lines(
     Ok(())
 }
 
-/// Where the lines of a data record are made. It is used for all of a file's, so that memory is taken for the
-/// longest ones alone.
+/// The lines of the annotations of a data record, which are made while it is read. They are made in one place for
+/// all data records of a file, so that memory is taken for the longest ones alone.
 #[derive(Drop)]
-struct Room {
+struct Lines {
     text: Vec<u8>,
     words: String,
+    /// Whether there was memory for all of them.
+    whole: bool,
 }
 
-/// The lines of these annotations, made in the room.
-fn lines_in<'a>(room: &'a mut Room, annotations: Annotations<'_>) -> Result<&'a [u8], AllocError>
-    ensures { IfOk result (λ text. text.now ≡ note_lines (notes_left annotations.entry)) }
-{
-    room.text.clear();
-    push_lines(&mut room.text, &mut room.words, annotations)?;
-    Ok(&room.text)
+impl NoteKeeper for Lines {
+    ghost use Rattle.edf_report.specs.NotesKept.{GotLines, lines_none, lines_both};
+
+    ghost got = { GotLines };
+
+    fn keep(&mut self, notes: TalNotes<'_>) {
+        if self.whole {
+            self.whole = push_lines(&mut self.text, &mut self.words, notes).is_ok();
+        }
+    }
+
+    ghost got_none = { lines_none };
+
+    ghost got_both = { lines_both };
 }
 
-/// Writes the annotations of the data record at hand.
-fn put_notes<K: Sink>(room: &mut Room, reader: &FileReader, sink: &mut K) -> Result<(), ReportStop>
-    requires { IsTrue (is_current reader.now.status) }
+/// Writes the lines of a data record, where all could be made.
+fn put_lines<K: Sink>(lines: &Lines, sink: &mut K) -> Result<(), ReportStop>
     ensures failures { OnOk result (K.failures sink.new ≡ K.failures sink.old) }
     ensures honesty { IsTrue (K.is_honest sink.old) → IsTrue (K.is_honest sink.new) }
-    ensures written { OnOk result (IsTrue (K.is_honest sink.old) → K.held sink.new ≡ K.held sink.old
-        ++ note_lines (notes_in reader.now.head reader.now.current)) }
-    ensures part { OnErr result (IsTrue (K.is_honest sink.old)
-        → HoldsPrefix (K.held sink.old) (K.held sink.new) (note_lines (notes_in reader.now.head reader.now.current))) }
+    ensures written { OnOk result (IsTrue (K.is_honest sink.old) → (notes : List NoteValue) → AreLinesOf lines.now notes
+        → K.held sink.new ≡ K.held sink.old ++ note_lines notes) }
+    ensures part { OnErr result (IsTrue (K.is_honest sink.old) → (notes : List NoteValue) → AreLinesOf lines.now notes
+        → HoldsPrefix (K.held sink.old) (K.held sink.new) (note_lines notes)) }
     ensures stop { IfErr result (ReportStops ⊥ (Rises (K.failures sink.old) (K.failures sink.new)) (Unit {0})) }
 {
-    let text = lines_in(room, reader.annotations())?;
-    put_all(sink, text)?;
+    if !lines.whole {
+        return Err(ReportStop::OutOfMemory);
+    }
+    put_all(sink, &lines.text)?;
     Ok(())
+}
+
+/// Writes what stopped the reading of a file, as `put_stop` does. Where there was no memory for a line that stands
+/// before a fault in its data record, that is what stops the report.
+fn put_end<K: Sink>(
+    alloc: Global,
+    lines: &Lines,
+    sink: &mut K,
+    stop: Stop,
+) -> Result<Outcome, ReportStop>
+    ensures fault { OnOk result (IsFault stop) }
+    ensures written { IfOk result (λ outcome. IsTrue (K.is_honest sink.old) → IsStopWritten stop (K.held sink.old) (K.held sink.new) outcome) }
+    ensures failures { OnOk result (K.failures sink.new ≡ K.failures sink.old) }
+    ensures honesty { IsTrue (K.is_honest sink.old) → IsTrue (K.is_honest sink.new) }
+    ensures part { OnErr result (IsTrue (K.is_honest sink.old) → HoldsPrefix (K.held sink.old) (K.held sink.new) (stop_line stop)) }
+    ensures stop { IfErr result (ReportStops (stop ≡ read_stops.ReadFailed) (Rises (K.failures sink.old) (K.failures sink.new))
+        (stop ≢ read_stops.ReadFailed)) }
+{
+    match stop {
+        Stop::Fault(_) if !lines.whole => Err(ReportStop::OutOfMemory),
+        stop => put_stop(alloc, sink, stop),
+    }
 }
 
 /// Reads the data records of a file of which the header was read, and writes their annotations; behind
@@ -108,15 +144,17 @@ fn put_records<S: Source, K: Sink>(
     ensures stop { IfErr result (ReportStops (Rises (S.failures source.old) (S.failures source.new)) (Rises (K.failures sink.old) (K.failures sink.new))
         (S.failures source.new ≡ S.failures source.old)) }
 {
-    let mut room = Room {
+    let mut lines = Lines {
         text: Vec::new(alloc),
         words: String::new(alloc),
+        whole: true,
     };
     loop {
-        match reader.next(source) {
-            Ok(true) => put_notes(&mut room, reader, sink)?,
+        lines.text.clear();
+        match reader.next_with(source, &mut lines) {
+            Ok(true) => put_lines(&lines, sink)?,
             Ok(false) => return Ok(Outcome::Yes),
-            Err(stop) => return put_stop(alloc, sink, stop),
+            Err(stop) => return put_end(alloc, &lines, sink, stop),
         }
     }
 }

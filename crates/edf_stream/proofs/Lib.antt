@@ -18,3 +18,4 @@ pub mod RisingFacts
 pub mod SampleLawFacts
 pub mod BoundFacts
 pub mod CountFacts
+pub mod KeepFacts

@@ -9,6 +9,7 @@ pub mod Faults
 pub mod Conforming
 pub mod Readers
 pub mod Views
+pub mod Keeping
 pub mod Summaries
 pub mod Laws
 pub mod Steps

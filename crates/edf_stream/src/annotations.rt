@@ -16,7 +16,7 @@ use edf_tal::tals::Tals;
 
 impl<'a> TalNotes<'a> {
     /// Those of the whole TAL.
-    fn new(tal: &Tal<'a>) -> TalNotes<'a>
+    pub(crate) fn new(tal: &Tal<'a>) -> TalNotes<'a>
         ensures { notes_of_said (Some result) ≡ notes_of_tal (tal_view tal.now) }
     {
         TalNotes {
@@ -28,8 +28,8 @@ impl<'a> TalNotes<'a> {
 
     /// The next one.
     fn next_note(&mut self) -> Option<NoteRef<'a>>
-        ensures { MatchOption result (notes_of_said (Some self.old) ≡ []) (λ note. notes_of_said (Some self.old)
-            ≡ note_view note ∷ notes_of_said (Some self.new)) }
+        ensures { MatchOption result ((notes_of_said (Some self.old) ≡ []) × (notes_of_said (Some self.new) ≡ []))
+            (λ note. notes_of_said (Some self.old) ≡ note_view note ∷ notes_of_said (Some self.new)) }
     {
         let text = self.texts.next()?;
         Some(NoteRef {
@@ -37,6 +37,25 @@ impl<'a> TalNotes<'a> {
             duration: self.duration,
             text,
         })
+    }
+}
+
+impl<'a> Iterator for TalNotes<'a> {
+    ghost use Rattle.std.specs.Iterator.{YieldsFirstBy, item_count};
+    ghost use Rattle.edf_stream.specs.Keeping.{tal_notes_left};
+    ghost use Rattle.edf_stream.specs.Views.{note_view};
+
+    type Item = NoteRef<'a>;
+
+    ghost next_gives = { YieldsFirstBy note_view tal_notes_left };
+
+    ghost remaining = { item_count tal_notes_left };
+
+    fn next(&mut self) -> Option<NoteRef<'a>> {
+        match self.next_note() {
+            Some(note) => Some(note),
+            None => None,
+        }
     }
 }
 

@@ -1,16 +1,20 @@
 //! The lanes of the annotation signals in a data record. EDF+ (2003), "The 'EDF Annotations' signal".
 
-ghost use Rattle.std.specs.Prelude.{◌≡◌, ◌+◌, ◌-◌, ◌*◌, ◌≤◌, ◌<◌, ◌^◌, min, length, [], None, Some, MatchResult, IfSome, IfOk, Option, unsigned_abs};
+ghost use Rattle.std.specs.Prelude.{◌≡◌, ◌+◌, ◌-◌, ◌*◌, ◌≤◌, ◌<◌, ◌^◌, min, length, drop, [], None, Some, MatchResult, IfSome, IfOk, OnOk, Option, unsigned_abs};
 ghost use Rattle.edf_header.specs.Heads.{record_bytes};
 ghost use Rattle.edf_tal.specs.Views.{tal_view, items_left, start_of};
 ghost use Rattle.edf_tal.specs.Reading.{items_of};
 ghost use Rattle.edf_stream.specs.Records.{lane_of as lane_of_signal, numbered_lane, lane_in, annotation_lanes};
 ghost use Rattle.edf_stream.specs.RecordsReading.{lane_bytes};
+ghost use Rattle.edf_stream.specs.Keeping.{behind_time};
+ghost use Rattle.edf_stream.specs.Notes.{notes_of_tal};
 ghost use Rattle.edf_stream.specs.NotesReading.{notes_of_items, notes_of_lane, notes_of_lanes};
 ghost use Rattle.edf_stream.specs.StartsReading.{start_by_lanes};
 ghost use Rattle.edf_stream.specs.Faults.{cause_of, cause_of_lanes};
 ghost use Rattle.edf_stream.specs.Views.{texts_said, placed_lane, placed_lanes, IsSaidBy, IsTimedAlone};
 
+use crate::note::TalNotes;
+use crate::note_keeper::NoteKeeper;
 use edf_fields::cause::TalCause;
 use edf_header::header::Header;
 use edf_header::lane_place::LanePlace;
@@ -65,17 +69,34 @@ fn text_count(tal: &Tal<'_>) -> u32
     tal.text_count().min(u32::MAX as usize) as u32
 }
 
-/// How many texts stand in the TALs that are left of a lane, with `count` texts before them, up to the
-/// most that fit; or why the lane is no list of TALs.
-fn rest_texts(tals: Tals<'_>, count: u32) -> Result<u32, TalCause>
-    ensures { MatchResult result
+/// Gives the annotations of a TAL to the keeper, and answers how many texts there are with its own behind `count`
+/// others of the data record, up to the most that fit.
+fn keep_tal<K: NoteKeeper>(keeper: &mut K, tal: &Tal<'_>, count: u32) -> u32
+    ensures texts { result ≡ min (count + length (notes_of_tal (tal_view tal.now))) (2 ^ 32 - 1) }
+    ensures kept { K.got keeper.old (behind_time count (notes_of_tal (tal_view tal.now))) keeper.new }
+{
+    let mut notes = TalNotes::new(tal);
+    if count == 0 {
+        // the first text keeps the time
+        notes.next();
+    }
+    keeper.keep(notes);
+    count.saturating_add(text_count(tal))
+}
+
+/// Gives the annotations in the TALs that are left of a lane to the keeper, and answers how many texts there are
+/// with theirs behind `count` others of the data record, up to the most that fit; or why the lane is no list of
+/// TALs.
+fn rest_texts<K: NoteKeeper>(keeper: &mut K, tals: Tals<'_>, count: u32) -> Result<u32, TalCause>
+    ensures counted { MatchResult result
         (λ n. (cause_of (items_left tals.entry) ≡ None) × (n ≡ min (count + length (notes_of_items (items_left tals.entry))) (2 ^ 32 - 1)))
         (λ cause. cause_of (items_left tals.entry) ≡ Some cause) }
+    ensures kept { OnOk result (K.got keeper.old (behind_time count (notes_of_items (items_left tals.entry))) keeper.new) }
 {
     let mut texts = count;
     for item in tals {
         let tal = item?;
-        texts = texts.saturating_add(text_count(&tal));
+        texts = keep_tal(keeper, &tal, texts);
     }
     Ok(texts)
 }
@@ -89,40 +110,46 @@ pub(crate) struct Said {
     pub texts: u32,
 }
 
-/// What one lane says, or why it is no list of TALs, by its TALs.
-fn said_by_tals(lane: &[u8]) -> Result<Said, TalCause>
+/// What one lane says behind `before` other texts of the data record, or why it is no list of TALs, by its TALs.
+/// Its annotations go to the keeper.
+fn said_by_tals<K: NoteKeeper>(keeper: &mut K, lane: &[u8], before: u32) -> Result<Said, TalCause>
     ensures said { MatchResult result
         (λ said. (cause_of (items_of lane.now) ≡ None) × (said.start ≡ start_of (items_of lane.now))
-        × (said.texts ≡ min (length (notes_of_lane lane.now)) (2 ^ 32 - 1)))
+        × (said.texts ≡ min (before + length (notes_of_lane lane.now)) (2 ^ 32 - 1)))
         (λ cause. cause_of (items_of lane.now) ≡ Some cause) }
     ensures small { IfOk result (λ said. IfOk said.start (λ v. unsigned_abs v < 10 ^ 21)) }
+    ensures kept { OnOk result (K.got keeper.old (behind_time before (notes_of_lane lane.now)) keeper.new) }
 {
     let mut tals = Tals::new(lane);
     let first = tals.next();
     let start = start_by_first(first.as_ref());
-    let count = match &first {
-        None => 0,
-        Some(Ok(tal)) => text_count(tal),
-        Some(Err(cause)) => return Err(*cause),
+    let count = match first {
+        None => before,
+        Some(item) => keep_tal(keeper, &item?, before),
     };
-    let texts = rest_texts(tals, count)?;
+    let texts = rest_texts(keeper, tals, count)?;
     Ok(Said { start, texts })
 }
 
-/// What one lane says, or why it is no list of TALs. In most lanes the TAL that keeps the time stands alone.
-fn said_by_lane(lane: &[u8]) -> Result<Said, TalCause>
+/// What one lane says behind `before` other texts of the data record, or why it is no list of TALs. Its annotations
+/// go to the keeper. In most first lanes the TAL that keeps the time stands alone.
+fn said_by_lane<K: NoteKeeper>(keeper: &mut K, lane: &[u8], before: u32) -> Result<Said, TalCause>
     ensures said { MatchResult result
         (λ said. (cause_of (items_of lane.now) ≡ None) × (said.start ≡ start_of (items_of lane.now))
-        × (said.texts ≡ min (length (notes_of_lane lane.now)) (2 ^ 32 - 1)))
+        × (said.texts ≡ min (before + length (notes_of_lane lane.now)) (2 ^ 32 - 1)))
         (λ cause. cause_of (items_of lane.now) ≡ Some cause) }
     ensures small { IfOk result (λ said. IfOk said.start (λ v. unsigned_abs v < 10 ^ 21)) }
+    ensures kept { OnOk result (K.got keeper.old (behind_time before (notes_of_lane lane.now)) keeper.new) }
 {
+    if before > 0 {
+        return said_by_tals(keeper, lane, before);
+    }
     match time_alone(lane) {
         Some(start) => Ok(Said {
             start: Ok(start),
             texts: 1,
         }),
-        None => said_by_tals(lane),
+        None => said_by_tals(keeper, lane, before),
     }
 }
 
@@ -138,54 +165,63 @@ pub(crate) fn lone_time(header: &Header, bytes: &[u8]) -> Option<i128>
     }
 }
 
-impl Said {
-    /// With what one lane more says.
-    fn with(self, lane: Said) -> Said
-        requires { IfOk self.start (λ v. unsigned_abs v < 10 ^ 21) }
-        ensures start { result.start ≡ self.start }
-        ensures texts { result.texts ≡ min (self.texts + lane.texts) (2 ^ 32 - 1) }
-    {
-        Said {
-            start: self.start,
-            texts: self.texts.saturating_add(lane.texts),
-        }
+/// How many texts lanes have, up to the most that fit.
+pub(crate) fn texts_of(found: Option<Said>) -> u32
+    ensures { result ≡ texts_said found }
+{
+    match found {
+        Some(said) => said.texts,
+        None => 0,
     }
 }
 
-/// What the lane of one signal more says, behind what those before it say.
-fn said_with(found: Option<Said>, said: Said) -> Said
+/// What lanes say with one more behind them, which counts their texts as well.
+fn said_with(found: Option<Said>, lane: Said) -> Said
     requires found { IfSome found (λ s. IfOk s.start (λ v. unsigned_abs v < 10 ^ 21)) }
-    requires said { IfOk said.start (λ v. unsigned_abs v < 10 ^ 21) }
-    ensures first { found ≡ None → result.start ≡ said.start }
+    requires lane { IfOk lane.start (λ v. unsigned_abs v < 10 ^ 21) }
+    ensures first { found ≡ None → result.start ≡ lane.start }
     ensures later { IfSome found (λ s. result.start ≡ s.start) }
-    ensures texts { result.texts ≡ min (texts_said found + said.texts) (2 ^ 32 - 1) }
+    ensures texts { result.texts ≡ lane.texts }
     ensures small { IfOk result.start (λ v. unsigned_abs v < 10 ^ 21) }
 {
     match found {
-        None => said,
-        Some(before) => before.with(said),
+        None => lane,
+        Some(before) => Said {
+            start: before.start,
+            texts: lane.texts,
+        },
     }
 }
 
 /// What the lanes at these places say, none where there is no lane; or why the first bad one is no list of
-/// TALs.
-fn said_at_places(places: &[LanePlace], bytes: &[u8]) -> Result<Option<Said>, TalCause>
+/// TALs. Their annotations go to the keeper.
+fn said_at_places<K: NoteKeeper>(
+    keeper: &mut K,
+    places: &[LanePlace],
+    bytes: &[u8],
+) -> Result<Option<Said>, TalCause>
     ensures said { IsSaidBy (placed_lanes places.now bytes.now) result }
     ensures small { IfOk result (λ found. IfSome found (λ s. IfOk s.start (λ v. unsigned_abs v < 10 ^ 21))) }
+    ensures kept { OnOk result (K.got keeper.old (drop 1 (notes_of_lanes (placed_lanes places.now bytes.now))) keeper.new) }
 {
     let mut found = None;
     for place in places {
-        let said = said_by_lane(placed_lane(*place, bytes))?;
+        let said = said_by_lane(keeper, placed_lane(*place, bytes), texts_of(found))?;
         found = Some(said_with(found, said));
     }
     Ok(found)
 }
 
 /// What the annotation lanes in the bytes of a data record say, none where there is no such lane; or
-/// why the first bad one is no list of TALs.
-pub(crate) fn said_by_lanes(header: &Header, bytes: &[u8]) -> Result<Option<Said>, TalCause>
+/// why the first bad one is no list of TALs. Their annotations go to the keeper.
+pub(crate) fn said_by_lanes<K: NoteKeeper>(
+    keeper: &mut K,
+    header: &Header,
+    bytes: &[u8],
+) -> Result<Option<Said>, TalCause>
     ensures said { IsSaidBy (annotation_lanes header.now.signals bytes.now) result }
     ensures small { IfOk result (λ found. IfSome found (λ s. IfOk s.start (λ v. unsigned_abs v < 10 ^ 21))) }
+    ensures kept { OnOk result (K.got keeper.old (drop 1 (notes_of_lanes (annotation_lanes header.now.signals bytes.now))) keeper.new) }
 {
-    said_at_places(header.annotation_places(), bytes)
+    said_at_places(keeper, header.annotation_places(), bytes)
 }

@@ -11,6 +11,7 @@ mod lanes;
 pub mod laws;
 pub mod meaning;
 pub mod note;
+pub mod note_keeper;
 pub mod notes;
 pub mod own_text;
 mod read_record;

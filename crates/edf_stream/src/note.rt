@@ -21,12 +21,12 @@ pub struct NoteRef<'a> {
     ghost not_negative: { IfSome duration (λ v. pos 0 ≤ℤ v) } by { Prim.hlevel props },
 }
 
-/// The annotations of a TAL that are still to come.
+/// The annotations of a TAL that are still to come, in order.
 #[derive(Drop)]
-pub(crate) struct TalNotes<'a> {
-    pub onset: i128,
-    pub duration: Option<i128>,
-    pub texts: Texts<'a>,
+pub struct TalNotes<'a> {
+    pub(crate) onset: i128,
+    pub(crate) duration: Option<i128>,
+    pub(crate) texts: Texts<'a>,
     ghost onset_small: { unsigned_abs onset < 10 ^ 21 },
     ghost duration_small: { IfSome duration (λ v. unsigned_abs v < 10 ^ 21) } by { Prim.hlevel props },
     ghost not_negative: { IfSome duration (λ v. pos 0 ≤ℤ v) } by { Prim.hlevel props },

@@ -12,6 +12,7 @@ ghost use Rattle.edf_stream.specs.Faults.{records_tests, body_fault};
 ghost use Rattle.edf_stream.specs.Readers.{HasPassed, StandsAt, StopsReading, StopsAt, place_behind};
 ghost use Rattle.edf_stream.specs.Steps.{IsRead, GoesOn};
 
+use crate::note_keeper::NoteKeeper;
 use crate::record::judge_record;
 use crate::start::Progress;
 use edf_fields::fault::{Cause, Fault, Place};
@@ -20,9 +21,10 @@ use edf_header::header::Header;
 use edf_header::stop::Stop;
 
 /// Reads data record `k` into the buffer and judges it; answers how far the records were followed with
-/// it.
-fn read_record<S: Source>(
+/// it. Its annotations go to the keeper.
+fn read_record<S: Source, K: NoteKeeper>(
     source: &mut S,
+    keeper: &mut K,
     buffer: &mut [u8],
     header: &Header,
     k: u32,
@@ -46,6 +48,7 @@ fn read_record<S: Source>(
         StandsAt file header.now k before.ended_ps before.notes (S.left source.old) → first (records_tests file header.now k 1) ≡ Some f))
         (Rises (S.failures source.old) (S.failures source.new))) }
     ensures place { IfErr result (StopsAt (AtRecord k)) }
+    ensures kept { OnOk result (K.got keeper.old (notes_in header.now buffer.new) keeper.new) }
 {
     let got = match fill(source, buffer) {
         Ok(got) => got,
@@ -57,7 +60,7 @@ fn read_record<S: Source>(
             cause: Cause::Truncated,
         }));
     }
-    match judge_record(header, k, before, buffer) {
+    match judge_record(keeper, header, k, before, buffer) {
         Ok(after) => Ok(after),
         Err(fault) => Err(Stop::Fault(fault)),
     }
@@ -85,9 +88,11 @@ fn check_end<S: Source>(source: &mut S) -> Result<(), Stop>
     Ok(())
 }
 
-/// Reads data record `k` where the header announces it, else sees that the file ends there.
-pub(crate) fn advance<S: Source>(
+/// Reads data record `k` where the header announces it, else sees that the file ends there. Its annotations go to
+/// the keeper.
+pub(crate) fn advance<S: Source, K: NoteKeeper>(
     source: &mut S,
+    keeper: &mut K,
     buffer: &mut [u8],
     header: &Header,
     k: u32,
@@ -112,9 +117,10 @@ pub(crate) fn advance<S: Source>(
         StandsAt file header.now k before.ended_ps before.notes (S.left source.old) → body_fault file header.now ≡ Some f))
         (Rises (S.failures source.old) (S.failures source.new))) }
     ensures place { IfErr result (StopsAt (place_behind header.now k)) }
+    ensures kept { IfOk result (λ found. MatchOption found (keeper.new ≡ keeper.old) (λ _. K.got keeper.old (notes_in header.now buffer.new) keeper.new)) }
 {
     if k < header.records() {
-        return match read_record(source, buffer, header, k, before) {
+        return match read_record(source, keeper, buffer, header, k, before) {
             Ok(after) => Ok(Some(after)),
             Err(stop) => Err(stop),
         };

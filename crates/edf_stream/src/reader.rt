@@ -13,6 +13,7 @@ ghost use Rattle.edf_stream.specs.Faults.{body_fault};
 ghost use Rattle.edf_stream.specs.Views.{IsContent};
 ghost use Rattle.edf_stream.specs.Readers.{HasBegun, IsOpen, status_after, StandsIn, Comes, StopsReading, StopsAt, place_behind};
 
+use crate::note_keeper::{KeepsNone, NoteKeeper};
 use crate::read_record::advance;
 use crate::start::Progress;
 use crate::status::Status;
@@ -110,12 +111,52 @@ impl FileReader {
             (Rises (S.failures source.old) (S.failures source.new)) s) }
         ensures place { IfErr result (λ s. IsOpen self.old.status → StopsAt (place_behind self.old.head self.old.read) s) }
     {
+        self.next_with(source, &mut KeepsNone)
+    }
+
+    /// As `next`, and gives the annotations of the data record to the keeper while it judges them, so that the
+    /// record is read once: those that `annotations` would give, with onsets as the file has them. At a fault it
+    /// has given some of those that stand before it in the data record.
+    pub fn next_with<S: Source, K: NoteKeeper>(
+        &mut self,
+        source: &mut S,
+        keeper: &mut K,
+    ) -> Result<bool, Stop>
+        // What was answered last, whatever the source.
+        ensures repeats { (s : Stop) → self.old.status ≡ Stopped s → (result ≡ Err s) × (self.new ≡ self.old) × (source.new ≡ source.old) × (keeper.new ≡ keeper.old) }
+        ensures ended { self.old.status ≡ Ended → (result ≡ Ok false) × (self.new ≡ self.old) × (source.new ≡ source.old) × (keeper.new ≡ keeper.old) }
+        ensures status { self.new.status ≡ status_after result }
+        ensures memory { OnErr result (IsContent (status_after result)) }
+        ensures head { self.new.head ≡ self.old.head }
+        ensures room { length self.new.current ≡ record_bytes self.new.head }
+        ensures count { IfOk result (λ more. IsTrue more → (self.new.read ≡ self.old.read + 1) × (self.new.read ≤ (self.new.head).records)) }
+        ensures notes { IfOk result (λ more. IsTrue more → self.new.notes ≡ self.old.notes + length (notes_in self.new.head self.new.current)) }
+        ensures near { unsigned_abs self.new.ended < 2 ^ 71 }
+        ensures later { IfOk result (λ more. IsTrue more → (self.old.ended <ℤ self.new.ended)
+            × (self.new.ended ≡ start_in self.new.head self.new.current +ℤ (self.new.head).duration)) }
+        ensures failures { OnOk result (S.failures source.new ≡ S.failures source.old) }
+        ensures honesty { OnOk result (IsTrue (S.is_honest source.old) → IsTrue (S.is_honest source.new)) }
+
+        // The file: the next data record, the end, or the first fault.
+        ensures comes { IfOk result (λ more. IsOpen self.old.status → IsTrue (S.is_honest source.old) → (file : List ℕ) →
+            StandsIn self.old (S.left source.old) file → Comes more self.old self.new (S.left source.new) file) }
+        ensures stop { IfErr result (λ s. IsOpen self.old.status → StopsReading
+            (λ f. (S.failures source.new ≡ S.failures source.old) × (IsTrue (S.is_honest source.old) → (file : List ℕ) →
+            StandsIn self.old (S.left source.old) file → body_fault file self.old.head ≡ Some f))
+            (Rises (S.failures source.old) (S.failures source.new)) s) }
+        ensures place { IfErr result (λ s. IsOpen self.old.status → StopsAt (place_behind self.old.head self.old.read) s) }
+
+        // Its annotations, in order of annotation signal, TAL and text.
+        ensures kept { IfOk result (λ more. IsTrue more → K.got keeper.old (notes_in self.new.head self.new.current) keeper.new) }
+        ensures none { IfOk result (λ more. (more ≡ false) → keeper.new ≡ keeper.old) }
+    {
         match self.status {
             Status::Ended => Ok(false),
             Status::Stopped(stop) => Err(stop),
             Status::Begun | Status::Current => {
                 match advance(
                     source,
+                    keeper,
                     &mut self.buffer,
                     &self.header,
                     self.read,

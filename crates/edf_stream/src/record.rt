@@ -1,6 +1,6 @@
 //! The tests of one data record. EDF (1992), "Data record".
 
-ghost use Rattle.std.specs.Prelude.{◌≡◌, ℕ, ℤ, pos, ◌+◌, ◌-◌, ◌≤◌, ◌<◌, ◌<ℤ◌, ◌+ℤ◌, ◌^◌, min, List, [], length, Ok, None, Some, MatchResult, IfOk, IfErr, IfSome, unsigned_abs};
+ghost use Rattle.std.specs.Prelude.{◌≡◌, ℕ, ℤ, pos, ◌+◌, ◌-◌, ◌≤◌, ◌<◌, ◌<ℤ◌, ◌+ℤ◌, ◌^◌, min, List, [], length, Ok, None, Some, MatchResult, IfOk, IfErr, IfSome, OnOk, unsigned_abs};
 ghost use Rattle.edf_fields.specs.declared.fault.Place.TheVariants.{AtRecord};
 ghost use Rattle.edf_header.specs.Heads.{record_bytes};
 ghost use Rattle.edf_stream.specs.Records.{annotation_lanes};
@@ -10,7 +10,8 @@ ghost use Rattle.edf_fields.specs.Tests.{first};
 ghost use Rattle.edf_stream.specs.Faults.{cause_of_lanes, lanes_fault, time_fault, notes_fault, timed_faults, record_fault};
 ghost use Rattle.edf_stream.specs.Views.{start_with, texts_said};
 
-use crate::lanes::{Said, lone_time, said_by_lanes};
+use crate::lanes::{Said, lone_time, said_by_lanes, texts_of};
+use crate::note_keeper::NoteKeeper;
 use crate::start::{Progress, Start, judge_start};
 use edf_fields::fault::{Cause, Fault, Place};
 use edf_header::header::Header;
@@ -38,9 +39,15 @@ fn judge_notes(k: u32, before: u32, texts: u32) -> Result<u32, Fault>
     })
 }
 
-/// What the annotation lanes of data record `k` say, or that one of them is no list of TALs.
-#[tactic(auto, unfolding(crate::specs::Faults::lanes_fault, crate::specs::StartsReading::said_start))]
-fn judge_lanes(header: &Header, k: u32, bytes: &[u8]) -> Result<Option<Said>, Fault>
+/// What the annotation lanes of data record `k` say, or that one of them is no list of TALs. Their annotations go
+/// to the keeper.
+#[tactic(auto, unfolding(crate::specs::Faults::lanes_fault, crate::specs::StartsReading::said_start, crate::specs::NotesReading::notes_in))]
+fn judge_lanes<K: NoteKeeper>(
+    keeper: &mut K,
+    header: &Header,
+    k: u32,
+    bytes: &[u8],
+) -> Result<Option<Said>, Fault>
     ensures said { MatchResult result
         (λ found. (lanes_fault k (cause_of_lanes (annotation_lanes header.now.signals bytes.now)) ≡ None)
         × (start_with found [] ≡ said_start header.now bytes.now)
@@ -48,8 +55,9 @@ fn judge_lanes(header: &Header, k: u32, bytes: &[u8]) -> Result<Option<Said>, Fa
         (λ f. lanes_fault k (cause_of_lanes (annotation_lanes header.now.signals bytes.now)) ≡ Some f) }
     ensures small { IfOk result (λ found. IfSome found (λ s. IfOk s.start (λ v. unsigned_abs v < 10 ^ 21))) }
     ensures place { IfErr result (λ f. f.place ≡ AtRecord k) }
+    ensures kept { OnOk result (K.got keeper.old (notes_in header.now bytes.now) keeper.new) }
 {
-    match said_by_lanes(header, bytes) {
+    match said_by_lanes(keeper, header, bytes) {
         Ok(found) => Ok(found),
         Err(cause) => Err(Fault {
             place: Place::AtRecord(k),
@@ -76,16 +84,6 @@ fn judge_time(k: u32, found: Option<Said>) -> Result<Start, Fault>
     }
 }
 
-/// How many texts the annotation lanes have, up to the most that fit.
-fn texts_of(found: Option<Said>) -> u32
-    ensures { result ≡ texts_said found }
-{
-    match found {
-        Some(said) => said.texts,
-        None => 0,
-    }
-}
-
 /// Where a data record starts, and how many texts its annotation lanes have, up to the most that fit.
 #[derive(Clone, Copy)]
 struct Timed {
@@ -94,10 +92,15 @@ struct Timed {
 }
 
 /// Where data record `k` says that it starts, with how many texts its annotation lanes have; or the first
-/// fault of these lanes. In most data records there is one such lane, in which the TAL that keeps the time
-/// stands alone.
-#[tactic(auto, unfolding(crate::specs::Faults::lanes_fault, crate::specs::Faults::time_fault, crate::specs::StartsReading::said_start))]
-fn judge_timed(header: &Header, k: u32, bytes: &[u8]) -> Result<Timed, Fault>
+/// fault of these lanes. Their annotations go to the keeper. In most data records there is one such lane, in which
+/// the TAL that keeps the time stands alone.
+#[tactic(auto, unfolding(crate::specs::Faults::lanes_fault, crate::specs::Faults::time_fault, crate::specs::StartsReading::said_start, crate::specs::NotesReading::notes_in))]
+fn judge_timed<K: NoteKeeper>(
+    keeper: &mut K,
+    header: &Header,
+    k: u32,
+    bytes: &[u8],
+) -> Result<Timed, Fault>
     ensures judged { MatchResult result
         (λ timed. (lanes_fault k (cause_of_lanes (annotation_lanes header.now.signals bytes.now)) ≡ None)
         × (time_fault k (said_start header.now bytes.now) ≡ None)
@@ -106,6 +109,7 @@ fn judge_timed(header: &Header, k: u32, bytes: &[u8]) -> Result<Timed, Fault>
         (λ f. first (timed_faults header.now k bytes.now) ≡ Some f) }
     ensures small { IfOk result (λ timed. unsigned_abs timed.start.ps < 10 ^ 21) }
     ensures place { IfErr result (λ f. f.place ≡ AtRecord k) }
+    ensures kept { OnOk result (K.got keeper.old (notes_in header.now bytes.now) keeper.new) }
 {
     if let Some(ps) = lone_time(header, bytes) {
         return Ok(Timed {
@@ -113,7 +117,7 @@ fn judge_timed(header: &Header, k: u32, bytes: &[u8]) -> Result<Timed, Fault>
             texts: 1,
         });
     }
-    let found = judge_lanes(header, k, bytes)?;
+    let found = judge_lanes(keeper, header, k, bytes)?;
     let start = judge_time(k, found)?;
     Ok(Timed {
         start,
@@ -122,10 +126,11 @@ fn judge_timed(header: &Header, k: u32, bytes: &[u8]) -> Result<Timed, Fault>
 }
 
 /// Judges the bytes of data record `k`, and answers how far the records were followed with it; or its
-/// first fault.
+/// first fault. Its annotations go to the keeper.
 #[inline(always)]
 #[tactic(auto, unfolding(crate::specs::Faults::record_fault, crate::specs::NotesReading::notes_in), using(crate::proofs::NoteFacts::timed_found))]
-pub(crate) fn judge_record(
+pub(crate) fn judge_record<K: NoteKeeper>(
+    keeper: &mut K,
     header: &Header,
     k: u32,
     before: Progress,
@@ -142,8 +147,9 @@ pub(crate) fn judge_record(
     ensures small { IfOk result (λ after. unsigned_abs after.ended_ps < 2 ^ 71) }
     ensures later { IfOk result (λ after. (k ≡ 0 → before.ended_ps ≡ pos 0) → before.ended_ps <ℤ after.ended_ps) }
     ensures place { IfErr result (λ f. f.place ≡ AtRecord k) }
+    ensures kept { OnOk result (K.got keeper.old (notes_in header.now bytes.now) keeper.new) }
 {
-    let timed = judge_timed(header, k, bytes)?;
+    let timed = judge_timed(keeper, header, k, bytes)?;
     judge_start(header.kind(), k, before, timed.start)?;
     match judge_notes(k, before.notes, timed.texts) {
         Ok(notes) => Ok(timed.start.with(header, notes)),

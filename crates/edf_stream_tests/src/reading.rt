@@ -3,7 +3,8 @@
 use edf_fields::fault::{Cause, Fault, Place};
 use edf_fields::source::SliceSource;
 use edf_header::stop::Stop;
-use edf_stream::note::NoteRef;
+use edf_stream::note::{NoteRef, TalNotes};
+use edf_stream::note_keeper::NoteKeeper;
 use edf_stream::reader::FileReader;
 use edf_test_files::record::{LANES, recorded, small_file, twofold};
 use edf_test_files::tape::{Tape, tape_of};
@@ -94,6 +95,28 @@ fn reads_the_reference_file(rt: HostRuntime) -> Result<(), Fail> {
     Ok(())
 }
 
+/// Puts the annotations that it gets behind a text.
+#[derive(Drop)]
+struct Shown {
+    alloc: Global,
+    text: String,
+    whole: bool,
+}
+
+impl NoteKeeper for Shown {
+    ghost got = { λ _ _ _. Unit {0} };
+
+    fn keep(&mut self, notes: TalNotes<'_>) {
+        for note in notes {
+            self.whole &= push_note(self.alloc, &mut self.text, &note).is_ok();
+        }
+    }
+
+    ghost got_none = { λ _. tt };
+
+    ghost got_both = { λ _ _ _ _ _ _ _. tt };
+}
+
 #[test]
 fn gives_the_annotations_of_both_signals(rt: HostRuntime) -> Result<(), Fail> {
     let first = b"+0\x152\x14\x14\x14a\x14\0-1\x14\0";
@@ -101,11 +124,19 @@ fn gives_the_annotations_of_both_signals(rt: HostRuntime) -> Result<(), Fail> {
     let file = twofold(rt.alloc(), first, second)?;
     let mut source = SliceSource::new(&file);
     let mut reader = FileReader::begin(rt.alloc(), &mut source)?;
-    assert_eq!(rt; reader.next(&mut source), Ok(true));
+    let mut shown = Shown {
+        alloc: rt.alloc(),
+        text: String::new(rt.alloc()),
+        whole: true,
+    };
+    assert_eq!(rt; reader.next_with(&mut source, &mut shown), Ok(true));
     let notes = notes_of(rt.alloc(), &reader)?;
     let want =
         "0/2000000000000:;0/2000000000000:a;-500000000000:b;-500000000000:;7000000000000/0:c;";
+    assert!(rt; shown.whole && shown.text.as_str() == want);
     assert!(rt; notes.is_some_and(|shown| shown.as_str() == want));
+    assert_eq!(rt; reader.next_with(&mut source, &mut shown), Ok(false));
+    assert!(rt; shown.text.as_str() == want);
     Ok(())
 }
 

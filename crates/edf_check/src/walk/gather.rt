@@ -1,18 +1,16 @@
-//! The annotations of the data record at hand, as they are compared.
+//! The annotations of a file, as they are compared.
 
-ghost use Rattle.std.specs.Prelude.{◌≡◌, ◌<◌, ◌^◌, ◌*◌, ◌+◌, [], ◌∷◌, ◌++◌, ◌+ℤ◌, length, map, unsigned_abs, true, Option, option_map, IfOk, OnOk, IsTrue};
-ghost use Rattle.edf_stream.specs.Notes.{moved_by};
-ghost use Rattle.edf_stream.specs.NotesReading.{moved_notes_in, notes_in};
-ghost use Rattle.edf_stream.specs.Readers.{is_current};
+ghost use Rattle.std.specs.Prelude.{◌≡◌, ◌<◌, ◌^◌, ◌*◌, [], ◌∷◌, ◌++◌, ◌+ℤ◌, map, unsigned_abs, true, Option, option_map, IfOk, OnOk};
+ghost use Rattle.edf_stream.specs.Keeping.{tal_notes_left};
 ghost use Rattle.edf_stream.specs.Starts.{file_start};
-ghost use Rattle.edf_stream.specs.Views.{note_view, note_value, notes_left};
-ghost use Rattle.edf_check.specs.walk.Gathered.{claim_of, counts_by, gathered_of, gathered_in};
+ghost use Rattle.edf_stream.specs.Views.{note_view, note_value};
+ghost use Rattle.edf_check.specs.walk.Gathered.{counts_by, gathered_of};
 
 use crate::walk::offset::Offset;
 use edf_claim::claim::Claim;
-use edf_stream::annotations::Annotations;
 use edf_stream::grid::file_start_ps;
-use edf_stream::note::NoteRef;
+use edf_stream::note::{NoteRef, TalNotes};
+use edf_stream::note_keeper::NoteKeeper;
 use edf_stream::notes::Note;
 use edf_stream::own_text::OwnText;
 use edf_stream::reader::FileReader;
@@ -68,18 +66,18 @@ fn push_counted(
     Ok(())
 }
 
-/// Puts those that are left of a data record, so much later, behind `notes`, where they count.
+/// Puts those that are left of a TAL, so much later, behind `notes`, where they count.
 #[tactic(auto, using(crate::proofs::walk::PassFacts::gathered_append))]
 fn push_all_counted(
     alloc: Global,
     notes: &mut Vec<Note>,
-    annotations: Annotations<'_>,
+    annotations: TalNotes<'_>,
     by: Offset,
     claim: Option<&Claim>,
 ) -> Result<(), AllocError>
     requires near { unsigned_abs by.ps < 2 ^ 81 }
     ensures { OnOk result (map note_value notes.new.items ≡ map note_value notes.old.items ++ gathered_of (option_map
-        (λ c. c.now) claim.entry) by.ps (notes_left annotations.entry)) }
+        (λ c. c.now) claim.entry) by.ps (tal_notes_left annotations.entry)) }
 {
     for note in annotations {
         push_counted(alloc, notes, note, by, claim)?;
@@ -87,32 +85,67 @@ fn push_all_counted(
     Ok(())
 }
 
-/// Puts the annotations of the data record at hand, where there is one, behind `notes`, as the view has
-/// them; the data records before it have `before` of them.
-///
-/// The error is want of memory.
-#[tactic(auto, using(crate::proofs::walk::PassFacts::gathered_here, crate::proofs::walk::PassFacts::gathered_nothing, crate::proofs::walk::PassFacts::gathered_none))]
-pub(crate) fn gather(
+/// The annotations of a file that count, while its data records come.
+#[derive(Drop)]
+pub(crate) struct Gathering<'a> {
+    /// Where memory for them is taken.
     alloc: Global,
-    reader: &FileReader,
-    before: u32,
-    view: View<'_>,
-    notes: &mut Vec<Note>,
-) -> Result<(), AllocError>
-    requires before { is_current reader.now.status ≡ true → reader.now.notes ≡ before + length (notes_in reader.now.head reader.now.current) }
-    requires near { unsigned_abs (view.moved).ps < 2 ^ 80 }
-    ensures start { OnOk result (is_current reader.now.status ≡ true → unsigned_abs (file_start reader.now.head) < 2 ^ 39 * 10 ^ 12) }
-    ensures gathered { OnOk result (map note_value notes.new.items ≡ map note_value notes.old.items
-        ++ gathered_in (claim_of view.entry) (view.entry.moved).ps reader.now) }
-{
-    if !reader.has_current() {
-        return Ok(());
+    pub notes: Vec<Note>,
+    view: View<'a>,
+    /// By how much they are later than the file has them.
+    by: Offset,
+    /// Whether there was memory for all of them.
+    pub whole: bool,
+    ghost near: { unsigned_abs by.ps < 2 ^ 81 },
+}
+
+impl<'a> Gathering<'a> {
+    /// More annotations of the file that is read, as the view has them, behind these.
+    pub(crate) fn new(
+        alloc: Global,
+        notes: Vec<Note>,
+        reader: &FileReader,
+        view: View<'a>,
+    ) -> Gathering<'a>
+        requires near { unsigned_abs (view.moved).ps < 2 ^ 80 }
+        ensures start { unsigned_abs (file_start reader.now.head) < 2 ^ 39 * 10 ^ 12 }
+        ensures notes { result.notes ≡ notes }
+        ensures view { result.view ≡ view.entry }
+        ensures by { result.by.ps ≡ file_start reader.now.head +ℤ view.entry.moved.ps }
+        ensures whole { result.whole ≡ true }
+    {
+        let by = Offset {
+            ps: file_start_ps(reader.header()) + view.moved.ps,
+        };
+        Gathering {
+            alloc,
+            notes,
+            view,
+            by,
+            whole: true,
+        }
     }
-    let by = Offset {
-        ps: file_start_ps(reader.header()) + view.moved.ps,
-    };
-    if reader.note_count() == before {
-        return Ok(());
+}
+
+impl<'a> NoteKeeper for Gathering<'a> {
+    ghost use Rattle.edf_check.specs.walk.Keepers.{GotCounted, counted_none, counted_both};
+
+    ghost got = { GotCounted };
+
+    fn keep(&mut self, notes: TalNotes<'_>) {
+        if self.whole {
+            let kept = push_all_counted(
+                self.alloc,
+                &mut self.notes,
+                notes,
+                self.by,
+                self.view.claim,
+            );
+            self.whole = kept.is_ok();
+        }
     }
-    push_all_counted(alloc, notes, reader.annotations(), by, view.claim)
+
+    ghost got_none = { counted_none };
+
+    ghost got_both = { counted_both };
 }

@@ -16,7 +16,7 @@ ghost use Rattle.edf_check.specs.walk.Shown.{ends_at, IsGoing, IsAhead, Reaches}
 ghost use Rattle.edf_check.specs.walk.Readings.{IsAt, IsThere, Moves, Follows};
 
 use crate::walk::clock::start_ps_of;
-use crate::walk::gather::{View, gather};
+use crate::walk::gather::{Gathering, View};
 use crate::walk::offset::Offset;
 use crate::walk::time::{Time, Window};
 use edf_fields::fault::Fault;
@@ -24,9 +24,11 @@ use edf_fields::source::Source;
 use edf_header::stop::Stop;
 use edf_refusal::side::Side;
 use edf_refusal::stop::CheckStop;
+use edf_stream::note_keeper::{KeepsNone, NoteKeeper};
 use edf_stream::notes::Note;
 use edf_stream::reader::FileReader;
 use std::alloc::Global;
+use std::mem;
 
 /// A file while it is read, and those of its annotations that have come so far.
 #[derive(Drop)]
@@ -35,10 +37,12 @@ pub(crate) struct Reading {
     pub notes: Vec<Note>,
 }
 
-/// Reads the next data record, and answers the file's fault where it has one there.
+/// Reads the next data record, and answers the file's fault where it has one there. The annotations of the data
+/// record go to the keeper.
 ///
 /// The error is a failure of the source.
-fn go_on<S: Source>(
+fn go_on<S: Source, K: NoteKeeper>(
+    keeper: &mut K,
     reader: &mut FileReader,
     source: &mut S,
     side: Side,
@@ -58,10 +62,12 @@ fn go_on<S: Source>(
     ensures fault { IfOk result (λ found. IfSome found (λ fault. OfFile (S.is_honest source.old) (StandsIn reader.old (S.left source.old))
         (λ file. body_fault file reader.old.head ≡ Some fault))) }
     ensures failures { OnOk result (S.failures source.new ≡ S.failures source.old) }
+    ensures kept { IfOk result (λ found. IfNone found (is_current reader.new.status ≡ true → K.got keeper.old (notes_in reader.new.head reader.new.current) keeper.new)) }
+    ensures none { IfOk result (λ found. IfNone found (is_current reader.new.status ≡ false → keeper.new ≡ keeper.old)) }
     ensures stop { IfErr result (SideStops side (Rises (S.failures source.old) (S.failures source.new))
         (S.failures source.new ≡ S.failures source.old)) }
 {
-    match reader.next(source) {
+    match reader.next_with(source, keeper) {
         Ok(_) => Ok(None),
         Err(Stop::Fault(fault)) => Ok(Some(fault)),
         Err(Stop::ReadFailed) => Err(CheckStop::ReadFailed(side)),
@@ -88,7 +94,7 @@ pub(crate) fn finish<S: Source>(
         (S.failures source.new ≡ S.failures source.old)) }
 {
     while reader.has_current() {
-        match go_on(reader, source, side) {
+        match go_on(&mut KeepsNone, reader, source, side) {
             Ok(None) => {}
             Ok(Some(fault)) => return Ok(Some(fault)),
             Err(stop) => return Err(stop),
@@ -114,7 +120,7 @@ pub(crate) fn read_out<S: Source>(
     ensures stop { IfErr result (SideStops side (Rises (S.failures source.old) (S.failures source.new))
         (S.failures source.new ≡ S.failures source.old)) }
 {
-    match go_on(reader, source, side) {
+    match go_on(&mut KeepsNone, reader, source, side) {
         Ok(None) => match finish(reader, source, side) {
             Ok(found) => Ok(found),
             Err(stop) => Err(stop),
@@ -157,13 +163,17 @@ fn gather_next<S: Source>(
     ensures stop { IfErr result (SideStops side (Rises (S.failures source.old) (S.failures source.new))
         (S.failures source.new ≡ S.failures source.old)) }
 {
-    let before = reading.reader.note_count();
-    match go_on(&mut reading.reader, source, side) {
-        Ok(None) => match gather(alloc, &reading.reader, before, view, &mut reading.notes) {
-            Ok(()) => Ok(None),
-            Err(_) => Err(CheckStop::OutOfMemory),
-        },
-        Ok(Some(fault)) => Ok(Some(fault)),
+    let notes = mem::replace(&mut reading.notes, Vec::new(alloc));
+    let mut gathering = Gathering::new(alloc, notes, &reading.reader, view);
+    match go_on(&mut gathering, &mut reading.reader, source, side) {
+        Ok(found) => {
+            reading.notes = gathering.notes;
+            if gathering.whole {
+                Ok(found)
+            } else {
+                Err(CheckStop::OutOfMemory)
+            }
+        }
         Err(stop) => Err(stop),
     }
 }

@@ -4,8 +4,8 @@ use Rattle.edf_report.specs.NotesTexts.{note_lines_before}
 use Rattle.edf_report.proofs.notes.put_records.Given as goal
 
 -- the annotations of the data records so far are written
-abbrev pub invariant-loop-room : goal.invariant-loop-room
-invariant-loop-room g l = record {
+abbrev pub invariant-loop-lines : goal.invariant-loop-lines
+invariant-loop-lines g l = record {
   going : IsOpen (l.reader).status;
   head : (l.reader).head ≡ (l.initial.reader).head;
   read : g.S.Source.failures l.source ≡ g.S.Source.failures l.fn.source;
@@ -17,5 +17,5 @@ invariant-loop-room g l = record {
       → g.K.Sink.held l.sink ≡ g.K.Sink.held l.fn.sink ++ note_lines_before file (l.initial.reader).head (l.reader).read;
 }
 
-abbrev pub decreases-loop-room : goal.decreases-loop-room
-decreases-loop-room g l = ((l.reader).head).records - (l.reader).read
+abbrev pub decreases-loop-lines : goal.decreases-loop-lines
+decreases-loop-lines g l = ((l.reader).head).records - (l.reader).read

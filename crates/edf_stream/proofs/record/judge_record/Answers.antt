@@ -6,7 +6,7 @@ use Rattle.edf_stream.proofs.NoteFacts.{too_many}
 use Rattle.edf_stream.proofs.record.judge_record.Goals as goal
 
 pub returns-in-Err-clause-judged : goal.returns-in-Err-clause-judged
-returns-in-Err-clause-judged c =
+returns-in-Err-clause-judged g c =
     let h = c.args.header.now in
     let bytes = c.args.bytes.now in
     let texts = length (notes_of_lanes (annotation_lanes h.signals bytes)) in

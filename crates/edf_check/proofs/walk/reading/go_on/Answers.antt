@@ -6,6 +6,6 @@ use Rattle.edf_check.proofs.walk.reading.go_on.Goals as goal
 pub returns-in-Ok-clause-comes : goal.returns-in-Ok-clause-comes
 returns-in-Ok-clause-comes g c = λ h file s.
     let more = c.in-Ok.field-0 in
-    let e = answered_current (c.next.new.self).status more (c.next.ensures.status ∙ ap status_after c.in-Ok.is) in
-    let P : Bool → Type 0 = λ b. Comes b c.args.reader.now c.next.new.self (g.S.Source.left c.next.new.source) file in
+    let e = answered_current (c.next_with.new.self).status more (c.next_with.ensures.status ∙ ap status_after c.in-Ok.is) in
+    let P : Bool → Type 0 = λ b. Comes b c.args.reader.now c.next_with.new.self (g.S.Source.left c.next_with.new.source) file in
     subst P (sym e) (c.in-Ok.ensures.comes c.requires.open h file s)

@@ -8,7 +8,7 @@ use Rattle.edf_stream.specs.Readers.{Reader, HasPassed, StandsAt, StandsIn}
 use Rattle.edf_stream.specs.Steps.{GoesOn}
 use Rattle.edf_stream.proofs.RecordFacts.{written_over}
 use Rattle.edf_stream.proofs.StopFacts.{stops-weaker}
-use Rattle.edf_stream.proofs.reader.FileReader.next.Goals as goal
+use Rattle.edf_stream.proofs.reader.FileReader.next_with.Goals as goal
 
 pub returns-in-Ok-Some-clause-comes : goal.returns-in-Ok-Some-clause-comes
 returns-in-Ok-Some-clause-comes g c = λ going honest file stands.
