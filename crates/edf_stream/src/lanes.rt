@@ -1,6 +1,6 @@
 //! The lanes of the annotation signals in a data record. EDF+ (2003), "The 'EDF Annotations' signal".
 
-ghost use Rattle.std.specs.Prelude.{◌≡◌, ◌+◌, ◌-◌, ◌*◌, ◌≤◌, ◌<◌, ◌^◌, min, length, drop, [], None, Some, MatchResult, IfSome, IfOk, OnOk, Option, unsigned_abs};
+ghost use Rattle.std.specs.Prelude.{◌≡◌, ◌+◌, ◌-◌, ◌*◌, ◌≤◌, ◌<◌, ◌^◌, min, length, drop, [], None, Some, MatchResult, IfSome, IfOk, Option, unsigned_abs};
 ghost use Rattle.edf_header.specs.Heads.{record_bytes};
 ghost use Rattle.edf_tal.specs.Views.{tal_view, items_left, start_of};
 ghost use Rattle.edf_tal.specs.Reading.{items_of};
@@ -69,19 +69,26 @@ fn text_count(tal: &Tal<'_>) -> u32
     tal.text_count().min(u32::MAX as usize) as u32
 }
 
+/// The most texts of a data record that are given to a keeper: as many annotations as a file may have, and the text
+/// that keeps the time.
+const MOST_TEXTS: u32 = 1_000_001;
+
 /// Gives the annotations of a TAL to the keeper, and answers how many texts there are with its own behind `count`
-/// others of the data record, up to the most that fit.
+/// others of the data record, up to the most that fit. Where there are more than a file may have, it gives none.
 fn keep_tal<K: NoteKeeper>(keeper: &mut K, tal: &Tal<'_>, count: u32) -> u32
     ensures texts { result ≡ min (count + length (notes_of_tal (tal_view tal.now))) (2 ^ 32 - 1) }
-    ensures kept { K.got keeper.old (behind_time count (notes_of_tal (tal_view tal.now))) keeper.new }
+    ensures kept { result ≤ 1000001 → K.got keeper.old (behind_time count (notes_of_tal (tal_view tal.now))) keeper.new }
 {
-    let mut notes = TalNotes::new(tal);
-    if count == 0 {
-        // the first text keeps the time
-        notes.next();
+    let texts = count.saturating_add(text_count(tal));
+    if texts <= MOST_TEXTS {
+        let mut notes = TalNotes::new(tal);
+        if count == 0 {
+            // the first text keeps the time
+            notes.next();
+        }
+        keeper.keep(notes);
     }
-    keeper.keep(notes);
-    count.saturating_add(text_count(tal))
+    texts
 }
 
 /// Gives the annotations in the TALs that are left of a lane to the keeper, and answers how many texts there are
@@ -91,7 +98,7 @@ fn rest_texts<K: NoteKeeper>(keeper: &mut K, tals: Tals<'_>, count: u32) -> Resu
     ensures counted { MatchResult result
         (λ n. (cause_of (items_left tals.entry) ≡ None) × (n ≡ min (count + length (notes_of_items (items_left tals.entry))) (2 ^ 32 - 1)))
         (λ cause. cause_of (items_left tals.entry) ≡ Some cause) }
-    ensures kept { OnOk result (K.got keeper.old (behind_time count (notes_of_items (items_left tals.entry))) keeper.new) }
+    ensures kept { IfOk result (λ n. n ≤ 1000001 → K.got keeper.old (behind_time count (notes_of_items (items_left tals.entry))) keeper.new) }
 {
     let mut texts = count;
     for item in tals {
@@ -118,7 +125,7 @@ fn said_by_tals<K: NoteKeeper>(keeper: &mut K, lane: &[u8], before: u32) -> Resu
         × (said.texts ≡ min (before + length (notes_of_lane lane.now)) (2 ^ 32 - 1)))
         (λ cause. cause_of (items_of lane.now) ≡ Some cause) }
     ensures small { IfOk result (λ said. IfOk said.start (λ v. unsigned_abs v < 10 ^ 21)) }
-    ensures kept { OnOk result (K.got keeper.old (behind_time before (notes_of_lane lane.now)) keeper.new) }
+    ensures kept { IfOk result (λ said. said.texts ≤ 1000001 → K.got keeper.old (behind_time before (notes_of_lane lane.now)) keeper.new) }
 {
     let mut tals = Tals::new(lane);
     let first = tals.next();
@@ -139,7 +146,7 @@ fn said_by_lane<K: NoteKeeper>(keeper: &mut K, lane: &[u8], before: u32) -> Resu
         × (said.texts ≡ min (before + length (notes_of_lane lane.now)) (2 ^ 32 - 1)))
         (λ cause. cause_of (items_of lane.now) ≡ Some cause) }
     ensures small { IfOk result (λ said. IfOk said.start (λ v. unsigned_abs v < 10 ^ 21)) }
-    ensures kept { OnOk result (K.got keeper.old (behind_time before (notes_of_lane lane.now)) keeper.new) }
+    ensures kept { IfOk result (λ said. said.texts ≤ 1000001 → K.got keeper.old (behind_time before (notes_of_lane lane.now)) keeper.new) }
 {
     if before > 0 {
         return said_by_tals(keeper, lane, before);
@@ -202,7 +209,7 @@ fn said_at_places<K: NoteKeeper>(
 ) -> Result<Option<Said>, TalCause>
     ensures said { IsSaidBy (placed_lanes places.now bytes.now) result }
     ensures small { IfOk result (λ found. IfSome found (λ s. IfOk s.start (λ v. unsigned_abs v < 10 ^ 21))) }
-    ensures kept { OnOk result (K.got keeper.old (drop 1 (notes_of_lanes (placed_lanes places.now bytes.now))) keeper.new) }
+    ensures kept { IfOk result (λ found. texts_said found ≤ 1000001 → K.got keeper.old (drop 1 (notes_of_lanes (placed_lanes places.now bytes.now))) keeper.new) }
 {
     let mut found = None;
     for place in places {
@@ -221,7 +228,8 @@ pub(crate) fn said_by_lanes<K: NoteKeeper>(
 ) -> Result<Option<Said>, TalCause>
     ensures said { IsSaidBy (annotation_lanes header.now.signals bytes.now) result }
     ensures small { IfOk result (λ found. IfSome found (λ s. IfOk s.start (λ v. unsigned_abs v < 10 ^ 21))) }
-    ensures kept { OnOk result (K.got keeper.old (drop 1 (notes_of_lanes (annotation_lanes header.now.signals bytes.now))) keeper.new) }
+    ensures kept { IfOk result (λ found. texts_said found ≤ 1000001 →
+        K.got keeper.old (drop 1 (notes_of_lanes (annotation_lanes header.now.signals bytes.now))) keeper.new) }
 {
     said_at_places(keeper, header.annotation_places(), bytes)
 }

@@ -18,10 +18,10 @@ pub trait NoteKeeper {
     fn keep(&mut self, notes: TalNotes<'_>)
         ensures { got self.old (tal_notes_left notes.entry) self.new };
 
-    /// Where it got none, it is as it was.
+    /// As it is, it has got none.
     ghost got_none: { (k : Self) → got k [] k };
 
-    /// What it got by turns, it got together.
+    /// What it got one after the other, it got together.
     ghost got_both: { (a b c : Self) (xs ys : List NoteValue) → got a xs b → got b ys c → got a (xs ++ ys) c };
 }
 

@@ -114,9 +114,10 @@ impl FileReader {
         self.next_with(source, &mut KeepsNone)
     }
 
-    /// As `next`, and gives the annotations of the data record to the keeper while it judges them, so that the
-    /// record is read once: those that `annotations` would give, with onsets as the file has them. At a fault it
-    /// has given some of those that stand before it in the data record.
+    /// As `next`, and gives the annotations of the data record to the keeper while it judges them: those that
+    /// `annotations` would give, with onsets as the file has them. Where it answers an error, it may have given some
+    /// of them, and nothing is said of which; a data record with more than a file may have has given no more than
+    /// that.
     pub fn next_with<S: Source, K: NoteKeeper>(
         &mut self,
         source: &mut S,

@@ -55,7 +55,7 @@ fn judge_lanes<K: NoteKeeper>(
         (λ f. lanes_fault k (cause_of_lanes (annotation_lanes header.now.signals bytes.now)) ≡ Some f) }
     ensures small { IfOk result (λ found. IfSome found (λ s. IfOk s.start (λ v. unsigned_abs v < 10 ^ 21))) }
     ensures place { IfErr result (λ f. f.place ≡ AtRecord k) }
-    ensures kept { OnOk result (K.got keeper.old (notes_in header.now bytes.now) keeper.new) }
+    ensures kept { IfOk result (λ found. texts_said found ≤ 1000001 → K.got keeper.old (notes_in header.now bytes.now) keeper.new) }
 {
     match said_by_lanes(keeper, header, bytes) {
         Ok(found) => Ok(found),
@@ -109,7 +109,7 @@ fn judge_timed<K: NoteKeeper>(
         (λ f. first (timed_faults header.now k bytes.now) ≡ Some f) }
     ensures small { IfOk result (λ timed. unsigned_abs timed.start.ps < 10 ^ 21) }
     ensures place { IfErr result (λ f. f.place ≡ AtRecord k) }
-    ensures kept { OnOk result (K.got keeper.old (notes_in header.now bytes.now) keeper.new) }
+    ensures kept { IfOk result (λ timed. timed.texts ≤ 1000001 → K.got keeper.old (notes_in header.now bytes.now) keeper.new) }
 {
     if let Some(ps) = lone_time(header, bytes) {
         return Ok(Timed {

@@ -124,15 +124,6 @@ gathered_here claim ps r e = rw e (ap (filter (λ n. counts_by claim n.onset n.t
 pub gathered_nothing : (claim : Option Terms) (ps : ℤ) (r : Reader) → is_current r.status ≡ false → gathered_in claim ps r ≡ []
 gathered_nothing claim ps r e = rw e refl
 
--- a data record without annotations adds none
-pub gathered_none : (claim : Option Terms) (ps : ℤ) (r : Reader) (n : ℕ) → is_current r.status ≡ true → r.notes ≡ n + length (notes_in r.head r.current) → r.notes ≡ n → gathered_in claim ps r ≡ []
-gathered_none claim ps r n e count same =
-    gathered_here claim ps r e ∙ ap (gathered_of claim (file_start r.head +ℤ ps)) (no-notes (notes_in r.head r.current) (omega (arith, count, same)))
-  where
-    no-notes : (notes : List NoteValue) → length notes ≡ 0 → notes ≡ []
-    no-notes [] z = refl
-    no-notes (x ∷ xs) z = absurd (omega (arith, z))
-
 -- the annotations of one data record more
 gathered_next : (s : Status) (old new : Reader) (left file : List ℕ) (claim : Option Terms) (ps : ℤ) (notes notes' : List NoteValue) → IsGoing s → new.status ≡ s → new.head ≡ old.head
     → (is_current s ≡ true → (new.read ≡ old.read + 1) × (new.read ≤ (new.head).records)) → Comes (is_current s) old new left file

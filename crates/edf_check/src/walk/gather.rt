@@ -85,7 +85,7 @@ fn push_all_counted(
     Ok(())
 }
 
-/// The annotations of a file that count, while its data records come.
+/// Keeps the annotations of one data record more that count, as a view has them.
 #[derive(Drop)]
 pub(crate) struct Gathering<'a> {
     /// Where memory for them is taken.
@@ -100,7 +100,7 @@ pub(crate) struct Gathering<'a> {
 }
 
 impl<'a> Gathering<'a> {
-    /// More annotations of the file that is read, as the view has them, behind these.
+    /// Keeps those of a data record of the file that is read, as the view has them, behind these.
     pub(crate) fn new(
         alloc: Global,
         notes: Vec<Note>,

@@ -21,9 +21,9 @@ loop-item-preserved g c =
       count = parts-counted c.loop-item.texts texts tal rest c.keep_tal-texts.ensures.texts
           ∙ ap (λ all. min (c.loop-item.texts + length all) (2 ^ 32 - 1)) (sym notes) ∙ before.count;
       few = let n = c.keep_tal-texts.ensures.texts in omega (arith, n);
-      kept = λ last behind. before.kept last
+      kept = λ fits last behind. before.kept (let n = c.keep_tal-texts.ensures.texts in omega (arith, n, fits)) last
           (subst (λ all. g.K.NoteKeeper.got c.loop-item.keeper all last) (sym (ap (behind_time c.loop-item.texts) notes ∙ parts-behind c.loop-item.texts texts tal rest c.keep_tal-texts.ensures.texts))
-          (g.met.K.NoteKeeper.got_both c.loop-item.keeper c.keep_tal-texts.new.keeper last (behind_time c.loop-item.texts tal) (behind_time texts rest) c.keep_tal-texts.ensures.kept behind));
+          (g.met.K.NoteKeeper.got_both c.loop-item.keeper c.keep_tal-texts.new.keeper last (behind_time c.loop-item.texts tal) (behind_time texts rest) (c.keep_tal-texts.ensures.kept fits) behind));
     }
 
 pub returns-clause-counted : goal.returns-clause-counted
@@ -35,8 +35,8 @@ returns-clause-counted g c =
     (sym c.loop-item.invariant.cause ∙ ap cause_of none, omega (arith, empty, count, few))
 
 pub returns-clause-kept : goal.returns-clause-kept
-returns-clause-kept g c =
+returns-clause-kept g c = λ fits.
     let none : items_left c.loop-item.item-iterator ≡ [] = c.in-None.ensures.steps.0 in
     let last = c.loop-item.keeper in
     let empty = ap (λ items. behind_time c.loop-item.texts (notes_of_items items)) none ∙ none-behind c.loop-item.texts in
-    c.loop-item.invariant.kept last (subst (λ notes. g.K.NoteKeeper.got last notes last) (sym empty) (g.met.K.NoteKeeper.got_none last))
+    c.loop-item.invariant.kept fits last (subst (λ notes. g.K.NoteKeeper.got last notes last) (sym empty) (g.met.K.NoteKeeper.got_none last))

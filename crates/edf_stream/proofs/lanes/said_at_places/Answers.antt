@@ -1,4 +1,4 @@
-use Rattle.std.proofs.Common.{◌≡◌, ◌+◌, ◌-◌, ◌^◌, ◌∷◌, ◌++◌, min, length, map, drop, None, Some, Ok, ap, sym, ◌∙◌, subst, refl, arith}
+use Rattle.std.proofs.Common.{◌≡◌, ◌≤◌, ◌+◌, ◌-◌, ◌^◌, ◌∷◌, ◌++◌, min, length, map, drop, None, Some, Ok, ap, sym, ◌∙◌, subst, refl, arith}
 use Rattle.std.proofs.lemmas.List.{drop_more}
 use Rattle.edf_stream.specs.Keeping.{behind_time}
 use Rattle.edf_stream.specs.NotesReading.{notes_of_lane, notes_of_lanes}
@@ -16,7 +16,7 @@ loop-place-init g c = record {
   count = omega arith;
   few = omega arith;
   small = tt;
-  kept = λ last k. k;
+  kept = λ fits last k. k;
 }
 
 pub loop-place-preserved : goal.loop-place-preserved
@@ -34,8 +34,9 @@ loop-place-preserved g c =
     let texts = c.said_with.result.texts in
     let before = texts_said old.found in
     let counted : texts ≡ min (before + length (notes_of_lane lane)) (2 ^ 32 - 1) = c.said_with.ensures.texts ∙ said.2 ∙ ap (λ n. min (n + length (notes_of_lane lane)) (2 ^ 32 - 1)) c.texts_of.ensures in
-    let kept : g.K.NoteKeeper.got old.keeper (behind_time before (notes_of_lane lane)) c.said_by_lane.new.keeper =
-    subst (λ n. g.K.NoteKeeper.got old.keeper (behind_time n (notes_of_lane lane)) c.said_by_lane.new.keeper) c.texts_of.ensures c.in_ok-said.ensures.kept in
+    let kept : texts ≤ 1000001 → g.K.NoteKeeper.got old.keeper (behind_time before (notes_of_lane lane)) c.said_by_lane.new.keeper =
+    λ fits. subst (λ n. g.K.NoteKeeper.got old.keeper (behind_time n (notes_of_lane lane)) c.said_by_lane.new.keeper) c.texts_of.ensures
+    (c.in_ok-said.ensures.kept (let e = c.said_with.ensures.texts in omega (arith, e, fits))) in
     record {
       cause = sym (ap (λ cause. first (cause ∷ map (λ x. cause_of (items_of x)) rest)) said.0) ∙ sym (ap cause_of_lanes step) ∙ had.cause;
       start = start-with old.found lane rest c.said_with.result c.in_ok-said.said c.said_with.ensures.first c.said_with.ensures.later said.1
@@ -44,7 +45,7 @@ loop-place-preserved g c =
           ∙ ap (λ all. min (before + length all) (2 ^ 32 - 1)) (sym notes) ∙ had.count;
       few = omega (arith, counted);
       small = c.said_with.ensures.small;
-      kept = λ last behind. had.kept last
+      kept = λ fits last behind. had.kept (omega (arith, counted, fits)) last
           (subst (λ all. g.K.NoteKeeper.got old.keeper all last) (sym (ap (behind_time before) notes ∙ parts-behind before texts (notes_of_lane lane) (notes_of_lanes rest) counted))
-          (g.met.K.NoteKeeper.got_both old.keeper c.said_by_lane.new.keeper last (behind_time before (notes_of_lane lane)) (behind_time texts (notes_of_lanes rest)) kept behind));
+          (g.met.K.NoteKeeper.got_both old.keeper c.said_by_lane.new.keeper last (behind_time before (notes_of_lane lane)) (behind_time texts (notes_of_lanes rest)) (kept fits) behind));
     }

@@ -1,6 +1,6 @@
-use Rattle.std.proofs.Common.{ap, ◌∙◌, subst, drop, OnOk}
+use Rattle.std.proofs.Common.{◌≤◌, ap, ◌∙◌, subst, drop, IfOk}
 use Rattle.edf_stream.specs.NotesReading.{notes_of_lanes}
-use Rattle.edf_stream.specs.Views.{placed_lanes, IsSaidBy}
+use Rattle.edf_stream.specs.Views.{placed_lanes, texts_said, IsSaidBy}
 use Rattle.edf_stream.proofs.SignalFacts.{lanes_placed}
 use Rattle.edf_stream.proofs.lanes.said_by_lanes.Goals as goal
 
@@ -12,4 +12,5 @@ returns-clause-said g c =
 pub returns-clause-kept : goal.returns-clause-kept
 returns-clause-kept g c =
     let e = ap (λ places. placed_lanes places c.args.bytes.now) c.annotation_places.ensures ∙ lanes_placed c.args.header.now.signals c.args.bytes.now in
-    subst (λ lanes. OnOk c.said_at_places.result (g.K.NoteKeeper.got c.args.keeper.now (drop 1 (notes_of_lanes lanes)) c.said_at_places.new.keeper)) e c.said_at_places.ensures.kept
+    subst (λ lanes. IfOk c.said_at_places.result (λ found. texts_said found ≤ 1000001 → g.K.NoteKeeper.got c.args.keeper.now (drop 1 (notes_of_lanes lanes)) c.said_at_places.new.keeper)) e
+    c.said_at_places.ensures.kept
