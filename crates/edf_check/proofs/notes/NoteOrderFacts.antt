@@ -1,10 +1,12 @@
 -- The comparison of two lists of annotations in order is exact.
-use Rattle.std.proofs.Common.{Ordering, Less, Equal, Greater, ◌≡◌, ◌≢◌, ℕ, suc, ◌≤◌, ◌<◌, ◌+◌, ◌⊎◌, Bool, true, false, cond, List, [], ◌∷◌, get_or, length, map, Option, Some, None, MatchOption, inl, inr, ⊎_elim, refl, sym, ap, ◌∙◌, subst, arith}
+use Rattle.std.proofs.Common.{Ordering, Less, Equal, Greater, ◌≡◌, ◌≢◌, ℕ, suc, ◌≤◌, ◌<◌, ◌+◌, ◌-◌, ◌⊎◌, Bool, true, false, cond, List, [], ◌∷◌, ◌++◌, get_or, length, take, drop, map, Option, Some, None, MatchOption, inl, inr, ⊎_elim, refl, sym, ap, ◌∙◌, subst, length-drop, arith}
 use Rattle.std.specs.List.Sorted.{IsSorted, IsPermutation}
-use Rattle.std.specs.Ordering.{is_eq, is_lt, ordering_reverse}
+use Rattle.std.specs.Ordering.{is_eq, is_lt, is_ne, ordering_reverse}
 use Rattle.std.proofs.lemmas.Cmp.{tied_itself}
 use Rattle.std.proofs.lemmas.List.Sorted.{sum_by-IsPermutation, IsPermutation-map, sorted_far, ranks_by}
-use Rattle.std.proofs.lemmas.List.Sums.{sum_by-cons}
+use Rattle.std.proofs.Math.Seq.{take-suc, take-length}
+use Rattle.std.proofs.lemmas.List.{map-append, take-append-drop}
+use Rattle.std.proofs.lemmas.List.Sums.{sum_by-cons, sum_by-append}
 use Rattle.edf_fields.specs.Lists.{Has}
 use Rattle.edf_fields.proofs.ForCallers.{map-has, at-has, get-index, get-within}
 use Rattle.edf_stream.specs.declared.notes.Note.{Note}
@@ -14,7 +16,7 @@ use Rattle.edf_verdict.specs.declared.verdict.AnnotationMismatch.{AnnotationMism
 use Rattle.edf_verdict.specs.declared.verdict.AnnotationMismatch.TheVariants.{Missing, Extra}
 use Rattle.edf_check.specs.Annotations.{note_cmp, times, IsMore, IsFirstNote, SameNotes}
 use Rattle.edf_check.specs.notes.NoteOrder.{AreInOrder, NoteMismatch, by_order, first_unequal_of}
-use Rattle.edf_check.proofs.notes.NoteFacts.{note-total}
+use Rattle.edf_check.proofs.notes.NoteFacts.{note-total, note-exact}
 
 abbrev pub once : Bool → ℕ
 once b = cond b 1 0
@@ -162,3 +164,56 @@ pub extra_first : (kept exported : List Note) (note : Note) → note ≡ get_or 
 extra_first [] [] note is some none = absurd (omega (arith, some))
 extra_first [] (y ∷ ys) note is some none = ap (λ (n : Note). first_unequal_of [] (note_value n ∷ [])) is
 extra_first (x ∷ xs) exported note is some none = absurd (omega (arith, none))
+
+-- ---- those at the front that are the same
+
+times-append : (xs ys : List NoteValue) (n : NoteValue) → times (xs ++ ys) n ≡ times xs n + times ys n
+times-append xs ys n = sum_by-append (λ other. once (is_eq (note_cmp other n))) xs ys
+
+in-two : (xs : List Note) (i : ℕ) → map note_value xs ≡ map note_value (take i xs) ++ map note_value (drop i xs)
+in-two xs i = ap (map note_value) (sym (take-append-drop i xs)) ∙ map-append note_value (take i xs) (drop i xs)
+
+-- one more that is the same
+pub same-more : (xs ys : List Note) (i : ℕ) (x y : Note) → i < length xs → i < length ys → map note_value (take i xs) ≡ map note_value (take i ys) → note_cmp (note_value (get_or xs i x)) (note_value (get_or ys i y)) ≡ Equal
+    → map note_value (take (i + 1) xs) ≡ map note_value (take (i + 1) ys)
+same-more xs ys i x y low high same e =
+    let next : (zs : List Note) (z : Note) → i < length zs → map note_value (take (i + 1) zs) ≡ map note_value (take i zs) ++ note_value (get_or zs i z) ∷ [] =
+    λ zs z lt. ap (λ n. map note_value (take n zs)) (let s : i + 1 ≡ suc i = omega arith in s) ∙ ap (map note_value) (take-suc zs i z lt) ∙ map-append note_value (take i zs) (get_or zs i z ∷ []) in
+    next xs x low ∙ ap (λ front. front ++ note_value (get_or xs i x) ∷ []) same
+    ∙ ap (λ last. map note_value (take i ys) ++ last ∷ []) (note-exact (note_value (get_or xs i x)) (note_value (get_or ys i y)) e) ∙ sym (next ys y high)
+
+-- what stands behind them decides
+pub behind-same : (xs ys : List Note) (i : ℕ) (o : Option NoteMismatch) → map note_value (take i xs) ≡ map note_value (take i ys) → Answer (map note_value (drop i xs)) (map note_value (drop i ys)) o
+    → Answer (map note_value xs) (map note_value ys) o
+behind-same xs ys i o same h =
+    let front = map note_value (take i xs) in
+    let a = map note_value (drop i xs) in
+    let b = map note_value (drop i ys) in
+    subst (λ zs. Answer zs (map note_value ys) o) (sym (in-two xs i))
+    (subst (λ zs. Answer (front ++ a) zs o) (sym (in-two ys i ∙ ap (λ f. f ++ b) (sym same))) (both front a b o h))
+  where
+    both : (front a b : List NoteValue) (o : Option NoteMismatch) → Answer a b o → Answer (front ++ a) (front ++ b) o
+    both front a b None h = λ n. times-append front a n ∙ ap (λ z. times front n + z) (h n) ∙ sym (times-append front b n)
+    both front a b (Some d) h = record {
+      differ = more-with d.mismatch (times a d.note) (times b d.note) (times front d.note) (times (front ++ a) d.note) (times (front ++ b) d.note) (times-append front a d.note) (times-append front b d.note) h.differ;
+      least = λ n l. times-append front a n ∙ ap (λ z. times front n + z) (h.least n l) ∙ sym (times-append front b n);
+    }
+
+whole : (xs : List Note) (i : ℕ) → take (length xs - i) (drop i xs) ≡ drop i xs
+whole xs i = ap (λ n. take n (drop i xs)) (sym (length-drop i xs)) ∙ take-length (drop i xs)
+
+-- what is found behind them, in order
+pub found-behind : (kept exported a b c d sorted ordered : List Note) (i : ℕ) (o : Option NoteMismatch) → a ≡ kept → b ≡ exported → c ≡ sorted → d ≡ ordered
+    → map note_value (take i a) ≡ map note_value (take i b) → IsPermutation (drop i kept) (drop i sorted) → IsPermutation (drop i exported) (drop i ordered)
+    → Sorted (drop i sorted) → Sorted (drop i ordered) → o ≡ first_unequal_of (map note_value (take (length c - i) (drop i c))) (map note_value (take (length d - i) (drop i d)))
+    → Answer (map note_value kept) (map note_value exported) o
+found-behind kept exported a b c d sorted ordered i o ea eb ec ed same p q up on e =
+    let front = ap (λ xs. map note_value (take i xs)) (sym ea) ∙ same ∙ ap (λ xs. map note_value (take i xs)) eb in
+    let found = e ∙ ap (λ xs. first_unequal_of (map note_value xs) (map note_value (take (length d - i) (drop i d)))) (whole c i ∙ ap (drop i) ec)
+    ∙ ap (λ xs. first_unequal_of (map note_value (drop i sorted)) (map note_value xs)) (whole d i ∙ ap (drop i) ed) in
+    behind-same kept exported i o front (counted (drop i kept) (drop i sorted) (drop i exported) (drop i ordered) o p q up on found)
+
+pub not-apart : (o : Ordering) → is_ne o ≡ false → o ≡ Equal
+not-apart Less e = absurd (let f : true ≡ false = e in cc)
+not-apart Equal e = refl
+not-apart Greater e = absurd (let f : true ≡ false = e in cc)

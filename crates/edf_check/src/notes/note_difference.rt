@@ -1,6 +1,6 @@
 //! The first difference between the annotations that a claim keeps of an original and those of an export.
 
-ghost use Rattle.std.specs.Prelude.{◌≡◌, [], ◌∷◌, ◌⊎◌, map, length, option_map, IfOk, MatchOption};
+ghost use Rattle.std.specs.Prelude.{◌≡◌, ◌≤◌, [], ◌∷◌, ◌⊎◌, map, length, take, drop, option_map, IfOk, MatchOption};
 ghost use Rattle.std.specs.List.Sorted.{IsPermutation, IsSorted};
 ghost use Rattle.edf_stream.specs.Views.{note_value};
 ghost use Rattle.edf_check.specs.Annotations.{note_cmp, IsFirstNote, SameNotes};
@@ -24,12 +24,14 @@ pub struct NoteDifference {
     pub text: NoteText,
 }
 
-/// Puts annotations in order.
-fn sort_notes(notes: &mut Vec<Note>)
-    ensures same { IsPermutation notes.old.items notes.new.items }
-    ensures order { IsSorted (λ x y. note_cmp (note_value x) (note_value y)) notes.new.items }
+/// Puts annotations in order, from this place on.
+fn sort_notes(notes: &mut Vec<Note>, from: usize)
+    requires { from ≤ length notes.old.items }
+    ensures same { IsPermutation (drop from notes.old.items) (drop from notes.new.items) }
+    ensures order { IsSorted (λ x y. note_cmp (note_value x) (note_value y)) (drop from notes.new.items) }
+    ensures size { length notes.new.items ≡ length notes.old.items }
 {
-    notes.sort_unstable();
+    notes[from..].sort_unstable();
 }
 
 /// Which of two annotations is before the other.
@@ -37,6 +39,21 @@ fn order(x: &Note, y: &Note) -> Ordering
     ensures { result ≡ note_cmp (note_value x.now) (note_value y.now) }
 {
     x.cmp(y)
+}
+
+/// How many annotations at the front of two lists are the same, one by one.
+fn same_front(kept: &[Note], exported: &[Note]) -> usize
+    ensures kept { result ≤ length kept.now }
+    ensures exported { result ≤ length exported.now }
+    ensures same { map note_value (take result kept.now) ≡ map note_value (take result exported.now) }
+{
+    let both = kept.len().min(exported.len());
+    for i in 0..both {
+        if order(&kept[i], &exported[i]).is_ne() {
+            return i;
+        }
+    }
+    both
 }
 
 /// The annotation that two lists don't have equally often, where one of them at least has ended.
@@ -109,7 +126,8 @@ fn with_text(alloc: Global, unequal: Unequal<'_>) -> Result<NoteDifference, Allo
 /// none before any, then the bytes of the text, that doesn't stand equally often in both. None exactly
 /// where each stands equally often in both.
 ///
-/// Both lists are put in order. The error is want of memory.
+/// A writer mostly keeps the order of the annotations. So those at the front that are the same one by one are left out,
+/// and only what stands behind them is put in order. The error is want of memory.
 pub(crate) fn note_difference(
     alloc: Global,
     kept: &mut Vec<Note>,
@@ -119,9 +137,10 @@ pub(crate) fn note_difference(
         (SameNotes (map note_value kept.old.items) (map note_value exported.old.items))
         (λ d. IsFirstNote (map note_value kept.old.items) (map note_value exported.old.items) (note_mismatch d).mismatch (note_mismatch d).note)) }
 {
-    sort_notes(kept);
-    sort_notes(exported);
-    match first_unequal(kept, exported) {
+    let same = same_front(kept, exported);
+    sort_notes(kept, same);
+    sort_notes(exported, same);
+    match first_unequal(&kept[same..], &exported[same..]) {
         Some(unequal) => Ok(Some(with_text(alloc, unequal)?)),
         None => Ok(None),
     }
