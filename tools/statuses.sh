@@ -183,7 +183,7 @@ awk 'BEGIN {
 )
 judge_refusal 'edfclaim: claim refused: BadFormat' 'the deepest claim, with 4 MB of stack' $?
 
-# 3,000,000 annotations in one data record, of which no more are kept than a file may have
+# an export with 3,000,000 annotations in one data record, of which no more are kept than a file may have
 python3 -c '
 import sys
 sys.path.insert(0, "../../tools")
@@ -195,10 +195,10 @@ sys.stdout.buffer.write(file[:1280] + bytes(faults.RECORD - faults.LANE) + b"+0\
 ' >"$work/many.edf"
 (
     ulimit -v 200000
-    exec "$program" check "$work/many.edf" cut.edf cut.toml >"$work/out" 2>"$work/err"
+    exec "$program" check original.edf "$work/many.edf" cut.toml >"$work/out" 2>"$work/err"
 )
 status=$?
-echo 'NO 1 original fault: TooManyAnnotations at record 0' >"$work/line"
+echo 'NO 2 export fault: TooManyAnnotations at record 0' >"$work/line"
 [ "$status" -eq 1 ] && cmp -s "$work/out" "$work/line" && [ ! -s "$work/err" ]
 judge $? "3,000,000 annotations in 200 MB" "$status"
 
