@@ -3,7 +3,6 @@ pub mod FloorFacts
 pub mod DifferenceFacts
 pub mod EarliestFacts
 pub mod ColumnFacts
-pub mod BlockFacts
 pub mod StretchFacts
 pub mod FilterFacts
 pub mod CutFacts

@@ -14,6 +14,9 @@ use edf_fields::label::SignalLabel;
 use edf_fields::which::Which;
 use std::marker::Model;
 
+/// The most bytes that a claim's text may have.
+pub const MOST_BYTES: usize = 65_536;
+
 /// What an export keeps of its original, as a sleep centre claims it.
 #[derive(Debug, Drop)]
 pub struct Claim {

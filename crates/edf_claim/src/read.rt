@@ -10,7 +10,7 @@ ghost use Rattle.edf_claim.specs.Reading.{claim_fault, terms_of, channels_of, ke
 
 use crate::anonymous::anonymous;
 use crate::channels::channels;
-use crate::claim::Claim;
+use crate::claim::{Claim, MOST_BYTES};
 use crate::format::is_format_one;
 use crate::interval::Interval;
 use crate::keep::keep;
@@ -23,9 +23,6 @@ use edf_fields::label::SignalLabel;
 use edf_fields::which::Which;
 use std::alloc::Global;
 use toml::Table;
-
-/// The most bytes that a claim's text may have.
-const MOST_BYTES: usize = 65_536;
 
 /// The table of a text.
 fn read_table(alloc: Global, text: &[u8]) -> Result<Table, ClaimStop>

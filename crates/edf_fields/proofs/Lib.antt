@@ -1,3 +1,4 @@
+pub mod BlockFacts
 pub mod BoolFacts
 pub mod DateFacts
 pub mod DigitFacts

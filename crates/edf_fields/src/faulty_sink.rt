@@ -68,6 +68,7 @@ impl<K: Sink + Drop> Sink for FaultySink<K> {
         // It fails where all passes are spent, and nothing is written then; before that only where the other one does.
         ensures spent { self.old.passes ≡ 0 → IsErr result × (self.new.inner ≡ self.old.inner) }
         ensures passed { 0 < self.old.passes → OnErr result (Rises (K.failures self.old.inner) (K.failures self.new.inner)) }
+        ensures counted { OnOk result (K.failures self.new.inner ≡ K.failures self.old.inner) }
         ensures passes { self.new.passes ≡ self.old.passes - 1 }
         ensures few { IfOk result (λ k. k ≤ self.old.most) }
         ensures most { self.new.most ≡ self.old.most }

@@ -61,6 +61,7 @@ impl<S: Source + Drop> Source for FaultySource<S> {
         // It fails where all passes are spent, and nothing is read then; before that only where the other one does.
         ensures spent { self.old.passes ≡ 0 → IsErr result × (self.new.inner ≡ self.old.inner) }
         ensures passed { 0 < self.old.passes → OnErr result (Rises (S.failures self.old.inner) (S.failures self.new.inner)) }
+        ensures counted { OnOk result (S.failures self.new.inner ≡ S.failures self.old.inner) }
         ensures passes { self.new.passes ≡ self.old.passes - 1 }
         ensures few { IfOk result (λ k. k ≤ self.old.most) }
         ensures most { self.new.most ≡ self.old.most }

@@ -1,6 +1,7 @@
 //! The lowest layer of a checker of EDF+ files (sleep and other recordings): where bytes come
-//! from, where they go, the numbers and texts that the fields of a header spell, and the times of
-//! annotations.
+//! from and where they go, also such that fail at a chosen call; the places of a header's fields;
+//! the numbers, dates and texts that they spell; the names of the identification's subfields; the
+//! times of annotations; and the words for what is wrong with a file.
 #![tactic(auto)]
 
 pub mod cause;

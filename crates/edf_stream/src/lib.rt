@@ -20,4 +20,4 @@ mod record;
 pub mod sample;
 mod start;
 pub mod status;
-mod value;
+pub mod value;

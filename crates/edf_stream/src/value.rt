@@ -5,9 +5,11 @@ ghost use Rattle.edf_stream.specs.Values.{digital_value};
 
 use byteorder::{ByteOrder, LittleEndian};
 
-/// The digital value of the sample at a place of a lane: two bytes, the low one first, in two's
-/// complement.
-pub(crate) fn value_at(lane: &[u8], place: usize) -> i16
+/// The digital value of the sample at a place of a lane, which are the bytes of one signal in one data
+/// record: two bytes, the low one first, in two's complement. The first sample's place is 0.
+///
+/// It is asked for a place that the lane has.
+pub fn value_at(lane: &[u8], place: usize) -> i16
     requires { 2 * place + 1 < length lane.now }
     ensures { result ≡ digital_value lane.now place }
 {

@@ -1,5 +1,5 @@
-//! Tests of `edf_header` and `edf_stream` by their public names: the values of a given header and of given data
-//! records, what whole files mean, texts of annotations, faults in words, signals that say the same, large
+//! Tests of `edf_header` and `edf_stream` by their public names: the values of a given header, of given data
+//! records and of bytes, what whole files mean, texts of annotations, faults in words, signals that say the same, large
 //! headers and data records, and what a call does where a source or memory gives out.
 #![tactic(auto)]
 
@@ -27,3 +27,5 @@ mod sizes;
 mod sources;
 #[cfg(test)]
 mod texts;
+#[cfg(test)]
+mod values;

@@ -5,6 +5,7 @@ ghost use Rattle.edf_fields.specs.Sources.{Rises};
 ghost use Rattle.edf_refusal.specs.Refusals.{ClaimReadStops};
 ghost use Rattle.edfclaim.specs.Opening.{ClaimTextStops, OpeningStops};
 
+use edf_claim::claim::MOST_BYTES;
 use edf_fields::source::{ReadSource, Source, fill};
 use edf_refusal::refusal::{Refusal, Role};
 use std::alloc::Global;
@@ -18,7 +19,7 @@ const READ_AHEAD: usize = 32_768;
 
 /// How many bytes of a claim are read at most: one more than a claim may have, so that a longer one is
 /// seen to be too long.
-const CLAIM_BYTES: usize = 65_537;
+const CLAIM_BYTES: usize = MOST_BYTES + 1;
 
 /// Opens a file to be read.
 ///

@@ -20,7 +20,7 @@ use Rattle.edf_stream.specs.Starts.{file_start}
 use Rattle.edf_stream.specs.StartsReading.{start_in, start_at, end_at}
 use Rattle.edf_header.specs.Channels.{channels_among}
 use Rattle.edf_stream.specs.Values.{digital}
-use Rattle.edf_stream.proofs.ForCallers.{samples_are_of_channels, samples_rise, records_follow_on, starts_late}
+use Rattle.edf_stream.proofs.ForCallers.{samples_are_of_channels, samples_rise, records_follow_on, starts-behind, starts_late}
 use Rattle.edf_check.specs.declared.walk.channel_place.ChannelPlace.{ChannelPlace}
 use Rattle.edf_check.specs.declared.samples.point.Point.{Point}
 use Rattle.edf_check.specs.samples.Columns.{point_of, is_of, is_kept, points_of}
@@ -213,25 +213,12 @@ record-from file h place ps k c p =
 
 -- ---- data records follow one another
 
--- a data record ends before all that stand behind it
-ends-before : (file : List ℕ) (h : Head) (k j : ℕ) → Conforms file h → k < j → j < h.records → end_at file h k ≤ℤ start_at file h j
-ends-before file h k zero c lt within = absurd (omega (arith, lt))
-ends-before file h k (suc j) c lt within =
-    let next : end_at file h j ≤ℤ start_at file h (suc j) = records_follow_on file h c j within in
-    elim (cases_lt k j) [
-      | inl less ↦
-          let q : end_at file h k ≤ℤ start_at file h j = ends-before file h k j c less (omega (arith, within)) in
-          let p = lasts file h c in
-          omega (arith, ints, q, p, next)
-      | inr le ↦ let e : k ≡ j = omega (arith, lt, le) in subst (λ m. end_at file h m ≤ℤ start_at file h (suc j)) (sym e) next
-    ]
-
--- and none starts before the file
+-- no data record starts before the file
 starts-late : (file : List ℕ) (h : Head) (k : ℕ) → Conforms file h → k < h.records → pos 0 ≤ℤ start_at file h k
 starts-late file h zero c lt = starts_late file h c
 starts-late file h (suc k) c lt =
     let early : pos 0 ≤ℤ start_at file h k = starts-late file h k c (omega (arith, lt)) in
-    let next : end_at file h k ≤ℤ start_at file h (suc k) = ends-before file h k (suc k) c (omega arith) lt in
+    let next : end_at file h k ≤ℤ start_at file h (suc k) = starts-behind file h k (suc k) c (omega arith) lt in
     let p = lasts file h c in
     omega (arith, ints, early, next, p)
 
@@ -318,7 +305,7 @@ window-of file h place ps k t u (suc r) c p lt le past reaches =
     ap (between n t u) (one-more file h place ps r p) ∙ between-append n t u front back in
     elim (cases_lt k r) [
       | inl less ↦
-          let ended : end_at file h k ≤ℤ start_at file h r = ends-before file h k r c less le in
+          let ended : end_at file h k ≤ℤ start_at file h r = starts-behind file h k r c less le in
           let late : AreFrom n back (whole u) = λ x i. earlier_from (instant n x) u (begin_by file h ps r) (omega (arith, ints, reaches, ended)) (record-from file h place ps r c p x i) in
           parts ∙ ap (λ ys. between n t u front ++ ys) (between-late n t u back late) ∙ append-nil (between n t u front) ∙ window-of file h place ps k t u r c p less (omega (arith, le)) past reaches
       | inr few ↦

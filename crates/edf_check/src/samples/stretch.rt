@@ -15,8 +15,8 @@ use crate::samples::difference::{PointDifference, difference_of_heads};
 use crate::samples::instants::product;
 use crate::samples::point::Point;
 use crate::walk::time::Time;
-use byteorder::{ByteOrder, LittleEndian};
 use edf_stream::instant::Instant;
+use edf_stream::value::value_at;
 use edf_verdict::verdict::SampleMismatch;
 
 /// Samples of a channel at even distances: the first stands at the instant `num / den` picoseconds, each
@@ -59,14 +59,6 @@ fn count_in(bytes: &[u8]) -> usize
     ensures all { length bytes.now ≤ 2 * result + 1 }
 {
     whole_samples(bytes.len())
-}
-
-/// The digital value of the sample at a place.
-fn value_at(bytes: &[u8], place: usize) -> i16
-    requires { 2 * place + 1 < length bytes.now }
-    ensures { result ≡ digital_value bytes.now place }
-{
-    LittleEndian::read_i16(&bytes[2 * place..])
 }
 
 /// How far so many steps lead.

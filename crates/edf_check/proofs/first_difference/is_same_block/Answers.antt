@@ -2,7 +2,7 @@ use Rattle.std.proofs.Common.{◌≡◌, ℕ, ◌%◌, ◌^◌, ◌+◌, ◌-◌
 use Rattle.std.proofs.lemmas.Simd.{tops_compared, length-chunk, get_or-chunk, mask_l-mod, length-zip2}
 use Rattle.std.proofs.lemmas.Bool.Decides.{nat_tests}
 use Rattle.std.specs.Simd.Lanes.{mask_l, zip2, top, chunk}
-use Rattle.edf_check.proofs.samples.BlockFacts.{same-lanes}
+use Rattle.edf_fields.proofs.ForCallers.{same-lanes}
 use Rattle.edf_check.proofs.first_difference.is_same_block.Goals as goal
 
 pub returns : goal.returns

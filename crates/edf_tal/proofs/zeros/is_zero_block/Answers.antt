@@ -3,7 +3,7 @@ use Rattle.std.proofs.lemmas.Simd.{tops_compared, length-chunk, get_or-chunk, ma
 use Rattle.std.proofs.lemmas.List.{get_or-replicate}
 use Rattle.std.proofs.lemmas.Bool.Decides.{nat_tests}
 use Rattle.std.specs.Simd.Lanes.{mask_l, zip2, top, chunk}
-use Rattle.edf_tal.proofs.ZeroFacts.{same-lanes}
+use Rattle.edf_fields.proofs.ForCallers.{same-lanes}
 use Rattle.edf_tal.proofs.zeros.is_zero_block.Goals as goal
 
 pub returns : goal.returns

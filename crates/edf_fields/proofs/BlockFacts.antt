@@ -1,10 +1,9 @@
--- Blocks of bytes no two lanes of which differ, and lists that are alike throughout.
-use Rattle.std.proofs.Common.{◌≡◌, ℕ, suc, ◌%◌, ◌/◌, ◌^◌, ◌<◌, List, [], ◌∷◌, Bool, true, false, cond, not, eqb, length, get_or, arith, refl, sym, ap, ◌∙◌}
+-- Blocks of bytes no two lanes of which differ.
+use Rattle.std.proofs.Common.{◌≡◌, ℕ, ◌%◌, ◌/◌, ◌^◌, ◌<◌, List, Bool, true, false, cond, not, eqb, length, get_or, arith, refl, sym, ap, ◌∙◌}
 use Rattle.std.proofs.lemmas.Simd.{bit_mask_l, get_or-zip2}
 use Rattle.std.proofs.Math.Nat.{zero-div}
 use Rattle.std.proofs.lemmas.Bool.Decides.{nat_tests}
 use Rattle.std.specs.Simd.Lanes.{mask_l, zip2}
-use Rattle.edf_check.specs.samples.Alike.{AreAlikeBefore}
 
 clear-bit : (marks : List Bool) (k : ℕ) → mask_l marks ≡ 0 → get_or marks k false ≡ false
 clear-bit marks k h =
@@ -20,12 +19,3 @@ pub same-lanes : (xs ys : List ℕ) (k : ℕ) → k < length xs → k < length y
 same-lanes xs ys k p q h =
     equal-if (get_or xs k 0) (get_or ys k 0)
     (sym (get_or-zip2 (λ a b. not (eqb a b)) xs ys k 0 0 false p q) ∙ clear-bit (zip2 (λ a b. not (eqb a b)) xs ys) k h)
-
--- lists of one length that are alike throughout are the same
-pub alike-throughout : (xs ys : List ℕ) → length xs ≡ length ys → AreAlikeBefore (length xs) xs ys → xs ≡ ys
-alike-throughout [] [] e alike = refl
-alike-throughout [] (y ∷ ys) e alike = absurd (omega (arith, e))
-alike-throughout (x ∷ xs) [] e alike = absurd (omega (arith, e))
-alike-throughout (x ∷ xs) (y ∷ ys) e alike =
-    let first : x ≡ y = alike 0 (omega arith) in
-    ap (λ z. z ∷ xs) first ∙ ap (λ zs. y ∷ zs) (alike-throughout xs ys (omega (arith, e)) (λ k lt. alike (suc k) (omega (arith, lt))))
