@@ -1,4 +1,3 @@
-pub mod ListFacts
 pub mod TrackFacts
 pub mod ShownFacts
 pub mod LockstepFacts

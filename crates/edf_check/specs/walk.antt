@@ -1,6 +1,5 @@
 pub mod Walks
 pub mod Layouts
-pub mod Tracks
 pub mod Pairs
 pub mod Shares
 pub mod Windows

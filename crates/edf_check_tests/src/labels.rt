@@ -1,7 +1,9 @@
-//! Labels in the order of their bytes, and their places there.
+//! Labels in the order of their bytes, and channels found by their labels.
 
+use crate::headers::read;
 use edf_fields::label::SignalLabel;
-use edf_heads::labels::{found_at, in_order, is_found};
+use edf_heads::channel_index::ChannelIndex;
+use edf_heads::labels::in_order;
 use std::alloc::AllocError;
 use std::process::Abort;
 
@@ -28,9 +30,29 @@ fn puts_labels_in_the_order_of_their_bytes(rt: HostRuntime) -> Result<(), AllocE
     ];
     let sorted = in_order(rt.alloc(), &labels)?;
     assert_places(&rt, &sorted);
-    assert_eq!(rt; found_at(&sorted, b"EEG 2"), Some(2));
-    assert_eq!(rt; found_at(&sorted, b"EE"), None);
-    assert!(rt; is_found(&sorted, b"ecg"));
-    assert!(rt; !is_found(&sorted, b"ECG"));
+    Ok(())
+}
+
+/// Labels, and which signal and which channel has each, of annotations, `ECG` and `EEG Fpz-Cz`.
+const CHANNELS: &[(&[u8], Option<(u16, u16)>)] = &[
+    (b"EDF Annotations", None),
+    (b"ECG", Some((1, 0))),
+    (b"EEG Fpz-Cz", Some((2, 1))),
+    (b"", None),
+    (b"EEG", None),
+    (b"EEG Fpz-Cz ", None),
+    (b"ecg", None),
+];
+
+#[test]
+fn finds_channels_by_their_labels(rt: HostRuntime) -> Result<(), AllocError> {
+    let header = read(rt.alloc(), &rt, (&[2, 1, 0], &[]))?;
+    let index = ChannelIndex::new(rt.alloc(), &header)?;
+    for (label, want) in CHANNELS {
+        let found = index.channel(label);
+        let place = found.map(|channel| (channel.at, channel.number));
+        assert_eq!(rt; place, *want);
+        assert!(rt; found.is_none_or(|channel| channel.signal.label() == *label));
+    }
     Ok(())
 }

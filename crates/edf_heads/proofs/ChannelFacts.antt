@@ -1,5 +1,5 @@
 -- Channels found by their labels.
-use Rattle.std.proofs.Common.{◌≡◌, ◌≢◌, ℕ, ◌<◌, true, false, not, ◌&&◌, List, length, get_or, map, filter, Bor, Option, Some, None, option_map, slice_get, MatchOption, Ok, Err, inl, inr, refl, sym, ap, ◌∙◌, subst, arith}
+use Rattle.std.proofs.Common.{◌≡◌, ◌≢◌, ℕ, ◌<◌, true, false, not, ◌&&◌, List, length, get_or, map, filter, Option, Some, None, option_map, slice_get, IfSome, MatchOption, Ok, Err, inl, inr, refl, sym, ap, ◌∙◌, subst, arith}
 use Rattle.std.specs.Cmp.Lexicographic.{slice_cmp}
 use Rattle.std.specs.List.Sorted.{IsBinarySearchResult, IsPermutation}
 use Rattle.std.specs.Ordering.{nat_cmp, is_eq}
@@ -15,33 +15,39 @@ use Rattle.edf_header.specs.Heads.{SignalHead, Head, is_annotations}
 use Rattle.edf_header.specs.Sound.{IsSound}
 use Rattle.edf_heads.specs.Channels.{IsChannelOf}
 use Rattle.edf_heads.specs.ChannelDifferences.{HasNoChannel}
-use Rattle.edf_heads.specs.Comparisons.{channel_of, AreByLabel, IsChannelIndex}
+use Rattle.edf_heads.specs.ChannelIndexes.{IsAmong, AreAmong, IsChannelAt, AreByLabel, IsChannelIndex}
+use Rattle.edf_heads.specs.Comparisons.{channel_of}
+use Rattle.edf_heads.specs.declared.channel_index.Channel.{Channel}
 use Rattle.edf_header.specs.Channels.{is_ordinary}
 use Rattle.edf_heads.proofs.LabelFacts.{equal-tested, same-label}
 use Rattle.edf_heads.proofs.ListFacts.{has-get}
 
--- ---- one signal of a sorted list
+-- ---- one channel of a sorted list
 
-pub label_there : (sorted : List (Bor SignalHead)) (label : List ℕ) (i : ℕ) (d : Bor SignalHead) (x : Bor SignalHead) → x ≡ get_or sorted i d
-    → IsBinarySearchResult (λ y. slice_cmp nat_cmp y.now.label label) sorted (Ok i) → i < length sorted
-    → Has (map (λ s. s.now) sorted) x.now × (x.now.label ≡ label)
+-- what a search for a label answers
+abbrev pub Answers : List Channel → List ℕ → Option Channel → Type 0
+Answers sorted label o = MatchOption o ((x : SignalHead) → Has (map (λ c. c.signal.now) sorted) x → x.label ≢ label) (λ c. Has sorted c × ((c.signal.now).label ≡ label))
+
+pub label_there : (sorted : List Channel) (label : List ℕ) (i : ℕ) (d : Channel) (x : Channel) → x ≡ get_or sorted i d
+    → IsBinarySearchResult (λ y. slice_cmp nat_cmp y.signal.now.label label) sorted (Ok i) → i < length sorted
+    → Has sorted x × ((x.signal.now).label ≡ label)
 label_there sorted label i d x is h lt = (
-  subst (λ (y : Bor SignalHead). Has (map (λ s. s.now) sorted) y.now) (sym is) (has-map (λ (s : Bor SignalHead). s.now) sorted (get_or sorted i d) (has-get sorted i d lt)),
-  ap (λ (y : Bor SignalHead). y.now.label) is ∙ same-label (get_or sorted i d).now.label label (h d),
+  subst (λ (y : Channel). Has sorted y) (sym is) (has-get sorted i d lt),
+  ap (λ (y : Channel). (y.signal.now).label) is ∙ same-label (get_or sorted i d).signal.now.label label (h d),
 )
 
-pub label_nowhere : (sorted : List (Bor SignalHead)) (label : List ℕ) (i : ℕ) → AreByLabel sorted
-    → IsBinarySearchResult (λ y. slice_cmp nat_cmp y.now.label label) sorted (Err i)
-    → (x : SignalHead) → Has (map (λ s. s.now) sorted) x → x.label ≢ label
+pub label_nowhere : (sorted : List (Channel)) (label : List ℕ) (i : ℕ) → AreByLabel sorted
+    → IsBinarySearchResult (λ y. slice_cmp nat_cmp y.signal.now.label label) sorted (Err i)
+    → (x : SignalHead) → Has (map (λ s. s.signal.now) sorted) x → x.label ≢ label
 label_nowhere sorted label i up h x there same =
-    let parts = h (searchable_from_sorted nat_list_cmp_total (λ (s : Bor SignalHead). s.now.label) sorted label up) in
-    let m = map-has (λ (s : Bor SignalHead). s.now) sorted x there in
+    let parts = h (searchable_from_sorted nat_list_cmp_total (λ (s : Channel). s.signal.now.label) sorted label up) in
+    let m = map-has (λ (s : Channel). s.signal.now) sorted x there in
     let at = at-has sorted m.0 m.1 in
     let within : at.0 < length sorted = get-within sorted at.0 m.0 at.1 in
     let here : get_or sorted at.0 m.0 ≡ m.0 = get-index sorted at.0 m.0 m.0 at.1 in
-    let label-here : (get_or sorted at.0 m.0).now.label ≡ label = ap (λ (s : Bor SignalHead). s.now.label) here ∙ ap (λ (s : SignalHead). s.label) m.2 ∙ same in
-    let tie : is_eq (slice_cmp nat_cmp (get_or sorted at.0 m.0).now.label label) ≡ true =
-    equal-tested (get_or sorted at.0 m.0).now.label label ∙ (bytes_eq-Decides (get_or sorted at.0 m.0).now.label label).1 label-here in
+    let label-here : (get_or sorted at.0 m.0).signal.now.label ≡ label = ap (λ (s : Channel). s.signal.now.label) here ∙ ap (λ (s : SignalHead). s.label) m.2 ∙ same in
+    let tie : is_eq (slice_cmp nat_cmp (get_or sorted at.0 m.0).signal.now.label label) ≡ true =
+    equal-tested (get_or sorted at.0 m.0).signal.now.label label ∙ (bytes_eq-Decides (get_or sorted at.0 m.0).signal.now.label label).1 label-here in
     elim (cases_lt at.0 i) [
       | inl before ↦ let f : true ≡ false = sym tie ∙ ap is_eq (parts.0 at.0 m.0 (omega arith) before) in cc
       | inr behind ↦ let f : true ≡ false = sym tie ∙ ap is_eq (parts.1 at.0 m.0 behind within) in cc
@@ -84,35 +90,39 @@ channel-is h label x sound c = is-case (channel_of label h.signals) refl
     is-case (Some y) e = ap Some (one-channel h label y x sound (channel-some h label y e) c)
 
 -- what is found among the sorted channels is the channel of the label
-found-in : (h : Head) (sorted : List (Bor SignalHead)) (label : List ℕ) (o : Option (Bor SignalHead)) → IsChannelIndex h sorted
-    → MatchOption o ((x : SignalHead) → Has (map (λ s. s.now) sorted) x → x.label ≢ label) (λ x. Has (map (λ s. s.now) sorted) x.now × (x.now.label ≡ label))
-    → option_map (λ x. x.now) o ≡ channel_of label h.signals
-found-in h sorted label None index nowhere = none-case (channel_of label h.signals) refl
+pub channel_found : (h : Head) (sorted : List Channel) (label : List ℕ) (o : Option Channel) → IsChannelIndex h sorted → Answers sorted label o
+    → option_map (λ c. c.signal.now) o ≡ channel_of label h.signals
+channel_found h sorted label None index nowhere = none-case (channel_of label h.signals) refl
   where
     none-case : (o : Option SignalHead) → channel_of label h.signals ≡ o → None ≡ o
     none-case None e = refl
     none-case (Some y) e =
         let c = channel-some h label y e in
         let ordinary : is_ordinary y ≡ true = ap (λ l. not (is_annotations l)) c.labelled.0 ∙ ap not c.labelled.1 in
-        absurd (nowhere y (has-permutation (filter is_ordinary h.signals) (map (λ (s : Bor SignalHead). s.now) sorted) y index.same (filtered-has is_ordinary h.signals y c.there ordinary)) c.labelled.0)
-found-in h sorted label (Some x) index found =
-    let back = has-permutation (map (λ (s : Bor SignalHead). s.now) sorted) (filter is_ordinary h.signals) x.now (IsPermutation-sym (filter is_ordinary h.signals) (map (λ (s : Bor SignalHead). s.now) sorted) index.same) found.0 in
-    let r = has-filtered is_ordinary h.signals x.now back in
-    let c : IsChannelOf h label x.now = record { there = r.0; labelled = (found.1, ap is_annotations (sym found.1) ∙ not-true (is_annotations x.now.label) r.1) } in
-    sym (channel-is h label x.now index.sound c)
+        absurd (nowhere y (has-permutation (filter is_ordinary h.signals) (map (λ (s : Channel). s.signal.now) sorted) y index.same (filtered-has is_ordinary h.signals y c.there ordinary)) c.labelled.0)
+channel_found h sorted label (Some x) index found =
+    let y = x.signal.now in
+    let all = map (λ (s : Channel). s.signal.now) sorted in
+    let back = has-permutation all (filter is_ordinary h.signals) y (IsPermutation-sym (filter is_ordinary h.signals) all index.same) (has-map (λ (s : Channel). s.signal.now) sorted x found.0) in
+    let r = has-filtered is_ordinary h.signals y back in
+    let c : IsChannelOf h label y = record { there = r.0; labelled = (found.1, ap is_annotations (sym found.1) ∙ not-true (is_annotations y.label) r.1) } in
+    sym (channel-is h label y index.sound c)
 
-pub channel_found : (h : Head) (sorted seen : List (Bor SignalHead)) (label : List ℕ) (o : Option (Bor SignalHead)) → IsChannelIndex h sorted → seen ≡ sorted
-    → MatchOption o ((x : SignalHead) → Has (map (λ s. s.now) seen) x → x.label ≢ label) (λ x. Has (map (λ s. s.now) seen) x.now × (x.now.label ≡ label))
-    → option_map (λ x. x.now) o ≡ channel_of label h.signals
-channel_found h sorted seen label o index all found =
-    found-in h sorted label o index
-    (subst (λ (ss : List (Bor SignalHead)). MatchOption o ((x : SignalHead) → Has (map (λ (s : Bor SignalHead). s.now) ss) x → x.label ≢ label) (λ x. Has (map (λ (s : Bor SignalHead). s.now) ss) x.now × (x.now.label ≡ label))) all found)
+pub channel_there : (h : Head) (sorted : List Channel) (label : List ℕ) (o : Option Channel) → IsChannelIndex h sorted → Answers sorted label o → IfSome o (IsChannelAt h)
+channel_there h sorted label None index nowhere = tt
+channel_there h sorted label (Some x) index found = index.among x found.0
+
+pub channel_named : (h : Head) (sorted : List Channel) (label : List ℕ) (o : Option Channel) → IsChannelIndex h sorted → Answers sorted label o
+    → MatchOption o (HasNoChannel h label) (λ c. (c.signal.now).label ≡ label)
+channel_named h sorted label None index nowhere = channel-none h label (sym (channel_found h sorted label None index nowhere))
+channel_named h sorted label (Some x) index found = found.1
 
 -- the channels of a header, once they are sorted
-pub index-is : (h : Head) (signals : List SignalHead) (before after : List (Bor SignalHead)) → signals ≡ h.signals → IsSound h → map (λ x. x.now) before ≡ filter is_ordinary signals
-    → IsPermutation before after → AreByLabel after → IsChannelIndex h after
-index-is h signals before after are sound same p up = record {
+pub index-is : (h : Head) (signals : List SignalHead) (before after : List Channel) → signals ≡ h.signals → IsSound h → map (λ c. c.signal.now) before ≡ filter is_ordinary signals
+    → AreAmong signals before → IsPermutation before after → AreByLabel after → IsChannelIndex h after
+index-is h signals before after are sound same among p up = record {
   sound = sound;
   order = up;
-  same = subst (λ (xs : List SignalHead). IsPermutation xs (map (λ (x : Bor SignalHead). x.now) after)) (same ∙ ap (filter is_ordinary) are) (IsPermutation-map (λ (x : Bor SignalHead). x.now) before after p);
+  same = subst (λ (xs : List SignalHead). IsPermutation xs (map (λ (x : Channel). x.signal.now) after)) (same ∙ ap (filter is_ordinary) are) (IsPermutation-map (λ (x : Channel). x.signal.now) before after p);
+  among = λ c i. subst (λ (ss : List SignalHead). IsAmong ss c) are (among c (has-permutation after before c (IsPermutation-sym before after p) i));
 }

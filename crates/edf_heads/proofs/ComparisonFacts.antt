@@ -10,7 +10,9 @@ use Rattle.edf_header.specs.Heads.{SignalHead, Head, is_annotations}
 use Rattle.edf_claim.specs.Terms.{Terms}
 use Rattle.edf_heads.specs.Channels.{IsChannelOf, HasChannel, HasAll}
 use Rattle.edf_heads.specs.ChannelDifferences.{HasNoChannel, IsLeastExtra}
-use Rattle.edf_heads.specs.Comparisons.{channel_of, AreByLabel, IsChannelIndex, Claimed, claimed_of, claimed_view, AreSorted, HasNoExtra, IsComparison}
+use Rattle.edf_heads.specs.ChannelIndexes.{AreByLabel, IsChannelIndex}
+use Rattle.edf_heads.specs.declared.channel_index.Channel.{Channel}
+use Rattle.edf_heads.specs.Comparisons.{channel_of, Claimed, claimed_of, claimed_view, AreSorted, HasNoExtra, IsComparison}
 use Rattle.edf_header.specs.Channels.{is_ordinary}
 use Rattle.edf_heads.specs.declared.channels.ClaimedChannel.{ClaimedChannel}
 use Rattle.edf_heads.specs.Firsts.{IsFirstWith}
@@ -74,38 +76,38 @@ missing_said o e claim claimed labels seen r is all found =
 -- ---- a channel that isn't claimed
 
 -- of a sorted list the first that passes has the least label of those that pass
-first-is-least : (test : SignalHead → Bool) (sorted : List (Bor SignalHead)) (x : SignalHead) → AreByLabel sorted → find test (map (λ s. s.now) sorted) ≡ Some x
-    → (y : SignalHead) → Has (map (λ s. s.now) sorted) y → test y ≡ true → IsNotAbove x.label y.label
+first-is-least : (test : SignalHead → Bool) (sorted : List (Channel)) (x : SignalHead) → AreByLabel sorted → find test (map (λ s. s.signal.now) sorted) ≡ Some x
+    → (y : SignalHead) → Has (map (λ s. s.signal.now) sorted) y → test y ≡ true → IsNotAbove x.label y.label
 first-is-least test [] x up found y there passes = absurd there
-first-is-least test (z ∷ zs) x up found y there passes = least-case (test z.now) refl found (λ e i. first-is-least test zs x tail e y i passes)
+first-is-least test (z ∷ zs) x up found y there passes = least-case (test z.signal.now) refl found (λ e i. first-is-least test zs x tail e y i passes)
   where
     tail : AreByLabel zs
     tail k d low high = let e : suc k + 1 ≡ suc (k + 1) = omega arith in rw e at (up (suc k) d (omega arith) (omega (arith, high)))
 
-    least-case : (b : Bool) → test z.now ≡ b → cond b (Some z.now) (find test (map (λ s. s.now) zs)) ≡ Some x
-        → (find test (map (λ s. s.now) zs) ≡ Some x → Has (map (λ s. s.now) zs) y → IsNotAbove x.label y.label) → IsNotAbove x.label y.label
+    least-case : (b : Bool) → test z.signal.now ≡ b → cond b (Some z.signal.now) (find test (map (λ s. s.signal.now) zs)) ≡ Some x
+        → (find test (map (λ s. s.signal.now) zs) ≡ Some x → Has (map (λ s. s.signal.now) zs) y → IsNotAbove x.label y.label) → IsNotAbove x.label y.label
     least-case true t e more =
-        let same : z.now ≡ x = (let f : Some z.now ≡ Some x = e in cc) in
-        let m = map-has (λ (s : Bor SignalHead). s.now) (z ∷ zs) y there in
+        let same : z.signal.now ≡ x = (let f : Some z.signal.now ≡ Some x = e in cc) in
+        let m = map-has (λ (s : Channel). s.signal.now) (z ∷ zs) y there in
         let at = at-has (z ∷ zs) m.0 m.1 in
-        let far = sorted_far (λ (a b : Bor SignalHead). is_lt (slice_cmp nat_cmp a.now.label b.now.label)) (ranks_by nat_list_cmp_total (λ (s : Bor SignalHead). s.now.label)) (z ∷ zs) up 0 at.0 z (omega arith) (get-within (z ∷ zs) at.0 m.0 at.1) in
-        let here : (get_or (z ∷ zs) at.0 z).now.label ≡ y.label = ap (λ (s : Bor SignalHead). s.now.label) (get-index (z ∷ zs) at.0 m.0 z at.1) ∙ ap (λ (s : SignalHead). s.label) m.2 in
+        let far = sorted_far (λ (a b : Channel). is_lt (slice_cmp nat_cmp a.signal.now.label b.signal.now.label)) (ranks_by nat_list_cmp_total (λ (s : Channel). s.signal.now.label)) (z ∷ zs) up 0 at.0 z (omega arith) (get-within (z ∷ zs) at.0 m.0 at.1) in
+        let here : (get_or (z ∷ zs) at.0 z).signal.now.label ≡ y.label = ap (λ (s : Channel). s.signal.now.label) (get-index (z ∷ zs) at.0 m.0 z at.1) ∙ ap (λ (s : SignalHead). s.label) m.2 in
         let apart : is_lt (slice_cmp nat_cmp y.label x.label) ≡ false =
-        ap (λ l. is_lt (slice_cmp nat_cmp l x.label)) (sym here) ∙ ap (λ (s : SignalHead). is_lt (slice_cmp nat_cmp (get_or (z ∷ zs) at.0 z).now.label s.label)) (sym same) ∙ far in
+        ap (λ l. is_lt (slice_cmp nat_cmp l x.label)) (sym here) ∙ ap (λ (s : SignalHead). is_lt (slice_cmp nat_cmp (get_or (z ∷ zs) at.0 z).signal.now.label s.label)) (sym same) ∙ far in
         not_below x.label y.label apart
     least-case false f e more =
-        ⊎_elim (λ q. absurd (let P : SignalHead → Type 0 = λ s. test s ≡ true in let t : test z.now ≡ true = subst P (sym q) passes in let g : true ≡ false = sym t ∙ f in cc))
+        ⊎_elim (λ q. absurd (let P : SignalHead → Type 0 = λ s. test s ≡ true in let t : test z.signal.now ≡ true = subst P (sym q) passes in let g : true ≡ false = sym t ∙ f in cc))
         (λ i. more e i) there
 
 -- the channels of a header and the sorted ones are the same
-indexed : (h : Head) (sorted : List (Bor SignalHead)) (label : List ℕ) (x : SignalHead) → IsChannelIndex h sorted → IsChannelOf h label x → Has (map (λ s. s.now) sorted) x
+indexed : (h : Head) (sorted : List (Channel)) (label : List ℕ) (x : SignalHead) → IsChannelIndex h sorted → IsChannelOf h label x → Has (map (λ s. s.signal.now) sorted) x
 indexed h sorted label x index c =
-    has-permutation (filter is_ordinary h.signals) (map (λ (s : Bor SignalHead). s.now) sorted) x index.same
+    has-permutation (filter is_ordinary h.signals) (map (λ (s : Channel). s.signal.now) sorted) x index.same
     (filtered-has is_ordinary h.signals x c.there (ap (λ l. not (is_annotations l)) c.labelled.0 ∙ ap not c.labelled.1))
 
-of-index : (h : Head) (sorted : List (Bor SignalHead)) (x : SignalHead) → IsChannelIndex h sorted → Has (map (λ s. s.now) sorted) x → IsChannelOf h x.label x
+of-index : (h : Head) (sorted : List (Channel)) (x : SignalHead) → IsChannelIndex h sorted → Has (map (λ s. s.signal.now) sorted) x → IsChannelOf h x.label x
 of-index h sorted x index there =
-    let r = has-filtered is_ordinary h.signals x (has-permutation (map (λ (s : Bor SignalHead). s.now) sorted) (filter is_ordinary h.signals) x (IsPermutation-sym (filter is_ordinary h.signals) (map (λ (s : Bor SignalHead). s.now) sorted) index.same) there) in
+    let r = has-filtered is_ordinary h.signals x (has-permutation (map (λ (s : Channel). s.signal.now) sorted) (filter is_ordinary h.signals) x (IsPermutation-sym (filter is_ordinary h.signals) (map (λ (s : Channel). s.signal.now) sorted) index.same) there) in
     record { there = r.0; labelled = (refl, not-true (is_annotations x.label) r.1) }
 
 -- the label of the signal is none of these
@@ -125,22 +127,22 @@ unclaimed-other labels claimed is s label same out = other-case (is_one_of label
     other-case true t = absurd (out (let P : List ℕ → Type 0 = λ l. Has labels l in subst P same (one_of-has labels s.label t)))
     other-case false f = ap not (is.same s.label ∙ f)
 
-pub extra_said : (h : Head) (sorted seen : List (Bor SignalHead)) (claimed : List (Bor (List ℕ))) (r : Option (Bor (List ℕ))) (labels : List (List ℕ)) → IsChannelIndex h sorted → seen ≡ sorted → AreSorted labels claimed
-    → option_map (λ label. label.now) r ≡ option_map (λ (s : SignalHead). s.label) (find (other_than claimed) (map (λ s. s.now) seen))
+pub extra_said : (h : Head) (sorted seen : List (Channel)) (claimed : List (Bor (List ℕ))) (r : Option (Bor (List ℕ))) (labels : List (List ℕ)) → IsChannelIndex h sorted → seen ≡ sorted → AreSorted labels claimed
+    → option_map (λ label. label.now) r ≡ option_map (λ (s : SignalHead). s.label) (find (other_than claimed) (map (λ s. s.signal.now) seen))
     → MatchOption r (HasNoExtra h labels) (λ label. IsLeastExtra h labels label.now)
 extra_said h sorted seen claimed r labels index all is same =
-    said-of (HasNoExtra h labels) (IsLeastExtra h labels) r (option_map (λ (s : SignalHead). s.label) (find (other_than claimed) (map (λ (s : Bor SignalHead). s.now) sorted)))
-    (same ∙ ap (λ (ss : List (Bor SignalHead)). option_map (λ (s : SignalHead). s.label) (find (other_than claimed) (map (λ (s : Bor SignalHead). s.now) ss))) all)
-    (extra-case (find (other_than claimed) (map (λ (s : Bor SignalHead). s.now) sorted)) refl)
+    said-of (HasNoExtra h labels) (IsLeastExtra h labels) r (option_map (λ (s : SignalHead). s.label) (find (other_than claimed) (map (λ (s : Channel). s.signal.now) sorted)))
+    (same ∙ ap (λ (ss : List (Channel)). option_map (λ (s : SignalHead). s.label) (find (other_than claimed) (map (λ (s : Channel). s.signal.now) ss))) all)
+    (extra-case (find (other_than claimed) (map (λ (s : Channel). s.signal.now) sorted)) refl)
   where
-    extra-case : (o : Option SignalHead) → find (other_than claimed) (map (λ s. s.now) sorted) ≡ o → MatchOption (option_map (λ (s : SignalHead). s.label) o) (HasNoExtra h labels) (IsLeastExtra h labels)
+    extra-case : (o : Option SignalHead) → find (other_than claimed) (map (λ s. s.signal.now) sorted) ≡ o → MatchOption (option_map (λ (s : SignalHead). s.label) o) (HasNoExtra h labels) (IsLeastExtra h labels)
     extra-case None e = λ label x.
         let c = x.there in
         let passes = unclaimed-other labels claimed is c.0 label c.1.labelled.0 x.unclaimed in
-        let f : true ≡ false = sym passes ∙ find-none (other_than claimed) (map (λ (s : Bor SignalHead). s.now) sorted) e c.0 (indexed h sorted label c.0 index c.1) in
+        let f : true ≡ false = sym passes ∙ find-none (other_than claimed) (map (λ (s : Channel). s.signal.now) sorted) e c.0 (indexed h sorted label c.0 index c.1) in
         cc
     extra-case (Some x) e =
-        let found = find-some (other_than claimed) (map (λ (s : Bor SignalHead). s.now) sorted) x e in
+        let found = find-some (other_than claimed) (map (λ (s : Channel). s.signal.now) sorted) x e in
         let c = of-index h sorted x index found.0 in
         record {
           extra = record { there = (x, c); unclaimed = other-unclaimed labels claimed is x found.1 };

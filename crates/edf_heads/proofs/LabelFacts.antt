@@ -1,7 +1,7 @@
 -- Labels in the order of their bytes, and one of them found.
-use Rattle.std.proofs.Common.{◌≡◌, ℕ, ◌<◌, Equal, Bool, true, false, cond, not, nat_lt, nat_eq, ◌||◌, List, [], ◌∷◌, length, get_or, map, slice_get, Bor, Option, Some, None, is_some, MatchOption, Ok, Err, inl, inr, refl, sym, subst, ap, ◌∙◌, arith}
+use Rattle.std.proofs.Common.{◌≡◌, ℕ, ◌<◌, Equal, Bool, true, false, cond, not, nat_lt, nat_eq, ◌||◌, List, [], ◌∷◌, length, get_or, map, slice_get, Bor, Option, Some, None, is_some, MatchOption, Ok, Err, inl, inr, refl, sym, ap, ◌∙◌, arith}
 use Rattle.std.specs.Cmp.Lexicographic.{slice_cmp}
-use Rattle.std.specs.List.{list_any, AllByRecursion, IsDistinct}
+use Rattle.std.specs.List.{list_any}
 use Rattle.std.specs.List.Sorted.{IsSorted, IsPermutation, IsBinarySearchResult}
 use Rattle.std.specs.Ordering.{nat_cmp, is_eq, is_lt}
 use Rattle.std.specs.Str.{bytes_eq}
@@ -10,11 +10,9 @@ use Rattle.std.proofs.lemmas.Bool.Decides.{nat_tests}
 use Rattle.std.proofs.lemmas.Cmp.{same_from_slice_cmp, nat_list_cmp_total}
 use Rattle.std.proofs.lemmas.List.Folds.{list_any_none}
 use Rattle.std.proofs.lemmas.List.Sorted.{searchable_from_sorted, list_any-IsPermutation, IsPermutation-map}
-use Rattle.std.proofs.lemmas.Map.Keys.{IsDistinct-cons, IsDistinct-head, IsDistinct-tail, IsDistinct-IsPermutation, IsDistinct-from_apart}
 use Rattle.std.proofs.lemmas.Option.{slice_get-get_or}
 use Rattle.std.proofs.lemmas.Slice.Eq.{bytes_eq-Decides}
 use Rattle.edf_fields.specs.Lists.{Has, is_one_of}
-use Rattle.edf_fields.specs.Distinct.{AreDistinct}
 use Rattle.edf_fields.proofs.ForCallers.{get-map, has-at, has-one_of, one_of-has}
 use Rattle.edf_heads.specs.Comparisons.{AreSorted}
 use Rattle.edf_heads.specs.Labels.{IsNotAbove}
@@ -70,47 +68,6 @@ labels_sorted texts before after same p up = record {
   order = up;
   same = λ t. sym (list_any-IsPermutation (λ other. bytes_eq other t) (map (λ (v : Bor (List ℕ)). v.now) before) (map (λ (v : Bor (List ℕ)). v.now) after) (IsPermutation-map (λ (v : Bor (List ℕ)). v.now) before after p)) ∙ ap (λ ts. is_one_of ts t) same;
 }
-
--- std's word for texts of which none stands twice, and the one of this project
-apart : (t : List ℕ) (ts : List (List ℕ)) → (Has ts t → ⊥) → AllByRecursion (λ u. bytes_eq t u ≡ false) ts
-apart t [] nowhere = tt
-apart t (u ∷ ts) nowhere = (untrue (bytes_eq t u) (λ e. nowhere (inl (sym ((bytes_eq-Decides t u).0 e)))), apart t ts (λ h. nowhere (inr h)))
-  where
-    untrue : (b : Bool) → (b ≡ true → ⊥) → b ≡ false
-    untrue true never = absurd (never refl)
-    untrue false never = refl
-
-nowhere-apart : (t : List ℕ) (ts : List (List ℕ)) → AllByRecursion (λ u. bytes_eq t u ≡ false) ts → Has ts t → ⊥
-nowhere-apart t [] all there = there
-nowhere-apart t (u ∷ ts) all (inl e) = let f : true ≡ false = sym ((bytes_eq-Decides t u).1 (sym e)) ∙ all.0 in cc
-nowhere-apart t (u ∷ ts) all (inr there) = nowhere-apart t ts all.1 there
-
-std-distinct : (ts : List (List ℕ)) → AreDistinct ts → IsDistinct bytes_eq ts
-std-distinct [] d = IsDistinct-from_apart bytes_eq [] (λ i j u before within. absurd (omega (arith, within)))
-std-distinct (t ∷ ts) d = IsDistinct-cons bytes_eq t ts (apart t ts d.0) (std-distinct ts d.1)
-
-distinct-std : (ts : List (List ℕ)) → IsDistinct bytes_eq ts → AreDistinct ts
-distinct-std [] d = tt
-distinct-std (t ∷ ts) d = (nowhere-apart t ts (IsDistinct-head bytes_eq t ts d), distinct-std ts (IsDistinct-tail bytes_eq t ts d))
-
-same-flipped : (x y : List ℕ) → bytes_eq x y ≡ bytes_eq y x
-same-flipped x y = both-ways (bytes_eq x y) (bytes_eq y x) (flip x y) (flip y x)
-  where
-    flip : (x y : List ℕ) → bytes_eq x y ≡ true → bytes_eq y x ≡ true
-    flip x y e = (bytes_eq-Decides y x).1 (sym ((bytes_eq-Decides x y).0 e))
-
-    both-ways : (a b : Bool) → (a ≡ true → b ≡ true) → (b ≡ true → a ≡ true) → a ≡ b
-    both-ways true b there back = sym (there refl)
-    both-ways false true there back = back refl
-    both-ways false false there back = refl
-
--- and no label twice that didn't stand there twice
-pub labels_distinct : (texts : List (List ℕ)) (before after : List (Bor (List ℕ))) → map (λ t. t.now) before ≡ texts → IsPermutation before after → AreDistinct texts → AreDistinct (map (λ t. t.now) after)
-labels_distinct texts before after same p d =
-    let old = map (λ (t : Bor (List ℕ)). t.now) before in
-    let new = map (λ (t : Bor (List ℕ)). t.now) after in
-    distinct-std new (IsDistinct-IsPermutation bytes_eq same-flipped old new (IsPermutation-map (λ (t : Bor (List ℕ)). t.now) before after p)
-    (std-distinct old (subst (λ (ts : List (List ℕ)). AreDistinct ts) (sym same) d)))
 
 -- ---- the order of labels
 

@@ -1,3 +1,4 @@
+pub mod AmongFacts
 pub mod ChannelFacts
 pub mod ComparisonFacts
 pub mod ContentFacts

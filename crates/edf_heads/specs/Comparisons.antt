@@ -1,5 +1,5 @@
 -- What a comparison of two headers holds: the channels of each claimed label, found once. These are steps between the definitions and the code.
-use Rattle.std.specs.Prelude.{◌≡◌, ◌↔◌, ℕ, ◌==◌, Bool, true, false, not, ◌&&◌, ◌||◌, List, [], ◌∷◌, length, map, filter, find, Option, None, Some, option_map, MatchOption, ◌*ℤ◌, codes, if◌then◌else◌}
+use Rattle.std.specs.Prelude.{◌≡◌, ◌↔◌, ℕ, ◌==◌, Bool, true, false, not, ◌&&◌, ◌||◌, List, [], ◌∷◌, length, map, find, Option, None, Some, option_map, MatchOption, ◌*ℤ◌, codes, if◌then◌else◌}
 use Rattle.std.specs.Borrow.{Bor}
 use Rattle.std.specs.Cmp.Lexicographic.{slice_cmp}
 use Rattle.std.specs.List.Sorted.{IsSorted, IsPermutation}
@@ -9,7 +9,7 @@ use Rattle.std.specs.Str.{bytes_eq}
 use Rattle.edf_fields.specs.Lists.{Has, is_one_of}
 use Rattle.edf_header.specs.Calibrations.{Line, physical_span, digital_span, offset_times_span}
 use Rattle.edf_header.specs.ChannelsReading.{is_channel_of}
-use Rattle.edf_header.specs.Channels.{is_ordinary, channel_labels}
+use Rattle.edf_header.specs.Channels.{channel_labels}
 use Rattle.edf_header.specs.Heads.{SignalHead, Head, is_annotations}
 use Rattle.edf_header.specs.Sound.{IsSound}
 use Rattle.edf_claim.specs.Claims.{IsClaim}
@@ -30,16 +30,6 @@ use Rattle.edf_verdict.specs.declared.verdict.TextField.TheVariants.{Transducer,
 -- the first channel of this label among the signals
 abbrev pub channel_of : List ℕ → List SignalHead → Option SignalHead
 channel_of label signals = find (is_channel_of label) signals
-
--- the labels of borrowed signals rise in the order of bytes
-abbrev pub AreByLabel : List (Bor SignalHead) → Type 0
-AreByLabel = IsSorted (λ x y. slice_cmp nat_cmp x.now.label y.now.label)
-
--- the channels of a header that is sound, in the order of their labels
-pub record IsChannelIndex (h : Head) (sorted : List (Bor SignalHead)) : Type 0 where
-  pub sound : IsSound h
-  pub order : AreByLabel sorted
-  pub same : IsPermutation (filter is_ordinary h.signals) (map (λ x. x.now) sorted)
 
 -- a claimed label, and the channels of this label in the two headers, where there are such
 pub record Claimed : Type 0 where

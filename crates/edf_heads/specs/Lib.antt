@@ -3,6 +3,7 @@ pub mod BlankDifference
 pub mod Calibrations
 pub mod CalibrationDifference
 pub mod Channels
+pub mod ChannelIndexes
 pub mod ChannelDifferences
 pub mod Comparisons
 pub mod Firsts

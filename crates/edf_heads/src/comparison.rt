@@ -6,7 +6,8 @@ ghost use Rattle.edf_heads.specs.ChannelDifferences.{HasNoChannel, IsLeastExtra}
 ghost use Rattle.edf_heads.specs.Comparisons.{claimed_view, HasOnly};
 ghost use Rattle.edf_heads.specs.Firsts.{IsFirstWith};
 
-use crate::channels::{ClaimedChannel, IndexedHeader, claimed_channels};
+use crate::channel_index::ChannelIndex;
+use crate::channels::{ClaimedChannel, claimed_channels};
 use crate::labels::in_order;
 use edf_claim::claim::Claim;
 use edf_header::header::Header;
@@ -17,7 +18,7 @@ use std::marker::Model;
 #[derive(Drop)]
 pub(crate) struct Comparison<'a> {
     pub(crate) original: &'a Header,
-    pub(crate) export: IndexedHeader<'a>,
+    pub(crate) export: ChannelIndex<'a>,
     pub(crate) claim: &'a Claim,
     /// The claimed channels, in claim's order.
     pub(crate) claimed: Vec<ClaimedChannel<'a>>,
@@ -72,8 +73,8 @@ impl<'a> Comparison<'a> {
         ensures { IfOk result (λ c. c ≡ record { original = original.entry.now; export = export.entry.now; claim = claim.entry.now }) }
     {
         let labels = in_order(alloc, claim.channels())?;
-        let channels = IndexedHeader::new(alloc, original)?;
-        let export = IndexedHeader::new(alloc, export)?;
+        let channels = ChannelIndex::new(alloc, original)?;
+        let export = ChannelIndex::new(alloc, export)?;
         let claimed = claimed_channels(alloc, &channels, &export, claim.channels())?;
         Ok(Comparison {
             original,

@@ -5,7 +5,6 @@ ghost use Rattle.std.specs.Cmp.Lexicographic.{slice_cmp};
 ghost use Rattle.std.specs.List.Sorted.{IsSorted};
 ghost use Rattle.std.specs.Ordering.{nat_cmp};
 ghost use Rattle.edf_fields.specs.Lists.{Has, is_one_of};
-ghost use Rattle.edf_fields.specs.Distinct.{AreDistinct};
 ghost use Rattle.edf_heads.specs.Comparisons.{AreSorted};
 
 use edf_fields::label::SignalLabel;
@@ -29,8 +28,7 @@ fn borrow_each(alloc: Global, labels: &[SignalLabel]) -> Result<Vec<&[u8]>, Allo
 ///
 /// The error is want of memory.
 pub fn in_order(alloc: Global, labels: &[SignalLabel]) -> Result<Vec<&[u8]>, AllocError>
-    ensures sorted { IfOk result (λ sorted. AreSorted labels.entry.now sorted.items) }
-    ensures distinct { IfOk result (λ sorted. AreDistinct labels.entry.now → AreDistinct (map (λ label. label.now) sorted.items)) }
+    ensures { IfOk result (λ sorted. AreSorted labels.entry.now sorted.items) }
 {
     let mut sorted = borrow_each(alloc, labels)?;
     sorted.sort_unstable();
@@ -38,7 +36,7 @@ pub fn in_order(alloc: Global, labels: &[SignalLabel]) -> Result<Vec<&[u8]>, All
 }
 
 /// The place of the label among these, which are in the order of their bytes.
-pub fn found_at(sorted: &[&[u8]], label: &[u8]) -> Option<usize>
+fn found_at(sorted: &[&[u8]], label: &[u8]) -> Option<usize>
     requires { IsSorted (λ x y. slice_cmp nat_cmp x.now y.now) sorted.now }
     ensures { MatchOption result
         (Has (map (λ t. t.now) sorted.now) label.now → ⊥)
@@ -56,7 +54,7 @@ pub fn found_at(sorted: &[&[u8]], label: &[u8]) -> Option<usize>
 
 /// Whether the label is one of these, which are in the order of their bytes.
 #[tactic(auto, using(crate::proofs::LabelFacts::found_said))]
-pub fn is_found(sorted: &[&[u8]], label: &[u8]) -> bool
+pub(crate) fn is_found(sorted: &[&[u8]], label: &[u8]) -> bool
     requires { IsSorted (λ x y. slice_cmp nat_cmp x.now y.now) sorted.now }
     ensures { result ≡ is_one_of (map (λ t. t.now) sorted.now) label.now }
 {

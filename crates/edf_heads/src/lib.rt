@@ -4,6 +4,7 @@
 
 mod blank;
 mod calibrations;
+pub mod channel_index;
 mod channel_texts;
 mod channels;
 mod comparison;

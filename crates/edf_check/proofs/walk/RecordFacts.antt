@@ -20,7 +20,7 @@ use Rattle.edf_stream.specs.Starts.{file_start}
 use Rattle.edf_stream.specs.StartsReading.{start_in, start_at, end_at}
 use Rattle.edf_header.specs.Channels.{channels_among}
 use Rattle.edf_stream.specs.Values.{digital}
-use Rattle.edf_stream.proofs.ForCallers.{samples_are_of_channels, samples_rise, records_follow_on, starts-behind, starts_late}
+use Rattle.edf_stream.proofs.ForCallers.{samples_are_of_channels, samples_rise, starts-behind, starts_late}
 use Rattle.edf_check.specs.declared.walk.channel_place.ChannelPlace.{ChannelPlace}
 use Rattle.edf_check.specs.declared.samples.point.Point.{Point}
 use Rattle.edf_check.specs.samples.Columns.{point_of, is_of, is_kept, points_of}

@@ -1,5 +1,5 @@
 -- What is kept of annotations that come one after the other. These are steps between the definitions and the code.
-use Rattle.std.specs.Prelude.{◌≡◌, refl, ℤ, List, [], ◌∷◌, ◌++◌, map, filter, Option, IsTrue}
+use Rattle.std.specs.Prelude.{◌≡◌, refl, ℤ, List, [], ◌++◌, map, filter, Option, IsTrue}
 use Rattle.std.proofs.Common.{sym, ap, ◌∙◌, append_assoc}
 use Rattle.std.proofs.lemmas.List.{append-nil, map-append}
 use Rattle.std.proofs.lemmas.List.Elements.{filter-append}

@@ -1,9 +1,5 @@
 use Rattle.std.proofs.Common.{◌≡◌, ◌*◌, ◌∙◌, Bor, List, ℕ, IfSome, length, map, sym, ap, subst}
-use Rattle.std.specs.Cmp.Lexicographic.{slice_cmp}
 use Rattle.std.specs.List.{All}
-use Rattle.std.specs.List.Sorted.{IsSorted}
-use Rattle.std.specs.Ordering.{nat_cmp}
-use Rattle.edf_fields.specs.Distinct.{AreDistinct}
 use Rattle.edf_header.specs.Heads.{Head, samples_together}
 use Rattle.edf_header.specs.Channels.{channels_among}
 use Rattle.edf_check.specs.samples.Columns.{channel_at}
@@ -34,7 +30,7 @@ returns-in-Ok-Ok-clause-walked g c = λ ho he a b so se agree.
     let f : Head → Head → Bor (List ℕ) → Places = λ h k label. (channel_at label.now h, channel_at label.now k) in
     let places = ap (map places_of) c.deref-3.ensures.value ∙ c.in_ok-pairs.ensures.places ∙ ap (map (f c.header-2.result.now c.header-3.result.now)) (c.deref.ensures.value ∙ sym c.deref-in-Ok-Ok.ensures.value)
     ∙ ap (λ h. map (f h c.header-3.result.now) labels) c.header-2.ensures ∙ ap (λ k. map (f r.head k) labels) c.header-3.ensures in
-    let sorted = subst (λ (ls : List (List ℕ)). AreSorted ls c.in_ok-labels.labels.items) c.channels.ensures.channels c.in_ok-labels.ensures.sorted in
+    let sorted = subst (λ (ls : List (List ℕ)). AreSorted ls c.in_ok-labels.labels.items) c.channels.ensures.channels c.in_ok-labels.ensures in
     let here = subst (AreSorted claim.channels) (sym c.deref-in-Ok-Ok.ensures.value) sorted in
     c.in_ok-walked-in-Ok-Ok.ensures.walked a b claim
     (found-of a b claim r s (g.O.Source.left c.args.o.now) (g.E.Source.left c.args.e.now) (g.O.Source.left c.walk_records.new.o) (g.E.Source.left c.walk_records.new.e)
@@ -59,14 +55,6 @@ pub returns-in-Ok-Err-clause-read : goal.returns-in-Ok-Err-clause-read
 returns-in-Ok-Err-clause-read g c = λ ho he a b so se.
     let out = rw c.in-Ok-Err.field-0-is at c.in-Ok-Err.ensures.out in
     c.walked.ensures.read (g.O.Source.left c.walk_records.new.o) (g.E.Source.left c.walk_records.new.e) (out ho he a b so se)
-
-pub pairs_of-requires-clause-order : goal.pairs_of-requires-clause-order
-pairs_of-requires-clause-order g c = subst (λ (ls : List (Bor (List ℕ))). IsSorted (λ x y. slice_cmp nat_cmp x.now y.now) ls) (sym c.deref.ensures.value) c.in_ok-labels.ensures.sorted.order
-
-pub pairs_of-requires-clause-distinct : goal.pairs_of-requires-clause-distinct
-pairs_of-requires-clause-distinct g c =
-    subst (λ (ls : List (Bor (List ℕ))). AreDistinct (map (λ l. l.now) ls)) (sym c.deref.ensures.value)
-    (c.in_ok-labels.ensures.distinct (subst (λ (ls : List (List ℕ)). AreDistinct ls) (sym c.channels.ensures.channels) c.channels.ensures.sound.distinct_channels))
 
 pub walk_records-requires-clause-laid : goal.walk_records-requires-clause-laid
 walk_records-requires-clause-laid g c =

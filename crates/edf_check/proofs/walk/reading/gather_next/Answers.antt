@@ -1,4 +1,4 @@
-use Rattle.std.proofs.Common.{◌≡◌, ◌∙◌, ◌++◌, ◌+ℤ◌, sym, ap, map}
+use Rattle.std.proofs.Common.{◌∙◌, ◌++◌, ◌+ℤ◌, sym, ap, map}
 use Rattle.edf_stream.specs.Starts.{file_start}
 use Rattle.edf_stream.specs.Views.{note_value}
 use Rattle.edf_check.specs.walk.Gathered.{claim_of, gathered_in}

@@ -3,7 +3,7 @@ use Rattle.edf_header.specs.Heads.{Head}
 use Rattle.edf_heads.specs.ChannelDifferences.{IsLeastExtra}
 use Rattle.edf_heads.specs.Comparisons.{HasNoExtra}
 use Rattle.edf_heads.proofs.ComparisonFacts.{extra_said}
-use Rattle.edf_heads.proofs.channels.IndexedHeader.least_extra.Goals as goal
+use Rattle.edf_heads.proofs.channel_index.ChannelIndex.least_extra.Goals as goal
 
 pub returns : goal.returns
 returns c = λ labels is.
