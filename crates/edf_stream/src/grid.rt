@@ -1,6 +1,6 @@
 //! Where data records and the samples of their lanes stand in time, in exact numerators.
 
-ghost use Rattle.std.specs.Prelude.{◌≡◌, ◌<◌, ◌≤◌, ◌*◌, ◌^◌, ◌*ℤ◌, ◌+ℤ◌, pos, unsigned_abs};
+ghost use Rattle.std.specs.Prelude.{◌≡◌, ◌<◌, ◌≤◌, ◌+◌, ◌*◌, ◌^◌, ◌*ℤ◌, ◌+ℤ◌, pos, unsigned_abs};
 ghost use Rattle.edf_stream.specs.InstantOrder.{IsSmall};
 ghost use Rattle.edf_stream.specs.SamplesReading.{instant_on};
 ghost use Rattle.edf_stream.specs.Starts.{file_start};
@@ -60,14 +60,30 @@ pub(crate) struct Grid {
     pub den: u32,
 }
 
-/// A number of steps.
-fn steps(step: i128, place: usize) -> i128
+/// How far so many steps lead.
+///
+/// It is asked for steps and counts as the data records of a file have them.
+pub fn distance(step: i128, count: usize) -> i128
     requires step { unsigned_abs step < 2 ^ 68 }
-    requires place { place < 2 ^ 24 }
-    ensures value { result ≡ pos place *ℤ step }
+    requires count { count < 2 ^ 24 }
+    ensures value { result ≡ pos count *ℤ step }
     ensures small { unsigned_abs result < 2 ^ 92 }
 {
-    place as i128 * step
+    count as i128 * step
+}
+
+/// The numerator of the sample at a place of a lane whose first sample has the numerator `start`, and each
+/// further one that of the one before it and `step`. EDF (1992), "Data record".
+///
+/// It is asked for numerators, steps and places as the data records of a file have them.
+pub fn num_at(start: i128, step: i128, place: usize) -> i128
+    requires start { unsigned_abs start < 2 ^ 104 }
+    requires step { unsigned_abs step < 2 ^ 68 }
+    requires place { place < 2 ^ 24 }
+    ensures value { result ≡ start +ℤ pos place *ℤ step }
+    ensures small { unsigned_abs result < unsigned_abs start + 2 ^ 92 }
+{
+    start + distance(step, place)
 }
 
 /// A number of picoseconds in units of 1 / `den` picoseconds.
@@ -108,7 +124,7 @@ impl Grid {
         ensures small { IsSmall result }
     {
         Instant {
-            num: self.start + steps(self.step, place),
+            num: num_at(self.start, self.step, place),
             den: self.den,
         }
     }

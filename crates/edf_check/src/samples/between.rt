@@ -7,8 +7,9 @@ ghost use Rattle.edf_check.specs.samples.Shares.{IsShareOf};
 ghost use Rattle.edf_check.specs.samples.Stretches.{points_in, stretch_points, IsBounded, IsPart};
 
 use crate::samples::share::Share;
-use crate::samples::stretch::{Stretch, count_before, num_at};
+use crate::samples::stretch::{Stretch, count_before};
 use crate::walk::time::Window;
+use edf_stream::grid::num_at;
 
 /// That of lanes without samples.
 pub(crate) fn share_of_none() -> Share

@@ -15,6 +15,7 @@ use crate::samples::difference::{PointDifference, difference_of_heads};
 use crate::samples::instants::product;
 use crate::samples::point::Point;
 use crate::walk::time::Time;
+use edf_stream::grid::{distance, num_at};
 use edf_stream::instant::Instant;
 use edf_stream::value::value_at;
 use edf_verdict::verdict::SampleMismatch;
@@ -59,27 +60,6 @@ fn count_in(bytes: &[u8]) -> usize
     ensures all { length bytes.now ≤ 2 * result + 1 }
 {
     whole_samples(bytes.len())
-}
-
-/// How far so many steps lead.
-fn distance(step: i128, count: usize) -> i128
-    requires step { unsigned_abs step < 2 ^ 68 }
-    requires count { count ≤ 2 ^ 23 }
-    ensures value { result ≡ pos count *ℤ step }
-    ensures small { unsigned_abs result < 2 ^ 92 }
-{
-    count as i128 * step
-}
-
-/// The numerator of the sample at a place.
-pub(crate) fn num_at(num: i128, step: i128, place: usize) -> i128
-    requires num { unsigned_abs num < 2 ^ 104 - 2 ^ 92 }
-    requires step { unsigned_abs step < 2 ^ 68 }
-    requires place { place ≤ 2 ^ 23 }
-    ensures value { result ≡ num +ℤ pos place *ℤ step }
-    ensures small { unsigned_abs result < unsigned_abs num + 2 ^ 92 }
-{
-    num + distance(step, place)
 }
 
 /// The instant of the sample at a place.
