@@ -62,7 +62,8 @@ fn go_on<S: Source, K: NoteKeeper>(
     ensures fault { IfOk result (λ found. IfSome found (λ fault. OfFile (S.is_honest source.old) (StandsIn reader.old (S.left source.old))
         (λ file. body_fault file reader.old.head ≡ Some fault))) }
     ensures failures { OnOk result (S.failures source.new ≡ S.failures source.old) }
-    ensures kept { IfOk result (λ found. IfNone found (is_current reader.new.status ≡ true → K.got keeper.old (notes_in reader.new.head reader.new.current) keeper.new)) }
+    ensures kept { IfOk result (λ found. IfNone found (is_current reader.new.status ≡ true →
+        K.got keeper.old (notes_in reader.new.head reader.new.current) keeper.new)) }
     ensures none { IfOk result (λ found. IfNone found (is_current reader.new.status ≡ false → keeper.new ≡ keeper.old)) }
     ensures stop { IfErr result (SideStops side (Rises (S.failures source.old) (S.failures source.new))
         (S.failures source.new ≡ S.failures source.old)) }
