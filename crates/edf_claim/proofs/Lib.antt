@@ -3,6 +3,7 @@ pub mod BorderFacts
 pub mod FaultFacts
 pub mod KeepsFacts
 pub mod OrderFacts
+pub mod PrefixFacts
 pub mod ReadingFacts
 pub mod SaidFacts
 pub mod SortedFacts

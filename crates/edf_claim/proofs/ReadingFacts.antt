@@ -1,5 +1,5 @@
 -- A table that passes its tests says the claim that is read of it.
-use Rattle.std.proofs.Common.{◌≡◌, ◌≢◌, ℕ, ℤ, pos, neg_ℤ, ◌-◌, ◌^◌, ◌==◌, nat_le, nat_lt, int_le, int_lt, not, ◌&&◌, Bool, true, false, cond, List, [], ◌∷◌, length, map, slice_index, Option, Some, None, is_some, unwrap_or, option_map, option_and_then, codes, ◌⊎◌, inl, inr, refl, sym, ap, ◌∙◌, subst, arith}
+use Rattle.std.proofs.Common.{◌≡◌, ◌≢◌, ℕ, ℤ, pos, neg_ℤ, ◌-◌, ◌^◌, ◌==◌, nat_le, nat_lt, int_le, int_lt, not, ◌&&◌, Bool, true, false, cond, List, [], ◌∷◌, length, map, slice_index, Option, Some, None, is_some, unwrap_or, option_map, option_and_then, codes, ◌⊎◌, inl, inr, ⊎_elim, ◌||◌, ◌<◌, refl, sym, ap, ◌∙◌, subst, arith}
 use Rattle.std.specs.List.{All, list_all}
 use Rattle.std.specs.Str.{bytes_eq}
 use Rattle.std.proofs.lemmas.Bool.Decides.{Decides-int_eq}
@@ -10,17 +10,18 @@ use Rattle.toml.specs.Data.{Data, string, integer, float, boolean, datetime, arr
 use Rattle.edf_fields.specs.PrintableReading.{is_printable}
 use Rattle.edf_fields.specs.OnsetsReading.{span_of}
 use Rattle.edf_fields.proofs.ForCallers.{le_decided, span_of_some, span_small, and-true, not-true, one_of-has, distinct-tested, first-cons, unless-passed, printable_decided}
-use Rattle.edf_claim.specs.Claims.{text_items, HasOnlyKeys, claim_keys, interval_keys, IsLabel, SaysInterval, AreIntervals, IsFollowedBy, AreInOrder, IsInterval, IsClaim, SaysFormat, SaysChannels, SaysKeep, SaysAnonymous, SaysShift, SaysRemove, SaysClaim}
+use Rattle.edf_claim.specs.Claims.{text_items, HasOnlyKeys, claim_keys, more_claim_keys, interval_keys, IsLabel, SaysInterval, AreIntervals, IsFollowedBy, AreInOrder, IsInterval, IsClaim, SaysFormat, HasFormat, HasKeysOfFormat, SaysChannels, SaysKeep, SaysAnonymous, SaysShift, SaysRemove, SaysRemovePrefix, SaysBlank, SaysClaim}
 use Rattle.edf_fields.specs.SubfieldNames.{name_of}
 use Rattle.edf_claim.specs.Terms.{Terms}
 use Rattle.edf_fields.specs.Lists.{Has, is_one_of}
 use Rattle.edf_fields.specs.Distinct.{AreDistinct, are_distinct}
-use Rattle.edf_claim.specs.Reading.{integer_of, text_at, keys_are, texts_of, distinct_texts, option_is, is_format_one, is_label, channels_of, span_at, interval_from, interval_of, intervals_of, is_followed_by, are_in_order, keep_of, whiches_of, or_default, anonymous_of, shift_within, shift_of, remove_of, claim_fault, terms_of}
+use Rattle.edf_claim.specs.Reading.{integer_of, text_at, keys_are, texts_of, distinct_texts, distinct_prefixes, option_is, is_format, has_format, has_keys_of_format, is_label, channels_of, span_at, interval_from, interval_of, intervals_of, is_followed_by, are_in_order, keep_of, whiches_of, or_default, anonymous_of, shift_within, shift_of, remove_of, remove_prefix_of, blank_of, claim_fault, terms_of}
 use Rattle.edf_fields.specs.SubfieldNamesReading.{named_in, all_subfields, which_of}
 use Rattle.edf_fields.specs.Tests.{unless}
 use Rattle.edf_claim.specs.declared.interval.Interval.{Interval}
-use Rattle.edf_claim.specs.declared.stop.ClaimStop.TheVariants.{BadFormat, UnknownKey, BadChannels, BadKeep, BadAnonymous, BadShift, BadRemove}
+use Rattle.edf_claim.specs.declared.stop.ClaimStop.TheVariants.{BadFormat, UnknownKey, BadChannels, BadKeep, BadAnonymous, BadShift, BadRemove, BadRemovePrefix, BadBlank}
 use Rattle.edf_fields.specs.declared.which.Which.{Which}
+use Rattle.edf_claim.proofs.FaultFacts.{AreParts}
 
 -- what options and tests say that gave something
 bind_some : {X Y : Type 0} (f : X → Option Y) (o : Option X) (y : Y) → option_and_then f o ≡ Some y → (x : X) × (o ≡ Some x) × (f x ≡ Some y)
@@ -298,6 +299,51 @@ remove-said entries ts h =
       | inr there ↦ let d = distinct_are there.0 ts there.2 in record { said = inr (there.1 ∙ ap Some d.0); distinct = d.1 }
     ]
 
+-- what an array of prefixes is read as
+pub prefixes-none : (d : Data) (ts : List (List ℕ)) → Some ts ≡ distinct_texts d → false ≡ list_all (λ t. nat_lt 0 (length t)) ts → None ≡ distinct_prefixes d
+prefixes-none d ts read tested =
+    ap (λ b. cond b (Some ts) None) tested ∙ ap (λ o. option_and_then (λ us. cond (list_all (λ t. nat_lt 0 (length t)) us) (Some us) None) o) read
+
+pub prefixes-some : (d : Data) (ts : List (List ℕ)) → Some ts ≡ distinct_texts d → true ≡ list_all (λ t. nat_lt 0 (length t)) ts → Some ts ≡ distinct_prefixes d
+prefixes-some d ts read tested =
+    ap (λ b. cond b (Some ts) None) tested ∙ ap (λ o. option_and_then (λ us. cond (list_all (λ t. nat_lt 0 (length t)) us) (Some us) None) o) read
+
+-- texts none of which is empty
+some-tested : (ts : List (List ℕ)) → list_all (λ t. nat_lt 0 (length t)) ts ≡ true → All (λ t. t ≢ []) ts
+some-tested [] h = All-nil (λ (t : List ℕ). t ≢ [])
+some-tested (t ∷ ts) h =
+    let both = and-true (nat_lt 0 (length t)) (list_all (λ u. nat_lt 0 (length u)) ts) h in
+    let some : 0 < length t = (le_decided 1 (length t)).0 both.0 in
+    All-cons (λ (u : List ℕ). u ≢ []) t ts (λ e. let z : length t ≡ 0 = ap length e in absurd (omega (arith, some, z))) (some-tested ts both.1)
+
+pub remove-prefix-said : (entries : Members) (ts : List (List ℕ)) → remove_prefix_of entries ≡ Some ts → SaysRemovePrefix entries ts
+unfolding remove_prefix_of
+remove-prefix-said entries ts h =
+    elim (or-default [] distinct_prefixes (get_member (codes "remove-prefix") entries) ts h) [
+      | inl absent ↦ record {
+        said = inl absent;
+        distinct = subst (λ (us : List (List ℕ)). AreDistinct us) (sym absent.1) tt;
+        some_bytes = subst (λ (us : List (List ℕ)). All (λ (t : List ℕ). t ≢ []) us) (sym absent.1) (All-nil (λ (t : List ℕ). t ≢ []));
+      }
+      | inr there ↦
+          let a = bind_some (λ us. cond (list_all (λ t. nat_lt 0 (length t)) us) (Some us) None) (distinct_texts there.0) ts there.2 in
+          let t = test_some (list_all (λ t. nat_lt 0 (length t)) a.0) a.0 ts a.2 in
+          let d = distinct_are there.0 a.0 a.1 in
+          record {
+            said = inr (there.1 ∙ ap Some (d.0 ∙ ap (λ us. array (text_items us)) t.1));
+            distinct = subst (λ (us : List (List ℕ)). AreDistinct us) t.1 d.1;
+            some_bytes = subst (λ (us : List (List ℕ)). All (λ (t : List ℕ). t ≢ []) us) t.1 (some-tested a.0 t.0);
+          }
+    ]
+
+pub blank-said : (entries : Members) (ts : List (List ℕ)) → blank_of entries ≡ Some ts → SaysBlank entries ts
+unfolding blank_of
+blank-said entries ts h =
+    elim (or-default [] distinct_texts (get_member (codes "blank") entries) ts h) [
+      | inl absent ↦ record { said = inl absent; distinct = subst (λ (us : List (List ℕ)). AreDistinct us) (sym absent.1) tt }
+      | inr there ↦ let d = distinct_are there.0 ts there.2 in record { said = inr (there.1 ∙ ap Some d.0); distinct = d.1 }
+    ]
+
 -- what a table says is a claim
 pub said-sound : (entries : Members) (c : Terms) → SaysClaim entries c → IsClaim c
 said-sound entries c s = record {
@@ -312,64 +358,98 @@ said-sound entries c s = record {
   not_far_back = s.shift.not_far_back;
   not_far_on = s.shift.not_far_on;
   distinct_remove = s.remove.distinct;
+  distinct_prefixes = s.remove_prefix.distinct;
+  some_prefixes = s.remove_prefix.some_bytes;
+  distinct_blank = s.blank.distinct;
 }
 
 pub is-some : {X : Type 0} (o : Option X) → is_some o ≡ true → (x : X) × (o ≡ Some x)
 is-some None h = absurd (let e : false ≡ true = h in cc)
 is-some (Some x) h = (x, refl)
 
-pub format-said : (entries : Members) → is_format_one entries ≡ true → SaysFormat entries
-unfolding is_format_one
-format-said entries h =
+format-is : (entries : Members) (format : ℕ) → is_format (pos format) entries ≡ true → SaysFormat format entries
+format-is entries format h =
     let one = format-case (integer_of (codes "format") entries) refl h in
-    let a = bind_some as_integer (get_member (codes "format") entries) (pos 1) one in
-    a.1 ∙ ap Some (integer_is a.0 (pos 1) a.2)
+    let a = bind_some as_integer (get_member (codes "format") entries) (pos format) one in
+    a.1 ∙ ap Some (integer_is a.0 (pos format) a.2)
   where
-    format-case : (o : Option ℤ) → integer_of (codes "format") entries ≡ o → option_is (pos 1) o ≡ true → integer_of (codes "format") entries ≡ Some (pos 1)
+    format-case : (o : Option ℤ) → integer_of (codes "format") entries ≡ o → option_is (pos format) o ≡ true → integer_of (codes "format") entries ≡ Some (pos format)
     format-case None e t = absurd (let z : false ≡ true = t in cc)
-    format-case (Some y) e t = e ∙ ap Some ((Decides-int_eq y (pos 1)).0 t)
+    format-case (Some y) e t = e ∙ ap Some ((Decides-int_eq y (pos format)).0 t)
+
+or-either : (a b : Bool) → (a || b) ≡ true → (a ≡ true) ⊎ (b ≡ true)
+or-either true b h = inl refl
+or-either false b h = inr h
+
+pub format-said : (entries : Members) → has_format entries ≡ true → HasFormat entries
+unfolding has_format
+format-said entries h = ⊎_elim (λ e. inl (format-is entries 1 e)) (λ e. inr (format-is entries 2 e)) (or-either (is_format (pos 1) entries) (is_format (pos 2) entries) h)
+
+pub keys-said : (entries : Members) → has_keys_of_format entries ≡ true → HasKeysOfFormat entries
+unfolding has_keys_of_format
+keys-said entries h =
+    ⊎_elim
+    (λ e. let both = and-true (is_format (pos 1) entries) (keys_are claim_keys entries) e in inl (format-is entries 1 both.0, keys-tested claim_keys entries both.1))
+    (λ e. let both = and-true (is_format (pos 2) entries) (keys_are more_claim_keys entries) e in inr (format-is entries 2 both.0, keys-tested more_claim_keys entries both.1))
+    (or-either (is_format (pos 1) entries && keys_are claim_keys entries) (is_format (pos 2) entries && keys_are more_claim_keys entries) h)
 
 -- the parts that are read are those of the claim that is read
-pub terms-are : (entries : Members) (cs : List (List ℕ)) (is : List Interval) (ws : List Which) (z : ℤ) (ts : List (List ℕ)) → channels_of entries ≡ Some cs → keep_of entries ≡ Some is → anonymous_of entries ≡ Some ws → shift_of entries ≡ Some z
-    → remove_of entries ≡ Some ts → record { channels = cs; keep = is; anonymous = ws; shift = z; remove = ts } ≡ terms_of entries
-terms-are entries cs is ws z ts c k a s r =
-    let say : List (List ℕ) → List Interval → List Which → ℤ → List (List ℕ) → Terms =
-    λ cs is ws z ts. record { channels = cs; keep = is; anonymous = ws; shift = z; remove = ts } in
-    ap (λ o. say (unwrap_or o []) is ws z ts) (sym c)
-    ∙ ap (λ o. say (terms_of entries).channels (unwrap_or o []) ws z ts) (sym k)
-    ∙ ap (λ o. say (terms_of entries).channels (terms_of entries).keep (unwrap_or o []) z ts) (sym a)
-    ∙ ap (λ o. say (terms_of entries).channels (terms_of entries).keep (terms_of entries).anonymous (unwrap_or o (pos 0)) ts) (sym s)
-    ∙ ap (λ o. say (terms_of entries).channels (terms_of entries).keep (terms_of entries).anonymous (terms_of entries).shift (unwrap_or o [])) (sym r)
+pub terms-are : (entries : Members) (c : Terms) → AreParts entries c → c ≡ terms_of entries
+terms-are entries c p =
+    let t = terms_of entries in
+    ap (λ o. record { channels = unwrap_or o []; keep = c.keep; anonymous = c.anonymous; shift = c.shift; remove = c.remove; remove_prefix = c.remove_prefix; blank = c.blank }) (sym p.channels)
+    ∙ ap (λ o. record { channels = t.channels; keep = unwrap_or o []; anonymous = c.anonymous; shift = c.shift; remove = c.remove; remove_prefix = c.remove_prefix; blank = c.blank }) (sym p.keep)
+    ∙ ap (λ o. record { channels = t.channels; keep = t.keep; anonymous = unwrap_or o []; shift = c.shift; remove = c.remove; remove_prefix = c.remove_prefix; blank = c.blank }) (sym p.anonymous)
+    ∙ ap (λ o. record { channels = t.channels; keep = t.keep; anonymous = t.anonymous; shift = unwrap_or o (pos 0); remove = c.remove; remove_prefix = c.remove_prefix; blank = c.blank }) (sym p.shift)
+    ∙ ap (λ o. record { channels = t.channels; keep = t.keep; anonymous = t.anonymous; shift = t.shift; remove = unwrap_or o []; remove_prefix = c.remove_prefix; blank = c.blank }) (sym p.remove)
+    ∙ ap (λ o. record { channels = t.channels; keep = t.keep; anonymous = t.anonymous; shift = t.shift; remove = t.remove; remove_prefix = unwrap_or o []; blank = c.blank }) (sym p.remove_prefix)
+    ∙ ap (λ o. record { channels = t.channels; keep = t.keep; anonymous = t.anonymous; shift = t.shift; remove = t.remove; remove_prefix = t.remove_prefix; blank = unwrap_or o [] }) (sym p.blank)
 
 pub table-says : (entries : Members) → claim_fault entries ≡ None → SaysClaim entries (terms_of entries)
 unfolding claim_fault
 table-says entries h =
-    let t1 = unless (is_format_one entries) BadFormat in
-    let t2 = unless (keys_are claim_keys entries) UnknownKey in
+    let t1 = unless (has_format entries) BadFormat in
+    let t2 = unless (has_keys_of_format entries) UnknownKey in
     let t3 = unless (is_some (channels_of entries)) BadChannels in
     let t4 = unless (is_some (keep_of entries)) BadKeep in
     let t5 = unless (is_some (anonymous_of entries)) BadAnonymous in
     let t6 = unless (is_some (shift_of entries)) BadShift in
     let t7 = unless (is_some (remove_of entries)) BadRemove in
-    let p1 = first-cons t1 (t2 ∷ t3 ∷ t4 ∷ t5 ∷ t6 ∷ t7 ∷ []) h in
-    let p2 = first-cons t2 (t3 ∷ t4 ∷ t5 ∷ t6 ∷ t7 ∷ []) p1.1 in
-    let p3 = first-cons t3 (t4 ∷ t5 ∷ t6 ∷ t7 ∷ []) p2.1 in
-    let p4 = first-cons t4 (t5 ∷ t6 ∷ t7 ∷ []) p3.1 in
-    let p5 = first-cons t5 (t6 ∷ t7 ∷ []) p4.1 in
-    let p6 = first-cons t6 (t7 ∷ []) p5.1 in
-    let p7 = first-cons t7 [] p6.1 in
+    let t8 = unless (is_some (remove_prefix_of entries)) BadRemovePrefix in
+    let t9 = unless (is_some (blank_of entries)) BadBlank in
+    let p1 = first-cons t1 (t2 ∷ t3 ∷ t4 ∷ t5 ∷ t6 ∷ t7 ∷ t8 ∷ t9 ∷ []) h in
+    let p2 = first-cons t2 (t3 ∷ t4 ∷ t5 ∷ t6 ∷ t7 ∷ t8 ∷ t9 ∷ []) p1.1 in
+    let p3 = first-cons t3 (t4 ∷ t5 ∷ t6 ∷ t7 ∷ t8 ∷ t9 ∷ []) p2.1 in
+    let p4 = first-cons t4 (t5 ∷ t6 ∷ t7 ∷ t8 ∷ t9 ∷ []) p3.1 in
+    let p5 = first-cons t5 (t6 ∷ t7 ∷ t8 ∷ t9 ∷ []) p4.1 in
+    let p6 = first-cons t6 (t7 ∷ t8 ∷ t9 ∷ []) p5.1 in
+    let p7 = first-cons t7 (t8 ∷ t9 ∷ []) p6.1 in
+    let p8 = first-cons t8 (t9 ∷ []) p7.1 in
+    let p9 = first-cons t9 [] p8.1 in
     let channels = is-some (channels_of entries) (unless-passed (is_some (channels_of entries)) BadChannels p3.0) in
     let keep = is-some (keep_of entries) (unless-passed (is_some (keep_of entries)) BadKeep p4.0) in
     let anonymous = is-some (anonymous_of entries) (unless-passed (is_some (anonymous_of entries)) BadAnonymous p5.0) in
     let shift = is-some (shift_of entries) (unless-passed (is_some (shift_of entries)) BadShift p6.0) in
     let remove = is-some (remove_of entries) (unless-passed (is_some (remove_of entries)) BadRemove p7.0) in
-    let same = terms-are entries channels.0 keep.0 anonymous.0 shift.0 remove.0 channels.1 keep.1 anonymous.1 shift.1 remove.1 in
+    let prefix = is-some (remove_prefix_of entries) (unless-passed (is_some (remove_prefix_of entries)) BadRemovePrefix p8.0) in
+    let blank = is-some (blank_of entries) (unless-passed (is_some (blank_of entries)) BadBlank p9.0) in
+    let c : Terms = record { channels = channels.0; keep = keep.0; anonymous = anonymous.0; shift = shift.0; remove = remove.0; remove_prefix = prefix.0; blank = blank.0 } in
+    let same : c ≡ terms_of entries = terms-are entries c (record {
+      channels = channels.1;
+      keep = keep.1;
+      anonymous = anonymous.1;
+      shift = shift.1;
+      remove = remove.1;
+      remove_prefix = prefix.1;
+      blank = blank.1;
+    }) in
     subst (λ (t : Terms). SaysClaim entries t) same (record {
-      format = format-said entries (unless-passed (is_format_one entries) BadFormat p1.0);
-      keys = keys-tested claim_keys entries (unless-passed (keys_are claim_keys entries) UnknownKey p2.0);
+      keys = keys-said entries (unless-passed (has_keys_of_format entries) UnknownKey p2.0);
       channels = channels-said entries channels.0 channels.1;
       keep = keep-said entries keep.0 keep.1;
       anonymous = anonymous-said entries anonymous.0 anonymous.1;
       shift = shift-said entries shift.0 shift.1;
       remove = remove-said entries remove.0 remove.1;
+      remove_prefix = remove-prefix-said entries prefix.0 prefix.1;
+      blank = blank-said entries blank.0 blank.1;
     })

@@ -1,29 +1,28 @@
 -- A table that says a claim passes its tests, and the claim is the one that is read of it.
-use Rattle.std.proofs.Common.{◌≡◌, ◌≢◌, ℕ, suc, ℤ, pos, neg_ℤ, ◌-◌, ◌^◌, ◌==◌, nat_le, nat_lt, int_le, int_lt, not, ◌&&◌, Bool, true, false, cond, List, [], ◌∷◌, length, map, slice_index, Option, Some, None, is_some, option_map, option_and_then, codes, inl, inr, ⊎_elim, ◌↔◌, refl, sym, ap, ◌∙◌, subst, arith}
+use Rattle.std.proofs.Common.{◌≡◌, ◌≢◌, ℕ, suc, ℤ, pos, neg_ℤ, ◌-◌, ◌^◌, ◌==◌, nat_le, nat_lt, int_le, int_lt, not, ◌&&◌, ◌||◌, ◌⊎◌, Bool, true, false, cond, List, [], ◌∷◌, length, map, slice_index, Option, Some, None, is_some, option_map, option_and_then, codes, inl, inr, ⊎_elim, ◌↔◌, refl, sym, ap, ◌∙◌, subst, arith}
 use Rattle.std.specs.List.{All, list_all}
 use Rattle.std.specs.Str.{bytes_eq}
-use Rattle.std.proofs.lemmas.Bool.Decides.{nat_tests}
+use Rattle.std.proofs.lemmas.Bool.Decides.{nat_tests, Decides-int_eq}
 use Rattle.std.proofs.lemmas.Slice.Eq.{bytes_eq-Decides}
 use Rattle.toml.specs.Data.{Data, string, array, Items, Members, no_members, member, get_member, as_str, as_integer, as_array}
 use Rattle.edf_fields.specs.PrintableReading.{is_printable}
 use Rattle.edf_fields.specs.Onsets.{SpellsSpan}
 use Rattle.edf_fields.specs.OnsetsReading.{span_of}
 use Rattle.edf_fields.proofs.ForCallers.{le_decided, span_of_spelled, has-one_of, both-true, not-is, distinct-passes, le-passes, lt-passes, printable_decided, which-read, same-name}
-use Rattle.edf_claim.specs.Claims.{text_items, HasOnlyKeys, claim_keys, interval_keys, IsLabel, SaysInterval, AreIntervals, IsFollowedBy, AreInOrder, IsInterval, SaysFormat, SaysChannels, SaysKeep, SaysAnonymous, SaysShift, SaysRemove, SaysClaim, SaysOneClaim}
+use Rattle.edf_claim.specs.Claims.{text_items, HasOnlyKeys, claim_keys, more_claim_keys, interval_keys, IsLabel, SaysInterval, AreIntervals, IsFollowedBy, AreInOrder, IsInterval, SaysFormat, HasFormat, HasKeysOfFormat, SaysChannels, SaysKeep, SaysAnonymous, SaysShift, SaysRemove, SaysRemovePrefix, SaysBlank, SaysClaim, SaysOneClaim}
 use Rattle.edf_fields.specs.SubfieldNames.{name_of}
 use Rattle.edf_claim.specs.Terms.{Terms}
 use Rattle.edf_claim.specs.Faults.{FailsOr, FirstTableFault, ThereIs, SaysClaimOrFault, FaultIsFirst}
 use Rattle.edf_fields.specs.Lists.{Has, is_one_of}
 use Rattle.edf_fields.specs.Distinct.{AreDistinct, are_distinct}
-use Rattle.edf_claim.specs.Reading.{option_is, keys_are, texts_of, distinct_texts, is_format_one, is_label, channels_of, span_at, interval_from, interval_of, intervals_of, is_followed_by, are_in_order, keep_of, whiches_of, or_default, anonymous_of, shift_within, shift_of, remove_of, claim_fault, terms_of}
-use Rattle.edf_fields.specs.SubfieldNamesReading.{which_of}
+use Rattle.edf_claim.specs.Reading.{option_is, keys_are, texts_of, distinct_texts, distinct_prefixes, is_format, has_format, has_keys_of_format, is_label, channels_of, span_at, interval_from, interval_of, intervals_of, is_followed_by, are_in_order, keep_of, whiches_of, or_default, anonymous_of, shift_within, shift_of, remove_of, remove_prefix_of, blank_of, claim_fault, terms_of}
 use Rattle.edf_fields.specs.Tests.{first, unless}
 use Rattle.edf_claim.specs.declared.interval.Interval.{Interval}
 use Rattle.edf_fields.specs.declared.which.Which.{Which}
-use Rattle.edf_claim.proofs.FaultFacts.{all-passed}
-use Rattle.edf_claim.proofs.ReadingFacts.{is-some, keys-tested, format-said, channels-said, keep-said, anonymous-said, shift-said, remove-said, terms-are, table-says}
+use Rattle.edf_claim.proofs.FaultFacts.{AreParts, all-passed}
+use Rattle.edf_claim.proofs.ReadingFacts.{is-some, keys-said, format-said, channels-said, keep-said, anonymous-said, shift-said, remove-said, remove-prefix-said, blank-said, terms-are, table-says}
 use Rattle.edf_claim.specs.declared.stop.ClaimStop.{ClaimStop}
-use Rattle.edf_claim.specs.declared.stop.ClaimStop.TheVariants.{BadFormat, UnknownKey, BadChannels, BadKeep, BadAnonymous, BadShift, BadRemove}
+use Rattle.edf_claim.specs.declared.stop.ClaimStop.TheVariants.{BadFormat, UnknownKey, BadChannels, BadKeep, BadAnonymous, BadShift, BadRemove, BadRemovePrefix, BadBlank}
 
 cond-true : {X : Type 0} (b : Bool) (x y : X) → b ≡ true → cond b x y ≡ x
 cond-true true x y h = refl
@@ -154,20 +153,70 @@ remove-read entries texts s =
       | inr there ↦ ap (or_default [] distinct_texts) there ∙ distinct-read texts s.distinct
     ]
 
-format-passes : (entries : Members) → SaysFormat entries → is_format_one entries ≡ true
-unfolding is_format_one
-format-passes entries s = ap (λ o. option_is (pos 1) (option_and_then as_integer o)) s
+some-pass : (ts : List (List ℕ)) → All (λ t. t ≢ []) ts → list_all (λ t. nat_lt 0 (length t)) ts ≡ true
+some-pass [] h = refl
+some-pass (t ∷ ts) h =
+    both-true (nat_lt 0 (length t)) (list_all (λ u. nat_lt 0 (length u)) ts) (not-empty t (h 0 [] (omega arith))) (some-pass ts (λ k d lt. h (suc k) d (omega (arith, lt))))
+
+pub remove-prefix-read : (entries : Members) (texts : List (List ℕ)) → SaysRemovePrefix entries texts → remove_prefix_of entries ≡ Some texts
+unfolding remove_prefix_of
+remove-prefix-read entries texts s =
+    let test : List (List ℕ) → Bool = list_all (λ t. nat_lt 0 (length t)) in
+    elim s.said [
+      | inl absent ↦ ap (or_default [] distinct_prefixes) absent.0 ∙ ap Some (sym absent.1)
+      | inr there ↦
+          ap (or_default [] distinct_prefixes) there ∙ ap (λ o. option_and_then (λ ts. cond (test ts) (Some ts) None) o) (distinct-read texts s.distinct)
+          ∙ cond-true (test texts) (Some texts) None (some-pass texts s.some_bytes)
+    ]
+
+pub blank-read : (entries : Members) (texts : List (List ℕ)) → SaysBlank entries texts → blank_of entries ≡ Some texts
+unfolding blank_of
+blank-read entries texts s =
+    elim s.said [
+      | inl absent ↦ ap (or_default [] distinct_texts) absent.0 ∙ ap Some (sym absent.1)
+      | inr there ↦ ap (or_default [] distinct_texts) there ∙ distinct-read texts s.distinct
+    ]
+
+format-tested : (entries : Members) (format : ℕ) → SaysFormat format entries → is_format (pos format) entries ≡ true
+format-tested entries format s = ap (λ o. option_is (pos format) (option_and_then as_integer o)) s ∙ (Decides-int_eq (pos format) (pos format)).1 refl
+
+either-or : (a b : Bool) → (a ≡ true) ⊎ (b ≡ true) → (a || b) ≡ true
+either-or true b h = refl
+either-or false b h = ⊎_elim (λ e. absurd (let z : false ≡ true = e in cc)) (λ e. e) h
+
+format-passes : (entries : Members) → HasFormat entries → has_format entries ≡ true
+unfolding has_format
+format-passes entries h =
+    either-or (is_format (pos 1) entries) (is_format (pos 2) entries) (⊎_elim (λ e. inl (format-tested entries 1 e)) (λ e. inr (format-tested entries 2 e)) h)
+
+keys-of-format : (entries : Members) → HasKeysOfFormat entries → has_keys_of_format entries ≡ true
+unfolding has_keys_of_format
+keys-of-format entries h =
+    either-or (is_format (pos 1) entries && keys_are claim_keys entries) (is_format (pos 2) entries && keys_are more_claim_keys entries)
+    (⊎_elim
+    (λ e. inl (both-true (is_format (pos 1) entries) (keys_are claim_keys entries) (format-tested entries 1 e.0) (keys-pass claim_keys entries e.1)))
+    (λ e. inr (both-true (is_format (pos 2) entries) (keys_are more_claim_keys entries) (format-tested entries 2 e.0) (keys-pass more_claim_keys entries e.1)))
+    h)
+
+-- a table with the keys of its format has a format
+has-format : (entries : Members) → HasKeysOfFormat entries → HasFormat entries
+has-format entries h = ⊎_elim (λ e. inl e.0) (λ e. inr e.0) h
+
+parts-read : (entries : Members) (c : Terms) → SaysClaim entries c → AreParts entries c
+parts-read entries c s = record {
+  channels = channels-read entries c.channels s.channels;
+  keep = keep-read entries c.keep s.keep;
+  anonymous = anonymous-read entries c.anonymous s.anonymous;
+  shift = shift-read entries c.shift s.shift;
+  remove = remove-read entries c.remove s.remove;
+  remove_prefix = remove-prefix-read entries c.remove_prefix s.remove_prefix;
+  blank = blank-read entries c.blank s.blank;
+}
 
 pub said-passes : (entries : Members) (c : Terms) → SaysClaim entries c → (claim_fault entries ≡ None) × (c ≡ terms_of entries)
 said-passes entries c s =
-    let channels = channels-read entries c.channels s.channels in
-    let keep = keep-read entries c.keep s.keep in
-    let anonymous = anonymous-read entries c.anonymous s.anonymous in
-    let shift = shift-read entries c.shift s.shift in
-    let remove = remove-read entries c.remove s.remove in (
-      all-passed entries c.channels c.keep c.anonymous c.shift c.remove (format-passes entries s.format) (keys-pass claim_keys entries s.keys) channels keep anonymous shift remove,
-      terms-are entries c.channels c.keep c.anonymous c.shift c.remove channels keep anonymous shift remove,
-    )
+    let parts = parts-read entries c s in
+    (all-passed entries c (format-passes entries (has-format entries s.keys)) (keys-of-format entries s.keys) parts, terms-are entries c parts)
 
 pub one-claim : SaysOneClaim
 one-claim entries c d s t = (said-passes entries c s).1 ∙ sym (said-passes entries d t).1
@@ -204,19 +253,26 @@ no-tests stop = (λ h. let e : None ≡ Some stop = h in cc, λ h. absurd h)
 pub fault-said : (entries : Members) (stop : ClaimStop) → (claim_fault entries ≡ Some stop) ↔ FirstTableFault entries stop
 unfolding claim_fault
 fault-said entries stop =
+    let t2 = unless (has_keys_of_format entries) UnknownKey in
     let t3 = unless (is_some (channels_of entries)) BadChannels in
     let t4 = unless (is_some (keep_of entries)) BadKeep in
     let t5 = unless (is_some (anonymous_of entries)) BadAnonymous in
     let t6 = unless (is_some (shift_of entries)) BadShift in
     let t7 = unless (is_some (remove_of entries)) BadRemove in
-    let t2 = unless (keys_are claim_keys entries) UnknownKey in
-    let remove = test-said (is_some (remove_of entries)) (ThereIs (SaysRemove entries)) BadRemove stop [] ⊥ (read-tests (remove_of entries) (SaysRemove entries) (remove-said entries) (remove-read entries)) (no-tests stop) in
-    let shift = test-said (is_some (shift_of entries)) (ThereIs (SaysShift entries)) BadShift stop (t7 ∷ []) _ (read-tests (shift_of entries) (SaysShift entries) (shift-said entries) (shift-read entries)) remove in
-    let anonymous = test-said (is_some (anonymous_of entries)) (ThereIs (SaysAnonymous entries)) BadAnonymous stop (t6 ∷ t7 ∷ []) _ (read-tests (anonymous_of entries) (SaysAnonymous entries) (anonymous-said entries) (anonymous-read entries)) shift in
-    let keep = test-said (is_some (keep_of entries)) (ThereIs (SaysKeep entries)) BadKeep stop (t5 ∷ t6 ∷ t7 ∷ []) _ (read-tests (keep_of entries) (SaysKeep entries) (keep-said entries) (keep-read entries)) anonymous in
-    let channels = test-said (is_some (channels_of entries)) (ThereIs (SaysChannels entries)) BadChannels stop (t4 ∷ t5 ∷ t6 ∷ t7 ∷ []) _ (read-tests (channels_of entries) (SaysChannels entries) (channels-said entries) (channels-read entries)) keep in
-    let keys = test-said (keys_are claim_keys entries) (HasOnlyKeys claim_keys entries) UnknownKey stop (t3 ∷ t4 ∷ t5 ∷ t6 ∷ t7 ∷ []) _ (keys-tested claim_keys entries, keys-pass claim_keys entries) channels in
-    test-said (is_format_one entries) (SaysFormat entries) BadFormat stop (t2 ∷ t3 ∷ t4 ∷ t5 ∷ t6 ∷ t7 ∷ []) _ (format-said entries, format-passes entries) keys
+    let t8 = unless (is_some (remove_prefix_of entries)) BadRemovePrefix in
+    let t9 = unless (is_some (blank_of entries)) BadBlank in
+    let blank = test-said (is_some (blank_of entries)) (ThereIs (SaysBlank entries)) BadBlank stop [] ⊥ (read-tests (blank_of entries) (SaysBlank entries) (blank-said entries) (blank-read entries)) (no-tests stop) in
+    let prefix =
+    test-said (is_some (remove_prefix_of entries)) (ThereIs (SaysRemovePrefix entries)) BadRemovePrefix stop (t9 ∷ []) _ (read-tests (remove_prefix_of entries) (SaysRemovePrefix entries) (remove-prefix-said entries) (remove-prefix-read entries)) blank in
+    let remove = test-said (is_some (remove_of entries)) (ThereIs (SaysRemove entries)) BadRemove stop (t8 ∷ t9 ∷ []) _ (read-tests (remove_of entries) (SaysRemove entries) (remove-said entries) (remove-read entries)) prefix in
+    let shift = test-said (is_some (shift_of entries)) (ThereIs (SaysShift entries)) BadShift stop (t7 ∷ t8 ∷ t9 ∷ []) _ (read-tests (shift_of entries) (SaysShift entries) (shift-said entries) (shift-read entries)) remove in
+    let anonymous =
+    test-said (is_some (anonymous_of entries)) (ThereIs (SaysAnonymous entries)) BadAnonymous stop (t6 ∷ t7 ∷ t8 ∷ t9 ∷ []) _ (read-tests (anonymous_of entries) (SaysAnonymous entries) (anonymous-said entries) (anonymous-read entries)) shift in
+    let keep = test-said (is_some (keep_of entries)) (ThereIs (SaysKeep entries)) BadKeep stop (t5 ∷ t6 ∷ t7 ∷ t8 ∷ t9 ∷ []) _ (read-tests (keep_of entries) (SaysKeep entries) (keep-said entries) (keep-read entries)) anonymous in
+    let channels =
+    test-said (is_some (channels_of entries)) (ThereIs (SaysChannels entries)) BadChannels stop (t4 ∷ t5 ∷ t6 ∷ t7 ∷ t8 ∷ t9 ∷ []) _ (read-tests (channels_of entries) (SaysChannels entries) (channels-said entries) (channels-read entries)) keep in
+    let keys = test-said (has_keys_of_format entries) (HasKeysOfFormat entries) UnknownKey stop (t3 ∷ t4 ∷ t5 ∷ t6 ∷ t7 ∷ t8 ∷ t9 ∷ []) _ (keys-said entries, keys-of-format entries) channels in
+    test-said (has_format entries) (HasFormat entries) BadFormat stop (t2 ∷ t3 ∷ t4 ∷ t5 ∷ t6 ∷ t7 ∷ t8 ∷ t9 ∷ []) _ (format-said entries, format-passes entries) keys
 
 pub fault-is-first : FaultIsFirst
 fault-is-first entries stop = ((fault-said entries stop).1, (fault-said entries stop).0)

@@ -15,10 +15,10 @@ use Rattle.edf_fields.specs.Lists.{is_one_of}
 use Rattle.edf_claim.specs.KeepsReading.{IsIndex}
 
 -- texts are the same where they compare as equal
-equal-tested : (xs ys : List ℕ) → is_eq (slice_cmp nat_cmp xs ys) ≡ bytes_eq xs ys
+pub equal-tested : (xs ys : List ℕ) → is_eq (slice_cmp nat_cmp xs ys) ≡ bytes_eq xs ys
 equal-tested xs ys = same_from_slice_cmp nat_cmp is_eq bytes_eq refl (λ _ _. refl) (λ _ _. refl) (λ x y us vs o h. grind (arith, nat_tests)) xs ys (slice_cmp nat_cmp xs ys) refl
 
-any-map : {X Y : Type 0} (p : Y → Bool) (f : X → Y) (xs : List X) → list_any p (map f xs) ≡ list_any (λ x. p (f x)) xs
+pub any-map : {X Y : Type 0} (p : Y → Bool) (f : X → Y) (xs : List X) → list_any p (map f xs) ≡ list_any (λ x. p (f x)) xs
 any-map p f [] = refl
 any-map p f (x ∷ xs) = ap (λ b. p (f x) || b) (any-map p f xs)
 

@@ -22,9 +22,13 @@ abbrev pub HasOnlyKeys : List (List ℕ) → Members → Type 0
 HasOnlyKeys keys no_members = Unit {0}
 HasOnlyKeys keys (member key value rest) = Has keys key × HasOnlyKeys keys rest
 
--- the keys that a claim may have
+-- the keys that a claim of format 1 may have
 abbrev pub claim_keys : List (List ℕ)
 claim_keys = codes "format" ∷ codes "channels" ∷ codes "keep" ∷ codes "anonymous" ∷ codes "shift" ∷ codes "remove" ∷ []
+
+-- the keys that a claim of format 2 may have: two more
+abbrev pub more_claim_keys : List (List ℕ)
+more_claim_keys = codes "remove-prefix" ∷ codes "blank" ∷ claim_keys
 
 -- the keys of an interval
 abbrev pub interval_keys : List (List ℕ)
@@ -69,9 +73,17 @@ pub record IsInterval (interval : Interval) : Type 0 where
   pub order : interval.from_ps <ℤ interval.to_ps
   pub near : interval.to_ps <ℤ pos (10 ^ 21)
 
--- the format of a claim
-abbrev pub SaysFormat : Members → Type 0
-SaysFormat entries = get_member (codes "format") entries ≡ Some (integer (pos 1))
+-- the table says this format
+abbrev pub SaysFormat : ℕ → Members → Type 0
+SaysFormat format entries = get_member (codes "format") entries ≡ Some (integer (pos format))
+
+-- the format is one of the two that there are
+abbrev pub HasFormat : Members → Type 0
+HasFormat entries = SaysFormat 1 entries ⊎ SaysFormat 2 entries
+
+-- the table has no key but those of its format
+abbrev pub HasKeysOfFormat : Members → Type 0
+HasKeysOfFormat entries = (SaysFormat 1 entries × HasOnlyKeys claim_keys entries) ⊎ (SaysFormat 2 entries × HasOnlyKeys more_claim_keys entries)
 
 -- the channels that a table says: an array of these labels, at least one, none of them twice
 pub record SaysChannels (entries : Members) (labels : List (List ℕ)) : Type 0 where
@@ -106,15 +118,27 @@ pub record SaysRemove (entries : Members) (texts : List (List ℕ)) : Type 0 whe
   pub said : ((get_member (codes "remove") entries ≡ None) × (texts ≡ [])) ⊎ (get_member (codes "remove") entries ≡ Some (array (text_items texts)))
   pub distinct : AreDistinct texts
 
--- the table says this claim: it has no other keys than those of a claim, and each key has its value, or is absent and has its default
+-- the texts with which the text of a removed annotation begins, as a table says them: none where the key is absent, else these, none of them twice and none empty
+pub record SaysRemovePrefix (entries : Members) (prefixes : List (List ℕ)) : Type 0 where
+  pub said : ((get_member (codes "remove-prefix") entries ≡ None) × (prefixes ≡ [])) ⊎ (get_member (codes "remove-prefix") entries ≡ Some (array (text_items prefixes)))
+  pub distinct : AreDistinct prefixes
+  pub some_bytes : All (λ prefix. prefix ≢ []) prefixes
+
+-- the texts of annotations that a table blanks: none where the key is absent, else these, none of them twice
+pub record SaysBlank (entries : Members) (texts : List (List ℕ)) : Type 0 where
+  pub said : ((get_member (codes "blank") entries ≡ None) × (texts ≡ [])) ⊎ (get_member (codes "blank") entries ≡ Some (array (text_items texts)))
+  pub distinct : AreDistinct texts
+
+-- the table says this claim: it is of format 1 or 2 and has no other keys than those of its format, and each key has its value, or is absent and has its default
 pub record SaysClaim (entries : Members) (c : Terms) : Type 0 where
-  pub format : SaysFormat entries
-  pub keys : HasOnlyKeys claim_keys entries
+  pub keys : HasKeysOfFormat entries
   pub channels : SaysChannels entries c.channels
   pub keep : SaysKeep entries c.keep
   pub anonymous : SaysAnonymous entries c.anonymous
   pub shift : SaysShift entries c.shift
   pub remove : SaysRemove entries c.remove
+  pub remove_prefix : SaysRemovePrefix entries c.remove_prefix
+  pub blank : SaysBlank entries c.blank
 
 -- what holds of every claim, whatever table says it
 pub record IsClaim (c : Terms) : Type 0 where
@@ -129,6 +153,9 @@ pub record IsClaim (c : Terms) : Type 0 where
   pub not_far_back : neg_ℤ (pos (10 ^ 10)) ≤ℤ c.shift
   pub not_far_on : c.shift ≤ℤ pos (10 ^ 10)
   pub distinct_remove : AreDistinct c.remove
+  pub distinct_prefixes : AreDistinct c.remove_prefix
+  pub some_prefixes : All (λ prefix. prefix ≢ []) c.remove_prefix
+  pub distinct_blank : AreDistinct c.blank
 
 -- the text is TOML that says this claim, in 65,536 bytes at the most
 pub record SaysClaimText (text : List ℕ) (c : Terms) : Type 0 where

@@ -2,7 +2,7 @@
 use Rattle.std.specs.Prelude.{◌≡◌, ℕ, ◌<◌, ◌≤◌, ◌⊎◌, ◌↔◌, List, length, Some, None, IsUtf8}
 use Rattle.edf_claim.specs.declared.stop.ClaimStop.{ClaimStop}
 use Rattle.edf_claim.specs.declared.stop.ClaimStop.TheVariants as stops
-use Rattle.edf_claim.specs.Claims.{HasOnlyKeys, claim_keys, SaysFormat, SaysChannels, SaysKeep, SaysAnonymous, SaysShift, SaysRemove, SaysClaim}
+use Rattle.edf_claim.specs.Claims.{HasFormat, HasKeysOfFormat, SaysChannels, SaysKeep, SaysAnonymous, SaysShift, SaysRemove, SaysRemovePrefix, SaysBlank, SaysClaim}
 use Rattle.edf_claim.specs.Terms.{Terms}
 use Rattle.edf_claim.specs.Reading.{claim_fault, terms_of}
 use Rattle.toml.specs.Data.{Members}
@@ -19,13 +19,15 @@ FailsOr cause test stop later = ((stop ≡ cause) × (test → ⊥)) ⊎ (test �
 -- the cause of the first test that the table fails
 abbrev pub FirstTableFault : Members → ClaimStop → Type 0
 FirstTableFault entries stop =
-    FailsOr stops.BadFormat (SaysFormat entries) stop (
-    FailsOr stops.UnknownKey (HasOnlyKeys claim_keys entries) stop (
+    FailsOr stops.BadFormat (HasFormat entries) stop (
+    FailsOr stops.UnknownKey (HasKeysOfFormat entries) stop (
     FailsOr stops.BadChannels (ThereIs (SaysChannels entries)) stop (
     FailsOr stops.BadKeep (ThereIs (SaysKeep entries)) stop (
     FailsOr stops.BadAnonymous (ThereIs (SaysAnonymous entries)) stop (
     FailsOr stops.BadShift (ThereIs (SaysShift entries)) stop (
-    FailsOr stops.BadRemove (ThereIs (SaysRemove entries)) stop ⊥))))))
+    FailsOr stops.BadRemove (ThereIs (SaysRemove entries)) stop (
+    FailsOr stops.BadRemovePrefix (ThereIs (SaysRemovePrefix entries)) stop (
+    FailsOr stops.BadBlank (ThereIs (SaysBlank entries)) stop ⊥))))))))
 
 -- the text is TOML within its limit, and its table has this first fault
 abbrev pub TableFails : List ℕ → ClaimStop → Type 0

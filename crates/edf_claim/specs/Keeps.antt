@@ -1,5 +1,6 @@
 -- What a claim keeps.
-use Rattle.std.specs.Prelude.{ℕ, ℤ, pos, ◌*ℤ◌, ◌≤ℤ◌, ◌<ℤ◌, int_le, int_lt, not, ◌&&◌, Bool, List}
+use Rattle.std.specs.Prelude.{ℕ, ℤ, pos, ◌*ℤ◌, ◌≤ℤ◌, ◌<ℤ◌, int_le, int_lt, not, ◌&&◌, ◌||◌, Bool, if◌then◌else◌, codes, List, length, take}
+use Rattle.std.specs.Str.{bytes_eq}
 use Rattle.std.specs.List.{list_any}
 use Rattle.edf_claim.specs.Terms.{Terms}
 use Rattle.edf_fields.specs.Lists.{Has, is_one_of}
@@ -21,6 +22,22 @@ is_within interval num den = int_le (interval.from_ps *ℤ pos den) num && int_l
 abbrev pub keeps_instant : Terms → ℤ → ℕ → Bool
 keeps_instant c num den = list_any (λ interval. is_within interval num den) c.keep
 
+-- the text begins with the prefix, byte for byte
+abbrev pub begins_with : List ℕ → List ℕ → Bool
+begins_with prefix text = bytes_eq prefix (take (length prefix) text)
+
+-- `Removes` as a test
+abbrev pub removes : Terms → List ℕ → Bool
+removes c text = is_one_of c.remove text || list_any (λ prefix. begins_with prefix text) c.remove_prefix
+
 -- `KeepsAnnotation` as a test
 abbrev pub keeps_annotation : Terms → ℤ → List ℕ → Bool
-keeps_annotation c onset text = keeps_instant c onset 1 && not (is_one_of c.remove text)
+keeps_annotation c onset text = keeps_instant c onset 1 && not (removes c text)
+
+-- `Blanks` as a test
+abbrev pub blanks : Terms → List ℕ → Bool
+blanks c text = is_one_of c.blank text
+
+-- what stands in an export in the place of a kept annotation's text: `X` where the claim blanks the text, and else the text itself
+abbrev pub kept_text : Terms → List ℕ → List ℕ
+kept_text c text = if blanks c text then codes "X" else text

@@ -1,29 +1,56 @@
 -- What a claim keeps, as it is asked for.
-use Rattle.std.specs.Prelude.{◌≡◌, ◌⊎◌, map, ℕ, ℤ, ◌≤ℤ◌, List, [], ◌∷◌}
+use Rattle.std.specs.Prelude.{◌≡◌, ◌⊎◌, map, ℕ, ℤ, ◌≤ℤ◌, List, [], ◌∷◌, ◌++◌, ◌-◌, Bool, false, length, slice_get}
+use Rattle.std.specs.Option.{option_map_or}
 use Rattle.std.specs.Cmp.Lexicographic.{slice_cmp}
 use Rattle.std.specs.Global.{Vec}
-use Rattle.std.specs.List.{All}
-use Rattle.std.specs.List.Sorted.{IsSorted}
+use Rattle.std.specs.List.{All, list_any}
+use Rattle.std.specs.List.Sorted.{IsSorted, IsSortedBy}
 use Rattle.std.specs.Ordering.{nat_cmp}
 use Rattle.edf_claim.specs.Claims.{IsInterval, AreInOrder}
 use Rattle.edf_claim.specs.Terms.{Terms}
 use Rattle.edf_fields.specs.Lists.{Has, is_one_of}
 use Rattle.edf_claim.specs.declared.interval.Interval.{Interval}
-use Rattle.edf_claim.specs.Keeps.{KeepsInstant}
+use Rattle.edf_claim.specs.Keeps.{KeepsInstant, begins_with}
 
 -- intervals as a claim keeps them, in order
 pub record AreKept (intervals : List Interval) : Type 0 where
   pub each : All IsInterval intervals
   pub in_order : AreInOrder intervals
 
+-- none of the texts begins with the one before it
+abbrev pub AreApart : List (Vec ℕ) → Type 0
+AreApart = IsSortedBy (λ text before. begins_with before.items text.items)
+
+-- the text begins with the last of these, if there are any
+abbrev pub begins_with_last : List (Vec ℕ) → List ℕ → Bool
+begins_with_last prefixes text = option_map_or (λ last. begins_with last.items text) (slice_get prefixes (length prefixes - 1)) false
+
 -- the same texts, in the order of their bytes
 pub record IsIndex (texts : List (List ℕ)) (sorted : List (Vec ℕ)) : Type 0 where
   pub order : IsSorted (λ x y. slice_cmp nat_cmp x.items y.items) sorted
   pub same : (text : List ℕ) → is_one_of (map (λ t. t.items) sorted) text ≡ is_one_of texts text
 
+-- prefixes in the order of their bytes, of which none begins with the one before it: a text begins with one of these exactly where it begins with one of the texts
+pub record IsPrefixIndex (texts : List (List ℕ)) (sorted : List (Vec ℕ)) : Type 0 where
+  pub order : IsSorted (λ x y. slice_cmp nat_cmp x.items y.items) sorted
+  pub apart : AreApart sorted
+  pub same : (text : List ℕ) → list_any (λ prefix. begins_with prefix text) (map (λ t. t.items) sorted) ≡ list_any (λ prefix. begins_with prefix text) texts
+
+-- the text begins with the prefix, byte for byte
+abbrev pub BeginsWith : List ℕ → List ℕ → Type 0
+BeginsWith prefix text = (rest : List ℕ) × (text ≡ prefix ++ rest)
+
+-- annotations with this text are removed: it is one of the claim's, or begins with one of its prefixes
+abbrev pub Removes : Terms → List ℕ → Type 0
+Removes c text = Has c.remove text ⊎ ((prefix : List ℕ) × Has c.remove_prefix prefix × BeginsWith prefix text)
+
 -- an annotation with this onset, in picoseconds after the second at which the original starts, and this text is kept: its onset is in one of the kept intervals, and its text isn't removed
 abbrev pub KeepsAnnotation : Terms → ℤ → List ℕ → Type 0
-KeepsAnnotation c onset text = KeepsInstant c onset 1 × (Has c.remove text → ⊥)
+KeepsAnnotation c onset text = KeepsInstant c onset 1 × (Removes c text → ⊥)
+
+-- the text of a kept annotation is blanked
+abbrev pub Blanks : Terms → List ℕ → Type 0
+Blanks c text = Has c.blank text
 
 -- b doesn't lie between t and u, but may be one of them
 abbrev pub IsOutside : ℤ → ℤ → ℤ → Type 0

@@ -1,18 +1,18 @@
 -- The claim that a table says, as functions, and the first fault of a table that says none.
-use Rattle.std.specs.Prelude.{ℕ, ℤ, pos, neg_ℤ, ◌-◌, ◌^◌, ◌==◌, nat_le, nat_lt, int_le, int_lt, not, ◌&&◌, Bool, true, false, if◌then◌else◌, List, [], ◌∷◌, length, slice_index, Option, Some, None, is_some, unwrap_or, option_map, option_and_then, codes}
+use Rattle.std.specs.Prelude.{ℕ, ℤ, pos, neg_ℤ, ◌-◌, ◌^◌, ◌==◌, nat_le, nat_lt, int_le, int_lt, not, ◌&&◌, ◌||◌, Bool, true, false, if◌then◌else◌, List, [], ◌∷◌, length, slice_index, Option, Some, None, is_some, unwrap_or, option_map, option_and_then, codes}
 use Rattle.std.specs.List.{list_all}
 use Rattle.std.specs.Ordering.{int_eq}
 use Rattle.std.specs.Str.{bytes_eq}
 use Rattle.edf_fields.specs.PrintableReading.{is_printable}
 use Rattle.edf_fields.specs.OnsetsReading.{span_of}
-use Rattle.edf_claim.specs.Claims.{claim_keys, interval_keys}
+use Rattle.edf_claim.specs.Claims.{claim_keys, more_claim_keys, interval_keys}
 use Rattle.edf_fields.specs.SubfieldNamesReading.{which_of}
 use Rattle.edf_claim.specs.Terms.{Terms}
 use Rattle.edf_fields.specs.Lists.{is_one_of}
 use Rattle.edf_fields.specs.Distinct.{are_distinct}
 use Rattle.edf_claim.specs.declared.interval.Interval.{Interval}
 use Rattle.edf_claim.specs.declared.stop.ClaimStop.{ClaimStop}
-use Rattle.edf_claim.specs.declared.stop.ClaimStop.TheVariants.{BadFormat, UnknownKey, BadChannels, BadKeep, BadAnonymous, BadShift, BadRemove}
+use Rattle.edf_claim.specs.declared.stop.ClaimStop.TheVariants.{BadFormat, UnknownKey, BadChannels, BadKeep, BadAnonymous, BadShift, BadRemove, BadRemovePrefix, BadBlank}
 use Rattle.edf_fields.specs.declared.which.Which.{Which}
 use Rattle.toml.specs.Data.{Data, Items, no_items, item, Members, no_members, member, get_member, as_str, as_integer, as_array, as_table}
 use Rattle.edf_fields.specs.Tests.{first, unless}
@@ -45,9 +45,18 @@ abbrev pub option_is : ℤ → Option ℤ → Bool
 option_is z None = false
 option_is z (Some y) = int_eq y z
 
--- the format is 1
-unfoldable pub is_format_one : Members → Bool
-is_format_one entries = option_is (pos 1) (integer_of (codes "format") entries)
+-- the format is this one
+abbrev pub is_format : ℤ → Members → Bool
+is_format format entries = option_is format (integer_of (codes "format") entries)
+
+-- `HasFormat` as a test
+unfoldable pub has_format : Members → Bool
+has_format entries = is_format (pos 1) entries || is_format (pos 2) entries
+
+-- `HasKeysOfFormat` as a test
+unfoldable pub has_keys_of_format : Members → Bool
+has_keys_of_format entries =
+    (is_format (pos 1) entries && keys_are claim_keys entries) || (is_format (pos 2) entries && keys_are more_claim_keys entries)
 
 -- `IsLabel` as a test
 abbrev pub is_label : List ℕ → Bool
@@ -125,17 +134,32 @@ shift_of entries = or_default (pos 0) (λ value. option_and_then shift_within (a
 unfoldable pub remove_of : Members → Option (List (List ℕ))
 remove_of entries = or_default [] distinct_texts (get_member (codes "remove") entries)
 
+-- the texts of an array in which no text stands twice and none is empty
+abbrev pub distinct_prefixes : Data → Option (List (List ℕ))
+distinct_prefixes value =
+    option_and_then (λ ts. if list_all (λ t. nat_lt 0 (length t)) ts then Some ts else None) (distinct_texts value)
+
+-- the texts with which those of removed annotations begin
+unfoldable pub remove_prefix_of : Members → Option (List (List ℕ))
+remove_prefix_of entries = or_default [] distinct_prefixes (get_member (codes "remove-prefix") entries)
+
+-- the texts of annotations that are blanked
+unfoldable pub blank_of : Members → Option (List (List ℕ))
+blank_of entries = or_default [] distinct_texts (get_member (codes "blank") entries)
+
 -- why a table says no claim: the first cause in this order
 unfoldable pub claim_fault : Members → Option ClaimStop
 claim_fault entries =
     first (
-    unless (is_format_one entries) BadFormat
-    ∷ unless (keys_are claim_keys entries) UnknownKey
+    unless (has_format entries) BadFormat
+    ∷ unless (has_keys_of_format entries) UnknownKey
     ∷ unless (is_some (channels_of entries)) BadChannels
     ∷ unless (is_some (keep_of entries)) BadKeep
     ∷ unless (is_some (anonymous_of entries)) BadAnonymous
     ∷ unless (is_some (shift_of entries)) BadShift
     ∷ unless (is_some (remove_of entries)) BadRemove
+    ∷ unless (is_some (remove_prefix_of entries)) BadRemovePrefix
+    ∷ unless (is_some (blank_of entries)) BadBlank
     ∷ []
     )
 
@@ -147,4 +171,6 @@ terms_of entries = record {
   anonymous = unwrap_or (anonymous_of entries) [];
   shift = unwrap_or (shift_of entries) (pos 0);
   remove = unwrap_or (remove_of entries) [];
+  remove_prefix = unwrap_or (remove_prefix_of entries) [];
+  blank = unwrap_or (blank_of entries) [];
 }

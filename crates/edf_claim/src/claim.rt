@@ -4,11 +4,11 @@ ghost use Rattle.std.specs.Prelude.{◌≡◌, ◌↔◌, ◌<◌, ◌≤◌, �
 ghost use Rattle.std.specs.List.{list_any};
 ghost use Rattle.edf_claim.specs.Claims.{IsClaim};
 ghost use Rattle.edf_fields.specs.Lists.{Has, is_one_of as is_one_of_texts};
-ghost use Rattle.edf_claim.specs.Keeps.{KeepsInstant, is_within, keeps_instant, keeps_annotation};
-ghost use Rattle.edf_claim.specs.KeepsReading.{AreKept, KeepsAnnotation};
+ghost use Rattle.edf_claim.specs.Keeps.{KeepsInstant, blanks, is_within, keeps_instant, keeps_annotation};
+ghost use Rattle.edf_claim.specs.KeepsReading.{AreKept, Blanks, KeepsAnnotation};
 
 use crate::interval::Interval;
-use crate::removed::Removed;
+use crate::note_texts::NoteTexts;
 use crate::text_arrays::is_one_of;
 use edf_fields::label::SignalLabel;
 use edf_fields::which::Which;
@@ -24,7 +24,7 @@ pub struct Claim {
     pub(crate) keep: Vec<Interval>,
     pub(crate) anonymous: Vec<Which>,
     pub(crate) shift: i64,
-    pub(crate) remove: Removed,
+    pub(crate) texts: NoteTexts,
 }
 
 impl Model for Claim {
@@ -38,7 +38,9 @@ impl Model for Claim {
       keep = c.keep.items;
       anonymous = c.anonymous.items;
       shift = c.shift;
-      remove = c.remove;
+      remove = c.texts.remove;
+      remove_prefix = c.texts.remove_prefix;
+      blank = c.texts.blank;
     } };
 
     ghost invariant = { λ c. IsClaim (record {
@@ -46,7 +48,9 @@ impl Model for Claim {
       keep = c.keep.items;
       anonymous = c.anonymous.items;
       shift = c.shift;
-      remove = c.remove;
+      remove = c.texts.remove;
+      remove_prefix = c.texts.remove_prefix;
+      blank = c.texts.blank;
     }) };
 }
 
@@ -131,13 +135,24 @@ impl Claim {
     }
 
     /// Whether an annotation is kept that has this onset, in picoseconds after the second at which
-    /// the original starts, and this text, which is compared byte for byte with those that are removed.
+    /// the original starts, and this text, which is compared byte for byte with those that are removed, and its
+    /// begin with the prefixes of such.
     #[tactic(auto, using(crate::proofs::KeepsFacts::annotation_kept))]
     pub fn keeps_annotation(&self, onset: i128, text: &str) -> bool
         ensures keeps { IsTrue result ↔ KeepsAnnotation self.now onset text.now }
         ensures value { result ≡ keeps_annotation self.now onset text.now }
     {
-        self.keeps_instant(onset, 1) && !self.remove.contains(text.as_bytes())
+        self.keeps_instant(onset, 1) && !self.texts.remove(text.as_bytes())
+    }
+
+    /// Whether the text of a kept annotation is blanked: an export has `X` in its place. It is compared byte for
+    /// byte.
+    #[tactic(auto, using(crate::proofs::KeepsFacts::text_blanked))]
+    pub fn blanks(&self, text: &str) -> bool
+        ensures blanks { IsTrue result ↔ Blanks self.now text.now }
+        ensures value { result ≡ blanks self.now text.now }
+    {
+        self.texts.blank(text.as_bytes())
     }
 
     /// Whether this subfield is made anonymous.

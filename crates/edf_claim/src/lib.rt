@@ -3,6 +3,7 @@
 #![tactic(auto)]
 
 mod anonymous;
+mod blank;
 pub mod borders;
 mod channels;
 pub mod claim;
@@ -10,10 +11,12 @@ mod format;
 pub mod interval;
 mod keep;
 pub mod laws;
+mod note_texts;
+mod prefixes;
 mod read;
 mod remove;
-mod removed;
 mod shift;
 pub mod stop;
 mod table;
 mod text_arrays;
+mod text_index;

@@ -6,19 +6,20 @@ ghost use Rattle.toml.specs.View.{table_view};
 ghost use Rattle.edf_claim.specs.declared.stop.ClaimStop.TheVariants as stops;
 ghost use Rattle.edf_claim.specs.Claims.{IsClaim, SaysClaimText};
 ghost use Rattle.edf_claim.specs.Faults.{FirstClaimFault};
-ghost use Rattle.edf_claim.specs.Reading.{claim_fault, terms_of, channels_of, keep_of, anonymous_of, shift_of, remove_of};
+ghost use Rattle.edf_claim.specs.Reading.{claim_fault, terms_of, channels_of, keep_of, anonymous_of, shift_of, remove_of, remove_prefix_of, blank_of};
 
 use crate::anonymous::anonymous;
+use crate::blank::blank;
 use crate::channels::channels;
 use crate::claim::{Claim, MOST_BYTES};
-use crate::format::is_format_one;
+use crate::format::has_format;
 use crate::interval::Interval;
 use crate::keep::keep;
-use crate::remove::remove;
-use crate::removed::Removed;
+use crate::note_texts::NoteTexts;
+use crate::remove::{remove, remove_prefix};
 use crate::shift::shift;
 use crate::stop::ClaimStop;
-use crate::table::has_claim_keys;
+use crate::table::has_keys_of_format;
 use edf_fields::label::SignalLabel;
 use edf_fields::which::Which;
 use std::alloc::Global;
@@ -43,14 +44,16 @@ fn claim_of(
     keep: Vec<Interval>,
     anonymous: Vec<Which>,
     shift: i64,
-    remove: Removed,
+    texts: NoteTexts,
 ) -> Claim
     requires passed { claim_fault (table_view _table.now) ≡ None }
     requires channels { channels_of (table_view _table.now) ≡ Some channels.items }
     requires keep { keep_of (table_view _table.now) ≡ Some keep.items }
     requires anonymous { anonymous_of (table_view _table.now) ≡ Some anonymous.items }
     requires shift { shift_of (table_view _table.now) ≡ Some shift }
-    requires remove { remove_of (table_view _table.now) ≡ Some remove }
+    requires remove { remove_of (table_view _table.now) ≡ Some texts.remove }
+    requires remove_prefix { remove_prefix_of (table_view _table.now) ≡ Some texts.remove_prefix }
+    requires blank { blank_of (table_view _table.now) ≡ Some texts.blank }
     ensures { result ≡ terms_of (table_view _table.now) }
 {
     Claim {
@@ -58,7 +61,7 @@ fn claim_of(
         keep,
         anonymous,
         shift,
-        remove,
+        texts,
     }
 }
 
@@ -69,10 +72,10 @@ fn claim_in(alloc: Global, table: &Table) -> Result<Claim, ClaimStop>
     ensures value { IfOk result (λ c. c ≡ terms_of (table_view table.now)) }
     ensures stop { IfErr result (λ e. e ≢ stops.OutOfMemory → claim_fault (table_view table.now) ≡ Some e) }
 {
-    if !is_format_one(table) {
+    if !has_format(table) {
         return Err(ClaimStop::BadFormat);
     }
-    if !has_claim_keys(table) {
+    if !has_keys_of_format(table) {
         return Err(ClaimStop::UnknownKey);
     }
     let Some(channels) = channels(alloc, table)? else {
@@ -90,7 +93,18 @@ fn claim_in(alloc: Global, table: &Table) -> Result<Claim, ClaimStop>
     let Some(remove) = remove(alloc, table)? else {
         return Err(ClaimStop::BadRemove);
     };
-    Ok(claim_of(table, channels, keep, anonymous, shift, remove))
+    let Some(remove_prefix) = remove_prefix(alloc, table)? else {
+        return Err(ClaimStop::BadRemovePrefix);
+    };
+    let Some(blank) = blank(alloc, table)? else {
+        return Err(ClaimStop::BadBlank);
+    };
+    let texts = NoteTexts {
+        remove,
+        remove_prefix,
+        blank,
+    };
+    Ok(claim_of(table, channels, keep, anonymous, shift, texts))
 }
 
 impl Claim {

@@ -18,10 +18,10 @@ pub enum ClaimStop {
     /// The text isn't UTF-8, or no TOML.
     #[error("NotToml")]
     NotToml,
-    /// The format isn't the integer 1.
+    /// The format isn't the integer 1 or 2.
     #[error("BadFormat")]
     BadFormat,
-    /// A key at the top isn't one of a claim's.
+    /// A key at the top isn't one of a claim's of its format.
     #[error("UnknownKey")]
     UnknownKey,
     /// The channels aren't an array of distinct labels, at least one.
@@ -39,6 +39,12 @@ pub enum ClaimStop {
     /// What is removed isn't an array of distinct texts.
     #[error("BadRemove")]
     BadRemove,
+    /// What is removed by its begin isn't an array of distinct texts, none of them empty.
+    #[error("BadRemovePrefix")]
+    BadRemovePrefix,
+    /// What is blanked isn't an array of distinct texts.
+    #[error("BadBlank")]
+    BadBlank,
 }
 
 impl From<AllocError> for ClaimStop {

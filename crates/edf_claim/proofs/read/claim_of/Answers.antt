@@ -1,4 +1,4 @@
-use Rattle.std.proofs.Common.{sym, subst, List, ℕ, SFits}
+use Rattle.std.proofs.Common.{◌≡◌, sym, subst, SFits}
 use Rattle.std.specs.Int.{w64}
 use Rattle.std.proofs.Math.Facts.{to_z-of_z}
 use Rattle.toml.specs.View.{table_view}
@@ -8,16 +8,35 @@ use Rattle.edf_claim.specs.Reading.{terms_of}
 use Rattle.edf_claim.proofs.ReadingFacts.{table-says, terms-are, said-sound}
 use Rattle.edf_claim.proofs.read.claim_of.Goals as goal
 
+-- the claim of the parts
+same : (c : goal.Start) → record { channels = c.args.channels.items; keep = c.args.keep.items; anonymous = c.args.anonymous.items; shift = c.args.shift; remove = c.args.texts.remove; remove_prefix = c.args.texts.remove_prefix; blank = c.args.texts.blank }
+    ≡ terms_of (table_view c.args._table.now)
+same c =
+    let m = table_view c.args._table.now in
+    let terms : Terms = record {
+      channels = c.args.channels.items;
+      keep = c.args.keep.items;
+      anonymous = c.args.anonymous.items;
+      shift = c.args.shift;
+      remove = c.args.texts.remove;
+      remove_prefix = c.args.texts.remove_prefix;
+      blank = c.args.texts.blank;
+    } in
+    terms-are m terms (record {
+      channels = c.requires.channels;
+      keep = c.requires.keep;
+      anonymous = c.requires.anonymous;
+      shift = c.requires.shift;
+      remove = c.requires.remove;
+      remove_prefix = c.requires.remove_prefix;
+      blank = c.requires.blank;
+    })
+
 pub invariant_of-result : goal.invariant_of-result
 invariant_of-result c =
     let fits : SFits w64 c.args.shift = c.ranges.shift in
     let m = table_view c.args._table.now in
-    let channels : List (List ℕ) = c.args.channels.items in
-    let same = terms-are m channels c.args.keep.items c.args.anonymous.items c.args.shift c.args.remove c.requires.channels c.requires.keep c.requires.anonymous c.requires.shift c.requires.remove in
-    rw (to_z-of_z fits) (subst (λ (t : Terms). IsClaim t) (sym same) (said-sound m (terms_of m) (table-says m c.requires.passed)))
+    rw (to_z-of_z fits) (subst (λ (t : Terms). IsClaim t) (sym (same c)) (said-sound m (terms_of m) (table-says m c.requires.passed)))
 
 pub returns : goal.returns
-returns c =
-    let fits : SFits w64 c.args.shift = c.ranges.shift in
-    rw (to_z-of_z fits) (terms-are (table_view c.args._table.now) c.args.channels.items c.args.keep.items c.args.anonymous.items c.args.shift c.args.remove
-    c.requires.channels c.requires.keep c.requires.anonymous c.requires.shift c.requires.remove)
+returns c = let fits : SFits w64 c.args.shift = c.ranges.shift in rw (to_z-of_z fits) (same c)
