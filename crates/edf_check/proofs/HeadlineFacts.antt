@@ -57,7 +57,7 @@ kept-so o claim notes c has =
     let s = file_start (head_of o) in
     let back : map (moved_by (neg_ℤ s)) (notes_of o (head_of o)) ≡ notes =
     ap (λ ns. map (moved_by (neg_ℤ s)) ns) (read-so o notes c has) ∙ moved-back (neg_ℤ s) s notes (omega (arith, ints)) in
-    ap (λ ns. filter (λ (n : NoteValue). keeps_annotation claim n.onset n.text) ns) back
+    ap (kept_of claim) back
 
 exported-so : (o e : List ℕ) (claim : Terms) (notes : List NoteValue) → Conforms e (head_of e) → HasNotes e (head_of e) notes
     → exported_notes o e claim ≡ unshifted (head_of o) (head_of e) claim notes

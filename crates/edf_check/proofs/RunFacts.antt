@@ -26,6 +26,8 @@ claim_refused refused original export failed none claims.BadKeep quiet h = let n
 claim_refused refused original export failed none claims.BadAnonymous quiet h = let n : claims.BadAnonymous ≢ claims.OutOfMemory = λ same. cc in (n, h n)
 claim_refused refused original export failed none claims.BadShift quiet h = let n : claims.BadShift ≢ claims.OutOfMemory = λ same. cc in (n, h n)
 claim_refused refused original export failed none claims.BadRemove quiet h = let n : claims.BadRemove ≢ claims.OutOfMemory = λ same. cc in (n, h n)
+claim_refused refused original export failed none claims.BadRemovePrefix quiet h = let n : claims.BadRemovePrefix ≢ claims.OutOfMemory = λ same. cc in (n, h n)
+claim_refused refused original export failed none claims.BadBlank quiet h = let n : claims.BadBlank ≢ claims.OutOfMemory = λ same. cc in (n, h n)
 
 -- a front of the line of the verdict is a part of the report
 pub front_is_part : (original export text old new line : List ℕ) (claim : Terms) (verdict : Verdict)

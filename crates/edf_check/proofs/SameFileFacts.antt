@@ -33,7 +33,7 @@ use Rattle.edf_check.specs.Courses.{Agree}
 use Rattle.edf_check.specs.Exports.{BothConform, SameSamples}
 use Rattle.edf_check.specs.InstantOrder.{IsBefore}
 use Rattle.edf_check.specs.Instants.{later}
-use Rattle.edf_check.specs.Kept.{shift_ps}
+use Rattle.edf_check.specs.Kept.{shift_ps, kept_of, as_kept}
 use Rattle.edf_check.specs.KeptReading.{origin_of, ValueAt, KeptAt, ExportedAt, kept_notes, exported_notes}
 use Rattle.edf_check.specs.Laws.{AnyCutOfExport, AnyCutOfOriginal}
 use Rattle.edf_check.specs.SameFiles.{HoldTheSame}
@@ -107,29 +107,29 @@ exported-agree o e o' e' c s r l t v p =
     )
 
 -- how often an annotation stands among those that pass a test, as a sum over all
-weight : (NoteValue → Bool) → NoteValue → NoteValue → ℕ
-weight test n x = cond (test x) (cond (is_eq (note_cmp x n)) 1 0) 0
+weight : (NoteValue → Bool) → (NoteValue → NoteValue) → NoteValue → NoteValue → ℕ
+weight test f n x = cond (test x) (cond (is_eq (note_cmp (f x) n)) 1 0) 0
 
 none-more : (k : ℕ) → k ≡ 0 + k
 none-more k = omega arith
 
-passed-times : (test : NoteValue → Bool) (xs : List NoteValue) (n : NoteValue) → times (filter test xs) n ≡ sum_by (weight test n) xs
+passed-times : (test : NoteValue → Bool) (f : NoteValue → NoteValue) (xs : List NoteValue) (n : NoteValue) → times (map f (filter test xs)) n ≡ sum_by (weight test f n) xs
 unfolding weight
-passed-times test [] n = refl
-passed-times test (x ∷ xs) n = cases (test x) (passed-times test xs n) ∙ sym (sum_by-cons (weight test n) x xs)
+passed-times test f [] n = refl
+passed-times test f (x ∷ xs) n = cases (test x) (passed-times test f xs n) ∙ sym (sum_by-cons (weight test f n) x xs)
   where
-    cases : (b : Bool) → times (filter test xs) n ≡ sum_by (weight test n) xs → times (cond b (x ∷ filter test xs) (filter test xs)) n ≡ cond b (cond (is_eq (note_cmp x n)) 1 0) 0 + sum_by (weight test n) xs
-    cases true e = sum_by-cons (λ other. cond (is_eq (note_cmp other n)) 1 0) x (filter test xs) ∙ ap (λ k. cond (is_eq (note_cmp x n)) 1 0 + k) e
-    cases false e = e ∙ none-more (sum_by (weight test n) xs)
+    cases : (b : Bool) → times (map f (filter test xs)) n ≡ sum_by (weight test f n) xs → times (map f (cond b (x ∷ filter test xs) (filter test xs))) n ≡ cond b (cond (is_eq (note_cmp (f x) n)) 1 0) 0 + sum_by (weight test f n) xs
+    cases true e = sum_by-cons (λ other. cond (is_eq (note_cmp other n)) 1 0) (f x) (map f (filter test xs)) ∙ ap (λ k. cond (is_eq (note_cmp (f x) n)) 1 0 + k) e
+    cases false e = e ∙ none-more (sum_by (weight test f n) xs)
 
-passed-same : (test : NoteValue → Bool) (xs ys : List NoteValue) → IsPermutation xs ys → (n : NoteValue) → times (filter test xs) n ≡ times (filter test ys) n
-passed-same test xs ys p n = passed-times test xs n ∙ sym (sum_by-IsPermutation (weight test n) xs ys p) ∙ sym (passed-times test ys n)
+passed-same : (test : NoteValue → Bool) (f : NoteValue → NoteValue) (xs ys : List NoteValue) → IsPermutation xs ys → (n : NoteValue) → times (map f (filter test xs)) n ≡ times (map f (filter test ys)) n
+passed-same test f xs ys p n = passed-times test f xs n ∙ sym (sum_by-IsPermutation (weight test f n) xs ys p) ∙ sym (passed-times test f ys n)
 
 kept-notes-same : (o o' : List ℕ) (c : Terms) → HoldTheSame o o' → (n : NoteValue) → times (kept_notes o c) n ≡ times (kept_notes o' c) n
 kept-notes-same o o' c s n =
     let test : NoteValue → Bool = λ note. keeps_annotation c note.onset note.text in
-    ap (λ z. times (filter test (map (moved_by (neg_ℤ z)) (notes_of o (head_of o)))) n) (same-origin o o' s)
-    ∙ passed-same test (map (moved_by (neg_ℤ (origin_of o'))) (notes_of o (head_of o))) (map (moved_by (neg_ℤ (origin_of o'))) (notes_of o' (head_of o')))
+    ap (λ z. times (kept_of c (map (moved_by (neg_ℤ z)) (notes_of o (head_of o)))) n) (same-origin o o' s)
+    ∙ passed-same test (as_kept c) (map (moved_by (neg_ℤ (origin_of o'))) (notes_of o (head_of o))) (map (moved_by (neg_ℤ (origin_of o'))) (notes_of o' (head_of o')))
     (IsPermutation-map (moved_by (neg_ℤ (origin_of o'))) (notes_of o (head_of o)) (notes_of o' (head_of o')) s.notes) n
 
 exported-notes-same : (o e o' e' : List ℕ) (c : Terms) → HoldTheSame o o' → HoldTheSame e e' → (n : NoteValue) → times (exported_notes o e c) n ≡ times (exported_notes o' e' c) n

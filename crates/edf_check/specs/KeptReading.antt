@@ -1,7 +1,7 @@
 -- What a claim keeps of an original, and what an export holds with the shift taken off, at instants counted from the second at which the original starts.
-use Rattle.std.specs.Prelude.{◌≡◌, ℕ, ℤ, neg_ℤ, ◌+ℤ◌, List, filter, map}
+use Rattle.std.specs.Prelude.{◌≡◌, ℕ, ℤ, neg_ℤ, ◌+ℤ◌, List, map}
 use Rattle.edf_claim.specs.Terms.{Terms}
-use Rattle.edf_claim.specs.Keeps.{KeepsInstant, keeps_annotation}
+use Rattle.edf_claim.specs.Keeps.{KeepsInstant}
 use Rattle.edf_fields.specs.Lists.{Has}
 use Rattle.edf_header.specs.HeadsReading.{head_of}
 use Rattle.edf_stream.specs.Instants.{IsSame}
@@ -11,7 +11,7 @@ use Rattle.edf_stream.specs.Samples.{SampleValue, IsSample}
 use Rattle.edf_stream.specs.Starts.{file_start}
 use Rattle.edf_check.specs.Courses.{Course}
 use Rattle.edf_check.specs.Instants.{later}
-use Rattle.edf_check.specs.Kept.{shift_ps}
+use Rattle.edf_check.specs.Kept.{shift_ps, kept_of}
 
 -- the start of a file, in picoseconds after 1970-01-01 00:00:00
 abbrev pub origin_of : List ℕ → ℤ
@@ -30,10 +30,9 @@ KeptAt original claim label at value =
 abbrev pub ExportedAt : List ℕ → List ℕ → Terms → Course
 ExportedAt original export claim label at value = ValueAt export label (later (origin_of original +ℤ shift_ps claim) at) value
 
--- the annotations that the claim keeps of the original, with onsets after the second at which it starts
+-- the annotations that the claim keeps of the original, as it keeps them, with onsets after the second at which it starts
 abbrev pub kept_notes : List ℕ → Terms → List NoteValue
-kept_notes original claim =
-    filter (λ note. keeps_annotation claim note.onset note.text) (map (moved_by (neg_ℤ (origin_of original))) (notes_of original (head_of original)))
+kept_notes original claim = kept_of claim (map (moved_by (neg_ℤ (origin_of original))) (notes_of original (head_of original)))
 
 -- the annotations of the export with the shift taken off, with onsets after the second at which the original starts
 abbrev pub exported_notes : List ℕ → List ℕ → Terms → List NoteValue

@@ -98,11 +98,13 @@ fn is_run(alloc: Global, call: Run) -> Option<bool> {
 }
 
 /// A claim that has each key.
-const CLAIM: &str = "format = 1
+const CLAIM: &str = "format = 2
 channels = [\"ECG\"]
 anonymous = [\"name\"]
 shift = -1
 remove = [\"Lights off\"]
+remove-prefix = [\"Mrs.\", \"Mrs. A\"]
+blank = [\"Arousal\"]
 [[keep]]
 from = \"0\"
 to = \"4\"
@@ -125,6 +127,8 @@ fn is_known(claim: &Claim) -> bool {
         && claim.shift_ps() == -1_000_000_000_000
         && claim.keeps_annotation(0, "Apnea")
         && !claim.keeps_annotation(0, "Lights off")
+        && !claim.keeps_annotation(0, "Mrs. Ames")
+        && claim.blanks("Arousal")
         && !claim.keeps_annotation(4_000_000_000_000, "Apnea")
 }
 

@@ -92,6 +92,14 @@ const REFUSED: &[(&str, ClaimStop)] = &[
         "format = 1\nchannels = [\"ECG\"]\nremove = [\"a\", \"a\"]\n[[keep]]\nfrom = \"0\"\nto = \"1\"\n",
         ClaimStop::BadRemove,
     ),
+    (
+        "format = 2\nchannels = [\"ECG\"]\nremove-prefix = [\"\"]\n[[keep]]\nfrom = \"0\"\nto = \"1\"\n",
+        ClaimStop::BadRemovePrefix,
+    ),
+    (
+        "format = 2\nchannels = [\"ECG\"]\nblank = [\"a\", \"a\"]\n[[keep]]\nfrom = \"0\"\nto = \"1\"\n",
+        ClaimStop::BadBlank,
+    ),
 ];
 
 #[test]

@@ -82,6 +82,14 @@ const LINES: &[(Refusal, &str)] = &[
         Refusal::Claim(ClaimStop::BadRemove),
         "edfclaim: claim refused: BadRemove",
     ),
+    (
+        Refusal::Claim(ClaimStop::BadRemovePrefix),
+        "edfclaim: claim refused: BadRemovePrefix",
+    ),
+    (
+        Refusal::Claim(ClaimStop::BadBlank),
+        "edfclaim: claim refused: BadBlank",
+    ),
     (Refusal::Memory, "edfclaim: out of memory"),
     (Refusal::Writing, "edfclaim: writing failed"),
 ];

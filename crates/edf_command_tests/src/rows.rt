@@ -59,6 +59,11 @@ const TEXT: &str = concat!(
     "40 NO 6 channel text \"ECG\" prefilter\n",
     "41 NO 3 unknown channel \"EMG\"\n",
     "42 NO 2 export fault: BadStart at header field startdate\n",
+    "53 NO 11 annotation extra at 1500000000000 ps duration 1000000000000 ps text \"Apnea\"\n",
+    "54 YES channels 2 samples 24 annotations 3\n",
+    "55 NO 11 annotation extra at 500000000000 ps duration none text \"Lights off\"\n",
+    "56 YES channels 2 samples 24 annotations 2\n",
+    "57 YES channels 2 samples 24 annotations 1\n",
 );
 
 #[test]
@@ -85,14 +90,14 @@ fn rows_into(
 #[test]
 fn holds_the_front_of_the_rows(rt: HostRuntime) -> Result<(), Fail> {
     let alloc = rt.alloc();
-    assert_eq!(rt; TEXT.len(), 1904);
-    for count in [0usize, 4, 40, 41, 42, 82, 83, 1903] {
+    assert_eq!(rt; TEXT.len(), 2195);
+    for count in [0usize, 4, 40, 41, 42, 82, 83, 2194] {
         let (outcome, written) = rows_into(alloc, count)?;
         assert_eq!(rt; outcome, Err(ReportStop::WriteFailed));
         assert_eq!(rt; written.len(), count);
         assert!(rt; TEXT.as_bytes().starts_with(&written));
     }
-    let (outcome, written) = rows_into(alloc, 1904)?;
+    let (outcome, written) = rows_into(alloc, 2195)?;
     assert_eq!(rt; outcome, Ok(Outcome::Yes));
     assert_eq!(rt; &written[..], TEXT.as_bytes());
     Ok(())
@@ -106,7 +111,7 @@ const REGION: usize = 96 << 10;
 
 /// Whether the rows are written; or none where that wants memory, and then a front of their text is written.
 fn is_written(alloc: Global) -> Option<bool> {
-    let mut room = [0u8; 2048];
+    let mut room = [0u8; 4096];
     let mut sink = SliceSink::new(&mut room);
     let outcome = vectors_to(alloc, &mut sink);
     let text = sink.written();

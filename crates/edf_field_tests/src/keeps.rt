@@ -106,6 +106,47 @@ fn keeps_annotations_by_onset_and_text(rt: HostRuntime) -> Result<(), Fail> {
     Ok(())
 }
 
+const BLANKING: &str = "format = 2
+channels = [\"ECG\"]
+remove = [\"Lights off\", \"Apnea\"]
+remove-prefix = [\"Mrs. A\", \"Mrs.\", \"\u{e9}\", \"Arousal\", \"Z\"]
+blank = [\"Sleep stage W\", \"Apnea\", \"\"]
+[[keep]]
+from = \"0\"
+to = \"1\"
+";
+
+/// Texts, whether an annotation is kept that has one, and whether it is blanked.
+const BLANKED: &[(&str, bool, bool)] = &[
+    ("Lights off", false, false),
+    ("Apnea", false, true),
+    ("Mrs.", false, false),
+    ("Mrs. Ames", false, false),
+    ("Mrs", true, false),
+    ("mrs. Ames", true, false),
+    ("To Mrs. Ames", true, false),
+    ("Arousa", true, false),
+    ("Arousal", false, false),
+    ("Arousals", false, false),
+    ("Zz", false, false),
+    ("Y", true, false),
+    ("\u{e9}t\u{e9}", false, false),
+    ("\u{e8}", true, false),
+    ("Sleep stage W", true, true),
+    ("Sleep stage W ", true, false),
+    ("", true, true),
+];
+
+#[test]
+fn removes_by_prefixes_and_blanks(rt: HostRuntime) -> Result<(), Fail> {
+    let claim = Claim::read(rt.alloc(), BLANKING.as_bytes())?;
+    for (text, kept, blanked) in BLANKED {
+        let found = (claim.keeps_annotation(0, text), claim.blanks(text));
+        assert_eq!(rt; found, (*kept, *blanked), "at {text}");
+    }
+    Ok(())
+}
+
 /// Whether the claim keeps these channels, in this order, and no other.
 fn has_channels(claim: &Claim) -> bool {
     match claim.channels() {

@@ -30,6 +30,27 @@ const TEXTS: &[(&str, Option<ClaimStop>)] = &[
         "format = 1\nchannels = ['ECG']\nremove = ['a', 'a']\nkeep = [{from = '0', to = '4'}]",
         Some(ClaimStop::BadRemove),
     ),
+    (
+        "format = 2\nchannels = ['ECG']\nremove-prefix = ['a', 'ab']\nblank = ['']\nkeep = [{from = '0', to = '4'}]\n",
+        None,
+    ),
+    ("format = 3\nblank = ['']", Some(ClaimStop::BadFormat)),
+    (
+        "format = 1\nchannels = ['ECG']\nblank = []\nkeep = [{from = '0', to = '4'}]",
+        Some(ClaimStop::UnknownKey),
+    ),
+    (
+        "format = 1\nchannels = ['ECG']\nremove-prefix = []\nkeep = [{from = '0', to = '4'}]",
+        Some(ClaimStop::UnknownKey),
+    ),
+    (
+        "format = 2\nchannels = ['ECG']\nremove-prefix = ['']\nblank = 1\nkeep = [{from = '0', to = '4'}]",
+        Some(ClaimStop::BadRemovePrefix),
+    ),
+    (
+        "format = 2\nchannels = ['ECG']\nblank = ['a', 'a']\nkeep = [{from = '0', to = '4'}]",
+        Some(ClaimStop::BadBlank),
+    ),
 ];
 
 #[test]
@@ -52,6 +73,8 @@ const NAMES: &[(ClaimStop, &str)] = &[
     (ClaimStop::BadAnonymous, "BadAnonymous"),
     (ClaimStop::BadShift, "BadShift"),
     (ClaimStop::BadRemove, "BadRemove"),
+    (ClaimStop::BadRemovePrefix, "BadRemovePrefix"),
+    (ClaimStop::BadBlank, "BadBlank"),
 ];
 
 #[test]

@@ -32,6 +32,8 @@ stop_word claims.BadKeep = codes "BadKeep"
 stop_word claims.BadAnonymous = codes "BadAnonymous"
 stop_word claims.BadShift = codes "BadShift"
 stop_word claims.BadRemove = codes "BadRemove"
+stop_word claims.BadRemovePrefix = codes "BadRemovePrefix"
+stop_word claims.BadBlank = codes "BadBlank"
 
 abbrev pub memory_text : List ℕ
 memory_text = codes "edfclaim: out of memory"

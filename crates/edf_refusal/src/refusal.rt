@@ -103,6 +103,8 @@ fn claim_refused(stop: ClaimStop) -> &'static str
         ClaimStop::BadAnonymous => "edfclaim: claim refused: BadAnonymous",
         ClaimStop::BadShift => "edfclaim: claim refused: BadShift",
         ClaimStop::BadRemove => "edfclaim: claim refused: BadRemove",
+        ClaimStop::BadRemovePrefix => "edfclaim: claim refused: BadRemovePrefix",
+        ClaimStop::BadBlank => "edfclaim: claim refused: BadBlank",
     }
 }
 

@@ -52,6 +52,11 @@ worked_rows =
     ∷ record { number = 40; stored = codes "NO 6 channel text \"ECG\" prefilter\n" }
     ∷ record { number = 41; stored = codes "NO 3 unknown channel \"EMG\"\n" }
     ∷ record { number = 42; stored = codes "NO 2 export fault: BadStart at header field startdate\n" }
+    ∷ record { number = 53; stored = codes "NO 11 annotation extra at 1500000000000 ps duration 1000000000000 ps text \"Apnea\"\n" }
+    ∷ record { number = 54; stored = codes "YES channels 2 samples 24 annotations 3\n" }
+    ∷ record { number = 55; stored = codes "NO 11 annotation extra at 500000000000 ps duration none text \"Lights off\"\n" }
+    ∷ record { number = 56; stored = codes "YES channels 2 samples 24 annotations 2\n" }
+    ∷ record { number = 57; stored = codes "YES channels 2 samples 24 annotations 1\n" }
     ∷ []
 
 -- a row, in the words of the code

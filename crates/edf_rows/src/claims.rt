@@ -98,3 +98,34 @@ pub const UNKNOWN: &str = concat!(
     "from = \"0\"\n",
     "to = \"4\"\n",
 );
+
+/// `X` in the place of each text `Apnea`.
+pub const BLANK_APNEA: &str = concat!(
+    "format = 2\n",
+    "channels = [\"EEG Fpz-Cz\", \"ECG\"]\n",
+    "blank = [\"Apnea\"]\n",
+    "[[keep]]\n",
+    "from = \"0\"\n",
+    "to = \"4\"\n",
+);
+
+/// No annotation whose text begins with `Lights`.
+pub const NO_LIGHTS_BY_BEGIN: &str = concat!(
+    "format = 2\n",
+    "channels = [\"EEG Fpz-Cz\", \"ECG\"]\n",
+    "remove-prefix = [\"Lights\"]\n",
+    "[[keep]]\n",
+    "from = \"0\"\n",
+    "to = \"4\"\n",
+);
+
+/// No annotation `Apnea`, which is blanked besides.
+pub const NO_APNEA: &str = concat!(
+    "format = 2\n",
+    "channels = [\"EEG Fpz-Cz\", \"ECG\"]\n",
+    "remove = [\"Apnea\"]\n",
+    "blank = [\"Apnea\"]\n",
+    "[[keep]]\n",
+    "from = \"0\"\n",
+    "to = \"4\"\n",
+);

@@ -131,6 +131,30 @@ const BAD_TEXT: File = File {
     ..NIGHT
 };
 
+/// The night with `X` in the place of its second and third text.
+const BLANKED: File = File {
+    bytes: &[
+        (1088, b"+1\x14\x14\0+1.5\x151\x14X\x14\0\0\0\0\0"),
+        (1192, b"+3\x14\x14\0+3\x14X\x14\0\0\0\0\0"),
+    ],
+    ..NIGHT
+};
+
+/// The night without its first annotation.
+const LIT: File = File {
+    bytes: &[(1036, b"+0\x14\x14\0\0\0\0\0\0\0\0\0\0\0\0\0\0\0\0\0\0")],
+    ..NIGHT
+};
+
+/// The night without its second and third annotation.
+const WITHOUT_APNEA: File = File {
+    bytes: &[
+        (1088, b"+1\x14\x14\0\0\0\0\0\0\0\0\0\0\0\0\0\0\0"),
+        (1192, b"+3\x14\x14\0\0\0\0\0\0\0\0\0\0\0"),
+    ],
+    ..NIGHT
+};
+
 /// The worked rows, in the order in which they are written. The header of the night has 1,024 bytes, and a
 /// data record of it 52, of which the last 40 are the lane.
 const ROWS: &[Row] = &[
@@ -505,6 +529,41 @@ const ROWS: &[Row] = &[
         },
         claim: claims::ALL,
         stored: "NO 2 export fault: BadStart at header field startdate\n",
+    },
+    Row {
+        number: 53,
+        original: NIGHT,
+        export: NIGHT,
+        claim: claims::BLANK_APNEA,
+        stored: "NO 11 annotation extra at 1500000000000 ps duration 1000000000000 ps text \"Apnea\"\n",
+    },
+    Row {
+        number: 54,
+        original: NIGHT,
+        export: BLANKED,
+        claim: claims::BLANK_APNEA,
+        stored: "YES channels 2 samples 24 annotations 3\n",
+    },
+    Row {
+        number: 55,
+        original: NIGHT,
+        export: NIGHT,
+        claim: claims::NO_LIGHTS_BY_BEGIN,
+        stored: "NO 11 annotation extra at 500000000000 ps duration none text \"Lights off\"\n",
+    },
+    Row {
+        number: 56,
+        original: NIGHT,
+        export: LIT,
+        claim: claims::NO_LIGHTS_BY_BEGIN,
+        stored: "YES channels 2 samples 24 annotations 2\n",
+    },
+    Row {
+        number: 57,
+        original: NIGHT,
+        export: WITHOUT_APNEA,
+        claim: claims::NO_APNEA,
+        stored: "YES channels 2 samples 24 annotations 1\n",
     },
 ];
 

@@ -1,9 +1,9 @@
 -- A reader that goes on.
-use Rattle.std.proofs.Common.{inl, inr, ◌≡◌, ℕ, suc, ◌+◌, ◌≤◌, ℤ, ◌+ℤ◌, ◌≤ℤ◌, ◌<ℤ◌, Bool, true, false, List, [], ◌∷◌, ◌++◌, map, filter, Option, Some, None, Ok, IfNone, refl, sym, ap, ◌∙◌, arith, subst}
+use Rattle.std.proofs.Common.{inl, inr, ◌≡◌, ℕ, suc, ◌+◌, ◌≤◌, ℤ, ◌+ℤ◌, ◌≤ℤ◌, ◌<ℤ◌, Bool, true, false, cond, List, [], ◌∷◌, ◌++◌, map, Option, Some, None, Ok, IfNone, refl, sym, ap, ◌∙◌, arith, subst}
 use Rattle.std.proofs.lemmas.Int.{ints}
 use Rattle.std.proofs.lemmas.Bool.{cases_lt}
-use Rattle.std.proofs.lemmas.List.{append-nil}
-use Rattle.std.proofs.lemmas.List.Elements.{filter-append}
+use Rattle.std.proofs.lemmas.List.{append-nil, map-append}
+use Rattle.edf_claim.specs.Keeps.{keeps_annotation, kept_text}
 use Rattle.edf_claim.specs.Terms.{Terms}
 use Rattle.edf_header.specs.Heads.{Head}
 use Rattle.edf_stream.specs.declared.status.Status.{Status}
@@ -16,8 +16,12 @@ use Rattle.edf_stream.specs.Readers.{Reader, IsOpen, is_current, status_after, S
 use Rattle.edf_stream.specs.Records.{record_at}
 use Rattle.edf_stream.specs.Starts.{file_start}
 use Rattle.edf_stream.specs.StartsReading.{end_before}
+use Rattle.edf_stream.specs.Views.{note_value}
+use Rattle.edf_stream.specs.declared.notes.Note.{Note}
 use Rattle.edf_check.specs.walk.Shown.{ArePast, end_by, ends_at, Shows, IsGoing}
-use Rattle.edf_check.specs.walk.Gathered.{counts_by, gathered_of, gathered_in}
+use Rattle.edf_check.specs.walk.Gathered.{counted_text, counted_of, gathered_of, gathered_in}
+use Rattle.edf_check.specs.walk.Keepers.{counted_parts, gathered_nil}
+use Rattle.edf_check.specs.Kept.{as_kept}
 use Rattle.edf_check.specs.walk.Readings.{IsAt, IsThere, Moves, Follows}
 
 -- what was answered is what is at hand
@@ -100,14 +104,40 @@ ended_next Current old new left file g e comes o = absurd (let f : Current ≡ E
 ended_next Ended old new left file g e comes o =
     let P : Head → Type 0 = λ h. (body_fault file h ≡ None) × Conforms file h × (left ≡ []) × (new.read ≡ h.records) in subst P (sym e) (comes.2, comes.3, comes.4, comes.1)
 
-map-append-notes : (f : NoteValue → NoteValue) (xs ys : List NoteValue) → map f (xs ++ ys) ≡ map f xs ++ map f ys
-map-append-notes f [] ys = refl
-map-append-notes f (x ∷ xs) ys = ap (λ zs. f x ∷ zs) (map-append-notes f xs ys)
-
 pub gathered_append : (claim : Option Terms) (ps : ℤ) (xs ys : List NoteValue) → gathered_of claim ps (xs ++ ys) ≡ gathered_of claim ps xs ++ gathered_of claim ps ys
-gathered_append claim ps xs ys =
-    ap (filter (λ n. counts_by claim n.onset n.text)) (map-append-notes (moved_by ps) xs ys)
-    ∙ filter-append (λ n. counts_by claim n.onset n.text) (map (moved_by ps) xs) (map (moved_by ps) ys)
+gathered_append claim ps xs ys = counted_parts claim ps xs ys
+
+-- one annotation that counts, and one that doesn't
+pub gathered_one : (claim : Option Terms) (ps : ℤ) (n : NoteValue) (text : List ℕ) → Some text ≡ counted_text claim (ps +ℤ n.onset) n.text
+    → record { onset = ps +ℤ n.onset; duration = n.duration; text = text } ∷ [] ≡ gathered_of claim ps (n ∷ [])
+gathered_one None ps n text e = let same : text ≡ n.text = cc in ap (λ t. record { onset = ps +ℤ n.onset; duration = n.duration; text = t } ∷ []) same
+gathered_one (Some claim) ps n text e = kept (keeps_annotation claim (ps +ℤ n.onset) n.text) e
+  where
+    at : NoteValue
+    at = moved_by ps n
+
+    kept : (b : Bool) → Some text ≡ cond b (Some (kept_text claim n.text)) None → record { onset = ps +ℤ n.onset; duration = n.duration; text = text } ∷ [] ≡ map (as_kept claim) (cond b (at ∷ []) [])
+    kept true e = let same : text ≡ kept_text claim n.text = cc in ap (λ t. record { onset = ps +ℤ n.onset; duration = n.duration; text = t } ∷ []) same
+    kept false e = absurd (let z : Some text ≡ None = e in cc)
+
+-- one more that counts, behind those that are held
+pub pushed_one : (before after : List Note) (v : Note) (claim : Option Terms) (ps : ℤ) (n : NoteValue) (text : List ℕ) → after ≡ before ++ (v ∷ [])
+    → note_value v ≡ record { onset = ps +ℤ n.onset; duration = n.duration; text = text } → Some text ≡ counted_text claim (ps +ℤ n.onset) n.text
+    → map note_value after ≡ map note_value before ++ gathered_of claim ps (n ∷ [])
+pushed_one before after v claim ps n text items value counts =
+    let had : List NoteValue = map note_value before in
+    ap (map note_value) items ∙ map-append note_value before (v ∷ []) ∙ ap (λ x. had ++ (x ∷ [])) value ∙ ap (λ more. had ++ more) (gathered_one claim ps n text counts)
+
+pub gathered_none : (claim : Option Terms) (ps : ℤ) (n : NoteValue) → None ≡ counted_text claim (ps +ℤ n.onset) n.text → [] ≡ gathered_of claim ps (n ∷ [])
+gathered_none None ps n e = absurd (let z : None ≡ Some n.text = e in cc)
+gathered_none (Some claim) ps n e = left (keeps_annotation claim (ps +ℤ n.onset) n.text) e
+  where
+    at : NoteValue
+    at = moved_by ps n
+
+    left : (b : Bool) → None ≡ cond b (Some (kept_text claim n.text)) None → [] ≡ map (as_kept claim) (cond b (at ∷ []) [])
+    left true e = absurd (let z : None ≡ Some (kept_text claim n.text) = e in cc)
+    left false e = refl
 
 moved-twice : (a b : ℤ) (n : NoteValue) → moved_by a (moved_by b n) ≡ moved_by (b +ℤ a) n
 moved-twice a b n = let e : a +ℤ (b +ℤ n.onset) ≡ (b +ℤ a) +ℤ n.onset = omega (arith, ints) in ap (λ onset. record { onset = onset; duration = n.duration; text = n.text }) e
@@ -119,7 +149,7 @@ all-moved-twice a b (n ∷ ns) = rw (moved-twice a b n, all-moved-twice a b ns) 
 -- the annotations of a data record, moved at once
 pub gathered_here : (claim : Option Terms) (ps : ℤ) (r : Reader) → is_current r.status ≡ true → gathered_in claim ps r ≡ gathered_of claim (file_start r.head +ℤ ps) (notes_in r.head r.current)
 unfolding moved_notes_in
-gathered_here claim ps r e = rw e (ap (filter (λ n. counts_by claim n.onset n.text)) (all-moved-twice ps (file_start r.head) (notes_in r.head r.current)))
+gathered_here claim ps r e = rw e (ap (counted_of claim) (all-moved-twice ps (file_start r.head) (notes_in r.head r.current)))
 
 pub gathered_nothing : (claim : Option Terms) (ps : ℤ) (r : Reader) → is_current r.status ≡ false → gathered_in claim ps r ≡ []
 gathered_nothing claim ps r e = rw e refl
@@ -163,7 +193,7 @@ at_next old new left left' notes notes' file claim ps t u cur l e g head count m
     }
 
 none_gathered : (claim : Option Terms) (ps : ℤ) (file : List ℕ) (h : Head) (k : ℕ) → k ≡ 0 → [] ≡ gathered_of claim ps (moved_notes_before file h k)
-none_gathered claim ps file h k e = let P : ℕ → Type 0 = λ j. [] ≡ gathered_of claim ps (moved_notes_before file h j) in subst P (sym e) refl
+none_gathered claim ps file h k e = let P : ℕ → Type 0 = λ j. [] ≡ gathered_of claim ps (moved_notes_before file h j) in subst P (sym e) (gathered_nil claim ps)
 
 -- the first data record, or the end
 pub at_first : (old new : Reader) (left : List ℕ) (notes' : List NoteValue) (file : List ℕ) (claim : Option Terms) (ps u : ℤ) → old.read ≡ 0 → IsGoing new.status → new.head ≡ old.head

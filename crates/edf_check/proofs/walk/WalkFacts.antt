@@ -1,7 +1,6 @@
 -- From the parts of a walk to what it found.
 use Rattle.std.proofs.Common.{◌≡◌, ◌*◌, ℕ, neg_ℤ, ◌+ℤ◌, Bor, List, [], ◌∷◌, length, map, filter, suc, ◌<◌, Option, Some, None, IfSome, Result, Ok, Err, IfOk, refl, sym, ap, ◌∙◌, subst}
 use Rattle.edf_claim.specs.Terms.{Terms}
-use Rattle.edf_claim.specs.Keeps.{keeps_annotation}
 use Rattle.edf_fields.specs.declared.fault.Fault.{Fault}
 use Rattle.edf_header.specs.Faults.{header_fault}
 use Rattle.edf_header.specs.Heads.{Head, samples_together}
@@ -35,12 +34,12 @@ use Rattle.edf_check.specs.samples.Earliest.{earliest}
 use Rattle.edf_check.specs.Exports.{BothConform}
 use Rattle.edf_heads.specs.HeadVerdicts.{HeadsAgree, IsHeadVerdict}
 use Rattle.edf_check.specs.InstantOrder.{IsModest}
-use Rattle.edf_check.specs.Kept.{shift_ps}
+use Rattle.edf_check.specs.Kept.{shift_ps, kept_of}
 use Rattle.edf_check.specs.KeptReading.{origin_of, exported_notes}
 use Rattle.edf_check.specs.Verdicts.{IsVerdict}
 use Rattle.edf_check.specs.walk.Walks.{IsClock, IsCompared, IsReadOut, IsWalked, AreNotes, AreCompared}
 use Rattle.edf_check.specs.walk.Windows.{sampled, whole_difference}
-use Rattle.edf_check.specs.walk.Gathered.{counts_by, gathered_of}
+use Rattle.edf_check.specs.walk.Gathered.{gathered_of}
 use Rattle.edf_check.specs.walk.Pairs.{Places, places_of}
 use Rattle.edf_check.specs.walk.Ends.{AreWalked}
 use Rattle.edf_check.proofs.walk.NightFacts.{first-found}
@@ -82,10 +81,6 @@ of_headers o e claim r s a b v so se co ce is =
 
 -- ---- what was walked, in the words of both files
 
-all-counted : (notes : List NoteValue) → filter (λ n. counts_by None n.onset n.text) notes ≡ notes
-all-counted [] = refl
-all-counted (n ∷ ns) = ap (λ xs. n ∷ xs) (all-counted ns)
-
 long-map : {X Y : Type 0} (f : X → Y) (xs : List X) → length (map f xs) ≡ length xs
 long-map f [] = refl
 long-map f (x ∷ xs) = ap suc (long-map f xs)
@@ -101,12 +96,11 @@ notes-are : (o e : List ℕ) (claim : Terms) (h g : Head) (kept exported : List 
     → AreNotes o e claim kept exported summary
 notes-are o e claim h g kept exported clock summary ho he c one two channels samples annotations =
     let out : map note_value exported ≡ exported_notes o e claim =
-    two ∙ all-counted (map (moved_by (clock.export).ps) (notes_of e g))
-    ∙ ap (λ ps. map (moved_by ps) (notes_of e g)) (clock-export o h claim clock ho c)
+    two ∙ ap (λ ps. map (moved_by ps) (notes_of e g)) (clock-export o h claim clock ho c)
     ∙ ap (λ (x : Head). map (moved_by (neg_ℤ (origin_of o +ℤ shift_ps claim))) (notes_of e x)) he in
     record {
-      kept_are = one ∙ ap (λ ps. filter (λ (n : NoteValue). keeps_annotation claim n.onset n.text) (map (moved_by ps) (notes_of o h))) (clock-original o h claim clock ho c)
-          ∙ ap (λ (x : Head). filter (λ (n : NoteValue). keeps_annotation claim n.onset n.text) (map (moved_by (neg_ℤ (origin_of o))) (notes_of o x))) ho;
+      kept_are = one ∙ ap (λ ps. kept_of claim (map (moved_by ps) (notes_of o h))) (clock-original o h claim clock ho c)
+          ∙ ap (λ (x : Head). kept_of claim (map (moved_by (neg_ℤ (origin_of o))) (notes_of o x))) ho;
       exported_are = out;
       counts = record {
         channels_are = channels ∙ ap (λ (x : Head). length (channels_among x.signals)) he;

@@ -1,20 +1,27 @@
 -- Which annotations are gathered of a file, moved by `ps` picoseconds. These are steps between the definitions and the code.
-use Rattle.std.specs.Prelude.{ℕ, ℤ, Bool, true, List, [], map, filter, Option, None, Some, option_map, if◌then◌else◌}
+use Rattle.std.specs.Prelude.{ℕ, ℤ, List, [], map, Option, None, Some, option_map, if◌then◌else◌}
 use Rattle.edf_claim.specs.Terms.{Terms}
-use Rattle.edf_claim.specs.Keeps.{keeps_annotation}
+use Rattle.edf_claim.specs.Keeps.{keeps_annotation, kept_text}
 use Rattle.edf_stream.specs.Notes.{NoteValue, moved_by}
 use Rattle.edf_stream.specs.NotesReading.{moved_notes_in}
 use Rattle.edf_stream.specs.Readers.{Reader, is_current}
+use Rattle.edf_check.specs.Kept.{kept_of}
 use Rattle.edf_check.specs.declared.walk.gather.View.{View}
 
--- an annotation with this onset and this text counts: by this claim, or, where there is none, in any case
-abbrev pub counts_by : Option Terms → ℤ → List ℕ → Bool
-counts_by None onset text = true
-counts_by (Some claim) onset text = keeps_annotation claim onset text
+-- the text with which an annotation counts that has this onset and this text, or none where it doesn't count: by this claim, or,
+-- where there is none, each as it is
+abbrev pub counted_text : Option Terms → ℤ → List ℕ → Option (List ℕ)
+counted_text None onset text = Some text
+counted_text (Some claim) onset text = if keeps_annotation claim onset text then Some (kept_text claim text) else None
 
--- which annotations are gathered: those that count, moved
+-- what counts of annotations: what this claim makes of them, or, where there is none, all
+abbrev pub counted_of : Option Terms → List NoteValue → List NoteValue
+counted_of None notes = notes
+counted_of (Some claim) notes = kept_of claim notes
+
+-- which annotations are gathered: what counts of them, moved
 abbrev pub gathered_of : Option Terms → ℤ → List NoteValue → List NoteValue
-gathered_of claim ps notes = filter (λ n. counts_by claim n.onset n.text) (map (moved_by ps) notes)
+gathered_of claim ps notes = counted_of claim (map (moved_by ps) notes)
 
 abbrev pub claim_of : View → Option Terms
 claim_of view = option_map (λ claim. claim.now) view.claim

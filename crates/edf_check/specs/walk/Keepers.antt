@@ -1,12 +1,14 @@
 -- What is kept of annotations that come one after the other. These are steps between the definitions and the code.
-use Rattle.std.specs.Prelude.{◌≡◌, refl, ℤ, List, [], ◌++◌, map, filter, Option, IsTrue}
+use Rattle.std.specs.Prelude.{◌≡◌, refl, ℤ, List, [], ◌++◌, map, filter, Option, None, Some, IsTrue}
 use Rattle.std.proofs.Common.{sym, ap, ◌∙◌, append_assoc}
 use Rattle.std.proofs.lemmas.List.{append-nil, map-append}
 use Rattle.std.proofs.lemmas.List.Elements.{filter-append}
+use Rattle.edf_claim.specs.Keeps.{keeps_annotation}
 use Rattle.edf_claim.specs.Terms.{Terms}
 use Rattle.edf_stream.specs.Notes.{NoteValue, moved_by}
 use Rattle.edf_stream.specs.Views.{note_value}
-use Rattle.edf_check.specs.walk.Gathered.{counts_by, claim_of, gathered_of}
+use Rattle.edf_check.specs.Kept.{as_kept}
+use Rattle.edf_check.specs.walk.Gathered.{counted_of, claim_of, gathered_of}
 use Rattle.edf_check.specs.declared.walk.gather.Gathering.{Gathering}
 
 -- it got these annotations; where there was memory for all, it has those that count
@@ -15,13 +17,23 @@ pub record GotCounted (before : Gathering) (notes : List NoteValue) (after : Gat
   pub by : after.by ≡ before.by
   pub kept : IsTrue after.whole → IsTrue before.whole × (map note_value after.notes.items ≡ map note_value before.notes.items ++ gathered_of (claim_of before.view) before.by.ps notes)
 
-pub counted_none : (g : Gathering) → GotCounted g [] g
-counted_none g = record { view = refl; by = refl; kept = λ whole. (whole, sym (append-nil (map note_value g.notes.items))) }
+pub gathered_nil : (claim : Option Terms) (ps : ℤ) → [] ≡ gathered_of claim ps []
+gathered_nil None ps = refl
+gathered_nil (Some claim) ps = refl
 
-counted_parts : (claim : Option Terms) (ps : ℤ) (xs ys : List NoteValue) → gathered_of claim ps (xs ++ ys) ≡ gathered_of claim ps xs ++ gathered_of claim ps ys
-counted_parts claim ps xs ys =
-    ap (filter (λ n. counts_by claim n.onset n.text)) (map-append (moved_by ps) xs ys)
-    ∙ filter-append (λ n. counts_by claim n.onset n.text) (map (moved_by ps) xs) (map (moved_by ps) ys)
+pub counted_none : (g : Gathering) → GotCounted g [] g
+counted_none g =
+    let had : List NoteValue = map note_value g.notes.items in
+    record { view = refl; by = refl; kept = λ whole. (whole, sym (append-nil had) ∙ ap (λ more. had ++ more) (gathered_nil (claim_of g.view) g.by.ps)) }
+
+counted_append : (claim : Option Terms) (xs ys : List NoteValue) → counted_of claim (xs ++ ys) ≡ counted_of claim xs ++ counted_of claim ys
+counted_append None xs ys = refl
+counted_append (Some claim) xs ys =
+    ap (map (as_kept claim)) (filter-append (λ n. keeps_annotation claim n.onset n.text) xs ys)
+    ∙ map-append (as_kept claim) (filter (λ n. keeps_annotation claim n.onset n.text) xs) (filter (λ n. keeps_annotation claim n.onset n.text) ys)
+
+pub counted_parts : (claim : Option Terms) (ps : ℤ) (xs ys : List NoteValue) → gathered_of claim ps (xs ++ ys) ≡ gathered_of claim ps xs ++ gathered_of claim ps ys
+counted_parts claim ps xs ys = ap (counted_of claim) (map-append (moved_by ps) xs ys) ∙ counted_append claim (map (moved_by ps) xs) (map (moved_by ps) ys)
 
 pub counted_both : (a b c : Gathering) (xs ys : List NoteValue) → GotCounted a xs b → GotCounted b ys c → GotCounted a (xs ++ ys) c
 counted_both a b c xs ys first second = record {

@@ -4,7 +4,7 @@ ghost use Rattle.std.specs.Prelude.{◌≡◌, ◌<◌, ◌^◌, ◌*◌, [], �
 ghost use Rattle.edf_stream.specs.Keeping.{tal_notes_left};
 ghost use Rattle.edf_stream.specs.Starts.{file_start};
 ghost use Rattle.edf_stream.specs.Views.{note_view, note_value};
-ghost use Rattle.edf_check.specs.walk.Gathered.{counts_by, gathered_of};
+ghost use Rattle.edf_check.specs.walk.Gathered.{counted_text, gathered_of};
 
 use crate::walk::offset::Offset;
 use edf_claim::claim::Claim;
@@ -16,38 +16,49 @@ use edf_stream::own_text::OwnText;
 use edf_stream::reader::FileReader;
 use std::alloc::{AllocError, Global};
 
-/// How a file is looked at: by how much it is moved, and which claim chooses from its annotations; where
-/// there is none, all count.
+/// How a file is looked at: by how much it is moved, and which claim chooses from its annotations and blanks
+/// their texts; where there is none, all count as they are.
 #[derive(Clone, Copy)]
 pub struct View<'a> {
     pub moved: Offset,
     pub claim: Option<&'a Claim>,
 }
 
-/// Whether an annotation with this onset and this text counts.
-fn counts(claim: Option<&Claim>, onset: i128, text: &str) -> bool
-    ensures { result ≡ counts_by (option_map (λ c. c.now) claim.entry) onset text.now }
+/// What stands for a text that is blanked.
+const BLANK: &str = "X";
+
+/// The text with which an annotation counts that has this onset and this text: none where it doesn't count.
+fn text_by<'a>(claim: Option<&Claim>, onset: i128, text: &'a str) -> Option<&'a str>
+    ensures { option_map (λ t. t.now) result ≡ counted_text (option_map (λ c. c.now) claim.entry) onset text.now }
 {
-    match claim {
-        Some(claim) => claim.keeps_annotation(onset, text),
-        None => true,
+    let Some(claim) = claim else {
+        return Some(text);
+    };
+    if !claim.keeps_annotation(onset, text) {
+        return None;
+    }
+    if claim.blanks(text) {
+        Some(BLANK)
+    } else {
+        Some(text)
     }
 }
 
-/// The annotation at this onset, with a text of its own.
+/// The annotation at this onset, with this text as its own.
 ///
 /// The error is want of memory.
-fn note_at(alloc: Global, note: NoteRef<'_>, onset: i128) -> Result<Note, AllocError>
-    ensures { IfOk result (λ v. note_value v ≡ record { onset = onset; duration = (note_view note.entry).duration; text = (note_view note.entry).text }) }
+fn note_at(alloc: Global, note: NoteRef<'_>, onset: i128, text: &str) -> Result<Note, AllocError>
+    ensures { IfOk result (λ v. note_value v ≡ record { onset = onset; duration = (note_view note.entry).duration; text = text.now }) }
 {
     Ok(Note {
         onset,
         duration: note.duration,
-        text: OwnText::new(alloc, note.text)?,
+        text: OwnText::new(alloc, text)?,
     })
 }
 
 /// Puts an annotation, so much later, behind `notes`, where it counts.
+#[tactic(auto, using(crate::proofs::walk::PassFacts::gathered_one, crate::proofs::walk::PassFacts::gathered_none))]
 fn push_counted(
     alloc: Global,
     notes: &mut Vec<Note>,
@@ -60,8 +71,8 @@ fn push_counted(
         (λ c. c.now) claim.entry) by.ps (note_view note.entry ∷ [])) }
 {
     let onset = by.ps + note.onset;
-    if counts(claim, onset, note.text) {
-        notes.push(note_at(alloc, note, onset)?)?;
+    if let Some(text) = text_by(claim, onset, note.text) {
+        notes.push(note_at(alloc, note, onset, text)?)?;
     }
     Ok(())
 }
