@@ -342,7 +342,8 @@ def two_heads():
         claimed.append(one_of(*LABELS))
     texts = ", ".join(quoted(label.decode().replace('"', '\\"')) for label in claimed)
     hidden = ", ".join(quoted(name) for name in anonymous)
-    document = f'format = 1\nchannels = [{texts}]\nanonymous = [{hidden}]\nkeep = [{{ from = "0", to = "1" }}]\n'.encode()
+    front = f"format = {one_of(1, 2)}\nchannels = [{texts}]\nanonymous = [{hidden}]\n"
+    document = f'{front}keep = [{{ from = "0", to = "1" }}]\n'.encode()
     first, second = built(old, columns), built(new, shown)
     return b"%-8d%-8d" % (len(first), len(second)) + first + second + document
 
@@ -363,6 +364,15 @@ def claimed_text():
     return quoted(one_of(*good, "a" * 17, "Temp ", "EDF Annotations", "é", "\\t", "\\u007f"))
 
 
+def begin():
+    """What texts begin with: a letter or more, or a whole text; some begin with others."""
+    return quoted(one_of("a", "ab", "abc", "abcd", "b", "\\u0061b", "é", "\\u00ea", "T", "Temp", "X", " "))
+
+
+def blanked_text():
+    return quoted(one_of("a", "ab", "\\u0061", "ba", "", "", "é", "ê", "Temp", "X", "ECG"))
+
+
 def claimed_span():
     good = ["0", "1", "2.5", "00.5", "4", "999999999.999999999999"]
     return quoted(one_of(*good, "1000000000", "+0", "1.", ".5", "", "1e3"))
@@ -375,7 +385,7 @@ def interval():
 
 
 def keep():
-    if often(0.3):
+    if often(0.2):
         return array(interval, 0, 3)
     ends = sorted(choose.sample(range(100), one_of(2, 4, 6)))
     if len(ends) > 2 and often(0.4):
@@ -391,20 +401,26 @@ def changed_claim(document):
 
 
 def claim():
-    labels = ['["Temp"]', '["Temp", "ECG"]'] * 5
+    form = one_of("1", "2", "2")
+    other_forms = ["3", "0", f'"{form}"', f"{form}.0", "true", f"[{form}]", f"0x{form}", f"+{form}"]
+    labels = ['["Temp"]', '["Temp", "ECG"]'] * 10
     named = array(lambda: quoted(one_of(*SUBFIELDS)), 0, 4)
     limits = [str(sign * (10**10 + more)) for sign in (1, -1) for more in (0, 1)]
+    begins, blanked = [array(begin, 1, 3) for _ in range(9)], [array(blanked_text, 1, 3) for _ in range(9)]
     keys = {
-        "format": one_of(*["1"] * 12, "2", '"1"', "1.0", "true", "0x1", "+1"),
+        "format": one_of(*[form] * 24, *other_forms),
         "channels": one_of(*labels, array(claimed_text, 0, 3), array(claimed_text, 0, 3), '"Temp"', "[1]"),
-        "keep": one_of(*[keep() for _ in range(9)], "3", '"a"', '{ from = "0", to = "1" }'),
+        "keep": one_of(*[keep() for _ in range(18)], "3", '"a"', '{ from = "0", to = "1" }'),
         "anonymous": one_of(named, named, "[]", '["sex"]', '["Sex"]', '"sex"', "[1]", '["sex", "sex"]'),
         "shift": one_of("0", "-5", "1_000", "0b11", '"1"', *limits),
         "remove": one_of(array(claimed_text, 0, 3), "[]", '["a"]', '["a", "b"]', '["a", "a"]', '"a"', "[1]"),
-        one_of("note", "Format", '"format "', "keeps", "a.b"): "1",
+        "remove-prefix": one_of(*begins, "[]", '["a", "ab"]', '["ab", "a"]', '[""]', '["a", ""]', '["a", "a"]', '"a"', "[1]"),
+        "blank": one_of(*blanked, "[]", '[""]', '["a", "ab"]', '["a", "a"]', '["", ""]', '"a"', "[1]"),
+        one_of("note", "Format", '"format "', "keeps", "a.b", "remove_prefix", "remove.prefix", "Blank"): "1",
     }
-    names = [name for name in list(keys)[:3] if not often(0.03)] + [name for name in list(keys)[3:6] if often(0.5)]
-    names += list(keys)[6:] if often(0.1) else []
+    names = [name for name in list(keys)[:3] if not often(0.02)] + [name for name in list(keys)[3:6] if often(0.35)]
+    names += [name for name in list(keys)[6:8] if often(0.6 if form == "2" else 0.06)]
+    names += list(keys)[8:] if often(0.08) else []
     choose.shuffle(names)
     document = "".join(f"{name} = {keys[name]}\n" for name in names)
     if often(0.1):
@@ -416,7 +432,7 @@ CASES = {
     "n": (4, number), "w": (4, number), "o": (4, lambda: time(often(0.9))), "s": (3, lambda: time(often(0.1))),
     "d": (2, dotted_day), "D": (3, dashed_day), "c": (2, clock), "p": (6, patient), "r": (6, recording),
     "t": (30, lane), "h": (20, header), "f": (20, whole_file), "m": (10, whole_file),
-    "C": (12, claim), "x": (20, two_heads),
+    "C": (24, claim), "x": (20, two_heads),
 }
 
 

@@ -12,6 +12,7 @@ import fractions
 import re
 import struct
 import sys
+import typing
 
 MONTHS = ["JAN", "FEB", "MAR", "APR", "MAY", "JUN", "JUL", "AUG", "SEP", "OCT", "NOV", "DEC"]
 ANNOTATIONS = b"EDF Annotations"
@@ -326,6 +327,24 @@ def records(file, said, found):
 
 # ---- claims
 
+KEYS = {"format", "channels", "keep", "anonymous", "shift", "remove"}
+
+# by each format the keys that a claim may have
+KEYS_OF = {1: KEYS, 2: KEYS | {"remove-prefix", "blank"}}
+
+
+class Claim(typing.NamedTuple):
+    """What a claim says; texts of annotations are removed where they are one of `remove` or begin with one of
+    `prefixes`, and else blanked where they are one of `blank`."""
+
+    labels: list
+    keep: list
+    anonymous: list
+    shift: int
+    remove: list
+    prefixes: list
+    blank: list
+
 
 def is_whole(value):
     return type(value) is int
@@ -357,7 +376,7 @@ def intervals(tables):
 
 
 def claim(document):
-    """The labels, the stretches, the subfields that are made anonymous, the shift and the removed texts."""
+    """The labels, the stretches, the subfields that are made anonymous, the shift, and what is made of texts."""
     # from Python 3.11 on; the other rules need no more than Python 3.8
     import tomllib
 
@@ -369,21 +388,39 @@ def claim(document):
         raise Refused("NotToml") from None
     labels, keep, shift = said.get("channels"), intervals(said.get("keep")), said.get("shift", 0)
     anonymous, remove = said.get("anonymous", []), said.get("remove", [])
+    prefixes, blank = said.get("remove-prefix", []), said.get("blank", [])
+    has_format = is_whole(said.get("format")) and said["format"] in KEYS_OF
     for holds, cause in [
-        (is_whole(said.get("format")) and said["format"] == 1, "BadFormat"),
-        (set(said) <= {"format", "channels", "keep", "anonymous", "shift", "remove"}, "UnknownKey"),
+        (has_format, "BadFormat"),
+        (has_format and set(said) <= KEYS_OF[said["format"]], "UnknownKey"),
         (are_distinct_texts(labels) and labels and all(is_label(label) for label in labels), "BadChannels"),
         (keep, "BadKeep"),
         (are_distinct_texts(anonymous) and set(anonymous) <= set(SUBFIELDS), "BadAnonymous"),
         (is_whole(shift) and abs(shift) <= 10**10, "BadShift"),
         (are_distinct_texts(remove), "BadRemove"),
+        (are_distinct_texts(prefixes) and "" not in prefixes, "BadRemovePrefix"),
+        (are_distinct_texts(blank), "BadBlank"),
     ]:
         if not holds:
             raise Refused(cause)
-    return labels, keep, anonymous, shift, remove
+    return Claim(labels, keep, anonymous, shift, remove, prefixes, blank)
+
+
+def removes(claimed, part):
+    """Whether an annotation with this text is removed."""
+    begins = any(part.startswith(prefix.encode()) for prefix in claimed.prefixes)
+    return begins or any(part == other.encode() for other in claimed.remove)
+
+
+def blanks(claimed, part):
+    """Whether this text of a kept annotation is blanked."""
+    return any(part == other.encode() for other in claimed.blank)
 
 
 # ---- the answers, as answers.rt.in prints them
+
+# the texts of annotations that each claim is asked for
+ASKED = ["a", "ab", "abc", "ba", "b", "", "é", "ê", "Temp", "X"]
 
 
 def bracketed(fields):
@@ -470,15 +507,21 @@ def meaning_line(file):
     return told + noted
 
 
-def claim_line(document):
-    labels, keep, anonymous, shift, remove = claim(document)
-    line = bracketed(label.encode() for label in labels) + f" {shift * 10**12} "
-    line += "".join("x" if name in anonymous else "-" for name in SUBFIELDS) + " "
+def text_marks(claimed, part):
+    """Each half second, kept with an annotation of this text (k), or the samples alone (s); and whether it is blanked."""
+    marks = ""
     for half in range(20):
         instant = half * 500_000_000_000
-        is_kept = any(begin <= instant < end for begin, end in keep)
-        line += "-" if not is_kept else "s" if "a" in remove else "k"
-    return line
+        is_kept = any(begin <= instant < end for begin, end in claimed.keep)
+        marks += "-" if not is_kept else "s" if removes(claimed, part) else "k"
+    return marks + ("x" if blanks(claimed, part) else "-")
+
+
+def claim_line(document):
+    claimed = claim(document)
+    line = bracketed(label.encode() for label in claimed.labels) + f" {claimed.shift * 10**12} "
+    line += "".join("x" if name in claimed.anonymous else "-" for name in SUBFIELDS)
+    return line + "".join(f" {text_marks(claimed, part.encode())}" for part in ASKED)
 
 
 def line_through(one):
@@ -546,10 +589,11 @@ def heads_line(case):
     try:
         old, new = fixed_part(original), fixed_part(export)
         before, after = signals(original, old["signals"]), signals(export, new["signals"])
-        labels, _, anonymous, _, _ = claim(document)
+        claimed = claim(document)
     except Refused:
         return "refused"
-    found = head_difference(old, before, new, after, [label.encode() for label in labels], anonymous)
+    labels = [label.encode() for label in claimed.labels]
+    found = head_difference(old, before, new, after, labels, claimed.anonymous)
     if not found:
         return "None"
     number, word, label = found

@@ -11,7 +11,9 @@ import collections
 import sys
 from fractions import Fraction
 
-from rules import ANNOTATIONS, Refused, begin_of, claim, compare, fixed_part, head_difference, records, signals, values
+from rules import (
+    ANNOTATIONS, Refused, begin_of, blanks, claim, compare, fixed_part, head_difference, records, removes, signals, values,
+)
 
 SECOND = 10**12
 
@@ -72,13 +74,17 @@ def rank(note):
     return onset, -1 if duration is None else duration, part
 
 
-def note_line(original, export, keep, remove, begin, shift):
+def kept_notes(notes, claimed):
+    """Those in the kept stretches whose texts aren't removed, each with X for a text that is blanked."""
+    kept = [note for note in notes if any(low <= note[0] < high for low, high in claimed.keep) and not removes(claimed, note[2])]
+    return [(onset, duration, b"X" if blanks(claimed, part) else part) for onset, duration, part in kept]
+
+
+def note_line(original, export, claimed, begin, shift):
     """The least annotation whose counts differ; or None."""
-    texts = {part.encode() for part in remove}
     old = [(onset - begin, duration, part) for onset, duration, part in original.notes]
     new = [(onset - begin - shift, duration, part) for onset, duration, part in export.notes]
-    kept = [note for note in old if any(low <= note[0] < high for low, high in keep) and note[2] not in texts]
-    want, have = collections.Counter(kept), collections.Counter(new)
+    want, have = collections.Counter(kept_notes(old, claimed)), collections.Counter(new)
     differing = [note for note in set(want) | set(have) if want[note] != have[note]]
     if not differing:
         return None
@@ -90,7 +96,7 @@ def note_line(original, export, keep, remove, begin, shift):
 
 def line(original_file, export_file, document):
     try:
-        labels, keep, anonymous, shift, remove = claim(document)
+        claimed = claim(document)
     except Refused as cause:
         return f"refused {cause}"
     nights = []
@@ -100,15 +106,15 @@ def line(original_file, export_file, document):
         except Refused as fault:
             return f"NO {number} {side} fault: {fault}"
     original, export = nights
-    labels = [label.encode() for label in labels]
-    found = head_difference(original.said, original.signals, export.said, export.signals, labels, anonymous)
+    labels = [label.encode() for label in claimed.labels]
+    found = head_difference(original.said, original.signals, export.said, export.signals, labels, claimed.anonymous)
     if found:
         return head_line(found)
-    begin, moved = begin_of(original.said), shift * SECOND
+    begin, moved = begin_of(original.said), claimed.shift * SECOND
     samples = sum(len(channel) for channel in export.samples.values())
     yes = f"YES channels {len(export.samples)} samples {samples} annotations {len(export.notes)}"
-    return sample_line(original, export, labels, keep, begin, moved) \
-        or note_line(original, export, keep, remove, begin, moved) or yes
+    return sample_line(original, export, labels, claimed.keep, begin, moved) \
+        or note_line(original, export, claimed, begin, moved) or yes
 
 
 def answer(case):
