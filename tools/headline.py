@@ -398,14 +398,21 @@ class Code:
             lines = lines[:lines.index("{")] if "{" in lines else lines[:1]
         comment = [line for line in front if line.startswith("///")]
         lines = [line for line in lines if not line.lstrip().startswith("#[")]
+        if kind == "struct":
+            # what holds of each value is proved where one is made, and no statement needs it
+            lines = [line for line in lines if not line.startswith("    ghost ")]
         self.definitions[name] = Definition(Word(self.file, name), comment, lines)
         self.names.add(name, Word(self.file, name))
 
     def take_model(self, definition, lines):
         """Takes what a type is to contracts: its kind of value, and the value of each of its values."""
+        kept, inside = [], False
         for line in lines:
             self.ghosts.use([line])
-        kept = [line for line in lines if line.startswith(("    ghost Value ", "    ghost view "))]
+            if line.startswith("    ghost "):
+                inside = line.startswith(("    ghost Value ", "    ghost view "))
+            if inside and line.startswith("    ") and line.strip():
+                kept.append(line)
         definition.lines += ["", lines[0], *kept, "}"]
 
     def read(self, definition):

@@ -4,9 +4,9 @@ usage: bench.py PROGRAM FOLDER SECONDS..
 
 Of each length in SECONDS it writes to FOLDER a night of 22 channels, a copy of it, and exports that have all
 samples in data records of other lengths. It also writes nights that are large in one respect: in how many data
-records they have, channels, intervals that the claim keeps, annotations, texts that it removes. It prints tables:
-of each command the processor's time, the time by the clock and the most memory that it held, as medians of five
-runs; and the times as multiples of those of `cmp` on the night and its copy.
+records they have, channels, intervals that the claim keeps, annotations, texts and begins of texts that it
+removes. It prints tables: of each command the processor's time, the time by the clock and the most memory that it
+held, as medians of five runs; and the times as multiples of those of `cmp` on the night and its copy.
 """
 
 import os
@@ -78,22 +78,24 @@ def print_table(title, commands):
     print()
 
 
-def claim(night, keep, remove):
-    """The text of a claim: all channels, these intervals, these texts."""
+def claim(night, keep, remove, prefixes):
+    """The text of a claim: all channels, these intervals, these texts, these begins of texts."""
     def listed(texts):
         return "[" + ",".join(f'"{text}"' for text in texts) + "]"
 
     removed = f"remove = {listed(remove)}\n" if remove else ""
+    if prefixes:
+        removed += f"remove-prefix = {listed(prefixes)}\n"
     kept = "".join(f'[[keep]]\nfrom = "{begin}"\nto = "{end}"\n' for begin, end in keep)
-    return f"format = 1\nchannels = {listed(night.labels())}\n{removed}{kept}"
+    return f"format = {2 if prefixes else 1}\nchannels = {listed(night.labels())}\n{removed}{kept}"
 
 
-def measure(program, folder, title, night, exports, keep=WHOLE, remove=(), others=()):
+def measure(program, folder, title, night, exports, keep=WHOLE, remove=(), prefixes=(), others=()):
     """Writes a night, a copy of it and its exports, each with a name, and prints their table."""
     paths = {name: str(folder / name) for name in ("night", "copy", "claim")}
     write(paths["night"], night)
     shutil.copyfile(paths["night"], paths["copy"])
-    pathlib.Path(paths["claim"]).write_text(claim(night, keep, remove), encoding="utf-8")
+    pathlib.Path(paths["claim"]).write_text(claim(night, keep, remove, prefixes), encoding="utf-8")
     commands = [("`cmp`, with a copy", ["cmp", paths["night"], paths["copy"]], "")]
     commands += [(f"`{' '.join(words)}`", [words[0], *words[1:], paths["night"]], "") for words in others]
     commands.append(("`edfclaim conform`", [program, "conform", paths["night"]], "CONFORMS "))
@@ -141,6 +143,8 @@ def measure_shapes(program, folder):
     noted = Night(EIGHT_HOURS, lane=1024, notes=remarks(["Spike"] * 1_000_000, EIGHT_HOURS))
     measure(program, folder, "1,000,000 annotations", noted, [("the copy", noted)])
     texts = [short(k) for k in range(8000)]
+    measure(program, folder, "1,000,000 annotations, and a claim with 8,000 begins of texts", noted,
+            [("the copy", noted)], prefixes=texts)
     scored = stages(EIGHT_HOURS)
     remarked = Night(EIGHT_HOURS, notes=sorted(scored + remarks(texts, EIGHT_HOURS)))
     measure(program, folder, "a claim that removes 8,000 texts", remarked,

@@ -313,3 +313,9 @@ prefixes-indexed texts sorted seen shortest index all is = record {
   same = λ text. is.same text ∙ ap (λ ss. list_any (λ prefix. begins_with prefix text) (map (λ (t : Vec ℕ). t.items) ss)) all
       ∙ any-same (λ prefix. begins_with prefix text) (map (λ (t : Vec ℕ). t.items) sorted) texts index.same;
 }
+
+-- what is found among the shortest is found among all
+pub begun_among : (texts : List (List ℕ)) (shortest seen : List (Vec ℕ)) (text : List ℕ) (r : Bool) → IsPrefixIndex texts shortest → seen ≡ shortest → r ≡ list_any (λ prefix. begins_with prefix text) (map (λ t. t.items) seen)
+    → r ≡ list_any (λ prefix. begins_with prefix text) texts
+begun_among texts shortest seen text r index all is =
+    is ∙ ap (λ ss. list_any (λ prefix. begins_with prefix text) (map (λ (t : Vec ℕ). t.items) ss)) all ∙ index.same text

@@ -1,5 +1,5 @@
 -- What a claim keeps.
-use Rattle.std.specs.Prelude.{ℕ, ℤ, pos, ◌*ℤ◌, ◌≤ℤ◌, ◌<ℤ◌, int_le, int_lt, not, ◌&&◌, ◌||◌, Bool, if◌then◌else◌, codes, List, length, take}
+use Rattle.std.specs.Prelude.{ℕ, ℤ, pos, ◌*ℤ◌, ◌≤ℤ◌, ◌<ℤ◌, int_le, int_lt, not, ◌&&◌, ◌||◌, Bool, List, length, take}
 use Rattle.std.specs.Str.{bytes_eq}
 use Rattle.std.specs.List.{list_any}
 use Rattle.edf_claim.specs.Terms.{Terms}
@@ -33,11 +33,3 @@ removes c text = is_one_of c.remove text || list_any (λ prefix. begins_with pre
 -- `KeepsAnnotation` as a test
 abbrev pub keeps_annotation : Terms → ℤ → List ℕ → Bool
 keeps_annotation c onset text = keeps_instant c onset 1 && not (removes c text)
-
--- `Blanks` as a test
-abbrev pub blanks : Terms → List ℕ → Bool
-blanks c text = is_one_of c.blank text
-
--- what stands in an export in the place of a kept annotation's text: `X` where the claim blanks the text, and else the text itself
-abbrev pub kept_text : Terms → List ℕ → List ℕ
-kept_text c text = if blanks c text then codes "X" else text

@@ -6,20 +6,19 @@ ghost use Rattle.edf_claim.specs.Reading.{blank_of};
 
 use crate::table::value_at;
 use crate::text_arrays::{copies_of, distinct_texts};
-use crate::text_index::TextIndex;
 use std::alloc::{AllocError, Global};
 use toml::Table;
 
 /// The texts of annotations that are blanked: distinct texts, none where the key is absent.
 #[tactic(auto, unfolding(crate::specs::Reading::blank_of))]
-pub(crate) fn blank(alloc: Global, table: &Table) -> Result<Option<TextIndex>, AllocError>
-    ensures { IfOk result (λ r. r ≡ blank_of (table_view table.now)) }
+pub(crate) fn blank(alloc: Global, table: &Table) -> Result<Option<Vec<Vec<u8>>>, AllocError>
+    ensures { IfOk result (λ r. option_map (λ v. map (λ t. t.items) v.items) r ≡ blank_of (table_view table.now)) }
 {
     match value_at(table, "blank") {
         Some(value) => match distinct_texts(alloc, value)? {
-            Some(texts) => Ok(Some(TextIndex::new(alloc, copies_of(alloc, &texts)?)?)),
+            Some(texts) => Ok(Some(copies_of(alloc, &texts)?)),
             None => Ok(None),
         },
-        None => Ok(Some(TextIndex::new(alloc, Vec::new(alloc))?)),
+        None => Ok(Some(Vec::new(alloc))),
     }
 }

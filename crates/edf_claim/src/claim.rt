@@ -4,8 +4,8 @@ ghost use Rattle.std.specs.Prelude.{◌≡◌, ◌↔◌, ◌<◌, ◌≤◌, �
 ghost use Rattle.std.specs.List.{list_any};
 ghost use Rattle.edf_claim.specs.Claims.{IsClaim};
 ghost use Rattle.edf_fields.specs.Lists.{Has, is_one_of as is_one_of_texts};
-ghost use Rattle.edf_claim.specs.Keeps.{KeepsInstant, blanks, is_within, keeps_instant, keeps_annotation};
-ghost use Rattle.edf_claim.specs.KeepsReading.{AreKept, Blanks, KeepsAnnotation};
+ghost use Rattle.edf_claim.specs.Keeps.{KeepsInstant, is_within, keeps_instant, keeps_annotation};
+ghost use Rattle.edf_claim.specs.KeepsReading.{AreKept, Blanks, KeepsAnnotation, blanks};
 
 use crate::interval::Interval;
 use crate::note_texts::NoteTexts;
@@ -28,6 +28,7 @@ pub struct Claim {
 }
 
 impl Model for Claim {
+    ghost use Rattle.std.specs.Prelude.{map};
     ghost use Rattle.edf_claim.specs.Claims.{IsClaim};
     ghost use Rattle.edf_claim.specs.Terms.{Terms};
 
@@ -38,9 +39,9 @@ impl Model for Claim {
       keep = c.keep.items;
       anonymous = c.anonymous.items;
       shift = c.shift;
-      remove = c.texts.remove;
-      remove_prefix = c.texts.remove_prefix;
-      blank = c.texts.blank;
+      remove = map (λ t. t.items) c.texts.remove.items;
+      remove_prefix = map (λ t. t.items) c.texts.remove_prefix.items;
+      blank = map (λ t. t.items) c.texts.blank.items;
     } };
 
     ghost invariant = { λ c. IsClaim (record {
@@ -48,9 +49,9 @@ impl Model for Claim {
       keep = c.keep.items;
       anonymous = c.anonymous.items;
       shift = c.shift;
-      remove = c.texts.remove;
-      remove_prefix = c.texts.remove_prefix;
-      blank = c.texts.blank;
+      remove = map (λ t. t.items) c.texts.remove.items;
+      remove_prefix = map (λ t. t.items) c.texts.remove_prefix.items;
+      blank = map (λ t. t.items) c.texts.blank.items;
     }) };
 }
 
@@ -142,7 +143,7 @@ impl Claim {
         ensures keeps { IsTrue result ↔ KeepsAnnotation self.now onset text.now }
         ensures value { result ≡ keeps_annotation self.now onset text.now }
     {
-        self.keeps_instant(onset, 1) && !self.texts.remove(text.as_bytes())
+        self.keeps_instant(onset, 1) && !self.texts.is_removed(text.as_bytes())
     }
 
     /// Whether the text of a kept annotation is blanked: an export has `X` in its place. It is compared byte for
@@ -152,7 +153,7 @@ impl Claim {
         ensures blanks { IsTrue result ↔ Blanks self.now text.now }
         ensures value { result ≡ blanks self.now text.now }
     {
-        self.texts.blank(text.as_bytes())
+        self.texts.is_blanked(text.as_bytes())
     }
 
     /// Whether this subfield is made anonymous.

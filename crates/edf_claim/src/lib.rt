@@ -19,4 +19,3 @@ mod shift;
 pub mod stop;
 mod table;
 mod text_arrays;
-mod text_index;

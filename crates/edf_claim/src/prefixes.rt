@@ -1,4 +1,4 @@
-//! The texts with which those of removed annotations begin, among which that of a text is found.
+//! Texts with which those of removed annotations begin, among which the begin of a text is found.
 
 ghost use Rattle.std.specs.Prelude.{◌≡◌, ◌<◌, false, length, map, slice_index_or, IfOk};
 ghost use Rattle.std.specs.Cmp.Lexicographic.{slice_cmp};
@@ -11,26 +11,6 @@ ghost use Rattle.edf_claim.specs.KeepsReading.{begins_with_last, AreApart, IsPre
 use crate::text_arrays::sorted_copies;
 use std::alloc::{AllocError, Global};
 use std::cmp::Ordering;
-use std::marker::Model;
-
-/// The texts with which the texts of annotations begin that a claim removes.
-#[derive(Debug, Drop)]
-pub(crate) struct Prefixes {
-    texts: Vec<Vec<u8>>,
-    /// Those that begin with no other one, in the order of their bytes. A text begins with one of them at most.
-    shortest: Vec<Vec<u8>>,
-}
-
-impl Model for Prefixes {
-    ghost use Rattle.std.specs.Prelude.{ℕ, List, map};
-    ghost use Rattle.edf_claim.specs.KeepsReading.{IsPrefixIndex};
-
-    ghost Value = { List (List ℕ) };
-
-    ghost view = { λ p. map (λ t. t.items) p.texts.items };
-
-    ghost invariant = { λ p. IsPrefixIndex (map (λ t. t.items) p.texts.items) p.shortest.items };
-}
 
 /// Whether the text begins with the last of these, if there are any.
 #[tactic(auto, using(crate::proofs::PrefixFacts::last_tested))]
@@ -60,8 +40,9 @@ fn shortest_of(alloc: Global, sorted: &[Vec<u8>]) -> Result<Vec<Vec<u8>>, AllocE
 }
 
 /// Whether the text begins with one of these, which are in the order of their bytes, and none of which begins
-/// with the one before it: the last of them that isn't behind the text is the only one that can be it.
-fn begins_with_one(shortest: &[Vec<u8>], text: &[u8]) -> bool
+/// with the one before it. So a text begins with one of them at most, and that is the last one that isn't behind
+/// the text.
+pub(crate) fn begins_with_one(shortest: &[Vec<u8>], text: &[u8]) -> bool
     requires order { IsSorted (λ x y. slice_cmp nat_cmp x.items y.items) shortest.now }
     requires apart { AreApart shortest.now }
     ensures { result ≡ list_any (λ prefix. begins_with prefix text.now) (map (λ t. t.items) shortest.now) }
@@ -76,22 +57,13 @@ fn begins_with_one(shortest: &[Vec<u8>], text: &[u8]) -> bool
     }
 }
 
-impl Prefixes {
-    /// These texts.
-    ///
-    /// The error is want of memory.
-    pub(crate) fn new(alloc: Global, texts: Vec<Vec<u8>>) -> Result<Prefixes, AllocError>
-        ensures { IfOk result (λ p. p ≡ map (λ t. t.items) texts.items) }
-    {
-        let sorted = sorted_copies(alloc, &texts)?;
-        let shortest = shortest_of(alloc, &sorted)?;
-        Ok(Prefixes { texts, shortest })
-    }
-
-    /// Whether the text begins with one of them.
-    pub(crate) fn begin(&self, text: &[u8]) -> bool
-        ensures { result ≡ list_any (λ prefix. begins_with prefix text.now) self.now }
-    {
-        begins_with_one(&self.shortest, text)
-    }
+/// Those of the texts that begin with no other one, in the order of their bytes.
+///
+/// The error is want of memory.
+pub(crate) fn shortest_copies(alloc: Global, texts: &[Vec<u8>]) -> Result<Vec<Vec<u8>>, AllocError>
+    ensures { IfOk result (λ v. IsPrefixIndex (map (λ t. t.items) texts.now) v.items) }
+{
+    let sorted = sorted_copies(alloc, texts)?;
+    let shortest = shortest_of(alloc, &sorted)?;
+    Ok(shortest)
 }

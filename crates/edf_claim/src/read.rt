@@ -1,6 +1,6 @@
 //! Reading a claim from its text.
 
-ghost use Rattle.std.specs.Prelude.{◌≡◌, ◌≢◌, IfOk, IfErr, OnOk, None, Some, IsUtf8};
+ghost use Rattle.std.specs.Prelude.{◌≡◌, ◌≢◌, map, IfOk, IfErr, OnOk, None, Some, IsUtf8};
 ghost use Rattle.toml.specs.Parse.{parse_document};
 ghost use Rattle.toml.specs.View.{table_view};
 ghost use Rattle.edf_claim.specs.declared.stop.ClaimStop.TheVariants as stops;
@@ -51,9 +51,9 @@ fn claim_of(
     requires keep { keep_of (table_view _table.now) ≡ Some keep.items }
     requires anonymous { anonymous_of (table_view _table.now) ≡ Some anonymous.items }
     requires shift { shift_of (table_view _table.now) ≡ Some shift }
-    requires remove { remove_of (table_view _table.now) ≡ Some texts.remove }
-    requires remove_prefix { remove_prefix_of (table_view _table.now) ≡ Some texts.remove_prefix }
-    requires blank { blank_of (table_view _table.now) ≡ Some texts.blank }
+    requires remove { remove_of (table_view _table.now) ≡ Some (map (λ t. t.items) texts.remove.items) }
+    requires remove_prefix { remove_prefix_of (table_view _table.now) ≡ Some (map (λ t. t.items) texts.remove_prefix.items) }
+    requires blank { blank_of (table_view _table.now) ≡ Some (map (λ t. t.items) texts.blank.items) }
     ensures { result ≡ terms_of (table_view _table.now) }
 {
     Claim {
@@ -99,11 +99,7 @@ fn claim_in(alloc: Global, table: &Table) -> Result<Claim, ClaimStop>
     let Some(blank) = blank(alloc, table)? else {
         return Err(ClaimStop::BadBlank);
     };
-    let texts = NoteTexts {
-        remove,
-        remove_prefix,
-        blank,
-    };
+    let texts = NoteTexts::new(alloc, remove, remove_prefix, blank)?;
     Ok(claim_of(table, channels, keep, anonymous, shift, texts))
 }
 

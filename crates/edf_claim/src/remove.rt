@@ -5,24 +5,22 @@ ghost use Rattle.std.specs.List.{list_all};
 ghost use Rattle.toml.specs.View.{view, table_view};
 ghost use Rattle.edf_claim.specs.Reading.{distinct_prefixes as distinct_prefixes_of, remove_of, remove_prefix_of};
 
-use crate::prefixes::Prefixes;
 use crate::table::value_at;
 use crate::text_arrays::{copies_of, distinct_texts};
-use crate::text_index::TextIndex;
 use std::alloc::{AllocError, Global};
 use toml::{Table, Value};
 
 /// The texts of the annotations that are removed: distinct texts, none where the key is absent.
 #[tactic(auto, unfolding(crate::specs::Reading::remove_of))]
-pub(crate) fn remove(alloc: Global, table: &Table) -> Result<Option<TextIndex>, AllocError>
-    ensures { IfOk result (λ r. r ≡ remove_of (table_view table.now)) }
+pub(crate) fn remove(alloc: Global, table: &Table) -> Result<Option<Vec<Vec<u8>>>, AllocError>
+    ensures { IfOk result (λ r. option_map (λ v. map (λ t. t.items) v.items) r ≡ remove_of (table_view table.now)) }
 {
     match value_at(table, "remove") {
         Some(value) => match distinct_texts(alloc, value)? {
-            Some(texts) => Ok(Some(TextIndex::new(alloc, copies_of(alloc, &texts)?)?)),
+            Some(texts) => Ok(Some(copies_of(alloc, &texts)?)),
             None => Ok(None),
         },
-        None => Ok(Some(TextIndex::new(alloc, Vec::new(alloc))?)),
+        None => Ok(Some(Vec::new(alloc))),
     }
 }
 
@@ -54,14 +52,17 @@ fn distinct_prefixes(alloc: Global, value: &Value) -> Result<Option<Vec<&str>>, 
 /// The texts with which those of removed annotations begin: distinct texts, none of them empty, none where the
 /// key is absent.
 #[tactic(auto, unfolding(crate::specs::Reading::remove_prefix_of))]
-pub(crate) fn remove_prefix(alloc: Global, table: &Table) -> Result<Option<Prefixes>, AllocError>
-    ensures { IfOk result (λ r. r ≡ remove_prefix_of (table_view table.now)) }
+pub(crate) fn remove_prefix(
+    alloc: Global,
+    table: &Table,
+) -> Result<Option<Vec<Vec<u8>>>, AllocError>
+    ensures { IfOk result (λ r. option_map (λ v. map (λ t. t.items) v.items) r ≡ remove_prefix_of (table_view table.now)) }
 {
     match value_at(table, "remove-prefix") {
         Some(value) => match distinct_prefixes(alloc, value)? {
-            Some(texts) => Ok(Some(Prefixes::new(alloc, copies_of(alloc, &texts)?)?)),
+            Some(texts) => Ok(Some(copies_of(alloc, &texts)?)),
             None => Ok(None),
         },
-        None => Ok(Some(Prefixes::new(alloc, Vec::new(alloc))?)),
+        None => Ok(Some(Vec::new(alloc))),
     }
 }

@@ -1,7 +1,8 @@
 -- Which annotations are gathered of a file, moved by `ps` picoseconds. These are steps between the definitions and the code.
 use Rattle.std.specs.Prelude.{ℕ, ℤ, List, [], map, Option, None, Some, option_map, if◌then◌else◌}
 use Rattle.edf_claim.specs.Terms.{Terms}
-use Rattle.edf_claim.specs.Keeps.{keeps_annotation, kept_text}
+use Rattle.edf_claim.specs.Keeps.{keeps_annotation}
+use Rattle.edf_claim.specs.KeepsReading.{kept_text}
 use Rattle.edf_stream.specs.Notes.{NoteValue, moved_by}
 use Rattle.edf_stream.specs.NotesReading.{moved_notes_in}
 use Rattle.edf_stream.specs.Readers.{Reader, is_current}

@@ -1,4 +1,4 @@
-use Rattle.std.proofs.Common.{◌≡◌, sym, subst, SFits}
+use Rattle.std.proofs.Common.{◌≡◌, map, sym, subst, SFits}
 use Rattle.std.specs.Int.{w64}
 use Rattle.std.proofs.Math.Facts.{to_z-of_z}
 use Rattle.toml.specs.View.{table_view}
@@ -9,7 +9,7 @@ use Rattle.edf_claim.proofs.ReadingFacts.{table-says, terms-are, said-sound}
 use Rattle.edf_claim.proofs.read.claim_of.Goals as goal
 
 -- the claim of the parts
-same : (c : goal.Start) → record { channels = c.args.channels.items; keep = c.args.keep.items; anonymous = c.args.anonymous.items; shift = c.args.shift; remove = c.args.texts.remove; remove_prefix = c.args.texts.remove_prefix; blank = c.args.texts.blank }
+same : (c : goal.Start) → record { channels = c.args.channels.items; keep = c.args.keep.items; anonymous = c.args.anonymous.items; shift = c.args.shift; remove = map (λ t. t.items) c.args.texts.remove.items; remove_prefix = map (λ t. t.items) c.args.texts.remove_prefix.items; blank = map (λ t. t.items) c.args.texts.blank.items }
     ≡ terms_of (table_view c.args._table.now)
 same c =
     let m = table_view c.args._table.now in
@@ -18,9 +18,9 @@ same c =
       keep = c.args.keep.items;
       anonymous = c.args.anonymous.items;
       shift = c.args.shift;
-      remove = c.args.texts.remove;
-      remove_prefix = c.args.texts.remove_prefix;
-      blank = c.args.texts.blank;
+      remove = map (λ t. t.items) c.args.texts.remove.items;
+      remove_prefix = map (λ t. t.items) c.args.texts.remove_prefix.items;
+      blank = map (λ t. t.items) c.args.texts.blank.items;
     } in
     terms-are m terms (record {
       channels = c.requires.channels;

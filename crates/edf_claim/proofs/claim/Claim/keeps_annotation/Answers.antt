@@ -5,5 +5,5 @@ use Rattle.edf_claim.proofs.claim.Claim.keeps_annotation.Goals as goal
 
 pub returns-then-keeps_instant-clause-keeps : goal.returns-then-keeps_instant-clause-keeps
 returns-then-keeps_instant-clause-keeps c =
-    let same : not c.remove.result ≡ keeps_annotation c.args.self.now c.args.onset c.args.text.now = search rules in
-    annotation_kept c.args.self.now c.args.onset c.args.text.now (not c.remove.result) same
+    let same : not c.is_removed.result ≡ keeps_annotation c.args.self.now c.args.onset c.args.text.now = search rules in
+    annotation_kept c.args.self.now c.args.onset c.args.text.now (not c.is_removed.result) same
