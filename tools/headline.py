@@ -355,6 +355,17 @@ class Spec:
                 reader.read(tokens[at:])
 
 
+def without_ghosts(lines):
+    """The lines of a type without its ghost fields, each of which goes on up to the next field or the end."""
+    kept, inside = [], False
+    for line in lines:
+        if line[:5].strip() or line[:4].strip() or not line.strip():
+            inside = line.startswith("    ghost ")
+        if not inside:
+            kept.append(line)
+    return kept
+
+
 class Code:
     """A file of code: those of its items that are something to contracts."""
 
@@ -400,7 +411,7 @@ class Code:
         lines = [line for line in lines if not line.lstrip().startswith("#[")]
         if kind == "struct":
             # what holds of each value is proved where one is made, and no statement needs it
-            lines = [line for line in lines if not line.startswith("    ghost ")]
+            lines = without_ghosts(lines)
         self.definitions[name] = Definition(Word(self.file, name), comment, lines)
         self.names.add(name, Word(self.file, name))
 

@@ -33,7 +33,8 @@ use Rattle.edf_check.specs.Courses.{Agree}
 use Rattle.edf_check.specs.Exports.{BothConform, SameSamples}
 use Rattle.edf_check.specs.InstantOrder.{IsBefore}
 use Rattle.edf_check.specs.Instants.{later}
-use Rattle.edf_check.specs.Kept.{shift_ps, kept_of, as_kept}
+use Rattle.edf_check.specs.Kept.{shift_ps, kept_of}
+use Rattle.edf_check.specs.walk.Gathered.{as_kept}
 use Rattle.edf_check.specs.KeptReading.{origin_of, ValueAt, KeptAt, ExportedAt, kept_notes, exported_notes}
 use Rattle.edf_check.specs.Laws.{AnyCutOfExport, AnyCutOfOriginal}
 use Rattle.edf_check.specs.SameFiles.{HoldTheSame}

@@ -1,8 +1,8 @@
 -- What a claim keeps of an original, and how it stands in an export.
-use Rattle.std.specs.Prelude.{◌≡◌, ℕ, ℤ, pos, neg_ℤ, ◌+ℤ◌, ◌-ℤ◌, ◌*ℤ◌, ◌^◌, List, filter, map, codes, if◌then◌else◌}
+use Rattle.std.specs.Prelude.{◌≡◌, ℕ, ℤ, pos, neg_ℤ, ◌+ℤ◌, ◌-ℤ◌, ◌*ℤ◌, ◌^◌, List, filter, map}
 use Rattle.edf_claim.specs.Terms.{Terms}
-use Rattle.edf_claim.specs.Keeps.{KeepsInstant, keeps_annotation}
-use Rattle.edf_fields.specs.Lists.{Has, is_one_of}
+use Rattle.edf_claim.specs.Keeps.{KeepsInstant, keeps_annotation, kept_text}
+use Rattle.edf_fields.specs.Lists.{Has}
 use Rattle.edf_header.specs.Heads.{Head}
 use Rattle.edf_stream.specs.Instants.{IsSame}
 use Rattle.edf_stream.specs.Notes.{NoteValue, moved_by}
@@ -33,13 +33,10 @@ pub record SamplesAsKept (original export : List ℕ) (h g : Head) (claim : Term
   pub all_kept : (x : SampleValue) → IsKeptSample original h claim x → (y : SampleValue) × IsSample export g y × IsShifted claim x y
   pub none_else : (y : SampleValue) → IsSample export g y → (x : SampleValue) × IsKeptSample original h claim x × IsShifted claim x y
 
--- an annotation that the claim keeps, as it stands in an export: itself, or itself with the text `X` where the claim blanks its text
-abbrev pub as_kept : Terms → NoteValue → NoteValue
-as_kept claim note = record { onset = note.onset; duration = note.duration; text = if is_one_of claim.blank note.text then codes "X" else note.text }
-
--- what the claim makes of the original's annotations: nothing of one that it doesn't keep, and each other one as it is kept
+-- what the claim makes of the original's annotations: nothing of one that it doesn't keep; and each other one stays as it is, but for
+-- the text, which is `X` where the claim blanks it
 abbrev pub kept_of : Terms → List NoteValue → List NoteValue
-kept_of claim notes = map (as_kept claim) (filter (λ note. keeps_annotation claim note.onset note.text) notes)
+kept_of claim notes = map (λ note. record { onset = note.onset; duration = note.duration; text = kept_text claim note.text }) (filter (λ note. keeps_annotation claim note.onset note.text) notes)
 
 -- the annotations of the export, whose header is g, with the shift taken off: their onsets count from the second at which the
 -- original starts, whose header is h

@@ -29,6 +29,7 @@ fn puts_labels_in_the_order_of_their_bytes(rt: HostRuntime) -> Result<(), AllocE
         SignalLabel::new(b"EEG"),
     ];
     let sorted = in_order(rt.alloc(), &labels)?;
+    assert_eq!(rt; sorted.len(), 4);
     assert_places(&rt, &sorted);
     Ok(())
 }

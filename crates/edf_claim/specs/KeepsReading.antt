@@ -1,5 +1,5 @@
 -- What a claim keeps, as it is asked for.
-use Rattle.std.specs.Prelude.{◌≡◌, ◌⊎◌, map, ℕ, ℤ, ◌≤ℤ◌, List, [], ◌∷◌, ◌++◌, ◌-◌, Bool, false, length, slice_get, codes, if◌then◌else◌}
+use Rattle.std.specs.Prelude.{◌≡◌, ◌⊎◌, map, ℕ, ℤ, ◌≤ℤ◌, List, [], ◌∷◌, ◌++◌, ◌-◌, Bool, false, length, slice_get}
 use Rattle.std.specs.Option.{option_map_or}
 use Rattle.std.specs.Cmp.Lexicographic.{slice_cmp}
 use Rattle.std.specs.Global.{Vec}
@@ -55,10 +55,6 @@ Blanks c text = Has c.blank text
 -- `Blanks` as a test
 abbrev pub blanks : Terms → List ℕ → Bool
 blanks c text = is_one_of c.blank text
-
--- what stands in an export in the place of a kept annotation's text: `X` where the claim blanks the text, and else the text itself
-abbrev pub kept_text : Terms → List ℕ → List ℕ
-kept_text c text = if blanks c text then codes "X" else text
 
 -- b doesn't lie between t and u, but may be one of them
 abbrev pub IsOutside : ℤ → ℤ → ℤ → Type 0

@@ -1,5 +1,5 @@
-//! What a sleep centre claims of an export: which channels and intervals of time of the original
-//! it keeps, what it makes anonymous, and by how much it moves the rest.
+//! What a sleep centre claims of an export: which channels, intervals of time and annotations of the
+//! original it keeps, what it makes anonymous, which texts it blanks, and by how much it moves the rest.
 #![tactic(auto)]
 
 mod anonymous;

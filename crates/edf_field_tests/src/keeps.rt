@@ -122,6 +122,7 @@ const BLANKED: &[(&str, bool, bool)] = &[
     ("Apnea", false, true),
     ("Mrs.", false, false),
     ("Mrs. Ames", false, false),
+    ("Mrs. Berg", false, false),
     ("Mrs", true, false),
     ("mrs. Ames", true, false),
     ("To Mrs. Ames", true, false),

@@ -2,7 +2,7 @@
 
 ghost use Rattle.std.specs.Prelude.{◌≡◌, map, slice_get, Some, IfOk, MatchOption};
 ghost use Rattle.std.specs.Cmp.Lexicographic.{slice_cmp};
-ghost use Rattle.std.specs.List.Sorted.{IsSorted};
+ghost use Rattle.std.specs.List.Sorted.{IsPermutation, IsSorted};
 ghost use Rattle.std.specs.Ordering.{nat_cmp};
 ghost use Rattle.edf_fields.specs.Lists.{Has, is_one_of};
 ghost use Rattle.edf_heads.specs.Comparisons.{AreSorted};
@@ -28,7 +28,8 @@ fn borrow_each(alloc: Global, labels: &[SignalLabel]) -> Result<Vec<&[u8]>, Allo
 ///
 /// The error is want of memory.
 pub fn in_order(alloc: Global, labels: &[SignalLabel]) -> Result<Vec<&[u8]>, AllocError>
-    ensures { IfOk result (λ sorted. AreSorted labels.entry.now sorted.items) }
+    ensures sorted { IfOk result (λ sorted. AreSorted labels.entry.now sorted.items) }
+    ensures same { IfOk result (λ sorted. IsPermutation labels.entry.now (map (λ label. label.now) sorted.items)) }
 {
     let mut sorted = borrow_each(alloc, labels)?;
     sorted.sort_unstable();

@@ -3,8 +3,7 @@ use Rattle.std.proofs.Common.{inl, inr, ◌≡◌, ℕ, suc, ◌+◌, ◌≤◌,
 use Rattle.std.proofs.lemmas.Int.{ints}
 use Rattle.std.proofs.lemmas.Bool.{cases_lt}
 use Rattle.std.proofs.lemmas.List.{append-nil, map-append}
-use Rattle.edf_claim.specs.Keeps.{keeps_annotation}
-use Rattle.edf_claim.specs.KeepsReading.{kept_text}
+use Rattle.edf_claim.specs.Keeps.{keeps_annotation, kept_text}
 use Rattle.edf_claim.specs.Terms.{Terms}
 use Rattle.edf_header.specs.Heads.{Head}
 use Rattle.edf_stream.specs.declared.status.Status.{Status}
@@ -20,9 +19,8 @@ use Rattle.edf_stream.specs.StartsReading.{end_before}
 use Rattle.edf_stream.specs.Views.{note_value}
 use Rattle.edf_stream.specs.declared.notes.Note.{Note}
 use Rattle.edf_check.specs.walk.Shown.{ArePast, end_by, ends_at, Shows, IsGoing}
-use Rattle.edf_check.specs.walk.Gathered.{counted_text, counted_of, gathered_of, gathered_in}
+use Rattle.edf_check.specs.walk.Gathered.{as_kept, counted_text, counted_of, gathered_of, gathered_in}
 use Rattle.edf_check.specs.walk.Keepers.{counted_parts, gathered_nil}
-use Rattle.edf_check.specs.Kept.{as_kept}
 use Rattle.edf_check.specs.walk.Readings.{IsAt, IsThere, Moves, Follows}
 
 -- what was answered is what is at hand

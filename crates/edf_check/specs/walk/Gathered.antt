@@ -1,13 +1,16 @@
 -- Which annotations are gathered of a file, moved by `ps` picoseconds. These are steps between the definitions and the code.
 use Rattle.std.specs.Prelude.{ℕ, ℤ, List, [], map, Option, None, Some, option_map, if◌then◌else◌}
 use Rattle.edf_claim.specs.Terms.{Terms}
-use Rattle.edf_claim.specs.Keeps.{keeps_annotation}
-use Rattle.edf_claim.specs.KeepsReading.{kept_text}
+use Rattle.edf_claim.specs.Keeps.{keeps_annotation, kept_text}
 use Rattle.edf_stream.specs.Notes.{NoteValue, moved_by}
 use Rattle.edf_stream.specs.NotesReading.{moved_notes_in}
 use Rattle.edf_stream.specs.Readers.{Reader, is_current}
 use Rattle.edf_check.specs.Kept.{kept_of}
 use Rattle.edf_check.specs.declared.walk.gather.View.{View}
+
+-- an annotation that the claim keeps, as `kept_of` has it
+abbrev pub as_kept : Terms → NoteValue → NoteValue
+as_kept claim note = record { onset = note.onset; duration = note.duration; text = kept_text claim note.text }
 
 -- the text with which an annotation counts that has this onset and this text, or none where it doesn't count: by this claim, or,
 -- where there is none, each as it is

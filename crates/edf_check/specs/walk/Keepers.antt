@@ -7,8 +7,7 @@ use Rattle.edf_claim.specs.Keeps.{keeps_annotation}
 use Rattle.edf_claim.specs.Terms.{Terms}
 use Rattle.edf_stream.specs.Notes.{NoteValue, moved_by}
 use Rattle.edf_stream.specs.Views.{note_value}
-use Rattle.edf_check.specs.Kept.{as_kept}
-use Rattle.edf_check.specs.walk.Gathered.{counted_of, claim_of, gathered_of}
+use Rattle.edf_check.specs.walk.Gathered.{as_kept, counted_of, claim_of, gathered_of}
 use Rattle.edf_check.specs.declared.walk.gather.Gathering.{Gathering}
 
 -- it got these annotations; where there was memory for all, it has those that count

@@ -30,7 +30,7 @@ returns-in-Ok-Ok-clause-walked g c = λ ho he a b so se agree.
     let f : Head → Head → Bor (List ℕ) → Places = λ h k label. (channel_at label.now h, channel_at label.now k) in
     let places = ap (map places_of) c.deref-3.ensures.value ∙ c.in_ok-pairs.ensures.places ∙ ap (map (f c.header-2.result.now c.header-3.result.now)) (c.deref.ensures.value ∙ sym c.deref-in-Ok-Ok.ensures.value)
     ∙ ap (λ h. map (f h c.header-3.result.now) labels) c.header-2.ensures ∙ ap (λ k. map (f r.head k) labels) c.header-3.ensures in
-    let sorted = subst (λ (ls : List (List ℕ)). AreSorted ls c.in_ok-labels.labels.items) c.channels.ensures.channels c.in_ok-labels.ensures in
+    let sorted = subst (λ (ls : List (List ℕ)). AreSorted ls c.in_ok-labels.labels.items) c.channels.ensures.channels c.in_ok-labels.ensures.sorted in
     let here = subst (AreSorted claim.channels) (sym c.deref-in-Ok-Ok.ensures.value) sorted in
     c.in_ok-walked-in-Ok-Ok.ensures.walked a b claim
     (found-of a b claim r s (g.O.Source.left c.args.o.now) (g.E.Source.left c.args.e.now) (g.O.Source.left c.walk_records.new.o) (g.E.Source.left c.walk_records.new.e)
