@@ -35,8 +35,9 @@ def all_claims():
         yield claims.TOP + intervals, want
     for count, want in claims.COUNTS:
         yield claims.TOP + "".join(f'[[keep]]\nfrom = "{at}"\nto = "{at + 1}"\n' for at in range(count)), want
-    for line, want in claims.LINES:
-        yield "format = 1\n" + line + claims.BEHIND, want
+    for front, lines in (("format = 1\n", claims.FIRST_LINES), ("format = 2\n", claims.SECOND_LINES)):
+        for line, want in claims.LINES + lines:
+            yield front + line + claims.BEHIND, want
     for size, want in claims.SIZES:
         text = claims.TOP + '[[keep]]\nfrom = "0"\nto = "4"\n#'
         yield text + "x" * (size - len(text)), want

@@ -1,7 +1,9 @@
 """What the annotations of the night decide beside the worked rows."""
 
 from cases.files import bytes_of, claim_of, lane, recording
-from cases.night import ALL, DARK, FOUR, LANE_0, LANE_1, LANE_2, LANE_3, NIGHT, VALUES_0, VALUES_1, VALUES_2, VALUES_3, YES
+from cases.night import (
+    ALL, DARK, FOUR, LANE_0, LANE_1, LANE_2, LANE_3, NIGHT, UNLIT, VALUES_0, VALUES_1, VALUES_2, VALUES_3, YES,
+)
 
 # The night with an annotation before its start.
 EARLY = recording(
@@ -45,9 +47,6 @@ ODD = recording(
     parts=[VALUES_0, LANE_0, VALUES_1, LANE_1, VALUES_2, lane(40, b'+2\x14\x14\x00+2.5\x14a\tb\n\r\x7f"\\\xc3\xa9\x14\x00'), VALUES_3, LANE_3],
     base=NIGHT,
 )
-
-# The night without its first annotation.
-UNLIT = recording(parts=[VALUES_0, lane(40, b'+0\x14\x14\x00'), VALUES_1, LANE_1, VALUES_2, LANE_2, VALUES_3, LANE_3], base=NIGHT)
 
 TEXT_ROWS = [
     (

@@ -6,14 +6,26 @@ BEHIND = '\nchannels = ["EEG Fpz-Cz", "ECG"]\n[[keep]]\nfrom = "0"\nto = "4"\n'
 # What stands in front of them.
 FORMATS = [
     ('format = 1', 'taken'),
-    ('format = 2', 'BadFormat'),
+    ('format = 2', 'taken'),
+    ('format = 0', 'BadFormat'),
+    ('format = 3', 'BadFormat'),
+    ('format = -1', 'BadFormat'),
     ('format = 1.0', 'BadFormat'),
+    ('format = 2.0', 'BadFormat'),
     ('format = "1"', 'BadFormat'),
+    ('format = "2"', 'BadFormat'),
+    ('format = [1, 2]', 'BadFormat'),
     ('', 'BadFormat'),
+    ('blank = []', 'BadFormat'),
     ('format = 3\nnote = 1', 'BadFormat'),
+    ('format = 3\nremove-prefix = [""]\nblank = [1]', 'BadFormat'),
     ('format = 1\nnote = 1', 'UnknownKey'),
     ('format = 1\nFormat = 1', 'UnknownKey'),
     ('format = 1\nnote = 1\nremove = [1]', 'UnknownKey'),
+    ('format = 2\nnote = 1', 'UnknownKey'),
+    ('format = 2\nremove_prefix = []', 'UnknownKey'),
+    ('format = 2\nBlank = []', 'UnknownKey'),
+    ('format = 2\nnote = 1\nremove-prefix = [""]\nblank = [1]', 'UnknownKey'),
 ]
 
 # The same, as TOML or not.
@@ -31,12 +43,16 @@ WHOLE = [
     ('', 'BadFormat'),
     ('format = 1\nnote = 1\nchannels = []\n[[keep]]\nfrom = "0"\nto = "4"\n', 'UnknownKey'),
     ("format = 1\nchannels = ['ECG',]\nkeep = [{from = '0', to = '4'}]\n", 'taken'),
+    ("blank = ['']\nremove-prefix = ['a']\nchannels = ['ECG']\nkeep = [{from = '0', to = '4'}]\nformat = 2\n", 'taken'),
+    ('format = 2\nchannels = ["ECG"]\nblank = [1]\n', 'BadKeep'),
+    ('format = 2\nchannels = ["ECG"]\n[[keep]]\nfrom = "0"\nto = "4"\nblank = []\n', 'BadKeep'),
 ]
 
 # Whole claims that are no text, in bytes.
 NO_TEXTS = [
     (b'format = 1 # \xff\nchannels = ["ECG"]\n[[keep]]\nfrom = "0"\nto = "4"\n', 'NotToml'),
     (b'format = 1\nremove = ["\xff"]\nchannels = ["ECG"]\n[[keep]]\nfrom = "0"\nto = "4"\n', 'NotToml'),
+    (b'format = 2\nremove-prefix = ["\xc3"]\nchannels = ["ECG"]\n[[keep]]\nfrom = "0"\nto = "4"\n', 'NotToml'),
     (b'format = 1\nremove = ["\xc0\xaf"]\nchannels = ["ECG"]\n[[keep]]\nfrom = "0"\nto = "4"\n', 'NotToml'),
 ]
 
@@ -109,7 +125,7 @@ COUNTS = [
     (1001, 'BadKeep'),
 ]
 
-# A line at the top.
+# A line at the top, in both formats.
 LINES = [
     ('anonymous = []', 'taken'),
     ('anonymous = ["code", "sex", "birthdate", "name", "patient-extras", "date", "administration", "technician", "equipment", "recording-extras"]', 'taken'),
@@ -130,6 +146,52 @@ LINES = [
     ('remove = [1]', 'BadRemove'),
     ('shift = 1.0\nremove = [1]', 'BadShift'),
     ('anonymous = [1]\nshift = 1.0', 'BadAnonymous'),
+]
+
+# A line at the top, in format 1, which hasn't the two keys.
+FIRST_LINES = [
+    ('remove-prefix = ["a"]', 'UnknownKey'),
+    ('remove-prefix = []', 'UnknownKey'),
+    ('remove-prefix = [""]', 'UnknownKey'),
+    ('blank = ["a"]', 'UnknownKey'),
+    ('blank = []', 'UnknownKey'),
+    ('blank = [1]', 'UnknownKey'),
+    ('remove = [1]\nblank = []', 'UnknownKey'),
+]
+
+# A line at the top, in format 2.
+SECOND_LINES = [
+    ('remove-prefix = []', 'taken'),
+    ('remove-prefix = ["Lights off", "Apnea"]', 'taken'),
+    ('remove-prefix = ["a", "ab", "A"]', 'taken'),
+    ('remove-prefix = [" "]', 'taken'),
+    ('"remove-prefix" = ["µ"]', 'taken'),
+    ('remove-prefix = [""]', 'BadRemovePrefix'),
+    ('remove-prefix = ["a", ""]', 'BadRemovePrefix'),
+    ('remove-prefix = ["a", "a"]', 'BadRemovePrefix'),
+    ('remove-prefix = ["a", "\\u0061"]', 'BadRemovePrefix'),
+    ('remove-prefix = ["a", "b", "a"]', 'BadRemovePrefix'),
+    ('remove-prefix = "a"', 'BadRemovePrefix'),
+    ('remove-prefix = [1]', 'BadRemovePrefix'),
+    ('remove-prefix = ["a", 1]', 'BadRemovePrefix'),
+    ('remove-prefix = [["a"]]', 'BadRemovePrefix'),
+    ('blank = []', 'taken'),
+    ('blank = ["Lights off", "Apnea"]', 'taken'),
+    ('blank = [""]', 'taken'),
+    ('blank = ["X", "x"]', 'taken'),
+    ('blank = ["a", "a"]', 'BadBlank'),
+    ('blank = ["", ""]', 'BadBlank'),
+    ('blank = ["a", "b", "a"]', 'BadBlank'),
+    ('blank = "a"', 'BadBlank'),
+    ('blank = [1]', 'BadBlank'),
+    ('blank = ["a", 1]', 'BadBlank'),
+    ('blank = { text = "a" }', 'BadBlank'),
+    ('remove = ["a"]\nremove-prefix = ["a"]\nblank = ["a"]', 'taken'),
+    ('blank = [1]\nremove-prefix = [1]\nremove = [1]', 'BadRemove'),
+    ('remove-prefix = [""]\nshift = 1.0', 'BadShift'),
+    ('remove-prefix = [1]\nremove = ["a", "a"]', 'BadRemove'),
+    ('blank = ["a", "a"]\nremove-prefix = [""]', 'BadRemovePrefix'),
+    ('blank = ["a", "a"]\nremove-prefix = ["a"]', 'BadBlank'),
 ]
 
 # How many bytes a comment fills a claim up to.

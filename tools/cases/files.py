@@ -109,10 +109,10 @@ def bytes_of(file):
     return whole[:file["length"]]
 
 
-def claim_of(channels, keys, keep):
-    """The text of a claim: the value of `channels`, further lines, and the intervals that are kept."""
+def claim_of(channels, keys, keep, form=1):
+    """The text of a claim: the value of `channels`, further lines, the intervals that are kept, and the format."""
     tables = "".join(f'[[keep]]\nfrom = "{start}"\nto = "{end}"\n' for start, end in keep)
-    return f"format = 1\nchannels = {channels}\n{keys}\n{tables}"
+    return f"format = {form}\nchannels = {channels}\n{keys}\n{tables}"
 
 
 # How the samples of the channel `Temp` are cut into data records: how many there are, how long each is, how many

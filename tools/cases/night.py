@@ -68,6 +68,9 @@ GAP = recording(edits=[TWO, INTERRUPTED], parts=[VALUES_0, LANE_0, VALUES_3, LAN
 # The night with an additional subfield of the patient.
 WARD = recording(edits=[FOUR, (field('patient'), 'MCH-0234567 F 02-MAY-1951 Haagse_Harry Ward7')], base=NIGHT)
 
+# The night without its first annotation.
+UNLIT = recording(parts=[VALUES_0, lane(40, b'+0\x14\x14\x00'), VALUES_1, LANE_1, VALUES_2, LANE_2, VALUES_3, LANE_3], base=NIGHT)
+
 BOTH = '["EEG Fpz-Cz", "ECG"]'
 
 # Both channels, for 4 s.
@@ -86,6 +89,15 @@ NO_EXTRAS = (BOTH, 'anonymous = ["patient-extras"]', [('0', '4')])
 DATELESS = (BOTH, 'anonymous = ["date"]', [('0', '4')])
 
 DARK = (BOTH, 'remove = ["Lights off"]', [('0', '4')])
+
+# Of format 2: `X` in the place of each text `Apnea`.
+BLANK_APNEA = (BOTH, 'blank = ["Apnea"]', [('0', '4')], 2)
+
+# Of format 2: no annotation whose text begins with `Lights`.
+UNLIT_BY_BEGIN = (BOTH, 'remove-prefix = ["Lights"]', [('0', '4')], 2)
+
+# Of format 2: no annotation `Apnea`, which is blanked besides.
+NO_APNEA = (BOTH, 'remove = ["Apnea"]\nblank = ["Apnea"]', [('0', '4')], 2)
 
 ONE = ('["ECG"]', '', [('0', '4')])
 

@@ -2,8 +2,9 @@
 
 from cases.files import bytes_of, claim_of, field, lane, recording, signal, values
 from cases.night import (
-    ALL, DARK, DATELESS, DAY_BEFORE, ENDS, EXCERPT, EXCHANGED, FOUR, FROM_ONE, GAP, LANE_0, LANE_1, LANE_2, LANE_3, MIDDLE,
-    NAMELESS, NIGHT, NO_EXTRAS, NOBODY, ONE, VALUES_0, VALUES_1, VALUES_2, VALUES_3, SIX_SECONDS, TWO, UNKNOWN, WARD, YES,
+    ALL, BLANK_APNEA, DARK, DATELESS, DAY_BEFORE, ENDS, EXCERPT, EXCHANGED, FOUR, FROM_ONE, GAP, LANE_0, LANE_1, LANE_2,
+    LANE_3, MIDDLE, NAMELESS, NIGHT, NO_APNEA, NO_EXTRAS, NOBODY, ONE, VALUES_0, VALUES_1, VALUES_2, VALUES_3, SIX_SECONDS,
+    TWO, UNKNOWN, UNLIT, UNLIT_BY_BEGIN, WARD, YES,
 )
 
 # Two samples in 1 s; 804 bytes.
@@ -310,9 +311,62 @@ FAULT_ROWS = [
     ),
 ]
 
+# What the texts of annotations decide that a claim of format 2 blanks, or removes by their begin.
+TEXT_ROWS = [
+    (
+        NIGHT,
+        NIGHT,
+        BLANK_APNEA,
+        'NO 11 annotation extra at 1500000000000 ps duration 1000000000000 ps text "Apnea"\n',
+    ),
+    (
+        NIGHT,
+        recording(
+            parts=[
+                VALUES_0,
+                LANE_0,
+                VALUES_1,
+                lane(40, b'+1\x14\x14\x00+1.5\x151\x14X\x14\x00'),
+                VALUES_2,
+                LANE_2,
+                VALUES_3,
+                lane(40, b'+3\x14\x14\x00+3\x14X\x14\x00'),
+            ],
+            base=NIGHT,
+        ),
+        BLANK_APNEA,
+        YES,
+    ),
+    (
+        NIGHT,
+        NIGHT,
+        UNLIT_BY_BEGIN,
+        'NO 11 annotation extra at 500000000000 ps duration none text "Lights off"\n',
+    ),
+    (NIGHT, UNLIT, UNLIT_BY_BEGIN, 'YES channels 2 samples 24 annotations 2\n'),
+    (
+        NIGHT,
+        recording(
+            parts=[
+                VALUES_0,
+                LANE_0,
+                VALUES_1,
+                lane(40, b'+1\x14\x14\x00'),
+                VALUES_2,
+                LANE_2,
+                VALUES_3,
+                lane(40, b'+3\x14\x14\x00'),
+            ],
+            base=NIGHT,
+        ),
+        NO_APNEA,
+        'YES channels 2 samples 24 annotations 1\n',
+    ),
+]
+
 
 def cases():
     """Each check: the original, the export, the claim and the line."""
-    for row in TEMP_ROWS + NIGHT_ROWS + HEADER_ROWS + CHANNEL_ROWS + NOTE_ROWS + FAULT_ROWS:
+    for row in TEMP_ROWS + NIGHT_ROWS + HEADER_ROWS + CHANNEL_ROWS + NOTE_ROWS + FAULT_ROWS + TEXT_ROWS:
         original, export, claim, line = row
         yield "check", bytes_of(original), bytes_of(export), claim_of(*claim), line

@@ -25,7 +25,7 @@ from cases import BY_RULES  # noqa: E402
 
 TABLES = [
     "fields", "ends", "first_faults", "conforming", "head_differences", "verdict_lines", "rows", "differences", "channels",
-    "labels", "headers", "samples", "shifts", "annotations", "cuts", "single_bytes", "every_byte",
+    "labels", "headers", "samples", "shifts", "annotations", "note_texts", "cuts", "single_bytes", "every_byte",
 ]
 
 try:

@@ -385,7 +385,7 @@ def interval():
 
 
 def keep():
-    if often(0.2):
+    if often(0.15):
         return array(interval, 0, 3)
     ends = sorted(choose.sample(range(100), one_of(2, 4, 6)))
     if len(ends) > 2 and often(0.4):
@@ -403,24 +403,25 @@ def changed_claim(document):
 def claim():
     form = one_of("1", "2", "2")
     other_forms = ["3", "0", f'"{form}"', f"{form}.0", "true", f"[{form}]", f"0x{form}", f"+{form}"]
-    labels = ['["Temp"]', '["Temp", "ECG"]'] * 10
+    labels = ['["Temp"]', '["Temp", "ECG"]'] * 15
     named = array(lambda: quoted(one_of(*SUBFIELDS)), 0, 4)
     limits = [str(sign * (10**10 + more)) for sign in (1, -1) for more in (0, 1)]
-    begins, blanked = [array(begin, 1, 3) for _ in range(9)], [array(blanked_text, 1, 3) for _ in range(9)]
+    begins = ['["a", "abc"]', '["abc", "b", "a"]', '["a"]'] + [array(begin, 1, 3) for _ in range(9)]
+    blanked = [array(blanked_text, 1, 3) for _ in range(9)]
     keys = {
-        "format": one_of(*[form] * 24, *other_forms),
+        "format": one_of(*[form] * 32, *other_forms),
         "channels": one_of(*labels, array(claimed_text, 0, 3), array(claimed_text, 0, 3), '"Temp"', "[1]"),
-        "keep": one_of(*[keep() for _ in range(18)], "3", '"a"', '{ from = "0", to = "1" }'),
-        "anonymous": one_of(named, named, "[]", '["sex"]', '["Sex"]', '"sex"', "[1]", '["sex", "sex"]'),
-        "shift": one_of("0", "-5", "1_000", "0b11", '"1"', *limits),
-        "remove": one_of(array(claimed_text, 0, 3), "[]", '["a"]', '["a", "b"]', '["a", "a"]', '"a"', "[1]"),
-        "remove-prefix": one_of(*begins, "[]", '["a", "ab"]', '["ab", "a"]', '[""]', '["a", ""]', '["a", "a"]', '"a"', "[1]"),
+        "keep": one_of(*[keep() for _ in range(27)], "3", '"a"', '{ from = "0", to = "1" }'),
+        "anonymous": one_of(*[named] * 4, "[]", '["sex"]', '["Sex"]', '"sex"', "[1]", '["sex", "sex"]'),
+        "shift": one_of("0", "-5", "1_000", "0b11", "7", '"1"', *limits),
+        "remove": one_of(array(claimed_text, 0, 3), "[]", '["a"]', '["a", "b"]', '["b", "Temp"]', '["a", "a"]', '"a"', "[1]"),
+        "remove-prefix": one_of(*begins, "[]", '["ab", "a"]', '[""]', '["a", ""]', '["a", "a"]', '"a"', "[1]"),
         "blank": one_of(*blanked, "[]", '[""]', '["a", "ab"]', '["a", "a"]', '["", ""]', '"a"', "[1]"),
-        one_of("note", "Format", '"format "', "keeps", "a.b", "remove_prefix", "remove.prefix", "Blank"): "1",
+        one_of("note", "Format", '"format "', "keeps", "a.b", "remove_prefix", "Blank"): "1",
     }
     names = [name for name in list(keys)[:3] if not often(0.02)] + [name for name in list(keys)[3:6] if often(0.35)]
-    names += [name for name in list(keys)[6:8] if often(0.6 if form == "2" else 0.06)]
-    names += list(keys)[8:] if often(0.08) else []
+    names += [name for name in list(keys)[6:8] if often(0.75 if form == "2" else 0.06)]
+    names += list(keys)[8:] if often(0.06) else []
     choose.shuffle(names)
     document = "".join(f"{name} = {keys[name]}\n" for name in names)
     if often(0.1):

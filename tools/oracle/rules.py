@@ -420,7 +420,7 @@ def blanks(claimed, part):
 # ---- the answers, as answers.rt.in prints them
 
 # the texts of annotations that each claim is asked for
-ASKED = ["a", "ab", "abc", "ba", "b", "", "é", "ê", "Temp", "X"]
+ASKED = ["a", "ab", "ac", "ba", "", "é", "ê", "Temp", "X"]
 
 
 def bracketed(fields):
@@ -508,7 +508,7 @@ def meaning_line(file):
 
 
 def text_marks(claimed, part):
-    """Each half second, kept with an annotation of this text (k), or the samples alone (s); and whether it is blanked."""
+    """Which half seconds are kept with an annotation of this text (k), or only with samples (s); whether it is blanked."""
     marks = ""
     for half in range(20):
         instant = half * 500_000_000_000

@@ -13,7 +13,10 @@ from rules import ANNOTATIONS, COLUMNS, FIXED, MONTHS, SUBFIELDS
 
 choose = random.Random()
 LABELS = [b"Temp", b"Flow", b"A", b"A B", b"AB", b"", b'q"\\', b"~"]
-TEXTS = [b"Apnea", b"x", b"", b'a\tb"\\', "é".encode(), b"X"]
+TEXTS = [b"Apnea", b"Apnea 2", b"Az", b"xAp", b"x", b"", b'a\tb"\\', "é".encode(), "éa".encode(), b"X", b"XX"]
+
+# of these some begin with others and some are whole texts; some stand within texts, and one is too long for each
+PREFIXES = [b"A", b"Ap", b"Apnea", b"Apnea ", b"Apnea 22", b"a\t", "é".encode(), b"x", b"X", b"nea"]
 START = datetime.datetime(2002, 3, 2, 22, 0, 0)
 
 # how long a step of a night is, in units of 10^-7 s: all channels have whole numbers of samples in it
@@ -58,6 +61,9 @@ class Night:
         ends = [self.instant(step) for step in range(self.steps + 1)]
         times = [*ends, *(end + 1 for end in ends), -1, ends[-1] + 10**12]
         self.notes = [(one_of(*times), one_of(None, None, 0, 10**12), one_of(*TEXTS)) for _ in range(one_of(0, 1, 2, 3))]
+        if self.notes and often(0.4):
+            time, span, _ = choose.choice(self.notes)
+            self.notes.append((time, span, one_of(*TEXTS)))
         extra = [one_of(b"a", b"X") for _ in range(one_of(0, 0, 1))]
         self.said = {
             "code": one_of(b"X", b"MCH"), "sex": one_of(b"F", b"X"), "birthdate": one_of(b"X", b"02-MAY-1951"),
@@ -76,7 +82,7 @@ class Night:
         lengths = [length for length in range(1, 13) if all((last - first) % length == 0 for first, last in parts)]
         length = choose.choice([length for length in lengths if duration_field(length * self.step)])
         signals = [(label, self.rates[label] * length) for label in labels]
-        signals += [(ANNOTATIONS, 70) for _ in range(one_of(1, 1, 1, 2))]
+        signals += [(ANNOTATIONS, 100) for _ in range(one_of(1, 1, 1, 2))]
         choose.shuffle(signals)
         places = [at for first, last in parts for at in range(first, last, length)]
         second = self.instant(places[0]) // 10**12
@@ -160,18 +166,60 @@ def quoted(part):
     return '"' + part.decode().replace("\\", "\\\\").replace('"', '\\"').replace("\t", "\\t") + '"'
 
 
-def document(labels, keep, anonymous, shift, remove):
-    text = f"format = 1\nchannels = [{', '.join(quoted(label) for label in labels)}]\n"
-    text += f"anonymous = [{', '.join(quoted(name.encode()) for name in anonymous)}]\nshift = {shift}\n"
-    text += f"remove = [{', '.join(quoted(part) for part in remove)}]\n"
+def array(parts):
+    return f"[{', '.join(quoted(part) for part in parts)}]"
+
+
+def document(form, labels, keep, anonymous, shift, texts):
+    """A claim, with the two keys of format 2 where they have texts, and in format 2 maybe where they have none."""
+    text = f"format = {form}\nchannels = {array(labels)}\n"
+    text += f"anonymous = {array(name.encode() for name in anonymous)}\nshift = {shift}\n"
+    remove, prefixes, blank = texts
+    text += f"remove = {array(remove)}\n"
+    for key, parts in (("remove-prefix", prefixes), ("blank", blank)):
+        if parts or (form == 2 and often(0.5)):
+            text += f"{key} = {array(parts)}\n"
     for low, high in keep:
         text += f'[[keep]]\nfrom = "{seconds(low)}"\nto = "{seconds(high)}"\n'
     return text.encode()
 
 
+def claimed_texts(form):
+    """The removed texts, the prefixes of such, and the blanked texts, of which some are removed, too."""
+    remove = choose.sample(TEXTS, one_of(0, 0, 1, 2))
+    if form == 1:
+        return remove, [], []
+    prefixes, blank = choose.sample(PREFIXES, one_of(0, 0, 1, 2, 4)), choose.sample(TEXTS, one_of(0, 1, 3, 6))
+    return remove, prefixes, blank + [part for part in remove if part not in blank and often(0.4)]
+
+
+def kept_notes(notes, keep, texts):
+    """The annotations of an export: with X for a blanked text, and seldom for another, or with the blanked text itself;
+    and seldom X in the place of a text that is removed and blanked."""
+    remove, prefixes, blank = texts
+    found = []
+    for time, span, part in notes:
+        is_blank = part in blank
+        if not any(low <= time < high for low, high in keep):
+            continue
+        if part in remove or part.startswith(tuple(prefixes)):
+            if is_blank and often(0.1):
+                found.append((time, span, b"X"))
+            continue
+        if often(0.12 if is_blank else 0.04):
+            is_blank = not is_blank
+        found.append((time, span, b"X" if is_blank else part))
+    return found
+
+
 def changed_notes(notes):
-    """One annotation fewer, more, or other, maybe."""
+    """One annotation fewer, more, or other, maybe; or one more or less often."""
     notes = list(notes)
+    again = [note for note in notes if notes.count(note) > 1]
+    if again and often(0.3):
+        notes.remove(again[0])
+    elif notes and often(0.03):
+        notes.append(notes[-1])
     if often(0.1):
         notes.append((one_of(0, 10**12), one_of(None, 0), one_of(*TEXTS)))
     if notes and often(0.1):
@@ -191,14 +239,15 @@ def case():
     keep = [(night.instant(first), night.instant(last)) for first, last in parts]
     shift = one_of(0, 0, 0, 86_400, -86_400, 1, -31_536_000)
     anonymous = [name for name in SUBFIELDS if often(0.2)]
-    remove = choose.sample(TEXTS, one_of(0, 0, 1, 2))
-    kept = [note for note in night.notes if any(low <= note[0] < high for low, high in keep) and note[2] not in remove]
+    form = one_of(1, 2, 2)
+    texts = claimed_texts(form)
     changed = None
     if often(0.15):
         label = choose.choice(exported)
         changed = label, choose.randrange(night.rates[label] * night.steps)
     said, moved = as_claimed(night.said, anonymous), shift if often(0.95) else one_of(0, 1)
-    export = night.cut(parts, exported, said, changed_notes(kept), moved, changed)
+    notes = changed_notes(kept_notes(night.notes, keep, texts))
+    export = night.cut(parts, exported, said, notes, moved, changed)
     if often(0.15):
         low, high = keep[-1]
         keep[-1] = one_of((low + 1, high), (low, max(high - 1, low + 1)), (low, high + 1), (low, high + 10**12))
@@ -207,8 +256,8 @@ def case():
         export = broken(export)
     elif often(0.05):
         original = broken(original)
-    text = document(claimed, keep, anonymous, shift, remove)
-    return original.hex(), export.hex(), (text if often(0.97) else text.replace(b"= 1", b"= 2")).hex()
+    text = document(form if often(0.96) else one_of(1, 2, 3), claimed, keep, anonymous, shift, texts)
+    return original.hex(), export.hex(), text.hex()
 
 
 def main(seed, count):

@@ -76,8 +76,11 @@ def rank(note):
 
 def kept_notes(notes, claimed):
     """Those in the kept stretches whose texts aren't removed, each with X for a text that is blanked."""
-    kept = [note for note in notes if any(low <= note[0] < high for low, high in claimed.keep) and not removes(claimed, note[2])]
-    return [(onset, duration, b"X" if blanks(claimed, part) else part) for onset, duration, part in kept]
+    found = []
+    for onset, duration, part in notes:
+        if any(low <= onset < high for low, high in claimed.keep) and not removes(claimed, part):
+            found.append((onset, duration, b"X" if blanks(claimed, part) else part))
+    return found
 
 
 def note_line(original, export, claimed, begin, shift):
