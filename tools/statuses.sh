@@ -202,6 +202,30 @@ echo 'NO 2 export fault: TooManyAnnotations at record 0' >"$work/line"
 [ "$status" -eq 1 ] && cmp -s "$work/out" "$work/line" && [ ! -s "$work/err" ]
 judge $? "3,000,000 annotations in 200 MB" "$status"
 
+# 50,000 annotations with a text of 600 bytes each, which is blanked: none takes memory for its text
+python3 -c '
+import sys
+sys.path.insert(0, "../../tools")
+import night
+folder, text = sys.argv[1], "Remark " + "x" * 593
+values, nobody = {"Temp rectal": [0] * night.SECONDS}, ["X", "X", "X", "X"]
+for name, said in (("worded", text), ("blank", "X")):
+    notes = [(3 * at, -1, said) for at in range(50000)]
+    file = night.file(values, notes, ["Temp rectal"], [(0, night.SECONDS)], 1, 210000, 0, nobody, lambda _: nobody)
+    with open(f"{folder}/{name}.edf", "wb") as to:
+        to.write(file)
+with open(f"{folder}/blank.toml", "w") as to:
+    to.write(f"format = 2\nchannels = [\"Temp rectal\"]\nblank = [\"{text}\"]\n[[keep]]\nfrom = \"0\"\nto = \"150\"\n")
+' "$work"
+(
+    ulimit -v 40000
+    exec "$program" check "$work/worded.edf" "$work/blank.edf" "$work/blank.toml" >"$work/out" 2>"$work/err"
+)
+status=$?
+echo 'YES channels 1 samples 150 annotations 50000' >"$work/line"
+[ "$status" -eq 0 ] && cmp -s "$work/out" "$work/line" && [ ! -s "$work/err" ]
+judge $? "50,000 blanked annotations in 40 MB" "$status"
+
 # a pipe gives a file in pieces
 if [ -e /dev/stdin ]; then
     mkfifo "$work/pipe"
