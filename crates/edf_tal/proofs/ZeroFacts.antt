@@ -1,5 +1,5 @@
 -- Zeros in front of what is left.
-use Rattle.std.proofs.Common.{◌≡◌, ℕ, zero, suc, ◌<◌, ◌≤◌, ◌==◌, List, [], ◌∷◌, length, drop, arith, refl, sym, ap, ◌∙◌, ◌&&◌}
+use Rattle.std.proofs.Common.{◌≡◌, ℕ, zero, suc, ◌≤◌, ◌==◌, List, [], ◌∷◌, length, drop, arith, refl, sym, ap, ◌∙◌, ◌&&◌}
 use Rattle.edf_tal.specs.Tals.{are_zeros}
 use Rattle.edf_tal.specs.Zeros.{HasZerosBefore}
 

@@ -40,13 +40,15 @@ fn times_in(head: &[u8]) -> Result<Times, TalCause>
             None => Err(TalCause::BadOnset),
         };
     };
-    match (onset(front), span(text)) {
-        (Some(onset), Some(duration)) => Ok(Times {
-            onset,
+    let Some(begin) = onset(front) else {
+        return Err(TalCause::BadOnset);
+    };
+    match span(text) {
+        Some(duration) => Ok(Times {
+            onset: begin,
             duration: Some(duration),
         }),
-        (Some(_), None) => Err(TalCause::BadDuration),
-        (None, _) => Err(TalCause::BadOnset),
+        None => Err(TalCause::BadDuration),
     }
 }
 
