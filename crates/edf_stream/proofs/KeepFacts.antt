@@ -1,5 +1,5 @@
 -- The annotations of a data record, part by part: only the first text of all keeps the time.
-use Rattle.std.proofs.Common.{◌≡◌, ℕ, zero, suc, ◌+◌, ◌-◌, ◌^◌, min, List, [], ◌∷◌, ◌++◌, length, Option, None, Some, IfSome, refl, sym, ap, ◌∙◌, length-append, arith}
+use Rattle.std.proofs.Common.{◌≡◌, ℕ, zero, suc, ◌+◌, ◌-◌, ◌^◌, min, List, [], ◌∷◌, ◌++◌, length, Option, None, Some, IfSome, refl, ap, ◌∙◌, length-append, arith}
 use Rattle.edf_tal.specs.Reading.{items_of}
 use Rattle.edf_tal.specs.Views.{start_of}
 use Rattle.edf_stream.specs.Notes.{NoteValue}

@@ -69,18 +69,14 @@ fn text_count(tal: &Tal<'_>) -> u32
     tal.text_count().min(u32::MAX as usize) as u32
 }
 
-/// The most texts of a data record that are given to a keeper: as many annotations as a file may have, and the text
-/// that keeps the time.
-const MOST_TEXTS: u32 = 1_000_001;
-
 /// Gives the annotations of a TAL to the keeper, and answers how many texts there are with its own behind `count`
-/// others of the data record, up to the most that fit. Where there are more than a file may have, it gives none.
-fn keep_tal<K: NoteKeeper>(keeper: &mut K, tal: &Tal<'_>, count: u32) -> u32
+/// others of the data record, up to the most that fit. Where there are more than `most`, it gives none.
+fn keep_tal<K: NoteKeeper>(keeper: &mut K, tal: &Tal<'_>, count: u32, most: u32) -> u32
     ensures texts { result ≡ min (count + length (notes_of_tal (tal_view tal.now))) (2 ^ 32 - 1) }
-    ensures kept { result ≤ 1000001 → K.got keeper.old (behind_time count (notes_of_tal (tal_view tal.now))) keeper.new }
+    ensures kept { result ≤ most → K.got keeper.old (behind_time count (notes_of_tal (tal_view tal.now))) keeper.new }
 {
     let texts = count.saturating_add(text_count(tal));
-    if texts <= MOST_TEXTS {
+    if texts <= most {
         let mut notes = TalNotes::new(tal);
         if count == 0 {
             // the first text keeps the time
@@ -93,17 +89,22 @@ fn keep_tal<K: NoteKeeper>(keeper: &mut K, tal: &Tal<'_>, count: u32) -> u32
 
 /// Gives the annotations in the TALs that are left of a lane to the keeper, and answers how many texts there are
 /// with theirs behind `count` others of the data record, up to the most that fit; or why the lane is no list of
-/// TALs.
-fn rest_texts<K: NoteKeeper>(keeper: &mut K, tals: Tals<'_>, count: u32) -> Result<u32, TalCause>
+/// TALs. Of the texts behind `most` none are given.
+fn rest_texts<K: NoteKeeper>(
+    keeper: &mut K,
+    tals: Tals<'_>,
+    count: u32,
+    most: u32,
+) -> Result<u32, TalCause>
     ensures counted { MatchResult result
         (λ n. (cause_of (items_left tals.entry) ≡ None) × (n ≡ min (count + length (notes_of_items (items_left tals.entry))) (2 ^ 32 - 1)))
         (λ cause. cause_of (items_left tals.entry) ≡ Some cause) }
-    ensures kept { IfOk result (λ n. n ≤ 1000001 → K.got keeper.old (behind_time count (notes_of_items (items_left tals.entry))) keeper.new) }
+    ensures kept { IfOk result (λ n. n ≤ most → K.got keeper.old (behind_time count (notes_of_items (items_left tals.entry))) keeper.new) }
 {
     let mut texts = count;
     for item in tals {
         let tal = item?;
-        texts = keep_tal(keeper, &tal, texts);
+        texts = keep_tal(keeper, &tal, texts, most);
     }
     Ok(texts)
 }
@@ -118,45 +119,56 @@ pub(crate) struct Said {
 }
 
 /// What one lane says behind `before` other texts of the data record, or why it is no list of TALs, by its TALs.
-/// Its annotations go to the keeper.
-fn said_by_tals<K: NoteKeeper>(keeper: &mut K, lane: &[u8], before: u32) -> Result<Said, TalCause>
+/// Its annotations go to the keeper, as long as there are not more than `most` texts.
+fn said_by_tals<K: NoteKeeper>(
+    keeper: &mut K,
+    lane: &[u8],
+    before: u32,
+    most: u32,
+) -> Result<Said, TalCause>
     ensures said { MatchResult result
         (λ said. (cause_of (items_of lane.now) ≡ None) × (said.start ≡ start_of (items_of lane.now))
         × (said.texts ≡ min (before + length (notes_of_lane lane.now)) (2 ^ 32 - 1)))
         (λ cause. cause_of (items_of lane.now) ≡ Some cause) }
     ensures small { IfOk result (λ said. IfOk said.start (λ v. unsigned_abs v < 10 ^ 21)) }
-    ensures kept { IfOk result (λ said. said.texts ≤ 1000001 → K.got keeper.old (behind_time before (notes_of_lane lane.now)) keeper.new) }
+    ensures kept { IfOk result (λ said. said.texts ≤ most → K.got keeper.old (behind_time before (notes_of_lane lane.now)) keeper.new) }
 {
     let mut tals = Tals::new(lane);
     let first = tals.next();
     let start = start_by_first(first.as_ref());
     let count = match first {
         None => before,
-        Some(item) => keep_tal(keeper, &item?, before),
+        Some(item) => keep_tal(keeper, &item?, before, most),
     };
-    let texts = rest_texts(keeper, tals, count)?;
+    let texts = rest_texts(keeper, tals, count, most)?;
     Ok(Said { start, texts })
 }
 
 /// What one lane says behind `before` other texts of the data record, or why it is no list of TALs. Its annotations
-/// go to the keeper. In most first lanes the TAL that keeps the time stands alone.
-fn said_by_lane<K: NoteKeeper>(keeper: &mut K, lane: &[u8], before: u32) -> Result<Said, TalCause>
+/// go to the keeper, as long as there are not more than `most` texts. In most first lanes the TAL that keeps the time
+/// stands alone.
+fn said_by_lane<K: NoteKeeper>(
+    keeper: &mut K,
+    lane: &[u8],
+    before: u32,
+    most: u32,
+) -> Result<Said, TalCause>
     ensures said { MatchResult result
         (λ said. (cause_of (items_of lane.now) ≡ None) × (said.start ≡ start_of (items_of lane.now))
         × (said.texts ≡ min (before + length (notes_of_lane lane.now)) (2 ^ 32 - 1)))
         (λ cause. cause_of (items_of lane.now) ≡ Some cause) }
     ensures small { IfOk result (λ said. IfOk said.start (λ v. unsigned_abs v < 10 ^ 21)) }
-    ensures kept { IfOk result (λ said. said.texts ≤ 1000001 → K.got keeper.old (behind_time before (notes_of_lane lane.now)) keeper.new) }
+    ensures kept { IfOk result (λ said. said.texts ≤ most → K.got keeper.old (behind_time before (notes_of_lane lane.now)) keeper.new) }
 {
     if before > 0 {
-        return said_by_tals(keeper, lane, before);
+        return said_by_tals(keeper, lane, before, most);
     }
     match time_alone(lane) {
         Some(start) => Ok(Said {
             start: Ok(start),
             texts: 1,
         }),
-        None => said_by_tals(keeper, lane, before),
+        None => said_by_tals(keeper, lane, before, most),
     }
 }
 
@@ -201,35 +213,38 @@ fn said_with(found: Option<Said>, lane: Said) -> Said
 }
 
 /// What the lanes at these places say, none where there is no lane; or why the first bad one is no list of
-/// TALs. Their annotations go to the keeper.
+/// TALs. Their annotations go to the keeper, as long as there are not more than `most` texts.
 fn said_at_places<K: NoteKeeper>(
     keeper: &mut K,
     places: &[LanePlace],
     bytes: &[u8],
+    most: u32,
 ) -> Result<Option<Said>, TalCause>
     ensures said { IsSaidBy (placed_lanes places.now bytes.now) result }
     ensures small { IfOk result (λ found. IfSome found (λ s. IfOk s.start (λ v. unsigned_abs v < 10 ^ 21))) }
-    ensures kept { IfOk result (λ found. texts_said found ≤ 1000001 → K.got keeper.old (drop 1 (notes_of_lanes (placed_lanes places.now bytes.now))) keeper.new) }
+    ensures kept { IfOk result (λ found. texts_said found ≤ most → K.got keeper.old (drop 1 (notes_of_lanes (placed_lanes places.now bytes.now))) keeper.new) }
 {
     let mut found = None;
     for place in places {
-        let said = said_by_lane(keeper, placed_lane(*place, bytes), texts_of(found))?;
+        let said = said_by_lane(keeper, placed_lane(*place, bytes), texts_of(found), most)?;
         found = Some(said_with(found, said));
     }
     Ok(found)
 }
 
 /// What the annotation lanes in the bytes of a data record say, none where there is no such lane; or
-/// why the first bad one is no list of TALs. Their annotations go to the keeper.
+/// why the first bad one is no list of TALs. Their annotations go to the keeper, as long as there are not more than
+/// `most` texts.
 pub(crate) fn said_by_lanes<K: NoteKeeper>(
     keeper: &mut K,
     header: &Header,
     bytes: &[u8],
+    most: u32,
 ) -> Result<Option<Said>, TalCause>
     ensures said { IsSaidBy (annotation_lanes header.now.signals bytes.now) result }
     ensures small { IfOk result (λ found. IfSome found (λ s. IfOk s.start (λ v. unsigned_abs v < 10 ^ 21))) }
-    ensures kept { IfOk result (λ found. texts_said found ≤ 1000001 →
+    ensures kept { IfOk result (λ found. texts_said found ≤ most →
         K.got keeper.old (drop 1 (notes_of_lanes (annotation_lanes header.now.signals bytes.now))) keeper.new) }
 {
-    said_at_places(keeper, header.annotation_places(), bytes)
+    said_at_places(keeper, header.annotation_places(), bytes, most)
 }

@@ -116,8 +116,8 @@ impl FileReader {
 
     /// As `next`, and gives the annotations of the data record to the keeper while it judges them: those that
     /// `annotations` would give, with onsets as the file has them. Where it answers an error, it may have given some
-    /// of them, and nothing is said of which; a data record with more than a file may have has given no more than
-    /// that.
+    /// of them, and nothing is said of which; with those of the data records before they are no more than a file may
+    /// have.
     pub fn next_with<S: Source, K: NoteKeeper>(
         &mut self,
         source: &mut S,

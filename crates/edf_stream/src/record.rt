@@ -40,13 +40,14 @@ fn judge_notes(k: u32, before: u32, texts: u32) -> Result<u32, Fault>
 }
 
 /// What the annotation lanes of data record `k` say, or that one of them is no list of TALs. Their annotations go
-/// to the keeper.
+/// to the keeper, as long as there are not more than `most` texts.
 #[tactic(auto, unfolding(crate::specs::Faults::lanes_fault, crate::specs::StartsReading::said_start, crate::specs::NotesReading::notes_in))]
 fn judge_lanes<K: NoteKeeper>(
     keeper: &mut K,
     header: &Header,
     k: u32,
     bytes: &[u8],
+    most: u32,
 ) -> Result<Option<Said>, Fault>
     ensures said { MatchResult result
         (λ found. (lanes_fault k (cause_of_lanes (annotation_lanes header.now.signals bytes.now)) ≡ None)
@@ -55,9 +56,9 @@ fn judge_lanes<K: NoteKeeper>(
         (λ f. lanes_fault k (cause_of_lanes (annotation_lanes header.now.signals bytes.now)) ≡ Some f) }
     ensures small { IfOk result (λ found. IfSome found (λ s. IfOk s.start (λ v. unsigned_abs v < 10 ^ 21))) }
     ensures place { IfErr result (λ f. f.place ≡ AtRecord k) }
-    ensures kept { IfOk result (λ found. texts_said found ≤ 1000001 → K.got keeper.old (notes_in header.now bytes.now) keeper.new) }
+    ensures kept { IfOk result (λ found. texts_said found ≤ most → K.got keeper.old (notes_in header.now bytes.now) keeper.new) }
 {
-    match said_by_lanes(keeper, header, bytes) {
+    match said_by_lanes(keeper, header, bytes, most) {
         Ok(found) => Ok(found),
         Err(cause) => Err(Fault {
             place: Place::AtRecord(k),
@@ -92,14 +93,15 @@ struct Timed {
 }
 
 /// Where data record `k` says that it starts, with how many texts its annotation lanes have; or the first
-/// fault of these lanes. Their annotations go to the keeper. In most data records there is one such lane, in which
-/// the TAL that keeps the time stands alone.
+/// fault of these lanes. Their annotations go to the keeper, as long as there are not more than `most` texts. In most
+/// data records there is one such lane, in which the TAL that keeps the time stands alone.
 #[tactic(auto, unfolding(crate::specs::Faults::lanes_fault, crate::specs::Faults::time_fault, crate::specs::StartsReading::said_start, crate::specs::NotesReading::notes_in))]
 fn judge_timed<K: NoteKeeper>(
     keeper: &mut K,
     header: &Header,
     k: u32,
     bytes: &[u8],
+    most: u32,
 ) -> Result<Timed, Fault>
     ensures judged { MatchResult result
         (λ timed. (lanes_fault k (cause_of_lanes (annotation_lanes header.now.signals bytes.now)) ≡ None)
@@ -109,7 +111,7 @@ fn judge_timed<K: NoteKeeper>(
         (λ f. first (timed_faults header.now k bytes.now) ≡ Some f) }
     ensures small { IfOk result (λ timed. unsigned_abs timed.start.ps < 10 ^ 21) }
     ensures place { IfErr result (λ f. f.place ≡ AtRecord k) }
-    ensures kept { IfOk result (λ timed. timed.texts ≤ 1000001 → K.got keeper.old (notes_in header.now bytes.now) keeper.new) }
+    ensures kept { IfOk result (λ timed. timed.texts ≤ most → K.got keeper.old (notes_in header.now bytes.now) keeper.new) }
 {
     if let Some(ps) = lone_time(header, bytes) {
         return Ok(Timed {
@@ -117,7 +119,7 @@ fn judge_timed<K: NoteKeeper>(
             texts: 1,
         });
     }
-    let found = judge_lanes(keeper, header, k, bytes)?;
+    let found = judge_lanes(keeper, header, k, bytes, most)?;
     let start = judge_time(k, found)?;
     Ok(Timed {
         start,
@@ -126,7 +128,7 @@ fn judge_timed<K: NoteKeeper>(
 }
 
 /// Judges the bytes of data record `k`, and answers how far the records were followed with it; or its
-/// first fault. Its annotations go to the keeper.
+/// first fault. Its annotations go to the keeper; behind as many as a file may have, none do.
 #[inline(always)]
 #[tactic(auto, unfolding(crate::specs::Faults::record_fault, crate::specs::NotesReading::notes_in), using(crate::proofs::NoteFacts::timed_found))]
 pub(crate) fn judge_record<K: NoteKeeper>(
@@ -149,7 +151,9 @@ pub(crate) fn judge_record<K: NoteKeeper>(
     ensures place { IfErr result (λ f. f.place ≡ AtRecord k) }
     ensures kept { OnOk result (K.got keeper.old (notes_in header.now bytes.now) keeper.new) }
 {
-    let timed = judge_timed(keeper, header, k, bytes)?;
+    // with the text that only keeps the time
+    let most = MOST_NOTES - before.notes + 1;
+    let timed = judge_timed(keeper, header, k, bytes, most)?;
     judge_start(header.kind(), k, before, timed.start)?;
     match judge_notes(k, before.notes, timed.texts) {
         Ok(notes) => Ok(timed.start.with(header, notes)),

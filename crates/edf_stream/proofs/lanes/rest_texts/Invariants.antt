@@ -11,6 +11,6 @@ invariant-loop-item g l = record {
   cause : cause_of (items_left l.item-iterator) ≡ cause_of (items_left l.fn.tals);
   count : min (l.texts + length (notes_of_items (items_left l.item-iterator))) (2 ^ 32 - 1) ≡ min (l.fn.count + length (notes_of_items (items_left l.fn.tals))) (2 ^ 32 - 1);
   few : l.texts ≤ 2 ^ 32 - 1;
-  kept : l.texts ≤ 1000001 → (last : _) → g.K.NoteKeeper.got l.keeper (behind_time l.texts (notes_of_items (items_left l.item-iterator))) last
+  kept : l.texts ≤ l.most → (last : _) → g.K.NoteKeeper.got l.keeper (behind_time l.texts (notes_of_items (items_left l.item-iterator))) last
       → g.K.NoteKeeper.got l.fn.keeper (behind_time l.fn.count (notes_of_items (items_left l.fn.tals))) last;
 }

@@ -1,10 +1,10 @@
-use Rattle.std.proofs.Common.{◌≡◌, ◌≤◌, ◌+◌, ◌-◌, ◌^◌, ◌∷◌, ◌++◌, min, length, map, drop, None, Some, Ok, ap, sym, ◌∙◌, subst, refl, arith}
+use Rattle.std.proofs.Common.{◌≡◌, ◌≤◌, ◌+◌, ◌-◌, ◌^◌, ◌∷◌, min, length, map, drop, ap, sym, ◌∙◌, subst, refl, arith}
 use Rattle.std.proofs.lemmas.List.{drop_more}
 use Rattle.edf_stream.specs.Keeping.{behind_time}
 use Rattle.edf_stream.specs.NotesReading.{notes_of_lane, notes_of_lanes}
 use Rattle.edf_fields.specs.Tests.{first}
 use Rattle.edf_tal.specs.Reading.{items_of}
-use Rattle.edf_stream.specs.Views.{placed_lane, placed_lanes, start_with, texts_said}
+use Rattle.edf_stream.specs.Views.{placed_lanes, start_with, texts_said}
 use Rattle.edf_stream.specs.Faults.{cause_of, cause_of_lanes}
 use Rattle.edf_stream.proofs.KeepFacts.{parts-behind, parts-counted, start-with}
 use Rattle.edf_stream.proofs.lanes.said_at_places.Goals as goal
@@ -34,7 +34,7 @@ loop-place-preserved g c =
     let texts = c.said_with.result.texts in
     let before = texts_said old.found in
     let counted : texts ≡ min (before + length (notes_of_lane lane)) (2 ^ 32 - 1) = c.said_with.ensures.texts ∙ said.2 ∙ ap (λ n. min (n + length (notes_of_lane lane)) (2 ^ 32 - 1)) c.texts_of.ensures in
-    let kept : texts ≤ 1000001 → g.K.NoteKeeper.got old.keeper (behind_time before (notes_of_lane lane)) c.said_by_lane.new.keeper =
+    let kept : texts ≤ c.args.most → g.K.NoteKeeper.got old.keeper (behind_time before (notes_of_lane lane)) c.said_by_lane.new.keeper =
     λ fits. subst (λ n. g.K.NoteKeeper.got old.keeper (behind_time n (notes_of_lane lane)) c.said_by_lane.new.keeper) c.texts_of.ensures
     (c.in_ok-said.ensures.kept (let e = c.said_with.ensures.texts in omega (arith, e, fits))) in
     record {

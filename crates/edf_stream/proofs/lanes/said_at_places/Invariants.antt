@@ -14,6 +14,6 @@ invariant-loop-place g l = record {
   count : min (texts_said l.found + length (notes_of_lanes (placed_lanes (drop l.place-index l.places) l.bytes))) (2 ^ 32 - 1) ≡ min (length (notes_of_lanes (placed_lanes l.places l.bytes))) (2 ^ 32 - 1);
   few : texts_said l.found ≤ 2 ^ 32 - 1;
   small : IfSome l.found (λ s. IfOk s.start (λ v. unsigned_abs v < 10 ^ 21));
-  kept : texts_said l.found ≤ 1000001 → (last : _) → g.K.NoteKeeper.got l.keeper (behind_time (texts_said l.found) (notes_of_lanes (placed_lanes (drop l.place-index l.places) l.bytes))) last
+  kept : texts_said l.found ≤ l.most → (last : _) → g.K.NoteKeeper.got l.keeper (behind_time (texts_said l.found) (notes_of_lanes (placed_lanes (drop l.place-index l.places) l.bytes))) last
       → g.K.NoteKeeper.got l.fn.keeper (drop 1 (notes_of_lanes (placed_lanes l.places l.bytes))) last;
 }

@@ -12,5 +12,5 @@ returns-clause-said g c =
 pub returns-clause-kept : goal.returns-clause-kept
 returns-clause-kept g c =
     let e = ap (λ places. placed_lanes places c.args.bytes.now) c.annotation_places.ensures ∙ lanes_placed c.args.header.now.signals c.args.bytes.now in
-    subst (λ lanes. IfOk c.said_at_places.result (λ found. texts_said found ≤ 1000001 → g.K.NoteKeeper.got c.args.keeper.now (drop 1 (notes_of_lanes lanes)) c.said_at_places.new.keeper)) e
+    subst (λ lanes. IfOk c.said_at_places.result (λ found. texts_said found ≤ c.args.most → g.K.NoteKeeper.got c.args.keeper.now (drop 1 (notes_of_lanes lanes)) c.said_at_places.new.keeper)) e
     c.said_at_places.ensures.kept

@@ -1,4 +1,4 @@
-use Rattle.std.proofs.Common.{◌≡◌, ◌≤◌, [], ◌∷◌, ◌++◌, Ok, Some, None, ap, sym, ◌∙◌, subst, arith}
+use Rattle.std.proofs.Common.{◌≡◌, ◌≤◌, ◌∷◌, ◌++◌, Ok, ap, sym, ◌∙◌, subst, arith}
 use Rattle.std.specs.Iterator.{YieldsFirstBy}
 use Rattle.edf_tal.specs.Reading.{items_of}
 use Rattle.edf_tal.specs.Views.{tal_view, item_view, items_left}
@@ -26,7 +26,7 @@ returns-clause-kept g c = λ fits.
       | in-Some+in_ok-item-in-Some w ↦
           let item = tal_view w.in_ok-item-in-Some.field-0 in
           let tal = notes_of_tal item in
-          let few : w.keep_tal-count.result ≤ 1000001 = let n = c.in_ok-texts.ensures.counted.1 in let m = w.count-is in omega (arith, fits, n, m) in
+          let few : w.keep_tal-count.result ≤ c.args.most = let n = c.in_ok-texts.ensures.counted.1 in let m = w.count-is in omega (arith, fits, n, m) in
           let some = subst (λ r. YieldsFirstBy item_view items_left c.new-tals.result r c.next-first.new.self) w.in-Some.is c.next-first.ensures.steps in
           let step : items_of c.args.lane.now ≡ Ok item ∷ left = sym c.new-tals.ensures.items ∙ some ∙ ap (λ item. item_view item ∷ left) w.in_ok-item-in-Some.was in
           let notes : notes_of_lane c.args.lane.now ≡ tal ++ notes_of_items left = ap notes_of_items step in
