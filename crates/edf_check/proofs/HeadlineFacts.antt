@@ -1,10 +1,9 @@
 -- What a Yes means, and that it is so exactly for an export.
-use Rattle.std.proofs.Common.{◌≡◌, ℕ, ℤ, pos, neg_ℤ, ◌+ℤ◌, ◌-ℤ◌, List, [], ◌∷◌, map, filter, length, refl, sym, ap, ◌∙◌, subst, arith}
+use Rattle.std.proofs.Common.{◌≡◌, ℕ, ℤ, pos, neg_ℤ, ◌+ℤ◌, ◌-ℤ◌, List, [], ◌∷◌, map, length, refl, sym, ap, ◌∙◌, subst, arith}
 use Rattle.std.proofs.lemmas.Int.{ints}
 use Rattle.std.proofs.lemmas.List.{length-map}
 use Rattle.std.specs.List.Sorted.{IsPermutation}
 use Rattle.edf_claim.specs.Terms.{Terms}
-use Rattle.edf_claim.specs.Keeps.{keeps_annotation}
 use Rattle.edf_header.specs.Heads.{Head}
 use Rattle.edf_header.specs.HeadsReading.{head_of}
 use Rattle.edf_heads.specs.HeadVerdicts.{HeadsAgree}

@@ -29,7 +29,7 @@ gathered-more claim ps r before after view by whole came ended = go (is_current 
     go false e =
         ap (λ (g : Gathering). map note_value g.notes.items) (ended e) ∙ sym (append-nil had) ∙ ap (λ more. had ++ more) (sym (gathered_nothing claim ps r e))
 
--- two things that hold where there is no fault
-pub both-none : (found : Option Fault) (A B C : Type 0) → (A → B → C) → IfNone found A → IfNone found B → IfNone found C
-both-none None A B C f a b = f a b
-both-none (Some fault) A B C f a b = tt
+-- what holds where there is no fault
+pub where-none : (found : Option Fault) (A : Type 0) → found ≡ None → IfNone found A → A
+where-none None A none a = a
+where-none (Some fault) A none a = absurd (let f : Some fault ≡ None = none in cc)

@@ -1,5 +1,5 @@
 -- From the parts of a walk to what it found.
-use Rattle.std.proofs.Common.{◌≡◌, ◌*◌, ℕ, neg_ℤ, ◌+ℤ◌, Bor, List, [], ◌∷◌, length, map, filter, suc, ◌<◌, Option, Some, None, IfSome, Result, Ok, Err, IfOk, refl, sym, ap, ◌∙◌, subst}
+use Rattle.std.proofs.Common.{◌≡◌, ◌*◌, ℕ, neg_ℤ, ◌+ℤ◌, Bor, List, [], ◌∷◌, length, map, suc, ◌<◌, Option, Some, None, IfSome, Result, Ok, Err, IfOk, refl, sym, ap, ◌∙◌, subst}
 use Rattle.edf_claim.specs.Terms.{Terms}
 use Rattle.edf_fields.specs.declared.fault.Fault.{Fault}
 use Rattle.edf_header.specs.Faults.{header_fault}
@@ -9,7 +9,7 @@ use Rattle.edf_stream.specs.declared.conform.Summary.{Summary}
 use Rattle.edf_stream.specs.declared.notes.Note.{Note}
 use Rattle.edf_stream.specs.Conforming.{Conforms}
 use Rattle.edf_stream.specs.Faults.{body_fault, file_fault}
-use Rattle.edf_stream.specs.Notes.{NoteValue, moved_by}
+use Rattle.edf_stream.specs.Notes.{moved_by}
 use Rattle.edf_stream.specs.NotesReading.{notes_of}
 use Rattle.edf_stream.specs.Readers.{Reader, StandsIn}
 use Rattle.edf_stream.specs.SamplesReading.{samples_of}

@@ -47,13 +47,13 @@ fn same_front(kept: &[Note], exported: &[Note]) -> usize
     ensures exported { result ≤ length exported.now }
     ensures same { map note_value (take result kept.now) ≡ map note_value (take result exported.now) }
 {
-    let both = kept.len().min(exported.len());
-    for i in 0..both {
+    let most = kept.len().min(exported.len());
+    for i in 0..most {
         if order(&kept[i], &exported[i]).is_ne() {
             return i;
         }
     }
-    both
+    most
 }
 
 /// The annotation that two lists don't have equally often, where one of them at least has ended.

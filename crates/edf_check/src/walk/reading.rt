@@ -167,14 +167,16 @@ fn gather_next<S: Source>(
     let notes = mem::replace(&mut reading.notes, Vec::new(alloc));
     let mut gathering = Gathering::new(alloc, notes, &reading.reader, view);
     match go_on(&mut gathering, &mut reading.reader, source, side) {
-        Ok(found) => {
+        Ok(None) => {
             reading.notes = gathering.notes;
             if gathering.whole {
-                Ok(found)
+                Ok(None)
             } else {
                 Err(CheckStop::OutOfMemory)
             }
         }
+        // a fault counts before want of memory for the annotations of its data record, which nobody needs
+        Ok(Some(fault)) => Ok(Some(fault)),
         Err(stop) => Err(stop),
     }
 }

@@ -115,25 +115,26 @@ fn share_at(reader: &FileReader, track: Track, moved: Offset, within: Window) ->
     share_of(lane_stretch(reader, track, moved), within)
 }
 
-/// Puts the same in the place of `held`, where the channel has another number of samples than the lanes of that.
-/// Where there is no such channel, or no data record at hand, what is held stays.
+/// Puts the same in the place of `held`, where it is wanted and the channel has another number of samples than the
+/// lanes of that. Where there is no such channel, or no data record at hand, what is held stays.
 #[inline(always)]
 fn keep_share(
     reader: &FileReader,
     track: Option<Track>,
     moved: Offset,
     within: Window,
+    is_wanted: bool,
     held: &mut Share,
 )
     requires track { IfSome track (IsTrack reader.now.head) }
     requires near { unsigned_abs moved.ps < 2 ^ 80 }
     requires window { IsWindow within }
     requires held { IsShareIn reader.now moved.ps within held.old }
-    ensures samples { IfSome track (λ t. is_current reader.now.status ≡ true → held.new.samples ≡ t.place.samples) }
+    ensures samples { is_wanted ≡ true → IfSome track (λ t. is_current reader.now.status ≡ true → held.new.samples ≡ t.place.samples) }
     ensures share { IsShareIn reader.now moved.ps within held.new }
 {
     if let Some(track) = track {
-        if held.samples != track.place.samples && reader.has_current() {
+        if is_wanted && held.samples != track.place.samples && reader.has_current() {
             *held = share_at(reader, track, moved, within);
         }
     }
@@ -172,7 +173,7 @@ fn kept_window<'a>(
     is_kept: bool,
 ) -> Stretch<'a>
     requires track { IsTrack reader.now.head track }
-    requires share { is_current reader.now.status ≡ true → share.now.samples ≡ track.place.samples }
+    requires share { is_kept ≡ true → is_current reader.now.status ≡ true → share.now.samples ≡ track.place.samples }
     ensures part { IsPart result }
     ensures den { result.den ≡ track.place.samples }
     ensures value { (claim : Terms) (ps : ℤ) (w : Window) → IsWindow w → IsShareIn reader.now ps w share.now →
@@ -206,7 +207,7 @@ fn pair_difference(
 ) -> Option<PointDifference>
     requires original { IfSome pair.original (IsTrack original.now.head) }
     requires export { IfSome pair.export (IsTrack export.now.head) }
-    requires original_share { IfSome pair.original (λ t. is_current original.now.status ≡ true → (shares.now.original).samples ≡ t.place.samples) }
+    requires original_share { shares.now.is_kept ≡ true → IfSome pair.original (λ t. is_current original.now.status ≡ true → (shares.now.original).samples ≡ t.place.samples) }
     requires export_share { IfSome pair.export (λ t. is_current export.now.status ≡ true → (shares.now.export).samples ≡ t.place.samples) }
     ensures value { (claim : Terms) (clock : Clock) (w : Window) → IsWindow w →
         IsShareIn original.now (clock.original).ps w shares.now.original → IsShareIn export.now (clock.export).ps w shares.now.export →
@@ -230,7 +231,7 @@ fn pair_difference(
 /// The earliest difference of the channels between two times.
 ///
 /// Which samples stand between these is found once for channels with equally many samples, as long as they
-/// follow one another.
+/// follow one another; of the original only where the claim keeps what stands there.
 #[tactic(auto, unfolding(crate::specs::walk::Windows::window_difference))]
 pub(crate) fn window_difference(
     original: &FileReader,
@@ -266,6 +267,7 @@ pub(crate) fn window_difference(
             pair.original,
             clock.original,
             within,
+            shares.is_kept,
             &mut shares.original,
         );
         keep_share(
@@ -273,6 +275,7 @@ pub(crate) fn window_difference(
             pair.export,
             clock.export,
             within,
+            true,
             &mut shares.export,
         );
         let next = pair_difference(original, export, pair, &shares);

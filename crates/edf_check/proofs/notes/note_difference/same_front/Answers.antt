@@ -12,10 +12,10 @@ loop-i-preserved c =
     let i = c.loop-i.i in
     let x = c.index-kept-i.result in
     let y = c.index-exported-i.result in
-    let both = c.min-both.ensures in
+    let most = c.min-most.ensures in
     let lt = c.loop-i-test.true in
-    let low : i < length kept = omega (arith, both, lt) in
-    let high : i < length exported = omega (arith, both, lt) in
+    let low : i < length kept = omega (arith, most, lt) in
+    let high : i < length exported = omega (arith, most, lt) in
     let equal : note_cmp (note_value (get_or kept i x)) (note_value (get_or exported i y)) ≡ Equal =
     ap (λ (n : Note). note_cmp (note_value n) (note_value (get_or exported i y))) (sym c.index-kept-i.is) ∙ ap (λ (n : Note). note_cmp (note_value x) (note_value n)) (sym c.index-exported-i.is)
     ∙ sym c.order.ensures ∙ not-apart c.order.result (sym c.if-is_ne.ensures) in

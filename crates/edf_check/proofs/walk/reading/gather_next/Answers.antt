@@ -2,19 +2,17 @@ use Rattle.std.proofs.Common.{◌∙◌, ◌++◌, ◌+ℤ◌, sym, ap, map}
 use Rattle.edf_stream.specs.Starts.{file_start}
 use Rattle.edf_stream.specs.Views.{note_value}
 use Rattle.edf_check.specs.walk.Gathered.{claim_of, gathered_in}
-use Rattle.edf_check.proofs.walk.KeeperFacts.{gathered-more, both-none}
+use Rattle.edf_check.proofs.walk.KeeperFacts.{gathered-more, where-none}
 use Rattle.edf_check.proofs.walk.reading.gather_next.Goals as goal
 
 pub returns-then-gathering-clause-gathered : goal.returns-then-gathering-clause-gathered
 returns-then-gathering-clause-gathered g c =
-    let ok = c.in-Ok.ensures in
+    let ok = c.in-Ok-None.ensures in
     let made = c.new-gathering.ensures in
     let claim = claim_of c.args.view in
     let ps = (c.args.view.moved).ps in
     let new = c.go_on.new.reader in
-    both-none c.in-Ok.found _ _ _
-    (λ came ended.
     gathered-more claim ps new c.new-gathering.result c.go_on.new.keeper (ap claim_of made.view)
-    (made.by ∙ ap (λ (h : _). file_start h +ℤ ps) (sym c.go_on.ensures.head)) c.if-gathering.true came ended
-    ∙ ap (λ (v : _). map note_value v.items ++ gathered_in claim ps new) (made.notes ∙ c.replace-notes.ensures.value))
-    ok.kept ok.none
+    (made.by ∙ ap (λ (h : _). file_start h +ℤ ps) (sym c.go_on.ensures.head)) c.if-gathering.true
+    (where-none c.in-Ok-None.field-0 _ c.in-Ok-None.field-0-is ok.kept) (where-none c.in-Ok-None.field-0 _ c.in-Ok-None.field-0-is ok.none)
+    ∙ ap (λ (v : _). map note_value v.items ++ gathered_in claim ps new) (made.notes ∙ c.replace-notes.ensures.value)
