@@ -1,9 +1,8 @@
 //! The annotations of a file, line by line.
 
-ghost use Rattle.std.specs.Prelude.{◌≡◌, ◌≢◌, ℕ, List, ◌++◌, IfOk, IfErr, OnOk, OnErr, IsTrue};
+ghost use Rattle.std.specs.Prelude.{◌≡◌, ℕ, List, [], ◌++◌, IfOk, IfErr, OnOk, OnErr, IsTrue};
 ghost use Rattle.edf_fields.specs.Sinks.{HoldsPrefix};
 ghost use Rattle.edf_fields.specs.Sources.{Rises};
-ghost use Rattle.edf_header.specs.declared.stop.Stop.TheVariants as read_stops;
 ghost use Rattle.edf_stream.specs.Faults.{body_fault, file_fault};
 ghost use Rattle.edf_stream.specs.Keeping.{tal_notes_left};
 ghost use Rattle.edf_stream.specs.Notes.{NoteValue};
@@ -11,13 +10,12 @@ ghost use Rattle.edf_stream.specs.Readers.{HasBegun, StandsIn};
 ghost use Rattle.edf_stream.specs.Views.{note_view};
 ghost use Rattle.edf_report.specs.NotesKept.{AreLinesOf};
 ghost use Rattle.edf_report.specs.NotesTexts.{note_line, note_lines, body_text, notes_text};
-ghost use Rattle.edf_report.specs.Reports.{IsFault, IsReported, IsStopWritten, stop_line};
+ghost use Rattle.edf_report.specs.Reports.{IsReported};
 ghost use Rattle.edf_refusal.specs.Stops.{ReportStops};
 
 use crate::report::put_stop;
 use edf_fields::sink::{Sink, put_all};
 use edf_fields::source::Source;
-use edf_header::stop::Stop;
 use edf_refusal::stop::ReportStop;
 use edf_stream::note::{NoteRef, TalNotes};
 use edf_stream::note_keeper::NoteKeeper;
@@ -58,14 +56,31 @@ fn push_lines(
     Ok(())
 }
 
-/// The lines of the annotations of a data record, which are made while it is read. They are made in one place for
-/// all data records of a file, so that memory is taken for the longest ones alone.
+/// The most bytes of lines whose room is kept for the next data record.
+const MOST_ROOM: usize = 65_536;
+
+/// The lines of the annotations of a data record, which are made while it is read. Data records with few lines have
+/// one room, so that memory isn't taken for each of them.
 #[derive(Drop)]
 struct Lines {
     text: Vec<u8>,
     words: String,
     /// Whether there was memory for all of them.
     whole: bool,
+}
+
+impl Lines {
+    /// Leaves out the lines of the data record before. The room of many is given back.
+    fn clear(&mut self, alloc: Global)
+        ensures text { self.new.text.items ≡ [] }
+        ensures whole { self.new.whole ≡ self.old.whole }
+    {
+        if self.text.len() > MOST_ROOM {
+            self.text = Vec::new(alloc);
+        } else {
+            self.text.clear();
+        }
+    }
 }
 
 impl NoteKeeper for Lines {
@@ -101,28 +116,6 @@ fn put_lines<K: Sink>(lines: &Lines, sink: &mut K) -> Result<(), ReportStop>
     Ok(())
 }
 
-/// Writes what stopped the reading of a file, as `put_stop` does. Where there was no memory for a line that stands
-/// before a fault in its data record, that is what stops the report.
-fn put_end<K: Sink>(
-    alloc: Global,
-    lines: &Lines,
-    sink: &mut K,
-    stop: Stop,
-) -> Result<Outcome, ReportStop>
-    ensures fault { OnOk result (IsFault stop) }
-    ensures written { IfOk result (λ outcome. IsTrue (K.is_honest sink.old) → IsStopWritten stop (K.held sink.old) (K.held sink.new) outcome) }
-    ensures failures { OnOk result (K.failures sink.new ≡ K.failures sink.old) }
-    ensures honesty { IsTrue (K.is_honest sink.old) → IsTrue (K.is_honest sink.new) }
-    ensures part { OnErr result (IsTrue (K.is_honest sink.old) → HoldsPrefix (K.held sink.old) (K.held sink.new) (stop_line stop)) }
-    ensures stop { IfErr result (ReportStops (stop ≡ read_stops.ReadFailed) (Rises (K.failures sink.old) (K.failures sink.new))
-        (stop ≢ read_stops.ReadFailed)) }
-{
-    match stop {
-        Stop::Fault(_) if !lines.whole => Err(ReportStop::OutOfMemory),
-        stop => put_stop(alloc, sink, stop),
-    }
-}
-
 /// Reads the data records of a file of which the header was read, and writes their annotations; behind
 /// those of the data records before a fault stands its line.
 fn put_records<S: Source, K: Sink>(
@@ -150,11 +143,11 @@ fn put_records<S: Source, K: Sink>(
         whole: true,
     };
     loop {
-        lines.text.clear();
+        lines.clear(alloc);
         match reader.next_with(source, &mut lines) {
             Ok(true) => put_lines(&lines, sink)?,
             Ok(false) => return Ok(Outcome::Yes),
-            Err(stop) => return put_end(alloc, &lines, sink, stop),
+            Err(stop) => return put_stop(alloc, sink, stop),
         }
     }
 }

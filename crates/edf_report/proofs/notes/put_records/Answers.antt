@@ -20,7 +20,7 @@ loop-lines-preserved g c =
     let old = c.loop-lines.reader in
     let new = c.next_with.new.self in
     let more : IsTrue c.in-Ok-true.field-0 = subst IsTrue (sym c.in-Ok-true.field-0-test) refl in
-    let made = lines-made (record { text = c.clear.new.self; words = c.loop-lines.lines.words; whole = c.loop-lines.lines.whole }) c.next_with.new.keeper (notes_in new.head new.current) c.clear.ensures.items (next.kept more) in
+    let made = lines-made c.clear.new.self c.next_with.new.keeper (notes_in new.head new.current) c.clear.ensures.text (next.kept more) in
     let comes = λ (h : IsTrue (g.S.Source.is_honest c.args.source.now)) (file : List ℕ) (stands : StandsIn c.args.reader.now (g.S.Source.left c.args.source.now) file).
     subst (λ more. Comes more old new (g.S.Source.left c.next_with.new.source) file) c.in-Ok-true.field-0-test (next.comes before.going (before.honesty h) file (before.stands h file stands)) in
     record {
@@ -45,7 +45,7 @@ returns-in_err-put_lines-in-Ok-true-clause-part g c =
     let old = c.loop-lines.reader in
     let new = c.next_with.new.self in
     let more : IsTrue c.in-Ok-true.field-0 = subst IsTrue (sym c.in-Ok-true.field-0-test) refl in
-    let made = lines-made (record { text = c.clear.new.self; words = c.loop-lines.lines.words; whole = c.loop-lines.lines.whole }) c.next_with.new.keeper (notes_in new.head new.current) c.clear.ensures.items (next.kept more) in
+    let made = lines-made c.clear.new.self c.next_with.new.keeper (notes_in new.head new.current) c.clear.ensures.text (next.kept more) in
     said-on-err c.from_residual.result
     (IsTrue (g.S.Source.is_honest c.args.source.now) → IsTrue (g.K.Sink.is_honest c.args.sink.now) → (file : List ℕ) → StandsIn c.args.reader.now (g.S.Source.left c.args.source.now) file
     → HoldsPrefix (g.K.Sink.held c.args.sink.now) (g.K.Sink.held c.put_lines.new.sink) (body_text file c.args.reader.now.head))
@@ -72,17 +72,17 @@ returns-in-Err-clause-written g c =
     let before = c.loop-lines.invariant in
     let old = c.loop-lines.reader in
     let first = c.args.reader.now.head in
-    if-ok c.put_end.result
-    (λ (outcome : Outcome). IsTrue (g.K.Sink.is_honest c.loop-lines.sink) → IsStopWritten c.in-Err.stop (g.K.Sink.held c.loop-lines.sink) (g.K.Sink.held c.put_end.new.sink) outcome)
+    if-ok c.put_stop.result
+    (λ (outcome : Outcome). IsTrue (g.K.Sink.is_honest c.loop-lines.sink) → IsStopWritten c.in-Err.stop (g.K.Sink.held c.loop-lines.sink) (g.K.Sink.held c.put_stop.new.sink) outcome)
     (λ (outcome : Outcome). IsTrue (g.S.Source.is_honest c.args.source.now) → IsTrue (g.K.Sink.is_honest c.args.sink.now) → (file : List ℕ) → StandsIn c.args.reader.now (g.S.Source.left c.args.source.now) file
-    → IsReported (body_text file first) (body_fault file first) (g.K.Sink.held c.args.sink.now) (g.K.Sink.held c.put_end.new.sink) outcome)
-    c.put_end.ensures.written
+    → IsReported (body_text file first) (body_fault file first) (g.K.Sink.held c.args.sink.now) (g.K.Sink.held c.put_stop.new.sink) outcome)
+    c.put_stop.ensures.written
     (λ outcome written h k file stands.
     let at = before.stands h file stands in
     stop_reported
     (λ f. (g.S.Source.failures c.next_with.new.source ≡ g.S.Source.failures c.loop-lines.source) × (IsTrue (g.S.Source.is_honest c.loop-lines.source) → (b : List ℕ) → StandsIn old (g.S.Source.left c.loop-lines.source) b → body_fault b old.head ≡ Some f))
     (Rises (g.S.Source.failures c.loop-lines.source) (g.S.Source.failures c.next_with.new.source))
-    file first old.read c.in-Err.stop (g.K.Sink.held c.args.sink.now) (g.K.Sink.held c.loop-lines.sink) (g.K.Sink.held c.put_end.new.sink) outcome
+    file first old.read c.in-Err.stop (g.K.Sink.held c.args.sink.now) (g.K.Sink.held c.loop-lines.sink) (g.K.Sink.held c.put_stop.new.sink) outcome
     (c.in-Err.ensures.stop before.going) (λ f q. ap (body_fault file) (sym before.head) ∙ q.1 (before.honesty h) file at)
     (subst (λ (x : Head). StopsAt (place_behind x old.read) c.in-Err.stop) before.head (c.in-Err.ensures.place before.going))
     (subst (λ (x : Head). HasPassed file x old.read) before.head at.passed)
@@ -93,17 +93,17 @@ returns-in-Err-clause-part g c =
     let before = c.loop-lines.invariant in
     let old = c.loop-lines.reader in
     let first = c.args.reader.now.head in
-    on-err c.put_end.result
-    (IsTrue (g.K.Sink.is_honest c.loop-lines.sink) → HoldsPrefix (g.K.Sink.held c.loop-lines.sink) (g.K.Sink.held c.put_end.new.sink) (stop_line c.in-Err.stop))
+    on-err c.put_stop.result
+    (IsTrue (g.K.Sink.is_honest c.loop-lines.sink) → HoldsPrefix (g.K.Sink.held c.loop-lines.sink) (g.K.Sink.held c.put_stop.new.sink) (stop_line c.in-Err.stop))
     (IsTrue (g.S.Source.is_honest c.args.source.now) → IsTrue (g.K.Sink.is_honest c.args.sink.now) → (file : List ℕ) → StandsIn c.args.reader.now (g.S.Source.left c.args.source.now) file
-    → HoldsPrefix (g.K.Sink.held c.args.sink.now) (g.K.Sink.held c.put_end.new.sink) (body_text file first))
-    c.put_end.ensures.part
+    → HoldsPrefix (g.K.Sink.held c.args.sink.now) (g.K.Sink.held c.put_stop.new.sink) (body_text file first))
+    c.put_stop.ensures.part
     (λ part h k file stands.
     let at = before.stands h file stands in
     stop_part
     (λ f. (g.S.Source.failures c.next_with.new.source ≡ g.S.Source.failures c.loop-lines.source) × (IsTrue (g.S.Source.is_honest c.loop-lines.source) → (b : List ℕ) → StandsIn old (g.S.Source.left c.loop-lines.source) b → body_fault b old.head ≡ Some f))
     (Rises (g.S.Source.failures c.loop-lines.source) (g.S.Source.failures c.next_with.new.source))
-    file first old.read c.in-Err.stop (g.K.Sink.held c.args.sink.now) (g.K.Sink.held c.loop-lines.sink) (g.K.Sink.held c.put_end.new.sink)
+    file first old.read c.in-Err.stop (g.K.Sink.held c.args.sink.now) (g.K.Sink.held c.loop-lines.sink) (g.K.Sink.held c.put_stop.new.sink)
     (c.in-Err.ensures.stop before.going) (λ f q. ap (body_fault file) (sym before.head) ∙ q.1 (before.honesty h) file at)
     (subst (λ (x : Head). StopsAt (place_behind x old.read) c.in-Err.stop) before.head (c.in-Err.ensures.place before.going))
     (subst (λ (x : Head). HasPassed file x old.read) before.head at.passed)
