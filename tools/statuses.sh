@@ -183,7 +183,7 @@ awk 'BEGIN {
 )
 judge_refusal 'edfclaim: claim refused: BadFormat' 'the deepest claim, with 4 MB of stack' $?
 
-# an export with 3,000,000 annotations in one data record, of which no more are kept than a file may have
+# an export with 3,000,000 annotations in one data record, for which there is no memory: the fault is the answer
 python3 -c '
 import sys
 sys.path.insert(0, "../../tools")
@@ -194,13 +194,38 @@ file = change(night.files()["cut.edf"])
 sys.stdout.buffer.write(file[:1280] + bytes(faults.RECORD - faults.LANE) + b"+0\x14\x14\0" * 3000000)
 ' >"$work/many.edf"
 (
-    ulimit -v 200000
+    ulimit -v 60000
     exec "$program" check original.edf "$work/many.edf" cut.toml >"$work/out" 2>"$work/err"
 )
 status=$?
 echo 'NO 2 export fault: TooManyAnnotations at record 0' >"$work/line"
 [ "$status" -eq 1 ] && cmp -s "$work/out" "$work/line" && [ ! -s "$work/err" ]
-judge $? "3,000,000 annotations in 200 MB" "$status"
+judge $? "3,000,000 annotations in 60 MB" "$status"
+
+# an export with 1,000,000 annotations in its first data record, and as many in its second one: these aren't kept
+python3 -c '
+import resource
+import subprocess
+import sys
+sys.path.insert(0, "../../tools")
+import faults
+import night
+change = faults.both(faults.fixed("records", "2"), faults.field(3, "samples", "2500003"))
+others = bytes(faults.RECORD - faults.LANE)
+lanes = [b"+%d\x14\x14\0" % at + b"+0\x14\x14\0" * 1000000 + b"\0" for at in (0, 5)]
+with open(sys.argv[2], "wb") as to:
+    to.write(change(night.files()["cut.edf"])[:1280] + b"".join(others + lane for lane in lanes))
+with open(sys.argv[3], "wb") as out, open(sys.argv[4], "wb") as err:
+    words = [sys.argv[1], "check", "original.edf", sys.argv[2], "cut.toml"]
+    status = subprocess.run(words, stdout=out, stderr=err, check=False).returncode
+most = resource.getrusage(resource.RUSAGE_CHILDREN).ru_maxrss
+print(f"{most} KB", file=sys.stderr)
+sys.exit(status if most < 130000 else 3)
+' "$program" "$work/twice.edf" "$work/out" "$work/err" 2>"$work/memory"
+status=$?
+echo 'NO 2 export fault: TooManyAnnotations at record 1' >"$work/line"
+[ "$status" -eq 1 ] && cmp -s "$work/out" "$work/line" && [ ! -s "$work/err" ]
+judge $? "2,000,000 annotations, of which 1,000,000 fit: $(cat "$work/memory")" "$status"
 
 # 50,000 annotations with a text of 600 bytes each, which is blanked: none takes memory for its text
 python3 -c '
