@@ -1,6 +1,6 @@
 //! Texts of dates and times, and what they name.
 
-use edf_fields::date::{clock_time, dashed_date, dotted_date};
+use edf_fields::date::{clock_time, dashed_date, dotted_date, dotted_day_month};
 use jiff::civil::Date;
 
 /// Year, month and day.
@@ -41,6 +41,41 @@ fn reads_dotted_dates(rt: HostRuntime) {
     for (text, want) in DOTTED_DATES {
         let day = parts(dotted_date(text.as_bytes()));
         assert_eq!(rt; day, *want, "at {text}");
+    }
+}
+
+/// Texts, and the day of the month and the month that each names.
+const DAYS_WITHOUT_A_YEAR: &[(&str, Option<(u8, u8)>)] = &[
+    ("31.12.yy", Some((31, 12))),
+    ("01.01.yy", Some((1, 1))),
+    ("31.02.yy", Some((31, 2))),
+    ("29.02.yy", Some((29, 2))),
+    ("09.10.yy", Some((9, 10))),
+    ("00.12.yy", None),
+    ("32.12.yy", None),
+    ("31.00.yy", None),
+    ("31.13.yy", None),
+    ("31.12.YY", None),
+    ("31.12.yY", None),
+    ("31.12.Yy", None),
+    ("31.12.y9", None),
+    ("31.12.9y", None),
+    ("31.12.99", None),
+    ("31-12-yy", None),
+    ("31.12-yy", None),
+    ("3a.12.yy", None),
+    ("31.1:.yy", None),
+    ("1.12.yy", None),
+    ("31.12.yy ", None),
+    ("31.12.yyyy", None),
+    ("", None),
+];
+
+#[test]
+fn reads_days_without_a_year(rt: HostRuntime) {
+    for (text, want) in DAYS_WITHOUT_A_YEAR {
+        let said = dotted_day_month(text.as_bytes());
+        assert_eq!(rt; said, *want, "at {text}");
     }
 }
 

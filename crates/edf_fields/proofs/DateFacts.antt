@@ -1,17 +1,18 @@
 -- The day and the time of a text, as relations and as functions.
-use Rattle.std.proofs.Common.{◌+◌, ◌*◌, ◌≡◌, ◌≤◌, ℕ, ℤ, Bool, true, false, nat_le, List, Option, Some, None, MatchOption, option_map, refl, ap, sym, ◌∙◌, pos, arith, cond, is_some, ◌&&◌}
+use Rattle.std.proofs.Common.{◌+◌, ◌*◌, ◌≡◌, ◌≤◌, ◌<◌, subst, ℕ, ℤ, Bool, true, false, nat_le, List, length, drop, get_or, Option, Some, None, MatchOption, option_map, refl, ap, sym, ◌∙◌, pos, arith, cond, is_some, ◌&&◌}
 use Rattle.std.specs.Bool.{Decides}
 use Rattle.std.specs.List.{list_all}
 use Rattle.std.proofs.lemmas.Bool.Decides.{Decides-and, Decides-like, Decides-at, Decides-eqb, nat_tests}
 use Rattle.std.proofs.lemmas.Int.{ints}
+use Rattle.std.proofs.lemmas.List.{get_or-take, get_or-drop, length-take, length-drop}
 use Rattle.jiff.specs.Types.{Date}
 use Rattle.jiff.specs.Words.{IsYmd, epoch_day, days_in_month}
 use Rattle.jiff.proofs.Family.{epoch_day_injective, epoch_day_same}
 use Rattle.edf_fields.specs.Numbers.{AreDigits}
 use Rattle.edf_fields.specs.NumbersReading.{is_digit}
 use Rattle.edf_fields.specs.Parts.{part}
-use Rattle.edf_fields.specs.Dates.{number_at, full_year, month_of, IsDayNumber, IsDotted, IsDashed, NamesDottedDay, NamesDashedDay, NamesClockTime, CivilDay, civil_day}
-use Rattle.edf_fields.specs.DatesReading.{is_day, day_if_any, is_dotted, is_dashed, dotted_day_of, dashed_day_of, clock_time_of, NamesOneDottedDay, NamesOneDashedDay, NamesOneClockTime, DottedDayIsNamed, DashedDayIsNamed, ClockTimeIsNamed}
+use Rattle.edf_fields.specs.Dates.{number_at, full_year, month_of, IsDayNumber, IsDotted, IsDashed, NamesDottedDay, NamesDayMonth, NamesDashedDay, NamesClockTime, CivilDay, civil_day}
+use Rattle.edf_fields.specs.DatesReading.{is_day, day_if_any, is_dotted, is_dashed, is_day_month, dotted_day_of, day_month_of, dashed_day_of, clock_time_of, NamesOneDottedDay, NamesOneDashedDay, NamesOneClockTime, DottedDayIsNamed, DayMonthIsNamed, DashedDayIsNamed, ClockTimeIsNamed}
 use Rattle.edf_fields.proofs.NumberFacts.{digits_tested, tested_digits}
 
 -- what a reader of a day says
@@ -161,6 +162,29 @@ dashed_day_decided t =
     (λ h. (h.1.0, date_has_day year month day h.0 h.1.1))
     (Decides-and _ _ (dashed_decided t) (has_day_decided year month day)))
 
+-- the day of the month and the month
+day_month_decided : (t : List ℕ) → Decides (is_day_month t) (NamesDayMonth t (number_at t 0 2) (number_at t 3 2))
+day_month_decided t =
+    Decides-like (is_day_month t)
+    (λ h. record { len = h.0; dots = h.1.0; letters = h.1.1.0; digits = h.1.1.1.0; its_day = (refl, h.1.1.1.1.0.0, h.1.1.1.1.0.1); its_month = (refl, h.1.1.1.1.1.0, h.1.1.1.1.1.1) })
+    (λ h. (h.len, (h.dots, (h.letters, (h.digits, ((h.its_day.1, h.its_day.2), (h.its_month.1, h.its_month.2)))))))
+    (Decides-and _ _ (Decides-eqb _ _) (Decides-and _ _ (Decides-and _ _ (Decides-eqb _ _) (Decides-eqb _ _))
+    (Decides-and _ _ (Decides-and _ _ (Decides-eqb _ _) (Decides-eqb _ _))
+    (Decides-and _ _ (Decides-and _ _ (digits_decided (part t 0 2)) (digits_decided (part t 3 2)))
+    (Decides-and _ _ (Decides-and _ _ (le_decided 1 (number_at t 0 2)) (le_decided (number_at t 0 2) 31))
+    (Decides-and _ _ (le_decided 1 (number_at t 3 2)) (le_decided (number_at t 3 2) 12)))))))
+
+-- its two numbers are those of the text
+own_numbers : (t : List ℕ) (day month : ℕ) → NamesDayMonth t day month → NamesDayMonth t (number_at t 0 2) (number_at t 3 2)
+own_numbers t day month h = record { len = h.len; dots = h.dots; letters = h.letters; digits = h.digits; its_day = (refl, subst (λ d. 1 ≤ d) h.its_day.0 h.its_day.1, subst (λ d. d ≤ 31) h.its_day.0 h.its_day.2); its_month = (refl, subst (λ m. 1 ≤ m) h.its_month.0 h.its_month.1, subst (λ m. m ≤ 12) h.its_month.0 h.its_month.2) }
+
+pub day_month_read : (o : Option (ℕ × ℕ)) (t : List ℕ) → MatchOption o ((day month : ℕ) → NamesDayMonth t day month → ⊥) (λ said. NamesDayMonth t said.0 said.1) → o ≡ day_month_of t
+unfolding day_month_of
+day_month_read None t h = sym (cond_none (is_day_month t) _ (λ test. h _ _ ((day_month_decided t).0 test)))
+day_month_read (Some said) t h =
+    ap Some (let d = h.its_day.0 in let m = h.its_month.0 in ap (λ d. (d, said.1)) d ∙ ap (λ m. (number_at t 0 2, m)) m)
+    ∙ sym (cond_some (is_day_month t) _ ((day_month_decided t).1 (own_numbers t said.0 said.1 h)))
+
 -- the time of the day
 abbrev pub IsClock : List ℕ → Type 0
 IsClock t = IsDotted t × ((number_at t 0 2 ≤ 23) × ((number_at t 3 2 ≤ 59) × (number_at t 6 2 ≤ 59)))
@@ -196,6 +220,17 @@ dotted_day-some t day e =
     let made = date_made y m d ((has_day_decided y m d).0 parts.1) in
     ((made.1).0, ((dotted_decided t).0 parts.0, ((made.1).0, (made.1).1, refl)), parts.2)
 
+pub day_month-some : (t : List ℕ) (day month : ℕ) → day_month_of t ≡ Some (day, month) → NamesDayMonth t day month
+unfolding day_month_of
+day_month-some t day month e =
+    let said : ℕ × ℕ = (number_at t 0 2, number_at t 3 2) in
+    let parts = both_some true (is_day_month t) said (day, month) e in
+    subst (λ (x : ℕ × ℕ). NamesDayMonth t x.0 x.1) parts.2 ((day_month_decided t).0 parts.1)
+
+-- the day of the month and the month that are read of a text are those that it names
+pub day_month_is_named : DayMonthIsNamed
+day_month_is_named t day month = (day_month-some t day month, λ h. sym (day_month_read (Some (day, month)) t h))
+
 pub clock_time-some : (t : List ℕ) (s : ℕ) → clock_time_of t ≡ Some s → NamesClockTime t s
 unfolding clock_time_of
 clock_time-some t s e =
@@ -218,7 +253,7 @@ one_clock_time t m n h k = h.4 ∙ sym k.4
 pub dotted_day_is_named : DottedDayIsNamed
 dotted_day_is_named t day = (dotted_day-some t day, λ h. sym (dotted_day_read (Some h.0) t h.1) ∙ ap Some h.2)
 
-dashed_day-some : (t : List ℕ) (day : CivilDay) → dashed_day_of t ≡ Some day → (date : Date) × NamesDashedDay t (epoch_day date) × (civil_day date ≡ day)
+pub dashed_day-some : (t : List ℕ) (day : CivilDay) → dashed_day_of t ≡ Some day → (date : Date) × NamesDashedDay t (epoch_day date) × (civil_day date ≡ day)
 dashed_day-some t day e =
     let found = (dashed_day_decided t).0 (ap is_some e) in
     let date : Date = ((found.1).1).0 in
@@ -228,6 +263,21 @@ dashed_day-some t day e =
 
 pub dashed_day_is_named : DashedDayIsNamed
 dashed_day_is_named t day = (dashed_day-some t day, λ h. sym (dashed_day_read (Some h.0) t h.1) ∙ ap Some h.2)
+
+-- a text of digits has no letters
+pub dotted-no_letters : (t : List ℕ) → IsDotted t → day_month_of t ≡ None
+dotted-no_letters t dotted = none (day_month_of t) refl
+  where
+    none : (o : Option (ℕ × ℕ)) → day_month_of t ≡ o → o ≡ None
+    none None e = refl
+    none (Some said) e =
+        let named = day_month-some t said.0 said.1 e in
+        let long = named.len in
+        let letter = named.letters.0 in
+        let some : 0 < length (part t 6 2) = omega (arith, long, length-take 2 (drop 6 t), length-drop 6 t) in
+        let digit : get_or (part t 6 2) 0 0 ≤ 57 = (dotted.third 0 some).1 in
+        let first : get_or (part t 6 2) 0 0 ≡ get_or t 6 0 = get_or-take 2 (drop 6 t) 0 0 (omega arith) ∙ get_or-drop 6 t 0 0 in
+        absurd (omega (arith, letter, digit, first))
 
 -- the second that is read of a text is the one that it names
 pub clock_time_is_named : ClockTimeIsNamed

@@ -33,6 +33,15 @@ abbrev pub NamesDottedDay : List ℕ → ℤ → Type 0
 NamesDottedDay t n =
     IsDotted t × IsDayNumber (full_year (number_at t 6 2)) (number_at t 3 2) (number_at t 0 2) n
 
+-- the text is dd.mm.yy with the letters yy, of this day, 01 to 31, and this month, 01 to 12 (EDF+, "Additional specifications in EDF+": the startdate after 2084)
+pub record NamesDayMonth (t : List ℕ) (day month : ℕ) : Type 0 where
+  pub len : length t ≡ 8
+  pub dots : (slice_index t 2 ≡ 46) × (slice_index t 5 ≡ 46)
+  pub letters : (slice_index t 6 ≡ 121) × (slice_index t 7 ≡ 121)
+  pub digits : AreDigits (part t 0 2) × AreDigits (part t 3 2)
+  pub its_day : (day ≡ number_at t 0 2) × (1 ≤ day) × (day ≤ 31)
+  pub its_month : (month ≡ number_at t 3 2) × (1 ≤ month) × (month ≤ 12)
+
 -- the text is hh.mm.ss, from 00.00.00 to 23.59.59, and this is its second of the day (EDF, "Header record": starttime)
 abbrev pub NamesClockTime : List ℕ → ℕ → Type 0
 NamesClockTime t second =

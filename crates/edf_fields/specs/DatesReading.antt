@@ -5,7 +5,7 @@ use Rattle.jiff.specs.Types.{Date}
 use Rattle.jiff.specs.Words.{epoch_day, days_in_month}
 use Rattle.edf_fields.specs.NumbersReading.{is_digit}
 use Rattle.edf_fields.specs.Parts.{part}
-use Rattle.edf_fields.specs.Dates.{number_at, full_year, NamesDottedDay, NamesClockTime, month_of, NamesDashedDay, CivilDay, civil_day}
+use Rattle.edf_fields.specs.Dates.{number_at, full_year, NamesDottedDay, NamesDayMonth, NamesClockTime, month_of, NamesDashedDay, CivilDay, civil_day}
 
 -- the calendar has this day
 abbrev pub is_day : ℕ → ℕ → ℕ → Bool
@@ -38,6 +38,20 @@ unfoldable pub dotted_day_of : List ℕ → Option CivilDay
 dotted_day_of t =
     if is_dotted t then day_if_any (full_year (number_at t 6 2)) (number_at t 3 2) (number_at t 0 2) else None
 
+-- the tests of `NamesDayMonth`, but for what its numbers are
+abbrev pub is_day_month : List ℕ → Bool
+is_day_month t =
+    (length t == 8)
+    && (((slice_index t 2 == 46) && (slice_index t 5 == 46))
+    && (((slice_index t 6 == 121) && (slice_index t 7 == 121))
+    && ((list_all is_digit (part t 0 2) && list_all is_digit (part t 3 2))
+    && ((nat_le 1 (number_at t 0 2) && nat_le (number_at t 0 2) 31)
+    && (nat_le 1 (number_at t 3 2) && nat_le (number_at t 3 2) 12)))))
+
+-- the day of the month and the month that a text names by `NamesDayMonth`, or none
+unfoldable pub day_month_of : List ℕ → Option (ℕ × ℕ)
+day_month_of t = if is_day_month t then Some (number_at t 0 2, number_at t 3 2) else None
+
 -- the day that a text names by `NamesDashedDay`, or none
 unfoldable pub dashed_day_of : List ℕ → Option CivilDay
 dashed_day_of t =
@@ -61,6 +75,10 @@ NamesOneDashedDay = (t : List ℕ) (m n : ℤ) → NamesDashedDay t m → NamesD
 -- a text names at most one time of the day
 abbrev pub NamesOneClockTime : Type 0
 NamesOneClockTime = (t : List ℕ) (m n : ℕ) → NamesClockTime t m → NamesClockTime t n → m ≡ n
+
+-- the day of the month and the month that are read of a text are those that it names
+abbrev pub DayMonthIsNamed : Type 0
+DayMonthIsNamed = (t : List ℕ) (day month : ℕ) → (day_month_of t ≡ Some (day, month)) ↔ NamesDayMonth t day month
 
 -- the day that is read of a text is the one that it names, in the form dd.mm.yy
 abbrev pub DottedDayIsNamed : Type 0

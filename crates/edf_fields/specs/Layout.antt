@@ -19,19 +19,13 @@ fixed_extent fixed.Records = (236, 8)
 fixed_extent fixed.Duration = (244, 8)
 fixed_extent fixed.Signals = (252, 4)
 
-abbrev pub fixed_from : FixedField → ℕ
-fixed_from field = (fixed_extent field).0
-
-abbrev pub fixed_bytes : FixedField → ℕ
-fixed_bytes field = (fixed_extent field).1
-
 -- the fixed part of a file: its first 256 bytes, or all that there are
 abbrev pub fixed_part : List ℕ → List ℕ
 fixed_part file = part file 0 256
 
 -- the bytes of a field of the fixed part
 abbrev pub fixed_field : List ℕ → FixedField → List ℕ
-fixed_field front field = part front (fixed_from field) (fixed_bytes field)
+fixed_field front field = part front (fixed_extent field).0 (fixed_extent field).1
 
 -- how many bytes of each signal stand in the columns before this one, and how many in it
 abbrev pub column_extent : SignalField → ℕ × ℕ
@@ -46,16 +40,10 @@ column_extent signal.Prefilter = (136, 80)
 column_extent signal.Samples = (216, 8)
 column_extent signal.Reserved = (224, 32)
 
-abbrev pub column_before : SignalField → ℕ
-column_before field = (column_extent field).0
-
-abbrev pub column_width : SignalField → ℕ
-column_width field = (column_extent field).1
-
 -- the columns of n signals, one behind the other: 256 bytes for each signal, or all that there are
 abbrev pub columns_part : ℕ → List ℕ → List ℕ
 columns_part n file = part file 256 (256 * n)
 
 -- the bytes of a field of signal s, in the columns of n signals
 abbrev pub signal_field : List ℕ → ℕ → ℕ → SignalField → List ℕ
-signal_field bytes n s field = part bytes (column_before field * n + column_width field * s) (column_width field)
+signal_field bytes n s field = part bytes ((column_extent field).0 * n + (column_extent field).1 * s) (column_extent field).1

@@ -1,10 +1,26 @@
--- The fields of a header in their order, and their names.
+-- The fields of a header, where they stand, their order, and their names.
 use Rattle.std.specs.Prelude.{◌≡◌, ℕ, ◌+◌, List, [], ◌∷◌, codes}
 use Rattle.edf_fields.specs.declared.layout.FixedField.{FixedField}
 use Rattle.edf_fields.specs.declared.layout.FixedField.TheVariants as fixed
 use Rattle.edf_fields.specs.declared.layout.SignalField.{SignalField}
 use Rattle.edf_fields.specs.declared.layout.SignalField.TheVariants as signal
-use Rattle.edf_fields.specs.Layout.{column_before, column_width}
+use Rattle.edf_fields.specs.Layout.{fixed_extent, column_extent}
+
+-- where a field of the fixed part begins
+abbrev pub fixed_from : FixedField → ℕ
+fixed_from field = (fixed_extent field).0
+
+-- how many bytes a field of the fixed part has
+abbrev pub fixed_bytes : FixedField → ℕ
+fixed_bytes field = (fixed_extent field).1
+
+-- how many bytes of each signal stand in the columns before this one
+abbrev pub column_before : SignalField → ℕ
+column_before field = (column_extent field).0
+
+-- how many bytes of each signal stand in this column
+abbrev pub column_width : SignalField → ℕ
+column_width field = (column_extent field).1
 
 -- the fields of the fixed part, in file order
 abbrev pub fixed_fields : List FixedField

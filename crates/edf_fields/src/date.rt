@@ -1,13 +1,13 @@
 //! The days and times of the day that the texts of a header name.
 //!
-//! A startdate is `dd.mm.yy` and a starttime `hh.mm.ss` (EDF, "Header record"); a birthdate and the
-//! startdate in the recording identification are `dd-MMM-yyyy` (EDF+, "Additional specifications
-//! in EDF+"). `jiff` knows which days exist and how they are numbered. The calls take the text of
+//! A startdate is `dd.mm.yy` and a starttime `hh.mm.ss` (EDF, "Header record"); after 2084 a startdate has the
+//! letters `yy` for its year, and a birthdate and the startdate in the recording identification are `dd-MMM-yyyy`
+//! (EDF+, "Additional specifications in EDF+"). `jiff` knows which days exist and how they are numbered. The calls take the text of
 //! a field, without the spaces that fill it.
 ghost use Rattle.std.specs.Prelude.{◌≡◌, ◌+◌, ◌≤◌, ◌<◌, ◌^◌, ℕ, ℤ, pos, length, MatchOption, IfSome, option_map};
 ghost use Rattle.jiff.specs.Words.{IsYmd, epoch_day};
-ghost use Rattle.edf_fields.specs.Dates.{number_at, month_of, full_year, IsDayNumber, IsDotted, NamesDottedDay, NamesDashedDay, NamesClockTime, civil_day};
-ghost use Rattle.edf_fields.specs.DatesReading.{dotted_day_of, dashed_day_of, clock_time_of};
+ghost use Rattle.edf_fields.specs.Dates.{number_at, month_of, full_year, IsDayNumber, IsDotted, NamesDottedDay, NamesDayMonth, NamesDashedDay, NamesClockTime, civil_day};
+ghost use Rattle.edf_fields.specs.DatesReading.{dotted_day_of, day_month_of, dashed_day_of, clock_time_of};
 ghost use Rattle.edf_fields.specs.Numbers.{AreDigits};
 ghost use Rattle.edf_fields.specs.Parts.{part};
 
@@ -112,6 +112,21 @@ fn dotted_day(text: &[u8]) -> Option<Date>
     existing_day(full_year(numbers.third), numbers.second, numbers.first)
 }
 
+/// The day of the month and the month that a text names, as `dotted_day_month`.
+fn day_month(text: &[u8]) -> Option<(u8, u8)>
+    ensures { MatchOption result ((day month : ℕ) → ¬ NamesDayMonth text.now day month) (λ said. NamesDayMonth text.now said.0 said.1) }
+{
+    if text.len() != 8 || text[2] != b'.' || text[5] != b'.' || text[6] != b'y' || text[7] != b'y' {
+        return None;
+    }
+    let day = number_at(text, 0, 2)?;
+    let month = number_at(text, 3, 2)?;
+    if day < 1 || day > 31 || month < 1 || month > 12 {
+        return None;
+    }
+    Some((day as u8, month as u8))
+}
+
 /// The day that a text names, as `dashed_date`.
 fn dashed_day(text: &[u8]) -> Option<Date>
     ensures { MatchOption result ((n : ℤ) → ¬ NamesDashedDay text.now n) (λ date. NamesDashedDay text.now (epoch_day date)) }
@@ -145,13 +160,26 @@ fn clock_second(text: &[u8]) -> Option<u32>
 /// startdate).
 ///
 /// The years 85 to 99 are 1985 to 1999, and 00 to 84 are 2000 to 2084 (EDF+, "Additional
-/// specifications in EDF+"). None where the text has another form, the year text `yy` included,
-/// and where there is no such day.
+/// specifications in EDF+"). None where the text has another form, the letters `yy` for the year
+/// included, and where there is no such day.
 pub fn dotted_date(text: &[u8]) -> Option<Date>
     ensures named { MatchOption result ((n : ℤ) → ¬ NamesDottedDay text.now n) (λ date. NamesDottedDay text.now (epoch_day date)) }
     ensures day { option_map civil_day result ≡ dotted_day_of text.now }
 {
     dotted_day(text)
+}
+
+/// The day of the month, from 1 to 31, and the month, from 1 to 12, of a text `dd.mm.yy` with the letters `yy`:
+/// `31.12.yy` (EDF+, "Additional specifications in EDF+": the startdate after 2084, where only the recording
+/// identification says the year).
+///
+/// None where the text has another form, capitals included, and where the day or the month is out of these bounds.
+/// Whether some year has such a day isn't asked: `31.02.yy` is 31 and 2.
+pub fn dotted_day_month(text: &[u8]) -> Option<(u8, u8)>
+    ensures named { MatchOption result ((day month : ℕ) → ¬ NamesDayMonth text.now day month) (λ said. NamesDayMonth text.now said.0 said.1) }
+    ensures value { result ≡ day_month_of text.now }
+{
+    day_month(text)
 }
 
 /// The day that a text `dd-MMM-yyyy` names: `29-FEB-2000` (EDF+, "Additional specifications in

@@ -27,9 +27,11 @@ pub enum Cause {
     BadVersion,
     /// The field says no patient, or no recording.
     BadSubfields(FieldCause),
-    /// The startdate is no day `dd.mm.yy`, or the starttime is no time `hh.mm.ss`.
+    /// The startdate says no day, by itself or, with the letters `yy` for its year, with a recording date after 2084;
+    /// or the starttime is no time `hh.mm.ss`.
     BadStart,
-    /// The recording date is another day than the startdate.
+    /// The recording date is another day than the startdate; or, beside one with the letters `yy`, it is another day of
+    /// the month or of another month.
     StartdateDiffers,
     /// The header's size isn't 256 bytes and 256 more for each signal.
     BadHeaderSize,

@@ -1,5 +1,5 @@
 //! Laws of the definitions, each the contract of a function that does nothing.
-ghost use Rattle.edf_fields.specs.DatesReading.{NamesOneDottedDay, NamesOneDashedDay, NamesOneClockTime, DottedDayIsNamed, DashedDayIsNamed, ClockTimeIsNamed};
+ghost use Rattle.edf_fields.specs.DatesReading.{NamesOneDottedDay, NamesOneDashedDay, NamesOneClockTime, DottedDayIsNamed, DayMonthIsNamed, DashedDayIsNamed, ClockTimeIsNamed};
 ghost use Rattle.edf_fields.specs.IdentificationsReading.{SaysOnePatient, SaysOneRecording, SaysPatientOrCause, SaysRecordingOrCause};
 ghost use Rattle.edf_fields.specs.NumbersReading.{SpellsOneHeaderNumber, SpellsOneWholeNumber, HeaderNumberIsSpelled, WholeNumberIsSpelled};
 ghost use Rattle.edf_fields.specs.OnsetsReading.{SpellsOneOnset, SpellsOneSpan, OnsetIsSpelled, SpanIsSpelled};
@@ -37,9 +37,10 @@ pub fn texts_name_one_day()
     ensures clock { NamesOneClockTime }
 {}
 
-/// The day, and the time of the day, that are read of a text are those that the text names.
+/// The day, the day of a month, and the time of the day that are read of a text are those that the text names.
 pub fn days_are_as_named()
     ensures dotted { DottedDayIsNamed }
+    ensures day_month { DayMonthIsNamed }
     ensures dashed { DashedDayIsNamed }
     ensures clock { ClockTimeIsNamed }
 {}

@@ -3,8 +3,8 @@
 
 ghost use Rattle.std.specs.Prelude.{◌≡◌, ◌+◌, ◌≤◌, ◌<◌, length, get_or};
 ghost use Rattle.edf_fields.specs.declared.layout.SignalField.TheVariants.{Label};
-ghost use Rattle.edf_fields.specs.Layout.{fixed_from, fixed_bytes, fixed_field as fixed_field_of, column_width};
-ghost use Rattle.edf_fields.specs.LayoutReading.{fixed_field_name, columns, signal_field_name};
+ghost use Rattle.edf_fields.specs.Layout.{fixed_field as fixed_field_of};
+ghost use Rattle.edf_fields.specs.LayoutReading.{fixed_field_name, columns, signal_field_name, fixed_from, fixed_bytes, column_width};
 
 use crate::number::part;
 

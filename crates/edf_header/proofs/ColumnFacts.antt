@@ -9,8 +9,7 @@ use Rattle.edf_fields.specs.declared.fault.Place.TheVariants.{AtSignal}
 use Rattle.edf_fields.specs.declared.fault.Cause.TheVariants.{Truncated}
 use Rattle.edf_fields.specs.declared.layout.SignalField.{SignalField}
 use Rattle.edf_fields.specs.declared.layout.SignalField.TheVariants as signal
-use Rattle.edf_fields.specs.Layout.{column_before, column_width}
-use Rattle.edf_fields.specs.LayoutReading.{columns, next_before, AreAdjacent}
+use Rattle.edf_fields.specs.LayoutReading.{columns, next_before, AreAdjacent, column_before, column_width}
 use Rattle.edf_header.specs.Faults.{fault, truncated, column_missing, columns_missing}
 use Rattle.edf_fields.specs.Tests.{first}
 use Rattle.edf_fields.proofs.ForCallers.{first-passed, first-found}

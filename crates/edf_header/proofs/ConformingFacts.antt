@@ -1,5 +1,5 @@
 -- A header has no fault exactly where it is in order.
-use Rattle.std.proofs.Common.{◌≡◌, ℕ, zero, suc, ℤ, pos, negsuc, ◌+◌, ◌*◌, ◌≤◌, ◌<◌, ◌≤ℤ◌, ◌&&◌, ◌||◌, not, nat_le, Bool, true, false, cond, List, [], ◌∷◌, ◌++◌, length, take, drop, slice_get, unwrap_or, option_map, Option, Some, None, codes, refl, sym, ap, ◌∙◌, subst, arith}
+use Rattle.std.proofs.Common.{◌≡◌, ℕ, zero, suc, ℤ, pos, negsuc, ◌+◌, ◌*◌, ◌≤◌, ◌<◌, ◌≤ℤ◌, ◌&&◌, ◌||◌, not, nat_le, Bool, true, false, cond, List, [], ◌∷◌, ◌++◌, length, take, drop, slice_get, unwrap_or, option_map, Some, None, codes, refl, sym, ap, ◌∙◌, subst, arith}
 use Rattle.std.specs.List.{All, list_any, list_all, position_from}
 use Rattle.std.specs.Option.{is_some}
 use Rattle.std.specs.Ordering.{int_eq}
@@ -8,15 +8,14 @@ use Rattle.std.proofs.lemmas.Bool.Decides.{Decides-int_eq}
 use Rattle.std.proofs.lemmas.Int.{ints}
 use Rattle.std.proofs.lemmas.List.{length-take, length-drop}
 use Rattle.std.proofs.lemmas.Slice.Eq.{bytes_eq-Decides}
-use Rattle.jiff.specs.Types.{Date}
 use Rattle.edf_fields.specs.Parts.{text_of}
 use Rattle.edf_fields.specs.Numbers.{SpellsWholeNumber}
 use Rattle.edf_fields.specs.NumbersReading.{whole_number_of}
-use Rattle.edf_fields.specs.Dates.{CivilDay, NamesDashedDay, civil_day}
-use Rattle.edf_fields.specs.DatesReading.{dotted_day_of, dashed_day_of, clock_time_of}
+use Rattle.edf_fields.specs.Dates.{NamesDashedDay}
+use Rattle.edf_fields.specs.DatesReading.{clock_time_of}
 use Rattle.edf_fields.specs.Printable.{IsPrintable}
 use Rattle.edf_fields.specs.PrintableReading.{is_printable}
-use Rattle.edf_fields.proofs.ForCallers.{le_decided, dotted_day_read, dashed_day_read, dashed_day_decided, clock_time_read, patient_or_cause, recording_or_cause, whole_number_of-spelled, header_number_of-spelled, whole_number_of-some, first-none, first-cons, and-true, not-true, pass-cons, pass-append, not-is, printable_decided}
+use Rattle.edf_fields.proofs.ForCallers.{le_decided, clock_time_read, patient_or_cause, recording_or_cause, whole_number_of-spelled, header_number_of-spelled, whole_number_of-some, first-none, first-cons, and-true, not-true, pass-cons, pass-append, not-is, printable_decided}
 use Rattle.edf_fields.specs.declared.fault.Place.{Place}
 use Rattle.edf_fields.specs.declared.fault.Place.TheVariants.{AtField, AtSignal}
 use Rattle.edf_fields.specs.declared.fault.Cause.TheVariants.{NotPrintable, Truncated, BadVersion, BadHeaderSize, NoAnnotationSignal, NoOrdinarySignal, DuplicateLabel, RecordTooLarge}
@@ -26,17 +25,18 @@ use Rattle.edf_fields.specs.declared.layout.SignalField.{SignalField}
 use Rattle.edf_fields.specs.declared.layout.SignalField.TheVariants as signal
 use Rattle.edf_header.specs.Channels.{IsChannel, HasDistinctChannels}
 use Rattle.edf_header.specs.ChannelsReading.{is_channel_of, label_at, is_repeated}
-use Rattle.edf_fields.specs.Layout.{fixed_from, fixed_bytes, fixed_part, fixed_field, column_before, column_width, columns_part, signal_field}
-use Rattle.edf_fields.specs.LayoutReading.{fixed_fields, columns}
-use Rattle.edf_header.specs.Heads.{SignalHead, Head, HasSignal, day_number, header_bytes, in_picoseconds, is_annotations, samples_together}
+use Rattle.edf_fields.specs.Layout.{fixed_part, fixed_field, columns_part, signal_field}
+use Rattle.edf_fields.specs.LayoutReading.{fixed_fields, columns, fixed_from, fixed_bytes, column_before, column_width}
+use Rattle.edf_header.specs.Heads.{SignalHead, Head, NamesStartdate, HasSignal, header_bytes, in_picoseconds, is_annotations, samples_together}
 use Rattle.edf_header.specs.HeadsReading.{count_of, line_of, recording_in, signals_of, signals_in, head_of}
-use Rattle.edf_header.specs.Faults.{truncated, fault_unless, not_printable, no_number, is_same_day, version_fault, patient_fault, recording_fault, startdate_fault, starttime_fault, header_bytes_fault, reserved_fault, records_fault, duration_fault, signals_fault, header_size_fault, text_fault, physical_fault, digital_fault, samples_fault, naming_faults, extreme_faults, sampling_faults, agreement_faults, signal_faults, no_annotation_signal, no_ordinary_signal, label_fault, labels_faults, record_too_large, joint_faults, fixed_missing, start_faults, extent_faults, fixed_tests, column_missing, columns_missing, signals_faults, columns_tests, header_fault}
+use Rattle.edf_header.specs.Faults.{truncated, fault_unless, not_printable, no_number, version_fault, patient_fault, recording_fault, startdate_fault, starttime_fault, header_bytes_fault, reserved_fault, records_fault, duration_fault, signals_fault, header_size_fault, text_fault, physical_fault, digital_fault, samples_fault, naming_faults, extreme_faults, sampling_faults, agreement_faults, signal_faults, no_annotation_signal, no_ordinary_signal, label_fault, labels_faults, record_too_large, joint_faults, fixed_missing, start_faults, extent_faults, fixed_tests, column_missing, columns_missing, signals_faults, columns_tests, header_fault}
 use Rattle.edf_fields.specs.Tests.{first}
 use Rattle.edf_header.specs.Conforming.{HeaderConforms}
 use Rattle.edf_header.specs.ConformingLaws.{PassingIsConforming, ConformingIsSound}
 use Rattle.edf_header.specs.Sound.{IsSound}
 use Rattle.edf_header.specs.Standard.{IsSoundSignal, HasAnnotationSignal, HasSomeChannel}
 use Rattle.edf_header.proofs.PassedFacts.{fault_unless-passed, number-passed}
+use Rattle.edf_header.proofs.StartdateFacts.{SayTheSame, startdate-read, same-passes}
 use Rattle.edf_header.proofs.PassingFacts.{fault_unless-true, version-passes, patient-passes, recording-passes, startdate-passes, starttime-passes, header_bytes-passes, reserved-passes, records-passes, duration-passes, signals-passes, header_size-passes, signals-pass-tests}
 use Rattle.edf_header.proofs.ColumnFacts.{there, column-whole}
 use Rattle.edf_header.proofs.ChannelFacts.{get-within}
@@ -352,20 +352,6 @@ passing-conforms file h =
       standard = (sound-head file h).standard;
     }
 
--- the recording date, where it is a day, is that of the header
-same-day-passes : (date : List ℕ) (day : CivilDay) (n : ℤ) → day_number day ≡ n → ((m : ℤ) → NamesDashedDay date m → m ≡ n) → is_same_day (dashed_day_of date) (Some day) ≡ true
-same-day-passes date day n number same = same-case (dashed_day_of date) refl
-  where
-    same-case : (r : Option CivilDay) → dashed_day_of date ≡ r → is_same_day r (Some day) ≡ true
-    same-case None e = refl
-    same-case (Some recorded) e =
-        let named = (dashed_day_decided date).0 (ap is_some e) in
-        let d : Date = ((named.1).1).0 in
-        let read : Some (civil_day d) ≡ dashed_day_of date = dashed_day_read (Some d) date ((named.1).0, (d, ((named.1).1).1, refl)) in
-        let is : civil_day d ≡ recorded = (let f : Some (civil_day d) ≡ Some recorded = read ∙ e in cc) in
-        let recorded_number : day_number recorded ≡ n = sym (ap day_number is) ∙ sym ((named.1).1).2 ∙ same named.0 named.1 in
-        (Decides-int_eq (day_number recorded) (day_number day)).1 (recorded_number ∙ sym number)
-
 units-count : (units : ℤ) → pos 1 ≤ℤ in_picoseconds units → (k : ℕ) × (units ≡ pos k) × (1 ≤ k)
 units-count (pos k) h = (k, refl, omega (arith, ints, h))
 units-count (negsuc k) h = absurd (omega (arith, ints, h))
@@ -381,11 +367,9 @@ fixed-pass file h c count =
     let long : 256 ≤ length front = omega (arith, size, taken) in
     let date = (recording_in (at fixed.Recording)).date in
     let dated : h.recording.date ≡ date = ap (λ r. r.date) (recording_is (at fixed.Recording) h.recording has.recording) in
-    let start_day : Date = (has.day).0 in
-    let read : Some (civil_day start_day) ≡ dotted_day_of (text_of (at fixed.Startdate)) = dotted_day_read (Some start_day) (text_of (at fixed.Startdate)) (has.day).1 in
-    let same : is_same_day (dashed_day_of date) (dotted_day_of (text_of (at fixed.Startdate))) ≡ true =
-    subst (λ o. is_same_day (dashed_day_of date) o ≡ true) read
-    (same-day-passes date (civil_day start_day) (day_number h.day) (ap day_number (has.day).2) (λ m named. sound.same_day m (subst (λ t. NamesDashedDay t m) (sym dated) named))) in
+    let text = text_of (at fixed.Startdate) in
+    let said : NamesStartdate text date h.day = subst (λ t. NamesStartdate text t h.day) dated has.day in
+    let same : SayTheSame text date = same-passes text date h.day said (λ m named. sound.same_day m (subst (λ t. NamesDashedDay t m) (sym dated) named)) in
     let second : Some h.clock ≡ clock_time_of (text_of (at fixed.Starttime)) = clock_time_read (Some h.clock) (text_of (at fixed.Starttime)) has.clock in
     let units = units-count has.units (subst (λ z. pos 1 ≤ℤ z) has.duration sound.some_time) in
     let some : 1 ≤ length h.signals = (let r = sound.annotations in let lt = get-within h.signals r.0 r.1 r.2 in omega (arith, lt)) in
@@ -405,7 +389,7 @@ fixed-pass file h c count =
     pass-cons version (patient ∷ recording ∷ startdate ∷ starttime ∷ []) (version-passes (at fixed.Version) (c.front fixed.Version) c.version)
     (pass-cons patient (recording ∷ startdate ∷ starttime ∷ []) (patient-passes (at fixed.Patient) (c.front fixed.Patient) ((patient_or_cause (at fixed.Patient)).1 (h.patient, has.patient)))
     (pass-cons recording (startdate ∷ starttime ∷ []) (recording-passes (at fixed.Recording) (c.front fixed.Recording) ((recording_or_cause (at fixed.Recording)).1 (h.recording, has.recording)))
-    (pass-cons startdate (starttime ∷ []) (startdate-passes date (at fixed.Startdate) (civil_day start_day) (c.front fixed.Startdate) (sym read) same)
+    (pass-cons startdate (starttime ∷ []) (startdate-passes date (at fixed.Startdate) h.day (c.front fixed.Startdate) (startdate-read text date h.day said) same)
     (pass-cons starttime [] (starttime-passes (at fixed.Starttime) h.clock (c.front fixed.Starttime) (sym second)) refl)))) in
     let goes_on : first (extent_faults front) ≡ None =
     pass-cons bytes (reserved ∷ records ∷ duration ∷ signals ∷ whole ∷ []) (header_bytes-passes (at fixed.HeaderBytes) (pos (header_bytes h)) (c.front fixed.HeaderBytes) spelled_size)

@@ -6,8 +6,7 @@ use Rattle.edf_fields.specs.declared.fault.Place.TheVariants.{AtField}
 use Rattle.edf_fields.specs.declared.fault.Cause.TheVariants.{Truncated}
 use Rattle.edf_fields.specs.declared.layout.FixedField.{FixedField}
 use Rattle.edf_fields.specs.declared.layout.FixedField.TheVariants as fixed
-use Rattle.edf_fields.specs.Layout.{fixed_from, fixed_bytes}
-use Rattle.edf_fields.specs.LayoutReading.{fixed_fields}
+use Rattle.edf_fields.specs.LayoutReading.{fixed_fields, fixed_from, fixed_bytes}
 use Rattle.edf_header.specs.Faults.{fault, truncated, fixed_missing, start_faults, extent_faults, fixed_fault}
 use Rattle.edf_header.proofs.ColumnFacts.{there, not_there}
 use Rattle.edf_header.proofs.PassedFacts.{fault_unless-passed}

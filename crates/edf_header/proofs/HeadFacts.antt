@@ -2,17 +2,16 @@
 use Rattle.std.proofs.Common.{◌≡◌, ℕ, zero, suc, ℤ, pos, ◌+◌, ◌*◌, ◌≤◌, ◌||◌, take, Bool, true, false, cond, List, [], ◌∷◌, ◌++◌, length, slice_get, unwrap_or, Option, Some, None, codes, refl, sym, ap, ◌∙◌, subst, arith, ◌<◌, ◌≤ℤ◌, ◌^◌, unsigned_abs}
 use Rattle.std.specs.Str.{bytes_eq}
 use Rattle.std.proofs.lemmas.Slice.Eq.{bytes_eq-Decides}
-use Rattle.jiff.specs.Words.{epoch_day}
 use Rattle.edf_fields.specs.Parts.{text_of, part}
 use Rattle.edf_fields.specs.Numbers.{SpellsWholeNumber, SpellsHeaderNumber}
 use Rattle.edf_fields.specs.NumbersReading.{whole_number_of, header_number_of}
 use Rattle.edf_fields.specs.Dates.{CivilDay, NamesClockTime}
-use Rattle.edf_fields.specs.DatesReading.{dotted_day_of, dashed_day_of, clock_time_of}
+use Rattle.edf_fields.specs.DatesReading.{clock_time_of}
 use Rattle.edf_fields.specs.Identifications.{Patient, Recording}
 use Rattle.edf_fields.specs.IdentificationsReading.{patient_cause, recording_cause}
-use Rattle.edf_fields.proofs.ForCallers.{dotted_day_read, clock_time_read, dotted_day-some, clock_time-some, whole_number_of-some, header_number_of-some, whole_number_of-spelled, header_number_of-spelled, header_number-below, first-none, first-cons}
+use Rattle.edf_fields.proofs.ForCallers.{clock_time_read, clock_time-some, whole_number_of-some, header_number_of-some, whole_number_of-spelled, header_number_of-spelled, header_number-below, first-none, first-cons}
 use Rattle.edf_fields.specs.declared.fault.Place.TheVariants.{AtField}
-use Rattle.edf_fields.specs.declared.fault.Cause.TheVariants.{NotEdfPlus, BadStart, StartdateDiffers, BadSubfields}
+use Rattle.edf_fields.specs.declared.fault.Cause.TheVariants.{NotEdfPlus, BadStart, BadSubfields}
 use Rattle.edf_fields.specs.declared.fault.Place.{Place}
 use Rattle.edf_fields.specs.declared.cause.FieldCause.{FieldCause}
 use Rattle.edf_header.specs.declared.kind.Kind.{Kind}
@@ -23,19 +22,19 @@ use Rattle.edf_header.specs.Calibrations.{Line}
 use Rattle.edf_fields.specs.Layout.{fixed_part, fixed_field, columns_part, signal_field}
 use Rattle.edf_fields.specs.LayoutReading.{fixed_fields, columns}
 use Rattle.edf_header.specs.Heads.{SignalHead, Head, HasSignal, HasHead, NamesStartdate, AreSideBySide, kind_word, in_picoseconds, day_number}
-use Rattle.edf_header.specs.HeadsReading.{HasOneHead, kind_of, count_of, first_day, recording_in, signals_of, line_of, signal_of, signals_from, signals_in, head_in, head_of}
+use Rattle.edf_header.specs.HeadsReading.{HasOneHead, startdate_of, kind_of, count_of, first_day, recording_in, signals_of, line_of, signal_of, signals_from, signals_in, head_in, head_of}
 use Rattle.edf_header.specs.ConformingLaws.{PassingHasHead, PassingIsSound}
 use Rattle.edf_header.specs.Sound.{IsSound}
-use Rattle.jiff_core.proofs.DateLemmas.{epoch_day_range}
 use Rattle.std.proofs.lemmas.Int.{ints}
 use Rattle.edf_header.proofs.ChannelFacts.{joint-passed}
-use Rattle.edf_header.specs.Faults.{fault, fault_unless, not_printable, not_named, not_read, not_positive, is_same_day, version_fault, patient_fault, recording_fault, startdate_fault, starttime_fault, header_bytes_fault, reserved_fault, records_fault, duration_fault, signals_fault, header_size_fault, fixed_missing, start_faults, extent_faults, fixed_tests, columns_missing, signal_faults, signals_faults, joint_faults, columns_tests, header_fault}
+use Rattle.edf_header.specs.Faults.{fault, fault_unless, not_printable, not_named, not_read, not_positive, version_fault, patient_fault, recording_fault, startdate_fault, starttime_fault, header_bytes_fault, reserved_fault, records_fault, duration_fault, signals_fault, header_size_fault, fixed_missing, start_faults, extent_faults, fixed_tests, columns_missing, signal_faults, signals_faults, joint_faults, columns_tests, header_fault}
 use Rattle.edf_fields.specs.Tests.{first}
 use Rattle.edf_header.proofs.PassedFacts.{fault_unless-passed, named-passed, positive-passed}
 use Rattle.edf_header.proofs.SaidFacts.{patient_is, recording_is}
 use Rattle.edf_header.proofs.SignalFacts.{length-signals}
 use Rattle.edf_header.proofs.SoundFacts.{Passes, signal-passes, side-by-side, signals-sound, signals-short, count-below}
-use Rattle.edf_header.proofs.KeptFacts.{patient-said, recording-said, startdate-passed, same-day}
+use Rattle.edf_header.proofs.KeptFacts.{patient-said, recording-said}
+use Rattle.edf_header.proofs.StartdateFacts.{startdate-named, startdate-said, startdate-read, same-day, near-day}
 
 -- the number that a field spells is what is read of it
 spelled : (field : List ℕ) (v : ℤ) → header_number_of field ≡ Some v → SpellsHeaderNumber field (unwrap_or (header_number_of field) (pos 0))
@@ -94,19 +93,8 @@ is-kind field Contiguous h = ap (λ xs. cond (bytes_eq xs (codes "EDF+C")) Conti
 is-kind field Interrupted h = ap (λ xs. cond (bytes_eq xs (codes "EDF+C")) Contiguous Interrupted) (sym h)
 
 -- the day and the time of the day that the fields name
-day-said : (field : List ℕ) (day : CivilDay) → dotted_day_of (text_of field) ≡ Some day → NamesStartdate (text_of field) (unwrap_or (dotted_day_of (text_of field)) first_day)
-day-said field day e = subst (λ o. NamesStartdate (text_of field) (unwrap_or o first_day)) (sym e) (dotted_day-some (text_of field) day e)
-
 clock-said : (field : List ℕ) (s : ℕ) → clock_time_of (text_of field) ≡ Some s → NamesClockTime (text_of field) (unwrap_or (clock_time_of (text_of field)) 0)
 clock-said field s e = subst (λ o. NamesClockTime (text_of field) (unwrap_or o 0)) (sym e) (clock_time-some (text_of field) s e)
-
-startdate-named : (date field : List ℕ) → startdate_fault date field ≡ None → (day : CivilDay) × (dotted_day_of (text_of field) ≡ Some day)
-unfolding startdate_fault
-startdate-named date field h =
-    let named = not_named (AtField fixed.Startdate) BadStart (dotted_day_of (text_of field)) in
-    let same = fault_unless (is_same_day (dashed_day_of date) (dotted_day_of (text_of field))) (AtField fixed.Startdate) StartdateDiffers in
-    let a = first-cons (not_printable (AtField fixed.Startdate) field) (named ∷ same ∷ []) h in
-    named-passed (AtField fixed.Startdate) BadStart (dotted_day_of (text_of field)) (first-cons named (same ∷ []) a.1).0
 
 starttime-named : (field : List ℕ) → starttime_fault field ≡ None → (s : ℕ) × (clock_time_of (text_of field) ≡ Some s)
 unfolding starttime_fault
@@ -206,7 +194,8 @@ has-head file h =
     let c0 = first-none (columns_missing columns n (length bytes)) (signals_faults bytes n 0 n ++ joint_faults (signals_in n bytes)) a.1 in
     let c1 = first-none (signals_faults bytes n 0 n) (joint_faults (signals_in n bytes)) c0.1 in
     let p = fixed-passes front a.0 in
-    let day = startdate-named (recording_in (fixed_field front fixed.Recording)).date (fixed_field front fixed.Startdate) p.startdate in
+    let date = (recording_in (fixed_field front fixed.Recording)).date in
+    let day = startdate-named date (fixed_field front fixed.Startdate) p.startdate in
     let clock = starttime-named (fixed_field front fixed.Starttime) p.starttime in
     let records = records-passed (fixed_field front fixed.Records) p.records in
     let duration = duration-passed (fixed_field front fixed.Duration) p.duration in
@@ -215,7 +204,8 @@ has-head file h =
     record {
       patient = patient-said (fixed_field front fixed.Patient) (patient-passed (fixed_field front fixed.Patient) p.patient);
       recording = recording-said (fixed_field front fixed.Recording) (recording-passed (fixed_field front fixed.Recording) p.recording);
-      day = day-said (fixed_field front fixed.Startdate) day.0 day.1;
+      day = subst (λ o. NamesStartdate (text_of (fixed_field front fixed.Startdate)) date (unwrap_or o first_day)) (sym day.0.1)
+          (startdate-said (text_of (fixed_field front fixed.Startdate)) date day.0.0 day.0.1 day.1);
       clock = clock-said (fixed_field front fixed.Starttime) clock.0 clock.1;
       kind = kind-said (fixed_field front fixed.Reserved) p.reserved;
       free = refl;
@@ -289,7 +279,8 @@ head-read file h has =
     signals-read (columns_part (length h.signals) file) (length h.signals) 0 0 h.signals
     (λ k head e. subst (λ j. HasSignal (columns_part (length h.signals) file) (length h.signals) j head) (let at : k ≡ 0 + k = omega arith in at) (has.signals k head e)) has.offsets
     ∙ ap (λ k. signals_in k (columns_part k file)) count in
-    let day : h.day ≡ t.day = day-read (text_of (fixed_field front fixed.Startdate)) h.day has.day in
+    let recorded : h.recording.date ≡ t.recording.date = ap (λ r. r.date) (recording_is (fixed_field front fixed.Recording) h.recording has.recording) in
+    let day : h.day ≡ t.day = day-read (text_of (fixed_field front fixed.Startdate)) t.recording.date h.day (subst (λ date. NamesStartdate (text_of (fixed_field front fixed.Startdate)) date h.day) recorded has.day) in
     let clock : h.clock ≡ t.clock = clock-read (text_of (fixed_field front fixed.Starttime)) h.clock has.clock in
     let duration : h.duration ≡ t.duration = has.duration ∙ ap in_picoseconds (read-number (fixed_field front fixed.Duration) has.units has.duration_spelled) in
     let made : Patient → Recording → CivilDay → ℕ → Kind → List ℕ → ℕ → ℤ → List SignalHead → Head =
@@ -304,8 +295,8 @@ head-read file h has =
     ∙ ap (λ u. made t.patient t.recording t.day t.clock t.kind t.free t.records u h.signals) duration
     ∙ ap (λ l. made t.patient t.recording t.day t.clock t.kind t.free t.records t.duration l) signals
   where
-    day-read : (text : List ℕ) (day : CivilDay) → NamesStartdate text day → day ≡ unwrap_or (dotted_day_of text) first_day
-    day-read text day named = sym (named.2) ∙ ap (λ o. unwrap_or o first_day) (dotted_day_read (Some named.0) text named.1)
+    day-read : (text date : List ℕ) (day : CivilDay) → NamesStartdate text date day → day ≡ unwrap_or (startdate_of text date) first_day
+    day-read text date day named = ap (λ o. unwrap_or o first_day) (sym (startdate-read text date day named))
 
     clock-read : (text : List ℕ) (n : ℕ) → NamesClockTime text n → n ≡ unwrap_or (clock_time_of text) 0
     clock-read text n named = ap (λ o. unwrap_or o 0) (clock_time_read (Some n) text named)
@@ -316,18 +307,7 @@ one_head file h g has has2 = head-read file h has ∙ sym (head-read file g has2
 pub passing_has_head : PassingHasHead
 passing_has_head file h = has-head file h
 
--- the bounds of a day, a time, a count and a duration that were read
-near-day : (field : List ℕ) (day : CivilDay) → dotted_day_of (text_of field) ≡ Some day → unsigned_abs (day_number (unwrap_or (dotted_day_of (text_of field)) first_day)) < 5000000
-near-day field day e =
-    let r = dotted_day-some (text_of field) day e in
-    let number : epoch_day r.0 ≡ day_number (unwrap_or (dotted_day_of (text_of field)) first_day) =
-    ap day_number (r.2 ∙ ap (λ o. unwrap_or o first_day) (sym e)) in
-    let range = epoch_day_range r.0 in
-    let low = range.0 in
-    let high = range.1 in
-    let near : unsigned_abs (epoch_day r.0) < 5000000 = omega (arith, ints, low, high) in
-    subst (λ z. unsigned_abs z < 5000000) number near
-
+-- the bounds of a time, a count and a duration that were read
 early-time : (field : List ℕ) (s : ℕ) → clock_time_of (text_of field) ≡ Some s → unwrap_or (clock_time_of (text_of field)) 0 < 86400
 early-time field s e =
     let named = clock_time-some (text_of field) s e in
@@ -369,6 +349,7 @@ sound-head file h =
     let c1 = first-none (signals_faults bytes n 0 n) (joint_faults (signals_in n bytes)) c0.1 in
     let together = joint-passed (signals_in n bytes) c1.1 in
     let p = fixed-passes front a.0 in
+    let text = text_of (fixed_field front fixed.Startdate) in
     let day = startdate-named (recording_in (fixed_field front fixed.Recording)).date (fixed_field front fixed.Startdate) p.startdate in
     let clock = starttime-named (fixed_field front fixed.Starttime) p.starttime in
     let records = records-passed (fixed_field front fixed.Records) p.records in
@@ -382,7 +363,7 @@ sound-head file h =
     let small = together.small in
     record {
       standard = record {
-        same_day = λ m named. same-day date (dotted_day_of (text_of (fixed_field front fixed.Startdate))) m (startdate-passed date (fixed_field front fixed.Startdate) p.startdate) named;
+        same_day = λ m named. same-day text date day.0.0 m day.0.1 day.1 named ∙ ap (λ o. day_number (unwrap_or o first_day)) (sym day.0.1);
         some_records = some-count (fixed_field front fixed.Records) records.0 records.1 records.2;
         some_time = some-time (fixed_field front fixed.Duration) duration.0 duration.1 duration.2;
         annotations = together.annotations;
@@ -392,7 +373,7 @@ sound-head file h =
         small_record = omega (arith, small);
       };
       bounds = record {
-        near = near-day (fixed_field front fixed.Startdate) day.0 day.1;
+        near = subst (λ o. unsigned_abs (day_number (unwrap_or o first_day)) < 5000000) (sym day.0.1) (near-day text date day.0.0 (startdate-said text date day.0.0 day.0.1 day.1));
         early = early-time (fixed_field front fixed.Starttime) clock.0 clock.1;
         few_records = few-count front 236 8 records.0 records.1;
         little_time = little-time (fixed_field front fixed.Duration) duration.0 duration.1;

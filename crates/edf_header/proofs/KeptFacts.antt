@@ -1,16 +1,11 @@
 -- What the code keeps of a header holds, where its bytes passed their tests.
-use Rattle.std.proofs.Common.{◌≡◌, ℕ, ℤ, ◌*◌, ◌≤◌, Bool, true, false, List, [], ◌∷◌, ◌++◌, length, Option, Some, None, unwrap_or, refl, sym, ap, ◌∙◌, subst}
+use Rattle.std.proofs.Common.{◌≡◌, ℕ, ℤ, ◌*◌, ◌≤◌, List, [], ◌∷◌, ◌++◌, length, None, unwrap_or, sym, ap, ◌∙◌, subst}
 use Rattle.std.specs.List.{All}
-use Rattle.std.proofs.lemmas.Bool.Decides.{Decides-int_eq}
-use Rattle.jiff.specs.Types.{Date}
 use Rattle.edf_fields.specs.Parts.{text_of}
-use Rattle.edf_fields.specs.Dates.{CivilDay, NamesDashedDay, civil_day}
-use Rattle.edf_fields.specs.DatesReading.{dotted_day_of, dashed_day_of}
+use Rattle.edf_fields.specs.Dates.{NamesDashedDay, civil_day}
 use Rattle.edf_fields.specs.Identifications.{Patient, Recording, SaysPatient, SaysRecording}
 use Rattle.edf_fields.specs.IdentificationsReading.{patient_cause, recording_cause}
-use Rattle.edf_fields.proofs.ForCallers.{dashed_day_read, patient_or_cause, recording_or_cause, first-none, first-cons}
-use Rattle.edf_fields.specs.declared.fault.Place.TheVariants.{AtField}
-use Rattle.edf_fields.specs.declared.fault.Cause.TheVariants.{BadStart, StartdateDiffers}
+use Rattle.edf_fields.proofs.ForCallers.{patient_or_cause, recording_or_cause, first-none, first-cons}
 use Rattle.edf_header.specs.declared.fixed.Start.{Start}
 use Rattle.edf_header.specs.declared.fixed.Extent.{Extent}
 use Rattle.edf_fields.specs.declared.layout.FixedField.TheVariants as fixed
@@ -22,9 +17,9 @@ use Rattle.edf_header.specs.Judged.{SaysStart, SaysExtent}
 use Rattle.edf_header.specs.Sound.{HasShortNumbers}
 use Rattle.edf_header.specs.Standard.{IsSoundSignal}
 use Rattle.edf_header.specs.Views.{IsKept}
-use Rattle.edf_header.specs.Faults.{fault_unless, not_printable, not_named, is_same_day, version_fault, patient_fault, recording_fault, startdate_fault, starttime_fault, fixed_missing, start_faults, extent_faults, fixed_fault, columns_missing, signals_faults, joint_faults, columns_tests}
+use Rattle.edf_header.specs.Faults.{version_fault, patient_fault, recording_fault, startdate_fault, starttime_fault, fixed_missing, start_faults, extent_faults, fixed_fault, columns_missing, signals_faults, joint_faults, columns_tests}
 use Rattle.edf_fields.specs.Tests.{first}
-use Rattle.edf_header.proofs.PassedFacts.{fault_unless-passed}
+use Rattle.edf_header.proofs.StartdateFacts.{startdate-named, same-day}
 use Rattle.edf_header.proofs.SaidFacts.{patient_is, recording_is}
 use Rattle.edf_header.proofs.SignalFacts.{length-signals}
 use Rattle.edf_header.proofs.SoundFacts.{side-by-side, signals-sound, signals-short}
@@ -39,26 +34,6 @@ pub recording-said : (field : List ℕ) → recording_cause field ≡ None → S
 recording-said field h =
     let r = (recording_or_cause field).0 h in
     subst (λ (p : Recording). SaysRecording field p) (recording_is field r.0 r.1) r.1
-
--- the startdate is named, and it is the recording date
-pub startdate-passed : (date field : List ℕ) → startdate_fault date field ≡ None → is_same_day (dashed_day_of date) (dotted_day_of (text_of field)) ≡ true
-unfolding startdate_fault
-startdate-passed date field h =
-    let named = not_named (AtField fixed.Startdate) BadStart (dotted_day_of (text_of field)) in
-    let same : Bool = is_same_day (dashed_day_of date) (dotted_day_of (text_of field)) in
-    let a = first-cons (not_printable (AtField fixed.Startdate) field) (named ∷ fault_unless same (AtField fixed.Startdate) StartdateDiffers ∷ []) h in
-    let b = first-cons named (fault_unless same (AtField fixed.Startdate) StartdateDiffers ∷ []) a.1 in
-    fault_unless-passed same (AtField fixed.Startdate) StartdateDiffers (first-cons (fault_unless same (AtField fixed.Startdate) StartdateDiffers) [] b.1).0
-
-same-number : (recorded : CivilDay) (o : Option CivilDay) → is_same_day (Some recorded) o ≡ true → day_number recorded ≡ day_number (unwrap_or o first_day)
-same-number recorded None h = absurd (let e : false ≡ true = h in cc)
-same-number recorded (Some day) h = (Decides-int_eq (day_number recorded) (day_number day)).0 h
-
-pub same-day : (date : List ℕ) (o : Option CivilDay) (n : ℤ) → is_same_day (dashed_day_of date) o ≡ true → NamesDashedDay date n → n ≡ day_number (unwrap_or o first_day)
-same-day date o n h named =
-    let day : Date = (named.1).0 in
-    let read : Some (civil_day day) ≡ dashed_day_of date = dashed_day_read (Some day) date (named.0, (day, (named.1).1, refl)) in
-    (named.1).2 ∙ same-number (civil_day day) o (ap (λ r. is_same_day r o) read ∙ h)
 
 -- the test of the startdate among those of the fields up to the starttime
 startdate-of : (front : List ℕ) → fixed_fault front ≡ None → startdate_fault (recording_in (fixed_field front fixed.Recording)).date (fixed_field front fixed.Startdate) ≡ None
@@ -88,8 +63,10 @@ kept front bytes start extent signals size long s x passed columns-passed e tota
     let patient = patient-said (fixed_field front fixed.Patient) s.patient in
     let recording = recording-said (fixed_field front fixed.Recording) s.recording in
     let date = (recording_in (fixed_field front fixed.Recording)).date in
+    let text = text_of (fixed_field front fixed.Startdate) in
+    let start_day = startdate-named date (fixed_field front fixed.Startdate) (startdate-of front passed) in
     let same : (m : ℤ) → NamesDashedDay date m → m ≡ day_number (civil_day start.date) =
-    λ m named. same-day date (dotted_day_of (text_of (fixed_field front fixed.Startdate))) m (startdate-passed date (fixed_field front fixed.Startdate) (startdate-of front passed)) named ∙ ap day_number s.day in
+    λ m named. same-day text date start_day.0.0 m start_day.0.1 start_day.1 named ∙ ap (λ o. day_number (unwrap_or o first_day)) (sym start_day.0.1) ∙ ap day_number s.day in
     let long-signals : length signals ≡ n = ap length e ∙ length-signals bytes n 0 0 n in
     let each : All IsSoundSignal signals = subst (All IsSoundSignal) (sym e) (signals-sound bytes n 0 0 n c1.0) in
     let short : All HasShortNumbers signals = subst (All HasShortNumbers) (sym e) (signals-short bytes n 0 0 n c1.0) in

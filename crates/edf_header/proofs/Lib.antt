@@ -18,6 +18,7 @@ pub mod RepeatFacts
 pub mod SaidFacts
 pub mod SignalFacts
 pub mod SoundFacts
+pub mod StartdateFacts
 pub mod TextFacts
 pub mod TextSameFacts
 pub mod TogetherFacts

@@ -9,7 +9,7 @@ use Rattle.std.proofs.lemmas.Slice.Eq.{bytes_eq-Decides}
 use Rattle.edf_fields.specs.Parts.{text_of}
 use Rattle.edf_fields.specs.NumbersReading.{whole_number_of, header_number_of}
 use Rattle.edf_fields.specs.Dates.{CivilDay}
-use Rattle.edf_fields.specs.DatesReading.{dotted_day_of, dashed_day_of, clock_time_of}
+use Rattle.edf_fields.specs.DatesReading.{dotted_day_of, day_month_of, dashed_day_of, clock_time_of}
 use Rattle.edf_fields.specs.IdentificationsReading.{patient_cause, recording_cause}
 use Rattle.edf_fields.specs.Printable.{IsPrintable}
 use Rattle.edf_fields.specs.PrintableReading.{is_printable}
@@ -26,10 +26,11 @@ use Rattle.edf_fields.specs.declared.layout.SignalField.TheVariants as signal
 use Rattle.edf_header.specs.Calibrations.{Line}
 use Rattle.edf_fields.specs.Layout.{signal_field}
 use Rattle.edf_header.specs.Heads.{SignalHead, HasSignal, kind_word, is_annotations}
-use Rattle.edf_header.specs.HeadsReading.{line_of, signal_of, signals_from}
-use Rattle.edf_header.specs.Faults.{fault_unless, not_printable, no_number, not_within, not_positive, not_named, not_read, is_same_day, version_fault, patient_fault, recording_fault, startdate_fault, starttime_fault, header_bytes_fault, reserved_fault, records_fault, duration_fault, signals_fault, header_size_fault, text_fault, physical_fault, digital_fault, samples_fault, digital_order_fault, physical_differ_fault, annotation_fault, naming_faults, extreme_faults, sampling_faults, agreement_faults, signal_faults, signals_faults}
+use Rattle.edf_header.specs.HeadsReading.{startdate_of, line_of, signal_of, signals_from}
+use Rattle.edf_header.specs.Faults.{fault_unless, not_printable, no_number, not_within, not_positive, not_named, not_read, is_same_start, start_tests, version_fault, patient_fault, recording_fault, startdate_fault, starttime_fault, header_bytes_fault, reserved_fault, records_fault, duration_fault, signals_fault, header_size_fault, text_fault, physical_fault, digital_fault, samples_fault, digital_order_fault, physical_differ_fault, annotation_fault, naming_faults, extreme_faults, sampling_faults, agreement_faults, signal_faults, signals_faults}
 use Rattle.edf_fields.specs.Tests.{first}
 use Rattle.edf_header.specs.Standard.{IsSoundSignal}
+use Rattle.edf_header.proofs.StartdateFacts.{SayTheSame}
 
 pub fault_unless-true : (b : Bool) (place : Place) (cause : Cause) → b ≡ true → fault_unless b place cause ≡ None
 fault_unless-true true place cause h = refl
@@ -65,15 +66,14 @@ recording-passes field p e =
     pass-cons (not_printable (AtField fixed.Recording) field) (test ∷ []) (printable-passes (AtField fixed.Recording) field p)
     (pass-cons test [] (ap (not_read (AtField fixed.Recording)) e) refl)
 
-pub startdate-passes : (date field : List ℕ) (day : CivilDay) → IsPrintable field → dotted_day_of (text_of field) ≡ Some day
-    → is_same_day (dashed_day_of date) (dotted_day_of (text_of field)) ≡ true → startdate_fault date field ≡ None
+pub startdate-passes : (recorded field : List ℕ) (day : CivilDay) → IsPrintable field → startdate_of (text_of field) recorded ≡ Some day → SayTheSame (text_of field) recorded → startdate_fault recorded field ≡ None
 unfolding startdate_fault
-startdate-passes date field day p e same =
-    let named = not_named (AtField fixed.Startdate) BadStart (dotted_day_of (text_of field)) in
-    let test = fault_unless (is_same_day (dashed_day_of date) (dotted_day_of (text_of field))) (AtField fixed.Startdate) StartdateDiffers in
-    pass-cons (not_printable (AtField fixed.Startdate) field) (named ∷ test ∷ []) (printable-passes (AtField fixed.Startdate) field p)
-    (pass-cons named (test ∷ []) (ap (not_named (AtField fixed.Startdate) BadStart) e)
-    (pass-cons test [] (fault_unless-true (is_same_day (dashed_day_of date) (dotted_day_of (text_of field))) (AtField fixed.Startdate) StartdateDiffers same) refl))
+startdate-passes recorded field day p e same =
+    let is : Bool = is_same_start (day_month_of (text_of field)) (dotted_day_of (text_of field)) (dashed_day_of recorded) in
+    let test = fault_unless is (AtField fixed.Startdate) StartdateDiffers in
+    pass-cons (not_printable (AtField fixed.Startdate) field) (start_tests (startdate_of (text_of field) recorded) is) (printable-passes (AtField fixed.Startdate) field p)
+    (pass-cons (not_named (AtField fixed.Startdate) BadStart (startdate_of (text_of field) recorded)) (test ∷ []) (ap (not_named (AtField fixed.Startdate) BadStart) e)
+    (pass-cons test [] (fault_unless-true is (AtField fixed.Startdate) StartdateDiffers same) refl))
 
 pub starttime-passes : (field : List ℕ) (second : ℕ) → IsPrintable field → clock_time_of (text_of field) ≡ Some second → starttime_fault field ≡ None
 unfolding starttime_fault

@@ -7,8 +7,7 @@ use Rattle.edf_fields.specs.declared.fault.Place.TheVariants.{AtSignal}
 use Rattle.edf_fields.specs.declared.fault.Cause.TheVariants.{Truncated}
 use Rattle.edf_fields.specs.declared.layout.SignalField.{SignalField}
 use Rattle.edf_fields.specs.declared.layout.SignalField.TheVariants as signal
-use Rattle.edf_fields.specs.Layout.{column_before, column_width}
-use Rattle.edf_fields.specs.LayoutReading.{next_before, AreAdjacent}
+use Rattle.edf_fields.specs.LayoutReading.{next_before, AreAdjacent, column_before, column_width}
 use Rattle.edf_header.specs.Faults.{fault, columns_missing}
 use Rattle.edf_header.specs.Narrow.{WideColumn, all_bytes, AreColumns}
 use Rattle.edf_header.proofs.ColumnFacts.{Stands, stands-next, missing-at}

@@ -14,7 +14,8 @@ use Rattle.edf_fields.specs.declared.layout.SignalField.TheVariants as signal
 use Rattle.edf_fields.specs.declared.fault.Place.TheVariants.{AtSignal}
 use Rattle.edf_fields.specs.declared.fault.Cause.TheVariants.{BadRange, BadAnnotationSignal}
 use Rattle.edf_header.specs.Calibrations.{Line}
-use Rattle.edf_fields.specs.Layout.{column_before, signal_field}
+use Rattle.edf_fields.specs.Layout.{signal_field}
+use Rattle.edf_fields.specs.LayoutReading.{column_before}
 use Rattle.edf_header.specs.Heads.{AreSideBySide, is_annotations}
 use Rattle.edf_header.specs.HeadsReading.{line_of, signal_of, signals_from}
 use Rattle.edf_header.specs.Faults.{text_fault, physical_fault, digital_fault, samples_fault, digital_order_fault, physical_differ_fault, annotation_fault, naming_faults, extreme_faults, sampling_faults, agreement_faults, signal_faults, signals_faults}

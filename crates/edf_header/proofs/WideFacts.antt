@@ -7,8 +7,8 @@ use Rattle.edf_fields.specs.Tests.{first}
 use Rattle.edf_fields.proofs.ForCallers.{first-passed, part-append}
 use Rattle.edf_fields.specs.declared.layout.SignalField.{SignalField}
 use Rattle.edf_fields.specs.declared.layout.SignalField.TheVariants as signal
-use Rattle.edf_fields.specs.Layout.{column_before, column_width, signal_field}
-use Rattle.edf_fields.specs.LayoutReading.{columns, next_before, AreAdjacent}
+use Rattle.edf_fields.specs.Layout.{signal_field}
+use Rattle.edf_fields.specs.LayoutReading.{columns, next_before, AreAdjacent, column_before, column_width}
 use Rattle.edf_header.specs.Faults.{column_missing, columns_missing}
 use Rattle.edf_header.specs.Narrow.{WideColumn, all_bytes, AreColumns}
 use Rattle.edf_header.proofs.ColumnFacts.{column-whole, columns-adjacent, columns-begin}

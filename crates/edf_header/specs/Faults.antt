@@ -1,5 +1,5 @@
 -- The tests that a header has to pass, in their written order, and the first that fails. A test is asked only where those before it pass.
-use Rattle.std.specs.Prelude.{ℕ, zero, suc, ℤ, pos, neg_ℤ, ◌+◌, ◌*◌, nat_le, int_le, int_lt, ◌&&◌, ◌||◌, not, List, [], ◌∷◌, ◌++◌, length, take, Bool, true, false, Option, Some, None, unwrap_or, codes}
+use Rattle.std.specs.Prelude.{ℕ, zero, suc, ℤ, pos, neg_ℤ, ◌+◌, ◌*◌, ◌==◌, nat_le, int_le, int_lt, ◌&&◌, ◌||◌, not, List, [], ◌∷◌, ◌++◌, length, take, Bool, true, false, Option, Some, None, unwrap_or, codes}
 use Rattle.std.specs.List.{list_any, list_all}
 use Rattle.std.specs.Ordering.{int_eq}
 use Rattle.std.specs.Str.{bytes_eq}
@@ -7,7 +7,7 @@ use Rattle.edf_fields.specs.declared.cause.FieldCause.{FieldCause}
 use Rattle.edf_fields.specs.Parts.{text_of}
 use Rattle.edf_fields.specs.NumbersReading.{whole_number_of, header_number_of}
 use Rattle.edf_fields.specs.Dates.{CivilDay}
-use Rattle.edf_fields.specs.DatesReading.{dotted_day_of, dashed_day_of, clock_time_of}
+use Rattle.edf_fields.specs.DatesReading.{dotted_day_of, day_month_of, dashed_day_of, clock_time_of}
 use Rattle.edf_fields.specs.IdentificationsReading.{patient_cause, recording_cause}
 use Rattle.edf_fields.specs.PrintableReading.{is_printable}
 use Rattle.edf_fields.specs.Tests.{first, unless}
@@ -22,10 +22,10 @@ use Rattle.edf_fields.specs.declared.layout.SignalField.{SignalField}
 use Rattle.edf_fields.specs.declared.layout.SignalField.TheVariants as signal
 use Rattle.edf_header.specs.Calibrations.{Line}
 use Rattle.edf_header.specs.ChannelsReading.{is_repeated}
-use Rattle.edf_fields.specs.Layout.{fixed_from, fixed_bytes, fixed_part, fixed_field, column_before, column_width, columns_part, signal_field}
-use Rattle.edf_fields.specs.LayoutReading.{fixed_fields, columns}
+use Rattle.edf_fields.specs.Layout.{fixed_part, fixed_field, columns_part, signal_field}
+use Rattle.edf_fields.specs.LayoutReading.{fixed_fields, columns, fixed_from, fixed_bytes, column_before, column_width}
 use Rattle.edf_header.specs.Heads.{SignalHead, day_number, is_annotations, samples_together}
-use Rattle.edf_header.specs.HeadsReading.{recording_in, signals_of, line_of, signals_in}
+use Rattle.edf_header.specs.HeadsReading.{startdate_of, recording_in, signals_of, line_of, signals_in}
 
 -- a test that found this
 abbrev pub fault : Place → Cause → Option Fault
@@ -91,13 +91,27 @@ is_same_day None day = true
 is_same_day (Some recorded) None = false
 is_same_day (Some recorded) (Some day) = int_eq (day_number recorded) (day_number day)
 
--- the startdate names a day, and the recording date, where it isn't X, the same one
+-- there is a day, and it has this day of the month and this month
+abbrev pub has_day_month : ℕ × ℕ → Option CivilDay → Bool
+has_day_month said None = false
+has_day_month said (Some day) = (day.day == said.0) && (day.month == said.1)
+
+-- the startdate says the same as the recording date: the day of the month and the month, where it has no year, and else the day
+abbrev pub is_same_start : Option (ℕ × ℕ) → Option CivilDay → Option CivilDay → Bool
+is_same_start None dotted recorded = is_same_day recorded dotted
+is_same_start (Some said) dotted recorded = has_day_month said recorded
+
+-- the tests of a startdate that says this day, and of whether the recording date says the same
+abbrev pub start_tests : Option CivilDay → Bool → List (Option Fault)
+start_tests day same =
+    not_named (AtField fixed.Startdate) BadStart day ∷ fault_unless same (AtField fixed.Startdate) StartdateDiffers ∷ []
+
+-- the startdate says a day, and the recording date, where it isn't X, the same one
 unfoldable pub startdate_fault : List ℕ → List ℕ → Option Fault
-startdate_fault date field =
+startdate_fault recorded field =
+    let text = text_of field in
     first (not_printable (AtField fixed.Startdate) field
-    ∷ not_named (AtField fixed.Startdate) BadStart (dotted_day_of (text_of field))
-    ∷ fault_unless (is_same_day (dashed_day_of date) (dotted_day_of (text_of field))) (AtField fixed.Startdate) StartdateDiffers
-    ∷ [])
+    ∷ start_tests (startdate_of text recorded) (is_same_start (day_month_of text) (dotted_day_of text) (dashed_day_of recorded)))
 
 -- the starttime names a time of the day
 unfoldable pub starttime_fault : List ℕ → Option Fault

@@ -1,12 +1,12 @@
 -- What a header says (EDF, "Header record"; EDF+, "The EDF+ header").
-use Rattle.std.specs.Prelude.{◌≡◌, ℕ, ℤ, pos, ◌+◌, ◌*◌, ◌+ℤ◌, ◌*ℤ◌, Bool, List, [], ◌∷◌, length, drop, take, Some, slice_get, codes}
+use Rattle.std.specs.Prelude.{◌≡◌, ℕ, ℤ, pos, ◌+◌, ◌*◌, ◌+ℤ◌, ◌*ℤ◌, ◌≤ℤ◌, ◌⊎◌, Bool, List, [], ◌∷◌, length, drop, take, Some, slice_get, codes}
 use Rattle.std.specs.Str.{bytes_eq}
 use Rattle.jiff.specs.Types.{Date}
 use Rattle.jiff.specs.Words.{epoch_day}
 use Rattle.jiff_core.specs.Calendar.{days_from_civil}
 use Rattle.edf_fields.specs.Parts.{text_of}
 use Rattle.edf_fields.specs.Numbers.{SpellsWholeNumber, SpellsHeaderNumber}
-use Rattle.edf_fields.specs.Dates.{CivilDay, civil_day, NamesDottedDay, NamesClockTime}
+use Rattle.edf_fields.specs.Dates.{CivilDay, civil_day, NamesDottedDay, NamesDayMonth, NamesDashedDay, NamesClockTime}
 use Rattle.edf_fields.specs.Identifications.{Patient, Recording, SaysPatient, SaysRecording}
 use Rattle.edf_header.specs.declared.kind.Kind.{Kind}
 use Rattle.edf_header.specs.declared.kind.Kind.TheVariants.{Contiguous, Interrupted}
@@ -47,9 +47,12 @@ day_number day = days_from_civil day.year day.month day.day
 abbrev pub start_second : Head → ℤ
 start_second h = (pos 86400 *ℤ day_number h.day) +ℤ pos h.clock
 
--- the text is dd.mm.yy and names this day, which the calendar has
-abbrev pub NamesStartdate : List ℕ → CivilDay → Type 0
-NamesStartdate text day = (date : Date) × NamesDottedDay text (epoch_day date) × (civil_day date ≡ day)
+-- the startdate says this day of the calendar: by itself where it has a year, and else with the recording date, after 2084 (EDF+, "Additional specifications in EDF+")
+abbrev pub NamesStartdate : List ℕ → List ℕ → CivilDay → Type 0
+NamesStartdate text recorded day =
+    (date : Date) × (civil_day date ≡ day)
+    × (NamesDottedDay text (epoch_day date)
+    ⊎ (NamesDayMonth text day.day day.month × NamesDashedDay recorded (epoch_day date) × (pos 2085 ≤ℤ day.year)))
 
 -- the reserved field begins with the word of this kind (EDF+, "The EDF+ header")
 abbrev pub kind_word : Kind → List ℕ
@@ -82,7 +85,7 @@ AreSideBySide before (head ∷ heads) = (head.offset ≡ before) × AreSideBySid
 pub record HasHead (file : List ℕ) (h : Head) : Type 0 where
   pub patient : SaysPatient (fixed_field (fixed_part file) fixed.Patient) h.patient
   pub recording : SaysRecording (fixed_field (fixed_part file) fixed.Recording) h.recording
-  pub day : NamesStartdate (text_of (fixed_field (fixed_part file) fixed.Startdate)) h.day
+  pub day : NamesStartdate (text_of (fixed_field (fixed_part file) fixed.Startdate)) h.recording.date h.day
   pub clock : NamesClockTime (text_of (fixed_field (fixed_part file) fixed.Starttime)) h.clock
   pub kind : take 5 (fixed_field (fixed_part file) fixed.Reserved) ≡ kind_word h.kind
   pub free : h.free ≡ text_of (drop 5 (fixed_field (fixed_part file) fixed.Reserved))

@@ -1,10 +1,10 @@
 -- The header of a file, as it is read.
-use Rattle.std.specs.Prelude.{◌≡◌, ℕ, zero, suc, ℤ, pos, negsuc, ◌+◌, ◌*◌, List, [], ◌∷◌, drop, take, Option, Some, None, unwrap_or, codes, if◌then◌else◌}
+use Rattle.std.specs.Prelude.{◌≡◌, ℕ, zero, suc, ℤ, pos, negsuc, int_le, ◌+◌, ◌*◌, List, [], ◌∷◌, drop, take, Option, Some, None, unwrap_or, codes, if◌then◌else◌}
 use Rattle.std.specs.Str.{bytes_eq}
 use Rattle.edf_fields.specs.Parts.{text_of}
 use Rattle.edf_fields.specs.NumbersReading.{whole_number_of, header_number_of}
 use Rattle.edf_fields.specs.Dates.{CivilDay}
-use Rattle.edf_fields.specs.DatesReading.{dotted_day_of, clock_time_of}
+use Rattle.edf_fields.specs.DatesReading.{dotted_day_of, day_month_of, dashed_day_of, clock_time_of}
 use Rattle.edf_fields.specs.SubfieldsReading.{subfields_of}
 use Rattle.edf_fields.specs.Identifications.{Patient, Recording}
 use Rattle.edf_fields.specs.IdentificationsReading.{subfield}
@@ -21,6 +21,20 @@ abbrev pub count_of : Option ℤ → ℕ
 count_of None = 0
 count_of (Some (pos n)) = n
 count_of (Some (negsuc n)) = 0
+
+-- the day of a startdate without a year: the recording date, after 2084
+abbrev pub late_day : Option CivilDay → Option CivilDay
+late_day None = None
+late_day (Some recorded) = if int_le (pos 2085) recorded.year then Some recorded else None
+
+-- the day of a startdate: the recording date where it has no year, and else its own
+abbrev pub day_by : Option (ℕ × ℕ) → Option CivilDay → Option CivilDay → Option CivilDay
+day_by None dotted recorded = dotted
+day_by (Some said) dotted recorded = late_day recorded
+
+-- the day of a startdate, or none; whether the recording date has the same day and month is another test
+abbrev pub startdate_of : List ℕ → List ℕ → Option CivilDay
+startdate_of text recorded = day_by (day_month_of text) (dotted_day_of text) (dashed_day_of recorded)
 
 -- the day that counts where a text names none: 1970-01-01
 abbrev pub first_day : CivilDay
@@ -84,7 +98,7 @@ abbrev pub head_in : List ℕ → List ℕ → Head
 head_in front bytes = record {
   patient = patient_in (fixed_field front fixed.Patient);
   recording = recording_in (fixed_field front fixed.Recording);
-  day = unwrap_or (dotted_day_of (text_of (fixed_field front fixed.Startdate))) first_day;
+  day = unwrap_or (startdate_of (text_of (fixed_field front fixed.Startdate)) (recording_in (fixed_field front fixed.Recording)).date) first_day;
   clock = unwrap_or (clock_time_of (text_of (fixed_field front fixed.Starttime))) 0;
   kind = kind_of (fixed_field front fixed.Reserved);
   free = text_of (drop 5 (fixed_field front fixed.Reserved));

@@ -4,20 +4,20 @@ use Rattle.jiff.specs.Words.{epoch_day}
 use Rattle.edf_fields.specs.Parts.{text_of}
 use Rattle.edf_fields.specs.NumbersReading.{whole_number_of, header_number_of}
 use Rattle.edf_fields.specs.Dates.{civil_day}
-use Rattle.edf_fields.specs.DatesReading.{dotted_day_of, clock_time_of}
+use Rattle.edf_fields.specs.DatesReading.{clock_time_of}
 use Rattle.edf_fields.specs.IdentificationsReading.{patient_cause, recording_cause}
 use Rattle.edf_header.specs.declared.fixed.Start.{Start}
 use Rattle.edf_header.specs.declared.fixed.Extent.{Extent}
 use Rattle.edf_fields.specs.declared.layout.FixedField.TheVariants as fixed
 use Rattle.edf_fields.specs.Layout.{fixed_field}
 use Rattle.edf_header.specs.Heads.{in_picoseconds}
-use Rattle.edf_header.specs.HeadsReading.{first_day, kind_of, count_of, signals_of}
+use Rattle.edf_header.specs.HeadsReading.{startdate_of, first_day, recording_in, kind_of, count_of, signals_of}
 
 -- the fields up to the starttime say this
 pub record SaysStart (front : List ℕ) (v : Start) : Type 0 where
   pub patient : patient_cause (fixed_field front fixed.Patient) ≡ None
   pub recording : recording_cause (fixed_field front fixed.Recording) ≡ None
-  pub day : unwrap_or (dotted_day_of (text_of (fixed_field front fixed.Startdate))) first_day ≡ civil_day v.date
+  pub day : unwrap_or (startdate_of (text_of (fixed_field front fixed.Startdate)) (recording_in (fixed_field front fixed.Recording)).date) first_day ≡ civil_day v.date
   pub days : v.days ≡ epoch_day v.date
   pub near : unsigned_abs (epoch_day v.date) < 5000000
   pub clock : unwrap_or (clock_time_of (text_of (fixed_field front fixed.Starttime))) 0 ≡ v.clock

@@ -6,7 +6,7 @@ ghost use Rattle.jiff.specs.Words.{epoch_day};
 ghost use Rattle.edf_fields.specs.Parts.{text_of};
 ghost use Rattle.edf_fields.specs.NumbersReading.{whole_number_of, header_number_of};
 ghost use Rattle.edf_fields.specs.Dates.{civil_day};
-ghost use Rattle.edf_fields.specs.DatesReading.{dotted_day_of, clock_time_of};
+ghost use Rattle.edf_fields.specs.DatesReading.{clock_time_of};
 ghost use Rattle.edf_fields.specs.IdentificationsReading.{patient_cause, recording_cause, recording_of};
 ghost use Rattle.edf_fields.specs.declared.fault.Place.TheVariants.{AtField};
 ghost use Rattle.edf_fields.specs.declared.fault.Cause.TheVariants.{Truncated};

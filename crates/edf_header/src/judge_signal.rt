@@ -8,7 +8,7 @@ ghost use Rattle.edf_header.specs.Extremes.{extremes_line};
 ghost use Rattle.edf_header.specs.Faults.{text_fault, physical_fault, digital_fault, samples_fault, digital_order_fault, physical_differ_fault, annotation_fault, naming_faults, extreme_faults, sampling_faults, agreement_faults, signal_faults};
 ghost use Rattle.edf_fields.specs.Tests.{first};
 ghost use Rattle.edf_header.specs.HeadsReading.{line_of, signal_of};
-ghost use Rattle.edf_fields.specs.Layout.{column_width};
+ghost use Rattle.edf_fields.specs.LayoutReading.{column_width};
 ghost use Rattle.edf_header.specs.Narrow.{SaysTheSame};
 ghost use Rattle.edf_header.specs.Stops.{Stops};
 

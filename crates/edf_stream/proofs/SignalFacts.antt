@@ -9,8 +9,8 @@ use Rattle.edf_tal.specs.Views.{start_of}
 use Rattle.edf_header.specs.Heads.{SignalHead, Head, AreSideBySide, samples_together, record_bytes, is_annotations}
 use Rattle.edf_header.specs.Lanes.{place_of, annotation_places}
 use Rattle.edf_header.specs.Sound.{IsSound}
-use Rattle.edf_stream.specs.Records.{lane_of, lane_in, annotation_lanes}
-use Rattle.edf_stream.specs.RecordsReading.{lane_bytes}
+use Rattle.edf_stream.specs.Records.{lane_of, annotation_lanes}
+use Rattle.edf_stream.specs.RecordsReading.{lane_bytes, lane_in}
 use Rattle.edf_stream.specs.Faults.{cause_of}
 use Rattle.edf_stream.specs.NotesReading.{notes_of_items}
 use Rattle.edf_stream.specs.Views.{placed_lane, placed_lanes, IsTimedAlone}

@@ -20,17 +20,13 @@ lane_of signal bytes = part bytes signal.offset (2 * signal.samples)
 abbrev pub numbered_lane : List SignalHead → List ℕ → ℕ → List ℕ
 numbered_lane signals bytes s = option_map_or (λ signal. lane_of signal bytes) (slice_get signals s) []
 
--- the lane of signal s in the bytes of a data record
-abbrev pub lane_in : Head → List ℕ → ℕ → List ℕ
-lane_in h bytes s = numbered_lane h.signals bytes s
-
 -- how many samples signal s has in a data record
 abbrev pub samples_at : Head → ℕ → ℕ
 samples_at h s = option_map_or (λ signal. signal.samples) (slice_get h.signals s) 0
 
 -- the lane of signal s in data record k
 abbrev pub lane_at : List ℕ → Head → ℕ → ℕ → List ℕ
-lane_at file h k s = lane_in h (record_at file h k) s
+lane_at file h k s = numbered_lane h.signals (record_at file h k) s
 
 -- the lanes of those of the signals that hold annotations, in their order. EDF+ (2003), "The 'EDF Annotations' signal"
 abbrev pub annotation_lanes : List SignalHead → List ℕ → List (List ℕ)

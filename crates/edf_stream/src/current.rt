@@ -2,8 +2,8 @@
 
 ghost use Rattle.std.specs.Prelude.{◌≡◌, ◌<◌, ◌^◌, ◌+ℤ◌, IsTrue, length, unsigned_abs};
 ghost use Rattle.edf_stream.specs.Readers.{is_current};
-ghost use Rattle.edf_stream.specs.Records.{lane_in, samples_at};
-ghost use Rattle.edf_stream.specs.RecordsReading.{lane_bytes};
+ghost use Rattle.edf_stream.specs.Records.{samples_at};
+ghost use Rattle.edf_stream.specs.RecordsReading.{lane_bytes, lane_in};
 ghost use Rattle.edf_stream.specs.NotesReading.{notes_in};
 ghost use Rattle.edf_stream.specs.StartsReading.{start_in};
 ghost use Rattle.edf_stream.specs.Values.{digital_value};

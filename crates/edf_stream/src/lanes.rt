@@ -4,8 +4,8 @@ ghost use Rattle.std.specs.Prelude.{◌≡◌, ◌+◌, ◌-◌, ◌*◌, ◌≤
 ghost use Rattle.edf_header.specs.Heads.{record_bytes};
 ghost use Rattle.edf_tal.specs.Views.{tal_view, items_left, start_of};
 ghost use Rattle.edf_tal.specs.Reading.{items_of};
-ghost use Rattle.edf_stream.specs.Records.{lane_of as lane_of_signal, numbered_lane, lane_in, annotation_lanes};
-ghost use Rattle.edf_stream.specs.RecordsReading.{lane_bytes};
+ghost use Rattle.edf_stream.specs.Records.{lane_of as lane_of_signal, numbered_lane, annotation_lanes};
+ghost use Rattle.edf_stream.specs.RecordsReading.{lane_bytes, lane_in};
 ghost use Rattle.edf_stream.specs.Keeping.{behind_time};
 ghost use Rattle.edf_stream.specs.Notes.{notes_of_tal};
 ghost use Rattle.edf_stream.specs.NotesReading.{notes_of_items, notes_of_lane, notes_of_lanes};

@@ -1,12 +1,14 @@
 //! The header of the reference file and of some others, value by value.
 
 use edf_fields::fault::Place::{AtField, AtSignal};
+use edf_fields::fault::{Cause, Fault};
 use edf_fields::identification::{PatientId, RecordingId};
 use edf_fields::layout::{FixedField as Fixed, SignalField as Field};
 use edf_fields::source::SliceSource;
 use edf_header::header::Header;
 use edf_header::kind::Kind;
 use edf_header::signal::Signal;
+use edf_header::stop::Stop;
 use edf_test_files::file::{Edit, edited};
 use std::alloc::Global;
 use std::process::Abort;
@@ -35,6 +37,147 @@ fn says_when_it_starts_and_how_its_records_lie(rt: HostRuntime) -> Result<(), Fa
         (1_000_000_000_000, 52)
     );
     assert!(rt; header.free().is_empty());
+    Ok(())
+}
+
+/// A startdate and a recording identification, and the start at 22:00:00: year, month, day and the second since 1970;
+/// or what is wrong with the startdate.
+type StartRow = (
+    &'static str,
+    &'static str,
+    Result<(i16, i8, i8, i64), Cause>,
+);
+
+const STARTS: &[StartRow] = &[
+    (
+        "31.12.yy",
+        "Startdate 31-DEC-2099 X X X",
+        Ok((2099, 12, 31, 4_102_437_600)),
+    ),
+    (
+        "01.01.yy",
+        "Startdate 01-JAN-2085 X X X",
+        Ok((2085, 1, 1, 3_629_224_800)),
+    ),
+    (
+        "31.12.yy",
+        "Startdate 31-DEC-9999 X X X",
+        Ok((9999, 12, 31, 253_402_293_600)),
+    ),
+    (
+        "29.02.yy",
+        "Startdate 29-FEB-2096 X X X",
+        Ok((2096, 2, 29, 3_981_391_200)),
+    ),
+    (
+        "31.12.84",
+        "Startdate 31-DEC-2084 X X X",
+        Ok((2084, 12, 31, 3_629_138_400)),
+    ),
+    (
+        "31.12.84",
+        "Startdate X X X X",
+        Ok((2084, 12, 31, 3_629_138_400)),
+    ),
+    (
+        "31.12.yy",
+        "Startdate 31-DEC-2084 X X X",
+        Err(Cause::BadStart),
+    ),
+    (
+        "31.12.yy",
+        "Startdate 31-DEC-1999 X X X",
+        Err(Cause::BadStart),
+    ),
+    ("31.12.yy", "Startdate X X X X", Err(Cause::BadStart)),
+    (
+        "00.12.yy",
+        "Startdate 31-DEC-2099 X X X",
+        Err(Cause::BadStart),
+    ),
+    (
+        "32.12.yy",
+        "Startdate 31-DEC-2099 X X X",
+        Err(Cause::BadStart),
+    ),
+    (
+        "31.00.yy",
+        "Startdate 31-DEC-2099 X X X",
+        Err(Cause::BadStart),
+    ),
+    (
+        "31.13.yy",
+        "Startdate 31-DEC-2099 X X X",
+        Err(Cause::BadStart),
+    ),
+    (
+        "31.12.YY",
+        "Startdate 31-DEC-2099 X X X",
+        Err(Cause::BadStart),
+    ),
+    (
+        "31.12.yY",
+        "Startdate 31-DEC-2099 X X X",
+        Err(Cause::BadStart),
+    ),
+    (
+        "30.12.yy",
+        "Startdate 31-DEC-2099 X X X",
+        Err(Cause::StartdateDiffers),
+    ),
+    (
+        "31.10.yy",
+        "Startdate 31-DEC-2099 X X X",
+        Err(Cause::StartdateDiffers),
+    ),
+    (
+        "31.02.yy",
+        "Startdate 28-FEB-2099 X X X",
+        Err(Cause::StartdateDiffers),
+    ),
+    (
+        "01.01.85",
+        "Startdate 01-JAN-2085 X X X",
+        Err(Cause::StartdateDiffers),
+    ),
+    (
+        "31.12.99",
+        "Startdate 31-DEC-2099 X X X",
+        Err(Cause::StartdateDiffers),
+    ),
+];
+
+/// The start of the reference file with these texts.
+fn start_of(
+    alloc: Global,
+    startdate: &str,
+    recording: &str,
+) -> Result<Result<(i16, i8, i8, i64), Cause>, Fail> {
+    let edits = [
+        (AtField(Fixed::Startdate), startdate),
+        (AtField(Fixed::Recording), recording),
+    ];
+    let file = edited(alloc, &edits)?;
+    match Header::read(alloc, &mut SliceSource::new(&file)) {
+        Ok(header) => Ok(Ok(start(&header))),
+        Err(
+            Stop::Fault(
+                Fault {
+                    place: AtField(Fixed::Startdate),
+                    cause,
+                },
+            ),
+        ) => Ok(Err(cause)),
+        Err(_) => Err(Fail::new("stopped elsewhere")),
+    }
+}
+
+#[test]
+fn takes_the_year_from_the_recording_after_2084(rt: HostRuntime) -> Result<(), Fail> {
+    for (startdate, recording, want) in STARTS {
+        let found = start_of(rt.alloc(), startdate, recording)?;
+        assert_eq!(rt; found, *want, "at {startdate}, {recording}");
+    }
     Ok(())
 }
 

@@ -14,7 +14,8 @@ use Rattle.edf_fields.specs.Parts.{part}
 use Rattle.edf_fields.proofs.ForCallers.{and-true, get-index}
 use Rattle.edf_header.specs.Heads.{SignalHead, Head}
 use Rattle.edf_stream.specs.Readers.{Reader}
-use Rattle.edf_stream.specs.Records.{lane_of, lane_in}
+use Rattle.edf_stream.specs.Records.{lane_of}
+use Rattle.edf_stream.specs.RecordsReading.{lane_in}
 use Rattle.edf_stream.specs.Starts.{file_start}
 use Rattle.edf_stream.specs.StartsReading.{start_in}
 use Rattle.edf_check.specs.declared.samples.difference.PointDifference.{PointDifference}

@@ -8,8 +8,8 @@ use Rattle.edf_header.specs.Channels.{is_ordinary, channels_among}
 use Rattle.edf_heads.specs.ChannelDifferences.{HasNoChannel}
 use Rattle.edf_heads.specs.ChannelIndexes.{IsChannelAt}
 use Rattle.edf_heads.specs.declared.channel_index.Channel.{Channel}
-use Rattle.edf_stream.specs.Records.{lane_of, lane_in, samples_at}
-use Rattle.edf_stream.specs.RecordsReading.{lane_bytes}
+use Rattle.edf_stream.specs.Records.{lane_of, samples_at}
+use Rattle.edf_stream.specs.RecordsReading.{lane_bytes, lane_in}
 use Rattle.edf_check.specs.declared.walk.channel_place.ChannelPlace.{ChannelPlace}
 use Rattle.edf_check.specs.declared.walk.track.Track.{Track}
 use Rattle.edf_check.specs.samples.Columns.{channel_at}

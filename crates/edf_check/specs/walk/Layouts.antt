@@ -3,7 +3,7 @@ use Rattle.std.specs.Prelude.{◌≡◌, ℕ, ◌+ℤ◌, ℤ, Bool, ◌&&◌, L
 use Rattle.std.specs.Ordering.{int_eq}
 use Rattle.edf_header.specs.Heads.{Head}
 use Rattle.edf_stream.specs.Readers.{Reader, is_current}
-use Rattle.edf_stream.specs.Records.{lane_in}
+use Rattle.edf_stream.specs.RecordsReading.{lane_in}
 use Rattle.edf_stream.specs.Starts.{file_start}
 use Rattle.edf_stream.specs.StartsReading.{start_in}
 use Rattle.edf_check.specs.declared.walk.track.Pair.{Pair}

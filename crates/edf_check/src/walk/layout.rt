@@ -4,7 +4,7 @@ ghost use Rattle.std.specs.Prelude.{◌≡◌, ◌<◌, ◌≤◌, ◌^◌, ◌+
 ghost use Rattle.std.specs.List.{All};
 ghost use Rattle.std.specs.Ordering.{int_eq};
 ghost use Rattle.edf_stream.specs.Readers.{is_current};
-ghost use Rattle.edf_stream.specs.Records.{lane_in};
+ghost use Rattle.edf_stream.specs.RecordsReading.{lane_in};
 ghost use Rattle.edf_stream.specs.Starts.{file_start};
 ghost use Rattle.edf_stream.specs.StartsReading.{start_in};
 ghost use Rattle.edf_check.specs.walk.Layouts.{AreLaidAlike, are_together as begin_together, AreRecordsAlike};
