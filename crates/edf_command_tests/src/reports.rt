@@ -150,11 +150,37 @@ channel \"C3 \\x22A\\x5cB\\x22\" samples 4 physical 15000000 -10 digital -2048 2
 channel \"ECG\" samples 2 physical -100000000 100000000 digital -2048 2047 dimension \"mV\" transducer \"AgAgCl electrode\" prefilter \"HP:0.1Hz LP:75Hz\"
 ";
 
+/// A start after 2084.
+const LATE: &[Edit<'static>] = &[
+    (AtField(Fixed::Startdate), "31.12.yy"),
+    (
+        AtField(Fixed::Recording),
+        "Startdate 31-DEC-2099 PSG-1234/2002 NN Telemetry03",
+    ),
+];
+
+const LATE_SHOWN: &str = "kind EDF+C
+start 2099-12-31 22:00:00
+records 4
+duration 1000000000000 ps
+code MCH-0234567
+sex F
+birthdate 02-MAY-1951
+name Haagse_Harry
+date 31-DEC-2099
+administration PSG-1234/2002
+technician NN
+equipment Telemetry03
+channel \"EEG Fpz-Cz\" samples 4 physical -1000000000 1000000000 digital -2048 2047 dimension \"uV\" transducer \"AgAgCl electrode\" prefilter \"HP:0.1Hz LP:75Hz\"
+channel \"ECG\" samples 2 physical -100000000 100000000 digital -2048 2047 dimension \"mV\" transducer \"AgAgCl electrode\" prefilter \"HP:0.1Hz LP:75Hz\"
+";
+
 const SHOW_ROWS: &[Row<'static>] = &[
     (Asked::Show, &[], LANES, 1232, NIGHT_SHOWN),
     (Asked::Show, &[], LANES, 1024, NIGHT_SHOWN),
     (Asked::Show, &[], LANES, 1233, NIGHT_SHOWN),
     (Asked::Show, OTHER, &[], 1024, OTHER_SHOWN),
+    (Asked::Show, LATE, LANES, 1232, LATE_SHOWN),
     (
         Asked::Show,
         &[],

@@ -64,6 +64,11 @@ const TEXT: &str = concat!(
     "55 NO 11 annotation extra at 500000000000 ps duration none text \"Lights off\"\n",
     "56 YES channels 2 samples 24 annotations 2\n",
     "57 YES channels 2 samples 24 annotations 1\n",
+    "58 YES channels 2 samples 24 annotations 3\n",
+    "59 YES channels 2 samples 24 annotations 3\n",
+    "60 NO 2 export fault: BadStart at header field startdate\n",
+    "61 NO 2 export fault: StartdateDiffers at header field startdate\n",
+    "62 NO 2 export fault: StartdateDiffers at header field startdate\n",
 );
 
 #[test]
@@ -90,14 +95,14 @@ fn rows_into(
 #[test]
 fn holds_the_front_of_the_rows(rt: HostRuntime) -> Result<(), Fail> {
     let alloc = rt.alloc();
-    assert_eq!(rt; TEXT.len(), 2195);
-    for count in [0usize, 4, 40, 41, 42, 82, 83, 2194] {
+    assert_eq!(rt; TEXT.len(), 2468);
+    for count in [0usize, 4, 40, 41, 42, 82, 83, 2467] {
         let (outcome, written) = rows_into(alloc, count)?;
         assert_eq!(rt; outcome, Err(ReportStop::WriteFailed));
         assert_eq!(rt; written.len(), count);
         assert!(rt; TEXT.as_bytes().starts_with(&written));
     }
-    let (outcome, written) = rows_into(alloc, 2195)?;
+    let (outcome, written) = rows_into(alloc, 2468)?;
     assert_eq!(rt; outcome, Ok(Outcome::Yes));
     assert_eq!(rt; &written[..], TEXT.as_bytes());
     Ok(())

@@ -57,6 +57,11 @@ worked_rows =
     ∷ record { number = 55; stored = codes "NO 11 annotation extra at 500000000000 ps duration none text \"Lights off\"\n" }
     ∷ record { number = 56; stored = codes "YES channels 2 samples 24 annotations 2\n" }
     ∷ record { number = 57; stored = codes "YES channels 2 samples 24 annotations 1\n" }
+    ∷ record { number = 58; stored = codes "YES channels 2 samples 24 annotations 3\n" }
+    ∷ record { number = 59; stored = codes "YES channels 2 samples 24 annotations 3\n" }
+    ∷ record { number = 60; stored = codes "NO 2 export fault: BadStart at header field startdate\n" }
+    ∷ record { number = 61; stored = codes "NO 2 export fault: StartdateDiffers at header field startdate\n" }
+    ∷ record { number = 62; stored = codes "NO 2 export fault: StartdateDiffers at header field startdate\n" }
     ∷ []
 
 -- a row, in the words of the code

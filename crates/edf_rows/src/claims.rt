@@ -129,3 +129,24 @@ pub const NO_APNEA: &str = concat!(
     "from = \"0\"\n",
     "to = \"4\"\n",
 );
+
+/// The whole night, on the last day of 2099.
+pub const LATE: &str = concat!(
+    "format = 1\n",
+    "channels = [\"EEG Fpz-Cz\", \"ECG\"]\n",
+    "shift = 3087331200\n",
+    "[[keep]]\n",
+    "from = \"0\"\n",
+    "to = \"4\"\n",
+);
+
+/// The same, and no recording date.
+pub const LATE_AND_DATELESS: &str = concat!(
+    "format = 1\n",
+    "channels = [\"EEG Fpz-Cz\", \"ECG\"]\n",
+    "anonymous = [\"date\"]\n",
+    "shift = 3087331200\n",
+    "[[keep]]\n",
+    "from = \"0\"\n",
+    "to = \"4\"\n",
+);

@@ -104,6 +104,54 @@ const DATELESS: File = File {
     ..NIGHT
 };
 
+/// The night on the last day of 2099, of which the startdate doesn't say the year.
+const LATE: File = File {
+    texts: &[
+        (AtField(Fixed::Startdate), "31.12.yy"),
+        (
+            AtField(Fixed::Recording),
+            "Startdate 31-DEC-2099 PSG-1234/2002 NN Telemetry03",
+        ),
+    ],
+    ..NIGHT
+};
+
+/// The same without its recording date.
+const LATE_AND_DATELESS: File = File {
+    texts: &[
+        (AtField(Fixed::Startdate), "31.12.yy"),
+        (
+            AtField(Fixed::Recording),
+            "Startdate X PSG-1234/2002 NN Telemetry03",
+        ),
+    ],
+    ..NIGHT
+};
+
+/// The same with the day before as its recording date.
+const LATE_WITH_TWO_DAYS: File = File {
+    texts: &[
+        (AtField(Fixed::Startdate), "31.12.yy"),
+        (
+            AtField(Fixed::Recording),
+            "Startdate 30-DEC-2099 PSG-1234/2002 NN Telemetry03",
+        ),
+    ],
+    ..NIGHT
+};
+
+/// The same with two digits for the year.
+const LATE_IN_DIGITS: File = File {
+    texts: &[
+        (AtField(Fixed::Startdate), "31.12.99"),
+        (
+            AtField(Fixed::Recording),
+            "Startdate 31-DEC-2099 PSG-1234/2002 NN Telemetry03",
+        ),
+    ],
+    ..NIGHT
+};
+
 /// The night with the annotation of its second data record in the last one, spelled otherwise.
 const MOVED: File = File {
     bytes: &[
@@ -564,6 +612,41 @@ const ROWS: &[Row] = &[
         export: WITHOUT_APNEA,
         claim: claims::NO_APNEA,
         stored: "YES channels 2 samples 24 annotations 1\n",
+    },
+    Row {
+        number: 58,
+        original: LATE,
+        export: LATE,
+        claim: claims::ALL,
+        stored: "YES channels 2 samples 24 annotations 3\n",
+    },
+    Row {
+        number: 59,
+        original: NIGHT,
+        export: LATE,
+        claim: claims::LATE,
+        stored: "YES channels 2 samples 24 annotations 3\n",
+    },
+    Row {
+        number: 60,
+        original: NIGHT,
+        export: LATE_AND_DATELESS,
+        claim: claims::LATE_AND_DATELESS,
+        stored: "NO 2 export fault: BadStart at header field startdate\n",
+    },
+    Row {
+        number: 61,
+        original: LATE,
+        export: LATE_WITH_TWO_DAYS,
+        claim: claims::ALL,
+        stored: "NO 2 export fault: StartdateDiffers at header field startdate\n",
+    },
+    Row {
+        number: 62,
+        original: LATE,
+        export: LATE_IN_DIGITS,
+        claim: claims::ALL,
+        stored: "NO 2 export fault: StartdateDiffers at header field startdate\n",
     },
 ];
 
