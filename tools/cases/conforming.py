@@ -45,6 +45,9 @@ SPOKEN = [b'+0\x14\x14\x00', b'+1\x14x\x14\x00', b'+2\x14\x14\x00', b'+3\x14\x14
 
 OPEN = [b'+0\x14\x14\x00', b'+1\x14\x14\x00', b'+2\x14\x14\x00+2\x14x\x00', b'+9\x14\x14\x00']
 
+# The recording date of the last day of 2099.
+LAST_DAY = (field('recording'), 'Startdate 31-DEC-2099 PSG-1234/2002 NN Telemetry03')
+
 # Changes of the reference file, and the answer.
 ROWS = [
     ([], LANES, '4, 2, 24, 3'),
@@ -70,6 +73,9 @@ ROWS = [
     ([TWO], LANES, 'TrailingBytes at end'),
     ([(field('records'), '5')], LANES, 'Truncated at record 4'),
     ([(signal(0, 'label'), 'ECG')], LANES, 'DuplicateLabel at signal 1 field label'),
+    ([LAST_DAY, (field('startdate'), '31.12.yy')], LANES, '4, 2, 24, 3'),
+    ([LAST_DAY, (field('startdate'), '31.12.99')], LANES, 'StartdateDiffers at header field startdate'),
+    ([(field('startdate'), '02.03.yy')], LANES, 'BadStart at header field startdate'),
 ]
 
 THIRDS = [b'+0\x14\x14\x00', b'+0.333333333333\x14\x14\x00', b'+0.666666666666\x14\x14\x00']

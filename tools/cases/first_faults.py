@@ -4,30 +4,41 @@ from cases.files import field, put, reference_header, signal, words
 
 LEADING_SPACE = 'BadSubfields(LeadingSpace)'
 
-# Faults of the fixed part, in the order of their tests.
+# No recording date, one of 2084, and one of 2099: beside the last one alone a startdate may have no year.
+DATELESS = ('recording', 'Startdate X PSG-1234/2002 NN Telemetry03')
+
+EARLY = ('recording', 'Startdate 02-MAR-2084 PSG-1234/2002 NN Telemetry03')
+
+LATE = ('recording', 'Startdate 02-MAR-2099 PSG-1234/2002 NN Telemetry03')
+
+# Faults of the fixed part, in the order of their tests. Each stands at its last field.
 FIXED = [
-    ('version', '1\x1f', 'NotPrintable'),
-    ('version', '1', 'BadVersion'),
-    ('patient', ' \x1f', 'NotPrintable'),
-    ('patient', ' ', LEADING_SPACE),
-    ('recording', ' \x1f', 'NotPrintable'),
-    ('recording', ' ', LEADING_SPACE),
-    ('startdate', 'x\x1f', 'NotPrintable'),
-    ('startdate', 'x', 'BadStart'),
-    ('startdate', '03.03.02', 'StartdateDiffers'),
-    ('starttime', 'x\x1f', 'NotPrintable'),
-    ('starttime', 'x', 'BadStart'),
-    ('header-bytes', 'x\x1f', 'NotPrintable'),
-    ('header-bytes', 'x', 'BadNumber'),
-    ('reserved', 'x\x1f', 'NotPrintable'),
-    ('reserved', 'x', 'NotEdfPlus'),
-    ('records', 'x\x1f', 'NotPrintable'),
-    ('records', 'x', 'BadNumber'),
-    ('duration', '0\x1f', 'NotPrintable'),
-    ('duration', '0', 'BadRange'),
-    ('signals', '0\x1f', 'NotPrintable'),
-    ('signals', '0', 'BadRange'),
-    ('header-bytes', '1280', 'BadHeaderSize'),
+    ([('version', '1\x1f')], 'NotPrintable'),
+    ([('version', '1')], 'BadVersion'),
+    ([('patient', ' \x1f')], 'NotPrintable'),
+    ([('patient', ' ')], LEADING_SPACE),
+    ([('recording', ' \x1f')], 'NotPrintable'),
+    ([('recording', ' ')], LEADING_SPACE),
+    ([('startdate', 'x\x1f')], 'NotPrintable'),
+    ([DATELESS, ('startdate', '02.03.y\x1f')], 'NotPrintable'),
+    ([('startdate', 'x')], 'BadStart'),
+    ([DATELESS, ('startdate', '02.03.yy')], 'BadStart'),
+    ([EARLY, ('startdate', '03.03.yy')], 'BadStart'),
+    ([('startdate', '03.03.02')], 'StartdateDiffers'),
+    ([LATE, ('startdate', '03.03.yy')], 'StartdateDiffers'),
+    ([('starttime', 'x\x1f')], 'NotPrintable'),
+    ([('starttime', 'x')], 'BadStart'),
+    ([('header-bytes', 'x\x1f')], 'NotPrintable'),
+    ([('header-bytes', 'x')], 'BadNumber'),
+    ([('reserved', 'x\x1f')], 'NotPrintable'),
+    ([('reserved', 'x')], 'NotEdfPlus'),
+    ([('records', 'x\x1f')], 'NotPrintable'),
+    ([('records', 'x')], 'BadNumber'),
+    ([('duration', '0\x1f')], 'NotPrintable'),
+    ([('duration', '0')], 'BadRange'),
+    ([('signals', '0\x1f')], 'NotPrintable'),
+    ([('signals', '0')], 'BadRange'),
+    ([('header-bytes', '1280')], 'BadHeaderSize'),
 ]
 
 SMALL_LANE = [
@@ -102,8 +113,8 @@ def spoil_signal(number, edits, cause):
 
 def faults():
     """All faults in the order of their tests."""
-    for name, text, cause in FIXED:
-        yield [(field(name), text)], field(name), cause
+    for edits, cause in FIXED:
+        yield [(field(name), text) for name, text in edits], field(edits[-1][0]), cause
     for number in range(3):
         for edits, cause in SIGNAL:
             yield spoil_signal(number, edits, cause)

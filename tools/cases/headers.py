@@ -1,7 +1,8 @@
-"""What else the headers of the night decide: free texts of the annotation signal, and negative gain."""
+"""What else the headers of the night decide: free texts of the annotation signal, negative gain, and a recording date
+beside a startdate without a year."""
 
 from cases.files import bytes_of, claim_of, field, recording, signal
-from cases.night import ALL, FOUR, NIGHT, YES
+from cases.night import ALL, DATELESS, FOUR, INTO_2099, LAST_OF_2099, NIGHT, YES, dated
 
 # The night with a text in the annotation signal.
 NOTED = recording(edits=[FOUR, (signal(2, 'prefilter'), 'n/a')], base=NIGHT)
@@ -31,9 +32,26 @@ ROWS = [
     (TURNED, NIGHT, ALL, RECALIBRATED),
 ]
 
+# The night without its recording date.
+NO_DAY = dated('X', '02.03.02')
+
+NOT_X = 'NO 8 subfield date not X\n'
+
+CHANGED = 'NO 8 subfield date changed\n'
+
+# With a startdate without a year the recording date can't be `X`; which day it is, the subfields don't ask.
+LATE_ROWS = [
+    (LAST_OF_2099, LAST_OF_2099, DATELESS, NOT_X),
+    (NO_DAY, LAST_OF_2099, DATELESS, NOT_X),
+    (NO_DAY, LAST_OF_2099, INTO_2099, CHANGED),
+    (LAST_OF_2099, NO_DAY, ALL, CHANGED),
+    (LAST_OF_2099, dated('31-DEC-2085', '31.12.yy'), ALL, 'NO 10 sample "ECG" at -441763200000000000000 ps extra\n'),
+    (dated('31-DEC-2085', '31.12.yy'), LAST_OF_2099, ALL, 'NO 10 sample "ECG" at 0 ps missing\n'),
+]
+
 
 def cases():
     """Each check: the original, the export, the claim and the line."""
-    for row in ROWS:
+    for row in ROWS + LATE_ROWS:
         original, export, claim, line = row
         yield "check", bytes_of(original), bytes_of(export), claim_of(*claim), line

@@ -68,6 +68,20 @@ GAP = recording(edits=[TWO, INTERRUPTED], parts=[VALUES_0, LANE_0, VALUES_3, LAN
 # The night with an additional subfield of the patient.
 WARD = recording(edits=[FOUR, (field('patient'), 'MCH-0234567 F 02-MAY-1951 Haagse_Harry Ward7')], base=NIGHT)
 
+
+def dated(date, startdate, starttime="22.00.00", base=NIGHT):
+    """The night, or a cut of it, with another recording date and another start."""
+    edits = [
+        (field("recording"), f"Startdate {date} PSG-1234/2002 NN Telemetry03"),
+        (field("startdate"), startdate),
+        (field("starttime"), starttime),
+    ]
+    return recording(edits=[*base["edits"], *edits], base=base)
+
+
+# The night on the last day of 2099: after 2084 a startdate has no year.
+LAST_OF_2099 = dated('31-DEC-2099', '31.12.yy')
+
 # The night without its first annotation.
 UNLIT = recording(parts=[VALUES_0, lane(40, b'+0\x14\x14\x00'), VALUES_1, LANE_1, VALUES_2, LANE_2, VALUES_3, LANE_3], base=NIGHT)
 
@@ -98,6 +112,12 @@ UNLIT_BY_BEGIN = (BOTH, 'remove-prefix = ["Lights"]', [('0', '4')], 2)
 
 # Of format 2: no annotation `Apnea`, which is blanked besides.
 NO_APNEA = (BOTH, 'remove = ["Apnea"]\nblank = ["Apnea"]', [('0', '4')], 2)
+
+# Both channels, on the last day of 2099.
+INTO_2099 = (BOTH, 'shift = 3087331200', [('0', '4')])
+
+# The same without the recording date.
+INTO_2099_DATELESS = (BOTH, 'anonymous = ["date"]\nshift = 3087331200', [('0', '4')])
 
 ONE = ('["ECG"]', '', [('0', '4')])
 

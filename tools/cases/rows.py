@@ -2,9 +2,9 @@
 
 from cases.files import bytes_of, claim_of, field, lane, recording, signal, values
 from cases.night import (
-    ALL, BLANK_APNEA, DARK, DATELESS, DAY_BEFORE, ENDS, EXCERPT, EXCHANGED, FOUR, FROM_ONE, GAP, LANE_0, LANE_1, LANE_2,
-    LANE_3, MIDDLE, NAMELESS, NIGHT, NO_APNEA, NO_EXTRAS, NOBODY, ONE, VALUES_0, VALUES_1, VALUES_2, VALUES_3, SIX_SECONDS,
-    TWO, UNKNOWN, UNLIT, UNLIT_BY_BEGIN, WARD, YES,
+    ALL, BLANK_APNEA, DARK, DATELESS, DAY_BEFORE, ENDS, EXCERPT, EXCHANGED, FOUR, FROM_ONE, GAP, INTO_2099,
+    INTO_2099_DATELESS, LANE_0, LANE_1, LANE_2, LANE_3, LAST_OF_2099, MIDDLE, NAMELESS, NIGHT, NO_APNEA, NO_EXTRAS, NOBODY,
+    ONE, VALUES_0, VALUES_1, VALUES_2, VALUES_3, SIX_SECONDS, TWO, UNKNOWN, UNLIT, UNLIT_BY_BEGIN, WARD, YES, dated,
 )
 
 # Two samples in 1 s; 804 bytes.
@@ -364,9 +364,28 @@ TEXT_ROWS = [
     ),
 ]
 
+# What a startdate decides that has the letters `yy` in the place of its year.
+LATE_ROWS = [
+    (LAST_OF_2099, LAST_OF_2099, ALL, YES),
+    (NIGHT, LAST_OF_2099, INTO_2099, YES),
+    (NIGHT, dated('X', '31.12.yy'), INTO_2099_DATELESS, 'NO 2 export fault: BadStart at header field startdate\n'),
+    (
+        LAST_OF_2099,
+        dated('30-DEC-2099', '31.12.yy'),
+        ALL,
+        'NO 2 export fault: StartdateDiffers at header field startdate\n',
+    ),
+    (
+        LAST_OF_2099,
+        dated('31-DEC-2099', '31.12.99'),
+        ALL,
+        'NO 2 export fault: StartdateDiffers at header field startdate\n',
+    ),
+]
+
 
 def cases():
     """Each check: the original, the export, the claim and the line."""
-    for row in TEMP_ROWS + NIGHT_ROWS + HEADER_ROWS + CHANNEL_ROWS + NOTE_ROWS + FAULT_ROWS + TEXT_ROWS:
+    for row in TEMP_ROWS + NIGHT_ROWS + HEADER_ROWS + CHANNEL_ROWS + NOTE_ROWS + FAULT_ROWS + TEXT_ROWS + LATE_ROWS:
         original, export, claim, line = row
         yield "check", bytes_of(original), bytes_of(export), claim_of(*claim), line

@@ -3,11 +3,12 @@
 usage: run.py PROGRAM, by tools/cases.sh
 
 A case is a command, its files in memory, and the line that is stored for them: that of `conform`, that of `check`
-under a claim, or the fault that `show` names, and none where it shows the header. The status is 0 where the line
-says Yes or there is none, and 1 where it says No; standard error stays empty. The checks are judged by the second
-reading of the rules (tools/oracle), too: the stored line has to be the one that these give. What isn't as it
-should be is said, at most twenty times. Of a sweep (`cases.BY_RULES`) no line is stored: it is the one that the second
-reading gives. The last line of the output counts the cases that passed and failed.
+under a claim, or of `show` the fault that it names, and where it shows the header its second line, the start, or
+none. The status is 0 where the line says Yes or a start or there is none, and 1 where it says No; standard error stays
+empty. The checks are judged by the second reading of the rules (tools/oracle), too: the stored line has to be the one
+that these give. What isn't as it should be is said, at most twenty times. Of a sweep (`cases.BY_RULES`) no line is
+stored: it is the one that the second reading gives. The last line of the output counts the cases that passed and
+failed.
 """
 
 import importlib
@@ -76,8 +77,11 @@ class Runs:
         # (without close_fds a process is begun in a tenth of the time)
         how = {"stdin": subprocess.DEVNULL, "stdout": subprocess.PIPE, "stderr": subprocess.PIPE, "close_fds": False}
         ran = subprocess.run([self.program, command, *words], **how)
-        status = 0 if want is None or want.startswith((b"YES ", b"CONFORMS ")) else 1
-        said = ran.stdout.startswith(b"kind ") if want is None else ran.stdout == want
+        status = 0 if want is None or want.startswith((b"YES ", b"CONFORMS ", b"start ")) else 1
+        if want is None or want.startswith(b"start "):
+            said = ran.stdout.startswith(b"kind ") and (want is None or ran.stdout.splitlines(True)[1:2] == [want])
+        else:
+            said = ran.stdout == want
         if ran.returncode != status or not said or ran.stderr:
             return f"status {ran.returncode} with {ran.stdout[:200]!r} and {ran.stderr[:200]!r}; wanted: {want!r}"
         return None

@@ -1,7 +1,8 @@
-"""Cuts that begin past midnight, shifts as far as they go, and a claim that keeps no sample."""
+"""Cuts that begin past midnight, shifts as far as they go, into the years after 2084 and out of them, and a claim that
+keeps no sample."""
 
 from cases.files import bytes_of, claim_of, field, lane, recording
-from cases.night import FROM_ONE, NIGHT, VALUES_1, VALUES_2, TWO
+from cases.night import ALL, FROM_ONE, LAST_OF_2099, NIGHT, VALUES_1, VALUES_2, TWO, YES, dated
 
 # The night, from a second before midnight on.
 LATE = recording(edits=[(field('records'), '4'), (field('starttime'), '23.59.59')], base=NIGHT)
@@ -41,9 +42,85 @@ ROWS = [
     (NIGHT, NIGHT, FAR_BACK, 'NO 10 sample "ECG" at 0 ps missing\n'),
 ]
 
+# The night from the last second of 2084 on.
+LAST_OF_2084 = dated('31-DEC-2084', '31.12.84', '23.59.59')
+
+CUT_DATELESS = (BOTH, 'anonymous = ["date"]', [('1', '3')])
+
+CUT_YES = 'YES channels 2 samples 12 annotations 1\n'
+
+BAD_START = 'NO 2 export fault: BadStart at header field startdate\n'
+
+DIFFERS = 'NO 2 export fault: StartdateDiffers at header field startdate\n'
+
+# Cuts that begin on the day after, in 2085 or later. The digits 85 say 1985, which is a hundred years earlier.
+LATE_CUTS = [
+    (LAST_OF_2084, dated('01-JAN-2085', '01.01.yy', '00.00.00', AFTER_MIDNIGHT), CUT, CUT_YES),
+    (LAST_OF_2084, dated('01-JAN-2085', '01.01.85', '00.00.00', AFTER_MIDNIGHT), CUT, DIFFERS),
+    (LAST_OF_2084, dated('31-DEC-2084', '31.12.yy', '00.00.00', AFTER_MIDNIGHT), CUT, BAD_START),
+    (LAST_OF_2084, dated('X', '01.01.yy', '00.00.00', AFTER_MIDNIGHT), CUT_DATELESS, BAD_START),
+    (
+        LAST_OF_2084,
+        dated('X', '01.01.85', '00.00.00', AFTER_MIDNIGHT),
+        CUT_DATELESS,
+        'NO 10 sample "ECG" at -3155759999000000000000 ps extra\n',
+    ),
+    (
+        dated('31-DEC-2099', '31.12.yy', '23.59.59'),
+        dated('01-JAN-2100', '01.01.yy', '00.00.00', AFTER_MIDNIGHT),
+        CUT,
+        CUT_YES,
+    ),
+    (
+        dated('28-FEB-2096', '28.02.yy', '23.59.59'),
+        dated('29-FEB-2096', '29.02.yy', '00.00.00', AFTER_MIDNIGHT),
+        CUT,
+        CUT_YES,
+    ),
+    (
+        dated('28-FEB-2100', '28.02.yy', '23.59.59'),
+        dated('01-MAR-2100', '01.03.yy', '00.00.00', AFTER_MIDNIGHT),
+        CUT,
+        CUT_YES,
+    ),
+    (
+        dated('28-FEB-2100', '28.02.yy', '23.59.59'),
+        dated('28-FEB-2100', '01.03.yy', '00.00.00', AFTER_MIDNIGHT),
+        CUT,
+        DIFFERS,
+    ),
+]
+
+# The night as far on as a shift can move it, and the night on the last day of all.
+FAR_LATER = dated('21-JAN-2319', '21.01.yy', '15.46.40')
+
+LAST_DAY = dated('31-DEC-9999', '31.12.yy')
+
+OUT_OF_2099 = (BOTH, 'shift = -3087331200', [('0', '4')])
+
+OUT_OF_2099_DATELESS = (BOTH, 'anonymous = ["date"]\nshift = -3087331200', [('0', '4')])
+
+SECOND_MORE = (BOTH, 'shift = 3087331201', [('0', '4')])
+
+# Shifts into the years after 2084, out of them, and between them.
+LATE_SHIFTS = [
+    (NIGHT, dated('02-MAR-2085', '02.03.yy'), (BOTH, 'shift = 2619302400', [('0', '4')]), YES),
+    (NIGHT, dated('31-DEC-2084', '31.12.84'), (BOTH, 'shift = 2614032000', [('0', '4')]), YES),
+    (NIGHT, LAST_OF_2099, SECOND_MORE, 'NO 10 sample "ECG" at -1000000000000 ps extra\n'),
+    (NIGHT, LAST_OF_2099, ALL, 'NO 10 sample "ECG" at 0 ps missing\n'),
+    (LAST_OF_2099, NIGHT, ALL, 'NO 10 sample "ECG" at -3087331200000000000000 ps extra\n'),
+    (LAST_OF_2099, NIGHT, OUT_OF_2099, YES),
+    (LAST_OF_2099, dated('X', '02.03.02'), OUT_OF_2099_DATELESS, YES),
+    (LAST_OF_2099, dated('X', '02.03.yy'), OUT_OF_2099_DATELESS, BAD_START),
+    (NIGHT, FAR_LATER, FAR_ON, YES),
+    (FAR_LATER, NIGHT, FAR_BACK, YES),
+    (LAST_DAY, LAST_DAY, ALL, YES),
+    (LAST_DAY, dated('10-FEB-9683', '10.02.yy', '04.13.20'), FAR_BACK, YES),
+]
+
 
 def cases():
     """Each check: the original, the export, the claim and the line."""
-    for row in ROWS:
+    for row in ROWS + LATE_CUTS + LATE_SHIFTS:
         original, export, claim, line = row
         yield "check", bytes_of(original), bytes_of(export), claim_of(*claim), line

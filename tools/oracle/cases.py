@@ -77,10 +77,22 @@ def dotted_day():
     return maybe_changed(b"%02d.%02d.%02d" % (*day(), one_of(0, 4, 84, 85, 99, choose.randint(0, 99))), 0.2)
 
 
-def dashed_day():
-    number, month = day()
+def lettered(number, month):
+    return b"%02d.%02d.yy" % (number, month)
+
+
+def lettered_day():
+    field = lettered(*one_of(day(), (one_of(0, 1, 31, 32), one_of(0, 1, 12, 13))))
+    return maybe_changed(field[:6] + one_of(*[b"yy"] * 7, b"YY", b"yY", b"Yy"), 0.15)
+
+
+def dashed(number, month, year):
     name = MONTHS[month - 1].encode() if 1 <= month <= 12 else b"XXX"
-    return maybe_changed(b"%02d-%s-%04d" % (number, name, one_of(0, 4, 1900, 2000, 2100, choose.randint(0, 9999))), 0.2)
+    return b"%02d-%s-%04d" % (number, name, year)
+
+
+def dashed_day():
+    return maybe_changed(dashed(*day(), one_of(0, 4, 1900, 2000, 2100, choose.randint(0, 9999))), 0.2)
 
 
 def clock():
@@ -137,13 +149,42 @@ def lane():
 # ---- headers
 
 
-def fixed_fields(count):
+def two_late_dates():
+    """A startdate with the letters yy and a recording date of that day, after 2084; or nearly."""
+    days = [(1, 1, 2085), (31, 12, 2085), (29, 2, 2096), (29, 2, 2100), (31, 12, 2099), (31, 12, 9999)]
+    other = [(choose.randint(1, 31), choose.randint(1, 12), choose.randint(2085, 9999)) for _ in range(3)]
+    number, month, year = one_of(*days, *other)
+    startdate, date = lettered(number, month), dashed(number, month, year)
+    if often(0.6):
+        return startdate, date
+    early = one_of(0, 1985, 1999, 2084, 2084, choose.randint(0, 2084))
+    return one_of(
+        (startdate, b"X"),
+        (startdate, dashed(number, month, early)),
+        (lettered(number % 31 + 1, month), one_of(date, date, dashed(number, month, early))),
+        (lettered(number, month % 12 + 1), one_of(date, date, b"X")),
+        (lettered(*one_of((0, month), (32, month), (number, 0), (number, 13))), date),
+        (b"31.02.yy", dashed(one_of(28, 28, 31), 2, year)),
+        (startdate[:6] + one_of(b"YY", b"yY", b"Yy", b"y"), date),
+        (b"%02d.%02d.%02d" % (number, month, year % 100), one_of(date, date, b"X")),
+    )
+
+
+def two_dates():
+    """A startdate and a recording date."""
+    if often(0.4):
+        return two_late_dates()
     days = [(b"02.03.02", b"02-MAR-2002"), (b"31.12.84", b"31-DEC-2084"), (b"01.01.85", b"01-JAN-1985")]
     startdate, date = one_of(*days)
+    return startdate, one_of(date, date, b"X")
+
+
+def fixed_fields(count):
+    startdate, date = two_dates()
     fields = {
         "version": b"0",
         "patient": b"MCH-0234567 F 02-MAY-1951 Haagse_Harry",
-        "recording": b"Startdate " + one_of(date, date, b"X") + b" PSG-1234/2002 NN Telemetry03",
+        "recording": b"Startdate " + date + b" PSG-1234/2002 NN Telemetry03",
         "startdate": startdate,
         "starttime": b"%02d.%02d.%02d" % (choose.randint(0, 23), choose.randint(0, 59), choose.randint(0, 59)),
         "header-bytes": b"%d" % (256 * (count + 1)),
@@ -154,7 +195,8 @@ def fixed_fields(count):
     }
     if often(0.35):
         name = choose.choice(list(fields))
-        readers = {"patient": patient, "recording": recording, "startdate": dotted_day, "starttime": clock}
+        startdate = one_of(dotted_day, lettered_day)
+        readers = {"patient": patient, "recording": recording, "startdate": startdate, "starttime": clock}
         other = readers.get(name, number)
         fields[name] = one_of(changed(fields[name]), other(), other(), b"", b"0", b"-1")
     return fields
@@ -272,6 +314,9 @@ LINES = [(b"-100", b"100", b"-2048", b"2047"), (b"-100.0", b"+100.", b"-2048", b
          (b"100", b"-100", b"-2048", b"2047"), (b"-99", b"101", b"-2048", b"2047"), (b"-100", b"100.0001", b"-2048", b"2047")]
 CODES = [b"X", b"MCH-0234567", b"x"]
 
+# by each recording date the startdate
+STARTDATES = {b"X": b"02.03.02", b"02-MAR-2002": b"02.03.02", b"31-DEC-2099": b"31.12.yy"}
+
 
 def channel(label):
     low, high, bottom, top = one_of(*LINES[:3])
@@ -303,8 +348,9 @@ def built(said, columns):
     parts = said["patient"], said["recording"]
     fixed = {
         "version": b"0", "patient": b" ".join(parts[0]), "recording": b" ".join([b"Startdate", *parts[1]]),
-        "startdate": b"02.03.02", "starttime": b"22.00.00", "header-bytes": b"%d" % (256 * (len(columns) + 1)),
-        "reserved": said["reserved"], "records": b"1", "duration": b"1", "signals": b"%d" % len(columns),
+        "startdate": STARTDATES.get(parts[1][0], b"02.03.02"), "starttime": b"22.00.00",
+        "header-bytes": b"%d" % (256 * (len(columns) + 1)), "reserved": said["reserved"], "records": b"1",
+        "duration": b"1", "signals": b"%d" % len(columns),
     }
     file = b"".join(fixed[name].ljust(width)[:width] for name, _, width in FIXED)
     return file + b"".join(fields[name].ljust(width)[:width] for name, _, width in COLUMNS for fields in columns)
@@ -322,7 +368,7 @@ def two_heads():
     extra = [one_of(b"a", b"X") for _ in range(one_of(0, 0, 1, 2))]
     old = {
         "patient": [one_of(*CODES), one_of(b"F", b"X"), one_of(b"X", b"02-MAY-1951"), one_of(*CODES), *extra],
-        "recording": [one_of(b"X", b"02-MAR-2002"), one_of(*CODES), b"NN", one_of(*CODES), *extra[:1]],
+        "recording": [one_of(*STARTDATES), one_of(*CODES), b"NN", one_of(*CODES), *extra[:1]],
         "reserved": one_of(b"EDF+C", b"EDF+D x"),
     }
     names = [[name for name in SUBFIELDS[:4]], [name for name in SUBFIELDS[5:9]]]
@@ -333,6 +379,9 @@ def two_heads():
         more = [b"X" if rest in anonymous and often(0.9) else part for part in old[field][4:]]
         more = more if often(0.95) else one_of(more[1:], more + [b"X"], more + [b"a"])
         new[field] = parts + more
+    if new["recording"][0] != b"X" and often(0.3):
+        # another day is no difference
+        new["recording"][0] = one_of(b"02-MAR-2002", b"31-DEC-2099")
     shown = [changed_signal(fields) for fields in columns if fields["label"] in (*claimed, ANNOTATIONS) or often(0.04)]
     if often(0.5):
         choose.shuffle(shown)
@@ -431,7 +480,8 @@ def claim():
 
 CASES = {
     "n": (4, number), "w": (4, number), "o": (4, lambda: time(often(0.9))), "s": (3, lambda: time(often(0.1))),
-    "d": (2, dotted_day), "D": (3, dashed_day), "c": (2, clock), "p": (6, patient), "r": (6, recording),
+    "d": (2, dotted_day), "y": (4, lettered_day), "D": (3, dashed_day), "c": (2, clock),
+    "p": (6, patient), "r": (6, recording),
     "t": (30, lane), "h": (20, header), "f": (20, whole_file), "m": (10, whole_file),
     "C": (24, claim), "x": (20, two_heads),
 }

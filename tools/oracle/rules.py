@@ -102,11 +102,32 @@ def dotted_day(field):
     return existing(year + (1900 if year >= 85 else 2000), month, day)
 
 
+def lettered_day(field):
+    """The day of the month and the month of a startdate that has the letters yy in the place of its year."""
+    found = re.fullmatch(rb"([0-9]{2})\.([0-9]{2})\.yy", field)
+    if not found:
+        return None
+    day, month = (int(part) for part in found.groups())
+    return (day, month) if 1 <= day <= 31 and 1 <= month <= 12 else None
+
+
 def dashed_day(field):
     found = re.fullmatch(rb"([0-9]{2})-([A-Z]{3})-([0-9]{4})", field)
     if not found or found[2].decode() not in MONTHS:
         return None
     return existing(int(found[3]), MONTHS.index(found[2].decode()) + 1, int(found[1]))
+
+
+def startdate(field, recorded):
+    """The day of a startdate, and whether the recording date, a day or None, agrees; the letters yy leave the year to
+    it, from 2085 on."""
+    said = lettered_day(field)
+    if said is None:
+        day = dotted_day(field)
+        return day, recorded in (None, day)
+    if recorded is None or recorded[0] < 2085:
+        return None, False
+    return recorded, said == (recorded[2], recorded[1])
 
 
 def clock(field):
@@ -229,10 +250,9 @@ def fixed_part(file):
         if name == "version":
             must(text(field) == b"0", "BadVersion", place)
         elif name == "startdate":
-            said[name] = dotted_day(text(field))
+            said[name], agrees = startdate(text(field), dashed_day(said["recording"][0]))
             must(said[name], "BadStart", place)
-            date = said["recording"][0]
-            must(date == b"X" or dashed_day(date) == said[name], "StartdateDiffers", place)
+            must(agrees, "StartdateDiffers", place)
         elif name == "starttime":
             said[name] = clock(text(field))
             must(said[name] is not None, "BadStart", place)
@@ -428,7 +448,7 @@ def bracketed(fields):
 
 
 def day_line(day):
-    return "None" if day is None else "{}-{}-{}".format(*day)
+    return "None" if day is None else "-".join(str(part) for part in day)
 
 
 def lane_line(lane):
@@ -611,6 +631,7 @@ ANSWERS = {
     "o": lambda field: str(onset(field)),
     "s": lambda field: str(span(field)),
     "d": lambda field: day_line(dotted_day(field)),
+    "y": lambda field: day_line(lettered_day(field)),
     "D": lambda field: day_line(dashed_day(field)),
     "c": lambda field: str(clock(field)),
     "p": lambda field: bracketed(patient(field)),

@@ -17,7 +17,12 @@ TEXTS = [b"Apnea", b"Apnea 2", b"Az", b"xAp", b"x", b"", b'a\tb"\\', "é".encode
 
 # of these some begin with others and some are whole texts; some stand within texts, and one is too long for each
 PREFIXES = [b"A", b"Ap", b"Apnea", b"Apnea ", b"Apnea 22", b"a\t", "é".encode(), b"x", b"X", b"nea"]
-START = datetime.datetime(2002, 3, 2, 22, 0, 0)
+
+# when nights begin; exports of the second one begin in 2084 or in 2085, from where on a startdate has the letters yy
+STARTS = [
+    datetime.datetime(2002, 3, 2, 22, 0, 0), datetime.datetime(2084, 12, 31, 23, 59, 59),
+    datetime.datetime(2099, 12, 31, 22, 0, 0),
+]
 
 # how long a step of a night is, in units of 10^-7 s: all channels have whole numbers of samples in it
 STEPS = [10_000_000, 5_000_000, 3_333_333, 2_500_000, 1_234_567, 100_000, 7, 1]
@@ -57,6 +62,7 @@ class Night:
         self.rates = {label: one_of(1, 2, 3, 4) for label in self.labels}
         self.step = choose.choice(STEPS)
         self.steps = one_of(2, 4, 6, 12)
+        self.begin = one_of(STARTS[0], *STARTS)
         self.start = one_of(0, 0, 0, choose.randrange(10**12), 333_333_333_333, 999_999_999_999)
         ends = [self.instant(step) for step in range(self.steps + 1)]
         times = [*ends, *(end + 1 for end in ends), -1, ends[-1] + 10**12]
@@ -86,7 +92,7 @@ class Night:
         choose.shuffle(signals)
         places = [at for first, last in parts for at in range(first, last, length)]
         second = self.instant(places[0]) // 10**12
-        day = START + datetime.timedelta(seconds=second + shift)
+        day = self.begin + datetime.timedelta(seconds=second + shift)
         kind = b"EDF+C" if len(parts) == 1 and often(0.8) else b"EDF+D"
         file = header(signals, len(places), duration_field(length * self.step), said, day, kind)
         tals = [[] for _ in places]
@@ -108,11 +114,13 @@ class Night:
 
 def header(signals, records, duration, said, day, kind):
     date = f"{day.day:02}-{MONTHS[day.month - 1]}-{day.year}".encode() if said["date"] == b"day" else said["date"]
+    has_letters = (day.year >= 2085) != often(0.02)
     names = [said[name] for name in SUBFIELDS]
     patient, recording = [*names[:4], *names[4]], [b"Startdate", date, *names[6:9], *names[9]]
     fields = {
         "version": b"0", "patient": b" ".join(patient), "recording": b" ".join(recording),
-        "startdate": day.strftime("%d.%m.%y").encode(), "starttime": day.strftime("%H.%M.%S").encode(),
+        "startdate": day.strftime("%d.%m.yy" if has_letters else "%d.%m.%y").encode(),
+        "starttime": day.strftime("%H.%M.%S").encode(),
         "header-bytes": b"%d" % (256 * (len(signals) + 1)), "reserved": kind,
         "records": b"%d" % records, "duration": duration, "signals": b"%d" % len(signals),
     }
@@ -230,6 +238,12 @@ def changed_notes(notes):
 
 def case():
     night = Night()
+    other = int((choose.choice(STARTS) - night.begin).total_seconds())
+    shift = one_of(0, 0, 0, 0, 86_400, -86_400, 1, -31_536_000, other, other, 10**10)
+    are_late = [day.year >= 2085 for day in (night.begin, night.begin + datetime.timedelta(seconds=shift))]
+    if any(are_late) and often(0.95):
+        # from 2085 on there is no startdate without a recording date
+        night.said["date"] = b"day"
     original = night.cut([(0, night.steps)], night.labels, night.said, night.notes)
     claimed = choose.sample(night.labels, choose.randint(1, len(night.labels)))
     exported = claimed if often(0.9) else choose.sample(night.labels, choose.randint(1, len(night.labels)))
@@ -237,8 +251,7 @@ def case():
         claimed = claimed + [b"zz"]
     parts = stretches(night.steps)
     keep = [(night.instant(first), night.instant(last)) for first, last in parts]
-    shift = one_of(0, 0, 0, 86_400, -86_400, 1, -31_536_000)
-    anonymous = [name for name in SUBFIELDS if often(0.2)]
+    anonymous = [name for name in SUBFIELDS if often(0.05 if name == "date" and are_late[1] else 0.2)]
     form = one_of(1, 2, 2)
     texts = claimed_texts(form)
     changed = None
