@@ -48,7 +48,7 @@ type StartRow = (
     Result<(i16, i8, i8, i64), Cause>,
 );
 
-const STARTS: &[StartRow] = &[
+const STARTS_BESIDE_RECORDING_DATES: &[StartRow] = &[
     (
         "31.12.yy",
         "Startdate 31-DEC-2099 X X X",
@@ -174,7 +174,7 @@ fn start_of(
 
 #[test]
 fn takes_the_year_from_the_recording_after_2084(rt: HostRuntime) -> Result<(), Fail> {
-    for (startdate, recording, want) in STARTS {
+    for (startdate, recording, want) in STARTS_BESIDE_RECORDING_DATES {
         let found = start_of(rt.alloc(), startdate, recording)?;
         assert_eq!(rt; found, *want, "at {startdate}, {recording}");
     }
