@@ -6,7 +6,7 @@
 #
 # usage: tools/oracle.sh [SEED]     seed 1 where none is said
 #
-# 2000 cases for the readers, 1000 for the run: the toolchain lets a program run for 120 seconds. Each
+# 1700 cases for the readers, 1000 for the run: the toolchain lets a program run for 120 seconds and print 1 MB. Each
 # half ends with a line 'N passed, M failed'.
 set -euo pipefail
 
@@ -51,7 +51,7 @@ add answers "edf_fields edf_header edf_tal edf_stream edf_claim edf_heads edf_ve
 add verdicts "edf_fields edf_claim edf_refusal edf_check"
 failed=0
 
-python3 tools/oracle/cases.py "$seed" 2000 >"$work/cases"
+python3 tools/oracle/cases.py "$seed" 1700 >"$work/cases"
 answers "$work" answers
 python3 tools/oracle/rules.py "$work/cases" "$work/given" || failed=1
 
