@@ -87,7 +87,7 @@ def lettered_day():
 
 
 def dashed(number, month, year):
-    name = MONTHS[month - 1].encode() if 1 <= month <= 12 else b"XXX"
+    name = MONTHS[month - 1].encode() if 1 <= month <= 12 else b"ABC"
     return b"%02d-%s-%04d" % (number, name, year)
 
 
