@@ -88,6 +88,10 @@ impl NoteKeeper for Lines {
 
     ghost got = { GotLines };
 
+    fn wants(&self) -> bool {
+        true
+    }
+
     fn keep(&mut self, notes: TalNotes<'_>) {
         if self.whole {
             self.whole = push_lines(&mut self.text, &mut self.words, notes).is_ok();

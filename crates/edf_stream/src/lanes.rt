@@ -146,7 +146,7 @@ fn said_by_tals<K: NoteKeeper>(
 
 /// What one lane says behind `before` other texts of the data record, or why it is no list of TALs. Its annotations
 /// go to the keeper, as long as there are not more than `most` texts. In most first lanes the TAL that keeps the time
-/// stands alone.
+/// stands alone; in a later lane such a TAL is an annotation, which is passed over where the keeper wants none.
 fn said_by_lane<K: NoteKeeper>(
     keeper: &mut K,
     lane: &[u8],
@@ -160,13 +160,13 @@ fn said_by_lane<K: NoteKeeper>(
     ensures small { IfOk result (λ said. IfOk said.start (λ v. unsigned_abs v < 10 ^ 21)) }
     ensures kept { IfOk result (λ said. said.texts ≤ most → K.got keeper.old (behind_time before (notes_of_lane lane.now)) keeper.new) }
 {
-    if before > 0 {
+    if before > 0 && keeper.wants() {
         return said_by_tals(keeper, lane, before, most);
     }
     match time_alone(lane) {
         Some(start) => Ok(Said {
             start: Ok(start),
-            texts: 1,
+            texts: before.saturating_add(1),
         }),
         None => said_by_tals(keeper, lane, before, most),
     }

@@ -1,7 +1,7 @@
 //! Who gets the annotations of a data record while it is judged. EDF+ (2003), "Time-stamped Annotations Lists
 //! (TALs) in an 'EDF Annotations' signal".
 
-ghost use Rattle.std.specs.Prelude.{List, [], ◌++◌};
+ghost use Rattle.std.specs.Prelude.{◌≡◌, List, [], ◌++◌, false};
 ghost use Rattle.edf_stream.specs.Notes.{NoteValue};
 ghost use Rattle.edf_stream.specs.Keeping.{tal_notes_left};
 
@@ -13,6 +13,10 @@ use crate::note::TalNotes;
 pub trait NoteKeeper {
     /// The first one got these annotations, in this order, and is then the second one.
     ghost got: { Self → List NoteValue → Self → Type 0 };
+
+    /// Whether it has any use for annotations. Where not, lanes may be passed over without a look at theirs.
+    fn wants(&self) -> bool
+        ensures { result ≡ false → (notes : List NoteValue) → got self.now notes self.now };
 
     /// Gets annotations of one TAL, in their order.
     fn keep(&mut self, notes: TalNotes<'_>)
@@ -31,6 +35,10 @@ pub struct KeepsNone;
 
 impl NoteKeeper for KeepsNone {
     ghost got = { λ _ _ _. Unit {0} };
+
+    fn wants(&self) -> bool {
+        false
+    }
 
     fn keep(&mut self, _notes: TalNotes<'_>) {}
 

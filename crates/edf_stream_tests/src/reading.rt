@@ -106,6 +106,10 @@ struct Shown {
 impl NoteKeeper for Shown {
     ghost got = { λ _ _ _. Unit {0} };
 
+    fn wants(&self) -> bool {
+        true
+    }
+
     fn keep(&mut self, notes: TalNotes<'_>) {
         for note in notes {
             self.whole &= push_note(self.alloc, &mut self.text, &note).is_ok();

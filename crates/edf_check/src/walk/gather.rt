@@ -143,6 +143,10 @@ impl<'a> NoteKeeper for Gathering<'a> {
 
     ghost got = { GotCounted };
 
+    fn wants(&self) -> bool {
+        true
+    }
+
     fn keep(&mut self, notes: TalNotes<'_>) {
         if self.whole {
             let kept = push_all_counted(

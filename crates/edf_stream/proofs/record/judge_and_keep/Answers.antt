@@ -3,7 +3,7 @@ use Rattle.edf_stream.specs.Records.{annotation_lanes}
 use Rattle.edf_stream.specs.NotesReading.{notes_of_lanes}
 use Rattle.edf_stream.specs.StartsReading.{said_start}
 use Rattle.edf_stream.proofs.NoteFacts.{too_many}
-use Rattle.edf_stream.proofs.record.judge_record.Goals as goal
+use Rattle.edf_stream.proofs.record.judge_and_keep.Goals as goal
 
 pub returns-in-Err-clause-judged : goal.returns-in-Err-clause-judged
 returns-in-Err-clause-judged g c =
