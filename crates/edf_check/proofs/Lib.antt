@@ -1,5 +1,7 @@
 pub mod CourseFacts
+pub mod JoinFacts
 pub mod KeptFacts
+pub mod PartsFacts
 pub mod VerdictFacts
 pub mod SomeVerdictFacts
 pub mod SameFileFacts

@@ -208,6 +208,7 @@ carried o e o' e' c v s r b = by-kind v
     by-kind (No (differences.Calibration label)) h = (both, heads (No (differences.Calibration label)) h.1)
     by-kind (No (differences.Subfield which mismatch)) h = (both, heads (No (differences.Subfield which mismatch)) h.1)
     by-kind (No (differences.NotClean text)) h = (both, heads (No (differences.NotClean text)) h.1)
+    by-kind (No differences.PartOrder) h = h
     by-kind (No (differences.Sample label at_ps mismatch)) h =
         (both, agree h.1, first-alike (KeptAt o c) (KeptAt o' c) (ExportedAt o e c) (ExportedAt o' e' c) kept exported label at_ps mismatch h.2)
     by-kind (No (differences.Annotation mismatch onset duration text)) h =

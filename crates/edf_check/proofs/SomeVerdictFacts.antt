@@ -157,7 +157,7 @@ agree-or-mismatch o e c both agree = cases (earliest 0 (map difference_of cs)) (
     y = record { head = head_of e; samples = samples_of e (head_of e); moved = neg_ℤ (origin_of o +ℤ shift_ps c) }
 
     nights : AreNights o e c x y
-    nights = record { conform = both; agree = agree; original_head = refl; original_samples = refl; original_moved = refl; export_head = refl; export_samples = refl; export_moved = refl }
+    nights = record { conform = both; channels = agree.channels; original_head = refl; original_samples = refl; original_moved = refl; export_head = refl; export_samples = refl; export_moved = refl }
 
     sorted : (ys : List (List ℕ)) × Rising ys × SameMembers ys c.channels
     sorted = labels-in-order c.channels

@@ -86,6 +86,7 @@ kind-of o e c (No (differences.ChannelText label field)) h = from-heads o e c _ 
 kind-of o e c (No (differences.Calibration label)) h = from-heads o e c _ h.0 (inl h.1)
 kind-of o e c (No (differences.Subfield which mismatch)) h = from-heads o e c _ h.0 (inl h.1)
 kind-of o e c (No (differences.NotClean text)) h = from-heads o e c _ h.0 (inl h.1)
+kind-of o e c (No differences.PartOrder) h = absurd h
 kind-of o e c (No (differences.Sample label at_ps mismatch)) h = from-heads o e c _ h.0 (inr (h.1, inl (label, at_ps, mismatch, refl, h.2)))
 kind-of o e c (No (differences.Annotation mismatch onset duration text)) h =
     from-heads o e c _ h.0 (inr (h.1, inr (h.2, inl (mismatch, (record { onset = onset; duration = duration; text = text }), refl, h.3))))

@@ -2,6 +2,11 @@ pub mod TrackFacts
 pub mod ShownFacts
 pub mod LockstepFacts
 pub mod SplitFacts
+pub mod WindowFacts
+pub mod OnwardFacts
+pub mod PartFacts
+pub mod SpanFacts
+pub mod SeriesFacts
 pub mod PassFacts
 pub mod KeeperFacts
 pub mod PlaceFacts

@@ -4,7 +4,7 @@ use Rattle.edf_refusal.specs.declared.stop.CheckStop.{CheckStop}
 use Rattle.edf_refusal.specs.declared.stop.CheckStop.TheVariants.{OutOfMemory, ReadFailed}
 use Rattle.edf_refusal.specs.declared.side.Side.{Side}
 use Rattle.edf_refusal.specs.declared.side.Side.TheVariants as sides
-use Rattle.edf_verdict.specs.declared.verdict.Difference.TheVariants.{OriginalFault, ExportFault, UnknownChannel, MissingChannel, ExtraChannel, ChannelText, Calibration, Subfield, NotClean, Sample, Annotation}
+use Rattle.edf_verdict.specs.declared.verdict.Difference.TheVariants.{OriginalFault, ExportFault, UnknownChannel, MissingChannel, ExtraChannel, ChannelText, Calibration, Subfield, NotClean, PartOrder, Sample, Annotation}
 use Rattle.edf_verdict.specs.declared.verdict.Verdict.{Verdict}
 use Rattle.edf_verdict.specs.declared.verdict.Verdict.TheVariants.{Yes, No}
 
@@ -20,6 +20,7 @@ AreRead (No (ChannelText label field)) original export = (original ≡ []) × (e
 AreRead (No (Calibration label)) original export = (original ≡ []) × (export ≡ [])
 AreRead (No (Subfield which mismatch)) original export = (original ≡ []) × (export ≡ [])
 AreRead (No (NotClean text)) original export = (original ≡ []) × (export ≡ [])
+AreRead (No PartOrder) original export = (original ≡ []) × (export ≡ [])
 AreRead (No (Sample label at_ps mismatch)) original export = (original ≡ []) × (export ≡ [])
 AreRead (No (Annotation mismatch onset duration text)) original export = (original ≡ []) × (export ≡ [])
 

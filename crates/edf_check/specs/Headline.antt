@@ -46,5 +46,4 @@ pub record AreCounts (h : Head) (notes : List NoteValue) (channels samples annot
 -- what a Yes means: the headline, and its counts are the export's
 abbrev pub YesMeans : List ℕ → List ℕ → Terms → Verdict → Type 0
 YesMeans original export claim (No difference) = Unit {0}
-YesMeans original export claim (Yes channels samples annotations) =
-    (headline : Headline original export claim) × AreCounts headline.export_head headline.export_notes channels samples annotations
+YesMeans original export claim (Yes channels samples annotations) = (headline : Headline original export claim) × AreCounts headline.export_head headline.export_notes channels samples annotations

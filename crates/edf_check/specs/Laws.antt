@@ -1,5 +1,5 @@
 -- What follows from the definition of the verdict.
-use Rattle.std.specs.Prelude.{◌≡◌, ◌↔◌, ◌<◌, ◌^◌, ◌*ℤ◌, ℕ, pos, neg_ℤ, unsigned_abs, List, ℤ, ◌+ℤ◌, ◌<ℤ◌, ◌≤ℤ◌}
+use Rattle.std.specs.Prelude.{◌≡◌, ◌↔◌, ◌<◌, ◌^◌, ◌*ℤ◌, ℕ, pos, neg_ℤ, unsigned_abs, List, [], ◌∷◌, ℤ, ◌+ℤ◌, ◌<ℤ◌, ◌≤ℤ◌}
 use Rattle.std.specs.List.Sorted.{IsPermutation}
 use Rattle.edf_claim.specs.Claims.{IsClaim}
 use Rattle.edf_claim.specs.Terms.{Terms}
@@ -20,6 +20,7 @@ use Rattle.edf_check.specs.Instants.{later}
 use Rattle.edf_check.specs.Headline.{Headline}
 use Rattle.edf_check.specs.Kept.{IsKeptSample, SamplesAsKept, shift_ps}
 use Rattle.edf_check.specs.KeptReading.{origin_of}
+use Rattle.edf_check.specs.Parts.{AreTogether}
 use Rattle.edf_check.specs.SameFiles.{HoldTheSame}
 use Rattle.edf_check.specs.Verdicts.{IsVerdict}
 use Rattle.edf_heads.specs.SameHeads.{AreBlankAlike}
@@ -50,6 +51,10 @@ HeadlineExactly = (original export : List ℕ) (claim : Terms) →
 abbrev pub SamplesInWords : Type 0
 SamplesInWords = (original export : List ℕ) (claim : Terms) →
     SameSamples original export claim ↔ SamplesAsKept original export (head_of original) (head_of export) claim
+
+-- a single file is the export of an original exactly where it is so as the only part
+abbrev pub OnePart : Type 0
+OnePart = (original export : List ℕ) (claim : Terms) → AreTogether original (export ∷ []) claim ↔ IsExport original export claim
 
 -- each annotation stands equally often in two lists exactly where one is a rearrangement of the other
 abbrev pub NotesInWords : Type 0

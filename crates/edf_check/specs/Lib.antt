@@ -1,12 +1,14 @@
 pub mod Instants
 pub mod InstantOrder
 pub mod Courses
+pub mod Unions
 pub mod Premises
 pub mod Kept
 pub mod KeptReading
 pub mod Headline
 pub mod Annotations
 pub mod Exports
+pub mod Parts
 pub mod Verdicts
 pub mod SameFiles
 pub mod Laws

@@ -10,7 +10,7 @@ use Rattle.edf_heads.specs.HeadVerdicts.{HeadsAgree, IsHeadVerdict}
 use Rattle.edf_check.specs.KeptReading.{KeptAt, ExportedAt, kept_notes, exported_notes}
 use Rattle.edf_verdict.specs.declared.verdict.Verdict.{Verdict}
 use Rattle.edf_verdict.specs.declared.verdict.Verdict.TheVariants.{Yes, No}
-use Rattle.edf_verdict.specs.declared.verdict.Difference.TheVariants.{OriginalFault, ExportFault, UnknownChannel, MissingChannel, ExtraChannel, ChannelText, Calibration, Subfield, NotClean, Sample, Annotation}
+use Rattle.edf_verdict.specs.declared.verdict.Difference.TheVariants.{OriginalFault, ExportFault, UnknownChannel, MissingChannel, ExtraChannel, ChannelText, Calibration, Subfield, NotClean, PartOrder, Sample, Annotation}
 
 -- both files conform, and the headers differ so
 abbrev pub HeadsDiffer : List ℕ → List ℕ → Terms → Verdict → Type 0
@@ -27,6 +27,7 @@ IsVerdict original export claim (No (ChannelText label field)) = HeadsDiffer ori
 IsVerdict original export claim (No (Calibration label)) = HeadsDiffer original export claim (No (Calibration label))
 IsVerdict original export claim (No (Subfield which mismatch)) = HeadsDiffer original export claim (No (Subfield which mismatch))
 IsVerdict original export claim (No (NotClean text)) = HeadsDiffer original export claim (No (NotClean text))
+IsVerdict original export claim (No PartOrder) = ⊥
 IsVerdict original export claim (No (Sample label at_ps mismatch)) =
     BothConform original export × HeadsAgree (head_of original) (head_of export) claim
     × IsFirstMismatch (KeptAt original claim) (ExportedAt original export claim) label at_ps mismatch

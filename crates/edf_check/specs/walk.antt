@@ -8,3 +8,6 @@ pub mod Gathered
 pub mod Keepers
 pub mod Readings
 pub mod Ends
+pub mod Spans
+pub mod Series
+pub mod Outcomes

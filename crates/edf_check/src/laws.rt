@@ -1,6 +1,6 @@
 //! Laws of the definitions, each the contract of a function that does nothing.
 
-ghost use Rattle.edf_check.specs.Laws.{AnyCutOfExport, AnyCutOfOriginal, OneVerdict, SomeVerdict, YesExactly, HeadlineExactly, SamplesInWords, NotesInWords, StartFollows, AllProductsFit};
+ghost use Rattle.edf_check.specs.Laws.{OnePart, AnyCutOfExport, AnyCutOfOriginal, OneVerdict, SomeVerdict, YesExactly, HeadlineExactly, SamplesInWords, NotesInWords, StartFollows, AllProductsFit};
 
 /// Two files have one verdict at most.
 pub fn there_is_one_verdict()
@@ -49,4 +49,9 @@ pub fn products_fit()
 pub fn the_cut_does_not_matter()
     ensures export { AnyCutOfExport }
     ensures original { AnyCutOfOriginal }
+{}
+
+/// A single file is the export of an original exactly where it is so as the only part.
+pub fn one_part_is_an_export()
+    ensures { OnePart }
 {}

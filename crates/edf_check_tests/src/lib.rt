@@ -14,6 +14,8 @@ mod large;
 #[cfg(test)]
 mod night;
 #[cfg(test)]
+mod parts_lines;
+#[cfg(test)]
 mod scarce;
 #[cfg(test)]
 mod sinks;

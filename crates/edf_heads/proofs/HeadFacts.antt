@@ -139,6 +139,7 @@ agree-apart o e claim (No (differences.NotClean Header)) v h = v.2 h.blank.heade
 agree-apart o e claim (No (differences.NotClean (Channel label))) v h =
     let r = first-has (HasFreeText e) claim.channels label v.3 in
     (r.1).2 (h.blank.channels label (r.1).0 (r.1).1)
+agree-apart o e claim (No differences.PartOrder) v h = v
 agree-apart o e claim (No (differences.Sample label at_ps mismatch)) v h = v
 agree-apart o e claim (No (differences.Annotation mismatch onset duration text)) v h = v
 

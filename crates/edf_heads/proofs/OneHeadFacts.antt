@@ -114,6 +114,7 @@ kind-of o e c (No (differences.Calibration l)) h = from-text o e c _ h.0 (inr (h
 kind-of o e c (No (differences.Subfield which mismatch)) h = from-subfield o e c _ h.0 (inl (which, mismatch, refl, h.1))
 kind-of o e c (No (differences.NotClean Header)) h = from-subfield o e c _ h.0 (inr (h.1, inl (refl, h.2)))
 kind-of o e c (No (differences.NotClean (Channel l))) h = from-subfield o e c _ h.0 (inr (h.1, inr (h.2, (l, refl, h.3))))
+kind-of o e c (No differences.PartOrder) h = absurd h
 kind-of o e c (No (differences.Sample l at_ps mismatch)) h = absurd h
 kind-of o e c (No (differences.Annotation mismatch onset duration text)) h = absurd h
 

@@ -306,5 +306,6 @@ head_verdict_carried o e o' e' s b c (No (differences.NotClean (Channel l))) h =
   b.header.0 h.2,
   first-carried (HasFreeText e) (HasFreeText e') (free-carried e e' s.export b) (free-carried e' e (same-heads-back e e' s.export) (blank-alike-back e e' b)) c.channels l h.3,
 )
+head_verdict_carried o e o' e' s b c (No differences.PartOrder) h = h
 head_verdict_carried o e o' e' s b c (No (differences.Sample l at_ps mismatch)) h = h
 head_verdict_carried o e o' e' s b c (No (differences.Annotation mismatch onset duration text)) h = h

@@ -14,7 +14,7 @@ use Rattle.edf_heads.specs.Blank.{IsBlankHeader, IsBlank}
 use Rattle.edf_heads.specs.BlankDifference.{IsFirstWithFreeText}
 use Rattle.edf_verdict.specs.declared.verdict.Verdict.{Verdict}
 use Rattle.edf_verdict.specs.declared.verdict.Verdict.TheVariants.{Yes, No}
-use Rattle.edf_verdict.specs.declared.verdict.Difference.TheVariants.{OriginalFault, ExportFault, UnknownChannel, MissingChannel, ExtraChannel, ChannelText, Calibration, Subfield, NotClean, Sample, Annotation}
+use Rattle.edf_verdict.specs.declared.verdict.Difference.TheVariants.{OriginalFault, ExportFault, UnknownChannel, MissingChannel, ExtraChannel, ChannelText, Calibration, Subfield, NotClean, PartOrder, Sample, Annotation}
 use Rattle.edf_verdict.specs.declared.verdict.FreeText.TheVariants.{Header, Channel}
 
 -- the export's header is what the claim says of the original's
@@ -52,5 +52,6 @@ IsHeadVerdict original export claim (No (NotClean Header)) =
     SignalsAgree original export claim × SubfieldsAsClaimed original export claim × (IsBlankHeader export → ⊥)
 IsHeadVerdict original export claim (No (NotClean (Channel label))) =
     SignalsAgree original export claim × SubfieldsAsClaimed original export claim × IsBlankHeader export × IsFirstWithFreeText export claim label
+IsHeadVerdict original export claim (No PartOrder) = ⊥
 IsHeadVerdict original export claim (No (Sample label at_ps mismatch)) = ⊥
 IsHeadVerdict original export claim (No (Annotation mismatch onset duration text)) = ⊥

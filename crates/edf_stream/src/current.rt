@@ -47,6 +47,15 @@ impl FileReader {
         self.progress.ended_ps
     }
 
+    /// Where the last data record that was read ends, in picoseconds after the start of the file; 0 where none
+    /// was read. Behind the end of a file it is where the file's last data record ends.
+    pub fn read_to_ps(&self) -> i128
+        ensures value { result ≡ self.now.ended }
+        ensures small { unsigned_abs result < 2 ^ 71 }
+    {
+        self.progress.ended_ps
+    }
+
     /// The bytes of the data record at hand (EDF, "Data record").
     pub fn record(&self) -> &[u8]
         requires { IsTrue (is_current self.now.status) }

@@ -81,8 +81,10 @@ fn reads_the_reference_file(rt: HostRuntime) -> Result<(), Fail> {
     let mut source = SliceSource::new(&file);
     let mut reader = FileReader::begin(rt.alloc(), &mut source)?;
     assert!(rt; !reader.has_current());
+    assert_eq!(rt; reader.read_to_ps(), 0);
     for (start, end, value, count, want) in RECORDS {
         assert_eq!(rt; reader.next(&mut source), Ok(true));
+        assert_eq!(rt; reader.read_to_ps(), end);
         assert_eq!(rt;
             seen(&reader),
             Some((start, end, Some(value), Some(value), count))
@@ -92,6 +94,7 @@ fn reads_the_reference_file(rt: HostRuntime) -> Result<(), Fail> {
     }
     assert_eq!(rt; reader.next(&mut source), Ok(false));
     assert!(rt; !reader.has_current());
+    assert_eq!(rt; reader.read_to_ps(), 4_000_000_000_000);
     Ok(())
 }
 

@@ -1,4 +1,6 @@
 pub mod Outcomes
 pub mod Quotes
 pub mod NoteTimes
+pub mod Numbers
 pub mod Lines
+pub mod PartsLines

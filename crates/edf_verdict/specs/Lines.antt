@@ -7,7 +7,7 @@ use Rattle.edf_fields.specs.FaultTexts.{fault_text}
 use Rattle.edf_verdict.specs.declared.verdict.AnnotationMismatch.{AnnotationMismatch}
 use Rattle.edf_verdict.specs.declared.verdict.AnnotationMismatch.TheVariants as notes
 use Rattle.edf_verdict.specs.declared.verdict.Difference.{Difference}
-use Rattle.edf_verdict.specs.declared.verdict.Difference.TheVariants.{OriginalFault, ExportFault, UnknownChannel, MissingChannel, ExtraChannel, ChannelText, Calibration, Subfield, NotClean, Sample, Annotation}
+use Rattle.edf_verdict.specs.declared.verdict.Difference.TheVariants.{OriginalFault, ExportFault, UnknownChannel, MissingChannel, ExtraChannel, ChannelText, Calibration, Subfield, NotClean, PartOrder, Sample, Annotation}
 use Rattle.edf_verdict.specs.declared.verdict.FreeText.{FreeText}
 use Rattle.edf_verdict.specs.declared.verdict.FreeText.TheVariants.{Header, Channel}
 use Rattle.edf_verdict.specs.declared.verdict.SampleMismatch.{SampleMismatch}
@@ -19,6 +19,7 @@ use Rattle.edf_verdict.specs.declared.verdict.TextField.TheVariants.{Transducer,
 use Rattle.edf_verdict.specs.declared.verdict.Verdict.{Verdict}
 use Rattle.edf_verdict.specs.declared.verdict.Verdict.TheVariants.{Yes, No}
 use Rattle.edf_verdict.specs.NoteTimes.{note_times}
+use Rattle.edf_verdict.specs.Numbers.{number_of}
 use Rattle.edf_verdict.specs.Quotes.{with_quoted}
 
 -- which text of a channel
@@ -28,7 +29,7 @@ field_text Prefilter = codes "prefilter"
 
 -- a difference of a channel's texts
 abbrev pub channel_text : List ℕ → TextField → List ℕ
-channel_text label field = with_quoted (codes "NO 6 channel text ") label ++ (codes " " ++ field_text field)
+channel_text label field = with_quoted (codes "channel text ") label ++ (codes " " ++ field_text field)
 
 -- how a subfield isn't as claimed
 abbrev pub subfield_mismatch_text : SubfieldMismatch → List ℕ
@@ -37,12 +38,12 @@ subfield_mismatch_text Changed = codes "changed"
 
 -- a difference of subfields, by the name that a claim gives the subfield
 abbrev pub subfield_text : Which → SubfieldMismatch → List ℕ
-subfield_text which mismatch = codes "NO 8 subfield " ++ (name_of which ++ (codes " " ++ subfield_mismatch_text mismatch))
+subfield_text which mismatch = codes "subfield " ++ (name_of which ++ (codes " " ++ subfield_mismatch_text mismatch))
 
 -- where the export has free text
 abbrev pub not_clean_text : FreeText → List ℕ
-not_clean_text Header = codes "NO 9 not clean header"
-not_clean_text (Channel label) = with_quoted (codes "NO 9 not clean ") label
+not_clean_text Header = codes "not clean header"
+not_clean_text (Channel label) = with_quoted (codes "not clean ") label
 
 -- how the samples at an instant differ
 abbrev pub sample_mismatch_text : SampleMismatch → List ℕ
@@ -56,7 +57,7 @@ moment_text at_ps mismatch = codes " at " ++ (signed_decimal at_ps ++ (codes " p
 
 -- a difference of samples
 abbrev pub sample_text : List ℕ → ℤ → SampleMismatch → List ℕ
-sample_text label at_ps mismatch = with_quoted (codes "NO 10 sample ") label ++ moment_text at_ps mismatch
+sample_text label at_ps mismatch = with_quoted (codes "sample ") label ++ moment_text at_ps mismatch
 
 -- how often an annotation stands in the export
 abbrev pub note_mismatch_text : AnnotationMismatch → List ℕ
@@ -66,21 +67,30 @@ note_mismatch_text notes.Extra = codes "extra"
 -- the words in front of an annotation's text: how often it stands in the export, its onset and its duration
 unfoldable pub note_words : AnnotationMismatch → ℤ → Option ℤ → List ℕ
 note_words mismatch onset duration =
-    codes "NO 11 annotation " ++ (note_mismatch_text mismatch ++ (codes " at " ++ (note_times onset duration ++ codes " text ")))
+    codes "annotation " ++ (note_mismatch_text mismatch ++ (codes " at " ++ (note_times onset duration ++ codes " text ")))
+
+-- the kind of a difference, and what it is about
+abbrev pub what_text : Difference → List ℕ
+what_text (OriginalFault fault) = codes "original fault: " ++ fault_text fault
+what_text (ExportFault fault) = codes "export fault: " ++ fault_text fault
+what_text (UnknownChannel label) = with_quoted (codes "unknown channel ") label
+what_text (MissingChannel label) = with_quoted (codes "missing channel ") label
+what_text (ExtraChannel label) = with_quoted (codes "extra channel ") label
+what_text (ChannelText label field) = channel_text label field
+what_text (Calibration label) = with_quoted (codes "calibration ") label
+what_text (Subfield which mismatch) = subfield_text which mismatch
+what_text (NotClean text) = not_clean_text text
+what_text PartOrder = codes "starts early"
+what_text (Sample label at_ps mismatch) = sample_text label at_ps mismatch
+what_text (Annotation mismatch onset duration text) = with_quoted (note_words mismatch onset duration) text
+
+-- NO, and a number
+unfoldable pub no_text : ℕ → List ℕ
+no_text number = codes "NO " ++ (decimal number ++ codes " ")
 
 -- a difference in words: NO, its number, its kind, and what it is about
 abbrev pub difference_text : Difference → List ℕ
-difference_text (OriginalFault fault) = codes "NO 1 original fault: " ++ fault_text fault
-difference_text (ExportFault fault) = codes "NO 2 export fault: " ++ fault_text fault
-difference_text (UnknownChannel label) = with_quoted (codes "NO 3 unknown channel ") label
-difference_text (MissingChannel label) = with_quoted (codes "NO 4 missing channel ") label
-difference_text (ExtraChannel label) = with_quoted (codes "NO 5 extra channel ") label
-difference_text (ChannelText label field) = channel_text label field
-difference_text (Calibration label) = with_quoted (codes "NO 7 calibration ") label
-difference_text (Subfield which mismatch) = subfield_text which mismatch
-difference_text (NotClean text) = not_clean_text text
-difference_text (Sample label at_ps mismatch) = sample_text label at_ps mismatch
-difference_text (Annotation mismatch onset duration text) = with_quoted (note_words mismatch onset duration) text
+difference_text difference = no_text (number_of difference) ++ what_text difference
 
 -- what was compared
 abbrev pub counts_text : ℕ → ℕ → ℕ → List ℕ

@@ -3,7 +3,7 @@
 ghost use Rattle.std.specs.Prelude.{◌≡◌, ◌++◌, Some, IfOk, OnOk};
 ghost use Rattle.edf_fields.specs.FaultTexts.{fault_text};
 ghost use Rattle.edf_verdict.specs.Quotes.{with_quoted};
-ghost use Rattle.edf_verdict.specs.Lines.{field_text, channel_text, subfield_mismatch_text, subfield_text, not_clean_text, sample_mismatch_text, moment_text, sample_text, note_mismatch_text, note_words, counts_text, difference_text, verdict_text, verdict_line};
+ghost use Rattle.edf_verdict.specs.Lines.{field_text, channel_text, subfield_mismatch_text, subfield_text, not_clean_text, sample_mismatch_text, moment_text, sample_text, note_mismatch_text, note_words, counts_text, what_text, no_text, difference_text, verdict_text, verdict_line};
 
 use crate::label::Label;
 use crate::note_text::NoteText;
@@ -92,11 +92,7 @@ impl fmt::Display for NoteWords {
 
     #[tactic(auto, unfolding(crate::specs::Lines::note_words))]
     fn fmt<W: fmt::Write>(&self, f: &mut fmt::Formatter<W>) -> fmt::Result {
-        write!(
-            f,
-            "NO 11 annotation {} at {} text ",
-            self.mismatch, self.times
-        )
+        write!(f, "annotation {} at {} text ", self.mismatch, self.times)
     }
 }
 
@@ -139,7 +135,7 @@ fn push_channel_text(
     ensures { OnOk result (line.new.items ≡ line.old.items ++ channel_text label.now field) }
 {
     let words = format!(in alloc; " {field}")?;
-    push_around(line, "NO 6 channel text ", label, &words)
+    push_around(line, "channel text ", label, &words)
 }
 
 /// Puts a difference of subfields behind the line.
@@ -151,7 +147,7 @@ fn push_subfield(
 ) -> Result<(), AllocError>
     ensures { OnOk result (line.new.items ≡ line.old.items ++ subfield_text which mismatch) }
 {
-    let words = format!(in alloc; "NO 8 subfield {} {mismatch}", which.name())?;
+    let words = format!(in alloc; "subfield {} {mismatch}", which.name())?;
     line.extend_from_slice(words.as_bytes())
 }
 
@@ -160,8 +156,8 @@ fn push_not_clean(line: &mut Vec<u8>, text: &FreeText) -> Result<(), AllocError>
     ensures { OnOk result (line.new.items ≡ line.old.items ++ not_clean_text text.now) }
 {
     match text {
-        FreeText::Header => line.extend_from_slice("NO 9 not clean header".as_bytes()),
-        FreeText::Channel(label) => push_label(line, "NO 9 not clean ", label),
+        FreeText::Header => line.extend_from_slice("not clean header".as_bytes()),
+        FreeText::Channel(label) => push_label(line, "not clean ", label),
     }
 }
 
@@ -175,7 +171,7 @@ fn push_sample(
     ensures { OnOk result (line.new.items ≡ line.old.items ++ sample_text label.now moment.at_ps moment.mismatch) }
 {
     let words = moment.to_string(alloc)?;
-    push_around(line, "NO 10 sample ", label, &words)
+    push_around(line, "sample ", label, &words)
 }
 
 /// Puts a difference of annotations behind the line.
@@ -207,25 +203,33 @@ fn push_counts(
     line.extend_from_slice(words.as_bytes())
 }
 
+/// Puts `NO` and a number behind the line.
+#[tactic(auto, unfolding(crate::specs::Lines::no_text))]
+pub(crate) fn push_no(line: &mut Vec<u8>, alloc: Global, number: u8) -> Result<(), AllocError>
+    ensures { OnOk result (line.new.items ≡ line.old.items ++ no_text number) }
+{
+    let words = format!(in alloc; "NO {number} ")?;
+    line.extend_from_slice(words.as_bytes())
+}
+
 impl Difference {
-    /// Puts the difference in words behind the line: `NO`, its number, its kind and what it is about.
-    fn push(&self, line: &mut Vec<u8>, alloc: Global) -> Result<(), AllocError>
-        ensures { OnOk result (line.new.items ≡ line.old.items ++ difference_text self.now) }
+    /// Puts the kind of the difference and what it is about behind the line.
+    pub(crate) fn push_what(&self, line: &mut Vec<u8>, alloc: Global) -> Result<(), AllocError>
+        ensures { OnOk result (line.new.items ≡ line.old.items ++ what_text self.now) }
     {
         match self {
             Difference::OriginalFault(fault) => {
-                push_fault(line, alloc, "NO 1 original fault: ", fault)
+                push_fault(line, alloc, "original fault: ", fault)
             }
-            Difference::ExportFault(fault) => {
-                push_fault(line, alloc, "NO 2 export fault: ", fault)
-            }
-            Difference::UnknownChannel(label) => push_label(line, "NO 3 unknown channel ", label),
-            Difference::MissingChannel(label) => push_label(line, "NO 4 missing channel ", label),
-            Difference::ExtraChannel(label) => push_label(line, "NO 5 extra channel ", label),
+            Difference::ExportFault(fault) => { push_fault(line, alloc, "export fault: ", fault) }
+            Difference::UnknownChannel(label) => push_label(line, "unknown channel ", label),
+            Difference::MissingChannel(label) => push_label(line, "missing channel ", label),
+            Difference::ExtraChannel(label) => push_label(line, "extra channel ", label),
             Difference::ChannelText(label, field) => push_channel_text(line, alloc, label, *field),
-            Difference::Calibration(label) => push_label(line, "NO 7 calibration ", label),
+            Difference::Calibration(label) => push_label(line, "calibration ", label),
             Difference::Subfield(which, mismatch) => push_subfield(line, alloc, *which, *mismatch),
             Difference::NotClean(text) => push_not_clean(line, text),
+            Difference::PartOrder => line.extend_from_slice("starts early".as_bytes()),
             Difference::Sample {
                 label,
                 at_ps,
@@ -253,6 +257,14 @@ impl Difference {
                 push_note(line, alloc, note, text)
             }
         }
+    }
+
+    /// Puts the difference in words behind the line: `NO`, its number, its kind and what it is about.
+    fn push(&self, line: &mut Vec<u8>, alloc: Global) -> Result<(), AllocError>
+        ensures { OnOk result (line.new.items ≡ line.old.items ++ difference_text self.now) }
+    {
+        push_no(line, alloc, self.number())?;
+        self.push_what(line, alloc)
     }
 }
 

@@ -44,6 +44,9 @@ pub enum Difference {
     Subfield(Which, SubfieldMismatch),
     /// The export has free text.
     NotClean(FreeText),
+    /// Of several exports of one original, this one begins before the one before it ends. Of a single export it is
+    /// never said.
+    PartOrder,
     /// At one instant of a channel a sample is missing, extra or has another value: the earliest such
     /// instant, and at it the least label in the order of bytes.
     Sample {

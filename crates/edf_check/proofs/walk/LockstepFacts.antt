@@ -1,5 +1,5 @@
 -- One step of a walk over two files, and its end.
-use Rattle.std.proofs.Common.{◌≡◌, ℕ, ℤ, ◌<ℤ◌, ◌≤ℤ◌, ◌<◌, ◌^◌, pos, neg_ℤ, unsigned_abs, false, List, [], ◌∷◌, map, Option, None, Some, option_map, IfSome, refl, sym, ap, ◌∙◌, arith, subst}
+use Rattle.std.proofs.Common.{◌≡◌, ℕ, ℤ, ◌<ℤ◌, ◌≤ℤ◌, ◌<◌, ◌^◌, pos, neg_ℤ, unsigned_abs, true, false, List, [], ◌∷◌, map, Option, None, Some, option_map, IfSome, IfNone, refl, sym, ap, ◌∙◌, arith, subst}
 use Rattle.std.proofs.lemmas.Int.{ints}
 use Rattle.std.proofs.lemmas.List.Elements.{All-head, All-tail}
 use Rattle.std.specs.Option.{option_or}
@@ -25,7 +25,7 @@ use Rattle.edf_check.specs.walk.Pairs.{Places, places_of, ArePairs, IsTrack, IsP
 use Rattle.edf_check.specs.walk.Shown.{Shows, ArePast, Reaches, IsGoing, Covers}
 use Rattle.edf_check.specs.walk.Readings.{IsAt}
 use Rattle.edf_check.specs.walk.Gathered.{gathered_of}
-use Rattle.edf_check.specs.walk.Ends.{first_fault_of, IsFaultOf, IsReadThrough, AreWalked}
+use Rattle.edf_check.specs.walk.Ends.{first_fault_of, IsFaultOf, IsReadThrough, AreReadOn, AreWalked}
 use Rattle.edf_check.proofs.walk.PassFacts.{ended_is}
 use Rattle.edf_check.proofs.walk.SplitFacts.{ArePlaces, step, at_start, at_end}
 
@@ -59,51 +59,24 @@ rest_start claim o e h g a b t pairs co ce all na nb time =
 
 -- ---- a step
 
-covers_at : (first now : Reader) (left : List ℕ) (notes : List NoteValue) (file : List ℕ) (claim : Option Terms) (ps t u end : ℤ) → now.head ≡ first.head → Conforms file first.head → IsAt now left notes file claim ps t → Reaches now ps end → u ≤ℤ end → Covers now file ps t u
+pub covers_at : (first now : Reader) (left : List ℕ) (notes : List NoteValue) (file : List ℕ) (claim : Option Terms) (ps t u end : ℤ) → now.head ≡ first.head → Conforms file first.head → IsAt now left notes file claim ps t → Reaches now ps end → u ≤ℤ end → Covers now file ps t u
 covers_at first now left notes file claim ps t u end head conforms at reaches l =
     let P : Head → Type 0 = λ h. Conforms file h in
     record { conforms = subst P (sym head) conforms; shows = at.shows; reaches = λ e. (let r = reaches e in omega (arith, ints, r, l)) }
 
--- what is left to be found is what is found up to u, or else what is left from u on
-pub found_next : (claim : Terms) (pairs : List Pair) (fo fe ro re : Reader) (lo le : List ℕ) (ns ms : List NoteValue) (x y : List ℕ) (a b t u end : ℤ) (now all : Option Found)
-    → ro.head ≡ fo.head → re.head ≡ fe.head → Conforms x fo.head → Conforms y fe.head → ArePairs fo.head fe.head pairs → t <ℤ u → u ≤ℤ end → Reaches ro a end → Reaches re b end
-    → IsAt ro lo ns x (Some claim) a t → IsAt re le ms y None b t
-    → ((v w : List ℕ) → Covers ro v a t u → Covers re w b t u → now ≡ window_difference claim (sampled v ro.head a) (sampled w re.head b) (map places_of pairs) t u)
-    → all ≡ rest_difference claim (sampled x fo.head a) (sampled y fe.head b) (map places_of pairs) t
-    → all ≡ option_or now (rest_difference claim (sampled x fo.head a) (sampled y fe.head b) (map places_of pairs) u)
-found_next claim pairs fo fe ro re lo le ns ms x y a b t u end now all ho he co ce are lt within oo ee ao ae value before =
-    let ps = map places_of pairs in
-    let found : now ≡ window_difference claim (sampled x fo.head a) (sampled y fe.head b) ps t u =
-    value x y (covers_at fo ro lo ns x (Some claim) a t u end ho co ao oo within) (covers_at fe re le ms y None b t u end he ce ae ee within)
-    ∙ ap (λ h. window_difference claim (sampled x h a) (sampled y re.head b) ps t u) ho
-    ∙ ap (λ h. window_difference claim (sampled x fo.head a) (sampled y h b) ps t u) he in
-    step claim x y fo.head fe.head a b ps t u None all co ce (are_places fo.head fe.head pairs are) (omega (arith, ints, lt)) before
-    ∙ ap (λ z. option_or z (rest_difference claim (sampled x fo.head a) (sampled y fe.head b) ps u)) (sym found)
-
--- where nothing is found up to u
-pub rest_next : (claim : Terms) (pairs : List Pair) (fo fe ro re : Reader) (lo le : List ℕ) (ns ms : List NoteValue) (x y : List ℕ) (a b t u end : ℤ) (now all : Option Found)
-    → ro.head ≡ fo.head → re.head ≡ fe.head → Conforms x fo.head → Conforms y fe.head → ArePairs fo.head fe.head pairs → t <ℤ u → u ≤ℤ end → Reaches ro a end → Reaches re b end
-    → IsAt ro lo ns x (Some claim) a t → IsAt re le ms y None b t
-    → ((v w : List ℕ) → Covers ro v a t u → Covers re w b t u → now ≡ window_difference claim (sampled v ro.head a) (sampled w re.head b) (map places_of pairs) t u) → now ≡ None
-    → all ≡ rest_difference claim (sampled x fo.head a) (sampled y fe.head b) (map places_of pairs) t
-    → all ≡ rest_difference claim (sampled x fo.head a) (sampled y fe.head b) (map places_of pairs) u
-rest_next claim pairs fo fe ro re lo le ns ms x y a b t u end now all ho he co ce are lt within oo ee ao ae value none before =
-    found_next claim pairs fo fe ro re lo le ns ms x y a b t u end now all ho he co ce are lt within oo ee ao ae value before
-    ∙ ap (λ z. option_or z (rest_difference claim (sampled x fo.head a) (sampled y fe.head b) (map places_of pairs) u)) none
-
 -- ---- the end
 
 -- a reader that has no data record at hand has gone through a file that conforms, and gathered its annotations
-record HasEnded (left : List ℕ) (notes : List NoteValue) (file : List ℕ) (h : Head) (claim : Option Terms) (ps t : ℤ) : Type 0 where
-  through : IsReadThrough file h left
-  gathered : notes ≡ gathered_of claim ps (notes_of file h)
-  past : ArePast file h ps h.records t
+pub record HasEnded (left : List ℕ) (notes : List NoteValue) (file : List ℕ) (h : Head) (claim : Option Terms) (ps t : ℤ) : Type 0 where
+  pub through : IsReadThrough file h left
+  pub gathered : notes ≡ gathered_of claim ps (notes_of file h)
+  pub past : ArePast file h ps h.records t
 
 all-gathered : (claim : Option Terms) (ps : ℤ) (file : List ℕ) (h : Head) (k : ℕ) (notes : List NoteValue) → notes ≡ gathered_of claim ps (moved_notes_before file h k) → k ≡ h.records → notes ≡ gathered_of claim ps (notes_of file h)
 unfolding notes_of
 all-gathered claim ps file h k notes e read = e ∙ ap (λ j. gathered_of claim ps (moved_notes_before file h j)) read
 
-has_ended : (first now : Reader) (left : List ℕ) (notes : List NoteValue) (file : List ℕ) (claim : Option Terms) (ps t : ℤ) → now.head ≡ first.head → IsGoing now.status → is_current now.status ≡ false → IsAt now left notes file claim ps t → HasEnded left notes file first.head claim ps t
+pub has_ended : (first now : Reader) (left : List ℕ) (notes : List NoteValue) (file : List ℕ) (claim : Option Terms) (ps t : ℤ) → now.head ≡ first.head → IsGoing now.status → is_current now.status ≡ false → IsAt now left notes file claim ps t → HasEnded left notes file first.head claim ps t
 has_ended first now left notes file claim ps t head going none at =
     let ended : now.status ≡ Ended = ended_is now.status going none in
     let P : Status → Type 0 = λ s. Shows s now file ps t in
@@ -116,34 +89,22 @@ has_ended first now left notes file claim ps t head going none at =
       past = past;
     })
 
-pub walked_end : (claim : Terms) (pairs : List Pair) (fo fe ro re : Reader) (lo le : List ℕ) (ns ms : List NoteValue) (x y : List ℕ) (a b t : ℤ)
-    → ro.head ≡ fo.head → re.head ≡ fe.head → IsGoing ro.status → IsGoing re.status → is_current ro.status ≡ false → is_current re.status ≡ false → ArePairs fo.head fe.head pairs
-    → IsAt ro lo ns x (Some claim) a t → IsAt re le ms y None b t
-    → (Conforms x fo.head → Conforms y fe.head → whole_difference claim (sampled x fo.head a) (sampled y fe.head b) (map places_of pairs) ≡ rest_difference claim (sampled x fo.head a) (sampled y fe.head b) (map places_of pairs) t)
-    → AreWalked x fo.head lo ns y fe.head le ms claim a b (map places_of pairs) None
-walked_end claim pairs fo fe ro re lo le ns ms x y a b t ho he go ge co ce are ao ae h =
-    let o = has_ended fo ro lo ns x (Some claim) a t ho go co ao in
-    let e = has_ended fe re le ms y None b t he ge ce ae in
-    let ps = map places_of pairs in
+-- two files that were read on from a time before both begin, to the ends of both
+pub all_read : (claim : Terms) (pairs : List Pair) (x y lo le : List ℕ) (h g : Head) (ns ms : List NoteValue) (a b t u : ℤ) (found : Option Found) → ArePairs h g pairs → unsigned_abs a < 2 ^ 80 → unsigned_abs b < 2 ^ 80 → t ≡ neg_ℤ (pos (2 ^ 90))
+    → AreReadOn true x h lo ns y g le ms claim a b (map places_of pairs) t u found → AreWalked x h lo ns y g le ms claim a b (map places_of pairs) found
+all_read claim pairs x y lo le h g ns ms a b t u found are na nb time r =
+    let through = r.through refl in
+    let co = (through.0).conforms in
     record {
-      original = o.through;
-      export = e.through;
-      first = at_end claim x y fo.head fe.head a b ps t None (whole_difference claim (sampled x fo.head a) (sampled y fe.head b) ps) (o.through).conforms (e.through).conforms (are_places fo.head fe.head pairs are) o.past e.past
-          (h (o.through).conforms (e.through).conforms);
-      gathered = (o.gathered, e.gathered);
+      original = through.0;
+      export = r.export;
+      first = r.first co ∙ sym (rest_start claim x y h g a b t pairs co (r.export).conforms are na nb time);
+      gathered = both found through.1 r.gathered;
     }
-
--- two files that were read on behind a difference
-pub walked_behind : (claim : Terms) (fo fe ro re : Reader) (lo le : List ℕ) (ns ms : List NoteValue) (x y : List ℕ) (a b : ℤ) (ps : List Places) (found : Found) (rest : Option Found)
-    → ro.head ≡ fo.head → re.head ≡ fe.head → IsReadThrough x ro.head lo × IsReadThrough y re.head le
-    → (Conforms x fo.head → Conforms y fe.head → whole_difference claim (sampled x fo.head a) (sampled y fe.head b) ps ≡ option_or (Some found) rest)
-    → AreWalked x fo.head lo ns y fe.head le ms claim a b ps (Some found)
-walked_behind claim fo fe ro re lo le ns ms x y a b ps found rest ho he both h =
-    let P : Head → Type 0 = λ k. IsReadThrough x k lo in
-    let Q : Head → Type 0 = λ k. IsReadThrough y k le in
-    let o : IsReadThrough x fo.head lo = subst P ho both.0 in
-    let e : IsReadThrough y fe.head le = subst Q he both.1 in
-    record { original = o; export = e; first = sym (h o.conforms e.conforms); gathered = tt }
+  where
+    both : (f : Option Found) → IfNone f (ns ≡ gathered_of (Some claim) a (notes_of x h)) → IfNone f (ms ≡ gathered_of None b (notes_of y g)) → IfNone f ((ns ≡ gathered_of (Some claim) a (notes_of x h)) × (ms ≡ gathered_of None b (notes_of y g)))
+    both None p q = (p, q)
+    both (Some f) p q = tt
 
 -- ---- faults
 

@@ -86,7 +86,7 @@ label-of file h label place x sound e i same =
 -- ---- one column of a file that conforms
 
 -- the instant of a point is that of its sample, moved
-at-instant : (n : ℕ) (ps : ℤ) (x : Sample) → (x.instant).den ≡ n → instant n (point_of ps x) ≡ later ps x.instant
+pub at-instant : (n : ℕ) (ps : ℤ) (x : Sample) → (x.instant).den ≡ n → instant n (point_of ps x) ≡ later ps x.instant
 at-instant n ps x e = let make : ℕ → Instant = λ m. record { num = (later ps x.instant).num; den = m } in ap make (sym e)
 
 -- a value of a column is that of a sample of its channel
@@ -139,7 +139,7 @@ sampled-value file d label test at v c s =
     (x, is, s.labelled, subst (λ (i : Instant). IsSame i (later d at)) (later-back d (s.x).instant) (later-same d (later (neg_ℤ d) (s.x).instant) at s.same), s.value_is)
 
 -- and back
-value-sampled : (file : List ℕ) (d : ℤ) (label : List ℕ) (test : Sample → Bool) (at : Instant) (v : ℤ) → Conforms file (head_of file)
+pub value-sampled : (file : List ℕ) (d : ℤ) (label : List ℕ) (test : Sample → Bool) (at : Instant) (v : ℤ) → Conforms file (head_of file)
     → ((x : Sample) → Has (samples_of file (head_of file)) x → channel_label (head_of file) x.channel ≡ label → IsSame (later (neg_ℤ d) x.instant) at → test x ≡ true)
     → ValueAt file label (later d at) v → IsSampled file (head_of file) label test (neg_ℤ d) at v
 value-sampled file d label test at v c passes (y, is, named, same, value) =
@@ -223,7 +223,7 @@ place-there h label (x, is) = cases (channel_at label h) refl
 
 places : (original export : List ℕ) (claim : Terms) (o e : Sampled) (label : List ℕ) → AreNights original export claim o e → Has claim.channels label → HasPlaces o e label
 places original export claim o e label a i =
-    let channels = (a.agree).channels in
+    let channels = a.channels in
     let here = place-there (head_of original) label (channels.in_original label i) in
     let there = place-there (head_of export) label (label-has (head_of export) label (has-permutation claim.channels (channel_labels (head_of export).signals) label channels.in_export i)) in
     record { s = here.0; t = there.0; original = ap (channel_at label) a.original_head ∙ here.1; export = ap (channel_at label) a.export_head ∙ there.1 }
@@ -404,7 +404,7 @@ claimed-there original export claim o e label at v a (y, is, named, same, value)
     let h = head_of export in
     let channel = is.channel in
     let there : HasChannel h label = (channel.0, record { there = has-at h.signals is.signal channel.0 channel.1; labelled = (channel.2.0 ∙ named, ap is_annotations (sym named) ∙ channel.2.1) }) in
-    let channels = (a.agree).channels in
+    let channels = a.channels in
     has-permutation (channel_labels h.signals) claim.channels label (IsPermutation-sym claim.channels (channel_labels h.signals) channels.in_export) (has-label h label there)
 
 pub exported-agree : (original export : List ℕ) (claim : Terms) (o e : Sampled) (labels : List (List ℕ)) → AreNights original export claim o e → AreClaimed claim labels

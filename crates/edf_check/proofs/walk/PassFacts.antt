@@ -18,7 +18,7 @@ use Rattle.edf_stream.specs.Starts.{file_start}
 use Rattle.edf_stream.specs.StartsReading.{end_before}
 use Rattle.edf_stream.specs.Views.{note_value}
 use Rattle.edf_stream.specs.declared.notes.Note.{Note}
-use Rattle.edf_check.specs.walk.Shown.{ArePast, end_by, ends_at, Shows, IsGoing}
+use Rattle.edf_check.specs.walk.Shown.{ArePast, end_by, ends_at, Shows, IsGoing, IsAhead}
 use Rattle.edf_check.specs.walk.Gathered.{as_kept, counted_text, counted_of, gathered_of, gathered_in}
 use Rattle.edf_check.specs.walk.Keepers.{counted_parts, gathered_nil}
 use Rattle.edf_check.specs.walk.Readings.{IsAt, IsThere, Moves, Follows}
@@ -96,12 +96,15 @@ stands_next Current old new left file g comes o = comes.0
 stands_next Ended old new left file g comes o = absurd o
 
 pub ended_next : (s : Status) (old new : Reader) (left file : List ℕ) → IsGoing s → new.head ≡ old.head → Comes (is_current s) old new left file → s ≡ Ended
-    → (body_fault file new.head ≡ None) × Conforms file new.head × (left ≡ []) × (new.read ≡ (new.head).records)
+    → (body_fault file new.head ≡ None) × Conforms file new.head × (left ≡ []) × (new.read ≡ (new.head).records) × (new.ended ≡ end_before file new.head (new.head).records)
 ended_next Begun old new left file g e comes o = absurd g
 ended_next (Stopped x) old new left file g e comes o = absurd g
 ended_next Current old new left file g e comes o = absurd (let f : Current ≡ Ended = o in cc)
 ended_next Ended old new left file g e comes o =
-    let P : Head → Type 0 = λ h. (body_fault file h ≡ None) × Conforms file h × (left ≡ []) × (new.read ≡ h.records) in subst P (sym e) (comes.2, comes.3, comes.4, comes.1)
+    let ended : new.ended ≡ end_before file old.head (old.head).records =
+    (comes.0).stands.end_is ∙ ap (λ h. end_before file h new.read) e ∙ ap (end_before file old.head) comes.1 in
+    let P : Head → Type 0 = λ h. (body_fault file h ≡ None) × Conforms file h × (left ≡ []) × (new.read ≡ h.records) × (new.ended ≡ end_before file h h.records) in
+    subst P (sym e) (comes.2, comes.3, comes.4, comes.1, ended)
 
 pub gathered_append : (claim : Option Terms) (ps : ℤ) (xs ys : List NoteValue) → gathered_of claim ps (xs ++ ys) ≡ gathered_of claim ps xs ++ gathered_of claim ps ys
 gathered_append claim ps xs ys = counted_parts claim ps xs ys
@@ -205,16 +208,33 @@ at_first old new left notes' file claim ps u none g head count more comes =
       gathered = gathered_next new.status old new left file claim ps [] notes' g refl head count comes (none_gathered claim ps file old.head old.read none) more;
     }
 
-pub follows_on : (first old new : Reader) (a b c : Bool) (f g h : ℕ) (left left' left'' : List ℕ) (notes' notes'' : List NoteValue) (claim : Option Terms) (ps t u : ℤ)
-    → Follows first old a b f g left left' notes' claim ps t → Moves old new b c g h left' left'' notes' notes'' claim ps t u → Follows first new a c f h left left'' notes'' claim ps u
-follows_on first old new a b c f g h left left' left'' notes' notes'' claim ps t u p q = record {
+-- the first data record of a file comes, as there is one
+begins-so : (s : Status) (old new : Reader) (left file : List ℕ) → old.read ≡ 0 → IsGoing s → Comes (is_current s) old new left file → is_current s ≡ true
+begins-so Begun old new left file none g comes = absurd g
+begins-so (Stopped x) old new left file none g comes = absurd g
+begins-so Current old new left file none g comes = refl
+begins-so Ended old new left file none g comes =
+    let some = ((comes.3).header).standard.some_records in
+    let all = comes.5 in
+    absurd (omega (arith, some, all, none))
+
+pub begins_with_one : (old new : Reader) (left file : List ℕ) → old.read ≡ 0 → IsGoing new.status → Comes (is_current new.status) old new left file → is_current new.status ≡ true
+begins_with_one old new left file none g comes = begins-so new.status old new left file none g comes
+
+pub moves_on : (first old new : Reader) (a b c : Bool) (f g h : ℕ) (left left' left'' : List ℕ) (notes notes' notes'' : List NoteValue) (claim : Option Terms) (ps s t u : ℤ)
+    → Moves first old a b f g left left' notes notes' claim ps s t → Moves old new b c g h left' left'' notes' notes'' claim ps t u → Moves first new a c f h left left'' notes notes'' claim ps s u
+moves_on first old new a b c f g h left left' left'' notes notes' notes'' claim ps s t u p q = record {
   head = q.head ∙ p.head;
   going = q.going;
   ahead = q.ahead;
   honesty = λ x. q.honesty (p.honesty x);
   failures = q.failures ∙ p.failures;
-  comes = λ x file s. q.comes (p.honesty x) file (p.comes x file s);
+  comes = λ x file at. q.comes (p.honesty x) file (p.comes x file at);
 }
+
+-- nobody has read on yet
+pub moves_none : (r : Reader) (honest : Bool) (fails : ℕ) (left : List ℕ) (notes : List NoteValue) (claim : Option Terms) (ps t : ℤ) → IsGoing r.status → IsAhead r ps t → Moves r r honest honest fails fails left left notes notes claim ps t t
+moves_none r honest fails left notes claim ps t going ahead = record { head = refl; going = going; ahead = ahead; honesty = λ x. x; failures = refl; comes = λ x file at. at }
 
 -- the next data record ends later
 pub ahead_next : (old new : Reader) (ps u : ℤ) → new.head ≡ old.head → old.ended <ℤ new.ended → u ≤ℤ ends_at old ps → u <ℤ ends_at new ps

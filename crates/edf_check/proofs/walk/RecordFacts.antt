@@ -30,7 +30,7 @@ use Rattle.edf_check.specs.samples.Stretches.{stretch_points}
 use Rattle.edf_check.specs.samples.Cuts.{whole, since, until}
 use Rattle.edf_check.specs.walk.Windows.{sampled, points_at, kept_at}
 use Rattle.edf_check.specs.walk.Pairs.{IsPlaceIn}
-use Rattle.edf_check.specs.walk.Shown.{end_by, ArePast, shown_points}
+use Rattle.edf_check.specs.walk.Shown.{begin_by, end_by, ArePast, shown_points}
 use Rattle.edf_check.proofs.samples.CutFacts.{since_none, until_none, later, earlier_from}
 use Rattle.edf_check.proofs.samples.FilterFacts.{by_test, filters_swap}
 use Rattle.edf_check.proofs.walk.NightFacts.{ascending}
@@ -163,7 +163,7 @@ ends_at n d f s ps z e zs es =
     let p : (up e + down z + down ps) * n ≡ (down e + up z + up ps + d) * n = ap (λ k. k * n) (omega (arith, ints)) in
     omega (arith, ints, p)
 
-lasts : (file : List ℕ) (h : Head) → Conforms file h → pos 0 <ℤ h.duration
+pub lasts : (file : List ℕ) (h : Head) → Conforms file h → pos 0 <ℤ h.duration
 lasts file h c = let some : pos 1 ≤ℤ h.duration = (c.header).standard.some_time in omega (arith, ints, some)
 
 natural : (d : ℤ) → pos 0 <ℤ d → d ≡ pos (unsigned_abs d)
@@ -171,10 +171,6 @@ natural d p = omega (arith, ints)
 
 lane-bytes : (x : SignalHead) (bytes : List ℕ) → length (lane_of x bytes) ≤ 2 * x.samples
 lane-bytes x bytes = omega (arith, length-take (2 * x.samples) (drop x.offset bytes))
-
--- where a data record of a file begins, moved
-abbrev begin_by : List ℕ → Head → ℤ → ℕ → ℤ
-begin_by file h ps k = (file_start h +ℤ ps) +ℤ start_at file h k
 
 record-before : (file : List ℕ) (h : Head) (place : ChannelPlace) (ps : ℤ) (k : ℕ) → Conforms file h → (p : IsPlaceIn h place)
     → AreBefore place.samples (shown_points h ps p.channel (record_at file h k)) (whole (end_by file h ps k))
@@ -276,6 +272,29 @@ nothing-kept claim file h place ps t c p past =
 pub from-start : (file : List ℕ) (h : Head) (place : ChannelPlace) (ps t : ℤ) → Conforms file h → IsPlaceIn h place → t ≤ℤ (file_start h +ℤ ps) → AreFrom place.samples (points_at (sampled file h ps) place) (whole t)
 unfolding samples_of
 from-start file h place ps t c p early = before-late file h place ps h.records t c p (omega arith) early
+
+-- those of a file whose first data record doesn't begin before t
+begins-from : (file : List ℕ) (h : Head) (ps t : ℤ) (k : ℕ) → Conforms file h → k < h.records → t ≤ℤ begin_by file h ps 0 → t ≤ℤ begin_by file h ps k
+begins-from file h ps t zero c lt from = from
+begins-from file h ps t (suc k) c lt from =
+    let next : end_at file h 0 ≤ℤ start_at file h (suc k) = starts-behind file h 0 (suc k) c (omega arith) lt in
+    let p = lasts file h c in
+    omega (arith, ints, from, next, p)
+
+before-from : (file : List ℕ) (h : Head) (place : ChannelPlace) (ps t : ℤ) (k : ℕ) → Conforms file h → IsPlaceIn h place → k ≤ h.records → t ≤ℤ begin_by file h ps 0 → AreFrom place.samples (points_before file h place ps k) (whole t)
+before-from file h place ps t zero c p le from = λ x i. absurd i
+before-from file h place ps t (suc k) c p le from = λ x i.
+    more-cases file h place ps k p x i
+    (λ j. before-from file h place ps t k c p (omega (arith, le)) from x j)
+    (λ j. earlier_from (instant place.samples x) t (begin_by file h ps k) (begins-from file h ps t k c le from) (record-from file h place ps k c p x j))
+
+pub from-first : (file : List ℕ) (h : Head) (place : ChannelPlace) (ps t : ℤ) → Conforms file h → IsPlaceIn h place → t ≤ℤ begin_by file h ps 0 → AreFrom place.samples (points_at (sampled file h ps) place) (whole t)
+unfolding samples_of
+from-first file h place ps t c p from = before-from file h place ps t h.records c p (omega arith) from
+
+pub before-past-all : (file : List ℕ) (h : Head) (place : ChannelPlace) (ps t : ℤ) → Conforms file h → IsPlaceIn h place → ArePast file h ps h.records t → AreBefore place.samples (points_at (sampled file h ps) place) (whole t)
+unfolding samples_of
+before-past-all file h place ps t c p past = before-past file h place ps h.records t c p past
 
 -- ---- what stands between two times
 

@@ -30,7 +30,7 @@ use Rattle.edf_fields.proofs.ForCallers.{has-filtered}
 -- ---- the earliest of fronts and of backs
 
 -- each front is before t, and each back from t on
-abbrev AreSides : Instant → List (Option PointDifference × Option PointDifference) → Type 0
+abbrev pub AreSides : Instant → List (Option PointDifference × Option PointDifference) → Type 0
 AreSides t [] = Unit {0}
 AreSides t (p ∷ ps) = IfSome p.0 (λ d. IsBefore d.at t) × IfSome p.1 (λ d. (0 < d.at.den) × IsNotBefore d.at t) × AreSides t ps
 
@@ -88,7 +88,7 @@ or_mapped : (k : ℕ) (a b : Option PointDifference) → option_map (found k) (o
 or_mapped k None b = refl
 or_mapped k (Some a) b = refl
 
-earliest-splits : (t : Instant) (k : ℕ) (ps : List (Option PointDifference × Option PointDifference)) → AreSides t ps →
+pub earliest-splits : (t : Instant) (k : ℕ) (ps : List (Option PointDifference × Option PointDifference)) → AreSides t ps →
     earliest k (map (λ p. option_or p.0 p.1) ps) ≡ option_or (earliest k (map (λ p. p.0) ps)) (earliest k (map (λ p. p.1) ps))
 earliest-splits t k [] s = refl
 earliest-splits t k (p ∷ ps) s =
@@ -97,14 +97,14 @@ earliest-splits t k (p ∷ ps) s =
     (regroup t (option_map (found k) p.0) (option_map (found k) p.1) (earliest (k + 1) (map (λ q. q.0) ps)) (earliest (k + 1) (map (λ q. q.1) ps))
     (mapped (λ f. IsBefore f.difference.at t) k p.0 s.0) (mapped P k p.1 s.1) (fronts_before t (k + 1) ps s.2) (backs_from t (k + 1) ps s.2))
 
-map_map : {A B C : Type 0} (f : B → C) (g : A → B) (xs : List A) → map f (map g xs) ≡ map (λ x. f (g x)) xs
+pub map_map : {A B C : Type 0} (f : B → C) (g : A → B) (xs : List A) → map f (map g xs) ≡ map (λ x. f (g x)) xs
 map_map f g [] = refl
 map_map f g (x ∷ xs) = ap (λ ys. f (g x) ∷ ys) (map_map f g xs)
 
 -- ---- one channel of both files
 
 -- where both are there, each has samples, and they rise
-AreSound : Terms → Sampled → Sampled → Option ChannelPlace → Option ChannelPlace → Type 0
+unfoldable pub AreSound : Terms → Sampled → Sampled → Option ChannelPlace → Option ChannelPlace → Type 0
 AreSound claim o e None q = Unit {0}
 AreSound claim o e (Some p) None = Unit {0}
 AreSound claim o e (Some p) (Some q) = (0 < p.samples) × (0 < q.samples) × IsAscending (kept_at claim o p) × IsAscending (points_at e q)
@@ -123,7 +123,7 @@ place_splits claim o e (Some p) (Some q) t u sound l =
     ∙ difference_splits n m (until n u (since n t xs)) (since n u xs) (until m u (since m t ys)) (since m u ys) (whole u) sound.0 sound.1 (lit< tt)
     (until-before n u (since n t xs)) (until-before m u (since m t ys)) (since-from n u xs) (since-from m u ys)
 
-place_before : (claim : Terms) (o e : Sampled) (p q : Option ChannelPlace) (t u : ℤ) → AreSound claim o e p q → IfSome (window_of claim o e t u p q) (λ d. IsBefore d.at (whole u))
+pub place_before : (claim : Terms) (o e : Sampled) (p q : Option ChannelPlace) (t u : ℤ) → AreSound claim o e p q → IfSome (window_of claim o e t u p q) (λ d. IsBefore d.at (whole u))
 unfolding AreSound
 place_before claim o e None q t u sound = tt
 place_before claim o e (Some p) None t u sound = tt
@@ -142,7 +142,7 @@ place_from claim o e (Some p) (Some q) u sound =
 
 -- ---- all channels
 
-AllSound : Terms → Sampled → Sampled → List Places → Type 0
+unfoldable pub AllSound : Terms → Sampled → Sampled → List Places → Type 0
 AllSound claim o e [] = Unit {0}
 AllSound claim o e (p ∷ ps) = AreSound claim o e p.0 p.1 × AllSound claim o e ps
 
@@ -159,7 +159,7 @@ unfolding AllSound sides_of
 rests claim o e [] t u sound l = refl
 rests claim o e (p ∷ ps) t u sound l = rw (place_splits claim o e p.0 p.1 t u sound.0 l, rests claim o e ps t u sound.1 l) refl
 
-all_splits : (claim : Terms) (o e : Sampled) (ps : List Places) (t u : ℤ) → AllSound claim o e ps → t ≤ℤ u → rest_difference claim o e ps t ≡ option_or (window_difference claim o e ps t u) (rest_difference claim o e ps u)
+pub all_splits : (claim : Terms) (o e : Sampled) (ps : List Places) (t u : ℤ) → AllSound claim o e ps → t ≤ℤ u → rest_difference claim o e ps t ≡ option_or (window_difference claim o e ps t u) (rest_difference claim o e ps u)
 unfolding rest_difference window_difference sides_of
 all_splits claim o e ps t u sound l =
     ap (earliest 0) (rests claim o e ps t u sound l)
@@ -183,7 +183,7 @@ sound_place claim o e h g a b None q co ce ip iq = tt
 sound_place claim o e h g a b (Some p) None co ce ip iq = tt
 sound_place claim o e h g a b (Some p) (Some q) co ce ip iq = (ip.some, iq.some, kept-ascend claim o h p a co ip, points-ascend e g q b ce iq)
 
-all_sound : (claim : Terms) (o e : List ℕ) (h g : Head) (a b : ℤ) (ps : List Places) → Conforms o h → Conforms e g → ArePlaces h g ps → AllSound claim (sampled o h a) (sampled e g b) ps
+pub all_sound : (claim : Terms) (o e : List ℕ) (h g : Head) (a b : ℤ) (ps : List Places) → Conforms o h → Conforms e g → ArePlaces h g ps → AllSound claim (sampled o h a) (sampled e g b) ps
 unfolding AllSound ArePlaces
 all_sound claim o e h g a b [] co ce all = tt
 all_sound claim o e h g a b (p ∷ ps) co ce all = (sound_place claim o e h g a b p.0 p.1 co ce all.0 all.1, all_sound claim o e h g a b ps co ce all.2)

@@ -110,7 +110,7 @@ notes-are o e claim h g kept exported clock summary ho he c one two channels sam
     }
 
 -- the difference of the channels is that of the labels
-labels-walked : (claim : Terms) (o e : Sampled) (h g : Head) (labels : List (Bor (List ℕ))) → o.head ≡ h → e.head ≡ g
+pub labels-walked : (claim : Terms) (o e : Sampled) (h g : Head) (labels : List (Bor (List ℕ))) → o.head ≡ h → e.head ≡ g
     → whole_difference claim o e (map (λ label. (channel_at label.now h, channel_at label.now g)) labels) ≡ earliest 0 (map (λ label. label_difference claim o e label.now) labels)
 unfolding whole_difference label_difference
 labels-walked claim o e h g labels eo ee =
@@ -136,7 +136,7 @@ found-of o e claim r s a b left left' kept exported clock summary pairs labels f
     let same : HeadsAgree (head_of o) (head_of e) claim = subst Q he (subst P ho agree) in
     let nights : AreNights o e claim x y = record {
       conform = both;
-      agree = same;
+      channels = same.channels;
       original_head = ho;
       original_samples = ap (samples_of o) ho;
       original_moved = clock-original o r.head claim clock ho c;
@@ -163,6 +163,7 @@ of_heads o e claim (No (differences.ChannelText label field)) both is = (both, i
 of_heads o e claim (No (differences.Calibration label)) both is = (both, is)
 of_heads o e claim (No (differences.Subfield which mismatch)) both is = (both, is)
 of_heads o e claim (No (differences.NotClean text)) both is = (both, is)
+of_heads o e claim (No differences.PartOrder) both is = absurd is
 of_heads o e claim (No (differences.Sample label at_ps mismatch)) both is = absurd is
 of_heads o e claim (No (differences.Annotation mismatch onset duration text)) both is = absurd is
 
@@ -188,6 +189,7 @@ all_read (No (differences.ChannelText label field)) a b h = h
 all_read (No (differences.Calibration label)) a b h = h
 all_read (No (differences.Subfield which mismatch)) a b h = h
 all_read (No (differences.NotClean text)) a b h = h
+all_read (No differences.PartOrder) a b h = h
 all_read (No (differences.Sample label at_ps mismatch)) a b h = h
 all_read (No (differences.Annotation mismatch onset duration text)) a b h = h
 

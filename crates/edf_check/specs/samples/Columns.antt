@@ -15,7 +15,7 @@ use Rattle.edf_check.specs.declared.samples.point.Point.{Point}
 use Rattle.edf_check.specs.Courses.{Course}
 use Rattle.edf_check.specs.samples.Differences.{HasValue, IsAscending, first_difference_of}
 use Rattle.edf_check.specs.Exports.{BothConform}
-use Rattle.edf_heads.specs.HeadVerdicts.{HeadsAgree}
+use Rattle.edf_heads.specs.Channels.{SameChannels}
 use Rattle.edf_check.specs.Instants.{later}
 use Rattle.edf_check.specs.Kept.{shift_ps}
 use Rattle.edf_check.specs.KeptReading.{origin_of}
@@ -100,11 +100,11 @@ pub record AreColumns (cs : List Column) : Type 0 where
 abbrev pub difference_of : Column → Option PointDifference
 difference_of c = first_difference_of c.n c.kept c.m c.exported
 
--- these are the samples of an original and an export that conform and whose headers agree, counted from the second at which the
+-- these are the samples of an original and an export that conform and have the claimed channels, counted from the second at which the
 -- original starts, before the shift
 pub record AreNights (original export : List ℕ) (claim : Terms) (o e : Sampled) : Type 0 where
   pub conform : BothConform original export
-  pub agree : HeadsAgree (head_of original) (head_of export) claim
+  pub channels : SameChannels (head_of original) (head_of export) claim
   pub original_head : o.head ≡ head_of original
   pub original_samples : o.samples ≡ samples_of original (head_of original)
   pub original_moved : o.moved ≡ neg_ℤ (origin_of original)

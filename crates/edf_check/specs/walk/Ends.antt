@@ -1,6 +1,6 @@
 -- What a walk over the data records of two files finds. By `ps` a file is moved: its times, in picoseconds after 1970-01-01 00:00:00,
 -- then count from the second at which the original starts, before the shift. These are steps between the definitions and the code.
-use Rattle.std.specs.Prelude.{ℕ, ℤ, ◌≡◌, List, [], Option, None, Some, IfNone}
+use Rattle.std.specs.Prelude.{ℕ, ℤ, ◌≡◌, Bool, true, false, List, [], Option, None, Some, IfSome, IfNone}
 use Rattle.edf_claim.specs.Terms.{Terms}
 use Rattle.edf_fields.specs.declared.fault.Fault.{Fault}
 use Rattle.edf_header.specs.Heads.{Head}
@@ -12,7 +12,8 @@ use Rattle.edf_check.specs.declared.samples.earliest.Found.{Found}
 use Rattle.edf_check.specs.declared.walk.walked.FaultOf.{FaultOf}
 use Rattle.edf_check.specs.declared.walk.walked.FaultOf.TheVariants.{Original as OfOriginal, Export as OfExport}
 use Rattle.edf_check.specs.walk.Pairs.{Places}
-use Rattle.edf_check.specs.walk.Windows.{sampled, whole_difference}
+use Rattle.edf_check.specs.walk.Shown.{last_end_by}
+use Rattle.edf_check.specs.walk.Windows.{sampled, whole_difference, span_difference}
 use Rattle.edf_check.specs.walk.Gathered.{gathered_of}
 
 -- what a fault of the export comes to, behind that of the original
@@ -43,3 +44,14 @@ pub record AreWalked (o : List ℕ) (h : Head) (left : List ℕ) (notes : List N
   pub export : IsReadThrough e g left'
   pub first : found ≡ whole_difference claim (sampled o h a) (sampled e g b) places
   pub gathered : IfNone found ((notes ≡ gathered_of (Some claim) a (notes_of o h)) × (notes' ≡ gathered_of None b (notes_of e g)))
+
+-- both files were read on from t on: the export to its end, and the original, where no further exports follow, or behind a difference,
+-- to its end as well; this is the first difference of their channels from t on and, where further exports follow, before the export's end
+pub record AreReadOn (is_last : Bool) (o : List ℕ) (h : Head) (left : List ℕ) (notes : List NoteValue) (e : List ℕ) (g : Head) (left' : List ℕ)
+    (notes' : List NoteValue) (claim : Terms) (a b : ℤ) (places : List Places) (t u : ℤ) (found : Option Found) : Type 0 where
+  pub export : IsReadThrough e g left'
+  pub end : is_last ≡ false → u ≡ last_end_by e g b
+  pub first : Conforms o h → found ≡ span_difference is_last claim (sampled o h a) (sampled e g b) places t (last_end_by e g b)
+  pub behind : IfSome found (λ f. IsReadThrough o h left)
+  pub through : is_last ≡ true → IsReadThrough o h left × IfNone found (notes ≡ gathered_of (Some claim) a (notes_of o h))
+  pub gathered : IfNone found (notes' ≡ gathered_of None b (notes_of e g))

@@ -8,13 +8,14 @@ use Rattle.edf_stream.specs.Faults.{body_fault}
 use Rattle.edf_stream.specs.Notes.{NoteValue}
 use Rattle.edf_stream.specs.NotesReading.{moved_notes_before}
 use Rattle.edf_stream.specs.Readers.{Reader, IsOpen, StandsIn}
+use Rattle.edf_stream.specs.StartsReading.{end_before}
 use Rattle.edf_check.specs.walk.Shown.{Shows, IsAhead, IsGoing}
 use Rattle.edf_check.specs.walk.Gathered.{gathered_of}
 
 -- a reader goes through the file
 pub record IsThere (r : Reader) (left file : List ℕ) : Type 0 where
   pub stands : IsOpen r.status → StandsIn r left file
-  pub ended : r.status ≡ Ended → (body_fault file r.head ≡ None) × Conforms file r.head × (left ≡ []) × (r.read ≡ (r.head).records)
+  pub ended : r.status ≡ Ended → (body_fault file r.head ≡ None) × Conforms file r.head × (left ≡ []) × (r.read ≡ (r.head).records) × (r.ended ≡ end_before file r.head (r.head).records)
 
 -- the same; it stands at t, and these are the annotations that were gathered
 pub record IsAt (r : Reader) (left : List ℕ) (notes : List NoteValue) (file : List ℕ) (claim : Option Terms) (ps t : ℤ) : Type 0 where

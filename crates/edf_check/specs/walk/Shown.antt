@@ -8,13 +8,21 @@ use Rattle.edf_stream.specs.Conforming.{Conforms}
 use Rattle.edf_stream.specs.Readers.{Reader, is_current}
 use Rattle.edf_stream.specs.Records.{record_at, lane_of}
 use Rattle.edf_stream.specs.Starts.{file_start}
-use Rattle.edf_stream.specs.StartsReading.{start_in, end_at}
+use Rattle.edf_stream.specs.StartsReading.{start_in, start_at, end_at, end_before}
 use Rattle.edf_check.specs.declared.samples.point.Point.{Point}
 use Rattle.edf_check.specs.samples.Stretches.{stretch_points}
+
+-- where a data record of a file begins, moved
+abbrev pub begin_by : List ℕ → Head → ℤ → ℕ → ℤ
+begin_by file h ps k = (file_start h +ℤ ps) +ℤ start_at file h k
 
 -- where a data record of a file ends, moved
 abbrev pub end_by : List ℕ → Head → ℤ → ℕ → ℤ
 end_by file h ps k = (file_start h +ℤ ps) +ℤ end_at file h k
+
+-- where the last data record of a file ends, moved
+abbrev pub last_end_by : List ℕ → Head → ℤ → ℤ
+last_end_by file h ps = (file_start h +ℤ ps) +ℤ end_before file h h.records
 
 -- the first k data records end at t or before
 abbrev pub ArePast : List ℕ → Head → ℤ → ℕ → ℤ → Type 0

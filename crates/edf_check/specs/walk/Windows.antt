@@ -1,6 +1,6 @@
 -- The channels of two files compared between two times, in picoseconds after the second at which the original starts, before the
 -- shift. These are steps between the definitions and the code.
-use Rattle.std.specs.Prelude.{ℕ, ℤ, List, map, Option, None, Some}
+use Rattle.std.specs.Prelude.{ℕ, ℤ, Bool, true, false, List, map, Option, None, Some}
 use Rattle.edf_claim.specs.Terms.{Terms}
 use Rattle.edf_header.specs.Heads.{Head}
 use Rattle.edf_stream.specs.SamplesReading.{samples_of}
@@ -48,3 +48,8 @@ rest_difference claim o e places t = earliest 0 (map (λ p. rest_of claim o e t 
 
 unfoldable pub window_difference : Terms → Sampled → Sampled → List Places → ℤ → ℤ → Option Found
 window_difference claim o e places t u = earliest 0 (map (λ p. window_of claim o e t u p.0 p.1) places)
+
+-- the same of those from t on; where further exports follow, of those before u alone
+abbrev pub span_difference : Bool → Terms → Sampled → Sampled → List Places → ℤ → ℤ → Option Found
+span_difference true claim o e places t u = rest_difference claim o e places t
+span_difference false claim o e places t u = window_difference claim o e places t u

@@ -7,6 +7,7 @@ ghost use Rattle.edf_stream.specs.Faults.{body_fault};
 ghost use Rattle.edf_stream.specs.NotesReading.{notes_in, moved_notes_in};
 ghost use Rattle.edf_stream.specs.Readers.{HasBegun, IsOpen, is_current, StandsIn, Comes};
 ghost use Rattle.edf_stream.specs.Starts.{file_start};
+ghost use Rattle.edf_stream.specs.StartsReading.{start_in, end_before};
 ghost use Rattle.edf_stream.specs.Views.{note_value};
 ghost use Rattle.edf_check.specs.samples.Cuts.{IsWindow};
 ghost use Rattle.edf_check.specs.Premises.{OfFile};
@@ -90,6 +91,8 @@ pub(crate) fn finish<S: Source>(
         (λ file. body_fault file reader.old.head ≡ found)) }
     ensures out { IfOk result (λ found. IfNone found (OfFile (S.is_honest source.old) (IsThere reader.old (S.left source.old))
         (λ file. (S.left source.new ≡ []) × Conforms file reader.old.head))) }
+    ensures end { IfOk result (λ found. IfNone found (OfFile (S.is_honest source.old) (IsThere reader.old (S.left source.old))
+        (λ file. reader.new.ended ≡ end_before file reader.old.head (reader.old.head).records))) }
     ensures failures { OnOk result (S.failures source.new ≡ S.failures source.old) }
     ensures stop { IfErr result (SideStops side (Rises (S.failures source.old) (S.failures source.new))
         (S.failures source.new ≡ S.failures source.old)) }
@@ -186,9 +189,21 @@ pub(crate) fn end_ps_of(reader: &FileReader, by: Offset) -> i128
     requires current { IsTrue (is_current reader.now.status) }
     requires near { unsigned_abs by.ps < 2 ^ 80 }
     ensures value { result ≡ ends_at reader.now by.ps }
+    ensures lasts { result ≡ ((file_start reader.now.head +ℤ by.ps) +ℤ start_in reader.now.head reader.now.current) +ℤ (reader.now.head).duration }
     ensures small { unsigned_abs result < 2 ^ 82 }
 {
     start_ps_of(reader.header(), by) + reader.end_ps()
+}
+
+/// Where the last data record that was read ends, in picoseconds.
+pub(crate) fn last_end(reader: &FileReader, by: Offset) -> Time
+    requires near { unsigned_abs by.ps < 2 ^ 80 }
+    ensures value { result.ps ≡ ends_at reader.now by.ps }
+    ensures small { unsigned_abs result.ps < 2 ^ 82 }
+{
+    Time {
+        ps: start_ps_of(reader.header(), by) + reader.read_to_ps(),
+    }
 }
 
 /// Where the data record at hand ends.
@@ -273,6 +288,8 @@ pub(crate) fn start<S: Source>(
     ensures follows { IfOk result (λ found. IfNone found (Follows reading.old.reader reading.new.reader (S.is_honest source.old)
         (S.is_honest source.new) (S.failures source.old) (S.failures source.new) (S.left source.old) (S.left source.new)
         (map note_value (reading.new.notes).items) (claim_of view.entry) (view.entry.moved).ps time.ps)) }
+    ensures begins { IfOk result (λ found. IfNone found (OfFile (S.is_honest source.old) (StandsIn reading.old.reader (S.left source.old))
+        (λ file. (is_current (reading.new.reader).status ≡ true) × ((reading.new.reader).read ≡ 1)))) }
     ensures fault { IfOk result (λ found. IfSome found (λ fault. OfFile (S.is_honest source.old) (StandsIn reading.old.reader (S.left source.old))
         (λ file. body_fault file (reading.old.reader).head ≡ Some fault))) }
     ensures failures { OnOk result (S.failures source.new ≡ S.failures source.old) }

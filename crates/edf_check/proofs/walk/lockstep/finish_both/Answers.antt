@@ -6,7 +6,11 @@ returns-in-Ok-None-finish-clause-through g c = λ ho he a b ato ate.
     let p = rw c.in-Ok-None.field-0-is at c.in-Ok-None.ensures.out in
     let e = rw c.in-Ok-None-finish.field-0-is at c.in-Ok-None-finish.ensures.found in
     let q = rw c.in-Ok-None-finish.field-0-is at c.in-Ok-None-finish.ensures.out in
-    (record { fault = o ho a ato; conforms = (p ho a ato).1; gone = (p ho a ato).0 }, record { fault = e he b ate; conforms = (q he b ate).1; gone = (q he b ate).0 })
+    let end = rw c.in-Ok-None-finish.field-0-is at c.in-Ok-None-finish.ensures.end in (
+      record { fault = o ho a ato; conforms = (p ho a ato).1; gone = (p ho a ato).0 },
+      record { fault = e he b ate; conforms = (q he b ate).1; gone = (q he b ate).0 },
+      end he b ate,
+    )
 
 pub returns-in-Ok-Some-finish-clause-fault : goal.returns-in-Ok-Some-finish-clause-fault
 returns-in-Ok-Some-finish-clause-fault g c = λ ho he a b ato ate.

@@ -1,5 +1,7 @@
-use Rattle.std.proofs.Common.{◌∙◌, sym, subst}
+use Rattle.std.proofs.Common.{◌≡◌, ◌∙◌, sym, subst}
+use Rattle.edf_header.specs.Heads.{Head}
 use Rattle.edf_stream.specs.Conforming.{Conforms}
+use Rattle.edf_stream.specs.StartsReading.{end_before}
 use Rattle.edf_check.proofs.walk.PassFacts.{there_next, current_open, ended_is}
 use Rattle.edf_check.proofs.walk.reading.finish.Goals as goal
 
@@ -29,3 +31,11 @@ returns-clause-out g c = λ h file at.
     let past = sym c.has_current.ensures ∙ c.loop-side-test.false in
     let done = (inv.there h file at).ended (ended_is (c.loop-side.reader).status inv.going past) in
     (done.2, subst (Conforms file) inv.head done.1)
+
+pub returns-clause-end : goal.returns-clause-end
+returns-clause-end g c = λ h file at.
+    let inv = c.loop-side.invariant in
+    let past = sym c.has_current.ensures ∙ c.loop-side-test.false in
+    let done = (inv.there h file at).ended (ended_is (c.loop-side.reader).status inv.going past) in
+    let P : Head → Type 0 = λ k. (c.loop-side.reader).ended ≡ end_before file k k.records in
+    subst P inv.head done.4

@@ -1,7 +1,8 @@
-use Rattle.std.proofs.Common.{◌∙◌, ◌++◌, ap, map, arith}
+use Rattle.std.proofs.Common.{◌≡◌, true, ◌∙◌, ◌++◌, ap, map, arith}
 use Rattle.std.proofs.lemmas.Int.{ints}
 use Rattle.edf_check.specs.walk.Gathered.{claim_of, gathered_in}
-use Rattle.edf_check.proofs.walk.PassFacts.{at_first}
+use Rattle.edf_check.proofs.walk.PassFacts.{at_first, begins_with_one}
+use Rattle.edf_stream.specs.Readers.{is_current}
 use Rattle.edf_stream.specs.Views.{note_value}
 use Rattle.edf_check.proofs.walk.reading.start.Goals as goal
 
@@ -26,3 +27,16 @@ returns-in-Ok-None-clause-follows g c =
           (c.requires.begun).1 going c.gather_next.ensures.head (rw none at ok.count)
           (gathered ∙ ap (λ ns. map note_value ns ++ gathered_in (claim_of c.args.view) (c.args.view.moved).ps c.gather_next.new.reading.reader) c.requires.none) (comes h file s);
     }
+
+pub returns-in-Ok-None-clause-begins : goal.returns-in-Ok-None-clause-begins
+returns-in-Ok-None-clause-begins g c = λ h file s.
+    let ok = c.in-Ok-None.ensures in
+    let none = c.in-Ok-None.field-0-is in
+    let going = rw none at ok.going in
+    let comes = rw none at ok.comes in
+    let begun : is_current (c.gather_next.new.reading.reader).status ≡ true =
+    begins_with_one c.args.reading.now.reader c.gather_next.new.reading.reader (g.S.Source.left c.gather_next.new.source) file (c.requires.begun).1 going (comes h file s) in
+    let count = (rw none at ok.count) begun in
+    let first = (c.requires.begun).1 in
+    let more = count.0 in
+    (begun, omega (arith, more, first))

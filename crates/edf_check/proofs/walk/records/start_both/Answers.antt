@@ -1,5 +1,5 @@
 use Rattle.edf_check.proofs.walk.LockstepFacts.{fault_after}
-use Rattle.edf_check.proofs.walk.lockstep.start_both.Goals as goal
+use Rattle.edf_check.proofs.walk.records.start_both.Goals as goal
 
 pub returns-in-Ok-clause-fault : goal.returns-in-Ok-clause-fault
 returns-in-Ok-clause-fault g c = λ ho he a b ato ate.
