@@ -168,5 +168,20 @@ fail_each 0 0 conform original.edf
 fail_each 0 0 show original.edf
 "$program" notes original.edf >"$work/want"
 fail_each 0 1000000 notes original.edf
+# an export whose data record has forty long texts and then a bad TAL: its fault is the answer where memory for one of
+# the texts is refused, too
+python3 -c '
+import sys
+sys.path.insert(0, "../../tools")
+import faults
+import night
+change = faults.both(faults.fixed("records", "1"), faults.field(3, "samples", "1500"))
+file = change(night.files()["cut.edf"])[:1280] + bytes(faults.RECORD - faults.LANE)
+texts = b"".join(b"+0\x14" + b"a" * 60 + b"\x14\0" for _ in range(40))
+sys.stdout.buffer.write(file + (b"+0\x14\x14\0" + texts + b"+").ljust(3000, b"\0"))
+' >"$work/bad.edf" || exit 2
+echo 'NO 2 export fault: BadTal(NoEnd) at record 0' >"$work/want"
+fail_each 1 0 check original.edf "$work/bad.edf" cut.toml
+[ $((growths - stopped)) -ge 40 ] || fail "$((growths - stopped)) growths didn't stop the check of a bad TAL behind forty texts"
 echo "$passed passed, $failed failed"
 [ "$failed" -eq 0 ]

@@ -2,6 +2,9 @@ pub mod CourseFacts
 pub mod JoinFacts
 pub mod KeptFacts
 pub mod PartsFacts
+pub mod FoundFacts
+pub mod CompareFacts
+pub mod OrderFacts
 pub mod VerdictFacts
 pub mod SomeVerdictFacts
 pub mod SameFileFacts

@@ -36,9 +36,9 @@ pub record AllConform (original : List ℕ) (parts : List (List ℕ)) : Type 0 w
   pub original_conforms : Conforms original (head_of original)
   pub parts_conform : (part : List ℕ) → Has parts part → Conforms part (head_of part)
 
--- the parts are together the original, cut and made anonymous as the claim says, and nothing else: the header of each agrees (channels,
--- texts, calibrations, subfields, free text), they follow one another, the samples of all of them are the kept ones, and so are the
--- annotations of all of them, each as often, whichever part holds it
+-- the parts, of which there is at least one, are together the original, cut and made anonymous as the claim says, and nothing else: the
+-- header of each agrees (channels, texts, calibrations, subfields, free text), they follow one another, the samples of all of them are the
+-- kept ones, and so are the annotations of all of them, each as often, whichever part holds it
 pub record AreTogether (original : List ℕ) (parts : List (List ℕ)) (claim : Terms) : Type 0 where
   pub heads : (part : List ℕ) → Has parts part → HeadsAgree (head_of original) (head_of part) claim
   pub order : FollowOneAnother parts

@@ -11,3 +11,4 @@ pub mod Ends
 pub mod Spans
 pub mod Series
 pub mod Outcomes
+pub mod Orders

@@ -6,6 +6,7 @@ pub mod check;
 pub mod first_difference;
 pub mod laws;
 mod notes;
+mod parts;
 pub mod run;
 mod samples;
 pub mod vectors;

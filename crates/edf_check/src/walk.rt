@@ -56,7 +56,7 @@ use std::alloc::Global;
 /// Begins to read the file of one side, or finds the fault of its header.
 ///
 /// The error is want of memory, or a failure of the source.
-fn open<S: Source>(
+pub(crate) fn open<S: Source>(
     alloc: Global,
     source: &mut S,
     side: Side,

@@ -4,14 +4,15 @@ use edf_fields::fault::{Cause, Fault, Place};
 use edf_fields::which::Which;
 use edf_test_files::file::Done;
 use edf_verdict::label::Label;
+use edf_verdict::note_text::NoteText;
 use edf_verdict::parts_verdict::PartsVerdict;
 use edf_verdict::verdict::{
-    Difference, FreeText, SampleMismatch, SubfieldMismatch, TextField, Verdict,
+    AnnotationMismatch, Difference, FreeText, SampleMismatch, SubfieldMismatch, TextField, Verdict,
 };
 use std::alloc::{AllocError, Global};
 use std::process::Abort;
 
-/// Asserts the number of a difference, and the line of the verdict that names it of one of five exports.
+/// Asserts the number of a difference, and the line of the verdict that names it of one of 64 exports.
 fn assert_line(
     rt: &impl Abort,
     alloc: Global,
@@ -25,7 +26,7 @@ fn assert_line(
         part,
         verdict: Verdict::No(difference),
     };
-    let line = verdict.line(alloc, 5)?;
+    let line = verdict.line(alloc, 64)?;
     assert_eq!(rt; line.as_slice(), want.as_bytes());
     Ok(())
 }
@@ -104,5 +105,13 @@ fn names_the_part_of_other_differences(rt: HostRuntime) -> Done {
         mismatch: SampleMismatch::Missing,
     };
     let want = "NO 10 sample \"ECG\" at 2000000000000 ps missing\n";
-    assert_line(&rt, alloc, 0, sample, 10, want)
+    assert_line(&rt, alloc, 0, sample, 10, want)?;
+    let annotation = Difference::Annotation {
+        mismatch: AnnotationMismatch::Extra,
+        onset: 1_500_000_000_000,
+        duration: None,
+        text: NoteText::new(String::from_str(alloc, "Apnea")?),
+    };
+    let want = "NO 11 annotation extra at 1500000000000 ps duration none text \"Apnea\"\n";
+    assert_line(&rt, alloc, 0, annotation, 11, want)
 }

@@ -15,7 +15,7 @@ use Rattle.edf_check.specs.walk.Ends.{IsReadThrough, AreReadOn}
 use Rattle.edf_check.specs.walk.Outcomes.{outcome_of, IsPartRead}
 use Rattle.edf_check.specs.walk.Pairs.{Places}
 use Rattle.edf_check.specs.walk.Readings.{IsAt}
-use Rattle.edf_check.specs.walk.Shown.{begin_by}
+use Rattle.edf_check.specs.walk.Shown.{begin_by, last_end_by}
 use Rattle.edf_check.proofs.walk.OnwardFacts.{shown_current}
 
 -- the first data record at hand begins where its file does
@@ -29,12 +29,13 @@ begin_is first now left ns file claim ps t head current read at =
 
 pub read_early : (is_last : Bool) (first now : Reader) (left : List ℕ) (ns : List NoteValue) (x : List ℕ) (h : Head) (lo : List ℕ) (ms : List NoteValue) (y le : List ℕ) (ks : List NoteValue) (claim : Terms) (a b s t u : ℤ) (places : List Places) (outcome : Outcome)
     → outcome ≡ Early → now.head ≡ first.head → is_current now.status ≡ true → now.read ≡ 1 → IsAt now left ns y None b s → ((file_start now.head +ℤ b) +ℤ start_in now.head now.current) <ℤ t
-    → IsReadThrough x h lo × IsReadThrough y now.head le → IsPartRead is_last x h lo ms y first.head le ks claim a b places t u outcome
+    → IsReadThrough x h lo × IsReadThrough y now.head le × (u ≡ last_end_by y now.head b) → IsPartRead is_last x h lo ms y first.head le ks claim a b places t u outcome
 read_early is_last first now left ns x h lo ms y le ks claim a b s t u places outcome is head current read at early both =
     let begin = begin_is first now left ns y None b s head current read at in
     let P : Outcome → Type 0 = λ o. IsPartRead is_last x h lo ms y first.head le ks claim a b places t u o in
-    let Q : Head → Type 0 = λ g. IsReadThrough y g le in
-    subst P (sym is) (omega (arith, ints, begin, early), both.0, subst Q head both.1)
+    let Q : Head → Type 0 = λ g. IsReadThrough y g le × (u ≡ last_end_by y g b) in
+    let end = subst Q head (both.1, both.2) in
+    subst P (sym is) (omega (arith, ints, begin, early), both.0, end.0, end.1)
 
 part-read : (is_last : Bool) (x : List ℕ) (h : Head) (lo : List ℕ) (ms : List NoteValue) (y : List ℕ) (g : Head) (le : List ℕ) (ks : List NoteValue) (claim : Terms) (a b t u : ℤ) (places : List Places) (found : Option Found)
     → t ≤ℤ begin_by y g b 0 → AreReadOn is_last x h lo ms y g le ks claim a b places t u found → IsPartRead is_last x h lo ms y g le ks claim a b places t u (outcome_of found)

@@ -45,8 +45,9 @@ pub record AreWalked (o : List ℕ) (h : Head) (left : List ℕ) (notes : List N
   pub first : found ≡ whole_difference claim (sampled o h a) (sampled e g b) places
   pub gathered : IfNone found ((notes ≡ gathered_of (Some claim) a (notes_of o h)) × (notes' ≡ gathered_of None b (notes_of e g)))
 
--- both files were read on from t on: the export to its end, and the original, where no further exports follow, or behind a difference,
--- to its end as well; this is the first difference of their channels from t on and, where further exports follow, before the export's end
+-- both files were read on from t on: the export to its end, which is u where further exports follow; and the original to its end, too, where
+-- none follow or a difference was found. Where the original conforms, this is the first difference of their channels from t on and, where
+-- further exports follow, before the export's end. Where there is none, the annotations of what was read were gathered
 pub record AreReadOn (is_last : Bool) (o : List ℕ) (h : Head) (left : List ℕ) (notes : List NoteValue) (e : List ℕ) (g : Head) (left' : List ℕ)
     (notes' : List NoteValue) (claim : Terms) (a b : ℤ) (places : List Places) (t u : ℤ) (found : Option Found) : Type 0 where
   pub export : IsReadThrough e g left'

@@ -325,9 +325,10 @@ fn differ<O: Source, E: Source>(
 }
 
 /// Reads on in two files that both stand at the begin of a span, and answers the first difference of the channels of
-/// the pairs from there on; or the first fault of the original, or else of the export. The export is read to its end,
-/// and the original, where no further exports follow, or behind a difference. Where the channels don't differ, the
-/// annotations of what was read are gathered that count; behind a difference nothing is compared or kept.
+/// the pairs from there on, and, where further exports follow, before the end of this one; or the first fault of the
+/// original, or else of the export. The export is read to its end. The original is, too, where no further export
+/// follows or a difference was found. Where the channels don't differ, the annotations of what was read are gathered
+/// that count; once a difference is found nothing is compared or kept.
 ///
 /// A data record of each is in memory at a time. The error is want of memory, or a failure of one of the
 /// sources.

@@ -13,7 +13,7 @@ ghost use Rattle.edf_check.specs.InstantOrder.{IsModest};
 ghost use Rattle.edf_check.specs.walk.Layouts.{AreLaidAlike};
 ghost use Rattle.edf_check.specs.walk.Pairs.{places_of, ArePairs};
 ghost use Rattle.edf_check.specs.walk.Readings.{IsAt, IsThere, Moves};
-ghost use Rattle.edf_check.specs.walk.Shown.{IsAhead, IsGoing};
+ghost use Rattle.edf_check.specs.walk.Shown.{IsAhead, IsGoing, last_end_by};
 ghost use Rattle.edf_check.specs.walk.Ends.{IsFaultOf, IsReadBy, IsReadThrough};
 ghost use Rattle.edf_check.specs.walk.Outcomes.{found_of, IsPartRead, outcome_of};
 ghost use Rattle.edf_check.specs.declared.walk.part.Outcome.TheVariants as outcomes;
@@ -46,7 +46,7 @@ pub(crate) enum Outcome {
 /// A part that was read to its end.
 #[derive(Clone, Copy)]
 pub(crate) struct PartRead {
-    /// Where it ends.
+    /// Where it ends, where a further part follows.
     pub end: Time,
     pub outcome: Outcome,
 }
@@ -64,7 +64,7 @@ impl Outcome {
 }
 
 /// Whether a data record is at hand that begins at a time or later.
-fn begins_from(reader: &FileReader, by: Offset, time: Time) -> bool
+pub(crate) fn begins_from(reader: &FileReader, by: Offset, time: Time) -> bool
     requires near { unsigned_abs by.ps < 2 ^ 80 }
     ensures current { result ≡ true → is_current reader.now.status ≡ true }
     ensures later { result ≡ true → time.ps ≤ℤ ((file_start reader.now.head +ℤ by.ps) +ℤ start_in reader.now.head reader.now.current) }
@@ -93,7 +93,8 @@ fn early<O: Source, E: Source>(
     ensures small { IfOk result (λ read. IfOk read (λ r. unsigned_abs r.end.ps < 2 ^ 82)) }
     ensures through { IfOk result (λ read. IfOk read (λ r. OfFiles (O.is_honest o.old) (E.is_honest e.old)
         (IsThere original.old (O.left o.old)) (IsThere export.old (E.left e.old))
-        (λ a b. IsReadThrough a original.old.head (O.left o.new) × IsReadThrough b export.old.head (E.left e.new)))) }
+        (λ a b. IsReadThrough a original.old.head (O.left o.new) × IsReadThrough b export.old.head (E.left e.new)
+        × (r.end.ps ≡ last_end_by b export.old.head by.ps)))) }
     ensures fault { IfOk result (λ read. IfErr read (λ fault. OfFiles (O.is_honest o.old) (E.is_honest e.old)
         (IsThere original.old (O.left o.old)) (IsThere export.old (E.left e.old))
         (λ a b. IsFaultOf a original.old.head b export.old.head fault))) }

@@ -42,7 +42,7 @@ pub(crate) struct Reading {
 /// record go to the keeper.
 ///
 /// The error is a failure of the source.
-fn go_on<S: Source, K: NoteKeeper>(
+pub(crate) fn go_on<S: Source, K: NoteKeeper>(
     keeper: &mut K,
     reader: &mut FileReader,
     source: &mut S,
