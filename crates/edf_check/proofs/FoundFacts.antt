@@ -1,15 +1,23 @@
 -- What is found first in several exports is found in the first of them, or else in the others.
-use Rattle.std.proofs.Common.{◌≡◌, ℕ, zero, suc, ◌+◌, ◌<◌, ◌≤◌, ◌⊎◌, ℤ, ◌≤ℤ◌, ◌<ℤ◌, List, [], ◌∷◌, None, Some, slice_get, inl, inr, ⊎_elim, refl, sym, ap, ◌∙◌, arith, subst}
+use Rattle.std.proofs.Common.{◌≡◌, ℕ, zero, suc, ◌+◌, ◌<◌, ◌≤◌, ◌⊎◌, ℤ, ◌≤ℤ◌, ◌<ℤ◌, nat_lt, Bool, true, false, if◌then◌else◌, List, ◌∷◌, Option, None, Some, MatchOption, slice_get, inl, inr, ⊎_elim, refl, sym, ap, arith, subst}
+use Rattle.std.proofs.lemmas.Bool.Decides.{nat_tests}
 use Rattle.edf_claim.specs.Terms.{Terms}
 use Rattle.edf_fields.specs.declared.fault.Fault.{Fault}
 use Rattle.edf_header.specs.Heads.{Head}
 use Rattle.edf_header.specs.HeadsReading.{head_of}
 use Rattle.edf_heads.specs.HeadVerdicts.{HeadsAgree, IsHeadVerdict}
+use Rattle.edf_stream.specs.Conforming.{Conforms}
 use Rattle.edf_stream.specs.Faults.{file_fault}
 use Rattle.edf_verdict.specs.declared.verdict.Verdict.{Verdict}
+use Rattle.edf_stream.proofs.ForCallers.{conforming_is_faultless}
 use Rattle.edf_heads.proofs.ForCallers.{one_head_verdict, agree-apart}
-use Rattle.edf_check.specs.PartsFound.{IsPart, IsFirstFault, rank, GoesFirst, IsFirstHead, AllAgree, end_before_part, IsFirstEarly}
-use Rattle.edf_check.specs.walk.Series.{part_begin, part_end}
+use Rattle.edf_check.specs.declared.parts.found.PartVerdict.{PartVerdict}
+use Rattle.edf_check.specs.declared.parts.found.PartsFound.{PartsFound}
+use Rattle.edf_check.specs.declared.parts.order.Ordered.{Ordered}
+use Rattle.edf_check.specs.walk.Orders.{IsOrdered}
+use Rattle.edf_check.specs.PartsFound.{IsPart, IsFirstFault, rank, GoesFirst, IsFirstHead, AllAgree, AllConformAt, IsHeadsFound, earlier_of, first_of, AreRead, end_before_part, IsFirstEarly, IsEarlyFound}
+use Rattle.edf_check.specs.walk.Shown.{begin_by, last_end_by}
+use Rattle.edf_check.proofs.samples.FilterFacts.{by_test}
 
 first-is : (first : ℕ) (part : List ℕ) (parts : List (List ℕ)) → IsPart first (part ∷ parts) first 0 part
 first-is first part parts = record { number = omega arith; there = refl }
@@ -81,13 +89,60 @@ head_later h claim first part parts k w above f = record { at = suc f.at; file =
 
 -- ---- the order
 
-pub early_here : (original : List ℕ) (claim : Terms) (t : ℤ) (first : ℕ) (part : List ℕ) (parts : List (List ℕ)) → part_begin original claim part <ℤ t → IsFirstEarly original claim t first (part ∷ parts) first
-early_here original claim t first part parts early = record { at = 0; file = part; is = first-is first part parts; early = early; none_before = λ j other lt there. absurd (omega (arith, lt)) }
+pub early_here : (by t : ℤ) (first : ℕ) (part : List ℕ) (parts : List (List ℕ)) → begin_by part (head_of part) by 0 <ℤ t → IsFirstEarly by t first (part ∷ parts) first
+early_here by t first part parts early = record { at = 0; file = part; is = first-is first part parts; early = early; none_before = λ j other lt there. absurd (omega (arith, lt)) }
 
-pub early_later : (original : List ℕ) (claim : Terms) (t : ℤ) (first : ℕ) (part : List ℕ) (parts : List (List ℕ)) (k : ℕ) → t ≤ℤ part_begin original claim part → IsFirstEarly original claim (part_end original claim part) (first + 1) parts k
-    → IsFirstEarly original claim t first (part ∷ parts) k
-early_later original claim t first part parts k from f = record { at = suc f.at; file = f.file; is = next-is first part parts k f.at f.file f.is; early = f.early; none_before = before }
+pub early_later : (by t : ℤ) (first : ℕ) (part : List ℕ) (parts : List (List ℕ)) (k : ℕ) → t ≤ℤ begin_by part (head_of part) by 0 → IsFirstEarly by (last_end_by part (head_of part) by) (first + 1) parts k → IsFirstEarly by t first (part ∷ parts) k
+early_later by t first part parts k from f = record { at = suc f.at; file = f.file; is = next-is first part parts k f.at f.file f.is; early = f.early; none_before = before }
   where
-    before : (j : ℕ) (other : List ℕ) → j < suc f.at → slice_get (part ∷ parts) j ≡ Some other → end_before_part original claim t (part ∷ parts) j ≤ℤ part_begin original claim other
-    before zero other lt there = subst (λ x. t ≤ℤ part_begin original claim x) (same-file part other there) from
+    before : (j : ℕ) (other : List ℕ) → j < suc f.at → slice_get (part ∷ parts) j ≡ Some other → end_before_part by t (part ∷ parts) j ≤ℤ begin_by other (head_of other) by 0
+    before zero other lt there = subst (λ x. t ≤ℤ begin_by x (head_of x) by 0) (same-file part other there) from
     before (suc j) other lt there = f.none_before j other (omega (arith, lt)) there
+
+-- ---- both together
+
+pub conform_more : (part : List ℕ) (parts : List (List ℕ)) → Conforms part (head_of part) → AllConformAt parts → AllConformAt (part ∷ parts)
+conform_more part parts c all zero file there = subst (λ x. Conforms x (head_of x)) (same-file part file there) c
+conform_more part parts c all (suc j) file there = all j file there
+
+-- a part whose header differs, and those behind it
+pub head_more : (h : Head) (claim : Terms) (first : ℕ) (part : List ℕ) (parts : List (List ℕ)) (v : Verdict) (later : Option PartVerdict) → IsHeadVerdict h (head_of part) claim v → IsHeadsFound h claim (first + 1) parts later
+    → IsFirstHead h claim first (part ∷ parts) (earlier_of first v later).part (earlier_of first v later).verdict
+head_more h claim first part parts v None is all = head_alone h claim first part parts v is all
+head_more h claim first part parts v (Some p) is rest =
+    let P : PartVerdict → Type 0 = λ x. IsFirstHead h claim first (part ∷ parts) x.part x.verdict in
+    by_test (nat_lt (rank p.verdict) (rank v)) (λ b. P (if b then p else record { part = first; verdict = v }))
+    (λ e. head_later h claim first part parts p.part p.verdict (λ w d. let same = ap rank (one_head_verdict h (head_of part) claim v w is d) in let lt : rank p.verdict < rank v = grind (arith, nat_tests, e) in omega (arith, lt, same)) rest)
+    (λ e. head_here h claim first part parts v p.part p.verdict is rest (let le : rank v ≤ rank p.verdict = grind (arith, nat_tests, e) in le))
+
+-- the first difference of headers, of one part and of those behind it
+pub heads_more : (h : Head) (claim : Terms) (first : ℕ) (part : List ℕ) (parts : List (List ℕ)) (mine : Option Verdict) (later : Option PartVerdict) → MatchOption mine (HeadsAgree h (head_of part) claim) (IsHeadVerdict h (head_of part) claim)
+    → IsHeadsFound h claim (first + 1) parts later → IsHeadsFound h claim first (part ∷ parts) (first_of first mine later)
+heads_more h claim first part parts None None agree all = agree_more h claim part parts agree all
+heads_more h claim first part parts None (Some p) agree rest = head_later h claim first part parts p.part p.verdict (λ v d. absurd (agree-apart h (head_of part) claim v d agree)) rest
+heads_more h claim first part parts (Some v) later is rest = head_more h claim first part parts v later is rest
+
+-- the first early part, of one part and of those behind it
+pub early_more : (by t : ℤ) (first : ℕ) (part : List ℕ) (parts : List (List ℕ)) (is_early : Bool) (later : Option ℕ) → (is_early ≡ true → begin_by part (head_of part) by 0 <ℤ t) → (is_early ≡ false → t ≤ℤ begin_by part (head_of part) by 0)
+    → IsEarlyFound by (last_end_by part (head_of part) by) (first + 1) parts later → IsEarlyFound by t first (part ∷ parts) (if is_early then Some first else later)
+early_more by t first part parts true later early from rest = early_here by t first part parts (early refl)
+early_more by t first part parts false None early from rest = (from refl, rest)
+early_more by t first part parts false (Some k) early from rest = early_later by t first part parts k (from refl) rest
+
+-- one part that was read, and those behind it
+pub read_more : (h : Head) (claim : Terms) (by t : ℤ) (first : ℕ) (part : List ℕ) (parts : List (List ℕ)) (left : List ℕ) (lefts : List (List ℕ)) (mine : Ordered) (rest : PartsFound) (heads : Option PartVerdict) (early : Option ℕ)
+    → heads ≡ first_of first mine.heads rest.heads → early ≡ (if mine.is_early then Some first else rest.early) → IsOrdered h claim part left by t mine → AreRead h claim by mine.end.ps (first + 1) parts lefts rest
+    → AreRead h claim by t first (part ∷ parts) (left ∷ lefts) (record { heads = heads; early = early })
+read_more h claim by t first part parts left lefts mine rest heads early heads-are early-is m r =
+    let P : Option PartVerdict → Type 0 = IsHeadsFound h claim first (part ∷ parts) in
+    let Q : Option ℕ → Type 0 = IsEarlyFound by t first (part ∷ parts) in
+    let R : ℤ → Type 0 = λ u. IsEarlyFound by u (first + 1) parts rest.early in
+    record {
+      conform = conform_more part parts m.conforms r.conform;
+      gone = (m.gone, r.gone);
+      heads_are = subst P (sym heads-are) (heads_more h claim first part parts mine.heads rest.heads m.heads_are r.heads_are);
+      early_is = subst Q (sym early-is) (early_more by t first part parts mine.is_early rest.early m.early m.later (subst R m.end_is r.early_is));
+    }
+
+pub faultless_part : (part : List ℕ) → Conforms part (head_of part) → file_fault part ≡ None
+faultless_part part c = (conforming_is_faultless part).1 (head_of part, c)

@@ -1,8 +1,7 @@
 -- Two courses that are cut at an instant: they agree where both their fronts and their backs do, and their first mismatch is that of
 -- the fronts, or else that of the backs.
-use Rattle.std.proofs.Common.{◌≡◌, ℕ, ◌<◌, ℤ, List, ⊎_elim}
+use Rattle.std.proofs.Common.{ℕ, ◌<◌, ℤ, List, ⊎_elim}
 use Rattle.edf_stream.specs.declared.instant.Instant.{Instant}
-use Rattle.edf_stream.specs.Instants.{IsSame}
 use Rattle.edf_stream.specs.InstantOrder.{IsNotBefore}
 use Rattle.edf_verdict.specs.declared.verdict.SampleMismatch.{SampleMismatch}
 use Rattle.edf_verdict.specs.declared.verdict.SampleMismatch.TheVariants.{Missing, Extra, Value}
@@ -10,7 +9,7 @@ use Rattle.edf_check.specs.Courses.{Course, Agree, DifferAt, IsFirstMismatch}
 use Rattle.edf_check.specs.InstantOrder.{IsBefore}
 use Rattle.edf_check.specs.Unions.{IsCutAt}
 use Rattle.edf_check.proofs.CourseFacts.{IsCourse, agree-apart}
-use Rattle.edf_check.proofs.samples.FractionFacts.{by_before, before_not, before-not_before, not_before-before, same_before, same_below, same_back, before_below}
+use Rattle.edf_check.proofs.samples.FractionFacts.{by_before, before_not, before-not_before, same_before, before_below}
 
 -- what stands before the cut is in the front, and what doesn't in the back
 front-of : (u : Instant) (K A B : Course) → IsCutAt u K A B → (l : List ℕ) (t : Instant) (v : ℤ) → 0 < t.den → IsBefore t u → K l t v → A l t v

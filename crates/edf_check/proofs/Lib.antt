@@ -5,11 +5,15 @@ pub mod PartsFacts
 pub mod FoundFacts
 pub mod CompareFacts
 pub mod OrderFacts
+pub mod SerialFacts
+pub mod TogetherFacts
 pub mod VerdictFacts
+pub mod PartsVerdictFacts
 pub mod SomeVerdictFacts
 pub mod SameFileFacts
 pub mod WordsFacts
 pub mod RunFacts
+pub mod PartsRunFacts
 pub mod ProductFacts
 pub mod HeadlineFacts
 pub mod StartFacts

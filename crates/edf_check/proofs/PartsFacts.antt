@@ -1,19 +1,16 @@
 -- A single part is an export.
-use Rattle.std.proofs.Common.{◌≡◌, ◌↔◌, ℕ, zero, suc, ◌+◌, List, [], ◌∷◌, ◌++◌, None, Some, slice_get, inl, ⊎_elim, refl, sym, subst}
+use Rattle.std.proofs.Common.{◌≡◌, ℕ, zero, suc, List, [], ◌∷◌, None, Some, inl, ⊎_elim, refl, sym, subst}
 use Rattle.std.proofs.lemmas.List.{append-nil}
-use Rattle.edf_claim.specs.Terms.{Terms}
-use Rattle.edf_fields.specs.Lists.{Has}
 use Rattle.edf_header.specs.HeadsReading.{head_of}
 use Rattle.edf_heads.specs.HeadVerdicts.{HeadsAgree}
 use Rattle.edf_stream.specs.Notes.{NoteValue}
 use Rattle.edf_check.specs.Annotations.{SameNotes}
-use Rattle.edf_check.specs.Exports.{IsExport}
 use Rattle.edf_check.specs.KeptReading.{kept_notes, exported_notes}
 use Rattle.edf_check.specs.Laws.{OnePart}
-use Rattle.edf_check.specs.Parts.{FollowOneAnother, AreTogether}
+use Rattle.edf_check.specs.Parts.{FollowOneAnother}
 use Rattle.edf_check.proofs.walk.SeriesFacts.{one-alone}
 
-alone-in-order : (part : List ℕ) → FollowOneAnother (part ∷ [])
+pub alone-in-order : (part : List ℕ) → FollowOneAnother (part ∷ [])
 alone-in-order part zero x y a b = absurd (let z : None ≡ Some y = b in cc)
 alone-in-order part (suc j) x y a b = absurd (let z : None ≡ Some x = a in cc)
 

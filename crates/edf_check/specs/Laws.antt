@@ -13,6 +13,7 @@ use Rattle.edf_header.specs.HeadsReading.{head_of}
 use Rattle.edf_stream.specs.Notes.{NoteValue}
 use Rattle.edf_stream.specs.Samples.{SampleValue, IsSample}
 use Rattle.edf_check.specs.Annotations.{SameNotes}
+use Rattle.edf_verdict.specs.declared.parts_verdict.PartsVerdict.{PartsVerdict}
 use Rattle.edf_verdict.specs.declared.verdict.Verdict.{Verdict}
 use Rattle.edf_verdict.specs.declared.verdict.Verdict.TheVariants.{Yes}
 use Rattle.edf_check.specs.Exports.{BothConform, SameSamples, IsExport}
@@ -20,7 +21,8 @@ use Rattle.edf_check.specs.Instants.{later}
 use Rattle.edf_check.specs.Headline.{Headline}
 use Rattle.edf_check.specs.Kept.{IsKeptSample, SamplesAsKept, shift_ps}
 use Rattle.edf_check.specs.KeptReading.{origin_of}
-use Rattle.edf_check.specs.Parts.{AreTogether}
+use Rattle.edf_check.specs.Parts.{AllConform, AreTogether}
+use Rattle.edf_check.specs.PartsVerdicts.{IsPartsVerdict}
 use Rattle.edf_check.specs.SameFiles.{HoldTheSame}
 use Rattle.edf_check.specs.Verdicts.{IsVerdict}
 use Rattle.edf_heads.specs.SameHeads.{AreBlankAlike}
@@ -55,6 +57,16 @@ SamplesInWords = (original export : List ℕ) (claim : Terms) →
 -- a single file is the export of an original exactly where it is so as the only part
 abbrev pub OnePart : Type 0
 OnePart = (original export : List ℕ) (claim : Terms) → AreTogether original (export ∷ []) claim ↔ IsExport original export claim
+
+-- the verdict on it is the one that is said of it as the only part
+abbrev pub OnePartVerdict : Type 0
+OnePartVerdict = (original export : List ℕ) (claim : Terms) (v : Verdict) →
+    IsVerdict original export claim v ↔ IsPartsVerdict original (export ∷ []) claim (record { part = 0; verdict = v })
+
+-- where there is a verdict on several parts, it is a Yes exactly where all conform and the parts are together the export
+abbrev pub YesTogether : Type 0
+YesTogether = (original : List ℕ) (parts : List (List ℕ)) (claim : Terms) (v : PartsVerdict) → IsPartsVerdict original parts claim v →
+    (AllConform original parts × AreTogether original parts claim) ↔ IsYes v.verdict
 
 -- each annotation stands equally often in two lists exactly where one is a rearrangement of the other
 abbrev pub NotesInWords : Type 0

@@ -10,11 +10,14 @@ pub mod Annotations
 pub mod Exports
 pub mod Parts
 pub mod PartsFound
+pub mod PartsStops
+pub mod PartsVerdicts
 pub mod Verdicts
 pub mod SameFiles
 pub mod Laws
 pub mod Checks
 pub mod Runs
+pub mod PartsRuns
 pub mod Vectors
 pub mod samples
 pub mod notes

@@ -1,16 +1,21 @@
 -- What is found first in several exports of one original, of which the first has a number: by their places in the list. Times are
--- picoseconds after the second at which the original starts, before the shift.
-use Rattle.std.specs.Prelude.{◌≡◌, ℕ, zero, suc, ◌+◌, ◌<◌, ◌≤◌, ◌⊎◌, ℤ, ◌≤ℤ◌, ◌<ℤ◌, List, [], ◌∷◌, None, Some, slice_get}
+-- picoseconds after the second at which the original starts, before the shift; the parts are moved by `by` picoseconds, so that they count
+-- from there.
+use Rattle.std.specs.Prelude.{◌≡◌, ℕ, zero, suc, ◌+◌, ◌<◌, ◌≤◌, ◌⊎◌, ℤ, ◌≤ℤ◌, ◌<ℤ◌, nat_lt, if◌then◌else◌, List, [], ◌∷◌, Option, None, Some, MatchOption, slice_get}
+use Rattle.std.specs.List.{AllByRecursion}
 use Rattle.edf_claim.specs.Terms.{Terms}
 use Rattle.edf_fields.specs.declared.fault.Fault.{Fault}
 use Rattle.edf_header.specs.Heads.{Head}
 use Rattle.edf_header.specs.HeadsReading.{head_of}
 use Rattle.edf_heads.specs.HeadVerdicts.{HeadsAgree, IsHeadVerdict}
+use Rattle.edf_stream.specs.Conforming.{Conforms}
 use Rattle.edf_stream.specs.Faults.{file_fault}
 use Rattle.edf_verdict.specs.declared.verdict.Verdict.{Verdict}
 use Rattle.edf_verdict.specs.declared.verdict.Verdict.TheVariants.{Yes, No}
 use Rattle.edf_verdict.specs.Numbers.{number_of}
-use Rattle.edf_check.specs.walk.Series.{part_begin, part_end}
+use Rattle.edf_check.specs.declared.parts.found.PartVerdict.{PartVerdict}
+use Rattle.edf_check.specs.declared.parts.found.PartsFound.{PartsFound}
+use Rattle.edf_check.specs.walk.Shown.{begin_by, last_end_by}
 
 -- the part of this number is the file
 pub record IsPart (first : ℕ) (parts : List (List ℕ)) (part at : ℕ) (file : List ℕ) : Type 0 where
@@ -46,16 +51,50 @@ pub record IsFirstHead (h : Head) (claim : Terms) (first : ℕ) (parts : List (L
 abbrev pub AllAgree : Head → Terms → List (List ℕ) → Type 0
 AllAgree h claim parts = (j : ℕ) (file : List ℕ) → slice_get parts j ≡ Some file → HeadsAgree h (head_of file) claim
 
--- where the part before the one at this place ends; before the first one, t
-abbrev pub end_before_part : List ℕ → Terms → ℤ → List (List ℕ) → ℕ → ℤ
-end_before_part original claim t parts zero = t
-end_before_part original claim t [] (suc k) = t
-end_before_part original claim t (part ∷ parts) (suc k) = end_before_part original claim (part_end original claim part) parts k
+-- where the part ends that stands before the one at this place; before the first one, t
+abbrev pub end_before_part : ℤ → ℤ → List (List ℕ) → ℕ → ℤ
+end_before_part by t parts zero = t
+end_before_part by t [] (suc k) = t
+end_before_part by t (part ∷ parts) (suc k) = end_before_part by (last_end_by part (head_of part) by) parts k
 
 -- this is the first part that begins before the one before it ends
-pub record IsFirstEarly (original : List ℕ) (claim : Terms) (t : ℤ) (first : ℕ) (parts : List (List ℕ)) (part : ℕ) : Type 0 where
+pub record IsFirstEarly (by t : ℤ) (first : ℕ) (parts : List (List ℕ)) (part : ℕ) : Type 0 where
   pub at : ℕ
   pub file : List ℕ
   pub is : IsPart first parts part at file
-  pub early : part_begin original claim file <ℤ end_before_part original claim t parts at
-  pub none_before : (j : ℕ) (other : List ℕ) → j < at → slice_get parts j ≡ Some other → end_before_part original claim t parts j ≤ℤ part_begin original claim other
+  pub early : begin_by file (head_of file) by 0 <ℤ end_before_part by t parts at
+  pub none_before : (j : ℕ) (other : List ℕ) → j < at → slice_get parts j ≡ Some other → end_before_part by t parts j ≤ℤ begin_by other (head_of other) by 0
+
+-- each part begins where the one before it ends, the first one at t, or later
+abbrev pub AreOrdered : ℤ → ℤ → List (List ℕ) → Type 0
+AreOrdered by t [] = Unit {0}
+AreOrdered by t (part ∷ parts) = (t ≤ℤ begin_by part (head_of part) by 0) × AreOrdered by (last_end_by part (head_of part) by) parts
+
+-- all parts conform
+abbrev pub AllConformAt : List (List ℕ) → Type 0
+AllConformAt parts = (j : ℕ) (file : List ℕ) → slice_get parts j ≡ Some file → Conforms file (head_of file)
+
+-- the headers of all parts agree, or this is their first difference
+abbrev pub IsHeadsFound : Head → Terms → ℕ → List (List ℕ) → Option PartVerdict → Type 0
+IsHeadsFound h claim first parts found = MatchOption found (AllAgree h claim parts) (λ p. IsFirstHead h claim first parts p.part p.verdict)
+
+-- each part begins where the one before it ends or later, or this is the first one that doesn't
+abbrev pub IsEarlyFound : ℤ → ℤ → ℕ → List (List ℕ) → Option ℕ → Type 0
+IsEarlyFound by t first parts found = MatchOption found (AreOrdered by t parts) (λ part. IsFirstEarly by t first parts part)
+
+-- of a part's verdict and of the first one of the parts behind it, the one that goes first
+abbrev pub earlier_of : ℕ → Verdict → Option PartVerdict → PartVerdict
+earlier_of part verdict None = record { part = part; verdict = verdict }
+earlier_of part verdict (Some later) = if nat_lt (rank later.verdict) (rank verdict) then later else record { part = part; verdict = verdict }
+
+-- the same, where the part may have none
+abbrev pub first_of : ℕ → Option Verdict → Option PartVerdict → Option PartVerdict
+first_of part None later = later
+first_of part (Some verdict) later = Some (earlier_of part verdict later)
+
+-- parts of which none has a fault were read to their ends, beside an original with this header
+pub record AreRead (h : Head) (claim : Terms) (by t : ℤ) (first : ℕ) (parts lefts : List (List ℕ)) (found : PartsFound) : Type 0 where
+  pub conform : AllConformAt parts
+  pub gone : AllByRecursion (λ left. left ≡ []) lefts
+  pub heads_are : IsHeadsFound h claim first parts found.heads
+  pub early_is : IsEarlyFound by t first parts found.early

@@ -12,3 +12,5 @@ pub mod Spans
 pub mod Series
 pub mod Outcomes
 pub mod Orders
+pub mod Serial
+pub mod Together

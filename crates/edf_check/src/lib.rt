@@ -3,11 +3,13 @@
 #![tactic(auto)]
 
 pub mod check;
+pub mod check_parts;
 pub mod first_difference;
 pub mod laws;
 mod notes;
 mod parts;
 pub mod run;
+pub mod run_parts;
 mod samples;
 pub mod vectors;
 mod walk;

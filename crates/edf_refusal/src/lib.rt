@@ -2,6 +2,7 @@
 //! why a command is refused, and the status of the program.
 #![tactic(auto)]
 
+pub mod parts_stop;
 pub mod refusal;
 pub mod side;
 pub mod status;

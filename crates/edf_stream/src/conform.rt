@@ -1,6 +1,6 @@
 //! Whether a file conforms to the profile, and how much it holds.
 
-ghost use Rattle.std.specs.Prelude.{◌≡◌, ◌*◌, ◌<◌, ◌^◌, length, Some, IfOk, IfErr, OnOk, IsTrue};
+ghost use Rattle.std.specs.Prelude.{◌≡◌, ◌*◌, ◌<◌, ◌≤◌, ◌^◌, length, Some, IfOk, IfErr, OnOk, IsTrue};
 ghost use Rattle.edf_fields.specs.Sources.{Rises};
 ghost use Rattle.edf_header.specs.Heads.{samples_together};
 ghost use Rattle.edf_header.specs.Stops.{Stops};
@@ -45,9 +45,9 @@ fn channel_count(signals: &[Signal]) -> u64
 
 /// How many samples the channels among the signals have together in a data record.
 fn channel_samples(signals: &[Signal]) -> u64
-    requires { samples_together signals.now < 2 ^ 32 }
+    requires { samples_together signals.now ≤ 2 ^ 23 }
     ensures value { result ≡ samples_together (channels_among signals.now) }
-    ensures small { result < 2 ^ 32 }
+    ensures small { result ≤ 2 ^ 23 }
 {
     let mut count = 0;
     for signal in signals {
@@ -64,6 +64,7 @@ impl Summary {
         ensures records { result.records ≡ header.now.records }
         ensures channels { result.channels ≡ length (channels_among header.now.signals) }
         ensures samples { result.samples ≡ header.now.records * samples_together (channels_among header.now.signals) }
+        ensures few { result.samples < 2 ^ 50 }
         ensures annotations { result.annotations ≡ annotations }
     {
         let records = u64::from(header.records());

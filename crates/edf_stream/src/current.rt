@@ -48,7 +48,7 @@ impl FileReader {
     }
 
     /// Where the last data record that was read ends, in picoseconds after the start of the file; 0 where none
-    /// was read. Behind the end of a file it is where the file's last data record ends.
+    /// was read. Once the file has ended, it is where its last data record ends.
     pub fn read_to_ps(&self) -> i128
         ensures value { result ≡ self.now.ended }
         ensures small { unsigned_abs result < 2 ^ 71 }

@@ -1,8 +1,7 @@
 -- One step of a walk over two files, and its end.
-use Rattle.std.proofs.Common.{◌≡◌, ℕ, ℤ, ◌<ℤ◌, ◌≤ℤ◌, ◌<◌, ◌^◌, pos, neg_ℤ, unsigned_abs, true, false, List, [], ◌∷◌, map, Option, None, Some, option_map, IfSome, IfNone, refl, sym, ap, ◌∙◌, arith, subst}
+use Rattle.std.proofs.Common.{◌≡◌, ℕ, ℤ, ◌≤ℤ◌, ◌<◌, ◌^◌, pos, neg_ℤ, unsigned_abs, true, false, List, [], ◌∷◌, map, Option, None, Some, option_map, IfSome, IfNone, refl, sym, ap, ◌∙◌, arith, subst}
 use Rattle.std.proofs.lemmas.Int.{ints}
 use Rattle.std.proofs.lemmas.List.Elements.{All-head, All-tail}
-use Rattle.std.specs.Option.{option_or}
 use Rattle.edf_claim.specs.Terms.{Terms}
 use Rattle.edf_fields.specs.declared.fault.Fault.{Fault}
 use Rattle.edf_header.specs.Heads.{Head}
@@ -20,14 +19,14 @@ use Rattle.edf_check.specs.declared.samples.earliest.Found.{Found}
 use Rattle.edf_check.specs.declared.walk.walked.FaultOf.{FaultOf}
 use Rattle.edf_check.specs.declared.walk.track.Pair.{Pair}
 use Rattle.edf_check.specs.declared.walk.track.Track.{Track}
-use Rattle.edf_check.specs.walk.Windows.{sampled, whole_difference, rest_difference, window_difference}
-use Rattle.edf_check.specs.walk.Pairs.{Places, places_of, ArePairs, IsTrack, IsPlaceIn}
+use Rattle.edf_check.specs.walk.Windows.{sampled, whole_difference, rest_difference}
+use Rattle.edf_check.specs.walk.Pairs.{places_of, ArePairs, IsTrack, IsPlaceIn}
 use Rattle.edf_check.specs.walk.Shown.{Shows, ArePast, Reaches, IsGoing, Covers}
 use Rattle.edf_check.specs.walk.Readings.{IsAt}
 use Rattle.edf_check.specs.walk.Gathered.{gathered_of}
 use Rattle.edf_check.specs.walk.Ends.{first_fault_of, IsFaultOf, IsReadThrough, AreReadOn, AreWalked}
 use Rattle.edf_check.proofs.walk.PassFacts.{ended_is}
-use Rattle.edf_check.proofs.walk.SplitFacts.{ArePlaces, step, at_start, at_end}
+use Rattle.edf_check.proofs.walk.SplitFacts.{ArePlaces, at_start}
 
 -- ---- the channels of pairs
 

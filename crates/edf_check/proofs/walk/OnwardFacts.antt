@@ -1,12 +1,12 @@
 -- One step of a walk over two files from a time on, and where it ends.
-use Rattle.std.proofs.Common.{◌≡◌, ℕ, zero, suc, ◌<◌, ◌≤◌, ℤ, pos, ◌+ℤ◌, ◌<ℤ◌, ◌≤ℤ◌, Bool, true, false, inl, inr, List, map, Option, None, Some, IfNone, refl, sym, ap, ◌∙◌, arith, subst}
+use Rattle.std.proofs.Common.{◌≡◌, ℕ, zero, suc, ◌<◌, ◌≤◌, ℤ, ◌+ℤ◌, ◌<ℤ◌, ◌≤ℤ◌, Bool, true, false, inl, inr, List, map, Option, None, Some, refl, sym, ap, ◌∙◌, arith, subst}
 use Rattle.std.proofs.lemmas.Bool.{cases_lt}
 use Rattle.std.proofs.lemmas.Int.{ints}
 use Rattle.std.specs.Option.{option_or}
 use Rattle.edf_claim.specs.Terms.{Terms}
 use Rattle.edf_header.specs.Heads.{Head}
 use Rattle.edf_stream.specs.declared.status.Status.{Status}
-use Rattle.edf_stream.specs.declared.status.Status.TheVariants.{Current, Ended}
+use Rattle.edf_stream.specs.declared.status.Status.TheVariants.{Current}
 use Rattle.edf_stream.specs.Conforming.{Conforms}
 use Rattle.edf_stream.specs.Notes.{NoteValue}
 use Rattle.edf_stream.specs.Readers.{Reader, is_current}
@@ -20,8 +20,8 @@ use Rattle.edf_check.specs.walk.Pairs.{places_of, ArePairs}
 use Rattle.edf_check.specs.walk.Shown.{Shows, ArePast, Reaches, IsGoing, Covers, ends_at, begin_by, last_end_by}
 use Rattle.edf_check.specs.walk.Readings.{IsAt}
 use Rattle.edf_check.specs.walk.Ends.{IsReadThrough, AreReadOn}
-use Rattle.edf_check.proofs.walk.LockstepFacts.{are_places, covers_at, HasEnded, has_ended}
-use Rattle.edf_check.proofs.walk.PassFacts.{current_is, ended_is}
+use Rattle.edf_check.proofs.walk.LockstepFacts.{are_places, covers_at, has_ended}
+use Rattle.edf_check.proofs.walk.PassFacts.{current_is}
 use Rattle.edf_check.proofs.walk.RecordFacts.{lasts}
 use Rattle.edf_check.proofs.walk.SplitFacts.{at_end}
 use Rattle.edf_check.proofs.walk.WindowFacts.{window_parts, rest_parts}

@@ -21,7 +21,7 @@ use Rattle.edf_stream.specs.declared.notes.Note.{Note}
 use Rattle.edf_check.specs.walk.Shown.{ArePast, end_by, ends_at, Shows, IsGoing, IsAhead}
 use Rattle.edf_check.specs.walk.Gathered.{as_kept, counted_text, counted_of, gathered_of, gathered_in}
 use Rattle.edf_check.specs.walk.Keepers.{counted_parts, gathered_nil}
-use Rattle.edf_check.specs.walk.Readings.{IsAt, IsThere, Moves, Follows}
+use Rattle.edf_check.specs.walk.Readings.{IsAt, IsThere, Moves}
 
 -- what was answered is what is at hand
 pub answered_current : (s : Status) (more : Bool) → s ≡ status_after (Ok more) → is_current s ≡ more

@@ -1,5 +1,5 @@
 -- The first difference of an original and its parts is their first mismatch.
-use Rattle.std.proofs.Common.{◌≡◌, ◌==◌, ℕ, ◌+◌, ◌<◌, ◌^◌, ℤ, pos, neg_ℤ, ◌+ℤ◌, ◌≤ℤ◌, ◌<ℤ◌, Bool, true, false, Bor, List, [], ◌∷◌, map, Option, None, Some, MatchOption, IfSome, slice_get, filter, inl, inr, ⊎_elim, lit<, refl, sym, ap, ◌∙◌, arith, subst}
+use Rattle.std.proofs.Common.{◌≡◌, ◌==◌, ℕ, ◌<◌, ℤ, neg_ℤ, ◌+ℤ◌, ◌≤ℤ◌, Bool, true, false, Bor, List, [], ◌∷◌, map, Option, None, Some, MatchOption, IfSome, slice_get, filter, inl, inr, ⊎_elim, lit<, refl, sym, ap, ◌∙◌, arith, subst}
 use Rattle.std.proofs.lemmas.Bool.Decides.{nat_tests}
 use Rattle.std.proofs.lemmas.Int.{ints}
 use Rattle.std.specs.Option.{option_or}
@@ -8,45 +8,41 @@ use Rattle.edf_claim.specs.Terms.{Terms}
 use Rattle.edf_claim.proofs.ForCallers.{instant_kept}
 use Rattle.edf_fields.specs.Lists.{Has}
 use Rattle.edf_fields.proofs.ForCallers.{has-at, has-map, filtered-has}
-use Rattle.edf_header.specs.Heads.{SignalHead, Head}
+use Rattle.edf_header.specs.Heads.{Head}
 use Rattle.edf_header.specs.HeadsReading.{head_of}
 use Rattle.edf_header.specs.Sound.{IsSound}
 use Rattle.edf_header.specs.Channels.{channels_among}
-use Rattle.edf_heads.specs.Channels.{SameChannels}
 use Rattle.edf_heads.specs.Comparisons.{AreSorted}
 use Rattle.edf_heads.specs.HeadVerdicts.{HeadsAgree}
 use Rattle.edf_stream.specs.declared.instant.Instant.{Instant}
-use Rattle.edf_stream.specs.declared.sample.Sample.{Sample}
 use Rattle.edf_stream.specs.Conforming.{Conforms}
 use Rattle.edf_stream.specs.Instants.{IsSame}
 use Rattle.edf_stream.specs.InstantOrder.{IsNotBefore}
-use Rattle.edf_stream.specs.SamplesReading.{samples_of, channel_label}
-use Rattle.edf_stream.specs.Starts.{file_start}
+use Rattle.edf_stream.specs.SamplesReading.{samples_of}
 use Rattle.edf_stream.proofs.ForCallers.{samples_are_of_channels}
 use Rattle.edf_check.specs.declared.samples.earliest.Found.{Found}
 use Rattle.edf_check.specs.declared.samples.point.Point.{Point}
 use Rattle.edf_check.specs.declared.walk.channel_place.ChannelPlace.{ChannelPlace}
-use Rattle.edf_check.specs.samples.Columns.{Sampled, point_of, is_of, channel_at, AreNights}
+use Rattle.edf_check.specs.samples.Columns.{point_of, is_of, channel_at, AreNights}
 use Rattle.edf_check.specs.samples.Cuts.{whole}
 use Rattle.edf_check.specs.samples.Differences.{instant}
 use Rattle.edf_check.specs.Courses.{Course, Agree, IsFirstMismatch}
-use Rattle.edf_check.specs.Exports.{BothConform, SameSamples}
 use Rattle.edf_check.specs.Instants.{later}
 use Rattle.edf_check.specs.InstantOrder.{IsBefore, floor_of}
 use Rattle.edf_check.specs.Kept.{shift_ps}
 use Rattle.edf_check.specs.KeptReading.{origin_of, ValueAt, KeptAt, ExportedAt}
 use Rattle.edf_check.specs.Parts.{ExportedByOne}
 use Rattle.edf_check.specs.Unions.{IsCutAt}
-use Rattle.edf_check.specs.walk.Pairs.{Places, IsPlaceIn}
-use Rattle.edf_check.specs.walk.Series.{places_in, moved_part, part_begin, part_end, is_last, part_difference, parts_difference, AreInOrder}
+use Rattle.edf_check.specs.walk.Pairs.{IsPlaceIn}
+use Rattle.edf_check.specs.walk.Series.{places_in, moved_part, part_begin, part_end, part_difference, parts_difference, AreInOrder}
 use Rattle.edf_check.specs.walk.Shown.{begin_by, last_end_by}
 use Rattle.edf_check.specs.walk.Spans.{claim_within}
-use Rattle.edf_check.specs.walk.Windows.{sampled, points_at, whole_difference}
+use Rattle.edf_check.specs.walk.Windows.{sampled, points_at}
 use Rattle.edf_check.proofs.CourseFacts.{IsCourse, agree-alike, first-alike}
 use Rattle.edf_check.proofs.JoinFacts.{join-agree, join-first, join-later}
 use Rattle.edf_check.proofs.KeptFacts.{exported-course}
-use Rattle.edf_check.proofs.samples.CutFacts.{later as later_before, earlier_from}
-use Rattle.edf_check.proofs.samples.FractionFacts.{by_before, same_before, same_back, same_below, same_above, from_below}
+use Rattle.edf_check.proofs.samples.CutFacts.{earlier_from}
+use Rattle.edf_check.proofs.samples.FractionFacts.{by_before, same_before, same_back, same_below, from_below}
 use Rattle.edf_check.proofs.walk.NightFacts.{first-found, value-sampled, at-instant, sound-head}
 use Rattle.edf_check.proofs.walk.OnwardFacts.{past_all, ends_behind}
 use Rattle.edf_check.proofs.walk.PlaceFacts.{at-found, channel-bounds}

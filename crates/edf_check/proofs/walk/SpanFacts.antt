@@ -1,5 +1,5 @@
 -- The difference of one of several exports is that of the whole files under the claim that keeps only its span.
-use Rattle.std.proofs.Common.{◌≡◌, ℕ, zero, suc, ◌+◌, ◌*◌, ◌<◌, ◌≤◌, ℤ, pos, ◌+ℤ◌, ◌*ℤ◌, ◌<ℤ◌, ◌≤ℤ◌, int_le, int_lt, Bool, true, false, not, ◌&&◌, if◌then◌else◌, List, [], ◌∷◌, map, filter, Option, Some, None, IfSome, refl, sym, ap, ◌∙◌, arith, subst}
+use Rattle.std.proofs.Common.{◌≡◌, ℕ, ◌+◌, ◌*◌, ◌≤◌, ℤ, pos, ◌*ℤ◌, ◌<ℤ◌, ◌≤ℤ◌, int_le, int_lt, Bool, true, false, not, ◌&&◌, if◌then◌else◌, List, [], ◌∷◌, map, filter, Option, Some, None, IfSome, refl, sym, ap, ◌∙◌, arith}
 use Rattle.std.proofs.lemmas.Int.{ints}
 use Rattle.std.proofs.Math.Nat.{mul-le-mul_right}
 use Rattle.std.specs.List.{list_any}
@@ -7,7 +7,6 @@ use borrow.Author.Differences.{up, down}
 use Rattle.edf_claim.specs.Terms.{Terms}
 use Rattle.edf_claim.specs.Keeps.{is_within, keeps_instant}
 use Rattle.edf_claim.specs.declared.interval.Interval.{Interval}
-use Rattle.edf_fields.specs.Lists.{Has}
 use Rattle.edf_fields.proofs.ForCallers.{has-filtered}
 use Rattle.edf_header.specs.Heads.{Head}
 use Rattle.edf_stream.specs.Conforming.{Conforms}
@@ -15,12 +14,12 @@ use Rattle.edf_check.specs.declared.walk.channel_place.ChannelPlace.{ChannelPlac
 use Rattle.edf_check.specs.declared.samples.point.Point.{Point}
 use Rattle.edf_check.specs.samples.Columns.{difference_at}
 use Rattle.edf_check.specs.samples.Cuts.{whole, since, until}
-use Rattle.edf_check.specs.samples.Differences.{instant, first_difference_of, AreBefore, AreFrom}
+use Rattle.edf_check.specs.samples.Differences.{instant, first_difference_of, AreBefore}
 use Rattle.edf_check.specs.samples.Earliest.{earliest}
-use Rattle.edf_check.specs.InstantOrder.{IsBefore, is_before}
+use Rattle.edf_check.specs.InstantOrder.{is_before}
 use Rattle.edf_check.specs.walk.Pairs.{Places, IsPlaceIn}
 use Rattle.edf_check.specs.walk.Shown.{begin_by, last_end_by}
-use Rattle.edf_check.specs.walk.Spans.{cut_from, cut_until, span, claim_within}
+use Rattle.edf_check.specs.walk.Spans.{cut_from, cut_until, claim_within}
 use Rattle.edf_check.specs.walk.Windows.{sampled, points_at, kept_at, rest_of, window_of, whole_difference, rest_difference, window_difference, span_difference}
 use Rattle.edf_check.proofs.samples.CutFacts.{since_all}
 use Rattle.edf_check.proofs.samples.FilterFacts.{by_test, filter_all, filter_implied}

@@ -1,7 +1,8 @@
 //! One of several exports opened and compared with the original, from the time on at which the one before it ends.
 
-ghost use Rattle.std.specs.Prelude.{◌≡◌, ◌<◌, ◌^◌, neg_ℤ, pos, ◌≤ℤ◌, ◌<ℤ◌, [], map, length, Some, IfOk, IfErr, OnOk, IfSome, IfNone, IsTrue, unsigned_abs, false};
+ghost use Rattle.std.specs.Prelude.{◌≡◌, ◌<◌, ◌^◌, neg_ℤ, pos, ◌≤ℤ◌, ◌<ℤ◌, [], map, length, None, Some, IfOk, IfErr, OnOk, IfSome, IfNone, IsTrue, unsigned_abs, false};
 ghost use Rattle.edf_fields.specs.Sources.{Rises};
+ghost use Rattle.edf_header.specs.HeadsReading.{head_of};
 ghost use Rattle.edf_stream.specs.Conforming.{Conforms};
 ghost use Rattle.edf_stream.specs.Readers.{HasBegun, StandsIn};
 ghost use Rattle.edf_stream.specs.Views.{note_value};
@@ -21,8 +22,9 @@ use crate::walk::clock::Clock;
 use crate::walk::layout::common_room;
 use crate::walk::lockstep::{Frame, Span, export_fault};
 use crate::walk::open;
-use crate::walk::part::{PartRead, walk_part};
+use crate::walk::part::{Outcome, PartRead, walk_part};
 use crate::walk::reading::{Reading, finish, read_out};
+use crate::walk::time::Time;
 use crate::walk::track::pairs_of;
 use crate::walk::walked::FaultOf;
 use edf_claim::claim::Claim;
@@ -52,11 +54,26 @@ pub(crate) enum Came {
     Read(PartRead),
 }
 
+impl PartRead {
+    /// Where it ends, where the parts behind it are compared, too: it is the same, and not the last.
+    fn goes_on(self, is_last: bool) -> Option<Time>
+        ensures yes { IfSome result (λ end. (is_last ≡ false) × (self.outcome ≡ outcomes.Same) × (end ≡ self.end)) }
+        ensures no { result ≡ None → is_last ≡ false → self.outcome ≡ outcomes.Same → ⊥ }
+    {
+        match self.outcome {
+            Outcome::Same => { if is_last { None } else { Some(self.end) } }
+            Outcome::Early | Outcome::Differs(_) => None,
+        }
+    }
+}
+
 /// A part that was read to its end, and what it came to.
 #[derive(Drop)]
 pub(crate) struct Compared {
     pub reading: Reading,
     pub came: Came,
+    /// Where it ends, where the parts behind it are compared, too: it is the same, and not the last.
+    pub goes_on: Option<Time>,
 }
 
 /// What a part comes to whose header differs: the original is read on to its end, and the part behind its header, and a
@@ -180,11 +197,13 @@ pub(crate) fn compare_part<O: Source, E: Source>(
         (λ a. IsTrue (E.is_honest e.old) → IsCompared span.is_last a (original.old.reader).head (O.left o.new) (map note_value (original.new.notes).items)
         (E.left e.old) (c.reading.reader).head (E.left e.new) (map note_value (c.reading.notes).items)
         under.entry.claim.now (under.entry.clock.original).ps (under.entry.clock.export).ps under.entry.labels.now (span.from).ps c.came))) }
-    ensures goes { IfOk result (λ compared. IfOk compared (λ c. span.is_last ≡ false → (part : PartRead) → c.came ≡ came.Read part → part.outcome ≡ outcomes.Same →
-        Moves original.old.reader original.new.reader
+    ensures goes { IfOk result (λ compared. IfOk compared (λ c. IfSome c.goes_on (λ end. Moves original.old.reader original.new.reader
         (O.is_honest o.old) (O.is_honest o.new) (O.failures o.old) (O.failures o.new) (O.left o.old) (O.left o.new)
         (map note_value (original.old.notes).items) (map note_value (original.new.notes).items) (Some under.entry.claim.now)
-        (under.entry.clock.original).ps (span.from).ps part.end.ps)) }
+        (under.entry.clock.original).ps (span.from).ps end.ps × (neg_ℤ (pos (2 ^ 90)) ≤ℤ end.ps) × (end.ps <ℤ pos (2 ^ 83))))) }
+    ensures which { IfOk result (λ compared. IfOk compared (λ c. IfSome c.goes_on (λ end. (span.is_last ≡ false)
+        × ((part : PartRead) × (c.came ≡ came.Read part) × (part.outcome ≡ outcomes.Same) × (end ≡ part.end))))) }
+    ensures ends { IfOk result (λ compared. IfOk compared (λ c. c.goes_on ≡ None → span.is_last ≡ false → (part : PartRead) → c.came ≡ came.Read part → part.outcome ≡ outcomes.Same → ⊥)) }
     ensures small { IfOk result (λ compared. IfOk compared (λ c. (part : PartRead) → c.came ≡ came.Read part →
         (neg_ℤ (pos (2 ^ 90)) ≤ℤ part.end.ps) × (part.end.ps <ℤ pos (2 ^ 83))
         × IfSome (found_of part.outcome) (λ f. IsModest f.difference.at × (f.channel < length under.entry.labels.now)))) }
@@ -192,6 +211,9 @@ pub(crate) fn compare_part<O: Source, E: Source>(
         (λ a. IsAt original.old.reader (O.left o.old) (map note_value (original.old.notes).items) a (Some under.entry.claim.now)
         (under.entry.clock.original).ps (span.from).ps)
         (λ a. IsTrue (E.is_honest e.old) → IsFaultBy a (original.old.reader).head (E.left e.old) fault × IsReadBy fault (O.left o.new)))) }
+    ensures head { IfOk result (λ compared. IfOk compared (λ c. (original.new.reader).head ≡ (original.old.reader).head)) }
+    ensures says { IfOk result (λ compared. IfOk compared (λ c. (part : PartRead) → c.came ≡ came.Read part → IsTrue (E.is_honest e.old) →
+        (c.reading.reader).head ≡ head_of (E.left e.old))) }
     ensures failures { OnOk result ((O.failures o.new ≡ O.failures o.old) × (E.failures e.new ≡ E.failures e.old)) }
     ensures stop { IfErr result (CheckStops (Rises (O.failures o.old) (O.failures o.new)) (Rises (E.failures e.old) (E.failures e.new))
         ((O.failures o.new ≡ O.failures o.old) × (E.failures e.new ≡ E.failures e.old))) }
@@ -216,6 +238,7 @@ pub(crate) fn compare_part<O: Source, E: Source>(
             Ok(None) => Ok(Ok(Compared {
                 reading: export,
                 came: Came::HeadsDiffer(verdict),
+                goes_on: None,
             })),
             Ok(Some(fault)) => Ok(Err(fault)),
             Err(stop) => Err(stop),
@@ -224,6 +247,7 @@ pub(crate) fn compare_part<O: Source, E: Source>(
             Ok(Ok(part)) => Ok(Ok(Compared {
                 reading: export,
                 came: Came::Read(part),
+                goes_on: part.goes_on(span.is_last),
             })),
             Ok(Err(fault)) => Ok(Err(fault)),
             Err(stop) => Err(stop),

@@ -56,7 +56,7 @@ impl FaultOf {
 
 impl SampleDifference {
     /// The verdict No for this difference.
-    fn verdict(self) -> Verdict
+    pub(crate) fn verdict(self) -> Verdict
         ensures { result ≡ verdicts.No (differences.Sample self.label self.at_ps self.mismatch) }
     {
         Verdict::No(Difference::Sample {
@@ -69,7 +69,7 @@ impl SampleDifference {
 
 impl NoteDifference {
     /// The verdict No for this difference.
-    fn verdict(self) -> Verdict
+    pub(crate) fn verdict(self) -> Verdict
         ensures { result ≡ verdicts.No (differences.Annotation self.mismatch self.onset self.duration self.text) }
     {
         Verdict::No(Difference::Annotation {

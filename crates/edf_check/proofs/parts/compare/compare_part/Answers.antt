@@ -1,4 +1,4 @@
-use Rattle.std.proofs.Common.{map, refl}
+use Rattle.std.proofs.Common.{◌∙◌, map}
 use Rattle.edf_stream.specs.Views.{note_value}
 use Rattle.edf_check.proofs.CompareFacts.{compared_heads, compared_read, fault_by, fault_by_header}
 use Rattle.edf_check.proofs.parts.compare.compare_part.Goals as goal
@@ -49,3 +49,9 @@ returns-in-Ok-Err-read_agreeing-clause-fault g c = λ ho a ao he.
     let out = rw c.in-Ok-Err-read_agreeing.field-0-is at c.in-Ok-Err-read_agreeing.ensures.out in
     let e = g.E.Source.left c.args.e.now in
     (fault_by a (c.args.original.now.reader).head c.in-Ok-Ok.reading.reader (g.E.Source.left c.«open».new.source) e c.in-Ok-Err-read_agreeing.fault stands (fault ho honest a e ao stands), out ho honest a e ao stands)
+
+pub returns-in-Ok-Ok-read_agreeing-clause-says : goal.returns-in-Ok-Ok-read_agreeing-clause-says
+returns-in-Ok-Ok-read_agreeing-clause-says g c = λ part is he.
+    let stands = (rw c.in-Ok-Ok.field-0-is at c.in-Ok-Ok.ensures.stands) he in
+    let heads = rw c.in-Ok-Ok-read_agreeing.field-0-is at c.in-Ok-Ok-read_agreeing.ensures.heads in
+    heads.1 ∙ (stands.passed).head

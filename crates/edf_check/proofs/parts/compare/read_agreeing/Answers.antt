@@ -1,4 +1,4 @@
-use Rattle.std.proofs.Common.{◌≡◌, ◌∙◌, Bor, List, ℕ, IfSome, map, sym, ap, subst}
+use Rattle.std.proofs.Common.{◌≡◌, ◌∙◌, List, IfSome, map, sym, ap, subst}
 use Rattle.std.specs.List.{All}
 use Rattle.edf_header.specs.Heads.{Head}
 use Rattle.edf_stream.specs.Views.{note_value}

@@ -1,6 +1,4 @@
-use Rattle.std.proofs.Common.{◌≡◌, ◌∙◌, ◌≤ℤ◌, ◌<ℤ◌, MatchOption, ap, sym, subst}
-use Rattle.edf_header.specs.Heads.{Head}
-use Rattle.edf_header.specs.HeadsReading.{head_of}
+use Rattle.std.proofs.Common.{◌∙◌}
 use Rattle.edf_check.proofs.OrderFacts.{ordered}
 use Rattle.edf_check.proofs.walk.WalkFacts.{fault_is}
 use Rattle.edf_check.proofs.parts.order.read_part.Goals as goal

@@ -1,4 +1,4 @@
-use Rattle.std.proofs.Common.{◌≡◌, ◌∙◌, ◌+ℤ◌, ap}
+use Rattle.std.proofs.Common.{◌∙◌, ◌+ℤ◌, ap}
 use Rattle.edf_stream.specs.Starts.{file_start}
 use Rattle.edf_check.proofs.walk.lockstep.differ.Goals as goal
 

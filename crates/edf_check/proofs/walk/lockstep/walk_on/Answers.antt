@@ -1,4 +1,4 @@
-use Rattle.std.proofs.Common.{◌≡◌, ◌≤ℤ◌, Bool, true, false, Option, IfSome, Some, None, refl, arith, neg_ℤ, pos, map, ◌^◌, ◌∙◌, ap, sym, subst}
+use Rattle.std.proofs.Common.{◌≡◌, Option, IfSome, None, arith, map, ◌∙◌, ap, sym, subst}
 use Rattle.std.proofs.lemmas.Int.{ints}
 use Rattle.std.specs.List.{All}
 use Rattle.edf_header.specs.Heads.{Head}

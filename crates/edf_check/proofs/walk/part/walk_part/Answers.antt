@@ -1,5 +1,4 @@
-use Rattle.std.proofs.Common.{neg_ℤ, pos, ◌^◌, refl, arith, map, IfSome, None, Some, sym, subst}
-use Rattle.std.proofs.lemmas.Int.{ints}
+use Rattle.std.proofs.Common.{neg_ℤ, pos, ◌^◌, refl, map, IfSome, None, sym, subst}
 use Rattle.std.specs.List.{All}
 use Rattle.edf_header.specs.Heads.{Head}
 use Rattle.edf_stream.specs.Views.{note_value}

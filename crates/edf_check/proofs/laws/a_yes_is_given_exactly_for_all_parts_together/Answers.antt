@@ -1,0 +1,5 @@
+use Rattle.edf_check.proofs.PartsVerdictFacts.{yes_together}
+use Rattle.edf_check.proofs.laws.a_yes_is_given_exactly_for_all_parts_together.Goals as goal
+
+pub returns : goal.returns
+returns c = yes_together

@@ -1,0 +1,74 @@
+//! The check of several exports of one original, one after the other, against that and a claim.
+
+ghost use Rattle.std.specs.Prelude.{◌≡◌, ◌<◌, ◌≤◌, map, length, IfOk, IfErr, OnOk, IsTrue};
+ghost use Rattle.std.specs.List.{AllByRecursion};
+ghost use Rattle.edf_fields.specs.Sources.{Rises};
+ghost use Rattle.edf_check.specs.PartsStops.{PartsStops};
+ghost use Rattle.edf_check.specs.PartsVerdicts.{IsPartsVerdict};
+
+use crate::parts::rest::at_part;
+use crate::parts::series::Exported;
+use crate::parts::together::{conclude_parts, of_all, walk_parts};
+use crate::walk::open;
+use edf_claim::claim::Claim;
+use edf_fields::source::Source;
+use edf_heads::labels::in_order;
+use edf_refusal::parts_stop::PartsStop;
+use edf_refusal::side::Side;
+use edf_verdict::parts_verdict::PartsVerdict;
+use edf_verdict::verdict::{Difference, Verdict};
+use std::alloc::Global;
+
+/// Checks whether one to 64 exports, in the order of time, are together the original, cut and made anonymous as the claim
+/// says, and nothing else.
+///
+/// The verdict is the first difference: a fault of the original, and then of the exports, the first one first; then a
+/// difference of a header, the one with the lowest number first and of several with that number the one of the first
+/// export; then the first export that begins before the one before it ends; then the samples and the annotations of all
+/// together; or Yes. One export is open at a time, and a data record of it and one of the original are in memory. The
+/// error is want of memory, or a failure of one of the sources, which it names; on an error nothing is said of the
+/// files.
+pub fn check_parts<O: Source, E: Source>(
+    alloc: Global,
+    original: &mut O,
+    parts: &mut [E],
+    claim: &Claim,
+) -> Result<PartsVerdict, PartsStop>
+    requires some { 0 < length parts.old }
+    requires few { length parts.old ≤ 64 }
+    ensures verdict { IfOk result (λ verdict. IsTrue (O.is_honest original.old) → AllByRecursion IsTrue (map E.is_honest parts.old) →
+        IsPartsVerdict (O.left original.old) (map E.left parts.old) claim.now verdict) }
+    ensures failures { OnOk result ((O.failures original.new ≡ O.failures original.old) × (map E.failures parts.new ≡ map E.failures parts.old)) }
+    ensures stop { IfErr result (PartsStops (Rises (O.failures original.old) (O.failures original.new))
+        ((O.failures original.new ≡ O.failures original.old) × (map E.failures parts.new ≡ map E.failures parts.old)) 0 (map E.failures parts.old) (map E.failures parts.new)) }
+{
+    let mut reading = match open(alloc, original, Side::Original) {
+        Ok(Ok(reading)) => reading,
+        Ok(Err(fault)) => return Ok(of_all(Verdict::No(Difference::OriginalFault(fault)))),
+        Err(stop) => return Err(at_part(stop, 0)),
+    };
+    let labels = in_order(alloc, claim.channels())?;
+    let mut exported = Exported {
+        samples: 0,
+        notes: Vec::new(alloc),
+    };
+    let walked = walk_parts(
+        alloc,
+        &mut reading,
+        original,
+        parts,
+        claim,
+        &labels,
+        &mut exported,
+    )?;
+    let channels = claim.channels().len() as u64;
+    let verdict = conclude_parts(
+        alloc,
+        walked,
+        channels,
+        &labels,
+        &mut reading.notes,
+        &mut exported,
+    )?;
+    Ok(verdict)
+}

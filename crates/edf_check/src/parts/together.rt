@@ -1,0 +1,156 @@
+//! An original and several exports, from the start of the original to what they come to together.
+
+ghost use Rattle.std.specs.Prelude.{◌≡◌, ◌<◌, ◌≤◌, ℕ, List, [], map, length, IfOk, IfErr, OnOk, IsTrue};
+ghost use Rattle.std.specs.List.{AllByRecursion};
+ghost use Rattle.edf_claim.specs.Terms.{Terms};
+ghost use Rattle.edf_fields.specs.Sources.{Rises};
+ghost use Rattle.edf_heads.specs.Comparisons.{AreSorted};
+ghost use Rattle.edf_stream.specs.Readers.{HasBegun, StandsIn};
+ghost use Rattle.edf_stream.specs.Views.{note_value};
+ghost use Rattle.edf_check.specs.InstantOrder.{IsModest};
+ghost use Rattle.edf_check.specs.Parts.{AreTogether};
+ghost use Rattle.edf_check.specs.PartsStops.{PartsStops};
+ghost use Rattle.edf_check.specs.PartsVerdicts.{IsPartsVerdict, IsVerdictOnParts, samples_of_all};
+ghost use Rattle.edf_check.specs.Premises.{OfFile};
+ghost use Rattle.edf_check.specs.declared.parts.series.PartsWalked.TheVariants as walks;
+ghost use Rattle.edf_check.specs.declared.samples.earliest.Found.{Found};
+ghost use Rattle.edf_check.specs.walk.Together.{AreFound};
+
+use crate::notes::note_difference::note_difference;
+use crate::parts::compare::Under;
+use crate::parts::rest::at_part;
+use crate::parts::series::{Exported, PartsWalked, compare_parts};
+use crate::samples::sample_difference::with_label;
+use crate::walk::clock::Clock;
+use crate::walk::gather::View;
+use crate::walk::reading::{Reading, start};
+use crate::walk::records::BEGINNING;
+use edf_claim::claim::Claim;
+use edf_fields::source::Source;
+use edf_refusal::parts_stop::PartsStop;
+use edf_refusal::side::Side;
+use edf_stream::notes::Note;
+use edf_verdict::parts_verdict::PartsVerdict;
+use edf_verdict::verdict::{Difference, Verdict};
+use std::alloc::{AllocError, Global};
+
+/// Reads the first data record of the original, of which the header was read, and walks through the parts beside it.
+///
+/// The labels are those of the claim, in the order of their bytes. The error is want of memory, or a failure of one of
+/// the sources.
+pub(crate) fn walk_parts<O: Source, E: Source>(
+    alloc: Global,
+    original: &mut Reading,
+    o: &mut O,
+    parts: &mut [E],
+    claim: &Claim,
+    labels: &[&[u8]],
+    exported: &mut Exported,
+) -> Result<PartsWalked, PartsStop>
+    requires original { HasBegun original.old.reader × ((original.old.notes).items ≡ []) }
+    requires some { 0 < length parts.old }
+    requires few { length parts.old ≤ 64 }
+    requires none { (exported.old.samples ≡ 0) × ((exported.old.notes).items ≡ []) }
+    requires sorted { AreSorted claim.now.channels labels.now }
+    ensures found { IfOk result (λ walked. OfFile (O.is_honest o.old) (StandsIn original.old.reader (O.left o.old))
+        (λ a. AllByRecursion IsTrue (map E.is_honest parts.old) → AreFound a (map E.left parts.old) claim.now (map (λ label. label.now) labels.now)
+        (map note_value (original.new.notes).items) (map note_value (exported.new.notes).items) walked)) }
+    ensures counted { IfOk result (λ walked. walked ≡ walks.Same → AllByRecursion IsTrue (map E.is_honest parts.old) →
+        exported.new.samples ≡ samples_of_all (map E.left parts.old)) }
+    ensures modest { IfOk result (λ walked. (found : Found) → walked ≡ walks.SamplesDiffer found → IsModest found.difference.at × (found.channel < length labels.now)) }
+    ensures failures { OnOk result ((O.failures o.new ≡ O.failures o.old) × (map E.failures parts.new ≡ map E.failures parts.old)) }
+    ensures stop { IfErr result (PartsStops (Rises (O.failures o.old) (O.failures o.new))
+        ((O.failures o.new ≡ O.failures o.old) × (map E.failures parts.new ≡ map E.failures parts.old)) 0 (map E.failures parts.old) (map E.failures parts.new)) }
+{
+    let clock = Clock::new(original.reader.header(), claim);
+    let view = View {
+        moved: clock.original,
+        claim: Some(claim),
+    };
+    match start(alloc, original, o, Side::Original, view, BEGINNING) {
+        Ok(None) => {}
+        Ok(Some(fault)) => return Ok(PartsWalked::OriginalFault(fault)),
+        Err(stop) => return Err(at_part(stop, 0)),
+    }
+    let under = Under {
+        alloc,
+        clock,
+        claim,
+        labels,
+    };
+    match compare_parts(original, o, parts, under, 0, BEGINNING, exported) {
+        Ok(walked) => Ok(walked),
+        Err(stop) => Err(stop),
+    }
+}
+
+/// What is said of all parts together.
+pub(crate) fn of_all(verdict: Verdict) -> PartsVerdict
+    ensures part { result.part ≡ 0 }
+    ensures verdict { result.verdict ≡ verdict }
+{
+    PartsVerdict { part: 0, verdict }
+}
+
+/// The verdict on an original and parts with the same samples: by their annotations, and by how much the parts hold.
+///
+/// The error is want of memory.
+fn conclude_notes(
+    alloc: Global,
+    channels: u64,
+    kept: &mut Vec<Note>,
+    exported: &mut Exported,
+) -> Result<Verdict, AllocError>
+    ensures { IfOk result (λ verdict. (o : List ℕ) (parts : List (List ℕ)) (claim : Terms) →
+        AreFound o parts claim [] (map note_value kept.old.items) (map note_value (exported.old.notes).items) walks.Same →
+        exported.old.samples ≡ samples_of_all parts → channels ≡ length claim.channels → IsVerdictOnParts o parts claim 0 verdict) }
+{
+    let annotations = exported.notes.len() as u64;
+    match note_difference(alloc, kept, &mut exported.notes)? {
+        Some(difference) => Ok(difference.verdict()),
+        None => Ok(Verdict::Yes {
+            channels,
+            samples: exported.samples,
+            annotations,
+        }),
+    }
+}
+
+/// The verdict, by what an original and its parts came to.
+///
+/// The error is want of memory.
+pub(crate) fn conclude_parts(
+    alloc: Global,
+    walked: PartsWalked,
+    channels: u64,
+    labels: &[&[u8]],
+    kept: &mut Vec<Note>,
+    exported: &mut Exported,
+) -> Result<PartsVerdict, AllocError>
+    requires { (found : Found) → walked ≡ walks.SamplesDiffer found → IsModest found.difference.at × (found.channel < length labels.now) }
+    ensures { IfOk result (λ verdict. (o : List ℕ) (parts : List (List ℕ)) (claim : Terms) →
+        AreFound o parts claim (map (λ label. label.now) labels.now) (map note_value kept.old.items) (map note_value (exported.old.notes).items) walked →
+        (walked ≡ walks.Same → exported.old.samples ≡ samples_of_all parts) → channels ≡ length claim.channels → IsPartsVerdict o parts claim verdict) }
+{
+    match walked {
+        PartsWalked::OriginalFault(fault) => {
+            Ok(of_all(Verdict::No(Difference::OriginalFault(fault))))
+        }
+        PartsWalked::PartFault(found) => Ok(PartsVerdict {
+            part: found.part,
+            verdict: Verdict::No(Difference::ExportFault(found.fault)),
+        }),
+        PartsWalked::HeadsDiffer(heads) => Ok(PartsVerdict {
+            part: heads.part,
+            verdict: heads.verdict,
+        }),
+        PartsWalked::Early(part) => Ok(PartsVerdict {
+            part,
+            verdict: Verdict::No(Difference::PartOrder),
+        }),
+        PartsWalked::SamplesDiffer(found) => {
+            Ok(of_all(with_label(alloc, labels, found)?.verdict()))
+        }
+        PartsWalked::Same => Ok(of_all(conclude_notes(alloc, channels, kept, exported)?)),
+    }
+}

@@ -1,0 +1,84 @@
+//! A check of several exports under the text of a claim, with one line of text for its answer.
+
+ghost use Rattle.std.specs.Prelude.{◌≡◌, ◌≢◌, ◌<◌, ◌≤◌, ◌++◌, map, length, IfOk, IfErr, OnOk, IsTrue};
+ghost use Rattle.std.specs.List.{AllByRecursion};
+ghost use Rattle.edf_claim.specs.declared.stop.ClaimStop.TheVariants as claim_stops;
+ghost use Rattle.edf_claim.specs.Faults.{FirstClaimFault};
+ghost use Rattle.edf_fields.specs.Sinks.{HoldsPrefix};
+ghost use Rattle.edf_fields.specs.Sources.{Rises};
+ghost use Rattle.edf_verdict.specs.PartsLines.{parts_verdict_line};
+ghost use Rattle.edf_refusal.specs.declared.parts_stop.PartsRunStop.TheVariants as stops;
+ghost use Rattle.edf_check.specs.PartsRuns.{IsPartsReport, IsPartOfPartsReport, PartsRunStops, PartsWriteStops};
+
+use crate::check_parts::check_parts;
+use edf_claim::claim::Claim;
+use edf_fields::sink::{Sink, put_all};
+use edf_fields::source::Source;
+use edf_refusal::parts_stop::PartsRunStop;
+use edf_verdict::outcome::Outcome;
+use edf_verdict::parts_verdict::PartsVerdict;
+use std::alloc::Global;
+
+/// How many exports there are.
+fn count_of<E: Source>(parts: &[E]) -> u16
+    requires { length parts.now ≤ 64 }
+    ensures { result ≡ length parts.now }
+{
+    parts.len() as u16
+}
+
+/// Writes the line of a verdict on so many exports. Where the sink fails, a front of the line was written.
+fn write_line<K: Sink>(
+    alloc: Global,
+    verdict: &PartsVerdict,
+    parts: u16,
+    sink: &mut K,
+) -> Result<(), PartsRunStop>
+    ensures written { IfOk result (λ _. IsTrue (K.is_honest sink.old) → K.held sink.new ≡ K.held sink.old ++ parts_verdict_line parts verdict.now) }
+    ensures failures { OnOk result (K.failures sink.new ≡ K.failures sink.old) }
+    ensures honesty { IsTrue (K.is_honest sink.old) → IsTrue (K.is_honest sink.new) }
+    ensures nothing { IfErr result (λ stop. stop ≢ stops.WriteFailed → sink.new ≡ sink.old) }
+    ensures part { IfErr result (λ stop. stop ≡ stops.WriteFailed → IsTrue (K.is_honest sink.old)
+        → HoldsPrefix (K.held sink.old) (K.held sink.new) (parts_verdict_line parts verdict.now)) }
+    ensures stop { IfErr result (PartsWriteStops (Rises (K.failures sink.old) (K.failures sink.new))) }
+{
+    let line = verdict.line(alloc, parts)?;
+    put_all(sink, &line)?;
+    Ok(())
+}
+
+/// Reads the claim that a text says, checks one to 64 exports, in the order of time, against the original, and writes the
+/// line of the verdict.
+///
+/// Nothing is written before the verdict is known. Where the sink fails, a front of the line was written.
+pub fn run_parts<O: Source, E: Source, K: Sink>(
+    alloc: Global,
+    original: &mut O,
+    parts: &mut [E],
+    claim_text: &[u8],
+    sink: &mut K,
+) -> Result<Outcome, PartsRunStop>
+    requires some { 0 < length parts.old }
+    requires few { length parts.old ≤ 64 }
+    ensures report { IfOk result (λ outcome. IsTrue (O.is_honest original.old) → AllByRecursion IsTrue (map E.is_honest parts.old) → IsTrue (K.is_honest sink.old) →
+        IsPartsReport (O.left original.old) (map E.left parts.old) claim_text.now (K.held sink.old) (K.held sink.new) outcome) }
+    ensures reads { OnOk result ((O.failures original.new ≡ O.failures original.old) × (map E.failures parts.new ≡ map E.failures parts.old)) }
+    ensures failures { OnOk result (K.failures sink.new ≡ K.failures sink.old) }
+    ensures honesty { IsTrue (K.is_honest sink.old) → IsTrue (K.is_honest sink.new) }
+    ensures nothing { IfErr result (λ stop. stop ≢ stops.WriteFailed → sink.new ≡ sink.old) }
+    ensures part { IfErr result (λ stop. stop ≡ stops.WriteFailed → IsTrue (O.is_honest original.old) → AllByRecursion IsTrue (map E.is_honest parts.old) →
+        IsTrue (K.is_honest sink.old) →
+        IsPartOfPartsReport (O.left original.old) (map E.left parts.old) claim_text.now (K.held sink.old) (K.held sink.new)) }
+    ensures stop { IfErr result (PartsRunStops
+        (λ cause. (cause ≢ claim_stops.OutOfMemory) × FirstClaimFault claim_text.now cause)
+        (Rises (O.failures original.old) (O.failures original.new))
+        (Rises (K.failures sink.old) (K.failures sink.new))
+        ((O.failures original.new ≡ O.failures original.old) × (map E.failures parts.new ≡ map E.failures parts.old))
+        (map E.failures parts.old) (map E.failures parts.new)) }
+{
+    let claim = Claim::read(alloc, claim_text)?;
+    let count = count_of(parts);
+    let verdict = check_parts(alloc, original, parts, &claim)?;
+    write_line(alloc, &verdict, count, sink)?;
+    Ok(verdict.verdict.outcome())
+}
