@@ -53,9 +53,9 @@ judge() {
 # The line on a read of the file of this name that fails, of this command.
 reading_line() {
     case $1.$2 in
-    check.*.toml) role=claim ;;
-    check.original.edf) role=original ;;
-    check.*) role=export ;;
+    check*.*.toml) role=claim ;;
+    check*.original.edf) role=original ;;
+    check*.*) role=export ;;
     *) role=file ;;
     esac
     echo "edfclaim: reading $role failed"
@@ -162,6 +162,10 @@ echo 'YES channels 3 samples 13590 annotations 5' >"$work/want"
 fail_each 0 0 check original.edf cut.edf cut.toml
 echo 'NO 8 subfield name not X' >"$work/want"
 fail_each 1 0 check original.edf name-left.edf cut.toml
+echo 'YES parts 2 channels 3 samples 13590 annotations 5' >"$work/want"
+fail_each 0 0 check-parts original.edf cut.toml cut-part-1.edf cut-part-2.edf
+echo 'NO 12 part 1 starts early' >"$work/want"
+fail_each 1 0 check-parts original.edf cut.toml cut-part-1.edf overlapping-part-2.edf
 echo 'CONFORMS records 150 channels 5 samples 52650 annotations 10' >"$work/want"
 fail_each 0 0 conform original.edf
 "$program" show original.edf >"$work/want"

@@ -63,8 +63,8 @@ try_all() {
 }
 
 try_all examples/night
-[ "$(wc -l <examples/night/answers)" -eq 9 ]
-judge $? "the answers of the night aren't nine"
+[ "$(wc -l <examples/night/answers)" -eq 12 ]
+judge $? "the answers of the night aren't twelve"
 while IFS='	' read -r status words line; do
     grep -qF -- "| \`$words\` | \`$line\`" examples/night/README.md
     judge $? "not in the night's table: $words"

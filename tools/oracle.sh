@@ -1,13 +1,13 @@
 #!/usr/bin/env bash
 # Tries the readers of fields, headers, lanes, whole files and claims, the comparison of two headers, and the
-# run on two files under a claim, against a second reading of the rules, in Python (tools/oracle). It proves
-# nothing: it looks for rules that were understood in two ways. The crates run unproved, in the toolchain's
-# interpreter.
+# runs on two files and on a file and several exports of it under a claim, against a second reading of the rules, in
+# Python (tools/oracle). It proves nothing: it looks for rules that were understood in two ways. The crates run
+# unproved, in the toolchain's interpreter.
 #
 # usage: tools/oracle.sh [SEED]     seed 1 where none is said
 #
-# 1700 cases for the readers, 1000 for the run: the toolchain lets a program run for 120 seconds and print 1 MB. Each
-# half ends with a line 'N passed, M failed'.
+# 1700 cases for the readers, 1000 for the run on two files, 2000 for that on several exports: the toolchain lets a
+# program run for 120 seconds and print 1 MB. Each of the three ends with a line 'N passed, M failed'.
 set -euo pipefail
 
 seed=${1:-1}
@@ -49,6 +49,7 @@ add() {
 
 add answers "edf_fields edf_header edf_tal edf_stream edf_claim edf_heads edf_verdict jiff"
 add verdicts "edf_fields edf_claim edf_refusal edf_check"
+add parts "edf_fields edf_claim edf_refusal edf_check"
 failed=0
 
 python3 tools/oracle/cases.py "$seed" 1700 >"$work/cases"
@@ -58,4 +59,15 @@ python3 tools/oracle/rules.py "$work/cases" "$work/given" || failed=1
 python3 tools/oracle/verdict_cases.py "$seed" 1000 >"$work/cases"
 answers "$work" verdicts
 python3 tools/oracle/verdict_rules.py "$work/cases" "$work/given" || failed=1
+
+python3 tools/oracle/parts_cases.py "$seed" 2000 | split -l 500 - "$work/cases."
+: >"$work/all_cases"
+: >"$work/all_given"
+for cases in "$work"/cases.*; do
+    mv "$cases" "$work/cases"
+    answers "$work" parts
+    cat "$work/cases" >>"$work/all_cases"
+    cat "$work/given" >>"$work/all_given"
+done
+python3 tools/oracle/parts_rules.py "$work/all_cases" "$work/all_given" || failed=1
 exit "$failed"

@@ -384,8 +384,43 @@ LATE_ROWS = [
 ]
 
 
+# The first two seconds of the night.
+FIRST_HALF = recording(edits=[TWO], parts=[VALUES_0, LANE_0, VALUES_1, LANE_1], base=NIGHT)
+
+LATER = (field('starttime'), '22.00.02')
+
+# Its last two seconds.
+SECOND_HALF = recording(
+    edits=[TWO, LATER],
+    parts=[VALUES_2, lane(40, b'+0\x14\x14\x00'), VALUES_3, lane(40, b'+1\x14\x14\x00+1\x14Apnea\x14\x00')],
+    base=NIGHT,
+)
+
+# What several exports of the night decide, one after the other.
+PARTS_ROWS = [
+    ([NIGHT], 'YES parts 1 channels 2 samples 24 annotations 3\n'),
+    ([FIRST_HALF, SECOND_HALF], 'YES parts 2 channels 2 samples 24 annotations 3\n'),
+    ([SECOND_HALF, FIRST_HALF], 'NO 12 part 1 starts early\n'),
+    ([FIRST_HALF, FIRST_HALF], 'NO 12 part 1 starts early\n'),
+    ([FIRST_HALF], 'NO 10 sample "ECG" at 2000000000000 ps missing\n'),
+    (
+        [FIRST_HALF, recording(length=1127, base=SECOND_HALF)],
+        'NO 2 part 1 export fault: Truncated at record 1\n',
+    ),
+    (
+        [
+            FIRST_HALF,
+            recording(edits=[TWO, LATER, (field('patient'), 'MCH-0234567 X 02-MAY-1951 Haagse_Harry')], base=SECOND_HALF),
+        ],
+        'NO 8 part 1 subfield sex changed\n',
+    ),
+]
+
+
 def cases():
-    """Each check: the original, the export, the claim and the line."""
+    """Each check: the original, the export, the claim and the line; of several exports the claim stands before them."""
     for row in TEMP_ROWS + NIGHT_ROWS + HEADER_ROWS + CHANNEL_ROWS + NOTE_ROWS + FAULT_ROWS + TEXT_ROWS + LATE_ROWS:
         original, export, claim, line = row
         yield "check", bytes_of(original), bytes_of(export), claim_of(*claim), line
+    for exports, line in PARTS_ROWS:
+        yield "check-parts", bytes_of(NIGHT), claim_of(*ALL), [bytes_of(export) for export in exports], line

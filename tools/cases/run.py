@@ -3,8 +3,8 @@
 usage: run.py PROGRAM, by tools/cases.sh
 
 A case is a command, its files in memory, and the line that is stored for them: that of `conform`, that of `check`
-under a claim, or of `show` the fault that it names, and where it shows the header its second line, the start, or
-none. The status is 0 where the line says Yes or a start or there is none, and 1 where it says No; standard error stays
+or of `check-parts` under a claim, or of `show` the fault that it names, and where it shows the header its second line,
+the start, or none. The status is 0 where the line says Yes or a start or there is none, and 1 where it says No; standard error stays
 empty. The checks are judged by the second reading of the rules (tools/oracle), too: the stored line has to be the one
 that these give. What isn't as it should be is said, at most twenty times. Of a sweep (`cases.BY_RULES`) no line is
 stored: it is the one that the second reading gives. The last line of the output counts the cases that passed and
@@ -26,7 +26,7 @@ from cases import BY_RULES  # noqa: E402
 
 TABLES = [
     "fields", "ends", "first_faults", "conforming", "head_differences", "verdict_lines", "rows", "differences", "channels",
-    "labels", "headers", "samples", "shifts", "annotations", "note_texts", "cuts", "single_bytes", "every_byte",
+    "labels", "headers", "samples", "shifts", "annotations", "note_texts", "cuts", "parts", "single_bytes", "every_byte",
 ]
 
 try:
@@ -36,10 +36,15 @@ except ImportError:
     tomllib = None
 
 
-def second_reading(original, export, claim):
+def second_reading(case):
     """The line of a check by the second reading of the rules."""
+    import parts_rules
     import verdict_rules
 
+    if case[0] == "check-parts":
+        _, original, claim, exports, _ = case
+        return parts_rules.line(original, claim.encode(), exports)
+    _, original, export, claim, _ = case
     return verdict_rules.line(original, export, claim.encode())
 
 
@@ -59,24 +64,30 @@ class Runs:
             self.kept[name] = content
         return path
 
+    def words(self, case):
+        """The words behind the command: the paths of its files."""
+        if case[0] == "check-parts":
+            _, original, claim, exports, _ = case
+            parts = [self.path(f"export-{number}", part) for number, part in enumerate(exports)]
+            return [self.path("original", original), self.path("claim", claim.encode()), *parts]
+        if case[0] == "check":
+            _, original, export, claim, _ = case
+            return [self.path("original", original), self.path("export", export), self.path("claim", claim.encode())]
+        return [self.path("file", case[1])]
+
     def fault(self, case):
         """What is wrong with what the program does, or none."""
         command, line = case[0], case[-1]
         want = None if line is None else line.encode()
-        if command == "check":
-            _, original, export, claim, _ = case
-            if tomllib:
-                # it writes bytes as the signs of their numbers
-                read = second_reading(original, export, claim).encode("latin1") + b"\n"
-                want = read if line is BY_RULES else want
-                if read != want:
-                    return f"the second reading says {read!r}; wanted: {want!r}"
-            words = [self.path("original", original), self.path("export", export), self.path("claim", claim.encode())]
-        else:
-            words = [self.path("file", case[1])]
+        if command in ("check", "check-parts") and tomllib:
+            # it writes bytes as the signs of their numbers
+            read = second_reading(case).encode("latin1") + b"\n"
+            want = read if line is BY_RULES else want
+            if read != want:
+                return f"the second reading says {read!r}; wanted: {want!r}"
         # (without close_fds a process is begun in a tenth of the time)
         how = {"stdin": subprocess.DEVNULL, "stdout": subprocess.PIPE, "stderr": subprocess.PIPE, "close_fds": False}
-        ran = subprocess.run([self.program, command, *words], **how)
+        ran = subprocess.run([self.program, command, *self.words(case)], **how)
         status = 0 if want is None or want.startswith((b"YES ", b"CONFORMS ", b"start ")) else 1
         if want is None or want.startswith(b"start "):
             said = ran.stdout.startswith(b"kind ") and (want is None or ran.stdout.splitlines(True)[1:2] == [want])

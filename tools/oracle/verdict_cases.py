@@ -57,11 +57,11 @@ def duration_field(units):
 class Night:
     """Channels with so many samples in each step, from a start on, their values, and annotations."""
 
-    def __init__(self):
+    def __init__(self, lengths=(2, 4, 6, 12)):
         self.labels = choose.sample(LABELS, one_of(1, 1, 2, 2, 3))
         self.rates = {label: one_of(1, 2, 3, 4) for label in self.labels}
         self.step = choose.choice(STEPS)
-        self.steps = one_of(2, 4, 6, 12)
+        self.steps = one_of(*lengths)
         self.begin = one_of(STARTS[0], *STARTS)
         self.start = one_of(0, 0, 0, choose.randrange(10**12), 333_333_333_333, 999_999_999_999)
         ends = [self.instant(step) for step in range(self.steps + 1)]
@@ -83,8 +83,9 @@ class Night:
     def instant(self, step):
         return self.start + step * self.step * 100_000
 
-    def cut(self, parts, labels, said, notes, shift=0, changed=None):
-        """The file of these channels for stretches of steps, its data records so long as may be."""
+    def cut(self, parts, labels, said, notes, shift=0, changed=None, odd=0.02):
+        """The file of these channels for stretches of steps, its data records so long as may be; odd says how often a
+        text of its header is another one."""
         lengths = [length for length in range(1, 13) if all((last - first) % length == 0 for first, last in parts)]
         length = choose.choice([length for length in lengths if duration_field(length * self.step)])
         signals = [(label, self.rates[label] * length) for label in labels]
@@ -94,7 +95,7 @@ class Night:
         second = self.instant(places[0]) // 10**12
         day = self.begin + datetime.timedelta(seconds=second + shift)
         kind = b"EDF+C" if len(parts) == 1 and often(0.8) else b"EDF+D"
-        file = header(signals, len(places), duration_field(length * self.step), said, day, kind)
+        file = header(signals, len(places), duration_field(length * self.step), said, day, kind, odd)
         tals = [[] for _ in places]
         for time, span, part in notes:
             mark = b"" if span is None else b"\x15" + seconds(span).encode()
@@ -112,9 +113,9 @@ class Night:
         return file
 
 
-def header(signals, records, duration, said, day, kind):
+def header(signals, records, duration, said, day, kind, odd):
     date = f"{day.day:02}-{MONTHS[day.month - 1]}-{day.year}".encode() if said["date"] == b"day" else said["date"]
-    has_letters = (day.year >= 2085) != often(0.02)
+    has_letters = (day.year >= 2085) != often(odd)
     names = [said[name] for name in SUBFIELDS]
     patient, recording = [*names[:4], *names[4]], [b"Startdate", date, *names[6:9], *names[9]]
     fields = {
@@ -132,7 +133,7 @@ def header(signals, records, duration, said, day, kind):
     for column in columns:
         if column["label"] == ANNOTATIONS:
             column["dimension"] = b""
-        elif often(0.02):
+        elif often(odd):
             column[one_of("transducer", "dimension", "prefilter", "reserved")] = b"a"
     file = b"".join(fields[name].ljust(width) for name, _, width in FIXED)
     return file + b"".join(fields[name].ljust(width) for name, _, width in COLUMNS for fields in columns)

@@ -3,10 +3,12 @@
 usage: bench.py PROGRAM FOLDER SECONDS..
 
 Of each length in SECONDS it writes to FOLDER a night of 22 channels, a copy of it, and exports that have all
-samples in data records of other lengths. It also writes nights that are large in one respect: in how many data
-records they have, channels, intervals that the claim keeps, annotations, texts and begins of texts that it
-removes. It prints tables: of each command the processor's time, the time by the clock and the most memory that it
-held, as medians of five runs; and the times as multiples of those of `cmp` on the night and its copy.
+samples in data records of other lengths. It also writes a night of 8 hours that is handed out in 8 files, and nights
+that are large in one respect: in how many data records they have, channels, intervals that the claim keeps,
+annotations, texts and begins of texts that it removes. It prints tables: of each command the processor's time, the
+time by the clock and the most memory that it held, as medians of five runs; and the times as multiples of those of
+`cmp` on the night and its copy. Of the night in 8 files it prints how many times the check of them takes the times of
+the check of one file.
 """
 
 import os
@@ -22,6 +24,10 @@ from night import Night, remarks, short, stages, write
 RUNS = 5
 WHOLE = [("0", "999999999")]
 EIGHT_HOURS = 28800
+PARTS = 8
+
+# how many times the processor's time of the check of one file that of the same in parts is to take at most
+PARTS_BOUND = 1.1
 
 
 def memory_of(process):
@@ -112,6 +118,39 @@ def measure(program, folder, title, night, exports, keep=WHOLE, remove=(), prefi
         path.unlink()
 
 
+def by_turns(commands):
+    """Of each command, which are run by turns, the processor's time and the time by the clock."""
+    turns = [[run(words, front) for words, front in commands] for _ in range(2 * RUNS - 1)]
+    return [[statistics.median(column) for column in zip(*runs)][:2] for runs in zip(*turns)]
+
+
+def measure_parts(program, folder, seconds):
+    """Writes a night, a copy of it and the same in parts, and prints a table of the check of the one and of the others,
+    and the first by the second."""
+    night = Night(seconds)
+    original, copy, document = (str(folder / name) for name in ("night", "copy", "claim"))
+    parts = [str(folder / f"part{number}") for number in range(PARTS)]
+    write(original, night)
+    shutil.copyfile(original, copy)
+    for path, part in zip(parts, night.parts(PARTS)):
+        write(path, part)
+    pathlib.Path(document).write_text(claim(night, WHOLE, (), ()), encoding="utf-8")
+    whole = [program, "check", original, copy, document], "YES "
+    cut = [program, "check-parts", original, document, *parts], f"YES parts {PARTS} "
+    os.sync()
+    print_table(f"a night of {seconds} s in {PARTS} files, {os.path.getsize(original) / 1e6:.1f} MB", [
+        ("`cmp`, with a copy", ["cmp", original, copy], ""),
+        ("`edfclaim check`, with the copy", *whole),
+        (f"`edfclaim check-parts`, with the {PARTS} files", *cut),
+    ])
+    one, several = by_turns([whole, cut])
+    print(f"The check of the {PARTS} files takes {several[0] / one[0]:.2f} times the processor's time of that of one "
+          f"file, and {several[1] / one[1]:.2f} times its time by the clock (by turns; wanted: at most {PARTS_BOUND}).\n",
+          flush=True)
+    for path in folder.iterdir():
+        path.unlink()
+
+
 def touching(seconds):
     """1,000 intervals, each of which begins where the one before ends."""
     bounds = [f"{seconds * k // 1000}.{seconds * k % 1000:03}" for k in range(1001)]
@@ -154,4 +193,5 @@ def measure_shapes(program, folder):
 if __name__ == "__main__":
     for length in sys.argv[3:]:
         measure_length(sys.argv[1], pathlib.Path(sys.argv[2]), int(length))
+    measure_parts(sys.argv[1], pathlib.Path(sys.argv[2]), EIGHT_HOURS)
     measure_shapes(sys.argv[1], pathlib.Path(sys.argv[2]))

@@ -3,10 +3,11 @@
 usage: night.py FILE SECONDS SAMPLES
 
 The night has 22 channels of SAMPLES samples a second, in data records of 1 s, and a scored stage every 30 s.
-Nights of the same samples and annotations may have data records of other lengths.
+Nights of the same samples and annotations may have data records of other lengths, and may be handed out in parts.
 """
 
 import dataclasses
+import datetime
 import sys
 
 
@@ -41,10 +42,22 @@ class Night:
     tenths: int = 10  # the length of a data record, in tenths of a second
     lane: int = 128  # bytes of the annotation lane of a data record
     notes: list | None = None  # in the order of their onsets; none: the stages
+    first: int = 0  # how many seconds after the night's begin it begins, where it is a part of one
 
     def labels(self):
         """Those of many channels are short, since a claim that names them all has at most 65,536 bytes."""
         return [f"EEG {c}" if self.channels < 100 else short(c) for c in range(self.channels)]
+
+    def parts(self, count):
+        """The night in so many parts of one length, a multiple of 30 s, each a file that begins where the one before
+        ends. Its annotations are the stages."""
+        length = self.seconds // count
+        assert self.notes is None and length % 30 == 0 and length * count == self.seconds
+        return [dataclasses.replace(self, seconds=length, first=length * part) for part in range(count)]
+
+    def begin(self):
+        """When it begins."""
+        return datetime.datetime(2002, 3, 2, 22) + datetime.timedelta(seconds=self.first)
 
 
 def field(text, width):
@@ -55,7 +68,8 @@ def field(text, width):
 def header(night):
     signals = night.channels + 1
     length = f"{night.tenths / 10:g}"
-    fixed = [("0", 8), ("X X X X", 80), ("Startdate X X X X", 80), ("02.03.02", 8), ("22.00.00", 8),
+    fixed = [("0", 8), ("X X X X", 80), ("Startdate X X X X", 80),
+             (f"{night.begin():%d.%m.%y}", 8), (f"{night.begin():%H.%M.%S}", 8),
              (str(256 * (signals + 1)), 8), ("EDF+C", 44), (str(10 * night.seconds // night.tenths), 8), (length, 8),
              (str(signals), 4)]
     columns = [(night.labels() + ["EDF Annotations"], 16), ([""] * signals, 80),
@@ -84,7 +98,8 @@ def write(path, night):
                 text += note[1]
                 note = next(notes, None)
             # where in the values the samples of each channel begin
-            places = [(2 * (night.rate * start // 10) + 38 * c) % 256 for c in range(night.channels)]
+            before = night.rate * (10 * night.first + start) // 10
+            places = [(2 * before + 38 * c) % 256 for c in range(night.channels)]
             file.write(b"".join([values[at:at + size] for at in places]) + text.ljust(night.lane, b"\0"))
 
 

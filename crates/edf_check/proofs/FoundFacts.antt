@@ -15,7 +15,8 @@ use Rattle.edf_check.specs.declared.parts.found.PartVerdict.{PartVerdict}
 use Rattle.edf_check.specs.declared.parts.found.PartsFound.{PartsFound}
 use Rattle.edf_check.specs.declared.parts.order.Ordered.{Ordered}
 use Rattle.edf_check.specs.walk.Orders.{IsOrdered}
-use Rattle.edf_check.specs.PartsFound.{IsPart, IsFirstFault, rank, GoesFirst, IsFirstHead, AllAgree, AllConformAt, IsHeadsFound, earlier_of, first_of, AreRead, end_before_part, IsFirstEarly, IsEarlyFound}
+use Rattle.edf_check.specs.PartsFirst.{IsPart, IsFirstFault, rank, GoesFirst, IsFirstHead}
+use Rattle.edf_check.specs.PartsFound.{AllAgree, AllConformAt, IsHeadsFound, earlier_of, first_of, AreRead, end_before_part, IsFirstEarly, IsEarlyFound}
 use Rattle.edf_check.specs.walk.Shown.{begin_by, last_end_by}
 use Rattle.edf_check.proofs.samples.FilterFacts.{by_test}
 

@@ -12,10 +12,10 @@ use Rattle.edf_check.proofs.CourseFacts.{IsCourse, agree-apart}
 use Rattle.edf_check.proofs.samples.FractionFacts.{by_before, before_not, before-not_before, same_before, before_below}
 
 -- what stands before the cut is in the front, and what doesn't in the back
-front-of : (u : Instant) (K A B : Course) → IsCutAt u K A B → (l : List ℕ) (t : Instant) (v : ℤ) → 0 < t.den → IsBefore t u → K l t v → A l t v
+pub front-of : (u : Instant) (K A B : Course) → IsCutAt u K A B → (l : List ℕ) (t : Instant) (v : ℤ) → 0 < t.den → IsBefore t u → K l t v → A l t v
 front-of u K A B c l t v p b h = ⊎_elim (λ a. a) (λ d. absurd (before_not t u b (c.back l t v p d).1)) (c.each l t v p h)
 
-back-of : (u : Instant) (K A B : Course) → IsCutAt u K A B → (l : List ℕ) (t : Instant) (v : ℤ) → 0 < t.den → IsNotBefore t u → K l t v → B l t v
+pub back-of : (u : Instant) (K A B : Course) → IsCutAt u K A B → (l : List ℕ) (t : Instant) (v : ℤ) → 0 < t.den → IsNotBefore t u → K l t v → B l t v
 back-of u K A B c l t v p b h = ⊎_elim (λ a. absurd (before_not t u (c.front l t v p a).1 b)) (λ d. d) (c.each l t v p h)
 
 -- differences in the fronts

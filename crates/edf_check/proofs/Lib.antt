@@ -9,6 +9,7 @@ pub mod SerialFacts
 pub mod TogetherFacts
 pub mod VerdictFacts
 pub mod PartsVerdictFacts
+pub mod OnePartsVerdictFacts
 pub mod SomeVerdictFacts
 pub mod SameFileFacts
 pub mod WordsFacts

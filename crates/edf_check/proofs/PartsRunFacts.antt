@@ -10,7 +10,7 @@ use Rattle.edf_verdict.specs.declared.outcome.Outcome.{Outcome}
 use Rattle.edf_verdict.specs.declared.parts_verdict.PartsVerdict.{PartsVerdict}
 use Rattle.edf_verdict.specs.Outcomes.{outcome_of}
 use Rattle.edf_verdict.specs.PartsLines.{parts_verdict_line}
-use Rattle.edf_check.specs.PartsRuns.{IsPartOfPartsReport, IsPartsReport, PartsRunStops}
+use Rattle.edf_check.specs.PartsRuns.{IsFrontOfAPartsLine, IsPartOfPartsReport, IsPartsReport, PartsRunStops}
 use Rattle.edf_check.specs.PartsVerdicts.{IsPartsVerdict}
 
 -- what is said of a cause other than want of memory is said of the run that stops by it
@@ -39,6 +39,10 @@ parts_front original parts text old new count claim verdict says is size held = 
   under = record { claim = claim; says = says; is = is };
   part = subst (λ n. HoldsPrefix old new (parts_verdict_line n verdict)) size held;
 }
+
+-- it is a front of a line, whatever it says
+pub parts_front_of_a_line : (parts : ℕ) (old new : List ℕ) (count : ℕ) (verdict : PartsVerdict) → count ≡ parts → HoldsPrefix old new (parts_verdict_line count verdict) → IsFrontOfAPartsLine parts old new
+parts_front_of_a_line parts old new count verdict size held = record { verdict = verdict; part = subst (λ n. HoldsPrefix old new (parts_verdict_line n verdict)) size held }
 
 -- the line of the verdict is the report
 pub parts_reported : (original : List ℕ) (parts : List (List ℕ)) (text old new : List ℕ) (count : ℕ) (claim : Terms) (verdict : PartsVerdict) (outcome : Outcome)

@@ -1,5 +1,5 @@
 -- Of several parts a Yes is said exactly where they are together the export; and of a single part what is said of an export.
-use Rattle.std.proofs.Common.{◌≡◌, ℕ, zero, suc, neg_ℤ, ◌+ℤ◌, List, [], ◌∷◌, length, None, Some, slice_get, inl, ⊎_elim, refl, sym, ap, ◌∙◌, arith, subst}
+use Rattle.std.proofs.Common.{◌≡◌, ◌+◌, ℕ, zero, suc, neg_ℤ, ◌+ℤ◌, List, [], ◌∷◌, length, None, Some, slice_get, inl, ⊎_elim, refl, sym, ap, ◌∙◌, arith, subst}
 use Rattle.std.proofs.lemmas.Int.{ints}
 use Rattle.std.proofs.lemmas.List.{append-nil, length-map}
 use Rattle.std.proofs.lemmas.List.Sorted.{length_permutation}
@@ -24,6 +24,7 @@ use Rattle.edf_check.specs.Kept.{shift_ps}
 use Rattle.edf_check.specs.KeptReading.{origin_of, KeptAt, ExportedAt, exported_notes, kept_notes}
 use Rattle.edf_check.specs.Laws.{IsYes, OnePartVerdict, YesTogether}
 use Rattle.edf_check.specs.Parts.{AllConform, AreTogether, ExportedByOne, exported_by_all}
+use Rattle.edf_check.specs.PartsFirst.{IsPart}
 use Rattle.edf_check.specs.PartsFound.{AllAgree}
 use Rattle.edf_check.specs.PartsVerdicts.{AllInOrder, HaveCounts, HeadDiffers, IsVerdictOnParts}
 use Rattle.edf_check.specs.Verdicts.{HeadsDiffer, IsVerdict}
@@ -37,7 +38,7 @@ use Rattle.edf_check.proofs.walk.SeriesFacts.{one-alone}
 
 -- ---- a Yes, exactly
 
-agreeing-course : (K E : Course) → IsCourse K → Agree K E → IsCourse E
+pub agreeing-course : (K E : Course) → IsCourse K → Agree K E → IsCourse E
 agreeing-course K E k a = record {
   moves = λ l t u v pt pu s h. (a l u v pu).0 (k.moves l t u v pt pu s ((a l t v pt).1 h));
   one = λ l t v w p x y. k.one l t v w p ((a l t v p).1 x) ((a l t w p).1 y);
@@ -190,5 +191,43 @@ of-parts o e c (No (differences.Annotation mismatch onset duration text)) h =
       subst (λ ns. IsFirstNote (kept_notes o c) ns mismatch note) (all-of-one o e c) h.3,
     )
 
+-- of one part all is said of part 0
+only-place : (e file : List ℕ) (k : ℕ) → slice_get (e ∷ []) k ≡ Some file → k ≡ 0
+only-place e file zero there = refl
+only-place e file (suc k) there = absurd (let z : None ≡ Some file = there in cc)
+
+first-part : (e file : List ℕ) (part at : ℕ) → IsPart 0 (e ∷ []) part at file → part ≡ 0
+first-part e file part at is =
+    let number = is.number in
+    let place = only-place e file at is.there in
+    omega (arith, number, place)
+
+head-of-first : (o e : List ℕ) (c : Terms) (part : ℕ) (v : Verdict) → HeadDiffers o (e ∷ []) c part v → part ≡ 0
+head-of-first o e c part v h = let f = h.1 in first-part e f.file part f.at f.is
+
+of-first : (o e : List ℕ) (c : Terms) (part : ℕ) (v : Verdict) → IsVerdictOnParts o (e ∷ []) c part v → part ≡ 0
+of-first o e c part (Yes channels samples annotations) h = h.0
+of-first o e c part (No (differences.OriginalFault fault)) h = h.0
+of-first o e c part (No (differences.ExportFault fault)) h = let f = h.1 in first-part e f.file part f.at f.is
+of-first o e c part (No (differences.UnknownChannel label)) h = head-of-first o e c part _ h
+of-first o e c part (No (differences.MissingChannel label)) h = head-of-first o e c part _ h
+of-first o e c part (No (differences.ExtraChannel label)) h = head-of-first o e c part _ h
+of-first o e c part (No (differences.ChannelText label field)) h = head-of-first o e c part _ h
+of-first o e c part (No (differences.Calibration label)) h = head-of-first o e c part _ h
+of-first o e c part (No (differences.Subfield which mismatch)) h = head-of-first o e c part _ h
+of-first o e c part (No (differences.NotClean text)) h = head-of-first o e c part _ h
+of-first o e c part (No differences.PartOrder) h =
+    let p = h.1 in
+    let place = only-place e p.next (p.before + 1) p.next_is in
+    absurd (omega (arith, place))
+of-first o e c part (No (differences.Sample label at_ps mismatch)) h = h.0
+of-first o e c part (No (differences.Annotation mismatch onset duration text)) h = h.0
+
 pub one_part_verdict : OnePartVerdict
-one_part_verdict o e c v = (to-parts o e c v, of-parts o e c v)
+one_part_verdict o e c v = (
+  λ h.
+      let first = of-first o e c v.part v.verdict h in
+      let P : ℕ → Type 0 = λ part. IsVerdictOnParts o (e ∷ []) c part v.verdict in
+      (first, of-parts o e c v.verdict (subst P first h)),
+  λ h. (let P : ℕ → Type 0 = λ part. IsVerdictOnParts o (e ∷ []) c part v.verdict in subst P (sym h.0) (to-parts o e c v.verdict h.1)),
+)

@@ -25,7 +25,8 @@ use Rattle.edf_check.specs.declared.walk.part.PartRead.{PartRead}
 use Rattle.edf_check.specs.declared.walk.walked.FaultOf.{FaultOf}
 use Rattle.edf_check.specs.declared.walk.walked.FaultOf.TheVariants as faults
 use Rattle.edf_check.specs.PartsVerdicts.{samples_in, samples_of_all}
-use Rattle.edf_check.specs.PartsFound.{earlier_of, AllAgree, AllConformAt, AreRead, IsEarlyFound, IsFirstEarly, IsFirstFault, IsFirstHead, IsHeadsFound}
+use Rattle.edf_check.specs.PartsFirst.{IsFirstFault, IsFirstHead}
+use Rattle.edf_check.specs.PartsFound.{earlier_of, AllAgree, AllConformAt, AreRead, IsEarlyFound, IsFirstEarly, IsHeadsFound}
 use Rattle.edf_check.specs.walk.Ends.{IsReadThrough}
 use Rattle.edf_check.specs.walk.Gathered.{gathered_of}
 use Rattle.edf_check.specs.walk.Outcomes.{found_of, IsCompared, IsFaultBy, IsPartRead}

@@ -46,10 +46,10 @@ all-agreed o parts claim c cs as' = record { conform = all-conform o parts c cs;
 
 -- ---- the order
 
-end-moved : (part : List ℕ) (by : ℤ) → last_end_by part (head_of part) by ≡ last_end part +ℤ by
+pub end-moved : (part : List ℕ) (by : ℤ) → last_end_by part (head_of part) by ≡ last_end part +ℤ by
 end-moved part by = omega (arith, ints)
 
-begin-moved : (part : List ℕ) (by : ℤ) → begin_by part (head_of part) by 0 ≡ first_begin part +ℤ by
+pub begin-moved : (part : List ℕ) (by : ℤ) → begin_by part (head_of part) by 0 ≡ first_begin part +ℤ by
 begin-moved part by = omega (arith, ints)
 
 in-words : (one next : List ℕ) (by : ℤ) → last_end_by one (head_of one) by ≤ℤ begin_by next (head_of next) by 0 → last_end one ≤ℤ first_begin next

@@ -58,10 +58,15 @@ SamplesInWords = (original export : List ℕ) (claim : Terms) →
 abbrev pub OnePart : Type 0
 OnePart = (original export : List ℕ) (claim : Terms) → AreTogether original (export ∷ []) claim ↔ IsExport original export claim
 
--- the verdict on it is the one that is said of it as the only part
+-- what is said of it as the only part is the verdict on it, and is said of part 0
 abbrev pub OnePartVerdict : Type 0
-OnePartVerdict = (original export : List ℕ) (claim : Terms) (v : Verdict) →
-    IsVerdict original export claim v ↔ IsPartsVerdict original (export ∷ []) claim (record { part = 0; verdict = v })
+OnePartVerdict = (original export : List ℕ) (claim : Terms) (v : PartsVerdict) →
+    IsPartsVerdict original (export ∷ []) claim v ↔ ((v.part ≡ 0) × IsVerdict original export claim v.verdict)
+
+-- several parts have one verdict at most, and it is said of one part
+abbrev pub OneVerdictOnParts : Type 0
+OneVerdictOnParts = (original : List ℕ) (parts : List (List ℕ)) (claim : Terms) (v w : PartsVerdict) →
+    IsPartsVerdict original parts claim v → IsPartsVerdict original parts claim w → v ≡ w
 
 -- where there is a verdict on several parts, it is a Yes exactly where all conform and the parts are together the export
 abbrev pub YesTogether : Type 0

@@ -9,6 +9,7 @@ pub mod Headline
 pub mod Annotations
 pub mod Exports
 pub mod Parts
+pub mod PartsFirst
 pub mod PartsFound
 pub mod PartsStops
 pub mod PartsVerdicts

@@ -33,6 +33,11 @@ pub record IsPartOfPartsReport (original : List ℕ) (parts : List (List ℕ)) (
   pub under : IsPartsVerdictUnder original parts text verdict
   pub part : HoldsPrefix old new (parts_verdict_line (length parts) verdict)
 
+-- the same, whatever the sources are: a front of the line of some verdict on so many exports
+pub record IsFrontOfAPartsLine (parts : ℕ) (old new : List ℕ) : Type 0 where
+  pub verdict : PartsVerdict
+  pub part : HoldsPrefix old new (parts_verdict_line parts verdict)
+
 -- of a refused claim this is said, of a failed read of the original that, of a failed write the third, and of want of memory the fourth: that
 -- no read failed; of a failed read of an export it is said that it was one of this
 abbrev pub PartsRunStops : (ClaimStop → Type 0) → Type 0 → Type 0 → Type 0 → List ℕ → List ℕ → PartsRunStop → Type 0

@@ -12,7 +12,7 @@ use Rattle.edf_check.specs.Annotations.{IsFirstNote}
 use Rattle.edf_check.specs.Courses.{Agree, IsFirstMismatch}
 use Rattle.edf_check.specs.KeptReading.{KeptAt, kept_notes}
 use Rattle.edf_check.specs.Parts.{AllConform, AreTogether, ExportedByOne, FollowOneAnother, exported_by_all, first_begin, last_end}
-use Rattle.edf_check.specs.PartsFound.{IsFirstFault, IsFirstHead}
+use Rattle.edf_check.specs.PartsFirst.{IsFirstFault, IsFirstHead}
 use Rattle.edf_verdict.specs.declared.parts_verdict.PartsVerdict.{PartsVerdict}
 use Rattle.edf_verdict.specs.declared.verdict.Verdict.{Verdict}
 use Rattle.edf_verdict.specs.declared.verdict.Verdict.TheVariants.{Yes, No}

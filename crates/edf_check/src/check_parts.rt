@@ -25,9 +25,9 @@ use std::alloc::Global;
 /// The verdict is the first difference: a fault of the original, and then of the exports, the first one first; then a
 /// difference of a header, the one with the lowest number first and of several with that number the one of the first
 /// export; then the first export that begins before the one before it ends; then the samples and the annotations of all
-/// together; or Yes. One export is open at a time, and a data record of it and one of the original are in memory. The
-/// error is want of memory, or a failure of one of the sources, which it names; on an error nothing is said of the
-/// files.
+/// together; or Yes. One export is read at a time: its header, a data record of it and one of the original are in
+/// memory, and the annotations of all. The error is want of memory, or a failure of one of the sources, which it names;
+/// on an error nothing is said of the files, and the sources are made anew before another check.
 pub fn check_parts<O: Source, E: Source>(
     alloc: Global,
     original: &mut O,

@@ -1,6 +1,6 @@
 //! Laws of the definitions, each the contract of a function that does nothing.
 
-ghost use Rattle.edf_check.specs.Laws.{OnePart, OnePartVerdict, YesTogether, AnyCutOfExport, AnyCutOfOriginal, OneVerdict, SomeVerdict, YesExactly, HeadlineExactly, SamplesInWords, NotesInWords, StartFollows, AllProductsFit};
+ghost use Rattle.edf_check.specs.Laws.{OnePart, OnePartVerdict, YesTogether, AnyCutOfExport, AnyCutOfOriginal, OneVerdict, OneVerdictOnParts, SomeVerdict, YesExactly, HeadlineExactly, SamplesInWords, NotesInWords, StartFollows, AllProductsFit};
 
 /// Two files have one verdict at most.
 pub fn there_is_one_verdict()
@@ -51,11 +51,16 @@ pub fn the_cut_does_not_matter()
     ensures original { AnyCutOfOriginal }
 {}
 
-/// A single file is the export of an original exactly where it is so as the only part, and the verdict on it is the one
-/// that is said of it as the only part.
+/// A single file is the export of an original exactly where it is so as the only part, and what is said of it as the
+/// only part is the verdict on it.
 pub fn one_part_is_an_export()
     ensures export { OnePart }
     ensures verdict { OnePartVerdict }
+{}
+
+/// Several parts have one verdict at most, and it is said of one part.
+pub fn there_is_one_verdict_on_parts()
+    ensures { OneVerdictOnParts }
 {}
 
 /// Where there is a verdict on several parts, it is a Yes exactly where the original and all parts conform and the parts

@@ -8,7 +8,7 @@ ghost use Rattle.edf_fields.specs.Sinks.{HoldsPrefix};
 ghost use Rattle.edf_fields.specs.Sources.{Rises};
 ghost use Rattle.edf_verdict.specs.PartsLines.{parts_verdict_line};
 ghost use Rattle.edf_refusal.specs.declared.parts_stop.PartsRunStop.TheVariants as stops;
-ghost use Rattle.edf_check.specs.PartsRuns.{IsPartsReport, IsPartOfPartsReport, PartsRunStops, PartsWriteStops};
+ghost use Rattle.edf_check.specs.PartsRuns.{IsFrontOfAPartsLine, IsPartsReport, IsPartOfPartsReport, PartsRunStops, PartsWriteStops};
 
 use crate::check_parts::check_parts;
 use edf_claim::claim::Claim;
@@ -69,6 +69,8 @@ pub fn run_parts<O: Source, E: Source, K: Sink>(
     ensures part { IfErr result (λ stop. stop ≡ stops.WriteFailed → IsTrue (O.is_honest original.old) → AllByRecursion IsTrue (map E.is_honest parts.old) →
         IsTrue (K.is_honest sink.old) →
         IsPartOfPartsReport (O.left original.old) (map E.left parts.old) claim_text.now (K.held sink.old) (K.held sink.new)) }
+    ensures front { IfErr result (λ stop. stop ≡ stops.WriteFailed → IsTrue (K.is_honest sink.old) →
+        IsFrontOfAPartsLine (length parts.old) (K.held sink.old) (K.held sink.new)) }
     ensures stop { IfErr result (PartsRunStops
         (λ cause. (cause ≢ claim_stops.OutOfMemory) × FirstClaimFault claim_text.now cause)
         (Rises (O.failures original.old) (O.failures original.new))

@@ -3,17 +3,20 @@
 
 ghost use Rattle.std.specs.Prelude.{◌≡◌, ◌++◌, map, IfOk, IfErr, OnOk, IsTrue};
 ghost use Rattle.edf_fields.specs.Sources.{Rises};
-ghost use Rattle.edf_check.specs.Vectors.{row_text, RowStops, IsLine, IsRowWritten, AreRowsWritten};
-ghost use Rattle.edf_rows.specs.Rows.{worked_rows, row_of};
+ghost use Rattle.edf_check.specs.Vectors.{row_text, RowStops, IsLine, IsLineOfTwo, IsRowWritten, AreRowsWritten, AreAllRowsWritten};
+ghost use Rattle.edf_rows.specs.Rows.{row_of};
 
 pub mod line;
+mod parts_rows;
 
 use crate::run::run;
 use crate::vectors::line::Line;
+use crate::vectors::parts_rows::write_parts_rows;
 use edf_fields::sink::{Sink, put_all};
 use edf_fields::source::SliceSource;
 use edf_refusal::stop::{ReportStop, RunStop};
 use edf_rows::build::bytes_of;
+use edf_rows::parts_rows::worked_parts_rows;
 use edf_rows::rows::{Row, worked_rows};
 use edf_verdict::outcome::Outcome;
 use std::alloc::{AllocError, Global};
@@ -37,7 +40,7 @@ fn line_of(alloc: Global, original: &[u8], export: &[u8], claim: &[u8]) -> Resul
 
 /// The text that a row writes: its number, a space, and the line.
 #[tactic(auto, unfolding(crate::specs::Vectors::row_text))]
-fn row_text(alloc: Global, number: u8, line: &[u8]) -> Result<Vec<u8>, AllocError>
+pub(crate) fn row_text(alloc: Global, number: u8, line: &[u8]) -> Result<Vec<u8>, AllocError>
     ensures { IfOk result (λ text. text.items ≡ row_text number line.now) }
 {
     let mut text = Vec::new(alloc);
@@ -51,7 +54,7 @@ fn row_text(alloc: Global, number: u8, line: &[u8]) -> Result<Vec<u8>, AllocErro
 fn write_row<K: Sink>(alloc: Global, row: &Row, sink: &mut K) -> Result<Outcome, ReportStop>
     ensures failures { OnOk result (K.failures sink.new ≡ K.failures sink.old) }
     ensures honesty { OnOk result (IsTrue (K.is_honest sink.old) → IsTrue (K.is_honest sink.new)) }
-    ensures written { IfOk result (λ outcome. IsTrue (K.is_honest sink.old) → IsRowWritten (row_of row.now) (K.held sink.old) (K.held sink.new) outcome) }
+    ensures written { IfOk result (λ outcome. IsTrue (K.is_honest sink.old) → IsRowWritten IsLineOfTwo (row_of row.now) (K.held sink.old) (K.held sink.new) outcome) }
     ensures stop { IfErr result (RowStops (Rises (K.failures sink.old) (K.failures sink.new))) }
 {
     let original = bytes_of(alloc, &row.original)?;
@@ -68,8 +71,10 @@ fn write_row<K: Sink>(alloc: Global, row: &Row, sink: &mut K) -> Result<Outcome,
 
 /// Writes these rows, one after the other: `Yes` where each line is the stored one.
 fn write_rows<K: Sink>(alloc: Global, rows: &[Row], sink: &mut K) -> Result<Outcome, ReportStop>
-    ensures written { IfOk result (λ outcome. IsTrue (K.is_honest sink.old) → AreRowsWritten
-        (map row_of rows.now) (K.held sink.old) (K.held sink.new) outcome) }
+    ensures failures { OnOk result (K.failures sink.new ≡ K.failures sink.old) }
+    ensures honesty { OnOk result (IsTrue (K.is_honest sink.old) → IsTrue (K.is_honest sink.new)) }
+    ensures written { IfOk result (λ outcome. IsTrue (K.is_honest sink.old) →
+        AreRowsWritten IsLineOfTwo (map row_of rows.now) (K.held sink.old) (K.held sink.new) outcome) }
     ensures stop { IfErr result (RowStops (Rises (K.failures sink.old) (K.failures sink.new))) }
 {
     let mut outcome = Outcome::Yes;
@@ -79,14 +84,17 @@ fn write_rows<K: Sink>(alloc: Global, rows: &[Row], sink: &mut K) -> Result<Outc
     Ok(outcome)
 }
 
-/// Writes, for each worked row, its number, a space and the line of its run.
+/// Writes, for each worked row, its number, a space and the line of its run: first the rows of one export, and then
+/// those of several.
 ///
 /// The files of a row are built when its turn comes, and a row is written before the next is run. The
 /// outcome is `Yes` where every line is the stored one. The error is want of memory, or a failure of the
 /// sink; the rows before it stay written. The files stand in memory, so that no read fails.
 pub fn vectors_to<K: Sink>(alloc: Global, sink: &mut K) -> Result<Outcome, ReportStop>
-    ensures written { IfOk result (λ outcome. IsTrue (K.is_honest sink.old) → AreRowsWritten worked_rows (K.held sink.old) (K.held sink.new) outcome) }
+    ensures written { IfOk result (λ outcome. IsTrue (K.is_honest sink.old) → AreAllRowsWritten (K.held sink.old) (K.held sink.new) outcome) }
     ensures stop { IfErr result (RowStops (Rises (K.failures sink.old) (K.failures sink.new))) }
 {
-    write_rows(alloc, worked_rows(), sink)
+    let outcome = write_rows(alloc, worked_rows(), sink)?;
+    let behind = write_parts_rows(alloc, worked_parts_rows(), sink)?;
+    Ok(outcome.and(behind))
 }

@@ -16,6 +16,8 @@ mod night;
 #[cfg(test)]
 mod parts_lines;
 #[cfg(test)]
+mod parts_sources;
+#[cfg(test)]
 mod scarce;
 #[cfg(test)]
 mod sinks;

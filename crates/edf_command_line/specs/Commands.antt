@@ -1,5 +1,6 @@
 -- The program's commands, as a parse reads them.
-use Rattle.std.specs.Prelude.{[], codes, true}
+use Rattle.std.specs.Prelude.{[], codes, true, Some}
+use Rattle.clap.specs.Lexer.{usize_max}
 use Rattle.clap.specs.Walk.{Rule, Text}
 use Rattle.clap.specs.Simple.{App, new_app, new_shape, new_rule, with_rule, with_subcommand}
 
@@ -7,8 +8,16 @@ use Rattle.clap.specs.Simple.{App, new_app, new_shape, new_rule, with_rule, with
 abbrev pub needed : Text → Rule
 needed id = record (new_rule id) { required = true }
 
+-- an argument of one word or more
+abbrev pub needed_some : Text → Rule
+needed_some id = record (needed id) { range = Some (record { start_inclusive = 1; end_inclusive = usize_max }) }
+
 abbrev pub check_app : App
 check_app = with_rule (with_rule (with_rule (new_app (codes "check")) (needed (codes "ORIGINAL"))) (needed (codes "EXPORT"))) (needed (codes "CLAIM"))
+
+abbrev pub check_parts_app : App
+check_parts_app =
+    with_rule (with_rule (with_rule (new_app (codes "check-parts")) (needed (codes "ORIGINAL"))) (needed (codes "CLAIM"))) (needed_some (codes "EXPORT"))
 
 -- a command of one file
 abbrev pub file_app : Text → App
@@ -18,6 +27,10 @@ file_app name = with_rule (new_app name) (needed (codes "FILE"))
 abbrev pub bare_app : App
 bare_app = record { top = record (new_shape (codes "edfclaim")) { has_version = true }; subs = [] }
 
+-- the program with its two checks, and without another command
+abbrev pub checking_app : App
+checking_app = with_subcommand (with_subcommand bare_app check_app.top) check_parts_app.top
+
 abbrev pub program_app : App
-program_app = with_subcommand (with_subcommand (with_subcommand (with_subcommand (with_subcommand bare_app
-    check_app.top) (file_app (codes "conform")).top) (file_app (codes "show")).top) (file_app (codes "notes")).top) (new_app (codes "vectors")).top
+program_app = with_subcommand (with_subcommand (with_subcommand (with_subcommand checking_app
+    (file_app (codes "conform")).top) (file_app (codes "show")).top) (file_app (codes "notes")).top) (new_app (codes "vectors")).top

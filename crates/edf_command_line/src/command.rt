@@ -6,8 +6,8 @@ ghost use Rattle.std.specs.Prelude.{◌≡◌, ◌≢◌, codes, false, IfOk, If
 ghost use Rattle.clap.specs.Simple.{app_of, new_app, with_rule, with_subcommand};
 ghost use Rattle.clap.specs.Values.{kind_of};
 ghost use Rattle.clap.specs.declared.builder.command.Command.TheViews.{out-Command as fields_of};
-ghost use Rattle.edf_command_line.specs.Commands.{needed, bare_app, check_app, file_app, program_app};
-ghost use Rattle.edf_job.specs.Jobs.{ArePlain, SaysJob, SaysNoJob, behind_first};
+ghost use Rattle.edf_command_line.specs.Commands.{needed, needed_some, bare_app, check_app, check_parts_app, checking_app, file_app, program_app};
+ghost use Rattle.edf_job.specs.Jobs.{ArePlain, HasExports, SaysJob, SaysNoJob, behind_first};
 
 use crate::VERSION;
 use clap::error::ErrorKind;
@@ -30,6 +30,20 @@ fn needing<'a>(
     command.arg(Arg::new(alloc, id).required(true).help(help))
 }
 
+/// The command with a last argument of one word or more.
+fn needing_some<'a>(
+    alloc: Global,
+    command: Command<'a>,
+    id: &'a str,
+    help: &'a str,
+) -> Result<Command<'a>, AllocError>
+    ensures shape { IfOk result (λ r. (fields_of command.entry).has_globals ≡ false →
+        app_of r ≡ with_rule (app_of command.entry) (needed_some id.entry.now)) }
+    ensures local { IfOk result (λ r. (fields_of command.entry).has_globals ≡ false → (fields_of r).has_globals ≡ false) }
+{
+    command.arg(Arg::new(alloc, id).required(true).num_args(1..).help(help))
+}
+
 /// The command `check ORIGINAL EXPORT CLAIM`.
 fn check_command<'a>(alloc: Global) -> Result<Command<'a>, AllocError>
     ensures shape { IfOk result (λ c. app_of c ≡ check_app) }
@@ -41,6 +55,24 @@ fn check_command<'a>(alloc: Global) -> Result<Command<'a>, AllocError>
     let one = needing(alloc, named, "ORIGINAL", "The recording that is kept")?;
     let two = needing(alloc, one, "EXPORT", "The recording that is handed out")?;
     needing(alloc, two, "CLAIM", "The claim, a TOML document")
+}
+
+/// The command `check-parts ORIGINAL CLAIM EXPORT..`.
+fn check_parts_command<'a>(alloc: Global) -> Result<Command<'a>, AllocError>
+    ensures shape { IfOk result (λ c. app_of c ≡ check_parts_app) }
+    ensures local { IfOk result (λ c. (fields_of c).has_globals ≡ false) }
+{
+    let named = Command::new(alloc, "check-parts").about(
+        "Checks that exports are together their original, cut and made anonymous as a claim says",
+    );
+    let one = needing(alloc, named, "ORIGINAL", "The recording that is kept")?;
+    let two = needing(alloc, one, "CLAIM", "The claim, a TOML document")?;
+    needing_some(
+        alloc,
+        two,
+        "EXPORT",
+        "The recordings that are handed out, in the order of time",
+    )
 }
 
 /// The command `NAME FILE`.
@@ -80,12 +112,21 @@ fn bare_program<'a>(alloc: Global) -> Command<'a>
     Command::new(alloc, "edfclaim").version(VERSION)
 }
 
+/// The program with its two checks, and without another command.
+fn checking_program<'a>(alloc: Global) -> Result<Command<'a>, AllocError>
+    ensures { IfOk result (λ c. app_of c ≡ checking_app) }
+{
+    let check = check_command(alloc)?;
+    let first = bare_program(alloc).subcommand(check)?;
+    let parts = check_parts_command(alloc)?;
+    first.subcommand(parts)
+}
+
 /// The program with all of its commands.
 fn program<'a>(alloc: Global) -> Result<Command<'a>, AllocError>
     ensures { IfOk result (λ c. app_of c ≡ program_app) }
 {
-    let check = check_command(alloc)?;
-    let first = bare_program(alloc).subcommand(check)?;
+    let first = checking_program(alloc)?;
     let second = with_report(alloc, first, "conform", "Says whether a file conforms")?;
     let third = with_report(alloc, second, "show", "Shows what a file's header says")?;
     let fourth = with_report(alloc, third, "notes", "Lists a file's annotations")?;
@@ -93,12 +134,13 @@ fn program<'a>(alloc: Global) -> Result<Command<'a>, AllocError>
 }
 
 /// Reads the program's words, of which the first is the program's name: `None` where `clap` takes a
-/// line that is no command with its arguments, as where nothing stands behind the name.
+/// line that is no command with its arguments, as where nothing stands behind the name, or a `--` on the line.
 ///
 /// The error is `clap`'s fault, also for a request for help or for the version, or want of memory. A line whose words
 /// behind the first aren't empty and don't begin with `-` is such a fault only where it is no job.
 pub fn job<'a>(alloc: Global, words: &'a [&'a str]) -> Result<Option<Job<'a>>, Error>
     ensures some { IfOk result (λ found. IfSome found (SaysJob (behind_first words.entry.now))) }
+    ensures exports { IfOk result (λ found. IfSome found HasExports) }
     ensures none { IfOk result (λ found. IfNone found (SaysNoJob (behind_first words.entry.now))) }
     ensures fault { IfErr result (λ e. ArePlain (behind_first words.entry.now) → kind_of e ≢ ErrorKind.OutOfMemory →
         SaysNoJob (behind_first words.entry.now)) }

@@ -1,6 +1,7 @@
-//! The line and the status of each refusal, and how a stopped report is refused.
+//! The line and the status of each refusal, and how a stopped check or report is refused.
 
 use edf_claim::stop::ClaimStop;
+use edf_refusal::parts_stop::{PartSide, PartsRunStop};
 use edf_refusal::refusal::{Refusal, Role};
 use edf_refusal::side::Side;
 use edf_refusal::status::status;
@@ -92,6 +93,7 @@ const LINES: &[(Refusal, &str)] = &[
     ),
     (Refusal::Memory, "edfclaim: out of memory"),
     (Refusal::Writing, "edfclaim: writing failed"),
+    (Refusal::TooManyExports, "edfclaim: too many exports"),
 ];
 
 /// Compares the line and the status of each refusal.
@@ -131,6 +133,28 @@ const RUNS: &[(RunStop, Refusal)] = &[
     (RunStop::WriteFailed, Refusal::Writing),
 ];
 
+/// How a check of several exports stops, and how it is refused then.
+const PARTS_RUNS: &[(PartsRunStop, Refusal)] = &[
+    (PartsRunStop::OutOfMemory, Refusal::Memory),
+    (
+        PartsRunStop::ReadFailed(PartSide::Original),
+        Refusal::Reading(Role::Original),
+    ),
+    (
+        PartsRunStop::ReadFailed(PartSide::Part(0)),
+        Refusal::Reading(Role::Export),
+    ),
+    (
+        PartsRunStop::ReadFailed(PartSide::Part(63)),
+        Refusal::Reading(Role::Export),
+    ),
+    (
+        PartsRunStop::Claim(ClaimStop::BadKeep),
+        Refusal::Claim(ClaimStop::BadKeep),
+    ),
+    (PartsRunStop::WriteFailed, Refusal::Writing),
+];
+
 /// How a report on one file stops, and how it is refused then.
 const REPORTS: &[(ReportStop, Refusal)] = &[
     (ReportStop::OutOfMemory, Refusal::Memory),
@@ -151,5 +175,6 @@ where
 #[test]
 fn refuses_what_stopped(rt: HostRuntime) {
     assert_refused(&rt, RUNS);
+    assert_refused(&rt, PARTS_RUNS);
     assert_refused(&rt, REPORTS);
 }

@@ -1,7 +1,10 @@
 //! The worked rows: their text, what a sink holds of it that is too small, the same under ever more memory, and their
 //! lines where files are read byte by byte.
 
+ghost use Rattle.std.specs.Prelude.{◌<◌, ◌≤◌, length};
+
 use edf_check::run::run;
+use edf_check::run_parts::run_parts;
 use edf_check::vectors::line::Line;
 use edf_check::vectors::vectors_to;
 use edf_fields::faulty_source::FaultySource;
@@ -9,6 +12,7 @@ use edf_fields::sink::SliceSink;
 use edf_fields::source::SliceSource;
 use edf_refusal::stop::ReportStop;
 use edf_rows::build::bytes_of;
+use edf_rows::parts_rows::{PartsRow, worked_parts_rows};
 use edf_rows::rows::{Row, worked_rows};
 use edf_test_files::scarce::Scarce;
 use edf_verdict::outcome::Outcome;
@@ -69,6 +73,13 @@ const TEXT: &str = concat!(
     "60 NO 2 export fault: BadStart at header field startdate\n",
     "61 NO 2 export fault: StartdateDiffers at header field startdate\n",
     "62 NO 2 export fault: StartdateDiffers at header field startdate\n",
+    "63 YES parts 1 channels 2 samples 24 annotations 3\n",
+    "64 YES parts 2 channels 2 samples 24 annotations 3\n",
+    "65 NO 12 part 1 starts early\n",
+    "66 NO 12 part 1 starts early\n",
+    "67 NO 10 sample \"ECG\" at 2000000000000 ps missing\n",
+    "68 NO 2 part 1 export fault: Truncated at record 1\n",
+    "69 NO 8 part 1 subfield sex changed\n",
 );
 
 #[test]
@@ -95,14 +106,14 @@ fn rows_into(
 #[test]
 fn holds_the_front_of_the_rows(rt: HostRuntime) -> Result<(), Fail> {
     let alloc = rt.alloc();
-    assert_eq!(rt; TEXT.len(), 2468);
-    for count in [0usize, 4, 40, 41, 42, 82, 83, 2467] {
+    assert_eq!(rt; TEXT.len(), 2765);
+    for count in [0usize, 4, 40, 41, 42, 82, 83, 2764] {
         let (outcome, written) = rows_into(alloc, count)?;
         assert_eq!(rt; outcome, Err(ReportStop::WriteFailed));
         assert_eq!(rt; written.len(), count);
         assert!(rt; TEXT.as_bytes().starts_with(&written));
     }
-    let (outcome, written) = rows_into(alloc, 2468)?;
+    let (outcome, written) = rows_into(alloc, 2765)?;
     assert_eq!(rt; outcome, Ok(Outcome::Yes));
     assert_eq!(rt; &written[..], TEXT.as_bytes());
     Ok(())
@@ -165,10 +176,52 @@ fn line_by_bytes(alloc: Global, row: &Row) -> Result<Line, AllocError> {
     }
 }
 
+/// The line of an original and exports that are read byte by byte.
+fn parts_line(
+    alloc: Global,
+    original: &[u8],
+    parts: &mut [FaultySource<SliceSource<'_>>],
+    claim: &str,
+) -> Result<Line, AllocError>
+    requires some { 0 < length parts.old }
+    requires few { length parts.old ≤ 64 }
+{
+    let mut whole = FaultySource::new(SliceSource::new(original), u64::MAX, 1);
+    let mut line = Line::new(alloc);
+    match run_parts(alloc, &mut whole, parts, claim.as_bytes(), &mut line) {
+        Ok(_) => Ok(line),
+        Err(_) => Err(AllocError),
+    }
+}
+
+/// The line of a row of several exports whose files are read byte by byte.
+fn parts_line_by_bytes(alloc: Global, row: &PartsRow) -> Result<Line, AllocError> {
+    let original = bytes_of(alloc, &row.original)?;
+    let first = bytes_of(alloc, &row.first)?;
+    let one = FaultySource::new(SliceSource::new(&first), u64::MAX, 1);
+    match row.second {
+        None => parts_line(alloc, &original, &mut [one], row.claim),
+        Some(file) => {
+            let second = bytes_of(alloc, &file)?;
+            let other = FaultySource::new(SliceSource::new(&second), u64::MAX, 1);
+            parts_line(alloc, &original, &mut [one, other], row.claim)
+        }
+    }
+}
+
 #[test]
 fn gives_the_same_lines_byte_by_byte(rt: HostRuntime) -> Result<(), Fail> {
     for row in worked_rows() {
         let line = line_by_bytes(rt.alloc(), row)?;
+        assert_eq!(rt; line.bytes(), row.stored.as_bytes());
+    }
+    Ok(())
+}
+
+#[test]
+fn gives_the_same_lines_of_several_exports_byte_by_byte(rt: HostRuntime) -> Result<(), Fail> {
+    for row in worked_parts_rows() {
+        let line = parts_line_by_bytes(rt.alloc(), row)?;
         assert_eq!(rt; line.bytes(), row.stored.as_bytes());
     }
     Ok(())

@@ -14,6 +14,27 @@ const WORDS: &[(&[&str], Option<Job<'static>>)] = &[
         }),
     ),
     (
+        &["edfclaim", "check-parts", "night.edf", "claim.toml", "a"],
+        Some(Job::CheckParts {
+            original: "night.edf",
+            claim: "claim.toml",
+            exports: &["a"],
+        }),
+    ),
+    (
+        &["--", "check-parts", "o", "c", "a", "-", "a", ""],
+        Some(Job::CheckParts {
+            original: "o",
+            claim: "c",
+            exports: &["a", "-", "a", ""],
+        }),
+    ),
+    (&["edfclaim", "check-parts", "o", "c"], None),
+    (&["edfclaim", "check-parts", "o", "c", "a", "--", "b"], None),
+    (&["edfclaim", "check-parts", "o", "c", "--", "a", "b"], None),
+    (&["edfclaim", "check-parts", "o", "c", "a", "--"], None),
+    (&["edfclaim", "check-parts", "--", "o", "c", "a"], None),
+    (
         &["edfclaim", "conform", "night.edf"],
         Some(Job::Conform("night.edf")),
     ),

@@ -1,24 +1,48 @@
 -- What a command line asks for.
 use Rattle.std.specs.Prelude.{◌≡◌, ◌≢◌, ℕ, ◌<◌, List, [], ◌∷◌, length, map, drop, slice_index, slice_index_or, codes}
 use Rattle.std.specs.Borrow.{Bor}
+use Rattle.std.specs.List.{Contains}
 use Rattle.edf_job.specs.declared.job.Job.{Job}
-use Rattle.edf_job.specs.declared.job.Job.TheVariants.{Check, Conform, Show, Notes, Vectors}
+use Rattle.edf_job.specs.declared.job.Job.TheVariants.{Check, CheckParts, Conform, Show, Notes, Vectors}
 
 -- the words behind the first, which is the program's name
 abbrev pub behind_first : List (Bor (List ℕ)) → List (List ℕ)
 behind_first words = drop 1 (map (λ w. w.now) words)
 
--- the words are this command and its arguments, in order
+-- `--` stands among the words: it says of those behind it that they are arguments, and is none itself
+abbrev pub HaveEscape : List (List ℕ) → Type 0
+HaveEscape words = Contains words (codes "--")
+
+-- the words are this command and its arguments, in order; of exports there is one at least
 abbrev pub SaysJob : List (List ℕ) → Job → Type 0
 SaysJob words (Check original export claim) = words ≡ codes "check" ∷ original.now ∷ export.now ∷ claim.now ∷ []
+SaysJob words (CheckParts original claim exports) =
+    (words ≡ codes "check-parts" ∷ original.now ∷ claim.now ∷ map (λ w. w.now) exports.now) × (0 < length exports.now) × ¬ HaveEscape words
 SaysJob words (Conform path) = words ≡ codes "conform" ∷ path.now ∷ []
 SaysJob words (Show path) = words ≡ codes "show" ∷ path.now ∷ []
 SaysJob words (Notes path) = words ≡ codes "notes" ∷ path.now ∷ []
 SaysJob words Vectors = words ≡ codes "vectors" ∷ []
 
+-- a check of several exports has one at least
+abbrev pub HasExports : Job → Type 0
+HasExports (CheckParts original claim exports) = 0 < length exports.now
+HasExports job = Unit {0}
+
 -- the words are no command with its arguments
 abbrev pub SaysNoJob : List (List ℕ) → Type 0
 SaysNoJob words = (j : Job) → ¬ SaysJob words j
+
+abbrev pub IsCheckParts : Job → Type 0
+IsCheckParts (CheckParts original claim exports) = Unit {0}
+IsCheckParts job = ⊥
+
+-- the words aren't the command `check-parts`
+abbrev pub SaysNoCheckParts : List (List ℕ) → Type 0
+SaysNoCheckParts words = (j : Job) → IsCheckParts j → ¬ SaysJob words j
+
+-- the words are none of the other commands
+abbrev pub SaysNoOther : List (List ℕ) → Type 0
+SaysNoOther words = (j : Job) → SaysJob words j → IsCheckParts j
 
 -- no word is empty or begins with a minus
 abbrev pub ArePlain : List (List ℕ) → Type 0

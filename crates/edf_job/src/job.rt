@@ -9,6 +9,12 @@ pub enum Job<'a> {
         export: &'a str,
         claim: &'a str,
     },
+    /// Checks exports, in the order of time, which together are the export of one original under one claim.
+    CheckParts {
+        original: &'a str,
+        claim: &'a str,
+        exports: &'a [&'a str],
+    },
     /// Says whether a file conforms.
     Conform(&'a str),
     /// Shows what the header of a file says.

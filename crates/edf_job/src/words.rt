@@ -1,15 +1,39 @@
 //! Which command some words are.
 
-ghost use Rattle.std.specs.Prelude.{IfSome, IfNone};
-ghost use Rattle.edf_job.specs.Jobs.{SaysJob, SaysNoJob, behind_first};
+ghost use Rattle.std.specs.Prelude.{map, IfSome, IfNone};
+ghost use Rattle.std.specs.Bool.{Decides};
+ghost use Rattle.edf_job.specs.Jobs.{HasExports, HaveEscape, SaysJob, SaysNoCheckParts, SaysNoJob, SaysNoOther, behind_first};
 
 use crate::job::Job;
 
-/// The command that the words behind the first one are, which is the program's name; or none where they
-/// are no command with its arguments.
-pub fn job_of<'a>(words: &'a [&'a str]) -> Option<Job<'a>>
+/// Whether `--` stands among some words.
+fn have_escape(words: &[&str]) -> bool
+    ensures { Decides result (HaveEscape (map (λ w. w.now) words.now)) }
+{
+    words.contains(&"--")
+}
+
+/// The command `check-parts` that the words behind the first one are, or none where they aren't it.
+fn parts_job<'a>(words: &'a [&'a str]) -> Option<Job<'a>>
     ensures some { IfSome result (SaysJob (behind_first words.entry.now)) }
-    ensures none { IfNone result (SaysNoJob (behind_first words.entry.now)) }
+    ensures none { IfNone result (SaysNoCheckParts (behind_first words.entry.now)) }
+{
+    match words {
+        [_, "check-parts", original, claim, _, ..] if !have_escape(&words[1..]) => {
+            Some(Job::CheckParts {
+                original,
+                claim,
+                exports: &words[4..],
+            })
+        }
+        _ => None,
+    }
+}
+
+/// The command that the words behind the first one are, where it isn't `check-parts`.
+fn other_job<'a>(words: &'a [&'a str]) -> Option<Job<'a>>
+    ensures some { IfSome result (SaysJob (behind_first words.entry.now)) }
+    ensures none { IfNone result (SaysNoOther (behind_first words.entry.now)) }
 {
     match words {
         [_, "check", original, export, claim] => Some(Job::Check {
@@ -22,5 +46,18 @@ pub fn job_of<'a>(words: &'a [&'a str]) -> Option<Job<'a>>
         [_, "notes", path] => Some(Job::Notes(path)),
         [_, "vectors"] => Some(Job::Vectors),
         _ => None,
+    }
+}
+
+/// The command that the words behind the first one are, which is the program's name; or none where they
+/// are no command with its arguments.
+pub fn job_of<'a>(words: &'a [&'a str]) -> Option<Job<'a>>
+    ensures some { IfSome result (SaysJob (behind_first words.entry.now)) }
+    ensures exports { IfSome result HasExports }
+    ensures none { IfNone result (SaysNoJob (behind_first words.entry.now)) }
+{
+    match parts_job(words) {
+        Some(job) => Some(job),
+        None => other_job(words),
     }
 }

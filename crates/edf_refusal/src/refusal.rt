@@ -2,13 +2,14 @@
 
 ghost use Rattle.std.specs.Prelude.{◌≡◌};
 ghost use Rattle.edf_refusal.specs.declared.refusal.Refusal.TheVariants as refusals;
-ghost use Rattle.edf_refusal.specs.Refusals.{claim_text, opening_text, reading_text, refusal_of_report, refusal_of_run, refusal_text, role_of};
+ghost use Rattle.edf_refusal.specs.Refusals.{claim_text, opening_text, reading_text, refusal_of_parts_run, refusal_of_report, refusal_of_run, refusal_text, role_of, role_of_part};
 
+use crate::parts_stop::{PartSide, PartsRunStop};
 use crate::side::Side;
 use crate::stop::{ReportStop, RunStop};
 use edf_claim::stop::ClaimStop;
 use edf_fields::sink::WriteFault;
-use std::alloc::AllocError;
+use std::alloc::{AllocError, AllocFailed};
 
 /// What a file is to the command that reads it.
 #[derive(Debug, Clone, Copy, PartialEq, Eq)]
@@ -17,7 +18,7 @@ pub enum Role {
     Claim,
     /// The recording that the sleep centre keeps.
     Original,
-    /// The recording that it hands out.
+    /// The recording that it hands out, or one of several that it hands out together.
     Export,
     /// The only file of its command.
     File,
@@ -30,6 +31,17 @@ impl From<Side> for Role {
         match side {
             Side::Original => Role::Original,
             Side::Export => Role::Export,
+        }
+    }
+}
+
+impl From<PartSide> for Role {
+    ghost from_gives = { λ side role. role ≡ role_of_part side };
+
+    fn from(side: PartSide) -> Role {
+        match side {
+            PartSide::Original => Role::Original,
+            PartSide::Part(_) => Role::Export,
         }
     }
 }
@@ -47,6 +59,8 @@ pub enum Refusal {
     Memory,
     /// Standard output didn't take what was written.
     Writing,
+    /// More exports than a check of several takes.
+    TooManyExports,
 }
 
 impl Refusal {
@@ -60,6 +74,7 @@ impl Refusal {
             Refusal::Claim(stop) => claim_refused(*stop),
             Refusal::Memory => "edfclaim: out of memory",
             Refusal::Writing => "edfclaim: writing failed",
+            Refusal::TooManyExports => "edfclaim: too many exports",
         }
     }
 }
@@ -116,6 +131,14 @@ impl From<AllocError> for Refusal {
     }
 }
 
+impl<T: Drop> From<AllocFailed<T>> for Refusal {
+    ghost from_gives = { λ _ refusal. refusal ≡ refusals.Memory };
+
+    fn from(_error: AllocFailed<T>) -> Refusal {
+        Refusal::Memory
+    }
+}
+
 impl From<WriteFault> for Refusal {
     ghost from_gives = { λ _ refusal. refusal ≡ refusals.Writing };
 
@@ -145,6 +168,19 @@ impl From<RunStop> for Refusal {
             RunStop::ReadFailed(side) => Refusal::Reading(side.into()),
             RunStop::Claim(cause) => Refusal::Claim(cause),
             RunStop::WriteFailed => Refusal::Writing,
+        }
+    }
+}
+
+impl From<PartsRunStop> for Refusal {
+    ghost from_gives = { λ stop refusal. refusal ≡ refusal_of_parts_run stop };
+
+    fn from(stop: PartsRunStop) -> Refusal {
+        match stop {
+            PartsRunStop::OutOfMemory => Refusal::Memory,
+            PartsRunStop::ReadFailed(side) => Refusal::Reading(side.into()),
+            PartsRunStop::Claim(cause) => Refusal::Claim(cause),
+            PartsRunStop::WriteFailed => Refusal::Writing,
         }
     }
 }

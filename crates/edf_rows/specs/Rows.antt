@@ -1,5 +1,6 @@
 -- The worked rows, and the line that is stored for each.
 use Rattle.std.specs.Prelude.{ℕ, List, [], ◌∷◌, codes}
+use Rattle.edf_rows.specs.declared.parts_rows.PartsRow.{PartsRow}
 use Rattle.edf_rows.specs.declared.rows.Row.{Row}
 
 -- a worked row, in what its text says: its number, and the line that is stored for it
@@ -7,7 +8,7 @@ pub record WorkedRow : Type 0 where
   pub number : ℕ
   pub stored : List ℕ
 
--- the rows, in the order in which they are written
+-- the rows of one export, in the order in which they are written
 unfoldable pub worked_rows : List WorkedRow
 worked_rows =
     record { number = 1; stored = codes "YES channels 1 samples 2 annotations 0\n" }
@@ -64,6 +65,22 @@ worked_rows =
     ∷ record { number = 62; stored = codes "NO 2 export fault: StartdateDiffers at header field startdate\n" }
     ∷ []
 
+-- the rows of several exports, one after the other, which are written behind these
+unfoldable pub worked_parts_rows : List WorkedRow
+worked_parts_rows =
+    record { number = 63; stored = codes "YES parts 1 channels 2 samples 24 annotations 3\n" }
+    ∷ record { number = 64; stored = codes "YES parts 2 channels 2 samples 24 annotations 3\n" }
+    ∷ record { number = 65; stored = codes "NO 12 part 1 starts early\n" }
+    ∷ record { number = 66; stored = codes "NO 12 part 1 starts early\n" }
+    ∷ record { number = 67; stored = codes "NO 10 sample \"ECG\" at 2000000000000 ps missing\n" }
+    ∷ record { number = 68; stored = codes "NO 2 part 1 export fault: Truncated at record 1\n" }
+    ∷ record { number = 69; stored = codes "NO 8 part 1 subfield sex changed\n" }
+    ∷ []
+
 -- a row, in the words of the code
 abbrev pub row_of : Row → WorkedRow
 row_of row = record { number = row.number; stored = row.stored.now }
+
+-- a row of several exports, in the words of the code
+abbrev pub parts_row_of : PartsRow → WorkedRow
+parts_row_of row = record { number = row.number; stored = row.stored.now }

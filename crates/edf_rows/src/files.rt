@@ -15,7 +15,7 @@ pub struct File {
     pub length: Option<usize>,
 }
 
-/// A file before it is changed. The first six hold a night or a part of it, the others a channel `Temp`.
+/// A file before it is changed. The first eight hold a night or a part of it, the others a channel `Temp`.
 #[derive(Clone, Copy)]
 pub enum Base {
     /// 4 s of the channels `EEG Fpz-Cz` and `ECG`, with three annotations, in four data records: the header
@@ -31,6 +31,10 @@ pub enum Base {
     LongExcerpt,
     /// Its first and last second, as an interrupted file.
     Gap,
+    /// Its first two seconds.
+    FirstHalf,
+    /// Its last two seconds.
+    SecondHalf,
     /// Two samples in 1 s; 804 bytes.
     Small,
     /// Six samples in 6 s, two in a data record of 2 s.
@@ -93,6 +97,8 @@ pub fn text_of(base: Base) -> FileText {
         Base::Excerpt => excerpt(),
         Base::LongExcerpt => long_excerpt(),
         Base::Gap => gap(),
+        Base::FirstHalf => first_half(),
+        Base::SecondHalf => second_half(),
         Base::Small => small(),
         Base::Pairs => pairs(),
         Base::Triples => triples(),
@@ -313,6 +319,45 @@ fn gap() -> FileText {
         reserved: "EDF+D",
         records: "2",
         contents: GAP_RECORDS,
+        ..reference()
+    }
+}
+
+const FIRST_HALF_RECORDS: &[DataRecord] = &[
+    DataRecord {
+        values: &[0, 10, 20, 30, 100, 101],
+        lane: b"+0\x14\x14\0+0.5\x14Lights off\x14\0",
+    },
+    DataRecord {
+        values: &[40, 50, 60, 70, 102, 103],
+        lane: b"+1\x14\x14\0+1.5\x151\x14Apnea\x14\0",
+    },
+];
+
+fn first_half() -> FileText {
+    FileText {
+        records: "2",
+        contents: FIRST_HALF_RECORDS,
+        ..reference()
+    }
+}
+
+const SECOND_HALF_RECORDS: &[DataRecord] = &[
+    DataRecord {
+        values: &[80, 90, 100, 110, 104, 105],
+        lane: b"+0\x14\x14\0",
+    },
+    DataRecord {
+        values: &[120, 130, 140, 150, 106, 107],
+        lane: b"+1\x14\x14\0+1\x14Apnea\x14\0",
+    },
+];
+
+fn second_half() -> FileText {
+    FileText {
+        starttime: "22.00.02",
+        records: "2",
+        contents: SECOND_HALF_RECORDS,
         ..reference()
     }
 }

@@ -1,4 +1,4 @@
-//! The worked rows: the files, the claim, and the line that is stored for them.
+//! The worked rows of one export: the files, the claim, and the line that is stored for them.
 
 ghost use Rattle.std.specs.Prelude.{◌≡◌, map};
 ghost use Rattle.edf_rows.specs.Rows.{row_of, worked_rows};
@@ -8,7 +8,7 @@ use crate::files::{Base, File};
 use edf_fields::fault::Place::{AtField, AtSignal};
 use edf_fields::layout::{FixedField as Fixed, SignalField as Field};
 
-/// A worked row.
+/// A worked row of one export.
 #[derive(Clone, Copy)]
 pub struct Row {
     /// Its number, which is printed.
@@ -24,7 +24,7 @@ pub struct Row {
 }
 
 /// The night, as it was recorded.
-const NIGHT: File = File {
+pub(crate) const NIGHT: File = File {
     base: Base::Reference,
     texts: &[],
     bytes: &[],
@@ -203,7 +203,7 @@ const WITHOUT_APNEA: File = File {
     ..NIGHT
 };
 
-/// The worked rows, in the order in which they are written. The header of the night has 1,024 bytes, and a
+/// The worked rows of one export, in the order in which they are written. The header of the night has 1,024 bytes, and a
 /// data record of it 52, of which the last 40 are the lane.
 const ROWS: &[Row] = &[
     Row {
@@ -650,7 +650,7 @@ const ROWS: &[Row] = &[
     },
 ];
 
-/// The worked rows, in the order in which they are written.
+/// The worked rows of one export, in the order in which they are written.
 #[tactic(auto, unfolding(crate::specs::Rows::worked_rows))]
 pub fn worked_rows() -> &'static [Row]
     ensures { map row_of result.now ≡ worked_rows }

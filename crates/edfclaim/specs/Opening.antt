@@ -1,5 +1,5 @@
 -- For what a command on files is refused, beside what is said where a call is made.
-use Rattle.std.specs.Prelude.{◌≡◌, ◌≢◌}
+use Rattle.std.specs.Prelude.{◌≡◌, ◌≢◌, ℕ, ◌<◌}
 use Rattle.edf_refusal.specs.declared.refusal.Refusal.{Refusal}
 use Rattle.edf_refusal.specs.declared.refusal.Refusal.TheVariants as refusals
 use Rattle.edf_refusal.specs.declared.refusal.Role.{Role}
@@ -25,6 +25,7 @@ ReportIsRefused (refusals.CannotOpen role) = role ≡ roles.File
 ReportIsRefused (refusals.Reading role) = role ≡ roles.File
 ReportIsRefused (refusals.Claim cause) = ⊥
 ReportIsRefused refusals.Writing = Unit {0}
+ReportIsRefused refusals.TooManyExports = ⊥
 
 -- of the three files of a check one can't be opened, or a read of it failed; or the claim is refused, memory ran out, or a write failed
 abbrev pub CheckIsRefused : Refusal → Type 0
@@ -33,3 +34,9 @@ CheckIsRefused (refusals.CannotOpen role) = role ≢ roles.File
 CheckIsRefused (refusals.Reading role) = role ≢ roles.File
 CheckIsRefused (refusals.Claim cause) = Unit {0}
 CheckIsRefused refusals.Writing = Unit {0}
+CheckIsRefused refusals.TooManyExports = ⊥
+
+-- a check of so many exports is refused as one of a single export is, or there are more than 64 of them
+abbrev pub PartsAreRefused : ℕ → Refusal → Type 0
+PartsAreRefused exports refusals.TooManyExports = 64 < exports
+PartsAreRefused exports refusal = CheckIsRefused refusal

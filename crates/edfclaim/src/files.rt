@@ -51,6 +51,24 @@ pub fn recording<R: Files + AllocGlobal>(
     }
 }
 
+/// Opens recordings as sources, one after the other.
+///
+/// The error is `CannotOpen`, or want of memory.
+pub fn recordings<R: Files + AllocGlobal>(
+    rt: &R,
+    paths: &[&str],
+    role: Role,
+) -> Result<Vec<ReadSource<BufReader<R::File>>>, Refusal>
+    ensures each { IfOk result (λ sources. length sources.items ≡ length paths.now) }
+    ensures stop { IfErr result (OpeningStops role) }
+{
+    let mut sources = Vec::with_capacity(rt.alloc(), paths.len())?;
+    for path in paths {
+        sources.push(recording(rt, path, role)?)?;
+    }
+    Ok(sources)
+}
+
 /// Reads a claim's text: all of it, or its first `most` bytes.
 ///
 /// The error is a failed read, or want of memory.

@@ -1,13 +1,16 @@
 //! `edfclaim`: checks whether an exported sleep recording is the original night, cut as a claim says, and
 //! nothing else.
 //!
-//! The check is `edf_check::check::check`; what its Yes means is the first clause of its contract. The
+//! The check is `edf_check::check::check`; what its Yes means is the first clause of its contract. That of several
+//! exports of one original is `edf_check::check_parts::check_parts`. The
 //! program reads its words (`edf_command_line`), does the job (`perform`), and ends with the status of its outcome
 //! (`status`). Why a job is refused is a `Refusal`, whose one line goes to standard error.
 #![tactic(auto)]
 
 mod files;
 mod perform;
+
+ghost use Rattle.edf_job.specs.Jobs.{HasExports};
 
 use clap::error::ErrorKind;
 use edf_command_line::command;
@@ -43,7 +46,9 @@ fn answer_fault(rt: &(impl Print + Eprint), fault: &clap::Error) -> u8 {
 }
 
 /// Does a job, and gives the status.
-fn answer_job(rt: &(impl Files + Print + Eprint + AllocGlobal), asked: Job<'_>) -> u8 {
+fn answer_job(rt: &(impl Files + Print + Eprint + AllocGlobal), asked: Job<'_>) -> u8
+    requires { HasExports asked }
+{
     let ended = perform::perform(rt, asked);
     if let Err(refusal) = &ended {
         refuse(rt, refusal.text());

@@ -1,11 +1,13 @@
 //! The commands, on files and standard output.
 
-ghost use Rattle.std.specs.Prelude.{IfErr};
-ghost use Rattle.edfclaim.specs.Opening.{CheckIsRefused, ReportIsRefused};
+ghost use Rattle.std.specs.Prelude.{◌≡◌, ◌<◌, length, Err, IfErr};
+ghost use Rattle.edf_job.specs.Jobs.{HasExports};
+ghost use Rattle.edf_refusal.specs.declared.refusal.Refusal.TheVariants as refusals;
+ghost use Rattle.edfclaim.specs.Opening.{CheckIsRefused, PartsAreRefused, ReportIsRefused};
 
-use crate::files::{claim_text, recording};
-use edf_check::run;
+use crate::files::{claim_text, recording, recordings};
 use edf_check::vectors::vectors_to;
+use edf_check::{run, run_parts};
 use edf_fields::sink::{Sink, WriteSink};
 use edf_job::job::Job;
 use edf_refusal::refusal::{Refusal, Role};
@@ -15,6 +17,9 @@ use edf_report::show::show_to;
 use edf_verdict::outcome::Outcome;
 use std::io;
 use std::rt::Files;
+
+/// The most exports that are checked together.
+const MOST_EXPORTS: usize = 64;
 
 /// Checks an export against its original under a claim.
 ///
@@ -33,6 +38,30 @@ fn check<R: Files + AllocGlobal, K: Sink>(
     let mut first = recording(rt, original, Role::Original)?;
     let mut second = recording(rt, export, Role::Export)?;
     Ok(run::run(rt.alloc(), &mut first, &mut second, &text, sink)?)
+}
+
+/// Checks exports, in the order of time, against their one original under a claim.
+///
+/// More than 64 exports are refused before a file is opened. Else the claim is opened and read first, then the
+/// original is opened, then the exports in their order; the text of the claim is judged behind that.
+fn check_parts<R: Files + AllocGlobal, K: Sink>(
+    rt: &R,
+    original: &str,
+    claim: &str,
+    exports: &[&str],
+    sink: &mut K,
+) -> Result<Outcome, Refusal>
+    requires { 0 < length exports.now }
+    ensures many { 64 < length exports.now → result ≡ Err refusals.TooManyExports }
+    ensures stop { IfErr result (PartsAreRefused (length exports.now)) }
+{
+    if exports.len() > MOST_EXPORTS {
+        return Err(Refusal::TooManyExports);
+    }
+    let text = claim_text(rt, claim)?;
+    let mut first = recording(rt, original, Role::Original)?;
+    let mut parts = recordings(rt, exports, Role::Export)?;
+    Ok(run_parts::run_parts(rt.alloc(), &mut first, &mut parts, &text, sink)?)
 }
 
 /// Says whether a file conforms.
@@ -76,13 +105,20 @@ fn report<R: Files + AllocGlobal, K: Sink>(
     rt: &R,
     job: Job<'_>,
     sink: &mut K,
-) -> Result<Outcome, Refusal> {
+) -> Result<Outcome, Refusal>
+    requires { HasExports job }
+{
     match job {
         Job::Check {
             original,
             export,
             claim,
         } => check(rt, original, export, claim, sink),
+        Job::CheckParts {
+            original,
+            claim,
+            exports,
+        } => check_parts(rt, original, claim, exports, sink),
         Job::Conform(path) => conform(rt, path, sink),
         Job::Show(path) => show(rt, path, sink),
         Job::Notes(path) => notes(rt, path, sink),
@@ -91,7 +127,9 @@ fn report<R: Files + AllocGlobal, K: Sink>(
 }
 
 /// Does a job, and writes its text to standard output; a failed flush is a failed write.
-pub fn perform<R: Files + Print + AllocGlobal>(rt: &R, job: Job<'_>) -> Result<Outcome, Refusal> {
+pub fn perform<R: Files + Print + AllocGlobal>(rt: &R, job: Job<'_>) -> Result<Outcome, Refusal>
+    requires { HasExports job }
+{
     let mut sink = WriteSink::new(io::writer(rt));
     let outcome = report(rt, job, &mut sink)?;
     sink.flush()?;

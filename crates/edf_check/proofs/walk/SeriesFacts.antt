@@ -169,7 +169,7 @@ one-from original claim t (first ∷ parts) label at v p c order (part, i, h) =
     let from : t ≤ℤ part_end original claim first = (let f = order.0 in let g = part-order original first claim (c first (inl refl)) in omega (arith, ints, f, g)) in
     one-from original claim t parts label at v p (λ x k. c x (inr k)) (in-order-later original claim t (part_end original claim first) parts from order.1) (part, j, h)) i
 
-parts-cut : (original : List ℕ) (claim : Terms) (t : ℤ) (part : List ℕ) (parts : List (List ℕ)) → ((x : List ℕ) → Has (part ∷ parts) x → Conforms x (head_of x)) → AreInOrder original claim t (part ∷ parts)
+pub parts-cut : (original : List ℕ) (claim : Terms) (t : ℤ) (part : List ℕ) (parts : List (List ℕ)) → ((x : List ℕ) → Has (part ∷ parts) x → Conforms x (head_of x)) → AreInOrder original claim t (part ∷ parts)
     → IsCutAt (whole (part_end original claim part)) (ExportedByOne original (part ∷ parts) claim) (ExportedAt original part claim) (ExportedByOne original parts claim)
 parts-cut original claim t part parts c order = record {
   front = λ label at v p h. ((part, inl refl, h), value-before part (origin_of original +ℤ shift_ps claim) (part_end original claim part) label at v p (c part (inl refl)) refl h);

@@ -21,7 +21,8 @@ use Rattle.edf_check.specs.declared.walk.part.Outcome.TheVariants as outcomes
 use Rattle.edf_check.specs.declared.walk.time.Time.{Time}
 use Rattle.edf_check.specs.declared.walk.walked.FaultOf.{FaultOf}
 use Rattle.edf_check.specs.declared.walk.walked.FaultOf.TheVariants as faults
-use Rattle.edf_check.specs.PartsFound.{earlier_of, AllAgree, AllConformAt, AreOrdered, IsFirstEarly, IsFirstFault, IsFirstHead}
+use Rattle.edf_check.specs.PartsFirst.{IsFirstFault, IsFirstHead}
+use Rattle.edf_check.specs.PartsFound.{earlier_of, AllAgree, AllConformAt, AreOrdered, IsFirstEarly}
 use Rattle.edf_check.specs.walk.Ends.{IsReadThrough}
 use Rattle.edf_check.specs.walk.Gathered.{gathered_of}
 use Rattle.edf_check.specs.walk.Series.{is_last, places_in}

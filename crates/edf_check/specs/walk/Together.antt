@@ -10,7 +10,7 @@ use Rattle.edf_check.specs.Courses.{Agree, IsFirstMismatch}
 use Rattle.edf_check.specs.InstantOrder.{floor_of}
 use Rattle.edf_check.specs.KeptReading.{KeptAt, kept_notes}
 use Rattle.edf_check.specs.Parts.{AllConform, ExportedByOne, exported_by_all}
-use Rattle.edf_check.specs.PartsFound.{IsFirstFault, IsFirstHead}
+use Rattle.edf_check.specs.PartsFirst.{IsFirstFault, IsFirstHead}
 use Rattle.edf_check.specs.PartsVerdicts.{AllAgreed, AllInOrder, IsFirstOverlap}
 
 -- this is what they came to, by the places of labels; where nothing differs so far, these are the annotations that are compared

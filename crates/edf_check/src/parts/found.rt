@@ -1,7 +1,8 @@
 //! What is found first in several exports of one original.
 
 ghost use Rattle.std.specs.Prelude.{◌≡◌, if◌then◌else◌, Some};
-ghost use Rattle.edf_check.specs.PartsFound.{earlier_of, first_of, rank as rank_of};
+ghost use Rattle.edf_check.specs.PartsFirst.{rank as rank_of};
+ghost use Rattle.edf_check.specs.PartsFound.{earlier_of, first_of};
 
 use edf_fields::fault::Fault;
 use edf_verdict::verdict::Verdict;

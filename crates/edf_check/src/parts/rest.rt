@@ -2,7 +2,8 @@
 
 ghost use Rattle.std.specs.Prelude.{◌≡◌, ◌+◌, ◌≤◌, ◌<◌, ◌^◌, map, length, IfOk, IfErr, OnOk, IsTrue, unsigned_abs};
 ghost use Rattle.std.specs.List.{AllByRecursion};
-ghost use Rattle.edf_check.specs.PartsFound.{AreRead, IsFirstFault};
+ghost use Rattle.edf_check.specs.PartsFirst.{IsFirstFault};
+ghost use Rattle.edf_check.specs.PartsFound.{AreRead};
 ghost use Rattle.edf_check.specs.PartsStops.{PartsStops, stop_at};
 
 use crate::parts::found::{PartFault, PartsFound, first_early, first_verdict};

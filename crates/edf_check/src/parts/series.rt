@@ -70,6 +70,10 @@ impl Exported {
         ensures few { OnOk result (self.new.samples ≤ self.old.samples + 2 ^ 50) }
     {
         self.samples += Summary::of(reading.reader.header(), 0).samples;
+        if self.notes.is_empty() {
+            self.notes = reading.notes;
+            return Ok(());
+        }
         for note in reading.notes {
             self.notes.push(note)?;
         }

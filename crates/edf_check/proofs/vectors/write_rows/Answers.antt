@@ -1,6 +1,7 @@
 use Rattle.std.proofs.Common.{◌∙◌}
 use Rattle.edf_check.proofs.VectorsFacts.{row_more}
 use Rattle.edf_check.proofs.vectors.write_rows.Goals as goal
+use Rattle.edf_rows.specs.Rows.{row_of}
 
 pub loop-row-preserved : goal.loop-row-preserved
 loop-row-preserved g c =
@@ -9,5 +10,5 @@ loop-row-preserved g c =
     record {
       honesty = λ h. wrote.honesty (before.honesty h);
       failures = wrote.failures ∙ before.failures;
-      written = λ h. row_more c.args.rows.now c.loop-row.row-index _ c.loop-row-test.true (before.written h) (wrote.written (before.honesty h)) c.and-outcome.ensures;
+      written = λ h. row_more row_of c.args.rows.now c.loop-row.row-index _ c.loop-row-test.true (before.written h) (wrote.written (before.honesty h)) c.and-outcome.ensures;
     }

@@ -1,6 +1,7 @@
 use Rattle.std.proofs.Common.{List, ◌∷◌, IsTrue, map, sym, subst}
 use Rattle.std.specs.List.{AllByRecursion}
-use Rattle.edf_check.specs.PartsFound.{AreRead, IsFirstFault}
+use Rattle.edf_check.specs.PartsFirst.{IsFirstFault}
+use Rattle.edf_check.specs.PartsFound.{AreRead}
 use Rattle.edf_check.proofs.FoundFacts.{fault_here, fault_later, faultless_part, read_more}
 use Rattle.edf_check.proofs.parts.rest.+read_rest.Goals as goal
 

@@ -6,7 +6,8 @@ use Rattle.edf_stream.specs.Views.{note_value}
 use Rattle.edf_check.specs.declared.parts.series.PartsWalked.{PartsWalked}
 use Rattle.edf_check.specs.declared.walk.time.Time.{Time}
 use Rattle.edf_check.specs.InstantOrder.{IsModest}
-use Rattle.edf_check.specs.PartsFound.{AreRead, IsFirstFault}
+use Rattle.edf_check.specs.PartsFirst.{IsFirstFault}
+use Rattle.edf_check.specs.PartsFound.{AreRead}
 use Rattle.edf_check.specs.PartsVerdicts.{samples_of_all}
 use Rattle.edf_check.specs.walk.Serial.{AreWalkedSo, end_of}
 use Rattle.edf_check.proofs.SerialFacts.{counted_last, counted_on, fault_behind, fault_first, found_behind, walked_behind, walked_on}

@@ -1,0 +1,5 @@
+use Rattle.edf_check.proofs.OnePartsVerdictFacts.{one_verdict_on_parts}
+use Rattle.edf_check.proofs.laws.there_is_one_verdict_on_parts.Goals as goal
+
+pub returns : goal.returns
+returns c = one_verdict_on_parts

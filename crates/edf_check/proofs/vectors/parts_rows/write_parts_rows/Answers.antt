@@ -1,0 +1,14 @@
+use Rattle.std.proofs.Common.{◌∙◌}
+use Rattle.edf_check.proofs.VectorsFacts.{row_more}
+use Rattle.edf_check.proofs.vectors.parts_rows.write_parts_rows.Goals as goal
+use Rattle.edf_rows.specs.Rows.{parts_row_of}
+
+pub loop-row-preserved : goal.loop-row-preserved
+loop-row-preserved g c =
+    let wrote = c.in_ok-write_parts_row.ensures in
+    let before = c.loop-row.invariant in
+    record {
+      honesty = λ h. wrote.honesty (before.honesty h);
+      failures = wrote.failures ∙ before.failures;
+      written = λ h. row_more parts_row_of c.args.rows.now c.loop-row.row-index _ c.loop-row-test.true (before.written h) (wrote.written (before.honesty h)) c.and-outcome.ensures;
+    }

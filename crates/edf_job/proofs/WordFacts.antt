@@ -1,0 +1,41 @@
+-- Whether a text stands among some words, and that they are no command.
+use Rattle.std.proofs.Common.{◌≡◌, ℕ, ◌<◌, List, [], Bool, true, false, length, map, get_or, arith, refl, sym, Option, None, Some, IfNone, ◌∙◌}
+use Rattle.std.proofs.lemmas.List.{length-map, get_or-map}
+use Rattle.std.proofs.lemmas.Slice.Eq.{bytes_eq-Decides}
+use Rattle.std.specs.Bool.{Decides}
+use Rattle.std.specs.Borrow.{Bor}
+use Rattle.std.specs.List.{Contains, IsAnyAnswer}
+use Rattle.std.specs.Str.{bytes_eq}
+use Rattle.edf_job.specs.Jobs.{SaysNoCheckParts, SaysNoJob, SaysNoOther}
+use Rattle.edf_job.specs.declared.job.Job.{Job}
+
+abbrev no_word : Bor (List ℕ)
+no_word = record { ref_ptr = (0, 0); now = [] }
+
+-- a word's text is at its place in the list of texts
+text_at : (ws : List (Bor (List ℕ))) (k : ℕ) (t : List ℕ) → k < length ws → get_or (map (λ w. w.now) ws) k t ≡ (get_or ws k no_word).now
+text_at ws k t within = get_or-map (λ w. w.now) ws k no_word t within
+
+as_many : (ws : List (Bor (List ℕ))) → length (map (λ w. w.now) ws) ≡ length ws
+as_many ws = length-map ws (λ w. w.now)
+
+-- what `contains` answers
+pub contains_text : (ws : List (Bor (List ℕ))) (t : List ℕ) (r : Bool) → IsAnyAnswer (λ w b. bytes_eq w.now t ≡ b) ws r
+    → Decides r (Contains (map (λ w. w.now) ws) t)
+contains_text ws t true found = (
+  (λ _. let many = as_many ws in
+      (found.0, omega (arith, many, found.1), text_at ws found.0 t found.1 ∙ (bytes_eq-Decides (get_or ws found.0 no_word).now t).0 (found.2 no_word))),
+  (λ _. refl),
+)
+contains_text ws t false none = (
+  (λ e. absurd cc),
+  (λ at. let many = as_many ws in
+      let within : at.0 < length ws = omega (arith, many, at.1) in
+      sym (none at.0 no_word (omega arith) within)
+      ∙ (bytes_eq-Decides (get_or ws at.0 no_word).now t).1 (sym (text_at ws at.0 t within) ∙ at.2)),
+)
+
+-- the words are no command where they are neither `check-parts` nor one of the others
+pub no_job : (words : List (List ℕ)) (found : Option Job) → SaysNoCheckParts words → IfNone found (SaysNoOther words) → IfNone found (SaysNoJob words)
+no_job words None no_parts no_other = λ j says. no_parts j (no_other j says) says
+no_job words (Some job) no_parts no_other = no_other
