@@ -47,7 +47,10 @@ fn assert_stop(
     side: PartSide,
 ) -> Result<(), Fail> {
     let (stop, line) = ran_from(alloc, original, passes)?;
-    assert_eq!(rt; (stop, line.as_str()), (Some(PartsRunStop::ReadFailed(side)), ""));
+    assert_eq!(rt;
+        (stop, line.as_str()),
+        (Some(PartsRunStop::ReadFailed(side)), "")
+    );
     Ok(())
 }
 
@@ -66,7 +69,10 @@ fn names_the_file_of_which_a_read_failed(rt: HostRuntime) -> Result<(), Fail> {
 #[test]
 fn answers_where_no_read_fails(rt: HostRuntime) -> Result<(), Fail> {
     let (stop, line) = ran_from(rt.alloc(), READS, [READS; 3])?;
-    assert_eq!(rt; (stop, line.as_str()), (None, "NO 12 part 1 starts early\n"));
+    assert_eq!(rt;
+        (stop, line.as_str()),
+        (None, "NO 12 part 1 starts early\n")
+    );
     Ok(())
 }
 
