@@ -1,10 +1,13 @@
 //! Calls under ever more memory: each refused growth is answered, until there is enough.
 
+ghost use Rattle.std.specs.Prelude.{◌<◌, ◌≤◌, length};
+
 use crate::headers::{Answer, answer_of, claim, read};
 use crate::night::{ALL, SIX_SECONDS};
 use crate::timed::Timed;
 use edf_check::check::check;
 use edf_check::run::run;
+use edf_check::run_parts::run_parts;
 use edf_claim::claim::Claim;
 use edf_claim::stop::ClaimStop;
 use edf_fields::fault::Place;
@@ -14,6 +17,7 @@ use edf_fields::source::SliceSource;
 use edf_fields::which::Which;
 use edf_header::header::Header;
 use edf_heads::head_difference::head_difference;
+use edf_refusal::parts_stop::PartsRunStop;
 use edf_refusal::stop::{CheckStop, RunStop};
 use edf_test_files::file::edited;
 use edf_test_files::record::{LANES, push_lane, recorded, small_file};
@@ -47,8 +51,8 @@ struct Run<'a> {
 }
 
 /// One of the calls: reading a claim, refusing one, comparing two headers whose second channel has another
-/// calibration, checking a file with this header that keeps the time for so many seconds against itself, or a
-/// run.
+/// calibration, checking a file with this header that keeps the time for so many seconds against itself, a run, or
+/// one that takes the export for the only one of several, or for the first two.
 #[derive(Clone, Copy)]
 enum Call<'a> {
     Claiming,
@@ -56,6 +60,8 @@ enum Call<'a> {
     Comparing(Pair<'a>),
     Checking(&'a [u8], usize, &'a Claim),
     Running(Run<'a>),
+    Alone(Run<'a>),
+    Twice(Run<'a>),
 }
 
 /// Whether the comparison answers the calibration of the second channel; or none where it wants memory.
@@ -95,6 +101,34 @@ fn is_run(alloc: Global, call: Run) -> Option<bool> {
         Err(RunStop::OutOfMemory) if written.is_empty() => None,
         Err(_) => Some(false),
     }
+}
+
+/// Whether the run over these exports writes the line; or none where it wants memory, and then it writes nothing.
+fn is_run_over(alloc: Global, parts: &mut [SliceSource<'_>], call: Run) -> Option<bool>
+    requires some { 0 < length parts.old }
+    requires few { length parts.old ≤ 64 }
+{
+    let mut room = [0u8; 128];
+    let mut sink = SliceSink::new(&mut room);
+    let mut first = SliceSource::new(call.original);
+    let ended = run_parts(alloc, &mut first, parts, call.claim.as_bytes(), &mut sink);
+    let written = sink.written();
+    match ended {
+        Ok(_) => Some(written == call.line.as_bytes()),
+        Err(PartsRunStop::OutOfMemory) if written.is_empty() => None,
+        Err(_) => Some(false),
+    }
+}
+
+/// The same of the export alone.
+fn is_run_alone(alloc: Global, call: Run) -> Option<bool> {
+    is_run_over(alloc, &mut [SliceSource::new(call.export)], call)
+}
+
+/// The same of the export and once more the export.
+fn is_run_twice(alloc: Global, call: Run) -> Option<bool> {
+    let mut parts = [SliceSource::new(call.export), SliceSource::new(call.export)];
+    is_run_over(alloc, &mut parts, call)
 }
 
 /// A claim that has each key.
@@ -158,6 +192,8 @@ fn called(alloc: Global, call: Call) -> Option<bool> {
         Call::Comparing(pair) => is_recalibrated(alloc, pair),
         Call::Checking(header, seconds, claim) => is_taken(alloc, header, seconds, claim),
         Call::Running(run) => is_run(alloc, run),
+        Call::Alone(run) => is_run_alone(alloc, run),
+        Call::Twice(run) => is_run_twice(alloc, run),
     }
 }
 
@@ -326,4 +362,24 @@ fn says_a_fault_or_wants_memory(rt: HostRuntime) -> Result<(), Fail> {
     let ill = recorded(rt.alloc(), &[], ILL)?;
     let line = "NO 2 export fault: BadTal(NotUtf8) at record 3\n";
     assert_rise(&rt, rt.alloc(), (&night, &ill), ALL, line)
+}
+
+#[test]
+fn says_what_several_exports_are_or_wants_memory(rt: HostRuntime) -> Result<(), Fail> {
+    let night = recorded(rt.alloc(), &[], LANES)?;
+    let run = Run {
+        original: &night,
+        export: &night,
+        claim: ALL,
+        line: "YES parts 1 channels 2 samples 24 annotations 3\n",
+    };
+    let (is_right, refused) = rise(rt.alloc(), Call::Alone(run), 16)?;
+    assert!(rt; is_right && refused > 0, "{refused}");
+    let early = Run {
+        line: "NO 12 part 1 starts early\n",
+        ..run
+    };
+    let (is_right, refused) = rise(rt.alloc(), Call::Twice(early), 16)?;
+    assert!(rt; is_right && refused > 0, "{refused}");
+    Ok(())
 }
