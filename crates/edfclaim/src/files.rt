@@ -17,6 +17,9 @@ use std::rt::Files;
 /// the buffer where this is empty.
 const READ_AHEAD: usize = 32_768;
 
+/// The same of each of several exports, which are open at a time.
+const READ_AHEAD_OF_SEVERAL: usize = 16_384;
+
 /// How many bytes of a claim are read at most: one more than a claim may have, so that a longer one is
 /// seen to be too long.
 const CLAIM_BYTES: usize = MOST_BYTES + 1;
@@ -34,6 +37,24 @@ fn open<R: Files>(rt: &R, path: &str, role: Role) -> Result<R::File, Refusal>
     }
 }
 
+/// Opens a recording as a source, whose small reads are taken from larger ones of so many bytes.
+///
+/// The error is `CannotOpen`, or want of memory.
+fn recording_ahead<R: Files + AllocGlobal>(
+    rt: &R,
+    path: &str,
+    role: Role,
+    ahead: usize,
+) -> Result<ReadSource<BufReader<R::File>>, Refusal>
+    ensures stop { IfErr result (OpeningStops role) }
+{
+    let file = open(rt, path, role)?;
+    match BufReader::with_capacity(rt.alloc(), ahead, file) {
+        Ok(reader) => Ok(ReadSource::new(reader)),
+        Err(_) => Err(Refusal::Memory),
+    }
+}
+
 /// Opens a recording as a source, whose small reads are taken from larger ones.
 ///
 /// The error is `CannotOpen`, or want of memory.
@@ -44,11 +65,7 @@ pub fn recording<R: Files + AllocGlobal>(
 ) -> Result<ReadSource<BufReader<R::File>>, Refusal>
     ensures stop { IfErr result (OpeningStops role) }
 {
-    let file = open(rt, path, role)?;
-    match BufReader::with_capacity(rt.alloc(), READ_AHEAD, file) {
-        Ok(reader) => Ok(ReadSource::new(reader)),
-        Err(_) => Err(Refusal::Memory),
-    }
+    recording_ahead(rt, path, role, READ_AHEAD)
 }
 
 /// Opens recordings as sources, one after the other.
@@ -64,7 +81,7 @@ pub fn recordings<R: Files + AllocGlobal>(
 {
     let mut sources = Vec::with_capacity(rt.alloc(), paths.len())?;
     for path in paths {
-        sources.push(recording(rt, path, role)?)?;
+        sources.push(recording_ahead(rt, path, role, READ_AHEAD_OF_SEVERAL)?)?;
     }
     Ok(sources)
 }
