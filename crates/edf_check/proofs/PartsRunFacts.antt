@@ -1,4 +1,5 @@
 -- What a run over several exports has said and written.
+use Rattle.edf_fields.specs.Sources.{Reads}
 use Rattle.std.proofs.Common.{◌≡◌, ◌≢◌, ℕ, List, ◌++◌, length, ◌∙◌, ap, subst}
 use Rattle.edf_claim.specs.Claims.{SaysClaimText}
 use Rattle.edf_claim.specs.Terms.{Terms}
@@ -14,7 +15,7 @@ use Rattle.edf_check.specs.PartsRuns.{IsFrontOfAPartsLine, IsPartOfPartsReport, 
 use Rattle.edf_check.specs.PartsVerdicts.{IsPartsVerdict}
 
 -- what is said of a cause other than want of memory is said of the run that stops by it
-pub parts_claim_refused : (refused : ClaimStop → Type 0) (original failed none : Type 0) (olds news : List ℕ) (stop : ClaimStop) → none
+pub parts_claim_refused : (refused : ClaimStop → Type 0) (original failed none : Type 0) (olds news : List Reads) (stop : ClaimStop) → none
     → (stop ≢ claims.OutOfMemory → refused stop)
     → PartsRunStops (λ cause. (cause ≢ claims.OutOfMemory) × refused cause) original failed none olds news (parts_stop_of_claim stop)
 parts_claim_refused refused original failed none olds news claims.OutOfMemory quiet h = quiet

@@ -5,8 +5,8 @@ use Rattle.std.proofs.lemmas.List.{map-append, append-nil, map_more}
 use Rattle.std.proofs.lemmas.List.Concat.{flat_map-append}
 use Rattle.std.proofs.lemmas.List.Elements.{All-push, All-pop}
 use Rattle.edf_fields.specs.declared.source.SliceSource.{SliceSource}
-use Rattle.edf_fields.specs.SliceSource.{failures_of}
-use Rattle.edf_fields.specs.Sources.{Rises}
+use Rattle.edf_fields.specs.SliceSource.{reads_of}
+use Rattle.edf_fields.specs.Sources.{Fails, plain_reads}
 use Rattle.edf_claim.specs.declared.stop.ClaimStop.{ClaimStop}
 use Rattle.edf_refusal.specs.declared.parts_stop.PartSide.{PartSide}
 use Rattle.edf_refusal.specs.declared.parts_stop.PartSide.TheVariants as sides
@@ -69,7 +69,7 @@ parts_behind {rows} {parts_rows} {old} rows-are parts-are w v both =
     }
 
 -- no read of bytes in memory fails
-pub none_failed : (olds news : List SliceSource) (j part : ℕ) → HasFailed j (map failures_of olds) (map failures_of news) part → ⊥
+pub none_failed : (olds news : List SliceSource) (j part : ℕ) → HasFailed j (map reads_of olds) (map reads_of news) part → ⊥
 none_failed [] news j part failed = failed
 none_failed (old ∷ olds) [] j part failed = failed
 none_failed (old ∷ olds) (new ∷ news) j part (inl here) = let rises = here.1 in omega (arith, rises)
@@ -77,10 +77,10 @@ none_failed (old ∷ olds) (new ∷ news) j part (inr there) = none_failed olds 
 
 -- so a run over bytes in memory doesn't stop so
 pub no_read_failed : (olds news : List SliceSource) (refused : ClaimStop → Type 0) (failed none : Type 0) (stop : PartsRunStop) (side : PartSide)
-    → stop ≡ ReadFailed side → PartsRunStops refused (Rises 0 0) failed none (map failures_of olds) (map failures_of news) stop → ⊥
+    → stop ≡ ReadFailed side → PartsRunStops refused (Fails (plain_reads 0) (plain_reads 0)) failed none (map reads_of olds) (map reads_of news) stop → ⊥
 no_read_failed olds news refused failed none stop side is stops =
-    of_side side (subst (PartsRunStops refused (Rises 0 0) failed none (map failures_of olds) (map failures_of news)) is stops)
+    of_side side (subst (PartsRunStops refused (Fails (plain_reads 0) (plain_reads 0)) failed none (map reads_of olds) (map reads_of news)) is stops)
   where
-    of_side : (s : PartSide) → PartsRunStops refused (Rises 0 0) failed none (map failures_of olds) (map failures_of news) (ReadFailed s) → ⊥
+    of_side : (s : PartSide) → PartsRunStops refused (Fails (plain_reads 0) (plain_reads 0)) failed none (map reads_of olds) (map reads_of news) (ReadFailed s) → ⊥
     of_side sides.Original rises = omega (arith, rises)
     of_side (sides.Part part) there = none_failed olds news 0 part there

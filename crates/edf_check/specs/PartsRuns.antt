@@ -4,6 +4,7 @@ use Rattle.edf_claim.specs.Claims.{SaysClaimText}
 use Rattle.edf_claim.specs.Terms.{Terms}
 use Rattle.edf_claim.specs.declared.stop.ClaimStop.{ClaimStop}
 use Rattle.edf_fields.specs.Sinks.{HoldsPrefix}
+use Rattle.edf_fields.specs.Sources.{Reads}
 use Rattle.edf_refusal.specs.declared.parts_stop.PartsRunStop.{PartsRunStop}
 use Rattle.edf_refusal.specs.declared.parts_stop.PartsRunStop.TheVariants.{OutOfMemory, ReadFailed, Claim, WriteFailed}
 use Rattle.edf_refusal.specs.declared.parts_stop.PartSide.TheVariants as sides
@@ -40,7 +41,7 @@ pub record IsFrontOfAPartsLine (parts : ℕ) (old new : List ℕ) : Type 0 where
 
 -- of a refused claim this is said, of a failed read of the original that, of a failed write the third, and of want of memory the fourth: that
 -- no read failed; of a failed read of an export it is said that it was one of this
-abbrev pub PartsRunStops : (ClaimStop → Type 0) → Type 0 → Type 0 → Type 0 → List ℕ → List ℕ → PartsRunStop → Type 0
+abbrev pub PartsRunStops : (ClaimStop → Type 0) → Type 0 → Type 0 → Type 0 → List Reads → List Reads → PartsRunStop → Type 0
 PartsRunStops refused original failed none olds news OutOfMemory = none
 PartsRunStops refused original failed none olds news (ReadFailed sides.Original) = original
 PartsRunStops refused original failed none olds news (ReadFailed (sides.Part part)) = HasFailed 0 olds news part

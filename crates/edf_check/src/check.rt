@@ -1,7 +1,7 @@
 //! The check of an export against its original and a claim.
 
 ghost use Rattle.std.specs.Prelude.{◌≡◌, IfOk, IfErr, OnOk, IsTrue};
-ghost use Rattle.edf_fields.specs.Sources.{Rises};
+ghost use Rattle.edf_fields.specs.Sources.{Fails};
 ghost use Rattle.edf_check.specs.Checks.{AreRead, CheckStops};
 ghost use Rattle.edf_check.specs.Headline.{YesMeans};
 ghost use Rattle.edf_check.specs.Verdicts.{IsVerdict};
@@ -31,11 +31,11 @@ pub fn check<O: Source, E: Source>(
         IsVerdict (O.left original.old) (E.left export.old) claim.now verdict) }
     ensures read { IfOk result (λ verdict. IsTrue (O.is_honest original.old) → IsTrue (E.is_honest export.old) →
         AreRead verdict (O.left original.new) (E.left export.new)) }
-    ensures failures { OnOk result ((O.failures original.new ≡ O.failures original.old) × (E.failures export.new ≡ E.failures export.old)) }
+    ensures failures { OnOk result ((O.reads original.new ≡ O.reads original.old) × (E.reads export.new ≡ E.reads export.old)) }
     ensures stop { IfErr result (CheckStops
-        (Rises (O.failures original.old) (O.failures original.new))
-        (Rises (E.failures export.old) (E.failures export.new))
-        ((O.failures original.new ≡ O.failures original.old) × (E.failures export.new ≡ E.failures export.old))) }
+        (Fails (O.reads original.old) (O.reads original.new))
+        (Fails (E.reads export.old) (E.reads export.new))
+        ((O.reads original.new ≡ O.reads original.old) × (E.reads export.new ≡ E.reads export.old))) }
 {
     let walked = walk(alloc, original, export, claim)?;
     Ok(walked.verdict())

@@ -2,7 +2,7 @@
 
 ghost use Rattle.std.specs.Prelude.{◌≡◌, ◌<◌, ◌≤◌, map, length, IfOk, IfErr, OnOk, IsTrue};
 ghost use Rattle.std.specs.List.{AllByRecursion};
-ghost use Rattle.edf_fields.specs.Sources.{Rises};
+ghost use Rattle.edf_fields.specs.Sources.{Fails};
 ghost use Rattle.edf_check.specs.PartsStops.{PartsStops};
 ghost use Rattle.edf_check.specs.PartsVerdicts.{IsPartsVerdict};
 
@@ -38,9 +38,9 @@ pub fn check_parts<O: Source, E: Source>(
     requires few { length parts.old ≤ 64 }
     ensures verdict { IfOk result (λ verdict. IsTrue (O.is_honest original.old) → AllByRecursion IsTrue (map E.is_honest parts.old) →
         IsPartsVerdict (O.left original.old) (map E.left parts.old) claim.now verdict) }
-    ensures failures { OnOk result ((O.failures original.new ≡ O.failures original.old) × (map E.failures parts.new ≡ map E.failures parts.old)) }
-    ensures stop { IfErr result (PartsStops (Rises (O.failures original.old) (O.failures original.new))
-        ((O.failures original.new ≡ O.failures original.old) × (map E.failures parts.new ≡ map E.failures parts.old)) 0 (map E.failures parts.old) (map E.failures parts.new)) }
+    ensures failures { OnOk result ((O.reads original.new ≡ O.reads original.old) × (map E.reads parts.new ≡ map E.reads parts.old)) }
+    ensures stop { IfErr result (PartsStops (Fails (O.reads original.old) (O.reads original.new))
+        ((O.reads original.new ≡ O.reads original.old) × (map E.reads parts.new ≡ map E.reads parts.old)) 0 (map E.reads parts.old) (map E.reads parts.new)) }
 {
     let mut reading = match open(alloc, original, Side::Original) {
         Ok(Ok(reading)) => reading,

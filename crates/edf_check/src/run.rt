@@ -4,7 +4,7 @@ ghost use Rattle.std.specs.Prelude.{◌≡◌, ◌≢◌, ◌++◌, IfOk, IfErr,
 ghost use Rattle.edf_claim.specs.declared.stop.ClaimStop.TheVariants as claim_stops;
 ghost use Rattle.edf_claim.specs.Faults.{FirstClaimFault};
 ghost use Rattle.edf_fields.specs.Sinks.{HoldsPrefix};
-ghost use Rattle.edf_fields.specs.Sources.{Rises};
+ghost use Rattle.edf_fields.specs.Sources.{Fails, Rises};
 ghost use Rattle.edf_verdict.specs.Lines.{verdict_line};
 ghost use Rattle.edf_refusal.specs.declared.stop.RunStop.TheVariants as stops;
 ghost use Rattle.edf_check.specs.Runs.{IsReport, IsPartOfReport, IsFrontOfALine, RunStops, WriteStops};
@@ -46,7 +46,7 @@ pub fn run<O: Source, E: Source, K: Sink>(
 ) -> Result<Outcome, RunStop>
     ensures report { IfOk result (λ outcome. IsTrue (O.is_honest original.old) → IsTrue (E.is_honest export.old) → IsTrue (K.is_honest sink.old) →
         IsReport (O.left original.old) (E.left export.old) claim_text.now (K.held sink.old) (K.held sink.new) outcome) }
-    ensures reads { OnOk result ((O.failures original.new ≡ O.failures original.old) × (E.failures export.new ≡ E.failures export.old)) }
+    ensures reads { OnOk result ((O.reads original.new ≡ O.reads original.old) × (E.reads export.new ≡ E.reads export.old)) }
     ensures failures { OnOk result (K.failures sink.new ≡ K.failures sink.old) }
     ensures honesty { IsTrue (K.is_honest sink.old) → IsTrue (K.is_honest sink.new) }
     ensures nothing { IfErr result (λ stop. stop ≢ stops.WriteFailed → sink.new ≡ sink.old) }
@@ -56,10 +56,10 @@ pub fn run<O: Source, E: Source, K: Sink>(
     ensures front { IfErr result (λ stop. stop ≡ stops.WriteFailed → IsTrue (K.is_honest sink.old) → IsFrontOfALine (K.held sink.old) (K.held sink.new)) }
     ensures stop { IfErr result (RunStops
         (λ cause. (cause ≢ claim_stops.OutOfMemory) × FirstClaimFault claim_text.now cause)
-        (Rises (O.failures original.old) (O.failures original.new))
-        (Rises (E.failures export.old) (E.failures export.new))
+        (Fails (O.reads original.old) (O.reads original.new))
+        (Fails (E.reads export.old) (E.reads export.new))
         (Rises (K.failures sink.old) (K.failures sink.new))
-        ((O.failures original.new ≡ O.failures original.old) × (E.failures export.new ≡ E.failures export.old))) }
+        ((O.reads original.new ≡ O.reads original.old) × (E.reads export.new ≡ E.reads export.old))) }
 {
     let claim = Claim::read(alloc, claim_text)?;
     let verdict = check(alloc, original, export, &claim)?;

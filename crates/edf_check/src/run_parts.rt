@@ -5,7 +5,7 @@ ghost use Rattle.std.specs.List.{AllByRecursion};
 ghost use Rattle.edf_claim.specs.declared.stop.ClaimStop.TheVariants as claim_stops;
 ghost use Rattle.edf_claim.specs.Faults.{FirstClaimFault};
 ghost use Rattle.edf_fields.specs.Sinks.{HoldsPrefix};
-ghost use Rattle.edf_fields.specs.Sources.{Rises};
+ghost use Rattle.edf_fields.specs.Sources.{Fails, Rises};
 ghost use Rattle.edf_verdict.specs.PartsLines.{parts_verdict_line};
 ghost use Rattle.edf_refusal.specs.declared.parts_stop.PartsRunStop.TheVariants as stops;
 ghost use Rattle.edf_check.specs.PartsRuns.{IsFrontOfAPartsLine, IsPartsReport, IsPartOfPartsReport, PartsRunStops, PartsWriteStops};
@@ -62,7 +62,7 @@ pub fn run_parts<O: Source, E: Source, K: Sink>(
     requires few { length parts.old ≤ 64 }
     ensures report { IfOk result (λ outcome. IsTrue (O.is_honest original.old) → AllByRecursion IsTrue (map E.is_honest parts.old) → IsTrue (K.is_honest sink.old) →
         IsPartsReport (O.left original.old) (map E.left parts.old) claim_text.now (K.held sink.old) (K.held sink.new) outcome) }
-    ensures reads { OnOk result ((O.failures original.new ≡ O.failures original.old) × (map E.failures parts.new ≡ map E.failures parts.old)) }
+    ensures reads { OnOk result ((O.reads original.new ≡ O.reads original.old) × (map E.reads parts.new ≡ map E.reads parts.old)) }
     ensures failures { OnOk result (K.failures sink.new ≡ K.failures sink.old) }
     ensures honesty { IsTrue (K.is_honest sink.old) → IsTrue (K.is_honest sink.new) }
     ensures nothing { IfErr result (λ stop. stop ≢ stops.WriteFailed → sink.new ≡ sink.old) }
@@ -73,10 +73,10 @@ pub fn run_parts<O: Source, E: Source, K: Sink>(
         IsFrontOfAPartsLine (length parts.old) (K.held sink.old) (K.held sink.new)) }
     ensures stop { IfErr result (PartsRunStops
         (λ cause. (cause ≢ claim_stops.OutOfMemory) × FirstClaimFault claim_text.now cause)
-        (Rises (O.failures original.old) (O.failures original.new))
+        (Fails (O.reads original.old) (O.reads original.new))
         (Rises (K.failures sink.old) (K.failures sink.new))
-        ((O.failures original.new ≡ O.failures original.old) × (map E.failures parts.new ≡ map E.failures parts.old))
-        (map E.failures parts.old) (map E.failures parts.new)) }
+        ((O.reads original.new ≡ O.reads original.old) × (map E.reads parts.new ≡ map E.reads parts.old))
+        (map E.reads parts.old) (map E.reads parts.new)) }
 {
     let claim = Claim::read(alloc, claim_text)?;
     let count = count_of(parts);

@@ -2,7 +2,7 @@
 
 ghost use Rattle.std.specs.Prelude.{◌≡◌, ◌*◌, ℕ, List, [], length, Some, IfOk, IfErr, OnOk, IfSome, IfNone, IsTrue};
 ghost use Rattle.edf_claim.specs.Terms.{Terms};
-ghost use Rattle.edf_fields.specs.Sources.{Rises};
+ghost use Rattle.edf_fields.specs.Sources.{Fails};
 ghost use Rattle.edf_header.specs.Heads.{samples_together};
 ghost use Rattle.edf_stream.specs.Conforming.{Conforms};
 ghost use Rattle.edf_stream.specs.Faults.{file_fault};
@@ -65,9 +65,9 @@ pub(crate) fn open<S: Source>(
     ensures honesty { IfOk result (λ opened. IfOk opened (λ r. IsTrue (S.is_honest source.old) → IsTrue (S.is_honest source.new))) }
     ensures stands { IfOk result (λ opened. IfOk opened (λ r. IsTrue (S.is_honest source.old) → StandsIn r.reader (S.left source.new) (S.left source.old))) }
     ensures fault { IfOk result (λ opened. IfErr opened (λ fault. IsTrue (S.is_honest source.old) → file_fault (S.left source.old) ≡ Some fault)) }
-    ensures failures { OnOk result (S.failures source.new ≡ S.failures source.old) }
-    ensures stop { IfErr result (SideStops side (Rises (S.failures source.old) (S.failures source.new))
-        (S.failures source.new ≡ S.failures source.old)) }
+    ensures failures { OnOk result (S.reads source.new ≡ S.reads source.old) }
+    ensures stop { IfErr result (SideStops side (Fails (S.reads source.old) (S.reads source.new))
+        (S.reads source.new ≡ S.reads source.old)) }
 {
     match FileReader::begin(alloc, source) {
         Ok(reader) => Ok(Ok(Reading {
@@ -94,9 +94,9 @@ fn header_behind<S: Source>(
         StandsIn original.old (S.left source.old) o → file_fault e ≡ Some fault → IsWalked o e claim walked) }
     ensures read { IfOk result (λ walked. IsTrue (S.is_honest source.old) → (o left : List ℕ) → StandsIn original.old (S.left source.old) o →
         IsReadOut walked (S.left source.new) left) }
-    ensures failures { OnOk result (S.failures source.new ≡ S.failures source.old) }
-    ensures stop { IfErr result (SideStops sides.Original (Rises (S.failures source.old) (S.failures source.new))
-        (S.failures source.new ≡ S.failures source.old)) }
+    ensures failures { OnOk result (S.reads source.new ≡ S.reads source.old) }
+    ensures stop { IfErr result (SideStops sides.Original (Fails (S.reads source.old) (S.reads source.new))
+        (S.reads source.new ≡ S.reads source.old)) }
 {
     match read_out(original, source, Side::Original) {
         Ok(None) => Ok(Walked::ExportFault(fault)),
@@ -126,9 +126,9 @@ fn read_both_out<O: Source, E: Source>(
     ensures out { IfOk result (λ found. IfSome found (λ fault. OfFiles (O.is_honest o.old) (E.is_honest e.old)
         (StandsIn original.old (O.left o.old)) (StandsIn export.old (E.left e.old))
         (λ a b. IsReadBy fault (O.left o.new)))) }
-    ensures failures { OnOk result ((O.failures o.new ≡ O.failures o.old) × (E.failures e.new ≡ E.failures e.old)) }
-    ensures stop { IfErr result (CheckStops (Rises (O.failures o.old) (O.failures o.new)) (Rises (E.failures e.old) (E.failures e.new))
-        ((O.failures o.new ≡ O.failures o.old) × (E.failures e.new ≡ E.failures e.old))) }
+    ensures failures { OnOk result ((O.reads o.new ≡ O.reads o.old) × (E.reads e.new ≡ E.reads e.old)) }
+    ensures stop { IfErr result (CheckStops (Fails (O.reads o.old) (O.reads o.new)) (Fails (E.reads e.old) (E.reads e.new))
+        ((O.reads o.new ≡ O.reads o.old) × (E.reads e.new ≡ E.reads e.old))) }
 {
     match read_out(original, o, Side::Original) {
         Ok(None) => match read_out(export, e, Side::Export) {
@@ -160,9 +160,9 @@ fn heads_differ<O: Source, E: Source>(
     ensures read { IfOk result (λ walked. OfFiles (O.is_honest o.old) (E.is_honest e.old)
         (StandsIn original.old (O.left o.old)) (StandsIn export.old (E.left e.old))
         (λ a b. IsReadOut walked (O.left o.new) (E.left e.new))) }
-    ensures failures { OnOk result ((O.failures o.new ≡ O.failures o.old) × (E.failures e.new ≡ E.failures e.old)) }
-    ensures stop { IfErr result (CheckStops (Rises (O.failures o.old) (O.failures o.new)) (Rises (E.failures e.old) (E.failures e.new))
-        ((O.failures o.new ≡ O.failures o.old) × (E.failures e.new ≡ E.failures e.old))) }
+    ensures failures { OnOk result ((O.reads o.new ≡ O.reads o.old) × (E.reads e.new ≡ E.reads e.old)) }
+    ensures stop { IfErr result (CheckStops (Fails (O.reads o.old) (O.reads o.new)) (Fails (E.reads e.old) (E.reads e.new))
+        ((O.reads o.new ≡ O.reads o.old) × (E.reads e.new ≡ E.reads e.old))) }
 {
     match read_both_out(original, o, export, e) {
         Ok(None) => Ok(Walked::HeadsDiffer(verdict)),
@@ -218,9 +218,9 @@ fn walk_contents<O: Source, E: Source>(
     ensures read { IfOk result (λ walked. OfFiles (O.is_honest o.old) (E.is_honest e.old)
         (StandsIn original.old.reader (O.left o.old)) (StandsIn export.old.reader (E.left e.old))
         (λ a b. IsReadOut walked (O.left o.new) (E.left e.new))) }
-    ensures failures { OnOk result ((O.failures o.new ≡ O.failures o.old) × (E.failures e.new ≡ E.failures e.old)) }
-    ensures stop { IfErr result (CheckStops (Rises (O.failures o.old) (O.failures o.new)) (Rises (E.failures e.old) (E.failures e.new))
-        ((O.failures o.new ≡ O.failures o.old) × (E.failures e.new ≡ E.failures e.old))) }
+    ensures failures { OnOk result ((O.reads o.new ≡ O.reads o.old) × (E.reads e.new ≡ E.reads e.old)) }
+    ensures stop { IfErr result (CheckStops (Fails (O.reads o.old) (O.reads o.new)) (Fails (E.reads e.old) (E.reads e.new))
+        ((O.reads o.new ≡ O.reads o.old) × (E.reads e.new ≡ E.reads e.old))) }
 {
     let clock = Clock::new(original.reader.header(), claim);
     let labels = in_order(alloc, claim.channels())?;
@@ -269,9 +269,9 @@ fn walk_both<O: Source, E: Source>(
     ensures read { IfOk result (λ walked. OfFiles (O.is_honest o.old) (E.is_honest e.old)
         (StandsIn original.old.reader (O.left o.old)) (StandsIn export.old.reader (E.left e.old))
         (λ a b. IsReadOut walked (O.left o.new) (E.left e.new))) }
-    ensures failures { OnOk result ((O.failures o.new ≡ O.failures o.old) × (E.failures e.new ≡ E.failures e.old)) }
-    ensures stop { IfErr result (CheckStops (Rises (O.failures o.old) (O.failures o.new)) (Rises (E.failures e.old) (E.failures e.new))
-        ((O.failures o.new ≡ O.failures o.old) × (E.failures e.new ≡ E.failures e.old))) }
+    ensures failures { OnOk result ((O.reads o.new ≡ O.reads o.old) × (E.reads e.new ≡ E.reads e.old)) }
+    ensures stop { IfErr result (CheckStops (Fails (O.reads o.old) (O.reads o.new)) (Fails (E.reads e.old) (E.reads e.new))
+        ((O.reads o.new ≡ O.reads o.old) × (E.reads e.new ≡ E.reads e.old))) }
 {
     match head_difference(
         alloc,
@@ -307,11 +307,11 @@ pub(crate) fn walk<O: Source, E: Source>(
         IsWalked (O.left original.old) (E.left export.old) claim.now walked) }
     ensures read { IfOk result (λ walked. IsTrue (O.is_honest original.old) → IsTrue (E.is_honest export.old) →
         IsReadOut walked (O.left original.new) (E.left export.new)) }
-    ensures failures { OnOk result ((O.failures original.new ≡ O.failures original.old) × (E.failures export.new ≡ E.failures export.old)) }
+    ensures failures { OnOk result ((O.reads original.new ≡ O.reads original.old) × (E.reads export.new ≡ E.reads export.old)) }
     ensures stop { IfErr result (CheckStops
-        (Rises (O.failures original.old) (O.failures original.new))
-        (Rises (E.failures export.old) (E.failures export.new))
-        ((O.failures original.new ≡ O.failures original.old) × (E.failures export.new ≡ E.failures export.old))) }
+        (Fails (O.reads original.old) (O.reads original.new))
+        (Fails (E.reads export.old) (E.reads export.new))
+        ((O.reads original.new ≡ O.reads original.old) × (E.reads export.new ≡ E.reads export.old))) }
 {
     let mut first = match open(alloc, original, Side::Original) {
         Ok(Ok(reading)) => reading,

@@ -24,9 +24,11 @@ struct Padded<'a> {
 }
 
 impl<'a> Source for Padded<'a> {
+    ghost use Rattle.edf_fields.specs.Sources.{plain_reads};
+
     ghost left = { λ _. [] };
 
-    ghost failures = { λ _. 0 };
+    ghost reads = { λ _. plain_reads 0 };
 
     ghost is_honest = { λ _. false };
 

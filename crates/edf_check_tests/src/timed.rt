@@ -58,9 +58,11 @@ fn byte_of(record: usize, place: usize) -> u8 {
 }
 
 impl<'a> Source for Timed<'a> {
+    ghost use Rattle.edf_fields.specs.Sources.{plain_reads};
+
     ghost left = { λ _. [] };
 
-    ghost failures = { λ _. 0 };
+    ghost reads = { λ _. plain_reads 0 };
 
     ghost is_honest = { λ _. false };
 

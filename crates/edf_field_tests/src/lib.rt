@@ -5,6 +5,8 @@
 #[cfg(test)]
 mod date;
 #[cfg(test)]
+mod digest;
+#[cfg(test)]
 mod distinct;
 #[cfg(test)]
 mod identification;

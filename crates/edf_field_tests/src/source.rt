@@ -3,7 +3,7 @@
 ghost use Rattle.std.specs.Prelude.{[], false, true};
 
 use edf_fields::faulty_source::FaultySource;
-use edf_fields::source::{ReadFault, ReadSource, SliceSource, Source, fill};
+use edf_fields::source::{ReadFault, ReadSource, SliceSource, Source, fill, skip_rest};
 use std::io;
 use std::io::Read;
 use std::test::Fail;
@@ -15,9 +15,11 @@ struct Drip<'a> {
 }
 
 impl<'a> Source for Drip<'a> {
+    ghost use Rattle.edf_fields.specs.Sources.{plain_reads};
+
     ghost left = { λ s. s.rest.now };
 
-    ghost failures = { λ _. 0 };
+    ghost reads = { λ _. plain_reads 0 };
 
     ghost is_honest = { λ _. true };
 
@@ -38,9 +40,11 @@ struct Breaks {
 }
 
 impl Source for Breaks {
+    ghost use Rattle.edf_fields.specs.Sources.{plain_reads};
+
     ghost left = { λ _. [] };
 
-    ghost failures = { λ s. s.failures };
+    ghost reads = { λ s. plain_reads s.failures };
 
     ghost is_honest = { λ _. false };
 
@@ -165,6 +169,26 @@ fn reads_small_parts_in_larger_ones(rt: HostRuntime) -> Result<(), Fail> {
     }
     assert_eq!(rt; fill(&mut source, &mut byte), Err(ReadFault));
     Ok(())
+}
+
+#[test]
+fn skips_to_the_end(rt: HostRuntime) {
+    let mut source = Drip { rest: b"abcde" };
+    let mut buf = [0; 3];
+    assert_eq!(rt; fill(&mut source, &mut buf[..2]), Ok(2));
+    assert_eq!(rt; skip_rest(&mut source, &mut buf), Ok(()));
+    assert_eq!(rt; source.rest.len(), 0);
+    assert_eq!(rt; skip_rest(&mut source, &mut buf), Ok(()));
+}
+
+#[test]
+fn skips_as_far_as_reads_pass(rt: HostRuntime) {
+    let mut source = Breaks {
+        zeros: 5,
+        failures: 0,
+    };
+    assert_eq!(rt; skip_rest(&mut source, &mut [0]), Err(ReadFault));
+    assert_eq!(rt; (source.zeros, source.failures), (0, 1));
 }
 
 #[test]

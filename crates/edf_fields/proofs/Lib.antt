@@ -2,6 +2,7 @@ pub mod BlockFacts
 pub mod BoolFacts
 pub mod DateFacts
 pub mod DigitFacts
+pub mod DigestFacts
 pub mod DistinctFacts
 pub mod DotFacts
 pub mod ForCallers

@@ -1,7 +1,7 @@
 -- A read into the rest of a buffer.
-use Rattle.std.proofs.Common.{◌≡◌, ℕ, ◌+◌, ◌≤◌, List, ◌++◌, length, length-drop, take, drop, ◌-◌, ◌∙◌, sym, ap, subst, append_assoc}
+use Rattle.std.proofs.Common.{◌≡◌, ℕ, ◌+◌, ◌≤◌, List, ◌++◌, length, length-drop, take, drop, ◌-◌, ◌∙◌, sym, ap, subst, append_assoc, arith}
 use Rattle.std.proofs.Math.Seq.{take-append-add, take-add, take-length}
-use Rattle.std.proofs.lemmas.List.{length-take-le, take-append-le}
+use Rattle.std.proofs.lemmas.List.{length-append, length-take-le, take-append-le}
 use Rattle.edf_fields.specs.Sources.{Takes}
 
 -- what a read gave stands behind what was there
@@ -22,3 +22,9 @@ take_in_two a g xs = take-add a g xs
 -- what the range from a place on has
 pub rest_whole : (a : ℕ) (xs : List ℕ) → take (length xs - a) (drop a xs) ≡ drop a xs
 rest_whole a xs = ap (λ n. take n (drop a xs)) (sym (length-drop a xs)) ∙ take-length (drop a xs)
+
+-- a read that gave something left less
+pub takes_some : (left rest buf : List ℕ) (k : ℕ) → k ≤ length buf → (k ≡ 0 → ⊥) → Takes left rest k buf → length rest + 1 ≤ length left
+takes_some left rest buf k fits some takes =
+    let long = ap length takes ∙ length-append (take k buf) rest ∙ ap (λ n. n + length rest) (length-take-le k buf fits) in
+    omega (arith, long, some)

@@ -23,3 +23,4 @@ pub mod SubfieldNamesReading
 pub mod Subfields
 pub mod SubfieldsReading
 pub mod Tests
+pub mod Digests

@@ -1,5 +1,6 @@
 -- What a source over bytes in memory has left.
 use Rattle.std.specs.Prelude.{ℕ, Bool, true, List}
+use Rattle.edf_fields.specs.Sources.{Reads, plain_reads}
 use Rattle.edf_fields.specs.declared.source.SliceSource.{SliceSource}
 
 -- the bytes that the source still gives
@@ -7,8 +8,8 @@ abbrev pub left_of : SliceSource → List ℕ
 left_of source = source.rest.now
 
 -- no read of it ever fails
-abbrev pub failures_of : SliceSource → ℕ
-failures_of source = 0
+abbrev pub reads_of : SliceSource → Reads
+reads_of source = plain_reads 0
 
 -- what the source has left is always known
 abbrev pub is_known : SliceSource → Bool

@@ -1,7 +1,7 @@
 //! A source that fails at a read that was chosen beforehand.
 
 ghost use Rattle.std.specs.Prelude.{◌≡◌, ◌-◌, ◌<◌, ◌≤◌, [], length, IsErr, IfOk, OnOk, OnErr, IsTrue};
-ghost use Rattle.edf_fields.specs.Sources.{Rises, Takes};
+ghost use Rattle.edf_fields.specs.Sources.{Fails, Rises, Takes, plain_reads};
 
 use crate::source::{ReadFault, Source};
 
@@ -25,7 +25,7 @@ impl<S: Source + Drop> FaultySource<S> {
     pub fn new(inner: S, passes: u64, most: usize) -> FaultySource<S>
         requires { 1 ≤ most }
         ensures left { ⟦<FaultySource<S> as Source>⟧.left result ≡ S.left inner }
-        ensures failures { ⟦<FaultySource<S> as Source>⟧.failures result ≡ 0 }
+        ensures failures { ⟦<FaultySource<S> as Source>⟧.reads result ≡ plain_reads 0 }
         ensures honest { ⟦<FaultySource<S> as Source>⟧.is_honest result ≡ S.is_honest inner }
         ensures passes { result.passes ≡ passes }
         ensures most { result.most ≡ most }
@@ -43,7 +43,7 @@ impl<S: Source + Drop> FaultySource<S> {
 impl<S: Source + Drop> Source for FaultySource<S> {
     ghost left = { λ s. S.left s.inner };
 
-    ghost failures = { λ s. s.failed };
+    ghost reads = { λ s. plain_reads s.failed };
 
     ghost is_honest = { λ s. S.is_honest s.inner };
 
@@ -52,16 +52,16 @@ impl<S: Source + Drop> Source for FaultySource<S> {
 
         // As for every source.
         ensures within { IfOk result (λ k. k ≤ length buf.old) }
-        ensures failures { OnOk result (self.new.failed ≡ self.old.failed) }
+        ensures failures { OnOk result (plain_reads self.new.failed ≡ plain_reads self.old.failed) }
         ensures honesty { OnOk result (IsTrue (S.is_honest self.old.inner) → IsTrue (S.is_honest self.new.inner)) }
         ensures bytes { IfOk result (λ k. IsTrue (S.is_honest self.old.inner) → Takes (S.left self.old.inner) (S.left self.new.inner) k buf.new) }
         ensures ends { IfOk result (λ k. IsTrue (S.is_honest self.old.inner) → k ≡ 0 → S.left self.old.inner ≡ []) }
-        ensures fails { OnErr result (Rises self.old.failed self.new.failed) }
+        ensures fails { OnErr result (Fails (plain_reads self.old.failed) (plain_reads self.new.failed)) }
 
         // It fails where all passes are spent, and nothing is read then; before that only where the other one does.
         ensures spent { self.old.passes ≡ 0 → IsErr result × (self.new.inner ≡ self.old.inner) }
-        ensures passed { 0 < self.old.passes → OnErr result (Rises (S.failures self.old.inner) (S.failures self.new.inner)) }
-        ensures counted { OnOk result (S.failures self.new.inner ≡ S.failures self.old.inner) }
+        ensures passed { 0 < self.old.passes → OnErr result (Fails (S.reads self.old.inner) (S.reads self.new.inner)) }
+        ensures counted { OnOk result (S.reads self.new.inner ≡ S.reads self.old.inner) }
         ensures passes { self.new.passes ≡ self.old.passes - 1 }
         ensures few { IfOk result (λ k. k ≤ self.old.most) }
         ensures most { self.new.most ≡ self.old.most }

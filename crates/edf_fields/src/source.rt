@@ -1,9 +1,10 @@
 //! Where bytes come from: anything that gives them from front to back.
 //!
 //! A source's bytes are known to the proofs where the source is honest. Of a file or a pipe
-//! nothing is known but that its failures are counted.
-ghost use Rattle.std.specs.Prelude.{◌≡◌, ℕ, ◌<◌, ◌≤◌, min, List, [], length, take, drop, is_some, unwrap_or, Ok, IfOk, OnOk, OnErr, IsTrue, Bool, true};
-ghost use Rattle.edf_fields.specs.Sources.{Rises, Takes};
+//! nothing is known but that its failures are counted. A source may tell in its `reads` what it began with, so that
+//! what is proved of a reader also says that it read on where the source stood, and nothing else.
+ghost use Rattle.std.specs.Prelude.{◌≡◌, ℕ, ◌<◌, ◌≤◌, ◌-◌, ◌^◌, min, List, [], length, take, drop, is_some, unwrap_or, Ok, IfOk, OnOk, OnErr, IsTrue, Bool, true};
+ghost use Rattle.edf_fields.specs.Sources.{Fails, Reads, Takes, plain_reads};
 
 use std::io::Read;
 
@@ -13,12 +14,13 @@ pub struct ReadFault;
 
 /// A source of bytes, read from front to back.
 ///
-/// In contracts `left` is the bytes that are still to come, `failures` counts the reads that
-/// failed so far, up to `u64::MAX`, and `is_honest` says that `left` is to be relied on.
+/// In contracts `left` is the bytes that are still to come, `reads` tells how many reads failed so far, up to
+/// `u64::MAX`, and what a source that remembers its start had then, and `is_honest` says that `left` is to be
+/// relied on. A read that doesn't fail leaves `reads` as it is.
 pub trait Source {
     ghost left: { Self → List ℕ };
 
-    ghost failures: { Self → ℕ };
+    ghost reads: { Self → Reads };
 
     ghost is_honest: { Self → Bool };
 
@@ -29,11 +31,11 @@ pub trait Source {
     fn read(&mut self, buf: &mut [u8]) -> Result<usize, ReadFault>
         requires { 0 < length buf.old }
         ensures within { IfOk result (λ k. k ≤ length buf.old) }
-        ensures failures { OnOk result (failures self.new ≡ failures self.old) }
+        ensures failures { OnOk result (reads self.new ≡ reads self.old) }
         ensures honesty { OnOk result (IsTrue (is_honest self.old) → IsTrue (is_honest self.new)) }
         ensures bytes { IfOk result (λ k. IsTrue (is_honest self.old) → Takes (left self.old) (left self.new) k buf.new) }
         ensures ends { IfOk result (λ k. IsTrue (is_honest self.old) → k ≡ 0 → left self.old ≡ []) }
-        ensures fails { OnErr result (Rises (failures self.old) (failures self.new)) };
+        ensures fails { OnErr result (Fails (reads self.old) (reads self.new)) };
 }
 
 /// A source over bytes in memory. It is honest, and a read of it never fails.
@@ -46,7 +48,7 @@ impl<'a> SliceSource<'a> {
     /// A source that gives `bytes`.
     pub fn new(bytes: &'a [u8]) -> SliceSource<'a>
         ensures left { ⟦<SliceSource<'a> as Source>⟧.left result ≡ bytes.entry.now }
-        ensures failures { ⟦<SliceSource<'a> as Source>⟧.failures result ≡ 0 }
+        ensures failures { ⟦<SliceSource<'a> as Source>⟧.reads result ≡ plain_reads 0 }
         ensures honest { ⟦<SliceSource<'a> as Source>⟧.is_honest result ≡ true }
     {
         SliceSource { rest: bytes }
@@ -54,11 +56,11 @@ impl<'a> SliceSource<'a> {
 }
 
 impl<'a> Source for SliceSource<'a> {
-    ghost use Rattle.edf_fields.specs.SliceSource.{left_of, failures_of, is_known};
+    ghost use Rattle.edf_fields.specs.SliceSource.{left_of, reads_of, is_known};
 
     ghost left = { left_of };
 
-    ghost failures = { failures_of };
+    ghost reads = { reads_of };
 
     ghost is_honest = { is_known };
 
@@ -67,11 +69,11 @@ impl<'a> Source for SliceSource<'a> {
 
         // As for every source.
         ensures within { IfOk result (λ k. k ≤ length buf.old) }
-        ensures failures { OnOk result (failures_of self.new ≡ failures_of self.old) }
+        ensures failures { OnOk result (reads_of self.new ≡ reads_of self.old) }
         ensures honesty { OnOk result (IsTrue (is_known self.old) → IsTrue (is_known self.new)) }
         ensures bytes { IfOk result (λ k. IsTrue (is_known self.old) → Takes (left_of self.old) (left_of self.new) k buf.new) }
         ensures ends { IfOk result (λ k. IsTrue (is_known self.old) → k ≡ 0 → left_of self.old ≡ []) }
-        ensures fails { OnErr result (Rises (failures_of self.old) (failures_of self.new)) }
+        ensures fails { OnErr result (Fails (reads_of self.old) (reads_of self.new)) }
 
         // A read gives as many bytes as there are and fit.
         ensures count { result ≡ Ok (min (length buf.old) (length (left_of self.old))) }
@@ -98,7 +100,7 @@ impl<R: Read + Drop> ReadSource<R> {
     /// A source that gives what `reader` gives.
     pub fn new(reader: R) -> ReadSource<R>
         ensures left { ⟦<ReadSource<R> as Source>⟧.left result ≡ unwrap_or (R.remaining reader) [] }
-        ensures failures { ⟦<ReadSource<R> as Source>⟧.failures result ≡ 0 }
+        ensures failures { ⟦<ReadSource<R> as Source>⟧.reads result ≡ plain_reads 0 }
         ensures honest { ⟦<ReadSource<R> as Source>⟧.is_honest result ≡ is_some (R.remaining reader) }
     {
         ReadSource { reader, failed: 0 }
@@ -108,7 +110,7 @@ impl<R: Read + Drop> ReadSource<R> {
 impl<R: Read + Drop> Source for ReadSource<R> {
     ghost left = { λ s. unwrap_or (R.remaining s.reader) [] };
 
-    ghost failures = { λ s. s.failed };
+    ghost reads = { λ s. plain_reads s.failed };
 
     ghost is_honest = { λ s. is_some (R.remaining s.reader) };
 
@@ -131,8 +133,8 @@ impl<R: Read + Drop> Source for ReadSource<R> {
 #[inline(always)]
 pub fn fill<S: Source>(source: &mut S, buf: &mut [u8]) -> Result<usize, ReadFault>
     ensures within { IfOk result (λ k. k ≤ length buf.old) }
-    ensures failures { OnOk result (S.failures source.new ≡ S.failures source.old) }
-    ensures fails { OnErr result (Rises (S.failures source.old) (S.failures source.new)) }
+    ensures failures { OnOk result (S.reads source.new ≡ S.reads source.old) }
+    ensures fails { OnErr result (Fails (S.reads source.old) (S.reads source.new)) }
     ensures empty { length buf.old ≡ 0 → (result ≡ Ok 0) × (source.new ≡ source.old) }
 
     // What an honest source gives.
@@ -151,4 +153,23 @@ pub fn fill<S: Source>(source: &mut S, buf: &mut [u8]) -> Result<usize, ReadFaul
         done += got;
     }
     Ok(done)
+}
+
+/// Reads on until nothing is left, and keeps nothing of it; `buf` is what is read into.
+///
+/// An `Err` comes only from a read that failed, and then at once. A source that never ends is left behind
+/// `u64::MAX` reads.
+pub fn skip_rest<S: Source>(source: &mut S, buf: &mut [u8]) -> Result<(), ReadFault>
+    requires { 0 < length buf.old }
+    ensures failures { OnOk result (S.reads source.new ≡ S.reads source.old) }
+    ensures fails { OnErr result (Fails (S.reads source.old) (S.reads source.new)) }
+    ensures honesty { OnOk result (IsTrue (S.is_honest source.old) → IsTrue (S.is_honest source.new)) }
+    ensures end { OnOk result (IsTrue (S.is_honest source.old) → length (S.left source.old) < 2 ^ 64 - 1 → S.left source.new ≡ []) }
+{
+    'reads: for _ in 0..u64::MAX {
+        if source.read(buf)? == 0 {
+            break;
+        }
+    }
+    Ok(())
 }

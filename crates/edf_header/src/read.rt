@@ -1,7 +1,7 @@
 //! Reading a header from a source.
 
 ghost use Rattle.std.specs.Prelude.{◌≡◌, ◌+◌, ◌*◌, ◌/◌, ◌≤◌, ◌<◌, ◌^◌, length, take, drop, None, Some, IfOk, IfErr, OnOk, IsTrue};
-ghost use Rattle.edf_fields.specs.Sources.{Rises};
+ghost use Rattle.edf_fields.specs.Sources.{Fails};
 ghost use Rattle.edf_fields.specs.Tests.{first};
 ghost use Rattle.edf_fields.specs.declared.fault.Cause.TheVariants.{Truncated};
 ghost use Rattle.edf_fields.specs.declared.fault.Place.TheVariants.{AtSignal};
@@ -29,11 +29,11 @@ use std::alloc::Global;
 /// The next `count` bytes of a source, or all that there are.
 fn next_bytes<S: Source>(alloc: Global, source: &mut S, count: usize) -> Result<Vec<u8>, Stop>
     ensures honesty { OnOk result (IsTrue (S.is_honest source.old) → IsTrue (S.is_honest source.new)) }
-    ensures failures { OnOk result (S.failures source.new ≡ S.failures source.old) }
+    ensures failures { OnOk result (S.reads source.new ≡ S.reads source.old) }
     ensures front { IfOk result (λ v. IsTrue (S.is_honest source.old) → v.items ≡ take count (S.left source.old)) }
     ensures behind { OnOk result (IsTrue (S.is_honest source.old) → S.left source.new ≡ drop count (S.left source.old)) }
     ensures within { IfOk result (λ v. length v.items ≤ count) }
-    ensures stop { IfErr result (Stops (λ _. ⊥) (Rises (S.failures source.old) (S.failures source.new)) (S.failures source.new ≡ S.failures source.old)) }
+    ensures stop { IfErr result (Stops (λ _. ⊥) (Fails (S.reads source.old) (S.reads source.new)) (S.reads source.new ≡ S.reads source.old)) }
 {
     let mut bytes = vec![in alloc; 0u8; count]?;
     let got = fill(source, &mut bytes)?;
@@ -64,13 +64,13 @@ fn read_each<S: Source>(
     requires adjacent { AreAdjacent fields.now }
     requires start { next_before fields.now ≡ 0 }
     ensures honesty { OnOk result (IsTrue (S.is_honest source.old) → IsTrue (S.is_honest source.new)) }
-    ensures failures { OnOk result (S.failures source.new ≡ S.failures source.old) }
+    ensures failures { OnOk result (S.reads source.new ≡ S.reads source.old) }
     ensures columns { IfOk result (λ v. AreColumns signals fields.now v.items) }
     ensures front { IfOk result (λ v. IsTrue (S.is_honest source.old) → all_bytes v.items ≡ take (256 * signals) (S.left source.old)) }
     ensures behind { OnOk result (IsTrue (S.is_honest source.old) → S.left source.new ≡ drop (256 * signals) (S.left source.old)) }
     ensures stop { IfErr result (Stops (λ f. IsTrue (S.is_honest source.old)
         → first (columns_missing fields.now signals (length (take (256 * signals) (S.left source.old)))) ≡ Some f)
-        (Rises (S.failures source.old) (S.failures source.new)) (S.failures source.new ≡ S.failures source.old)) }
+        (Fails (S.reads source.old) (S.reads source.new)) (S.reads source.new ≡ S.reads source.old)) }
 {
     let count = usize::from(signals);
     let mut columns = Vec::with_capacity(alloc, fields.len())?;
@@ -103,14 +103,14 @@ const COLUMNS: [SignalField; 10] = [
 #[tactic(auto, unfolding(edf_fields::specs::LayoutReading::columns))]
 fn read_columns<S: Source>(alloc: Global, source: &mut S, signals: u16) -> Result<Columns, Stop>
     ensures honesty { OnOk result (IsTrue (S.is_honest source.old) → IsTrue (S.is_honest source.new)) }
-    ensures failures { OnOk result (S.failures source.new ≡ S.failures source.old) }
+    ensures failures { OnOk result (S.reads source.new ≡ S.reads source.old) }
     ensures signals { IfOk result (λ c. c.signals ≡ signals) }
     ensures whole { IfOk result (λ c. 256 * c.signals ≤ length c.bytes) }
     ensures front { IfOk result (λ c. IsTrue (S.is_honest source.old) → c.bytes ≡ take (256 * signals) (S.left source.old)) }
     ensures behind { OnOk result (IsTrue (S.is_honest source.old) → S.left source.new ≡ drop (256 * signals) (S.left source.old)) }
     ensures stop { IfErr result (Stops (λ f. IsTrue (S.is_honest source.old)
         → first (columns_missing all_columns signals (length (take (256 * signals) (S.left source.old)))) ≡ Some f)
-        (Rises (S.failures source.old) (S.failures source.new)) (S.failures source.new ≡ S.failures source.old)) }
+        (Fails (S.reads source.old) (S.reads source.new)) (S.reads source.new ≡ S.reads source.old)) }
 {
     let columns = read_each(alloc, source, &COLUMNS, signals)?;
     Ok(Columns { columns, signals })
@@ -139,9 +139,9 @@ struct Parts {
 
 /// The fixed part of the header of a file, or the first fault of the header.
 fn read_fixed<S: Source>(alloc: Global, source: &mut S) -> Result<FixedPart, Stop>
-    ensures failures { OnOk result (S.failures source.new ≡ S.failures source.old) }
+    ensures failures { OnOk result (S.reads source.new ≡ S.reads source.old) }
     ensures stop { IfErr result (Stops (λ f. IsTrue (S.is_honest source.old) → header_fault (S.left source.old) ≡ Some f)
-        (Rises (S.failures source.old) (S.failures source.new)) (S.failures source.new ≡ S.failures source.old)) }
+        (Fails (S.reads source.old) (S.reads source.new)) (S.reads source.new ≡ S.reads source.old)) }
     ensures said { IfOk result (λ p. IsFixed p.bytes.items p.said) }
     ensures honesty { OnOk result (IsTrue (S.is_honest source.old) → IsTrue (S.is_honest source.new)) }
     ensures front { IfOk result (λ p. IsTrue (S.is_honest source.old) → p.bytes.items ≡ take 256 (S.left source.old)) }
@@ -155,10 +155,10 @@ fn read_fixed<S: Source>(alloc: Global, source: &mut S) -> Result<FixedPart, Sto
 /// The columns of so many signals, or the first fault of the columns.
 fn read_body<S: Source>(alloc: Global, source: &mut S, signals: u16) -> Result<BodyPart, Stop>
     requires few { signals < 10 ^ 4 }
-    ensures failures { OnOk result (S.failures source.new ≡ S.failures source.old) }
+    ensures failures { OnOk result (S.reads source.new ≡ S.reads source.old) }
     ensures stop { IfErr result (Stops
         (λ f. IsTrue (S.is_honest source.old) → first (columns_tests signals (take (256 * signals) (S.left source.old))) ≡ Some f)
-        (Rises (S.failures source.old) (S.failures source.new)) (S.failures source.new ≡ S.failures source.old)) }
+        (Fails (S.reads source.old) (S.reads source.new)) (S.reads source.new ≡ S.reads source.old)) }
     ensures signals { IfOk result (λ p. p.columns.signals ≡ signals) }
     ensures said { IfOk result (λ p. IsBody p.columns p.said) }
     ensures honesty { OnOk result (IsTrue (S.is_honest source.old) → IsTrue (S.is_honest source.new)) }
@@ -172,9 +172,9 @@ fn read_body<S: Source>(alloc: Global, source: &mut S, signals: u16) -> Result<B
 
 /// The parts of the header of a file, or the first fault of the header.
 fn read_parts<S: Source>(alloc: Global, source: &mut S) -> Result<Parts, Stop>
-    ensures failures { OnOk result (S.failures source.new ≡ S.failures source.old) }
+    ensures failures { OnOk result (S.reads source.new ≡ S.reads source.old) }
     ensures stop { IfErr result (Stops (λ f. IsTrue (S.is_honest source.old) → header_fault (S.left source.old) ≡ Some f)
-        (Rises (S.failures source.old) (S.failures source.new)) (S.failures source.new ≡ S.failures source.old)) }
+        (Fails (S.reads source.old) (S.reads source.new)) (S.reads source.new ≡ S.reads source.old)) }
     ensures fixed { IfOk result (λ p. IsFixed p.fixed.bytes.items p.fixed.said) }
     ensures signals { IfOk result (λ p. p.body.columns.signals ≡ p.fixed.said.extent.signals) }
     ensures body { IfOk result (λ p. IsBody p.body.columns p.body.said) }
@@ -206,9 +206,9 @@ impl Header {
     /// where the source stands.
     pub fn read<S: Source>(alloc: Global, source: &mut S) -> Result<Header, Stop>
         ensures sound { IfOk result IsSound }
-        ensures failures { OnOk result (S.failures source.new ≡ S.failures source.old) }
+        ensures failures { OnOk result (S.reads source.new ≡ S.reads source.old) }
         ensures stop { IfErr result (Stops (λ f. IsTrue (S.is_honest source.old) → header_fault (S.left source.old) ≡ Some f)
-            (Rises (S.failures source.old) (S.failures source.new)) (S.failures source.new ≡ S.failures source.old)) }
+            (Fails (S.reads source.old) (S.reads source.new)) (S.reads source.new ≡ S.reads source.old)) }
 
         // What an honest source gives.
         ensures honesty { OnOk result (IsTrue (S.is_honest source.old) → IsTrue (S.is_honest source.new)) }

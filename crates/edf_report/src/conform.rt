@@ -2,7 +2,7 @@
 
 ghost use Rattle.std.specs.Prelude.{◌≡◌, ◌≢◌, IfOk, IfErr, OnOk, OnErr, IsTrue};
 ghost use Rattle.edf_fields.specs.Sinks.{HoldsPrefix};
-ghost use Rattle.edf_fields.specs.Sources.{Rises};
+ghost use Rattle.edf_fields.specs.Sources.{Fails, Rises};
 ghost use Rattle.edf_stream.specs.Faults.{file_fault};
 ghost use Rattle.edf_refusal.specs.declared.stop.ReportStop.TheVariants as stops;
 ghost use Rattle.edf_report.specs.ConformTexts.{counts_line, conform_text};
@@ -33,9 +33,9 @@ fn counts_line(alloc: Global, summary: &Summary) -> Result<Vec<u8>, AllocError>
 fn report<S: Source>(alloc: Global, source: &mut S) -> Result<Report, ReportStop>
     ensures report { IfOk result (λ report. IsTrue (S.is_honest source.old) →
         (report.text.items ≡ conform_text (S.left source.old)) × (report.outcome ≡ outcome_of_fault (file_fault (S.left source.old)))) }
-    ensures failures { OnOk result (S.failures source.new ≡ S.failures source.old) }
-    ensures stop { IfErr result (ReportStops (Rises (S.failures source.old) (S.failures source.new)) ⊥
-        (S.failures source.new ≡ S.failures source.old)) }
+    ensures failures { OnOk result (S.reads source.new ≡ S.reads source.old) }
+    ensures stop { IfErr result (ReportStops (Fails (S.reads source.old) (S.reads source.new)) ⊥
+        (S.reads source.new ≡ S.reads source.old)) }
 {
     match conform(alloc, source) {
         Ok(summary) => Ok(Report {
@@ -62,11 +62,11 @@ pub fn conform_to<S: Source, K: Sink>(
     ensures nothing { IfErr result (λ stop. stop ≢ stops.WriteFailed → sink.new ≡ sink.old) }
     ensures part { OnErr result (IsTrue (S.is_honest source.old) → IsTrue (K.is_honest sink.old) →
         HoldsPrefix (K.held sink.old) (K.held sink.new) (conform_text (S.left source.old))) }
-    ensures reads { OnOk result (S.failures source.new ≡ S.failures source.old) }
+    ensures reads { OnOk result (S.reads source.new ≡ S.reads source.old) }
     ensures failures { OnOk result (K.failures sink.new ≡ K.failures sink.old) }
     ensures honesty { IsTrue (K.is_honest sink.old) → IsTrue (K.is_honest sink.new) }
-    ensures stop { IfErr result (ReportStops (Rises (S.failures source.old) (S.failures source.new)) (Rises (K.failures sink.old) (K.failures sink.new))
-        (S.failures source.new ≡ S.failures source.old)) }
+    ensures stop { IfErr result (ReportStops (Fails (S.reads source.old) (S.reads source.new)) (Rises (K.failures sink.old) (K.failures sink.new))
+        (S.reads source.new ≡ S.reads source.old)) }
 {
     let report = report(alloc, source)?;
     report.put(sink)

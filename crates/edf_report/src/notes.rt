@@ -2,7 +2,7 @@
 
 ghost use Rattle.std.specs.Prelude.{◌≡◌, ℕ, List, [], ◌++◌, IfOk, IfErr, OnOk, OnErr, IsTrue};
 ghost use Rattle.edf_fields.specs.Sinks.{HoldsPrefix};
-ghost use Rattle.edf_fields.specs.Sources.{Rises};
+ghost use Rattle.edf_fields.specs.Sources.{Fails, Rises};
 ghost use Rattle.edf_stream.specs.Faults.{body_fault, file_fault};
 ghost use Rattle.edf_stream.specs.Keeping.{tal_notes_left};
 ghost use Rattle.edf_stream.specs.Notes.{NoteValue};
@@ -135,11 +135,11 @@ fn put_records<S: Source, K: Sink>(
     ensures part { OnErr result (IsTrue (S.is_honest source.old) → IsTrue (K.is_honest sink.old) → (file : List ℕ) →
         StandsIn reader.old (S.left source.old) file →
         HoldsPrefix (K.held sink.old) (K.held sink.new) (body_text file reader.old.head)) }
-    ensures reads { OnOk result (S.failures source.new ≡ S.failures source.old) }
+    ensures reads { OnOk result (S.reads source.new ≡ S.reads source.old) }
     ensures failures { OnOk result (K.failures sink.new ≡ K.failures sink.old) }
     ensures honesty { IsTrue (K.is_honest sink.old) → IsTrue (K.is_honest sink.new) }
-    ensures stop { IfErr result (ReportStops (Rises (S.failures source.old) (S.failures source.new)) (Rises (K.failures sink.old) (K.failures sink.new))
-        (S.failures source.new ≡ S.failures source.old)) }
+    ensures stop { IfErr result (ReportStops (Fails (S.reads source.old) (S.reads source.new)) (Rises (K.failures sink.old) (K.failures sink.new))
+        (S.reads source.new ≡ S.reads source.old)) }
 {
     let mut lines = Lines {
         text: Vec::new(alloc),
@@ -172,11 +172,11 @@ pub fn notes_to<S: Source, K: Sink>(
         IsReported (notes_text (S.left source.old)) (file_fault (S.left source.old)) (K.held sink.old) (K.held sink.new) outcome) }
     ensures part { OnErr result (IsTrue (S.is_honest source.old) → IsTrue (K.is_honest sink.old) →
         HoldsPrefix (K.held sink.old) (K.held sink.new) (notes_text (S.left source.old))) }
-    ensures reads { OnOk result (S.failures source.new ≡ S.failures source.old) }
+    ensures reads { OnOk result (S.reads source.new ≡ S.reads source.old) }
     ensures failures { OnOk result (K.failures sink.new ≡ K.failures sink.old) }
     ensures honesty { IsTrue (K.is_honest sink.old) → IsTrue (K.is_honest sink.new) }
-    ensures stop { IfErr result (ReportStops (Rises (S.failures source.old) (S.failures source.new)) (Rises (K.failures sink.old) (K.failures sink.new))
-        (S.failures source.new ≡ S.failures source.old)) }
+    ensures stop { IfErr result (ReportStops (Fails (S.reads source.old) (S.reads source.new)) (Rises (K.failures sink.old) (K.failures sink.new))
+        (S.reads source.new ≡ S.reads source.old)) }
 {
     match FileReader::begin(alloc, source) {
         Ok(mut reader) => put_records(alloc, &mut reader, source, sink),

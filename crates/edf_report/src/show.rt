@@ -4,7 +4,7 @@ ghost use Rattle.std.specs.Prelude.{◌≡◌, ◌≢◌, ◌++◌, IfOk, IfErr,
 ghost use Rattle.edf_fields.specs.Dates.{civil_day};
 ghost use Rattle.edf_fields.specs.IdentificationsReading.{patient_of, recording_of};
 ghost use Rattle.edf_fields.specs.Sinks.{HoldsPrefix};
-ghost use Rattle.edf_fields.specs.Sources.{Rises};
+ghost use Rattle.edf_fields.specs.Sources.{Fails, Rises};
 ghost use Rattle.edf_fields.specs.SubfieldsReading.{subfields_left};
 ghost use Rattle.edf_header.specs.Faults.{header_fault};
 ghost use Rattle.edf_header.specs.Heads.{kind_word};
@@ -228,9 +228,9 @@ fn report<S: Source>(alloc: Global, source: &mut S) -> Result<Report, ReportStop
     ensures report { IfOk result (λ report. IsTrue (S.is_honest source.old) →
         (report.text.items ≡ show_text (S.left source.old)) × (report.outcome ≡ outcome_of_fault (header_fault (S.left source.old)))) }
     ensures behind { IfOk result (λ report. IsTrue (S.is_honest source.old) → IsLeftBehind (S.left source.old) (S.left source.new) report.outcome) }
-    ensures failures { OnOk result (S.failures source.new ≡ S.failures source.old) }
-    ensures stop { IfErr result (ReportStops (Rises (S.failures source.old) (S.failures source.new)) ⊥
-        (S.failures source.new ≡ S.failures source.old)) }
+    ensures failures { OnOk result (S.reads source.new ≡ S.reads source.old) }
+    ensures stop { IfErr result (ReportStops (Fails (S.reads source.old) (S.reads source.new)) ⊥
+        (S.reads source.new ≡ S.reads source.old)) }
 {
     match Header::read(alloc, source) {
         Ok(header) => Ok(Report {
@@ -259,11 +259,11 @@ pub fn show_to<S: Source, K: Sink>(
     ensures nothing { IfErr result (λ stop. stop ≢ stops.WriteFailed → sink.new ≡ sink.old) }
     ensures part { OnErr result (IsTrue (S.is_honest source.old) → IsTrue (K.is_honest sink.old) →
         HoldsPrefix (K.held sink.old) (K.held sink.new) (show_text (S.left source.old))) }
-    ensures reads { OnOk result (S.failures source.new ≡ S.failures source.old) }
+    ensures reads { OnOk result (S.reads source.new ≡ S.reads source.old) }
     ensures failures { OnOk result (K.failures sink.new ≡ K.failures sink.old) }
     ensures honesty { IsTrue (K.is_honest sink.old) → IsTrue (K.is_honest sink.new) }
-    ensures stop { IfErr result (ReportStops (Rises (S.failures source.old) (S.failures source.new)) (Rises (K.failures sink.old) (K.failures sink.new))
-        (S.failures source.new ≡ S.failures source.old)) }
+    ensures stop { IfErr result (ReportStops (Fails (S.reads source.old) (S.reads source.new)) (Rises (K.failures sink.old) (K.failures sink.new))
+        (S.reads source.new ≡ S.reads source.old)) }
 {
     let report = report(alloc, source)?;
     report.put(sink)

@@ -1,7 +1,7 @@
 //! Whether a file conforms to the profile, and how much it holds.
 
 ghost use Rattle.std.specs.Prelude.{◌≡◌, ◌*◌, ◌<◌, ◌≤◌, ◌^◌, length, Some, IfOk, IfErr, OnOk, IsTrue};
-ghost use Rattle.edf_fields.specs.Sources.{Rises};
+ghost use Rattle.edf_fields.specs.Sources.{Fails};
 ghost use Rattle.edf_header.specs.Heads.{samples_together};
 ghost use Rattle.edf_header.specs.Stops.{Stops};
 ghost use Rattle.edf_stream.specs.Faults.{file_fault};
@@ -94,10 +94,10 @@ impl FileReader {
 /// docs/PROFILE.md tells; a `Fault` is its first one. The other errors are a failed read and want of
 /// memory. The source is read to its end on `Ok`.
 pub fn conform<S: Source>(alloc: Global, source: &mut S) -> Result<Summary, Stop>
-    ensures failures { OnOk result (S.failures source.new ≡ S.failures source.old) }
+    ensures failures { OnOk result (S.reads source.new ≡ S.reads source.old) }
     ensures conforms { IfOk result (λ summary. IsTrue (S.is_honest source.old) → IsSummed (S.left source.old) (S.left source.new) summary) }
-    ensures stop { IfErr result (Stops (λ f. IsTrue (S.is_honest source.old) → file_fault (S.left source.old) ≡ Some f) (Rises
-        (S.failures source.old) (S.failures source.new)) (S.failures source.new ≡ S.failures source.old)) }
+    ensures stop { IfErr result (Stops (λ f. IsTrue (S.is_honest source.old) → file_fault (S.left source.old) ≡ Some f) (Fails
+        (S.reads source.old) (S.reads source.new)) (S.reads source.new ≡ S.reads source.old)) }
 {
     let mut reader = match FileReader::begin(alloc, source) {
         Ok(reader) => reader,

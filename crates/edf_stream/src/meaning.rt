@@ -3,7 +3,7 @@
 
 ghost use Rattle.std.specs.Prelude.{◌≡◌, ℕ, ◌++◌, [], List, map, Some, IfOk, IfErr, OnOk, IsTrue};
 ghost use Rattle.std.specs.List.{All};
-ghost use Rattle.edf_fields.specs.Sources.{Rises};
+ghost use Rattle.edf_fields.specs.Sources.{Fails};
 ghost use Rattle.edf_header.specs.HeadsReading.{head_of};
 ghost use Rattle.edf_header.specs.Stops.{Stops};
 ghost use Rattle.edf_stream.specs.Faults.{body_fault, file_fault};
@@ -98,13 +98,13 @@ impl FileReader {
         ensures head { IfOk result (λ found. found.0 ≡ self.head) }
         ensures small { IfOk result (λ found. All (λ x. IsSmall x.instant) found.1.samples.items) }
         ensures near { IfOk result (λ found. All IsNear found.1.notes.items) }
-        ensures failures { OnOk result (S.failures source.new ≡ S.failures source.old) }
+        ensures failures { OnOk result (S.reads source.new ≡ S.reads source.old) }
         ensures honesty { OnOk result (IsTrue (S.is_honest source.old) → IsTrue (S.is_honest source.new)) }
         ensures meaning { IfOk result (λ found. IsTrue (S.is_honest source.old) → (file : List ℕ) → StandsIn self (S.left source.old) file →
             IsMeaning file self.head (S.left source.new) found.1) }
         ensures stop { IfErr result (Stops
             (λ f. IsTrue (S.is_honest source.old) → (file : List ℕ) → StandsIn self (S.left source.old) file → body_fault file self.head ≡ Some f)
-            (Rises (S.failures source.old) (S.failures source.new)) (S.failures source.new ≡ S.failures source.old)) }
+            (Fails (S.reads source.old) (S.reads source.new)) (S.reads source.new ≡ S.reads source.old)) }
     {
         let mut reader = self;
         let mut meaning = Meaning::new(alloc);
@@ -123,11 +123,11 @@ impl FileReader {
 pub fn whole_file<S: Source>(alloc: Global, source: &mut S) -> Result<(Header, Meaning), Stop>
     ensures small { IfOk result (λ found. All (λ x. IsSmall x.instant) found.1.samples.items) }
     ensures near { IfOk result (λ found. All IsNear found.1.notes.items) }
-    ensures failures { OnOk result (S.failures source.new ≡ S.failures source.old) }
+    ensures failures { OnOk result (S.reads source.new ≡ S.reads source.old) }
     ensures head { IfOk result (λ found. IsTrue (S.is_honest source.old) → found.0 ≡ head_of (S.left source.old)) }
     ensures meaning { IfOk result (λ found. IsTrue (S.is_honest source.old) → IsWhole (S.left source.old) (S.left source.new) found.1) }
-    ensures stop { IfErr result (Stops (λ f. IsTrue (S.is_honest source.old) → file_fault (S.left source.old) ≡ Some f) (Rises
-        (S.failures source.old) (S.failures source.new)) (S.failures source.new ≡ S.failures source.old)) }
+    ensures stop { IfErr result (Stops (λ f. IsTrue (S.is_honest source.old) → file_fault (S.left source.old) ≡ Some f) (Fails
+        (S.reads source.old) (S.reads source.new)) (S.reads source.new ≡ S.reads source.old)) }
 {
     let reader = FileReader::begin(alloc, source)?;
     let (header, meaning) = reader.into_meaning(alloc, source)?;
@@ -138,10 +138,10 @@ pub fn whole_file<S: Source>(alloc: Global, source: &mut S) -> Result<(Header, M
 pub fn whole_meaning<S: Source>(alloc: Global, source: &mut S) -> Result<Meaning, Stop>
     ensures small { IfOk result (λ meaning. All (λ x. IsSmall x.instant) meaning.samples.items) }
     ensures near { IfOk result (λ meaning. All IsNear meaning.notes.items) }
-    ensures failures { OnOk result (S.failures source.new ≡ S.failures source.old) }
+    ensures failures { OnOk result (S.reads source.new ≡ S.reads source.old) }
     ensures meaning { IfOk result (λ meaning. IsTrue (S.is_honest source.old) → IsWhole (S.left source.old) (S.left source.new) meaning) }
-    ensures stop { IfErr result (Stops (λ f. IsTrue (S.is_honest source.old) → file_fault (S.left source.old) ≡ Some f) (Rises
-        (S.failures source.old) (S.failures source.new)) (S.failures source.new ≡ S.failures source.old)) }
+    ensures stop { IfErr result (Stops (λ f. IsTrue (S.is_honest source.old) → file_fault (S.left source.old) ≡ Some f) (Fails
+        (S.reads source.old) (S.reads source.new)) (S.reads source.new ≡ S.reads source.old)) }
 {
     match whole_file(alloc, source) {
         Ok((_header, meaning)) => Ok(meaning),

@@ -1,7 +1,7 @@
 //! Reading data records one after the other, and the end behind the last.
 
 ghost use Rattle.std.specs.Prelude.{◌≡◌, ℕ, pos, ◌+◌, ◌≤◌, ◌<◌, ◌+ℤ◌, ◌<ℤ◌, ◌^◌, List, [], length, drop, None, Some, MatchOption, IfSome, IfOk, IfErr, OnOk, IsTrue, unsigned_abs};
-ghost use Rattle.edf_fields.specs.Sources.{Rises};
+ghost use Rattle.edf_fields.specs.Sources.{Fails};
 ghost use Rattle.edf_fields.specs.Tests.{first};
 ghost use Rattle.edf_fields.specs.declared.fault.Place.TheVariants.{AtRecord, AtEnd};
 ghost use Rattle.edf_fields.specs.declared.fault.Cause.TheVariants.{TrailingBytes};
@@ -38,15 +38,15 @@ fn read_record<S: Source, K: NoteKeeper>(
     ensures end { IfOk result (λ after. after.ended_ps ≡ start_in header.now buffer.new +ℤ header.now.duration) }
     ensures notes { IfOk result (λ after. after.notes ≡ before.notes + length (notes_in header.now buffer.new)) }
     ensures full { OnOk result (length buffer.new ≡ length buffer.old) }
-    ensures failures { OnOk result (S.failures source.new ≡ S.failures source.old) }
+    ensures failures { OnOk result (S.reads source.new ≡ S.reads source.old) }
     ensures honesty { OnOk result (IsTrue (S.is_honest source.old) → IsTrue (S.is_honest source.new)) }
     ensures found { IfOk result (λ after. IsTrue (S.is_honest source.old) → (file : List ℕ) →
         StandsAt file header.now k before.ended_ps before.notes (S.left source.old)
         → IsRead file header.now k after.ended_ps after.notes (S.left source.new) buffer.new) }
     ensures stop { IfErr result (StopsReading
-        (λ f. (S.failures source.new ≡ S.failures source.old) × (IsTrue (S.is_honest source.old) → (file : List ℕ) →
+        (λ f. (S.reads source.new ≡ S.reads source.old) × (IsTrue (S.is_honest source.old) → (file : List ℕ) →
         StandsAt file header.now k before.ended_ps before.notes (S.left source.old) → first (records_tests file header.now k 1) ≡ Some f))
-        (Rises (S.failures source.old) (S.failures source.new))) }
+        (Fails (S.reads source.old) (S.reads source.new))) }
     ensures place { IfErr result (StopsAt (AtRecord k)) }
     ensures kept { OnOk result (K.got keeper.old (notes_in header.now buffer.new) keeper.new) }
 {
@@ -68,13 +68,13 @@ fn read_record<S: Source, K: NoteKeeper>(
 
 /// Sees that the source has nothing left.
 fn check_end<S: Source>(source: &mut S) -> Result<(), Stop>
-    ensures failures { OnOk result (S.failures source.new ≡ S.failures source.old) }
+    ensures failures { OnOk result (S.reads source.new ≡ S.reads source.old) }
     ensures honesty { OnOk result (IsTrue (S.is_honest source.old) → IsTrue (S.is_honest source.new)) }
     ensures ended { OnOk result (IsTrue (S.is_honest source.old) → (S.left source.old ≡ []) × (S.left source.new ≡ [])) }
     ensures stop { IfErr result (StopsReading
-        (λ f. (S.failures source.new ≡ S.failures source.old) × (IsTrue (S.is_honest source.old) → (0 < length (S.left source.old))
+        (λ f. (S.reads source.new ≡ S.reads source.old) × (IsTrue (S.is_honest source.old) → (0 < length (S.left source.old))
         × (f ≡ record { place = AtEnd; cause = TrailingBytes })))
-        (Rises (S.failures source.old) (S.failures source.new))) }
+        (Fails (S.reads source.old) (S.reads source.new))) }
     ensures place { IfErr result (StopsAt AtEnd) }
 {
     let mut extra = [0u8; 1];
@@ -107,15 +107,15 @@ pub(crate) fn advance<S: Source, K: NoteKeeper>(
     ensures notes { IfOk result (λ found. IfSome found (λ after. after.notes ≡ before.notes + length (notes_in header.now buffer.new))) }
     ensures full { OnOk result (length buffer.new ≡ length buffer.old) }
     ensures room { IfOk result (λ found. MatchOption found (header.now.records ≤ k) (λ _. k < header.now.records)) }
-    ensures failures { OnOk result (S.failures source.new ≡ S.failures source.old) }
+    ensures failures { OnOk result (S.reads source.new ≡ S.reads source.old) }
     ensures honesty { OnOk result (IsTrue (S.is_honest source.old) → IsTrue (S.is_honest source.new)) }
     ensures goes_on { IfOk result (λ found. IsTrue (S.is_honest source.old) → (file : List ℕ) → HasPassed file header.now k →
         StandsAt file header.now k before.ended_ps before.notes (S.left source.old)
         → GoesOn file header.now k before found (S.left source.new) buffer.new) }
     ensures stop { IfErr result (StopsReading
-        (λ f. (S.failures source.new ≡ S.failures source.old) × (IsTrue (S.is_honest source.old) → (file : List ℕ) → HasPassed file header.now k →
+        (λ f. (S.reads source.new ≡ S.reads source.old) × (IsTrue (S.is_honest source.old) → (file : List ℕ) → HasPassed file header.now k →
         StandsAt file header.now k before.ended_ps before.notes (S.left source.old) → body_fault file header.now ≡ Some f))
-        (Rises (S.failures source.old) (S.failures source.new))) }
+        (Fails (S.reads source.old) (S.reads source.new))) }
     ensures place { IfErr result (StopsAt (place_behind header.now k)) }
     ensures kept { IfOk result (λ found. MatchOption found (keeper.new ≡ keeper.old) (λ _. K.got keeper.old (notes_in header.now buffer.new) keeper.new)) }
 {

@@ -1,7 +1,7 @@
 //! A reader of a file, data record by data record.
 
 ghost use Rattle.std.specs.Prelude.{◌≡◌, ℕ, ◌+◌, ◌≤◌, ◌+ℤ◌, ◌<ℤ◌, ◌<◌, ◌^◌, unsigned_abs, List, length, false, Some, Ok, Err, IfOk, IfErr, OnOk, OnErr, IsTrue};
-ghost use Rattle.edf_fields.specs.Sources.{Rises};
+ghost use Rattle.edf_fields.specs.Sources.{Fails};
 ghost use Rattle.edf_header.specs.declared.stop.Stop.{Stop};
 ghost use Rattle.edf_header.specs.Faults.{header_fault};
 ghost use Rattle.edf_header.specs.Heads.{record_bytes};
@@ -62,11 +62,11 @@ impl FileReader {
     pub fn begin<S: Source>(alloc: Global, source: &mut S) -> Result<FileReader, Stop>
         ensures begun { IfOk result HasBegun }
         ensures room { IfOk result (λ r. length r.current ≡ record_bytes r.head) }
-        ensures failures { OnOk result (S.failures source.new ≡ S.failures source.old) }
+        ensures failures { OnOk result (S.reads source.new ≡ S.reads source.old) }
         ensures honesty { OnOk result (IsTrue (S.is_honest source.old) → IsTrue (S.is_honest source.new)) }
         ensures stands { IfOk result (λ r. IsTrue (S.is_honest source.old) → StandsIn r (S.left source.new) (S.left source.old)) }
-        ensures stop { IfErr result (Stops (λ f. IsTrue (S.is_honest source.old) → header_fault (S.left source.old) ≡ Some f) (Rises
-            (S.failures source.old) (S.failures source.new)) (S.failures source.new ≡ S.failures source.old)) }
+        ensures stop { IfErr result (Stops (λ f. IsTrue (S.is_honest source.old) → header_fault (S.left source.old) ≡ Some f) (Fails
+            (S.reads source.old) (S.reads source.new)) (S.reads source.new ≡ S.reads source.old)) }
     {
         let header = Header::read(alloc, source)?;
         let buffer = vec![in alloc; 0u8; header.record_bytes()]?;
@@ -99,16 +99,16 @@ impl FileReader {
         ensures near { unsigned_abs self.new.ended < 2 ^ 71 }
         ensures later { IfOk result (λ more. IsTrue more → (self.old.ended <ℤ self.new.ended)
             × (self.new.ended ≡ start_in self.new.head self.new.current +ℤ (self.new.head).duration)) }
-        ensures failures { OnOk result (S.failures source.new ≡ S.failures source.old) }
+        ensures failures { OnOk result (S.reads source.new ≡ S.reads source.old) }
         ensures honesty { OnOk result (IsTrue (S.is_honest source.old) → IsTrue (S.is_honest source.new)) }
 
         // The file: the next data record, the end, or the first fault.
         ensures comes { IfOk result (λ more. IsOpen self.old.status → IsTrue (S.is_honest source.old) → (file : List ℕ) →
             StandsIn self.old (S.left source.old) file → Comes more self.old self.new (S.left source.new) file) }
         ensures stop { IfErr result (λ s. IsOpen self.old.status → StopsReading
-            (λ f. (S.failures source.new ≡ S.failures source.old) × (IsTrue (S.is_honest source.old) → (file : List ℕ) →
+            (λ f. (S.reads source.new ≡ S.reads source.old) × (IsTrue (S.is_honest source.old) → (file : List ℕ) →
             StandsIn self.old (S.left source.old) file → body_fault file self.old.head ≡ Some f))
-            (Rises (S.failures source.old) (S.failures source.new)) s) }
+            (Fails (S.reads source.old) (S.reads source.new)) s) }
         ensures place { IfErr result (λ s. IsOpen self.old.status → StopsAt (place_behind self.old.head self.old.read) s) }
     {
         self.next_with(source, &mut KeepsNone)
@@ -135,16 +135,16 @@ impl FileReader {
         ensures near { unsigned_abs self.new.ended < 2 ^ 71 }
         ensures later { IfOk result (λ more. IsTrue more → (self.old.ended <ℤ self.new.ended)
             × (self.new.ended ≡ start_in self.new.head self.new.current +ℤ (self.new.head).duration)) }
-        ensures failures { OnOk result (S.failures source.new ≡ S.failures source.old) }
+        ensures failures { OnOk result (S.reads source.new ≡ S.reads source.old) }
         ensures honesty { OnOk result (IsTrue (S.is_honest source.old) → IsTrue (S.is_honest source.new)) }
 
         // The file: the next data record, the end, or the first fault.
         ensures comes { IfOk result (λ more. IsOpen self.old.status → IsTrue (S.is_honest source.old) → (file : List ℕ) →
             StandsIn self.old (S.left source.old) file → Comes more self.old self.new (S.left source.new) file) }
         ensures stop { IfErr result (λ s. IsOpen self.old.status → StopsReading
-            (λ f. (S.failures source.new ≡ S.failures source.old) × (IsTrue (S.is_honest source.old) → (file : List ℕ) →
+            (λ f. (S.reads source.new ≡ S.reads source.old) × (IsTrue (S.is_honest source.old) → (file : List ℕ) →
             StandsIn self.old (S.left source.old) file → body_fault file self.old.head ≡ Some f))
-            (Rises (S.failures source.old) (S.failures source.new)) s) }
+            (Fails (S.reads source.old) (S.reads source.new)) s) }
         ensures place { IfErr result (λ s. IsOpen self.old.status → StopsAt (place_behind self.old.head self.old.read) s) }
 
         // Its annotations, in order of annotation signal, TAL and text.

@@ -53,9 +53,11 @@ pub fn endless(rest: &[u8], most: usize, passes: u32) -> Tape<'_> {
 }
 
 impl<'a> Source for Tape<'a> {
+    ghost use Rattle.edf_fields.specs.Sources.{plain_reads};
+
     ghost left = { λ _. [] };
 
-    ghost failures = { λ s. s.failures };
+    ghost reads = { λ s. plain_reads s.failures };
 
     ghost is_honest = { λ _. false };
 

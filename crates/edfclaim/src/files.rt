@@ -1,7 +1,7 @@
 //! The files that a command reads.
 
 ghost use Rattle.std.specs.Prelude.{◌≡◌, ◌≤◌, length, take, IfOk, IfErr, IsTrue};
-ghost use Rattle.edf_fields.specs.Sources.{Rises};
+ghost use Rattle.edf_fields.specs.Sources.{Fails};
 ghost use Rattle.edf_refusal.specs.Refusals.{ClaimReadStops};
 ghost use Rattle.edfclaim.specs.Opening.{ClaimTextStops, OpeningStops};
 
@@ -92,8 +92,8 @@ pub fn recordings<R: Files + AllocGlobal>(
 fn text_of<S: Source>(alloc: Global, source: &mut S, most: usize) -> Result<Vec<u8>, Refusal>
     ensures text { IfOk result (λ text. IsTrue (S.is_honest source.old) → text.items ≡ take most (S.left source.old)) }
     ensures short { IfOk result (λ text. length text.items ≤ most) }
-    ensures stop { IfErr result (ClaimReadStops (Rises (S.failures source.old) (S.failures source.new))
-        (S.failures source.new ≡ S.failures source.old)) }
+    ensures stop { IfErr result (ClaimReadStops (Fails (S.reads source.old) (S.reads source.new))
+        (S.reads source.new ≡ S.reads source.old)) }
 {
     let mut text = vec![in alloc; 0u8; most]?;
     match fill(source, &mut text) {

@@ -1,4 +1,5 @@
 -- A reader that goes on.
+use Rattle.edf_fields.specs.Sources.{Reads}
 use Rattle.std.proofs.Common.{inl, inr, ◌≡◌, ℕ, suc, ◌+◌, ◌≤◌, ℤ, ◌+ℤ◌, ◌≤ℤ◌, ◌<ℤ◌, Bool, true, false, cond, List, [], ◌∷◌, ◌++◌, map, Option, Some, None, Ok, IfNone, refl, sym, ap, ◌∙◌, arith, subst}
 use Rattle.std.proofs.lemmas.Int.{ints}
 use Rattle.std.proofs.lemmas.Bool.{cases_lt}
@@ -221,7 +222,7 @@ begins-so Ended old new left file none g comes =
 pub begins_with_one : (old new : Reader) (left file : List ℕ) → old.read ≡ 0 → IsGoing new.status → Comes (is_current new.status) old new left file → is_current new.status ≡ true
 begins_with_one old new left file none g comes = begins-so new.status old new left file none g comes
 
-pub moves_on : (first old new : Reader) (a b c : Bool) (f g h : ℕ) (left left' left'' : List ℕ) (notes notes' notes'' : List NoteValue) (claim : Option Terms) (ps s t u : ℤ)
+pub moves_on : (first old new : Reader) (a b c : Bool) (f g h : Reads) (left left' left'' : List ℕ) (notes notes' notes'' : List NoteValue) (claim : Option Terms) (ps s t u : ℤ)
     → Moves first old a b f g left left' notes notes' claim ps s t → Moves old new b c g h left' left'' notes' notes'' claim ps t u → Moves first new a c f h left left'' notes notes'' claim ps s u
 moves_on first old new a b c f g h left left' left'' notes notes' notes'' claim ps s t u p q = record {
   head = q.head ∙ p.head;
@@ -233,7 +234,7 @@ moves_on first old new a b c f g h left left' left'' notes notes' notes'' claim 
 }
 
 -- nobody has read on yet
-pub moves_none : (r : Reader) (honest : Bool) (fails : ℕ) (left : List ℕ) (notes : List NoteValue) (claim : Option Terms) (ps t : ℤ) → IsGoing r.status → IsAhead r ps t → Moves r r honest honest fails fails left left notes notes claim ps t t
+pub moves_none : (r : Reader) (honest : Bool) (fails : Reads) (left : List ℕ) (notes : List NoteValue) (claim : Option Terms) (ps t : ℤ) → IsGoing r.status → IsAhead r ps t → Moves r r honest honest fails fails left left notes notes claim ps t t
 moves_none r honest fails left notes claim ps t going ahead = record { head = refl; going = going; ahead = ahead; honesty = λ x. x; failures = refl; comes = λ x file at. at }
 
 -- the next data record ends later

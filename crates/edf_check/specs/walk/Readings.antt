@@ -2,6 +2,7 @@
 -- starts, before the shift. These are steps between the definitions and the code.
 use Rattle.std.specs.Prelude.{ℕ, ℤ, ◌≡◌, IsTrue, Bool, List, [], Option, None}
 use Rattle.edf_claim.specs.Terms.{Terms}
+use Rattle.edf_fields.specs.Sources.{Reads}
 use Rattle.edf_stream.specs.declared.status.Status.TheVariants.{Ended}
 use Rattle.edf_stream.specs.Conforming.{Conforms}
 use Rattle.edf_stream.specs.Faults.{body_fault}
@@ -24,7 +25,7 @@ pub record IsAt (r : Reader) (left : List ℕ) (notes : List NoteValue) (file : 
   pub gathered : notes ≡ gathered_of claim ps (moved_notes_before file r.head r.read)
 
 -- from t to u: whatever file the reader went through, it still does; of each pair the first is before
-pub record Moves (old new : Reader) (honest honest' : Bool) (fails fails' : ℕ) (left left' : List ℕ) (notes notes' : List NoteValue) (claim : Option Terms) (ps t u : ℤ) : Type 0 where
+pub record Moves (old new : Reader) (honest honest' : Bool) (fails fails' : Reads) (left left' : List ℕ) (notes notes' : List NoteValue) (claim : Option Terms) (ps t u : ℤ) : Type 0 where
   pub head : new.head ≡ old.head
   pub going : IsGoing new.status
   pub ahead : IsAhead new ps u
@@ -33,7 +34,7 @@ pub record Moves (old new : Reader) (honest honest' : Bool) (fails fails' : ℕ)
   pub comes : IsTrue honest → (file : List ℕ) → IsAt old left notes file claim ps t → IsAt new left' notes' file claim ps u
 
 -- from the start to t: whatever file the reader stood in, it goes through that
-pub record Follows (old new : Reader) (honest honest' : Bool) (fails fails' : ℕ) (left left' : List ℕ) (notes' : List NoteValue) (claim : Option Terms) (ps t : ℤ) : Type 0 where
+pub record Follows (old new : Reader) (honest honest' : Bool) (fails fails' : Reads) (left left' : List ℕ) (notes' : List NoteValue) (claim : Option Terms) (ps t : ℤ) : Type 0 where
   pub head : new.head ≡ old.head
   pub going : IsGoing new.status
   pub ahead : IsAhead new ps t

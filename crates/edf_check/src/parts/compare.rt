@@ -1,7 +1,7 @@
 //! One of several exports opened and compared with the original, from the time on at which the one before it ends.
 
 ghost use Rattle.std.specs.Prelude.{◌≡◌, ◌<◌, ◌^◌, neg_ℤ, pos, ◌≤ℤ◌, ◌<ℤ◌, [], map, length, None, Some, IfOk, IfErr, OnOk, IfSome, IfNone, IsTrue, unsigned_abs, false};
-ghost use Rattle.edf_fields.specs.Sources.{Rises};
+ghost use Rattle.edf_fields.specs.Sources.{Fails};
 ghost use Rattle.edf_header.specs.HeadsReading.{head_of};
 ghost use Rattle.edf_stream.specs.Conforming.{Conforms};
 ghost use Rattle.edf_stream.specs.Readers.{HasBegun, StandsIn};
@@ -98,9 +98,9 @@ fn read_differing<O: Source, E: Source>(
     ensures out { IfOk result (λ found. IfSome found (λ fault. OfFiles (O.is_honest o.old) (E.is_honest e.old)
         (IsThere original.old (O.left o.old)) (StandsIn export.old (E.left e.old))
         (λ a b. IsReadBy fault (O.left o.new)))) }
-    ensures failures { OnOk result ((O.failures o.new ≡ O.failures o.old) × (E.failures e.new ≡ E.failures e.old)) }
-    ensures stop { IfErr result (CheckStops (Rises (O.failures o.old) (O.failures o.new)) (Rises (E.failures e.old) (E.failures e.new))
-        ((O.failures o.new ≡ O.failures o.old) × (E.failures e.new ≡ E.failures e.old))) }
+    ensures failures { OnOk result ((O.reads o.new ≡ O.reads o.old) × (E.reads e.new ≡ E.reads e.old)) }
+    ensures stop { IfErr result (CheckStops (Fails (O.reads o.old) (O.reads o.new)) (Fails (E.reads e.old) (E.reads e.new))
+        ((O.reads o.new ≡ O.reads o.old) × (E.reads e.new ≡ E.reads e.old))) }
 {
     match finish(original, o, Side::Original) {
         Ok(None) => match read_out(export, e, Side::Export) {
@@ -132,7 +132,7 @@ fn read_agreeing<O: Source, E: Source>(
     ensures modest { IfOk result (λ read. IfOk read (λ r. IfSome (found_of r.outcome) (λ f. IsModest f.difference.at × (f.channel < length under.entry.labels.now)))) }
     ensures small { IfOk result (λ read. IfOk read (λ r. (neg_ℤ (pos (2 ^ 90)) ≤ℤ r.end.ps) × (r.end.ps <ℤ pos (2 ^ 83)))) }
     ensures goes { IfOk result (λ read. IfOk read (λ r. span.is_last ≡ false → r.outcome ≡ outcomes.Same → Moves original.old.reader original.new.reader
-        (O.is_honest o.old) (O.is_honest o.new) (O.failures o.old) (O.failures o.new) (O.left o.old) (O.left o.new)
+        (O.is_honest o.old) (O.is_honest o.new) (O.reads o.old) (O.reads o.new) (O.left o.old) (O.left o.new)
         (map note_value (original.old.notes).items) (map note_value (original.new.notes).items) (Some under.entry.claim.now)
         (under.entry.clock.original).ps (span.from).ps r.end.ps)) }
     ensures read { IfOk result (λ read. IfOk read (λ r. OfFiles (O.is_honest o.old) (E.is_honest e.old)
@@ -152,9 +152,9 @@ fn read_agreeing<O: Source, E: Source>(
         (λ a. IsAt original.old.reader (O.left o.old) (map note_value (original.old.notes).items) a (Some under.entry.claim.now)
         (under.entry.clock.original).ps (span.from).ps) (StandsIn export.old.reader (E.left e.old))
         (λ a b. IsReadBy fault (O.left o.new)))) }
-    ensures failures { OnOk result ((O.failures o.new ≡ O.failures o.old) × (E.failures e.new ≡ E.failures e.old)) }
-    ensures stop { IfErr result (CheckStops (Rises (O.failures o.old) (O.failures o.new)) (Rises (E.failures e.old) (E.failures e.new))
-        ((O.failures o.new ≡ O.failures o.old) × (E.failures e.new ≡ E.failures e.old))) }
+    ensures failures { OnOk result ((O.reads o.new ≡ O.reads o.old) × (E.reads e.new ≡ E.reads e.old)) }
+    ensures stop { IfErr result (CheckStops (Fails (O.reads o.old) (O.reads o.new)) (Fails (E.reads e.old) (E.reads e.new))
+        ((O.reads o.new ≡ O.reads o.old) × (E.reads e.new ≡ E.reads e.old))) }
 {
     let pairs = pairs_of(
         under.alloc,
@@ -198,7 +198,7 @@ pub(crate) fn compare_part<O: Source, E: Source>(
         (E.left e.old) (c.reading.reader).head (E.left e.new) (map note_value (c.reading.notes).items)
         under.entry.claim.now (under.entry.clock.original).ps (under.entry.clock.export).ps under.entry.labels.now (span.from).ps c.came))) }
     ensures goes { IfOk result (λ compared. IfOk compared (λ c. IfSome c.goes_on (λ end. Moves original.old.reader original.new.reader
-        (O.is_honest o.old) (O.is_honest o.new) (O.failures o.old) (O.failures o.new) (O.left o.old) (O.left o.new)
+        (O.is_honest o.old) (O.is_honest o.new) (O.reads o.old) (O.reads o.new) (O.left o.old) (O.left o.new)
         (map note_value (original.old.notes).items) (map note_value (original.new.notes).items) (Some under.entry.claim.now)
         (under.entry.clock.original).ps (span.from).ps end.ps × (neg_ℤ (pos (2 ^ 90)) ≤ℤ end.ps) × (end.ps <ℤ pos (2 ^ 83))))) }
     ensures which { IfOk result (λ compared. IfOk compared (λ c. IfSome c.goes_on (λ end. (span.is_last ≡ false)
@@ -214,9 +214,9 @@ pub(crate) fn compare_part<O: Source, E: Source>(
     ensures head { IfOk result (λ compared. IfOk compared (λ c. (original.new.reader).head ≡ (original.old.reader).head)) }
     ensures says { IfOk result (λ compared. IfOk compared (λ c. (part : PartRead) → c.came ≡ came.Read part → IsTrue (E.is_honest e.old) →
         (c.reading.reader).head ≡ head_of (E.left e.old))) }
-    ensures failures { OnOk result ((O.failures o.new ≡ O.failures o.old) × (E.failures e.new ≡ E.failures e.old)) }
-    ensures stop { IfErr result (CheckStops (Rises (O.failures o.old) (O.failures o.new)) (Rises (E.failures e.old) (E.failures e.new))
-        ((O.failures o.new ≡ O.failures o.old) × (E.failures e.new ≡ E.failures e.old))) }
+    ensures failures { OnOk result ((O.reads o.new ≡ O.reads o.old) × (E.reads e.new ≡ E.reads e.old)) }
+    ensures stop { IfErr result (CheckStops (Fails (O.reads o.old) (O.reads o.new)) (Fails (E.reads e.old) (E.reads e.new))
+        ((O.reads o.new ≡ O.reads o.old) × (E.reads e.new ≡ E.reads e.old))) }
 {
     let mut export = match open(under.alloc, e, Side::Export) {
         Ok(Ok(reading)) => reading,

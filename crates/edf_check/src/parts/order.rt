@@ -2,7 +2,7 @@
 //! ends.
 
 ghost use Rattle.std.specs.Prelude.{◌≡◌, ◌<◌, ◌^◌, ◌≤ℤ◌, ◌<ℤ◌, [], true, false, IfOk, IfErr, OnOk, IsTrue, unsigned_abs};
-ghost use Rattle.edf_fields.specs.Sources.{Rises};
+ghost use Rattle.edf_fields.specs.Sources.{Fails};
 ghost use Rattle.edf_stream.specs.Conforming.{Conforms};
 ghost use Rattle.edf_stream.specs.Faults.{body_fault, file_fault};
 ghost use Rattle.edf_stream.specs.Readers.{HasBegun, StandsIn};
@@ -67,8 +67,8 @@ fn read_order<E: Source>(
         × (r.is_early ≡ false → from.ps ≤ℤ begin_by b reader.old.head by.ps 0)))) }
     ensures fault { IfOk result (λ read. IfErr read (λ fault. OfFile (E.is_honest e.old) (StandsIn reader.old (E.left e.old))
         (λ b. body_fault b reader.old.head ≡ Some fault))) }
-    ensures failures { OnOk result (E.failures e.new ≡ E.failures e.old) }
-    ensures stop { IfErr result (SideStops sides.Export (Rises (E.failures e.old) (E.failures e.new)) (E.failures e.new ≡ E.failures e.old)) }
+    ensures failures { OnOk result (E.reads e.new ≡ E.reads e.old) }
+    ensures stop { IfErr result (SideStops sides.Export (Fails (E.reads e.old) (E.reads e.new)) (E.reads e.new ≡ E.reads e.old)) }
 {
     match go_on(&mut KeepsNone, reader, e, Side::Export) {
         Ok(None) => {}
@@ -101,8 +101,8 @@ pub(crate) fn read_part<E: Source>(
     ensures small { IfOk result (λ read. IfOk read (λ r. unsigned_abs r.end.ps < 2 ^ 82)) }
     ensures read { IfOk result (λ read. IfOk read (λ r. IsTrue (E.is_honest e.old) → IsOrdered original.now claim.now (E.left e.old) (E.left e.new) by.ps from.ps r)) }
     ensures fault { IfOk result (λ read. IfErr read (λ fault. IsTrue (E.is_honest e.old) → file_fault (E.left e.old) ≡ Some fault)) }
-    ensures failures { OnOk result (E.failures e.new ≡ E.failures e.old) }
-    ensures stop { IfErr result (SideStops sides.Export (Rises (E.failures e.old) (E.failures e.new)) (E.failures e.new ≡ E.failures e.old)) }
+    ensures failures { OnOk result (E.reads e.new ≡ E.reads e.old) }
+    ensures stop { IfErr result (SideStops sides.Export (Fails (E.reads e.old) (E.reads e.new)) (E.reads e.new ≡ E.reads e.old)) }
 {
     let mut export = match open(alloc, e, Side::Export) {
         Ok(Ok(reading)) => reading,

@@ -56,8 +56,8 @@ pub(crate) fn read_rest<E: Source>(
         AreRead beside.entry.original.now beside.entry.claim.now (beside.entry.by).ps from.ps first (map E.left parts.old) (map E.left parts.new) found)) }
     ensures fault { IfOk result (λ read. IfErr read (λ fault. AllByRecursion IsTrue (map E.is_honest parts.old) →
         IsFirstFault first (map E.left parts.old) fault.part fault.fault)) }
-    ensures failures { OnOk result (map E.failures parts.new ≡ map E.failures parts.old) }
-    ensures stop { IfErr result (PartsStops ⊥ (map E.failures parts.new ≡ map E.failures parts.old) first (map E.failures parts.old) (map E.failures parts.new)) }
+    ensures failures { OnOk result (map E.reads parts.new ≡ map E.reads parts.old) }
+    ensures stop { IfErr result (PartsStops ⊥ (map E.reads parts.new ≡ map E.reads parts.old) first (map E.reads parts.old) (map E.reads parts.new)) }
 {
     match parts.split_first_mut() {
         None => Ok(Ok(PartsFound {

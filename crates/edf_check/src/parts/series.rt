@@ -2,7 +2,7 @@
 
 ghost use Rattle.std.specs.Prelude.{◌≡◌, ◌+◌, ◌*◌, ◌<◌, ◌≤◌, ◌^◌, neg_ℤ, pos, ◌≤ℤ◌, ◌<ℤ◌, ◌++◌, map, length, false, Some, IfOk, IfErr, IfSome, IfNone, OnOk, IsTrue, unsigned_abs};
 ghost use Rattle.std.specs.List.{AllByRecursion};
-ghost use Rattle.edf_fields.specs.Sources.{Rises};
+ghost use Rattle.edf_fields.specs.Sources.{Fails};
 ghost use Rattle.edf_stream.specs.Views.{note_value};
 ghost use Rattle.edf_check.specs.Premises.{OfFile};
 ghost use Rattle.edf_check.specs.PartsStops.{PartsStops};
@@ -176,9 +176,9 @@ pub(crate) fn compare_parts<O: Source, E: Source>(
     ensures counted { IfOk result (λ walked. walked ≡ walks.Same → AllByRecursion IsTrue (map E.is_honest parts.old) →
         exported.new.samples ≡ exported.old.samples + samples_of_all (map E.left parts.old)) }
     ensures modest { IfOk result (λ walked. (found : Found) → walked ≡ walks.SamplesDiffer found → IsModest found.difference.at × (found.channel < length under.entry.labels.now)) }
-    ensures failures { OnOk result ((O.failures o.new ≡ O.failures o.old) × (map E.failures parts.new ≡ map E.failures parts.old)) }
-    ensures stop { IfErr result (PartsStops (Rises (O.failures o.old) (O.failures o.new))
-        ((O.failures o.new ≡ O.failures o.old) × (map E.failures parts.new ≡ map E.failures parts.old)) first (map E.failures parts.old) (map E.failures parts.new)) }
+    ensures failures { OnOk result ((O.reads o.new ≡ O.reads o.old) × (map E.reads parts.new ≡ map E.reads parts.old)) }
+    ensures stop { IfErr result (PartsStops (Fails (O.reads o.old) (O.reads o.new))
+        ((O.reads o.new ≡ O.reads o.old) × (map E.reads parts.new ≡ map E.reads parts.old)) first (map E.reads parts.old) (map E.reads parts.new)) }
 {
     match parts.split_first_mut() {
         None => unreachable!(),

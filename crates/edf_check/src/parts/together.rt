@@ -3,7 +3,7 @@
 ghost use Rattle.std.specs.Prelude.{◌≡◌, ◌<◌, ◌≤◌, ℕ, List, [], map, length, IfOk, IfErr, OnOk, IsTrue};
 ghost use Rattle.std.specs.List.{AllByRecursion};
 ghost use Rattle.edf_claim.specs.Terms.{Terms};
-ghost use Rattle.edf_fields.specs.Sources.{Rises};
+ghost use Rattle.edf_fields.specs.Sources.{Fails};
 ghost use Rattle.edf_heads.specs.Comparisons.{AreSorted};
 ghost use Rattle.edf_stream.specs.Readers.{HasBegun, StandsIn};
 ghost use Rattle.edf_stream.specs.Views.{note_value};
@@ -58,9 +58,9 @@ pub(crate) fn walk_parts<O: Source, E: Source>(
     ensures counted { IfOk result (λ walked. walked ≡ walks.Same → AllByRecursion IsTrue (map E.is_honest parts.old) →
         exported.new.samples ≡ samples_of_all (map E.left parts.old)) }
     ensures modest { IfOk result (λ walked. (found : Found) → walked ≡ walks.SamplesDiffer found → IsModest found.difference.at × (found.channel < length labels.now)) }
-    ensures failures { OnOk result ((O.failures o.new ≡ O.failures o.old) × (map E.failures parts.new ≡ map E.failures parts.old)) }
-    ensures stop { IfErr result (PartsStops (Rises (O.failures o.old) (O.failures o.new))
-        ((O.failures o.new ≡ O.failures o.old) × (map E.failures parts.new ≡ map E.failures parts.old)) 0 (map E.failures parts.old) (map E.failures parts.new)) }
+    ensures failures { OnOk result ((O.reads o.new ≡ O.reads o.old) × (map E.reads parts.new ≡ map E.reads parts.old)) }
+    ensures stop { IfErr result (PartsStops (Fails (O.reads o.old) (O.reads o.new))
+        ((O.reads o.new ≡ O.reads o.old) × (map E.reads parts.new ≡ map E.reads parts.old)) 0 (map E.reads parts.old) (map E.reads parts.new)) }
 {
     let clock = Clock::new(original.reader.header(), claim);
     let view = View {

@@ -4,7 +4,7 @@ ghost use Rattle.std.specs.Prelude.{◌≡◌, ◌<◌, ◌^◌, ℕ, ℤ, neg_�
 ghost use Rattle.std.specs.List.{All};
 ghost use Rattle.edf_claim.specs.Keeps.{keeps_instant};
 ghost use Rattle.edf_claim.specs.KeepsReading.{IsUncut};
-ghost use Rattle.edf_fields.specs.Sources.{Rises};
+ghost use Rattle.edf_fields.specs.Sources.{Fails};
 ghost use Rattle.edf_stream.specs.Faults.{body_fault};
 ghost use Rattle.edf_stream.specs.Readers.{is_current};
 ghost use Rattle.edf_stream.specs.StartsReading.{end_before};
@@ -78,9 +78,9 @@ pub(crate) fn export_fault<S: Source>(
         (λ file. found ≡ first_fault_of (body_fault file original.old.head) fault)) }
     ensures out { IfOk result (λ found. OfFile (S.is_honest source.old) (IsThere original.old (S.left source.old))
         (λ file. IsReadBy found (S.left source.new))) }
-    ensures failures { OnOk result (S.failures source.new ≡ S.failures source.old) }
-    ensures stop { IfErr result (SideStops sides.Original (Rises (S.failures source.old) (S.failures source.new))
-        (S.failures source.new ≡ S.failures source.old)) }
+    ensures failures { OnOk result (S.reads source.new ≡ S.reads source.old) }
+    ensures stop { IfErr result (SideStops sides.Original (Fails (S.reads source.old) (S.reads source.new))
+        (S.reads source.new ≡ S.reads source.old)) }
 {
     match finish(original, source, Side::Original) {
         Ok(None) => Ok(FaultOf::Export(fault)),
@@ -162,9 +162,9 @@ pub(crate) fn finish_both<O: Source, E: Source>(
     ensures out { IfOk result (λ found. IfSome found (λ fault. OfFiles (O.is_honest o.old) (E.is_honest e.old)
         (IsThere original.old (O.left o.old)) (IsThere export.old (E.left e.old))
         (λ a b. IsReadBy fault (O.left o.new)))) }
-    ensures failures { OnOk result ((O.failures o.new ≡ O.failures o.old) × (E.failures e.new ≡ E.failures e.old)) }
-    ensures stop { IfErr result (CheckStops (Rises (O.failures o.old) (O.failures o.new)) (Rises (E.failures e.old) (E.failures e.new))
-        ((O.failures o.new ≡ O.failures o.old) × (E.failures e.new ≡ E.failures e.old))) }
+    ensures failures { OnOk result ((O.reads o.new ≡ O.reads o.old) × (E.reads e.new ≡ E.reads e.old)) }
+    ensures stop { IfErr result (CheckStops (Fails (O.reads o.old) (O.reads o.new)) (Fails (E.reads e.old) (E.reads e.new))
+        ((O.reads o.new ≡ O.reads o.old) × (E.reads e.new ≡ E.reads e.old))) }
 {
     match finish(original, o, Side::Original) {
         Ok(None) => match finish(export, e, Side::Export) {
@@ -209,11 +209,11 @@ fn pass_both<O: Source, E: Source>(
     requires original_reaches { Reaches original.old.reader (frame.clock.original).ps (within.to).ps }
     requires export_reaches { Reaches export.old.reader (frame.clock.export).ps (within.to).ps }
     ensures original { IfOk result (λ found. IfNone found (Moves original.old.reader original.new.reader (O.is_honest o.old) (O.is_honest o.new)
-        (O.failures o.old) (O.failures o.new) (O.left o.old) (O.left o.new)
+        (O.reads o.old) (O.reads o.new) (O.left o.old) (O.left o.new)
         (map note_value (original.old.notes).items) (map note_value (original.new.notes).items) (Some frame.entry.claim.now)
         (frame.entry.clock.original).ps (within.from).ps (within.to).ps)) }
     ensures export { IfOk result (λ found. IfNone found (Moves export.old.reader export.new.reader (E.is_honest e.old) (E.is_honest e.new)
-        (E.failures e.old) (E.failures e.new) (E.left e.old) (E.left e.new)
+        (E.reads e.old) (E.reads e.new) (E.left e.old) (E.left e.new)
         (map note_value (export.old.notes).items) (map note_value (export.new.notes).items) None
         (frame.entry.clock.export).ps (within.from).ps (within.to).ps)) }
     ensures out { IfOk result (λ found. IfSome found (λ fault. OfFiles (O.is_honest o.old) (E.is_honest e.old)
@@ -226,9 +226,9 @@ fn pass_both<O: Source, E: Source>(
         (frame.entry.clock.original).ps (within.from).ps) (λ b. IsAt export.old.reader (E.left e.old) (map note_value (export.old.notes).items) b None
         (frame.entry.clock.export).ps (within.from).ps)
         (λ a b. IsFaultOf a (original.old.reader).head b (export.old.reader).head fault))) }
-    ensures failures { OnOk result ((O.failures o.new ≡ O.failures o.old) × (E.failures e.new ≡ E.failures e.old)) }
-    ensures stop { IfErr result (CheckStops (Rises (O.failures o.old) (O.failures o.new)) (Rises (E.failures e.old) (E.failures e.new))
-        ((O.failures o.new ≡ O.failures o.old) × (E.failures e.new ≡ E.failures e.old))) }
+    ensures failures { OnOk result ((O.reads o.new ≡ O.reads o.old) × (E.reads e.new ≡ E.reads e.old)) }
+    ensures stop { IfErr result (CheckStops (Fails (O.reads o.old) (O.reads o.new)) (Fails (E.reads e.old) (E.reads e.new))
+        ((O.reads o.new ≡ O.reads o.old) × (E.reads e.new ≡ E.reads e.old))) }
 {
     match pass(
         frame.alloc,
@@ -310,9 +310,9 @@ fn differ<O: Source, E: Source>(
     ensures out { IfOk result (λ read. IfErr read (λ fault. OfFiles (O.is_honest o.old) (E.is_honest e.old)
         (IsThere original.old (O.left o.old)) (IsThere export.old (E.left e.old))
         (λ a b. IsReadBy fault (O.left o.new)))) }
-    ensures failures { OnOk result ((O.failures o.new ≡ O.failures o.old) × (E.failures e.new ≡ E.failures e.old)) }
-    ensures stop { IfErr result (CheckStops (Rises (O.failures o.old) (O.failures o.new)) (Rises (E.failures e.old) (E.failures e.new))
-        ((O.failures o.new ≡ O.failures o.old) × (E.failures e.new ≡ E.failures e.old))) }
+    ensures failures { OnOk result ((O.reads o.new ≡ O.reads o.old) × (E.reads e.new ≡ E.reads e.old)) }
+    ensures stop { IfErr result (CheckStops (Fails (O.reads o.old) (O.reads o.new)) (Fails (E.reads e.old) (E.reads e.new))
+        ((O.reads o.new ≡ O.reads o.old) × (E.reads e.new ≡ E.reads e.old))) }
 {
     match finish_both(original, o, export, e) {
         Ok(None) => Ok(Ok(ReadOn {
@@ -352,7 +352,7 @@ pub(crate) fn walk_on<O: Source, E: Source>(
     ensures modest { IfOk result (λ read. IfOk read (λ r. IfSome r.found (λ f. IsModest f.difference.at × (f.channel < length pairs.now)))) }
     ensures small { IfOk result (λ read. IfOk read (λ r. (neg_ℤ (pos (2 ^ 90)) ≤ℤ r.end.ps) × (r.end.ps <ℤ pos (2 ^ 83)))) }
     ensures goes { IfOk result (λ read. IfOk read (λ r. span.is_last ≡ false → IfNone r.found (Moves original.old.reader original.new.reader
-        (O.is_honest o.old) (O.is_honest o.new) (O.failures o.old) (O.failures o.new) (O.left o.old) (O.left o.new)
+        (O.is_honest o.old) (O.is_honest o.new) (O.reads o.old) (O.reads o.new) (O.left o.old) (O.left o.new)
         (map note_value (original.old.notes).items) (map note_value (original.new.notes).items) (Some frame.entry.claim.now)
         (frame.entry.clock.original).ps (span.from).ps r.end.ps))) }
     ensures read { IfOk result (λ read. IfOk read (λ r. OfFiles (O.is_honest o.old) (E.is_honest e.old)
@@ -374,9 +374,9 @@ pub(crate) fn walk_on<O: Source, E: Source>(
         (frame.entry.clock.original).ps (span.from).ps) (λ b. IsAt export.old.reader (E.left e.old) (map note_value (export.old.notes).items) b None
         (frame.entry.clock.export).ps (span.from).ps)
         (λ a b. IsReadBy fault (O.left o.new)))) }
-    ensures failures { OnOk result ((O.failures o.new ≡ O.failures o.old) × (E.failures e.new ≡ E.failures e.old)) }
-    ensures stop { IfErr result (CheckStops (Rises (O.failures o.old) (O.failures o.new)) (Rises (E.failures e.old) (E.failures e.new))
-        ((O.failures o.new ≡ O.failures o.old) × (E.failures e.new ≡ E.failures e.old))) }
+    ensures failures { OnOk result ((O.reads o.new ≡ O.reads o.old) × (E.reads e.new ≡ E.reads e.old)) }
+    ensures stop { IfErr result (CheckStops (Fails (O.reads o.old) (O.reads o.new)) (Fails (E.reads e.old) (E.reads e.new))
+        ((O.reads o.new ≡ O.reads o.old) × (E.reads e.new ≡ E.reads e.old))) }
 {
     let mut time = span.from;
     while let Some(end) = next_end(&original.reader, &export.reader, frame.clock, span.is_last) {

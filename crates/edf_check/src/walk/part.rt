@@ -2,7 +2,7 @@
 
 ghost use Rattle.std.specs.Prelude.{◌≡◌, ◌<◌, ◌^◌, ℕ, neg_ℤ, pos, ◌+ℤ◌, ◌≤ℤ◌, ◌<ℤ◌, List, [], map, length, None, Some, IfOk, IfErr, OnOk, IfSome, unsigned_abs, true, false};
 ghost use Rattle.std.specs.List.{All};
-ghost use Rattle.edf_fields.specs.Sources.{Rises};
+ghost use Rattle.edf_fields.specs.Sources.{Fails};
 ghost use Rattle.edf_stream.specs.Readers.{HasBegun, is_current, StandsIn};
 ghost use Rattle.edf_stream.specs.Starts.{file_start};
 ghost use Rattle.edf_stream.specs.StartsReading.{start_in};
@@ -101,9 +101,9 @@ fn early<O: Source, E: Source>(
     ensures out { IfOk result (λ read. IfErr read (λ fault. OfFiles (O.is_honest o.old) (E.is_honest e.old)
         (IsThere original.old (O.left o.old)) (IsThere export.old (E.left e.old))
         (λ a b. IsReadBy fault (O.left o.new)))) }
-    ensures failures { OnOk result ((O.failures o.new ≡ O.failures o.old) × (E.failures e.new ≡ E.failures e.old)) }
-    ensures stop { IfErr result (CheckStops (Rises (O.failures o.old) (O.failures o.new)) (Rises (E.failures e.old) (E.failures e.new))
-        ((O.failures o.new ≡ O.failures o.old) × (E.failures e.new ≡ E.failures e.old))) }
+    ensures failures { OnOk result ((O.reads o.new ≡ O.reads o.old) × (E.reads e.new ≡ E.reads e.old)) }
+    ensures stop { IfErr result (CheckStops (Fails (O.reads o.old) (O.reads o.new)) (Fails (E.reads e.old) (E.reads e.new))
+        ((O.reads o.new ≡ O.reads o.old) × (E.reads e.new ≡ E.reads e.old))) }
 {
     match finish_both(original, o, export, e) {
         Ok(None) => Ok(Ok(PartRead {
@@ -140,7 +140,7 @@ pub(crate) fn walk_part<O: Source, E: Source>(
     ensures modest { IfOk result (λ read. IfOk read (λ r. IfSome (found_of r.outcome) (λ f. IsModest f.difference.at × (f.channel < length pairs.now)))) }
     ensures small { IfOk result (λ read. IfOk read (λ r. (neg_ℤ (pos (2 ^ 90)) ≤ℤ r.end.ps) × (r.end.ps <ℤ pos (2 ^ 83)))) }
     ensures goes { IfOk result (λ read. IfOk read (λ r. span.is_last ≡ false → r.outcome ≡ outcomes.Same → Moves original.old.reader original.new.reader
-        (O.is_honest o.old) (O.is_honest o.new) (O.failures o.old) (O.failures o.new) (O.left o.old) (O.left o.new)
+        (O.is_honest o.old) (O.is_honest o.new) (O.reads o.old) (O.reads o.new) (O.left o.old) (O.left o.new)
         (map note_value (original.old.notes).items) (map note_value (original.new.notes).items) (Some frame.entry.claim.now)
         (frame.entry.clock.original).ps (span.from).ps r.end.ps)) }
     ensures read { IfOk result (λ read. IfOk read (λ r. OfFiles (O.is_honest o.old) (E.is_honest e.old)
@@ -159,9 +159,9 @@ pub(crate) fn walk_part<O: Source, E: Source>(
         (λ a. IsAt original.old.reader (O.left o.old) (map note_value (original.old.notes).items) a (Some frame.entry.claim.now)
         (frame.entry.clock.original).ps (span.from).ps) (StandsIn export.old.reader (E.left e.old))
         (λ a b. IsReadBy fault (O.left o.new)))) }
-    ensures failures { OnOk result ((O.failures o.new ≡ O.failures o.old) × (E.failures e.new ≡ E.failures e.old)) }
-    ensures stop { IfErr result (CheckStops (Rises (O.failures o.old) (O.failures o.new)) (Rises (E.failures e.old) (E.failures e.new))
-        ((O.failures o.new ≡ O.failures o.old) × (E.failures e.new ≡ E.failures e.old))) }
+    ensures failures { OnOk result ((O.reads o.new ≡ O.reads o.old) × (E.reads e.new ≡ E.reads e.old)) }
+    ensures stop { IfErr result (CheckStops (Fails (O.reads o.old) (O.reads o.new)) (Fails (E.reads e.old) (E.reads e.new))
+        ((O.reads o.new ≡ O.reads o.old) × (E.reads e.new ≡ E.reads e.old))) }
 {
     let view = View {
         moved: frame.clock.export,

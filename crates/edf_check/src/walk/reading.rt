@@ -1,7 +1,7 @@
 //! A file of the two while it is read, data record by data record.
 
 ghost use Rattle.std.specs.Prelude.{◌≡◌, ◌<◌, ◌≤◌, ◌+◌, ◌++◌, ◌^◌, ◌*◌, ℕ, ℤ, ◌≤ℤ◌, ◌<ℤ◌, ◌+ℤ◌, ◌⊎◌, neg_ℤ, pos, true, false, List, [], length, map, None, Some, Option, option_map, IfOk, IfErr, OnOk, IfSome, IfNone, IsTrue, MatchOption, if◌then◌else◌, unsigned_abs};
-ghost use Rattle.edf_fields.specs.Sources.{Rises};
+ghost use Rattle.edf_fields.specs.Sources.{Fails};
 ghost use Rattle.edf_stream.specs.Conforming.{Conforms};
 ghost use Rattle.edf_stream.specs.Faults.{body_fault};
 ghost use Rattle.edf_stream.specs.NotesReading.{notes_in, moved_notes_in};
@@ -62,12 +62,12 @@ pub(crate) fn go_on<S: Source, K: NoteKeeper>(
         (λ file. Comes (is_current reader.new.status) reader.old reader.new (S.left source.new) file))) }
     ensures fault { IfOk result (λ found. IfSome found (λ fault. OfFile (S.is_honest source.old) (StandsIn reader.old (S.left source.old))
         (λ file. body_fault file reader.old.head ≡ Some fault))) }
-    ensures failures { OnOk result (S.failures source.new ≡ S.failures source.old) }
+    ensures failures { OnOk result (S.reads source.new ≡ S.reads source.old) }
     ensures kept { IfOk result (λ found. IfNone found (is_current reader.new.status ≡ true →
         K.got keeper.old (notes_in reader.new.head reader.new.current) keeper.new)) }
     ensures none { IfOk result (λ found. IfNone found (is_current reader.new.status ≡ false → keeper.new ≡ keeper.old)) }
-    ensures stop { IfErr result (SideStops side (Rises (S.failures source.old) (S.failures source.new))
-        (S.failures source.new ≡ S.failures source.old)) }
+    ensures stop { IfErr result (SideStops side (Fails (S.reads source.old) (S.reads source.new))
+        (S.reads source.new ≡ S.reads source.old)) }
 {
     match reader.next_with(source, keeper) {
         Ok(_) => Ok(None),
@@ -93,9 +93,9 @@ pub(crate) fn finish<S: Source>(
         (λ file. (S.left source.new ≡ []) × Conforms file reader.old.head))) }
     ensures end { IfOk result (λ found. IfNone found (OfFile (S.is_honest source.old) (IsThere reader.old (S.left source.old))
         (λ file. reader.new.ended ≡ end_before file reader.old.head (reader.old.head).records))) }
-    ensures failures { OnOk result (S.failures source.new ≡ S.failures source.old) }
-    ensures stop { IfErr result (SideStops side (Rises (S.failures source.old) (S.failures source.new))
-        (S.failures source.new ≡ S.failures source.old)) }
+    ensures failures { OnOk result (S.reads source.new ≡ S.reads source.old) }
+    ensures stop { IfErr result (SideStops side (Fails (S.reads source.old) (S.reads source.new))
+        (S.reads source.new ≡ S.reads source.old)) }
 {
     while reader.has_current() {
         match go_on(&mut KeepsNone, reader, source, side) {
@@ -120,9 +120,9 @@ pub(crate) fn read_out<S: Source>(
         (λ file. body_fault file reader.old.head ≡ found)) }
     ensures out { IfOk result (λ found. IfNone found (OfFile (S.is_honest source.old) (StandsIn reader.old (S.left source.old))
         (λ file. (S.left source.new ≡ []) × Conforms file reader.old.head))) }
-    ensures failures { OnOk result (S.failures source.new ≡ S.failures source.old) }
-    ensures stop { IfErr result (SideStops side (Rises (S.failures source.old) (S.failures source.new))
-        (S.failures source.new ≡ S.failures source.old)) }
+    ensures failures { OnOk result (S.reads source.new ≡ S.reads source.old) }
+    ensures stop { IfErr result (SideStops side (Fails (S.reads source.old) (S.reads source.new))
+        (S.reads source.new ≡ S.reads source.old)) }
 {
     match go_on(&mut KeepsNone, reader, source, side) {
         Ok(None) => match finish(reader, source, side) {
@@ -163,9 +163,9 @@ fn gather_next<S: Source>(
         (λ file. Comes (is_current (reading.new.reader).status) reading.old.reader reading.new.reader (S.left source.new) file))) }
     ensures fault { IfOk result (λ found. IfSome found (λ fault. OfFile (S.is_honest source.old) (StandsIn reading.old.reader (S.left source.old))
         (λ file. body_fault file (reading.old.reader).head ≡ Some fault))) }
-    ensures failures { OnOk result (S.failures source.new ≡ S.failures source.old) }
-    ensures stop { IfErr result (SideStops side (Rises (S.failures source.old) (S.failures source.new))
-        (S.failures source.new ≡ S.failures source.old)) }
+    ensures failures { OnOk result (S.reads source.new ≡ S.reads source.old) }
+    ensures stop { IfErr result (SideStops side (Fails (S.reads source.old) (S.reads source.new))
+        (S.reads source.new ≡ S.reads source.old)) }
 {
     let notes = mem::replace(&mut reading.notes, Vec::new(alloc));
     let mut gathering = Gathering::new(alloc, notes, &reading.reader, view);
@@ -250,14 +250,14 @@ pub(crate) fn pass<S: Source>(
     requires reaches { Reaches reading.old.reader (view.moved).ps (within.to).ps }
     ensures head { (reading.new.reader).head ≡ (reading.old.reader).head }
     ensures moves { IfOk result (λ found. IfNone found (Moves reading.old.reader reading.new.reader (S.is_honest source.old)
-        (S.is_honest source.new) (S.failures source.old) (S.failures source.new) (S.left source.old) (S.left source.new)
+        (S.is_honest source.new) (S.reads source.old) (S.reads source.new) (S.left source.old) (S.left source.new)
         (map note_value (reading.old.notes).items) (map note_value (reading.new.notes).items)
         (claim_of view.entry) (view.entry.moved).ps (within.from).ps (within.to).ps)) }
     ensures fault { IfOk result (λ found. IfSome found (λ fault. OfFile (S.is_honest source.old) (IsThere reading.old.reader (S.left source.old))
         (λ file. body_fault file (reading.old.reader).head ≡ Some fault))) }
-    ensures failures { OnOk result (S.failures source.new ≡ S.failures source.old) }
-    ensures stop { IfErr result (SideStops side (Rises (S.failures source.old) (S.failures source.new))
-        (S.failures source.new ≡ S.failures source.old)) }
+    ensures failures { OnOk result (S.reads source.new ≡ S.reads source.old) }
+    ensures stop { IfErr result (SideStops side (Fails (S.reads source.old) (S.reads source.new))
+        (S.reads source.new ≡ S.reads source.old)) }
 {
     if !is_past(&reading.reader, view.moved, within.to) {
         return Ok(None);
@@ -286,15 +286,15 @@ pub(crate) fn start<S: Source>(
     requires time { time.ps ≡ neg_ℤ (pos (2 ^ 90)) }
     ensures head { (reading.new.reader).head ≡ (reading.old.reader).head }
     ensures follows { IfOk result (λ found. IfNone found (Follows reading.old.reader reading.new.reader (S.is_honest source.old)
-        (S.is_honest source.new) (S.failures source.old) (S.failures source.new) (S.left source.old) (S.left source.new)
+        (S.is_honest source.new) (S.reads source.old) (S.reads source.new) (S.left source.old) (S.left source.new)
         (map note_value (reading.new.notes).items) (claim_of view.entry) (view.entry.moved).ps time.ps)) }
     ensures begins { IfOk result (λ found. IfNone found (OfFile (S.is_honest source.old) (StandsIn reading.old.reader (S.left source.old))
         (λ file. (is_current (reading.new.reader).status ≡ true) × ((reading.new.reader).read ≡ 1)))) }
     ensures fault { IfOk result (λ found. IfSome found (λ fault. OfFile (S.is_honest source.old) (StandsIn reading.old.reader (S.left source.old))
         (λ file. body_fault file (reading.old.reader).head ≡ Some fault))) }
-    ensures failures { OnOk result (S.failures source.new ≡ S.failures source.old) }
-    ensures stop { IfErr result (SideStops side (Rises (S.failures source.old) (S.failures source.new))
-        (S.failures source.new ≡ S.failures source.old)) }
+    ensures failures { OnOk result (S.reads source.new ≡ S.reads source.old) }
+    ensures stop { IfErr result (SideStops side (Fails (S.reads source.old) (S.reads source.new))
+        (S.reads source.new ≡ S.reads source.old)) }
 {
     match gather_next(alloc, reading, source, side, view) {
         Ok(None) => Ok(None),

@@ -2,7 +2,7 @@
 
 ghost use Rattle.std.specs.Prelude.{◌≡◌, ◌<◌, ◌^◌, ℕ, neg_ℤ, pos, List, [], map, length, None, Some, IfOk, IfErr, OnOk, IfSome, IfNone, unsigned_abs};
 ghost use Rattle.std.specs.List.{All};
-ghost use Rattle.edf_fields.specs.Sources.{Rises};
+ghost use Rattle.edf_fields.specs.Sources.{Fails};
 ghost use Rattle.edf_stream.specs.Readers.{HasBegun, StandsIn};
 ghost use Rattle.edf_stream.specs.Views.{note_value};
 ghost use Rattle.edf_check.specs.Premises.{OfFiles};
@@ -44,10 +44,10 @@ fn start_both<O: Source, E: Source>(
     requires export_near { unsigned_abs (frame.clock.export).ps < 2 ^ 80 }
     requires time { time.ps ≡ neg_ℤ (pos (2 ^ 90)) }
     ensures original { IfOk result (λ found. IfNone found (Follows original.old.reader original.new.reader (O.is_honest o.old)
-        (O.is_honest o.new) (O.failures o.old) (O.failures o.new) (O.left o.old) (O.left o.new)
+        (O.is_honest o.new) (O.reads o.old) (O.reads o.new) (O.left o.old) (O.left o.new)
         (map note_value (original.new.notes).items) (Some frame.entry.claim.now) (frame.entry.clock.original).ps time.ps)) }
     ensures export { IfOk result (λ found. IfNone found (Follows export.old.reader export.new.reader (E.is_honest e.old) (E.is_honest e.new)
-        (E.failures e.old) (E.failures e.new) (E.left e.old) (E.left e.new)
+        (E.reads e.old) (E.reads e.new) (E.left e.old) (E.left e.new)
         (map note_value (export.new.notes).items) None (frame.entry.clock.export).ps time.ps)) }
     ensures out { IfOk result (λ found. IfSome found (λ fault. OfFiles (O.is_honest o.old) (E.is_honest e.old)
         (StandsIn original.old.reader (O.left o.old)) (StandsIn export.old.reader (E.left e.old))
@@ -55,9 +55,9 @@ fn start_both<O: Source, E: Source>(
     ensures fault { IfOk result (λ found. IfSome found (λ fault. OfFiles (O.is_honest o.old) (E.is_honest e.old)
         (StandsIn original.old.reader (O.left o.old)) (StandsIn export.old.reader (E.left e.old))
         (λ a b. IsFaultOf a (original.old.reader).head b (export.old.reader).head fault))) }
-    ensures failures { OnOk result ((O.failures o.new ≡ O.failures o.old) × (E.failures e.new ≡ E.failures e.old)) }
-    ensures stop { IfErr result (CheckStops (Rises (O.failures o.old) (O.failures o.new)) (Rises (E.failures e.old) (E.failures e.new))
-        ((O.failures o.new ≡ O.failures o.old) × (E.failures e.new ≡ E.failures e.old))) }
+    ensures failures { OnOk result ((O.reads o.new ≡ O.reads o.old) × (E.reads e.new ≡ E.reads e.old)) }
+    ensures stop { IfErr result (CheckStops (Fails (O.reads o.old) (O.reads o.new)) (Fails (E.reads e.old) (E.reads e.new))
+        ((O.reads o.new ≡ O.reads o.old) × (E.reads e.new ≡ E.reads e.old))) }
 {
     match start(
         frame.alloc,
@@ -127,9 +127,9 @@ pub(crate) fn walk_records<O: Source, E: Source>(
     ensures out { IfOk result (λ walked. IfErr walked (λ fault. OfFiles (O.is_honest o.old) (E.is_honest e.old)
         (StandsIn original.old.reader (O.left o.old)) (StandsIn export.old.reader (E.left e.old))
         (λ a b. IsReadBy fault (O.left o.new)))) }
-    ensures failures { OnOk result ((O.failures o.new ≡ O.failures o.old) × (E.failures e.new ≡ E.failures e.old)) }
-    ensures stop { IfErr result (CheckStops (Rises (O.failures o.old) (O.failures o.new)) (Rises (E.failures e.old) (E.failures e.new))
-        ((O.failures o.new ≡ O.failures o.old) × (E.failures e.new ≡ E.failures e.old))) }
+    ensures failures { OnOk result ((O.reads o.new ≡ O.reads o.old) × (E.reads e.new ≡ E.reads e.old)) }
+    ensures stop { IfErr result (CheckStops (Fails (O.reads o.old) (O.reads o.new)) (Fails (E.reads e.old) (E.reads e.new))
+        ((O.reads o.new ≡ O.reads o.old) × (E.reads e.new ≡ E.reads e.old))) }
 {
     match start_both(original, o, export, e, frame, BEGINNING) {
         Ok(None) => {}

@@ -1,7 +1,7 @@
 use Rattle.std.proofs.Common.{◌≡◌, refl}
 use Rattle.std.proofs.lemmas.Result.{err_from_is_err_and}
 use Rattle.edf_claim.specs.Faults.{FirstClaimFault}
-use Rattle.edf_fields.specs.Sources.{Rises}
+use Rattle.edf_fields.specs.Sources.{Fails, Rises}
 use Rattle.edf_check.proofs.RunFacts.{claim_refused, front_is_part}
 use Rattle.edf_check.proofs.run.run.Goals as goal
 
@@ -9,10 +9,10 @@ pub returns-in_err-claim-clause-stop : goal.returns-in_err-claim-clause-stop
 returns-in_err-claim-clause-stop g c =
     let p = err_from_is_err_and c.from_residual.result c.from_residual.ensures.1 in
     rw (p.1, p.2) (claim_refused (FirstClaimFault c.args.claim_text.now)
-    (Rises (g.O.Source.failures c.args.original.now) (g.O.Source.failures c.args.original.now))
-    (Rises (g.E.Source.failures c.args.export.now) (g.E.Source.failures c.args.export.now))
+    (Fails (g.O.Source.reads c.args.original.now) (g.O.Source.reads c.args.original.now))
+    (Fails (g.E.Source.reads c.args.export.now) (g.E.Source.reads c.args.export.now))
     (Rises (g.K.Sink.failures c.args.sink.now) (g.K.Sink.failures c.args.sink.now))
-    ((g.O.Source.failures c.args.original.now ≡ g.O.Source.failures c.args.original.now) × (g.E.Source.failures c.args.export.now ≡ g.E.Source.failures c.args.export.now))
+    ((g.O.Source.reads c.args.original.now ≡ g.O.Source.reads c.args.original.now) × (g.E.Source.reads c.args.export.now ≡ g.E.Source.reads c.args.export.now))
     c.in_err-claim.field-0.0 (refl, refl) c.in_err-claim.ensures.fault)
 
 pub returns-in_err-write_line-clause-part : goal.returns-in_err-write_line-clause-part

@@ -2,7 +2,7 @@ use Rattle.std.proofs.Common.{◌≡◌, ◌∙◌, map, refl, sym, length}
 use Rattle.std.proofs.lemmas.List.{length-map}
 use Rattle.std.proofs.lemmas.Result.{err_from_is_err_and}
 use Rattle.edf_claim.specs.Faults.{FirstClaimFault}
-use Rattle.edf_fields.specs.Sources.{Rises}
+use Rattle.edf_fields.specs.Sources.{Fails, Rises}
 use Rattle.edf_check.proofs.PartsRunFacts.{parts_claim_refused, parts_front, parts_front_of_a_line, parts_reported}
 use Rattle.edf_check.proofs.run_parts.run_parts.Goals as goal
 
@@ -10,10 +10,10 @@ pub returns-in_err-claim-clause-stop : goal.returns-in_err-claim-clause-stop
 returns-in_err-claim-clause-stop g c =
     let p = err_from_is_err_and c.from_residual.result c.from_residual.ensures.1 in
     rw (p.1, p.2) (parts_claim_refused (FirstClaimFault c.args.claim_text.now)
-    (Rises (g.O.Source.failures c.args.original.now) (g.O.Source.failures c.args.original.now))
+    (Fails (g.O.Source.reads c.args.original.now) (g.O.Source.reads c.args.original.now))
     (Rises (g.K.Sink.failures c.args.sink.now) (g.K.Sink.failures c.args.sink.now))
-    ((g.O.Source.failures c.args.original.now ≡ g.O.Source.failures c.args.original.now) × (map g.E.Source.failures c.args.parts.now ≡ map g.E.Source.failures c.args.parts.now))
-    (map g.E.Source.failures c.args.parts.now) (map g.E.Source.failures c.args.parts.now)
+    ((g.O.Source.reads c.args.original.now ≡ g.O.Source.reads c.args.original.now) × (map g.E.Source.reads c.args.parts.now ≡ map g.E.Source.reads c.args.parts.now))
+    (map g.E.Source.reads c.args.parts.now) (map g.E.Source.reads c.args.parts.now)
     c.in_err-claim.field-0.0 (refl, refl) c.in_err-claim.ensures.fault)
 
 pub returns-in_err-write_line-clause-part : goal.returns-in_err-write_line-clause-part

@@ -6,7 +6,7 @@ use Rattle.edf_fields.proofs.source.fill.Given as goal
 abbrev pub invariant-loop-done : goal.invariant-loop-done
 invariant-loop-done g l = record {
   within : l.done ≤ length l.buf;
-  failures : g.S.Source.failures l.source ≡ g.S.Source.failures l.initial.source;
+  failures : g.S.Source.reads l.source ≡ g.S.Source.reads l.initial.source;
   empty : length l.initial.buf ≡ 0 → l.source ≡ l.initial.source;
   honesty : IsTrue (g.S.Source.is_honest l.initial.source) → IsTrue (g.S.Source.is_honest l.source);
   bytes : IsTrue (g.S.Source.is_honest l.initial.source) → Takes (g.S.Source.left l.initial.source) (g.S.Source.left l.source) l.done l.buf;

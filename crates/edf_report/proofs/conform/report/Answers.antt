@@ -1,5 +1,5 @@
 use Rattle.std.proofs.Common.{IsTrue, ◌≡◌}
-use Rattle.edf_fields.specs.Sources.{Rises}
+use Rattle.edf_fields.specs.Sources.{Fails}
 use Rattle.edf_header.specs.HeadsReading.{head_of}
 use Rattle.edf_stream.specs.Faults.{file_fault}
 use Rattle.edf_report.specs.ConformTexts.{file_counts, conform_text}
@@ -15,5 +15,5 @@ unfolding conform_text
 returns-in-Err-clause-report g c =
     let file = g.S.Source.left c.args.source.now in
     fault_reported (IsTrue (g.S.Source.is_honest c.args.source.now)) (file_counts file (head_of file)) (file_fault file)
-    (Rises (g.S.Source.failures c.args.source.now) (g.S.Source.failures c.conform.new.source)) (g.S.Source.failures c.conform.new.source ≡ g.S.Source.failures c.args.source.now)
+    (Fails (g.S.Source.reads c.args.source.now) (g.S.Source.reads c.conform.new.source)) (g.S.Source.reads c.conform.new.source ≡ g.S.Source.reads c.args.source.now)
     c.in-Err.stop c.of_stop.result c.of_stop.ensures.report c.in-Err.ensures.stop

@@ -1,5 +1,5 @@
 use Rattle.std.proofs.Common.{◌≡◌, ℕ, List, IsTrue, subst, sym}
-use Rattle.edf_fields.specs.Sources.{Rises}
+use Rattle.edf_fields.specs.Sources.{Fails}
 use Rattle.edf_fields.specs.Sinks.{HoldsPrefix}
 use Rattle.edf_verdict.specs.declared.outcome.Outcome.{Outcome}
 use Rattle.edf_stream.specs.Faults.{body_fault, file_fault}
@@ -50,7 +50,7 @@ returns-in-Err-clause-written g c =
     (λ (outcome : Outcome). honest → IsTrue (g.K.Sink.is_honest c.args.sink.now) → IsReported (notes_text file) (file_fault file) old new outcome)
     c.put_stop.ensures.written
     (λ outcome written h k.
-    header_reported honest (Rises (g.S.Source.failures c.args.source.now) (g.S.Source.failures c.begin.new.source)) (g.S.Source.failures c.begin.new.source ≡ g.S.Source.failures c.args.source.now)
+    header_reported honest (Fails (g.S.Source.reads c.args.source.now) (g.S.Source.reads c.begin.new.source)) (g.S.Source.reads c.begin.new.source ≡ g.S.Source.reads c.args.source.now)
     file c.in-Err.stop old new outcome c.in-Err.ensures.stop h (written k))
 
 pub returns-in-Err-clause-part : goal.returns-in-Err-clause-part
@@ -64,5 +64,5 @@ returns-in-Err-clause-part g c =
     (honest → IsTrue (g.K.Sink.is_honest c.args.sink.now) → HoldsPrefix old new (notes_text file))
     c.put_stop.ensures.part
     (λ part h k.
-    header_part honest (Rises (g.S.Source.failures c.args.source.now) (g.S.Source.failures c.begin.new.source)) (g.S.Source.failures c.begin.new.source ≡ g.S.Source.failures c.args.source.now)
+    header_part honest (Fails (g.S.Source.reads c.args.source.now) (g.S.Source.reads c.begin.new.source)) (g.S.Source.reads c.begin.new.source ≡ g.S.Source.reads c.args.source.now)
     file c.in-Err.stop old new c.in-Err.ensures.stop h (part k))

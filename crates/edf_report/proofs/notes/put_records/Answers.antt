@@ -1,5 +1,5 @@
 use Rattle.std.proofs.Common.{◌≡◌, ℕ, List, Ok, Some, IsTrue, subst, sym, refl, ap, ◌∙◌}
-use Rattle.edf_fields.specs.Sources.{Rises}
+use Rattle.edf_fields.specs.Sources.{Fails}
 use Rattle.edf_fields.specs.Sinks.{HoldsPrefix}
 use Rattle.edf_header.specs.Heads.{Head}
 use Rattle.edf_verdict.specs.declared.outcome.Outcome.{Outcome}
@@ -80,8 +80,8 @@ returns-in-Err-clause-written g c =
     (λ outcome written h k file stands.
     let at = before.stands h file stands in
     stop_reported
-    (λ f. (g.S.Source.failures c.next_with.new.source ≡ g.S.Source.failures c.loop-lines.source) × (IsTrue (g.S.Source.is_honest c.loop-lines.source) → (b : List ℕ) → StandsIn old (g.S.Source.left c.loop-lines.source) b → body_fault b old.head ≡ Some f))
-    (Rises (g.S.Source.failures c.loop-lines.source) (g.S.Source.failures c.next_with.new.source))
+    (λ f. (g.S.Source.reads c.next_with.new.source ≡ g.S.Source.reads c.loop-lines.source) × (IsTrue (g.S.Source.is_honest c.loop-lines.source) → (b : List ℕ) → StandsIn old (g.S.Source.left c.loop-lines.source) b → body_fault b old.head ≡ Some f))
+    (Fails (g.S.Source.reads c.loop-lines.source) (g.S.Source.reads c.next_with.new.source))
     file first old.read c.in-Err.stop (g.K.Sink.held c.args.sink.now) (g.K.Sink.held c.loop-lines.sink) (g.K.Sink.held c.put_stop.new.sink) outcome
     (c.in-Err.ensures.stop before.going) (λ f q. ap (body_fault file) (sym before.head) ∙ q.1 (before.honesty h) file at)
     (subst (λ (x : Head). StopsAt (place_behind x old.read) c.in-Err.stop) before.head (c.in-Err.ensures.place before.going))
@@ -101,8 +101,8 @@ returns-in-Err-clause-part g c =
     (λ part h k file stands.
     let at = before.stands h file stands in
     stop_part
-    (λ f. (g.S.Source.failures c.next_with.new.source ≡ g.S.Source.failures c.loop-lines.source) × (IsTrue (g.S.Source.is_honest c.loop-lines.source) → (b : List ℕ) → StandsIn old (g.S.Source.left c.loop-lines.source) b → body_fault b old.head ≡ Some f))
-    (Rises (g.S.Source.failures c.loop-lines.source) (g.S.Source.failures c.next_with.new.source))
+    (λ f. (g.S.Source.reads c.next_with.new.source ≡ g.S.Source.reads c.loop-lines.source) × (IsTrue (g.S.Source.is_honest c.loop-lines.source) → (b : List ℕ) → StandsIn old (g.S.Source.left c.loop-lines.source) b → body_fault b old.head ≡ Some f))
+    (Fails (g.S.Source.reads c.loop-lines.source) (g.S.Source.reads c.next_with.new.source))
     file first old.read c.in-Err.stop (g.K.Sink.held c.args.sink.now) (g.K.Sink.held c.loop-lines.sink) (g.K.Sink.held c.put_stop.new.sink)
     (c.in-Err.ensures.stop before.going) (λ f q. ap (body_fault file) (sym before.head) ∙ q.1 (before.honesty h) file at)
     (subst (λ (x : Head). StopsAt (place_behind x old.read) c.in-Err.stop) before.head (c.in-Err.ensures.place before.going))

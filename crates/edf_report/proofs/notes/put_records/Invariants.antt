@@ -8,7 +8,7 @@ abbrev pub invariant-loop-lines : goal.invariant-loop-lines
 invariant-loop-lines g l = record {
   going : IsOpen (l.reader).status;
   head : (l.reader).head ≡ (l.initial.reader).head;
-  read : g.S.Source.failures l.source ≡ g.S.Source.failures l.fn.source;
+  read : g.S.Source.reads l.source ≡ g.S.Source.reads l.fn.source;
   failures : g.K.Sink.failures l.sink ≡ g.K.Sink.failures l.fn.sink;
   honesty : IsTrue (g.S.Source.is_honest l.fn.source) → IsTrue (g.S.Source.is_honest l.source);
   honest_sink : IsTrue (g.K.Sink.is_honest l.fn.sink) → IsTrue (g.K.Sink.is_honest l.sink);

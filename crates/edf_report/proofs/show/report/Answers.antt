@@ -1,5 +1,5 @@
 use Rattle.std.proofs.Common.{IsTrue, ◌≡◌, ap, ◌∙◌, drop}
-use Rattle.edf_fields.specs.Sources.{Rises}
+use Rattle.edf_fields.specs.Sources.{Fails}
 use Rattle.edf_header.specs.Faults.{header_fault}
 use Rattle.edf_header.specs.Heads.{Head, header_bytes}
 use Rattle.edf_header.specs.HeadsReading.{head_of}
@@ -21,5 +21,5 @@ unfolding show_text
 returns-in-Err-clause-report g c =
     let file = g.S.Source.left c.args.source.now in
     fault_reported (IsTrue (g.S.Source.is_honest c.args.source.now)) (head_text (head_of file)) (header_fault file)
-    (Rises (g.S.Source.failures c.args.source.now) (g.S.Source.failures c.read.new.source)) (g.S.Source.failures c.read.new.source ≡ g.S.Source.failures c.args.source.now)
+    (Fails (g.S.Source.reads c.args.source.now) (g.S.Source.reads c.read.new.source)) (g.S.Source.reads c.read.new.source ≡ g.S.Source.reads c.args.source.now)
     c.in-Err.stop c.of_stop.result c.of_stop.ensures.report c.in-Err.ensures.stop

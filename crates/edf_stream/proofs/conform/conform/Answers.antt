@@ -1,5 +1,5 @@
 use Rattle.std.proofs.Common.{◌≡◌, ◌*◌, ℕ, length, List, IsTrue, Some, Ok, subst, sym, ap, ◌∙◌}
-use Rattle.edf_fields.specs.Sources.{Rises}
+use Rattle.edf_fields.specs.Sources.{Fails}
 use Rattle.edf_header.specs.Faults.{header_fault}
 use Rattle.edf_header.specs.Heads.{Head, samples_together}
 use Rattle.edf_header.specs.HeadsReading.{head_of}
@@ -17,7 +17,7 @@ returns-in-Err-clause-stop g c =
     let file = g.S.Source.left c.args.source.now in
     let honest = IsTrue (g.S.Source.is_honest c.args.source.now) in
     stops-first (λ f. honest → header_fault file ≡ Some f) (λ f. honest → file_fault file ≡ Some f)
-    (Rises (g.S.Source.failures c.args.source.now) (g.S.Source.failures c.begin.new.source)) (g.S.Source.failures c.begin.new.source ≡ g.S.Source.failures c.args.source.now)
+    (Fails (g.S.Source.reads c.args.source.now) (g.S.Source.reads c.begin.new.source)) (g.S.Source.reads c.begin.new.source ≡ g.S.Source.reads c.args.source.now)
     c.in-Err.stop (λ f q h. header_first file f (q h)) c.in-Err.ensures.stop
 
 pub loop-reader-preserved : goal.loop-reader-preserved
@@ -36,16 +36,16 @@ returns-in-Err-next-clause-stop g c =
     let before = c.loop-reader.invariant in
     let file = g.S.Source.left c.args.source.now in
     let honest = IsTrue (g.S.Source.is_honest c.args.source.now) in
-    let same = g.S.Source.failures c.next.new.source ≡ g.S.Source.failures c.args.source.now in
+    let same = g.S.Source.reads c.next.new.source ≡ g.S.Source.reads c.args.source.now in
     stops-reading
-    (λ f. (g.S.Source.failures c.next.new.source ≡ g.S.Source.failures c.loop-reader.source) × (IsTrue (g.S.Source.is_honest c.loop-reader.source) → (b : List ℕ) → StandsIn c.loop-reader.reader (g.S.Source.left c.loop-reader.source) b → body_fault b ((c.loop-reader.reader).head) ≡ Some f))
+    (λ f. (g.S.Source.reads c.next.new.source ≡ g.S.Source.reads c.loop-reader.source) × (IsTrue (g.S.Source.is_honest c.loop-reader.source) → (b : List ℕ) → StandsIn c.loop-reader.reader (g.S.Source.left c.loop-reader.source) b → body_fault b ((c.loop-reader.reader).head) ≡ Some f))
     (λ f. honest → file_fault file ≡ Some f)
-    (Rises (g.S.Source.failures c.loop-reader.source) (g.S.Source.failures c.next.new.source)) (Rises (g.S.Source.failures c.args.source.now) (g.S.Source.failures c.next.new.source)) same
+    (Fails (g.S.Source.reads c.loop-reader.source) (g.S.Source.reads c.next.new.source)) (Fails (g.S.Source.reads c.args.source.now) (g.S.Source.reads c.next.new.source)) same
     c.in-Err-next.stop
     (λ f q. (
       (λ h. let stands = before.3 h in file_is file (c.loop-reader.reader).head (c.loop-reader.reader).read stands.passed ∙ q.1 (before.2 h) file stands),
       q.0 ∙ before.1,
-    )) (subst (λ n. Rises n (g.S.Source.failures c.next.new.source)) before.1) (c.in-Err-next.ensures.stop before.0)
+    )) (subst (λ n. Fails n (g.S.Source.reads c.next.new.source)) before.1) (c.in-Err-next.ensures.stop before.0)
 
 pub returns-in-Ok-false-clause-conforms : goal.returns-in-Ok-false-clause-conforms
 returns-in-Ok-false-clause-conforms g c = λ h.

@@ -5,7 +5,7 @@ use Rattle.edf_stream.proofs.conform.conform.Given as goal
 abbrev pub invariant-loop-reader : goal.invariant-loop-reader
 invariant-loop-reader g l =
     IsOpen (l.reader).status
-    × (g.S.Source.failures l.source ≡ g.S.Source.failures l.fn.source)
+    × (g.S.Source.reads l.source ≡ g.S.Source.reads l.fn.source)
     × (IsTrue (g.S.Source.is_honest l.fn.source) → IsTrue (g.S.Source.is_honest l.source))
     × (IsTrue (g.S.Source.is_honest l.fn.source) → StandsIn l.reader (g.S.Source.left l.source) (g.S.Source.left l.fn.source))
 

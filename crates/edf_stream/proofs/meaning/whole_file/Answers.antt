@@ -1,5 +1,5 @@
 use Rattle.std.proofs.Common.{◌≡◌, ℕ, List, Some, IsTrue, subst, ◌∙◌}
-use Rattle.edf_fields.specs.Sources.{Rises}
+use Rattle.edf_fields.specs.Sources.{Fails}
 use Rattle.edf_header.specs.Faults.{header_fault}
 use Rattle.edf_header.specs.Heads.{Head}
 use Rattle.edf_header.specs.Stops.{Stops}
@@ -15,8 +15,8 @@ pub returns-in_err-reader-clause-stop : goal.returns-in_err-reader-clause-stop
 returns-in_err-reader-clause-stop g c =
     let file = g.S.Source.left c.args.source.now in
     let honest = IsTrue (g.S.Source.is_honest c.args.source.now) in
-    let rises = Rises (g.S.Source.failures c.args.source.now) (g.S.Source.failures c.begin.new.source) in
-    let same = g.S.Source.failures c.begin.new.source ≡ g.S.Source.failures c.args.source.now in
+    let rises = Fails (g.S.Source.reads c.args.source.now) (g.S.Source.reads c.begin.new.source) in
+    let same = g.S.Source.reads c.begin.new.source ≡ g.S.Source.reads c.args.source.now in
     let stop = c.in_err-reader.field-0.0 in
     handed-on c.from_residual.result stop (Stops (λ f. honest → file_fault file ≡ Some f) rises same) c.from_residual.ensures.1
     (stops-first (λ f. honest → header_fault file ≡ Some f) (λ f. honest → file_fault file ≡ Some f) rises same stop (λ f q h. header_first file f (q h)) c.in_err-reader.ensures.stop)
@@ -27,17 +27,17 @@ returns-in_err-header-clause-stop g c =
     let begun = c.in_ok-reader.ensures in
     let reader = c.in_ok-reader.reader in
     let honest = IsTrue (g.S.Source.is_honest c.args.source.now) in
-    let ended = g.S.Source.failures c.into_meaning.new.source in
-    let rises = Rises (g.S.Source.failures c.args.source.now) ended in
-    let same = ended ≡ g.S.Source.failures c.args.source.now in
+    let ended = g.S.Source.reads c.into_meaning.new.source in
+    let rises = Fails (g.S.Source.reads c.args.source.now) ended in
+    let same = ended ≡ g.S.Source.reads c.args.source.now in
     let stop = c.in_err-header.field-0.0 in
     handed-on c.from_residual-in_err-header.result stop (Stops (λ f. honest → file_fault file ≡ Some f) rises same) c.from_residual-in_err-header.ensures.1
     (stops-behind
     (λ f. IsTrue (g.S.Source.is_honest c.begin.new.source) → (b : List ℕ) → StandsIn reader (g.S.Source.left c.begin.new.source) b → body_fault b reader.head ≡ Some f)
     (λ f. honest → file_fault file ≡ Some f)
-    (Rises (g.S.Source.failures c.begin.new.source) ended) rises (ended ≡ g.S.Source.failures c.begin.new.source) same stop
+    (Fails (g.S.Source.reads c.begin.new.source) ended) rises (ended ≡ g.S.Source.reads c.begin.new.source) same stop
     (λ f q h. let stands = begun.stands h in file_is file reader.head reader.read stands.passed ∙ q (begun.honesty h) file stands)
-    (subst (λ n. Rises n ended) begun.failures) (λ e. e ∙ begun.failures) c.in_err-header.ensures.stop)
+    (subst (λ n. Fails n ended) begun.failures) (λ e. e ∙ begun.failures) c.in_err-header.ensures.stop)
 
 pub returns-clause-meaning : goal.returns-clause-meaning
 returns-clause-meaning g c = λ h.

@@ -1,5 +1,5 @@
 use Rattle.std.proofs.Common.{arith, ◌≡◌, ◌≤◌, ◌<◌, List, ℕ, length, IsTrue, Some, ◌∙◌, ap, sym}
-use Rattle.edf_fields.specs.Sources.{Rises}
+use Rattle.edf_fields.specs.Sources.{Fails}
 use Rattle.edf_fields.specs.Tests.{first}
 use Rattle.edf_fields.specs.declared.fault.Place.TheVariants.{AtEnd}
 use Rattle.edf_fields.specs.declared.fault.Cause.TheVariants.{TrailingBytes}
@@ -20,12 +20,12 @@ returns-in-Err-clause-stop g c =
     let h = c.args.header.now in
     let left = g.S.Source.left c.args.source.now in
     let honest = IsTrue (g.S.Source.is_honest c.args.source.now) in
-    let same = g.S.Source.failures c.read_record.new.source ≡ g.S.Source.failures c.args.source.now in
+    let same = g.S.Source.reads c.read_record.new.source ≡ g.S.Source.reads c.args.source.now in
     let lt : c.args.k < h.records = omega (arith, c.if-k-records.true, c.records.ensures) in
     stops-weaker
     (λ f. same × (honest → (file : List ℕ) → StandsAt file h c.args.k c.args.before.ended_ps c.args.before.notes left → first (records_tests file h c.args.k 1) ≡ Some f))
     (λ f. same × (honest → (file : List ℕ) → HasPassed file h c.args.k → StandsAt file h c.args.k c.args.before.ended_ps c.args.before.notes left → body_fault file h ≡ Some f))
-    (Rises (g.S.Source.failures c.args.source.now) (g.S.Source.failures c.read_record.new.source)) c.in-Err.stop
+    (Fails (g.S.Source.reads c.args.source.now) (g.S.Source.reads c.read_record.new.source)) c.in-Err.stop
     (λ f q. (q.0, λ honest file passed at. fault_at file h c.args.k f passed lt (q.1 honest file at))) c.in-Err.ensures.stop
 
 pub returns-in-Ok-check_end-clause-goes_on : goal.returns-in-Ok-check_end-clause-goes_on
@@ -47,10 +47,10 @@ returns-in-Err-check_end-clause-stop g c =
     let h = c.args.header.now in
     let left = g.S.Source.left c.args.source.now in
     let honest = IsTrue (g.S.Source.is_honest c.args.source.now) in
-    let same = g.S.Source.failures c.check_end.new.source ≡ g.S.Source.failures c.args.source.now in
+    let same = g.S.Source.reads c.check_end.new.source ≡ g.S.Source.reads c.args.source.now in
     let le : h.records ≤ c.args.k = omega (arith, c.if-k-records.false, c.records.ensures) in
     stops-weaker
     (λ f. same × (honest → (0 < length left) × (f ≡ record { place = AtEnd; cause = TrailingBytes })))
     (λ f. same × (honest → (file : List ℕ) → HasPassed file h c.args.k → StandsAt file h c.args.k c.args.before.ended_ps c.args.before.notes left → body_fault file h ≡ Some f))
-    (Rises (g.S.Source.failures c.args.source.now) (g.S.Source.failures c.check_end.new.source)) c.in-Err-check_end.stop
+    (Fails (g.S.Source.reads c.args.source.now) (g.S.Source.reads c.check_end.new.source)) c.in-Err-check_end.stop
     (λ f q. (q.0, λ honest file passed at. trails file h c.args.k c.args.before.ended_ps c.args.before.notes left passed at le (q.1 honest).0 ∙ ap (λ x. Some x) (sym (q.1 honest).1))) c.in-Err-check_end.ensures.stop

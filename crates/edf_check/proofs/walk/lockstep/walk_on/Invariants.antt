@@ -10,9 +10,9 @@ use Rattle.edf_check.proofs.walk.lockstep.walk_on.Given as goal
 
 abbrev pub invariant-loop-end : goal.invariant-loop-end
 invariant-loop-end g l = record {
-  original : Moves (l.fn.original).reader (l.original).reader (g.O.Source.is_honest l.fn.o) (g.O.Source.is_honest l.o) (g.O.Source.failures l.fn.o) (g.O.Source.failures l.o) (g.O.Source.left l.fn.o) (g.O.Source.left l.o)
+  original : Moves (l.fn.original).reader (l.original).reader (g.O.Source.is_honest l.fn.o) (g.O.Source.is_honest l.o) (g.O.Source.reads l.fn.o) (g.O.Source.reads l.o) (g.O.Source.left l.fn.o) (g.O.Source.left l.o)
       (map note_value (l.fn.original).notes.items) (map note_value (l.original).notes.items) (Some (l.frame).claim.now) ((l.frame).clock.original).ps (l.span.from).ps l.time.ps;
-  export : Moves (l.fn.export).reader (l.export).reader (g.E.Source.is_honest l.fn.e) (g.E.Source.is_honest l.e) (g.E.Source.failures l.fn.e) (g.E.Source.failures l.e) (g.E.Source.left l.fn.e) (g.E.Source.left l.e)
+  export : Moves (l.fn.export).reader (l.export).reader (g.E.Source.is_honest l.fn.e) (g.E.Source.is_honest l.e) (g.E.Source.reads l.fn.e) (g.E.Source.reads l.e) (g.E.Source.left l.fn.e) (g.E.Source.left l.e)
       (map note_value (l.fn.export).notes.items) (map note_value (l.export).notes.items) None ((l.frame).clock.export).ps (l.span.from).ps l.time.ps;
   from : (l.span.from).ps ≤ℤ l.time.ps;
   low : neg_ℤ (pos (2 ^ 90)) ≤ℤ l.time.ps;

@@ -8,7 +8,7 @@ abbrev pub invariant-loop-side : goal.invariant-loop-side
 invariant-loop-side g l = record {
   going : IsGoing l.reader.status;
   head : l.reader.head ≡ l.fn.reader.head;
-  failures : g.S.Source.failures l.source ≡ g.S.Source.failures l.fn.source;
+  failures : g.S.Source.reads l.source ≡ g.S.Source.reads l.fn.source;
   honesty : IsTrue (g.S.Source.is_honest l.fn.source) → IsTrue (g.S.Source.is_honest l.source);
   there : IsTrue (g.S.Source.is_honest l.fn.source) → (file : List ℕ) → IsThere l.fn.reader (g.S.Source.left l.fn.source) file → IsThere l.reader (g.S.Source.left l.source) file;
 }

@@ -1,7 +1,7 @@
 use Rattle.std.proofs.Common.{◌≡◌, ℕ, List, map, true, Ok, Some, IsTrue, refl, subst, sym, ap, ◌∙◌}
 use Rattle.std.specs.List.{All}
 use Rattle.std.proofs.lemmas.List.Elements.{All-nil}
-use Rattle.edf_fields.specs.Sources.{Rises}
+use Rattle.edf_fields.specs.Sources.{Fails}
 use Rattle.edf_fields.specs.declared.fault.Fault.{Fault}
 use Rattle.edf_header.specs.Heads.{Head}
 use Rattle.edf_header.specs.Stops.{Stops}
@@ -37,19 +37,19 @@ returns-in_err-next-clause-stop g c =
     let before = c.loop-meaning.invariant in
     let honest = IsTrue (g.S.Source.is_honest c.args.source.now) in
     let left = g.S.Source.left c.args.source.now in
-    let same = g.S.Source.failures c.next.new.source ≡ g.S.Source.failures c.args.source.now in
+    let same = g.S.Source.reads c.next.new.source ≡ g.S.Source.reads c.args.source.now in
     let faults : Fault → Type 0 = λ f. honest → (file : List ℕ) → StandsIn c.args.self left file → body_fault file (c.args.self).head ≡ Some f in
-    let rises = Rises (g.S.Source.failures c.args.source.now) (g.S.Source.failures c.next.new.source) in
+    let rises = Fails (g.S.Source.reads c.args.source.now) (g.S.Source.reads c.next.new.source) in
     let stop = c.in_err-next.field-0.0 in
     handed-on c.from_residual.result stop (Stops faults rises same) c.from_residual.ensures.1
     (stops-reading
-    (λ f. (g.S.Source.failures c.next.new.source ≡ g.S.Source.failures c.loop-meaning.source) × (IsTrue (g.S.Source.is_honest c.loop-meaning.source) → (b : List ℕ) → StandsIn c.loop-meaning.reader (g.S.Source.left c.loop-meaning.source) b → body_fault b ((c.loop-meaning.reader).head) ≡ Some f))
+    (λ f. (g.S.Source.reads c.next.new.source ≡ g.S.Source.reads c.loop-meaning.source) × (IsTrue (g.S.Source.is_honest c.loop-meaning.source) → (b : List ℕ) → StandsIn c.loop-meaning.reader (g.S.Source.left c.loop-meaning.source) b → body_fault b ((c.loop-meaning.reader).head) ≡ Some f))
     faults
-    (Rises (g.S.Source.failures c.loop-meaning.source) (g.S.Source.failures c.next.new.source)) rises same stop
+    (Fails (g.S.Source.reads c.loop-meaning.source) (g.S.Source.reads c.next.new.source)) rises same stop
     (λ f q. (
       λ h file stands. ap (body_fault file) (sym before.head) ∙ q.1 (before.honesty h) file (before.gathered h file stands).0,
       q.0 ∙ before.failures,
-    )) (subst (λ n. Rises n (g.S.Source.failures c.next.new.source)) before.failures) (c.in_err-next.ensures.stop before.going))
+    )) (subst (λ n. Fails n (g.S.Source.reads c.next.new.source)) before.failures) (c.in_err-next.ensures.stop before.going))
 
 pub loop-meaning-preserved : goal.loop-meaning-preserved
 loop-meaning-preserved g c =

@@ -11,7 +11,7 @@ abbrev pub invariant-loop-meaning : goal.invariant-loop-meaning
 invariant-loop-meaning g l = record {
   going : IsOpen (l.reader).status;
   head : (l.reader).head ≡ (l.fn.self).head;
-  failures : g.S.Source.failures l.source ≡ g.S.Source.failures l.fn.source;
+  failures : g.S.Source.reads l.source ≡ g.S.Source.reads l.fn.source;
   honesty : IsTrue (g.S.Source.is_honest l.fn.source) → IsTrue (g.S.Source.is_honest l.source);
   gathered : IsTrue (g.S.Source.is_honest l.fn.source) → (file : List ℕ) → StandsIn l.fn.self (g.S.Source.left l.fn.source) file
       → StandsIn l.reader (g.S.Source.left l.source) file

@@ -1,5 +1,5 @@
 use Rattle.std.proofs.Common.{◌≡◌, length, subst, ap, sym, ◌∙◌, IsTrue, List, ℕ, None, Some}
-use Rattle.edf_fields.specs.Sources.{Rises}
+use Rattle.edf_fields.specs.Sources.{Fails}
 use Rattle.edf_stream.specs.contracts.reader.FileReader.{the_view}
 use Rattle.edf_stream.specs.Records.{record_at}
 use Rattle.edf_stream.specs.Faults.{body_fault}
@@ -33,11 +33,11 @@ returns-in-Err-clause-stop g c = λ going.
     let old = c.self.inside in
     let left = g.S.Source.left c.args.source.now in
     let honest = IsTrue (g.S.Source.is_honest c.args.source.now) in
-    let same = g.S.Source.failures c.advance.new.source ≡ g.S.Source.failures c.args.source.now in
+    let same = g.S.Source.reads c.advance.new.source ≡ g.S.Source.reads c.args.source.now in
     stops-weaker
     (λ f. same × (honest → (file : List ℕ) → HasPassed file old.header old.read → StandsAt file old.header old.read old.progress.ended_ps old.progress.notes left → body_fault file old.header ≡ Some f))
     (λ f. same × (honest → (file : List ℕ) → StandsIn c.args.self.now left file → body_fault file (c.args.self.now).head ≡ Some f))
-    (Rises (g.S.Source.failures c.args.source.now) (g.S.Source.failures c.advance.new.source)) c.in-Err.stop
+    (Fails (g.S.Source.reads c.args.source.now) (g.S.Source.reads c.advance.new.source)) c.in-Err.stop
     (λ f q. (
       q.0,
       λ honest file stands.
