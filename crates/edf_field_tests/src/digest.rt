@@ -1,8 +1,8 @@
 //! The digest of what a source handed on, beside the examples of FIPS 180-4.
 
-use edf_fields::digest_source::{DigestSource, Digested};
+use edf_fields::digest_source::{DigestSource, Digested, digest_of};
 use edf_fields::faulty_source::FaultySource;
-use edf_fields::source::{ReadFault, SliceSource, Source, fill, skip_rest};
+use edf_fields::source::{ReadFault, SliceSource, Source, fill};
 use std::process::Abort;
 
 /// Messages with their digests: the empty one, and those of one block and of two in the standard's examples.
@@ -38,12 +38,13 @@ fn assert_digest(rt: &impl Abort, message: &[u8], most: usize, digest: [u8; 32])
     let inner = FaultySource::new(SliceSource::new(message), u64::MAX, most.max(1));
     let mut source = DigestSource::new(inner);
     let mut buf = [0; 64];
-    assert_eq!(rt; skip_rest(&mut source, &mut buf), Ok(()));
     let expected = Digested {
         bytes: message.len() as u64,
         sha256: digest,
     };
+    assert_eq!(rt; source.finish(&mut buf), Ok(expected));
     assert_eq!(rt; source.digested(), expected);
+    assert_eq!(rt; digest_of(message), expected);
 }
 
 #[test]
@@ -74,7 +75,7 @@ fn hands_on_a_failed_read(rt: HostRuntime) {
     let mut source = DigestSource::new(FaultySource::new(SliceSource::new(b"abcdefgh"), 2, 2));
     let mut buf = [0; 4];
     assert_eq!(rt; source.read(&mut buf), Ok(2));
-    assert_eq!(rt; skip_rest(&mut source, &mut buf), Err(ReadFault));
+    assert_eq!(rt; source.finish(&mut buf), Err(ReadFault));
     assert_eq!(rt; source.digested().bytes, 4);
     assert_eq!(rt; source.read(&mut buf), Err(ReadFault));
 }

@@ -1,10 +1,11 @@
 //! A source that digests what it hands on.
 
-ghost use Rattle.std.specs.Prelude.{◌≡◌, ◌&&◌, ◌<◌, ◌-◌, ◌^◌, ◌++◌, ℕ, List, length, min, nat_eq, IsTrue, true};
+ghost use Rattle.std.specs.Prelude.{◌≡◌, ◌&&◌, ◌<◌, ◌-◌, ◌^◌, ◌++◌, ℕ, List, length, min, nat_eq, IfOk, OnOk, OnErr, IsTrue, true};
 ghost use Rattle.sha2.specs.Sha256.{sha256};
-ghost use Rattle.edf_fields.specs.Digests.{HasDigested, digest_reads};
+ghost use Rattle.edf_fields.specs.Digests.{HasDigested, IsDigestOf, digest_reads};
+ghost use Rattle.edf_fields.specs.Sources.{Fails};
 
-use crate::source::{ReadFault, Source};
+use crate::source::{ReadFault, Source, skip_rest};
 use sha2::{Digest, Sha256};
 use std::snapshot::Snapshot;
 
@@ -60,6 +61,31 @@ impl<S: Source + Drop> DigestSource<S> {
             bytes: self.bytes,
             sha256: hasher.finalize(),
         }
+    }
+
+    /// Reads on until nothing is left, and gives the digest of all that the other source had when this one was made;
+    /// `buf` is what is read into.
+    ///
+    /// An `Err` comes only from a read that failed, and then at once.
+    pub fn finish(&mut self, buf: &mut [u8]) -> Result<Digested, ReadFault>
+        requires { 0 < length buf.old }
+        ensures digest { IfOk result (λ digested. (whole : List ℕ) → ⟦<DigestSource<S> as Source>⟧.reads self.old ≡ digest_reads 0 whole true →
+            length whole < 2 ^ 64 - 1 → IsDigestOf whole digested) }
+        ensures failures { OnOk result (⟦<DigestSource<S> as Source>⟧.reads self.new ≡ ⟦<DigestSource<S> as Source>⟧.reads self.old) }
+        ensures fails { OnErr result (Fails (⟦<DigestSource<S> as Source>⟧.reads self.old) (⟦<DigestSource<S> as Source>⟧.reads self.new)) }
+    {
+        skip_rest(self, buf)?;
+        Ok(self.digested())
+    }
+}
+
+/// The digest of bytes in memory.
+pub fn digest_of(bytes: &[u8]) -> Digested
+    ensures { IsDigestOf bytes.now result }
+{
+    Digested {
+        bytes: bytes.len() as u64,
+        sha256: Sha256::digest(bytes),
     }
 }
 
