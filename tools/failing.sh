@@ -5,8 +5,8 @@
 #
 # usage: tools/failing.sh PROGRAM
 #
-# A run that was stopped has status 2, a front of the text on standard output (of a check nothing, but where a write failed) and the line that says
-# why on standard error: that memory ran out, of which file a read failed, or that writing failed. A run that succeeded
+# A run that was stopped has status 2, a front of the text on standard output (of a check and of a receipt nothing, but
+# where a write failed) and the line that says why on standard error: that memory ran out, of which file a read failed, or that writing failed. A run that succeeded
 # has its status, the whole text and nothing on standard error: the last one, in which nothing failed, and any before it
 # whose refused growth was the C library's, or was made good. The last line of the output counts the runs that passed
 # and failed.
@@ -53,9 +53,9 @@ judge() {
 # The line on a read of the file of this name that fails, of this command.
 reading_line() {
     case $1.$2 in
-    check*.*.toml) role=claim ;;
-    check*.original.edf) role=original ;;
-    check*.*) role=export ;;
+    check*.*.toml | receipt*.*.toml) role=claim ;;
+    check*.original.edf | receipt*.original.edf) role=original ;;
+    check*.* | receipt*.*) role=export ;;
     *) role=file ;;
     esac
     echo "edfclaim: reading $role failed"
@@ -166,6 +166,21 @@ echo 'YES parts 2 channels 3 samples 13590 annotations 5' >"$work/want"
 fail_each 0 0 check-parts original.edf cut.toml cut-part-1.edf cut-part-2.edf
 echo 'NO 12 part 1 starts early' >"$work/want"
 fail_each 1 0 check-parts original.edf cut.toml cut-part-1.edf overlapping-part-2.edf
+cp receipt.txt "$work/want" || exit 2
+fail_each 0 0 receipt original.edf cut.edf cut.toml
+cp receipt-parts.txt "$work/want" || exit 2
+fail_each 0 0 receipt-parts original.edf cut.toml cut-part-1.edf cut-part-2.edf
+# behind a fault of the original the export is read for its digest: here one that the check doesn't read
+: >"$work/original.edf"
+{
+    head -n 1 receipt.txt
+    for named in "original $work/original.edf" 'export cut.edf' 'claim cut.toml'; do
+        file=${named#* }
+        echo "${named%% *} sha256 $(sha256sum <"$file" | cut -c 1-64) bytes $(wc -c <"$file" | tr -d ' ')"
+    done
+    echo 'NO 1 original fault: Truncated at header field version'
+} >"$work/want"
+fail_each 1 0 receipt "$work/original.edf" cut.edf cut.toml
 echo 'CONFORMS records 150 channels 5 samples 52650 annotations 10' >"$work/want"
 fail_each 0 0 conform original.edf
 "$program" show original.edf >"$work/want"

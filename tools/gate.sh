@@ -2,8 +2,9 @@
 # The whole gate. First `rt ci`: all proofs, tests, must-fail edits and runs; what it passed earlier on this
 # machine isn't proved again as long as nothing changes that it stands on. Then the scripts: the table of wrong
 # bodies, what the crates cite of one another's proofs, whether the document of the headline is whole, and the
-# program that was built, on command lines and files that it refuses, on the example night, on the tables of
-# cases and of claims, and with each growth of memory, each read and each write failing in turn.
+# program that was built, on command lines and files that it refuses, on the example night, its receipts beside
+# sha256sum, on the tables of cases and of claims, and with each growth of memory, each read and each write failing
+# in turn.
 #
 # usage: tools/gate.sh
 #
@@ -82,6 +83,7 @@ counted tools/headline.py --check
 counted tools/version.sh "$program"
 counted tools/statuses.sh "$program"
 counted tools/night.sh "$program"
+counted tools/receipts.sh "$program"
 counted tools/cases.sh "$program"
 counted tools/claims.py "$program"
 # CC may hold flags behind the compiler's name

@@ -1,7 +1,7 @@
 #!/bin/sh
 # Runs PROGRAM on the example night: the commands of examples/night/answers, each of which has to end with
-# the status and the line that stand there and in the table of the night's page, and compares what `show` and
-# `notes` print of the original with docs/CLAIM.md. Then it looks whether the night's files are those that
+# the status and the line that stand there and in the table of the night's page, and compares the two receipts with
+# those that are stored there, and what `show` and `notes` print of the original with docs/CLAIM.md. Then it looks whether the night's files are those that
 # tools/night.py writes, and runs PROGRAM on the broken copies of tools/faults.py, one for each fault.
 #
 # usage: tools/night.sh PROGRAM
@@ -69,6 +69,19 @@ while IFS='	' read -r status words line; do
     grep -qF -- "| \`$words\` | \`$line\`" examples/night/README.md
     judge $? "not in the night's table: $words"
 done <examples/night/answers
+
+# Compares the receipt that a command gives of the night's files with a stored one.
+receipt() {
+    wanted=$1
+    shift
+    (cd -- examples/night && exec "$program" "$@" >"$work/out" 2>"$work/err" </dev/null)
+    status=$?
+    [ "$status" -eq 0 ] && cmp -s "$work/out" "examples/night/$wanted" && [ ! -s "$work/err" ]
+    judge $? "$*: status $status with $(cat "$work/out" "$work/err"); wanted: 0 with $(cat "examples/night/$wanted")"
+}
+
+receipt receipt.txt receipt original.edf cut.edf cut.toml
+receipt receipt-parts.txt receipt-parts original.edf cut.toml cut-part-1.edf cut-part-2.edf
 
 # Compares what a command prints of the original with a block of docs/CLAIM.md: the one behind this line.
 compare() {

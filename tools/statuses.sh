@@ -82,16 +82,26 @@ refuses 'edfclaim: not a command' conform "$(printf 'night\377')"
 refuses 'edfclaim: not a command' check-parts original.edf cut.toml cut-part-1.edf -- cut-part-2.edf
 refuses 'edfclaim: not a command' check-parts original.edf cut.toml -- cut-part-1.edf cut-part-2.edf
 refuses 'edfclaim: not a command' check-parts -- original.edf cut.toml cut.edf
+refuses 'edfclaim: not a command' receipt original.edf cut.edf -- cut.toml
+refuses 'edfclaim: not a command' receipt -- original.edf cut.edf cut.toml
+refuses 'edfclaim: not a command' receipt-parts original.edf cut.toml cut-part-1.edf -- cut-part-2.edf
+refuses 'edfclaim: not a command' receipt-parts original.edf cut.toml -- cut-part-1.edf cut-part-2.edf
+refuses 'edfclaim: not a command' receipt-parts -- original.edf cut.toml cut.edf
 for words in '' 'Vectors' 'vectors x' 'explain original.edf' 'conform' 'conform original.edf cut.edf' \
     'check original.edf cut.edf' 'check original.edf cut.edf cut.toml cut.toml' '--quiet vectors' 'check-all' \
     'check-parts original.edf' 'check-parts original.edf cut.toml' \
     'check-parts original.edf cut.toml cut.edf -cut.edf' \
+    'receipt' 'receipt original.edf cut.edf' 'receipt original.edf cut.edf cut.toml cut.toml' 'receipts' \
+    'receipt original.edf -cut.edf cut.toml' \
+    'receipt-parts' 'receipt-parts original.edf' 'receipt-parts original.edf cut.toml' \
+    'receipt-parts original.edf cut.toml cut.edf -cut.edf' \
     '-- vectors' 'show -night.edf' 'show original.edf cut.edf'; do
     # shellcheck disable=SC2086
     if [ -z "$words" ]; then faults ''; else faults $words; fi
 done
 faults vectors ''
-for words in --help -h help 'help check' 'check --help' 'check-parts --help' --version -V; do
+for words in --help -h help 'help check' 'check --help' 'check-parts --help' 'receipt --help' \
+    'receipt-parts --help' --version -V; do
     # shellcheck disable=SC2086
     helps $words
 done
@@ -107,6 +117,13 @@ refuses 'edfclaim: cannot open claim' check-parts none.edf none.toml none.edf
 refuses 'edfclaim: cannot open original' check-parts none.edf refused.toml none.edf
 refuses 'edfclaim: cannot open export' check-parts original.edf refused.toml none.edf cut.edf
 refuses 'edfclaim: cannot open export' check-parts original.edf cut.toml cut.edf none.edf
+refuses 'edfclaim: cannot open claim' receipt none.edf none.edf none.toml
+refuses 'edfclaim: cannot open original' receipt none.edf none.edf refused.toml
+refuses 'edfclaim: cannot open export' receipt original.edf none.edf refused.toml
+refuses 'edfclaim: cannot open claim' receipt-parts none.edf none.toml none.edf
+refuses 'edfclaim: cannot open original' receipt-parts none.edf refused.toml none.edf
+refuses 'edfclaim: cannot open export' receipt-parts original.edf refused.toml none.edf cut.edf
+refuses 'edfclaim: cannot open export' receipt-parts original.edf cut.toml cut.edf none.edf
 for command in conform show notes; do
     refuses 'edfclaim: cannot open file' "$command" none.edf
 done
@@ -117,6 +134,8 @@ exports_64=$(yes cut.edf | head -n 64)
 says 1 'NO 12 part 1 starts early' check-parts original.edf cut.toml $exports_64
 # shellcheck disable=SC2086
 refuses 'edfclaim: too many exports' check-parts none.edf none.toml $exports_64 cut.edf
+# shellcheck disable=SC2086
+refuses 'edfclaim: too many exports' receipt-parts none.edf none.toml $exports_64 cut.edf
 
 # folders, which can be opened and not read
 refuses 'edfclaim: reading claim failed' check original.edf cut.edf .
@@ -128,6 +147,14 @@ refuses 'edfclaim: reading original failed' check-parts . cut.toml cut.edf
 refuses 'edfclaim: reading export failed' check-parts original.edf cut.toml . cut.edf
 refuses 'edfclaim: reading export failed' check-parts original.edf cut.toml cut-part-1.edf .
 refuses 'edfclaim: claim refused: BadKeep' check-parts . refused.toml . .
+refuses 'edfclaim: reading claim failed' receipt original.edf cut.edf .
+refuses 'edfclaim: reading original failed' receipt . cut.edf cut.toml
+refuses 'edfclaim: reading export failed' receipt original.edf . cut.toml
+refuses 'edfclaim: claim refused: BadKeep' receipt . . refused.toml
+refuses 'edfclaim: reading claim failed' receipt-parts original.edf . cut.edf
+refuses 'edfclaim: reading original failed' receipt-parts . cut.toml cut.edf
+refuses 'edfclaim: reading export failed' receipt-parts original.edf cut.toml cut-part-1.edf .
+refuses 'edfclaim: claim refused: BadKeep' receipt-parts . refused.toml . .
 for command in conform show notes; do
     refuses 'edfclaim: reading file failed' "$command" .
 done
@@ -164,6 +191,8 @@ if [ "$as_user" != none ]; then
     refuses_user 'edfclaim: cannot open original' check "$work/closed" cut.edf cut.toml
     refuses_user 'edfclaim: cannot open export' check original.edf "$work/closed" cut.toml
     refuses_user 'edfclaim: cannot open export' check-parts original.edf cut.toml cut.edf "$work/closed"
+    refuses_user 'edfclaim: cannot open original' receipt "$work/closed" cut.edf cut.toml
+    refuses_user 'edfclaim: cannot open export' receipt-parts original.edf cut.toml cut.edf "$work/closed"
     for command in conform show notes; do
         refuses_user 'edfclaim: cannot open file' "$command" "$work/closed"
     done
@@ -282,7 +311,8 @@ if [ -e /dev/stdin ]; then
 fi
 
 # standard output that takes nothing
-for command in 'check original.edf cut.edf cut.toml' 'check-parts original.edf cut.toml cut.edf' 'conform cut.edf' \
+for command in 'check original.edf cut.edf cut.toml' 'check-parts original.edf cut.toml cut.edf' \
+    'receipt original.edf cut.edf cut.toml' 'receipt-parts original.edf cut.toml cut.edf' 'conform cut.edf' \
     'show cut.edf' 'notes cut.edf' vectors; do
     : >"$work/out"
     # shellcheck disable=SC2086

@@ -1,5 +1,6 @@
 #!/bin/sh
-# Looks whether PROGRAM, its manual page, the changelog and the crate that says the version say the same one.
+# Looks whether PROGRAM, its manual page, the changelog, the receipts of the example night and the crate that says the
+# version say the same one.
 #
 # usage: tools/version.sh PROGRAM
 #
@@ -30,5 +31,8 @@ said=$("$program" --version 2>&1)
 judge "edfclaim --version" "$said, status $?" "edfclaim $version, status 0"
 judge "docs/edfclaim.1" "$(sed -n 's/^\.TH EDFCLAIM 1 "" "\(.*\)" "User Commands"$/\1/p' docs/edfclaim.1)" "edfclaim $version"
 judge CHANGELOG.md "$(sed -n 's/^## \([0-9.]*\).*/\1/p' CHANGELOG.md | head -n 1)" "$version"
+for receipt in receipt.txt receipt-parts.txt; do
+    judge "examples/night/$receipt" "$(head -n 1 "examples/night/$receipt")" "edfclaim $version"
+done
 echo "$passed passed, $failed failed"
 [ "$failed" -eq 0 ]

@@ -8,7 +8,8 @@ that are large in one respect: in how many data records they have, channels, int
 annotations, texts and begins of texts that it removes. It prints tables: of each command the processor's time, the
 time by the clock and the most memory that it held, as medians of five runs; and the times as multiples of those of
 `cmp` on the night and its copy. Of the night in 8 files it prints how many times the check of them takes the times of
-the check of one file.
+the check of one file, and of the nights in SECONDS how many times a receipt takes those of the check and of `sha256sum`
+on both files, as medians of three runs.
 """
 
 import os
@@ -22,12 +23,19 @@ import time
 from night import Night, remarks, short, stages, write
 
 RUNS = 5
+# of a table of receipts, as a digest takes long
+RECEIPT_RUNS = 3
 WHOLE = [("0", "999999999")]
 EIGHT_HOURS = 28800
 PARTS = 8
 
 # how many times the processor's time of the check of one file that of the same in parts is to take at most
 PARTS_BOUND = 1.1
+
+# Some systems' sha256sum has its digests from libcrypto (`ldd` tells), which takes the processor's own instructions for
+# SHA where there are any. This clears the bit that says so, 29 of EBX in leaf 7 of CPUID, so that libcrypto digests by
+# other instructions, those for vectors among them. A sha256sum without libcrypto is plain C, and doesn't look at it.
+WITHOUT_SHA = "OPENSSL_ia32cap=:~0x20000000"
 
 
 def memory_of(process):
@@ -63,25 +71,45 @@ def run(words, front):
     return used.ru_utime + used.ru_stime, clock, used.ru_maxrss if used.ru_maxrss > own else seen
 
 
-def median(words, front=""):
-    return [statistics.median(column) for column in zip(*(run(words, front) for _ in range(RUNS)))]
+def median(words, front="", runs=RUNS):
+    return [statistics.median(column) for column in zip(*(run(words, front) for _ in range(runs)))]
 
 
 def memory_text(units):
     return f"{units / 1e6 * 1.024:.1f} GB" if units > 10**6 else f"{units / 1e3 * 1.024:.1f} MB"
 
 
-def print_table(title, commands):
-    """A table of commands: name, words, and what the output begins with. The first one is `cmp`."""
+def print_table(title, commands, runs=RUNS):
+    """A table of commands: name, words, and what the output begins with. The first one is `cmp`. It gives the two times
+    of each."""
     print(f"| {title} | processor | clock | memory | processor, by `cmp` | clock, by `cmp` |")
     print("|---|---|---|---|---|---|")
-    base = None
+    base, times = None, []
     for name, words, front in commands:
-        work, clock, memory = median(words, front)
+        work, clock, memory = median(words, front, runs)
         base = base or (work, clock)
+        times.append((work, clock))
         print(f"| {name} | {work:.3f} s | {clock:.3f} s | {memory_text(memory)} "
               f"| {work / base[0]:.2f} | {clock / base[1]:.2f} |", flush=True)
     print()
+    return times
+
+
+def print_receipts(program, title, night, copy, document):
+    """A table of a receipt beside the check and the digests of the same two files, and the one by the others."""
+    _, check, sums, plain_sums, receipt = print_table(f"a receipt of {title}", [
+        ("`cmp`, with the copy", ["cmp", night, copy], ""),
+        ("`edfclaim check`, with the copy", [program, "check", night, copy, document], "YES "),
+        ("`sha256sum`, of the night and the copy", ["sha256sum", night, copy], ""),
+        ("the same without the instructions for SHA", ["env", WITHOUT_SHA, "sha256sum", night, copy], ""),
+        ("`edfclaim receipt`, with the copy", [program, "receipt", night, copy, document], "edfclaim "),
+    ], RECEIPT_RUNS)
+    print(f"The receipt takes {receipt[0] / check[0]:.2f} times the processor's time of the check, "
+          f"{receipt[0] / sums[0]:.2f} times that of `sha256sum`, {receipt[0] / plain_sums[0]:.2f} times that of "
+          "`sha256sum` without the instructions for SHA, and "
+          f"{receipt[0] / (check[0] + plain_sums[0]):.2f} times that of the check and of the latter together; by the "
+          f"clock {receipt[1] / check[1]:.2f}, {receipt[1] / sums[1]:.2f}, {receipt[1] / plain_sums[1]:.2f} and "
+          f"{receipt[1] / (check[1] + plain_sums[1]):.2f} times.\n", flush=True)
 
 
 def claim(night, keep, remove, prefixes):
@@ -96,8 +124,9 @@ def claim(night, keep, remove, prefixes):
     return f"format = {2 if prefixes else 1}\nchannels = {listed(night.labels())}\n{removed}{kept}"
 
 
-def measure(program, folder, title, night, exports, keep=WHOLE, remove=(), prefixes=(), others=()):
-    """Writes a night, a copy of it and its exports, each with a name, and prints their table."""
+def measure(program, folder, title, night, exports, keep=WHOLE, remove=(), prefixes=(), others=(), receipts=False):
+    """Writes a night, a copy of it and its exports, each with a name, and prints their table, and where it is asked for
+    that of a receipt."""
     paths = {name: str(folder / name) for name in ("night", "copy", "claim")}
     write(paths["night"], night)
     shutil.copyfile(paths["night"], paths["copy"])
@@ -114,6 +143,8 @@ def measure(program, folder, title, night, exports, keep=WHOLE, remove=(), prefi
     # what was written goes to the disk now, and not while it is measured
     os.sync()
     print_table(f"{title}, {os.path.getsize(paths['night']) / 1e6:.1f} MB", commands)
+    if receipts:
+        print_receipts(program, title, paths["night"], paths["copy"], paths["claim"])
     for path in folder.iterdir():
         path.unlink()
 
@@ -162,7 +193,7 @@ def measure_length(program, folder, seconds):
     measure(program, folder, f"a night of {seconds} s", night, [
         ("the copy", night),
         ("an export in data records of 10 s", Night(seconds, tenths=100, lane=256)),
-    ], others=(["cat"], ["sha256sum"]))
+    ], others=(["cat"], ["sha256sum"]), receipts=True)
 
 
 def measure_shapes(program, folder):

@@ -1,35 +1,21 @@
--- The command `check-parts`, of which the last argument is one word or more, is a line that `clap` takes.
-use Rattle.std.proofs.Common.{◌≡◌, ◌≤◌, ◌<◌, ◌&&◌, ℕ, Bool, List, [], ◌∷◌, ◌++◌, codes, true, false, refl, nat_eq, nat_le, is_some, length, Some, None, ap, ap₂, sym, ◌∙◌, arith, append_assoc}
+-- The arguments of `check-parts` and of `receipt-parts`, of which the last is one word or more, are those that `clap` takes.
+use Rattle.std.proofs.Common.{◌≡◌, ◌≤◌, ◌<◌, ◌&&◌, ℕ, Bool, List, [], ◌∷◌, ◌++◌, codes, true, false, refl, nat_eq, nat_le, length, Some, None, ap, sym, ◌∙◌, arith, append_assoc}
 use Rattle.std.proofs.lemmas.List.{append-nil}
 use Rattle.std.proofs.lemmas.Bool.Decides.{nat_tests}
 use Rattle.std.specs.Prelude.{fold}
 use Rattle.std.specs.List.{list_all, slice_index_or}
 use Rattle.clap.specs.Lexer.{usize_max}
-use Rattle.clap.specs.Walk.{Held, Names, Row, Rule, Text, Walk, finished, nothing_held, positional, used, walk, walk_from, walked}
-use Rattle.clap.specs.Simple.{App, Shape, built, entered, names_of}
-use Rattle.clap.specs.Takes.{default_passes, entered_passes, is_valid, level_passes, settle_passes, takes, turn_passes, value_passes, walk_passes}
+use Rattle.clap.specs.Walk.{Held, Row, Rule, Text, Walk, finished, nothing_held, positional, used, walk_from, walked}
+use Rattle.clap.specs.Simple.{Shape, built}
+use Rattle.clap.specs.Takes.{default_passes, is_valid, level_passes, settle_passes, turn_passes, value_passes, walk_passes}
 use Rattle.clap.proofs.OnLiterals.{clap_on_literals}
 use Rattle.edf_command_line.proofs.PlainFacts.{IsPlain, first_is, tail_plain}
-use Rattle.edf_command_line.specs.Commands.{check_parts_app, needed, program_app}
+use Rattle.edf_command_line.specs.Commands.{needed, parts_app, program_app}
 use Rattle.edf_job.specs.Jobs.{ArePlain}
 
--- behind a subcommand's name each word goes to the subcommand
-stopped_walk : (rules : List Rule) (names : Names) (w : Walk) (name : Text) (seen words : List Text)
-    → fold (walked rules names) (record w { stopped = Some (name, seen) }) words ≡ record w { stopped = Some (name, seen ++ words) }
-unfolding walked
-stopped_walk rules names w name seen [] = ap (λ (l : List Text). record w { stopped = Some (name, l) }) (sym (append-nil seen))
-stopped_walk rules names w name seen (x ∷ xs) =
-    stopped_walk rules names w name (seen ++ x ∷ []) xs ∙ ap (λ (l : List Text). record w { stopped = Some (name, l) }) (append_assoc seen (x ∷ []) xs)
-
-stopped_passes : (s : Shape) (names : Names) (w : Walk) (name : Text) (seen words : List Text)
-    → walk_passes s names (record w { stopped = Some (name, seen) }) words ≡ true
-unfolding walked walk_passes
-stopped_passes s names w name seen [] = refl
-stopped_passes s names w name seen (x ∷ xs) = stopped_passes s names w name (seen ++ x ∷ []) xs
-
--- the subcommand as it is built
-abbrev parts : Shape
-parts = slice_index_or (built program_app).subs 1 check_parts_app.top
+-- the first of both as it is built
+abbrev pub parts : Shape
+parts = slice_index_or (built program_app).subs 1 (parts_app []).top
 
 abbrev rule_at : ℕ → Rule
 rule_at k = slice_index_or parts.rules k (needed [])
@@ -91,7 +77,7 @@ all_values : (words : List Text) → list_all (value_passes (rule_at 2)) words �
 all_values [] = refl
 all_values (x ∷ xs) = all_values xs
 
-both_true : (a b : Bool) → a ≡ true → b ≡ true → (a && b) ≡ true
+pub both_true : (a b : Bool) → a ≡ true → b ≡ true → (a && b) ≡ true
 both_true a b p q = ap (λ x. x && b) p ∙ q
 
 at_most : (a b : ℕ) → a ≤ b → nat_le a b ≡ true
@@ -126,53 +112,25 @@ leaf_begun a b c xs ys zs rest p q r plain small =
     (is_valid parts (finished parts.rules (reading (rows_with (a ∷ xs) (b ∷ ys)) ((c ∷ zs) ∷ rest)).held) false)
     (settles (a ∷ xs) (b ∷ ys) (c ∷ zs) rest small) (is_whole (a ∷ xs) (b ∷ ys) (c ∷ zs) rest))
 
-leaf_passes : (x y z : Text) (rest : List Text) → IsPlain x → IsPlain y → IsPlain z → ArePlain rest → length (z ∷ rest) ≤ usize_max
+pub leaf_passes : (x y z : Text) (rest : List Text) → IsPlain x → IsPlain y → IsPlain z → ArePlain rest → length (z ∷ rest) ≤ usize_max
     → level_passes parts [] nothing_held (x ∷ y ∷ z ∷ rest) false ≡ true
 leaf_passes (a ∷ xs) (b ∷ ys) (c ∷ zs) rest p q r plain small = leaf_begun a b c xs ys zs rest (first_is a p.1) (first_is b q.1) (first_is c r.1) plain small
 leaf_passes [] y z rest p q r plain small = absurd (omega arith)
 leaf_passes (a ∷ xs) [] z rest p q r plain small = absurd (omega arith)
 leaf_passes (a ∷ xs) (b ∷ ys) [] rest p q r plain small = absurd (omega arith)
 
--- the program as it is built
-abbrev top : App
-top = built program_app
+-- the second as it is built, which differs from the first in its name and in what the help says
+abbrev pub receipt_parts : Shape
+receipt_parts = slice_index_or (built program_app).subs 3 (parts_app []).top
 
--- the walk over the program's words, up to the subcommand and past it
-top_walk : (rest : List Text) → walk top.top.rules (names_of top) nothing_held (codes "check-parts" ∷ rest)
-    ≡ record (walk_from nothing_held) { stopped = Some (codes "check-parts", rest) }
-unfolding clap_on_literals
-top_walk rest = stopped_walk top.top.rules (names_of top) (walk_from nothing_held) (codes "check-parts") [] rest
+same_walk : (w : Walk) (words : List Text) → walk_passes receipt_parts [] w words ≡ walk_passes parts [] w words
+unfolding walk_passes
+same_walk w [] = refl
+same_walk w (x ∷ xs) = ap (λ b. turn_passes parts [] w x && b) (same_walk (walked parts.rules [] w x) xs)
 
-top_passes : (rest : List Text) → walk_passes top.top (names_of top) (walk_from nothing_held) (codes "check-parts" ∷ rest) ≡ true
-unfolding clap_on_literals
-top_passes rest = stopped_passes top.top (names_of top) (walk_from nothing_held) (codes "check-parts") [] rest
-
-abbrev top_ends : Walk → Bool
-top_ends w = settle_passes top.top.rules top.top.args_override_self w.held
-    && (list_all default_passes top.top.rules && is_valid top.top (finished top.top.rules w.held) (is_some (entered top w.stopped)))
-
-abbrev all_ends : Bool → Walk → Bool
-all_ends passes w = entered_passes top w.stopped && (passes && top_ends w)
-
-top_whole : (rest : List Text) → top_ends (record (walk_from nothing_held) { stopped = Some (codes "check-parts", rest) }) ≡ true
-unfolding clap_on_literals
-top_whole rest = refl
-
-enters : (rest : List Text) → level_passes parts [] nothing_held rest false ≡ true → entered_passes top (Some (codes "check-parts", rest)) ≡ true
-unfolding clap_on_literals
-enters rest h = h
-
-pub takes_parts : (w x y z : Text) (rest : List Text) → ArePlain (x ∷ y ∷ z ∷ rest) → length (z ∷ rest) ≤ usize_max
-    → takes program_app (w ∷ codes "check-parts" ∷ x ∷ y ∷ z ∷ rest) ≡ true
-takes_parts w x y z rest plain small =
-    let after : ArePlain rest = tail_plain z rest (tail_plain y (z ∷ rest) (tail_plain x (y ∷ z ∷ rest) plain)) in
-    ap₂ all_ends (top_passes (x ∷ y ∷ z ∷ rest)) (top_walk (x ∷ y ∷ z ∷ rest))
-    ∙ both_true (entered_passes top (Some (codes "check-parts", x ∷ y ∷ z ∷ rest))) (top_ends (record (walk_from nothing_held) { stopped = Some (codes "check-parts", x ∷ y ∷ z ∷ rest) }))
-    (enters (x ∷ y ∷ z ∷ rest) (leaf_passes x y z rest (plain 0 (omega arith)) (plain 1 (omega arith)) (plain 2 (omega arith)) after small))
-    (top_whole (x ∷ y ∷ z ∷ rest))
-
--- the same, of a list of last words
-pub takes_listed : (w x y : Text) (last : List Text) → 0 < length last → ArePlain (codes "check-parts" ∷ x ∷ y ∷ last) → length last ≤ usize_max
-    → takes program_app (w ∷ codes "check-parts" ∷ x ∷ y ∷ last) ≡ true
-takes_listed w x y [] some plain small = absurd (omega arith)
-takes_listed w x y (z ∷ rest) some plain small = takes_parts w x y z rest (tail_plain (codes "check-parts") (x ∷ y ∷ z ∷ rest) plain) small
+-- the second takes what the first does
+pub second_passes : (x y z : Text) (rest : List Text) → IsPlain x → IsPlain y → IsPlain z → ArePlain rest → length (z ∷ rest) ≤ usize_max
+    → level_passes receipt_parts [] nothing_held (x ∷ y ∷ z ∷ rest) false ≡ true
+second_passes x y z rest p q r plain small =
+    ap (λ b. b && ends (fold (walked parts.rules []) (walk_from nothing_held) (x ∷ y ∷ z ∷ rest)).held) (same_walk (walk_from nothing_held) (x ∷ y ∷ z ∷ rest))
+    ∙ leaf_passes x y z rest p q r plain small

@@ -12,12 +12,13 @@ needed id = record (new_rule id) { required = true }
 abbrev pub needed_some : Text → Rule
 needed_some id = record (needed id) { range = Some (record { start_inclusive = 1; end_inclusive = usize_max }) }
 
-abbrev pub check_app : App
-check_app = with_rule (with_rule (with_rule (new_app (codes "check")) (needed (codes "ORIGINAL"))) (needed (codes "EXPORT"))) (needed (codes "CLAIM"))
+-- a command over an original, an export and a claim
+abbrev pub export_app : Text → App
+export_app name = with_rule (with_rule (with_rule (new_app name) (needed (codes "ORIGINAL"))) (needed (codes "EXPORT"))) (needed (codes "CLAIM"))
 
-abbrev pub check_parts_app : App
-check_parts_app =
-    with_rule (with_rule (with_rule (new_app (codes "check-parts")) (needed (codes "ORIGINAL"))) (needed (codes "CLAIM"))) (needed_some (codes "EXPORT"))
+-- a command over an original, a claim and several exports
+abbrev pub parts_app : Text → App
+parts_app name = with_rule (with_rule (with_rule (new_app name) (needed (codes "ORIGINAL"))) (needed (codes "CLAIM"))) (needed_some (codes "EXPORT"))
 
 -- a command of one file
 abbrev pub file_app : Text → App
@@ -27,10 +28,18 @@ file_app name = with_rule (new_app name) (needed (codes "FILE"))
 abbrev pub bare_app : App
 bare_app = record { top = record (new_shape (codes "edfclaim")) { has_version = true }; subs = [] }
 
+-- the program with a command over one export and one over several
+abbrev pub with_both : App → Text → Text → App
+with_both program of_one of_several = with_subcommand (with_subcommand program (export_app of_one).top) (parts_app of_several).top
+
 -- the program with its two checks, and without another command
 abbrev pub checking_app : App
-checking_app = with_subcommand (with_subcommand bare_app check_app.top) check_parts_app.top
+checking_app = with_both bare_app (codes "check") (codes "check-parts")
+
+-- the program with its checks and their receipts
+abbrev pub receipt_app : App
+receipt_app = with_both checking_app (codes "receipt") (codes "receipt-parts")
 
 abbrev pub program_app : App
-program_app = with_subcommand (with_subcommand (with_subcommand (with_subcommand checking_app
+program_app = with_subcommand (with_subcommand (with_subcommand (with_subcommand receipt_app
     (file_app (codes "conform")).top) (file_app (codes "show")).top) (file_app (codes "notes")).top) (new_app (codes "vectors")).top

@@ -6,7 +6,7 @@ ghost use Rattle.std.specs.Prelude.{◌≡◌, ◌≢◌, codes, false, IfOk, If
 ghost use Rattle.clap.specs.Simple.{app_of, new_app, with_rule, with_subcommand};
 ghost use Rattle.clap.specs.Values.{kind_of};
 ghost use Rattle.clap.specs.declared.builder.command.Command.TheViews.{out-Command as fields_of};
-ghost use Rattle.edf_command_line.specs.Commands.{needed, needed_some, bare_app, check_app, check_parts_app, checking_app, file_app, program_app};
+ghost use Rattle.edf_command_line.specs.Commands.{needed, needed_some, bare_app, checking_app, export_app, file_app, parts_app, program_app, receipt_app, with_both};
 ghost use Rattle.edf_job.specs.Jobs.{ArePlain, HasExports, SaysJob, SaysNoJob, behind_first};
 
 use crate::VERSION;
@@ -15,6 +15,13 @@ use clap::{Arg, Command, Error};
 use edf_job::job::Job;
 use edf_job::words::job_of;
 use std::alloc::{AllocError, Global};
+
+/// A command's name, and what it does in a line of the help.
+#[derive(Clone, Copy)]
+struct Named<'a> {
+    name: &'a str,
+    about: &'a str,
+}
 
 /// The command with one more argument, which has to be there.
 fn needing<'a>(
@@ -44,27 +51,31 @@ fn needing_some<'a>(
     command.arg(Arg::new(alloc, id).required(true).num_args(1..).help(help))
 }
 
-/// The command `check ORIGINAL EXPORT CLAIM`.
-fn check_command<'a>(alloc: Global) -> Result<Command<'a>, AllocError>
-    ensures shape { IfOk result (λ c. app_of c ≡ check_app) }
+/// The command `NAME ORIGINAL EXPORT CLAIM`.
+fn export_command<'a>(
+    alloc: Global,
+    name: &'a str,
+    about: &'a str,
+) -> Result<Command<'a>, AllocError>
+    ensures shape { IfOk result (λ c. app_of c ≡ export_app name.entry.now) }
     ensures local { IfOk result (λ c. (fields_of c).has_globals ≡ false) }
 {
-    let named = Command::new(alloc, "check").about(
-        "Checks that an export is its original, cut and made anonymous as a claim says",
-    );
+    let named = Command::new(alloc, name).about(about);
     let one = needing(alloc, named, "ORIGINAL", "The recording that is kept")?;
     let two = needing(alloc, one, "EXPORT", "The recording that is handed out")?;
     needing(alloc, two, "CLAIM", "The claim, a TOML document")
 }
 
-/// The command `check-parts ORIGINAL CLAIM EXPORT..`.
-fn check_parts_command<'a>(alloc: Global) -> Result<Command<'a>, AllocError>
-    ensures shape { IfOk result (λ c. app_of c ≡ check_parts_app) }
+/// The command `NAME ORIGINAL CLAIM EXPORT..`.
+fn parts_command<'a>(
+    alloc: Global,
+    name: &'a str,
+    about: &'a str,
+) -> Result<Command<'a>, AllocError>
+    ensures shape { IfOk result (λ c. app_of c ≡ parts_app name.entry.now) }
     ensures local { IfOk result (λ c. (fields_of c).has_globals ≡ false) }
 {
-    let named = Command::new(alloc, "check-parts").about(
-        "Checks that exports are together their original, cut and made anonymous as a claim says",
-    );
+    let named = Command::new(alloc, name).about(about);
     let one = needing(alloc, named, "ORIGINAL", "The recording that is kept")?;
     let two = needing(alloc, one, "CLAIM", "The claim, a TOML document")?;
     needing_some(
@@ -112,21 +123,58 @@ fn bare_program<'a>(alloc: Global) -> Command<'a>
     Command::new(alloc, "edfclaim").version(VERSION)
 }
 
+/// The program with one more command of the form `NAME ORIGINAL EXPORT CLAIM`, and one of the form
+/// `NAME ORIGINAL CLAIM EXPORT..`.
+fn with_both<'a>(
+    alloc: Global,
+    program: Command<'a>,
+    of_one: Named<'a>,
+    of_several: Named<'a>,
+) -> Result<Command<'a>, AllocError>
+    ensures { IfOk result (λ c. app_of c ≡ with_both (app_of program.entry) of_one.entry.name.now of_several.entry.name.now) }
+{
+    let one = export_command(alloc, of_one.name, of_one.about)?;
+    let first = program.subcommand(one)?;
+    let several = parts_command(alloc, of_several.name, of_several.about)?;
+    first.subcommand(several)
+}
+
 /// The program with its two checks, and without another command.
 fn checking_program<'a>(alloc: Global) -> Result<Command<'a>, AllocError>
     ensures { IfOk result (λ c. app_of c ≡ checking_app) }
 {
-    let check = check_command(alloc)?;
-    let first = bare_program(alloc).subcommand(check)?;
-    let parts = check_parts_command(alloc)?;
-    first.subcommand(parts)
+    let check = Named {
+        name: "check",
+        about: "Checks that an export is its original, cut and made anonymous as a claim says",
+    };
+    let parts = Named {
+        name: "check-parts",
+        about: "Checks that exports are together their original, cut and made anonymous as a claim says",
+    };
+    with_both(alloc, bare_program(alloc), check, parts)
+}
+
+/// The program with its checks and their receipts, and without another command.
+fn receipt_program<'a>(alloc: Global) -> Result<Command<'a>, AllocError>
+    ensures { IfOk result (λ c. app_of c ≡ receipt_app) }
+{
+    let checking = checking_program(alloc)?;
+    let receipt = Named {
+        name: "receipt",
+        about: "Checks as check does, and names the files by their digests",
+    };
+    let parts = Named {
+        name: "receipt-parts",
+        about: "Checks as check-parts does, and names the files by their digests",
+    };
+    with_both(alloc, checking, receipt, parts)
 }
 
 /// The program with all of its commands.
 fn program<'a>(alloc: Global) -> Result<Command<'a>, AllocError>
     ensures { IfOk result (λ c. app_of c ≡ program_app) }
 {
-    let first = checking_program(alloc)?;
+    let first = receipt_program(alloc)?;
     let second = with_report(alloc, first, "conform", "Says whether a file conforms")?;
     let third = with_report(alloc, second, "show", "Shows what a file's header says")?;
     let fourth = with_report(alloc, third, "notes", "Lists a file's annotations")?;

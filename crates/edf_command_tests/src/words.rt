@@ -35,6 +35,30 @@ const WORDS: &[(&[&str], Option<Job<'static>>)] = &[
     (&["edfclaim", "check-parts", "o", "c", "a", "--"], None),
     (&["edfclaim", "check-parts", "--", "o", "c", "a"], None),
     (
+        &[
+            "edfclaim",
+            "receipt",
+            "night.edf",
+            "export.edf",
+            "claim.toml",
+        ],
+        Some(Job::Receipt {
+            original: "night.edf",
+            export: "export.edf",
+            claim: "claim.toml",
+        }),
+    ),
+    (&["edfclaim", "receipt", "o", "e"], None),
+    (
+        &["edfclaim", "receipt-parts", "o", "c", "a", "b"],
+        Some(Job::ReceiptParts {
+            original: "o",
+            claim: "c",
+            exports: &["a", "b"],
+        }),
+    ),
+    (&["edfclaim", "receipt-parts", "o", "c"], None),
+    (
         &["edfclaim", "conform", "night.edf"],
         Some(Job::Conform("night.edf")),
     ),

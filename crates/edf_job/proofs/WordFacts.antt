@@ -6,7 +6,7 @@ use Rattle.std.specs.Bool.{Decides}
 use Rattle.std.specs.Borrow.{Bor}
 use Rattle.std.specs.List.{Contains, IsAnyAnswer}
 use Rattle.std.specs.Str.{bytes_eq}
-use Rattle.edf_job.specs.Jobs.{SaysNoCheckParts, SaysNoJob, SaysNoOther}
+use Rattle.edf_job.specs.Jobs.{SaysNoParts, SaysNoJob, SaysNoOther}
 use Rattle.edf_job.specs.declared.job.Job.{Job}
 
 abbrev no_word : Bor (List ℕ)
@@ -35,7 +35,7 @@ contains_text ws t false none = (
       ∙ (bytes_eq-Decides (get_or ws at.0 no_word).now t).1 (sym (text_at ws at.0 t within) ∙ at.2)),
 )
 
--- the words are no command where they are neither `check-parts` nor one of the others
-pub no_job : (words : List (List ℕ)) (found : Option Job) → SaysNoCheckParts words → IfNone found (SaysNoOther words) → IfNone found (SaysNoJob words)
+-- the words are no command where they are neither one over several exports nor one of the others
+pub no_job : (words : List (List ℕ)) (found : Option Job) → SaysNoParts words → IfNone found (SaysNoOther words) → IfNone found (SaysNoJob words)
 no_job words None no_parts no_other = λ j says. no_parts j (no_other j says) says
 no_job words (Some job) no_parts no_other = no_other

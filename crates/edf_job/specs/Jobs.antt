@@ -3,7 +3,7 @@ use Rattle.std.specs.Prelude.{◌≡◌, ◌≢◌, ℕ, ◌<◌, List, [], ◌�
 use Rattle.std.specs.Borrow.{Bor}
 use Rattle.std.specs.List.{Contains}
 use Rattle.edf_job.specs.declared.job.Job.{Job}
-use Rattle.edf_job.specs.declared.job.Job.TheVariants.{Check, CheckParts, Conform, Show, Notes, Vectors}
+use Rattle.edf_job.specs.declared.job.Job.TheVariants.{Check, CheckParts, Receipt, ReceiptParts, Conform, Show, Notes, Vectors}
 
 -- the words behind the first, which is the program's name
 abbrev pub behind_first : List (Bor (List ℕ)) → List (List ℕ)
@@ -18,31 +18,37 @@ abbrev pub SaysJob : List (List ℕ) → Job → Type 0
 SaysJob words (Check original export claim) = words ≡ codes "check" ∷ original.now ∷ export.now ∷ claim.now ∷ []
 SaysJob words (CheckParts original claim exports) =
     (words ≡ codes "check-parts" ∷ original.now ∷ claim.now ∷ map (λ w. w.now) exports.now) × (0 < length exports.now) × ¬ HaveEscape words
+SaysJob words (Receipt original export claim) = words ≡ codes "receipt" ∷ original.now ∷ export.now ∷ claim.now ∷ []
+SaysJob words (ReceiptParts original claim exports) =
+    (words ≡ codes "receipt-parts" ∷ original.now ∷ claim.now ∷ map (λ w. w.now) exports.now) × (0 < length exports.now) × ¬ HaveEscape words
 SaysJob words (Conform path) = words ≡ codes "conform" ∷ path.now ∷ []
 SaysJob words (Show path) = words ≡ codes "show" ∷ path.now ∷ []
 SaysJob words (Notes path) = words ≡ codes "notes" ∷ path.now ∷ []
 SaysJob words Vectors = words ≡ codes "vectors" ∷ []
 
--- a check of several exports has one at least
+-- a job over several exports has one at least
 abbrev pub HasExports : Job → Type 0
 HasExports (CheckParts original claim exports) = 0 < length exports.now
+HasExports (ReceiptParts original claim exports) = 0 < length exports.now
 HasExports job = Unit {0}
 
 -- the words are no command with its arguments
 abbrev pub SaysNoJob : List (List ℕ) → Type 0
 SaysNoJob words = (j : Job) → ¬ SaysJob words j
 
-abbrev pub IsCheckParts : Job → Type 0
-IsCheckParts (CheckParts original claim exports) = Unit {0}
-IsCheckParts job = ⊥
+-- the job is one over several exports
+abbrev pub IsOfParts : Job → Type 0
+IsOfParts (CheckParts original claim exports) = Unit {0}
+IsOfParts (ReceiptParts original claim exports) = Unit {0}
+IsOfParts job = ⊥
 
--- the words aren't the command `check-parts`
-abbrev pub SaysNoCheckParts : List (List ℕ) → Type 0
-SaysNoCheckParts words = (j : Job) → IsCheckParts j → ¬ SaysJob words j
+-- the words aren't such a command
+abbrev pub SaysNoParts : List (List ℕ) → Type 0
+SaysNoParts words = (j : Job) → IsOfParts j → ¬ SaysJob words j
 
 -- the words are none of the other commands
 abbrev pub SaysNoOther : List (List ℕ) → Type 0
-SaysNoOther words = (j : Job) → SaysJob words j → IsCheckParts j
+SaysNoOther words = (j : Job) → SaysJob words j → IsOfParts j
 
 -- no word is empty or begins with a minus
 abbrev pub ArePlain : List (List ℕ) → Type 0

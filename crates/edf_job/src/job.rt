@@ -15,6 +15,18 @@ pub enum Job<'a> {
         claim: &'a str,
         exports: &'a [&'a str],
     },
+    /// The same as `Check`, with a receipt for its answer.
+    Receipt {
+        original: &'a str,
+        export: &'a str,
+        claim: &'a str,
+    },
+    /// The same as `CheckParts`, with a receipt for its answer.
+    ReceiptParts {
+        original: &'a str,
+        claim: &'a str,
+        exports: &'a [&'a str],
+    },
     /// Says whether a file conforms.
     Conform(&'a str),
     /// Shows what the header of a file says.

@@ -2,7 +2,7 @@
 
 ghost use Rattle.std.specs.Prelude.{map, IfSome, IfNone};
 ghost use Rattle.std.specs.Bool.{Decides};
-ghost use Rattle.edf_job.specs.Jobs.{HasExports, HaveEscape, SaysJob, SaysNoCheckParts, SaysNoJob, SaysNoOther, behind_first};
+ghost use Rattle.edf_job.specs.Jobs.{HasExports, HaveEscape, SaysJob, SaysNoParts, SaysNoJob, SaysNoOther, behind_first};
 
 use crate::job::Job;
 
@@ -13,10 +13,10 @@ fn have_escape(words: &[&str]) -> bool
     words.contains(&"--")
 }
 
-/// The command `check-parts` that the words behind the first one are, or none where they aren't it.
+/// The command over several exports that the words behind the first one are, or none where they aren't one.
 fn parts_job<'a>(words: &'a [&'a str]) -> Option<Job<'a>>
     ensures some { IfSome result (SaysJob (behind_first words.entry.now)) }
-    ensures none { IfNone result (SaysNoCheckParts (behind_first words.entry.now)) }
+    ensures none { IfNone result (SaysNoParts (behind_first words.entry.now)) }
 {
     match words {
         [_, "check-parts", original, claim, _, ..] if !have_escape(&words[1..]) => {
@@ -26,17 +26,29 @@ fn parts_job<'a>(words: &'a [&'a str]) -> Option<Job<'a>>
                 exports: &words[4..],
             })
         }
+        [_, "receipt-parts", original, claim, _, ..] if !have_escape(&words[1..]) => {
+            Some(Job::ReceiptParts {
+                original,
+                claim,
+                exports: &words[4..],
+            })
+        }
         _ => None,
     }
 }
 
-/// The command that the words behind the first one are, where it isn't `check-parts`.
+/// The command that the words behind the first one are, where it isn't one over several exports.
 fn other_job<'a>(words: &'a [&'a str]) -> Option<Job<'a>>
     ensures some { IfSome result (SaysJob (behind_first words.entry.now)) }
     ensures none { IfNone result (SaysNoOther (behind_first words.entry.now)) }
 {
     match words {
         [_, "check", original, export, claim] => Some(Job::Check {
+            original,
+            export,
+            claim,
+        }),
+        [_, "receipt", original, export, claim] => Some(Job::Receipt {
             original,
             export,
             claim,

@@ -6,6 +6,7 @@ ghost use Rattle.edf_refusal.specs.Refusals.{ClaimReadStops};
 ghost use Rattle.edfclaim.specs.Opening.{ClaimTextStops, OpeningStops};
 
 use edf_claim::claim::MOST_BYTES;
+use edf_fields::digest_source::DigestSource;
 use edf_fields::source::{ReadSource, Source, fill};
 use edf_refusal::refusal::{Refusal, Role};
 use std::alloc::Global;
@@ -82,6 +83,25 @@ pub fn recordings<R: Files + AllocGlobal>(
     let mut sources = Vec::with_capacity(rt.alloc(), paths.len())?;
     for path in paths {
         sources.push(recording_ahead(rt, path, role, READ_AHEAD_OF_SEVERAL)?)?;
+    }
+    Ok(sources)
+}
+
+/// The same as `recordings`, by sources that digest what they give.
+///
+/// The error is `CannotOpen`, or want of memory.
+pub fn digested_recordings<R: Files + AllocGlobal>(
+    rt: &R,
+    paths: &[&str],
+    role: Role,
+) -> Result<Vec<DigestSource<ReadSource<BufReader<R::File>>>>, Refusal>
+    ensures each { IfOk result (λ sources. length sources.items ≡ length paths.now) }
+    ensures stop { IfErr result (OpeningStops role) }
+{
+    let mut sources = Vec::with_capacity(rt.alloc(), paths.len())?;
+    for path in paths {
+        let source = recording_ahead(rt, path, role, READ_AHEAD_OF_SEVERAL)?;
+        sources.push(DigestSource::new(source))?;
     }
     Ok(sources)
 }

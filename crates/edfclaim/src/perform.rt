@@ -5,11 +5,15 @@ ghost use Rattle.edf_job.specs.Jobs.{HasExports};
 ghost use Rattle.edf_refusal.specs.declared.refusal.Refusal.TheVariants as refusals;
 ghost use Rattle.edfclaim.specs.Opening.{CheckIsRefused, PartsAreRefused, ReportIsRefused};
 
-use crate::files::{claim_text, recording, recordings};
+use crate::files::{claim_text, digested_recordings, recording, recordings};
 use edf_check::vectors::vectors_to;
 use edf_check::{run, run_parts};
+use edf_command_line::VERSION;
+use edf_fields::digest_source::DigestSource;
 use edf_fields::sink::{Sink, WriteSink};
 use edf_job::job::Job;
+use edf_receipt::parts_receipt::receipt_parts_to;
+use edf_receipt::receipt::receipt_to;
 use edf_refusal::refusal::{Refusal, Role};
 use edf_report::conform::conform_to;
 use edf_report::notes::notes_to;
@@ -62,6 +66,43 @@ fn check_parts<R: Files + AllocGlobal, K: Sink>(
     let mut first = recording(rt, original, Role::Original)?;
     let mut parts = recordings(rt, exports, Role::Export)?;
     Ok(run_parts::run_parts(rt.alloc(), &mut first, &mut parts, &text, sink)?)
+}
+
+/// The same as `check`, with a receipt for its answer.
+fn receipt<R: Files + AllocGlobal, K: Sink>(
+    rt: &R,
+    original: &str,
+    export: &str,
+    claim: &str,
+    sink: &mut K,
+) -> Result<Outcome, Refusal>
+    ensures stop { IfErr result CheckIsRefused }
+{
+    let text = claim_text(rt, claim)?;
+    let mut first = DigestSource::new(recording(rt, original, Role::Original)?);
+    let mut second = DigestSource::new(recording(rt, export, Role::Export)?);
+    Ok(receipt_to(rt.alloc(), VERSION, &mut first, &mut second, &text, sink)?)
+}
+
+/// The same as `check_parts`, with a receipt for its answer.
+fn receipt_parts<R: Files + AllocGlobal, K: Sink>(
+    rt: &R,
+    original: &str,
+    claim: &str,
+    exports: &[&str],
+    sink: &mut K,
+) -> Result<Outcome, Refusal>
+    requires { 0 < length exports.now }
+    ensures many { 64 < length exports.now → result ≡ Err refusals.TooManyExports }
+    ensures stop { IfErr result (PartsAreRefused (length exports.now)) }
+{
+    if exports.len() > MOST_EXPORTS {
+        return Err(Refusal::TooManyExports);
+    }
+    let text = claim_text(rt, claim)?;
+    let mut first = DigestSource::new(recording(rt, original, Role::Original)?);
+    let mut parts = digested_recordings(rt, exports, Role::Export)?;
+    Ok(receipt_parts_to(rt.alloc(), VERSION, &mut first, &mut parts, &text, sink)?)
 }
 
 /// Says whether a file conforms.
@@ -119,6 +160,16 @@ fn report<R: Files + AllocGlobal, K: Sink>(
             claim,
             exports,
         } => check_parts(rt, original, claim, exports, sink),
+        Job::Receipt {
+            original,
+            export,
+            claim,
+        } => receipt(rt, original, export, claim, sink),
+        Job::ReceiptParts {
+            original,
+            claim,
+            exports,
+        } => receipt_parts(rt, original, claim, exports, sink),
         Job::Conform(path) => conform(rt, path, sink),
         Job::Show(path) => show(rt, path, sink),
         Job::Notes(path) => notes(rt, path, sink),

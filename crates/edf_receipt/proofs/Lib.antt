@@ -1,0 +1,3 @@
+pub mod PartsFacts
+pub mod LineFacts
+pub mod RunLineFacts

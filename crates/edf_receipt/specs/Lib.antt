@@ -1,0 +1,4 @@
+pub mod Receipts
+pub mod ReceiptRuns
+pub mod PartsReceipts
+pub mod Laws

@@ -1,0 +1,139 @@
+//! The files that were judged, each read to its end.
+
+ghost use Rattle.std.specs.Prelude.{◌≡◌, ◌+◌, ◌-◌, ◌<◌, ◌≤◌, ◌^◌, ◌++◌, ℕ, List, length, map, true, IfOk, IfErr, OnOk, OnErr};
+ghost use Rattle.edf_check.specs.Checks.{CheckStops};
+ghost use Rattle.edf_check.specs.PartsStops.{PartsStops};
+ghost use Rattle.edf_fields.specs.Digests.{digest_reads};
+ghost use Rattle.edf_fields.specs.Sources.{Fails};
+ghost use Rattle.edf_receipt.specs.PartsReceipts.{AreDigested, files_of_parts, part_lines};
+ghost use Rattle.edf_receipt.specs.Receipts.{files_of, line_of};
+ghost use Rattle.edf_receipt.specs.declared.file_line.ReceiptFile.TheVariants as files;
+
+use crate::file_line::{FileLine, ReceiptFile};
+use edf_fields::digest_source::{DigestSource, digest_of};
+use edf_fields::source::{ReadFault, Source};
+use edf_refusal::parts_stop::{PartSide, PartsStop};
+use edf_refusal::side::Side;
+use edf_refusal::stop::CheckStop;
+use std::alloc::Global;
+
+/// How many bytes are read at a time behind what the check has read.
+const AT_A_TIME: usize = 65_536;
+
+/// Reads a file to its end, and gives the line that names it.
+///
+/// The error is a failure of the source.
+fn line_of<S: Source + Drop>(
+    file: ReceiptFile,
+    source: &mut DigestSource<S>,
+    buf: &mut [u8],
+) -> Result<FileLine, ReadFault>
+    requires { 0 < length buf.old }
+    ensures line { IfOk result (λ line. (whole : List ℕ) → ⟦<DigestSource<S> as Source>⟧.reads source.old ≡ digest_reads 0 whole true →
+        length whole < 2 ^ 64 - 1 → line ≡ line_of file whole) }
+    ensures room { length buf.new ≡ length buf.old }
+    ensures failures { OnOk result (⟦<DigestSource<S> as Source>⟧.reads source.new ≡ ⟦<DigestSource<S> as Source>⟧.reads source.old) }
+    ensures fails { OnErr result (Fails (⟦<DigestSource<S> as Source>⟧.reads source.old) (⟦<DigestSource<S> as Source>⟧.reads source.new)) }
+{
+    let digested = source.finish(buf)?;
+    Ok(FileLine { file, digested })
+}
+
+/// The line that names a claim of this text.
+fn claim_line(text: &[u8]) -> FileLine
+    ensures { result ≡ line_of files.Claim text.now }
+{
+    FileLine {
+        file: ReceiptFile::Claim,
+        digested: digest_of(text),
+    }
+}
+
+/// The lines that name the files of a check, of which both recordings are read to their ends.
+///
+/// The error is want of memory, or a failure of one of the sources.
+pub(crate) fn files_of<O: Source + Drop, E: Source + Drop>(
+    alloc: Global,
+    original: &mut DigestSource<O>,
+    export: &mut DigestSource<E>,
+    claim_text: &[u8],
+) -> Result<[FileLine; 3], CheckStop>
+    ensures files { IfOk result (λ files. (first second : List ℕ) → ⟦<DigestSource<O> as Source>⟧.reads original.old ≡ digest_reads 0 first true →
+        ⟦<DigestSource<E> as Source>⟧.reads export.old ≡ digest_reads 0 second true → length first < 2 ^ 64 - 1 → length second < 2 ^ 64 - 1 →
+        files ≡ files_of first second claim_text.now) }
+    ensures failures { OnOk result ((⟦<DigestSource<O> as Source>⟧.reads original.new ≡ ⟦<DigestSource<O> as Source>⟧.reads original.old)
+        × (⟦<DigestSource<E> as Source>⟧.reads export.new ≡ ⟦<DigestSource<E> as Source>⟧.reads export.old)) }
+    ensures stop { IfErr result (CheckStops
+        (Fails (⟦<DigestSource<O> as Source>⟧.reads original.old) (⟦<DigestSource<O> as Source>⟧.reads original.new))
+        (Fails (⟦<DigestSource<E> as Source>⟧.reads export.old) (⟦<DigestSource<E> as Source>⟧.reads export.new))
+        ((⟦<DigestSource<O> as Source>⟧.reads original.new ≡ ⟦<DigestSource<O> as Source>⟧.reads original.old)
+        × (⟦<DigestSource<E> as Source>⟧.reads export.new ≡ ⟦<DigestSource<E> as Source>⟧.reads export.old))) }
+{
+    let mut buf = vec![in alloc; 0u8; AT_A_TIME]?;
+    let Ok(first) = line_of(ReceiptFile::Original, original, &mut buf) else {
+        return Err(CheckStop::ReadFailed(Side::Original));
+    };
+    let Ok(second) = line_of(ReceiptFile::Export, export, &mut buf) else {
+        return Err(CheckStop::ReadFailed(Side::Export));
+    };
+    Ok([first, second, claim_line(claim_text)])
+}
+
+/// Reads exports to their ends, and puts the lines that name them behind those of other files; the first has this number.
+///
+/// The error is want of memory, or a failure of one of the sources.
+fn push_parts<E: Source + Drop>(
+    parts: &mut [DigestSource<E>],
+    first: u16,
+    buf: &mut [u8],
+    files: &mut Vec<FileLine>,
+) -> Result<(), PartsStop>
+    requires few { first + length parts.old ≤ 64 }
+    requires room { 0 < length buf.old }
+    ensures files { OnOk result ((wholes : List (List ℕ)) → AreDigested (map ⟦<DigestSource<E> as Source>⟧.reads parts.old) wholes →
+        files.new.items ≡ files.old.items ++ part_lines first wholes) }
+    ensures failures { OnOk result (map ⟦<DigestSource<E> as Source>⟧.reads parts.new ≡ map ⟦<DigestSource<E> as Source>⟧.reads parts.old) }
+    ensures stop { IfErr result (PartsStops ⊥ (map ⟦<DigestSource<E> as Source>⟧.reads parts.new ≡ map ⟦<DigestSource<E> as Source>⟧.reads parts.old)
+        first (map ⟦<DigestSource<E> as Source>⟧.reads parts.old) (map ⟦<DigestSource<E> as Source>⟧.reads parts.new)) }
+{
+    let Some((part, others)) = parts.split_first_mut() else {
+        return Ok(());
+    };
+    let Ok(line) = line_of(ReceiptFile::Part(first), part, buf) else {
+        return Err(PartsStop::ReadFailed(PartSide::Part(first)));
+    };
+    files.push(line)?;
+    push_parts(others, first + 1, buf, files)
+}
+
+/// The lines that name the files of a check of several exports, of which all recordings are read to their ends.
+///
+/// The error is want of memory, or a failure of one of the sources.
+pub(crate) fn files_of_parts<O: Source + Drop, E: Source + Drop>(
+    alloc: Global,
+    original: &mut DigestSource<O>,
+    parts: &mut [DigestSource<E>],
+    claim_text: &[u8],
+) -> Result<Vec<FileLine>, PartsStop>
+    requires few { length parts.old ≤ 64 }
+    ensures files { IfOk result (λ files. (first : List ℕ) (wholes : List (List ℕ)) → ⟦<DigestSource<O> as Source>⟧.reads original.old ≡ digest_reads 0 first true →
+        length first < 2 ^ 64 - 1 → AreDigested (map ⟦<DigestSource<E> as Source>⟧.reads parts.old) wholes →
+        files.items ≡ files_of_parts first wholes claim_text.now) }
+    ensures failures { OnOk result ((⟦<DigestSource<O> as Source>⟧.reads original.new ≡ ⟦<DigestSource<O> as Source>⟧.reads original.old)
+        × (map ⟦<DigestSource<E> as Source>⟧.reads parts.new ≡ map ⟦<DigestSource<E> as Source>⟧.reads parts.old)) }
+    ensures stop { IfErr result (PartsStops
+        (Fails (⟦<DigestSource<O> as Source>⟧.reads original.old) (⟦<DigestSource<O> as Source>⟧.reads original.new))
+        ((⟦<DigestSource<O> as Source>⟧.reads original.new ≡ ⟦<DigestSource<O> as Source>⟧.reads original.old)
+        × (map ⟦<DigestSource<E> as Source>⟧.reads parts.new ≡ map ⟦<DigestSource<E> as Source>⟧.reads parts.old))
+        0 (map ⟦<DigestSource<E> as Source>⟧.reads parts.old) (map ⟦<DigestSource<E> as Source>⟧.reads parts.new)) }
+{
+    let mut buf = vec![in alloc; 0u8; AT_A_TIME]?;
+    let mut files = Vec::with_capacity(alloc, parts.len() + 2)?;
+    let Ok(first) = line_of(ReceiptFile::Original, original, &mut buf) else {
+        return Err(PartsStop::ReadFailed(PartSide::Original));
+    };
+    files.push(first)?;
+    push_parts(parts, 0, &mut buf, &mut files)?;
+    files.push(claim_line(claim_text))?;
+    Ok(files)
+}
