@@ -111,6 +111,7 @@ fn writes_nothing_where_a_read_fails(rt: HostRuntime) {
     // the check reads the original once, and the receipt once more; the export is read for its digest alone
     assert_stop(&rt, CLAIM, (0, 9), RunStop::ReadFailed(Side::Original));
     assert_stop(&rt, CLAIM, (1, 9), RunStop::ReadFailed(Side::Original));
+    assert_stop(&rt, CLAIM, (1, 0), RunStop::ReadFailed(Side::Original));
     assert_stop(&rt, CLAIM, (2, 0), RunStop::ReadFailed(Side::Export));
     assert_stop(&rt, CLAIM, (2, 1), RunStop::ReadFailed(Side::Export));
     assert_stop(&rt, CLAIM, (2, 2), RunStop::ReadFailed(Side::Export));
@@ -119,7 +120,7 @@ fn writes_nothing_where_a_read_fails(rt: HostRuntime) {
 
 #[test]
 fn names_the_part_of_which_a_read_fails(rt: HostRuntime) {
-    for (passes, part) in [((0, 9), 0), ((2, 9), 0), ((3, 0), 1)] {
+    for (passes, part) in [((0, 9), 0), ((2, 9), 0), ((2, 0), 0), ((3, 0), 1)] {
         let mut text = Line::new(rt.alloc());
         let stop = PartsRunStop::ReadFailed(PartSide::Part(part));
         assert_eq!(rt; parts_receipt(rt.alloc(), passes, &mut text), Err(stop));

@@ -6,7 +6,7 @@ ghost use Rattle.edf_check.specs.PartsStops.{PartsStops};
 ghost use Rattle.edf_fields.specs.Digests.{digest_reads};
 ghost use Rattle.edf_fields.specs.Sources.{Fails};
 ghost use Rattle.edf_receipt.specs.PartsReceipts.{AreDigested, files_of_parts, part_lines};
-ghost use Rattle.edf_receipt.specs.Receipts.{files_of, line_of};
+ghost use Rattle.edf_receipt.specs.Receipts.{line_of};
 ghost use Rattle.edf_receipt.specs.declared.file_line.ReceiptFile.TheVariants as files;
 
 use crate::file_line::{FileLine, ReceiptFile};
@@ -49,6 +49,14 @@ fn claim_line(text: &[u8]) -> FileLine
     }
 }
 
+/// The lines that name the files of a check.
+#[derive(Clone, Copy)]
+pub(crate) struct CheckFiles {
+    pub(crate) original: FileLine,
+    pub(crate) export: FileLine,
+    pub(crate) claim: FileLine,
+}
+
 /// The lines that name the files of a check, of which both recordings are read to their ends.
 ///
 /// The error is want of memory, or a failure of one of the sources.
@@ -57,10 +65,12 @@ pub(crate) fn files_of<O: Source + Drop, E: Source + Drop>(
     original: &mut DigestSource<O>,
     export: &mut DigestSource<E>,
     claim_text: &[u8],
-) -> Result<[FileLine; 3], CheckStop>
-    ensures files { IfOk result (λ files. (first second : List ℕ) → ⟦<DigestSource<O> as Source>⟧.reads original.old ≡ digest_reads 0 first true →
-        ⟦<DigestSource<E> as Source>⟧.reads export.old ≡ digest_reads 0 second true → length first < 2 ^ 64 - 1 → length second < 2 ^ 64 - 1 →
-        files ≡ files_of first second claim_text.now) }
+) -> Result<CheckFiles, CheckStop>
+    ensures original { IfOk result (λ lines. (whole : List ℕ) → ⟦<DigestSource<O> as Source>⟧.reads original.old ≡ digest_reads 0 whole true →
+        length whole < 2 ^ 64 - 1 → lines.original ≡ line_of files.Original whole) }
+    ensures export { IfOk result (λ lines. (whole : List ℕ) → ⟦<DigestSource<E> as Source>⟧.reads export.old ≡ digest_reads 0 whole true →
+        length whole < 2 ^ 64 - 1 → lines.export ≡ line_of files.Export whole) }
+    ensures claim { IfOk result (λ lines. lines.claim ≡ line_of files.Claim claim_text.now) }
     ensures failures { OnOk result ((⟦<DigestSource<O> as Source>⟧.reads original.new ≡ ⟦<DigestSource<O> as Source>⟧.reads original.old)
         × (⟦<DigestSource<E> as Source>⟧.reads export.new ≡ ⟦<DigestSource<E> as Source>⟧.reads export.old)) }
     ensures stop { IfErr result (CheckStops
@@ -76,7 +86,11 @@ pub(crate) fn files_of<O: Source + Drop, E: Source + Drop>(
     let Ok(second) = line_of(ReceiptFile::Export, export, &mut buf) else {
         return Err(CheckStop::ReadFailed(Side::Export));
     };
-    Ok([first, second, claim_line(claim_text)])
+    Ok(CheckFiles {
+        original: first,
+        export: second,
+        claim: claim_line(claim_text),
+    })
 }
 
 /// Reads exports to their ends, and puts the lines that name them behind those of other files; the first has this number.

@@ -1,9 +1,13 @@
-//! Laws of receipts, each the contract of a function that does nothing.
+//! Laws of receipts, each the contract of a function that does nothing, or no more than it says.
 
+ghost use Rattle.std.specs.Prelude.{◌-◌, ◌<◌, ◌^◌, length, IsTrue};
 ghost use Rattle.edf_receipt.specs.Laws.{PartsRunIsLastLine, RunIsLastLine, TextTellsLine};
+ghost use Rattle.edf_receipt.specs.ReceiptRuns.{IsFresh};
 
 use edf_check::laws::{there_is_one_verdict, there_is_one_verdict_on_parts};
 use edf_claim::laws::tables_say_one_claim;
+use edf_fields::digest_source::DigestSource;
+use edf_fields::source::Source;
 
 /// The text of a receipt of so many files determines the line of the verdict.
 pub fn a_receipt_tells_its_line()
@@ -18,4 +22,12 @@ pub fn a_run_writes_the_last_line()
     tables_say_one_claim();
     there_is_one_verdict();
     there_is_one_verdict_on_parts();
+}
+
+/// Of a new source that digests an honest one nothing was read, as a receipt wants it.
+pub fn a_new_source_is_fresh<S: Source + Drop>(source: S) -> DigestSource<S>
+    ensures { IsTrue (S.is_honest source) → length (S.left source) < 2 ^ 64 - 1 →
+        IsFresh (⟦<DigestSource<S> as Source>⟧.reads result) (⟦<DigestSource<S> as Source>⟧.is_honest result) (⟦<DigestSource<S> as Source>⟧.left result) }
+{
+    DigestSource::new(source)
 }

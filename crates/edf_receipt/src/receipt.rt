@@ -115,6 +115,7 @@ pub fn receipt_to<O: Source + Drop, E: Source + Drop, K: Sink>(
 {
     let verdict = judge(alloc, original, export, claim_text)?;
     let files = files_of(alloc, original, export, claim_text)?;
-    write_receipt(alloc, version, &files, &verdict, sink)?;
+    let lines = [files.original, files.export, files.claim];
+    write_receipt(alloc, version, &lines, &verdict, sink)?;
     Ok(verdict.outcome())
 }
