@@ -5,17 +5,28 @@
 #
 # usage: tools/receipts.sh PROGRAM
 #
-# A receipt has the status of the check, its line at the end and nothing on standard error. Where the check is refused
-# it is refused with the same line, and has nothing on standard output. The last line of the output counts the receipts
-# that passed and failed.
+# Each check has the status that is expected of it. A receipt has the status of the check, its line at the end and
+# nothing on standard error. Where the check is refused it is refused with the same line, and has nothing on standard
+# output. The last line of the output counts the checks and receipts that passed and failed; where a tool is missing that
+# this script needs, that is one failure.
 set -u
 
 if [ "$#" -ne 1 ] || [ ! -x "$1" ]; then
     echo "usage: $0 PROGRAM" >&2
     exit 2
 fi
+missing=
+for tool in basename cat cmp cp cut dirname head mktemp mv python3 rm sha256sum tail tr truncate wc yes; do
+    command -v "$tool" >/dev/null || missing="$missing $tool"
+done
+if [ -n "$missing" ]; then
+    echo "missing on this machine:$missing"
+    echo "0 passed, 1 failed"
+    exit 1
+fi
 program=$(CDPATH='' cd -- "$(dirname -- "$1")" && pwd)/$(basename -- "$1") || exit 2
 CDPATH='' cd -- "$(dirname -- "$0")/../examples/night" || exit 2
+night=$PWD
 work=$(mktemp -d) || exit 2
 trap 'rm -rf "$work"' EXIT
 trap 'exit 2' HUP INT TERM
@@ -91,11 +102,15 @@ refuses() {
     gives 2 "$@"
 }
 
-# Runs a check and the receipt of it, and compares the two.
+# Runs a check, which is to end with this status, and the receipt of it, and compares the two.
 compare() {
+    wanted=$1
+    shift
     "$program" "$@" >"$work/line" 2>"$work/refusal" </dev/null
     checked=$?
-    if [ "$checked" -eq 2 ]; then
+    [ "$checked" -eq "$wanted" ]
+    judge $? "$(echo "$*" | cut -c 1-200): status $checked with $(cat "$work/line" "$work/refusal"); wanted: $wanted"
+    if [ "$wanted" -eq 2 ]; then
         : >"$work/want"
     else
         write_want "$@"
@@ -103,25 +118,25 @@ compare() {
     name=receipt
     [ "$1" = check ] || name=receipt-parts
     shift
-    gives "$checked" "$name" "$@"
+    gives "$wanted" "$name" "$@"
 }
 
 # the example night: each answer of a check
 checks=0
-while IFS='	' read -r status words line; do
+while IFS='	' read -r expected words line; do
     case $words in
     'check '* | 'check-parts '*)
         checks=$((checks + 1))
         # the words are the names of files, without spaces
         # shellcheck disable=SC2086
-        compare $words
-        if [ "$checked" -eq 2 ]; then
+        compare "$expected" $words
+        if [ "$expected" -eq 2 ]; then
             last=$(cat "$work/err")
         else
             last=$(tail -n 1 "$work/out")
         fi
-        [ "$checked" -eq "$status" ] && [ "$last" = "$line" ]
-        judge $? "$words: status $checked, and the last line $last; the answers have: $status, $line"
+        [ "$last" = "$line" ]
+        judge $? "$words: the last line is $last; the answers have: $line"
         ;;
     esac
 done <answers
@@ -136,19 +151,21 @@ cp cut.toml "$work/claim"
 for _ in 1 2; do
     cp receipt.txt "$work/want"
     gives 0 receipt original.edf cut.edf cut.toml
-    gives 0 receipt "$work/another night.edf" "$work/-cut.edf" "$work/claim"
+    cd -- "$work" || exit 2
+    gives 0 receipt 'another night.edf' ./-cut.edf claim
+    cd -- "$night" || exit 2
     cp receipt-parts.txt "$work/want"
     gives 0 receipt-parts original.edf cut.toml cut-part-1.edf cut-part-2.edf
-    gives 0 receipt-parts "$work/another night.edf" "$work/claim" cut-part-1.edf "$PWD/cut-part-2.edf"
+    cd -- "$work" || exit 2
+    gives 0 receipt-parts 'another night.edf' claim "$night/cut-part-1.edf" "$night/cut-part-2.edf"
+    cd -- "$night" || exit 2
 done
 
 # a pipe gives a file in pieces, and once
 if [ -e /dev/stdin ]; then
-    mkfifo "$work/pipe"
-    cat original.edf >"$work/pipe" &
-    "$program" receipt /dev/stdin cut.edf cut.toml >"$work/out" 2>"$work/err" <"$work/pipe"
+    # shellcheck disable=SC2002
+    cat original.edf | "$program" receipt /dev/stdin cut.edf cut.toml >"$work/out" 2>"$work/err"
     status=$?
-    wait
     [ "$status" -eq 0 ] && cmp -s "$work/out" receipt.txt && [ ! -s "$work/err" ]
     judge $? "a pipe: status $status with $(cat "$work/out" "$work/err")"
 fi
@@ -156,24 +173,24 @@ fi
 # random bytes
 head -c 10000000 /dev/urandom >"$work/random"
 keep_sum "$work/random"
-compare check "$work/random" cut.edf cut.toml
-compare check original.edf "$work/random" cut.toml
-compare check "$work/random" "$work/random" cut.toml
-compare check original.edf cut.edf "$work/random"
-compare check-parts "$work/random" cut.toml cut-part-1.edf cut-part-2.edf
-compare check-parts original.edf cut.toml cut-part-1.edf "$work/random"
-compare check-parts original.edf cut.toml "$work/random" "$work/random"
+compare 1 check "$work/random" cut.edf cut.toml
+compare 1 check original.edf "$work/random" cut.toml
+compare 1 check "$work/random" "$work/random" cut.toml
+compare 2 check original.edf cut.edf "$work/random"
+compare 1 check-parts "$work/random" cut.toml cut-part-1.edf cut-part-2.edf
+compare 1 check-parts original.edf cut.toml cut-part-1.edf "$work/random"
+compare 1 check-parts original.edf cut.toml "$work/random" "$work/random"
 
 # empty files
 : >"$work/empty"
-compare check "$work/empty" cut.edf cut.toml
-compare check original.edf "$work/empty" cut.toml
-compare check "$work/empty" "$work/empty" cut.toml
-compare check original.edf cut.edf "$work/empty"
-compare check-parts "$work/empty" cut.toml cut.edf
-compare check-parts original.edf cut.toml "$work/empty" cut.edf
-compare check-parts original.edf cut.toml cut-part-1.edf cut-part-2.edf "$work/empty"
-compare check-parts original.edf "$work/empty" cut.edf
+compare 1 check "$work/empty" cut.edf cut.toml
+compare 1 check original.edf "$work/empty" cut.toml
+compare 1 check "$work/empty" "$work/empty" cut.toml
+compare 2 check original.edf cut.edf "$work/empty"
+compare 1 check-parts "$work/empty" cut.toml cut.edf
+compare 1 check-parts original.edf cut.toml "$work/empty" cut.edf
+compare 1 check-parts original.edf cut.toml cut-part-1.edf cut-part-2.edf "$work/empty"
+compare 2 check-parts original.edf "$work/empty" cut.edf
 
 # files that end where a block of 64 bytes or a buffer does, or beside it: fronts of an original and of an export, and
 # an export with more behind its end; a claim with a comment of each length
@@ -181,12 +198,15 @@ compare check-parts original.edf "$work/empty" cut.edf
     cat cut.edf
     head -c 100000 "$work/random"
 } >"$work/longer"
+# only the front that is all of the export has no fault
 for size in 1 54 55 56 57 63 64 65 119 120 127 128 129 16383 16384 16385 30188 30189 32767 32768 32769 65535 65536 65537; do
     head -c "$size" original.edf >"$work/front"
-    compare check "$work/front" cut.edf cut.toml
+    compare 1 check "$work/front" cut.edf cut.toml
     head -c "$size" "$work/longer" >"$work/front"
-    compare check original.edf "$work/front" cut.toml
-    compare check-parts original.edf cut.toml cut-part-1.edf "$work/front"
+    expected=1
+    [ "$size" -ne "$(wc -c <cut.edf)" ] || expected=0
+    compare "$expected" check original.edf "$work/front" cut.toml
+    compare 1 check-parts original.edf cut.toml cut-part-1.edf "$work/front"
 done
 {
     cat cut.toml
@@ -196,22 +216,24 @@ done
 size=900
 while [ "$size" -lt 964 ]; do
     head -c "$size" "$work/comment" >"$work/claim"
-    compare check original.edf cut.edf "$work/claim"
+    compare 0 check original.edf cut.edf "$work/claim"
     size=$((size + 1))
 done
 for size in 65535 65536 65537; do
     head -c "$size" "$work/comment" >"$work/claim"
-    compare check original.edf cut.edf "$work/claim"
-    compare check-parts original.edf "$work/claim" cut-part-1.edf cut-part-2.edf
+    expected=0
+    [ "$size" -le 65536 ] || expected=2
+    compare "$expected" check original.edf cut.edf "$work/claim"
+    compare "$expected" check-parts original.edf "$work/claim" cut-part-1.edf cut-part-2.edf
 done
 
 # large files of which the check reads the front alone: where the file has a fault, and where another one has
 truncate -s 219000000 "$work/large"
 keep_sum "$work/large"
-compare check "$work/large" cut.edf cut.toml
-compare check original.edf "$work/large" cut.toml
-compare check cut.toml "$work/large" cut.toml
-compare check-parts original.edf cut.toml "$work/empty" "$work/large"
+compare 1 check "$work/large" cut.edf cut.toml
+compare 1 check original.edf "$work/large" cut.toml
+compare 1 check cut.toml "$work/large" cut.toml
+compare 1 check-parts original.edf cut.toml "$work/empty" "$work/large"
 rm "$work/large" "$work/large.sum"
 
 # nights in data records that a buffer holds, and in ones that are read past it
@@ -229,31 +251,27 @@ for number, part in enumerate(great.parts(2)):
 labels = ", ".join(f"\"{label}\"" for label in small.labels())
 (folder / "all").write_text(f"format = 1\nchannels = [{labels}]\n[[keep]]\nfrom = \"0\"\nto = \"300\"\n")
 ' "$work" || exit 2
-compare check "$work/small" "$work/great" "$work/all"
-compare check "$work/great" "$work/small" "$work/all"
-[ "$checked" -eq 0 ]
-judge $? "the check of a night in large data records has status $checked"
-compare check-parts "$work/small" "$work/all" "$work/great0" "$work/great1"
-[ "$checked" -eq 0 ]
-judge $? "the check of a night in two files has status $checked"
+compare 0 check "$work/small" "$work/great" "$work/all"
+compare 0 check "$work/great" "$work/small" "$work/all"
+compare 0 check-parts "$work/small" "$work/all" "$work/great0" "$work/great1"
 
 # 64 exports, and one more
 exports_64=$(yes cut.edf | head -n 64)
 # shellcheck disable=SC2086
-compare check-parts original.edf cut.toml $exports_64
+compare 1 check-parts original.edf cut.toml $exports_64
 # shellcheck disable=SC2086
-compare check-parts original.edf cut.toml $exports_64 cut.edf
+compare 2 check-parts original.edf cut.toml $exports_64 cut.edf
 
 # folders, and files that aren't there
 for bad in . none; do
-    compare check "$bad" cut.edf cut.toml
-    compare check original.edf "$bad" cut.toml
-    compare check original.edf cut.edf "$bad"
-    compare check "$bad" "$bad" refused.toml
-    compare check-parts "$bad" cut.toml cut.edf
-    compare check-parts original.edf cut.toml cut-part-1.edf "$bad"
-    compare check-parts original.edf "$bad" cut.edf
-    compare check-parts "$bad" refused.toml "$bad" cut.edf
+    compare 2 check "$bad" cut.edf cut.toml
+    compare 2 check original.edf "$bad" cut.toml
+    compare 2 check original.edf cut.edf "$bad"
+    compare 2 check "$bad" "$bad" refused.toml
+    compare 2 check-parts "$bad" cut.toml cut.edf
+    compare 2 check-parts original.edf cut.toml cut-part-1.edf "$bad"
+    compare 2 check-parts original.edf "$bad" cut.edf
+    compare 2 check-parts "$bad" refused.toml "$bad" cut.edf
 done
 # a file that a check doesn't read, as another has a fault, is read for its digest
 refuses 'edfclaim: reading export failed' receipt "$work/empty" . cut.toml

@@ -304,10 +304,12 @@ judge $? "50,000 blanked annotations in 40 MB" "$status"
 
 # a pipe gives a file in pieces
 if [ -e /dev/stdin ]; then
-    mkfifo "$work/pipe"
-    cat original.edf >"$work/pipe" &
-    says 0 "$conforms" conform /dev/stdin <"$work/pipe"
-    wait
+    printf '%s\n' "$conforms" >"$work/line"
+    # shellcheck disable=SC2002
+    cat original.edf | "$program" conform /dev/stdin >"$work/out" 2>"$work/err"
+    status=$?
+    [ "$status" -eq 0 ] && cmp -s "$work/out" "$work/line" && [ ! -s "$work/err" ]
+    judge $? "a pipe" "$status"
 fi
 
 # standard output that takes nothing
