@@ -52,8 +52,6 @@ GHOST = re.compile(r"^ *(?:(?:ensures|requires)\b *\w*|ghost \w+(?::| =)) *(?=\{
 
 TITLE = "What a Yes means"
 HEADLINE = "Headline"
-# by these a source says what its type's `Reads` are, where there is nothing to say
-BESIDE = {"plain_reads"}
 ABOUT = [
     "edfclaim checks an export of a night against its original and a claim: that the export is the original, cut"
     " and made anonymous as the claim says, and nothing else. The call `check` answers this. If it answers Yes, and"
@@ -573,8 +571,8 @@ def in_order(first):
     for file in {word.home for word in found}:
         faults += [f"{file.relative_to(TOP)}: a line that isn't understood: {line}" for line in opened(file).odd]
         if file.suffix == ".antt":
-            # what the headline needs stands in files that hold nothing else, but for these
-            others = [name for name, one in opened(file).definitions.items() if one.word not in found and name not in BESIDE]
+            # what the headline needs stands in files that hold nothing else
+            others = [name for name, one in opened(file).definitions.items() if one.word not in found]
             faults += [f"{file.relative_to(TOP)}: `{name}` isn't needed by the headline" for name in others]
     for one in found.values():
         one.users.sort(key=lambda user: user.number)

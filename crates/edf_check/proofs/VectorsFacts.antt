@@ -6,7 +6,8 @@ use Rattle.std.proofs.lemmas.List.Concat.{flat_map-append}
 use Rattle.std.proofs.lemmas.List.Elements.{All-push, All-pop}
 use Rattle.edf_fields.specs.declared.source.SliceSource.{SliceSource}
 use Rattle.edf_fields.specs.SliceSource.{reads_of}
-use Rattle.edf_fields.specs.Sources.{Fails, plain_reads}
+use Rattle.edf_fields.specs.Sources.{Fails}
+use Rattle.edf_fields.specs.PlainReads.{plain_reads}
 use Rattle.edf_claim.specs.declared.stop.ClaimStop.{ClaimStop}
 use Rattle.edf_refusal.specs.declared.parts_stop.PartSide.{PartSide}
 use Rattle.edf_refusal.specs.declared.parts_stop.PartSide.TheVariants as sides

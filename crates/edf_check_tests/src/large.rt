@@ -24,7 +24,7 @@ struct Padded<'a> {
 }
 
 impl<'a> Source for Padded<'a> {
-    ghost use Rattle.edf_fields.specs.Sources.{plain_reads};
+    ghost use Rattle.edf_fields.specs.PlainReads.{plain_reads};
 
     ghost left = { λ _. [] };
 

@@ -58,7 +58,7 @@ fn byte_of(record: usize, place: usize) -> u8 {
 }
 
 impl<'a> Source for Timed<'a> {
-    ghost use Rattle.edf_fields.specs.Sources.{plain_reads};
+    ghost use Rattle.edf_fields.specs.PlainReads.{plain_reads};
 
     ghost left = { λ _. [] };
 

@@ -9,3 +9,4 @@ pub mod SaidFacts
 pub mod SortedFacts
 pub mod TableFacts
 pub mod TextFacts
+pub mod DraftFacts

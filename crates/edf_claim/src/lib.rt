@@ -7,6 +7,8 @@ mod blank;
 pub mod borders;
 mod channels;
 pub mod claim;
+pub mod draft;
+mod draft_text;
 mod format;
 pub mod interval;
 mod keep;

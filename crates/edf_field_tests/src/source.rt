@@ -15,7 +15,7 @@ struct Drip<'a> {
 }
 
 impl<'a> Source for Drip<'a> {
-    ghost use Rattle.edf_fields.specs.Sources.{plain_reads};
+    ghost use Rattle.edf_fields.specs.PlainReads.{plain_reads};
 
     ghost left = { λ s. s.rest.now };
 
@@ -40,7 +40,7 @@ struct Breaks {
 }
 
 impl Source for Breaks {
-    ghost use Rattle.edf_fields.specs.Sources.{plain_reads};
+    ghost use Rattle.edf_fields.specs.PlainReads.{plain_reads};
 
     ghost left = { λ _. [] };
 

@@ -12,6 +12,7 @@ pub mod NumbersReading
 pub mod Onsets
 pub mod OnsetsReading
 pub mod Parts
+pub mod PlainReads
 pub mod Printable
 pub mod PrintableReading
 pub mod Sinks

@@ -1,6 +1,7 @@
 -- What a source over bytes in memory has left.
 use Rattle.std.specs.Prelude.{ℕ, Bool, true, List}
-use Rattle.edf_fields.specs.Sources.{Reads, plain_reads}
+use Rattle.edf_fields.specs.Sources.{Reads}
+use Rattle.edf_fields.specs.PlainReads.{plain_reads}
 use Rattle.edf_fields.specs.declared.source.SliceSource.{SliceSource}
 
 -- the bytes that the source still gives

@@ -1,7 +1,8 @@
 //! A source that fails at a read that was chosen beforehand.
 
 ghost use Rattle.std.specs.Prelude.{◌≡◌, ◌-◌, ◌<◌, ◌≤◌, [], length, IsErr, IfOk, OnOk, OnErr, IsTrue};
-ghost use Rattle.edf_fields.specs.Sources.{Fails, Rises, Takes, plain_reads};
+ghost use Rattle.edf_fields.specs.Sources.{Fails, Rises, Takes};
+ghost use Rattle.edf_fields.specs.PlainReads.{plain_reads};
 
 use crate::source::{ReadFault, Source};
 

@@ -4,7 +4,8 @@
 //! nothing is known but that its failures are counted. A source may tell in its `reads` what it began with, so that
 //! what is proved of a reader also says that it read on where the source stood, and nothing else.
 ghost use Rattle.std.specs.Prelude.{◌≡◌, ℕ, ◌<◌, ◌≤◌, ◌-◌, ◌^◌, min, List, [], length, take, drop, is_some, unwrap_or, Ok, IfOk, OnOk, OnErr, IsTrue, Bool, true};
-ghost use Rattle.edf_fields.specs.Sources.{Fails, Reads, Takes, plain_reads};
+ghost use Rattle.edf_fields.specs.Sources.{Fails, Reads, Takes};
+ghost use Rattle.edf_fields.specs.PlainReads.{plain_reads};
 
 use std::io::Read;
 

@@ -34,8 +34,8 @@ fn are_blank_signals(signals: &[Signal]) -> bool
     true
 }
 
-/// Whether nothing stands behind `EDF+C` or `EDF+D`, and the annotation signals have no texts.
-fn is_blank_header(header: &Header) -> bool
+/// Whether nothing stands behind `EDF+C` or `EDF+D`, and the annotation signals have no texts (EDF+, "The EDF+ header").
+pub fn is_blank_header(header: &Header) -> bool
     ensures { IsTrue result ↔ IsBlankHeader header.now }
 {
     header.free().is_empty() && are_blank_signals(header.signals())

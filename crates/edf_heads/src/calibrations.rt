@@ -9,9 +9,10 @@ use crate::channels::ClaimedChannel;
 use crate::comparison::Comparison;
 use edf_header::signal::Signal;
 
-/// Whether two channels have another dimension, or another line from digital to physical values.
+/// Whether two channels have another dimension, or another line from digital to physical values (EDF, "Header record":
+/// physical dimension, physical and digital extremes).
 #[tactic(auto, using(crate::proofs::ContentFacts::line_tested))]
-fn has_other_calibration(original: &Signal, export: &Signal) -> bool
+pub fn has_other_calibration(original: &Signal, export: &Signal) -> bool
     ensures { result ≡ has_other_calibration original.now export.now }
 {
     original.dimension() != export.dimension()

@@ -17,8 +17,8 @@ pub(crate) struct TextDifference<'a> {
     pub(crate) field: TextField,
 }
 
-/// The first text in which two channels differ.
-fn text_difference(original: &Signal, export: &Signal) -> Option<TextField>
+/// The first text in which two channels differ: the transducer, then the prefilter (EDF, "Header record").
+pub fn text_difference(original: &Signal, export: &Signal) -> Option<TextField>
     ensures { result ≡ text_difference original.now export.now }
 {
     if original.transducer() != export.transducer() {

@@ -2,12 +2,12 @@
 //! calibrations, the subfields of the identifications, and no free text.
 #![tactic(auto)]
 
-mod blank;
-mod calibrations;
+pub mod blank;
+pub mod calibrations;
 pub mod channel_index;
-mod channel_texts;
+pub mod channel_texts;
 mod channels;
 mod comparison;
 pub mod head_difference;
 pub mod labels;
-mod subfields;
+pub mod subfields;

@@ -55,9 +55,10 @@ fn are_same(subfields: Subfields<'_>, mut others: Subfields<'_>) -> bool
     others.next().is_none()
 }
 
-/// Whether this subfield of the patient or the recording is `X`.
+/// Whether this subfield of the patient or the recording is `X`: of additional subfields, each of them (EDF+,
+/// "Additional specifications in EDF+").
 #[tactic(auto, using(crate::proofs::SubfieldFacts::all_x_tested))]
-fn is_anonymous(header: &Header, which: Which) -> bool
+pub fn is_anonymous(header: &Header, which: Which) -> bool
     ensures { IsTrue result ↔ IsAnonymous header.now which }
 {
     let patient = header.patient();
@@ -76,9 +77,10 @@ fn is_anonymous(header: &Header, which: Which) -> bool
     }
 }
 
-/// Whether this subfield of the export is the original's. Of the date only whether it is `X` is compared.
+/// Whether this subfield of the export is the original's. Of the date only whether it is `X` is compared (EDF+,
+/// "Additional specifications in EDF+").
 #[tactic(auto, using(crate::proofs::SubfieldFacts::same_tested))]
-fn is_unchanged(original: &Header, export: &Header, which: Which) -> bool
+pub fn is_unchanged(original: &Header, export: &Header, which: Which) -> bool
     ensures { IsTrue result ↔ IsUnchanged original.now export.now which }
 {
     let (old, new) = (original.patient(), export.patient());

@@ -53,7 +53,7 @@ pub fn endless(rest: &[u8], most: usize, passes: u32) -> Tape<'_> {
 }
 
 impl<'a> Source for Tape<'a> {
-    ghost use Rattle.edf_fields.specs.Sources.{plain_reads};
+    ghost use Rattle.edf_fields.specs.PlainReads.{plain_reads};
 
     ghost left = { λ _. [] };
 

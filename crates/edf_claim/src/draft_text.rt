@@ -1,0 +1,167 @@
+//! The text of a claim that is drafted: TOML with a comment behind each line that a person has to confirm.
+
+ghost use Rattle.std.specs.Prelude.{IfOk, IfSome};
+ghost use Rattle.edf_claim.specs.Claims.{SaysClaimText};
+
+use crate::draft::Draft;
+use crate::interval::Interval;
+use std::alloc::{AllocError, Global};
+
+/// What stands at the head of a draft.
+const HEAD: &str = "# A draft: it says what the export is, and not what was meant.
+# Confirm each line, and remove its comment.
+format = 1
+";
+
+/// How many picoseconds a second has.
+const SECOND: i128 = 1_000_000_000_000;
+
+/// Puts a text behind another.
+fn push(text: &mut Vec<u8>, more: &str) -> Result<(), AllocError> {
+    text.extend_from_slice(more.as_bytes())
+}
+
+/// Puts a text between quotation marks, as TOML has it, behind another.
+fn push_quoted(text: &mut Vec<u8>, alloc: Global, quoted: &[u8]) -> Result<(), AllocError> {
+    text.push(b'"')?;
+    for byte in quoted {
+        match *byte {
+            b'"' => push(text, "\\\"")?,
+            b'\\' => push(text, "\\\\")?,
+            control if control < 32 || control == 127 => {
+                let escaped = format!(in alloc; "\\u{control:04x}")?;
+                push(text, &escaped)?;
+            }
+            plain => text.push(plain)?,
+        }
+    }
+    text.push(b'"')?;
+    Ok(())
+}
+
+/// Puts a time of this many picoseconds as seconds with their fraction, without zeros at its end, behind a text.
+fn push_seconds(text: &mut Vec<u8>, alloc: Global, ps: i128) -> Result<(), AllocError> {
+    let whole = format!(in alloc; "\"{}", ps.div_euclid(SECOND))?;
+    push(text, &whole)?;
+    let rest = ps.rem_euclid(SECOND);
+    if rest != 0 {
+        let fraction = format!(in alloc; ".{rest:012}")?;
+        push(text, fraction.trim_end_matches('0'))?;
+    }
+    text.push(b'"')?;
+    Ok(())
+}
+
+/// Puts the line of an interval behind a text.
+fn push_interval(text: &mut Vec<u8>, alloc: Global, interval: Interval) -> Result<(), AllocError> {
+    push(text, "  { from = ")?;
+    push_seconds(text, alloc, interval.from_ps)?;
+    push(text, ", to = ")?;
+    push_seconds(text, alloc, interval.to_ps)?;
+    push(text, " }, # confirm\n")
+}
+
+impl Draft {
+    /// Puts the lines of the channels behind a text.
+    fn push_channels(&self, text: &mut Vec<u8>, alloc: Global) -> Result<(), AllocError> {
+        push(
+            text,
+            "\n# the channels that the export has, in its order\nchannels = [\n",
+        )?;
+        for label in &self.channels {
+            push(text, "  ")?;
+            push_quoted(text, alloc, label)?;
+            push(text, ", # confirm\n")?;
+        }
+        push(text, "]\n")
+    }
+
+    /// Puts the lines of the intervals behind a text.
+    fn push_keep(&self, text: &mut Vec<u8>, alloc: Global) -> Result<(), AllocError> {
+        push(
+            text,
+            "\n# the time that the export's data records cover, in seconds from the original's start\nkeep = [\n",
+        )?;
+        for interval in &self.keep {
+            push_interval(text, alloc, *interval)?;
+        }
+        push(text, "]\n")
+    }
+
+    /// Puts the lines of the subfields that are made anonymous behind a text.
+    fn push_anonymous(&self, text: &mut Vec<u8>) -> Result<(), AllocError> {
+        push(
+            text,
+            "\n# the subfields that are X in the export, and not in the original\nanonymous = [\n",
+        )?;
+        for which in &self.anonymous {
+            push(text, "  \"")?;
+            push(text, which.name())?;
+            push(text, "\", # confirm\n")?;
+        }
+        push(text, "]\n")
+    }
+
+    /// Puts the line of the shift behind a text.
+    fn push_shift(&self, text: &mut Vec<u8>, alloc: Global) -> Result<(), AllocError> {
+        let shift = format!(in alloc;
+            "\n# by how many seconds the export starts later than what it keeps\nshift = {} # confirm\n",
+            self.shift
+        )?;
+        push(text, &shift)
+    }
+
+    /// Puts the lines of the texts that are removed behind a text, each with how often it stands.
+    fn push_remove(
+        &self,
+        text: &mut Vec<u8>,
+        alloc: Global,
+        counts: &[u64],
+    ) -> Result<(), AllocError> {
+        push(
+            text,
+            "\n# the texts of annotations in this time that the original has, and the export hasn't\nremove = [\n",
+        )?;
+        for (removed, count) in self.remove.iter().zip(counts) {
+            push(text, "  ")?;
+            push_quoted(text, alloc, removed)?;
+            let stands = format!(in alloc; ", # confirm; how often it stands: {count}\n")?;
+            push(text, &stands)?;
+        }
+        push(text, "]\n")
+    }
+
+    /// The text of the claim, whatever it says.
+    fn written(&self, alloc: Global, counts: &[u64], remarks: &str) -> Result<Vec<u8>, AllocError> {
+        let mut text = Vec::new(alloc);
+        push(&mut text, HEAD)?;
+        push(&mut text, remarks)?;
+        self.push_channels(&mut text, alloc)?;
+        self.push_keep(&mut text, alloc)?;
+        self.push_anonymous(&mut text)?;
+        self.push_shift(&mut text, alloc)?;
+        self.push_remove(&mut text, alloc, counts)?;
+        Ok(text)
+    }
+
+    /// The text of the claim, with a comment behind each line, how often each text that is removed stands, and lines of
+    /// remarks, each a comment of TOML; or none where no claim says this, as of a label that stands twice, or where the
+    /// text is longer than a claim may be.
+    ///
+    /// The text is read as a claim before it is given. The error is want of memory.
+    pub fn text(
+        &self,
+        alloc: Global,
+        counts: &[u64],
+        remarks: &str,
+    ) -> Result<Option<Vec<u8>>, AllocError>
+        ensures { IfOk result (λ text. IfSome text (λ t. SaysClaimText t.items self.now)) }
+    {
+        let text = self.written(alloc, counts, remarks)?;
+        if self.is_said_by(alloc, &text)? {
+            Ok(Some(text))
+        } else {
+            Ok(None)
+        }
+    }
+}

@@ -1,0 +1,57 @@
+-- What is written of two files.
+use Rattle.std.proofs.Common.{◌≡◌, inl, inr, ℕ, ℤ, List, Bool, None, subst}
+use Rattle.edf_fields.specs.declared.fault.Fault.{Fault}
+use Rattle.edf_refusal.specs.declared.side.Side.{Side}
+use Rattle.edf_refusal.specs.declared.side.Side.TheVariants.{Original, Export}
+use Rattle.edf_refusal.specs.declared.stop.CheckStop.{CheckStop}
+use Rattle.edf_refusal.specs.declared.stop.CheckStop.TheVariants.{OutOfMemory, ReadFailed}
+use Rattle.edf_refusal.specs.declared.stop.RunStop.TheVariants.{WriteFailed}
+use Rattle.edf_refusal.specs.Stops.{stop_of_check}
+use Rattle.edf_stream.specs.Faults.{file_fault}
+use Rattle.edf_stream.proofs.ForCallers.{conforming_is_faultless}
+use Rattle.edf_verdict.specs.declared.outcome.Outcome.TheVariants.{No}
+use Rattle.edf_draft.specs.Answers.{IsAnswer, IsFaultAt, IsReadOf, IsTextOf, fault_text_of}
+use Rattle.edf_draft.specs.Days.{IsShift}
+use Rattle.edf_draft.specs.Drafts.{IsDraftText}
+use Rattle.edf_draft.specs.Times.{begin_of, end_of}
+use Rattle.edf_draft.specs.declared.recorded.Recorded.{Recorded}
+
+-- a file that was read to its end has no fault
+pub faultless : (file : List ℕ) (recorded : Recorded) → IsReadOf file recorded → file_fault file ≡ None
+faultless file recorded read = (conforming_is_faultless file).1 ((recorded.reader).head, read.conforms)
+
+pub fault_answers : (original export text : List ℕ) (side : Side) (fault : Fault) → text ≡ fault_text_of side fault → IsFaultAt side fault original export
+    → IsAnswer original export text No
+fault_answers original export text Original fault is at = inl (fault, at, is)
+fault_answers original export text Export fault is at = inr (inl (fault, at.0, at.1, is))
+
+pub none_answers : (original export text : List ℕ) (o e : Recorded) → IsReadOf original o → IsReadOf export e → IsAnswer original export text No
+none_answers original export text o e first second = inr (inr (faultless original o first, faultless export e second))
+
+moved_there : (a b c d p q r s : ℤ) (told : Bool) (shift : ℤ) → a ≡ p → b ≡ q → c ≡ r → d ≡ s → IsShift a b c d told shift → IsShift p q r s told shift
+moved_there a b c d p q r s told shift first second third fourth moved =
+    subst (λ x. IsShift x q r s told shift) first (subst (λ x. IsShift a x r s told shift) second
+    (subst (λ x. IsShift a b x s told shift) third (subst (λ x. IsShift a b c x told shift) fourth moved)))
+
+pub draft_answers : (original export text : List ℕ) (o e : Recorded) → IsReadOf original o → IsReadOf export e → IsTextOf o e text
+    → IsDraftText original export text
+draft_answers original export text o e first second is = record {
+  o = (o.reader).head;
+  e = (e.reader).head;
+  claim = is.1;
+  original_conforms = first.conforms;
+  export_conforms = second.conforms;
+  says = is.2;
+  drafts = is.3;
+  moved = (
+    is.0,
+    moved_there (o.times).begin_ps (o.times).end_ps (e.times).begin_ps (e.times).end_ps
+        (begin_of original (o.reader).head) (end_of original (o.reader).head) (begin_of export (e.reader).head) (end_of export (e.reader).head)
+        is.0 (is.1).shift first.begins first.ends second.begins second.ends is.4,
+  );
+}
+
+-- a stop of the reading is no failed write
+pub none_written : (A : Type 0) (stop : CheckStop) → stop_of_check stop ≡ WriteFailed → A
+none_written A OutOfMemory same = absurd cc
+none_written A (ReadFailed side) same = absurd cc

@@ -1,0 +1,81 @@
+-- The subfields that an export hides, found one after the other.
+use Rattle.std.proofs.Common.{◌≡◌, ◌⊎◌, ◌↔◌, inl, inr, List, [], ◌∷◌, ◌++◌, refl, subst, sym}
+use Rattle.edf_fields.specs.Lists.{Has}
+use Rattle.edf_fields.specs.declared.which.Which.{Which}
+use Rattle.edf_fields.specs.declared.which.Which.TheVariants.{Code, Sex, Birthdate, Name, PatientExtras, Date, Administration, Technician, Equipment, RecordingExtras}
+use Rattle.edf_fields.specs.SubfieldNamesReading.{all_subfields}
+use Rattle.edf_header.specs.Heads.{Head}
+use Rattle.edf_draft.specs.Hidden.{AreLeft, IsHidden}
+
+every : (which : Which) → Has all_subfields which
+unfolding all_subfields
+every Code = inl refl
+every Sex = inr (inl refl)
+every Birthdate = inr (inr (inl refl))
+every Name = inr (inr (inr (inl refl)))
+every PatientExtras = inr (inr (inr (inr (inl refl))))
+every Date = inr (inr (inr (inr (inr (inl refl)))))
+every Administration = inr (inr (inr (inr (inr (inr (inl refl))))))
+every Technician = inr (inr (inr (inr (inr (inr (inr (inl refl)))))))
+every Equipment = inr (inr (inr (inr (inr (inr (inr (inr (inl refl))))))))
+every RecordingExtras = inr (inr (inr (inr (inr (inr (inr (inr (inr (inl refl)))))))))
+
+-- at first none was found, and all are left
+pub all_left : (o e : Head) → AreLeft o e [] all_subfields
+all_left o e which = (side, λ h. inr (every which, h)) where
+  side : (Has [] which ⊎ (Has all_subfields which × IsHidden o e which)) → IsHidden o e which
+  side (inl x) = absurd x
+  side (inr p) = p.1
+
+-- in the end none is left
+pub none_left : (o e : Head) (found : List Which) → AreLeft o e found [] → (which : Which) → Has found which ↔ IsHidden o e which
+none_left o e found left which = ((λ h. (left which).0 (inl h)), λ h. side ((left which).1 h)) where
+  side : (Has found which ⊎ (Has [] which × IsHidden o e which)) → Has found which
+  side (inl x) = x
+  side (inr p) = absurd p.0
+
+has_front : (xs : List Which) (x which : Which) → Has xs which → Has (xs ++ x ∷ []) which
+has_front [] x which h = absurd h
+has_front (y ∷ ys) x which (inl p) = inl p
+has_front (y ∷ ys) x which (inr h) = inr (has_front ys x which h)
+
+has_last : (xs : List Which) (x which : Which) → x ≡ which → Has (xs ++ x ∷ []) which
+has_last [] x which p = inl p
+has_last (y ∷ ys) x which p = inr (has_last ys x which p)
+
+has_either : (xs : List Which) (x which : Which) → Has (xs ++ x ∷ []) which → Has xs which ⊎ (x ≡ which)
+has_either [] x which (inl p) = inr p
+has_either [] x which (inr h) = absurd h
+has_either (y ∷ ys) x which (inl p) = inl (inl p)
+has_either (y ∷ ys) x which (inr h) = side (has_either ys x which h) where
+  side : Has ys which ⊎ (x ≡ which) → Has (y ∷ ys) which ⊎ (x ≡ which)
+  side (inl a) = inl (inr a)
+  side (inr b) = inr b
+
+-- the next one is hidden
+pub one_found : (o e : Head) (found rest : List Which) (x : Which) → IsHidden o e x → AreLeft o e found (x ∷ rest) → AreLeft o e (found ++ x ∷ []) rest
+one_found o e found rest x is left which = (to, λ h. back h ((left which).1 h)) where
+  found_one : Has found which ⊎ (x ≡ which) → IsHidden o e which
+  found_one (inl h) = (left which).0 (inl h)
+  found_one (inr p) = subst (IsHidden o e) p is
+
+  to : (Has (found ++ x ∷ []) which ⊎ (Has rest which × IsHidden o e which)) → IsHidden o e which
+  to (inl h) = found_one (has_either found x which h)
+  to (inr p) = p.1
+
+  back : IsHidden o e which → (Has found which ⊎ (Has (x ∷ rest) which × IsHidden o e which)) → Has (found ++ x ∷ []) which ⊎ (Has rest which × IsHidden o e which)
+  back h (inl a) = inl (has_front found x which a)
+  back h (inr (inl p, q)) = inl (has_last found x which p)
+  back h (inr (inr b, q)) = inr (b, h)
+
+-- it isn't
+pub none_found : (o e : Head) (found rest : List Which) (x : Which) → (IsHidden o e x → ⊥) → AreLeft o e found (x ∷ rest) → AreLeft o e found rest
+none_found o e found rest x is left which = (to, λ h. back h ((left which).1 h)) where
+  to : (Has found which ⊎ (Has rest which × IsHidden o e which)) → IsHidden o e which
+  to (inl h) = (left which).0 (inl h)
+  to (inr p) = p.1
+
+  back : IsHidden o e which → (Has found which ⊎ (Has (x ∷ rest) which × IsHidden o e which)) → Has found which ⊎ (Has rest which × IsHidden o e which)
+  back h (inl a) = inl a
+  back h (inr (inl p, q)) = absurd (is (subst (IsHidden o e) (sym p) h))
+  back h (inr (inr b, q)) = inr (b, h)

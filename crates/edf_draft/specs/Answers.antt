@@ -1,0 +1,70 @@
+-- What is written of two files: the draft of a claim, or the fault of one of them; and why nothing is.
+use Rattle.std.specs.Prelude.{◌≡◌, ℕ, Bool, List, [], ◌∷◌, ◌++◌, ◌⊎◌, None, Some, codes}
+use Rattle.edf_claim.specs.Claims.{SaysClaimText}
+use Rattle.edf_claim.specs.Terms.{Terms}
+use Rattle.edf_fields.specs.FaultTexts.{fault_text}
+use Rattle.edf_fields.specs.declared.fault.Fault.{Fault}
+use Rattle.edf_refusal.specs.declared.side.Side.{Side}
+use Rattle.edf_refusal.specs.declared.side.Side.TheVariants.{Original, Export}
+use Rattle.edf_refusal.specs.declared.stop.CheckStop.{CheckStop}
+use Rattle.edf_refusal.specs.declared.stop.CheckStop.TheVariants.{OutOfMemory, ReadFailed}
+use Rattle.edf_refusal.specs.declared.stop.RunStop.{RunStop}
+use Rattle.edf_refusal.specs.declared.stop.RunStop.TheVariants as runs
+use Rattle.edf_stream.specs.Conforming.{Conforms}
+use Rattle.edf_stream.specs.Faults.{file_fault}
+use Rattle.edf_verdict.specs.declared.outcome.Outcome.{Outcome}
+use Rattle.edf_verdict.specs.declared.outcome.Outcome.TheVariants.{Yes, No}
+use Rattle.edf_draft.specs.Days.{IsShift}
+use Rattle.edf_draft.specs.Drafts.{IsDraftFor, IsDraftText}
+use Rattle.edf_draft.specs.Times.{begin_of, end_of}
+use Rattle.edf_draft.specs.declared.recorded.Recorded.{Recorded}
+
+-- a comment says which file it is, and then comes the line of its fault
+abbrev pub fault_text_of : Side → Fault → List ℕ
+fault_text_of Original fault = codes "# the original\nFAULT " ++ (fault_text fault ++ (10 ∷ []))
+fault_text_of Export fault = codes "# the export\nFAULT " ++ (fault_text fault ++ (10 ∷ []))
+
+-- a text says just what is drafted of two files that were read, of which the shift is told by when they begin and end, or isn't
+abbrev pub IsTextOf : Recorded → Recorded → List ℕ → Type 0
+IsTextOf o e text =
+    (told : Bool) × (claim : Terms) × SaysClaimText text claim × IsDraftFor (o.reader).head (e.reader).head claim.shift claim
+    × IsShift (o.times).begin_ps (o.times).end_ps (e.times).begin_ps (e.times).end_ps told claim.shift
+
+-- the first fault of the file of this side, and where it is the export's, the original has none
+abbrev pub IsFaultAt : Side → Fault → List ℕ → List ℕ → Type 0
+IsFaultAt Original fault original export = file_fault original ≡ Some fault
+IsFaultAt Export fault original export = (file_fault original ≡ None) × (file_fault export ≡ Some fault)
+
+-- a file that conforms was read to its end, and this is when it begins and ends
+pub record IsReadOf (file : List ℕ) (recorded : Recorded) : Type 0 where
+  pub conforms : Conforms file (recorded.reader).head
+  pub begins : (recorded.times).begin_ps ≡ begin_of file (recorded.reader).head
+  pub ends : (recorded.times).end_ps ≡ end_of file (recorded.reader).head
+
+-- what is written of two files, with the outcome: the draft of a claim and Yes; the fault of the original, or else of the export, and No; or,
+-- of two files that conform, No and a comment, where no claim says it
+abbrev pub IsAnswer : List ℕ → List ℕ → List ℕ → Outcome → Type 0
+IsAnswer original export text Yes = IsDraftText original export text
+IsAnswer original export text No =
+    ((fault : Fault) × (file_fault original ≡ Some fault) × (text ≡ fault_text_of Original fault))
+    ⊎ ((fault : Fault) × (file_fault original ≡ None) × (file_fault export ≡ Some fault) × (text ≡ fault_text_of Export fault))
+    ⊎ ((file_fault original ≡ None) × (file_fault export ≡ None))
+
+-- only the file of this side was read
+abbrev pub SideStops : Side → Type 0 → Type 0 → CheckStop → Type 0
+SideStops side failed none OutOfMemory = none
+SideStops side failed none (ReadFailed other) = (other ≡ side) × failed
+
+-- of a failed read of the original the first is said, of one of the export the second, and of want of memory that no read failed
+abbrev pub BothStop : Type 0 → Type 0 → Type 0 → CheckStop → Type 0
+BothStop original export none OutOfMemory = none
+BothStop original export none (ReadFailed Original) = original
+BothStop original export none (ReadFailed Export) = export
+
+-- the same of a run that writes, where of a failed write the third is said
+abbrev pub DraftStops : Type 0 → Type 0 → Type 0 → Type 0 → RunStop → Type 0
+DraftStops original export written none runs.OutOfMemory = none
+DraftStops original export written none (runs.ReadFailed Original) = original
+DraftStops original export written none (runs.ReadFailed Export) = export
+DraftStops original export written none (runs.Claim cause) = ⊥
+DraftStops original export written none runs.WriteFailed = written

@@ -1,0 +1,6 @@
+pub mod Days
+pub mod Hidden
+pub mod Times
+pub mod Drafts
+pub mod Answers
+pub mod Written

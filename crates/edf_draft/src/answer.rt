@@ -1,0 +1,121 @@
+//! What is written of two files: the draft of a claim, or the fault of one of them.
+
+ghost use Rattle.std.specs.Prelude.{◌≡◌, List, ℕ, Some, IfOk, IfErr, OnOk, IsTrue};
+ghost use Rattle.edf_fields.specs.Sources.{Fails};
+ghost use Rattle.edf_stream.specs.Faults.{file_fault};
+ghost use Rattle.edf_refusal.specs.declared.stop.CheckStop.TheVariants as check_stops;
+ghost use Rattle.edf_draft.specs.Answers.{BothStop, IsAnswer, IsFaultAt, IsReadOf, SideStops, fault_text_of};
+
+use crate::drafted::draft_text;
+use crate::recorded::{Recorded, read_through};
+use edf_fields::fault::Fault;
+use edf_fields::source::Source;
+use edf_header::stop::Stop;
+use edf_refusal::side::Side;
+use edf_refusal::stop::CheckStop;
+use edf_verdict::outcome::Outcome;
+use std::alloc::{AllocError, Global};
+
+/// What is written where no claim says what the export is.
+const NONE: &str =
+    "# no draft: the export needs more than a claim can say (1,000 intervals, 65,536 bytes, 9 digits of seconds)\n";
+
+/// A text and its outcome.
+#[derive(Drop)]
+pub(crate) struct Answer {
+    pub text: Vec<u8>,
+    pub outcome: Outcome,
+}
+
+/// The lines of a fault of the file of one side.
+fn fault_lines(alloc: Global, side: Side, fault: &Fault) -> Result<Vec<u8>, AllocError>
+    ensures { IfOk result (λ text. text.items ≡ fault_text_of side fault.now) }
+{
+    let head: &str = match side {
+        Side::Original => "# the original\nFAULT ",
+        Side::Export => "# the export\nFAULT ",
+    };
+    let mut text = Vec::new(alloc);
+    text.extend_from_slice(head.as_bytes())?;
+    text.extend_from_slice(fault.text(alloc)?.as_bytes())?;
+    text.push(b'\n')?;
+    Ok(text)
+}
+
+impl Answer {
+    /// That of a fault.
+    #[tactic(auto, using(crate::proofs::AnswerFacts::fault_answers))]
+    fn of_fault(alloc: Global, side: Side, fault: &Fault) -> Result<Answer, CheckStop>
+        ensures answer { IfOk result (λ a. (original export : List ℕ) → IsFaultAt side fault.now original export → IsAnswer original export a.text.items a.outcome) }
+        ensures stop { IfErr result (λ stop. stop ≡ check_stops.OutOfMemory) }
+    {
+        Ok(Answer {
+            text: fault_lines(alloc, side, fault)?,
+            outcome: Outcome::No,
+        })
+    }
+
+    /// That of two files that conform.
+    fn of_draft(alloc: Global, original: &Recorded, export: &Recorded) -> Result<Answer, CheckStop>
+        ensures answer { IfOk result (λ a. (o e : List ℕ) → IsReadOf o original.now → IsReadOf e export.now → IsAnswer o e a.text.items a.outcome) }
+        ensures stop { IfErr result (λ stop. stop ≡ check_stops.OutOfMemory) }
+    {
+        match draft_text(alloc, original, export)? {
+            Some(text) => Ok(Answer {
+                text,
+                outcome: Outcome::Yes,
+            }),
+            None => Ok(Answer {
+                text: Vec::from_slice(alloc, NONE.as_bytes())?,
+                outcome: Outcome::No,
+            }),
+        }
+    }
+}
+
+/// Reads the file of one side to its end, or to its first fault.
+///
+/// The error is want of memory, or a failure of the source.
+fn read_side<S: Source>(
+    alloc: Global,
+    source: &mut S,
+    side: Side,
+) -> Result<Result<Recorded, Fault>, CheckStop>
+    ensures failures { OnOk result (S.reads source.new ≡ S.reads source.old) }
+    ensures read { IfOk result (λ read. IfOk read (λ recorded. IsTrue (S.is_honest source.old) → IsReadOf (S.left source.old) recorded)) }
+    ensures fault { IfOk result (λ read. IfErr read (λ fault. IsTrue (S.is_honest source.old) → file_fault (S.left source.old) ≡ Some fault)) }
+    ensures stop { IfErr result (SideStops side (Fails (S.reads source.old) (S.reads source.new)) (S.reads source.new ≡ S.reads source.old)) }
+{
+    match read_through(alloc, source) {
+        Ok(recorded) => Ok(Ok(recorded)),
+        Err(Stop::Fault(fault)) => Ok(Err(fault)),
+        Err(Stop::ReadFailed) => Err(CheckStop::ReadFailed(side)),
+        Err(Stop::OutOfMemory) => Err(CheckStop::OutOfMemory),
+    }
+}
+
+/// Reads two files to their ends, the original first: the draft of a claim, or the first fault of the original, or else of
+/// the export.
+///
+/// The error is want of memory, or a failure of one of the sources.
+pub(crate) fn answer_of<O: Source, E: Source>(
+    alloc: Global,
+    original: &mut O,
+    export: &mut E,
+) -> Result<Answer, CheckStop>
+    ensures answer { IfOk result (λ a. IsTrue (O.is_honest original.old) → IsTrue (E.is_honest export.old) →
+        IsAnswer (O.left original.old) (E.left export.old) a.text.items a.outcome) }
+    ensures failures { OnOk result ((O.reads original.new ≡ O.reads original.old) × (E.reads export.new ≡ E.reads export.old)) }
+    ensures stop { IfErr result (BothStop (Fails (O.reads original.old) (O.reads original.new)) (Fails (E.reads export.old) (E.reads export.new))
+        ((O.reads original.new ≡ O.reads original.old) × (E.reads export.new ≡ E.reads export.old))) }
+{
+    let first = match read_side(alloc, original, Side::Original)? {
+        Ok(recorded) => recorded,
+        Err(fault) => return Answer::of_fault(alloc, Side::Original, &fault),
+    };
+    let second = match read_side(alloc, export, Side::Export)? {
+        Ok(recorded) => recorded,
+        Err(fault) => return Answer::of_fault(alloc, Side::Export, &fault),
+    };
+    Answer::of_draft(alloc, &first, &second)
+}

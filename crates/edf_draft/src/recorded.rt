@@ -1,0 +1,169 @@
+//! When a file was recorded, and its annotations.
+
+ghost use Rattle.std.specs.Prelude.{◌≡◌, ◌<◌, ◌^◌, ◌*ℤ◌, ◌+ℤ◌, pos, unsigned_abs, Some, IfSome, IfNone, IfOk, IfErr, OnOk, IsTrue};
+ghost use Rattle.edf_fields.specs.Sources.{Fails};
+ghost use Rattle.edf_header.specs.Stops.{Stops};
+ghost use Rattle.edf_stream.specs.Conforming.{Conforms};
+ghost use Rattle.edf_stream.specs.Faults.{file_fault};
+ghost use Rattle.edf_stream.specs.Readers.{is_current};
+ghost use Rattle.edf_stream.specs.Starts.{file_start};
+ghost use Rattle.edf_stream.specs.StartsReading.{start_in};
+ghost use Rattle.edf_draft.specs.Times.{begin_of, end_of};
+
+use edf_claim::interval::Interval;
+use edf_fields::source::Source;
+use edf_header::stop::Stop;
+use edf_stream::annotations::Annotations;
+use edf_stream::reader::FileReader;
+use std::alloc::{AllocError, Global};
+
+/// An annotation of a file.
+#[derive(Drop)]
+pub(crate) struct Remark {
+    /// In picoseconds after the second at which the file starts.
+    pub onset: i128,
+    pub text: Vec<u8>,
+}
+
+/// When a file begins and ends, in picoseconds after 1970-01-01 00:00:00 (civil time, without a time zone).
+#[derive(Clone, Copy)]
+pub(crate) struct Times {
+    /// Where its first data record starts.
+    pub begin_ps: i128,
+    /// Where its last data record ends.
+    pub end_ps: i128,
+    ghost begin_near: { unsigned_abs begin_ps < 2 ^ 80 },
+    ghost end_near: { unsigned_abs end_ps < 2 ^ 80 },
+}
+
+/// A file that conforms, without its samples.
+#[derive(Drop)]
+pub(crate) struct Recorded {
+    /// The reader, at the end of the file.
+    pub reader: FileReader,
+    /// When it begins and ends.
+    pub times: Times,
+    /// The time of its data records, in picoseconds after the second at which it starts; data records that touch are one
+    /// interval.
+    pub stretches: Vec<Interval>,
+    /// Its annotations, in the order of the file.
+    pub remarks: Vec<Remark>,
+}
+
+/// Where a data record starts, in picoseconds after the second at which the file starts.
+#[derive(Clone, Copy)]
+struct Start {
+    ps: i128,
+    ghost near: { unsigned_abs ps < 2 ^ 72 },
+}
+
+/// Where the first data record starts: where it was seen to start, or else where the one at hand starts.
+fn first_start(seen: Option<Start>, reader: &FileReader) -> Start
+    requires { IsTrue (is_current reader.now.status) }
+    ensures seen { IfSome seen (λ start. result.ps ≡ start.ps) }
+    ensures first { IfNone seen (result.ps ≡ start_in reader.now.head reader.now.current) }
+{
+    match seen {
+        Some(start) => start,
+        None => Start {
+            ps: reader.start_ps(),
+        },
+    }
+}
+
+/// A time of a file that starts at this second, in picoseconds after 1970-01-01 00:00:00.
+fn absolute_ps(second: i64, at_ps: i128) -> i128
+    requires second { unsigned_abs second < 2 ^ 39 }
+    requires at { unsigned_abs at_ps < 2 ^ 72 }
+    ensures value { result ≡ (second *ℤ pos (10 ^ 12)) +ℤ at_ps }
+    ensures near { unsigned_abs result < 2 ^ 80 }
+{
+    i128::from(second) * 1_000_000_000_000 + at_ps
+}
+
+/// When a file begins and ends, where its first data record was seen to start there; a file without one begins with its
+/// second.
+fn times_of(reader: &FileReader, seen: Option<Start>) -> Times
+    ensures begins { IfSome seen (λ start. result.begin_ps ≡ file_start reader.now.head +ℤ start.ps) }
+    ensures ends { result.end_ps ≡ file_start reader.now.head +ℤ reader.now.ended }
+{
+    let second = reader.header().start_second();
+    let begin = match seen {
+        Some(start) => start.ps,
+        None => 0,
+    };
+    Times {
+        begin_ps: absolute_ps(second, begin),
+        end_ps: absolute_ps(second, reader.read_to_ps()),
+    }
+}
+
+/// Takes in the time of one more data record.
+fn push_stretch(
+    stretches: &mut Vec<Interval>,
+    from_ps: i128,
+    to_ps: i128,
+) -> Result<(), AllocError> {
+    if let Some(last) = stretches.last_mut() {
+        if last.to_ps == from_ps {
+            last.to_ps = to_ps;
+            return Ok(());
+        }
+    }
+    stretches.push(Interval { from_ps, to_ps })?;
+    Ok(())
+}
+
+/// Takes in the annotations of one more data record.
+fn push_remarks(
+    remarks: &mut Vec<Remark>,
+    alloc: Global,
+    annotations: Annotations<'_>,
+) -> Result<(), AllocError> {
+    for note in annotations {
+        let text = Vec::from_slice(alloc, note.text.as_bytes())?;
+        remarks.push(Remark {
+            onset: note.onset,
+            text,
+        })?;
+    }
+    Ok(())
+}
+
+/// Reads a file to its end.
+///
+/// The error is the file's first fault, a failed read, or want of memory.
+pub(crate) fn read_through<S: Source>(alloc: Global, source: &mut S) -> Result<Recorded, Stop>
+    ensures failures { OnOk result (S.reads source.new ≡ S.reads source.old) }
+    ensures conforms { IfOk result (λ recorded. IsTrue (S.is_honest source.old) → Conforms (S.left source.old) (recorded.reader).head) }
+    ensures begins { IfOk result (λ recorded. IsTrue (S.is_honest source.old) → (recorded.times).begin_ps ≡ begin_of (S.left source.old) (recorded.reader).head) }
+    ensures ends { IfOk result (λ recorded. IsTrue (S.is_honest source.old) → (recorded.times).end_ps ≡ end_of (S.left source.old) (recorded.reader).head) }
+    ensures stop { IfErr result (Stops (λ f. IsTrue (S.is_honest source.old) → file_fault (S.left source.old) ≡ Some f)
+        (Fails (S.reads source.old) (S.reads source.new)) (S.reads source.new ≡ S.reads source.old)) }
+{
+    let mut reader = match FileReader::begin(alloc, source) {
+        Ok(reader) => reader,
+        Err(stop) => return Err(stop),
+    };
+    let mut stretches = Vec::new(alloc);
+    let mut remarks = Vec::new(alloc);
+    let mut begin = None;
+    loop {
+        match reader.next(source) {
+            Ok(true) => {
+                begin = Some(first_start(begin, &reader));
+                push_stretch(&mut stretches, reader.start_ps(), reader.end_ps())?;
+                push_remarks(&mut remarks, alloc, reader.annotations())?;
+            }
+            Ok(false) => {
+                return Ok(Recorded {
+                    times: times_of(&reader, begin),
+                    reader,
+                    stretches,
+                    remarks,
+                });
+            }
+            Err(stop) => return Err(stop),
+        }
+    }
+}

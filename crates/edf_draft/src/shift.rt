@@ -1,0 +1,56 @@
+//! By how much an export was moved.
+
+ghost use Rattle.std.specs.Prelude.{◌≡◌, ◌<◌, ◌^◌, ◌*ℤ◌, pos, false, unsigned_abs};
+ghost use Rattle.edf_draft.specs.Days.{IsShift};
+
+use crate::days::days_between;
+use crate::recorded::Recorded;
+
+/// How many picoseconds a second has.
+const SECOND_PS: i128 = 1_000_000_000_000;
+
+/// A shift in seconds, and whether the starts of two files tell it. Where they don't, it is the one by which the export
+/// begins with the original.
+#[derive(Clone, Copy)]
+pub(crate) struct Shift {
+    pub seconds: i64,
+    pub is_told: bool,
+}
+
+/// The shift by which one time becomes a later one, in whole seconds, rounded down; 0 where it is too large for a number.
+fn guessed_shift(begin: i128, from: i128) -> Shift
+    requires begin { unsigned_abs begin < 2 ^ 80 }
+    requires from { unsigned_abs from < 2 ^ 80 }
+    ensures { result.is_told ≡ false }
+{
+    let seconds = (from - begin).div_euclid(SECOND_PS);
+    Shift {
+        seconds: i64::try_from(seconds).unwrap_or(0),
+        is_told: false,
+    }
+}
+
+/// So many days in seconds.
+fn seconds_of_days(days: i128) -> i64
+    requires { unsigned_abs days < 2 ^ 25 }
+    ensures { result ≡ days *ℤ pos 86400 }
+{
+    days as i64 * 86_400
+}
+
+/// The shift that puts the time from `from` to `to` between `begin` and `end`: a number of whole days, the one that gives the
+/// least time.
+pub(crate) fn shift_between(begin: i128, end: i128, from: i128, to: i128) -> Shift
+    requires begin { unsigned_abs begin < 2 ^ 80 }
+    requires from { unsigned_abs from < 2 ^ 80 }
+    requires to { unsigned_abs to < 2 ^ 80 }
+    ensures { IsShift begin end from to result.is_told result.seconds }
+{
+    match days_between(begin, end, from, to) {
+        Some(days) => Shift {
+            seconds: seconds_of_days(days),
+            is_told: true,
+        },
+        None => guessed_shift(begin, from),
+    }
+}
