@@ -8,7 +8,7 @@ use Rattle.clap.specs.Walk.{Names, Rule, Text, Walk, finished, nothing_held, wal
 use Rattle.clap.specs.Simple.{App, Shape, built, entered, names_of}
 use Rattle.clap.specs.Takes.{default_passes, entered_passes, is_valid, level_passes, settle_passes, takes, walk_passes}
 use Rattle.clap.proofs.OnLiterals.{clap_on_literals}
-use Rattle.edf_command_line.proofs.ExportFacts.{check, check_passes, receipt, receipt_passes}
+use Rattle.edf_command_line.proofs.ExportFacts.{check, check_passes, draft, draft_passes, explain, explain_passes, receipt, receipt_passes}
 use Rattle.edf_command_line.proofs.PartsFacts.{both_true, leaf_passes, parts, receipt_parts, second_passes}
 use Rattle.edf_command_line.proofs.PlainFacts.{IsPlain, tail_plain}
 use Rattle.edf_command_line.specs.Commands.{program_app}
@@ -105,3 +105,53 @@ takes_parts false w x y (z ∷ rest) some plain small =
 takes_parts true w x y (z ∷ rest) some plain small =
     let last : ArePlain (z ∷ rest) = tail_plain y (z ∷ rest) (tail_plain x (y ∷ z ∷ rest) (tail_plain (codes "receipt-parts") (x ∷ y ∷ z ∷ rest) plain)) in
     takes_command true true w (x ∷ y ∷ z ∷ rest) (second_passes x y z rest (plain 1 (omega arith)) (plain 2 (omega arith)) (plain 3 (omega arith)) (tail_plain z rest last) small)
+
+-- the same of the draft of a claim
+walk_to_draft : (rest : List Text) → walk top.top.rules (names_of top) nothing_held (codes "draft" ∷ rest)
+    ≡ record (walk_from nothing_held) { stopped = Some (codes "draft", rest) }
+unfolding clap_on_literals
+walk_to_draft rest = stopped_walk top.top.rules (names_of top) (walk_from nothing_held) (codes "draft") [] rest
+
+passes_to_draft : (rest : List Text) → walk_passes top.top (names_of top) (walk_from nothing_held) (codes "draft" ∷ rest) ≡ true
+unfolding clap_on_literals
+passes_to_draft rest = stopped_passes top.top (names_of top) (walk_from nothing_held) (codes "draft") [] rest
+
+whole_at_draft : (rest : List Text) → top_ends (record (walk_from nothing_held) { stopped = Some (codes "draft", rest) }) ≡ true
+unfolding clap_on_literals
+whole_at_draft rest = refl
+
+enters_draft : (rest : List Text) → level_passes draft [] nothing_held rest false ≡ true → entered_passes top (Some (codes "draft", rest)) ≡ true
+unfolding clap_on_literals
+enters_draft rest h = h
+
+pub takes_draft : (w x y : Text) → IsPlain x → IsPlain y → takes program_app (w ∷ codes "draft" ∷ x ∷ y ∷ []) ≡ true
+takes_draft w x y p q =
+    let rest : List Text = x ∷ y ∷ [] in
+    ap₂ all_ends (passes_to_draft rest) (walk_to_draft rest)
+    ∙ both_true (entered_passes top (Some (codes "draft", rest))) (top_ends (record (walk_from nothing_held) { stopped = Some (codes "draft", rest) }))
+    (enters_draft rest (draft_passes x y p q)) (whole_at_draft rest)
+
+-- and of a check that explains itself
+walk_to_explain : (rest : List Text) → walk top.top.rules (names_of top) nothing_held (codes "explain" ∷ rest)
+    ≡ record (walk_from nothing_held) { stopped = Some (codes "explain", rest) }
+unfolding clap_on_literals
+walk_to_explain rest = stopped_walk top.top.rules (names_of top) (walk_from nothing_held) (codes "explain") [] rest
+
+passes_to_explain : (rest : List Text) → walk_passes top.top (names_of top) (walk_from nothing_held) (codes "explain" ∷ rest) ≡ true
+unfolding clap_on_literals
+passes_to_explain rest = stopped_passes top.top (names_of top) (walk_from nothing_held) (codes "explain") [] rest
+
+whole_at_explain : (rest : List Text) → top_ends (record (walk_from nothing_held) { stopped = Some (codes "explain", rest) }) ≡ true
+unfolding clap_on_literals
+whole_at_explain rest = refl
+
+enters_explain : (rest : List Text) → level_passes explain [] nothing_held rest false ≡ true → entered_passes top (Some (codes "explain", rest)) ≡ true
+unfolding clap_on_literals
+enters_explain rest h = h
+
+pub takes_explain : (w x y z : Text) → IsPlain x → IsPlain y → IsPlain z → takes program_app (w ∷ codes "explain" ∷ x ∷ y ∷ z ∷ []) ≡ true
+takes_explain w x y z p q r =
+    let rest : List Text = x ∷ y ∷ z ∷ [] in
+    ap₂ all_ends (passes_to_explain rest) (walk_to_explain rest)
+    ∙ both_true (entered_passes top (Some (codes "explain", rest))) (top_ends (record (walk_from nothing_held) { stopped = Some (codes "explain", rest) }))
+    (enters_explain rest (explain_passes x y z p q r)) (whole_at_explain rest)

@@ -5,11 +5,11 @@ use Rattle.clap.specs.Lexer.{usize_max}
 use Rattle.clap.specs.Takes.{takes}
 use Rattle.clap.proofs.OnLiterals.{clap_on_literals}
 use Rattle.edf_command_line.specs.Commands.{program_app}
-use Rattle.edf_command_line.proofs.EnterFacts.{name_of, takes_export, takes_parts}
+use Rattle.edf_command_line.proofs.EnterFacts.{name_of, takes_draft, takes_explain, takes_export, takes_parts}
 use Rattle.edf_command_line.proofs.PlainFacts.{IsPlain, first_is}
 use Rattle.edf_job.specs.Jobs.{ArePlain, SaysJob}
 use Rattle.edf_job.specs.declared.job.Job.{Job}
-use Rattle.edf_job.specs.declared.job.Job.TheVariants.{Check, CheckParts, Receipt, ReceiptParts, Conform, Show, Notes, Vectors}
+use Rattle.edf_job.specs.declared.job.Job.TheVariants.{Check, CheckParts, Receipt, ReceiptParts, Draft, Explain, Conform, Show, Notes, Vectors}
 
 takes_vectors : (w : List ℕ) → takes program_app (w ∷ codes "vectors" ∷ []) ≡ true
 unfolding clap_on_literals
@@ -64,6 +64,13 @@ job_taken w ws (Receipt o e c) small plain says = export_taken true w ws o.now e
 job_taken w ws (ReceiptParts o c es) small plain says =
     let as_many : length (map (λ t. t.now) es.now) ≡ length es.now = length-map es.now (λ t. t.now) in
     parts_taken true w ws o.now c.now (map (λ t. t.now) es.now) small plain (omega (arith, as_many, says.1)) says.0
+job_taken w ws (Draft o e) small plain says =
+    let each : ArePlain (codes "draft" ∷ o.now ∷ e.now ∷ []) = subst ArePlain says plain in
+    subst (λ (r : List (List ℕ)). takes program_app (w ∷ r) ≡ true) (sym says) (takes_draft w o.now e.now (each 1 (omega arith)) (each 2 (omega arith)))
+job_taken w ws (Explain o e c) small plain says =
+    let each : ArePlain (codes "explain" ∷ o.now ∷ e.now ∷ c.now ∷ []) = subst ArePlain says plain in
+    subst (λ (r : List (List ℕ)). takes program_app (w ∷ r) ≡ true) (sym says)
+    (takes_explain w o.now e.now c.now (each 1 (omega arith)) (each 2 (omega arith)) (each 3 (omega arith)))
 job_taken w ws (Conform f) small plain says =
     let each : ArePlain (codes "conform" ∷ f.now ∷ []) = subst ArePlain says plain in
     subst (λ (r : List (List ℕ)). takes program_app (w ∷ r) ≡ true) (sym says) (conform_plain w f.now (each 1 (omega arith)))
@@ -80,6 +87,8 @@ no_words (Check o e c) says = cc
 no_words (CheckParts o c es) says = cc
 no_words (Receipt o e c) says = cc
 no_words (ReceiptParts o c es) says = cc
+no_words (Draft o e) says = cc
+no_words (Explain o e c) says = cc
 no_words (Conform f) says = cc
 no_words (Show f) says = cc
 no_words (Notes f) says = cc

@@ -20,6 +20,10 @@ export_app name = with_rule (with_rule (with_rule (new_app name) (needed (codes 
 abbrev pub parts_app : Text → App
 parts_app name = with_rule (with_rule (with_rule (new_app name) (needed (codes "ORIGINAL"))) (needed (codes "CLAIM"))) (needed_some (codes "EXPORT"))
 
+-- a command over an original and an export
+abbrev pub pair_app : Text → App
+pair_app name = with_rule (with_rule (new_app name) (needed (codes "ORIGINAL"))) (needed (codes "EXPORT"))
+
 -- a command of one file
 abbrev pub file_app : Text → App
 file_app name = with_rule (new_app name) (needed (codes "FILE"))
@@ -40,6 +44,10 @@ checking_app = with_both bare_app (codes "check") (codes "check-parts")
 abbrev pub receipt_app : App
 receipt_app = with_both checking_app (codes "receipt") (codes "receipt-parts")
 
+-- the same with the draft of a claim, and a check that explains itself
+abbrev pub explain_app : App
+explain_app = with_subcommand (with_subcommand receipt_app (pair_app (codes "draft")).top) (export_app (codes "explain")).top
+
 abbrev pub program_app : App
-program_app = with_subcommand (with_subcommand (with_subcommand (with_subcommand receipt_app
+program_app = with_subcommand (with_subcommand (with_subcommand (with_subcommand explain_app
     (file_app (codes "conform")).top) (file_app (codes "show")).top) (file_app (codes "notes")).top) (new_app (codes "vectors")).top

@@ -6,7 +6,7 @@ ghost use Rattle.std.specs.Prelude.{◌≡◌, ◌≢◌, codes, false, IfOk, If
 ghost use Rattle.clap.specs.Simple.{app_of, new_app, with_rule, with_subcommand};
 ghost use Rattle.clap.specs.Values.{kind_of};
 ghost use Rattle.clap.specs.declared.builder.command.Command.TheViews.{out-Command as fields_of};
-ghost use Rattle.edf_command_line.specs.Commands.{needed, needed_some, bare_app, checking_app, export_app, file_app, parts_app, program_app, receipt_app, with_both};
+ghost use Rattle.edf_command_line.specs.Commands.{needed, needed_some, bare_app, checking_app, explain_app, export_app, file_app, pair_app, parts_app, program_app, receipt_app, with_both};
 ghost use Rattle.edf_job.specs.Jobs.{ArePlain, HasExports, SaysJob, SaysNoJob, behind_first};
 
 use crate::VERSION;
@@ -84,6 +84,16 @@ fn parts_command<'a>(
         "EXPORT",
         "The recordings that are handed out, in the order of time",
     )
+}
+
+/// The command `NAME ORIGINAL EXPORT`.
+fn pair_command<'a>(alloc: Global, name: &'a str, about: &'a str) -> Result<Command<'a>, AllocError>
+    ensures shape { IfOk result (λ c. app_of c ≡ pair_app name.entry.now) }
+    ensures local { IfOk result (λ c. (fields_of c).has_globals ≡ false) }
+{
+    let named = Command::new(alloc, name).about(about);
+    let one = needing(alloc, named, "ORIGINAL", "The recording that is kept")?;
+    needing(alloc, one, "EXPORT", "The recording that is handed out")
 }
 
 /// The command `NAME FILE`.
@@ -170,11 +180,31 @@ fn receipt_program<'a>(alloc: Global) -> Result<Command<'a>, AllocError>
     with_both(alloc, checking, receipt, parts)
 }
 
+/// The program with its checks, their receipts, the draft of a claim and a check that explains itself, and without another
+/// command.
+fn explain_program<'a>(alloc: Global) -> Result<Command<'a>, AllocError>
+    ensures { IfOk result (λ c. app_of c ≡ explain_app) }
+{
+    let receipts = receipt_program(alloc)?;
+    let draft = pair_command(
+        alloc,
+        "draft",
+        "Drafts the claim by which a recording is the export of another",
+    )?;
+    let drafting = receipts.subcommand(draft)?;
+    let explain = export_command(
+        alloc,
+        "explain",
+        "Checks as check does, and explains the answer in plain sentences",
+    )?;
+    drafting.subcommand(explain)
+}
+
 /// The program with all of its commands.
 fn program<'a>(alloc: Global) -> Result<Command<'a>, AllocError>
     ensures { IfOk result (λ c. app_of c ≡ program_app) }
 {
-    let first = receipt_program(alloc)?;
+    let first = explain_program(alloc)?;
     let second = with_report(alloc, first, "conform", "Says whether a file conforms")?;
     let third = with_report(alloc, second, "show", "Shows what a file's header says")?;
     let fourth = with_report(alloc, third, "notes", "Lists a file's annotations")?;

@@ -1,12 +1,12 @@
 -- Whether a text stands among some words, and that they are no command.
-use Rattle.std.proofs.Common.{◌≡◌, ℕ, ◌<◌, List, [], Bool, true, false, length, map, get_or, arith, refl, sym, Option, None, Some, IfNone, ◌∙◌}
+use Rattle.std.proofs.Common.{◌≡◌, ℕ, ◌<◌, List, [], Bool, true, false, length, map, get_or, arith, refl, sym, Option, None, Some, IfNone, ◌∙◌, ◌⊎◌, inl, inr}
 use Rattle.std.proofs.lemmas.List.{length-map, get_or-map}
 use Rattle.std.proofs.lemmas.Slice.Eq.{bytes_eq-Decides}
 use Rattle.std.specs.Bool.{Decides}
 use Rattle.std.specs.Borrow.{Bor}
 use Rattle.std.specs.List.{Contains, IsAnyAnswer}
 use Rattle.std.specs.Str.{bytes_eq}
-use Rattle.edf_job.specs.Jobs.{SaysNoParts, SaysNoJob, SaysNoOther}
+use Rattle.edf_job.specs.Jobs.{IsOfExport, IsOfParts, SaysNoExport, SaysNoFile, SaysNoParts, SaysNoJob, SaysNoOther}
 use Rattle.edf_job.specs.declared.job.Job.{Job}
 
 abbrev no_word : Bor (List ℕ)
@@ -39,3 +39,12 @@ contains_text ws t false none = (
 pub no_job : (words : List (List ℕ)) (found : Option Job) → SaysNoParts words → IfNone found (SaysNoOther words) → IfNone found (SaysNoJob words)
 no_job words None no_parts no_other = λ j says. no_parts j (no_other j says) says
 no_job words (Some job) no_parts no_other = no_other
+
+either_parts : (a b : Type 0) → (b → ⊥) → a ⊎ b → a
+either_parts a b never (inl x) = x
+either_parts a b never (inr y) = absurd (never y)
+
+-- they are none but over several exports where they are neither one over one export nor one of the others
+pub no_other : (words : List (List ℕ)) (found : Option Job) → SaysNoExport words → IfNone found (SaysNoFile words) → IfNone found (SaysNoOther words)
+no_other words None no_export no_file = λ j says. either_parts (IsOfParts j) (IsOfExport j) (λ is. no_export j is says) (no_file j says)
+no_other words (Some job) no_export no_file = no_file

@@ -1,9 +1,9 @@
 -- What a command line asks for.
-use Rattle.std.specs.Prelude.{◌≡◌, ◌≢◌, ℕ, ◌<◌, List, [], ◌∷◌, length, map, drop, slice_index, slice_index_or, codes}
+use Rattle.std.specs.Prelude.{◌≡◌, ◌≢◌, ◌⊎◌, ℕ, ◌<◌, List, [], ◌∷◌, length, map, drop, slice_index, slice_index_or, codes}
 use Rattle.std.specs.Borrow.{Bor}
 use Rattle.std.specs.List.{Contains}
 use Rattle.edf_job.specs.declared.job.Job.{Job}
-use Rattle.edf_job.specs.declared.job.Job.TheVariants.{Check, CheckParts, Receipt, ReceiptParts, Conform, Show, Notes, Vectors}
+use Rattle.edf_job.specs.declared.job.Job.TheVariants.{Check, CheckParts, Receipt, ReceiptParts, Draft, Explain, Conform, Show, Notes, Vectors}
 
 -- the words behind the first, which is the program's name
 abbrev pub behind_first : List (Bor (List ℕ)) → List (List ℕ)
@@ -21,6 +21,8 @@ SaysJob words (CheckParts original claim exports) =
 SaysJob words (Receipt original export claim) = words ≡ codes "receipt" ∷ original.now ∷ export.now ∷ claim.now ∷ []
 SaysJob words (ReceiptParts original claim exports) =
     (words ≡ codes "receipt-parts" ∷ original.now ∷ claim.now ∷ map (λ w. w.now) exports.now) × (0 < length exports.now) × ¬ HaveEscape words
+SaysJob words (Draft original export) = words ≡ codes "draft" ∷ original.now ∷ export.now ∷ []
+SaysJob words (Explain original export claim) = words ≡ codes "explain" ∷ original.now ∷ export.now ∷ claim.now ∷ []
 SaysJob words (Conform path) = words ≡ codes "conform" ∷ path.now ∷ []
 SaysJob words (Show path) = words ≡ codes "show" ∷ path.now ∷ []
 SaysJob words (Notes path) = words ≡ codes "notes" ∷ path.now ∷ []
@@ -42,11 +44,27 @@ IsOfParts (CheckParts original claim exports) = Unit {0}
 IsOfParts (ReceiptParts original claim exports) = Unit {0}
 IsOfParts job = ⊥
 
--- the words aren't such a command
+-- the job is one over an original and one export
+abbrev pub IsOfExport : Job → Type 0
+IsOfExport (Check original export claim) = Unit {0}
+IsOfExport (Receipt original export claim) = Unit {0}
+IsOfExport (Draft original export) = Unit {0}
+IsOfExport (Explain original export claim) = Unit {0}
+IsOfExport job = ⊥
+
+-- the words aren't such a command over several exports
 abbrev pub SaysNoParts : List (List ℕ) → Type 0
 SaysNoParts words = (j : Job) → IsOfParts j → ¬ SaysJob words j
 
--- the words are none of the other commands
+-- the words aren't such a command over one export
+abbrev pub SaysNoExport : List (List ℕ) → Type 0
+SaysNoExport words = (j : Job) → IsOfExport j → ¬ SaysJob words j
+
+-- the words are none of the commands but over exports
+abbrev pub SaysNoFile : List (List ℕ) → Type 0
+SaysNoFile words = (j : Job) → SaysJob words j → IsOfParts j ⊎ IsOfExport j
+
+-- the words are none of the commands but over several exports
 abbrev pub SaysNoOther : List (List ℕ) → Type 0
 SaysNoOther words = (j : Job) → SaysJob words j → IsOfParts j
 

@@ -27,6 +27,17 @@ pub enum Job<'a> {
         claim: &'a str,
         exports: &'a [&'a str],
     },
+    /// Drafts the claim by which one recording is the export of another.
+    Draft {
+        original: &'a str,
+        export: &'a str,
+    },
+    /// The same as `Check`, with sentences behind its answer.
+    Explain {
+        original: &'a str,
+        export: &'a str,
+        claim: &'a str,
+    },
     /// Says whether a file conforms.
     Conform(&'a str),
     /// Shows what the header of a file says.

@@ -2,7 +2,7 @@
 
 ghost use Rattle.std.specs.Prelude.{map, IfSome, IfNone};
 ghost use Rattle.std.specs.Bool.{Decides};
-ghost use Rattle.edf_job.specs.Jobs.{HasExports, HaveEscape, SaysJob, SaysNoParts, SaysNoJob, SaysNoOther, behind_first};
+ghost use Rattle.edf_job.specs.Jobs.{HasExports, HaveEscape, SaysJob, SaysNoExport, SaysNoFile, SaysNoJob, SaysNoOther, SaysNoParts, behind_first};
 
 use crate::job::Job;
 
@@ -37,10 +37,10 @@ fn parts_job<'a>(words: &'a [&'a str]) -> Option<Job<'a>>
     }
 }
 
-/// The command that the words behind the first one are, where it isn't one over several exports.
-fn other_job<'a>(words: &'a [&'a str]) -> Option<Job<'a>>
+/// The command over one export that the words behind the first one are, or none where they aren't one.
+fn export_job<'a>(words: &'a [&'a str]) -> Option<Job<'a>>
     ensures some { IfSome result (SaysJob (behind_first words.entry.now)) }
-    ensures none { IfNone result (SaysNoOther (behind_first words.entry.now)) }
+    ensures none { IfNone result (SaysNoExport (behind_first words.entry.now)) }
 {
     match words {
         [_, "check", original, export, claim] => Some(Job::Check {
@@ -53,11 +53,38 @@ fn other_job<'a>(words: &'a [&'a str]) -> Option<Job<'a>>
             export,
             claim,
         }),
+        [_, "draft", original, export] => Some(Job::Draft { original, export }),
+        [_, "explain", original, export, claim] => Some(Job::Explain {
+            original,
+            export,
+            claim,
+        }),
+        _ => None,
+    }
+}
+
+/// The command over a file or none that the words behind the first one are, or none where they aren't one.
+fn file_job<'a>(words: &'a [&'a str]) -> Option<Job<'a>>
+    ensures some { IfSome result (SaysJob (behind_first words.entry.now)) }
+    ensures none { IfNone result (SaysNoFile (behind_first words.entry.now)) }
+{
+    match words {
         [_, "conform", path] => Some(Job::Conform(path)),
         [_, "show", path] => Some(Job::Show(path)),
         [_, "notes", path] => Some(Job::Notes(path)),
         [_, "vectors"] => Some(Job::Vectors),
         _ => None,
+    }
+}
+
+/// The command that the words behind the first one are, where it isn't one over several exports.
+fn other_job<'a>(words: &'a [&'a str]) -> Option<Job<'a>>
+    ensures some { IfSome result (SaysJob (behind_first words.entry.now)) }
+    ensures none { IfNone result (SaysNoOther (behind_first words.entry.now)) }
+{
+    match export_job(words) {
+        Some(job) => Some(job),
+        None => file_job(words),
     }
 }
 

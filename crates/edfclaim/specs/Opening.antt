@@ -1,5 +1,5 @@
 -- For what a command on files is refused, beside what is said where a call is made.
-use Rattle.std.specs.Prelude.{◌≡◌, ◌≢◌, ℕ, ◌<◌}
+use Rattle.std.specs.Prelude.{◌≡◌, ◌≢◌, ◌⊎◌, ℕ, ◌<◌}
 use Rattle.edf_refusal.specs.declared.refusal.Refusal.{Refusal}
 use Rattle.edf_refusal.specs.declared.refusal.Refusal.TheVariants as refusals
 use Rattle.edf_refusal.specs.declared.refusal.Role.{Role}
@@ -35,6 +35,15 @@ CheckIsRefused (refusals.Reading role) = role ≢ roles.File
 CheckIsRefused (refusals.Claim cause) = Unit {0}
 CheckIsRefused refusals.Writing = Unit {0}
 CheckIsRefused refusals.TooManyExports = ⊥
+
+-- of the two files of a draft one can't be opened, or a read of it failed; or memory ran out, or a write failed
+abbrev pub DraftIsRefused : Refusal → Type 0
+DraftIsRefused refusals.Memory = Unit {0}
+DraftIsRefused (refusals.CannotOpen role) = (role ≡ roles.Original) ⊎ (role ≡ roles.Export)
+DraftIsRefused (refusals.Reading role) = (role ≡ roles.Original) ⊎ (role ≡ roles.Export)
+DraftIsRefused (refusals.Claim cause) = ⊥
+DraftIsRefused refusals.Writing = Unit {0}
+DraftIsRefused refusals.TooManyExports = ⊥
 
 -- a check of so many exports is refused as one of a single export is, or there are more than 64 of them
 abbrev pub PartsAreRefused : ℕ → Refusal → Type 0

@@ -8,6 +8,7 @@
 #![tactic(auto)]
 
 mod files;
+mod hints;
 mod perform;
 
 ghost use Rattle.edf_job.specs.Jobs.{HasExports};
@@ -45,6 +46,16 @@ fn answer_fault(rt: &(impl Print + Eprint), fault: &clap::Error) -> u8 {
     }
 }
 
+/// Writes the sentences behind the line of a refusal to standard error, where there are any. Where memory runs out, or
+/// standard error takes nothing, the line has to do.
+fn hint(rt: &(impl Files + Eprint + AllocGlobal), asked: Job<'_>, refusal: &Refusal) {
+    if let Ok(sentences) = hints::hints(rt, asked, refusal) {
+        if let Ok(text) = str::from_utf8(&sentences) {
+            let _ = rt.eprint(text);
+        }
+    }
+}
+
 /// Does a job, and gives the status.
 fn answer_job(rt: &(impl Files + Print + Eprint + AllocGlobal), asked: Job<'_>) -> u8
     requires { HasExports asked }
@@ -52,6 +63,7 @@ fn answer_job(rt: &(impl Files + Print + Eprint + AllocGlobal), asked: Job<'_>) 
     let ended = perform::perform(rt, asked);
     if let Err(refusal) = &ended {
         refuse(rt, refusal.text());
+        hint(rt, asked, refusal);
     }
     status::status(&ended)
 }

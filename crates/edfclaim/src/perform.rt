@@ -3,12 +3,14 @@
 ghost use Rattle.std.specs.Prelude.{◌≡◌, ◌<◌, length, Err, IfErr};
 ghost use Rattle.edf_job.specs.Jobs.{HasExports};
 ghost use Rattle.edf_refusal.specs.declared.refusal.Refusal.TheVariants as refusals;
-ghost use Rattle.edfclaim.specs.Opening.{CheckIsRefused, PartsAreRefused, ReportIsRefused};
+ghost use Rattle.edfclaim.specs.Opening.{CheckIsRefused, DraftIsRefused, PartsAreRefused, ReportIsRefused};
 
 use crate::files::{claim_text, digested_recordings, recording, recordings};
 use edf_check::vectors::vectors_to;
 use edf_check::{run, run_parts};
 use edf_command_line::VERSION;
+use edf_draft::draft::draft_to;
+use edf_explain::explained::run_explained;
 use edf_fields::digest_source::DigestSource;
 use edf_fields::sink::{Sink, WriteSink};
 use edf_job::job::Job;
@@ -105,6 +107,48 @@ fn receipt_parts<R: Files + AllocGlobal, K: Sink>(
     Ok(receipt_parts_to(rt.alloc(), VERSION, &mut first, &mut parts, &text, sink)?)
 }
 
+/// Drafts the claim by which a recording is the export of another.
+///
+/// The original is opened first, then the export.
+fn draft<R: Files + AllocGlobal, K: Sink>(
+    rt: &R,
+    original: &str,
+    export: &str,
+    sink: &mut K,
+) -> Result<Outcome, Refusal>
+    ensures stop { IfErr result DraftIsRefused }
+{
+    let mut first = recording(rt, original, Role::Original)?;
+    let mut second = recording(rt, export, Role::Export)?;
+    Ok(draft_to(rt.alloc(), &mut first, &mut second, sink)?)
+}
+
+/// The same as `check`, with sentences behind its line, for which both recordings are opened twice.
+fn explain<R: Files + AllocGlobal, K: Sink>(
+    rt: &R,
+    original: &str,
+    export: &str,
+    claim: &str,
+    sink: &mut K,
+) -> Result<Outcome, Refusal>
+    ensures stop { IfErr result CheckIsRefused }
+{
+    let text = claim_text(rt, claim)?;
+    let mut first = recording(rt, original, Role::Original)?;
+    let mut second = recording(rt, export, Role::Export)?;
+    let mut first_again = recording(rt, original, Role::Original)?;
+    let mut second_again = recording(rt, export, Role::Export)?;
+    Ok(run_explained(
+        rt.alloc(),
+        &mut first,
+        &mut second,
+        &mut first_again,
+        &mut second_again,
+        &text,
+        sink,
+    )?)
+}
+
 /// Says whether a file conforms.
 fn conform<R: Files + AllocGlobal, K: Sink>(
     rt: &R,
@@ -170,6 +214,12 @@ fn report<R: Files + AllocGlobal, K: Sink>(
             claim,
             exports,
         } => receipt_parts(rt, original, claim, exports, sink),
+        Job::Draft { original, export } => draft(rt, original, export, sink),
+        Job::Explain {
+            original,
+            export,
+            claim,
+        } => explain(rt, original, export, claim, sink),
         Job::Conform(path) => conform(rt, path, sink),
         Job::Show(path) => show(rt, path, sink),
         Job::Notes(path) => notes(rt, path, sink),

@@ -1,0 +1,11 @@
+-- What stands behind a check that explains itself.
+use Rattle.std.specs.Prelude.{ℕ, List}
+use Rattle.edf_check.specs.Runs.{IsReport}
+use Rattle.edf_explain.specs.Appending.{Appended}
+use Rattle.edf_verdict.specs.declared.outcome.Outcome.{Outcome}
+
+-- behind what was held stands the line of the verdict, with its outcome, as a run without sentences writes it; and some text behind it
+pub record IsExplained (original export text old new : List ℕ) (outcome : Outcome) : Type 0 where
+  pub held : List ℕ
+  pub line : IsReport original export text old held outcome
+  pub sentences : Appended held new

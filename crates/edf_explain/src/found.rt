@@ -1,0 +1,184 @@
+//! What was found of the samples of a channel: how many, the first and the last.
+
+use crate::run::Run;
+use crate::stand::Stand;
+
+/// A sample that was found.
+#[derive(Clone, Copy)]
+pub(crate) struct Spot {
+    /// When it was taken, in picoseconds after the second at which the original starts, rounded down.
+    pub(crate) at_ps: i128,
+    /// The data record of the original in which this time lies.
+    pub(crate) original_record: Option<u64>,
+    /// The data record of the export in which this time lies.
+    pub(crate) export_record: Option<u64>,
+    /// The values of the original and the export, where both have one.
+    pub(crate) values: Option<(i16, i16)>,
+}
+
+/// The data records at hand of both files.
+#[derive(Clone, Copy)]
+pub(crate) struct Stands<'a> {
+    pub(crate) original: &'a Stand,
+    pub(crate) export: &'a Stand,
+}
+
+impl<'a> Stands<'a> {
+    /// The sample of a run at a place.
+    fn spot(self, run: Run<'_>, place: usize) -> Spot {
+        let instant = run.instant(place);
+        let den = i128::from(instant.den);
+        let at_ps = instant.num.checked_div_euclid(den).unwrap_or(0);
+        Spot {
+            at_ps,
+            original_record: self.original.number_at(at_ps),
+            export_record: self.export.number_at(at_ps),
+            values: None,
+        }
+    }
+}
+
+/// Samples that were found: how many, and the first and the last of them.
+#[derive(Clone, Copy)]
+pub(crate) struct Found {
+    pub(crate) count: u64,
+    pub(crate) ends: Option<(Spot, Spot)>,
+}
+
+impl Found {
+    /// None so far.
+    pub(crate) const NONE: Found = Found {
+        count: 0,
+        ends: None,
+    };
+
+    /// Takes in so many samples behind those so far, by the first and the last of them.
+    fn take_in(&mut self, count: usize, first: Spot, last: Spot) {
+        self.count = self.count.saturating_add(count as u64);
+        let first = match self.ends {
+            Some((first, _)) => first,
+            None => first,
+        };
+        self.ends = Some((first, last));
+    }
+
+    /// Takes in samples of a run, by their places.
+    pub(crate) fn add_places(&mut self, run: Run<'_>, places: Places, stands: Stands<'_>) {
+        let first = stands.spot(run, places.first);
+        let last = stands.spot(run, places.last);
+        self.take_in(places.count, first, last);
+    }
+
+    /// Takes in the samples of a run.
+    pub(crate) fn add(&mut self, run: Run<'_>, stands: Stands<'_>) {
+        if run.is_empty() {
+            return;
+        }
+        let places = Places {
+            count: run.len(),
+            first: run.from,
+            last: run.to.saturating_sub(1),
+        };
+        self.add_places(run, places, stands);
+    }
+
+    /// Takes in samples of two runs that have other values, by their places in the original and in the export.
+    pub(crate) fn add_changed(
+        &mut self,
+        pair: Pair<'_>,
+        original: Places,
+        export: Places,
+        stands: Stands<'_>,
+    ) {
+        let first = pair.spot(original.first, export.first, stands);
+        let last = pair.spot(original.last, export.last, stands);
+        self.take_in(original.count, first, last);
+    }
+}
+
+/// Places of samples in a run: how many, the first and the last.
+#[derive(Clone, Copy)]
+pub(crate) struct Places {
+    pub(crate) count: usize,
+    pub(crate) first: usize,
+    pub(crate) last: usize,
+}
+
+impl Places {
+    /// One place.
+    pub(crate) fn one(place: usize) -> Places {
+        Places {
+            count: 1,
+            first: place,
+            last: place,
+        }
+    }
+
+    /// These and one more behind them.
+    pub(crate) fn with(self, place: usize) -> Places {
+        Places {
+            count: self.count.saturating_add(1),
+            first: self.first,
+            last: place,
+        }
+    }
+
+    /// These, if there are any, and one more behind them.
+    pub(crate) fn with_one(places: Option<Places>, place: usize) -> Option<Places> {
+        match places {
+            Some(before) => Some(before.with(place)),
+            None => Some(Places::one(place)),
+        }
+    }
+
+    /// These, so many places later.
+    pub(crate) fn behind(self, count: usize) -> Places {
+        Places {
+            count: self.count,
+            first: self.first.saturating_add(count),
+            last: self.last.saturating_add(count),
+        }
+    }
+}
+
+/// Samples of both files that are compared.
+#[derive(Clone, Copy)]
+pub(crate) struct Pair<'a> {
+    pub(crate) original: Run<'a>,
+    pub(crate) export: Run<'a>,
+}
+
+/// Where the values of two runs differ, by their bytes.
+fn places_of(original: &[u8], export: &[u8]) -> Option<Places> {
+    let mut places = None;
+    for (place, (old, new)) in original
+        .chunks_exact(2)
+        .zip(export.chunks_exact(2))
+        .enumerate()
+    {
+        if old != new {
+            places = Places::with_one(places, place);
+        }
+    }
+    places
+}
+
+impl<'a> Pair<'a> {
+    /// Where the values of two runs differ that have as many samples, counted from the first of them.
+    pub(crate) fn places(self) -> Option<Places> {
+        let original = self.original.values();
+        let export = self.export.values();
+        if original == export {
+            return None;
+        }
+        places_of(original, export)
+    }
+
+    /// The samples at a place of the original and one of the export.
+    fn spot(self, original: usize, export: usize, stands: Stands<'_>) -> Spot {
+        Spot {
+            values: Some((self.original.value(original), self.export.value(export))),
+            ..stands.spot(self.original, original)
+        }
+    }
+}

@@ -1,0 +1,222 @@
+//! How the header of an export isn't what a claim says of its original's: all differences, and not the first alone.
+
+use crate::text::{Piece, Text};
+use crate::words;
+use edf_claim::claim::Claim;
+use edf_fields::which::Which;
+use edf_header::calibration::Calibration;
+use edf_header::header::Header;
+use edf_header::signal::Signal;
+use edf_heads::blank::is_blank_header;
+use edf_heads::calibrations::has_other_calibration;
+use edf_heads::channel_index::ChannelIndex;
+use edf_heads::subfields::{is_anonymous, is_unchanged};
+use std::alloc::{AllocError, Global};
+
+/// Both headers, and the claim.
+#[derive(Clone, Copy)]
+struct Heads<'a> {
+    original: &'a Header,
+    export: &'a Header,
+    claim: &'a Claim,
+}
+
+/// Says of a text of a channel that it is another one in the export, if it is.
+fn say_text(
+    text: &mut Text,
+    sentence: &str,
+    label: &[u8],
+    original: &[u8],
+    export: &[u8],
+) -> Result<(), AllocError> {
+    if original == export {
+        return Ok(());
+    }
+    let pieces = [
+        Piece::Quoted(label),
+        Piece::Quoted(original),
+        Piece::Quoted(export),
+    ];
+    text.say(sentence, &pieces)?;
+    if !export.is_empty() && original.starts_with(export) {
+        text.say(words::TEXT_CUT, &[])?;
+    }
+    Ok(())
+}
+
+/// Says what extremes a channel has, with its unit.
+fn say_extremes(text: &mut Text, sentence: &str, signal: &Signal) -> Result<(), AllocError> {
+    let (low, high) = signal.calibration().physical();
+    let (least, most) = signal.calibration().digital();
+    text.say(
+        sentence,
+        &[
+            Piece::Decimal(low),
+            Piece::Decimal(high),
+            Piece::Quoted(signal.dimension()),
+            Piece::Number(i128::from(least)),
+            Piece::Number(i128::from(most)),
+        ],
+    )
+}
+
+/// Whether a number is another one with its last digits cut off: nearer to 0, and by little.
+fn is_cut_off(original: i64, export: i64) -> bool {
+    let whole = i128::from(original);
+    let cut = i128::from(export);
+    let lost = whole.saturating_sub(cut);
+    let is_nearer = (whole > 0 && lost > 0 && cut >= 0) || (whole < 0 && lost < 0 && cut <= 0);
+    is_nearer && lost.saturating_abs().saturating_mul(1_000) <= whole.saturating_abs()
+}
+
+/// Whether one of the physical extremes is cut off, and each is cut off or kept.
+fn are_extremes_cut_off(original: &Calibration, export: &Calibration) -> bool {
+    let (low, high) = original.physical();
+    let (new_low, new_high) = export.physical();
+    let is_low_cut = is_cut_off(low, new_low);
+    let is_high_cut = is_cut_off(high, new_high);
+    (is_low_cut || is_high_cut)
+        && (is_low_cut || low == new_low)
+        && (is_high_cut || high == new_high)
+}
+
+/// Says of the calibration of a channel that it is another one in the export, if it is.
+fn say_calibration(
+    text: &mut Text,
+    label: &[u8],
+    original: &Signal,
+    export: &Signal,
+) -> Result<(), AllocError> {
+    if !has_other_calibration(original, export) {
+        return Ok(());
+    }
+    text.say(words::CALIBRATION, &[Piece::Quoted(label)])?;
+    say_extremes(text, words::CALIBRATION_ORIGINAL, original)?;
+    say_extremes(text, words::CALIBRATION_EXPORT, export)?;
+    if are_extremes_cut_off(original.calibration(), export.calibration()) {
+        text.say(words::CALIBRATION_CUT_OFF, &[])?;
+    } else if original.dimension() != export.dimension() {
+        text.say(words::CALIBRATION_DIMENSION, &[])?;
+    } else {
+        text.say(words::CALIBRATION_SCALE, &[])?;
+    }
+    Ok(())
+}
+
+/// Says how a channel that both files have isn't the original's.
+fn say_channel(
+    text: &mut Text,
+    label: &[u8],
+    original: &Signal,
+    export: &Signal,
+) -> Result<(), AllocError> {
+    say_text(
+        text,
+        words::TRANSDUCER,
+        label,
+        original.transducer(),
+        export.transducer(),
+    )?;
+    say_text(
+        text,
+        words::PREFILTER,
+        label,
+        original.prefilter(),
+        export.prefilter(),
+    )?;
+    say_calibration(text, label, original, export)?;
+    if !export.reserved().is_empty() {
+        let pieces = [Piece::Quoted(label), Piece::Quoted(export.reserved())];
+        text.say(words::FREE_TEXT_OF_CHANNEL, &pieces)?;
+    }
+    Ok(())
+}
+
+/// Says of each claimed channel how it isn't as claimed.
+fn say_claimed(
+    text: &mut Text,
+    claim: &Claim,
+    originals: &ChannelIndex<'_>,
+    exports: &ChannelIndex<'_>,
+) -> Result<(), AllocError> {
+    for label in claim.channels() {
+        let label = label.text();
+        match (originals.channel(label), exports.channel(label)) {
+            (Some(original), Some(export)) => {
+                say_channel(text, label, original.signal, export.signal)?;
+            }
+            (Some(_), None) => text.say(words::MISSING_CHANNEL, &[Piece::Quoted(label)])?,
+            (None, Some(_)) => text.say(words::UNKNOWN_CHANNEL, &[Piece::Quoted(label)])?,
+            (None, None) => text.say(words::CHANNEL_NOWHERE, &[Piece::Quoted(label)])?,
+        }
+    }
+    Ok(())
+}
+
+/// Says which channels the export has that aren't claimed.
+fn say_extra(text: &mut Text, claim: &Claim, export: &Header) -> Result<(), AllocError> {
+    for signal in export.signals() {
+        if !signal.is_annotations() && !claim.keeps_channel(signal.label()) {
+            text.say(words::EXTRA_CHANNEL, &[Piece::Quoted(signal.label())])?;
+        }
+    }
+    Ok(())
+}
+
+impl<'a> Heads<'a> {
+    /// Says how a subfield isn't as claimed, if it isn't.
+    fn say_subfield(self, text: &mut Text, which: Which) -> Result<(), AllocError> {
+        let pieces = [
+            Piece::Word(which.name()),
+            Piece::Word(words::meaning(which)),
+        ];
+        if self.claim.is_anonymous(which) {
+            if is_anonymous(self.export, which) {
+                return Ok(());
+            }
+            return text.say(words::SUBFIELD_NOT_X, &pieces);
+        }
+        if is_unchanged(self.original, self.export, which) {
+            return Ok(());
+        }
+        if which == Which::Date {
+            return text.say(words::DATE_CHANGED, &pieces);
+        }
+        if is_anonymous(self.export, which) {
+            return text.say(words::SUBFIELD_HIDDEN, &pieces);
+        }
+        text.say(words::SUBFIELD_CHANGED, &pieces)
+    }
+
+    /// Says of each subfield how it isn't as claimed.
+    fn say_subfields(self, text: &mut Text) -> Result<(), AllocError> {
+        for which in Which::all() {
+            self.say_subfield(text, *which)?;
+        }
+        Ok(())
+    }
+}
+
+/// Says how the header of an export isn't as claimed.
+pub(crate) fn say_heads(
+    text: &mut Text,
+    alloc: Global,
+    original: &Header,
+    export: &Header,
+    claim: &Claim,
+) -> Result<(), AllocError> {
+    let originals = ChannelIndex::new(alloc, original)?;
+    let exports = ChannelIndex::new(alloc, export)?;
+    say_claimed(text, claim, &originals, &exports)?;
+    say_extra(text, claim, export)?;
+    let heads = Heads {
+        original,
+        export,
+        claim,
+    };
+    heads.say_subfields(text)?;
+    if !is_blank_header(export) {
+        text.say(words::FREE_TEXT_OF_HEADER, &[])?;
+    }
+    Ok(())
+}

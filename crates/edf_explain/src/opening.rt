@@ -1,0 +1,23 @@
+//! Why a file can't be opened.
+
+use crate::text::{Piece, Text};
+use crate::words;
+use std::alloc::{AllocError, Global};
+use std::io;
+
+/// A sentence on a path that can't be opened, with the reason that the system gives.
+///
+/// The error is want of memory.
+pub fn explain_opening(
+    alloc: Global,
+    path: &str,
+    fault: &io::Error,
+) -> Result<Vec<u8>, AllocError> {
+    let reason = format!(in alloc; "{fault}")?;
+    let mut text = Text::new(alloc);
+    text.say(
+        words::CANNOT_OPEN,
+        &[Piece::Word(path), Piece::Word(&reason)],
+    )?;
+    Ok(text.into_bytes())
+}

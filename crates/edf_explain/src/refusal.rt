@@ -1,0 +1,251 @@
+//! Sentences on a claim that is refused: where, what stands there, and what was expected.
+
+use crate::claim_lines::{Spotted, key_at, place_at};
+use crate::looks::looks_like_a_recording;
+use crate::refused_keep::say_keep;
+use crate::refused_texts::{say_anonymous, say_channels, say_texts};
+use crate::text::{Piece, Text};
+use crate::words;
+use edf_claim::claim::Claim;
+use edf_claim::stop::ClaimStop;
+use std::alloc::{AllocError, Global};
+use strsim::osa_distance;
+use toml::de::Error;
+use toml::{Table, Value};
+
+/// The keys that a claim can have.
+const KEYS: [&str; 8] = [
+    "format",
+    "channels",
+    "keep",
+    "anonymous",
+    "shift",
+    "remove",
+    "remove-prefix",
+    "blank",
+];
+
+/// How many of these a claim of format 1 can have.
+const KEYS_OF_FORMAT_1: usize = 6;
+
+/// How many letters of a word may be wrong, and it still is taken for a misspelt one.
+const MOST_WRONG: usize = 2;
+
+/// Puts a line of a claim in front of what is said of it.
+fn add_place(text: &mut Text, place: Spotted<'_>) -> Result<(), AllocError> {
+    let words = if place.column > 1 {
+        words::AT_COLUMN
+    } else {
+        words::AT_LINE
+    };
+    let pieces = [
+        Piece::Number(place.line as i128),
+        Piece::Number(place.column as i128),
+    ];
+    text.add(words, &pieces)?;
+    match place.shown() {
+        Some(content) => text.add(words::LINE_CONTENT, &[Piece::Plain(content)]),
+        None => Ok(()),
+    }
+}
+
+/// Says what was expected at a place of a claim, where the place is known.
+pub(crate) fn say_at(
+    text: &mut Text,
+    place: Option<Spotted<'_>>,
+    sentence: &str,
+    pieces: &[Piece<'_>],
+) -> Result<(), AllocError> {
+    if let Some(place) = place {
+        add_place(text, place)?;
+    }
+    text.say(sentence, pieces)
+}
+
+/// The one of some words that is nearest to another, where it is near enough to be meant.
+pub(crate) fn nearest<'a>(
+    alloc: Global,
+    word: &str,
+    known: &[&'a str],
+) -> Result<Option<&'a str>, AllocError> {
+    let mut best = None;
+    let mut least = MOST_WRONG;
+    for other in known {
+        if word.len() <= 40 {
+            let wrong = osa_distance(alloc, word, other)?;
+            if wrong <= least && (best.is_none() || wrong < least) {
+                least = wrong;
+                best = Some(*other);
+            }
+        }
+    }
+    Ok(best)
+}
+
+/// Whether the integer at `format` is this one.
+fn is_format(table: &Table, format: i64) -> bool {
+    match table.get("format") {
+        Some(value) => value.as_integer() == Some(format),
+        None => false,
+    }
+}
+
+/// Says what is wrong with the format.
+fn say_format(text: &mut Text, claim_text: &[u8], table: &Table) -> Result<(), AllocError> {
+    let place = key_at(claim_text, "format");
+    match table.get("format") {
+        Some(Value::String(_)) => say_at(text, place, words::FORMAT_QUOTED, &[]),
+        Some(_) => say_at(text, place, words::FORMAT_OTHER, &[]),
+        None if place.is_some() => say_at(text, place, words::FORMAT_IN_TABLE, &[]),
+        None => text.say(words::FORMAT_MISSING, &[]),
+    }
+}
+
+/// Says what is wrong with a key that a claim doesn't have.
+fn say_key(text: &mut Text, alloc: Global, claim_text: &[u8], key: &str) -> Result<(), AllocError> {
+    let place = key_at(claim_text, key);
+    let quoted = Piece::Quoted(key.as_bytes());
+    if is_among(&KEYS, KEYS.len(), key) {
+        return say_at(text, place, words::KEY_OF_FORMAT_2, &[quoted]);
+    }
+    if key == "from" || key == "to" {
+        return say_at(text, place, words::KEY_OF_KEEP, &[quoted]);
+    }
+    match nearest(alloc, key, &KEYS)? {
+        Some(near) => say_at(
+            text,
+            place,
+            words::KEY_MISSPELT,
+            &[quoted, Piece::Word(near)],
+        ),
+        None => say_at(text, place, words::KEY_UNKNOWN, &[quoted]),
+    }
+}
+
+/// Whether a word is one of the first few of some others.
+fn is_among(words: &[&str], count: usize, word: &str) -> bool {
+    for (place, other) in words.iter().enumerate() {
+        if place < count && other.as_bytes() == word.as_bytes() {
+            return true;
+        }
+    }
+    false
+}
+
+/// Whether a claim of this table may have the key.
+fn is_known(table: &Table, key: &str) -> bool {
+    let count = if is_format(table, 1) {
+        KEYS_OF_FORMAT_1
+    } else {
+        KEYS.len()
+    };
+    is_among(&KEYS, count, key)
+}
+
+/// Says which keys a claim doesn't have.
+fn say_keys(
+    text: &mut Text,
+    alloc: Global,
+    claim_text: &[u8],
+    table: &Table,
+) -> Result<(), AllocError> {
+    for key in table.keys() {
+        if !is_known(table, key.as_str()) {
+            say_key(text, alloc, claim_text, key.as_str())?;
+        }
+    }
+    Ok(())
+}
+
+/// Says what is wrong with the shift.
+fn say_shift(text: &mut Text, claim_text: &[u8], table: &Table) -> Result<(), AllocError> {
+    let place = key_at(claim_text, "shift");
+    match table.get("shift") {
+        Some(Value::Integer(_)) => say_at(text, place, words::SHIFT_TOO_LARGE, &[]),
+        Some(Value::Float(_)) => say_at(text, place, words::SHIFT_NOT_WHOLE, &[]),
+        Some(Value::String(_)) => say_at(text, place, words::SHIFT_QUOTED, &[]),
+        _ => say_at(text, place, words::SHIFT_OTHER, &[]),
+    }
+}
+
+/// Says where a text isn't TOML, and why.
+fn say_not_toml(text: &mut Text, claim_text: &[u8], fault: &Error) -> Result<(), AllocError> {
+    if let Err(error) = std::str::from_utf8(claim_text) {
+        let place = place_at(claim_text, error.valid_up_to());
+        let pieces = [
+            Piece::Number(place.line as i128),
+            Piece::Number(place.column as i128),
+        ];
+        return text.say(words::NOT_UTF8, &pieces);
+    }
+    let Some(span) = fault.span() else {
+        return Ok(());
+    };
+    let place = place_at(claim_text, span.start);
+    let pieces = [
+        Piece::Number(place.line as i128),
+        Piece::Number(place.column as i128),
+        Piece::Word(fault.message()),
+    ];
+    text.say(words::NOT_TOML, &pieces)?;
+    if let Some(content) = place.shown() {
+        text.say(words::THE_LINE, &[Piece::Plain(content)])?;
+    }
+    text.say(words::NOT_TOML_ADVICE, &[])
+}
+
+/// Says what is wrong with a text that is TOML.
+fn say_table(
+    text: &mut Text,
+    alloc: Global,
+    claim_text: &[u8],
+    table: &Table,
+    stop: ClaimStop,
+) -> Result<(), AllocError> {
+    match stop {
+        ClaimStop::BadFormat => say_format(text, claim_text, table),
+        ClaimStop::UnknownKey => say_keys(text, alloc, claim_text, table),
+        ClaimStop::BadChannels => say_channels(text, alloc, claim_text, table),
+        ClaimStop::BadKeep => say_keep(text, claim_text, table),
+        ClaimStop::BadAnonymous => say_anonymous(text, alloc, claim_text, table),
+        ClaimStop::BadShift => say_shift(text, claim_text, table),
+        ClaimStop::BadRemove => say_texts(text, alloc, claim_text, table, "remove"),
+        ClaimStop::BadRemovePrefix => say_texts(text, alloc, claim_text, table, "remove-prefix"),
+        ClaimStop::BadBlank => say_texts(text, alloc, claim_text, table, "blank"),
+        ClaimStop::OutOfMemory | ClaimStop::TooLong | ClaimStop::NotToml => Ok(()),
+    }
+}
+
+/// Says why a text is no claim.
+fn say_refusal(
+    text: &mut Text,
+    alloc: Global,
+    claim_text: &[u8],
+    stop: ClaimStop,
+) -> Result<(), AllocError> {
+    if looks_like_a_recording(claim_text) {
+        return text.say(words::CLAIM_IS_A_RECORDING, &[]);
+    }
+    if stop == ClaimStop::TooLong {
+        return text.say(words::CLAIM_TOO_LONG, &[]);
+    }
+    match toml::table_from_slice(alloc, claim_text) {
+        Ok(table) => say_table(text, alloc, claim_text, &table, stop),
+        Err(fault) if fault.is_memory() => Err(AllocError),
+        Err(fault) => say_not_toml(text, claim_text, &fault),
+    }
+}
+
+/// Sentences on a claim that is refused: in which line, what stands there, and what was expected. Of a claim that is
+/// taken there are none.
+///
+/// The error is want of memory.
+pub fn explain_claim(alloc: Global, claim_text: &[u8]) -> Result<Vec<u8>, AllocError> {
+    let mut text = Text::new(alloc);
+    match Claim::read(alloc, claim_text) {
+        Ok(_) => {}
+        Err(ClaimStop::OutOfMemory) => return Err(AllocError),
+        Err(stop) => say_refusal(&mut text, alloc, claim_text, stop)?,
+    }
+    Ok(text.into_bytes())
+}

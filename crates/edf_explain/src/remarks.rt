@@ -1,0 +1,199 @@
+//! Sentences on the annotations that aren't as claimed.
+
+use crate::notes::{Notes, OnlyInOne};
+use crate::samples::Clocks;
+use crate::text::{Piece, Text};
+use crate::words;
+use edf_claim::claim::Claim;
+use edf_stream::notes::Note;
+use std::alloc::AllocError;
+
+/// The most annotations of a kind that are listed.
+const MOST_LISTED: usize = 20;
+
+/// To how many bytes some writers cut texts, at the most and, where a sign of several bytes would be cut, at the least.
+const MOST_CUT_BYTES: usize = 40;
+
+const LEAST_CUT_BYTES: usize = 37;
+
+/// To how many picoseconds some writers round times: 0.1 ms.
+const ROUNDED_PS: u128 = 100_000_000;
+
+/// The text of an annotation that is blanked.
+const BLANK: &str = "X";
+
+/// Says an annotation.
+fn say_note(text: &mut Text, note: &Note, clocks: Clocks) -> Result<(), AllocError> {
+    text.add(words::LISTED, &[])?;
+    clocks.add(text, note.onset)?;
+    match note.duration {
+        Some(duration) => text.add(words::DURATION, &[Piece::Seconds(duration)])?,
+        None => text.add(words::NO_DURATION, &[])?,
+    }
+    let said = note.text.as_str().as_bytes();
+    text.say(words::NOTE_TEXT, &[Piece::Quoted(said)])
+}
+
+/// Whether a text is the begin of a longer one, as long as some writers cut texts.
+fn is_cut_text(short: &str, long: &str) -> bool {
+    short.len() <= MOST_CUT_BYTES
+        && short.len() >= LEAST_CUT_BYTES
+        && short.len() < long.len()
+        && long.as_bytes().starts_with(short.as_bytes())
+}
+
+/// Whether two annotations have one text and one duration, at times that are rounded.
+fn is_rounded(note: &Note, other: &Note) -> bool {
+    note.onset != other.onset
+        && note.onset.saturating_sub(other.onset).unsigned_abs() <= ROUNDED_PS
+        && note.text == other.text
+}
+
+/// What an annotation that the export has looks like beside one that it lacks.
+fn likeness_of(extra: &Note, missing: &Note) -> Option<&'static str> {
+    if is_rounded(extra, missing) {
+        return Some(words::LIKE_ROUNDED);
+    }
+    if extra.onset != missing.onset {
+        return None;
+    }
+    if is_cut_text(extra.text.as_str(), missing.text.as_str()) {
+        return Some(words::LIKE_CUT);
+    }
+    if extra.text.as_str() == BLANK {
+        return Some(words::LIKE_BLANKED);
+    }
+    if missing.text.as_str() == BLANK {
+        return Some(words::LIKE_NOT_BLANKED);
+    }
+    if extra.text == missing.text {
+        return Some(words::LIKE_OTHER_DURATION);
+    }
+    Some(words::LIKE_OTHER_TEXT)
+}
+
+/// What an annotation that the export has looks like beside those that it lacks.
+fn likeness_among(extra: &Note, kept: &[Note], missing: &[usize]) -> Option<&'static str> {
+    for place in missing {
+        if let Some(other) = kept.get(*place)
+            && let Some(words) = likeness_of(extra, other)
+        {
+            return Some(words);
+        }
+    }
+    None
+}
+
+/// Whether a time is the end of a kept interval, and in none.
+fn is_at_end(claim: &Claim, at_ps: i128) -> bool {
+    !claim.keeps_instant(at_ps, 1) && claim.keeps_instant(at_ps.saturating_sub(1), 1)
+}
+
+/// Says what an annotation that isn't kept looks like.
+fn say_likeness(
+    text: &mut Text,
+    claim: &Claim,
+    extra: &Note,
+    kept: &[Note],
+    missing: &[usize],
+) -> Result<(), AllocError> {
+    if is_at_end(claim, extra.onset) {
+        let end = [
+            Piece::Bare(extra.onset),
+            Piece::Bare(extra.onset.saturating_add(1)),
+        ];
+        return text.say(words::AT_END, &end);
+    }
+    if let Some(words) = likeness_among(extra, kept, missing) {
+        return text.say(words, &[]);
+    }
+    if claim.keeps_instant(extra.onset, 1)
+        && !claim.keeps_annotation(extra.onset, extra.text.as_str())
+    {
+        return text.say(words::REMOVED_BUT_THERE, &[]);
+    }
+    if claim.blanks(extra.text.as_str()) {
+        return text.say(words::LIKE_NOT_BLANKED, &[]);
+    }
+    if !claim.keeps_instant(extra.onset, 1) {
+        return text.say(words::OUTSIDE, &[]);
+    }
+    Ok(())
+}
+
+/// Says how many annotations there are of a kind.
+fn say_count(text: &mut Text, one: &str, more: &str, count: usize) -> Result<(), AllocError> {
+    match count {
+        0 => Ok(()),
+        1 => text.say(one, &[]),
+        _ => text.say(more, &[Piece::Number(count as i128)]),
+    }
+}
+
+/// Says how many annotations of a kind aren't listed.
+fn say_others(text: &mut Text, count: usize) -> Result<(), AllocError> {
+    match count.saturating_sub(MOST_LISTED) {
+        0 => Ok(()),
+        others => text.say(words::NOT_LISTED, &[Piece::Number(others as i128)]),
+    }
+}
+
+/// Says which annotations the export lacks.
+fn say_missing(
+    text: &mut Text,
+    notes: &Notes,
+    missing: &[usize],
+    clocks: Clocks,
+) -> Result<(), AllocError> {
+    say_count(
+        text,
+        words::NOTE_MISSING,
+        words::NOTES_MISSING,
+        missing.len(),
+    )?;
+    for place in missing.iter().take(MOST_LISTED) {
+        if let Some(note) = notes.kept.get(*place) {
+            say_note(text, note, clocks)?;
+        }
+    }
+    say_others(text, missing.len())
+}
+
+/// Says which annotations the export has that aren't kept.
+fn say_extra(
+    text: &mut Text,
+    claim: &Claim,
+    notes: &Notes,
+    apart: &OnlyInOne,
+    clocks: Clocks,
+) -> Result<(), AllocError> {
+    say_count(
+        text,
+        words::NOTE_EXTRA,
+        words::NOTES_EXTRA,
+        apart.extra.len(),
+    )?;
+    for place in apart.extra.iter().take(MOST_LISTED) {
+        if let Some(note) = notes.exported.get(*place) {
+            say_note(text, note, clocks)?;
+            say_likeness(text, claim, note, &notes.kept, &apart.missing)?;
+        }
+    }
+    say_others(text, apart.extra.len())
+}
+
+/// Says which annotations aren't as claimed.
+pub(crate) fn say_remarks(
+    text: &mut Text,
+    claim: &Claim,
+    notes: &Notes,
+    apart: &OnlyInOne,
+    clocks: Clocks,
+) -> Result<(), AllocError> {
+    say_missing(text, notes, &apart.missing, clocks)?;
+    say_extra(text, claim, notes, apart, clocks)?;
+    if apart.missing.is_empty() && apart.extra.is_empty() {
+        return Ok(());
+    }
+    text.say(words::NOTES_ADVICE, &[])
+}

@@ -1,0 +1,197 @@
+//! Where the reading of a file stands: its data record at hand, on the clock of the original.
+
+use crate::run::Run;
+use edf_fields::fault::Fault;
+use edf_fields::source::Source;
+use edf_header::header::Header;
+use edf_header::stop::Stop;
+use edf_refusal::side::Side;
+use edf_refusal::stop::RunStop;
+use edf_stream::annotations::Annotations;
+use edf_stream::reader::FileReader;
+use std::alloc::Global;
+
+/// A signal of a file, and how many samples of the data record at hand are done with.
+#[derive(Clone, Copy)]
+pub(crate) struct Lane {
+    pub(crate) signal: usize,
+    pub(crate) samples: u32,
+    pub(crate) done: usize,
+}
+
+/// A stretch of time, in picoseconds after the second at which the original starts.
+#[derive(Clone, Copy)]
+pub(crate) struct Stretch {
+    pub(crate) from_ps: i128,
+    pub(crate) to_ps: i128,
+}
+
+/// A file that is read, one data record at a time.
+#[derive(Drop)]
+pub(crate) struct Stand {
+    reader: FileReader,
+    side: Side,
+    /// How many data records were read.
+    read: u64,
+    /// What the times of the file have to be moved by, so that they count from the second at which the original starts.
+    moved_ps: i128,
+    /// The first fault of the file, where the reading came to it.
+    fault: Option<Fault>,
+}
+
+/// The fault that stopped the reading of a file, or that something else did.
+fn fault_of(stop: Stop, side: Side) -> Result<Fault, RunStop> {
+    match stop {
+        Stop::Fault(fault) => Ok(fault),
+        Stop::OutOfMemory => Err(RunStop::OutOfMemory),
+        Stop::ReadFailed => Err(RunStop::ReadFailed(side)),
+    }
+}
+
+/// A file of which the header was read, or the first fault of the header.
+#[derive(Drop)]
+pub(crate) enum Begun {
+    Open(Stand),
+    Faulty(Fault),
+}
+
+impl Stand {
+    /// Reads the header of a file.
+    pub(crate) fn begin<S: Source>(
+        alloc: Global,
+        source: &mut S,
+        side: Side,
+    ) -> Result<Begun, RunStop> {
+        match FileReader::begin(alloc, source) {
+            Ok(reader) => Ok(Begun::Open(Stand {
+                reader,
+                side,
+                read: 0,
+                moved_ps: 0,
+                fault: None,
+            })),
+            Err(stop) => Ok(Begun::Faulty(fault_of(stop, side)?)),
+        }
+    }
+
+    /// The header of the file.
+    pub(crate) fn header(&self) -> &Header {
+        self.reader.header()
+    }
+
+    /// The first fault of the file, where the reading came to it.
+    pub(crate) fn fault(&self) -> Option<Fault> {
+        self.fault
+    }
+
+    /// By how much the times of the file are moved.
+    pub(crate) fn moved_ps(&self) -> i128 {
+        self.moved_ps
+    }
+
+    /// Moves the times of the file by so much.
+    pub(crate) fn move_by(&mut self, ps: i128) {
+        self.moved_ps = ps;
+    }
+
+    /// Reads the next data record: false where the file ends, or has a fault there.
+    pub(crate) fn next<S: Source>(&mut self, source: &mut S) -> Result<bool, RunStop> {
+        match self.reader.next(source) {
+            Ok(more) => {
+                if more {
+                    self.read = self.read.saturating_add(1);
+                }
+                Ok(more)
+            }
+            Err(stop) => {
+                self.fault = Some(fault_of(stop, self.side)?);
+                Ok(false)
+            }
+        }
+    }
+
+    /// Reads the file to its end, or to its first fault.
+    pub(crate) fn read_on<S: Source>(&mut self, source: &mut S) -> Result<(), RunStop> {
+        for _ in 0..u64::MAX {
+            if !self.next(source)? {
+                return Ok(());
+            }
+        }
+        Ok(())
+    }
+
+    /// The time of the data record at hand.
+    pub(crate) fn stretch(&self) -> Option<Stretch> {
+        if !self.reader.has_current() {
+            return None;
+        }
+        Some(Stretch {
+            from_ps: self.reader.start_ps().saturating_add(self.moved_ps),
+            to_ps: self.reader.end_ps().saturating_add(self.moved_ps),
+        })
+    }
+
+    /// The time of the data record at hand, as the file has it.
+    pub(crate) fn start_ps(&self) -> i128 {
+        if self.reader.has_current() {
+            self.reader.start_ps()
+        } else {
+            0
+        }
+    }
+
+    /// The number of the data record at hand, from 0 on.
+    pub(crate) fn number(&self) -> u64 {
+        self.read.saturating_sub(1)
+    }
+
+    /// The number of the data record at hand, where a time lies in it.
+    pub(crate) fn number_at(&self, at_ps: i128) -> Option<u64> {
+        let stretch = self.stretch()?;
+        if stretch.from_ps <= at_ps && at_ps < stretch.to_ps {
+            Some(self.number())
+        } else {
+            None
+        }
+    }
+
+    /// The bytes of a signal in the data record at hand.
+    fn bytes(&self, signal: usize) -> &[u8] {
+        if self.reader.has_current() && signal < self.reader.header().signals().len() {
+            self.reader.run(signal)
+        } else {
+            &[]
+        }
+    }
+
+    /// All samples of a signal in the data record at hand.
+    pub(crate) fn samples(&self, lane: Lane) -> Run<'_> {
+        match self.stretch() {
+            Some(stretch) => Run {
+                bytes: self.bytes(lane.signal),
+                start_ps: stretch.from_ps,
+                duration_ps: self.header().duration_ps(),
+                samples: lane.samples,
+                from: 0,
+                to: lane.samples as usize,
+            },
+            None => Run::NONE,
+        }
+    }
+
+    /// The samples of a signal in the data record at hand that aren't done with, up to a time. They are done with then.
+    pub(crate) fn take(&self, lane: &mut Lane, end_ps: i128) -> Run<'_> {
+        let run = self.samples(*lane).behind(lane.done).before(end_ps);
+        lane.done = run.to;
+        run
+    }
+
+    /// The annotations of the data record at hand.
+    pub(crate) fn annotations(&self) -> Option<Annotations<'_>> {
+        if self.reader.has_current() {
+            Some(self.reader.annotations())
+        } else {
+            None
+        }
+    }
+}

@@ -1,0 +1,608 @@
+//! The texts of all sentences. `{0}` stands for the first thing that is put into a sentence, `{1}` for the second.
+
+use edf_fields::cause::{FieldCause, TalCause};
+use edf_fields::fault::{Cause, Fault, Place};
+use edf_fields::layout::{FixedField, SignalField};
+use edf_fields::which::Which;
+use edf_refusal::side::Side;
+
+/// A unit of time, for one and for more of them.
+#[derive(Clone, Copy)]
+pub(crate) struct Unit {
+    pub(crate) one: &'static str,
+    pub(crate) more: &'static str,
+}
+
+// Times.
+
+pub(crate) const DAYS: Unit = Unit {
+    one: "day",
+    more: "days",
+};
+
+pub(crate) const HOURS: Unit = Unit {
+    one: "hour",
+    more: "hours",
+};
+
+pub(crate) const MINUTES: Unit = Unit {
+    one: "minute",
+    more: "minutes",
+};
+
+pub(crate) const SECONDS_UNIT: &str = " s";
+
+pub(crate) const NO_DAY: &str = "beyond the calendar";
+/// A time in seconds, by the clock of the original, and by that of the export.
+pub(crate) const AT: &str = "at {0} ({1} in the original, {2} in the export)";
+
+pub(crate) const FULL_STOP: &str = ".";
+
+// Files that can't be judged.
+
+/// The fault, and the file.
+pub(crate) const FAULT: &str = "The {1} can't be judged. Its first fault is: {0}.";
+
+pub(crate) const LOOKS_LIKE_A_CLAIM: &str =
+    "The {1} looks like a claim. The order is: the original, the export, the claim.";
+
+/// The file of a side.
+pub(crate) fn name(side: Side) -> &'static str {
+    match side {
+        Side::Original => "original",
+        Side::Export => "export",
+    }
+}
+
+/// Whom to turn to with a fault.
+pub(crate) fn remedy(side: Side) -> &'static str {
+    match side {
+        Side::Original => {
+            "Export the original anew from the recording system, as EDF+. If the recorder itself makes the fault, a corrected copy can stand for the original, and it is written down who corrected what."
+        }
+        Side::Export => {
+            "The software that made the export made this fault: export again with other settings or other software, and send these lines to its maker."
+        }
+    }
+}
+
+/// What is wrong with a field of the patient or the recording.
+fn field_cause(cause: FieldCause) -> &'static str {
+    match cause {
+        FieldCause::NotPrintable => {
+            "The field has a sign other than the plain letters, digits and marks of English: write ue for an umlaut, for instance."
+        }
+        FieldCause::LeadingSpace => {
+            "The field begins with a space, or is empty. EDF+ wants X for each thing that isn't said."
+        }
+        FieldCause::TooFewSubfields => {
+            "The field has too few words: the patient has a code, a sex, a birthdate and a name, the recording has Startdate, a date, a number, a technician and the equipment. The file may be one of the older EDF."
+        }
+        FieldCause::BadSex => "The sex isn't F, M or X.",
+        FieldCause::BadDate => {
+            "The date is neither X nor a day such as 17-OCT-1951, with the month in three capital letters in English."
+        }
+        FieldCause::NoStartdateWord => "The field doesn't begin with the word Startdate.",
+    }
+}
+
+/// What is wrong with the annotations of a data record.
+fn tal_cause(cause: TalCause) -> &'static str {
+    match cause {
+        TalCause::BadOnset => {
+            "The time of an annotation is no number with + or - in front, or has too many digits."
+        }
+        TalCause::BadDuration => "The duration of an annotation is no number, or has a sign.",
+        TalCause::NoEnd => {
+            "An annotation isn't ended as EDF+ says. It may have been too long for its place and was cut: export with more room for annotations, or with shorter texts."
+        }
+        TalCause::NotUtf8 => {
+            "The text of an annotation has letters in an old coding, or a letter of several bytes that was cut: export with UTF-8, or write the text without such letters."
+        }
+        TalCause::ControlByte => {
+            "The text of an annotation has a sign in it that can't be shown: type the text again."
+        }
+        TalCause::NotZeroFilled => {
+            "Behind the annotations, where nothing should be, something is. No viewer shows it, and it could be anything."
+        }
+    }
+}
+
+const NO_RECORDS: &str =
+    "There are no data records. A number of -1 says that the file is still being recorded: close the recording, and export again.";
+
+const NO_DURATION_OF_RECORD: &str =
+    "A data record lasts no time: the file may hold annotations alone. Export with channels.";
+
+const NO_SIGNALS: &str = "There are no signals. Export with channels.";
+
+const DIGITAL_RANGE: &str =
+    "The numbers of the channel go beyond -32768 and 32767, or the greatest isn't above the least: the file may have 24 bits. Export as EDF+ with 16 bits.";
+
+const PHYSICAL_RANGE: &str =
+    "Both physical extremes are the same, so that no number means anything: set the channel's range in the recording system.";
+
+const NO_SAMPLES: &str = "The signal has no samples: export without this signal.";
+
+const OTHER_RANGE: &str = "The number can't stand there.";
+
+const TRUNCATED: &str =
+    "The file ends too early: it is empty, a copy was broken off, or the recording wasn't closed. Copy it again, and compare the sizes.";
+
+const NOT_PRINTABLE: &str =
+    "The field has a sign other than the plain letters, digits and marks of English, such as an umlaut. In the field version it is a file of another kind, such as BDF with 24 bits.";
+
+const BAD_VERSION: &str = "The file is of another kind: it isn't EDF+.";
+
+const BAD_START: &str =
+    "The start isn't a day such as 17.03.19 and a time such as 23.10.00, or its year is after 2084 and isn't written as yy beside the date in the recording's line.";
+
+const STARTDATE_DIFFERS: &str =
+    "The header says the day of the recording twice, and they are two days: one of them alone was moved, or a year after 2084 was written with two digits.";
+
+const BAD_HEADER_SIZE: &str =
+    "The size that the header says of itself doesn't go with its number of signals: a program added or took away signals, and forgot this number.";
+
+const NOT_EDF_PLUS: &str =
+    "The file says neither EDF+C nor EDF+D: it is one of the older EDF. Export as EDF+.";
+
+const BAD_NUMBER: &str =
+    "The field holds no plain number: there is a comma, an exponent, a space in front, or nothing.";
+
+const BAD_ANNOTATION_SIGNAL: &str =
+    "The signal holds annotations, and its digital extremes aren't -32768 and 32767.";
+
+const NO_ANNOTATION_SIGNAL: &str =
+    "No signal is labelled EDF Annotations, which EDF+ asks for, also where there are no annotations.";
+
+const NO_ORDINARY_SIGNAL: &str = "All signals hold annotations: there is no channel.";
+
+const DUPLICATE_LABEL: &str =
+    "Two channels have the same label, so that the label names no one channel: give one of them another label.";
+
+const RECORD_TOO_LARGE: &str =
+    "A data record has more than 16777216 bytes: export with shorter data records.";
+
+const NO_TIMEKEEPING: &str = "The data record doesn't say when it starts, as EDF+ asks for.";
+
+const BAD_FIRST_START: &str =
+    "The first data record starts before the file, or a second later or more.";
+
+const NOT_CONTIGUOUS: &str =
+    "The file says that it has no gap, and this data record doesn't start where the one before ends. Where there is a gap, export as EDF+D; where there is none, the software rounds the times, and data records of 1 s help.";
+
+const OVERLAP: &str =
+    "This data record starts before the one before ends: the pieces may stand in another order than that of time.";
+
+const TOO_MANY_ANNOTATIONS: &str =
+    "There are more than 1000000 annotations. A marker of each sample belongs into a channel.";
+
+const TRAILING_BYTES: &str =
+    "Behind the last data record something follows, which isn't looked at and could be anything: the header says fewer data records than there are, or something was appended.";
+
+/// What is wrong with a number that can't stand where it does.
+fn range(place: Place) -> &'static str {
+    match place {
+        Place::AtField(FixedField::Records) => NO_RECORDS,
+        Place::AtField(FixedField::Duration) => NO_DURATION_OF_RECORD,
+        Place::AtField(FixedField::Signals) => NO_SIGNALS,
+        Place::AtSignal(_, SignalField::DigitalMinimum | SignalField::DigitalMaximum) => {
+            DIGITAL_RANGE
+        }
+        Place::AtSignal(_, SignalField::PhysicalMaximum) => PHYSICAL_RANGE,
+        Place::AtSignal(_, SignalField::Samples) => NO_SAMPLES,
+        _ => OTHER_RANGE,
+    }
+}
+
+/// What a fault means.
+pub(crate) fn meaning_of(fault: &Fault) -> &'static str {
+    let place = fault.place;
+    match fault.cause {
+        Cause::Truncated => TRUNCATED,
+        Cause::NotPrintable => NOT_PRINTABLE,
+        Cause::BadVersion => BAD_VERSION,
+        Cause::BadSubfields(cause) => field_cause(cause),
+        Cause::BadStart => BAD_START,
+        Cause::StartdateDiffers => STARTDATE_DIFFERS,
+        Cause::BadHeaderSize => BAD_HEADER_SIZE,
+        Cause::NotEdfPlus => NOT_EDF_PLUS,
+        Cause::BadNumber => BAD_NUMBER,
+        Cause::BadRange => range(place),
+        Cause::BadAnnotationSignal => BAD_ANNOTATION_SIGNAL,
+        Cause::NoAnnotationSignal => NO_ANNOTATION_SIGNAL,
+        Cause::NoOrdinarySignal => NO_ORDINARY_SIGNAL,
+        Cause::DuplicateLabel => DUPLICATE_LABEL,
+        Cause::RecordTooLarge => RECORD_TOO_LARGE,
+        Cause::BadTal(cause) => tal_cause(cause),
+        Cause::NoTimekeeping => NO_TIMEKEEPING,
+        Cause::BadFirstStart => BAD_FIRST_START,
+        Cause::NotContiguous => NOT_CONTIGUOUS,
+        Cause::Overlap => OVERLAP,
+        Cause::TooManyAnnotations => TOO_MANY_ANNOTATIONS,
+        Cause::TrailingBytes => TRAILING_BYTES,
+    }
+}
+
+// Channels. The label is the first thing.
+
+pub(crate) const UNKNOWN_CHANNEL: &str =
+    "The claim names channel {0}, and the original doesn't have it: compare the claim with what edfclaim show prints of the original. Small and capital letters and spaces count.";
+
+pub(crate) const MISSING_CHANNEL: &str =
+    "The claim names channel {0}, and the export doesn't have it: export again with this channel, or take it out of the claim.";
+
+pub(crate) const CHANNEL_NOWHERE: &str =
+    "The claim names channel {0}, and neither the original nor the export has it: compare the claim with what edfclaim show prints of the original. Small and capital letters and spaces count.";
+
+pub(crate) const EXTRA_CHANNEL: &str =
+    "The export has channel {0}, and the claim doesn't name it: export again without this channel, or claim it.";
+
+pub(crate) const TRANSDUCER: &str =
+    "Channel {0} has another sensor in the export: the original has {1}, the export has {2}. Export again so that this text stays as it is.";
+
+pub(crate) const PREFILTER: &str =
+    "Channel {0} has another filter in the export: the original has {1}, the export has {2}. If the export was filtered, it is no cut of the original; if not, export again so that this text stays as it is.";
+
+pub(crate) const TEXT_CUT: &str =
+    "The export has the begin of the original's text alone: some writers cut such texts short.";
+
+pub(crate) const CALIBRATION: &str =
+    "Channel {0} has another scale or another unit in the export: the same numbers mean other values there.";
+/// The extremes and the unit.
+pub(crate) const CALIBRATION_ORIGINAL: &str =
+    "  The original has {0} to {1} {2}, for the numbers {3} to {4}.";
+
+pub(crate) const CALIBRATION_EXPORT: &str =
+    "  The export has {0} to {1} {2}, for the numbers {3} to {4}.";
+
+pub(crate) const CALIBRATION_CUT_OFF: &str =
+    "  The export's extremes are the original's with their last digits cut off. Some writers cut digits off and don't round: EDFlib writes 3276.7 as 3276.699. Have the recorder write extremes that survive, such as whole numbers, or export with other software.";
+
+pub(crate) const CALIBRATION_DIMENSION: &str =
+    "  The unit is another one. Export again with the original's unit and extremes.";
+
+pub(crate) const CALIBRATION_SCALE: &str =
+    "  Export again with the original's extremes. They may have been rounded, or the samples were scaled anew.";
+
+pub(crate) const FREE_TEXT_OF_CHANNEL: &str =
+    "In the export, channel {0} has the text {1} in its reserved field, where anybody can write anything: export again with this field empty, whatever it holds.";
+
+pub(crate) const FREE_TEXT_OF_HEADER: &str =
+    "In the export, words stand behind EDF+C or EDF+D, or in a text of an annotation signal, where anybody can write anything: export again with these places empty, whatever they hold.";
+
+// Subfields. The name is the first thing, the meaning the second.
+
+pub(crate) const SUBFIELD_NOT_X: &str =
+    "The claim hides {0} ({1}), and the export shows something there. The export doesn't go out: make it again with X in this place.";
+
+pub(crate) const SUBFIELD_CHANGED: &str =
+    "The claim doesn't hide {0} ({1}), and the export has another text there than the original: export again with the original's text, or claim {0} as anonymous if it is to be hidden.";
+
+pub(crate) const SUBFIELD_HIDDEN: &str =
+    "The claim doesn't hide {0} ({1}), and the export has X there: if it is to be hidden, add \"{0}\" to anonymous in the claim; if not, export again with the original's text.";
+
+pub(crate) const DATE_CHANGED: &str =
+    "The claim doesn't hide {0} ({1}), and it is X in one of the files and a day in the other. If the export has X, add \"{0}\" to anonymous in the claim; if the original has X, export again with X.";
+
+/// What a subfield is.
+pub(crate) fn meaning(which: Which) -> &'static str {
+    match which {
+        Which::Code => "the code by which the hospital knows the patient",
+        Which::Sex => "the patient's sex",
+        Which::Birthdate => "the day of birth",
+        Which::Name => "the patient's name",
+        Which::PatientExtras => "all that stands behind the patient's name",
+        Which::Date => "the day of the recording, as the recording's line says it",
+        Which::Administration => "the number of the investigation",
+        Which::Technician => "who recorded",
+        Which::Equipment => "what was recorded with",
+        Which::RecordingExtras => "all that stands behind the equipment",
+    }
+}
+
+// The start.
+
+/// By how much, when it starts, and when it is claimed to.
+pub(crate) const STARTS_EARLIER: &str =
+    "The export starts {0} earlier than claimed: its first samples stand at {1}, and by the claim they stand at {2}.";
+
+pub(crate) const STARTS_LATER: &str =
+    "The export starts {0} later than claimed: its first samples stand at {1}, and by the claim they stand at {2}.";
+
+pub(crate) const SHIFT_FORGOTTEN: &str =
+    "It starts as if nothing had been moved: the shift of the claim was forgotten in the export, or isn't meant. The date of the recording may be the true one then, and the export doesn't go out before that is settled.";
+
+pub(crate) const SHIFT_TURNED: &str =
+    "It starts as if it had been moved the other way: the sign of the shift was turned, in the export or in the claim.";
+/// The shift that would fit, and the claimed one.
+pub(crate) const SHIFT_FITS: &str =
+    "Its first samples are those that the claim keeps first, so it was moved by another time than claimed: shift = {0} would fit, and the claim says {1}. Export again, or claim this shift if it is meant. What follows is reckoned with shift = {0}.";
+
+pub(crate) const SHIFT_DOES_NOT_FIT: &str =
+    "Its first samples aren't those that the claim keeps first, so it was cut elsewhere, or moved and changed: compare the intervals of the claim with what was exported. If it was moved alone, shift = {0} would fit. What follows is reckoned with shift = {1}, as claimed.";
+
+pub(crate) const CUT_AND_NOT_MOVED: &str =
+    "With the claimed shift it would lie outside of the original, and with its own times it doesn't: so it was not moved, and cut elsewhere than the claim says. The date of the recording may be the true one, and the export doesn't go out before that is settled. What follows is reckoned with shift = 0.";
+
+pub(crate) const NO_SHIFT_FITS: &str =
+    "No shift fits, as a shift is whole seconds. Where the original starts inside a second, its first data record says so, and so does that of an export: some software leaves this fraction out.";
+
+pub(crate) const NOTHING_KEPT: &str =
+    "The claim keeps no sample of the original: its intervals lie behind the end of the recording, or in a gap. They count seconds from the original's start.";
+
+// Samples. The label is the first thing, how many there are the second.
+
+pub(crate) const OTHER_RATE: &str =
+    "Channel {0} has another number of samples a second in the export: it was sampled anew, or is another channel of this label. Neither is a cut of the original.";
+
+pub(crate) const SAMPLE_MISSING: &str =
+    "Channel {0}: 1 sample that the claim keeps is missing in the export.";
+
+pub(crate) const SAMPLES_MISSING: &str =
+    "Channel {0}: {1} samples that the claim keeps are missing in the export.";
+
+pub(crate) const SAMPLE_EXTRA: &str =
+    "Channel {0}: 1 sample of the export is one that the claim doesn't keep, or the original doesn't have.";
+
+pub(crate) const SAMPLES_EXTRA: &str =
+    "Channel {0}: {1} samples of the export are ones that the claim doesn't keep, or the original doesn't have.";
+
+pub(crate) const SAMPLE_CHANGED: &str = "Channel {0}: 1 sample has another value in the export.";
+
+pub(crate) const SAMPLES_CHANGED: &str =
+    "Channel {0}: {1} samples have another value in the export.";
+
+pub(crate) const THE_SAMPLE: &str = "  It stands ";
+
+pub(crate) const THE_FIRST: &str = "  The first stands ";
+
+pub(crate) const THE_LAST: &str = "  The last stands ";
+
+pub(crate) const RECORD_OF_ORIGINAL: &str = ", data record {0} of the original";
+
+pub(crate) const RECORD_OF_EXPORT: &str = ", data record {0} of the export";
+
+pub(crate) const VALUES: &str = ": {0} in the original, {1} in the export";
+
+pub(crate) const CAUSE_OF_MISSING: &str =
+    "Samples are missing where the export begins too late, ends too early, has a gap, has fewer samples a second, or is moved by another time than claimed: compare the intervals and the shift of the claim with what was exported.";
+
+pub(crate) const CAUSE_OF_EXTRA: &str =
+    "Samples are too many where the export begins too early, ends too late, has more samples a second, or is moved by another time than claimed: it hands out more than is claimed.";
+
+pub(crate) const CAUSE_OF_CHANGED: &str =
+    "Values are changed by a filter, a new scale or a mistake in copying, and none of these is a cut of the original. If nearly all values of all channels are others, the export may be cut elsewhere or moved by another time than claimed.";
+
+// Annotations.
+
+pub(crate) const NOTE_MISSING: &str = "The export lacks 1 annotation that the claim keeps:";
+
+pub(crate) const NOTES_MISSING: &str = "The export lacks {0} annotations that the claim keeps:";
+
+pub(crate) const NOTE_EXTRA: &str = "The export has 1 annotation that the claim doesn't keep:";
+
+pub(crate) const NOTES_EXTRA: &str = "The export has {0} annotations that the claim doesn't keep:";
+
+pub(crate) const LISTED: &str = "  ";
+
+pub(crate) const DURATION: &str = ", duration {0}, text ";
+
+pub(crate) const NO_DURATION: &str = ", no duration, text ";
+
+pub(crate) const NOTE_TEXT: &str = "{0}";
+
+pub(crate) const NOT_LISTED: &str = "  and {0} more";
+/// The end of the interval, and a time just behind it.
+pub(crate) const AT_END: &str =
+    "    It begins exactly at the end of a kept interval, and what begins there isn't kept; some writers, as EDFbrowser, keep it. Delete it from the export. Only where the recording itself ends there, to = \"{1}\" in the place of \"{0}\" keeps it.";
+
+pub(crate) const OUTSIDE: &str = "    It begins outside of the kept intervals.";
+
+pub(crate) const REMOVED_BUT_THERE: &str =
+    "    The claim removes this text. If it names somebody, the export doesn't go out.";
+
+pub(crate) const LIKE_CUT: &str =
+    "    It is the begin of a longer text of the original at this time: some writers, as EDFlib, cut texts to 40 bytes. Keep texts short, or export with other software.";
+
+pub(crate) const LIKE_ROUNDED: &str =
+    "    The original has this text a little earlier or later: some writers, as EDFlib, write times to 0.1 ms.";
+
+pub(crate) const LIKE_BLANKED: &str =
+    "    At this time the claim keeps another text. It was made X, as blank does in a claim: if that is meant, add the text to blank.";
+
+pub(crate) const LIKE_NOT_BLANKED: &str =
+    "    The claim blanks a text at this time, so that X is to stand there. If this text names somebody, the export doesn't go out.";
+
+pub(crate) const LIKE_OTHER_DURATION: &str =
+    "    The original has this text at this time with another duration.";
+
+pub(crate) const LIKE_OTHER_TEXT: &str =
+    "    At this time the claim keeps an annotation with another text, which the export lacks.";
+
+pub(crate) const NOTES_ADVICE: &str =
+    "Run edfclaim notes on both files to see all annotations. What is to be left out belongs into remove or remove-prefix of the claim, and what is to be X into blank.";
+
+// Behind a No.
+
+pub(crate) const CHECK_AGAIN: &str = "Mend what is named here, and check again.";
+
+// Behind a Yes.
+
+pub(crate) const AS_CLAIMED: &str =
+    "Before the export goes out, a person reads its texts: a Yes says nothing of names in them.";
+/// The text, and its key.
+pub(crate) const TEXT_UNSEEN: &str =
+    "No annotation in the kept intervals of the original has the text {0} of {1}, in these very bytes: it may be misspelt.";
+
+pub(crate) const BEGIN_UNSEEN: &str =
+    "No annotation in the kept intervals of the original begins with the text {0} of {1}, in these very bytes: it may be misspelt.";
+/// The time, and the text.
+pub(crate) const NAME_IN_NOTE: &str =
+    "The annotation at {0} has a word of the patient's name: {1}.";
+
+pub(crate) const SUBFIELDS_SHOWN: &str = "These subfields of the export aren't X: {0}";
+
+pub(crate) const NEXT_SUBFIELD: &str = ", {0}";
+
+pub(crate) const CHANNEL_TEXTS: &str =
+    "These texts stand beside the labels of channels, and no claim hides them:";
+/// The label, the sensor and the filter.
+pub(crate) const CHANNEL_TEXT: &str = "  channel {0}, sensor {1}, filter {2}";
+
+pub(crate) const READ_THE_TEXTS: &str =
+    "Read all texts of the export by edfclaim notes and edfclaim show.";
+
+// A file that can't be opened: its path, and why the system doesn't open it.
+
+pub(crate) const CANNOT_OPEN: &str = "{0}: {1}";
+
+// A claim that is refused. Where a line is known, it stands in front.
+
+pub(crate) const AT_LINE: &str = "line {0}: ";
+
+pub(crate) const AT_COLUMN: &str = "line {0}, column {1}: ";
+
+pub(crate) const LINE_CONTENT: &str = "{0}: ";
+
+pub(crate) const CLAIM_IS_A_RECORDING: &str =
+    "The file that was typed as the claim looks like a recording. The order is: the original, the export, the claim; with check-parts and receipt-parts: the original, the claim, the exports.";
+
+pub(crate) const CLAIM_TOO_LONG: &str =
+    "The claim has more than 65536 bytes: shorten it. Texts and comments count.";
+/// The line, and the column.
+pub(crate) const NOT_UTF8: &str =
+    "line {0}, column {1}: a letter there isn't UTF-8: save the claim as UTF-8, in an editor for plain text.";
+/// The line, the column and what a reader of TOML says.
+pub(crate) const NOT_TOML: &str = "line {0}, column {1}: {2}";
+
+pub(crate) const THE_LINE: &str = "  {0}";
+
+pub(crate) const NOT_TOML_ADVICE: &str =
+    "A claim is TOML: each text stands between quotation marks, a list between [ and ], with a comma between two of its texts, and no key stands twice.";
+
+pub(crate) const FORMAT_MISSING: &str =
+    "The claim doesn't say its format: write format = 1 in its first line, or format = 2 where it has remove-prefix or blank.";
+
+pub(crate) const FORMAT_QUOTED: &str = "write format = 1 or format = 2, without quotation marks";
+
+pub(crate) const FORMAT_OTHER: &str = "write format = 1 or format = 2";
+
+pub(crate) const FORMAT_IN_TABLE: &str =
+    "this line stands behind a [[keep]] and belongs to it: write it in front of the first [[keep]]";
+/// The key.
+pub(crate) const KEY_OF_FORMAT_2: &str = "{0} is a key of format 2: write format = 2";
+
+pub(crate) const KEY_OF_KEEP: &str =
+    "{0} belongs into an interval: write [[keep]] in the line in front of it";
+/// The key, and the one that may be meant.
+pub(crate) const KEY_MISSPELT: &str = "{0} isn't a key of a claim: {1} may be meant";
+
+pub(crate) const KEY_UNKNOWN: &str =
+    "{0} isn't a key of a claim: the keys are format, channels, keep, anonymous, shift and remove, and with format = 2 remove-prefix and blank";
+
+pub(crate) const SHIFT_TOO_LARGE: &str =
+    "a shift is a number of seconds from -10000000000 to 10000000000";
+
+pub(crate) const SHIFT_NOT_WHOLE: &str =
+    "a shift is whole seconds: write it without a dot and without an exponent";
+
+pub(crate) const SHIFT_QUOTED: &str = "write the shift without quotation marks, as shift = -86400";
+
+pub(crate) const SHIFT_OTHER: &str = "a shift is whole seconds, as shift = -86400 for a day back";
+/// The key.
+pub(crate) const TEXTS_MISSING: &str =
+    "The claim has no {0} in front of the first [[keep]]: write {0} = [\"..\"], with each text between quotation marks.";
+
+pub(crate) const TEXTS_NO_ARRAY: &str =
+    "write {0} = [\"..\"]: a list between [ and ], with each text between quotation marks";
+
+pub(crate) const TEXTS_NO_TEXT: &str =
+    "something in the list of {0} isn't a text: write each between quotation marks";
+
+pub(crate) const TEXTS_NESTED: &str =
+    "there is a list in the list of {0}: write all texts in one list";
+/// The text, and the key.
+pub(crate) const TEXT_TWICE: &str = "{0} stands twice in {1}: write it once";
+
+pub(crate) const PREFIX_EMPTY: &str =
+    "an empty text in remove-prefix would remove all annotations: take it out";
+
+pub(crate) const CHANNELS_EMPTY: &str =
+    "write at least one channel, as edfclaim show prints its label";
+
+pub(crate) const LABEL_OF_ANNOTATIONS: &str =
+    "{0} is the label of signals that hold annotations and can't be claimed: take it out. Annotations are kept by their times and texts.";
+
+pub(crate) const LABEL_NOT_ASCII: &str =
+    "{0} can't be a label: it has a sign other than the plain letters, digits and marks of English";
+
+pub(crate) const LABEL_WITH_CONTROL: &str =
+    "{0} can't be a label: it has a control sign, such as a tab or a line break";
+
+pub(crate) const LABEL_TOO_LONG: &str = "{0} can't be a label: a label has at most 16 letters";
+
+pub(crate) const LABEL_WITH_SPACE: &str =
+    "{0} can't be a label: write it without the space at its end";
+/// The name, and the one that may be meant.
+pub(crate) const NAME_MISSPELT: &str = "{0} is no subfield: {1} may be meant";
+
+pub(crate) const NAME_UNKNOWN: &str = "{0} is no subfield";
+
+pub(crate) const NAMES: &str = "The names that anonymous can have are: {0}";
+
+pub(crate) const KEEP_MISSING: &str =
+    "The claim keeps no interval: write [[keep]], and below it from = \"0\" and to = \"999999999\" for the whole recording.";
+
+pub(crate) const KEEP_SINGLE: &str =
+    "An interval is written below [[keep]], with double brackets, also where there is one alone: [keep] is another thing.";
+
+pub(crate) const KEEP_TOO_MANY: &str = "The claim keeps {0} intervals: 1000 are allowed.";
+
+pub(crate) const KEEP_NO_TABLE: &str =
+    "write each interval below a line [[keep]] of its own, with a line from = \"..\" and a line to = \"..\"";
+/// The key, and the number of the interval from 1 on.
+pub(crate) const KEEP_HAS_KEY_OF_CLAIM: &str =
+    "{0} stands behind a [[keep]] and belongs to it: write it in front of the first [[keep]]";
+
+pub(crate) const KEEP_HAS_OTHER_KEY: &str =
+    "{0} isn't a key of an interval, which has from and to alone";
+
+pub(crate) const KEEP_BACKWARDS: &str =
+    "interval {1} ends where it begins, or before: from is below to";
+
+pub(crate) const KEEP_OUT_OF_ORDER: &str =
+    "interval {1} begins before the one in front of it ends: write the intervals in the order of time, so that none overlap";
+
+pub(crate) const TIME_MISSING: &str =
+    "interval {1} has no {0}: write {0} = \"..\", in seconds from the original's start";
+
+pub(crate) const TIME_NO_TEXT: &str =
+    "{0} is a text: write seconds between quotation marks, as {0} = \"600\"";
+/// The key, and what stands there.
+pub(crate) const TIME_NOT_QUOTED: &str = "write {0} = \"{1}\", between quotation marks";
+
+pub(crate) const TIME_FLOAT_NOT_QUOTED: &str =
+    "write the number between quotation marks, as {0} = \"0.5\"";
+
+pub(crate) const TIME_EMPTY: &str =
+    "{0} is empty: write seconds from the original's start, as {0} = \"600\"";
+
+pub(crate) const TIME_IS_A_CLOCK: &str =
+    "{0} isn't a time of the day: write seconds from the original's start, which edfclaim show prints; an hour is 3600 s";
+
+pub(crate) const TIME_WITH_COMMA: &str = "{0} has a comma: write a dot in its place";
+
+pub(crate) const TIME_WITH_SIGN: &str =
+    "{0} has a sign: write it without, as seconds from the original's start";
+
+pub(crate) const TIME_WITH_EXPONENT: &str = "{0} has an exponent: write all digits";
+
+pub(crate) const TIME_WITH_BARE_DOT: &str =
+    "{0} has a dot with no digit on one side: write 0.5 for .5, and 5 for 5.";
+
+pub(crate) const TIME_TOO_LONG: &str =
+    "{0} has too many digits: at most 9 stand in front of the dot, and 12 behind it";
+
+pub(crate) const TIME_OTHER: &str =
+    "{0} is no number of seconds: digits alone, and maybe a dot between them, as {0} = \"600\" or {0} = \"0.5\"";

@@ -1,0 +1,144 @@
+#!/usr/bin/env python3
+"""Drafts claims by PROGRAM, and checks the exports under them.
+
+usage: tools/drafts.py PROGRAM [COUNT [SEED]]
+
+Of each small file of tools/cases of which a check says Yes, and of COUNT random nights with honest exports (300 where
+none is said), the draft has status 0, and the check under the draft writes the line of the check under the claim. What a
+draft doesn't find by itself is left out: a claim that blanks texts, and one whose shift is no number of whole days. On the
+example night the draft is the one that is stored (examples/night/draft.toml); of a file that doesn't conform its fault is
+written as `conform` writes it. What isn't as it should be is said, at most twenty times. The last line of the output
+counts the drafts that passed and failed.
+"""
+
+import importlib
+import os
+import pathlib
+import subprocess
+import sys
+import tempfile
+
+sys.dont_write_bytecode = True
+TOOLS = pathlib.Path(__file__).resolve().parent
+sys.path[:0] = [str(TOOLS), str(TOOLS / "oracle")]
+
+from cases import BY_RULES  # noqa: E402
+
+# the tables of tools/cases that have checks
+TABLES = [
+    "verdict_lines", "rows", "differences", "channels", "labels", "headers", "samples", "shifts", "annotations",
+    "note_texts", "cuts",
+]
+
+try:
+    import tomllib
+except ImportError:
+    # before Python 3.11: what a claim says isn't read, and the drafts of the tables are left out
+    tomllib = None
+
+
+def is_draftable(claim):
+    """Whether a draft can find what a claim says."""
+    said = tomllib.loads(claim)
+    return not said.get("blank") and said.get("shift", 0) % 86_400 == 0
+
+
+class Drafts:
+    """The program in a folder of its own, and how many drafts passed and failed."""
+
+    def __init__(self, program, work):
+        self.program, self.work = program, work
+        self.passed, self.failed, self.left_out = 0, 0, 0
+
+    def path(self, name, content):
+        path = os.path.join(self.work, name)
+        with open(path, "wb") as file:
+            file.write(content)
+        return path
+
+    def run(self, *words):
+        """The status and what stands on standard output and on standard error."""
+        how = {"stdin": subprocess.DEVNULL, "stdout": subprocess.PIPE, "stderr": subprocess.PIPE, "close_fds": False}
+        ran = subprocess.run([self.program, *words], **how)
+        return ran.returncode, ran.stdout, ran.stderr
+
+    def judge(self, name, fault):
+        if fault is None:
+            self.passed += 1
+            return
+        self.failed += 1
+        if self.failed <= 20:
+            print(f"{name}: {fault}")
+
+    def checked(self, original, export, claim):
+        """What is wrong with the check under the draft, or none; the check under the claim says Yes."""
+        files = self.path("original", original), self.path("export", export)
+        want = self.run("check", *files, self.path("claim", claim))
+        if want[0] != 0:
+            return f"the claim itself has {want!r}"
+        draft = self.run("draft", *files)
+        if draft[0] != 0 or draft[2]:
+            return f"the draft has {draft!r}"
+        given = self.run("check", *files, self.path("drafted", draft[1]))
+        return None if given == want else f"the check under the draft has {given!r}; wanted: {want!r}; the draft: {draft[1]!r}"
+
+    def of_tables(self):
+        for name in TABLES:
+            for number, case in enumerate(importlib.import_module(f"cases.{name}").cases()):
+                if case[0] != "check" or case[-1] is BY_RULES or not case[-1].startswith("YES "):
+                    continue
+                _, original, export, claim, _ = case
+                if is_draftable(claim):
+                    self.judge(f"{name}, case {number}", self.checked(original, export, claim.encode()))
+                else:
+                    self.left_out += 1
+
+    def of_nights(self, count, seed):
+        import draft_cases
+        import verdict_cases
+
+        verdict_cases.choose.seed(seed)
+        for number in range(count):
+            self.judge(f"night {number}", self.checked(*draft_cases.honest()))
+
+    def of_example(self):
+        night = TOOLS.parent / "examples" / "night"
+        original, export, stored = night / "original.edf", night / "cut.edf", night / "draft.toml"
+        given = self.run("draft", original, export)
+        self.judge("the example night", None if given == (0, stored.read_bytes(), b"") else f"the draft has {given!r}")
+        for name in ("cut", "two-intervals"):
+            fault = self.checked(original.read_bytes(), (night / f"{name}.edf").read_bytes(), (night / f"{name}.toml").read_bytes())
+            self.judge(f"{name}.edf", fault)
+        broken = self.path("broken", original.read_bytes()[:-1])
+        line = self.run("conform", broken)[1]
+        for name, files in (("original", (broken, broken)), ("original", (broken, export)), ("export", (original, broken))):
+            given = self.run("draft", *files)
+            want = 1, f"# the {name}\n".encode() + line, b""
+            self.judge(f"a broken {name}", None if given == want else f"the draft has {given!r}; wanted: {want!r}")
+        for name, files in (("original", ("no-such", export)), ("export", (original, "no-such"))):
+            given = self.run("draft", *files)
+            want = 2, b"", f"edfclaim: cannot open {name}\n".encode()
+            self.judge(f"no {name}", None if given == want else f"the draft has {given!r}; wanted: {want!r}")
+
+
+def main():
+    if len(sys.argv) not in (2, 3, 4) or not os.access(sys.argv[1], os.X_OK):
+        print("usage: tools/drafts.py PROGRAM [COUNT [SEED]]", file=sys.stderr)
+        return 2
+    count = int(sys.argv[2]) if len(sys.argv) > 2 else 300
+    seed = int(sys.argv[3]) if len(sys.argv) > 3 else 1
+    shared = "/dev/shm" if os.access("/dev/shm", os.W_OK) else None
+    with tempfile.TemporaryDirectory(dir=shared) as work:
+        drafts = Drafts(os.path.abspath(sys.argv[1]), work)
+        drafts.of_example()
+        if tomllib:
+            drafts.of_tables()
+        else:
+            print("Python is older than 3.11: the drafts of the tables are left out")
+        drafts.of_nights(count, seed)
+    print(f"left out: {drafts.left_out} claims that no draft finds")
+    print(f"{drafts.passed} passed, {drafts.failed} failed")
+    return 0 if drafts.passed and not drafts.failed else 1
+
+
+sys.exit(main())
