@@ -112,6 +112,23 @@ def print_receipts(program, title, night, copy, document):
           f"{receipt[1] / (check[1] + plain_sums[1]):.2f} times.\n", flush=True)
 
 
+def print_helpers(program, title, night, exports, document):
+    """A table of the draft of a claim and of a check that explains itself, with each export, which has a name: also the
+    processor's time and the memory by those of the check of the same two files."""
+    print(f"| drafts and explanations of {title} | processor | clock | memory | processor, by `check` | memory, by `check` |")
+    print("|---|---|---|---|---|---|")
+    for name, export in exports:
+        base = None
+        for command, words, front in (
+            ("check", [document], "YES "), ("draft", [], "# A draft"), ("explain", [document], "YES "),
+        ):
+            work, clock, memory = median([program, command, night, export, *words], front)
+            base = base or (work, memory)
+            print(f"| `edfclaim {command}`, with {name} | {work:.3f} s | {clock:.3f} s | {memory_text(memory)} "
+                  f"| {work / base[0]:.2f} | {memory / base[1]:.2f} |", flush=True)
+    print()
+
+
 def claim(night, keep, remove, prefixes):
     """The text of a claim: all channels, these intervals, these texts, these begins of texts."""
     def listed(texts):
@@ -126,7 +143,7 @@ def claim(night, keep, remove, prefixes):
 
 def measure(program, folder, title, night, exports, keep=WHOLE, remove=(), prefixes=(), others=(), receipts=False):
     """Writes a night, a copy of it and its exports, each with a name, and prints their table, and where it is asked for
-    that of a receipt."""
+    those of a receipt, of drafts and of explanations."""
     paths = {name: str(folder / name) for name in ("night", "copy", "claim")}
     write(paths["night"], night)
     shutil.copyfile(paths["night"], paths["copy"])
@@ -134,17 +151,20 @@ def measure(program, folder, title, night, exports, keep=WHOLE, remove=(), prefi
     commands = [("`cmp`, with a copy", ["cmp", paths["night"], paths["copy"]], "")]
     commands += [(f"`{' '.join(words)}`", [words[0], *words[1:], paths["night"]], "") for words in others]
     commands.append(("`edfclaim conform`", [program, "conform", paths["night"]], "CONFORMS "))
+    named = []
     for number, (name, export) in enumerate(exports):
         path = paths["copy"]
         if export is not night:
             path = str(folder / f"export{number}")
             write(path, export)
+        named.append((name, path))
         commands.append((f"`edfclaim check`, with {name}", [program, "check", paths["night"], path, paths["claim"]], "YES "))
     # what was written goes to the disk now, and not while it is measured
     os.sync()
     print_table(f"{title}, {os.path.getsize(paths['night']) / 1e6:.1f} MB", commands)
     if receipts:
         print_receipts(program, title, paths["night"], paths["copy"], paths["claim"])
+        print_helpers(program, title, paths["night"], named, paths["claim"])
     for path in folder.iterdir():
         path.unlink()
 

@@ -10,7 +10,7 @@ use Rattle.edf_refusal.specs.Stops.{stop_of_check}
 use Rattle.edf_stream.specs.Faults.{file_fault}
 use Rattle.edf_stream.proofs.ForCallers.{conforming_is_faultless}
 use Rattle.edf_verdict.specs.declared.outcome.Outcome.TheVariants.{No}
-use Rattle.edf_draft.specs.Answers.{IsAnswer, IsFaultAt, IsReadOf, IsTextOf, fault_text_of}
+use Rattle.edf_draft.specs.Answers.{IsAnswer, IsFaultAt, IsReadOf, IsTextOf, fault_text_of, none_text}
 use Rattle.edf_draft.specs.Days.{IsShift}
 use Rattle.edf_draft.specs.Drafts.{IsDraftText}
 use Rattle.edf_draft.specs.Times.{begin_of, end_of}
@@ -25,8 +25,8 @@ pub fault_answers : (original export text : List ℕ) (side : Side) (fault : Fau
 fault_answers original export text Original fault is at = inl (fault, at, is)
 fault_answers original export text Export fault is at = inr (inl (fault, at.0, at.1, is))
 
-pub none_answers : (original export text : List ℕ) (o e : Recorded) → IsReadOf original o → IsReadOf export e → IsAnswer original export text No
-none_answers original export text o e first second = inr (inr (faultless original o first, faultless export e second))
+pub none_answers : (original export text : List ℕ) (o e : Recorded) → text ≡ none_text → IsReadOf original o → IsReadOf export e → IsAnswer original export text No
+none_answers original export text o e is first second = inr (inr (faultless original o first, faultless export e second, is))
 
 moved_there : (a b c d p q r s : ℤ) (told : Bool) (shift : ℤ) → a ≡ p → b ≡ q → c ≡ r → d ≡ s → IsShift a b c d told shift → IsShift p q r s told shift
 moved_there a b c d p q r s told shift first second third fourth moved =

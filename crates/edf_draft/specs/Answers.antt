@@ -41,14 +41,18 @@ pub record IsReadOf (file : List ℕ) (recorded : Recorded) : Type 0 where
   pub begins : (recorded.times).begin_ps ≡ begin_of file (recorded.reader).head
   pub ends : (recorded.times).end_ps ≡ end_of file (recorded.reader).head
 
+-- a comment says that no claim says what the export is
+abbrev pub none_text : List ℕ
+none_text = codes "# no draft: the export needs more than a claim can say (1,000 intervals, 65,536 bytes, 9 digits of seconds)\n"
+
 -- what is written of two files, with the outcome: the draft of a claim and Yes; the fault of the original, or else of the export, and No; or,
--- of two files that conform, No and a comment, where no claim says it
+-- of two files that conform, No and that comment, where no claim says it
 abbrev pub IsAnswer : List ℕ → List ℕ → List ℕ → Outcome → Type 0
 IsAnswer original export text Yes = IsDraftText original export text
 IsAnswer original export text No =
     ((fault : Fault) × (file_fault original ≡ Some fault) × (text ≡ fault_text_of Original fault))
     ⊎ ((fault : Fault) × (file_fault original ≡ None) × (file_fault export ≡ Some fault) × (text ≡ fault_text_of Export fault))
-    ⊎ ((file_fault original ≡ None) × (file_fault export ≡ None))
+    ⊎ ((file_fault original ≡ None) × (file_fault export ≡ None) × (text ≡ none_text))
 
 -- only the file of this side was read
 abbrev pub SideStops : Side → Type 0 → Type 0 → CheckStop → Type 0

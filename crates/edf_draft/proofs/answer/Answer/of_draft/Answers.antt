@@ -1,4 +1,4 @@
-use Rattle.std.proofs.Common.{IfSome, subst}
+use Rattle.std.proofs.Common.{IfSome, subst, ◌∙◌}
 use Rattle.edf_draft.specs.Answers.{IsTextOf}
 use Rattle.edf_draft.proofs.AnswerFacts.{draft_answers, none_answers}
 use Rattle.edf_draft.proofs.answer.Answer.of_draft.Goals as goal
@@ -10,4 +10,4 @@ returns-in-Some-clause-answer c = λ o e first second.
 
 pub returns-in_ok-from_slice-in-None-clause-answer : goal.returns-in_ok-from_slice-in-None-clause-answer
 returns-in_ok-from_slice-in-None-clause-answer c = λ o e first second.
-    none_answers o e c.in_ok-from_slice-in-None.field-0.items c.args.original.now c.args.export.now first second
+    none_answers o e c.in_ok-from_slice-in-None.field-0.items c.args.original.now c.args.export.now (c.in_ok-from_slice-in-None.ensures.items ∙ c.as_bytes.ensures.value) first second
