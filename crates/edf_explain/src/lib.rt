@@ -8,7 +8,7 @@ mod faults;
 mod found;
 mod front_source;
 mod heads;
-pub mod looks;
+mod looks;
 mod merge;
 mod notes;
 pub mod opening;

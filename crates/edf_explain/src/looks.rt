@@ -4,7 +4,7 @@
 const FRONT: usize = 4_096;
 
 /// Whether bytes look like the front of a recording: a version of EDF or BDF with spaces behind it.
-pub fn looks_like_a_recording(bytes: &[u8]) -> bool {
+pub(crate) fn looks_like_a_recording(bytes: &[u8]) -> bool {
     bytes.starts_with(b"0       ") || bytes.starts_with(b"\xffBIOSEMI")
 }
 
@@ -25,7 +25,7 @@ fn has_line_of_claim(text: &[u8]) -> bool {
 }
 
 /// Whether bytes look like a claim: there is no byte 0 in the front of them, and a line is one of a claim.
-pub fn looks_like_a_claim(bytes: &[u8]) -> bool {
+pub(crate) fn looks_like_a_claim(bytes: &[u8]) -> bool {
     let front = bytes.get(..FRONT).unwrap_or(bytes);
     !looks_like_a_recording(bytes) && !front.contains(&0) && has_line_of_claim(front)
 }
