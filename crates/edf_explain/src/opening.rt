@@ -1,4 +1,4 @@
-//! Why a file can't be opened.
+//! Why a file can't be opened, or can't be read.
 
 use crate::text::{Piece, Text};
 use crate::words;
@@ -19,5 +19,14 @@ pub fn explain_opening(
         words::CANNOT_OPEN,
         &[Piece::Word(path), Piece::Word(&reason)],
     )?;
+    Ok(text.into_bytes())
+}
+
+/// A sentence on a file of which a read failed.
+///
+/// The error is want of memory.
+pub fn explain_reading(alloc: Global, path: &str) -> Result<Vec<u8>, AllocError> {
+    let mut text = Text::new(alloc);
+    text.say(words::CANNOT_READ, &[Piece::Word(path)])?;
     Ok(text.into_bytes())
 }

@@ -453,9 +453,12 @@ pub(crate) const CHANNEL_TEXT: &str = "  channel {0}, sensor {1}, filter {2}";
 pub(crate) const READ_THE_TEXTS: &str =
     "Read all texts of the export by edfclaim notes and edfclaim show.";
 
-// A file that can't be opened: its path, and why the system doesn't open it.
+// A file that can't be opened: its path, and why the system doesn't open it. And one that can't be read: its path.
 
 pub(crate) const CANNOT_OPEN: &str = "{0}: {1}";
+
+pub(crate) const CANNOT_READ: &str =
+    "{0}: the file was opened, and reading it failed. It is a folder, or the disk or the network has a fault: copy it to a local disk, and try again.";
 
 // A claim that is refused. Where a line is known, it stands in front.
 

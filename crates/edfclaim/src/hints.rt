@@ -1,7 +1,7 @@
 //! What stands on standard error behind the line of an `explain` that is refused.
 
 use crate::files::claim_text;
-use edf_explain::opening::explain_opening;
+use edf_explain::opening::{explain_opening, explain_reading};
 use edf_explain::refusal::explain_claim;
 use edf_job::job::Job;
 use edf_refusal::refusal::{Refusal, Role};
@@ -25,25 +25,32 @@ fn opening_hints<R: Files + AllocGlobal>(rt: &R, path: &str) -> Result<Vec<u8>, 
     }
 }
 
-/// The sentences behind the line of a refusal: of `explain` alone, where the claim is refused or a file can't be opened.
+/// The path of a file of `explain`; none where it is another command.
+fn path_of<'a>(job: Job<'a>, role: Role) -> Option<&'a str> {
+    match (job, role) {
+        (Job::Explain { claim, .. }, Role::Claim) => Some(claim),
+        (Job::Explain { original, .. }, Role::Original) => Some(original),
+        (Job::Explain { export, .. }, Role::Export) => Some(export),
+        _ => None,
+    }
+}
+
+/// The sentences behind the line of a refusal: of `explain` alone, where the claim is refused, or a file can't be opened or
+/// read.
 pub fn hints<R: Files + AllocGlobal>(
     rt: &R,
     job: Job<'_>,
     refusal: &Refusal,
 ) -> Result<Vec<u8>, AllocError> {
-    let Job::Explain {
-        original,
-        export,
-        claim,
-    } = job
-    else {
-        return Ok(Vec::new(rt.alloc()));
+    let role = match refusal {
+        Refusal::Claim(_) => Role::Claim,
+        Refusal::CannotOpen(role) | Refusal::Reading(role) => *role,
+        Refusal::Memory | Refusal::Writing | Refusal::TooManyExports => Role::File,
     };
-    match refusal {
-        Refusal::Claim(_) => claim_hints(rt, claim),
-        Refusal::CannotOpen(Role::Claim) => opening_hints(rt, claim),
-        Refusal::CannotOpen(Role::Original) => opening_hints(rt, original),
-        Refusal::CannotOpen(_) => opening_hints(rt, export),
+    match (path_of(job, role), refusal) {
+        (Some(path), Refusal::Claim(_)) => claim_hints(rt, path),
+        (Some(path), Refusal::CannotOpen(_)) => opening_hints(rt, path),
+        (Some(path), Refusal::Reading(_)) => explain_reading(rt.alloc(), path),
         _ => Ok(Vec::new(rt.alloc())),
     }
 }
