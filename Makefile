@@ -1,9 +1,9 @@
 # Shows, proves, builds and tests. All that is needed is the Rattle toolchain (`rt`).
-.PHONY: run build install check test headline oracle speed bench
+.PHONY: run build install deb dist check test headline oracle speed bench
 
 PREFIX = /usr/local
 PROGRAM = crates/edfclaim/out/edfclaim
-PAGES = START.md CLAIM.md READING-THE-ANSWER.md PROFILE.md
+PAGES = START.md CLAIM.md READING-THE-ANSWER.md PROFILE.md MANY-NIGHTS.md SCRIPTS.md LOOK.md
 
 # Shows a Yes and a No of the example night, without proofs where no proved program stands there: a minute or so.
 run:
@@ -13,14 +13,23 @@ run:
 build:
 	@tools/prove.py build
 
-# Installs the program with its manual page and the users' pages. Where it stands there, and is that of the sources
-# as they are, it is installed as it stands.
+# Installs the program with its manual page, the users' pages, and what helps those who script. Where it stands there,
+# and is that of the sources as they are, it is installed as it stands.
 install:
 	@tools/prove.py current || tools/prove.py build
 	install -d "$(DESTDIR)$(PREFIX)/bin" "$(DESTDIR)$(PREFIX)/share/man/man1" "$(DESTDIR)$(PREFIX)/share/doc/edfclaim"
 	install -m 755 $(PROGRAM) "$(DESTDIR)$(PREFIX)/bin/edfclaim"
 	install -m 644 docs/edfclaim.1 "$(DESTDIR)$(PREFIX)/share/man/man1/edfclaim.1"
+	install -d "$(DESTDIR)$(PREFIX)/lib" "$(DESTDIR)$(PREFIX)/share/bash-completion/completions"
+	install -m 755 extras/edfclaim-look "$(DESTDIR)$(PREFIX)/bin/edfclaim-look"
+	install -m 644 extras/edfclaim.py "$(DESTDIR)$(PREFIX)/lib/edfclaim.py"
+	install -m 644 extras/edfclaim.bash-completion "$(DESTDIR)$(PREFIX)/share/bash-completion/completions/edfclaim"
 	for page in $(PAGES); do install -m 644 "docs/$$page" "$(DESTDIR)$(PREFIX)/share/doc/edfclaim/$$page" || exit 1; done
+
+# Packs the program, in the folder out: as a Debian package, and as a tarball with its digest.
+deb dist:
+	@tools/prove.py current || tools/prove.py build
+	@tools/package.sh $@ $(PROGRAM) out
 
 # All proofs and no more, over what earlier runs kept: for the daily loop.
 check:
