@@ -75,4 +75,5 @@ def main():
     return 0 if ended and all(ended) else 1
 
 
-sys.exit(main())
+if __name__ == "__main__":
+    sys.exit(main())

@@ -7,7 +7,8 @@ Of each small file of tools/cases of which a check says Yes, and of COUNT random
 none is said), the draft has status 0, and the check under the draft writes the line of the check under the claim. What a
 draft doesn't find by itself is left out: a claim that blanks texts, and one whose shift is no number of whole days. On the
 example night the draft is the one that is stored (examples/night/draft.toml); of a file that doesn't conform its fault is
-written as `conform` writes it. What isn't as it should be is said, at most twenty times. The last line of the output
+written as `conform` writes it. A shift that the starts don't tell is marked, 1,000 intervals are drafted, and where a claim
+can't say what the export is, a comment says so. What isn't as it should be is said, at most twenty times. The last line of the output
 counts the drafts that passed and failed.
 """
 
@@ -120,6 +121,33 @@ class Drafts:
             want = 2, b"", f"edfclaim: cannot open {name}\n".encode()
             self.judge(f"no {name}", None if given == want else f"the draft has {given!r}; wanted: {want!r}")
 
+    def of_limits(self):
+        """A shift that isn't told, and drafts that are as long as a claim may be, or longer."""
+        import night
+
+        nobody = ["X", "X", "X", "X"]
+        values = {"Temp rectal": [place % 1000 for place in range(2100)]}
+
+        def file(intervals, notes=(), shift=0):
+            return night.file(values, list(notes), ["Temp rectal"], intervals, 1, 1400, shift, nobody, lambda _: nobody)
+
+        def given(name, original, export):
+            return name, self.run("draft", self.path("original", original), self.path("export", export))
+
+        whole = file([(0, 2100)])
+        for name, ran in (given("1,001 intervals", whole, file([(at, at + 1) for at in range(0, 2002, 2)])),
+                          given("60 long texts", file([(0, 60)], [(1000 * at, -1, f"{at} " + "x" * 1200) for at in range(60)]), file([(0, 60)]))):
+            is_so = ran[0] == 1 and ran[1].startswith(b"# no draft: ") and ran[1].count(b"\n") == 1 and not ran[2]
+            self.judge(name, None if is_so else f"the draft has {ran!r}")
+        name, ran = given("an hour back", whole, file([(30, 120)], shift=-3600))
+        words = b"# NOT TOLD", b"\nshift = -3570 # confirm\n", b'{ from = "0", to = "90" }'
+        is_so = ran[0] == 0 and not ran[2] and all(word in ran[1] for word in words)
+        self.judge(name, None if is_so else f"the draft has {ran!r}")
+        keep = [(at, at + 1) for at in range(0, 2000, 2)]
+        claim = 'format = 1\nchannels = ["Temp rectal"]\nshift = -86400\n'
+        claim += "".join(f'[[keep]]\nfrom = "{start}"\nto = "{end}"\n' for start, end in keep)
+        self.judge("1,000 intervals", self.checked(whole, file(keep, shift=-86_400), claim.encode()))
+
 
 def main():
     if len(sys.argv) not in (2, 3, 4) or not os.access(sys.argv[1], os.X_OK):
@@ -131,6 +159,7 @@ def main():
     with tempfile.TemporaryDirectory(dir=shared) as work:
         drafts = Drafts(os.path.abspath(sys.argv[1]), work)
         drafts.of_example()
+        drafts.of_limits()
         if tomllib:
             drafts.of_tables()
         else:

@@ -5,8 +5,9 @@
 #
 # usage: tools/failing.sh PROGRAM
 #
-# A run that was stopped has status 2, a front of the text on standard output (of a check and of a receipt nothing, but
-# where a write failed) and the line that says why on standard error: that memory ran out, of which file a read failed, or that writing failed. A run that succeeded
+# A run that was stopped has status 2, a front of the text on standard output (of a check, a receipt and a draft nothing, but
+# where a write failed) and the line that says why on standard error: that memory ran out, of which file a read failed, or
+# that writing failed. Behind this line `explain` may say more. A run that succeeded
 # has its status, the whole text and nothing on standard error: the last one, in which nothing failed, and any before it
 # whose refused growth was the C library's, or was made good. The last line of the output counts the runs that passed
 # and failed.
@@ -53,9 +54,9 @@ judge() {
 # The line on a read of the file of this name that fails, of this command.
 reading_line() {
     case $1.$2 in
-    check*.*.toml | receipt*.*.toml) role=claim ;;
-    check*.original.edf | receipt*.original.edf) role=original ;;
-    check*.* | receipt*.*) role=export ;;
+    check*.*.toml | receipt*.*.toml | explain.*.toml) role=claim ;;
+    check*.original.edf | receipt*.original.edf | draft.original.edf | explain.original.edf) role=original ;;
+    check*.* | receipt*.* | draft.* | explain.*) role=export ;;
     *) role=file ;;
     esac
     echo "edfclaim: reading $role failed"
@@ -79,6 +80,11 @@ run_failing() {
     READ_AT) reading_line "$1" "$(cat "$work/told")" ;;
     WRITE_AT) echo "edfclaim: writing failed" ;;
     esac >"$work/line"
+    if [ "$1" = explain ]; then
+        # what stands behind the line are sentences
+        head -n 1 "$work/err" >"$work/first"
+        mv "$work/first" "$work/err"
+    fi
     judge "$ended" "$status" "$most"
 }
 
@@ -181,6 +187,11 @@ fail_each 0 0 receipt-parts original.edf cut.toml cut-part-1.edf cut-part-2.edf
     echo 'NO 1 original fault: Truncated at header field version'
 } >"$work/want"
 fail_each 1 0 receipt "$work/original.edf" cut.edf cut.toml
+cp draft.toml "$work/want" || exit 2
+fail_each 0 0 draft original.edf cut.edf
+# its line is written before its sentences are made: where these fail, it stands there
+"$program" explain original.edf cut.edf cut.toml >"$work/want"
+fail_each 0 1000000 explain original.edf cut.edf cut.toml
 echo 'CONFORMS records 150 channels 5 samples 52650 annotations 10' >"$work/want"
 fail_each 0 0 conform original.edf
 "$program" show original.edf >"$work/want"

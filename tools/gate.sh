@@ -3,8 +3,9 @@
 # machine isn't proved again as long as nothing changes that it stands on. Then the scripts: the table of wrong
 # bodies, what the crates cite of one another's proofs, whether the document of the headline is whole, and the
 # program that was built, on command lines and files that it refuses, on the example night, its receipts beside
-# sha256sum, on the tables of cases and of claims, and with each growth of memory, each read and each write failing
-# in turn.
+# sha256sum, on the tables of cases and of claims, its drafts of claims, its explanations of checks, and with each growth
+# of memory, each read and each write failing in turn; then what stands around the program: the completions, the packages,
+# the module for scripts, the page of a No, and many nights.
 #
 # usage: tools/gate.sh
 #
@@ -86,6 +87,13 @@ counted tools/night.sh "$program"
 counted tools/receipts.sh "$program"
 counted tools/cases.sh "$program"
 counted tools/claims.py "$program"
+counted tools/drafts.py "$program"
+counted tools/explain.py "$program"
+counted tools/completions.sh --check "$program"
+counted tools/packages.sh "$program"
+counted tools/scripts.py "$program"
+counted tools/look.sh "$program"
+counted tools/many_nights.sh "$program"
 # CC may hold flags behind the compiler's name
 read -r compiler _ <<<"${CC:-cc}"
 if command -v "$compiler" >/dev/null; then

@@ -1,7 +1,8 @@
 #!/bin/sh
 # Runs PROGRAM on the example night: the commands of examples/night/answers, each of which has to end with
-# the status and the line that stand there and in the table of the night's page, and compares the two receipts with
-# those that are stored there, and what `show` and `notes` print of the original with docs/CLAIM.md. Then it looks whether the night's files are those that
+# the status and the line that stand there and in the table of the night's page, and compares the draft of a claim and the
+# two receipts with those that are stored there, these with the blocks of docs/START.md, and what `show` and `notes` print
+# of the original with docs/CLAIM.md. Then it looks whether the night's files are those that
 # tools/night.py writes, and runs PROGRAM on the broken copies of tools/faults.py, one for each fault.
 #
 # usage: tools/night.sh PROGRAM
@@ -70,8 +71,8 @@ while IFS='	' read -r status words line; do
     judge $? "not in the night's table: $words"
 done <examples/night/answers
 
-# Compares the receipt that a command gives of the night's files with a stored one.
-receipt() {
+# Compares what a command prints of the night's files with a stored text.
+stored() {
     wanted=$1
     shift
     (cd -- examples/night && exec "$program" "$@" >"$work/out" 2>"$work/err" </dev/null)
@@ -80,18 +81,35 @@ receipt() {
     judge $? "$*: status $status with $(cat "$work/out" "$work/err"); wanted: 0 with $(cat "examples/night/$wanted")"
 }
 
-receipt receipt.txt receipt original.edf cut.edf cut.toml
-receipt receipt-parts.txt receipt-parts original.edf cut.toml cut-part-1.edf cut-part-2.edf
+stored draft.toml draft original.edf cut.edf
+stored receipt.txt receipt original.edf cut.edf cut.toml
+stored receipt-parts.txt receipt-parts original.edf cut.toml cut-part-1.edf cut-part-2.edf
+
+# Prints what stands on a page behind a line, up to the end of the block.
+block() {
+    awk -v line="$2" '
+        $0 == line { inside = 1; next }
+        inside && /^```/ { exit }
+        inside { print }
+    ' "$1"
+}
+
+# Compares a stored text with a block of docs/START.md: the one behind the line that prints it.
+shown() {
+    block docs/START.md "\$ cat $1" >"$work/line"
+    [ -s "$work/line" ] && cmp -s "$work/line" "examples/night/$1"
+    judge $? "$1: it isn't the text of docs/START.md"
+}
+
+shown draft.toml
+shown receipt.txt
+shown receipt-parts.txt
 
 # Compares what a command prints of the original with a block of docs/CLAIM.md: the one behind this line.
 compare() {
     "$program" "$1" examples/night/original.edf >"$work/out" 2>"$work/err"
     status=$?
-    awk -v line="\$ edfclaim $1 original.edf" '
-        $0 == line { inside = 1; next }
-        inside && /^```/ { exit }
-        inside { print }
-    ' docs/CLAIM.md >"$work/line"
+    block docs/CLAIM.md "\$ edfclaim $1 original.edf" >"$work/line"
     [ "$status" -eq 0 ] && [ -s "$work/line" ] && cmp -s "$work/out" "$work/line" && [ ! -s "$work/err" ]
     judge $? "$1 original.edf: status $status, and not the text of docs/CLAIM.md"
 }

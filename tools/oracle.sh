@@ -1,13 +1,15 @@
 #!/usr/bin/env bash
-# Tries the readers of fields, headers, lanes, whole files and claims, the comparison of two headers, and the
-# runs on two files and on a file and several exports of it under a claim, against a second reading of the rules, in
-# Python (tools/oracle). It proves nothing: it looks for rules that were understood in two ways. The crates run
-# unproved, in the toolchain's interpreter.
+# Tries the readers of fields, headers, lanes, whole files and claims, the comparison of two headers, the
+# runs on two files and on a file and several exports of it under a claim, and the drafts of claims, against a second
+# reading of the rules, in Python (tools/oracle). It proves nothing: it looks for rules that were understood in two ways.
+# The crates run unproved, in the toolchain's interpreter.
 #
 # usage: tools/oracle.sh [SEED]     seed 1 where none is said
 #
-# 1700 cases for the readers, 1000 for the run on two files, 2000 for that on several exports: the toolchain lets a
-# program run for 120 seconds and print 1 MB. Each of the three ends with a line 'N passed, M failed'.
+# 1700 cases for the readers, 1000 for the run on two files, 2000 for that on several exports, and 10,000 honest exports
+# for the drafts, under each of which the second reading has to say the Yes that it says under the claim itself. The
+# toolchain lets a program run for 120 seconds and print 1 MB, so the cases of the last two are cut into several runs.
+# Each of the four ends with a line 'N passed, M failed'.
 set -euo pipefail
 
 seed=${1:-1}
@@ -36,7 +38,8 @@ answers() {
     fi
 }
 
-for crate in edf_fields edf_header edf_tal edf_stream edf_claim edf_verdict edf_refusal edf_rows edf_heads edf_check; do
+for crate in edf_fields edf_header edf_tal edf_stream edf_claim edf_verdict edf_refusal edf_rows edf_heads edf_check \
+    edf_draft; do
     take "$work" "$crate"
 done
 
@@ -50,7 +53,25 @@ add() {
 add answers "edf_fields edf_header edf_tal edf_stream edf_claim edf_heads edf_verdict jiff"
 add verdicts "edf_fields edf_claim edf_refusal edf_check"
 add parts "edf_fields edf_claim edf_refusal edf_check"
+add drafts "edf_fields edf_draft"
 failed=0
+
+# Makes cases, of which so many go into a run of the program of a crate, and runs it on them; all cases and all that is
+# given for them stand in the files `all_cases` and `all_given`.
+in_runs() {
+    local lines=$1 program=$2 cases
+    shift 2
+    rm -f "$work"/cases.*
+    python3 "$@" | split -a 3 -l "$lines" - "$work/cases."
+    : >"$work/all_cases"
+    : >"$work/all_given"
+    for cases in "$work"/cases.*; do
+        mv "$cases" "$work/cases"
+        answers "$work" "$program"
+        cat "$work/cases" >>"$work/all_cases"
+        cat "$work/given" >>"$work/all_given"
+    done
+}
 
 python3 tools/oracle/cases.py "$seed" 1700 >"$work/cases"
 answers "$work" answers
@@ -60,14 +81,9 @@ python3 tools/oracle/verdict_cases.py "$seed" 1000 >"$work/cases"
 answers "$work" verdicts
 python3 tools/oracle/verdict_rules.py "$work/cases" "$work/given" || failed=1
 
-python3 tools/oracle/parts_cases.py "$seed" 2000 | split -l 500 - "$work/cases."
-: >"$work/all_cases"
-: >"$work/all_given"
-for cases in "$work"/cases.*; do
-    mv "$cases" "$work/cases"
-    answers "$work" parts
-    cat "$work/cases" >>"$work/all_cases"
-    cat "$work/given" >>"$work/all_given"
-done
+in_runs 500 parts tools/oracle/parts_cases.py "$seed" 2000
 python3 tools/oracle/parts_rules.py "$work/all_cases" "$work/all_given" || failed=1
+
+in_runs 800 drafts tools/oracle/draft_cases.py "$seed" 10000
+python3 tools/oracle/draft_rules.py "$work/all_cases" "$work/all_given" || failed=1
 exit "$failed"

@@ -3,9 +3,9 @@
 #
 # usage: tools/statuses.sh PROGRAM
 #
-# A refusal has status 2, one line on standard error and nothing on standard output. What `clap` says of a
-# line that it doesn't take has the same status and more than one line. The files are those of the example
-# night. The last line of the output counts the runs that passed and failed.
+# A refusal has status 2, one line on standard error and nothing on standard output; behind the line `explain` says more.
+# What `clap` says of a line that it doesn't take has the same status and more than one line. The files are those of the
+# example night. The last line of the output counts the runs that passed and failed.
 set -u
 
 if [ "$#" -ne 1 ] || [ ! -x "$1" ]; then
@@ -43,6 +43,22 @@ refuses() {
     shift
     "$program" "$@" >"$work/out" 2>"$work/err"
     judge_refusal "$line" "words: $*" $?
+}
+
+# Keeps the first line alone of what stands on standard error, behind which `explain` says more.
+keep_first() {
+    head -n 1 "$work/err" >"$work/first"
+    mv "$work/first" "$work/err"
+}
+
+# Runs the program on these words; it is to refuse them with this line, behind which it may say more.
+refuses_first() {
+    line=$1
+    shift
+    "$program" "$@" >"$work/out" 2>"$work/err"
+    status=$?
+    keep_first
+    judge_refusal "$line" "words: $*" "$status"
 }
 
 # Runs the program on these words, which `clap` doesn't take.
@@ -87,6 +103,10 @@ refuses 'edfclaim: not a command' receipt -- original.edf cut.edf cut.toml
 refuses 'edfclaim: not a command' receipt-parts original.edf cut.toml cut-part-1.edf -- cut-part-2.edf
 refuses 'edfclaim: not a command' receipt-parts original.edf cut.toml -- cut-part-1.edf cut-part-2.edf
 refuses 'edfclaim: not a command' receipt-parts -- original.edf cut.toml cut.edf
+refuses 'edfclaim: not a command' draft original.edf -- cut.edf
+refuses 'edfclaim: not a command' draft -- original.edf cut.edf
+refuses 'edfclaim: not a command' explain original.edf cut.edf -- cut.toml
+refuses 'edfclaim: not a command' explain -- original.edf cut.edf cut.toml
 for words in '' 'Vectors' 'vectors x' 'explain original.edf' 'conform' 'conform original.edf cut.edf' \
     'check original.edf cut.edf' 'check original.edf cut.edf cut.toml cut.toml' '--quiet vectors' 'check-all' \
     'check-parts original.edf' 'check-parts original.edf cut.toml' \
@@ -95,13 +115,16 @@ for words in '' 'Vectors' 'vectors x' 'explain original.edf' 'conform' 'conform 
     'receipt original.edf -cut.edf cut.toml' \
     'receipt-parts' 'receipt-parts original.edf' 'receipt-parts original.edf cut.toml' \
     'receipt-parts original.edf cut.toml cut.edf -cut.edf' \
+    'draft' 'draft original.edf' 'draft original.edf cut.edf cut.toml' 'drafts' 'draft original.edf -cut.edf' \
+    'explain' 'explain original.edf cut.edf' 'explain original.edf cut.edf cut.toml cut.toml' 'explains' \
+    'explain original.edf -cut.edf cut.toml' \
     '-- vectors' 'show -night.edf' 'show original.edf cut.edf'; do
     # shellcheck disable=SC2086
     if [ -z "$words" ]; then faults ''; else faults $words; fi
 done
 faults vectors ''
 for words in --help -h help 'help check' 'check --help' 'check-parts --help' 'receipt --help' \
-    'receipt-parts --help' --version -V; do
+    'receipt-parts --help' 'draft --help' 'explain --help' --version -V; do
     # shellcheck disable=SC2086
     helps $words
 done
@@ -124,6 +147,11 @@ refuses 'edfclaim: cannot open claim' receipt-parts none.edf none.toml none.edf
 refuses 'edfclaim: cannot open original' receipt-parts none.edf refused.toml none.edf
 refuses 'edfclaim: cannot open export' receipt-parts original.edf refused.toml none.edf cut.edf
 refuses 'edfclaim: cannot open export' receipt-parts original.edf cut.toml cut.edf none.edf
+refuses 'edfclaim: cannot open original' draft none.edf none.edf
+refuses 'edfclaim: cannot open export' draft original.edf none.edf
+refuses_first 'edfclaim: cannot open claim' explain none.edf none.edf none.toml
+refuses_first 'edfclaim: cannot open original' explain none.edf none.edf refused.toml
+refuses_first 'edfclaim: cannot open export' explain original.edf none.edf refused.toml
 for command in conform show notes; do
     refuses 'edfclaim: cannot open file' "$command" none.edf
 done
@@ -155,6 +183,12 @@ refuses 'edfclaim: reading claim failed' receipt-parts original.edf . cut.edf
 refuses 'edfclaim: reading original failed' receipt-parts . cut.toml cut.edf
 refuses 'edfclaim: reading export failed' receipt-parts original.edf cut.toml cut-part-1.edf .
 refuses 'edfclaim: claim refused: BadKeep' receipt-parts . refused.toml . .
+refuses 'edfclaim: reading original failed' draft . cut.edf
+refuses 'edfclaim: reading export failed' draft original.edf .
+refuses_first 'edfclaim: reading claim failed' explain original.edf cut.edf .
+refuses_first 'edfclaim: reading original failed' explain . cut.edf cut.toml
+refuses_first 'edfclaim: reading export failed' explain original.edf . cut.toml
+refuses_first 'edfclaim: claim refused: BadKeep' explain . . refused.toml
 for command in conform show notes; do
     refuses 'edfclaim: reading file failed' "$command" .
 done
@@ -177,7 +211,9 @@ refuses_user() {
     shift
     # shellcheck disable=SC2086
     (cd "$folder" && exec $as_user "$reader" "$@") >"$work/out" 2>"$work/err"
-    judge_refusal "$line" "files that may not be read: $*" $?
+    status=$?
+    if [ "$1" = explain ]; then keep_first; fi
+    judge_refusal "$line" "files that may not be read: $*" "$status"
 }
 
 if [ "$as_user" != none ]; then
@@ -193,6 +229,8 @@ if [ "$as_user" != none ]; then
     refuses_user 'edfclaim: cannot open export' check-parts original.edf cut.toml cut.edf "$work/closed"
     refuses_user 'edfclaim: cannot open original' receipt "$work/closed" cut.edf cut.toml
     refuses_user 'edfclaim: cannot open export' receipt-parts original.edf cut.toml cut.edf "$work/closed"
+    refuses_user 'edfclaim: cannot open export' draft original.edf "$work/closed"
+    refuses_user 'edfclaim: cannot open claim' explain original.edf cut.edf "$work/closed"
     for command in conform show notes; do
         refuses_user 'edfclaim: cannot open file' "$command" "$work/closed"
     done
@@ -204,6 +242,9 @@ refuses 'edfclaim: claim refused: BadFormat' check original.edf cut.edf "$work/e
 printf 'format = 1\nchannels = ["ECG"]\n[[keep]]\nfrom = "0"\nto = "0"\n' >"$work/backwards"
 refuses 'edfclaim: claim refused: BadKeep' check original.edf cut.edf "$work/backwards"
 refuses 'edfclaim: claim refused: NotToml' check original.edf cut.edf cut.edf
+refuses_first 'edfclaim: claim refused: BadFormat' explain original.edf cut.edf "$work/empty"
+refuses_first 'edfclaim: claim refused: BadKeep' explain original.edf cut.edf "$work/backwards"
+refuses_first 'edfclaim: claim refused: NotToml' explain original.edf cut.edf cut.edf
 # the claim, and a comment up to so many bytes
 {
     cat cut.toml
@@ -215,6 +256,7 @@ head -c 65537 "$work/long" >"$work/longer"
 says 0 "$yes" check original.edf cut.edf "$work/longest"
 refuses 'edfclaim: claim refused: TooLong' check original.edf cut.edf "$work/longer"
 refuses 'edfclaim: claim refused: TooLong' check original.edf cut.edf "$work/long"
+refuses_first 'edfclaim: claim refused: TooLong' explain original.edf cut.edf "$work/longer"
 if [ -c /dev/zero ]; then
     refuses 'edfclaim: claim refused: TooLong' check original.edf cut.edf /dev/zero
 fi
@@ -314,16 +356,21 @@ fi
 
 # standard output that takes nothing
 for command in 'check original.edf cut.edf cut.toml' 'check-parts original.edf cut.toml cut.edf' \
-    'receipt original.edf cut.edf cut.toml' 'receipt-parts original.edf cut.toml cut.edf' 'conform cut.edf' \
+    'receipt original.edf cut.edf cut.toml' 'receipt-parts original.edf cut.toml cut.edf' \
+    'draft original.edf cut.edf' 'explain original.edf cut.edf cut.toml' 'conform cut.edf' \
     'show cut.edf' 'notes cut.edf' vectors; do
     : >"$work/out"
     # shellcheck disable=SC2086
     "$program" $command >&- 2>"$work/err"
-    judge_refusal 'edfclaim: writing failed' "a closed standard output: $command" $?
+    status=$?
+    if [ "${command%% *}" = explain ]; then keep_first; fi
+    judge_refusal 'edfclaim: writing failed' "a closed standard output: $command" "$status"
     if [ -c /dev/full ]; then
         # shellcheck disable=SC2086
         "$program" $command >/dev/full 2>"$work/err"
-        judge_refusal 'edfclaim: writing failed' "a full standard output: $command" $?
+        status=$?
+        if [ "${command%% *}" = explain ]; then keep_first; fi
+        judge_refusal 'edfclaim: writing failed' "a full standard output: $command" "$status"
     fi
 done
 

@@ -59,6 +59,32 @@ const WORDS: &[(&[&str], Option<Job<'static>>)] = &[
     ),
     (&["edfclaim", "receipt-parts", "o", "c"], None),
     (
+        &["edfclaim", "draft", "night.edf", "export.edf"],
+        Some(Job::Draft {
+            original: "night.edf",
+            export: "export.edf",
+        }),
+    ),
+    (&["edfclaim", "draft"], None),
+    (&["edfclaim", "draft", "o"], None),
+    (&["edfclaim", "draft", "o", "e", "c"], None),
+    (
+        &[
+            "edfclaim",
+            "explain",
+            "night.edf",
+            "export.edf",
+            "claim.toml",
+        ],
+        Some(Job::Explain {
+            original: "night.edf",
+            export: "export.edf",
+            claim: "claim.toml",
+        }),
+    ),
+    (&["edfclaim", "explain", "o", "e"], None),
+    (&["edfclaim", "explain", "o", "e", "c", "c"], None),
+    (
         &["edfclaim", "conform", "night.edf"],
         Some(Job::Conform("night.edf")),
     ),
