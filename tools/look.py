@@ -104,7 +104,7 @@ def try_night(counts, program):
         os.mkdir("page")
         ran = run(program, *words, "--page", "page/look.html", "--picture", "page/look.png")
         if status == "2":
-            counts.judge(ran == (2, "", f"edfclaim-look: no answer: {line}\n"), f"{words}: {ran}")
+            counts.judge(ran[:2] == (2, "") and ran[2].startswith(f"edfclaim-look: no answer: {line}\n"), f"{words}: {ran}")
             counts.judge(not os.listdir("page"), f"{words}: {os.listdir('page')} without an answer")
             continue
         counts.judge(ran == (int(status), f"{line}\n", ""), f"{words}: {ran}; wanted: {line}")
