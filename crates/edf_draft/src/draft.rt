@@ -17,9 +17,10 @@ use std::alloc::Global;
 /// a person has to confirm.
 ///
 /// The text is a claim, and it says the channels of the export in its order, the subfields that are `X` in the export and not
-/// as in the original, and the shift by whole days that puts the export into the time of the original; the intervals that the
-/// export's data records cover then, and the texts of annotations there that the original has and the export hasn't. Where no
-/// shift by whole days does this, a comment says so. The outcome is `Yes`.
+/// as in the original, and a shift by whole days that puts the export into the time of the original, or any where none does
+/// that. The outcome is `Yes`. Of the rest no clause speaks: the intervals that the export's data records cover then, the texts
+/// of annotations there that the original has and the export hasn't, and the comments, one of which says where no shift by
+/// whole days fits.
 ///
 /// The outcome is `No` where a file doesn't conform: a comment says which, and its first fault follows as `conform` writes
 /// it, the original's before the export's; and where no claim can say what the export is, which a comment says.

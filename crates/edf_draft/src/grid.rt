@@ -101,6 +101,9 @@ impl Grid {
 
     /// The first sample that doesn't stand before a time, in picoseconds rounded down; none where there is none.
     pub(crate) fn next_sample(&self, stretches: &[Interval], at_ps: i128) -> Option<i128> {
+        if self.counts.is_empty() {
+            return None;
+        }
         let (_, behind) = stretches.split_at_checked(ended_count(stretches, at_ps))?;
         behind
             .iter()
@@ -109,6 +112,9 @@ impl Grid {
 
     /// The last sample that stands before a time, in picoseconds rounded down; none where there is none.
     pub(crate) fn sample_before(&self, stretches: &[Interval], at_ps: i128) -> Option<i128> {
+        if self.counts.is_empty() {
+            return None;
+        }
         let begun = stretches.partition_point(|stretch| stretch.from_ps < at_ps);
         let (before, _) = stretches.split_at_checked(begun)?;
         before

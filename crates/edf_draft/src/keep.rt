@@ -64,20 +64,44 @@ pub(crate) fn is_kept(keep: &[Interval], at_ps: i128) -> bool {
     }
 }
 
+/// How far a time lies behind an interval, where the original has no sample between; none where it has one.
+fn way_on(before: Interval, grid: &Grid, stretches: &[Interval], at_ps: i128) -> Option<i128> {
+    match grid.next_sample(stretches, before.to_ps) {
+        Some(sample) if sample <= at_ps => None,
+        _ => Some(at_ps.saturating_sub(before.to_ps)),
+    }
+}
+
+/// How far a time that a claim can say lies before an interval, where the original has no sample between; none where it
+/// has one.
+fn way_back(behind: Interval, grid: &Grid, stretches: &[Interval], at_ps: i128) -> Option<i128> {
+    match grid.sample_before(stretches, behind.from_ps) {
+        Some(sample) if at_ps <= sample => None,
+        _ if at_ps < 0 => None,
+        _ => Some(behind.from_ps.saturating_sub(at_ps)),
+    }
+}
+
 /// Lets an interval reach to the time of an annotation that the export has beside its data records: the interval before it,
-/// or the one behind it, where the original has no sample between.
+/// or the one behind it, where the original has no sample between; of both the nearer one.
 fn reach_to(keep: &mut [Interval], grid: &Grid, stretches: &[Interval], at_ps: i128) {
     let ended = ended_count(keep, at_ps);
-    if let Some(before) = ended.checked_sub(1).and_then(|place| keep.get_mut(place)) {
-        let next = grid.next_sample(stretches, before.to_ps);
-        if next.is_none_or(|sample| at_ps < sample) {
+    let on = match ended.checked_sub(1).and_then(|place| keep.get(place)) {
+        Some(before) => way_on(*before, grid, stretches, at_ps),
+        None => None,
+    };
+    let back = match keep.get(ended) {
+        Some(behind) => way_back(*behind, grid, stretches, at_ps),
+        None => None,
+    };
+    if let Some(way) = on
+        && back.is_none_or(|other| way <= other)
+    {
+        if let Some(before) = ended.checked_sub(1).and_then(|place| keep.get_mut(place)) {
             before.to_ps = at_ps.saturating_add(1);
-            return;
         }
-    }
-    if let Some(behind) = keep.get_mut(ended) {
-        let last = grid.sample_before(stretches, behind.from_ps);
-        if at_ps >= 0 && last.is_none_or(|sample| sample < at_ps) {
+    } else if back.is_some() {
+        if let Some(behind) = keep.get_mut(ended) {
             behind.from_ps = at_ps;
         }
     }

@@ -1,7 +1,7 @@
 //! By how much an export was moved.
 
-ghost use Rattle.std.specs.Prelude.{◌≡◌, ◌<◌, ◌^◌, ◌*ℤ◌, pos, false, unsigned_abs};
-ghost use Rattle.edf_draft.specs.Days.{IsShift};
+ghost use Rattle.std.specs.Prelude.{◌≡◌, ◌<◌, ◌^◌, ◌*ℤ◌, pos, false, unsigned_abs, IsTrue};
+ghost use Rattle.edf_draft.specs.Days.{IsShift, LiesWithin};
 
 use crate::days::days_between;
 use crate::recorded::Recorded;
@@ -38,9 +38,17 @@ fn seconds_of_days(days: i128) -> i64
     days as i64 * 86_400
 }
 
+/// Whether a time lies between two others as it is.
+#[tactic(auto, using(crate::proofs::DayFacts::within_unmoved))]
+fn lies_within(begin: i128, end: i128, from: i128, to: i128) -> bool
+    ensures { IsTrue result → LiesWithin begin end from to (pos 0) }
+{
+    begin <= from && to <= end
+}
+
 /// The shift that puts the time from `from` to `to` between `begin` and `end`: a number of whole days, the one that gives the
 /// least time.
-pub(crate) fn shift_between(begin: i128, end: i128, from: i128, to: i128) -> Shift
+fn shift_by_days(begin: i128, end: i128, from: i128, to: i128) -> Shift
     requires begin { unsigned_abs begin < 2 ^ 80 }
     requires from { unsigned_abs from < 2 ^ 80 }
     requires to { unsigned_abs to < 2 ^ 80 }
@@ -52,5 +60,24 @@ pub(crate) fn shift_between(begin: i128, end: i128, from: i128, to: i128) -> Shi
             is_told: true,
         },
         None => guessed_shift(begin, from),
+    }
+}
+
+/// The shift that puts the time from `from` to `to` between `begin` and `end`: none where it lies there as it is, or else a
+/// number of whole days.
+#[tactic(auto, using(crate::proofs::DayFacts::is_unmoved))]
+pub(crate) fn shift_between(begin: i128, end: i128, from: i128, to: i128) -> Shift
+    requires begin { unsigned_abs begin < 2 ^ 80 }
+    requires from { unsigned_abs from < 2 ^ 80 }
+    requires to { unsigned_abs to < 2 ^ 80 }
+    ensures { IsShift begin end from to result.is_told result.seconds }
+{
+    if lies_within(begin, end, from, to) {
+        Shift {
+            seconds: 0,
+            is_told: true,
+        }
+    } else {
+        shift_by_days(begin, end, from, to)
     }
 }

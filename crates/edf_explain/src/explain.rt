@@ -21,6 +21,7 @@ use edf_fields::sink::{Sink, put_all};
 use edf_fields::source::Source;
 use edf_refusal::side::Side;
 use edf_refusal::stop::RunStop;
+use edf_verdict::outcome::Outcome;
 use std::alloc::{AllocError, Global};
 
 /// The clocks of both files.
@@ -73,7 +74,11 @@ fn say_behind(
     alloc: Global,
     claim_text: &[u8],
     walk: &Walk<'_>,
+    outcome: Outcome,
 ) -> Result<(), AllocError> {
+    if text.is_empty() == (outcome == Outcome::No) {
+        return text.say(words::READ_ANEW, &[]);
+    }
     if !text.is_empty() {
         return text.say(words::CHECK_AGAIN, &[]);
     }
@@ -87,9 +92,13 @@ fn say_fault_of<O: Source, E: Source>(
     text: &mut Text,
     alloc: Global,
     fault: (Side, Fault),
+    outcome: Outcome,
     original: &FrontSource<'_, O>,
     export: &FrontSource<'_, E>,
 ) -> Result<(), RunStop> {
+    if outcome == Outcome::Yes {
+        text.say(words::READ_ANEW, &[])?;
+    }
     let (side, fault) = fault;
     let front = match side {
         Side::Original => original.front(),
@@ -117,7 +126,7 @@ fn say_both<O: Source, E: Source>(
     text: &mut Text,
     alloc: Global,
     claim: &Claim,
-    claim_text: &[u8],
+    (claim_text, outcome): (&[u8], Outcome),
     stands: (Stand, Stand),
     original: &mut FrontSource<'_, O>,
     export: &mut FrontSource<'_, E>,
@@ -126,11 +135,11 @@ fn say_both<O: Source, E: Source>(
     let mut walk = Walk::new(alloc, claim, old, new)?;
     walk.run(original, export)?;
     if let Some(fault) = walk.fault() {
-        return say_fault_of(text, alloc, fault, original, export);
+        return say_fault_of(text, alloc, fault, outcome, original, export);
     }
     let apart = walk.notes.apart(alloc)?;
     say_differences(text, alloc, claim, &walk, &apart)?;
-    say_behind(text, alloc, claim_text, &walk)?;
+    say_behind(text, alloc, claim_text, &walk, outcome)?;
     Ok(())
 }
 
@@ -140,6 +149,7 @@ fn sentences<O: Source, E: Source>(
     original: &mut O,
     export: &mut E,
     claim_text: &[u8],
+    outcome: Outcome,
 ) -> Result<Text, RunStop> {
     let claim = Claim::read(alloc, claim_text)?;
     let mut text = Text::new(alloc);
@@ -154,7 +164,7 @@ fn sentences<O: Source, E: Source>(
                 &mut text,
                 alloc,
                 &claim,
-                claim_text,
+                (claim_text, outcome),
                 stands,
                 &mut first,
                 &mut second,
@@ -166,26 +176,28 @@ fn sentences<O: Source, E: Source>(
             fault_of_export(&mut old, &mut first, fault)?
         }
     };
-    say_fault_of(&mut text, alloc, fault, &first, &second)?;
+    say_fault_of(&mut text, alloc, fault, outcome, &first, &second)?;
     Ok(text)
 }
 
 /// Writes sentences for whoever has to act on the line of a check: all differences, and not the first alone, what mostly
 /// makes them, and what to do; where there is none, what to read before the export goes out.
 ///
-/// Both sources are at their first byte. The sentences are made before the first of them is written, so that nothing is
+/// The outcome is that of the check. Where the files don't say the same any more, a sentence says so. Both sources are at their
+/// first byte. The sentences are made before the first of them is written, so that nothing is
 /// written where a source fails or memory runs out. What the sink held stays in front of them.
 pub fn explain_to<O: Source, E: Source, K: Sink>(
     alloc: Global,
     original: &mut O,
     export: &mut E,
     claim_text: &[u8],
+    outcome: Outcome,
     sink: &mut K,
 ) -> Result<(), RunStop>
     ensures appended { IsTrue (K.is_honest sink.old) → Appended (K.held sink.old) (K.held sink.new) }
     ensures honesty { IsTrue (K.is_honest sink.old) → IsTrue (K.is_honest sink.new) }
 {
-    let text = sentences(alloc, original, export, claim_text)?;
+    let text = sentences(alloc, original, export, claim_text, outcome)?;
     put_all(sink, text.bytes())?;
     Ok(())
 }

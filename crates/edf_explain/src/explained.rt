@@ -14,8 +14,8 @@ use std::alloc::Global;
 /// Checks the export against the original as `run` does and writes its line; then reads both files once more, by sources
 /// that are made anew, and writes sentences for whoever has to act on it.
 ///
-/// The line and the outcome are what `run` promises. Of the sentences nothing is promised but that they stand behind it.
-/// The error is that of `run`, with nothing written but where the sink failed, or one of the second reading, behind the line.
+/// The line and the outcome are what `run` promises. Of the sentences nothing is promised but that they stand behind it, nor of
+/// what was written where there is an error: it is that of `run`, or one of the second reading.
 pub fn run_explained<O: Source, E: Source, K: Sink>(
     alloc: Global,
     original: &mut O,
@@ -30,6 +30,13 @@ pub fn run_explained<O: Source, E: Source, K: Sink>(
     ensures honesty { IsTrue (K.is_honest sink.old) → IsTrue (K.is_honest sink.new) }
 {
     let outcome = run(alloc, original, export, claim_text, sink)?;
-    explain_to(alloc, original_again, export_again, claim_text, sink)?;
+    explain_to(
+        alloc,
+        original_again,
+        export_again,
+        claim_text,
+        outcome,
+        sink,
+    )?;
     Ok(outcome)
 }

@@ -60,14 +60,14 @@ fn likeness_of(extra: &Note, missing: &Note) -> Option<&'static str> {
     if is_cut_text(extra.text.as_str(), missing.text.as_str()) {
         return Some(words::LIKE_CUT);
     }
+    if extra.text == missing.text {
+        return Some(words::LIKE_OTHER_DURATION);
+    }
     if extra.text.as_str() == BLANK {
         return Some(words::LIKE_BLANKED);
     }
     if missing.text.as_str() == BLANK {
         return Some(words::LIKE_NOT_BLANKED);
-    }
-    if extra.text == missing.text {
-        return Some(words::LIKE_OTHER_DURATION);
     }
     Some(words::LIKE_OTHER_TEXT)
 }
@@ -89,6 +89,16 @@ fn is_at_end(claim: &Claim, at_ps: i128) -> bool {
     !claim.keeps_instant(at_ps, 1) && claim.keeps_instant(at_ps.saturating_sub(1), 1)
 }
 
+/// Whether the claim removes the text of an annotation that begins in a kept interval, or at its end.
+fn is_removed(claim: &Claim, note: &Note) -> bool {
+    let at_ps = if is_at_end(claim, note.onset) {
+        note.onset.saturating_sub(1)
+    } else {
+        note.onset
+    };
+    claim.keeps_instant(at_ps, 1) && !claim.keeps_annotation(at_ps, note.text.as_str())
+}
+
 /// Says what an annotation that isn't kept looks like.
 fn say_likeness(
     text: &mut Text,
@@ -97,6 +107,12 @@ fn say_likeness(
     kept: &[Note],
     missing: &[usize],
 ) -> Result<(), AllocError> {
+    if claim.blanks(extra.text.as_str()) && extra.text.as_str() != BLANK {
+        return text.say(words::LIKE_NOT_BLANKED, &[]);
+    }
+    if is_removed(claim, extra) {
+        return text.say(words::REMOVED_BUT_THERE, &[]);
+    }
     if is_at_end(claim, extra.onset) {
         let end = [
             Piece::Bare(extra.onset),
@@ -106,14 +122,6 @@ fn say_likeness(
     }
     if let Some(words) = likeness_among(extra, kept, missing) {
         return text.say(words, &[]);
-    }
-    if claim.keeps_instant(extra.onset, 1)
-        && !claim.keeps_annotation(extra.onset, extra.text.as_str())
-    {
-        return text.say(words::REMOVED_BUT_THERE, &[]);
-    }
-    if claim.blanks(extra.text.as_str()) {
-        return text.say(words::LIKE_NOT_BLANKED, &[]);
     }
     if !claim.keeps_instant(extra.onset, 1) {
         return text.say(words::OUTSIDE, &[]);

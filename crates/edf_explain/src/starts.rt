@@ -85,13 +85,15 @@ impl Starts {
 
     /// Says which shift would fit.
     fn say_fitting(&self, text: &mut Text) -> Result<(), AllocError> {
+        if self.reckoning == Reckoning::NotMoved {
+            return text.say(words::CUT_AND_NOT_MOVED, &[]);
+        }
         let Some(shift) = self.fitting_shift() else {
             return text.say(words::NO_SHIFT_FITS, &[]);
         };
         let sentence = match self.reckoning {
             Reckoning::ByFront => words::SHIFT_FITS,
-            Reckoning::AsClaimed => words::SHIFT_DOES_NOT_FIT,
-            Reckoning::NotMoved => words::CUT_AND_NOT_MOVED,
+            Reckoning::AsClaimed | Reckoning::NotMoved => words::SHIFT_DOES_NOT_FIT,
         };
         let pieces = [
             Piece::Number(shift),

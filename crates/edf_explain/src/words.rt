@@ -323,7 +323,7 @@ pub(crate) const SHIFT_DOES_NOT_FIT: &str =
     "Its first samples aren't those that the claim keeps first, so it was cut elsewhere, or moved and changed: compare the intervals of the claim with what was exported. If it was moved alone, shift = {0} would fit. What follows is reckoned with shift = {1}, as claimed.";
 
 pub(crate) const CUT_AND_NOT_MOVED: &str =
-    "With the claimed shift it would lie outside of the original, and with its own times it doesn't: so it was not moved, and cut elsewhere than the claim says. The date of the recording may be the true one, and the export doesn't go out before that is settled. What follows is reckoned with shift = 0.";
+    "With the claimed shift it would lie outside of the original, and with its own times it doesn't: so it was not moved, or the claim isn't for this export. The date of the recording may be the true one, and the export doesn't go out before that is settled. What follows is reckoned with shift = 0.";
 
 pub(crate) const NO_SHIFT_FITS: &str =
     "No shift fits, as a shift is whole seconds. Where the original starts inside a second, its first data record says so, and so does that of an export: some software leaves this fraction out.";
@@ -424,6 +424,10 @@ pub(crate) const NOTES_ADVICE: &str =
     "Run edfclaim notes on both files to see all annotations. What is to be left out belongs into remove or remove-prefix of the claim, and what is to be X into blank.";
 
 // Behind a No.
+
+/// Where the second reading finds something behind a Yes, or nothing behind a No.
+pub(crate) const READ_ANEW: &str =
+    "The second reading of the files doesn't find what the first line says: a file was changed between the two, or is no file that can be read twice. The first line is the answer, and these sentences aren't to be used.";
 
 pub(crate) const CHECK_AGAIN: &str = "Mend what is named here, and check again.";
 

@@ -2,7 +2,7 @@ use Rattle.std.proofs.Common.{rules}
 use Rattle.std.proofs.lemmas.Int.{to_z-of_z}
 use mir.Val.{SFits}
 use mir.Syntax.{w128, w64}
-use Rattle.edf_draft.proofs.shift.shift_between.Goals as goal
+use Rattle.edf_draft.proofs.shift.shift_by_days.Goals as goal
 
 pub returns-in-Some : goal.returns-in-Some
 returns-in-Some c =
