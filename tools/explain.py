@@ -49,6 +49,7 @@ WORDS = {
     ],
     "channels that are missing and too many": ['names channel "Flow"', 'has channel "ECG"'],
     "a text of remove that is misspelt": ['"Lights of"', "remove", "may be misspelt"],
+    "a removed text in the place of another": ["The claim removes this text. If it names somebody, the export doesn't go out."],
     "a name in an annotation": ["a word of the patient's name", '"Haagse calls"'],
     "a time of a claim without quotation marks": ["line 4: from = 600", 'write from = "600"'],
     "a key of a claim that is misspelt": ["line 3: remvoe = ", "remove may be meant"],
@@ -137,6 +138,8 @@ def mistakes():
     yield "five mistakes", 1, WHOLE, five_mistakes(), claim_of(BOTH, 'anonymous = ["name"]', ALL)
     yield "channels that are missing and too many", 1, WHOLE, WHOLE, claim_of('["EEG Fpz-Cz", "Flow"]', "", ALL)
     yield "a text of remove that is misspelt", 0, WHOLE, WHOLE, claim_of(BOTH, 'remove = ["Lights of"]', ALL)
+    other, removed = (with_long_text(text) for text in ("Lights are off", "Mrs. Haagse sleeps"))
+    yield "a removed text in the place of another", 1, other, removed, claim_of(BOTH, 'remove = ["Mrs. Haagse sleeps"]', ALL)
     named = with_long_text("Haagse calls")
     yield "a name in an annotation", 0, named, named, all_of_it
     front = f"format = 1\nchannels = {BOTH}\n"

@@ -32,8 +32,8 @@ is_name() {
 
 # The words of all nights, once the whole table is in order.
 print_rows() {
-    awk -F '\t' '
-        function wrong(why) { print FILENAME ", line " NR ": " why >"/dev/stderr"; failed = 1; exit 2 }
+    TABLE=$1 awk -F '\t' '
+        function wrong(why) { print ENVIRON["TABLE"] ", line " NR ": " why >"/dev/stderr"; failed = 1; exit 2 }
         NR == 1 { if ($0 != "night\toriginal\texport\tclaim") wrong("not the words night, original, export, claim"); next }
         NF != 4 || $2 == "" || $3 == "" || $4 == "" { wrong("not four words with tabs between them") }
         $1 !~ /^[A-Za-z0-9_][A-Za-z0-9._-]*$/ { wrong("not the name of a night: " $1) }
@@ -42,7 +42,7 @@ print_rows() {
         END {
             if (failed) exit 2
             for (at = 1; at <= count; at++) print rows[at]
-        }' "$1" | tr '\t\n' '\0\0'
+        }' <"$1" | tr '\t\n' '\0\0'
 }
 
 # Whether the answer is that of this line of the table, and not older than these files.
@@ -94,14 +94,14 @@ print_table() {
     local table=$1 answers=$2
     # a table that isn't in order is refused here
     print_rows "$table" >/dev/null
-    print_rows "$table" | tr '\0' '\n' | paste - - - - | awk -F '\t' -v answers="$answers" '
+    print_rows "$table" | tr '\0' '\n' | paste - - - - | ANSWERS=$answers awk -F '\t' '
         function sum_in(text, name,    words) {
             if (split(text, words, " ") != 5 || words[1] != name || words[2] != "sha256" || words[4] != "bytes") return ""
             return length(words[3]) == 64 && words[3] ~ /^[0-9a-f]+$/ && words[5] ~ /^[0-9]+$/ ? words[3] : ""
         }
         BEGIN { OFS = "\t"; print "night", "status", "line", "original_sha256", "export_sha256", "claim_sha256" }
         {
-            file = answers "/" $1 ".txt"
+            file = ENVIRON["ANSWERS"] "/" $1 ".txt"
             count = 0
             while ((getline text <file) > 0) lines[++count] = text
             close(file)
@@ -110,7 +110,7 @@ print_table() {
             if (count == 6 && lines[1] == $0 && status < 2 && original != "" && export != "" && claim != "") {
                 print $1, status, lines[6], original, export, claim
             } else {
-                file = answers "/" $1 ".refused"
+                file = ENVIRON["ANSWERS"] "/" $1 ".refused"
                 said = ""
                 if ((getline text <file) > 0) said = text
                 close(file)
