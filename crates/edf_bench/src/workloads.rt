@@ -83,8 +83,9 @@ fn check_cut(
     cut: Cut,
 ) -> Result<(), Refusal> {
     let end = millis(cut.first.wrapping_add(cut.seconds));
-    for _ in 0..8 {
-        let middle = millis(cut.first.wrapping_add(noise.below(cut.seconds))).wrapping_add(500);
+    for turn in 0..8u32 {
+        let second = cut.first.wrapping_add(noise.below(cut.seconds));
+        let middle = millis(second).wrapping_add(500).wrapping_add(turn);
         let bounds = [millis(cut.first), middle, end];
         let claim = claim_of(alloc, NIGHT.len(), KEPT, &bounds)?;
         desk.check(alloc, original, export, &claim)?;
