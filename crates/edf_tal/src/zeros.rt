@@ -10,6 +10,11 @@ use std::simd::prelude::*;
 /// How many bytes are looked at together.
 const BLOCK: usize = 32;
 
+/// How many are where there are fewer than that, and where there are fewer than these.
+const HALF: usize = 16;
+
+const QUARTER: usize = 8;
+
 /// Whether the 32 bytes from a place on are zeros.
 #[inline(always)]
 fn is_zero_block(bytes: &[u8], place: usize) -> bool
@@ -18,6 +23,30 @@ fn is_zero_block(bytes: &[u8], place: usize) -> bool
 {
     u8x32::from_slice(&bytes[place..])
         .simd_ne(u8x32::splat(0))
+        .to_bitmask()
+        == 0
+}
+
+/// Whether the 16 bytes from a place on are zeros.
+#[inline(always)]
+fn is_zero_half(bytes: &[u8], place: usize) -> bool
+    requires { place + 16 ≤ length bytes.now }
+    ensures { IsTrue result → (k : ℕ) → k < place + 16 → place ≤ k → slice_index bytes.now k ≡ 0 }
+{
+    u8x16::from_slice(&bytes[place..])
+        .simd_ne(u8x16::splat(0))
+        .to_bitmask()
+        == 0
+}
+
+/// Whether the 8 bytes from a place on are zeros.
+#[inline(always)]
+fn is_zero_quarter(bytes: &[u8], place: usize) -> bool
+    requires { place + 8 ≤ length bytes.now }
+    ensures { IsTrue result → (k : ℕ) → k < place + 8 → place ≤ k → slice_index bytes.now k ≡ 0 }
+{
+    u8x8::from_slice(&bytes[place..])
+        .simd_ne(u8x8::splat(0))
         .to_bitmask()
         == 0
 }
@@ -54,6 +83,40 @@ fn zero_front(bytes: &[u8]) -> usize
     }
 }
 
+/// The same of fewer bytes than a block has: all or none, by the first and the last of them.
+#[inline(always)]
+fn short_zero_front(bytes: &[u8]) -> usize
+    requires { length bytes.now < 32 }
+    ensures within { result ≤ length bytes.now }
+    ensures zeros { HasZerosBefore result bytes.now }
+{
+    let len = bytes.len();
+    if len >= HALF {
+        return if is_zero_half(bytes, 0) && is_zero_half(bytes, len - HALF) {
+            len
+        } else {
+            0
+        };
+    }
+    if len >= QUARTER && is_zero_quarter(bytes, 0) && is_zero_quarter(bytes, len - QUARTER) {
+        return len;
+    }
+    0
+}
+
+/// So many bytes at the front are zeros.
+#[inline(always)]
+fn any_zero_front(bytes: &[u8]) -> usize
+    ensures within { result ≤ length bytes.now }
+    ensures zeros { HasZerosBefore result bytes.now }
+{
+    if bytes.len() < BLOCK {
+        short_zero_front(bytes)
+    } else {
+        zero_front(bytes)
+    }
+}
+
 /// Whether the bytes are zeros alone, byte by byte.
 fn all_zeros(bytes: &[u8]) -> bool
     ensures { result ≡ are_zeros bytes.now }
@@ -63,10 +126,10 @@ fn all_zeros(bytes: &[u8]) -> bool
 
 /// Whether the bytes are zeros alone.
 ///
-/// Whole blocks of 32 bytes are looked at together, and what is left of them byte by byte.
+/// Whole blocks of bytes are looked at together, and what is left of them byte by byte.
 #[inline(always)]
 pub(crate) fn are_zeros(bytes: &[u8]) -> bool
     ensures { result ≡ are_zeros bytes.now }
 {
-    all_zeros(&bytes[zero_front(bytes)..])
+    all_zeros(&bytes[any_zero_front(bytes)..])
 }
