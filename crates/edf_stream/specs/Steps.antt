@@ -1,5 +1,5 @@
 -- One step of a reader, as the functions that take it promise it.
-use Rattle.std.specs.Prelude.{◌≡◌, ℕ, ℤ, ◌+◌, List, [], Option, None, Some}
+use Rattle.std.specs.Prelude.{◌≡◌, ℕ, ℤ, ◌+◌, Bool, true, false, List, [], Option, None, Some}
 use Rattle.edf_fields.specs.Tests.{first}
 use Rattle.edf_header.specs.Heads.{Head}
 use Rattle.edf_stream.specs.declared.start.Progress.{Progress}
@@ -13,6 +13,11 @@ pub record IsRead (file : List ℕ) (h : Head) (k : ℕ) (ended : ℤ) (notes : 
   pub passes : first (records_tests file h k 1) ≡ None
   pub is : buffer ≡ record_at file h k
   pub stands : StandsAt file h (k + 1) ended notes left
+
+-- how far the records were followed where there was one more; none where there was none
+abbrev pub followed : Bool → Progress → Option Progress
+followed true after = Some after
+followed false after = None
 
 -- behind the first k data records, of which `before` tells, either the file conforms and ends, or record k is read and stands in the buffer
 abbrev pub GoesOn : List ℕ → Head → ℕ → Progress → Option Progress → List ℕ → List ℕ → Type 0

@@ -16,7 +16,7 @@ use crate::status::Status;
 use crate::value::value_at;
 
 impl FileReader {
-    /// Whether a data record is at hand: the last call of `next` answered `Ok(true)`.
+    /// Whether a data record is at hand: the last call of `next` or `next_with` answered `Ok(true)`.
     pub fn has_current(&self) -> bool
         ensures { result ≡ is_current self.now.status }
     {

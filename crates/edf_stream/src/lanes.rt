@@ -134,14 +134,18 @@ fn said_by_tals<K: NoteKeeper>(
     ensures kept { IfOk result (λ said. said.texts ≤ most → K.got keeper.old (behind_time before (notes_of_lane lane.now)) keeper.new) }
 {
     let mut tals = Tals::new(lane);
-    let first = tals.next();
-    let start = start_by_first(first.as_ref());
-    let count = match first {
-        None => before,
-        Some(item) => keep_tal(keeper, &item?, before, most),
-    };
-    let texts = rest_texts(keeper, tals, count, most)?;
-    Ok(Said { start, texts })
+    match tals.next() {
+        None => Ok(Said {
+            start: start_by_first(None),
+            texts: before,
+        }),
+        Some(item) => {
+            let start = start_by_first(Some(&item));
+            let count = keep_tal(keeper, &item?, before, most);
+            let texts = rest_texts(keeper, tals, count, most)?;
+            Ok(Said { start, texts })
+        }
+    }
 }
 
 /// What one lane says behind `before` other texts of the data record, or why it is no list of TALs. Its annotations

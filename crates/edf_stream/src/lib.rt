@@ -10,6 +10,7 @@ pub mod instant;
 mod lanes;
 pub mod laws;
 pub mod meaning;
+mod much;
 pub mod note;
 pub mod note_keeper;
 pub mod notes;

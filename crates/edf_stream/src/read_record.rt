@@ -1,6 +1,6 @@
 //! Reading data records one after the other, and the end behind the last.
 
-ghost use Rattle.std.specs.Prelude.{◌≡◌, ℕ, pos, ◌+◌, ◌≤◌, ◌<◌, ◌+ℤ◌, ◌<ℤ◌, ◌^◌, List, [], length, drop, None, Some, MatchOption, IfSome, IfOk, IfErr, OnOk, IsTrue, unsigned_abs};
+ghost use Rattle.std.specs.Prelude.{◌≡◌, ℕ, pos, ◌+◌, ◌≤◌, ◌<◌, ◌+ℤ◌, ◌<ℤ◌, ◌^◌, List, [], length, drop, None, Some, false, IfOk, IfErr, OnOk, OnErr, IsTrue, unsigned_abs};
 ghost use Rattle.edf_fields.specs.Sources.{Fails};
 ghost use Rattle.edf_fields.specs.Tests.{first};
 ghost use Rattle.edf_fields.specs.declared.fault.Place.TheVariants.{AtRecord, AtEnd};
@@ -10,7 +10,7 @@ ghost use Rattle.edf_stream.specs.NotesReading.{notes_in};
 ghost use Rattle.edf_stream.specs.StartsReading.{start_in};
 ghost use Rattle.edf_stream.specs.Faults.{records_tests, body_fault};
 ghost use Rattle.edf_stream.specs.Readers.{HasPassed, StandsAt, StopsReading, StopsAt, place_behind};
-ghost use Rattle.edf_stream.specs.Steps.{IsRead, GoesOn};
+ghost use Rattle.edf_stream.specs.Steps.{IsRead, GoesOn, followed};
 
 use crate::note_keeper::NoteKeeper;
 use crate::record::judge_record;
@@ -88,45 +88,51 @@ fn check_end<S: Source>(source: &mut S) -> Result<(), Stop>
     Ok(())
 }
 
-/// Reads data record `k` where the header announces it, else sees that the file ends there. Its annotations go to
-/// the keeper.
+/// Reads data record `k` where the header announces it, and puts how far the records were followed with it into
+/// `progress`: `Ok(true)`; else sees that the file ends there: `Ok(false)`. Its annotations go to the keeper.
 pub(crate) fn advance<S: Source, K: NoteKeeper>(
     source: &mut S,
     keeper: &mut K,
     buffer: &mut [u8],
     header: &Header,
     k: u32,
-    before: Progress,
-) -> Result<Option<Progress>, Stop>
+    progress: &mut Progress,
+) -> Result<bool, Stop>
     requires sized { length buffer.old ≡ record_bytes header.now }
-    requires few { before.notes ≤ 1000000 }
-    ensures few { IfOk result (λ found. IfSome found (λ after. after.notes ≤ 1000000)) }
-    ensures small { IfOk result (λ found. IfSome found (λ after. unsigned_abs after.ended_ps < 2 ^ 71)) }
-    ensures later { IfOk result (λ found. IfSome found (λ after. (k ≡ 0 → before.ended_ps ≡ pos 0) → before.ended_ps <ℤ after.ended_ps)) }
-    ensures end { IfOk result (λ found. IfSome found (λ after. after.ended_ps ≡ start_in header.now buffer.new +ℤ header.now.duration)) }
-    ensures notes { IfOk result (λ found. IfSome found (λ after. after.notes ≡ before.notes + length (notes_in header.now buffer.new))) }
+    requires few { progress.old.notes ≤ 1000000 }
+    ensures few { progress.new.notes ≤ 1000000 }
+    ensures small { IfOk result (λ more. IsTrue more → unsigned_abs progress.new.ended_ps < 2 ^ 71) }
+    ensures later { IfOk result (λ more. IsTrue more → (k ≡ 0 → progress.old.ended_ps ≡ pos 0) → progress.old.ended_ps <ℤ progress.new.ended_ps) }
+    ensures end { IfOk result (λ more. IsTrue more → progress.new.ended_ps ≡ start_in header.now buffer.new +ℤ header.now.duration) }
+    ensures notes { IfOk result (λ more. IsTrue more → progress.new.notes ≡ progress.old.notes + length (notes_in header.now buffer.new)) }
+    ensures stays { IfOk result (λ more. more ≡ false → progress.new ≡ progress.old) }
+    ensures held { OnErr result (progress.new ≡ progress.old) }
     ensures full { OnOk result (length buffer.new ≡ length buffer.old) }
-    ensures room { IfOk result (λ found. MatchOption found (header.now.records ≤ k) (λ _. k < header.now.records)) }
+    ensures room { IfOk result (λ more. IsTrue more → k < header.now.records) }
     ensures failures { OnOk result (S.reads source.new ≡ S.reads source.old) }
     ensures honesty { OnOk result (IsTrue (S.is_honest source.old) → IsTrue (S.is_honest source.new)) }
-    ensures goes_on { IfOk result (λ found. IsTrue (S.is_honest source.old) → (file : List ℕ) → HasPassed file header.now k →
-        StandsAt file header.now k before.ended_ps before.notes (S.left source.old)
-        → GoesOn file header.now k before found (S.left source.new) buffer.new) }
+    ensures goes_on { IfOk result (λ more. IsTrue (S.is_honest source.old) → (file : List ℕ) → HasPassed file header.now k →
+        StandsAt file header.now k progress.old.ended_ps progress.old.notes (S.left source.old)
+        → GoesOn file header.now k progress.old (followed more progress.new) (S.left source.new) buffer.new) }
     ensures stop { IfErr result (StopsReading
         (λ f. (S.reads source.new ≡ S.reads source.old) × (IsTrue (S.is_honest source.old) → (file : List ℕ) → HasPassed file header.now k →
-        StandsAt file header.now k before.ended_ps before.notes (S.left source.old) → body_fault file header.now ≡ Some f))
+        StandsAt file header.now k progress.old.ended_ps progress.old.notes (S.left source.old) → body_fault file header.now ≡ Some f))
         (Fails (S.reads source.old) (S.reads source.new))) }
     ensures place { IfErr result (StopsAt (place_behind header.now k)) }
-    ensures kept { IfOk result (λ found. MatchOption found (keeper.new ≡ keeper.old) (λ _. K.got keeper.old (notes_in header.now buffer.new) keeper.new)) }
+    ensures kept { IfOk result (λ more. IsTrue more → K.got keeper.old (notes_in header.now buffer.new) keeper.new) }
+    ensures none { IfOk result (λ more. more ≡ false → keeper.new ≡ keeper.old) }
 {
     if k < header.records() {
-        return match read_record(source, keeper, buffer, header, k, before) {
-            Ok(after) => Ok(Some(after)),
+        return match read_record(source, keeper, buffer, header, k, *progress) {
+            Ok(after) => {
+                *progress = after;
+                Ok(true)
+            }
             Err(stop) => Err(stop),
         };
     }
     match check_end(source) {
-        Ok(()) => Ok(None),
+        Ok(()) => Ok(false),
         Err(stop) => Err(stop),
     }
 }

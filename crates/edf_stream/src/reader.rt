@@ -161,15 +161,14 @@ impl FileReader {
                     &mut self.buffer,
                     &self.header,
                     self.read,
-                    self.progress,
+                    &mut self.progress,
                 ) {
-                    Ok(Some(progress)) => {
+                    Ok(true) => {
                         self.read += 1;
-                        self.progress = progress;
                         self.status = Status::Current;
                         Ok(true)
                     }
-                    Ok(None) => {
+                    Ok(false) => {
                         self.status = Status::Ended;
                         Ok(false)
                     }

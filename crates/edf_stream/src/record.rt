@@ -11,6 +11,7 @@ ghost use Rattle.edf_stream.specs.Faults.{cause_of_lanes, lanes_fault, time_faul
 ghost use Rattle.edf_stream.specs.Views.{start_with, texts_said};
 
 use crate::lanes::{Said, lone_time, said_by_lanes, texts_of};
+use crate::much::may_say_much;
 use crate::note_keeper::{KeepsNone, NoteKeeper};
 use crate::start::{Progress, Start, judge_start};
 use edf_fields::fault::{Cause, Fault, Place};
@@ -161,12 +162,40 @@ fn judge_and_keep<K: NoteKeeper>(
     }
 }
 
-/// The most bytes of a data record whose annotations are given to a keeper before its faults are known.
-const MOST_AT_ONCE: usize = 65_536;
+/// As `judge_and_keep`, but judges the data record before any of its annotations go to the keeper. Where there are
+/// none, it isn't gone through again.
+#[inline(never)]
+fn judge_then_keep<K: NoteKeeper>(
+    keeper: &mut K,
+    header: &Header,
+    k: u32,
+    before: Progress,
+    bytes: &[u8],
+) -> Result<Progress, Fault>
+    requires sized { length bytes.now ≡ record_bytes header.now }
+    requires few { before.notes ≤ 1000000 }
+    ensures judged { MatchResult result
+        (λ after. (record_fault header.now k before.ended_ps before.notes bytes.now ≡ None)
+        × (after.ended_ps ≡ start_in header.now bytes.now +ℤ header.now.duration)
+        × (after.notes ≡ before.notes + length (notes_in header.now bytes.now)))
+        (λ f. record_fault header.now k before.ended_ps before.notes bytes.now ≡ Some f) }
+    ensures few { IfOk result (λ after. after.notes ≤ 1000000) }
+    ensures small { IfOk result (λ after. unsigned_abs after.ended_ps < 2 ^ 71) }
+    ensures later { IfOk result (λ after. (k ≡ 0 → before.ended_ps ≡ pos 0) → before.ended_ps <ℤ after.ended_ps) }
+    ensures place { IfErr result (λ f. f.place ≡ AtRecord k) }
+    ensures kept { OnOk result (K.got keeper.old (notes_in header.now bytes.now) keeper.new) }
+{
+    let after = judge_and_keep(&mut KeepsNone, header, k, before, bytes)?;
+    if after.notes == before.notes {
+        return Ok(after);
+    }
+    judge_and_keep(keeper, header, k, before, bytes)
+}
 
 /// Judges the bytes of data record `k`, and answers how far the records were followed with it; or its
-/// first fault. Its annotations go to the keeper. A large data record is judged before any of them do, so that not
-/// many are kept of a faulty one.
+/// first fault. Its annotations go to the keeper. A data record that may have many or long ones is judged before any
+/// of them do, so that not many are kept of a faulty one.
+#[inline(always)]
 pub(crate) fn judge_record<K: NoteKeeper>(
     keeper: &mut K,
     header: &Header,
@@ -187,8 +216,8 @@ pub(crate) fn judge_record<K: NoteKeeper>(
     ensures place { IfErr result (λ f. f.place ≡ AtRecord k) }
     ensures kept { OnOk result (K.got keeper.old (notes_in header.now bytes.now) keeper.new) }
 {
-    if bytes.len() > MOST_AT_ONCE && keeper.wants() {
-        judge_and_keep(&mut KeepsNone, header, k, before, bytes)?;
+    if !keeper.wants() || !may_say_much(header, bytes) {
+        return judge_and_keep(keeper, header, k, before, bytes);
     }
-    judge_and_keep(keeper, header, k, before, bytes)
+    judge_then_keep(keeper, header, k, before, bytes)
 }

@@ -23,8 +23,8 @@ returns-in-Err-clause-stop g c =
     let same = g.S.Source.reads c.read_record.new.source ≡ g.S.Source.reads c.args.source.now in
     let lt : c.args.k < h.records = omega (arith, c.if-k-records.true, c.records.ensures) in
     stops-weaker
-    (λ f. same × (honest → (file : List ℕ) → StandsAt file h c.args.k c.args.before.ended_ps c.args.before.notes left → first (records_tests file h c.args.k 1) ≡ Some f))
-    (λ f. same × (honest → (file : List ℕ) → HasPassed file h c.args.k → StandsAt file h c.args.k c.args.before.ended_ps c.args.before.notes left → body_fault file h ≡ Some f))
+    (λ f. same × (honest → (file : List ℕ) → StandsAt file h c.args.k c.args.progress.now.ended_ps c.args.progress.now.notes left → first (records_tests file h c.args.k 1) ≡ Some f))
+    (λ f. same × (honest → (file : List ℕ) → HasPassed file h c.args.k → StandsAt file h c.args.k c.args.progress.now.ended_ps c.args.progress.now.notes left → body_fault file h ≡ Some f))
     (Fails (g.S.Source.reads c.args.source.now) (g.S.Source.reads c.read_record.new.source)) c.in-Err.stop
     (λ f q. (q.0, λ honest file passed at. fault_at file h c.args.k f passed lt (q.1 honest file at))) c.in-Err.ensures.stop
 
@@ -37,8 +37,8 @@ returns-in-Ok-check_end-clause-goes_on g c = λ honest file passed at.
     let over = c.in-Ok-check_end.ensures.ended honest in (
       record { end_is = at.end_is; notes_are = at.notes_are; whole = at.whole; rest = over.1 ∙ sym over.0 ∙ at.rest },
       let full : c.args.k ≡ h.records = omega (arith, within, le) in full,
-      ends file h c.args.k c.args.before.ended_ps c.args.before.notes left passed at le over.0,
-      conforms file h c.args.k c.args.before.ended_ps c.args.before.notes left ((passed.in_order).standard.some_records) passed at le over.0,
+      ends file h c.args.k c.args.progress.now.ended_ps c.args.progress.now.notes left passed at le over.0,
+      conforms file h c.args.k c.args.progress.now.ended_ps c.args.progress.now.notes left ((passed.in_order).standard.some_records) passed at le over.0,
       over.1,
     )
 
@@ -51,6 +51,6 @@ returns-in-Err-check_end-clause-stop g c =
     let le : h.records ≤ c.args.k = omega (arith, c.if-k-records.false, c.records.ensures) in
     stops-weaker
     (λ f. same × (honest → (0 < length left) × (f ≡ record { place = AtEnd; cause = TrailingBytes })))
-    (λ f. same × (honest → (file : List ℕ) → HasPassed file h c.args.k → StandsAt file h c.args.k c.args.before.ended_ps c.args.before.notes left → body_fault file h ≡ Some f))
+    (λ f. same × (honest → (file : List ℕ) → HasPassed file h c.args.k → StandsAt file h c.args.k c.args.progress.now.ended_ps c.args.progress.now.notes left → body_fault file h ≡ Some f))
     (Fails (g.S.Source.reads c.args.source.now) (g.S.Source.reads c.check_end.new.source)) c.in-Err-check_end.stop
-    (λ f q. (q.0, λ honest file passed at. trails file h c.args.k c.args.before.ended_ps c.args.before.notes left passed at le (q.1 honest).0 ∙ ap (λ x. Some x) (sym (q.1 honest).1))) c.in-Err-check_end.ensures.stop
+    (λ f q. (q.0, λ honest file passed at. trails file h c.args.k c.args.progress.now.ended_ps c.args.progress.now.notes left passed at le (q.1 honest).0 ∙ ap (λ x. Some x) (sym (q.1 honest).1))) c.in-Err-check_end.ensures.stop

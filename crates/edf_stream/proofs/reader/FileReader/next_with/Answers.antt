@@ -5,28 +5,31 @@ use Rattle.edf_stream.specs.Records.{record_at}
 use Rattle.edf_stream.specs.Faults.{body_fault}
 use Rattle.edf_stream.specs.Conforming.{Conforms}
 use Rattle.edf_stream.specs.Readers.{Reader, HasPassed, StandsAt, StandsIn}
-use Rattle.edf_stream.specs.Steps.{GoesOn}
+use Rattle.edf_stream.specs.Steps.{GoesOn, followed}
+use Rattle.edf_stream.specs.declared.start.Progress.{Progress}
 use Rattle.edf_stream.proofs.RecordFacts.{written_over}
 use Rattle.edf_stream.proofs.StopFacts.{stops-weaker}
 use Rattle.edf_stream.proofs.reader.FileReader.next_with.Goals as goal
 
-pub returns-in-Ok-Some-clause-comes : goal.returns-in-Ok-Some-clause-comes
-returns-in-Ok-Some-clause-comes g c = λ going honest file stands.
+pub returns-in-Ok-true-clause-comes : goal.returns-in-Ok-true-clause-comes
+returns-in-Ok-true-clause-comes g c = λ going honest file stands.
     let old = c.self.inside in
     let viewed : StandsIn (the_view old) (g.S.Source.left c.args.source.now) file = subst (λ r. StandsIn r (g.S.Source.left c.args.source.now) file) (sym c.self.view_is) stands in
-    let found = subst (λ o. GoesOn file old.header old.read old.progress o (g.S.Source.left c.advance.new.source) c.advance.new.buffer) c.in-Ok-Some.field-0-is (c.in-Ok-Some.ensures.goes_on honest file viewed.passed viewed.stands) in
-    let full : length c.advance.new.buffer ≡ old.buffer.len = c.in-Ok-Some.ensures.full ∙ c.deref_mut.ensures.len in (
+    let found = subst (λ more. GoesOn file old.header old.read old.progress (followed more c.advance.new.progress) (g.S.Source.left c.advance.new.source) c.advance.new.buffer) c.in-Ok-true.field-0-test (c.in-Ok-true.ensures.goes_on honest file viewed.passed viewed.stands) in
+    let full : length c.advance.new.buffer ≡ old.buffer.len = c.in-Ok-true.ensures.full ∙ c.deref_mut.ensures.len in (
       record { passed = found.0; stands = found.1 },
       written_over old.buffer.len c.advance.new.buffer old.buffer.items full ∙ found.2 ∙ ap (λ (r : Reader). record_at file r.head r.read) c.self.view_is,
     )
 
-pub returns-in-Ok-None-clause-comes : goal.returns-in-Ok-None-clause-comes
-returns-in-Ok-None-clause-comes g c = λ going honest file stands.
+pub returns-in-Ok-false-clause-comes : goal.returns-in-Ok-false-clause-comes
+returns-in-Ok-false-clause-comes g c = λ going honest file stands.
     let old = c.self.inside in
     let viewed : StandsIn (the_view old) (g.S.Source.left c.args.source.now) file = subst (λ r. StandsIn r (g.S.Source.left c.args.source.now) file) (sym c.self.view_is) stands in
-    let found = subst (λ o. GoesOn file old.header old.read old.progress o (g.S.Source.left c.advance.new.source) c.advance.new.buffer) c.in-Ok-None.field-0-is (c.in-Ok-None.ensures.goes_on honest file viewed.passed viewed.stands) in
+    let found = subst (λ more. GoesOn file old.header old.read old.progress (followed more c.advance.new.progress) (g.S.Source.left c.advance.new.source) c.advance.new.buffer) c.in-Ok-false.field-0-test (c.in-Ok-false.ensures.goes_on honest file viewed.passed viewed.stands) in
     let over = subst (λ (r : Reader). (r.read ≡ (r.head).records) × (body_fault file r.head ≡ None) × Conforms file r.head) c.self.view_is (found.1, found.2, found.3) in
-    (record { passed = viewed.passed; stands = found.0 }, found.1 ∙ ap (λ (r : Reader). (r.head).records) c.self.view_is, over.1, over.2, found.4, over.0)
+    let still : c.advance.new.progress ≡ old.progress = c.in-Ok-false.ensures.stays c.in-Ok-false.field-0-test in
+    let stands = subst (λ (p : Progress). StandsAt file old.header old.read p.ended_ps p.notes (g.S.Source.left c.advance.new.source)) (sym still) found.0 in
+    (record { passed = viewed.passed; stands = stands }, found.1 ∙ ap (λ (r : Reader). (r.head).records) c.self.view_is, over.1, over.2, found.4, over.0)
 
 pub returns-in-Err-clause-stop : goal.returns-in-Err-clause-stop
 returns-in-Err-clause-stop g c = λ going.
