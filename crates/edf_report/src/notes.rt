@@ -56,7 +56,7 @@ fn push_lines(
     Ok(())
 }
 
-/// The most bytes of lines whose room is kept for the next data record.
+/// The largest room for lines, in bytes, that is kept for the next data record.
 const MOST_ROOM: usize = 65_536;
 
 /// The lines of the annotations of a data record, which are made while it is read. Data records with few lines have
@@ -70,12 +70,12 @@ struct Lines {
 }
 
 impl Lines {
-    /// Leaves out the lines of the data record before. The room of many is given back.
+    /// Leaves out the lines of the data record before. A large room is given back.
     fn clear(&mut self, alloc: Global)
         ensures text { self.new.text.items ≡ [] }
         ensures whole { self.new.whole ≡ self.old.whole }
     {
-        if self.text.len() > MOST_ROOM {
+        if self.text.capacity() > MOST_ROOM {
             self.text = Vec::new(alloc);
         } else {
             self.text.clear();
@@ -151,7 +151,11 @@ fn put_records<S: Source, K: Sink>(
         match reader.next_with(source, &mut lines) {
             Ok(true) => put_lines(&lines, sink)?,
             Ok(false) => return Ok(Outcome::Yes),
-            Err(stop) => return put_stop(alloc, sink, stop),
+            Err(stop) => {
+                // their room is given back before memory is taken for the line of a fault
+                drop(lines);
+                return put_stop(alloc, sink, stop);
+            }
         }
     }
 }

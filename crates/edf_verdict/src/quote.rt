@@ -66,6 +66,9 @@ fn push_inner(line: &mut Vec<u8>, text: &[u8]) -> Result<(), AllocError>
     }
 }
 
+/// How many bytes stand beside a text as a rule: the two quotation marks, and the end of its line.
+const BESIDE: usize = 3;
+
 /// Puts the text behind the line, between quotation marks.
 ///
 /// There each byte below 32, a quotation mark, a backslash and byte 127 is `\x` and two lower-case
@@ -73,6 +76,7 @@ fn push_inner(line: &mut Vec<u8>, text: &[u8]) -> Result<(), AllocError>
 pub fn push_quoted(line: &mut Vec<u8>, text: &[u8]) -> Result<(), AllocError>
     ensures { OnOk result (line.new.items ≡ line.old.items ++ quoted text.now) }
 {
+    line.reserve(text.len().saturating_add(BESIDE))?;
     line.push(b'"')?;
     push_inner(line, text)?;
     line.push(b'"')?;
