@@ -111,23 +111,14 @@ pub(crate) struct Gathering<'a> {
 }
 
 impl<'a> Gathering<'a> {
-    /// Keeps those of a data record of the file that is read, as the view has them, behind these.
-    pub(crate) fn new(
-        alloc: Global,
-        notes: Vec<Note>,
-        reader: &FileReader,
-        view: View<'a>,
-    ) -> Gathering<'a>
-        requires near { unsigned_abs (view.moved).ps < 2 ^ 80 }
-        ensures start { unsigned_abs (file_start reader.now.head) < 2 ^ 39 * 10 ^ 12 }
+    /// Keeps those of a data record as the view has them, so much later than in the file, behind these.
+    pub(crate) fn new(alloc: Global, notes: Vec<Note>, by: Offset, view: View<'a>) -> Gathering<'a>
+        requires near { unsigned_abs by.ps < 2 ^ 81 }
         ensures notes { result.notes ≡ notes }
         ensures view { result.view ≡ view.entry }
-        ensures by { result.by.ps ≡ file_start reader.now.head +ℤ view.entry.moved.ps }
+        ensures by { result.by ≡ by }
         ensures whole { result.whole ≡ true }
     {
-        let by = Offset {
-            ps: file_start_ps(reader.header()) + view.moved.ps,
-        };
         Gathering {
             alloc,
             notes,

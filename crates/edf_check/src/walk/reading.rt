@@ -25,6 +25,7 @@ use edf_fields::source::Source;
 use edf_header::stop::Stop;
 use edf_refusal::side::Side;
 use edf_refusal::stop::CheckStop;
+use edf_stream::grid::file_start_ps;
 use edf_stream::note_keeper::{KeepsNone, NoteKeeper};
 use edf_stream::notes::Note;
 use edf_stream::reader::FileReader;
@@ -167,8 +168,11 @@ fn gather_next<S: Source>(
     ensures stop { IfErr result (SideStops side (Fails (S.reads source.old) (S.reads source.new))
         (S.reads source.new ≡ S.reads source.old)) }
 {
+    let by = Offset {
+        ps: file_start_ps(reading.reader.header()) + view.moved.ps,
+    };
     let notes = mem::replace(&mut reading.notes, Vec::new(alloc));
-    let mut gathering = Gathering::new(alloc, notes, &reading.reader, view);
+    let mut gathering = Gathering::new(alloc, notes, by, view);
     match go_on(&mut gathering, &mut reading.reader, source, side) {
         Ok(None) => {
             reading.notes = gathering.notes;
