@@ -131,6 +131,21 @@ fn gives_the_annotations_of_both_signals(rt: HostRuntime) -> Result<(), Fail> {
     let file = twofold(rt.alloc(), first, second)?;
     let mut source = SliceSource::new(&file);
     let mut reader = FileReader::begin(rt.alloc(), &mut source)?;
+    assert_eq!(rt; reader.next(&mut source), Ok(true));
+    let notes = notes_of(rt.alloc(), &reader)?;
+    let want =
+        "0/2000000000000:;0/2000000000000:a;-500000000000:b;-500000000000:;7000000000000/0:c;";
+    assert!(rt; notes.is_some_and(|shown| shown.as_str() == want));
+    Ok(())
+}
+
+#[test]
+fn gives_a_keeper_the_annotations_of_both_signals(rt: HostRuntime) -> Result<(), Fail> {
+    let first = b"+0\x152\x14\x14\x14a\x14\0-1\x14\0";
+    let second = b"-0.5\x14b\x14\x14\0+7\x150\x14c\x14\0";
+    let file = twofold(rt.alloc(), first, second)?;
+    let mut source = SliceSource::new(&file);
+    let mut reader = FileReader::begin(rt.alloc(), &mut source)?;
     let mut shown = Shown {
         alloc: rt.alloc(),
         text: String::new(rt.alloc()),
