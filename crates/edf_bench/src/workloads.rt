@@ -10,13 +10,20 @@ use edf_refusal::refusal::{Refusal, Role};
 use std::alloc::{AllocError, Global};
 
 /// The names of the workloads.
-pub const WORKLOADS: &[&str] = &["copy", "recut", "weeks", "scored", "notes", "segments"];
+pub const WORKLOADS: &[&str] = &[
+    "copy", "recut", "weeks", "scored", "notes", "segments", "beats",
+];
 
 /// The samples of a polysomnograph's channels in a second.
 const NIGHT: &[u32] = &[
     256, 256, 256, 256, 256, 256, 256, 256, 256, 256, 128, 128, 128, 128, 32, 32, 32, 32, 1, 1, 1,
     1,
 ];
+
+/// The samples in a second of a device with one channel, and of one with two.
+const ONE: &[u32] = &[1];
+
+const TWO: &[u32] = &[1, 1];
 
 /// How many of the texts a claim keeps.
 const KEPT: usize = 12;
@@ -39,6 +46,7 @@ fn millis(seconds: u32) -> u32 {
 
 /// An export as its original is laid out, checked under several claims; at first it is honest, then a byte of a
 /// sample is another one.
+#[inline(never)]
 fn copy(alloc: Global, noise: &mut Noise, seconds: u32) -> Result<Given, Refusal> {
     let recorder = Recorder::new(alloc, noise, NIGHT)?;
     let events = events_of(alloc, noise, seconds / 20, seconds)?;
@@ -94,6 +102,7 @@ fn check_cut(
 }
 
 /// The middle of a night, handed out in data records of other lengths.
+#[inline(never)]
 fn recut(alloc: Global, noise: &mut Noise, seconds: u32) -> Result<Given, Refusal> {
     let recorder = Recorder::new(alloc, noise, NIGHT)?;
     let events = events_of(alloc, noise, seconds / 20, seconds)?;
@@ -117,6 +126,7 @@ fn recut(alloc: Global, noise: &mut Noise, seconds: u32) -> Result<Given, Refusa
 }
 
 /// Weeks of an oximeter: very many small data records.
+#[inline(never)]
 fn weeks(alloc: Global, noise: &mut Noise, seconds: u32) -> Result<Given, Refusal> {
     let recorder = Recorder::new(alloc, noise, &[1, 1])?;
     let events = events_of(alloc, noise, seconds / 300, seconds)?;
@@ -139,6 +149,7 @@ fn weeks(alloc: Global, noise: &mut Noise, seconds: u32) -> Result<Given, Refusa
 }
 
 /// A night with a great many annotations, whose export has them in another order or in the same.
+#[inline(never)]
 fn scored(alloc: Global, noise: &mut Noise, count: u32) -> Result<Given, Refusal> {
     let seconds = 28_800;
     let recorder = Recorder::new(alloc, noise, &[32])?;
@@ -166,6 +177,7 @@ fn scored(alloc: Global, noise: &mut Noise, count: u32) -> Result<Given, Refusal
 }
 
 /// Lists the annotations of a night over and over, with other letters each time.
+#[inline(never)]
 fn notes(alloc: Global, noise: &mut Noise, count: u32) -> Result<Given, Refusal> {
     let seconds = 28_800;
     let recorder = Recorder::new(alloc, noise, &[1])?;
@@ -202,6 +214,7 @@ fn many_bounds(alloc: Global, noise: &mut Noise, seconds: u32) -> Result<Vec<u32
 }
 
 /// Very many channels, of which very many short intervals are kept.
+#[inline(never)]
 fn segments(alloc: Global, noise: &mut Noise, channels: usize) -> Result<Given, Refusal> {
     let seconds = 960;
     let rates = vec![in alloc; 1u32; channels]?;
@@ -227,6 +240,42 @@ fn segments(alloc: Global, noise: &mut Noise, channels: usize) -> Result<Given, 
     Ok(desk.given)
 }
 
+/// Days of a device with so many channels, each with a sample a second, reported and checked under several claims.
+fn check_beats(
+    alloc: Global,
+    noise: &mut Noise,
+    desk: &mut Desk,
+    rates: &[u32],
+    cut: Cut,
+) -> Result<(), Refusal> {
+    let recorder = Recorder::new(alloc, noise, rates)?;
+    let original = file_of(alloc, &recorder, &[], cut)?;
+    let hidden = Cut {
+        is_anonymous: true,
+        ..cut
+    };
+    let export = file_of(alloc, &recorder, &[], hidden)?;
+    desk.report(alloc, &original, Report::Conform)?;
+    for turn in 0..4u32 {
+        let middle = millis(noise.below(cut.seconds)).wrapping_add(turn);
+        let bounds = [0, middle.max(1), millis(cut.seconds)];
+        let claim = claim_of(alloc, rates.len(), KEPT, &bounds)?;
+        desk.check(alloc, &original, &export, &claim)?;
+    }
+    Ok(())
+}
+
+/// Days of single channels and oximeters: very many data records of one or two samples, with short lanes and no
+/// annotations.
+#[inline(never)]
+fn beats(alloc: Global, noise: &mut Noise, seconds: u32) -> Result<Given, Refusal> {
+    let mut desk = Desk::new(alloc, 4096)?;
+    check_beats(alloc, noise, &mut desk, &[1], whole(seconds, 1, 16))?;
+    check_beats(alloc, noise, &mut desk, &[1, 1], whole(seconds, 1, 24))?;
+    check_beats(alloc, noise, &mut desk, &[1], whole(seconds, 1, 30))?;
+    Ok(desk.given)
+}
+
 /// Does a workload, on short nights if that is asked for, and answers what its jobs gave.
 pub fn work(alloc: Global, name: &str, seed: u64, is_short: bool) -> Result<Given, Refusal> {
     let mut noise = Noise::new(seed);
@@ -238,6 +287,7 @@ pub fn work(alloc: Global, name: &str, seed: u64, is_short: bool) -> Result<Give
         "scored" => scored(alloc, &mut noise, 360_000 / part),
         "notes" => notes(alloc, &mut noise, 360_000 / part),
         "segments" => segments(alloc, &mut noise, 2_400 / part as usize),
+        "beats" => beats(alloc, &mut noise, 172_800 / part),
         _ => Err(Refusal::CannotOpen(Role::File)),
     }
 }
