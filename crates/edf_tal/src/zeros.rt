@@ -86,30 +86,35 @@ fn zero_front(bytes: &[u8]) -> usize
 /// The same of fewer bytes than a block has: all or none, by the first and the last of them.
 #[inline(always)]
 fn short_zero_front(bytes: &[u8]) -> usize
-    requires { length bytes.now < 32 }
+    requires few { length bytes.now < 32 }
+    requires some { 8 ≤ length bytes.now }
     ensures within { result ≤ length bytes.now }
     ensures zeros { HasZerosBefore result bytes.now }
 {
     let len = bytes.len();
-    if len >= HALF {
-        return if is_zero_half(bytes, 0) && is_zero_half(bytes, len - HALF) {
+    if len < HALF {
+        return if is_zero_quarter(bytes, 0) && is_zero_quarter(bytes, len - QUARTER) {
             len
         } else {
             0
         };
     }
-    if len >= QUARTER && is_zero_quarter(bytes, 0) && is_zero_quarter(bytes, len - QUARTER) {
-        return len;
+    if is_zero_half(bytes, 0) && is_zero_half(bytes, len - HALF) {
+        len
+    } else {
+        0
     }
-    0
 }
 
-/// So many bytes at the front are zeros.
+/// So many bytes at the front are zeros; none of very few.
 #[inline(always)]
 fn any_zero_front(bytes: &[u8]) -> usize
     ensures within { result ≤ length bytes.now }
     ensures zeros { HasZerosBefore result bytes.now }
 {
+    if bytes.len() < QUARTER {
+        return 0;
+    }
     if bytes.len() < BLOCK {
         short_zero_front(bytes)
     } else {
