@@ -167,8 +167,10 @@ fn scored(alloc: Global, noise: &mut Noise, count: u32) -> Result<Given, Refusal
     };
     let export = file_of(alloc, &recorder, &kept, hidden)?;
     let mut desk = Desk::new(alloc, 4096)?;
-    for _ in 0..3u32 {
-        let middle = millis(noise.below(seconds)).wrapping_add(500);
+    for turn in 0..3u32 {
+        let middle = millis(noise.below(seconds))
+            .wrapping_add(500)
+            .wrapping_add(turn);
         let claim = claim_of(alloc, 1, KEPT, &[0, middle, millis(seconds)])?;
         desk.check(alloc, &original, &export, &claim)?;
         desk.check(alloc, &unsorted, &export, &claim)?;
