@@ -259,8 +259,8 @@ fn check_beats(
     let export = file_of(alloc, &recorder, &[], hidden)?;
     desk.report(alloc, &original, Report::Conform)?;
     for turn in 0..4u32 {
-        let middle = millis(noise.below(cut.seconds)).wrapping_add(turn);
-        let bounds = [0, middle.max(1), millis(cut.seconds)];
+        let middle = millis(noise.below(cut.seconds)).wrapping_add(turn + 1);
+        let bounds = [0, middle, millis(cut.seconds)];
         let claim = claim_of(alloc, rates.len(), KEPT, &bounds)?;
         desk.check(alloc, &original, &export, &claim)?;
     }
