@@ -2,16 +2,21 @@
    calloc and realloc, its reads of files, and its writes to standard output; and lets one of them fail.
 
    FAIL_AT=N   the Nth growth is refused, and no other; without it, or with 0, none is
+   MOST=N      from the first read of a file on, each growth is refused behind which the program would hold more than
+               N bytes more than it held at that read; without it none is
    READ_AT=N   the Nth read of a file fails, as one of a drive that dropped out; the others don't
    TOLD=FILE   the name of the file that this read was of, without its folder, is written to FILE
    WRITE_AT=N  the Nth write to standard output fails, as one on a full disk; the others don't
    ONE_BYTE=1  each read gives one byte at the most, and each write takes one
    COUNTS=1    at the end of the program one line on standard error: how many growths, reads and writes there
-               were; how many bytes the growths asked for together, and how many the largest asked for */
+               were; how many bytes the growths asked for together, and how many the largest asked for; how many
+               bytes more than at the first read of a file were held behind it at the most */
 #define _GNU_SOURCE
 #include <dlfcn.h>
 #include <errno.h>
 #include <fcntl.h>
+#include <limits.h>
+#include <malloc.h>
 #include <stdarg.h>
 #include <stddef.h>
 #include <stdio.h>
@@ -32,6 +37,10 @@ static int counting;
 static long growths, fail_at, reads, read_at, writes, write_at;
 static int one_byte;
 static size_t together, largest;
+
+/* From the first read of a file on: how many bytes more are held than then, how many may be, and how many were at the
+   most. */
+static long held, most = LONG_MAX, most_held;
 
 /* dlsym may itself call calloc, before that is known: it gets bytes from here, which are never given
    back. */
@@ -72,8 +81,8 @@ static void tell(void)
 {
     char line[192];
     counting = 0;
-    int n = snprintf(line, sizeof line, "growths %ld reads %ld writes %ld bytes %zu largest %zu\n",
-                     growths, reads, writes, together, largest);
+    int n = snprintf(line, sizeof line, "growths %ld reads %ld writes %ld bytes %zu largest %zu held %ld\n",
+                     growths, reads, writes, together, largest, most_held);
     if (n > 0 && write(2, line, (size_t)n) < 0)
         _exit(3);
 }
@@ -91,13 +100,37 @@ __attribute__((constructor)) static void begin(void)
     read_at = number("READ_AT");
     write_at = number("WRITE_AT");
     one_byte = number("ONE_BYTE") != 0;
+    if (getenv("MOST"))
+        most = number("MOST");
     if (getenv("COUNTS"))
         atexit(tell);
     counting = 1;
 }
 
-/* Counts a growth, and says whether it is the one that is refused. */
-static int is_refused(size_t size)
+/* The bytes of a block, as the C library made it. */
+static long bytes_of(void *p)
+{
+    return p ? (long)malloc_usable_size(p) : 0;
+}
+
+/* Counts the bytes that are held behind a growth, or less where a block is given back. */
+static void hold(long bytes)
+{
+    if (!reads)
+        return;
+    held += bytes;
+    if (held > most_held)
+        most_held = held;
+}
+
+/* Whether so many bytes more would be too many. */
+static int is_too_much(long bytes)
+{
+    return reads && held + bytes > most;
+}
+
+/* Counts a growth of a block, which has so many bytes already, and says whether it is one that is refused. */
+static int is_refused(size_t size, long before)
 {
     if (!counting)
         return 0;
@@ -105,10 +138,17 @@ static int is_refused(size_t size)
     together += size;
     if (size > largest)
         largest = size;
-    if (growths != fail_at)
+    if (growths != fail_at && !is_too_much((long)size - before))
         return 0;
     errno = ENOMEM;
     return 1;
+}
+
+/* A block that was asked for, or none; what is held grows by it. */
+static void *held_block(void *p)
+{
+    hold(bytes_of(p));
+    return p;
 }
 
 void *malloc(size_t size)
@@ -117,7 +157,7 @@ void *malloc(size_t size)
         find_next();
     if (!next_malloc)
         return early_bytes(size);
-    return is_refused(size) ? NULL : next_malloc(size);
+    return is_refused(size, 0) ? NULL : held_block(next_malloc(size));
 }
 
 void *calloc(size_t count, size_t size)
@@ -126,7 +166,7 @@ void *calloc(size_t count, size_t size)
         find_next();
     if (!next_calloc)
         return size && count > sizeof early / size ? NULL : early_bytes(count * size);
-    return is_refused(count * size) ? NULL : next_calloc(count, size);
+    return is_refused(count * size, 0) ? NULL : held_block(next_calloc(count, size));
 }
 
 void *realloc(void *p, size_t size)
@@ -135,14 +175,18 @@ void *realloc(void *p, size_t size)
         find_next();
     if (!next_realloc)
         return p ? NULL : early_bytes(size);
-    if (is_refused(size))
+    long before = is_early(p) ? 0 : bytes_of(p);
+    if (is_refused(size, before))
         return NULL;
     if (is_early(p)) {
-        size_t held = (size_t)(early + early_used - (char *)p);
-        void *q = next_malloc(size);
-        return q ? memcpy(q, p, held < size ? held : size) : NULL;
+        size_t there = (size_t)(early + early_used - (char *)p);
+        void *q = held_block(next_malloc(size));
+        return q ? memcpy(q, p, there < size ? there : size) : NULL;
     }
-    return next_realloc(p, size);
+    void *q = next_realloc(p, size);
+    if (q)
+        hold(bytes_of(q) - before);
+    return q;
 }
 
 void free(void *p)
@@ -152,6 +196,7 @@ void free(void *p)
         return;
     if (!next_free)
         next_free = (void (*)(void *))dlsym(RTLD_NEXT, "free");
+    hold(-bytes_of(p));
     next_free(p);
 }
 

@@ -1,7 +1,8 @@
 #!/bin/sh
 # Runs each command of PROGRAM with each growth of memory refused in turn, each read failing and each write failing, of
 # all that a run of it has; and with reads and writes of single bytes, of which some fail. The worked
-# rows are those that are stored; the other commands run on the example night.
+# rows are those that are stored; the other commands run on the example night. A listing of a file with a fault runs with
+# ever more memory, too.
 #
 # usage: tools/failing.sh PROGRAM
 #
@@ -62,9 +63,9 @@ reading_line() {
     echo "edfclaim: reading $role failed"
 }
 
-# Runs a command in which something fails: what (FAIL_AT, READ_AT or WRITE_AT), the how manieth of them, whether reads
-# and writes are of one byte, the command's status, how many bytes it may have written, and its words. It prints how the
-# run ended.
+# Runs a command in which something fails: what (FAIL_AT, READ_AT or WRITE_AT), the how manieth of them, or (MOST) how
+# much memory it has, whether reads and writes are of one byte, the command's status, how many bytes it may have written,
+# and its words. It prints how the run ended.
 run_failing() {
     what=$1
     at=$2
@@ -76,7 +77,7 @@ run_failing() {
     env LD_PRELOAD="$work/failing.so" "$what=$at" TOLD="$work/told" ONE_BYTE="$single" "$program" "$@" >"$work/out" 2>"$work/err"
     ended=$?
     case $what in
-    FAIL_AT) echo "edfclaim: out of memory" ;;
+    FAIL_AT | MOST) echo "edfclaim: out of memory" ;;
     READ_AT) reading_line "$1" "$(cat "$work/told")" ;;
     WRITE_AT) echo "edfclaim: writing failed" ;;
     esac >"$work/line"
@@ -162,6 +163,29 @@ fail_each() {
     echo "$*: $growths growths, $stopped runs stopped by one; $reads reads and $writes writes, of single bytes $singles and $single_writes"
 }
 
+# How many bytes a command holds behind its first read of a file at the most, more than at that read.
+held_by() {
+    env LD_PRELOAD="$work/failing.so" COUNTS=1 "$program" "$@" 2>&1 >"$work/out" |
+        sed -n 's/^growths .* held \([0-9]*\)$/\1/p'
+}
+
+# Lists two files that have one fault, of which the first one takes less memory. With 16 bytes less than that the first
+# run is stopped; with as much, and with ever more, the second one gives the fault.
+list_with_little() {
+    n=$(held_by notes "$1")
+    held=$(held_by notes "$2")
+    if [ -z "$n" ] || [ -z "$held" ]; then
+        fail "notes $1, notes $2: nothing could be counted"
+        return
+    fi
+    count_run "$(run_failing MOST $((n - 16)) 0 1 0 notes "$1")" stopped "notes $1: $((n - 16)) bytes of memory"
+    echo "notes $2: with $n to $held bytes of memory"
+    while [ "$n" -le "$held" ]; do
+        count_run "$(run_failing MOST "$n" 0 1 0 notes "$2")" whole "notes $2: $n bytes of memory"
+        n=$((n + 16))
+    done
+}
+
 cp "$here/../crates/edfclaim/stdout" "$work/want" || exit 2
 fail_each 0 1000000 vectors
 echo 'YES channels 3 samples 13590 annotations 5' >"$work/want"
@@ -198,8 +222,8 @@ fail_each 0 0 conform original.edf
 fail_each 0 0 show original.edf
 "$program" notes original.edf >"$work/want"
 fail_each 0 1000000 notes original.edf
-# an export whose data record has forty long texts and then a bad TAL: its fault is the answer where memory for one of
-# the texts is refused, too
+# a file whose data record has forty long texts and then a bad TAL, and one without the texts: the fault of the first is
+# answered wherever there is memory for the answer to the second
 python3 -c '
 import sys
 sys.path.insert(0, "../../tools")
@@ -207,11 +231,19 @@ import faults
 import night
 change = faults.both(faults.fixed("records", "1"), faults.field(3, "samples", "1500"))
 file = change(night.files()["cut.edf"])[:1280] + bytes(faults.RECORD - faults.LANE)
-texts = b"".join(b"+0\x14" + b"a" * 60 + b"\x14\0" for _ in range(40))
-sys.stdout.buffer.write(file + (b"+0\x14\x14\0" + texts + b"+").ljust(3000, b"\0"))
-' >"$work/bad.edf" || exit 2
+for name, count in (("bad", 40), ("bare", 0)):
+    texts = b"".join(b"+0\x14" + b"a" * 60 + b"\x14\0" for _ in range(count))
+    with open(f"{sys.argv[1]}/{name}.edf", "wb") as to:
+        to.write(file + (b"+0\x14\x14\0" + texts + b"+").ljust(3000, b"\0"))
+' "$work" || exit 2
 echo 'NO 2 export fault: BadTal(NoEnd) at record 0' >"$work/want"
 fail_each 1 0 check original.edf "$work/bad.edf" cut.toml
 [ $((growths - stopped)) -ge 40 ] || fail "$((growths - stopped)) growths didn't stop the check of a bad TAL behind forty texts"
+echo 'FAULT BadTal(NoEnd) at record 0' >"$work/want"
+fail_each 1 0 notes "$work/bare.edf"
+bare=$stopped
+fail_each 1 0 notes "$work/bad.edf"
+[ "$stopped" -eq "$bare" ] || fail "$stopped growths stopped the listing of a bad TAL behind forty texts, and $bare that of one alone"
+list_with_little "$work/bare.edf" "$work/bad.edf"
 echo "$passed passed, $failed failed"
 [ "$failed" -eq 0 ]

@@ -37,6 +37,40 @@ judge_refusal() {
     judge $? "$2" "$3"
 }
 
+# Judges a run that is to end with a No and this line; its name and its status.
+judge_no() {
+    printf '%s\n' "$1" >"$work/line"
+    [ "$3" -eq 1 ] && cmp -s "$work/out" "$work/line" && [ ! -s "$work/err" ]
+    judge $? "$2" "$3"
+}
+
+# Runs the program on these words with so many KB of memory and no more.
+run_in() {
+    (
+        ulimit -v "$1"
+        shift
+        exec "$program" "$@" >"$work/out" 2>"$work/err"
+    )
+}
+
+# Runs the program on these words. Its status is 3 where it held so many KB of memory or more at once; how many it
+# held stands in the file `memory`.
+run_below() {
+    most=$1
+    shift
+    python3 -c '
+import resource
+import subprocess
+import sys
+most, to, errors, *words = sys.argv[1:]
+with open(to, "wb") as out, open(errors, "wb") as err:
+    status = subprocess.run(words, stdout=out, stderr=err, check=False).returncode
+held = resource.getrusage(resource.RUSAGE_CHILDREN).ru_maxrss
+print(f"{held} KB", file=sys.stderr)
+sys.exit(status if held < int(most) else 3)
+' "$most" "$work/out" "$work/err" "$program" "$@" 2>"$work/memory"
+}
+
 # Runs the program on these words; it is to refuse them with this line.
 refuses() {
     line=$1
@@ -286,39 +320,58 @@ change = faults.both(faults.fixed("records", "1"), faults.field(3, "samples", "7
 file = change(night.files()["cut.edf"])
 sys.stdout.buffer.write(file[:1280] + bytes(faults.RECORD - faults.LANE) + b"+0\x14\x14\0" * 3000000)
 ' >"$work/many.edf"
-(
-    ulimit -v 60000
-    exec "$program" check original.edf "$work/many.edf" cut.toml >"$work/out" 2>"$work/err"
-)
-status=$?
-echo 'NO 2 export fault: TooManyAnnotations at record 0' >"$work/line"
-[ "$status" -eq 1 ] && cmp -s "$work/out" "$work/line" && [ ! -s "$work/err" ]
-judge $? "3,000,000 annotations in 60 MB" "$status"
+run_in 60000 check original.edf "$work/many.edf" cut.toml
+judge_no 'NO 2 export fault: TooManyAnnotations at record 0' "3,000,000 annotations in 60 MB" $?
 
-# an export with 1,000,000 annotations in its first data record, and as many in its second one: these aren't kept
+# an export with the samples of the original, with 1,000,000 annotations in its first data record, and as many in its
+# second one: these aren't kept
 python3 -c '
-import resource
-import subprocess
 import sys
 sys.path.insert(0, "../../tools")
 import faults
 import night
 change = faults.both(faults.fixed("records", "2"), faults.field(3, "samples", "2500003"))
-others = bytes(faults.RECORD - faults.LANE)
+whole, size = night.files()["cut.edf"], faults.RECORD - faults.LANE
 lanes = [b"+%d\x14\x14\0" % at + b"+0\x14\x14\0" * 1000000 + b"\0" for at in (0, 5)]
-with open(sys.argv[2], "wb") as to:
-    to.write(change(night.files()["cut.edf"])[:1280] + b"".join(others + lane for lane in lanes))
-with open(sys.argv[3], "wb") as out, open(sys.argv[4], "wb") as err:
-    words = [sys.argv[1], "check", "original.edf", sys.argv[2], "cut.toml"]
-    status = subprocess.run(words, stdout=out, stderr=err, check=False).returncode
-most = resource.getrusage(resource.RUSAGE_CHILDREN).ru_maxrss
-print(f"{most} KB", file=sys.stderr)
-sys.exit(status if most < 130000 else 3)
-' "$program" "$work/twice.edf" "$work/out" "$work/err" 2>"$work/memory"
+records = [whole[at:at + size] + lane for at, lane in zip((1280, 1280 + faults.RECORD), lanes)]
+sys.stdout.buffer.write(change(whole)[:1280] + b"".join(records))
+' >"$work/twice.edf"
+run_below 130000 check original.edf "$work/twice.edf" cut.toml
 status=$?
-echo 'NO 2 export fault: TooManyAnnotations at record 1' >"$work/line"
-[ "$status" -eq 1 ] && cmp -s "$work/out" "$work/line" && [ ! -s "$work/err" ]
-judge $? "2,000,000 annotations, of which 1,000,000 fit: $(cat "$work/memory")" "$status"
+judge_no 'NO 2 export fault: TooManyAnnotations at record 1' \
+    "2,000,000 annotations, of which 1,000,000 fit: $(cat "$work/memory")" "$status"
+
+# 3,400 small data records with 900 annotations each, and an original without any that has the same samples; and a copy
+# with a fault behind the annotations of data record 582, within which their list grows from 42 MB to 84 MB
+python3 -c '
+import sys
+sys.path.insert(0, "../../tools")
+import faults
+import night
+folder = sys.argv[1]
+night.SECONDS = 3400
+values, nobody = {"Temp rectal": [0] * night.SECONDS}, ["X", "X", "X", "X"]
+notes = [(1000 * at, -1, "\x14" * 99) for at in range(night.SECONDS) for _ in range(9)]
+bare, small = (
+    night.file(values, said, ["Temp rectal"], [(0, night.SECONDS)], 1, lane, 0, nobody, lambda _: nobody)
+    for said, lane in (([], 64), (notes, 1200))
+)
+for name, file in (("bare", bare), ("small", small), ("bad", faults.put(small, 768 + 583 * 1202 - 1, b"+"))):
+    with open(f"{folder}/{name}.edf", "wb") as to:
+        to.write(file)
+with open(f"{folder}/small.toml", "w") as to:
+    to.write("format = 1\nchannels = [\"Temp rectal\"]\n[[keep]]\nfrom = \"0\"\nto = \"3400\"\n")
+' "$work"
+# those of the first 1,111 data records are kept, and of the next one no more than fit
+run_below 130000 check "$work/bare.edf" "$work/small.edf" "$work/small.toml"
+status=$?
+judge_no 'NO 2 export fault: TooManyAnnotations at record 1111' \
+    "3,060,000 annotations in small data records: $(cat "$work/memory")" "$status"
+# where the list can't grow, want of memory is the answer, and the fault where there is one in that data record
+run_in 80000 check "$work/bare.edf" "$work/small.edf" "$work/small.toml"
+judge_refusal 'edfclaim: out of memory' "3,060,000 annotations in small data records, in 80 MB" $?
+run_in 80000 check "$work/bare.edf" "$work/bad.edf" "$work/small.toml"
+judge_no 'NO 2 export fault: BadTal(NotZeroFilled) at record 582' "a bad TAL behind 524,700 annotations in 80 MB" $?
 
 # 50,000 annotations with a text of 600 bytes each, which is blanked: none takes memory for its text
 python3 -c '
@@ -335,10 +388,7 @@ for name, said in (("worded", text), ("blank", "X")):
 with open(f"{folder}/blank.toml", "w") as to:
     to.write(f"format = 2\nchannels = [\"Temp rectal\"]\nblank = [\"{text}\"]\n[[keep]]\nfrom = \"0\"\nto = \"150\"\n")
 ' "$work"
-(
-    ulimit -v 40000
-    exec "$program" check "$work/worded.edf" "$work/blank.edf" "$work/blank.toml" >"$work/out" 2>"$work/err"
-)
+run_in 40000 check "$work/worded.edf" "$work/blank.edf" "$work/blank.toml"
 status=$?
 echo 'YES channels 1 samples 150 annotations 50000' >"$work/line"
 [ "$status" -eq 0 ] && cmp -s "$work/out" "$work/line" && [ ! -s "$work/err" ]
