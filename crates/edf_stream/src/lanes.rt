@@ -178,6 +178,7 @@ fn said_by_lane<K: NoteKeeper>(
 
 /// What the only annotation lane of a data record says, where the TAL that keeps the time stands alone in it;
 /// none elsewhere.
+#[inline(always)]
 pub(crate) fn lone_time(header: &Header, bytes: &[u8]) -> Option<i128>
     ensures alone { IfSome result (λ v. IsTimedAlone (annotation_lanes header.now.signals bytes.now) v) }
     ensures small { IfSome result (λ v. unsigned_abs v < 10 ^ 21) }

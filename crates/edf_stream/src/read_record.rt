@@ -20,32 +20,33 @@ use edf_fields::source::{Source, fill};
 use edf_header::header::Header;
 use edf_header::stop::Stop;
 
-/// Reads data record `k` into the buffer and judges it; answers how far the records were followed with
-/// it. Its annotations go to the keeper.
+/// Reads data record `k` into the buffer and judges it, and puts how far the records were followed with it into
+/// `progress`. Its annotations go to the keeper.
 fn read_record<S: Source, K: NoteKeeper>(
     source: &mut S,
     keeper: &mut K,
     buffer: &mut [u8],
     header: &Header,
     k: u32,
-    before: Progress,
-) -> Result<Progress, Stop>
+    progress: &mut Progress,
+) -> Result<(), Stop>
     requires sized { length buffer.old ≡ record_bytes header.now }
-    requires few { before.notes ≤ 1000000 }
-    ensures few { IfOk result (λ after. after.notes ≤ 1000000) }
-    ensures small { IfOk result (λ after. unsigned_abs after.ended_ps < 2 ^ 71) }
-    ensures later { IfOk result (λ after. (k ≡ 0 → before.ended_ps ≡ pos 0) → before.ended_ps <ℤ after.ended_ps) }
-    ensures end { IfOk result (λ after. after.ended_ps ≡ start_in header.now buffer.new +ℤ header.now.duration) }
-    ensures notes { IfOk result (λ after. after.notes ≡ before.notes + length (notes_in header.now buffer.new)) }
+    requires few { progress.old.notes ≤ 1000000 }
+    ensures few { progress.new.notes ≤ 1000000 }
+    ensures small { OnOk result (unsigned_abs progress.new.ended_ps < 2 ^ 71) }
+    ensures later { OnOk result ((k ≡ 0 → progress.old.ended_ps ≡ pos 0) → progress.old.ended_ps <ℤ progress.new.ended_ps) }
+    ensures end { OnOk result (progress.new.ended_ps ≡ start_in header.now buffer.new +ℤ header.now.duration) }
+    ensures notes { OnOk result (progress.new.notes ≡ progress.old.notes + length (notes_in header.now buffer.new)) }
+    ensures held { OnErr result (progress.new ≡ progress.old) }
     ensures full { OnOk result (length buffer.new ≡ length buffer.old) }
     ensures failures { OnOk result (S.reads source.new ≡ S.reads source.old) }
     ensures honesty { OnOk result (IsTrue (S.is_honest source.old) → IsTrue (S.is_honest source.new)) }
-    ensures found { IfOk result (λ after. IsTrue (S.is_honest source.old) → (file : List ℕ) →
-        StandsAt file header.now k before.ended_ps before.notes (S.left source.old)
-        → IsRead file header.now k after.ended_ps after.notes (S.left source.new) buffer.new) }
+    ensures found { OnOk result (IsTrue (S.is_honest source.old) → (file : List ℕ) →
+        StandsAt file header.now k progress.old.ended_ps progress.old.notes (S.left source.old)
+        → IsRead file header.now k progress.new.ended_ps progress.new.notes (S.left source.new) buffer.new) }
     ensures stop { IfErr result (StopsReading
         (λ f. (S.reads source.new ≡ S.reads source.old) × (IsTrue (S.is_honest source.old) → (file : List ℕ) →
-        StandsAt file header.now k before.ended_ps before.notes (S.left source.old) → first (records_tests file header.now k 1) ≡ Some f))
+        StandsAt file header.now k progress.old.ended_ps progress.old.notes (S.left source.old) → first (records_tests file header.now k 1) ≡ Some f))
         (Fails (S.reads source.old) (S.reads source.new))) }
     ensures place { IfErr result (StopsAt (AtRecord k)) }
     ensures kept { OnOk result (K.got keeper.old (notes_in header.now buffer.new) keeper.new) }
@@ -60,8 +61,11 @@ fn read_record<S: Source, K: NoteKeeper>(
             cause: Cause::Truncated,
         }));
     }
-    match judge_record(keeper, header, k, before, buffer) {
-        Ok(after) => Ok(after),
+    match judge_record(keeper, header, k, *progress, buffer) {
+        Ok(after) => {
+            *progress = after;
+            Ok(())
+        }
         Err(fault) => Err(Stop::Fault(fault)),
     }
 }
@@ -123,11 +127,8 @@ pub(crate) fn advance<S: Source, K: NoteKeeper>(
     ensures none { IfOk result (λ more. more ≡ false → keeper.new ≡ keeper.old) }
 {
     if k < header.records() {
-        return match read_record(source, keeper, buffer, header, k, *progress) {
-            Ok(after) => {
-                *progress = after;
-                Ok(true)
-            }
+        return match read_record(source, keeper, buffer, header, k, progress) {
+            Ok(()) => Ok(true),
             Err(stop) => Err(stop),
         };
     }
