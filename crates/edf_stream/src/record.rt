@@ -96,6 +96,7 @@ struct Timed {
 /// Where data record `k` says that it starts, with how many texts its annotation lanes have; or the first
 /// fault of these lanes. Their annotations go to the keeper, as long as there are not more than `most` texts. In most
 /// data records there is one such lane, in which the TAL that keeps the time stands alone.
+#[inline(always)]
 #[tactic(auto, unfolding(crate::specs::Faults::lanes_fault, crate::specs::Faults::time_fault, crate::specs::StartsReading::said_start, crate::specs::NotesReading::notes_in))]
 fn judge_timed<K: NoteKeeper>(
     keeper: &mut K,

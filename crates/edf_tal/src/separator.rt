@@ -31,3 +31,20 @@ pub(crate) fn cut_far(bytes: &[u8], separator: u8) -> Option<(&[u8], &[u8])>
         None => None,
     }
 }
+
+/// The most bytes in which the separator is looked for byte by byte where it mostly stands near.
+const NEAR: usize = 4_096;
+
+/// The same, where the separator mostly stands near.
+pub(crate) fn cut_near(bytes: &[u8], separator: u8) -> Option<(&[u8], &[u8])>
+    ensures { MatchOption result (position_or_len (λ b. b == separator) bytes.now ≡ length bytes.now) (λ x.
+        (position_or_len (λ b. b == separator) bytes.now < length bytes.now)
+        × (x.0.now ≡ until separator bytes.now)
+        × (x.1.now ≡ behind separator bytes.now)) }
+{
+    if bytes.len() > NEAR {
+        cut_far(bytes, separator)
+    } else {
+        cut(bytes, separator)
+    }
+}

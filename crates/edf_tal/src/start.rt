@@ -10,7 +10,7 @@ ghost use Rattle.edf_tal.specs.Views.{tal_view, item_view, kept_time, first_of, 
 ghost use Rattle.edf_tal.specs.declared.start.StartCause.TheVariants as start;
 
 use crate::annotation_text::END;
-use crate::separator::cut;
+use crate::separator::cut_near;
 use crate::tal::Tal;
 use crate::tals::Tals;
 use crate::zeros::are_zeros;
@@ -102,7 +102,7 @@ fn time_alone_in(lane: &[u8]) -> Option<i128>
     ensures value { result ≡ time_alone_of lane.now }
     ensures small { IfSome result (λ v. unsigned_abs v < 10 ^ 21) }
 {
-    match cut(lane, END) {
+    match cut_near(lane, END) {
         Some((head, texts)) if ends_alone(texts) => onset(head),
         _ => None,
     }
