@@ -90,6 +90,7 @@ pub fn record_start(lane: &[u8]) -> Result<i128, StartCause>
 }
 
 /// Whether what stands behind an onset is the end of an empty text, and zeros.
+#[inline(always)]
 fn ends_alone(texts: &[u8]) -> bool
     ensures { result ≡ ends_alone texts.now }
 {
@@ -97,6 +98,7 @@ fn ends_alone(texts: &[u8]) -> bool
 }
 
 /// The onset of a lane that holds the TAL that keeps the time and nothing else.
+#[inline(always)]
 #[tactic(auto, unfolding(crate::specs::Reading::time_alone_of))]
 fn time_alone_in(lane: &[u8]) -> Option<i128>
     ensures value { result ≡ time_alone_of lane.now }
@@ -113,6 +115,7 @@ fn time_alone_in(lane: &[u8]) -> Option<i128>
 /// else. EDF+ (2003), "Time keeping of data records".
 ///
 /// No TAL is made, so this is faster than a walk over the lane's TALs.
+#[inline(always)]
 #[tactic(auto, using(crate::proofs::AloneFacts::alone_decided, crate::proofs::AloneFacts::alone_items))]
 pub fn time_alone(lane: &[u8]) -> Option<i128>
     ensures alone { MatchOption result ((v : ℤ) → ¬ IsTimeAlone lane.now v) (IsTimeAlone lane.now) }

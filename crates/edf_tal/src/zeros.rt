@@ -112,13 +112,12 @@ fn any_zero_front(bytes: &[u8]) -> usize
     ensures within { result ≤ length bytes.now }
     ensures zeros { HasZerosBefore result bytes.now }
 {
-    if bytes.len() < QUARTER {
-        return 0;
-    }
-    if bytes.len() < BLOCK {
+    if bytes.len() >= BLOCK {
+        zero_front(bytes)
+    } else if bytes.len() >= QUARTER {
         short_zero_front(bytes)
     } else {
-        zero_front(bytes)
+        0
     }
 }
 
