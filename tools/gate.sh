@@ -5,7 +5,7 @@
 # program that was built, on command lines and files that it refuses, on the example night, its receipts beside
 # sha256sum, on the tables of cases and of claims, its drafts of claims, its explanations of checks, and with each growth
 # of memory, each read and each write failing in turn; then what stands around the program: the completions, the packages,
-# the module for scripts, the page of a No, and many nights.
+# the module for scripts, the page of a No, and many nights; and the instructions of the benchmark on short nights.
 #
 # usage: tools/gate.sh
 #
@@ -94,6 +94,7 @@ counted tools/packages.sh "$program"
 counted tools/scripts.py "$program"
 counted tools/look.sh "$program"
 counted tools/many_nights.sh "$program"
+counted bench/count
 # CC may hold flags behind the compiler's name
 read -r compiler _ <<<"${CC:-cc}"
 if command -v "$compiler" >/dev/null; then
