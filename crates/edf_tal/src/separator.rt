@@ -20,7 +20,6 @@ pub(crate) fn cut(bytes: &[u8], separator: u8) -> Option<(&[u8], &[u8])>
 }
 
 /// The same. Many bytes are looked at together, so this is faster where the separator stands far behind.
-#[inline(never)]
 pub(crate) fn cut_far(bytes: &[u8], separator: u8) -> Option<(&[u8], &[u8])>
     ensures { MatchOption result (position_or_len (λ b. b == separator) bytes.now ≡ length bytes.now) (λ x.
         (position_or_len (λ b. b == separator) bytes.now < length bytes.now)
@@ -31,6 +30,17 @@ pub(crate) fn cut_far(bytes: &[u8], separator: u8) -> Option<(&[u8], &[u8])>
         Some(place) => Some((&bytes[..place], &bytes[place + 1..])),
         None => None,
     }
+}
+
+/// As `cut_far`. It doesn't stand in line, as it is seldom called.
+#[inline(never)]
+fn cut_apart(bytes: &[u8], separator: u8) -> Option<(&[u8], &[u8])>
+    ensures { MatchOption result (position_or_len (λ b. b == separator) bytes.now ≡ length bytes.now) (λ x.
+        (position_or_len (λ b. b == separator) bytes.now < length bytes.now)
+        × (x.0.now ≡ until separator bytes.now)
+        × (x.1.now ≡ behind separator bytes.now)) }
+{
+    cut_far(bytes, separator)
 }
 
 /// The most bytes in which the separator is looked for byte by byte where it mostly stands near.
@@ -45,7 +55,7 @@ pub(crate) fn cut_near(bytes: &[u8], separator: u8) -> Option<(&[u8], &[u8])>
         × (x.1.now ≡ behind separator bytes.now)) }
 {
     if bytes.len() > NEAR {
-        cut_far(bytes, separator)
+        cut_apart(bytes, separator)
     } else {
         cut(bytes, separator)
     }
