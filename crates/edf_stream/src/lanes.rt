@@ -19,7 +19,7 @@ use edf_fields::cause::TalCause;
 use edf_header::header::Header;
 use edf_header::lane_place::LanePlace;
 use edf_header::signal::Signal;
-use edf_tal::start::{StartCause, start_by_first, time_alone};
+use edf_tal::start::{StartCause, start_by_first, time_alone, time_alone_apart};
 use edf_tal::tal::Tal;
 use edf_tal::tals::Tals;
 
@@ -167,7 +167,7 @@ fn said_by_lane<K: NoteKeeper>(
     if before > 0 && keeper.wants() {
         return said_by_tals(keeper, lane, before, most);
     }
-    match time_alone(lane) {
+    match time_alone_apart(lane) {
         Some(start) => Ok(Said {
             start: Ok(start),
             texts: before.saturating_add(1),

@@ -14,6 +14,9 @@ const END: u8 = 20;
 /// How many bytes are looked at together.
 const BLOCK: usize = 32;
 
+/// A bit for each of them.
+const ALL: u64 = 0xFFFF_FFFF;
+
 /// The most texts of a data record that go to a keeper before its faults are known.
 const MOST_TEXTS: usize = 1_024;
 
@@ -29,15 +32,25 @@ fn lane_bytes(places: &[LanePlace]) -> usize {
     count
 }
 
-/// How many of the 32 bytes from a place on end a text.
+/// The places in the 32 bytes from `place` on at which a byte stands, as bits.
 #[inline(always)]
-fn ends_in_block(bytes: &[u8], place: usize) -> usize
+fn places_in_block(bytes: &[u8], place: usize, byte: u8) -> u64
     requires { place + 32 ≤ length bytes.now }
 {
     u8x32::from_slice(&bytes[place..])
-        .simd_eq(u8x32::splat(END))
+        .simd_eq(u8x32::splat(byte))
         .to_bitmask()
-        .count_ones() as usize
+}
+
+/// How many of the 32 bytes from a place on end a text; none where they are zeros alone.
+#[inline(always)]
+fn ends_in_block(bytes: &[u8], place: usize) -> Option<usize>
+    requires { place + 32 ≤ length bytes.now }
+{
+    if places_in_block(bytes, place, 0) == ALL {
+        return None;
+    }
+    Some(places_in_block(bytes, place, END).count_ones() as usize)
 }
 
 /// How many of a few bytes end a text, up to the most that fit.
@@ -52,12 +65,16 @@ fn ends_in(bytes: &[u8]) -> usize {
     count
 }
 
-/// How many bytes of a lane end a text, up to the most that fit: no fewer than it has texts.
+/// How many bytes of a lane end a text, up to the most that fit, as far as its first block of zeros: no fewer than it
+/// has texts, since behind two zeros there is no TAL any more.
 fn most_texts(lane: &[u8]) -> usize {
     let mut count: usize = 0;
     let mut place = 0;
     while place + BLOCK <= lane.len() {
-        count = count.saturating_add(ends_in_block(lane, place));
+        match ends_in_block(lane, place) {
+            Some(ends) => count = count.saturating_add(ends),
+            None => return count,
+        }
         place += BLOCK;
     }
     count.saturating_add(ends_in(&lane[place..]))

@@ -10,7 +10,7 @@ ghost use Rattle.edf_tal.specs.Views.{tal_view, item_view, kept_time, first_of, 
 ghost use Rattle.edf_tal.specs.declared.start.StartCause.TheVariants as start;
 
 use crate::annotation_text::END;
-use crate::separator::cut_near;
+use crate::separator::{cut, cut_near};
 use crate::tal::Tal;
 use crate::tals::Tals;
 use crate::zeros::are_zeros;
@@ -123,4 +123,26 @@ pub fn time_alone(lane: &[u8]) -> Option<i128>
     ensures small { IfSome result (λ v. unsigned_abs v < 10 ^ 21) }
 {
     time_alone_in(lane)
+}
+
+/// The onset of a lane that holds the TAL that keeps the time and nothing else, as `time_alone_in`.
+#[tactic(auto, unfolding(crate::specs::Reading::time_alone_of))]
+fn time_alone_by_bytes(lane: &[u8]) -> Option<i128>
+    ensures value { result ≡ time_alone_of lane.now }
+    ensures small { IfSome result (λ v. unsigned_abs v < 10 ^ 21) }
+{
+    match cut(lane, END) {
+        Some((head, texts)) if ends_alone(texts) => onset(head),
+        _ => None,
+    }
+}
+
+/// What `time_alone` says, of one of many lanes in a data record: it doesn't stand in line where it is called.
+#[tactic(auto, using(crate::proofs::AloneFacts::alone_decided, crate::proofs::AloneFacts::alone_items))]
+pub fn time_alone_apart(lane: &[u8]) -> Option<i128>
+    ensures alone { MatchOption result ((v : ℤ) → ¬ IsTimeAlone lane.now v) (IsTimeAlone lane.now) }
+    ensures items { IfSome result (λ v. items_of lane.now ≡ Ok (time_tal v) ∷ []) }
+    ensures small { IfSome result (λ v. unsigned_abs v < 10 ^ 21) }
+{
+    time_alone_by_bytes(lane)
 }
