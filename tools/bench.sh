@@ -5,9 +5,10 @@
 # usage: tools/bench.sh PROGRAM [SECONDS..]
 #
 # Each of SECONDS is the length of a night of 22 channels, a multiple of 30. Where none is said, it is one of 8
-# hours (219 MB) and one of 80 hours. Of these nights a receipt is measured, too, beside the check and the digests of
-# both files. One of 8 hours follows that is handed out in 8 files, and nights that are large in one respect, each of
-# 100 to 250 MB. What is written to a temporary folder has three times a night's size.
+# hours (219 MB) and one of 80 hours. Of the first of these nights a receipt is measured, too, beside the check and the
+# digests of both files, and a draft and an explanation. One of 8 hours follows that is handed out in 8 files, and nights
+# that are large in one respect, each of 100 to 250 MB. What is written to a temporary folder has three times a night's
+# size.
 set -euo pipefail
 
 if [ "$#" -lt 1 ] || [ ! -x "$1" ]; then

@@ -6,12 +6,14 @@ Of each length in SECONDS it writes to FOLDER a night of 22 channels, a copy of 
 samples in data records of other lengths. It also writes a night of 8 hours that is handed out in 8 files, and nights
 that are large in one respect: in how many data records they have, channels, intervals that the claim keeps,
 annotations, texts and begins of texts that it removes. It prints tables: of each command the processor's time, the
-time by the clock and the most memory that it held, as medians of five runs; and the times as multiples of those of
-`cmp` on the night and its copy. Of the night in 8 files it prints how many times the check of them takes the times of
-the check of one file, and of the nights in SECONDS how many times a receipt takes those of the check and of `sha256sum`
-on both files, as medians of three runs.
+time by the clock and the most memory that it held, as medians of five runs; and the processor's time as a multiple of
+that of `cmp` on the night and its copy. Of the first night in SECONDS it measures a receipt, too, beside the check and
+`sha256sum` of both files, as medians of three runs, and a draft and an explanation beside the check. Of the night in 8
+files it prints how many times the check of them takes the times of the check of one file. The nights that are large in
+one respect have a line each.
 """
 
+import functools
 import os
 import pathlib
 import resource
@@ -82,17 +84,23 @@ def memory_text(units):
 def print_table(title, commands, runs=RUNS):
     """A table of commands: name, words, and what the output begins with. The first one is `cmp`. It gives the two times
     of each."""
-    print(f"| {title} | processor | clock | memory | processor, by `cmp` | clock, by `cmp` |")
-    print("|---|---|---|---|---|---|")
-    base, times = None, []
+    print(f"| {title} | processor | clock | memory | by `cmp` |")
+    print("|---|---|---|---|---|")
+    times = []
     for name, words, front in commands:
         work, clock, memory = median(words, front, runs)
-        base = base or (work, clock)
         times.append((work, clock))
-        print(f"| {name} | {work:.3f} s | {clock:.3f} s | {memory_text(memory)} "
-              f"| {work / base[0]:.2f} | {clock / base[1]:.2f} |", flush=True)
+        print(f"| {name} | {work:.3f} s | {clock:.3f} s | {memory_text(memory)} | {work / times[0][0]:.2f} |",
+              flush=True)
     print()
     return times
+
+
+def print_row(title, commands):
+    """A line of a table for a night, of `cmp`, `conform` and `check` on it, with the memory of the last."""
+    (base, *_), (conform, *_), (check, _, memory) = [median(words, front) for _, words, front in commands]
+    print(f"| {title} | {base:.3f} s | {conform:.3f} s | {check:.3f} s | {check / base:.2f} | {memory_text(memory)} |",
+          flush=True)
 
 
 def print_receipts(program, title, night, copy, document):
@@ -114,18 +122,18 @@ def print_receipts(program, title, night, copy, document):
 
 def print_helpers(program, title, night, exports, document):
     """A table of the draft of a claim and of a check that explains itself, with each export, which has a name: also the
-    processor's time and the memory by those of the check of the same two files."""
-    print(f"| drafts and explanations of {title} | processor | clock | memory | processor, by `check` | memory, by `check` |")
-    print("|---|---|---|---|---|---|")
+    processor's time by that of the check of the same two files."""
+    print(f"| drafts and explanations of {title} | processor | clock | memory | by `check` |")
+    print("|---|---|---|---|---|")
     for name, export in exports:
         base = None
         for command, words, front in (
             ("check", [document], "YES "), ("draft", [], "# A draft"), ("explain", [document], "YES "),
         ):
             work, clock, memory = median([program, command, night, export, *words], front)
-            base = base or (work, memory)
+            base = base or work
             print(f"| `edfclaim {command}`, with {name} | {work:.3f} s | {clock:.3f} s | {memory_text(memory)} "
-                  f"| {work / base[0]:.2f} | {memory / base[1]:.2f} |", flush=True)
+                  f"| {work / base:.2f} |", flush=True)
     print()
 
 
@@ -141,16 +149,13 @@ def claim(night, keep, remove, prefixes):
     return f"format = {2 if prefixes else 1}\nchannels = {listed(night.labels())}\n{removed}{kept}"
 
 
-def measure(program, folder, title, night, exports, keep=WHOLE, remove=(), prefixes=(), others=(), receipts=False):
-    """Writes a night, a copy of it and its exports, each with a name, and prints their table, and where it is asked for
-    those of a receipt, of drafts and of explanations."""
+def written(folder, night, exports, document):
+    """Writes a night, a copy of it, its exports, each with a name, and a claim: their paths, and those of the exports
+    with their names. What is written goes to the disk before it is measured."""
     paths = {name: str(folder / name) for name in ("night", "copy", "claim")}
     write(paths["night"], night)
     shutil.copyfile(paths["night"], paths["copy"])
-    pathlib.Path(paths["claim"]).write_text(claim(night, keep, remove, prefixes), encoding="utf-8")
-    commands = [("`cmp`, with a copy", ["cmp", paths["night"], paths["copy"]], "")]
-    commands += [(f"`{' '.join(words)}`", [words[0], *words[1:], paths["night"]], "") for words in others]
-    commands.append(("`edfclaim conform`", [program, "conform", paths["night"]], "CONFORMS "))
+    pathlib.Path(paths["claim"]).write_text(document, encoding="utf-8")
     named = []
     for number, (name, export) in enumerate(exports):
         path = paths["copy"]
@@ -158,15 +163,35 @@ def measure(program, folder, title, night, exports, keep=WHOLE, remove=(), prefi
             path = str(folder / f"export{number}")
             write(path, export)
         named.append((name, path))
-        commands.append((f"`edfclaim check`, with {name}", [program, "check", paths["night"], path, paths["claim"]], "YES "))
-    # what was written goes to the disk now, and not while it is measured
     os.sync()
-    print_table(f"{title}, {os.path.getsize(paths['night']) / 1e6:.1f} MB", commands)
-    if receipts:
-        print_receipts(program, title, paths["night"], paths["copy"], paths["claim"])
-        print_helpers(program, title, paths["night"], named, paths["claim"])
+    return paths, named
+
+
+def commands_of(program, paths, named, others=()):
+    """What is measured on a night, as `print_table` takes it."""
+    yield "`cmp`, with a copy", ["cmp", paths["night"], paths["copy"]], ""
+    for words in others:
+        yield f"`{' '.join(words)}`", [*words, paths["night"]], ""
+    yield "`edfclaim conform`", [program, "conform", paths["night"]], "CONFORMS "
+    for name, path in named:
+        yield f"`edfclaim check`, with {name}", [program, "check", paths["night"], path, paths["claim"]], "YES "
+
+
+def size_text(path):
+    return f"{os.path.getsize(path) / 1e6:.1f} MB"
+
+
+def clear(folder):
     for path in folder.iterdir():
         path.unlink()
+
+
+def measure_shape(program, folder, title, night, export=None, keep=WHOLE, remove=(), prefixes=()):
+    """Prints the line of a night that is large in one respect: checked with an export, or where there is none with its
+    copy."""
+    paths, named = written(folder, night, [("it", export or night)], claim(night, keep, remove, prefixes))
+    print_row(f"{title}; {size_text(paths['night'])}", commands_of(program, paths, named))
+    clear(folder)
 
 
 def by_turns(commands):
@@ -198,8 +223,7 @@ def measure_parts(program, folder, seconds):
     print(f"The check of the {PARTS} files takes {several[0] / one[0]:.2f} times the processor's time of that of one "
           f"file, and {several[1] / one[1]:.2f} times its time by the clock (by turns; wanted: at most {PARTS_BOUND}).\n",
           flush=True)
-    for path in folder.iterdir():
-        path.unlink()
+    clear(folder)
 
 
 def touching(seconds):
@@ -208,41 +232,44 @@ def touching(seconds):
     return list(zip(bounds, bounds[1:]))
 
 
-def measure_length(program, folder, seconds):
-    night = Night(seconds)
-    measure(program, folder, f"a night of {seconds} s", night, [
-        ("the copy", night),
-        ("an export in data records of 10 s", Night(seconds, tenths=100, lane=256)),
-    ], others=(["cat"], ["sha256sum"]), receipts=True)
+def measure_length(program, folder, seconds, receipts):
+    """Prints the table of a night, and where it is asked for those of a receipt, of drafts and of explanations."""
+    night, title = Night(seconds), f"a night of {seconds} s"
+    exports = [("the copy", night), ("an export in data records of 10 s", Night(seconds, tenths=100, lane=256))]
+    paths, named = written(folder, night, exports, claim(night, WHOLE, (), ()))
+    commands = commands_of(program, paths, named, others=(["cat"], ["sha256sum"]))
+    print_table(f"{title}, {size_text(paths['night'])}", commands)
+    if receipts:
+        print_receipts(program, title, paths["night"], paths["copy"], paths["claim"])
+        print_helpers(program, title, paths["night"], named, paths["claim"])
+    clear(folder)
 
 
 def measure_shapes(program, folder):
     """Nights that are large in one respect."""
-    seconds = Night(28770)
-    measure(program, folder, "a night of 28,770 s", seconds,
-            [("an export in data records of 0.7 s", Night(28770, tenths=7, lane=96))])
-    small = Night(2_000_000, channels=1, rate=20, lane=12, notes=[])
-    measure(program, folder, "2,000,000 data records of 52 bytes", small, [("the copy", small)])
+    print("| the night, and its export if it isn't the copy | `cmp` | `conform` | `check` | by `cmp` | memory |")
+    print("|---|---|---|---|---|---|")
+    shape = functools.partial(measure_shape, program, folder)
+    shape("28,770 s, in data records of 0.7 s", Night(28770), Night(28770, tenths=7, lane=96))
+    shape("2,000,000 data records of 52 bytes", Night(2_000_000, channels=1, rate=20, lane=12, notes=[]))
     for rate, seconds in ((100, 100), (1, 5000)):
-        wide = Night(seconds, channels=9998, rate=rate)
-        measure(program, folder, f"9,999 signals, samples of a channel in a data record: {rate}", wide, [("the copy", wide)])
-    night = Night(EIGHT_HOURS)
-    measure(program, folder, "a claim of 1,000 intervals", night, [("the copy", night)], keep=touching(EIGHT_HOURS))
-    long = Night(28600, tenths=22000, lane=4096)
-    measure(program, folder, "the same, and data records of 16.5 MB", long, [("the copy", long)], keep=touching(28600))
+        shape(f"9,999 signals of {rate} Hz", Night(seconds, channels=9998, rate=rate))
+    shape("a claim of 1,000 intervals", Night(EIGHT_HOURS), keep=touching(EIGHT_HOURS))
+    shape("the same, data records of 16.5 MB", Night(28600, tenths=22000, lane=4096), keep=touching(28600))
     noted = Night(EIGHT_HOURS, lane=1024, notes=remarks(["Spike"] * 1_000_000, EIGHT_HOURS))
-    measure(program, folder, "1,000,000 annotations", noted, [("the copy", noted)])
+    shape("1,000,000 annotations", noted)
     texts = [short(k) for k in range(8000)]
-    measure(program, folder, "1,000,000 annotations, and a claim with 8,000 begins of texts", noted,
-            [("the copy", noted)], prefixes=texts)
-    scored = stages(EIGHT_HOURS)
-    remarked = Night(EIGHT_HOURS, notes=sorted(scored + remarks(texts, EIGHT_HOURS)))
-    measure(program, folder, "a claim that removes 8,000 texts", remarked,
-            [("an export without them", Night(EIGHT_HOURS))], remove=texts)
+    shape("the same, 8,000 begins of texts in `remove-prefix`", noted, prefixes=texts)
+    remarked = Night(EIGHT_HOURS, notes=sorted(stages(EIGHT_HOURS) + remarks(texts, EIGHT_HOURS)))
+    shape("8,000 texts in `remove`, without them", remarked, Night(EIGHT_HOURS), remove=texts)
+
+
+def main(program, folder, *lengths):
+    for number, length in enumerate(lengths):
+        measure_length(program, folder, int(length), number == 0)
+    measure_parts(program, folder, EIGHT_HOURS)
+    measure_shapes(program, folder)
 
 
 if __name__ == "__main__":
-    for length in sys.argv[3:]:
-        measure_length(sys.argv[1], pathlib.Path(sys.argv[2]), int(length))
-    measure_parts(sys.argv[1], pathlib.Path(sys.argv[2]), EIGHT_HOURS)
-    measure_shapes(sys.argv[1], pathlib.Path(sys.argv[2]))
+    main(sys.argv[1], pathlib.Path(sys.argv[2]), *sys.argv[3:])
