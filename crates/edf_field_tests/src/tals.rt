@@ -1,7 +1,7 @@
 //! Lanes by hand: their TALs or first fault, and where their data records start.
 
 use edf_fields::cause::TalCause;
-use edf_tal::start::{StartCause, record_start, start_by_first, time_alone};
+use edf_tal::start::{StartCause, record_start, start_by_first, time_alone, time_alone_apart};
 use edf_tal::tal::Tal;
 use edf_tal::tals::Tals;
 use std::alloc::{AllocError, Global};
@@ -314,5 +314,6 @@ const ALONE: &[(&[u8], Option<i128>)] = &[
 fn reads_a_time_that_stands_alone(rt: HostRuntime) {
     for (lane, want) in ALONE {
         assert_eq!(rt; time_alone(lane), *want);
+        assert_eq!(rt; time_alone_apart(lane), *want);
     }
 }
