@@ -94,8 +94,35 @@ struct Timed {
 }
 
 /// Where data record `k` says that it starts, with how many texts its annotation lanes have; or the first
-/// fault of these lanes. Their annotations go to the keeper, as long as there are not more than `most` texts. In most
-/// data records there is one such lane, in which the TAL that keeps the time stands alone.
+/// fault of these lanes: by each of the lanes. Their annotations go to the keeper, as long as there are not more than
+/// `most` texts.
+#[tactic(auto, unfolding(crate::specs::Faults::lanes_fault, crate::specs::Faults::time_fault, crate::specs::StartsReading::said_start, crate::specs::NotesReading::notes_in))]
+fn judge_each_lane<K: NoteKeeper>(
+    keeper: &mut K,
+    header: &Header,
+    k: u32,
+    bytes: &[u8],
+    most: u32,
+) -> Result<Timed, Fault>
+    ensures judged { MatchResult result
+        (λ timed. (lanes_fault k (cause_of_lanes (annotation_lanes header.now.signals bytes.now)) ≡ None)
+        × (time_fault k (said_start header.now bytes.now) ≡ None)
+        × (said_start header.now bytes.now ≡ Ok timed.start.ps)
+        × (timed.texts ≡ min (length (notes_of_lanes (annotation_lanes header.now.signals bytes.now))) (2 ^ 32 - 1)))
+        (λ f. first (timed_faults header.now k bytes.now) ≡ Some f) }
+    ensures small { IfOk result (λ timed. unsigned_abs timed.start.ps < 10 ^ 21) }
+    ensures place { IfErr result (λ f. f.place ≡ AtRecord k) }
+    ensures kept { IfOk result (λ timed. timed.texts ≤ most → K.got keeper.old (notes_in header.now bytes.now) keeper.new) }
+{
+    let found = judge_lanes(keeper, header, k, bytes, most)?;
+    let start = judge_time(k, found)?;
+    Ok(Timed {
+        start,
+        texts: texts_of(found),
+    })
+}
+
+/// The same. In most data records there is one such lane, in which the TAL that keeps the time stands alone.
 #[inline(always)]
 #[tactic(auto, unfolding(crate::specs::Faults::lanes_fault, crate::specs::Faults::time_fault, crate::specs::StartsReading::said_start, crate::specs::NotesReading::notes_in))]
 fn judge_timed<K: NoteKeeper>(
@@ -115,18 +142,13 @@ fn judge_timed<K: NoteKeeper>(
     ensures place { IfErr result (λ f. f.place ≡ AtRecord k) }
     ensures kept { IfOk result (λ timed. timed.texts ≤ most → K.got keeper.old (notes_in header.now bytes.now) keeper.new) }
 {
-    if let Some(ps) = lone_time(header, bytes) {
-        return Ok(Timed {
+    match lone_time(header, bytes) {
+        Some(ps) => Ok(Timed {
             start: Start { ps },
             texts: 1,
-        });
+        }),
+        None => judge_each_lane(keeper, header, k, bytes, most),
     }
-    let found = judge_lanes(keeper, header, k, bytes, most)?;
-    let start = judge_time(k, found)?;
-    Ok(Timed {
-        start,
-        texts: texts_of(found),
-    })
 }
 
 /// Judges the bytes of data record `k`, and answers how far the records were followed with it; or its

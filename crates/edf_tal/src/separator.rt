@@ -20,6 +20,7 @@ pub(crate) fn cut(bytes: &[u8], separator: u8) -> Option<(&[u8], &[u8])>
 }
 
 /// The same. Many bytes are looked at together, so this is faster where the separator stands far behind.
+#[inline(always)]
 pub(crate) fn cut_far(bytes: &[u8], separator: u8) -> Option<(&[u8], &[u8])>
     ensures { MatchOption result (position_or_len (λ b. b == separator) bytes.now ≡ length bytes.now) (λ x.
         (position_or_len (λ b. b == separator) bytes.now < length bytes.now)
