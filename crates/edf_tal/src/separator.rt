@@ -33,7 +33,7 @@ pub(crate) fn cut_far(bytes: &[u8], separator: u8) -> Option<(&[u8], &[u8])>
     }
 }
 
-/// As `cut_far`. It doesn't stand in line, as it is seldom called.
+/// As `cut`. It doesn't stand in line, as it is seldom called.
 #[inline(never)]
 fn cut_apart(bytes: &[u8], separator: u8) -> Option<(&[u8], &[u8])>
     ensures { MatchOption result (position_or_len (λ b. b == separator) bytes.now ≡ length bytes.now) (λ x.
@@ -41,10 +41,10 @@ fn cut_apart(bytes: &[u8], separator: u8) -> Option<(&[u8], &[u8])>
         × (x.0.now ≡ until separator bytes.now)
         × (x.1.now ≡ behind separator bytes.now)) }
 {
-    cut_far(bytes, separator)
+    cut(bytes, separator)
 }
 
-/// The most bytes in which the separator is looked for byte by byte where it mostly stands near.
+/// The most bytes in which the separator is looked for in line.
 const NEAR: usize = 4_096;
 
 /// The same, where the separator mostly stands near.
