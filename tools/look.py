@@ -1,6 +1,6 @@
 """Tries extras/edfclaim-look: its reader beside `edfclaim notes` and the values of which the night was made, and its
-pages on the example night, on files with faults, with gaps, with starts inside a second and with odd signs, and with
-programs that have `explain` or don't.
+pages on the example night, on claims in other spellings, on files with faults, with gaps, with starts inside a second
+and with odd signs, and with programs that have `explain` or don't.
 
 usage: look.py PROGRAM, by tools/look.sh
 """
@@ -25,7 +25,9 @@ os.environ.setdefault("MPLCONFIGDIR", tempfile.gettempdir())
 
 import edfclaim  # noqa: E402
 import night  # noqa: E402
-from cases.files import claim_of, recorded  # noqa: E402
+from cases.files import (  # noqa: E402
+    LANES, bytes_of, claim_of, cut, field, lane, recorded, recording, temp_file, values as values_of,
+)
 from cases.verdict_lines import FIRST, HALF, LATE, ONE  # noqa: E402
 
 PS = 10**12
@@ -89,8 +91,8 @@ def try_reader(counts, program):
     counts.judge(value[:2] == (0, -495) and abs(value[2] - 36.5987) < 0.001, f"the first temperature is {value}")
     counts.judge(look.start_of("17.03.19", "23.10.00", "") - look.start_of("07.12.18", "23.10.30", "") == 100 * 86400 - 30,
                  "the start of a file")
-    counts.judge(look.start_of("02.01.yy", "00.00.00", "Startdate 02-JAN-2090 X X X") - look.start_of("31.12.84", "23.59.59", "")
-                 == 1827 * 86400 + 1, "a start after 2084")
+    later = look.start_of("02.01.yy", "00.00.00", "Startdate  02-JAN-2090 X X X")
+    counts.judge(later - look.start_of("31.12.84", "23.59.59", "") == 1827 * 86400 + 1, "a start after 2084")
 
 
 def try_night(counts, program):
@@ -111,25 +113,50 @@ def try_night(counts, program):
         page = pathlib.Path("page/look.html").read_text(encoding="utf-8")
         counts.judge(sorted(os.listdir("page")) == ["look.html", "look.png"], f"{words}: {os.listdir('page')}")
         counts.judge(f">{line.replace(chr(34), '&quot;')}<" in page, f"{words}: the line isn't in the page")
-        counts.judge(page.count("<img") == 1 and "can&#x27;t be drawn" not in page and "no witness" in page, f"{words}: the page")
+        right = page.count("<img") == 1 and '<p class="left-out">' not in page and "no witness" in page
+        counts.judge(right, f"{words}: the page")
         picture = pathlib.Path("page/look.png").read_bytes()
         counts.judge(picture.startswith(b"\x89PNG\r\n") and look.base64.b64encode(picture).decode() in page, f"{words}: the picture")
 
 
-def drawn(files, verdict):
-    """The axes of a picture by what is drawn: the names in the legends, and the points of each line."""
-    import matplotlib.pyplot as pyplot
+class Picture:
+    """What is drawn of a check: the points of each line by its name in the legend, of the channel and of the timeline;
+    the words of each axis; the names of the rows, the bars and the borders of the timeline; and the page's remarks."""
 
-    found, close = {}, pyplot.close
-    try:
-        pyplot.close = lambda figure: found.update({"axes": figure.axes})
-        look.picture_of(look.Night(files, verdict), "png")
-    finally:
-        pyplot.close = close
-    lines = [{line.get_label(): line.get_xydata().tolist() for line in axes.lines} for axes in found["axes"]]
-    for axes in found["axes"]:
-        close(axes.figure)
-    return lines
+    def __init__(self, files, line):
+        import matplotlib.pyplot as pyplot
+
+        found, close = [], pyplot.close
+        night_of = look.Night(files, edfclaim.parse(line))
+        try:
+            pyplot.close = found.append
+            look.picture_of(night_of, "png")
+        finally:
+            pyplot.close = close
+        axes, timeline = found[-1].axes, found[-1].axes[-1]
+        self.lines = [{line.get_label(): line.get_xydata().tolist() for line in each.lines} for each in axes]
+        self.words = [each.get_xlabel() for each in axes]
+        self.rows = [tick.get_text() for tick in timeline.get_yticklabels()] if timeline.axison else []
+        self.bars = bars_of(timeline)
+        self.borders, self.remarks = timeline.get_xlim(), night_of.remarks
+        close(found[-1])
+
+    def times(self, name):
+        """The times on the timeline of what has this name."""
+        return [at for at, _ in self.lines[-1].get(name, [])]
+
+
+def bars_of(axes):
+    """The bars of a timeline, by rows, each with its begin and its end."""
+    from matplotlib.collections import PolyCollection
+
+    rows = [each.get_paths() for each in axes.collections if isinstance(each, PolyCollection)]
+    return [[(path.get_extents().x0, path.get_extents().x1) for path in paths] for paths in rows]
+
+
+def drawn(files, verdict):
+    """The lines of a picture, by what is drawn."""
+    return Picture(files, verdict.line).lines
 
 
 def try_picture(counts):
@@ -157,6 +184,183 @@ def try_picture(counts):
     channel, timeline = drawn(["one.edf", "late.edf", "one.toml"], edfclaim.parse('NO 10 sample "ECG" at 0 ps missing'))
     begins = (channel["original"][0][0], channel["export"][0][0])
     counts.judge(begins == (0, 0.5), f"the samples begin at {begins}")
+
+
+# Other spellings of the night's claim: what is put in a place of it, and whether Python 3.11 reads it. The program
+# takes each of them.
+REMARK = '"Mrs. Haagse asks for water"'
+KEEP = '[[keep]]\nfrom = "30"\nto = "120"\n'
+SPELLINGS = [
+    ("# One and", "\ufeff# One and", True),
+    ("\n", "\r\n", True),
+    (KEEP, 'keep = [{from = "30", to = "120"}]\n', True),
+    (KEEP, 'keep = [{\n    from = "30",\n    to = "120"\n}]\n', False),
+    (KEEP, 'keep = [{from = "30", to = "120",}]\n', False),
+    (REMARK, REMARK.replace("M", "\\x4d"), False),
+    (REMARK, REMARK.replace("M", "\\u004d"), True),
+    (REMARK, f'{REMARK}, "\\x22"', False),
+    (REMARK, f'{REMARK}, "\\u0022"', True),
+    (REMARK, f'{REMARK}, "\\e"', False),
+    (REMARK, f'{REMARK}, "\\u001b"', True),
+]
+
+
+# What the page says of a claim that Python doesn't read.
+NOT_READ = ["at line ", "No export and no channel is drawn", "write \\u00 in the place of \\x", "interval as [[keep]]"]
+
+
+def is_read(text):
+    """Whether this Python reads a claim that Python 3.11 doesn't."""
+    import tomllib
+
+    try:
+        return bool(tomllib.loads(text))
+    except tomllib.TOMLDecodeError:
+        return False
+
+
+def try_claims(counts, program):
+    """Other spellings of a claim: all is drawn as of the plain one, or nothing is drawn that hangs on the claim."""
+    line = 'NO 10 sample "EEG C4-M1" at 75500000000000 ps original -49 export -48'
+    files, onsets = ["original.edf", "changed-value.edf", "spelled.toml"], [at / 1000 for at, _, _ in night.NOTES]
+    for old, new, reads in SPELLINGS:
+        text = night.CUT.replace(old, new)
+        pathlib.Path("spelled.toml").write_bytes(text.encode())
+        ran = run(program, *files)
+        page, picture = pathlib.Path("look.html").read_text(encoding="utf-8"), Picture(files, line)
+        counts.judge(ran == (1, f"{line}\n", "") and text != night.CUT, f"{new!r}: {ran}")
+        names = ("kept", "removed", "of the original", "of the export")
+        found = [picture.times(f"annotation {name}") for name in names]
+        rows = [row.endswith(" (not drawn)") for row in picture.rows]
+        if reads or is_read(text):
+            kept = [30, 57.25, 60, 90, 104.5]
+            right = found == [kept, [72.5], [], kept] and not any(rows) and len(picture.lines) == 2
+            right = right and "there the original has -49 and the export has -48" in picture.words[0]
+            right = right and '<p class="left-out">' not in page
+        else:
+            right = found == [[], [], onsets, []] and rows == [False, True, True, False, True]
+            right = right and len(picture.lines) == 1 and picture.words == ["seconds after the start of the original"]
+            right = right and len(picture.bars[0]) == 1 and not sum(picture.bars[1:], [])
+            right = right and all(words in page for words in NOT_READ)
+        counts.judge(right, f"{new!r}: drawn are {found}, {picture.rows}, {picture.words}; said: {picture.remarks}")
+        counts.judge(picture.times("the first difference") == [75.5, 75.5], f"{new!r}: {picture.lines[-1]}")
+
+
+def lanes_with(number, text):
+    """The lanes of the reference file, one of them with another text."""
+    return [*LANES[:number], text, *LANES[number + 1:]]
+
+
+OFF, APNEA, LATER = (0.5, "Lights off"), (1.5, "Apnea"), (3, "Apnea")
+SECOND = lane(40, b"+0.5\x14\x14\0")
+TWO_LANES = recording(signals=[3, 4, 2], parts=[values_of([7, -7]), lane(32, b"+0\x14\x14"), SECOND])
+
+# Files by their lanes: the parts without a gap, by start and length, and the annotations, all in seconds; and which
+# data record, if any, is the first that doesn't say when it starts.
+FILES = [
+    (LANES, [(0, 4)], [OFF, APNEA, LATER], None),
+    # the list that keeps the time has a duration
+    (lanes_with(1, b"+1\x151\x14\x14Apnea\x14\0"), [(0, 4)], [OFF, (1, "Apnea"), LATER], None),
+    # a text that is empty, and is an annotation
+    (lanes_with(2, b"+2\x14\x14\0+2.25\x14\x14\0"), [(0, 4)], [OFF, APNEA, (2.25, ""), LATER], None),
+    (lanes_with(2, b"+2\x14\x14\x14\0"), [(0, 4)], [OFF, APNEA, (2, ""), LATER], None),
+    (lanes_with(2, b"+0002.0000000000000000\x14\x14\0"), [(0, 4)], [OFF, APNEA, LATER], None),
+    # faults: a gap in a contiguous file, a time without a sign, none at all
+    (lanes_with(3, b"+3.5\x14\x14\0"), [(0, 3), (3.5, 1)], [OFF, APNEA], None),
+    (lanes_with(2, b"?2\x14\x14\0"), [(0, 2)], [OFF, APNEA], 2),
+    (lanes_with(2, b""), [(0, 2)], [OFF, APNEA], 2),
+]
+
+
+def try_files(counts, program):
+    """The reader on these files, and what the program says of the annotations of those that have no fault."""
+    made = [(recorded(lanes=lanes), *wanted) for lanes, *wanted in FILES]
+    # in a second signal no text keeps the time
+    made.append((bytes_of(TWO_LANES), [(0, 1)], [(0.5, "")], None))
+    for number, (data, segments, notes, stop) in enumerate(made):
+        pathlib.Path("made.edf").write_bytes(data)
+        file = look.Recording("made.edf")
+        parts, found = [(at / PS, length / PS) for at, length in file.segments()], file.notes()
+        found = parts, [(at / PS, text) for at, text in found]
+        words = f"data record {stop} doesn't say when it starts: "
+        right = file.stop is None if stop is None else file.stop.startswith(words)
+        counts.judge(right and found == (segments, notes), f"file {number}: {found}, {file.stop}")
+        conforms = edfclaim.conform("made.edf", program=program).yes
+        counts.judge(conforms == (number not in (5, 6, 7)), f"file {number}: a fault, or none")
+        said = edfclaim.notes("made.edf", program=program) if conforms else []
+        right = not conforms or [(note.onset_ps / PS, note.text) for note in said] == notes
+        counts.judge(right, f"file {number}: the program says {said}")
+
+
+BOTH = '["EEG Fpz-Cz", "ECG"]'
+ALL = claim_of(BOTH, "", [("0", "4")])
+# three samples a second, and the same a third of a picosecond too early
+THIRDS = cut(samples="3", parts=[([1, 2, 3], "+0")])
+EARLY_THIRDS = cut(samples="3", kind="EDF+D", parts=[([2, 3, 4], "+0.333333333333")])
+
+# An original, an export, a claim, the line; what the words below the channel say, if one is drawn; and where the dashed
+# line is, if there is one.
+CHECKS = [
+    (recorded(), recorded(), claim_of(BOTH, "", [("1", "4")]), 'NO 10 sample "ECG" at 0 ps extra',
+     "the original has 100, which the claim doesn't keep, and the export has 100", 0),
+    (recorded(), recorded([(field("records"), "3")], LANES[:3]), ALL, 'NO 10 sample "ECG" at 3000000000000 ps missing',
+     "the original has 106 and the export has no sample", 3),
+    (temp_file(THIRDS), temp_file(EARLY_THIRDS), claim_of('["Temp"]', "", [("0.333333333333", "1")]),
+     'NO 10 sample "Temp" at 333333333333 ps extra', "the original has no sample and the export has 2", 0.333333333333),
+    (recorded(), recorded(lanes=lanes_with(2, b"+2\x14\x14\0+2.25\x14\x14\0")), ALL,
+     'NO 11 annotation extra at 2250000000000 ps duration none text ""', None, 2.25),
+    (recorded(), recorded(lanes=lanes_with(3, b"+3.5\x14\x14\0")), ALL,
+     "NO 2 export fault: NotContiguous at record 3", None, 3.5),
+    (recorded(), recorded(lanes=lanes_with(2, b"?2\x14\x14\0")), ALL,
+     "NO 2 export fault: BadTal(BadOnset) at record 2", None, 2),
+    (recorded()[:-1], recorded(), ALL, "NO 1 original fault: Truncated at record 3", None, 3),
+    (recorded()[:700], recorded(), ALL, "NO 1 original fault: Truncated at signal 0 field prefilter", None, None),
+]
+
+
+def try_checks(counts, program):
+    """What is drawn of these checks, and that the program answers so."""
+    for original, export, claim, line, words, place in CHECKS:
+        files = ["made-original.edf", "made-export.edf", "made.toml"]
+        for name, data in zip(files, (original, export, claim.encode())):
+            pathlib.Path(name).write_bytes(data)
+        ran = run(program, *files)
+        counts.judge(ran == (1, f"{line}\n", ""), f"{ran}; wanted: {line}")
+        picture = Picture(files, line)
+        ends = picture.words[0].endswith(f"; there {words}" if words else "")
+        right = ends and len(picture.lines) == (2 if words else 1)
+        counts.judge(right, f"{line}: {picture.words}")
+        name = "the data record of the fault" if " fault: " in line else "the first difference"
+        counts.judge(picture.times(name) == ([] if place is None else [place, place]), f"{line}: {picture.lines[-1]}")
+
+
+def try_left_out(counts):
+    """What isn't drawn, and that it is said: an original that can't be read, samples that aren't those of the line, and
+    what lies before or behind the night."""
+    pathlib.Path("made-original.edf").write_bytes(recorded()[:700])
+    pathlib.Path("made-export.edf").write_bytes(recorded())
+    files = ["made-original.edf", "made-export.edf", "made.toml"]
+    pathlib.Path("made.toml").write_text(ALL, encoding="utf-8")
+    picture = Picture(files, "NO 1 original fault: Truncated at signal 0 field prefilter")
+    right = (picture.rows, picture.bars, picture.lines) == ([], [], [{}])
+    right = right and any(remark.startswith("Nothing is drawn: ") for remark in picture.remarks)
+    counts.judge(right, f"an original that can't be read: {picture.lines}, {picture.bars}, {picture.remarks}")
+    for line in ("original -49 export -47", "original -48 export -48", "missing", "extra"):
+        line = f'NO 10 sample "EEG C4-M1" at 75500000000000 ps {line}'
+        picture = Picture(["original.edf", "changed-value.edf", "cut.toml"], line)
+        right = len(picture.lines) == 1 and picture.remarks[0].startswith("The channel isn't drawn: what ")
+        counts.judge(right, f"{line}: {picture.words}, {picture.remarks}")
+    lanes = lanes_with(3, b"+3\x14\x14\0+9\x14Late\x14\0-5\x14Soon\x14\0")
+    pathlib.Path("made-original.edf").write_bytes(recorded(lanes=lanes))
+    intervals = [("0", "1"), ("2", "999999998"), ("999999998", "999999999")]
+    pathlib.Path("made.toml").write_text(claim_of(BOTH, "", intervals), encoding="utf-8")
+    picture = Picture(files, 'NO 10 sample "ECG" at 1000000000000 ps extra')
+    words = ["not drawn: 1 of the intervals of the claim.", "not drawn: 2 of the annotations of the original."]
+    counts.judge([text[-len(end):] for text, end in zip(picture.remarks, words)] == words, f"{picture.remarks}")
+    wanted = ["claim: kept intervals (1 not drawn)", "original: annotations (2 not drawn)"]
+    counts.judge([row for row in picture.rows if "(" in row] == wanted, f"{picture.rows}")
+    right = picture.bars[2] == [(0, 1), (2, picture.borders[1])] and picture.borders[1] > 4
+    counts.judge(right, f"the intervals are drawn at {picture.bars[2]}, within {picture.borders}")
 
 
 def put(name, source, old, new):
@@ -198,6 +402,8 @@ def try_odd(counts, program):
 # What a program does with `explain`, and what the script gives: its status, and words of the page or of what it says.
 EXPLAIN = [
     ('echo "NO 8 subfield name not X"; echo "The <i>name</i> & more."; exit 1', 1, "<p>The &lt;i&gt;name&lt;/i&gt; &amp; more.</p>"),
+    ('echo "YES channels 3 samples 13590 annotations 5"; echo "A text is left."', 0, "can name somebody"),
+    ("printf 'NO 8 subfield name not X\\nA \\342\\200\\256 text.\\n'; exit 1", 1, "are written by their numbers"),
     ("echo \"error: unrecognized subcommand 'explain'\" >&2; exit 2", 1, "<p class=\"line\">NO 8 subfield name not X</p>"),
     ('echo "edfclaim: out of memory" >&2; exit 2', 2, "no answer: edfclaim: out of memory"),
     ('echo "NO 8 subfield name not X"', 2, "status 0 with NO 8"),
@@ -235,6 +441,10 @@ def main():
         try_reader(counts, program)
         try_night(counts, program)
         try_picture(counts)
+        try_claims(counts, program)
+        try_files(counts, program)
+        try_checks(counts, program)
+        try_left_out(counts)
         try_odd(counts, program)
         try_explain(counts, program)
         os.chdir(TOP)

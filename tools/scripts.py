@@ -266,6 +266,12 @@ def try_program(counts, program, night):
     found = edfclaim.notes("original.edf", program=program)
     counts.judge(len(found) == 10 and found[1] == edfclaim.Note(4_500_000_000_000, None, "Lights off"), f"notes: {found}")
     counts.judge(found[0].duration_ps == 30_000_000_000_000, f"notes: {found}")
+    # (Python's tomllib takes neither a byte order mark nor such an escape)
+    spelled = "\ufeff" + pathlib.Path("cut.toml").read_text(encoding="utf-8").replace('"Mrs.', '"\\x4drs.')
+    pathlib.Path("spelled.toml").write_text(spelled, encoding="utf-8")
+    verdict = edfclaim.check("original.edf", "cut.edf", "spelled.toml", program=program)
+    right = verdict.line == "YES channels 3 samples 13590 annotations 5"
+    counts.judge(right, f"a claim in another spelling: {verdict}")
     shutil.copy("cut.edf", "-cut.edf")
     counts.judge(edfclaim.check("original.edf", "-cut.edf", "cut.toml", program=program).yes, "a name with - in front")
     pathlib.Path("broken.edf").write_bytes(pathlib.Path("cut.edf").read_bytes()[:-1])
