@@ -186,37 +186,43 @@ def try_picture(counts):
     counts.judge(begins == (0, 0.5), f"the samples begin at {begins}")
 
 
-# Other spellings of the night's claim: what is put in a place of it, and whether Python 3.11 reads it. The program
-# takes each of them.
+def reads_escapes():
+    """Whether Python's reader of TOML knows the spellings of TOML 1.1; that of 3.11 doesn't."""
+    import tomllib
+
+    try:
+        return tomllib.loads('escape = "\\x22"') == {"escape": '"'}
+    except tomllib.TOMLDecodeError:
+        return False
+
+
+# Other spellings of the night's claim: what is put in a place of it, and whether the script reads it. The program takes
+# each of them.
 REMARK = '"Mrs. Haagse asks for water"'
 KEEP = '[[keep]]\nfrom = "30"\nto = "120"\n'
 SPELLINGS = [
     ("# One and", "\ufeff# One and", True),
     ("\n", "\r\n", True),
     (KEEP, 'keep = [{from = "30", to = "120"}]\n', True),
-    (KEEP, 'keep = [{\n    from = "30",\n    to = "120"\n}]\n', False),
-    (KEEP, 'keep = [{from = "30", to = "120",}]\n', False),
-    (REMARK, REMARK.replace("M", "\\x4d"), False),
+    (KEEP, 'keep = [{\n    from = "30",\n    to = "120"\n}]\n', reads_escapes()),
+    (KEEP, 'keep = [{from = "30", to = "120",}]\n', reads_escapes()),
+    (REMARK, REMARK.replace("M", "\\x4d"), reads_escapes()),
     (REMARK, REMARK.replace("M", "\\u004d"), True),
-    (REMARK, f'{REMARK}, "\\x22"', False),
+    (REMARK, f'{REMARK}, "\\x22"', reads_escapes()),
     (REMARK, f'{REMARK}, "\\u0022"', True),
-    (REMARK, f'{REMARK}, "\\e"', False),
+    (REMARK, f'{REMARK}, "\\e"', reads_escapes()),
     (REMARK, f'{REMARK}, "\\u001b"', True),
+    (REMARK, f"{REMARK}, '''\na\nb'''", True),
+    # Python makes one byte of the end of this line, and the program doesn't
+    (REMARK, f"{REMARK}, '''a\r\nb'''", False),
+    (REMARK, f'{REMARK}, "a\\r\\nb"\r\n', True),
 ]
 
-
 # What the page says of a claim that Python doesn't read.
-NOT_READ = ["at line ", "No export and no channel is drawn", "write \\u00 in the place of \\x", "interval as [[keep]]"]
-
-
-def is_read(text):
-    """Whether this Python reads a claim that Python 3.11 doesn't."""
-    import tomllib
-
-    try:
-        return bool(tomllib.loads(text))
-    except tomllib.TOMLDecodeError:
-        return False
+NOT_READ = [
+    "The claim isn&#x27;t drawn: ", "No export and no channel is drawn", "write \\u00 in the place of \\x", "[[keep]]",
+    "in one line, with \\r\\n in the place of each end",
+]
 
 
 def try_claims(counts, program):
@@ -232,7 +238,7 @@ def try_claims(counts, program):
         names = ("kept", "removed", "of the original", "of the export")
         found = [picture.times(f"annotation {name}") for name in names]
         rows = [row.endswith(" (not drawn)") for row in picture.rows]
-        if reads or is_read(text):
+        if reads:
             kept = [30, 57.25, 60, 90, 104.5]
             right = found == [kept, [72.5], [], kept] and not any(rows) and len(picture.lines) == 2
             right = right and "there the original has -49 and the export has -48" in picture.words[0]
@@ -244,6 +250,25 @@ def try_claims(counts, program):
             right = right and all(words in page for words in NOT_READ)
         counts.judge(right, f"{new!r}: drawn are {found}, {picture.rows}, {picture.words}; said: {picture.remarks}")
         counts.judge(picture.times("the first difference") == [75.5, 75.5], f"{new!r}: {picture.lines[-1]}")
+
+
+def try_line_ends(counts, program):
+    """A claim that removes a text of two lines: an end of a line has one byte, or two, or is written as an escape."""
+    files = ["made-original.edf", "made-export.edf", "made.toml"]
+    lane_of_two = b"+2\x14\x14\0+2.5\x14a\r\nb\x14\0"
+    pathlib.Path(files[0]).write_bytes(recorded(lanes=lanes_with(2, lane_of_two)))
+    pathlib.Path(files[1]).write_bytes(recorded())
+    yes, no = "YES channels 2 samples 24 annotations 3", 'duration none text "a\\x0d\\x0ab"'
+    for text, line, name in [
+        ("remove = ['''a\nb''']\n", f"NO 11 annotation missing at 2500000000000 ps {no}", "annotation kept"),
+        ("remove = ['''a\r\nb''']\r\n", yes, "annotation of the original"),
+        ('remove = ["a\\r\\nb"]\r\n', yes, "annotation removed"),
+    ]:
+        pathlib.Path(files[2]).write_bytes(claim_of(BOTH, text, [("0", "4")]).encode())
+        ran = run(program, *files)
+        counts.judge(ran == (line.startswith("NO"), f"{line}\n", ""), f"{text!r}: {ran}")
+        found = Picture(files, line).lines[-1]
+        counts.judge([2.5, 1] in found.get(name, []), f"{text!r}: {found}")
 
 
 def lanes_with(number, text):
@@ -404,6 +429,8 @@ EXPLAIN = [
     ('echo "NO 8 subfield name not X"; echo "The <i>name</i> & more."; exit 1', 1, "<p>The &lt;i&gt;name&lt;/i&gt; &amp; more.</p>"),
     ('echo "YES channels 3 samples 13590 annotations 5"; echo "A text is left."', 0, "can name somebody"),
     ("printf 'NO 8 subfield name not X\\nA \\342\\200\\256 text.\\n'; exit 1", 1, "are written by their numbers"),
+    ("printf 'NO 8 subfield name not X\\na  b\\302\\240c\\n'; exit 1", 1, "<p>a  b\\u00a0c</p>"),
+    ("echo 'NO 8 subfield name not X'; exit 1", 1, "p, td { white-space: pre-wrap; }"),
     ("echo \"error: unrecognized subcommand 'explain'\" >&2; exit 2", 1, "<p class=\"line\">NO 8 subfield name not X</p>"),
     ('echo "edfclaim: out of memory" >&2; exit 2', 2, "no answer: edfclaim: out of memory"),
     ('echo "NO 8 subfield name not X"', 2, "status 0 with NO 8"),
@@ -442,6 +469,7 @@ def main():
         try_night(counts, program)
         try_picture(counts)
         try_claims(counts, program)
+        try_line_ends(counts, program)
         try_files(counts, program)
         try_checks(counts, program)
         try_left_out(counts)
