@@ -370,6 +370,16 @@ def try_left_out(counts):
     right = (picture.rows, picture.bars, picture.lines) == ([], [], [{}])
     right = right and any(remark.startswith("Nothing is drawn: ") for remark in picture.remarks)
     counts.judge(right, f"an original that can't be read: {picture.lines}, {picture.bars}, {picture.remarks}")
+    pathlib.Path("made-original.edf").write_bytes(recorded())
+    pathlib.Path("made-export.edf").write_bytes(recorded(lanes=lanes_with(2, b"?2\x14\x14\0")))
+    unread = claim_of(BOTH, "remove = ['''a\r\nb''']", [("0", "4")])
+    for claim, how in ((ALL, "in part"), (unread, "not drawn")):
+        pathlib.Path("made.toml").write_bytes(claim.encode())
+        picture = Picture(files, "NO 2 export fault: BadTal(BadOnset) at record 2")
+        rows = [row for row in picture.rows if row.startswith("export: ")]
+        wanted = [f"export: data records ({how})", f"export: annotations ({how})"]
+        counts.judge(rows == wanted, f"{how}: {picture.rows}")
+    pathlib.Path("made-export.edf").write_bytes(recorded())
     for line in ("original -49 export -47", "original -48 export -48", "missing", "extra"):
         line = f'NO 10 sample "EEG C4-M1" at 75500000000000 ps {line}'
         picture = Picture(["original.edf", "changed-value.edf", "cut.toml"], line)
