@@ -137,7 +137,11 @@ fn time_alone_by_bytes(lane: &[u8]) -> Option<i128>
     }
 }
 
-/// What `time_alone` says, of one of many lanes in a data record: it doesn't stand in line where it is called.
+/// Where a data record starts, in picoseconds after the start of the file, by a lane that holds the TAL that
+/// keeps the time and nothing else; none where the lane holds anything else. EDF+ (2003), "Time keeping of data
+/// records".
+///
+/// `time_alone` says the same, and always stands in line where it is called; this is for one of several lanes.
 #[tactic(auto, using(crate::proofs::AloneFacts::alone_decided, crate::proofs::AloneFacts::alone_items))]
 pub fn time_alone_apart(lane: &[u8]) -> Option<i128>
     ensures alone { MatchOption result ((v : ℤ) → ¬ IsTimeAlone lane.now v) (IsTimeAlone lane.now) }
