@@ -6,7 +6,9 @@ usage: tools/drafts.py PROGRAM [COUNT [SEED]]
 Of each small file of tools/cases of which a check says Yes, and of COUNT random nights with honest exports (300 where
 none is said), the draft has status 0, and the check under the draft writes the line of the check under the claim. What a
 draft doesn't find by itself is left out: a claim that blanks texts, and one whose shift is no number of whole days. On the
-example night the draft is the one that is stored (examples/night/draft.toml); of a file that doesn't conform its fault is
+example night the draft is the one that is stored (examples/night/draft.toml). The first line of a draft is that of the check
+with it: also where that is a No, as of an export that was moved by five minutes, of swapped files, or of a channel that the
+original lacks. Of a file that doesn't conform its fault is
 written as `conform` writes it. A shift that the starts don't tell is marked, 1,000 intervals are drafted, and where a claim
 can't say what the export is, a comment says so. What isn't as it should be is said, at most twenty times. The last line of the output
 counts the drafts that passed and failed.
@@ -24,6 +26,9 @@ TOOLS = pathlib.Path(__file__).resolve().parent
 sys.path[:0] = [str(TOOLS), str(TOOLS / "oracle")]
 
 from cases import BY_RULES  # noqa: E402
+from cases.files import field  # noqa: E402
+from explain_tries import BOTH, NIGHT, ecg  # noqa: E402
+from made import Claimed, Made  # noqa: E402
 
 # the tables of tools/cases that have checks
 TABLES = [
@@ -41,7 +46,7 @@ except ImportError:
 def is_draftable(claim):
     """Whether a draft can find what a claim says."""
     said = tomllib.loads(claim)
-    return not said.get("blank") and said.get("shift", 0) % 86_400 == 0
+    return said.get("shift", 0) % 86_400 == 0
 
 
 class Drafts:
@@ -81,6 +86,8 @@ class Drafts:
         if draft[0] != 0 or draft[2]:
             return f"the draft has {draft!r}"
         given = self.run("check", *files, self.path("drafted", draft[1]))
+        if not draft[1].startswith(b"# With this draft the check answers: " + given[1]):
+            return f"the first line of the draft isn't that of a draft with {given!r}: {draft[1]!r}"
         return None if given == want else f"the check under the draft has {given!r}; wanted: {want!r}; the draft: {draft[1]!r}"
 
     def of_tables(self):
@@ -121,6 +128,49 @@ class Drafts:
             want = 2, b"", f"edfclaim: cannot open {name}\n".encode()
             self.judge(f"no {name}", None if given == want else f"the draft has {given!r}; wanted: {want!r}")
 
+    def said(self, name, original, export, words, absent=()):
+        """A draft with these words in it, and without some others; its first line has the line of the check with it."""
+        files = self.path("original", original.bytes()), self.path("export", export.bytes())
+        draft = self.run("draft", *files)
+        line = self.run("check", *files, self.path("drafted", draft[1]))[1].rstrip(b"\n")
+        lacking = [word for word in words if word.encode() not in draft[1]] + [word for word in absent if word.encode() in draft[1]]
+        is_so = draft[0] == 0 and not draft[2] and not lacking and b" check answers: " + line in draft[1].partition(b"\n")[0]
+        self.judge(name, None if is_so else f"the draft has {draft!r}; not so: {lacking}; the check: {line!r}")
+        return files
+
+    def of_tries(self):
+        """Drafts whose first line isn't a Yes, and what else is said of the files."""
+        no = "# NOT A YES: with this draft the check answers: "
+        quarter = Made([(0, 900)], {"EEG Fpz-Cz": list(range(-1800, 1800)), "ECG": list(range(1800))})
+        remarks = ["# It looks like", "# OTHER DAYS", "# NOT IN", "# NOT TOLD"]
+        late = quarter.cut(300, 600, -300)
+        files = self.said("five minutes back", quarter, late, [f'{no}NO 10 sample "ECG" at 0 ps original 0 export 600. '], remarks)
+        meant = self.path("meant", Claimed(BOTH, [(300, 600)]).text().encode())
+        given = self.run("explain", *files, meant)
+        is_so = b"With shift = -300 the answer would be YES channels 2 samples 1800 annotations 0." in given[1]
+        self.judge("five minutes back, with the intervals that were meant", None if is_so else f"the explanation has {given!r}")
+        cut = NIGHT.cut(10, 70, -86_400)
+        self.said("in order", NIGHT, cut, ["# With this draft the check answers: YES channels 2 samples 360 annotations 1\n"], [*remarks, "NOT A YES"])
+        swapped = "# It looks like the two files were swapped."
+        self.said("swapped", cut, NIGHT, [f'{no}NO 10 sample "ECG" at 0 ps original {ecg(10)} export {ecg(0)}. ', swapped])
+        hidden = NIGHT.but(edits=[(field("patient"), "X F X X")])
+        self.said("swapped, of one length", hidden, NIGHT, [f"{no}NO 8 subfield code changed", swapped])
+        self.said("hidden", NIGHT, hidden, ["# With this draft the check answers: YES channels 2 samples 600 annotations 2\n"], remarks)
+        more = NIGHT.but(channels={**NIGHT.channels, "Temp": [place % 50 for place in range(100)]})
+        self.said("a channel more", NIGHT, more, [f'{no}NO 3 unknown channel "Temp"', '# NOT IN THE ORIGINAL: channel "Temp".'], remarks[:2])
+        days = 200_000
+        long = {"EEG Fpz-Cz": [place * 7 % 4001 - 2000 for place in range(4 * days + 40)], "ECG": [7] * (2 * days + 20)}
+        days_long = Made([(0, 10), (days, days + 10)], long)
+        self.said("two days and more", days_long, days_long.cut(0, 10),
+                  ["# With this draft the check answers: YES channels 2 samples 60 annotations 0\n",
+                   "# OTHER DAYS FIT AS WELL: with a shift by -2 to 0 whole days"], ["# It looks like", "# NOT"])
+        whole, export = (self.path(name, made.bytes()) for name, made in (("original", NIGHT), ("export", cut)))
+        with open(whole, "rb") as piped:
+            how = {"stdout": subprocess.PIPE, "stderr": subprocess.PIPE}
+            ran = subprocess.run([self.program, "draft", "/dev/stdin", export], input=piped.read(), **how)
+        is_so = ran.returncode == 0 and ran.stdout.startswith(b"# NOT TRIED: ") and not ran.stderr
+        self.judge("an original over a pipe", None if is_so else f"the draft has {ran!r}")
+
     def of_limits(self):
         """A shift that isn't told, and drafts that are as long as a claim may be, or longer."""
         import night
@@ -159,6 +209,7 @@ def main():
     with tempfile.TemporaryDirectory(dir=shared) as work:
         drafts = Drafts(os.path.abspath(sys.argv[1]), work)
         drafts.of_example()
+        drafts.of_tries()
         drafts.of_limits()
         if tomllib:
             drafts.of_tables()

@@ -10,8 +10,10 @@ tools/cases, so many of each table; what isn't done in 20 seconds is left out.
 
 Of the mistakes below the sentences have to have some words, which stand in one table (WORDS): mistakes that are easily made,
 five in one export, a text of a claim that is misspelt, claims that are refused, files in another order, and files that
-can't be opened. What isn't as it should be is said, at most twenty times. The last line of the output counts the
-explanations that passed and failed.
+can't be opened. The rows of tools/explain_rows.py, and of tools/explain_tries.py on other shifts, have words that have to
+stand in the sentences, and words that may not. Each sentence has to be said of one check of tools/explain_sentences.py, and
+not of another. What isn't as it should be is said, at most twenty times. The last line of the output counts the explanations
+that passed and failed.
 """
 
 import importlib
@@ -28,6 +30,9 @@ TOOLS = pathlib.Path(__file__).resolve().parent
 sys.path.insert(0, str(TOOLS))
 
 import claims  # noqa: E402
+import explain_rows  # noqa: E402
+import explain_sentences  # noqa: E402
+import explain_tries  # noqa: E402
 import faults  # noqa: E402
 import night as example  # noqa: E402
 from cases.files import bytes_of, claim_of, field, header, lane, recording, signal, values  # noqa: E402
@@ -35,7 +40,11 @@ from cases.night import BOTH, EXCERPT, LANE_0, LANE_1, LANE_2, NIGHT, VALUES_0, 
 
 # What the sentences have to have, by the mistake. Each word stands in them somewhere, in this spelling.
 WORDS = {
-    "an annotation at the end of the interval": ["exactly at the end of a kept interval", 'to = "3.000000000001"'],
+    "an annotation at the end of the interval": ["exactly at the end of a kept interval"],
+    "an annotation at the end of the recording": [
+        "exactly at the end of a kept interval",
+        'With to = "3.000000000001" in the place of "3" the answer would be YES channels 2 samples 18 annotations 3. ',
+    ],
     "an annotation outside of the interval": ["outside of the kept intervals"],
     "extremes that are cut off": ['"EEG Fpz-Cz"', "digits cut off", "3276.7 ", "3276.699 ", "EDFlib"],
     "a text that is cut": ["cut texts to 40 bytes", "EDFlib"],
@@ -123,6 +132,7 @@ def mistakes():
     at_to, behind_to = at_end()
     late_apnea = edited(NIGHT, parts=[*NIGHT["parts"][:7], lane(40, b"+3\x14\x14\0+3.5\x14Apnea\x14\0")])
     yield "an annotation at the end of the interval", 1, WHOLE, at_to, until_three
+    yield "an annotation at the end of the recording", 1, at_to, at_to, until_three
     yield "an annotation outside of the interval", 1, late_apnea, behind_to, until_three
     wide = [[(signal(0, "physical-minimum"), low), (signal(0, "physical-maximum"), high)]
             for low, high in (("-3276.7", "3276.7"), ("-3276.69", "3276.699"))]
@@ -190,7 +200,7 @@ class Explanations:
         if self.failed <= 20:
             print(f"{name}: {fault}")
 
-    def fault(self, paths, status=None, words=()):
+    def fault(self, paths, status=None, words=(), absent=()):
         """What is wrong with the explanation of a check of these files, or none."""
         check, given = self.run("check", *paths), self.run("explain", *paths)
         if status is not None and check[0] != status:
@@ -203,7 +213,10 @@ class Explanations:
         if not sentences.strip() or not sentences.endswith(b"\n"):
             return f"no sentences stand behind the line: {shown(given)}"
         lacking = [word for word in words if word.encode() not in sentences]
-        return f"these words lack: {lacking!r}: {sentences.decode(errors='replace')}" if lacking else None
+        if lacking:
+            return f"these words lack: {lacking!r}: {sentences.decode(errors='replace')}"
+        wrong = [word for word in absent if word.encode() in sentences]
+        return f"these words are said: {wrong!r}: {sentences.decode(errors='replace')}" if wrong else None
 
     def of_night(self):
         """The checks of the example night, the broken copies of an export of it, and the claims of tools/claims.py."""
@@ -239,6 +252,52 @@ class Explanations:
                 self.judge(f"{name}, check {number}", self.fault(self.paths(*found[number][1:4])))
         return left_out
 
+    def said_of(self, files):
+        """What is said of a check of these files, behind its line."""
+        status, answer, refusal = self.run("explain", *self.paths(*files))
+        return (refusal if status == 2 else answer).partition(b"\n")[2].decode(errors="replace")
+
+    def of_sentences(self):
+        """Each sentence: of a check of which it is said, and of a near one of which it isn't."""
+        known = explain_sentences.sentences()
+        without_row = known.keys() - explain_sentences.NO_ROW
+        for name, files, pieces, near in explain_sentences.rows():
+            without_row.discard(name)
+            if name not in known:
+                self.judge(name, "there is no such sentence")
+                continue
+            wanted = explain_sentences.filled(known[name], pieces)
+            said = self.said_of(files)
+            self.judge(name, None if wanted in said else f"{wanted!r} isn't said: {said}")
+            said = self.said_of(near)
+            found = explain_sentences.pattern(known[name]).search(said)
+            self.judge(f"{name}, a near mistake", f"it is said: {said}" if found else None)
+        for name in sorted(explain_sentences.PARTS):
+            without_row.discard(name)
+            self.judge(name, explain_sentences.fault_of_part(known.get(name, "")))
+        for name, (there, absent) in explain_sentences.OF_ROWS.items():
+            without_row.discard(name)
+            self.judge(name, explain_sentences.fault_of_rows(known.get(name, ""), there, absent))
+        for name in sorted(without_row):
+            self.judge(name, "the sentence has no row")
+
+    def of_rows(self):
+        """The rows of tools/explain_rows.py: the words that stand there, and those that don't."""
+        for name, status, original, export, claim, there, absent in explain_rows.rows():
+            paths = self.paths(original, export, claim)
+            self.judge(f"row: {name}", self.fault(paths, status, there, absent))
+
+    def of_pipes(self):
+        """An export that is read from a pipe isn't there at the second reading: a sentence says so, and no other."""
+        original, _, claim = self.paths(WHOLE, WHOLE, claim_of(BOTH, "", ALL))
+        for export, is_there in ((WHOLE, False), (original, True)):
+            path = "/dev/stdin" if export is WHOLE else export
+            ran = subprocess.run([self.program, "explain", original, path, claim], input=WHOLE, capture_output=True)
+            lines = ran.stdout.splitlines()
+            is_anew = len(lines) == 2 and b"these sentences aren't to be used" in lines[1]
+            well = ran.returncode == 0 and lines[0].startswith(b"YES ") and is_anew != is_there
+            self.judge(f"explain from {path}", None if well else shown((ran.returncode, ran.stdout, ran.stderr)))
+
     def of_mistakes(self):
         """The mistakes, and the words on them."""
         for name, status, *files in mistakes():
@@ -251,6 +310,18 @@ class Explanations:
         folder = os.path.join(self.work, "a-folder")
         os.mkdir(folder)
         self.judge("a folder for the export", self.fault((paths[0], folder, paths[2]), 2, WORDS["a folder for the export"]))
+
+    def of_tries(self):
+        """The rows of tools/explain_tries.py, and an original that can't be read twice."""
+        for name, status, *files, words, absent in explain_tries.rows():
+            self.judge(name, self.fault(self.paths(*files), status, words, absent))
+        whole, export, claim = self.paths(WHOLE, WHOLE, claim_of(BOTH, "", ALL))
+        with open(whole, "rb") as piped:
+            how = {"stdout": subprocess.PIPE, "stderr": subprocess.PIPE}
+            ran = subprocess.run([self.program, "explain", "/dev/stdin", export, claim], input=piped.read(), **how)
+        said = ran.stdout.decode(errors="replace")
+        is_so = said.startswith("YES ") and said.count("\n") == 2 and "second reading" in said and not ran.stderr
+        self.judge("an original over a pipe", None if is_so else f"it has {ran!r}")
 
 
 def shown(ran):
@@ -266,6 +337,10 @@ def main():
     with tempfile.TemporaryDirectory(dir=shared) as work:
         explanations = Explanations(os.path.abspath(sys.argv[1]), work)
         explanations.of_mistakes()
+        explanations.of_rows()
+        explanations.of_pipes()
+        explanations.of_sentences()
+        explanations.of_tries()
         explanations.of_night()
         left_out = explanations.of_tables()
     print(f"left out: {left_out} checks of the tables")

@@ -10,8 +10,8 @@
 # where a write failed) and the line that says why on standard error: that memory ran out, of which file a read failed, or
 # that writing failed. Behind this line `explain` may say more. A run that succeeded
 # has its status, the whole text and nothing on standard error: the last one, in which nothing failed, and any before it
-# whose refused growth was the C library's, or was made good. The last line of the output counts the runs that passed
-# and failed.
+# whose refused growth was the C library's, or was made good. A draft that a failed read kept from being tried says so in
+# its first line, and has the rest of its text. The last line of the output counts the runs that passed and failed.
 set -u
 
 if [ "$#" -ne 1 ] || [ ! -x "$1" ]; then
@@ -38,13 +38,25 @@ fail() {
     echo "$*"
 }
 
-# How the last run ended: `whole`, `stopped`, or what is wrong with it; its status, that of a run in which nothing
+# Whether the last run wrote a draft that couldn't be tried: its first line says so, and the rest is as it has to be.
+is_untried() {
+    case $(head -n 1 "$work/out") in
+    '# NOT TRIED: '*) ;;
+    *) return 1 ;;
+    esac
+    tail -n +2 "$work/want" >"$work/rest"
+    tail -n +2 "$work/out" | cmp -s - "$work/rest"
+}
+
+# How the last run ended: `whole`, `untried`, `stopped`, or what is wrong with it; its status, that of a run in which nothing
 # fails, and how many bytes a run that was stopped may have written. The line that says why stands in the file `line`.
 judge() {
     size=$(wc -c <"$work/out")
     head -c "$size" "$work/want" >"$work/front"
     if [ "$1" -eq "$2" ] && cmp -s "$work/out" "$work/want" && [ ! -s "$work/err" ]; then
         echo whole
+    elif [ "$1" -eq "$2" ] && [ ! -s "$work/err" ] && is_untried; then
+        echo untried
     elif [ "$1" -eq 2 ] && [ "$size" -le "$3" ] && cmp -s "$work/out" "$work/front" && cmp -s "$work/err" "$work/line"; then
         echo stopped
     else
@@ -92,7 +104,7 @@ run_failing() {
 # Counts a run: how it ended, how it may end (`any`, or `stopped` or `whole` alone), and what it was.
 count_run() {
     case $1.$2 in
-    whole.any | stopped.any | stopped.stopped | whole.whole) passed=$((passed + 1)) ;;
+    whole.any | stopped.any | stopped.stopped | whole.whole | untried.stopped) passed=$((passed + 1)) ;;
     *) fail "$3: $1" ;;
     esac
 }
@@ -216,6 +228,10 @@ fail_each 0 0 draft original.edf cut.edf
 # its line is written before its sentences are made: where these fail, it stands there
 "$program" explain original.edf cut.edf cut.toml >"$work/want"
 fail_each 0 1000000 explain original.edf cut.edf cut.toml
+# with a shift that is tried
+sed 's/^shift = .*/shift = 0/' cut.toml >"$work/unmoved.toml" || exit 2
+"$program" explain original.edf cut.edf "$work/unmoved.toml" >"$work/want"
+fail_each 1 1000000 explain original.edf cut.edf "$work/unmoved.toml"
 echo 'CONFORMS records 150 channels 5 samples 52650 annotations 10' >"$work/want"
 fail_each 0 0 conform original.edf
 "$program" show original.edf >"$work/want"

@@ -39,7 +39,7 @@ answers() {
 }
 
 for crate in edf_fields edf_header edf_tal edf_stream edf_claim edf_verdict edf_refusal edf_rows edf_heads edf_check \
-    edf_draft; do
+    edf_trial edf_draft; do
     take "$work" "$crate"
 done
 
@@ -53,7 +53,7 @@ add() {
 add answers "edf_fields edf_header edf_tal edf_stream edf_claim edf_heads edf_verdict jiff"
 add verdicts "edf_fields edf_claim edf_refusal edf_check"
 add parts "edf_fields edf_claim edf_refusal edf_check"
-add drafts "edf_fields edf_draft"
+add drafts "edf_fields edf_draft edf_trial"
 failed=0
 
 # Makes cases, of which so many go into a run of the program of a crate, and runs it on them; all cases and all that is

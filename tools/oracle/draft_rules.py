@@ -1,4 +1,5 @@
-"""Judges drafts of claims: under each, the second reading of the rules says Yes, with the counts that it has under the claim.
+"""Judges drafts of claims: under each, the second reading of the rules says Yes, with the counts that it has under the claim,
+and so does the first line of the draft.
 
 usage: draft_rules.py CASES GIVEN
 
@@ -20,6 +21,8 @@ def fault(case, given):
         return f"the claim itself has {want}"
     draft = given.encode("latin1").replace(b"\1", b"\n")
     line = verdict_rules.line(original, export, draft)
+    if not draft.startswith(b"# With this draft the check answers: " + want.encode() + b"\n"):
+        return f"the first line of the draft isn't that of a draft with {want}: {draft[:300]!r}"
     return None if line == want else f"{line}; wanted: {want}; the claim: {claim!r}; the draft: {draft!r}"
 
 

@@ -128,7 +128,7 @@ def print_helpers(program, title, night, exports, document):
     for name, export in exports:
         base = None
         for command, words, front in (
-            ("check", [document], "YES "), ("draft", [], "# A draft"), ("explain", [document], "YES "),
+            ("check", [document], "YES "), ("draft", [], "# With this draft"), ("explain", [document], "YES "),
         ):
             work, clock, memory = median([program, command, night, export, *words], front)
             base = base or work

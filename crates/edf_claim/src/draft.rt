@@ -1,6 +1,6 @@
 //! What a claim is to say, and whether a text says it.
 
-ghost use Rattle.std.specs.Prelude.{◌≡◌, map, IfOk, IsTrue};
+ghost use Rattle.std.specs.Prelude.{◌≡◌, ◌↔◌, map, IfOk, IsTrue};
 ghost use Rattle.edf_claim.specs.Claims.{SaysClaimText};
 
 use crate::claim::Claim;
@@ -11,7 +11,7 @@ use edf_fields::which::Which;
 use std::alloc::{AllocError, Global};
 use std::marker::Model;
 
-/// What a claim of format 1 is to say, as it is drafted from two files.
+/// What a claim is to say, as it is drafted from two files. It is of format 2 where it blanks a text, and else of format 1.
 #[derive(Debug, Drop)]
 pub struct Draft {
     /// The labels of the channels, in the claim's order.
@@ -24,6 +24,17 @@ pub struct Draft {
     pub shift: i64,
     /// The texts of annotations that are removed.
     pub remove: Vec<Vec<u8>>,
+    /// The texts of annotations that are blanked.
+    pub blank: Vec<Vec<u8>>,
+}
+
+/// How often each text of a draft stands in the original.
+#[derive(Clone, Copy)]
+pub struct Counts<'a> {
+    /// Each of those that are removed.
+    pub removed: &'a [u64],
+    /// Each of those that are blanked.
+    pub blanked: &'a [u64],
 }
 
 impl Model for Draft {
@@ -39,7 +50,7 @@ impl Model for Draft {
       shift = d.shift;
       remove = map (λ t. t.items) d.remove.items;
       remove_prefix = [];
-      blank = [];
+      blank = map (λ t. t.items) d.blank.items;
     } };
 }
 
@@ -95,18 +106,34 @@ fn are_same_subfields(whiches: &[Which], others: &[Which]) -> bool
     true
 }
 
+impl Claim {
+    /// Whether the channels are those with these labels, in this order.
+    pub fn has_channels(&self, labels: &[Vec<u8>]) -> bool
+        ensures { IsTrue result → self.now.channels ≡ map (λ t. t.items) labels.now }
+    {
+        are_same_labels(&self.channels, labels)
+    }
+
+    /// Whether what is kept moves by so many seconds.
+    pub fn has_shift(&self, seconds: i64) -> bool
+        ensures { IsTrue result ↔ (self.now.shift ≡ seconds) }
+    {
+        self.shift == seconds
+    }
+}
+
 impl Draft {
     /// Whether a claim says just this.
     fn is_claim(&self, claim: &Claim) -> bool
         ensures { IsTrue result → claim.now ≡ self.now }
     {
-        are_same_labels(&claim.channels, &self.channels)
+        claim.has_channels(&self.channels)
             && are_same_intervals(&claim.keep, &self.keep)
             && are_same_subfields(&claim.anonymous, &self.anonymous)
-            && claim.shift == self.shift
+            && claim.has_shift(self.shift)
             && are_same_texts(&claim.texts.remove, &self.remove)
             && claim.texts.remove_prefix.is_empty()
-            && claim.texts.blank.is_empty()
+            && are_same_texts(&claim.texts.blank, &self.blank)
     }
 
     /// Whether a text is a claim that says just this.

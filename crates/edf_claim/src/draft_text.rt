@@ -3,14 +3,19 @@
 ghost use Rattle.std.specs.Prelude.{IfOk, IfSome};
 ghost use Rattle.edf_claim.specs.Claims.{SaysClaimText};
 
-use crate::draft::Draft;
+use crate::draft::{Counts, Draft};
 use crate::interval::Interval;
 use std::alloc::{AllocError, Global};
 
 /// What stands at the head of a draft.
 const HEAD: &str = "# A draft: it says what the export is, and not what was meant.
 # Confirm each line, and remove its comment.
-format = 1
+";
+
+/// What stands in front of the texts that are blanked.
+const BLANKED: &str = "
+# the texts of annotations in this time in whose place the export has X, each at its time and with its duration
+blank = [
 ";
 
 /// How many picoseconds a second has.
@@ -59,6 +64,22 @@ fn push_interval(text: &mut Vec<u8>, alloc: Global, interval: Interval) -> Resul
     push(text, ", to = ")?;
     push_seconds(text, alloc, interval.to_ps)?;
     push(text, " }, # confirm\n")
+}
+
+/// Puts the lines of some texts behind another, each with how often it stands.
+fn push_texts(
+    text: &mut Vec<u8>,
+    alloc: Global,
+    texts: &[Vec<u8>],
+    counts: &[u64],
+) -> Result<(), AllocError> {
+    for (said, count) in texts.iter().zip(counts) {
+        push(text, "  ")?;
+        push_quoted(text, alloc, said)?;
+        let stands = format!(in alloc; ", # confirm; how often it stands: {count}\n")?;
+        push(text, &stands)?;
+    }
+    push(text, "]\n")
 }
 
 impl Draft {
@@ -122,37 +143,61 @@ impl Draft {
             text,
             "\n# the texts of annotations in this time that the original has, and the export hasn't\nremove = [\n",
         )?;
-        for (removed, count) in self.remove.iter().zip(counts) {
-            push(text, "  ")?;
-            push_quoted(text, alloc, removed)?;
-            let stands = format!(in alloc; ", # confirm; how often it stands: {count}\n")?;
-            push(text, &stands)?;
+        push_texts(text, alloc, &self.remove, counts)
+    }
+
+    /// Puts the lines of the texts that are blanked behind a text, each with how often it stands, where there are some.
+    fn push_blank(
+        &self,
+        text: &mut Vec<u8>,
+        alloc: Global,
+        counts: &[u64],
+    ) -> Result<(), AllocError> {
+        if self.blank.is_empty() {
+            return Ok(());
         }
-        push(text, "]\n")
+        push(text, BLANKED)?;
+        push_texts(text, alloc, &self.blank, counts)
+    }
+
+    /// Puts the line of the format behind a text.
+    fn push_format(&self, text: &mut Vec<u8>) -> Result<(), AllocError> {
+        if self.blank.is_empty() {
+            push(text, "format = 1\n")
+        } else {
+            push(text, "format = 2\n")
+        }
     }
 
     /// The text of the claim, whatever it says.
-    fn written(&self, alloc: Global, counts: &[u64], remarks: &str) -> Result<Vec<u8>, AllocError> {
+    fn written(
+        &self,
+        alloc: Global,
+        counts: Counts<'_>,
+        remarks: &str,
+    ) -> Result<Vec<u8>, AllocError> {
         let mut text = Vec::new(alloc);
         push(&mut text, HEAD)?;
+        self.push_format(&mut text)?;
         push(&mut text, remarks)?;
         self.push_channels(&mut text, alloc)?;
         self.push_keep(&mut text, alloc)?;
         self.push_anonymous(&mut text)?;
         self.push_shift(&mut text, alloc)?;
-        self.push_remove(&mut text, alloc, counts)?;
+        self.push_remove(&mut text, alloc, counts.removed)?;
+        self.push_blank(&mut text, alloc, counts.blanked)?;
         Ok(text)
     }
 
-    /// The text of the claim, with a comment behind each line, how often each text that is removed stands, and lines of
-    /// remarks, each a comment of TOML; or none where no claim says this, as of a label that stands twice, or where the
+    /// The text of the claim, with a comment behind each line, how often each text that is removed or blanked stands, and lines
+    /// of remarks, each a comment of TOML; or none where no claim says this, as of a label that stands twice, or where the
     /// text is longer than a claim may be.
     ///
     /// The text is read as a claim before it is given. The error is want of memory.
     pub fn text(
         &self,
         alloc: Global,
-        counts: &[u64],
+        counts: Counts<'_>,
         remarks: &str,
     ) -> Result<Option<Vec<u8>>, AllocError>
         ensures { IfOk result (λ text. IfSome text (λ t. SaysClaimText t.items self.now)) }

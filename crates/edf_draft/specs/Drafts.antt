@@ -12,13 +12,12 @@ use Rattle.edf_draft.specs.Hidden.{IsHidden}
 use Rattle.edf_draft.specs.Times.{begin_of, end_of}
 
 -- a claim of this shift has the channels of the export, in its order; what is anonymous in it are the subfields that the export hides;
--- and it has nothing of format 2
+-- and it removes no texts by how they begin
 pub record IsDraftFor (original export : Head) (shift : ℤ) (claim : Terms) : Type 0 where
   pub channels : claim.channels ≡ channel_labels export.signals
   pub anonymous : (which : Which) → Has claim.anonymous which ↔ IsHidden original export which
   pub moved : claim.shift ≡ shift
   pub no_prefix : claim.remove_prefix ≡ []
-  pub no_blank : claim.blank ≡ []
 
 -- the shift is the one that two files tell: by whole days, so that the export lies in the time of the original; or no number of days
 -- does that

@@ -13,6 +13,7 @@ use edf_fields::source::Source;
 use edf_header::stop::Stop;
 use edf_refusal::side::Side;
 use edf_refusal::stop::CheckStop;
+use edf_trial::recordings::Recordings;
 use edf_verdict::outcome::Outcome;
 use std::alloc::{AllocError, Global};
 
@@ -56,11 +57,16 @@ impl Answer {
     }
 
     /// That of two files that conform.
-    fn of_draft(alloc: Global, original: &Recorded, export: &Recorded) -> Result<Answer, CheckStop>
+    fn of_draft<R: Recordings>(
+        alloc: Global,
+        original: &Recorded,
+        export: &Recorded,
+        again: &R,
+    ) -> Result<Answer, CheckStop>
         ensures answer { IfOk result (λ a. (o e : List ℕ) → IsReadOf o original.now → IsReadOf e export.now → IsAnswer o e a.text.items a.outcome) }
         ensures stop { IfErr result (λ stop. stop ≡ check_stops.OutOfMemory) }
     {
-        match draft_text(alloc, original, export)? {
+        match draft_text(alloc, original, export, again)? {
             Some(text) => Ok(Answer {
                 text,
                 outcome: Outcome::Yes,
@@ -95,13 +101,14 @@ fn read_side<S: Source>(
 }
 
 /// Reads two files to their ends, the original first: the draft of a claim, or the first fault of the original, or else of
-/// the export.
+/// the export. The draft is tried on the same files, which are opened anew.
 ///
 /// The error is want of memory, or a failure of one of the sources.
-pub(crate) fn answer_of<O: Source, E: Source>(
+pub(crate) fn answer_of<O: Source, E: Source, R: Recordings>(
     alloc: Global,
     original: &mut O,
     export: &mut E,
+    again: &R,
 ) -> Result<Answer, CheckStop>
     ensures answer { IfOk result (λ a. IsTrue (O.is_honest original.old) → IsTrue (E.is_honest export.old) →
         IsAnswer (O.left original.old) (E.left export.old) a.text.items a.outcome) }
@@ -117,5 +124,5 @@ pub(crate) fn answer_of<O: Source, E: Source>(
         Ok(recorded) => recorded,
         Err(fault) => return Answer::of_fault(alloc, Side::Export, &fault),
     };
-    Answer::of_draft(alloc, &first, &second)
+    Answer::of_draft(alloc, &first, &second, again)
 }

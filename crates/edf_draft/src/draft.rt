@@ -10,6 +10,7 @@ use crate::answer::answer_of;
 use edf_fields::sink::{Sink, put_all};
 use edf_fields::source::Source;
 use edf_refusal::stop::RunStop;
+use edf_trial::recordings::Recordings;
 use edf_verdict::outcome::Outcome;
 use std::alloc::Global;
 
@@ -19,18 +20,21 @@ use std::alloc::Global;
 /// The text is a claim, and it says the channels of the export in its order, the subfields that are `X` in the export and not
 /// as in the original, and a shift by whole days that puts the export into the time of the original, or any where none does
 /// that. The outcome is `Yes`. Of the rest no clause speaks: the intervals that the export's data records cover then, the texts
-/// of annotations there that the original has and the export hasn't, and the comments, one of which says where no shift by
-/// whole days fits.
+/// of annotations there that the original has and the export hasn't, and the comments. The first line is one: it says what the
+/// check answers with the draft, for which both files are opened anew. Where they can't be read once more, it says that.
+/// Others say where no shift by whole days fits, where several do, which channels the original lacks, and where it looks like
+/// the files were swapped.
 ///
 /// The outcome is `No` where a file doesn't conform: a comment says which, and its first fault follows as `conform` writes
 /// it, the original's before the export's; and where no claim can say what the export is, which a comment says.
 ///
 /// The error is want of memory, or a failure of a source or of the sink. Nothing is written before both files were read;
 /// where the sink fails, a front of the text was written.
-pub fn draft_to<O: Source, E: Source, K: Sink>(
+pub fn draft_to<O: Source, E: Source, K: Sink, R: Recordings>(
     alloc: Global,
     original: &mut O,
     export: &mut E,
+    again: &R,
     sink: &mut K,
 ) -> Result<Outcome, RunStop>
     ensures draft { IfOk result (λ outcome. IsTrue (O.is_honest original.old) → IsTrue (E.is_honest export.old) → IsTrue (K.is_honest sink.old) →
@@ -45,7 +49,7 @@ pub fn draft_to<O: Source, E: Source, K: Sink>(
         (Rises (K.failures sink.old) (K.failures sink.new))
         ((O.reads original.new ≡ O.reads original.old) × (E.reads export.new ≡ E.reads export.old))) }
 {
-    let answer = answer_of(alloc, original, export)?;
+    let answer = answer_of(alloc, original, export, again)?;
     put_all(sink, &answer.text)?;
     Ok(answer.outcome)
 }

@@ -2,7 +2,6 @@
 
 ghost use Rattle.std.specs.Prelude.{IfOk, IfSome};
 ghost use Rattle.edf_draft.specs.Answers.{IsTextOf};
-ghost use Rattle.edf_draft.specs.Days.{IsShift};
 ghost use Rattle.edf_draft.specs.Drafts.{IsDraftFor};
 
 use crate::channels::channel_labels;
@@ -10,30 +9,20 @@ use crate::grid::Grid;
 use crate::hidden::hidden_subfields;
 use crate::keep::{Back, kept_intervals};
 use crate::recorded::Recorded;
-use crate::shift::{Shift, shift_between};
-use crate::texts::{Texts, lacking_texts};
-use edf_claim::draft::Draft;
+use crate::remarks::remarks_of;
+use crate::shift::shift_of;
+use crate::texts::{Lacking, lacking_texts};
+use crate::tried::tried_text;
+use edf_claim::draft::{Counts, Draft};
+use edf_trial::recordings::Recordings;
 use std::alloc::{AllocError, Global};
 
-/// What stands in a draft where the starts of the two files don't tell a shift.
-const UNTOLD: &str = "
-# NOT TOLD by the starts: no shift by whole days puts the export into the time of the original. The shift below lets
-# both begin together, which is a guess, and the intervals follow from it. Set both right before anything else.
-";
-
-/// The shift between two recordings.
-fn shift_of(original: &Recorded, export: &Recorded) -> Shift
-    ensures { IsShift (original.now.times).begin_ps (original.now.times).end_ps (export.now.times).begin_ps (export.now.times).end_ps result.is_told result.seconds }
-{
-    let (old, new) = (original.times, export.times);
-    shift_between(old.begin_ps, old.end_ps, new.begin_ps, new.end_ps)
-}
-
-/// A draft, and how often each text that it removes stands.
+/// A draft, and how often each text stands that it removes, and that it blanks.
 #[derive(Drop)]
 struct Drafted {
     draft: Draft,
-    counts: Vec<u64>,
+    removed: Vec<u64>,
+    blanked: Vec<u64>,
 }
 
 impl Recorded {
@@ -56,7 +45,7 @@ fn draft_of(
     let back = Back::new(original.start_second(), export.start_second(), shift);
     let grid = Grid::new(alloc, original.reader.header(), &channels)?;
     let keep = kept_intervals(alloc, original, export, &grid, back)?;
-    let Texts { texts, counts } = lacking_texts(
+    let Lacking { removed, blanked } = lacking_texts(
         alloc,
         &original.remarks,
         &export.remarks,
@@ -70,23 +59,33 @@ fn draft_of(
             keep,
             anonymous,
             shift,
-            remove: texts,
+            remove: removed.texts,
+            blank: blanked.texts,
         },
-        counts,
+        removed: removed.counts,
+        blanked: blanked.counts,
     })
 }
 
-/// The text of a draft of a claim by which one recording is the export of another; none where no claim says it, as where it
-/// needs more than 1,000 intervals or 65,536 bytes.
-pub(crate) fn draft_text(
+/// The text of a draft of a claim by which one recording is the export of another, with what the check answers with it in its
+/// first line; none where no claim says it, as where it needs more than 1,000 intervals or 65,536 bytes.
+pub(crate) fn draft_text<R: Recordings>(
     alloc: Global,
     original: &Recorded,
     export: &Recorded,
+    again: &R,
 ) -> Result<Option<Vec<u8>>, AllocError>
     ensures { IfOk result (λ text. IfSome text (λ t. IsTextOf original.now export.now t.items)) }
 {
     let shift = shift_of(original, export);
     let drafted = draft_of(alloc, original, export, shift.seconds)?;
-    let remarks = if shift.is_told { "" } else { UNTOLD };
-    drafted.draft.text(alloc, &drafted.counts, remarks)
+    let remarks = remarks_of(alloc, original, export, shift)?;
+    let counts = Counts {
+        removed: &drafted.removed,
+        blanked: &drafted.blanked,
+    };
+    match drafted.draft.text(alloc, counts, &remarks)? {
+        Some(text) => tried_text(alloc, &drafted.draft, &text, again),
+        None => Ok(None),
+    }
 }

@@ -10,5 +10,7 @@ mod grid;
 mod hidden;
 mod keep;
 mod recorded;
+mod remarks;
 mod shift;
 mod texts;
+mod tried;

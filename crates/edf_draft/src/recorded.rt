@@ -22,6 +22,8 @@ use std::alloc::{AllocError, Global};
 pub(crate) struct Remark {
     /// In picoseconds after the second at which the file starts.
     pub onset: i128,
+    /// In picoseconds; none where the annotation has none.
+    pub duration: Option<i128>,
     pub text: Vec<u8>,
 }
 
@@ -124,6 +126,7 @@ fn push_remarks(
         let text = Vec::from_slice(alloc, note.text.as_bytes())?;
         remarks.push(Remark {
             onset: note.onset,
+            duration: note.duration,
             text,
         })?;
     }

@@ -66,7 +66,7 @@ fn shift_by_days(begin: i128, end: i128, from: i128, to: i128) -> Shift
 /// The shift that puts the time from `from` to `to` between `begin` and `end`: none where it lies there as it is, or else a
 /// number of whole days.
 #[tactic(auto, using(crate::proofs::DayFacts::is_unmoved))]
-pub(crate) fn shift_between(begin: i128, end: i128, from: i128, to: i128) -> Shift
+fn shift_between(begin: i128, end: i128, from: i128, to: i128) -> Shift
     requires begin { unsigned_abs begin < 2 ^ 80 }
     requires from { unsigned_abs from < 2 ^ 80 }
     requires to { unsigned_abs to < 2 ^ 80 }
@@ -80,4 +80,12 @@ pub(crate) fn shift_between(begin: i128, end: i128, from: i128, to: i128) -> Shi
     } else {
         shift_by_days(begin, end, from, to)
     }
+}
+
+/// The shift between two recordings.
+pub(crate) fn shift_of(original: &Recorded, export: &Recorded) -> Shift
+    ensures { IsShift (original.now.times).begin_ps (original.now.times).end_ps (export.now.times).begin_ps (export.now.times).end_ps result.is_told result.seconds }
+{
+    let (old, new) = (original.times, export.times);
+    shift_between(old.begin_ps, old.end_ps, new.begin_ps, new.end_ps)
 }

@@ -97,8 +97,64 @@ pub(crate) fn part_from<'a>(text: &'a [u8], part: &[u8], from: usize) -> Option<
     None
 }
 
-/// The line with which the table of an interval begins, by its number from 0 on.
+/// What stands behind a key and its `=` in a line, where the line is one of this key.
+pub(crate) fn value_behind<'a>(line: &'a [u8], key: &str) -> Option<&'a [u8]> {
+    match behind_key(line, key.as_bytes())? {
+        [b'=', value @ ..] => Some(value.trim_ascii()),
+        _ => None,
+    }
+}
+
+/// The place of the brace in a line that begins the table of an interval, where so many tables begin in front of it. The
+/// count is what is left of it behind the line.
+fn brace_in(line: &[u8], left: &mut usize) -> Option<usize> {
+    let mut is_in_text = false;
+    for (place, byte) in line.iter().enumerate() {
+        match byte {
+            b'"' => is_in_text = !is_in_text,
+            b'#' if !is_in_text => return None,
+            b'{' if !is_in_text => {
+                if *left == 0 {
+                    return Some(place);
+                }
+                *left = left.saturating_sub(1);
+            }
+            _ => {}
+        }
+    }
+    None
+}
+
+/// Where the table of an interval begins that stands in a list behind `keep`, by its number from 0 on.
+fn listed_keep_at<'a>(text: &'a [u8], interval: usize) -> Option<Spotted<'a>> {
+    let first = key_at(text, "keep")?.line;
+    let mut left = interval;
+    for (place, line) in text.split(|byte: &u8| *byte == b'\n').enumerate() {
+        let number = place.saturating_add(1);
+        if number >= first
+            && let Some(offset) = brace_in(line, &mut left)
+        {
+            return Some(Spotted {
+                line: number,
+                column: column_behind(line, offset),
+                content: line.trim_ascii(),
+            });
+        }
+    }
+    None
+}
+
+/// Where the table of an interval begins, by its number from 0 on: its line `[[keep]]`, or its place in the list behind
+/// `keep`.
 pub(crate) fn keep_at<'a>(text: &'a [u8], interval: usize) -> Option<Spotted<'a>> {
+    match headed_keep_at(text, interval) {
+        Some(place) => Some(place),
+        None => listed_keep_at(text, interval),
+    }
+}
+
+/// The line with which the table of an interval begins, by its number from 0 on.
+fn headed_keep_at<'a>(text: &'a [u8], interval: usize) -> Option<Spotted<'a>> {
     let mut before: usize = 0;
     for (place, line) in text.split(|byte: &u8| *byte == b'\n').enumerate() {
         if line.trim_ascii_start().starts_with(KEEP) {

@@ -3,17 +3,20 @@
 ghost use Rattle.std.specs.Prelude.{IsTrue};
 ghost use Rattle.edf_explain.specs.Appending.{Appended};
 
+use crate::answers::Asked;
 use crate::faults::say_fault;
 use crate::front_source::FrontSource;
 use crate::heads::say_heads;
 use crate::notes::OnlyInOne;
+use crate::other_channels::say_other_channels;
+use crate::other_end::say_other_end;
 use crate::remarks::say_remarks;
 use crate::samples::{Clocks, say_samples};
 use crate::stand::{Begun, Stand};
-use crate::starts::Starts;
-use crate::text::Text;
+use crate::text::{SECOND, Text};
+use crate::tries::Tries;
 use crate::walk::{Walk, start_of};
-use crate::warnings::say_warnings;
+use crate::warnings::{say_behind_no, say_warnings};
 use crate::words;
 use edf_claim::claim::Claim;
 use edf_fields::fault::Fault;
@@ -21,7 +24,9 @@ use edf_fields::sink::{Sink, put_all};
 use edf_fields::source::Source;
 use edf_refusal::side::Side;
 use edf_refusal::stop::RunStop;
+use edf_trial::recordings::Recordings;
 use edf_verdict::outcome::Outcome;
+use edf_verdict::verdict::{Difference, Verdict};
 use std::alloc::{AllocError, Global};
 
 /// The clocks of both files.
@@ -33,73 +38,90 @@ fn clocks_of(walk: &Walk<'_>) -> Clocks {
     }
 }
 
-/// Says where the export starts, or that nothing is kept. `has_no_channel` says that there is none in both files, so that
-/// nothing is known of it.
-fn say_starts(
-    text: &mut Text,
-    starts: Option<Starts>,
-    has_no_channel: bool,
-) -> Result<(), AllocError> {
-    match starts {
-        Some(starts) => starts.say(text),
-        None if has_no_channel => Ok(()),
+/// Says where the export starts, or that nothing is kept. Where both files have no channel nothing is known of it.
+fn say_starts(text: &mut Text, walk: &Walk<'_>, tries: &Tries) -> Result<(), AllocError> {
+    match walk.starts {
+        Some(starts) => starts.say(text, tries),
+        None if walk.tracks.is_empty() => Ok(()),
+        None if walk.keeps_between => text.say(words::KEPT_BETWEEN, &[]),
         None => text.say(words::NOTHING_KEPT, &[]),
     }
 }
 
-/// Says how the export isn't as claimed, of two files without a fault.
-fn say_differences(
+/// Says how the export isn't as claimed, of two files without a fault. Where the check answers with a Yes with another shift,
+/// the samples and annotations that stand elsewhere aren't listed. Where no other shift was tried, something else is.
+fn say_differences<R: Recordings>(
     text: &mut Text,
-    alloc: Global,
-    claim: &Claim,
+    asked: &Asked<'_, R>,
     walk: &Walk<'_>,
-    apart: &OnlyInOne,
-) -> Result<(), AllocError> {
+    (shifts, apart): (&Tries, &OnlyInOne),
+) -> Result<(), RunStop> {
     let clocks = clocks_of(walk);
-    say_heads(
-        text,
-        alloc,
-        walk.original_header(),
-        walk.export_header(),
-        claim,
-    )?;
-    say_starts(text, walk.starts, walk.tracks.is_empty())?;
+    let (claim, original, export) = (walk.claim(), walk.original_header(), walk.export_header());
+    say_heads(text, text.alloc(), original, export, claim)?;
+    say_other_channels(text, asked, claim, (original, export))?;
+    say_starts(text, walk, shifts)?;
+    if shifts.has_yes() {
+        return Ok(());
+    }
     say_samples(text, claim.channels(), &walk.tracks, clocks)?;
-    say_remarks(text, claim, &walk.notes, apart, clocks)
+    say_remarks(text, claim, &walk.notes, apart, clocks)?;
+    if shifts.are_none() {
+        say_other_end(text, asked, claim, (&walk.notes, apart))?;
+    }
+    Ok(())
 }
 
 /// Says what is to be done behind the differences, or what to read where there is none.
-fn say_behind(
+fn say_behind<R: Recordings>(
     text: &mut Text,
-    alloc: Global,
-    claim_text: &[u8],
+    asked: &Asked<'_, R>,
     walk: &Walk<'_>,
-    outcome: Outcome,
 ) -> Result<(), AllocError> {
-    if text.is_empty() == (outcome == Outcome::No) {
+    let alloc = text.alloc();
+    if text.is_empty() == (asked.verdict.outcome() == Outcome::No) {
         return text.say(words::READ_ANEW, &[]);
     }
     if !text.is_empty() {
-        return text.say(words::CHECK_AGAIN, &[]);
+        return say_behind_no(text, alloc, asked.claim_text, walk.shown());
     }
-    let original = walk.original_header();
-    let export = walk.export_header();
-    say_warnings(text, alloc, claim_text, original, export, &walk.notes)
+    say_warnings(text, alloc, asked.claim_text, walk.shown())
 }
 
-/// Says the fault of one of the files.
+/// Says what is to be said of two files without a fault that were read to their ends.
+fn say_walked<R: Recordings>(
+    text: &mut Text,
+    asked: &Asked<'_, R>,
+    walk: &mut Walk<'_>,
+    shifts: &Tries,
+) -> Result<(), RunStop> {
+    let apart = walk.notes.apart(text.alloc())?;
+    say_differences(text, asked, walk, (shifts, &apart))?;
+    say_behind(text, asked, walk)?;
+    Ok(())
+}
+
+/// Whether a verdict is that a file has a fault.
+fn is_of_fault(verdict: &Verdict) -> bool {
+    matches!(
+        verdict,
+        Verdict::No(Difference::OriginalFault(_) | Difference::ExportFault(_))
+    )
+}
+
+/// Says the fault of one of the files, where the check said one.
 fn say_fault_of<O: Source, E: Source>(
     text: &mut Text,
     alloc: Global,
-    fault: (Side, Fault),
-    outcome: Outcome,
-    original: &FrontSource<'_, O>,
-    export: &FrontSource<'_, E>,
+    (side, fault): (Side, Fault),
+    verdict: &Verdict,
+    sources: (&FrontSource<'_, O>, &FrontSource<'_, E>),
 ) -> Result<(), RunStop> {
-    if outcome == Outcome::Yes {
+    if !is_of_fault(verdict) {
         text.say(words::READ_ANEW, &[])?;
+        return Ok(());
     }
-    let (side, fault) = fault;
+    let (original, export) = sources;
     let front = match side {
         Side::Original => original.front(),
         Side::Export => export.front(),
@@ -121,54 +143,54 @@ fn fault_of_export<O: Source>(
     }
 }
 
+/// A walk to the ends of two files of which the headers could be read, and the shifts that were tried.
+fn walked<'c, R: Recordings, O: Source, E: Source>(
+    alloc: Global,
+    asked: &Asked<'_, R>,
+    mut walk: Walk<'c>,
+    original: &mut O,
+    export: &mut E,
+) -> Result<(Walk<'c>, Tries), RunStop> {
+    walk.begin(original, export)?;
+    let tries = Tries::of_shifts(alloc, asked, walk.starts)?;
+    if let Some(seconds) = tries.for_samples() {
+        walk.move_back(i128::from(seconds).saturating_mul(SECOND));
+    }
+    walk.run(original, export)?;
+    Ok((walk, tries))
+}
+
 /// Says what is to be said of two files of which the headers could be read.
-fn say_both<O: Source, E: Source>(
+fn say_both<R: Recordings, O: Source, E: Source>(
     text: &mut Text,
     alloc: Global,
-    claim: &Claim,
-    (claim_text, outcome): (&[u8], Outcome),
-    stands: (Stand, Stand),
-    original: &mut FrontSource<'_, O>,
-    export: &mut FrontSource<'_, E>,
+    asked: &Asked<'_, R>,
+    (old, new): (Stand, Stand),
+    sources: (&mut FrontSource<'_, O>, &mut FrontSource<'_, E>),
 ) -> Result<(), RunStop> {
-    let (old, new) = stands;
-    let mut walk = Walk::new(alloc, claim, old, new)?;
-    walk.run(original, export)?;
-    if let Some(fault) = walk.fault() {
-        return say_fault_of(text, alloc, fault, outcome, original, export);
+    let claim = Claim::read(alloc, asked.claim_text)?;
+    let (original, export) = sources;
+    let walk = Walk::new(alloc, &claim, old, new)?;
+    let (mut walk, shifts) = walked(alloc, asked, walk, original, export)?;
+    match walk.fault() {
+        Some(fault) => say_fault_of(text, alloc, fault, asked.verdict, (original, export)),
+        None => say_walked(text, asked, &mut walk, &shifts),
     }
-    let apart = walk.notes.apart(alloc)?;
-    say_differences(text, alloc, claim, &walk, &apart)?;
-    say_behind(text, alloc, claim_text, &walk, outcome)?;
-    Ok(())
 }
 
 /// The sentences on two files and a claim.
-fn sentences<O: Source, E: Source>(
-    alloc: Global,
-    original: &mut O,
-    export: &mut E,
-    claim_text: &[u8],
-    outcome: Outcome,
-) -> Result<Text, RunStop> {
-    let claim = Claim::read(alloc, claim_text)?;
+fn sentences<R: Recordings>(alloc: Global, asked: &Asked<'_, R>) -> Result<Text, RunStop> {
     let mut text = Text::new(alloc);
-    let mut first = FrontSource::new(alloc, original);
-    let mut second = FrontSource::new(alloc, export);
+    let mut original = asked.recordings.open_original()?;
+    let mut export = asked.recordings.open_export()?;
+    let mut first = FrontSource::new(alloc, &mut original);
+    let mut second = FrontSource::new(alloc, &mut export);
     let old = Stand::begin(alloc, &mut first, Side::Original)?;
     let new = Stand::begin(alloc, &mut second, Side::Export)?;
     let fault = match (old, new) {
         (Begun::Open(old), Begun::Open(new)) => {
-            let stands = (old, new);
-            say_both(
-                &mut text,
-                alloc,
-                &claim,
-                (claim_text, outcome),
-                stands,
-                &mut first,
-                &mut second,
-            )?;
+            let sources = (&mut first, &mut second);
+            say_both(&mut text, alloc, asked, (old, new), sources)?;
             return Ok(text);
         }
         (Begun::Faulty(fault), _) => (Side::Original, fault),
@@ -176,28 +198,34 @@ fn sentences<O: Source, E: Source>(
             fault_of_export(&mut old, &mut first, fault)?
         }
     };
-    say_fault_of(&mut text, alloc, fault, outcome, &first, &second)?;
+    say_fault_of(&mut text, alloc, fault, asked.verdict, (&first, &second))?;
     Ok(text)
 }
 
 /// Writes sentences for whoever has to act on the line of a check: all differences, and not the first alone, what mostly
-/// makes them, and what to do; where there is none, what to read before the export goes out.
+/// makes them, and what to do; where there is none, what to read before the export goes out. A remedy is named only where the
+/// check was run with it, and then with what it answers.
 ///
-/// The outcome is that of the check. Where the files don't say the same any more, a sentence says so. Both sources are at their
-/// first byte. The sentences are made before the first of them is written, so that nothing is
-/// written where a source fails or memory runs out. What the sink held stays in front of them.
-pub fn explain_to<O: Source, E: Source, K: Sink>(
+/// The verdict is that of the check. Where the files don't say the same any more, a sentence says so. Both recordings are
+/// opened once for the sentences, and once for each of at most three tries: of other shifts, of the channels that both files have, or
+/// of the end of an interval. The sentences are made before the first of them
+/// is written, so that nothing is written where a file fails or memory runs out. What the sink held stays in front of them.
+pub fn explain_to<R: Recordings, K: Sink>(
     alloc: Global,
-    original: &mut O,
-    export: &mut E,
+    recordings: &R,
     claim_text: &[u8],
-    outcome: Outcome,
+    verdict: &Verdict,
     sink: &mut K,
 ) -> Result<(), RunStop>
     ensures appended { IsTrue (K.is_honest sink.old) → Appended (K.held sink.old) (K.held sink.new) }
     ensures honesty { IsTrue (K.is_honest sink.old) → IsTrue (K.is_honest sink.new) }
 {
-    let text = sentences(alloc, original, export, claim_text, outcome)?;
+    let asked = Asked {
+        recordings,
+        claim_text,
+        verdict,
+    };
+    let text = sentences(alloc, &asked)?;
     put_all(sink, text.bytes())?;
     Ok(())
 }

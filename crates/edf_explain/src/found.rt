@@ -2,6 +2,7 @@
 
 use crate::run::Run;
 use crate::stand::Stand;
+use std::simd::prelude::*;
 
 /// A sample that was found.
 #[derive(Clone, Copy)]
@@ -26,9 +27,7 @@ pub(crate) struct Stands<'a> {
 impl<'a> Stands<'a> {
     /// The sample of a run at a place.
     fn spot(self, run: Run<'_>, place: usize) -> Spot {
-        let instant = run.instant(place);
-        let den = i128::from(instant.den);
-        let at_ps = instant.num.checked_div_euclid(den).unwrap_or(0);
+        let at_ps = run.at_ps(place);
         Spot {
             at_ps,
             original_record: self.original.number_at(at_ps),
@@ -52,19 +51,24 @@ impl Found {
         ends: None,
     };
 
-    /// Takes in so many samples behind those so far, by the first and the last of them.
+    /// The first of those so far.
+    fn first(&self) -> Option<Spot> {
+        let (first, _) = self.ends?;
+        Some(first)
+    }
+
+    /// Takes in so many samples behind those so far, by the first of all and the last of them.
     fn take_in(&mut self, count: usize, first: Spot, last: Spot) {
         self.count = self.count.saturating_add(count as u64);
-        let first = match self.ends {
-            Some((first, _)) => first,
-            None => first,
-        };
         self.ends = Some((first, last));
     }
 
     /// Takes in samples of a run, by their places.
     pub(crate) fn add_places(&mut self, run: Run<'_>, places: Places, stands: Stands<'_>) {
-        let first = stands.spot(run, places.first);
+        let first = match self.first() {
+            Some(first) => first,
+            None => stands.spot(run, places.first),
+        };
         let last = stands.spot(run, places.last);
         self.take_in(places.count, first, last);
     }
@@ -90,7 +94,10 @@ impl Found {
         export: Places,
         stands: Stands<'_>,
     ) {
-        let first = pair.spot(original.first, export.first, stands);
+        let first = match self.first() {
+            Some(first) => first,
+            None => pair.spot(original.first, export.first, stands),
+        };
         let last = pair.spot(original.last, export.last, stands);
         self.take_in(original.count, first, last);
     }
@@ -148,16 +155,67 @@ pub(crate) struct Pair<'a> {
     pub(crate) export: Run<'a>,
 }
 
-/// Where the values of two runs differ, by their bytes.
-fn places_of(original: &[u8], export: &[u8]) -> Option<Places> {
+/// How many samples are compared at a time, and how many bytes they have.
+const SAMPLES: usize = 16;
+
+const BLOCK: usize = 32;
+
+/// Which of 16 samples have other values: of 16 pairs of bits the lower one of each such sample. None of fewer.
+#[inline(always)]
+fn others_in(original: &[u8], export: &[u8]) -> u64 {
+    if original.len() < BLOCK || export.len() < BLOCK {
+        return 0;
+    }
+    let bytes = u8x32::from_slice(original)
+        .simd_ne(u8x32::from_slice(export))
+        .to_bitmask();
+    (bytes | (bytes >> 1)) & 0x5555_5555
+}
+
+impl Places {
+    /// These, and those of 16 samples from a place on, of which others there are.
+    fn with_block(places: Option<Places>, place: usize, others: u64) -> Option<Places> {
+        if others == 0 {
+            return places;
+        }
+        let first = place.saturating_add((others.trailing_zeros() / 2) as usize);
+        let last = place.saturating_add((63 - others.leading_zeros().min(63)) as usize / 2);
+        let (before, first) = match places {
+            Some(before) => (before.count, before.first),
+            None => (0, first),
+        };
+        Some(Places {
+            count: before.saturating_add(others.count_ones() as usize),
+            first,
+            last,
+        })
+    }
+}
+
+/// Where the values of two runs differ, by their bytes, as far as whole blocks go.
+fn places_in_blocks(original: &[u8], export: &[u8]) -> Option<Places> {
     let mut places = None;
-    for (place, (old, new)) in original
-        .chunks_exact(2)
-        .zip(export.chunks_exact(2))
+    for (block, (old, new)) in original
+        .chunks_exact(BLOCK)
+        .zip(export.chunks_exact(BLOCK))
         .enumerate()
     {
+        let place = block.saturating_mul(SAMPLES);
+        places = Places::with_block(places, place, others_in(old, new));
+    }
+    places
+}
+
+/// Where the values of two runs differ, by their bytes.
+fn places_of(original: &[u8], export: &[u8]) -> Option<Places> {
+    let mut places = places_in_blocks(original, export);
+    let blocks = original.len().min(export.len()) / BLOCK;
+    let place = blocks.saturating_mul(SAMPLES);
+    let old = original.get(blocks.saturating_mul(BLOCK)..).unwrap_or(&[]);
+    let new = export.get(blocks.saturating_mul(BLOCK)..).unwrap_or(&[]);
+    for (behind, (old, new)) in old.chunks_exact(2).zip(new.chunks_exact(2)).enumerate() {
         if old != new {
-            places = Places::with_one(places, place);
+            places = Places::with_one(places, place.saturating_add(behind));
         }
     }
     places

@@ -1,5 +1,6 @@
 //! How the header of an export isn't what a claim says of its original's: all differences, and not the first alone.
 
+use crate::exchanged::say_exchanged;
 use crate::text::{Piece, Text};
 use crate::words;
 use edf_claim::claim::Claim;
@@ -60,13 +61,34 @@ fn say_extremes(text: &mut Text, sentence: &str, signal: &Signal) -> Result<(), 
     )
 }
 
-/// Whether a number is another one with its last digits cut off: nearer to 0, and by little.
+/// The most digits in front of the dot that are gone through.
+const MOST_WHOLE: usize = 12;
+
+/// How many units of 10^-7 a unit of a whole number has.
+const WHOLE: i128 = 10_000_000;
+
+/// One unit of the last digit that eight characters hold of a number, in units of 10^-7. A sign and a dot take one character
+/// each.
+fn last_digit(number: i64) -> i128 {
+    let mut unit: i128 = if number < 0 { 100 } else { 10 };
+    let mut whole = number.unsigned_abs() / 100_000_000;
+    for _ in 0..MOST_WHOLE {
+        if whole == 0 {
+            break;
+        }
+        whole /= 10;
+        unit = unit.saturating_mul(10);
+    }
+    unit.min(WHOLE)
+}
+
+/// Whether a number is another one with its last digits cut off: nearer to 0, and by one unit of its last digit at most.
 fn is_cut_off(original: i64, export: i64) -> bool {
     let whole = i128::from(original);
     let cut = i128::from(export);
     let lost = whole.saturating_sub(cut);
     let is_nearer = (whole > 0 && lost > 0 && cut >= 0) || (whole < 0 && lost < 0 && cut <= 0);
-    is_nearer && lost.saturating_abs().saturating_mul(1_000) <= whole.saturating_abs()
+    is_nearer && lost.saturating_abs() <= last_digit(original)
 }
 
 /// Whether one of the physical extremes is cut off, and each is cut off or kept.
@@ -141,13 +163,14 @@ fn say_claimed(
 ) -> Result<(), AllocError> {
     for label in claim.channels() {
         let label = label.text();
+        let quoted = [Piece::Quoted(label)];
         match (originals.channel(label), exports.channel(label)) {
-            (Some(original), Some(export)) => {
-                say_channel(text, label, original.signal, export.signal)?;
+            (Some(old), Some(new)) => {
+                say_channel(text, label, old.signal, new.signal)?;
             }
-            (Some(_), None) => text.say(words::MISSING_CHANNEL, &[Piece::Quoted(label)])?,
-            (None, Some(_)) => text.say(words::UNKNOWN_CHANNEL, &[Piece::Quoted(label)])?,
-            (None, None) => text.say(words::CHANNEL_NOWHERE, &[Piece::Quoted(label)])?,
+            (Some(_), None) => text.say(words::MISSING_CHANNEL, &quoted)?,
+            (None, Some(_)) => text.say(words::UNKNOWN_CHANNEL, &quoted)?,
+            (None, None) => text.say(words::CHANNEL_NOWHERE, &quoted)?,
         }
     }
     Ok(())
@@ -205,6 +228,7 @@ pub(crate) fn say_heads(
     export: &Header,
     claim: &Claim,
 ) -> Result<(), AllocError> {
+    say_exchanged(text, claim, original, export)?;
     let originals = ChannelIndex::new(alloc, original)?;
     let exports = ChannelIndex::new(alloc, export)?;
     say_claimed(text, claim, &originals, &exports)?;

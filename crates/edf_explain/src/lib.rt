@@ -1,27 +1,40 @@
 //! Plain sentences for whoever has to act on the answer of a check, or on the refusal of a claim.
 #![tactic(auto)]
 
+mod alike;
+mod amounts;
+mod answers;
 mod claim_lines;
+mod exchanged;
 pub mod explain;
 pub mod explained;
 mod faults;
+mod folded;
 mod found;
 mod front_source;
 mod heads;
+mod hidden;
+mod in_one_way;
 mod looks;
 mod merge;
+mod names;
 mod notes;
 pub mod opening;
+mod other_channels;
+mod other_end;
 pub mod refusal;
 mod refused_keep;
 mod refused_texts;
 mod remarks;
 mod run;
 mod samples;
+mod shown;
 mod stand;
 mod starts;
 mod text;
 mod track;
+mod tries;
+mod typographic;
 mod walk;
 mod warnings;
 mod words;

@@ -1,10 +1,12 @@
 //! Sentences on a claim that is refused: where, what stands there, and what was expected.
 
-use crate::claim_lines::{Spotted, key_at, place_at};
+use crate::amounts::amount_of;
+use crate::claim_lines::{Spotted, key_at, place_at, value_behind};
 use crate::looks::looks_like_a_recording;
 use crate::refused_keep::say_keep;
 use crate::refused_texts::{say_anonymous, say_channels, say_texts};
 use crate::text::{Piece, Text};
+use crate::typographic::first_mark;
 use crate::words;
 use edf_claim::claim::Claim;
 use edf_claim::stop::ClaimStop;
@@ -163,8 +165,44 @@ fn say_shift(text: &mut Text, claim_text: &[u8], table: &Table) -> Result<(), Al
     match table.get("shift") {
         Some(Value::Integer(_)) => say_at(text, place, words::SHIFT_TOO_LARGE, &[]),
         Some(Value::Float(_)) => say_at(text, place, words::SHIFT_NOT_WHOLE, &[]),
-        Some(Value::String(_)) => say_at(text, place, words::SHIFT_QUOTED, &[]),
+        Some(Value::String(said)) => {
+            let said = said.as_str().as_bytes();
+            if !say_amount(text, place, said)? {
+                say_at(text, place, words::SHIFT_QUOTED, &[])?;
+            }
+            say_mark(text, said)
+        }
         _ => say_at(text, place, words::SHIFT_OTHER, &[]),
+    }
+}
+
+/// Says how many seconds an amount of time has that stands for a shift; answers whether it is one.
+fn say_amount(
+    text: &mut Text,
+    place: Option<Spotted<'_>>,
+    said: &[u8],
+) -> Result<bool, AllocError> {
+    let Some(amount) = amount_of(said) else {
+        return Ok(false);
+    };
+    let pieces = [
+        Piece::Quoted(said),
+        Piece::Number(amount.seconds),
+        Piece::Word(amount.unit),
+        Piece::Number(amount.unit_seconds),
+    ];
+    say_at(text, place, words::SHIFT_IN_UNITS, &pieces)?;
+    Ok(true)
+}
+
+/// Says which mark of typography a text has, if it has one.
+fn say_mark(text: &mut Text, said: &[u8]) -> Result<(), AllocError> {
+    match first_mark(said) {
+        Some(mark) => {
+            let pieces = [Piece::Word(mark.name), Piece::Word(mark.plain)];
+            text.say(words::MARK_IN_LINE, &pieces)
+        }
+        None => Ok(()),
     }
 }
 
@@ -190,6 +228,12 @@ fn say_not_toml(text: &mut Text, claim_text: &[u8], fault: &Error) -> Result<(),
     text.say(words::NOT_TOML, &pieces)?;
     if let Some(content) = place.shown() {
         text.say(words::THE_LINE, &[Piece::Plain(content)])?;
+    }
+    say_mark(text, place.content)?;
+    if let Some(value) = value_behind(place.content, "shift")
+        && say_amount(text, Some(place), value)?
+    {
+        return Ok(());
     }
     text.say(words::NOT_TOML_ADVICE, &[])
 }

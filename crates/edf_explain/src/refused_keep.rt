@@ -1,8 +1,10 @@
 //! Sentences on intervals that a claim can't have.
 
-use crate::claim_lines::{Spotted, keep_at, key_at, key_from};
+use crate::amounts::clock_seconds;
+use crate::claim_lines::{Spotted, keep_at, key_at, key_from, value_behind};
 use crate::refusal::say_at;
 use crate::text::{Piece, Text};
+use crate::typographic::first_mark;
 use crate::words;
 use edf_fields::onset::span;
 use std::alloc::AllocError;
@@ -40,8 +42,16 @@ impl<'a> Kept<'a> {
             return key_at(self.claim_text, "keep");
         };
         match key_from(self.claim_text, key, begin.line) {
-            Some(place) => Some(place),
-            None => Some(begin),
+            Some(place) if !self.is_behind(place) => Some(place),
+            _ => Some(begin),
+        }
+    }
+
+    /// Whether a place stands in a later table, or in the line with which the next one begins.
+    fn is_behind(&self, place: Spotted<'_>) -> bool {
+        match keep_at(self.claim_text, self.number.saturating_add(1)) {
+            Some(next) => next.line <= place.line,
+            None => false,
         }
     }
 
@@ -68,6 +78,16 @@ impl<'a> Kept<'a> {
         say_at(text, self.place_of(key), sentence, &pieces)
     }
 
+    /// Says why a text at one of its keys spells no time, and of a time of the day how many seconds it has.
+    fn say_no_time(&self, text: &mut Text, key: &str, said: &str) -> Result<(), AllocError> {
+        if let Some(mark) = first_mark(said.as_bytes()) {
+            let pieces = [Piece::Word(key), Piece::Word(mark.name)];
+            return say_at(text, self.place_of(key), words::TIME_WITH_MARK, &pieces);
+        }
+        self.say_of(text, time_fault(said), key, said)?;
+        say_clock(text, key, said.as_bytes())
+    }
+
     /// Says of an interval's number that isn't a text how it is written.
     fn say_number(&self, text: &mut Text, key: &str, value: &Value) -> Result<(), AllocError> {
         match value {
@@ -76,7 +96,15 @@ impl<'a> Kept<'a> {
                 say_at(text, self.place_of(key), words::TIME_NOT_QUOTED, &pieces)
             }
             Value::Float(_) => self.say(text, words::TIME_FLOAT_NOT_QUOTED, key),
-            Value::Datetime(_) => self.say(text, words::TIME_IS_A_CLOCK, key),
+            Value::Datetime(_) => {
+                self.say(text, words::TIME_IS_A_CLOCK, key)?;
+                match self.place_of(key) {
+                    Some(place) => {
+                        say_clock(text, key, value_behind(place.content, key).unwrap_or(&[]))
+                    }
+                    None => Ok(()),
+                }
+            }
             _ => self.say(text, words::TIME_NO_TEXT, key),
         }
     }
@@ -91,7 +119,7 @@ impl<'a> Kept<'a> {
             Some(Value::String(said)) => {
                 let time = span(said.as_bytes());
                 if time.is_none() {
-                    self.say_of(text, time_fault(said.as_str()), key, said.as_str())?;
+                    self.say_no_time(text, key, said.as_str())?;
                 }
                 Ok(time)
             }
@@ -135,6 +163,19 @@ impl<'a> Kept<'a> {
         }
         Ok(to.unwrap_or(before))
     }
+}
+
+/// Says how many seconds a time of the day has, if a text is one.
+fn say_clock<'a>(text: &mut Text, key: &'a str, said: &'a [u8]) -> Result<(), AllocError> {
+    let Some(seconds) = clock_seconds(said) else {
+        return Ok(());
+    };
+    let pieces = [
+        Piece::Word(key),
+        Piece::Quoted(said),
+        Piece::Number(seconds),
+    ];
+    text.say(words::TIME_IN_SECONDS, &pieces)
 }
 
 /// Whether a key is one of a claim, and belongs in front of the intervals.

@@ -1,12 +1,14 @@
 //! Sentences on the annotations that aren't as claimed.
 
+use crate::alike::{apart, look_alike};
+use crate::in_one_way::say_one_way;
 use crate::notes::{Notes, OnlyInOne};
 use crate::samples::Clocks;
 use crate::text::{Piece, Text};
 use crate::words;
 use edf_claim::claim::Claim;
 use edf_stream::notes::Note;
-use std::alloc::AllocError;
+use std::alloc::{AllocError, Global};
 
 /// The most annotations of a kind that are listed.
 const MOST_LISTED: usize = 20;
@@ -84,8 +86,69 @@ fn likeness_among(extra: &Note, kept: &[Note], missing: &[usize]) -> Option<&'st
     None
 }
 
+/// The one of those that the export lacks that has the time and the duration of an annotation, and a text that looks like
+/// its own.
+fn alike_among<'a>(
+    alloc: Global,
+    extra: &Note,
+    kept: &'a [Note],
+    missing: &[usize],
+) -> Result<Option<&'a Note>, AllocError> {
+    for place in missing {
+        if let Some(other) = kept.get(*place)
+            && other.onset == extra.onset
+            && other.duration == extra.duration
+            && look_alike(alloc, other.text.as_str(), extra.text.as_str())?
+        {
+            return Ok(Some(other));
+        }
+    }
+    Ok(None)
+}
+
+/// Says which bytes of an annotation's text are others than those of one that looks alike, if there is one; answers
+/// whether there is one.
+fn say_alike(
+    text: &mut Text,
+    extra: &Note,
+    kept: &[Note],
+    missing: &[usize],
+) -> Result<bool, AllocError> {
+    let Some(other) = alike_among(text.alloc(), extra, kept, missing)? else {
+        return Ok(false);
+    };
+    let (old, new) = apart(
+        other.text.as_str().as_bytes(),
+        extra.text.as_str().as_bytes(),
+    );
+    text.say(words::LIKE_ALIKE, &[Piece::Hex(old), Piece::Hex(new)])?;
+    Ok(true)
+}
+
+/// Whether this annotation is one of those that are kept.
+fn has_note(kept: &[Note], extra: &Note) -> bool {
+    for note in kept {
+        if note == extra {
+            return true;
+        }
+    }
+    false
+}
+
+/// Whether one of those that the export lacks has the text of an annotation.
+fn has_text_among(extra: &Note, kept: &[Note], missing: &[usize]) -> bool {
+    for place in missing {
+        if let Some(other) = kept.get(*place)
+            && other.text == extra.text
+        {
+            return true;
+        }
+    }
+    false
+}
+
 /// Whether a time is the end of a kept interval, and in none.
-fn is_at_end(claim: &Claim, at_ps: i128) -> bool {
+pub(crate) fn is_at_end(claim: &Claim, at_ps: i128) -> bool {
     !claim.keeps_instant(at_ps, 1) && claim.keeps_instant(at_ps.saturating_sub(1), 1)
 }
 
@@ -114,19 +177,24 @@ fn say_likeness(
         return text.say(words::REMOVED_BUT_THERE, &[]);
     }
     if is_at_end(claim, extra.onset) {
-        let end = [
-            Piece::Bare(extra.onset),
-            Piece::Bare(extra.onset.saturating_add(1)),
-        ];
-        return text.say(words::AT_END, &end);
+        return text.say(words::AT_END, &[]);
+    }
+    if say_alike(text, extra, kept, missing)? {
+        return Ok(());
     }
     if let Some(words) = likeness_among(extra, kept, missing) {
         return text.say(words, &[]);
     }
-    if !claim.keeps_instant(extra.onset, 1) {
-        return text.say(words::OUTSIDE, &[]);
-    }
-    Ok(())
+    let sentence = if !claim.keeps_instant(extra.onset, 1) {
+        words::OUTSIDE
+    } else if has_note(kept, extra) {
+        words::LESS_OFTEN
+    } else if has_text_among(extra, kept, missing) {
+        words::LIKE_MOVED
+    } else {
+        words::NOT_IN_ORIGINAL
+    };
+    text.say(sentence, &[])
 }
 
 /// Says how many annotations there are of a kind.
@@ -172,22 +240,22 @@ fn say_extra(
     text: &mut Text,
     claim: &Claim,
     notes: &Notes,
-    apart: &OnlyInOne,
+    only: &OnlyInOne,
     clocks: Clocks,
 ) -> Result<(), AllocError> {
     say_count(
         text,
         words::NOTE_EXTRA,
         words::NOTES_EXTRA,
-        apart.extra.len(),
+        only.extra.len(),
     )?;
-    for place in apart.extra.iter().take(MOST_LISTED) {
+    for place in only.extra.iter().take(MOST_LISTED) {
         if let Some(note) = notes.exported.get(*place) {
             say_note(text, note, clocks)?;
-            say_likeness(text, claim, note, &notes.kept, &apart.missing)?;
+            say_likeness(text, claim, note, &notes.kept, &only.missing)?;
         }
     }
-    say_others(text, apart.extra.len())
+    say_others(text, only.extra.len())
 }
 
 /// Says which annotations aren't as claimed.
@@ -195,13 +263,19 @@ pub(crate) fn say_remarks(
     text: &mut Text,
     claim: &Claim,
     notes: &Notes,
-    apart: &OnlyInOne,
+    only: &OnlyInOne,
     clocks: Clocks,
 ) -> Result<(), AllocError> {
-    say_missing(text, notes, &apart.missing, clocks)?;
-    say_extra(text, claim, notes, apart, clocks)?;
-    if apart.missing.is_empty() && apart.extra.is_empty() {
+    if say_one_way(text, notes, only)? {
         return Ok(());
     }
-    text.say(words::NOTES_ADVICE, &[])
+    say_missing(text, notes, &only.missing, clocks)?;
+    say_extra(text, claim, notes, only, clocks)?;
+    if !only.missing.is_empty() {
+        return text.say(words::NOTES_ADVICE, &[]);
+    }
+    if !only.extra.is_empty() {
+        return text.say(words::NOTES_ALL, &[]);
+    }
+    Ok(())
 }

@@ -54,6 +54,19 @@ impl<'a> Run<'a> {
         }
     }
 
+    /// When the sample at a place was taken, in picoseconds and rounded down.
+    pub(crate) fn at_ps(&self, place: usize) -> i128 {
+        let behind = self.duration_ps.saturating_mul(wide(place));
+        // 64 bits are divided in a fraction of the time of 128, and nearly always suffice
+        let behind = match i64::try_from(behind) {
+            Ok(short) => short
+                .checked_div_euclid(i64::from(self.samples))
+                .map(|ps: i64| -> i128 { i128::from(ps) }),
+            Err(_) => behind.checked_div_euclid(i128::from(self.samples)),
+        };
+        self.start_ps.saturating_add(behind.unwrap_or(0))
+    }
+
     /// How many samples of the data record were taken before a time.
     fn count_before(&self, at_ps: i128) -> usize {
         let samples = self.samples as usize;

@@ -117,6 +117,26 @@ struct Kinds {
     missing: bool,
     extra: bool,
     changed: bool,
+    /// How many samples have other values, and of how many, where that are nearly all of each channel.
+    nearly_all: Option<(u64, u64)>,
+}
+
+/// How many samples have other values, and of how many that both files have, where that are nearly all of each channel.
+fn nearly_all(tracks: &[Track]) -> Option<(u64, u64)> {
+    let mut changed: u64 = 0;
+    let mut compared: u64 = 0;
+    for track in tracks {
+        if track.changed.count.saturating_mul(100) < track.compared.saturating_mul(99) {
+            return None;
+        }
+        changed = changed.saturating_add(track.changed.count);
+        compared = compared.saturating_add(track.compared);
+    }
+    if compared > 0 {
+        Some((changed, compared))
+    } else {
+        None
+    }
 }
 
 impl Kinds {
@@ -126,6 +146,7 @@ impl Kinds {
             missing: false,
             extra: false,
             changed: false,
+            nearly_all: nearly_all(tracks),
         };
         for track in tracks {
             kinds.missing = kinds.missing || track.missing.count > 0;
@@ -142,6 +163,13 @@ impl Kinds {
         }
         if self.extra {
             text.say(words::CAUSE_OF_EXTRA, &[])?;
+        }
+        if let Some((changed, compared)) = self.nearly_all {
+            let pieces = [
+                Piece::Number(i128::from(changed)),
+                Piece::Number(i128::from(compared)),
+            ];
+            return text.say(words::CAUSE_OF_ALL_CHANGED, &pieces);
         }
         if self.changed {
             text.say(words::CAUSE_OF_CHANGED, &[])?;

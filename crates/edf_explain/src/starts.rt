@@ -1,21 +1,27 @@
 //! Where an export starts, beside where it starts by its claim.
 
 use crate::text::{Piece, SECOND, Text};
+use crate::tries::Tries;
 use crate::words;
-use std::alloc::AllocError;
+use std::alloc::{AllocError, Global};
 
 /// The most seconds by which a claim may move what it keeps, back or on.
 const MOST_SECONDS: i128 = 10_000_000_000;
 
-/// By how much the times of an export are taken to be moved.
-#[derive(Clone, Copy, PartialEq, Eq)]
-pub(crate) enum Reckoning {
-    /// As the claim says.
-    AsClaimed,
-    /// By another time, since its first samples are the first that are kept.
-    ByFront,
-    /// Not at all: as claimed, it would lie outside of the original, and with its own times it doesn't.
-    NotMoved,
+/// How many picoseconds a day has.
+const DAY: i128 = 86_400_000_000_000_000;
+
+/// The most shifts that are tried, each by a check.
+const MOST_TRIES: usize = 3;
+
+/// A shift in seconds of so many picoseconds, where a claim can have it.
+fn seconds_of(shift_ps: i128) -> Option<i64> {
+    let seconds = shift_ps.div_euclid(SECOND);
+    if shift_ps.rem_euclid(SECOND) == 0 && -MOST_SECONDS <= seconds && seconds <= MOST_SECONDS {
+        i64::try_from(seconds).ok()
+    } else {
+        None
+    }
 }
 
 /// Where an export starts, and where it starts by its claim, in picoseconds after 1970-01-01 00:00:00.
@@ -25,7 +31,6 @@ pub(crate) struct Starts {
     pub(crate) exported_ps: i128,
     /// By how much the claim moves what it keeps.
     pub(crate) shift_ps: i128,
-    pub(crate) reckoning: Reckoning,
 }
 
 impl Starts {
@@ -39,15 +44,35 @@ impl Starts {
         self.exported_ps == self.claimed_ps
     }
 
-    /// The shift in seconds with which the export would start as claimed, where a claim can have it.
-    fn fitting_shift(&self) -> Option<i128> {
-        let ps = self.shift_ps.saturating_add(self.later_ps());
-        let seconds = ps.div_euclid(SECOND);
-        if ps.rem_euclid(SECOND) == 0 && -MOST_SECONDS <= seconds && seconds <= MOST_SECONDS {
-            Some(seconds)
-        } else {
-            None
+    /// The shift with which the export would start as claimed.
+    fn fitting_ps(&self) -> i128 {
+        self.shift_ps.saturating_add(self.later_ps())
+    }
+
+    /// The shift that differs from the claimed one by whole days, and with which the export would start less than a day
+    /// from where it is claimed to.
+    fn days_ps(&self) -> i128 {
+        let later = self.later_ps();
+        let half = if later < 0 { -DAY / 2 } else { DAY / 2 };
+        let days = later.saturating_add(half) / DAY;
+        self.shift_ps.saturating_add(days.saturating_mul(DAY))
+    }
+
+    /// The shifts in seconds that are worth a try: the one with which the export would start as claimed, one that is whole days
+    /// from the claimed one, none, and the claimed one turned; three at the most, each once and none the claimed one.
+    pub(crate) fn candidates(&self, alloc: Global) -> Result<Vec<i64>, AllocError> {
+        let mut found = Vec::new(alloc);
+        let turned = self.shift_ps.saturating_neg();
+        for shift_ps in [self.fitting_ps(), self.days_ps(), 0, turned] {
+            if let Some(seconds) = seconds_of(shift_ps)
+                && shift_ps != self.shift_ps
+                && !found.contains(&seconds)
+                && found.len() < MOST_TRIES
+            {
+                found.push(seconds)?;
+            }
         }
+        Ok(found)
     }
 
     /// Says by how much the export starts elsewhere.
@@ -83,32 +108,16 @@ impl Starts {
         Ok(())
     }
 
-    /// Says which shift would fit.
-    fn say_fitting(&self, text: &mut Text) -> Result<(), AllocError> {
-        if self.reckoning == Reckoning::NotMoved {
-            return text.say(words::CUT_AND_NOT_MOVED, &[]);
-        }
-        let Some(shift) = self.fitting_shift() else {
-            return text.say(words::NO_SHIFT_FITS, &[]);
-        };
-        let sentence = match self.reckoning {
-            Reckoning::ByFront => words::SHIFT_FITS,
-            Reckoning::AsClaimed | Reckoning::NotMoved => words::SHIFT_DOES_NOT_FIT,
-        };
-        let pieces = [
-            Piece::Number(shift),
-            Piece::Number(self.shift_ps.div_euclid(SECOND)),
-        ];
-        text.say(sentence, &pieces)
-    }
-
-    /// Says where the export starts, if it doesn't start as claimed.
-    pub(crate) fn say(&self, text: &mut Text) -> Result<(), AllocError> {
+    /// Says where the export starts, if it doesn't start as claimed, and what other shifts would change.
+    pub(crate) fn say(&self, text: &mut Text, tries: &Tries) -> Result<(), AllocError> {
         if self.are_same() {
             return Ok(());
         }
         self.say_difference(text)?;
         self.say_likeness(text)?;
-        self.say_fitting(text)
+        if seconds_of(self.fitting_ps()).is_none() {
+            text.say(words::NO_SHIFT_FITS, &[])?;
+        }
+        tries.say(text, self.shift_ps.div_euclid(SECOND))
     }
 }

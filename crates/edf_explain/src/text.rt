@@ -1,5 +1,6 @@
 //! A text that is put together from sentences, and what stands in their open places.
 
+use crate::shown::shown;
 use crate::words;
 use edf_verdict::quote::push_quoted;
 use jiff::Timestamp;
@@ -20,7 +21,11 @@ pub(crate) enum Piece<'a> {
     /// Bytes, as they stand.
     Plain(&'a [u8]),
     /// A text of a file or a claim, between quotation marks.
+    ///
+    /// In this as in words and in bytes as they stand, signs that aren't seen stand by their numbers.
     Quoted(&'a [u8]),
+    /// Bytes, each by two digits.
+    Hex(&'a [u8]),
     /// A number.
     Number(i128),
     /// A number in units of 10^-7, with a dot.
@@ -54,6 +59,11 @@ impl Text {
     /// Its bytes.
     pub(crate) fn bytes(&self) -> &[u8] {
         &self.bytes
+    }
+
+    /// What it takes memory by.
+    pub(crate) fn alloc(&self) -> Global {
+        self.alloc
     }
 
     /// Its bytes, where it isn't needed any more.
@@ -180,12 +190,46 @@ impl Text {
         Ok(())
     }
 
+    /// Puts a text of a file, a claim or a path behind it.
+    fn push_text(&mut self, text: &[u8]) -> Result<(), AllocError> {
+        if text.is_ascii() {
+            return self.bytes.extend_from_slice(text);
+        }
+        let shown = shown(self.alloc, text)?;
+        self.bytes.extend_from_slice(&shown)
+    }
+
+    /// Puts a text of a file or a claim behind it, between quotation marks.
+    fn push_quoted(&mut self, text: &[u8]) -> Result<(), AllocError> {
+        if text.is_ascii() {
+            return push_quoted(&mut self.bytes, text);
+        }
+        let shown = shown(self.alloc, text)?;
+        push_quoted(&mut self.bytes, &shown)
+    }
+
+    /// Puts bytes behind it, each by two digits.
+    fn push_hex(&mut self, bytes: &[u8]) -> Result<(), AllocError> {
+        let front = match bytes.len() {
+            0 => return self.push(words::NO_BYTES),
+            1 => words::ONE_BYTE,
+            _ => words::SOME_BYTES,
+        };
+        self.push(front)?;
+        for byte in bytes {
+            let digits = format!(in self.alloc; " {byte:02x}")?;
+            self.push(&digits)?;
+        }
+        Ok(())
+    }
+
     /// Puts a piece behind it.
     fn push_piece(&mut self, piece: Piece<'_>) -> Result<(), AllocError> {
         match piece {
-            Piece::Word(word) => self.push(word),
-            Piece::Plain(bytes) => self.bytes.extend_from_slice(bytes),
-            Piece::Quoted(text) => push_quoted(&mut self.bytes, text),
+            Piece::Word(word) => self.push_text(word.as_bytes()),
+            Piece::Plain(bytes) => self.push_text(bytes),
+            Piece::Quoted(text) => self.push_quoted(text),
+            Piece::Hex(bytes) => self.push_hex(bytes),
             Piece::Number(number) => self.push_number(number),
             Piece::Decimal(number) => self.push_decimal(number),
             Piece::Seconds(ps) => {

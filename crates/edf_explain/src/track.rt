@@ -1,7 +1,7 @@
 //! A channel that both files have, and what was found of its samples.
 
 use crate::found::{Found, Pair, Stands};
-use crate::merge::side_by_side;
+use crate::merge::{Strides, side_by_side};
 use crate::run::Run;
 use crate::stand::Lane;
 
@@ -12,8 +12,11 @@ pub(crate) struct Track {
     pub(crate) place: usize,
     /// Whether it has another number of samples a second in the export.
     pub(crate) has_other_rate: bool,
+    strides: Strides,
     pub(crate) original: Lane,
     pub(crate) export: Lane,
+    /// How many samples of both were compared.
+    pub(crate) compared: u64,
     pub(crate) missing: Found,
     pub(crate) extra: Found,
     pub(crate) changed: Found,
@@ -21,12 +24,14 @@ pub(crate) struct Track {
 
 impl Track {
     /// Nothing was found of it so far.
-    pub(crate) fn new(place: usize, has_other_rate: bool, original: Lane, export: Lane) -> Track {
+    pub(crate) fn new(place: usize, strides: Strides, original: Lane, export: Lane) -> Track {
         Track {
             place,
-            has_other_rate,
+            has_other_rate: !strides.are_same(),
+            strides,
             original,
             export,
+            compared: 0,
             missing: Found::NONE,
             extra: Found::NONE,
             changed: Found::NONE,
@@ -36,6 +41,11 @@ impl Track {
     /// Whether nothing was found.
     pub(crate) fn is_as_claimed(&self) -> bool {
         self.missing.count == 0 && self.extra.count == 0 && self.changed.count == 0
+    }
+
+    /// Takes in that so many samples were compared.
+    fn count_compared(&mut self, count: usize) {
+        self.compared = self.compared.saturating_add(count as u64);
     }
 
     /// Takes in the samples of both files up to a time, of which all those of the original are kept, or none.
@@ -54,6 +64,7 @@ impl Track {
     /// Takes in samples of both files that are taken at the same times, as far as both go.
     fn compare_on_grid(&mut self, original: Run<'_>, export: Run<'_>, stands: Stands<'_>) {
         let count = original.len().min(export.len());
+        self.count_compared(count);
         let pair = Pair {
             original: original.front(count),
             export: export.front(count),
@@ -70,7 +81,8 @@ impl Track {
     /// Takes in samples of both files that are taken at any times.
     fn compare_apart(&mut self, original: Run<'_>, export: Run<'_>, stands: Stands<'_>) {
         let pair = Pair { original, export };
-        let found = side_by_side(pair);
+        let found = side_by_side(pair, self.strides);
+        self.count_compared(found.compared);
         if let Some(places) = found.missing {
             self.missing.add_places(original, places, stands);
         }
@@ -80,7 +92,5 @@ impl Track {
         if let Some((old, new)) = found.changed {
             self.changed.add_changed(pair, old, new, stands);
         }
-        self.missing.add(original.behind(found.original), stands);
-        self.extra.add(export.behind(found.export), stands);
     }
 }

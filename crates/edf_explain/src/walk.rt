@@ -1,9 +1,11 @@
 //! The walk through both files: which samples and annotations the export has, and which are kept.
 
 use crate::found::Stands;
+use crate::merge::Strides;
+use crate::names::Shown;
 use crate::notes::Notes;
 use crate::stand::{Lane, Stand, Stretch};
-use crate::starts::{Reckoning, Starts};
+use crate::starts::Starts;
 use crate::text::SECOND;
 use crate::track::Track;
 use edf_claim::claim::Claim;
@@ -27,13 +29,13 @@ fn lane_of(channel: Channel<'_>) -> Lane {
     }
 }
 
-/// Whether a channel has another number of samples a second in the export.
-fn have_other_rates(original: &Header, old: Lane, export: &Header, new: Lane) -> bool {
+/// How the samples of a channel follow one another in both files.
+fn strides_of(original: &Header, old: Lane, export: &Header, new: Lane) -> Strides {
     let step = original
         .duration_ps()
         .saturating_mul(i128::from(new.samples));
     let other_step = export.duration_ps().saturating_mul(i128::from(old.samples));
-    step != other_step
+    Strides::of(step, other_step)
 }
 
 /// The claimed channels that both files have.
@@ -51,8 +53,8 @@ fn tracks_of(
             && let Some(new) = exports.channel(label.text())
         {
             let (old, new) = (lane_of(old), lane_of(new));
-            let has_other_rate = have_other_rates(original, old, export, new);
-            tracks.push(Track::new(place, has_other_rate, old, new))?;
+            let strides = strides_of(original, old, export, new);
+            tracks.push(Track::new(place, strides, old, new))?;
         }
     }
     Ok(tracks)
@@ -61,13 +63,6 @@ fn tracks_of(
 /// The second at which a file starts, in picoseconds after 1970-01-01 00:00:00.
 pub(crate) fn start_of(header: &Header) -> i128 {
     i128::from(header.start_second()).saturating_mul(SECOND)
-}
-
-/// Whether a time lies in a recording, as far as its header tells.
-fn is_within(header: &Header, at_ps: i128) -> bool {
-    let records = i128::from(header.records());
-    let length = header.duration_ps().saturating_mul(records);
-    0 <= at_ps && at_ps < length.saturating_add(SECOND)
 }
 
 /// The earlier one of two times, of which each may be missing.
@@ -94,26 +89,6 @@ fn first_between(tracks: &[Track], original: &Stand, from_ps: i128, to_ps: i128)
         }
     }
     first
-}
-
-/// Whether the channels have the same values from a time of the original on and from the front of the export on, as far
-/// as their data records at hand go.
-fn have_same_front(tracks: &[Track], stands: Stands<'_>, from_ps: i128, to_ps: i128) -> bool {
-    let mut is_compared = false;
-    for track in tracks {
-        let old = stands.original.samples(track.original);
-        let old = old.since(from_ps).before(to_ps);
-        let new = stands.export.samples(track.export);
-        if !old.is_on_grid_of(&new) {
-            return false;
-        }
-        let count = old.len().min(new.len());
-        if old.front(count).values() != new.front(count).values() {
-            return false;
-        }
-        is_compared = true;
-    }
-    is_compared
 }
 
 /// Nothing of the next data record of a file is done with.
@@ -148,6 +123,8 @@ pub(crate) struct Walk<'a> {
     pub(crate) notes: Notes,
     /// Where the export starts; none where the original has no sample that is kept.
     pub(crate) starts: Option<Starts>,
+    /// Whether an interval was found that has no sample in a data record of the original in which it lies.
+    pub(crate) keeps_between: bool,
 }
 
 impl<'a> Walk<'a> {
@@ -167,7 +144,13 @@ impl<'a> Walk<'a> {
             tracks,
             notes: Notes::new(alloc),
             starts: None,
+            keeps_between: false,
         })
+    }
+
+    /// The claim.
+    pub(crate) fn claim(&self) -> &'a Claim {
+        self.claim
     }
 
     /// The header of the original.
@@ -178,6 +161,16 @@ impl<'a> Walk<'a> {
     /// The header of the export.
     pub(crate) fn export_header(&self) -> &Header {
         self.export.header()
+    }
+
+    /// What of both files and the claim is read for names.
+    pub(crate) fn shown(&self) -> Shown<'_> {
+        Shown {
+            claim: self.claim,
+            original: self.original.header(),
+            export: self.export.header(),
+            notes: &self.notes,
+        }
     }
 
     /// By how much the times of the export are moved.
@@ -211,7 +204,7 @@ impl<'a> Walk<'a> {
     }
 
     /// When the first sample is taken that is kept in a stretch of the original.
-    fn first_in(&self, stretch: Stretch) -> Option<i128> {
+    fn first_in(&mut self, stretch: Stretch) -> Option<i128> {
         let mut time = stretch.from_ps;
         for _ in 0..MOST_BORDERS {
             if time >= stretch.to_ps {
@@ -223,6 +216,7 @@ impl<'a> Walk<'a> {
                 if first.is_some() {
                     return first;
                 }
+                self.keeps_between = true;
             }
             time = end;
         }
@@ -244,79 +238,44 @@ impl<'a> Walk<'a> {
         Ok(None)
     }
 
-    /// Whether the front of the export has the samples that the original has from a time on, where the export's times are
-    /// moved so that it starts then.
-    fn has_same_front(&self, first_ps: i128) -> bool {
-        let Some(stretch) = self.original.stretch() else {
-            return false;
-        };
-        if first_ps >= stretch.to_ps {
-            return false;
-        }
-        let end = self.claim.border_behind(first_ps, stretch.to_ps);
-        let stands = Stands {
-            original: &self.original,
-            export: &self.export,
-        };
-        have_same_front(&self.tracks, stands, first_ps, end)
+    /// Moves the times of the export back by a shift, so that they count from the second at which the original starts.
+    pub(crate) fn move_back(&mut self, shift_ps: i128) {
+        let original_ps = start_of(self.original.header());
+        let export_ps = start_of(self.export.header());
+        let moved = export_ps
+            .saturating_sub(original_ps)
+            .saturating_sub(shift_ps);
+        self.export.move_by(moved);
     }
 
-    /// By how much the times of the export are taken to be moved, where it doesn't start as claimed. They are moved so then.
-    fn reckon(&mut self, first_ps: i128) -> Reckoning {
-        let claimed = self.export.moved_ps();
-        let unmoved = claimed.saturating_add(self.claim.shift_ps());
-        let start = self.export.start_ps();
-        self.export.move_by(first_ps.saturating_sub(start));
-        if self.has_same_front(first_ps) {
-            return Reckoning::ByFront;
-        }
-        let original = self.original.header();
-        if !is_within(original, claimed.saturating_add(start))
-            && is_within(original, unmoved.saturating_add(start))
-        {
-            self.export.move_by(unmoved);
-            return Reckoning::NotMoved;
-        }
-        self.export.move_by(claimed);
-        Reckoning::AsClaimed
-    }
-
-    /// Sees where the export starts, and by how much its times are moved.
+    /// Sees where the export starts, beside where it starts by its claim.
     fn see_starts(&mut self, first_ps: i128) {
         let shift_ps = self.claim.shift_ps();
         let original_ps = start_of(self.original.header());
         let export_ps = start_of(self.export.header());
-        let mut starts = Starts {
+        self.starts = Some(Starts {
             claimed_ps: original_ps
                 .saturating_add(first_ps)
                 .saturating_add(shift_ps),
             exported_ps: export_ps.saturating_add(self.export.start_ps()),
             shift_ps,
-            reckoning: Reckoning::AsClaimed,
-        };
-        if !starts.are_same() {
-            starts.reckoning = self.reckon(first_ps);
-        }
-        self.starts = Some(starts);
+        });
     }
 
-    /// Reads the first data record of the export, and sees by how much its times are moved.
-    fn start_export<E: Source>(
+    /// Reads the original up to the first sample that is kept, and the first data record of the export, and sees where the
+    /// export starts. Its times are moved as claimed.
+    pub(crate) fn begin<O: Source, E: Source>(
         &mut self,
-        source: &mut E,
-        first_ps: Option<i128>,
+        original: &mut O,
+        export: &mut E,
     ) -> Result<(), RunStop> {
-        let original_ps = start_of(self.original.header());
-        let export_ps = start_of(self.export.header());
-        let claimed = export_ps
-            .saturating_sub(original_ps)
-            .saturating_sub(self.claim.shift_ps());
-        self.export.move_by(claimed);
-        let more = self.export.next(source)?;
-        if more && let Some(first_ps) = first_ps {
+        let first = self.start_original(original)?;
+        self.move_back(self.claim.shift_ps());
+        let more = self.export.next(export)?;
+        if more && let Some(first_ps) = first {
             self.see_starts(first_ps);
         }
-        self.take_export()
+        Ok(())
     }
 
     /// The time from which on data records are at hand.
@@ -378,14 +337,13 @@ impl<'a> Walk<'a> {
         Ok(())
     }
 
-    /// Reads both files to their ends, or to their first faults.
+    /// Reads both files on from where they begin to their ends, or to their first faults.
     pub(crate) fn run<O: Source, E: Source>(
         &mut self,
         original: &mut O,
         export: &mut E,
     ) -> Result<(), RunStop> {
-        let first = self.start_original(original)?;
-        self.start_export(export, first)?;
+        self.take_export()?;
         let mut time = self.time();
         for _ in 0..u64::MAX {
             let Some(end) = self.end_behind(time) else {

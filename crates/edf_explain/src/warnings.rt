@@ -1,42 +1,60 @@
 //! What to read before an export goes out that is as claimed.
 
+use crate::alike::{apart, look_alike};
+use crate::names::{Shown, say_names};
 use crate::notes::Notes;
 use crate::text::{Piece, Text};
 use crate::words;
 use edf_fields::which::Which;
 use edf_header::header::Header;
 use edf_heads::subfields::is_anonymous;
-use edf_stream::notes::Note;
 use std::alloc::{AllocError, Global};
 use toml::Table;
 use toml::value::Array;
 
-/// The most texts of a kind that are listed.
-const MOST_LISTED: usize = 20;
+/// Of how many texts that no annotation has it is asked which annotation has one that looks alike.
+const MOST_ALIKE: usize = 20;
 
-/// How few letters a word has that is no name.
-const LEAST_LETTERS: usize = 3;
-
-/// The texts that the annotations in the kept intervals of the original have, in the order of their bytes.
-fn texts_seen(alloc: Global, notes: &Notes) -> Result<Vec<&[u8]>, AllocError> {
+/// The texts that the annotations in the kept intervals of the original have, each once, in the order of their bytes.
+fn texts_seen(alloc: Global, notes: &Notes) -> Result<Vec<&str>, AllocError> {
     let mut seen = Vec::new(alloc);
     for note in &notes.kept {
-        seen.push(note.text.as_str().as_bytes())?;
+        seen.push(note.text.as_str())?;
     }
     for text in &notes.hidden {
-        seen.push(text.as_str().as_bytes())?;
+        seen.push(text.as_str())?;
     }
     seen.sort_unstable();
+    seen.dedup();
     Ok(seen)
 }
 
+/// Whether a claim removes or blanks texts.
+fn names_texts(table: &Table) -> bool {
+    texts_at(table, "remove").is_some()
+        || texts_at(table, "remove-prefix").is_some()
+        || texts_at(table, "blank").is_some()
+}
+
+/// Says which text that was seen looks like one of a claim, and which bytes are others.
+fn say_alike(text: &mut Text, seen: &[&str], said: &str) -> Result<(), AllocError> {
+    for other in seen {
+        if look_alike(text.alloc(), said, other)? {
+            let (claimed, found) = apart(said.as_bytes(), other.as_bytes());
+            let pieces = [Piece::Hex(claimed), Piece::Hex(found)];
+            return text.say(words::SEEN_ALIKE, &pieces);
+        }
+    }
+    Ok(())
+}
+
 /// Whether one of the sorted texts is this one.
-fn is_seen(seen: &[&[u8]], text: &[u8]) -> bool {
+fn is_seen(seen: &[&str], text: &str) -> bool {
     seen.binary_search(&text).is_ok()
 }
 
 /// Whether one of the sorted texts begins with this one.
-fn is_begin_seen(seen: &[&[u8]], begin: &[u8]) -> bool {
+fn is_begin_seen(seen: &[&str], begin: &str) -> bool {
     match seen.binary_search(&begin) {
         Ok(_) => true,
         Err(place) => match seen.get(place) {
@@ -52,16 +70,21 @@ fn texts_at<'a>(table: &'a Table, key: &str) -> Option<&'a Array> {
 }
 
 /// Says which texts of a claim no annotation has in the kept intervals.
-fn say_unseen(text: &mut Text, table: &Table, key: &str, seen: &[&[u8]]) -> Result<(), AllocError> {
+fn say_unseen(text: &mut Text, table: &Table, key: &str, seen: &[&str]) -> Result<(), AllocError> {
     let Some(array) = texts_at(table, key) else {
         return Ok(());
     };
+    let mut count: usize = 0;
     for value in array {
         if let Some(said) = value.as_str()
-            && !is_seen(seen, said.as_bytes())
+            && !is_seen(seen, said)
         {
             let pieces = [Piece::Quoted(said.as_bytes()), Piece::Word(key)];
             text.say(words::TEXT_UNSEEN, &pieces)?;
+            if count < MOST_ALIKE {
+                say_alike(text, seen, said)?;
+            }
+            count = count.saturating_add(1);
         }
     }
     Ok(())
@@ -72,14 +95,14 @@ fn say_begins_unseen(
     text: &mut Text,
     table: &Table,
     key: &str,
-    seen: &[&[u8]],
+    seen: &[&str],
 ) -> Result<(), AllocError> {
     let Some(array) = texts_at(table, key) else {
         return Ok(());
     };
     for value in array {
         if let Some(said) = value.as_str()
-            && !is_begin_seen(seen, said.as_bytes())
+            && !is_begin_seen(seen, said)
         {
             let pieces = [Piece::Quoted(said.as_bytes()), Piece::Word(key)];
             text.say(words::BEGIN_UNSEEN, &pieces)?;
@@ -98,62 +121,13 @@ fn say_misspelt(
     let Ok(table) = toml::table_from_slice(alloc, claim_text) else {
         return Ok(());
     };
+    if !names_texts(&table) {
+        return Ok(());
+    }
     let seen = texts_seen(alloc, notes)?;
     say_unseen(text, &table, "remove", &seen)?;
     say_begins_unseen(text, &table, "remove-prefix", &seen)?;
     say_unseen(text, &table, "blank", &seen)
-}
-
-/// Whether a byte stands between two words.
-fn is_between_words(byte: &u8) -> bool {
-    byte.is_ascii() && !byte.is_ascii_alphanumeric()
-}
-
-/// Whether a name has this word, in capital or small letters.
-fn has_word(name: &[u8], word: &[u8]) -> bool {
-    for part in name.split(is_between_words) {
-        if part.eq_ignore_ascii_case(word) {
-            return true;
-        }
-    }
-    false
-}
-
-/// Whether a word can be a name: it has a capital letter, or another one than those of English, and is not too short.
-fn can_be_name(word: &[u8]) -> bool {
-    word.len() >= LEAST_LETTERS
-        && word
-            .iter()
-            .any(|byte: &u8| byte.is_ascii_uppercase() || !byte.is_ascii())
-}
-
-/// Whether a text has a word of a name.
-fn names(text: &[u8], name: &[u8]) -> bool {
-    for word in text.split(is_between_words) {
-        if can_be_name(word) && has_word(name, word) {
-            return true;
-        }
-    }
-    false
-}
-
-/// Says which annotations have a word of the patient's name.
-fn say_named(text: &mut Text, kept: &[Note], name: &[u8]) -> Result<(), AllocError> {
-    let mut count: usize = 0;
-    for note in kept {
-        let said = note.text.as_str().as_bytes();
-        if names(said, name) {
-            if count < MOST_LISTED {
-                let pieces = [Piece::Seconds(note.onset), Piece::Quoted(said)];
-                text.say(words::NAME_IN_NOTE, &pieces)?;
-            }
-            count = count.saturating_add(1);
-        }
-    }
-    match count.saturating_sub(MOST_LISTED) {
-        0 => Ok(()),
-        others => text.say(words::NOT_LISTED, &[Piece::Number(others as i128)]),
-    }
 }
 
 /// Says which subfields of an export go out as they are.
@@ -196,14 +170,24 @@ pub(crate) fn say_warnings(
     text: &mut Text,
     alloc: Global,
     claim_text: &[u8],
-    original: &Header,
-    export: &Header,
-    notes: &Notes,
+    shown: Shown<'_>,
 ) -> Result<(), AllocError> {
     text.say(words::AS_CLAIMED, &[])?;
-    say_misspelt(text, alloc, claim_text, notes)?;
-    say_named(text, &notes.kept, original.patient().name())?;
-    say_subfields(text, export)?;
-    say_channel_texts(text, export)?;
+    say_misspelt(text, alloc, claim_text, shown.notes)?;
+    say_names(text, alloc, shown, true)?;
+    say_subfields(text, shown.export)?;
+    say_channel_texts(text, shown.export)?;
     text.say(words::READ_THE_TEXTS, &[])
+}
+
+/// Says what else is to be seen of an export that isn't as claimed.
+pub(crate) fn say_behind_no(
+    text: &mut Text,
+    alloc: Global,
+    claim_text: &[u8],
+    shown: Shown<'_>,
+) -> Result<(), AllocError> {
+    say_misspelt(text, alloc, claim_text, shown.notes)?;
+    say_names(text, alloc, shown, false)?;
+    text.say(words::CHECK_AGAIN, &[])
 }

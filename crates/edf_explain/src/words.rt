@@ -38,6 +38,14 @@ pub(crate) const AT: &str = "at {0} ({1} in the original, {2} in the export)";
 
 pub(crate) const FULL_STOP: &str = ".";
 
+// Bytes, in front of their digits.
+
+pub(crate) const NO_BYTES: &str = "nothing";
+
+pub(crate) const ONE_BYTE: &str = "the byte";
+
+pub(crate) const SOME_BYTES: &str = "the bytes";
+
 // Files that can't be judged.
 
 /// The fault, and the file.
@@ -61,7 +69,7 @@ pub(crate) fn remedy(side: Side) -> &'static str {
             "Export the original anew from the recording system, as EDF+. If the recorder itself makes the fault, a corrected copy can stand for the original, and it is written down who corrected what."
         }
         Side::Export => {
-            "The software that made the export made this fault: export again with other settings or other software, and send these lines to its maker."
+            "It looks like a fault of the software that made the export: export again with other settings or other software, and send these lines to its maker."
         }
     }
 }
@@ -76,7 +84,7 @@ fn field_cause(cause: FieldCause) -> &'static str {
             "The field begins with a space, or is empty. EDF+ wants X for each thing that isn't said."
         }
         FieldCause::TooFewSubfields => {
-            "The field has too few words: the patient has a code, a sex, a birthdate and a name, the recording has Startdate, a date, a number, a technician and the equipment. The file may be one of the older EDF."
+            "The field has too few words: the patient has a code, a sex, a birthdate and a name, the recording has Startdate, a date, a number, a technician and the equipment."
         }
         FieldCause::BadSex => "The sex isn't F, M or X.",
         FieldCause::BadDate => {
@@ -127,12 +135,19 @@ const NO_SAMPLES: &str = "The signal has no samples: export without this signal.
 const OTHER_RANGE: &str = "The number can't stand there.";
 
 const TRUNCATED: &str =
-    "The file ends too early: it is empty, a copy was broken off, or the recording wasn't closed. Copy it again, and compare the sizes.";
+    "The file ends before all is there that its header speaks of: it looks like a copy that was broken off, or a recording that wasn't closed. Copy it again, and compare the sizes.";
+
+pub(crate) const EMPTY: &str =
+    "The file is empty: no byte of it could be read. Copy it again, and compare the sizes.";
+
+pub(crate) const BDF: &str =
+    "The file is one of BDF, which has 24 bits a sample. Export it as EDF+, which has 16.";
 
 const NOT_PRINTABLE: &str =
-    "The field has a sign other than the plain letters, digits and marks of English, such as an umlaut. In the field version it is a file of another kind, such as BDF with 24 bits.";
+    "The field has a sign other than the plain letters, digits and marks of English, such as an umlaut or a micro sign: write ue or uV, for instance.";
 
-const BAD_VERSION: &str = "The file is of another kind: it isn't EDF+.";
+const BAD_VERSION: &str =
+    "The file doesn't begin as an EDF file does: it is of another kind, or was damaged. Export it as EDF+.";
 
 const BAD_START: &str =
     "The start isn't a day such as 17.03.19 and a time such as 23.10.00, or its year is after 2084 and isn't written as yy beside the date in the recording's line.";
@@ -143,8 +158,8 @@ const STARTDATE_DIFFERS: &str =
 const BAD_HEADER_SIZE: &str =
     "The size that the header says of itself doesn't go with its number of signals: a program added or took away signals, and forgot this number.";
 
-const NOT_EDF_PLUS: &str =
-    "The file says neither EDF+C nor EDF+D: it is one of the older EDF. Export as EDF+.";
+pub(crate) const NOT_EDF_PLUS: &str =
+    "The file says neither EDF+C nor EDF+D: it is one of the older EDF. Export it as EDF+.";
 
 const BAD_NUMBER: &str =
     "The field holds no plain number: there is a comma, an exponent, a space in front, or nothing.";
@@ -155,7 +170,8 @@ const BAD_ANNOTATION_SIGNAL: &str =
 const NO_ANNOTATION_SIGNAL: &str =
     "No signal is labelled EDF Annotations, which EDF+ asks for, also where there are no annotations.";
 
-const NO_ORDINARY_SIGNAL: &str = "All signals hold annotations: there is no channel.";
+const NO_ORDINARY_SIGNAL: &str =
+    "All signals hold annotations: there is no channel. Export with channels.";
 
 const DUPLICATE_LABEL: &str =
     "Two channels have the same label, so that the label names no one channel: give one of them another label.";
@@ -195,11 +211,39 @@ fn range(place: Place) -> &'static str {
     }
 }
 
+/// Whether what a number means that can't stand where it does says what is to be done.
+fn range_says_remedy(place: Place) -> bool {
+    range(place) != OTHER_RANGE
+}
+
+/// Whether what a fault means says what is to be done, so that nobody else is turned to.
+pub(crate) fn says_remedy(fault: &Fault) -> bool {
+    match fault.cause {
+        Cause::Truncated
+        | Cause::NotPrintable
+        | Cause::BadVersion
+        | Cause::NotEdfPlus
+        | Cause::NoOrdinarySignal
+        | Cause::DuplicateLabel
+        | Cause::RecordTooLarge
+        | Cause::NotContiguous
+        | Cause::TooManyAnnotations => true,
+        Cause::BadSubfields(cause) => cause == FieldCause::NotPrintable,
+        Cause::BadTal(cause) => matches!(
+            cause,
+            TalCause::NoEnd | TalCause::NotUtf8 | TalCause::ControlByte
+        ),
+        Cause::BadRange => range_says_remedy(fault.place),
+        _ => false,
+    }
+}
+
 /// What a fault means.
 pub(crate) fn meaning_of(fault: &Fault) -> &'static str {
     let place = fault.place;
     match fault.cause {
         Cause::Truncated => TRUNCATED,
+        Cause::NotPrintable if place == Place::AtField(FixedField::Version) => BAD_VERSION,
         Cause::NotPrintable => NOT_PRINTABLE,
         Cause::BadVersion => BAD_VERSION,
         Cause::BadSubfields(cause) => field_cause(cause),
@@ -224,19 +268,41 @@ pub(crate) fn meaning_of(fault: &Fault) -> &'static str {
     }
 }
 
+// Files in the places of others.
+
+pub(crate) const EXPORT_TWICE: &str =
+    "Both files say the same in their headers, and have X where the claim hides something: it looks like the export was typed as the original, too. The order is: the original, the export, the claim.";
+
+pub(crate) const ORIGINAL_TWICE: &str =
+    "Both files say the same in their headers, though the claim moves or hides something: it looks like the original was typed as the export, too, or nothing was moved and hidden in the export. The order is: the original, the export, the claim.";
+
+pub(crate) const EXCHANGED: &str =
+    "The original has X where the claim hides something, and the export hasn't: it looks like these two were exchanged. The order is: the original, the export, the claim.";
+
 // Channels. The label is the first thing.
 
 pub(crate) const UNKNOWN_CHANNEL: &str =
-    "The claim names channel {0}, and the original doesn't have it: compare the claim with what edfclaim show prints of the original. Small and capital letters and spaces count.";
+    "The claim names channel {0}, and the original doesn't have it: it may be misspelt. Compare the claim with what edfclaim show prints of the original. Small and capital letters and spaces count.";
 
 pub(crate) const MISSING_CHANNEL: &str =
-    "The claim names channel {0}, and the export doesn't have it: export again with this channel, or take it out of the claim.";
+    "The claim names channel {0}, and the export doesn't have it: if it is to go out, export again with it.";
 
 pub(crate) const CHANNEL_NOWHERE: &str =
-    "The claim names channel {0}, and neither the original nor the export has it: compare the claim with what edfclaim show prints of the original. Small and capital letters and spaces count.";
+    "The claim names channel {0}, and neither the original nor the export has it: it may be misspelt. Compare the claim with what edfclaim show prints of the original. Small and capital letters and spaces count.";
 
 pub(crate) const EXTRA_CHANNEL: &str =
-    "The export has channel {0}, and the claim doesn't name it: export again without this channel, or claim it.";
+    "The export has channel {0}, and the claim doesn't name it: if it isn't to go out, export again without it.";
+
+// Channels that were tried, and what the check answers with them.
+
+pub(crate) const WITH_CHANNEL: &str = "With channels = [{0}";
+
+pub(crate) const NEXT_CHANNEL: &str = ", {0}";
+
+pub(crate) const CHANNELS_YES: &str =
+    "] the answer would be {0}. Export again, or claim these channels if they are meant.";
+
+pub(crate) const CHANNELS_NO: &str = "] the first difference would be {0}.";
 
 pub(crate) const TRANSDUCER: &str =
     "Channel {0} has another sensor in the export: the original has {1}, the export has {2}. Export again so that this text stays as it is.";
@@ -257,7 +323,7 @@ pub(crate) const CALIBRATION_EXPORT: &str =
     "  The export has {0} to {1} {2}, for the numbers {3} to {4}.";
 
 pub(crate) const CALIBRATION_CUT_OFF: &str =
-    "  The export's extremes are the original's with their last digits cut off. Some writers cut digits off and don't round: EDFlib writes 3276.7 as 3276.699. Have the recorder write extremes that survive, such as whole numbers, or export with other software.";
+    "  It looks like the original's extremes with their last digits cut off: they differ by no more than one unit of the last digit that eight characters hold. Some writers cut digits off and don't round: EDFlib writes 3276.7 as 3276.699. Have the recorder write extremes that survive, such as whole numbers, or export with other software.";
 
 pub(crate) const CALIBRATION_DIMENSION: &str =
     "  The unit is another one. Export again with the original's unit and extremes.";
@@ -277,7 +343,7 @@ pub(crate) const SUBFIELD_NOT_X: &str =
     "The claim hides {0} ({1}), and the export shows something there. The export doesn't go out: make it again with X in this place.";
 
 pub(crate) const SUBFIELD_CHANGED: &str =
-    "The claim doesn't hide {0} ({1}), and the export has another text there than the original: export again with the original's text, or claim {0} as anonymous if it is to be hidden.";
+    "The claim doesn't hide {0} ({1}), and the export has another text there than the original: export again with the original's text; or, if it is to be hidden, with X in this place, and add \"{0}\" to anonymous in the claim.";
 
 pub(crate) const SUBFIELD_HIDDEN: &str =
     "The claim doesn't hide {0} ({1}), and the export has X there: if it is to be hidden, add \"{0}\" to anonymous in the claim; if not, export again with the original's text.";
@@ -311,25 +377,38 @@ pub(crate) const STARTS_LATER: &str =
     "The export starts {0} later than claimed: its first samples stand at {1}, and by the claim they stand at {2}.";
 
 pub(crate) const SHIFT_FORGOTTEN: &str =
-    "It starts as if nothing had been moved: the shift of the claim was forgotten in the export, or isn't meant. The date of the recording may be the true one then, and the export doesn't go out before that is settled.";
+    "It starts as if nothing had been moved: it looks like the shift of the claim was forgotten in the export, or isn't meant. The date of the recording may be the true one then, and the export doesn't go out before that is settled.";
 
 pub(crate) const SHIFT_TURNED: &str =
-    "It starts as if it had been moved the other way: the sign of the shift was turned, in the export or in the claim.";
-/// The shift that would fit, and the claimed one.
-pub(crate) const SHIFT_FITS: &str =
-    "Its first samples are those that the claim keeps first, so it was moved by another time than claimed: shift = {0} would fit, and the claim says {1}. Export again, or claim this shift if it is meant. What follows is reckoned with shift = {0}.";
+    "It starts as if it had been moved the other way: it looks like the sign of the shift was turned, in the export or in the claim.";
+/// A shift that was tried, and what the check answers with it.
+pub(crate) const WITH_SHIFT_YES: &str =
+    "With shift = {0} the answer would be {1}. Export again, or claim this shift if it is meant. Nothing else differs, so no sample and no annotation is listed.";
 
-pub(crate) const SHIFT_DOES_NOT_FIT: &str =
-    "Its first samples aren't those that the claim keeps first, so it was cut elsewhere, or moved and changed: compare the intervals of the claim with what was exported. If it was moved alone, shift = {0} would fit. What follows is reckoned with shift = {1}, as claimed.";
+pub(crate) const WITH_SHIFT_NO: &str = "With shift = {0} the first difference would be {1}.";
+/// The shifts that were tried.
+pub(crate) const NO_BETTER_SHIFT: &str =
+    "Other shifts were tried, and the answer is no better: {0}";
 
-pub(crate) const CUT_AND_NOT_MOVED: &str =
-    "With the claimed shift it would lie outside of the original, and with its own times it doesn't: so it was not moved, or the claim isn't for this export. The date of the recording may be the true one, and the export doesn't go out before that is settled. What follows is reckoned with shift = 0.";
+pub(crate) const NEXT_SHIFT: &str = ", {0}";
+
+pub(crate) const CUT_ELSEWHERE: &str =
+    ". It looks like the export was cut elsewhere than claimed: compare the intervals of the claim with what was exported.";
+
+pub(crate) const RECKONED_ANEW: &str =
+    "With it all samples are as claimed. What follows is reckoned with shift = {0}.";
+
+pub(crate) const RECKONED_AS_CLAIMED: &str =
+    "What follows is reckoned with shift = {0}, as claimed.";
 
 pub(crate) const NO_SHIFT_FITS: &str =
-    "No shift fits, as a shift is whole seconds. Where the original starts inside a second, its first data record says so, and so does that of an export: some software leaves this fraction out.";
+    "No shift lets it start as claimed, as a shift is whole seconds. Where the original starts inside a second, its first data record says so, and so does that of an export: some software leaves this fraction out.";
 
 pub(crate) const NOTHING_KEPT: &str =
-    "The claim keeps no sample of the original: its intervals lie behind the end of the recording, or in a gap. They count seconds from the original's start.";
+    "The claim keeps no sample of the original: its intervals lie behind the end of the recording, in a gap, or before its first data record. They count seconds from the original's start.";
+
+pub(crate) const KEPT_BETWEEN: &str =
+    "The claim keeps no sample of the original: an interval lies within a data record, and no sample of a claimed channel stands in it, as between two samples. An interval keeps what stands at its begin, and not what stands at its end.";
 
 // Samples. The label is the first thing, how many there are the second.
 
@@ -372,7 +451,10 @@ pub(crate) const CAUSE_OF_EXTRA: &str =
     "Samples are too many where the export begins too early, ends too late, has more samples a second, or is moved by another time than claimed: it hands out more than is claimed.";
 
 pub(crate) const CAUSE_OF_CHANGED: &str =
-    "Values are changed by a filter, a new scale or a mistake in copying, and none of these is a cut of the original. If nearly all values of all channels are others, the export may be cut elsewhere or moved by another time than claimed.";
+    "It looks like a filter, a new scale or a mistake in copying: none of these is a cut of the original.";
+/// How many samples have other values, of how many that both files have.
+pub(crate) const CAUSE_OF_ALL_CHANGED: &str =
+    "Nearly all samples have other values in each of the channels, {0} of the {1} that both files have at one time: it looks like another cut of the night than claimed, or another night. A filter or a new scale of all channels does so, too, and is no cut of the original.";
 
 // Annotations.
 
@@ -384,6 +466,16 @@ pub(crate) const NOTE_EXTRA: &str = "The export has 1 annotation that the claim 
 
 pub(crate) const NOTES_EXTRA: &str = "The export has {0} annotations that the claim doesn't keep:";
 
+/// How many annotations, and by how much they are moved.
+pub(crate) const NOTES_LATER: &str =
+    "All {0} annotations that differ are moved, and no more: the export has each of them with its text and its duration, {1} later than the claim keeps it.";
+
+pub(crate) const NOTES_EARLIER: &str =
+    "All {0} annotations that differ are moved, and no more: the export has each of them with its text and its duration, {1} earlier than the claim keeps it.";
+
+pub(crate) const NOTES_WITHOUT_DURATIONS: &str =
+    "All {0} annotations that differ lack their durations, and no more: the export has each of them at its time and with its text. Export again with durations.";
+
 pub(crate) const LISTED: &str = "  ";
 
 pub(crate) const DURATION: &str = ", duration {0}, text ";
@@ -393,9 +485,16 @@ pub(crate) const NO_DURATION: &str = ", no duration, text ";
 pub(crate) const NOTE_TEXT: &str = "{0}";
 
 pub(crate) const NOT_LISTED: &str = "  and {0} more";
-/// The end of the interval, and a time just behind it.
+
 pub(crate) const AT_END: &str =
-    "    It begins exactly at the end of a kept interval, and what begins there isn't kept; some writers, as EDFbrowser, keep it. Delete it from the export. Only where the recording itself ends there, to = \"{1}\" in the place of \"{0}\" keeps it.";
+    "    It begins exactly at the end of a kept interval, and what begins there isn't kept; some writers, as EDFbrowser, keep it. Delete it from the export.";
+
+/// The end of an interval that was tried, the claimed one, and what the check answers with it.
+pub(crate) const WITH_END_YES: &str =
+    "With to = \"{0}\" in the place of \"{1}\" the answer would be {2}. Export again, or claim this end if it is meant.";
+
+pub(crate) const WITH_END_NO: &str =
+    "With to = \"{0}\" in the place of \"{1}\" the first difference would be {2}.";
 
 pub(crate) const OUTSIDE: &str = "    It begins outside of the kept intervals.";
 
@@ -408,8 +507,12 @@ pub(crate) const LIKE_CUT: &str =
 pub(crate) const LIKE_ROUNDED: &str =
     "    The original has this text a little earlier or later: some writers, as EDFlib, write times to 0.1 ms.";
 
+/// The bytes of the original, and those of the export.
+pub(crate) const LIKE_ALIKE: &str =
+    "    It looks like a text that the claim keeps at this time, and has other bytes: the original has {0} where the export has {1}.";
+
 pub(crate) const LIKE_BLANKED: &str =
-    "    At this time the claim keeps another text. It was made X, as blank does in a claim: if that is meant, add the text to blank.";
+    "    At this time the claim keeps another text. It looks like it was made X, as blank does in a claim.";
 
 pub(crate) const LIKE_NOT_BLANKED: &str =
     "    The claim blanks a text at this time, so that X is to stand there. If this text names somebody, the export doesn't go out.";
@@ -420,8 +523,19 @@ pub(crate) const LIKE_OTHER_DURATION: &str =
 pub(crate) const LIKE_OTHER_TEXT: &str =
     "    At this time the claim keeps an annotation with another text, which the export lacks.";
 
+pub(crate) const NOT_IN_ORIGINAL: &str =
+    "    The original has no such annotation: delete it from the export.";
+
+pub(crate) const LESS_OFTEN: &str =
+    "    The original has this annotation, and less often than the export: delete from the export what is too many.";
+
+pub(crate) const LIKE_MOVED: &str =
+    "    The export lacks an annotation with this text at another time: it looks like one that was moved.";
+
 pub(crate) const NOTES_ADVICE: &str =
-    "Run edfclaim notes on both files to see all annotations. What is to be left out belongs into remove or remove-prefix of the claim, and what is to be X into blank.";
+    "Run edfclaim notes on both files to see all annotations. In a claim, remove and remove-prefix leave annotations out by their texts, and blank makes their texts X.";
+
+pub(crate) const NOTES_ALL: &str = "Run edfclaim notes on both files to see all annotations.";
 
 // Behind a No.
 
@@ -439,11 +553,38 @@ pub(crate) const AS_CLAIMED: &str =
 pub(crate) const TEXT_UNSEEN: &str =
     "No annotation in the kept intervals of the original has the text {0} of {1}, in these very bytes: it may be misspelt.";
 
+/// The bytes of the claim, and those of the annotation.
+pub(crate) const SEEN_ALIKE: &str =
+    "  An annotation has a text that looks the same, and has other bytes: the claim has {0} where the annotation has {1}.";
+
 pub(crate) const BEGIN_UNSEEN: &str =
     "No annotation in the kept intervals of the original begins with the text {0} of {1}, in these very bytes: it may be misspelt.";
-/// The time, and the text.
-pub(crate) const NAME_IN_NOTE: &str =
-    "The annotation at {0} has a word of the patient's name: {1}.";
+/// The time, the text, and what is spelled in it.
+pub(crate) const NAME_IN_NOTE: &str = "The annotation at {0} has what is spelled like {2}: {1}.";
+/// The label, the text, and what is spelled in it.
+pub(crate) const NAME_IN_CHANNEL: &str = "A text of channel {0} has what is spelled like {2}: {1}.";
+/// The subfield, its text, and what is spelled in it.
+pub(crate) const NAME_IN_SUBFIELD: &str =
+    "The subfield {0} of the export has what is spelled like {2}: {1}.";
+
+pub(crate) const SPELLED_ALIKE: &str =
+    "Names were looked for in annotations, texts of channels and subfields that aren't hidden: what is spelled like the patient's name or like what the claim hides is found, and nothing else. A name that is spelled otherwise, a nickname or a relative isn't found, and what is found may be harmless.";
+
+/// What is spelled in a text, by the subfield that has it.
+pub(crate) fn spelled(which: Which) -> &'static str {
+    match which {
+        Which::Code => "the code by which the hospital knows the patient",
+        Which::Sex => "the patient's sex",
+        Which::Birthdate => "the day of birth",
+        Which::Name => "a word of the patient's name",
+        Which::PatientExtras => "a word of what stands behind the patient's name",
+        Which::Date => "the day of the recording",
+        Which::Administration => "the number of the investigation",
+        Which::Technician => "the name or the initials of who recorded",
+        Which::Equipment => "a word of what was recorded with",
+        Which::RecordingExtras => "a word of what stands behind the equipment",
+    }
+}
 
 pub(crate) const SUBFIELDS_SHOWN: &str = "These subfields of the export aren't X: {0}";
 
@@ -485,6 +626,10 @@ pub(crate) const NOT_TOML: &str = "line {0}, column {1}: {2}";
 
 pub(crate) const THE_LINE: &str = "  {0}";
 
+/// The name of the mark, and the plain one.
+pub(crate) const MARK_IN_LINE: &str =
+    "  This line has {0}. If it isn't meant as a part of a text, write the plain {1} in its place.";
+
 pub(crate) const NOT_TOML_ADVICE: &str =
     "A claim is TOML: each text stands between quotation marks, a list between [ and ], with a comma between two of its texts, and no key stands twice.";
 
@@ -515,6 +660,10 @@ pub(crate) const SHIFT_NOT_WHOLE: &str =
     "a shift is whole seconds: write it without a dot and without an exponent";
 
 pub(crate) const SHIFT_QUOTED: &str = "write the shift without quotation marks, as shift = -86400";
+
+/// What stands there, the seconds, the unit, and how many seconds it has.
+pub(crate) const SHIFT_IN_UNITS: &str =
+    "a shift is whole seconds, without quotation marks and without a unit: {3} s are one {2}, so {0} is shift = {1}";
 
 pub(crate) const SHIFT_OTHER: &str = "a shift is whole seconds, as shift = -86400 for a day back";
 /// The key.
@@ -597,6 +746,13 @@ pub(crate) const TIME_EMPTY: &str =
 
 pub(crate) const TIME_IS_A_CLOCK: &str =
     "{0} isn't a time of the day: write seconds from the original's start, which edfclaim show prints; an hour is 3600 s";
+
+/// The key, what stands there, and the seconds.
+pub(crate) const TIME_IN_SECONDS: &str =
+    "  {1} is {2} s: as a length of time, {0} = \"{2}\". Of a time of the day the original's start is taken off, which edfclaim show prints, and 86400 s are added where it is of the next day.";
+/// The key, and the name of the mark.
+pub(crate) const TIME_WITH_MARK: &str =
+    "{0} has {1}: write digits alone, and maybe a dot between them, as {0} = \"0.5\"";
 
 pub(crate) const TIME_WITH_COMMA: &str = "{0} has a comma: write a dot in its place";
 

@@ -173,6 +173,12 @@ fn tells_the_channels_and_the_rest(rt: HostRuntime) -> Result<(), Fail> {
     );
     assert_eq!(rt; hidden, (true, true, false));
     assert_eq!(rt; claim.shift_ps(), -86_400_000_000_000_000);
+    assert!(rt; claim.has_shift(-86_400) && !claim.has_shift(86_400));
+    let mut labels = Vec::new(rt.alloc());
+    labels.push(Vec::from_slice(rt.alloc(), b"EEG Fpz-Cz")?)?;
+    assert!(rt; !claim.has_channels(&labels));
+    labels.push(Vec::from_slice(rt.alloc(), b"ECG")?)?;
+    assert!(rt; claim.has_channels(&labels));
     Ok(())
 }
 

@@ -8,6 +8,7 @@
 #![tactic(auto)]
 
 mod files;
+mod files_again;
 mod hints;
 mod perform;
 

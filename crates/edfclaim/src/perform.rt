@@ -6,6 +6,7 @@ ghost use Rattle.edf_refusal.specs.declared.refusal.Refusal.TheVariants as refus
 ghost use Rattle.edfclaim.specs.Opening.{CheckIsRefused, DraftIsRefused, PartsAreRefused, ReportIsRefused};
 
 use crate::files::{claim_text, digested_recordings, recording, recordings};
+use crate::files_again::FilesAgain;
 use edf_check::vectors::vectors_to;
 use edf_check::{run, run_parts};
 use edf_command_line::VERSION;
@@ -109,7 +110,7 @@ fn receipt_parts<R: Files + AllocGlobal, K: Sink>(
 
 /// Drafts the claim by which a recording is the export of another.
 ///
-/// The original is opened first, then the export.
+/// The original is opened first, then the export. The draft is tried on both, which are opened anew for that.
 fn draft<R: Files + AllocGlobal, K: Sink>(
     rt: &R,
     original: &str,
@@ -120,10 +121,11 @@ fn draft<R: Files + AllocGlobal, K: Sink>(
 {
     let mut first = recording(rt, original, Role::Original)?;
     let mut second = recording(rt, export, Role::Export)?;
-    Ok(draft_to(rt.alloc(), &mut first, &mut second, sink)?)
+    let again = FilesAgain::new(rt, original, export);
+    Ok(draft_to(rt.alloc(), &mut first, &mut second, &again, sink)?)
 }
 
-/// The same as `check`, with sentences behind its line, for which both recordings are opened twice.
+/// The same as `check`, with sentences behind its line, for which both recordings are opened anew.
 fn explain<R: Files + AllocGlobal, K: Sink>(
     rt: &R,
     original: &str,
@@ -136,17 +138,8 @@ fn explain<R: Files + AllocGlobal, K: Sink>(
     let text = claim_text(rt, claim)?;
     let mut first = recording(rt, original, Role::Original)?;
     let mut second = recording(rt, export, Role::Export)?;
-    let mut first_again = recording(rt, original, Role::Original)?;
-    let mut second_again = recording(rt, export, Role::Export)?;
-    Ok(run_explained(
-        rt.alloc(),
-        &mut first,
-        &mut second,
-        &mut first_again,
-        &mut second_again,
-        &text,
-        sink,
-    )?)
+    let again = FilesAgain::new(rt, original, export);
+    Ok(run_explained(rt.alloc(), &mut first, &mut second, &again, &text, sink)?)
 }
 
 /// Says whether a file conforms.

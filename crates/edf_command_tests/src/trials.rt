@@ -1,0 +1,86 @@
+//! Tries: the check of two recordings that are opened anew, and the text of a claim with another shift, with other channels,
+//! and with another end of an interval.
+
+use edf_claim::claim::Claim;
+use edf_refusal::stop::RunStop;
+use edf_test_files::record::small_file;
+use edf_trial::better::is_better;
+use edf_trial::channels::with_channels;
+use edf_trial::check_anew::check_anew;
+use edf_trial::ends::with_end;
+use edf_trial::recordings::SliceRecordings;
+use edf_trial::shifted::with_shift;
+use edf_verdict::verdict::Verdict;
+use std::test::Fail;
+
+/// A claim by which an export of the small file was moved a day on.
+const CLAIM: &str =
+    "# a day on\nformat = 1\nchannels = [\"Temp\"]\nshift = 86_400\nkeep = [{ from = \"0\", to = \"1\" }]\n";
+
+/// What the check answers where it wasn't moved: it has two samples.
+const YES: Verdict = Verdict::Yes {
+    channels: 1,
+    samples: 2,
+    annotations: 0,
+};
+
+#[test]
+fn another_shift_makes_a_yes(rt: HostRuntime) -> Result<(), Fail> {
+    let file = small_file(rt.alloc())?;
+    let again = SliceRecordings::new(&file, &file);
+    let claimed = check_anew(rt.alloc(), &again, CLAIM.as_bytes());
+    let text = with_shift(rt.alloc(), CLAIM.as_bytes(), 0)?;
+    let tried = match &text {
+        Some(text) => check_anew(rt.alloc(), &again, text),
+        None => Err(RunStop::WriteFailed),
+    };
+    assert!(rt; text.is_some());
+    assert!(rt; tried == Ok(YES));
+    let is_named = match (&tried, &claimed) {
+        (Ok(tried), Ok(claimed)) => is_better(tried, claimed) && !is_better(claimed, tried),
+        _ => false,
+    };
+    assert!(rt; is_named);
+    Ok(())
+}
+
+#[test]
+fn what_is_no_claim_has_no_other_shift(rt: HostRuntime) -> Result<(), Fail> {
+    assert!(rt; with_shift(rt.alloc(), b"format = 1\n", 0)?.is_none());
+    assert!(rt; with_shift(rt.alloc(), b"format = ", 0)?.is_none());
+    assert!(rt; with_shift(rt.alloc(), CLAIM.as_bytes(), 10_000_000_001)?.is_none());
+    Ok(())
+}
+
+#[test]
+fn other_channels_are_claimed(rt: HostRuntime) -> Result<(), Fail> {
+    let file = small_file(rt.alloc())?;
+    let again = SliceRecordings::new(&file, &file);
+    let mut labels = Vec::new(rt.alloc());
+    labels.push(Vec::from_slice(rt.alloc(), b"Temp")?)?;
+    let other = "format = 1\nchannels = [\"Tmep\"]\nkeep = [{ from = \"0\", to = \"1\" }]\n";
+    let tried = match with_channels(rt.alloc(), other.as_bytes(), &labels)? {
+        Some(text) => check_anew(rt.alloc(), &again, &text),
+        None => Err(RunStop::WriteFailed),
+    };
+    assert!(rt; tried == Ok(YES));
+    labels.clear();
+    assert!(rt; with_channels(rt.alloc(), other.as_bytes(), &labels)?.is_none());
+    Ok(())
+}
+
+#[test]
+fn an_interval_ends_a_picosecond_later(rt: HostRuntime) -> Result<(), Fail> {
+    let claim = "format = 1\nchannels = [\"Temp\"]\nkeep = [{ from = \"0\", to = \"0.5\" }]\n";
+    let text = with_end(rt.alloc(), claim.as_bytes(), 500_000_000_000)?;
+    let kept = match &text {
+        Some(text) => {
+            let claim = Claim::read(rt.alloc(), text)?;
+            claim.keeps_instant(500_000_000_000, 1) && !claim.keeps_instant(500_000_000_001, 1)
+        }
+        None => false,
+    };
+    assert!(rt; kept);
+    assert!(rt; with_end(rt.alloc(), claim.as_bytes(), 400_000_000_001)?.is_none());
+    Ok(())
+}

@@ -1,0 +1,95 @@
+//! Files that were typed in the places of others: one twice, or the original and the export exchanged.
+
+use crate::text::Text;
+use crate::words;
+use edf_claim::claim::Claim;
+use edf_fields::which::Which;
+use edf_header::header::Header;
+use edf_header::signal::Signal;
+use edf_heads::subfields::{is_anonymous, is_unchanged};
+use std::alloc::AllocError;
+
+/// Whether two signals are the same in all that a header says of them.
+fn are_same_signals(one: &Signal, other: &Signal) -> bool {
+    one.label() == other.label()
+        && one.transducer() == other.transducer()
+        && one.prefilter() == other.prefilter()
+        && one.dimension() == other.dimension()
+        && one.samples() == other.samples()
+        && one.calibration().physical() == other.calibration().physical()
+        && one.calibration().digital() == other.calibration().digital()
+}
+
+/// Whether all subfields of two headers are the same.
+fn are_same_subfields(one: &Header, other: &Header) -> bool {
+    for which in Which::all() {
+        if !is_unchanged(one, other, *which) {
+            return false;
+        }
+    }
+    true
+}
+
+/// Whether two headers say the same.
+fn are_same(one: &Header, other: &Header) -> bool {
+    if one.start_second() != other.start_second()
+        || one.records() != other.records()
+        || one.duration_ps() != other.duration_ps()
+        || one.signals().len() != other.signals().len()
+    {
+        return false;
+    }
+    for (first, second) in one.signals().iter().zip(other.signals()) {
+        if !are_same_signals(first, second) {
+            return false;
+        }
+    }
+    are_same_subfields(one, other)
+}
+
+/// How many of the subfields that a claim hides are shown in a header, and whether it hides any.
+fn hidden_and_shown(claim: &Claim, header: &Header) -> (bool, usize) {
+    let mut hides = false;
+    let mut shown: usize = 0;
+    for which in Which::all() {
+        if claim.is_anonymous(*which) {
+            hides = true;
+            if !is_anonymous(header, *which) {
+                shown = shown.saturating_add(1);
+            }
+        }
+    }
+    (hides, shown)
+}
+
+/// Whether a claim changes something of the header of this original.
+fn changes_header(claim: &Claim, original: &Header) -> bool {
+    let (_, shown) = hidden_and_shown(claim, original);
+    claim.shift_ps() != 0 || shown > 0
+}
+
+/// Says what it looks like where one file stands in the places of both, or each in the place of the other.
+pub(crate) fn say_exchanged(
+    text: &mut Text,
+    claim: &Claim,
+    original: &Header,
+    export: &Header,
+) -> Result<(), AllocError> {
+    let (hides, in_original) = hidden_and_shown(claim, original);
+    let (_, in_export) = hidden_and_shown(claim, export);
+    if are_same(original, export) {
+        if !changes_header(claim, original) {
+            return Ok(());
+        }
+        let sentence = if hides && in_original == 0 {
+            words::EXPORT_TWICE
+        } else {
+            words::ORIGINAL_TWICE
+        };
+        return text.say(sentence, &[]);
+    }
+    if hides && in_original == 0 && in_export > 0 {
+        return text.say(words::EXCHANGED, &[]);
+    }
+    Ok(())
+}

@@ -1,0 +1,155 @@
+//! Other shifts than the claimed one, each tried by a check.
+
+use crate::answers::{Answer, Asked};
+use crate::starts::Starts;
+use crate::text::{Piece, Text};
+use crate::words;
+use edf_refusal::stop::RunStop;
+use edf_trial::better::is_better;
+use edf_trial::check_anew::check_anew;
+use edf_trial::recordings::Recordings;
+use edf_trial::shifted::with_shift;
+use edf_verdict::verdict::{Difference, Verdict};
+use std::alloc::{AllocError, Global};
+
+/// A shift that was tried, and what the check answers with it.
+#[derive(Drop)]
+struct Try {
+    seconds: i64,
+    answer: Answer,
+}
+
+/// The shifts that were tried.
+#[derive(Drop)]
+pub(crate) struct Tries {
+    shifts: Vec<i64>,
+    /// The one with the best answer, where that is better than the one with the claimed shift.
+    best: Option<Try>,
+}
+
+impl Tries {
+    /// None.
+    pub(crate) fn none(alloc: Global) -> Tries {
+        Tries {
+            shifts: Vec::new(alloc),
+            best: None,
+        }
+    }
+
+    /// Takes in that a shift was tried.
+    fn remember(&mut self, seconds: i64) -> Result<(), AllocError> {
+        self.shifts.push(seconds)?;
+        Ok(())
+    }
+
+    /// Tries a shift.
+    fn try_shift<R: Recordings>(
+        &mut self,
+        alloc: Global,
+        asked: &Asked<'_, R>,
+        seconds: i64,
+    ) -> Result<(), RunStop> {
+        let Some(claim_text) = with_shift(alloc, asked.claim_text, seconds)? else {
+            return Ok(());
+        };
+        let verdict = check_anew(alloc, asked.recordings, &claim_text)?;
+        self.remember(seconds)?;
+        let best = match &self.best {
+            Some(best) => &best.answer.verdict,
+            None => asked.verdict,
+        };
+        if is_better(&verdict, best) {
+            let answer = Answer::of(alloc, verdict)?;
+            self.best = Some(Try { seconds, answer });
+        }
+        Ok(())
+    }
+
+    /// Tries the shifts that the starts suggest, until the check answers with a Yes. Nothing is tried where another shift can't
+    /// change the first difference: where the headers differ, or the export starts as claimed.
+    pub(crate) fn of_shifts<R: Recordings>(
+        alloc: Global,
+        asked: &Asked<'_, R>,
+        starts: Option<Starts>,
+    ) -> Result<Tries, RunStop> {
+        let mut tries = Tries::none(alloc);
+        let Some(starts) = starts else {
+            return Ok(tries);
+        };
+        if starts.are_same() || !is_behind_headers(asked.verdict) {
+            return Ok(tries);
+        }
+        for seconds in starts.candidates(alloc)? {
+            if !tries.has_yes() {
+                tries.try_shift(alloc, asked, seconds)?;
+            }
+        }
+        Ok(tries)
+    }
+
+    /// Whether no shift was tried.
+    pub(crate) fn are_none(&self) -> bool {
+        self.shifts.is_empty()
+    }
+
+    /// Whether the check answers with a Yes with one of the shifts.
+    pub(crate) fn has_yes(&self) -> bool {
+        match &self.best {
+            Some(best) => best.answer.is_yes(),
+            None => false,
+        }
+    }
+
+    /// The shift in seconds with which all samples are as claimed.
+    pub(crate) fn for_samples(&self) -> Option<i64> {
+        let best = self.best.as_ref()?;
+        match &best.answer.verdict {
+            Verdict::Yes { .. } | Verdict::No(Difference::Annotation { .. }) => Some(best.seconds),
+            _ => None,
+        }
+    }
+
+    /// Says which of the shifts has a better answer than the claimed one, and with which one all else is reckoned.
+    pub(crate) fn say(&self, text: &mut Text, claimed: i128) -> Result<(), AllocError> {
+        let Some(best) = &self.best else {
+            self.say_shifts(text)?;
+            return say_reckoned(text, words::RECKONED_AS_CLAIMED, claimed);
+        };
+        let seconds = i128::from(best.seconds);
+        let pieces = [Piece::Number(seconds), Piece::Plain(best.answer.line())];
+        if self.has_yes() {
+            return text.say(words::WITH_SHIFT_YES, &pieces);
+        }
+        text.say(words::WITH_SHIFT_NO, &pieces)?;
+        if self.for_samples().is_some() {
+            return say_reckoned(text, words::RECKONED_ANEW, seconds);
+        }
+        say_reckoned(text, words::RECKONED_AS_CLAIMED, claimed)
+    }
+
+    /// Says which shifts were tried, where none has a better answer.
+    fn say_shifts(&self, text: &mut Text) -> Result<(), AllocError> {
+        let mut front = words::NO_BETTER_SHIFT;
+        for seconds in &self.shifts {
+            text.add(front, &[Piece::Number(i128::from(*seconds))])?;
+            front = words::NEXT_SHIFT;
+        }
+        if self.shifts.is_empty() {
+            return Ok(());
+        }
+        text.say(words::CUT_ELSEWHERE, &[])
+    }
+}
+
+/// Says with which shift, in seconds, all else is reckoned.
+fn say_reckoned(text: &mut Text, sentence: &str, seconds: i128) -> Result<(), AllocError> {
+    text.say(sentence, &[Piece::Number(seconds)])
+}
+
+/// Whether the headers are as claimed, and samples or annotations aren't.
+fn is_behind_headers(verdict: &Verdict) -> bool {
+    matches!(
+        verdict,
+        Verdict::No(Difference::Sample { .. } | Difference::Annotation { .. })
+    )
+}

@@ -1,0 +1,2 @@
+pub mod Better
+pub mod Changes

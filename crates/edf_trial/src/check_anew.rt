@@ -1,0 +1,30 @@
+//! A check of two recordings that are opened anew.
+
+ghost use Rattle.std.specs.Prelude.{IfOk, IsTrue};
+ghost use Rattle.edf_check.specs.Runs.{IsVerdictUnder};
+
+use crate::recordings::Recordings;
+use edf_check::check::check;
+use edf_claim::claim::Claim;
+use edf_refusal::stop::RunStop;
+use edf_verdict::verdict::Verdict;
+use std::alloc::Global;
+
+/// Opens both recordings anew, and checks the export against the original under the claim that a text says.
+///
+/// The verdict is that of `edf_check::check::check`. The error is that the text says no claim, want of memory, or a failed
+/// read.
+pub fn check_anew<R: Recordings>(
+    alloc: Global,
+    recordings: &R,
+    claim_text: &[u8],
+) -> Result<Verdict, RunStop>
+    ensures { IfOk result (λ verdict. IsTrue (R.are_honest recordings.now) →
+        IsVerdictUnder (R.original recordings.now) (R.export recordings.now) claim_text.now verdict) }
+{
+    let claim = Claim::read(alloc, claim_text)?;
+    let mut original = recordings.open_original()?;
+    let mut export = recordings.open_export()?;
+    let verdict = check(alloc, &mut original, &mut export, &claim)?;
+    Ok(verdict)
+}

@@ -1,0 +1,97 @@
+//! A claim that keeps what begins at the end of one of its intervals.
+
+ghost use Rattle.std.specs.Prelude.{IfOk, IfSome, IsTrue};
+ghost use Rattle.edf_trial.specs.Changes.{IsClaimThatKeeps};
+
+use crate::changed::{put, table_of, text_of};
+use edf_claim::claim::Claim;
+use edf_claim::stop::ClaimStop;
+use edf_fields::onset::span;
+use std::alloc::{AllocError, Global};
+use toml::value::Array;
+use toml::{Table, Value};
+
+/// How many picoseconds a second has.
+const SECOND_PS: i128 = 1_000_000_000_000;
+
+/// Whether an interval of a claim ends at a time, in picoseconds.
+fn ends_at(interval: &Table, at_ps: i128) -> bool {
+    match interval.get("to") {
+        Some(Value::String(text)) => span(text.as_str().as_bytes()) == Some(at_ps),
+        _ => false,
+    }
+}
+
+/// A time in picoseconds, as a claim says it.
+fn seconds_of(alloc: Global, ps: i128) -> Result<Value, AllocError> {
+    let whole = ps.div_euclid(SECOND_PS);
+    let fraction = ps.rem_euclid(SECOND_PS);
+    let text = format!(in alloc; "{whole}.{fraction:012}")?;
+    Value::string(alloc, &text)
+}
+
+/// Lets the interval that ends at a time end a picosecond later; answers whether there is one.
+fn move_end(alloc: Global, keep: &mut Array, at_ps: i128) -> Result<bool, AllocError> {
+    for interval in keep.iter_mut() {
+        if let Some(table) = interval.as_table_mut()
+            && ends_at(table, at_ps)
+        {
+            let later = seconds_of(alloc, at_ps.saturating_add(1))?;
+            put(alloc, table, "to", later)?;
+            return Ok(true);
+        }
+    }
+    Ok(false)
+}
+
+/// The text of a claim of which the interval that ends at a time ends a picosecond later; none where it isn't TOML, or no
+/// interval ends there.
+fn text_with(alloc: Global, claim_text: &[u8], at_ps: i128) -> Result<Option<Vec<u8>>, AllocError> {
+    let Some(mut table) = table_of(alloc, claim_text)? else {
+        return Ok(None);
+    };
+    let is_moved = match table.get_mut("keep") {
+        Some(Value::Array(keep)) => move_end(alloc, keep, at_ps)?,
+        _ => false,
+    };
+    if is_moved {
+        text_of(alloc, &table)
+    } else {
+        Ok(None)
+    }
+}
+
+/// Whether a text says a claim that keeps what stands at a time, in picoseconds after the second at which the original starts.
+///
+/// The error is want of memory.
+fn says_kept(alloc: Global, text: &[u8], at_ps: i128) -> Result<bool, AllocError>
+    ensures { IfOk result (λ says. IsTrue says → IsClaimThatKeeps text.now at_ps) }
+{
+    match Claim::read(alloc, text) {
+        Ok(claim) => Ok(claim.keeps_instant(at_ps, 1)),
+        Err(ClaimStop::OutOfMemory) => Err(AllocError),
+        Err(_) => Ok(false),
+    }
+}
+
+/// The text of the claim that says what another claim says, but that its interval that ends at a time, in picoseconds after the
+/// second at which the original starts, ends a picosecond later, and so keeps what begins there; none where the text says no
+/// claim, or there is no such claim.
+///
+/// The error is want of memory.
+pub fn with_end(
+    alloc: Global,
+    claim_text: &[u8],
+    at_ps: i128,
+) -> Result<Option<Vec<u8>>, AllocError>
+    ensures { IfOk result (λ text. IfSome text (λ t. IsClaimThatKeeps t.items at_ps)) }
+{
+    let Some(text) = text_with(alloc, claim_text, at_ps)? else {
+        return Ok(None);
+    };
+    if says_kept(alloc, &text, at_ps)? {
+        Ok(Some(text))
+    } else {
+        Ok(None)
+    }
+}
