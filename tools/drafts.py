@@ -27,8 +27,8 @@ sys.path[:0] = [str(TOOLS), str(TOOLS / "oracle")]
 
 from cases import BY_RULES  # noqa: E402
 from cases.files import field  # noqa: E402
-from explain_tries import BOTH, NIGHT, ecg  # noqa: E402
-from made import Claimed, Made  # noqa: E402
+from explain_tries import APNEA, BOTH, LIGHTS, NIGHT, ecg  # noqa: E402
+from made import PS, Claimed, Made  # noqa: E402
 
 # the tables of tools/cases that have checks
 TABLES = [
@@ -143,6 +143,7 @@ class Drafts:
         no = "# NOT A YES: with this draft the check answers: "
         quarter = Made([(0, 900)], {"EEG Fpz-Cz": list(range(-1800, 1800)), "ECG": list(range(1800))})
         remarks = ["# It looks like", "# OTHER DAYS", "# NOT IN", "# NOT TOLD"]
+        dated = [(field("patient"), "X F X X"), (field("recording"), "Startdate X X X X")]
         late = quarter.cut(300, 600, -300)
         files = self.said("five minutes back", quarter, late, [f'{no}NO 10 sample "ECG" at 0 ps original 0 export 600. '], remarks)
         meant = self.path("meant", Claimed(BOTH, [(300, 600)]).text().encode())
@@ -155,7 +156,32 @@ class Drafts:
         self.said("swapped", cut, NIGHT, [f'{no}NO 10 sample "ECG" at 0 ps original {ecg(10)} export {ecg(0)}. ', swapped])
         hidden = NIGHT.but(edits=[(field("patient"), "X F X X")])
         self.said("swapped, of one length", hidden, NIGHT, [f"{no}NO 8 subfield code changed", swapped])
+        nobody, shown = NIGHT.but(edits=dated), NIGHT.but(edits=[dated[0], (field("recording"), "Startdate 02-MAR-2002 X X X")])
+        self.said("a date that the export shows", nobody, shown, ["# NOT A YES: "], remarks)
         self.said("hidden", NIGHT, hidden, ["# With this draft the check answers: YES channels 2 samples 600 annotations 2\n"], remarks)
+        beside = 80 * PS + PS // 3, None, "Asks for water"
+        asked = NIGHT.but(notes=[*NIGHT.notes, beside])
+        self.said("an annotation beside the data records", asked, asked.cut(10, 70).but(notes=[APNEA, beside]),
+                  ["# With this draft the check answers: YES channels 2 samples 360 annotations 2\n",
+                   "# BESIDE THE DATA RECORDS: 1 of the export's annotations begin outside",
+                   '{ from = "80.333333333333", to = "80.333333333334" }, # confirm\n'], remarks)
+        broken_off = NIGHT.but(stretches=[(0, 30), (60, 100)], notes=[(40 * PS, None, "Apnea"), (50 * PS, None, "Apnea")])
+        self.said("one of two annotations in a gap", broken_off, broken_off.but(notes=[(40 * PS, None, "Apnea")]),
+                  ["# With this draft the check answers: YES channels 2 samples 420 annotations 1\n", "# BESIDE"], remarks)
+        self.said("the other one", broken_off, broken_off.but(notes=[(50 * PS, None, "Apnea")]),
+                  ["# With this draft the check answers: YES channels 2 samples 420 annotations 1\n", "# BESIDE"], remarks)
+        three = NIGHT.but(stretches=[(0, 30), (60, 100)], notes=[(at * PS, None, "Apnea") for at in (35, 40, 45)])
+        self.said("the middle one of three", three, three.but(notes=[(40 * PS, None, "Apnea")]),
+                  ["# With this draft the check answers: YES channels 2 samples 420 annotations 1\n",
+                   '{ from = "40", to = "40.000000000001" }, # confirm\n'], remarks)
+        blanked = NIGHT.but(notes=[LIGHTS, (APNEA[0], None, "X")])
+        self.said("a text that was blanked", NIGHT, blanked,
+                  ["# With this draft the check answers: YES channels 2 samples 600 annotations 2\n", "format = 2\n",
+                   'blank = [\n  "Apnea", # confirm; how often it stands: 1\n]'], remarks)
+        own = NIGHT.but(notes=[*NIGHT.notes, (APNEA[0], None, "X")])
+        self.said("a text beside an X of the original", own, blanked,
+                  ["# With this draft the check answers: YES channels 2 samples 600 annotations 2\n", "format = 1\n",
+                   'remove = [\n  "Apnea", # confirm; how often it stands: 1\n]'], ["blank = ["])
         more = NIGHT.but(channels={**NIGHT.channels, "Temp": [place % 50 for place in range(100)]})
         self.said("a channel more", NIGHT, more, [f'{no}NO 3 unknown channel "Temp"', '# NOT IN THE ORIGINAL: channel "Temp".'], remarks[:2])
         days = 200_000

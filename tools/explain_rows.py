@@ -178,8 +178,8 @@ def of_files():
         ("a file of BDF", bdf, ["one of BDF, which has 24 bits", "Export it as EDF+"], ["older EDF", SOFTWARE, ANEW]),
         ("a file of another version", other, ["doesn't begin as an EDF file does", "Export it as EDF+."],
          ["BDF", "older EDF", SOFTWARE, ANEW]),
-        ("a file of the older EDF", plain, ["one of the older EDF. Export it as EDF+."], ["BDF", SOFTWARE, ANEW]),
-        ("one whose patient is of the older EDF, too", older, ["one of the older EDF. Export it as EDF+."],
+        ("a file of the older EDF", plain, ["it looks like one of the older EDF. Export it as EDF+."], ["BDF", SOFTWARE, ANEW]),
+        ("one whose patient is of the older EDF, too", older, ["it looks like one of the older EDF. Export it as EDF+."],
          ["too few words", SOFTWARE, ANEW]),
         ("two channels of one label", doubled, ["give one of them another label"], [SOFTWARE, ANEW]),
     ]
@@ -212,6 +212,12 @@ def of_scales():
         there, absent = (cut, other) if is_cut else (other, cut)
         pair = scaled(*original), scaled(*export)
         yield f"extremes {original} as {export}", 1, *pair, ALL_OF_IT, [there], [absent]
+    wide, cut = ([(signal(0, "physical-minimum"), low), (signal(0, "physical-maximum"), high)]
+                 for low, high in (("-3276.7", "3276.7"), ("-3276.69", "3276.699")))
+    for name, edit, there in (("unit", (signal(0, "dimension"), "mV"), "  The unit is another one."),
+                              ("range", (signal(0, "digital-maximum"), "2046"), "  Export again with the original's extremes.")):
+        yield (f"extremes cut off, and another {name}", 1, edited(NIGHT, *wide), edited(NIGHT, *cut, edit), ALL_OF_IT, [there],
+               ["digits cut off"])
 
 
 def of_extra_notes():
@@ -227,7 +233,7 @@ def of_extra_notes():
            ["    The claim removes this text. If it names somebody, the export doesn't go out."], [delete, advice])
     twice = with_notes(note(0.5, "Lights off"), note(0.5, "Lights off"))
     yield ("an annotation that the export has twice", 1, plain, twice, ALL_OF_IT,
-           ["    The original has this annotation, and less often than the export"], [delete, advice])
+           ["    The claim keeps this annotation, and less often than the export has it"], [delete, advice])
     late = with_notes(note(0.5, "Lights off"), note(2.75, "Snoring"))
     yield ("an annotation that is moved", 1, added, late, ALL_OF_IT,
            ["    The export lacks an annotation with this text at another time: it looks like one that was moved.", advice],
@@ -307,6 +313,53 @@ UNSEEN = ["\u0080", "\u009b", "\u009f", "\u00ad", "\u200b", "\u200f", "\u2028", 
 SEEN = ["\u00a1", "\u00fc", "\u20ac", "\u4e2d"]
 
 
+def of_hidden_letters():
+    """A name with a letter in it that isn't seen."""
+    claim = claim_of(BOTH, anonymous(HIDDEN), ALL)
+    for name, is_found in (("Haa\u200bgse", True), ("Haa gse", False)):
+        there = f"The annotation at 0.5 s has what is spelled like {NAME}: "
+        yield f"the name {name!r}", 0, *named(f"{name} schnarcht"), claim, [there] if is_found else [], [] if is_found else [there]
+
+
+def of_removed_texts():
+    """Texts that the claim removes or blanks, and that the export has."""
+    removed = "    The claim removes this text. If it names somebody, the export doesn't go out."
+    blanked = "    The claim blanks this text: where it is kept, X is to stand in its place."
+    mrs = note(3.25, "Mrs. Haagse asks")
+    early, late = with_notes(note(0.5, "Mrs. Haagse asks")), with_lanes(
+        "+0\x14\x14\0" + note(0.5, "Lights off"), b"+1\x14\x14\0", b"+2\x14\x14\0", ("+3\x14\x14\0" + mrs).encode())
+    half = edited(NIGHT, (signal(2, "samples"), "120"), (field("records"), "2"), parts=[
+        VALUES_0, lane(240, b"+0\x14\x14\0"), VALUES_1, lane(240, ("+1\x14\x14\0" + mrs).encode())])
+    keys = 'remove = ["Mrs. Haagse asks"]', 'remove-prefix = ["Mrs."]\nblank = ["Mrs. Haagse asks"]', 'blank = ["Mrs. Haagse asks"]'
+    for key, there, absent in ((keys[0], removed, blanked), (keys[1], removed, blanked), (keys[2], blanked, removed)):
+        yield f"a text in the interval, {key}", 1, early, early, claim_of(BOTH, key, ALL, 2), [there], [absent]
+        yield (f"a text outside of the interval, {key}", 1, late, half, claim_of(BOTH, key, [("0", "2")], 2), [there],
+               [absent, "outside of the kept intervals"])
+    literal, other = with_notes(note(0.5, "X")), with_notes(note(0.5, "Y"))
+    yield ("another text for an X of the original", 1, literal, other, ALL_OF_IT,
+           ["    At this time the claim keeps an annotation with another text, which the export lacks."], [blanked, removed])
+
+
+def of_ends():
+    """Annotations that the export has at the end of an interval, for other reasons than that."""
+    at_end = "It begins exactly at the end of a kept interval"
+    for onset, words, absent in (("1.99996", "it looks like a time that was rounded", at_end), ("1.9", at_end, "rounded")):
+        old = with_lanes("+0\x14\x14\0", "+1\x14\x14\0" + (note(onset, "Apnea") if onset == "1.99996" else ""), b"+2\x14\x14\0", b"+3\x14\x14\0")
+        new = edited(NIGHT, (signal(2, "samples"), "120"), (field("records"), "2"), parts=[
+            VALUES_0, lane(240, b"+0\x14\x14\0"), VALUES_1, lane(240, ("+1\x14\x14\0" + note(2, "Apnea")).encode())])
+        yield f"an annotation of {onset} s at the end", 1, old, new, claim_of(BOTH, "", [("0", "2")]), [words], [absent]
+
+
+def of_numbers():
+    """Numbers of claims that are wrong in more than one way."""
+    yield ("a time below 0 without quotation marks", 2, WHOLE, WHOLE, claimed("[[keep]]", "from = -30", 'to = "3"'),
+           ["from has a sign"], ['write from = "-30"'])
+    yield ("a time of ten digits without quotation marks", 2, WHOLE, WHOLE, claimed("[[keep]]", "from = 1234567890", 'to = "3"'),
+           ["from has too many digits"], ['write from = "'])
+    yield ("200,000 days", 2, WHOLE, WHOLE, claimed('shift = "200000 days"', *KEEP),
+           ["a shift is a number of seconds from -10000000000 to 10000000000"], ["is shift ="])
+
+
 def of_letters():
     plain = with_notes(note(0.5, "Lights off"))
     for letter in UNSEEN + SEEN:
@@ -328,6 +381,13 @@ def of_places():
     yield "the original twice", 1, WHOLE, WHOLE, claim, [first], [second, both]
     yield "the export twice", 1, nameless, nameless, moving, [second], [first, both]
     yield "the files exchanged", 1, nameless, WHOLE, claim, [both], [first, second]
+    hidden, dated = (edited(NIGHT, (field("patient"), "X F X X"), (field("recording"), f"Startdate {day} X X X"))
+                     for day in ("X", "02-MAR-2002"))
+    yield ("a date that the export shows alone", 1, hidden, dated, claim_of(BOTH, 'anonymous = ["name", "date"]', ALL),
+           ["The claim hides date"], [both, first, second])
+    ward = edited(NIGHT, (field("patient"), "MCH-0234567 F 02-MAY-1951 Haagse_Harry Ward7"))
+    yield ("words behind the name that the export adds", 1, WHOLE, ward, claim_of(BOTH, 'anonymous = ["patient-extras"]', ALL),
+           ["The claim hides patient-extras"], [both, first, second])
     yield "a name that is another one", 1, WHOLE, renamed, claim, [], [first, second, both]
     changed = with_values(lambda channel, place, value: value + 1)
     yield "one header, and nothing to be hidden", 1, WHOLE, changed, ALL_OF_IT, [], [first, second, both]
@@ -450,5 +510,5 @@ def of_channels():
 
 def rows():
     for table in (of_names, of_files, of_scales, of_extra_notes, of_samples, of_rates, of_letters, of_places, of_alike,
-                  of_one_way, of_claims, of_misspelt, of_channels):
+                  of_one_way, of_claims, of_misspelt, of_channels, of_hidden_letters, of_removed_texts, of_ends, of_numbers):
         yield from table()

@@ -60,8 +60,9 @@ OF_ROWS = {
     "TIME_IN_SECONDS": ("as a length of time", "as a length of time"),
     "WITH_SHIFT_YES": ("With shift = ", "With shift"),
     "WITH_SHIFT_NO": ("With shift = ", "With shift"),
-    "NO_BETTER_SHIFT": ("Other shifts were tried, and the answer is no better: ", "were tried"),
-    "CUT_ELSEWHERE": (". It looks like the export was cut elsewhere", "It looks like the export was cut elsewhere"),
+    "NO_BETTER_SHIFT": ("Other shifts were tried, and with none of them the first samples are as claimed: ", "were tried"),
+    "SHIFT_BEYOND": ("as a shift is at most 10000000000 s.", "as a shift is at most"),
+    "CUT_ELSEWHERE": (". It looks like the export was cut elsewhere", "cut elsewhere"),
     "RECKONED_ANEW": ("With it all samples are as claimed. What follows is reckoned with shift = ", "all samples are as claimed"),
     "RECKONED_AS_CLAIMED": ("What follows is reckoned with shift = ", "What follows is reckoned"),
 }
@@ -80,11 +81,10 @@ def sentences():
     `spelled.Name` where the function is `spelled`."""
     text = WORDS.read_text(encoding="utf-8")
     found = {name: said for name, said in CONSTANT.findall(text)}
-    for place, part in enumerate(CALL.split(text)):
-        call = part if place % 2 else call_before
-        for kind, case, said in [] if place % 2 else ARM.findall(part):
+    front, *parts = CALL.split(text)
+    for call, part in [("", front), *zip(parts[0::2], parts[1::2])]:
+        for kind, case, said in ARM.findall(part):
             found[f"{'spelled' if call == 'spelled' else kind}.{case}"] = said
-        call_before = call
     return {name: said.replace('\\"', '"').replace("\\\\", "\\") for name, said in found.items()}
 
 
@@ -250,6 +250,9 @@ def pairs():
     yield "name hidden", WHOLE, NAMELESS, HIDING["name"]
     yield "another name", WHOLE, patient("MCH-0234567 F 02-MAY-1951 Haagse_Mary"), EVERYTHING
     yield "name hidden, not claimed", WHOLE, NAMELESS, EVERYTHING
+    ward = bytes_of(WARD)
+    yield "extras left out", ward, WHOLE, EVERYTHING
+    yield "extras hidden, not claimed", ward, patient("MCH-0234567 F 02-MAY-1951 Haagse_Harry X"), EVERYTHING
     yield "date hidden, not claimed", WHOLE, recorded("Startdate X PSG-1234/2002 NN Telemetry03"), EVERYTHING
     # starts
     yield "an hour early", WHOLE, at_start("01-MAR-2002", "01.03.02", "21.00.00"), A_DAY_BACK
@@ -457,6 +460,8 @@ ANSWERED = [
     ("FREE_TEXT_OF_HEADER", "a text of the header", [], "a text of a channel"),
     ("SUBFIELD_NOT_X", "name shown", ["name", "the patient's name"], "name hidden"),
     ("SUBFIELD_CHANGED", "another name", ["name", "the patient's name"], "name hidden, not claimed"),
+    ("SUBFIELD_LEFT_OUT", "extras left out", ["patient-extras", "all that stands behind the patient's name"], "extras hidden, not claimed"),
+    ("SUBFIELD_HIDDEN", "extras hidden, not claimed", ["patient-extras", "all that stands behind the patient's name"], "extras left out"),
     ("SUBFIELD_HIDDEN", "name hidden, not claimed", ["name", "the patient's name"], "another name"),
     ("DATE_CHANGED", "date hidden, not claimed",
      ["date", "the day of the recording, as the recording's line says it"], "name hidden, not claimed"),
@@ -500,7 +505,7 @@ ANSWERED = [
     ("LIKE_CUT", "a text cut short", [], "a text cut shorter"),
     ("LIKE_ROUNDED", "a time rounded", [], "a time moved"),
     ("LIKE_BLANKED", "a text made X", [], "another text"),
-    ("LIKE_NOT_BLANKED", "a text not made X", [], "a text blanked"),
+    ("NOT_BLANKED", "a text not made X", [], "a text blanked"),
     ("LIKE_OTHER_DURATION", "another duration", [], "another text"),
     ("LIKE_OTHER_TEXT", "another text", [], "another duration"),
     ("LESS_OFTEN", "an annotation twice", [], "an annotation more"),

@@ -87,19 +87,28 @@ def with_no():
            ["all samples are as claimed", "were tried"])
     yield ("a cut that begins a second late", 1, NIGHT, NIGHT.cut(11, 70, -DAY), of_ten(),
            ["The export starts 1 s later than claimed",
-            f"Other shifts were tried, and the answer is no better: {-DAY + 1}, 0, {DAY}. It looks like the export was cut elsewhere",
+            f"Other shifts were tried, and with none of them the first samples are as claimed: {-DAY + 1}, 0, {DAY}. "
+            "It looks like the export was cut elsewhere",
             '"EEG Fpz-Cz": 4 samples that the claim keeps are missing'],
            ["With shift", "another value", *LIKELY])
     yield ("a cut that begins a second late, and a day more", 1, NIGHT, NIGHT.cut(11, 70, -2 * DAY), of_ten(),
-           [f"With shift = {-2 * DAY + 1} the first difference would be NO 10 sample \"ECG\" at {10 * PS} ps original {ecg(10)} export {ecg(11)}.",
+           [f"with none of them the first samples are as claimed: {-2 * DAY + 1}, {-2 * DAY}, 0. It looks like the export was cut elsewhere",
             f"What follows is reckoned with shift = {-DAY}, as claimed."],
-           ["were tried", "all samples are as claimed", *LIKELY])
+           ["With shift", "all samples are as claimed", *LIKELY])
+    yield ("a cut that begins three seconds early", 1, NIGHT, NIGHT.cut(7, 70, -DAY), of_ten(),
+           ["The export starts 3 s earlier than claimed", f"samples are as claimed: {-DAY - 3}, 0, {DAY}. It looks like the export was cut elsewhere"],
+           ["With shift", *LIKELY])
     late = NIGHT.but(fraction=PS // 2)
     yield ("a part of a second that is left out", 1, late, late.but(fraction=0, shift=-DAY), Claimed(BOTH, [(0, 200)], -DAY),
            ["The export starts 0.5 s earlier than claimed", "No shift lets it start as claimed, as a shift is whole seconds."],
-           ["would be YES", *LIKELY])
+           ["would be YES", "cut elsewhere", *LIKELY])
+    far = Claimed(BOTH, [(10, 70)], 9_999_999_999)
+    yield ("a shift that is beyond the limit", 1, NIGHT, NIGHT.cut(10, 70, 10_000_000_001), far,
+           ["The export starts 2 s later than claimed", "No shift lets it start as claimed, as a shift is at most 10000000000 s."],
+           ["would be YES", "whole seconds", "cut elsewhere"])
     yield ("a part of a second that is kept", 1, late, late.but(shift=0), Claimed(BOTH, [(0, 200)], -DAY),
-           ["With shift = 0 the answer would be YES channels 2 samples 600 annotations 2."], ["No shift lets it start"])
+           ["With shift = 0 the answer would be YES channels 2 samples 600 annotations 2."],
+           ["No shift lets it start", "as a shift is at most"])
     named = [(field("patient"), "MCH-0234567 F 02-MAY-1951 Haagse_Henry")]
     yield ("a forgotten shift behind another name", 1, NIGHT, NIGHT.cut(10, 70).but(edits=named), of_ten(),
            ["The export starts 1 day later than claimed", "as if nothing had been moved", "The claim doesn't hide name"],

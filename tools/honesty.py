@@ -31,9 +31,9 @@ sys.path.insert(0, str(pathlib.Path(__file__).resolve().parent))
 from made import KINDS, PS, START, Claimed, Made, apart, notes_apart, seconds  # noqa: E402
 
 choose = random.Random()
-DAY = 86_400
 TEXTS = ["Apnea", "Lights off", "Arousal", "Position left", "Movement"]
 
+DAY = 86_400
 AT = r"at (\S+) s \((\S+ \S+) in the original, (\S+ \S+) in the export\)"
 SPOT = re.compile(rf"^  (It|The first|The last) stands {AT}(?:, data record (\d+) of the original)?"
                   r"(?:, data record (\d+) of the export)?(?:: (-?\d+) in the original, (-?\d+) in the export)?\.$")
@@ -48,12 +48,16 @@ WITH = re.compile(r"^With shift = (-?\d+) (?:the answer would be (YES .*)\. Expo
 CHANNELS = re.compile(r'^With channels = \["(.*)"\] (?:the answer would be (YES .*)\. Export again|the first difference would be (NO .*)\.$)')
 END = re.compile(r'^With to = "(\d+)\.0{11}1" in the place of "(\d+)" (?:the answer would be (YES .*)\. Export again'
                  r"|the first difference would be (NO .*)\.$)")
-TRIED = re.compile(r"^Other shifts were tried, and the answer is no better: ([-0-9, ]*)\.")
+TRIED = re.compile(r"^Other shifts were tried, and with none of them the first samples are as claimed: ([-0-9, ]*)\.")
 RECKONED = re.compile(r"What follows is reckoned with shift = (-?\d+)")
 NOTES = {
     "lacks": re.compile(r"^The export lacks (\d+) annotations? that the claim keeps:$"),
     "has": re.compile(r"^The export has (\d+) annotations? that the claim doesn't keep:$"),
 }
+ONE_WAY = re.compile(r"^All (\d+) annotations that differ (?:are moved, and no more: the export has each of them with its text and its duration, "
+                     r"(.*) (later|earlier) than the claim keeps it|(lack their durations, and no more))")
+LENGTH = re.compile(r"(\d+(?:\.\d+)?) (days?|hours?|minutes?|s)\b")
+UNITS = {"day": DAY * PS, "hour": 3600 * PS, "minute": 60 * PS}
 
 
 def clock(ps, moved=0):
@@ -61,6 +65,17 @@ def clock(ps, moved=0):
     whole, rest = divmod(ps, PS)
     day = START + datetime.timedelta(seconds=whole + moved)
     return f"{day:%Y-%m-%d %H:%M:%S}" + (seconds(rest)[1:] if rest else "")
+
+
+def length(said):
+    """A length of time in picoseconds, by its words."""
+    return sum(round(float(number) * PS) if unit == "s" else int(number) * UNITS[unit.rstrip("s")]
+               for number, unit in LENGTH.findall(said))
+
+
+def begins_behind(line, first):
+    """Whether the first difference is behind the first sample that is kept, if it is one of samples."""
+    return not line.startswith("NO 10 ") or rank(line)[1] > first
 
 
 def rank(line):
@@ -187,7 +202,7 @@ class Said:
     def __init__(self, text):
         self.lines = text.splitlines()
         self.counts, self.notes, self.named, self.starts, self.tried, self.reckoned = {}, {}, [], None, [], None
-        self.channels, self.ends = [], []
+        self.channels, self.ends, self.one_way = [], [], None
         for number, line in enumerate(self.lines):
             for kind, pattern in COUNTS.items():
                 if found := pattern.match(line):
@@ -196,6 +211,9 @@ class Said:
             for kind, pattern in NOTES.items():
                 if found := pattern.match(line):
                     self.notes[kind] = int(found[1])
+            if found := ONE_WAY.match(line):
+                self.notes = {"lacks": int(found[1]), "has": int(found[1])}
+                self.one_way = length(found[2]) * (-1 if found[3] == "earlier" else 1) if found[2] else None
             if found := STARTS.match(line):
                 self.starts = found[2], found[3], found[4]
             if found := WITH.match(line):
@@ -236,7 +254,10 @@ def wrong_spot(spot, which, want, shift):
     numbers = [None if part is None else str(part) for part in (old_record, new_record)]
     shown = [None, None] if old is None or new is None else [str(old), str(new)]
     have = [which, seconds(at), clock(at), clock(at, shift), *numbers, *shown]
-    return None if spot and list(spot.groups()) == have else f"it is {have}; said: {spot and spot.groups()}"
+    # of a sample of the export before what is kept the data record of the original isn't said
+    also = [*have[:4], None, *have[5:]]
+    is_so = spot and (list(spot.groups()) == have or old is None and list(spot.groups()) == also)
+    return None if is_so else f"it is {have}; said: {spot and spot.groups()}"
 
 
 def wrong_samples(said, original, export, claim, shift):
@@ -257,6 +278,10 @@ def wrong_notes(said, original, export, claim, shift):
     """What is wrong with how many annotations are missing and too many."""
     missing, extra = notes_apart(original, export, claim, shift)
     want = {kind: found.total() for kind, found in (("lacks", missing), ("has", extra)) if found}
+    if said.one_way is not None:
+        later = collections.Counter((onset + said.one_way, *rest) for onset, *rest in missing.elements())
+        if later != extra:
+            return f"the annotations aren't moved by {said.one_way}: {missing} {extra}"
     return None if said.notes == want else f"of annotations it {want}; said: {said.notes}"
 
 
@@ -277,8 +302,9 @@ class Honesty:
         ran = subprocess.run([self.program, command, *files], **how)
         return ran.returncode, ran.stdout.decode(errors="replace")
 
-    def wrong_remedies(self, said, claim, files, line):
-        """What is wrong with the changes of the claim that are named, each tried by a check."""
+    def wrong_remedies(self, said, claim, files, line, first):
+        """What is wrong with the changes of the claim that are named, each tried by a check. A shift with which the first sample
+        that is kept isn't as claimed is no better one."""
         tries = [(f"shift = {number}", claim.text(number), want) for number, want in said.named]
         tries += [(f"shift = {number}", claim.text(number), None) for number in said.tried]
         tries += [(f"channels = {labels}", claim.text(labels=labels), want) for labels, want in said.channels]
@@ -291,7 +317,8 @@ class Honesty:
             given = given.rstrip("\n")
             if want is not None and given != want:
                 return f"with {name} the answer is {given}; said: {want}"
-            if (rank(given) > rank(line)) != (want is not None):
+            is_better = rank(given) > rank(line) and (not name.startswith("shift") or begins_behind(given, first))
+            if is_better != (want is not None):
                 return f"with {name} the answer is {given}, and {line} without; is it said to be better: {want is not None}"
         return None
 
@@ -315,7 +342,8 @@ class Honesty:
         self.seen["reckoned with another shift"] += said.reckoned not in (None, claim.shift)
         if status == 1 and (wrong := wrong_starts(said, original, export, claim)):
             return wrong
-        if wrong := self.wrong_remedies(said, claim, files, line):
+        kept = [at for label in common(original, export, claim) for at in original.samples(label) if claim.keeps(at)]
+        if wrong := self.wrong_remedies(said, claim, files, line, min(kept, default=0)):
             return wrong
         if said.has_yes():
             return f"samples or annotations are listed: {said.counts} {said.notes}" if said.counts or said.notes else None

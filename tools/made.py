@@ -92,7 +92,7 @@ class Made:
         places = [second for first, last in self.stretches for second in range(first, last)]
         edits = [
             (field("recording"), f"Startdate {day.day:02}-{MONTHS[day.month - 1]}-{day.year} PSG-1234/2002 NN Telemetry03"),
-            (field("startdate"), day.strftime("%d.%m.%y")), (field("starttime"), day.strftime("%H.%M.%S")),
+            (field("startdate"), day.strftime("%d.%m.") + ("yy" if day.year > 2084 else day.strftime("%y"))), (field("starttime"), day.strftime("%H.%M.%S")),
             (field("records"), str(len(places))), (field("reserved"), "EDF+C" if len(self.stretches) == 1 else "EDF+D"),
             (signal(len(labels), "samples"), str(LANE // 2)),
         ]

@@ -9,7 +9,8 @@
 # 1700 cases for the readers, 1000 for the run on two files, 2000 for that on several exports, and 10,000 honest exports
 # for the drafts, under each of which the second reading has to say the Yes that it says under the claim itself. The
 # toolchain lets a program run for 120 seconds and print 1 MB, so the cases of the last two are cut into several runs.
-# Each of the four ends with a line 'N passed, M failed'.
+# Each of the four ends with a line 'N passed, M failed'. Where the proved program stands, 2,000 wrong exports follow: what
+# it explains of each is recounted from how they were made (tools/honesty.py), with a line of the same kind.
 set -euo pipefail
 
 seed=${1:-1}
@@ -86,4 +87,11 @@ python3 tools/oracle/parts_rules.py "$work/all_cases" "$work/all_given" || faile
 
 in_runs 800 drafts tools/oracle/draft_cases.py "$seed" 10000
 python3 tools/oracle/draft_rules.py "$work/all_cases" "$work/all_given" || failed=1
+
+program=crates/edfclaim/out/edfclaim
+if [ -x "$program" ]; then
+    tools/honesty.py "$program" 2000 "$seed" || failed=1
+else
+    echo "no proved program: tools/honesty.py is left out"
+fi
 exit "$failed"

@@ -43,7 +43,7 @@ pub record IsReadOf (file : List ℕ) (recorded : Recorded) : Type 0 where
 
 -- a comment says that no claim says what the export is
 abbrev pub none_text : List ℕ
-none_text = codes "# no draft: the export needs more than a claim can say (1,000 intervals, 65,536 bytes, 9 digits of seconds)\n"
+none_text = codes "# no draft: the export needs more than a claim can say (1,000 intervals, 65,536 bytes, 9 digits of seconds, a shift of 10,000,000,000 s)\n"
 
 -- what is written of two files, with the outcome: the draft of a claim and Yes; the fault of the original, or else of the export, and No; or,
 -- of two files that conform, No and that comment, where no claim says it

@@ -19,7 +19,7 @@ use std::alloc::{AllocError, Global};
 
 /// What is written where no claim says what the export is.
 const NONE: &str =
-    "# no draft: the export needs more than a claim can say (1,000 intervals, 65,536 bytes, 9 digits of seconds)\n";
+    "# no draft: the export needs more than a claim can say (1,000 intervals, 65,536 bytes, 9 digits of seconds, a shift of 10,000,000,000 s)\n";
 
 /// A text and its outcome.
 #[derive(Drop)]

@@ -27,7 +27,7 @@ struct Drafted {
 
 impl Recorded {
     /// The second at which the file starts, 0 for 1970-01-01 00:00:00.
-    fn start_second(&self) -> i64 {
+    pub(crate) fn start_second(&self) -> i64 {
         self.reader.header().start_second()
     }
 }

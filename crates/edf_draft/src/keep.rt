@@ -42,7 +42,7 @@ impl Back {
 }
 
 /// The time of the export's data records in the original.
-fn moved_stretches(
+pub(crate) fn moved_stretches(
     alloc: Global,
     export: &Recorded,
     back: Back,
@@ -168,7 +168,7 @@ fn joined(
 }
 
 /// The times of annotations that the export has beside its data records, in those of the original.
-fn times_beside(
+pub(crate) fn times_beside(
     alloc: Global,
     remarks: &[Remark],
     keep: &[Interval],

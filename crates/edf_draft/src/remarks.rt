@@ -1,8 +1,10 @@
 //! What a person should know of two files before their draft is confirmed, each as a comment of TOML.
 
 use crate::hidden::hidden_subfields;
+use crate::keep::{Back, moved_stretches, times_beside};
 use crate::recorded::{Recorded, Times};
 use crate::shift::{Shift, shift_of};
+use edf_fields::which::Which;
 use edf_header::header::Header;
 use edf_heads::channel_index::ChannelIndex;
 use std::alloc::{AllocError, Global};
@@ -56,7 +58,41 @@ fn look_swapped(
     let (old, new) = (original.reader.header(), export.reader.header());
     let hidden = hidden_subfields(alloc, old, new)?;
     let shown = hidden_subfields(alloc, new, old)?;
-    Ok(hidden.is_empty() && !shown.is_empty())
+    Ok(hidden.is_empty() && shown.iter().any(|which| tells_order(*which)))
+}
+
+/// Whether a subfield that only one file shows tells which of them is the export. Many writers show the date, and of those behind
+/// the name and behind the equipment there may be none.
+fn tells_order(which: Which) -> bool {
+    !matches!(
+        which,
+        Which::Date | Which::PatientExtras | Which::RecordingExtras
+    )
+}
+
+/// Says how many annotations the export has beside the time of its data records.
+fn say_beside(
+    text: &mut String,
+    alloc: Global,
+    original: &Recorded,
+    export: &Recorded,
+    shift: Shift,
+) -> Result<(), AllocError> {
+    let back = Back::new(
+        original.start_second(),
+        export.start_second(),
+        shift.seconds,
+    );
+    let stretches = moved_stretches(alloc, export, back)?;
+    let beside = times_beside(alloc, &export.remarks, &stretches, back)?;
+    if beside.is_empty() {
+        return Ok(());
+    }
+    let line = format!(in alloc;
+        "\n# BESIDE THE DATA RECORDS: {} of the export's annotations begin outside of the time that its data records cover. The\n# intervals below reach to them where they can. Confirm that these were to go out.\n",
+        beside.len()
+    )?;
+    text.push_str(&line)
 }
 
 /// The least and the greatest number of days by which an export lies in the time of the original.
@@ -102,6 +138,7 @@ pub(crate) fn remarks_of(
     } else {
         text.push_str(UNTOLD)?;
     }
+    say_beside(&mut text, alloc, original, export, shift)?;
     say_channels(
         &mut text,
         alloc,

@@ -13,10 +13,10 @@ use std::alloc::{AllocError, Global};
 /// What stands in front of a Yes.
 const YES: &str = "# With this draft the check answers: ";
 
-/// What stands in front of a No, and behind it.
+/// What stands in front of a No, and behind one about samples.
 const NOT_YES: &str = "# NOT A YES: with this draft the check answers: ";
 
-const BEHIND_NO: &str =
+const BEHIND_SAMPLE: &str =
     ". If the shift below is a wrong guess, keep and remove follow from it, and are wrong, too: set keep to the intervals that were meant, and edfclaim explain tries other shifts.";
 
 /// What stands where the check couldn't be run.
@@ -36,7 +36,8 @@ fn comment_of(alloc: Global, verdict: &Verdict) -> Result<Vec<u8>, AllocError> {
     let said = verdict.line(alloc)?;
     let (front, behind) = match verdict {
         Verdict::Yes { .. } => (YES, ""),
-        Verdict::No(_) => (NOT_YES, BEHIND_NO),
+        Verdict::No(Difference::Sample { .. }) => (NOT_YES, BEHIND_SAMPLE),
+        Verdict::No(_) => (NOT_YES, "."),
     };
     let mut line = Vec::from_slice(alloc, front.as_bytes())?;
     line.extend_from_slice(said.trim_ascii_end())?;

@@ -47,19 +47,31 @@ fn are_same(one: &Header, other: &Header) -> bool {
     are_same_subfields(one, other)
 }
 
-/// How many of the subfields that a claim hides are shown in a header, and whether it hides any.
-fn hidden_and_shown(claim: &Claim, header: &Header) -> (bool, usize) {
-    let mut hides = false;
+/// Whether a header has a subfield: of those behind the name and behind the equipment there may be none.
+pub(crate) fn has_subfield(header: &Header, which: Which) -> bool {
+    let mut extras = match which {
+        Which::PatientExtras => header.patient().extras(),
+        Which::RecordingExtras => header.recording().extras(),
+        _ => return true,
+    };
+    extras.next().is_some()
+}
+
+/// How many of the subfields that a claim hides are `X` in a header, and how many are shown. The date isn't counted, which many
+/// writers show.
+fn hidden_and_shown(claim: &Claim, header: &Header) -> (usize, usize) {
+    let mut hidden: usize = 0;
     let mut shown: usize = 0;
     for which in Which::all() {
-        if claim.is_anonymous(*which) {
-            hides = true;
-            if !is_anonymous(header, *which) {
+        if *which != Which::Date && claim.is_anonymous(*which) && has_subfield(header, *which) {
+            if is_anonymous(header, *which) {
+                hidden = hidden.saturating_add(1);
+            } else {
                 shown = shown.saturating_add(1);
             }
         }
     }
-    (hides, shown)
+    (hidden, shown)
 }
 
 /// Whether a claim changes something of the header of this original.
@@ -75,8 +87,9 @@ pub(crate) fn say_exchanged(
     original: &Header,
     export: &Header,
 ) -> Result<(), AllocError> {
-    let (hides, in_original) = hidden_and_shown(claim, original);
+    let (hidden, in_original) = hidden_and_shown(claim, original);
     let (_, in_export) = hidden_and_shown(claim, export);
+    let hides = hidden > 0;
     if are_same(original, export) {
         if !changes_header(claim, original) {
             return Ok(());

@@ -38,11 +38,12 @@ fn clocks_of(walk: &Walk<'_>) -> Clocks {
     }
 }
 
-/// Says where the export starts, or that nothing is kept. Where both files have no channel nothing is known of it.
+/// Says where the export starts, or that nothing is kept. Where one of the files lacks a claimed channel, it isn't known whether
+/// nothing is.
 fn say_starts(text: &mut Text, walk: &Walk<'_>, tries: &Tries) -> Result<(), AllocError> {
     match walk.starts {
         Some(starts) => starts.say(text, tries),
-        None if walk.tracks.is_empty() => Ok(()),
+        None if !walk.has_all_channels() => Ok(()),
         None if walk.keeps_between => text.say(words::KEPT_BETWEEN, &[]),
         None => text.say(words::NOTHING_KEPT, &[]),
     }

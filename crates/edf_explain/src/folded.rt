@@ -1,5 +1,6 @@
 //! Texts without regard to case and to marks on letters, to be compared by how they are spelled.
 
+use crate::shown::is_unseen;
 use caseless::default_case_fold_str;
 use std::alloc::{AllocError, Global};
 use unicode_normalization::Form;
@@ -47,7 +48,7 @@ fn push_mark(folded: &mut Vec<u8>, mark: char) -> Result<(), AllocError> {
     Ok(())
 }
 
-/// Puts a sign behind what was folded so far; it is none that can be taken apart.
+/// Puts a sign behind what was folded so far; it is none that can be taken apart. One that isn't seen is left out.
 fn push_sign(folded: &mut Vec<u8>, sign: char, marks: Marks) -> Result<(), AllocError> {
     if is_combining_mark(sign) {
         if marks == Marks::AsLetters {
@@ -57,6 +58,7 @@ fn push_sign(folded: &mut Vec<u8>, sign: char, marks: Marks) -> Result<(), Alloc
     }
     match u8::try_from(sign) {
         Ok(byte) if byte.is_ascii() => folded.push(byte)?,
+        _ if is_unseen(sign) => {}
         _ => push_other(folded, sign, marks)?,
     }
     Ok(())

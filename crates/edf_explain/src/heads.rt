@@ -1,6 +1,6 @@
 //! How the header of an export isn't what a claim says of its original's: all differences, and not the first alone.
 
-use crate::exchanged::say_exchanged;
+use crate::exchanged::{has_subfield, say_exchanged};
 use crate::text::{Piece, Text};
 use crate::words;
 use edf_claim::claim::Claim;
@@ -91,8 +91,11 @@ fn is_cut_off(original: i64, export: i64) -> bool {
     is_nearer && lost.saturating_abs() <= last_digit(original)
 }
 
-/// Whether one of the physical extremes is cut off, and each is cut off or kept.
+/// Whether one of the physical extremes is cut off, and each is cut off or kept, for the same numbers.
 fn are_extremes_cut_off(original: &Calibration, export: &Calibration) -> bool {
+    if original.digital() != export.digital() {
+        return false;
+    }
     let (low, high) = original.physical();
     let (new_low, new_high) = export.physical();
     let is_low_cut = is_cut_off(low, new_low);
@@ -115,10 +118,10 @@ fn say_calibration(
     text.say(words::CALIBRATION, &[Piece::Quoted(label)])?;
     say_extremes(text, words::CALIBRATION_ORIGINAL, original)?;
     say_extremes(text, words::CALIBRATION_EXPORT, export)?;
-    if are_extremes_cut_off(original.calibration(), export.calibration()) {
-        text.say(words::CALIBRATION_CUT_OFF, &[])?;
-    } else if original.dimension() != export.dimension() {
+    if original.dimension() != export.dimension() {
         text.say(words::CALIBRATION_DIMENSION, &[])?;
+    } else if are_extremes_cut_off(original.calibration(), export.calibration()) {
+        text.say(words::CALIBRATION_CUT_OFF, &[])?;
     } else {
         text.say(words::CALIBRATION_SCALE, &[])?;
     }
@@ -204,6 +207,9 @@ impl<'a> Heads<'a> {
         }
         if which == Which::Date {
             return text.say(words::DATE_CHANGED, &pieces);
+        }
+        if !has_subfield(self.export, which) {
+            return text.say(words::SUBFIELD_LEFT_OUT, &pieces);
         }
         if is_anonymous(self.export, which) {
             return text.say(words::SUBFIELD_HIDDEN, &pieces);

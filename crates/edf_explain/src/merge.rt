@@ -1,5 +1,7 @@
 //! Samples of two runs that are taken at any times.
 
+ghost use Rattle.std.specs.Prelude.{◌≤◌};
+
 use crate::found::{Pair, Places};
 use crate::run::Run;
 use std::cmp::Ordering;
@@ -214,26 +216,96 @@ pub(crate) struct Merged {
     pub(crate) changed: Option<(Places, Places)>,
 }
 
-/// Where the values of samples differ that are taken at the same times, by their places in the original and in the export.
-fn changed_of(pair: Pair<'_>, old: Common, new: Common) -> Option<(Places, Places)> {
-    let mut numbers = None;
-    for number in 0..old.count {
-        let original = pair.original.value(old.place(number));
-        if original != pair.export.value(new.place(number)) {
-            numbers = Places::with_one(numbers, number);
+/// Values that are compared one by one: the bytes from the first of them on, and how many bytes there are from one to the next.
+#[derive(Clone, Copy)]
+struct Values<'a> {
+    bytes: &'a [u8],
+    step: usize,
+    ghost some: { 1 ≤ step },
+}
+
+impl<'a> Values<'a> {
+    /// Those of a run.
+    fn of(run: Run<'a>, common: Common) -> Values<'a> {
+        let from = common.first.saturating_mul(2);
+        Values {
+            bytes: run.bytes.get(from..).unwrap_or(&[]),
+            step: common.stride.saturating_mul(2).max(2),
         }
     }
-    let numbers: Places = numbers?;
+}
+
+/// Whether two values differ, each of which has its bytes in front.
+#[inline(always)]
+fn differ(one: &[u8], other: &[u8]) -> bool {
+    match (one, other) {
+        ([low, high, ..], [other_low, other_high, ..]) => low != other_low || high != other_high,
+        _ => false,
+    }
+}
+
+/// How many of the first few values differ.
+fn count_changed(old: Values<'_>, new: Values<'_>, count: usize) -> usize {
+    let mut changed: usize = 0;
+    for (one, other) in old
+        .bytes
+        .chunks(old.step)
+        .zip(new.bytes.chunks(new.step))
+        .take(count)
+    {
+        changed = changed.saturating_add(usize::from(differ(one, other)));
+    }
+    changed
+}
+
+/// The number of the first value that differs, of the first few.
+fn first_changed(old: Values<'_>, new: Values<'_>, count: usize) -> usize {
+    let mut number: usize = 0;
+    for (one, other) in old
+        .bytes
+        .chunks(old.step)
+        .zip(new.bytes.chunks(new.step))
+        .take(count)
+    {
+        if differ(one, other) {
+            break;
+        }
+        number = number.saturating_add(1);
+    }
+    number
+}
+
+/// The number of the last value that differs, of the first few.
+fn last_changed(pair: Pair<'_>, old: Common, new: Common) -> usize {
+    let mut number = old.count;
+    for _ in 0..old.count {
+        number = number.saturating_sub(1);
+        if pair.original.value(old.place(number)) != pair.export.value(new.place(number)) {
+            break;
+        }
+    }
+    number
+}
+
+/// Where the values of samples differ that are taken at the same times, by their places in the original and in the export.
+fn changed_of(pair: Pair<'_>, old: Common, new: Common) -> Option<(Places, Places)> {
+    let (olds, news) = (Values::of(pair.original, old), Values::of(pair.export, new));
+    let count = count_changed(olds, news, old.count);
+    if count == 0 {
+        return None;
+    }
+    let first = first_changed(olds, news, old.count);
+    let last = last_changed(pair, old, new);
     Some((
         Places {
-            count: numbers.count,
-            first: old.place(numbers.first),
-            last: old.place(numbers.last),
+            count,
+            first: old.place(first),
+            last: old.place(last),
         },
         Places {
-            count: numbers.count,
-            first: new.place(numbers.first),
-            last: new.place(numbers.last),
+            count,
+            first: new.place(first),
+            last: new.place(last),
         },
     ))
 }

@@ -29,7 +29,12 @@ struct Fitting<'a> {
     /// The labels of channels that both files have and the claim doesn't name.
     unclaimed: Vec<&'a str>,
     labels: Vec<Vec<u8>>,
+    /// Of how many labels it was asked which one may be meant.
+    asked: usize,
 }
+
+/// Of how many labels at most it is asked which one may be meant.
+const MOST_ASKED: usize = 20;
 
 /// The labels of channels that both files have and the claim doesn't name, in the order of the export.
 fn unclaimed_labels<'a>(
@@ -69,6 +74,7 @@ impl<'a> Fitting<'a> {
             exports,
             unclaimed,
             labels: Vec::new(alloc),
+            asked: 0,
         })
     }
 
@@ -94,6 +100,10 @@ impl<'a> Fitting<'a> {
         let Ok(said) = std::str::from_utf8(label) else {
             return Ok(());
         };
+        if self.asked >= MOST_ASKED {
+            return Ok(());
+        }
+        self.asked = self.asked.saturating_add(1);
         match nearest(self.alloc, said, &self.unclaimed)? {
             Some(near) => self.take_in(near.as_bytes()),
             None => Ok(()),

@@ -33,6 +33,9 @@ const KEYS_OF_FORMAT_1: usize = 6;
 /// How many letters of a word may be wrong, and it still is taken for a misspelt one.
 const MOST_WRONG: usize = 2;
 
+/// The most seconds by which a claim may move what it keeps, back or on.
+const MOST_SHIFT: i128 = 10_000_000_000;
+
 /// Puts a line of a claim in front of what is said of it.
 fn add_place(text: &mut Text, place: Spotted<'_>) -> Result<(), AllocError> {
     let words = if place.column > 1 {
@@ -185,6 +188,10 @@ fn say_amount(
     let Some(amount) = amount_of(said) else {
         return Ok(false);
     };
+    if amount.seconds.saturating_abs() > MOST_SHIFT {
+        say_at(text, place, words::SHIFT_TOO_LARGE, &[])?;
+        return Ok(true);
+    }
     let pieces = [
         Piece::Quoted(said),
         Piece::Number(amount.seconds),

@@ -27,6 +27,20 @@ struct Kept<'a> {
     number: usize,
 }
 
+/// The most seconds that a time of a claim may have.
+const MOST_SECONDS: i64 = 999_999_999;
+
+/// What is wrong with whole seconds that stand without quotation marks.
+fn number_fault(seconds: i64) -> &'static str {
+    if seconds < 0 {
+        words::TIME_WITH_SIGN
+    } else if seconds > MOST_SECONDS {
+        words::TIME_TOO_LONG
+    } else {
+        words::TIME_NOT_QUOTED
+    }
+}
+
 impl<'a> Kept<'a> {
     /// Where the table begins.
     fn place(&self) -> Option<Spotted<'a>> {
@@ -93,7 +107,7 @@ impl<'a> Kept<'a> {
         match value {
             Value::Integer(seconds) => {
                 let pieces = [Piece::Word(key), Piece::Number(i128::from(*seconds))];
-                say_at(text, self.place_of(key), words::TIME_NOT_QUOTED, &pieces)
+                say_at(text, self.place_of(key), number_fault(*seconds), &pieces)
             }
             Value::Float(_) => self.say(text, words::TIME_FLOAT_NOT_QUOTED, key),
             Value::Datetime(_) => {

@@ -68,9 +68,6 @@ fn likeness_of(extra: &Note, missing: &Note) -> Option<&'static str> {
     if extra.text.as_str() == BLANK {
         return Some(words::LIKE_BLANKED);
     }
-    if missing.text.as_str() == BLANK {
-        return Some(words::LIKE_NOT_BLANKED);
-    }
     Some(words::LIKE_OTHER_TEXT)
 }
 
@@ -152,14 +149,15 @@ pub(crate) fn is_at_end(claim: &Claim, at_ps: i128) -> bool {
     !claim.keeps_instant(at_ps, 1) && claim.keeps_instant(at_ps.saturating_sub(1), 1)
 }
 
-/// Whether the claim removes the text of an annotation that begins in a kept interval, or at its end.
-fn is_removed(claim: &Claim, note: &Note) -> bool {
-    let at_ps = if is_at_end(claim, note.onset) {
-        note.onset.saturating_sub(1)
-    } else {
-        note.onset
-    };
-    claim.keeps_instant(at_ps, 1) && !claim.keeps_annotation(at_ps, note.text.as_str())
+/// A time that a claim keeps: the one at which its first interval begins.
+fn kept_time(claim: &Claim) -> i128 {
+    claim.border_behind(-1, i128::MAX)
+}
+
+/// Whether a claim removes the text of an annotation, wherever that begins.
+fn removes(claim: &Claim, text: &str) -> bool {
+    let at_ps = kept_time(claim);
+    claim.keeps_instant(at_ps, 1) && !claim.keeps_annotation(at_ps, text)
 }
 
 /// Says what an annotation that isn't kept looks like.
@@ -170,14 +168,11 @@ fn say_likeness(
     kept: &[Note],
     missing: &[usize],
 ) -> Result<(), AllocError> {
-    if claim.blanks(extra.text.as_str()) && extra.text.as_str() != BLANK {
-        return text.say(words::LIKE_NOT_BLANKED, &[]);
-    }
-    if is_removed(claim, extra) {
+    if removes(claim, extra.text.as_str()) {
         return text.say(words::REMOVED_BUT_THERE, &[]);
     }
-    if is_at_end(claim, extra.onset) {
-        return text.say(words::AT_END, &[]);
+    if claim.blanks(extra.text.as_str()) && extra.text.as_str() != BLANK {
+        return text.say(words::NOT_BLANKED, &[]);
     }
     if say_alike(text, extra, kept, missing)? {
         return Ok(());
@@ -185,12 +180,14 @@ fn say_likeness(
     if let Some(words) = likeness_among(extra, kept, missing) {
         return text.say(words, &[]);
     }
-    let sentence = if !claim.keeps_instant(extra.onset, 1) {
+    let sentence = if has_text_among(extra, kept, missing) {
+        words::LIKE_MOVED
+    } else if is_at_end(claim, extra.onset) {
+        words::AT_END
+    } else if !claim.keeps_instant(extra.onset, 1) {
         words::OUTSIDE
     } else if has_note(kept, extra) {
         words::LESS_OFTEN
-    } else if has_text_among(extra, kept, missing) {
-        words::LIKE_MOVED
     } else {
         words::NOT_IN_ORIGINAL
     };

@@ -121,18 +121,25 @@ struct Kinds {
     nearly_all: Option<(u64, u64)>,
 }
 
-/// How many samples have other values, and of how many that both files have, where that are nearly all of each channel.
+/// Of how few samples it isn't said that they are nearly all.
+const FEW: u64 = 20;
+
+/// How many samples have other values, and of how many that both files have, where that are nearly all of each channel, and more
+/// than a few. Where a channel was sampled anew nothing is said.
 fn nearly_all(tracks: &[Track]) -> Option<(u64, u64)> {
     let mut changed: u64 = 0;
     let mut compared: u64 = 0;
     for track in tracks {
-        if track.changed.count.saturating_mul(100) < track.compared.saturating_mul(99) {
+        if track.has_other_rate
+            || track.compared == 0
+            || track.changed.count.saturating_mul(100) < track.compared.saturating_mul(99)
+        {
             return None;
         }
         changed = changed.saturating_add(track.changed.count);
         compared = compared.saturating_add(track.compared);
     }
-    if compared > 0 {
+    if compared > FEW {
         Some((changed, compared))
     } else {
         None

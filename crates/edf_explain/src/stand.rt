@@ -186,6 +186,15 @@ impl Stand {
         run
     }
 
+    /// The bytes of the data record at hand.
+    pub(crate) fn record(&self) -> &[u8] {
+        if self.reader.has_current() {
+            self.reader.record()
+        } else {
+            &[]
+        }
+    }
+
     /// The annotations of the data record at hand.
     pub(crate) fn annotations(&self) -> Option<Annotations<'_>> {
         if self.reader.has_current() {

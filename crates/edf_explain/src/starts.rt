@@ -29,6 +29,8 @@ fn seconds_of(shift_ps: i128) -> Option<i64> {
 pub(crate) struct Starts {
     pub(crate) claimed_ps: i128,
     pub(crate) exported_ps: i128,
+    /// When the first sample is taken that is kept, in picoseconds after the second at which the original starts.
+    pub(crate) first_ps: i128,
     /// By how much the claim moves what it keeps.
     pub(crate) shift_ps: i128,
 }
@@ -115,9 +117,30 @@ impl Starts {
         }
         self.say_difference(text)?;
         self.say_likeness(text)?;
-        if seconds_of(self.fitting_ps()).is_none() {
-            text.say(words::NO_SHIFT_FITS, &[])?;
+        self.say_unfitting(text)?;
+        tries.say(text, self)
+    }
+
+    /// Whether a claim can have the shift with which the export would start as claimed.
+    pub(crate) fn can_fit(&self) -> bool {
+        seconds_of(self.fitting_ps()).is_some()
+    }
+
+    /// The claimed shift in seconds.
+    pub(crate) fn shift_seconds(&self) -> i128 {
+        self.shift_ps.div_euclid(SECOND)
+    }
+
+    /// Says why no shift lets the export start as claimed, where none does.
+    fn say_unfitting(&self, text: &mut Text) -> Result<(), AllocError> {
+        if self.can_fit() {
+            return Ok(());
         }
-        tries.say(text, self.shift_ps.div_euclid(SECOND))
+        let sentence = if self.fitting_ps().rem_euclid(SECOND) == 0 {
+            words::SHIFT_BEYOND
+        } else {
+            words::NO_SHIFT_FITS
+        };
+        text.say(sentence, &[])
     }
 }

@@ -48,6 +48,13 @@ impl Track {
         self.compared = self.compared.saturating_add(count as u64);
     }
 
+    /// Takes in that so many data records were compared, with so many samples each.
+    pub(crate) fn count_records(&mut self, records: u64, samples: u64) {
+        self.compared = self
+            .compared
+            .saturating_add(records.saturating_mul(samples));
+    }
+
     /// Takes in the samples of both files up to a time, of which all those of the original are kept, or none.
     pub(crate) fn compare(&mut self, stands: Stands<'_>, end_ps: i128, is_kept: bool) {
         let original = stands.original.take(&mut self.original, end_ps);

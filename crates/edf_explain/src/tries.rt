@@ -42,11 +42,12 @@ impl Tries {
         Ok(())
     }
 
-    /// Tries a shift.
+    /// Tries a shift. One with which the first samples that are kept aren't as claimed is no better one.
     fn try_shift<R: Recordings>(
         &mut self,
         alloc: Global,
         asked: &Asked<'_, R>,
+        first_ps: i128,
         seconds: i64,
     ) -> Result<(), RunStop> {
         let Some(claim_text) = with_shift(alloc, asked.claim_text, seconds)? else {
@@ -58,7 +59,7 @@ impl Tries {
             Some(best) => &best.answer.verdict,
             None => asked.verdict,
         };
-        if is_better(&verdict, best) {
+        if is_better(&verdict, best) && is_behind(&verdict, first_ps) {
             let answer = Answer::of(alloc, verdict)?;
             self.best = Some(Try { seconds, answer });
         }
@@ -81,7 +82,7 @@ impl Tries {
         }
         for seconds in starts.candidates(alloc)? {
             if !tries.has_yes() {
-                tries.try_shift(alloc, asked, seconds)?;
+                tries.try_shift(alloc, asked, starts.first_ps, seconds)?;
             }
         }
         Ok(tries)
@@ -110,9 +111,10 @@ impl Tries {
     }
 
     /// Says which of the shifts has a better answer than the claimed one, and with which one all else is reckoned.
-    pub(crate) fn say(&self, text: &mut Text, claimed: i128) -> Result<(), AllocError> {
+    pub(crate) fn say(&self, text: &mut Text, starts: &Starts) -> Result<(), AllocError> {
+        let claimed = starts.shift_seconds();
         let Some(best) = &self.best else {
-            self.say_shifts(text)?;
+            self.say_shifts(text, starts.can_fit())?;
             return say_reckoned(text, words::RECKONED_AS_CLAIMED, claimed);
         };
         let seconds = i128::from(best.seconds);
@@ -127,8 +129,9 @@ impl Tries {
         say_reckoned(text, words::RECKONED_AS_CLAIMED, claimed)
     }
 
-    /// Says which shifts were tried, where none has a better answer.
-    fn say_shifts(&self, text: &mut Text) -> Result<(), AllocError> {
+    /// Says which shifts were tried, where none has a better answer; and what it looks like, where the one with which the export
+    /// would start as claimed is among them.
+    fn say_shifts(&self, text: &mut Text, can_fit: bool) -> Result<(), AllocError> {
         let mut front = words::NO_BETTER_SHIFT;
         for seconds in &self.shifts {
             text.add(front, &[Piece::Number(i128::from(*seconds))])?;
@@ -137,7 +140,20 @@ impl Tries {
         if self.shifts.is_empty() {
             return Ok(());
         }
-        text.say(words::CUT_ELSEWHERE, &[])
+        let behind = if can_fit {
+            words::CUT_ELSEWHERE
+        } else {
+            words::FULL_STOP
+        };
+        text.say(behind, &[])
+    }
+}
+
+/// Whether the first difference is behind the first sample that is kept, if it is one of samples.
+fn is_behind(verdict: &Verdict, first_ps: i128) -> bool {
+    match verdict {
+        Verdict::No(Difference::Sample { at_ps, .. }) => *at_ps > first_ps,
+        _ => true,
     }
 }
 

@@ -125,6 +125,54 @@ pub(crate) struct Walk<'a> {
     pub(crate) starts: Option<Starts>,
     /// Whether an interval was found that has no sample in a data record of the original in which it lies.
     pub(crate) keeps_between: bool,
+    /// How many bytes of each data record have all of the channels, where these lie at the same places in both files.
+    room: Option<usize>,
+    /// How many data records were found that have the same values in both files, all of which are kept.
+    alike: u64,
+}
+
+/// How many bytes the signals of a data record have up to one of them, with it.
+fn bytes_up_to(header: &Header, signal: usize) -> usize {
+    let mut bytes: usize = 0;
+    for (place, other) in header.signals().iter().enumerate() {
+        if place <= signal {
+            bytes = bytes.saturating_add((other.samples() as usize).saturating_mul(2));
+        }
+    }
+    bytes
+}
+
+/// How many bytes of each data record have all of the channels, where these lie at the same places in both files.
+fn room_of(tracks: &[Track], original: &Header, export: &Header) -> Option<usize> {
+    let mut room: usize = 0;
+    for track in tracks {
+        let end = bytes_up_to(original, track.original.signal);
+        if track.original.samples != track.export.samples
+            || end != bytes_up_to(export, track.export.signal)
+        {
+            return None;
+        }
+        room = room.max(end);
+    }
+    Some(room)
+}
+
+/// Whether two stretches are the same, from one time to another.
+fn are_whole(
+    original: Option<Stretch>,
+    export: Option<Stretch>,
+    from_ps: i128,
+    to_ps: i128,
+) -> bool {
+    match (original, export) {
+        (Some(original), Some(export)) => {
+            original.from_ps == from_ps
+                && export.from_ps == from_ps
+                && original.to_ps == to_ps
+                && export.to_ps == to_ps
+        }
+        _ => false,
+    }
 }
 
 impl<'a> Walk<'a> {
@@ -136,7 +184,10 @@ impl<'a> Walk<'a> {
         export: Stand,
     ) -> Result<Walk<'a>, AllocError> {
         let tracks = tracks_of(alloc, claim, original.header(), export.header())?;
+        let room = room_of(&tracks, original.header(), export.header());
         Ok(Walk {
+            room,
+            alike: 0,
             alloc,
             claim,
             original,
@@ -151,6 +202,11 @@ impl<'a> Walk<'a> {
     /// The claim.
     pub(crate) fn claim(&self) -> &'a Claim {
         self.claim
+    }
+
+    /// Whether both files have all channels of the claim.
+    pub(crate) fn has_all_channels(&self) -> bool {
+        self.tracks.len() == self.claim.channels().len()
     }
 
     /// The header of the original.
@@ -258,6 +314,7 @@ impl<'a> Walk<'a> {
                 .saturating_add(first_ps)
                 .saturating_add(shift_ps),
             exported_ps: export_ps.saturating_add(self.export.start_ps()),
+            first_ps,
             shift_ps,
         });
     }
@@ -306,8 +363,43 @@ impl<'a> Walk<'a> {
         }
     }
 
+    /// Whether the data records at hand have the same values, and are those from a time on up to another.
+    fn are_alike(&self, from_ps: i128, end_ps: i128) -> bool {
+        let Some(room) = self.room else {
+            return false;
+        };
+        if !are_whole(
+            self.original.stretch(),
+            self.export.stretch(),
+            from_ps,
+            end_ps,
+        ) {
+            return false;
+        }
+        match (
+            self.original.record().get(..room),
+            self.export.record().get(..room),
+        ) {
+            (Some(original), Some(export)) => original == export,
+            _ => false,
+        }
+    }
+
+    /// Counts the samples of the data records that were found alike as compared.
+    fn count_alike(&mut self) {
+        for track in self.tracks.iter_mut() {
+            let samples = u64::from(track.original.samples);
+            track.count_records(self.alike, samples);
+        }
+        self.alike = 0;
+    }
+
     /// Compares the samples of both files from a time on up to another.
     fn compare(&mut self, from_ps: i128, end_ps: i128) {
+        if self.claim.keeps_instant(from_ps, 1) && self.are_alike(from_ps, end_ps) {
+            self.alike = self.alike.saturating_add(1);
+            return;
+        }
         let stands = Stands {
             original: &self.original,
             export: &self.export,
@@ -347,6 +439,7 @@ impl<'a> Walk<'a> {
         let mut time = self.time();
         for _ in 0..u64::MAX {
             let Some(end) = self.end_behind(time) else {
+                self.count_alike();
                 return Ok(());
             };
             self.compare(time, end);

@@ -105,7 +105,7 @@ fn tal_cause(cause: TalCause) -> &'static str {
             "An annotation isn't ended as EDF+ says. It may have been too long for its place and was cut: export with more room for annotations, or with shorter texts."
         }
         TalCause::NotUtf8 => {
-            "The text of an annotation has letters in an old coding, or a letter of several bytes that was cut: export with UTF-8, or write the text without such letters."
+            "The text of an annotation isn't UTF-8: it looks like an old coding, or a letter of several bytes that was cut. Export with UTF-8, or write the text without such letters."
         }
         TalCause::ControlByte => {
             "The text of an annotation has a sign in it that can't be shown: type the text again."
@@ -153,13 +153,13 @@ const BAD_START: &str =
     "The start isn't a day such as 17.03.19 and a time such as 23.10.00, or its year is after 2084 and isn't written as yy beside the date in the recording's line.";
 
 const STARTDATE_DIFFERS: &str =
-    "The header says the day of the recording twice, and they are two days: one of them alone was moved, or a year after 2084 was written with two digits.";
+    "The header says the day of the recording twice, and they are two days: it looks like one of them alone was moved, or a year after 2084 was written with two digits.";
 
 const BAD_HEADER_SIZE: &str =
-    "The size that the header says of itself doesn't go with its number of signals: a program added or took away signals, and forgot this number.";
+    "The size that the header says of itself doesn't go with its number of signals: it looks like a program added or took away signals, and forgot this number.";
 
 pub(crate) const NOT_EDF_PLUS: &str =
-    "The file says neither EDF+C nor EDF+D: it is one of the older EDF. Export it as EDF+.";
+    "The file says neither EDF+C nor EDF+D: it looks like one of the older EDF. Export it as EDF+.";
 
 const BAD_NUMBER: &str =
     "The field holds no plain number: there is a comma, an exponent, a space in front, or nothing.";
@@ -348,6 +348,9 @@ pub(crate) const SUBFIELD_CHANGED: &str =
 pub(crate) const SUBFIELD_HIDDEN: &str =
     "The claim doesn't hide {0} ({1}), and the export has X there: if it is to be hidden, add \"{0}\" to anonymous in the claim; if not, export again with the original's text.";
 
+pub(crate) const SUBFIELD_LEFT_OUT: &str =
+    "The claim doesn't hide {0} ({1}), and the export has nothing there: if it is to be hidden, add \"{0}\" to anonymous in the claim; if not, export again with the original's text.";
+
 pub(crate) const DATE_CHANGED: &str =
     "The claim doesn't hide {0} ({1}), and it is X in one of the files and a day in the other. If the export has X, add \"{0}\" to anonymous in the claim; if the original has X, export again with X.";
 
@@ -388,7 +391,7 @@ pub(crate) const WITH_SHIFT_YES: &str =
 pub(crate) const WITH_SHIFT_NO: &str = "With shift = {0} the first difference would be {1}.";
 /// The shifts that were tried.
 pub(crate) const NO_BETTER_SHIFT: &str =
-    "Other shifts were tried, and the answer is no better: {0}";
+    "Other shifts were tried, and with none of them the first samples are as claimed: {0}";
 
 pub(crate) const NEXT_SHIFT: &str = ", {0}";
 
@@ -404,6 +407,9 @@ pub(crate) const RECKONED_AS_CLAIMED: &str =
 pub(crate) const NO_SHIFT_FITS: &str =
     "No shift lets it start as claimed, as a shift is whole seconds. Where the original starts inside a second, its first data record says so, and so does that of an export: some software leaves this fraction out.";
 
+pub(crate) const SHIFT_BEYOND: &str =
+    "No shift lets it start as claimed, as a shift is at most 10000000000 s.";
+
 pub(crate) const NOTHING_KEPT: &str =
     "The claim keeps no sample of the original: its intervals lie behind the end of the recording, in a gap, or before its first data record. They count seconds from the original's start.";
 
@@ -413,7 +419,7 @@ pub(crate) const KEPT_BETWEEN: &str =
 // Samples. The label is the first thing, how many there are the second.
 
 pub(crate) const OTHER_RATE: &str =
-    "Channel {0} has another number of samples a second in the export: it was sampled anew, or is another channel of this label. Neither is a cut of the original.";
+    "Channel {0} has another number of samples a second in the export: it looks like it was sampled anew, or is another channel of this label. Neither is a cut of the original.";
 
 pub(crate) const SAMPLE_MISSING: &str =
     "Channel {0}: 1 sample that the claim keeps is missing in the export.";
@@ -448,7 +454,7 @@ pub(crate) const CAUSE_OF_MISSING: &str =
     "Samples are missing where the export begins too late, ends too early, has a gap, has fewer samples a second, or is moved by another time than claimed: compare the intervals and the shift of the claim with what was exported.";
 
 pub(crate) const CAUSE_OF_EXTRA: &str =
-    "Samples are too many where the export begins too early, ends too late, has more samples a second, or is moved by another time than claimed: it hands out more than is claimed.";
+    "Samples are too many where the export begins too early, ends too late, has more samples a second, or is moved by another time than claimed.";
 
 pub(crate) const CAUSE_OF_CHANGED: &str =
     "It looks like a filter, a new scale or a mistake in copying: none of these is a cut of the original.";
@@ -505,7 +511,7 @@ pub(crate) const LIKE_CUT: &str =
     "    It is the begin of a longer text of the original at this time: some writers, as EDFlib, cut texts to 40 bytes. Keep texts short, or export with other software.";
 
 pub(crate) const LIKE_ROUNDED: &str =
-    "    The original has this text a little earlier or later: some writers, as EDFlib, write times to 0.1 ms.";
+    "    The claim keeps this text a little earlier or later: it looks like a time that was rounded; some writers, as EDFlib, write times to 0.1 ms.";
 
 /// The bytes of the original, and those of the export.
 pub(crate) const LIKE_ALIKE: &str =
@@ -514,11 +520,11 @@ pub(crate) const LIKE_ALIKE: &str =
 pub(crate) const LIKE_BLANKED: &str =
     "    At this time the claim keeps another text. It looks like it was made X, as blank does in a claim.";
 
-pub(crate) const LIKE_NOT_BLANKED: &str =
-    "    The claim blanks a text at this time, so that X is to stand there. If this text names somebody, the export doesn't go out.";
+pub(crate) const NOT_BLANKED: &str =
+    "    The claim blanks this text: where it is kept, X is to stand in its place. If it names somebody, the export doesn't go out.";
 
 pub(crate) const LIKE_OTHER_DURATION: &str =
-    "    The original has this text at this time with another duration.";
+    "    At this time the claim keeps this text with another duration.";
 
 pub(crate) const LIKE_OTHER_TEXT: &str =
     "    At this time the claim keeps an annotation with another text, which the export lacks.";
@@ -527,7 +533,7 @@ pub(crate) const NOT_IN_ORIGINAL: &str =
     "    The original has no such annotation: delete it from the export.";
 
 pub(crate) const LESS_OFTEN: &str =
-    "    The original has this annotation, and less often than the export: delete from the export what is too many.";
+    "    The claim keeps this annotation, and less often than the export has it: delete from the export what is too many.";
 
 pub(crate) const LIKE_MOVED: &str =
     "    The export lacks an annotation with this text at another time: it looks like one that was moved.";
