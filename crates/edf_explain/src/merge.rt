@@ -1,7 +1,5 @@
 //! Samples of two runs that are taken at any times.
 
-ghost use Rattle.std.specs.Prelude.{◌≤◌};
-
 use crate::found::{Pair, Places};
 use crate::run::Run;
 use std::cmp::Ordering;
@@ -98,6 +96,13 @@ impl Pace {
 
 /// The places of the first samples of both runs that are taken at one time.
 fn first_common(pair: Pair<'_>, strides: Strides) -> Option<(usize, usize)> {
+    let (original, export) = (pair.original, pair.export);
+    if original.is_empty() || export.is_empty() {
+        return None;
+    }
+    if original.from == 0 && export.from == 0 && original.start_ps == export.start_ps {
+        return Some((0, 0));
+    }
     let mut old = Pace::new(pair.original, pair.export);
     let mut new = Pace::new(pair.export, pair.original);
     old.pass_to(new.at);
@@ -221,7 +226,6 @@ pub(crate) struct Merged {
 struct Values<'a> {
     bytes: &'a [u8],
     step: usize,
-    ghost some: { 1 ≤ step },
 }
 
 impl<'a> Values<'a> {
@@ -230,49 +234,34 @@ impl<'a> Values<'a> {
         let from = common.first.saturating_mul(2);
         Values {
             bytes: run.bytes.get(from..).unwrap_or(&[]),
-            step: common.stride.saturating_mul(2).max(2),
+            step: common.stride.saturating_mul(2),
         }
     }
 }
 
-/// Whether two values differ, each of which has its bytes in front.
-#[inline(always)]
-fn differ(one: &[u8], other: &[u8]) -> bool {
-    match (one, other) {
-        ([low, high, ..], [other_low, other_high, ..]) => low != other_low || high != other_high,
-        _ => false,
-    }
-}
-
-/// How many of the first few values differ.
-fn count_changed(old: Values<'_>, new: Values<'_>, count: usize) -> usize {
-    let mut changed: usize = 0;
-    for (one, other) in old
-        .bytes
-        .chunks(old.step)
-        .zip(new.bytes.chunks(new.step))
-        .take(count)
-    {
-        changed = changed.saturating_add(usize::from(differ(one, other)));
-    }
-    changed
-}
-
-/// The number of the first value that differs, of the first few.
-fn first_changed(old: Values<'_>, new: Values<'_>, count: usize) -> usize {
-    let mut number: usize = 0;
-    for (one, other) in old
-        .bytes
-        .chunks(old.step)
-        .zip(new.bytes.chunks(new.step))
-        .take(count)
-    {
-        if differ(one, other) {
+/// How many of the first few values differ, and the number of the first that does.
+fn count_changed(old: Values<'_>, new: Values<'_>, count: usize) -> (usize, usize) {
+    let (old_end, new_end) = (
+        old.bytes.len().saturating_sub(1),
+        new.bytes.len().saturating_sub(1),
+    );
+    let (mut place, mut other): (usize, usize) = (0, 0);
+    let (mut changed, mut first): (usize, usize) = (0, 0);
+    for number in 0..count {
+        if place >= old_end || other >= new_end {
             break;
         }
-        number = number.saturating_add(1);
+        let value = [old.bytes[place], old.bytes[place + 1]];
+        if value != [new.bytes[other], new.bytes[other + 1]] {
+            if changed == 0 {
+                first = number;
+            }
+            changed = changed.saturating_add(1);
+        }
+        place = place.saturating_add(old.step);
+        other = other.saturating_add(new.step);
     }
-    number
+    (changed, first)
 }
 
 /// The number of the last value that differs, of the first few.
@@ -290,11 +279,10 @@ fn last_changed(pair: Pair<'_>, old: Common, new: Common) -> usize {
 /// Where the values of samples differ that are taken at the same times, by their places in the original and in the export.
 fn changed_of(pair: Pair<'_>, old: Common, new: Common) -> Option<(Places, Places)> {
     let (olds, news) = (Values::of(pair.original, old), Values::of(pair.export, new));
-    let count = count_changed(olds, news, old.count);
+    let (count, first) = count_changed(olds, news, old.count);
     if count == 0 {
         return None;
     }
-    let first = first_changed(olds, news, old.count);
     let last = last_changed(pair, old, new);
     Some((
         Places {
