@@ -119,32 +119,32 @@ def named(text, patient=PATIENT, label=None):
 def of_names():
     claim = claim_of(BOTH, anonymous(HIDDEN), ALL)
     for text, found in TEXTS:
-        there = [f'The annotation at 0.5 s has what is spelled like {found}: "{text}".'] if found else ["Names were looked for"]
-        yield f"the text {text}", 0, *named(text), claim, there, [] if found else ["has what is spelled like"]
+        there = [f'The annotation at 0.5 s has something spelled like {found}: "{text}".'] if found else ["Names were looked for"]
+        yield f"the text {text}", 0, *named(text), claim, there, [] if found else ["has something spelled like"]
     for name, text, is_found in NAMES:
         pair = named(text, f"X F X {name}")
-        there = [f'has what is spelled like {NAME}: "{text}".'] if is_found else ["Names were looked for"]
-        yield f"the name {name} and the text {text}", 0, *pair, claim, there, [] if is_found else ["has what is spelled like"]
+        there = [f'has something spelled like {NAME}: "{text}".'] if is_found else ["Names were looked for"]
+        yield f"the name {name} and the text {text}", 0, *pair, claim, there, [] if is_found else ["has something spelled like"]
     yield ("a name beside a channel", 0, *named("Lights off", label="for Ms Haagse"), claim,
-           [f'A text of channel "ECG" has what is spelled like {NAME}: "for Ms Haagse".'], [])
-    yield ("no name beside a channel", 0, *named("Lights off", label="for Ms Hagse"), claim, [], ["has what is spelled like"])
+           [f'A text of channel "ECG" has something spelled like {NAME}: "for Ms Haagse".'], [])
+    yield ("no name beside a channel", 0, *named("Lights off", label="for Ms Hagse"), claim, [], ["has something spelled like"])
     shown = [name for name in HIDDEN if name != "patient-extras"]
     claim = claim_of(BOTH, anonymous(shown), ALL)
-    for extra, there, absent in (("Haagse7", ["The subfield patient-extras of the export has what is spelled like"], []),
-                                 ("Ward7", [], ["has what is spelled like"])):
+    for extra, there, absent in (("Haagse7", ["The subfield patient-extras of the export has something spelled like"], []),
+                                 ("Ward7", [], ["has something spelled like"])):
         original, _ = named("Lights off", f"SLZ-004711 F 17-OCT-1951 Haagse_Johanna {extra}")
         _, export = named("Lights off")
         export = export[:8] + f"X F X X {extra}".encode().ljust(80) + export[88:]
         yield f"the subfield {extra} that isn't hidden", 0, original, export, claim, there, absent
     for which, recorded, hidden, text, found in (
             ("date", RECORDED, "Startdate X PSG-0310/2019 KV Recorder7", "02.03.2002", "the day of the recording"),
-            ("equipment", RECORDED, "Startdate 02-MAR-2002 PSG-0310/2019 KV X", "Recorder7 stops", "a word of what was recorded with"),
+            ("equipment", RECORDED, "Startdate 02-MAR-2002 PSG-0310/2019 KV X", "Recorder7 stops", "a word of the equipment"),
             ("recording-extras", f"{RECORDED} Room5", "Startdate 02-MAR-2002 PSG-0310/2019 KV Recorder7 X", "Room5",
              "a word of what stands behind the equipment")):
         nobody = (field("patient"), "X F X X")
         pair = [with_notes(note(0.5, text), edits=[nobody, (field("recording"), said)]) for said in (recorded, hidden)]
         yield (f"{which} in a text", 0, *pair, claim_of(BOTH, anonymous([which]), ALL),
-               [f'The annotation at 0.5 s has what is spelled like {found}: "{text}".'], [])
+               [f'The annotation at 0.5 s has something spelled like {found}: "{text}".'], [])
     # more than 20 annotations, of which 20 are listed
     many = "".join(note(f"0.{number:02}", "Haagse") for number in range(10, 40))
     edits = [(field("patient"), PATIENT), (field("recording"), RECORDED)]
@@ -153,11 +153,11 @@ def of_names():
     yield "thirty names", 0, *pair, claim_of(BOTH, anonymous(HIDDEN), ALL), ["  and 10 more"], ["  and 11 more"]
     # nothing is hidden, and the original names nobody
     nobody = with_notes(note(0.5, "X-ray"), edits=[(field("patient"), "X F X X")])
-    yield "nobody", 0, nobody, nobody, ALL_OF_IT, [], ["Names were looked for", "has what is spelled like"]
+    yield "nobody", 0, nobody, nobody, ALL_OF_IT, [], ["Names were looked for", "has something spelled like"]
 
 
 SOFTWARE = "software that made the export"
-ANEW = "Export the original anew"
+ANEW = "Export the original again"
 AGAIN = "Copy it again, and compare the sizes."
 
 
@@ -175,11 +175,11 @@ def of_files():
          ["is empty", SOFTWARE, ANEW]),
         ("a file that ends in its header", WHOLE[:200], ["looks like a copy that was broken off", AGAIN],
          ["is empty", SOFTWARE, ANEW]),
-        ("a file of BDF", bdf, ["one of BDF, which has 24 bits", "Export it as EDF+"], ["older EDF", SOFTWARE, ANEW]),
+        ("a file of BDF", bdf, ["This is a BDF file, which has 24 bits", "Export it as EDF+"], ["older, plain EDF", SOFTWARE, ANEW]),
         ("a file of another version", other, ["doesn't begin as an EDF file does", "Export it as EDF+."],
-         ["BDF", "older EDF", SOFTWARE, ANEW]),
-        ("a file of the older EDF", plain, ["it looks like one of the older EDF. Export it as EDF+."], ["BDF", SOFTWARE, ANEW]),
-        ("one whose patient is of the older EDF, too", older, ["it looks like one of the older EDF. Export it as EDF+."],
+         ["BDF", "older, plain EDF", SOFTWARE, ANEW]),
+        ("a file of the older EDF", plain, ["it looks like a file of the older, plain EDF. Export it as EDF+."], ["BDF", SOFTWARE, ANEW]),
+        ("one whose patient is of the older EDF, too", older, ["it looks like a file of the older, plain EDF. Export it as EDF+."],
          ["too few words", SOFTWARE, ANEW]),
         ("two channels of one label", doubled, ["give one of them another label"], [SOFTWARE, ANEW]),
     ]
@@ -187,8 +187,8 @@ def of_files():
         yield f"{name} as export", 1, WHOLE, data, ALL_OF_IT, ["The export can't be judged", *there], absent
         yield f"{name} as original", 1, data, WHOLE, ALL_OF_IT, ["The original can't be judged", *there], absent
     looks = "It looks like a fault of the software that made the export: export again"
-    yield "a patient behind a space in the export", 1, WHOLE, behind_space, ALL_OF_IT, [looks], ["older EDF", ANEW, AGAIN]
-    yield "a patient behind a space in the original", 1, behind_space, WHOLE, ALL_OF_IT, [ANEW], ["older EDF", SOFTWARE, AGAIN]
+    yield "a patient behind a space in the export", 1, WHOLE, behind_space, ALL_OF_IT, [looks], ["older, plain EDF", ANEW, AGAIN]
+    yield "a patient behind a space in the original", 1, behind_space, WHOLE, ALL_OF_IT, [ANEW], ["older, plain EDF", SOFTWARE, AGAIN]
 
 
 def scaled(low, high):
@@ -233,7 +233,7 @@ def of_extra_notes():
            ["    The claim removes this text. If it names somebody, the export doesn't go out."], [delete, advice])
     twice = with_notes(note(0.5, "Lights off"), note(0.5, "Lights off"))
     yield ("an annotation that the export has twice", 1, plain, twice, ALL_OF_IT,
-           ["    The claim keeps this annotation, and less often than the export has it"], [delete, advice])
+           ["    The claim keeps this annotation, but fewer times than the export has it"], [delete, advice])
     late = with_notes(note(0.5, "Lights off"), note(2.75, "Snoring"))
     yield ("an annotation that is moved", 1, added, late, ALL_OF_IT,
            ["    The export lacks an annotation with this text at another time: it looks like one that was moved.", advice],
@@ -243,9 +243,9 @@ def of_extra_notes():
     original, _ = named("Lights off")
     _, export = named("Fr. Haagses Tochter")
     yield ("a name behind a No", 1, original, export, claim,
-           [f'The annotation at 0.5 s has what is spelled like {NAME}: "Fr. Haagses Tochter".', "Names were looked for"], [])
+           [f'The annotation at 0.5 s has something spelled like {NAME}: "Fr. Haagses Tochter".', "Names were looked for"], [])
     _, export = named("Fr. Hagses Tochter")
-    yield "no name behind a No", 1, original, export, claim, [], ["has what is spelled like", "Names were looked for"]
+    yield "no name behind a No", 1, original, export, claim, [], ["has something spelled like", "Names were looked for"]
 
 
 def with_values(change, base=NIGHT, channels=(0, 1)):
@@ -317,7 +317,7 @@ def of_hidden_letters():
     """A name with a letter in it that isn't seen."""
     claim = claim_of(BOTH, anonymous(HIDDEN), ALL)
     for name, is_found in (("Haa\u200bgse", True), ("Haa gse", False)):
-        there = f"The annotation at 0.5 s has what is spelled like {NAME}: "
+        there = f"The annotation at 0.5 s has something spelled like {NAME}: "
         yield f"the name {name!r}", 0, *named(f"{name} schnarcht"), claim, [there] if is_found else [], [] if is_found else [there]
 
 
@@ -488,7 +488,7 @@ def of_misspelt():
     for key, text, is_misspelt in (("remove", "Lights of", True), ("remove", "Lights off", False),
                                    ("remove-prefix", "Light of", True), ("remove-prefix", "Light", False)):
         claim = claim_of(BOTH, f'{key} = ["{text}"]', ALL, 2)
-        words = f'"{text}" of {key}, in these very bytes: it may be misspelt.'
+        words = f'"{text}" of {key}: it may be misspelt.'
         yield f"{key} of {text!r} behind a No", 1, WHOLE, other, claim, [words] if is_misspelt else [], [] if is_misspelt else [words]
 
 

@@ -28,14 +28,14 @@ NO_ROW = {
 
 # Sentences whose rows stand in tools/explain_rows.py: words of each that a row there wants, and words that another doesn't.
 OF_ROWS = {
-    "BDF": ("one of BDF, which has 24 bits", "BDF"),
+    "BDF": ("This is a BDF file, which has 24 bits", "BDF"),
     "EMPTY": ("The file is empty", "is empty"),
     "Side.Export": ("It looks like a fault of the software that made the export: export again",
                     "software that made the export"),
-    "Side.Original": ("Export the original anew", "Export the original anew"),
-    "NAME_IN_NOTE": ("has what is spelled like", "has what is spelled like"),
-    "NAME_IN_CHANNEL": ("A text of channel", "has what is spelled like"),
-    "NAME_IN_SUBFIELD": ("of the export has what is spelled like", "has what is spelled like"),
+    "Side.Original": ("Export the original again", "Export the original again"),
+    "NAME_IN_NOTE": ("has something spelled like", "has something spelled like"),
+    "NAME_IN_CHANNEL": ("A text of channel", "has something spelled like"),
+    "NAME_IN_SUBFIELD": ("of the export has something spelled like", "has something spelled like"),
     "SPELLED_ALIKE": ("Names were looked for", "Names were looked for"),
     "CAUSE_OF_ALL_CHANGED": ("it looks like another cut of the night than claimed, or another night",
                              "it looks like another cut of the night than claimed, or another night"),
@@ -63,8 +63,8 @@ OF_ROWS = {
     "NO_BETTER_SHIFT": ("Other shifts were tried, and with none of them the first samples are as claimed: ", "were tried"),
     "SHIFT_BEYOND": ("as a shift is at most 10000000000 s.", "as a shift is at most"),
     "CUT_ELSEWHERE": (". It looks like the export was cut elsewhere", "cut elsewhere"),
-    "RECKONED_ANEW": ("With it all samples are as claimed. What follows is reckoned with shift = ", "all samples are as claimed"),
-    "RECKONED_AS_CLAIMED": ("What follows is reckoned with shift = ", "What follows is reckoned"),
+    "RECKONED_ANEW": ("With it all samples are as claimed. What follows is worked out with shift = ", "all samples are as claimed"),
+    "RECKONED_AS_CLAIMED": ("What follows is worked out with shift = ", "What follows is worked out"),
 }
 
 # Parts of sentences, each of which stands in the words that a row of tools/explain_rows.py wants.

@@ -29,7 +29,7 @@ FLAT = NIGHT.but(channels={
 })
 
 # what is said of other shifts and of likely mistakes
-NO_SHIFT = ["With shift", "were tried", "What follows is reckoned"]
+NO_SHIFT = ["With shift", "were tried", "What follows is worked out"]
 LIKELY = ["as if nothing had been moved", "moved the other way"]
 LISTED = ["missing in the export", "ones that the claim doesn't keep", "another value", "The export lacks"]
 
@@ -49,7 +49,7 @@ def with_yes():
     yes = "the answer would be YES channels 2 samples 360 annotations 1."
     yield ("a shift an hour off, tried", 1, NIGHT, NIGHT.cut(10, 70, -DAY - 3600), of_ten(),
            ["The export starts 1 hour earlier than claimed", f"With shift = {-DAY - 3600} {yes}", "no sample and no annotation is listed"],
-           [*LISTED, *LIKELY, "were tried", "What follows is reckoned"])
+           [*LISTED, *LIKELY, "were tried", "What follows is worked out"])
     yield ("the shift is right and a value is changed", 1, NIGHT, NIGHT.cut(10, 70, -DAY).changed("ECG", 60, -1), of_ten(),
            ['"ECG": 1 sample has another value', f"at 30 s ", f": {ecg(30)} in the original, -1 in the export"],
            [*NO_SHIFT, *LIKELY, "The export starts"])
@@ -64,14 +64,14 @@ def with_yes():
     yield ("a flat front, and a shift 20 s off", 1, FLAT, FLAT.cut(0, 90, -100 * DAY + 20), Claimed(BOTH, [(0, 90)], -100 * DAY),
            ["The export starts 20 s later than claimed",
             f"With shift = {-100 * DAY + 20} the answer would be YES channels 2 samples 540 annotations 2."],
-           [*LISTED, *LIKELY, "were tried", "What follows is reckoned"])
+           [*LISTED, *LIKELY, "were tried", "What follows is worked out"])
 
 
 def with_no():
     """Rows in which none of the shifts that are tried makes a Yes."""
     yield ("a flat front, and a cut that begins 20 s late", 1, FLAT, FLAT.cut(20, 90, -100 * DAY), Claimed(BOTH, [(0, 90)], -100 * DAY),
            ["The export starts 20 s later than claimed", '"EEG Fpz-Cz": 80 samples that the claim keeps are missing',
-            '"ECG": 40 samples that the claim keeps are missing', f"What follows is reckoned with shift = {-100 * DAY}, as claimed.",
+            '"ECG": 40 samples that the claim keeps are missing', f"What follows is worked out with shift = {-100 * DAY}, as claimed.",
             f"With shift = {-100 * DAY + 20} the first difference would be NO 10 sample \"ECG\" at {40 * PS} ps original 3 export {ecg(60)}.",
             "The export lacks 1 annotation"],
            ["another value", "would be YES", "were tried", *LIKELY])
@@ -79,11 +79,11 @@ def with_no():
     yield ("a forgotten shift and an annotation that is lost", 1, NIGHT, lacking, of_ten(),
            ["as if nothing had been moved",
             f"With shift = 0 the first difference would be NO 11 annotation missing at {50 * PS} ps duration none text \"Apnea\".",
-            "With it all samples are as claimed. What follows is reckoned with shift = 0.", "The export lacks 1 annotation"],
+            "With it all samples are as claimed. What follows is worked out with shift = 0.", "The export lacks 1 annotation"],
            ["missing in the export", "ones that the claim doesn't keep", "another value", f"shift = {-DAY}, as claimed"])
     yield ("a forgotten shift and a value that is changed", 1, NIGHT, NIGHT.cut(10, 70).changed("ECG", 60, -1), of_ten(),
            [f"With shift = 0 the first difference would be NO 10 sample \"ECG\" at {30 * PS} ps original {ecg(30)} export -1.",
-            f"What follows is reckoned with shift = {-DAY}, as claimed.", '"ECG": 120 samples that the claim keeps are missing'],
+            f"What follows is worked out with shift = {-DAY}, as claimed.", '"ECG": 120 samples that the claim keeps are missing'],
            ["all samples are as claimed", "were tried"])
     yield ("a cut that begins a second late", 1, NIGHT, NIGHT.cut(11, 70, -DAY), of_ten(),
            ["The export starts 1 s later than claimed",
@@ -93,7 +93,7 @@ def with_no():
            ["With shift", "another value", *LIKELY])
     yield ("a cut that begins a second late, and a day more", 1, NIGHT, NIGHT.cut(11, 70, -2 * DAY), of_ten(),
            [f"with none of them the first samples are as claimed: {-2 * DAY + 1}, {-2 * DAY}, 0. It looks like the export was cut elsewhere",
-            f"What follows is reckoned with shift = {-DAY}, as claimed."],
+            f"What follows is worked out with shift = {-DAY}, as claimed."],
            ["With shift", "all samples are as claimed", *LIKELY])
     yield ("a cut that begins three seconds early", 1, NIGHT, NIGHT.cut(7, 70, -DAY), of_ten(),
            ["The export starts 3 s earlier than claimed", f"samples are as claimed: {-DAY - 3}, 0, {DAY}. It looks like the export was cut elsewhere"],

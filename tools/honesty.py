@@ -49,7 +49,7 @@ CHANNELS = re.compile(r'^With channels = \["(.*)"\] (?:the answer would be (YES 
 END = re.compile(r'^With to = "(\d+)\.0{11}1" in the place of "(\d+)" (?:the answer would be (YES .*)\. Export again'
                  r"|the first difference would be (NO .*)\.$)")
 TRIED = re.compile(r"^Other shifts were tried, and with none of them the first samples are as claimed: ([-0-9, ]*)\.")
-RECKONED = re.compile(r"What follows is reckoned with shift = (-?\d+)")
+RECKONED = re.compile(r"What follows is worked out with shift = (-?\d+)")
 NOTES = {
     "lacks": re.compile(r"^The export lacks (\d+) annotations? that the claim keeps:$"),
     "has": re.compile(r"^The export has (\d+) annotations? that the claim doesn't keep:$"),

@@ -28,12 +28,19 @@ pub struct Draft {
     pub blank: Vec<Vec<u8>>,
 }
 
-/// How often each text of a draft stands in the original.
+/// What a person reads beside the lines of a draft, in comments.
 #[derive(Clone, Copy)]
-pub struct Counts<'a> {
-    /// Each of those that are removed.
+pub struct Comments<'a> {
+    /// Lines behind the format, each a comment of TOML.
+    pub remarks: &'a str,
+    /// Of each channel, whether the original has it.
+    pub are_known: &'a [bool],
+    /// The second of the day at which the original starts.
+    pub start: u32,
+    /// The subfields that the export shows.
+    pub shown: &'a [Which],
+    /// How often each text that is removed stands in the original, and each that is blanked.
     pub removed: &'a [u64],
-    /// Each of those that are blanked.
     pub blanked: &'a [u64],
 }
 

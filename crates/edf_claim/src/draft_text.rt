@@ -3,8 +3,10 @@
 ghost use Rattle.std.specs.Prelude.{IfOk, IfSome};
 ghost use Rattle.edf_claim.specs.Claims.{SaysClaimText};
 
-use crate::draft::{Counts, Draft};
+use crate::draft::{Comments, Draft};
+use crate::draft_times::{SECOND, clock_time, way_of};
 use crate::interval::Interval;
+use edf_fields::which::Which;
 use std::alloc::{AllocError, Global};
 
 /// What stands at the head of a draft.
@@ -17,9 +19,6 @@ const BLANKED: &str = "
 # the texts of annotations in this time in whose place the export has X, each at its time and with its duration
 blank = [
 ";
-
-/// How many picoseconds a second has.
-const SECOND: i128 = 1_000_000_000_000;
 
 /// Puts a text behind another.
 fn push(text: &mut Vec<u8>, more: &str) -> Result<(), AllocError> {
@@ -57,13 +56,32 @@ fn push_seconds(text: &mut Vec<u8>, alloc: Global, ps: i128) -> Result<(), Alloc
     Ok(())
 }
 
-/// Puts the line of an interval behind a text.
-fn push_interval(text: &mut Vec<u8>, alloc: Global, interval: Interval) -> Result<(), AllocError> {
+/// Puts the line of an interval behind a text, with its times by the clock of an original that starts at a second of the day.
+fn push_interval(
+    text: &mut Vec<u8>,
+    alloc: Global,
+    interval: Interval,
+    start: u32,
+) -> Result<(), AllocError> {
     push(text, "  { from = ")?;
     push_seconds(text, alloc, interval.from_ps)?;
     push(text, ", to = ")?;
     push_seconds(text, alloc, interval.to_ps)?;
-    push(text, " }, # confirm\n")
+    let from = clock_time(alloc, start, interval.from_ps)?;
+    let to = clock_time(alloc, start, interval.to_ps)?;
+    let times = format!(in alloc; " }}, # confirm: {from} to {to}\n")?;
+    push(text, &times)
+}
+
+/// Puts a line of the subfields that the export shows behind a text, where there are some.
+fn push_shown(text: &mut Vec<u8>, shown: &[Which]) -> Result<(), AllocError> {
+    let mut front = "\n# the export shows: ";
+    for which in shown {
+        push(text, front)?;
+        push(text, which.name())?;
+        front = ", ";
+    }
+    push(text, "\n")
 }
 
 /// Puts the lines of some texts behind another, each with how often it stands.
@@ -84,36 +102,52 @@ fn push_texts(
 
 impl Draft {
     /// Puts the lines of the channels behind a text.
-    fn push_channels(&self, text: &mut Vec<u8>, alloc: Global) -> Result<(), AllocError> {
+    fn push_channels(
+        &self,
+        text: &mut Vec<u8>,
+        alloc: Global,
+        are_known: &[bool],
+    ) -> Result<(), AllocError> {
         push(
             text,
             "\n# the channels that the export has, in its order\nchannels = [\n",
         )?;
-        for label in &self.channels {
+        for (label, is_known) in self.channels.iter().zip(are_known) {
             push(text, "  ")?;
             push_quoted(text, alloc, label)?;
-            push(text, ", # confirm\n")?;
+            let behind = if *is_known {
+                ", # confirm\n"
+            } else {
+                ", # the original has no such channel\n"
+            };
+            push(text, behind)?;
         }
         push(text, "]\n")
     }
 
     /// Puts the lines of the intervals behind a text.
-    fn push_keep(&self, text: &mut Vec<u8>, alloc: Global) -> Result<(), AllocError> {
+    fn push_keep(
+        &self,
+        text: &mut Vec<u8>,
+        alloc: Global,
+        start: u32,
+    ) -> Result<(), AllocError> {
         push(
             text,
-            "\n# the time that the export's data records cover, in seconds from the original's start\nkeep = [\n",
+            "\n# the time that the export's data records cover, in seconds from the original's start, and by its clock\nkeep = [\n",
         )?;
         for interval in &self.keep {
-            push_interval(text, alloc, *interval)?;
+            push_interval(text, alloc, *interval, start)?;
         }
         push(text, "]\n")
     }
 
-    /// Puts the lines of the subfields that are made anonymous behind a text.
-    fn push_anonymous(&self, text: &mut Vec<u8>) -> Result<(), AllocError> {
+    /// Puts the lines of the subfields that are made anonymous behind a text, with those that the export shows in front.
+    fn push_anonymous(&self, text: &mut Vec<u8>, shown: &[Which]) -> Result<(), AllocError> {
+        push_shown(text, shown)?;
         push(
             text,
-            "\n# the subfields that are X in the export, and not in the original\nanonymous = [\n",
+            "# the subfields that are X in the export, and not in the original\nanonymous = [\n",
         )?;
         for which in &self.anonymous {
             push(text, "  \"")?;
@@ -125,8 +159,9 @@ impl Draft {
 
     /// Puts the line of the shift behind a text.
     fn push_shift(&self, text: &mut Vec<u8>, alloc: Global) -> Result<(), AllocError> {
+        let way = way_of(alloc, self.shift)?;
         let shift = format!(in alloc;
-            "\n# by how many seconds the export starts later than what it keeps\nshift = {} # confirm\n",
+            "\n# by how many seconds the export starts later than what it keeps\nshift = {} # confirm: {way}\n",
             self.shift
         )?;
         push(text, &shift)
@@ -170,39 +205,32 @@ impl Draft {
     }
 
     /// The text of the claim, whatever it says.
-    fn written(
-        &self,
-        alloc: Global,
-        counts: Counts<'_>,
-        remarks: &str,
-    ) -> Result<Vec<u8>, AllocError> {
+    fn written(&self, alloc: Global, comments: &Comments<'_>) -> Result<Vec<u8>, AllocError> {
         let mut text = Vec::new(alloc);
         push(&mut text, HEAD)?;
         self.push_format(&mut text)?;
-        push(&mut text, remarks)?;
-        self.push_channels(&mut text, alloc)?;
-        self.push_keep(&mut text, alloc)?;
-        self.push_anonymous(&mut text)?;
+        push(&mut text, comments.remarks)?;
+        self.push_channels(&mut text, alloc, comments.are_known)?;
+        self.push_keep(&mut text, alloc, comments.start)?;
+        self.push_anonymous(&mut text, comments.shown)?;
         self.push_shift(&mut text, alloc)?;
-        self.push_remove(&mut text, alloc, counts.removed)?;
-        self.push_blank(&mut text, alloc, counts.blanked)?;
+        self.push_remove(&mut text, alloc, comments.removed)?;
+        self.push_blank(&mut text, alloc, comments.blanked)?;
         Ok(text)
     }
 
-    /// The text of the claim, with a comment behind each line, how often each text that is removed or blanked stands, and lines
-    /// of remarks, each a comment of TOML; or none where no claim says this, as of a label that stands twice, or where the
-    /// text is longer than a claim may be.
+    /// The text of the claim, with comments: behind each line, which say what a person has to confirm, and lines of remarks; or
+    /// none where no claim says this, as of a label that stands twice, or where the text is longer than a claim may be.
     ///
     /// The text is read as a claim before it is given. The error is want of memory.
     pub fn text(
         &self,
         alloc: Global,
-        counts: Counts<'_>,
-        remarks: &str,
+        comments: &Comments<'_>,
     ) -> Result<Option<Vec<u8>>, AllocError>
         ensures { IfOk result (λ text. IfSome text (λ t. SaysClaimText t.items self.now)) }
     {
-        let text = self.written(alloc, counts, remarks)?;
+        let text = self.written(alloc, comments)?;
         if self.is_said_by(alloc, &text)? {
             Ok(Some(text))
         } else {

@@ -9,6 +9,7 @@ mod channels;
 pub mod claim;
 pub mod draft;
 mod draft_text;
+mod draft_times;
 mod format;
 pub mod interval;
 mod keep;

@@ -16,11 +16,34 @@ use edf_job::job::Job;
 use edf_job::words::job_of;
 use std::alloc::{AllocError, Global};
 
-/// A command's name, and what it does in a line of the help.
+/// What the program is, in the help.
+const ABOUT: &str = "Checks that an exported sleep recording (EDF+) is its original, cut and made anonymous exactly as a claim says";
+
+/// What stands behind the commands in the help.
+const BEHIND: &str = "Example, in the folder of the example night:
+  edfclaim check original.edf cut.edf cut.toml
+
+Status: 0 for Yes, 1 for No, and 2 for no answer, with a line on standard error that says why.
+
+Pages: START.md is the one to begin with. They stand in /usr/share/doc/edfclaim where the package is
+installed, and in the folder docs of the sources. `man edfclaim` has all of the commands.";
+
+/// A command's name, what it does in a line of the help, and its place among the commands there.
 #[derive(Clone, Copy)]
 struct Named<'a> {
     name: &'a str,
     about: &'a str,
+    place: usize,
+}
+
+/// A command without its arguments.
+fn named_command<'a>(alloc: Global, named: Named<'a>) -> Command<'a>
+    ensures shape { app_of result ≡ new_app named.entry.name.now }
+    ensures local { (fields_of result).has_globals ≡ false }
+{
+    Command::new(alloc, named.name)
+        .about(named.about)
+        .display_order(named.place)
 }
 
 /// The command with one more argument, which has to be there.
@@ -52,30 +75,22 @@ fn needing_some<'a>(
 }
 
 /// The command `NAME ORIGINAL EXPORT CLAIM`.
-fn export_command<'a>(
-    alloc: Global,
-    name: &'a str,
-    about: &'a str,
-) -> Result<Command<'a>, AllocError>
-    ensures shape { IfOk result (λ c. app_of c ≡ export_app name.entry.now) }
+fn export_command<'a>(alloc: Global, named: Named<'a>) -> Result<Command<'a>, AllocError>
+    ensures shape { IfOk result (λ c. app_of c ≡ export_app named.entry.name.now) }
     ensures local { IfOk result (λ c. (fields_of c).has_globals ≡ false) }
 {
-    let named = Command::new(alloc, name).about(about);
+    let named = named_command(alloc, named);
     let one = needing(alloc, named, "ORIGINAL", "The recording that is kept")?;
     let two = needing(alloc, one, "EXPORT", "The recording that is handed out")?;
     needing(alloc, two, "CLAIM", "The claim, a TOML document")
 }
 
 /// The command `NAME ORIGINAL CLAIM EXPORT..`.
-fn parts_command<'a>(
-    alloc: Global,
-    name: &'a str,
-    about: &'a str,
-) -> Result<Command<'a>, AllocError>
-    ensures shape { IfOk result (λ c. app_of c ≡ parts_app name.entry.now) }
+fn parts_command<'a>(alloc: Global, named: Named<'a>) -> Result<Command<'a>, AllocError>
+    ensures shape { IfOk result (λ c. app_of c ≡ parts_app named.entry.name.now) }
     ensures local { IfOk result (λ c. (fields_of c).has_globals ≡ false) }
 {
-    let named = Command::new(alloc, name).about(about);
+    let named = named_command(alloc, named);
     let one = needing(alloc, named, "ORIGINAL", "The recording that is kept")?;
     let two = needing(alloc, one, "CLAIM", "The claim, a TOML document")?;
     needing_some(
@@ -87,21 +102,21 @@ fn parts_command<'a>(
 }
 
 /// The command `NAME ORIGINAL EXPORT`.
-fn pair_command<'a>(alloc: Global, name: &'a str, about: &'a str) -> Result<Command<'a>, AllocError>
-    ensures shape { IfOk result (λ c. app_of c ≡ pair_app name.entry.now) }
+fn pair_command<'a>(alloc: Global, named: Named<'a>) -> Result<Command<'a>, AllocError>
+    ensures shape { IfOk result (λ c. app_of c ≡ pair_app named.entry.name.now) }
     ensures local { IfOk result (λ c. (fields_of c).has_globals ≡ false) }
 {
-    let named = Command::new(alloc, name).about(about);
+    let named = named_command(alloc, named);
     let one = needing(alloc, named, "ORIGINAL", "The recording that is kept")?;
     needing(alloc, one, "EXPORT", "The recording that is handed out")
 }
 
 /// The command `NAME FILE`.
-fn file_command<'a>(alloc: Global, name: &'a str, about: &'a str) -> Result<Command<'a>, AllocError>
-    ensures shape { IfOk result (λ c. app_of c ≡ file_app name.entry.now) }
+fn file_command<'a>(alloc: Global, named: Named<'a>) -> Result<Command<'a>, AllocError>
+    ensures shape { IfOk result (λ c. app_of c ≡ file_app named.entry.name.now) }
     ensures local { IfOk result (λ c. (fields_of c).has_globals ≡ false) }
 {
-    let named = Command::new(alloc, name).about(about);
+    let named = named_command(alloc, named);
     needing(alloc, named, "FILE", "The recording")
 }
 
@@ -109,12 +124,11 @@ fn file_command<'a>(alloc: Global, name: &'a str, about: &'a str) -> Result<Comm
 fn with_report<'a>(
     alloc: Global,
     program: Command<'a>,
-    name: &'a str,
-    about: &'a str,
+    named: Named<'a>,
 ) -> Result<Command<'a>, AllocError>
-    ensures { IfOk result (λ r. app_of r ≡ with_subcommand (app_of program.entry) (file_app name.entry.now).top) }
+    ensures { IfOk result (λ r. app_of r ≡ with_subcommand (app_of program.entry) (file_app named.entry.name.now).top) }
 {
-    let report = file_command(alloc, name, about)?;
+    let report = file_command(alloc, named)?;
     program.subcommand(report)
 }
 
@@ -123,14 +137,22 @@ fn vectors_command<'a>(alloc: Global) -> Command<'a>
     ensures shape { app_of result ≡ new_app (codes "vectors") }
     ensures local { (fields_of result).has_globals ≡ false }
 {
-    Command::new(alloc, "vectors").about("Runs the worked rows")
+    let vectors = Named {
+        name: "vectors",
+        about: "Runs the worked examples that are built in, and looks whether each gives its stored line",
+        place: 10,
+    };
+    named_command(alloc, vectors)
 }
 
 /// The program with its version, and without a command.
 fn bare_program<'a>(alloc: Global) -> Command<'a>
     ensures { app_of result ≡ bare_app }
 {
-    Command::new(alloc, "edfclaim").version(VERSION)
+    Command::new(alloc, "edfclaim")
+        .version(VERSION)
+        .about(ABOUT)
+        .after_help(BEHIND)
 }
 
 /// The program with one more command of the form `NAME ORIGINAL EXPORT CLAIM`, and one of the form
@@ -143,9 +165,9 @@ fn with_both<'a>(
 ) -> Result<Command<'a>, AllocError>
     ensures { IfOk result (λ c. app_of c ≡ with_both (app_of program.entry) of_one.entry.name.now of_several.entry.name.now) }
 {
-    let one = export_command(alloc, of_one.name, of_one.about)?;
+    let one = export_command(alloc, of_one)?;
     let first = program.subcommand(one)?;
-    let several = parts_command(alloc, of_several.name, of_several.about)?;
+    let several = parts_command(alloc, of_several)?;
     first.subcommand(several)
 }
 
@@ -155,11 +177,13 @@ fn checking_program<'a>(alloc: Global) -> Result<Command<'a>, AllocError>
 {
     let check = Named {
         name: "check",
-        about: "Checks that an export is its original, cut and made anonymous as a claim says",
+        about: "Checks an export beside its original: Yes, or No with the first difference",
+        place: 5,
     };
     let parts = Named {
         name: "check-parts",
-        about: "Checks that exports are together their original, cut and made anonymous as a claim says",
+        about: "Checks an export that goes out in several files, all of them together",
+        place: 8,
     };
     with_both(alloc, bare_program(alloc), check, parts)
 }
@@ -171,11 +195,13 @@ fn receipt_program<'a>(alloc: Global) -> Result<Command<'a>, AllocError>
     let checking = checking_program(alloc)?;
     let receipt = Named {
         name: "receipt",
-        about: "Checks as check does, and names the files by their digests",
+        about: "Checks as check does, and writes the SHA-256 of each file above the answer",
+        place: 7,
     };
     let parts = Named {
         name: "receipt-parts",
-        about: "Checks as check-parts does, and names the files by their digests",
+        about: "Writes such a receipt of an export that goes out in several files",
+        place: 9,
     };
     with_both(alloc, checking, receipt, parts)
 }
@@ -186,18 +212,20 @@ fn explain_program<'a>(alloc: Global) -> Result<Command<'a>, AllocError>
     ensures { IfOk result (λ c. app_of c ≡ explain_app) }
 {
     let receipts = receipt_program(alloc)?;
-    let draft = pair_command(
-        alloc,
-        "draft",
-        "Drafts the claim by which a recording is the export of another",
-    )?;
-    let drafting = receipts.subcommand(draft)?;
-    let explain = export_command(
-        alloc,
-        "explain",
-        "Checks as check does, and explains the answer in plain sentences",
-    )?;
-    drafting.subcommand(explain)
+    let draft = Named {
+        name: "draft",
+        about: "Drafts the claim by which this export would be the original's, for a person to confirm",
+        place: 4,
+    };
+    let pair = pair_command(alloc, draft)?;
+    let drafting = receipts.subcommand(pair)?;
+    let explain = Named {
+        name: "explain",
+        about: "Checks as check does, and explains the answer in plain sentences",
+        place: 6,
+    };
+    let explaining = export_command(alloc, explain)?;
+    drafting.subcommand(explaining)
 }
 
 /// The program with all of its commands.
@@ -205,9 +233,24 @@ fn program<'a>(alloc: Global) -> Result<Command<'a>, AllocError>
     ensures { IfOk result (λ c. app_of c ≡ program_app) }
 {
     let first = explain_program(alloc)?;
-    let second = with_report(alloc, first, "conform", "Says whether a file conforms")?;
-    let third = with_report(alloc, second, "show", "Shows what a file's header says")?;
-    let fourth = with_report(alloc, third, "notes", "Lists a file's annotations")?;
+    let conform = Named {
+        name: "conform",
+        about: "Says whether a recording can be judged at all, or its first fault",
+        place: 1,
+    };
+    let show = Named {
+        name: "show",
+        about: "Shows what the header of a recording says",
+        place: 2,
+    };
+    let notes = Named {
+        name: "notes",
+        about: "Lists the annotations of a recording",
+        place: 3,
+    };
+    let second = with_report(alloc, first, conform)?;
+    let third = with_report(alloc, second, show)?;
+    let fourth = with_report(alloc, third, notes)?;
     fourth.subcommand(vectors_command(alloc))
 }
 

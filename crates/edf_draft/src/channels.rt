@@ -5,6 +5,7 @@ ghost use Rattle.edf_header.specs.Channels.{channel_labels as labels_of};
 
 use edf_header::header::Header;
 use edf_header::signal::Signal;
+use edf_heads::channel_index::ChannelIndex;
 use std::alloc::{AllocError, Global};
 
 /// Takes in the label of a signal, where it is a channel.
@@ -27,4 +28,18 @@ pub(crate) fn channel_labels(alloc: Global, header: &Header) -> Result<Vec<Vec<u
         push_label(alloc, &mut labels, signal)?;
     }
     Ok(labels)
+}
+
+/// Of each label whether a file has a channel of it.
+pub(crate) fn are_known(
+    alloc: Global,
+    header: &Header,
+    labels: &[Vec<u8>],
+) -> Result<Vec<bool>, AllocError> {
+    let index = ChannelIndex::new(alloc, header)?;
+    let mut known = Vec::new(alloc);
+    for label in labels {
+        known.push(index.channel(label).is_some())?;
+    }
+    Ok(known)
 }

@@ -4,16 +4,16 @@ ghost use Rattle.std.specs.Prelude.{IfOk, IfSome};
 ghost use Rattle.edf_draft.specs.Answers.{IsTextOf};
 ghost use Rattle.edf_draft.specs.Drafts.{IsDraftFor};
 
-use crate::channels::channel_labels;
+use crate::channels::{are_known, channel_labels};
 use crate::grid::Grid;
-use crate::hidden::hidden_subfields;
+use crate::hidden::{hidden_subfields, shown_subfields};
 use crate::keep::{Back, kept_intervals};
 use crate::recorded::Recorded;
 use crate::remarks::remarks_of;
 use crate::shift::shift_of;
 use crate::texts::{Lacking, lacking_texts};
 use crate::tried::tried_text;
-use edf_claim::draft::{Counts, Draft};
+use edf_claim::draft::{Comments, Draft};
 use edf_trial::recordings::Recordings;
 use std::alloc::{AllocError, Global};
 
@@ -29,6 +29,11 @@ impl Recorded {
     /// The second at which the file starts, 0 for 1970-01-01 00:00:00.
     pub(crate) fn start_second(&self) -> i64 {
         self.reader.header().start_second()
+    }
+
+    /// The second of the day at which the file starts.
+    fn start_of_day(&self) -> u32 {
+        u32::try_from(self.start_second().rem_euclid(86_400)).unwrap_or(0)
     }
 }
 
@@ -80,11 +85,17 @@ pub(crate) fn draft_text<R: Recordings>(
     let shift = shift_of(original, export);
     let drafted = draft_of(alloc, original, export, shift.seconds)?;
     let remarks = remarks_of(alloc, original, export, shift)?;
-    let counts = Counts {
+    let are_known = are_known(alloc, original.reader.header(), &drafted.draft.channels)?;
+    let shown = shown_subfields(alloc, export.reader.header())?;
+    let comments = Comments {
+        remarks: &remarks,
+        are_known: &are_known,
+        start: original.start_of_day(),
+        shown: &shown,
         removed: &drafted.removed,
         blanked: &drafted.blanked,
     };
-    match drafted.draft.text(alloc, counts, &remarks)? {
+    match drafted.draft.text(alloc, &comments)? {
         Some(text) => tried_text(alloc, &drafted.draft, &text, again),
         None => Ok(None),
     }

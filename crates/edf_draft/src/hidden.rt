@@ -48,3 +48,14 @@ pub(crate) fn hidden_subfields(
     }
     Ok(hidden)
 }
+
+/// The subfields that an export shows, in their written order.
+pub(crate) fn shown_subfields(alloc: Global, export: &Header) -> Result<Vec<Which>, AllocError> {
+    let mut shown = Vec::new(alloc);
+    for which in Which::all() {
+        if !is_anonymous(export, *which) {
+            shown.push(*which)?;
+        }
+    }
+    Ok(shown)
+}

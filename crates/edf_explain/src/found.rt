@@ -156,9 +156,15 @@ pub(crate) struct Pair<'a> {
 }
 
 /// How many samples are compared at a time, and how many bytes they have.
-const SAMPLES: usize = 16;
+pub(crate) const SAMPLES: usize = 16;
 
-const BLOCK: usize = 32;
+pub(crate) const BLOCK: usize = 32;
+
+/// Of 16 samples those that have other values: of 16 pairs of bits the lower one of each.
+pub(crate) fn others_of(original: u8x32, export: u8x32) -> u64 {
+    let bytes = original.simd_ne(export).to_bitmask();
+    (bytes | (bytes >> 1)) & 0x5555_5555
+}
 
 /// Which of 16 samples have other values: of 16 pairs of bits the lower one of each such sample. None of fewer.
 #[inline(always)]
@@ -166,15 +172,12 @@ fn others_in(original: &[u8], export: &[u8]) -> u64 {
     if original.len() < BLOCK || export.len() < BLOCK {
         return 0;
     }
-    let bytes = u8x32::from_slice(original)
-        .simd_ne(u8x32::from_slice(export))
-        .to_bitmask();
-    (bytes | (bytes >> 1)) & 0x5555_5555
+    others_of(u8x32::from_slice(original), u8x32::from_slice(export))
 }
 
 impl Places {
     /// These, and those of 16 samples from a place on, of which others there are.
-    fn with_block(places: Option<Places>, place: usize, others: u64) -> Option<Places> {
+    pub(crate) fn with_block(places: Option<Places>, place: usize, others: u64) -> Option<Places> {
         if others == 0 {
             return places;
         }

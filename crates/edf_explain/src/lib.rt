@@ -31,6 +31,7 @@ mod samples;
 mod shown;
 mod stand;
 mod starts;
+mod strided;
 mod text;
 mod track;
 mod tries;

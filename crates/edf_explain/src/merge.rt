@@ -2,6 +2,7 @@
 
 use crate::found::{Pair, Places};
 use crate::run::Run;
+use crate::strided::{Values, numbers_changed};
 use std::cmp::Ordering;
 
 /// How many samples of the original, and how many of the export, go by from one instant at which both have a sample to the
@@ -143,6 +144,24 @@ impl Common {
             .saturating_add(self.stride.saturating_mul(number))
     }
 
+    /// The places of some of them, by their numbers.
+    fn places(self, numbers: Places) -> Places {
+        Places {
+            count: numbers.count,
+            first: self.place(numbers.first),
+            last: self.place(numbers.last),
+        }
+    }
+
+    /// The values of a run, from the first of them on.
+    fn values(self, run: Run<'_>) -> Values<'_> {
+        let from = self.first.saturating_mul(2);
+        Values {
+            bytes: run.bytes.get(from..).unwrap_or(&[]),
+            stride: self.stride,
+        }
+    }
+
     /// How many there can be in a run.
     fn most(self, run: Run<'_>) -> usize {
         let behind = run.to.saturating_sub(1).saturating_sub(self.first);
@@ -221,81 +240,11 @@ pub(crate) struct Merged {
     pub(crate) changed: Option<(Places, Places)>,
 }
 
-/// Values that are compared one by one: the bytes from the first of them on, and how many bytes there are from one to the next.
-#[derive(Clone, Copy)]
-struct Values<'a> {
-    bytes: &'a [u8],
-    step: usize,
-}
-
-impl<'a> Values<'a> {
-    /// Those of a run.
-    fn of(run: Run<'a>, common: Common) -> Values<'a> {
-        let from = common.first.saturating_mul(2);
-        Values {
-            bytes: run.bytes.get(from..).unwrap_or(&[]),
-            step: common.stride.saturating_mul(2),
-        }
-    }
-}
-
-/// How many of the first few values differ, and the number of the first that does.
-fn count_changed(old: Values<'_>, new: Values<'_>, count: usize) -> (usize, usize) {
-    let (old_end, new_end) = (
-        old.bytes.len().saturating_sub(1),
-        new.bytes.len().saturating_sub(1),
-    );
-    let (mut place, mut other): (usize, usize) = (0, 0);
-    let (mut changed, mut first): (usize, usize) = (0, 0);
-    for number in 0..count {
-        if place >= old_end || other >= new_end {
-            break;
-        }
-        let value = [old.bytes[place], old.bytes[place + 1]];
-        if value != [new.bytes[other], new.bytes[other + 1]] {
-            if changed == 0 {
-                first = number;
-            }
-            changed = changed.saturating_add(1);
-        }
-        place = place.saturating_add(old.step);
-        other = other.saturating_add(new.step);
-    }
-    (changed, first)
-}
-
-/// The number of the last value that differs, of the first few.
-fn last_changed(pair: Pair<'_>, old: Common, new: Common) -> usize {
-    let mut number = old.count;
-    for _ in 0..old.count {
-        number = number.saturating_sub(1);
-        if pair.original.value(old.place(number)) != pair.export.value(new.place(number)) {
-            break;
-        }
-    }
-    number
-}
-
 /// Where the values of samples differ that are taken at the same times, by their places in the original and in the export.
 fn changed_of(pair: Pair<'_>, old: Common, new: Common) -> Option<(Places, Places)> {
-    let (olds, news) = (Values::of(pair.original, old), Values::of(pair.export, new));
-    let (count, first) = count_changed(olds, news, old.count);
-    if count == 0 {
-        return None;
-    }
-    let last = last_changed(pair, old, new);
-    Some((
-        Places {
-            count,
-            first: old.place(first),
-            last: old.place(last),
-        },
-        Places {
-            count,
-            first: new.place(first),
-            last: new.place(last),
-        },
-    ))
+    let (olds, news) = (old.values(pair.original), new.values(pair.export));
+    let numbers = numbers_changed(olds, news, old.count)?;
+    Some((old.places(numbers), new.places(numbers)))
 }
 
 /// Lays two runs side by side.

@@ -2,7 +2,8 @@
 
 use crate::stand::Stand;
 use edf_claim::claim::Claim;
-use edf_stream::note::NoteRef;
+use edf_stream::note::{NoteRef, TalNotes};
+use edf_stream::note_keeper::NoteKeeper;
 use edf_stream::notes::Note;
 use edf_stream::own_text::OwnText;
 use std::alloc::{AllocError, Global};
@@ -114,19 +115,15 @@ impl Notes {
         Ok(())
     }
 
-    /// Takes in the annotations of the data record of the original that is at hand.
-    pub(crate) fn take_original(
+    /// Takes in an annotation of the export, whose times are moved by so much.
+    fn take_exported(
         &mut self,
         alloc: Global,
-        claim: &Claim,
-        stand: &Stand,
+        moved_ps: i128,
+        note: &NoteRef<'_>,
     ) -> Result<(), AllocError> {
-        let Some(annotations) = stand.annotations() else {
-            return Ok(());
-        };
-        for note in annotations {
-            self.take_kept(alloc, claim, &note)?;
-        }
+        let exported = note_of(alloc, note, moved_ps, note.text)?;
+        self.exported.push(exported)?;
         Ok(())
     }
 
@@ -136,8 +133,7 @@ impl Notes {
             return Ok(());
         };
         for note in annotations {
-            let exported = note_of(alloc, &note, stand.moved_ps(), note.text)?;
-            self.exported.push(exported)?;
+            self.take_exported(alloc, stand.moved_ps(), &note)?;
         }
         Ok(())
     }
@@ -148,4 +144,70 @@ impl Notes {
         self.exported.sort_unstable();
         apart(alloc, &self.kept, &self.exported)
     }
+}
+
+/// Whose annotations are taken in.
+#[derive(Clone, Copy)]
+pub(crate) enum Whose<'a> {
+    /// The original's, of which a claim keeps some.
+    Original(&'a Claim),
+    /// The export's, whose times are moved by so much.
+    Export(i128),
+}
+
+/// Takes in the annotations of a data record while it is judged.
+#[derive(Drop)]
+pub(crate) struct NoteTaker<'a> {
+    alloc: Global,
+    notes: &'a mut Notes,
+    whose: Whose<'a>,
+    /// Whether there was memory for all of them.
+    is_whole: bool,
+}
+
+impl<'a> NoteTaker<'a> {
+    /// Takes in annotations of a file.
+    pub(crate) fn new(alloc: Global, notes: &'a mut Notes, whose: Whose<'a>) -> NoteTaker<'a> {
+        NoteTaker {
+            alloc,
+            notes,
+            whose,
+            is_whole: true,
+        }
+    }
+
+    /// Takes in an annotation.
+    fn take(&mut self, note: &NoteRef<'_>) -> Result<(), AllocError> {
+        match self.whose {
+            Whose::Original(claim) => self.notes.take_kept(self.alloc, claim, note),
+            Whose::Export(moved_ps) => self.notes.take_exported(self.alloc, moved_ps, note),
+        }
+    }
+
+    /// Nothing where all annotations were taken in; else there was no memory for one.
+    pub(crate) fn ended(self) -> Result<(), AllocError> {
+        if self.is_whole {
+            Ok(())
+        } else {
+            Err(AllocError)
+        }
+    }
+}
+
+impl<'a> NoteKeeper for NoteTaker<'a> {
+    ghost got = { λ _ _ _. Unit {0} };
+
+    fn wants(&self) -> bool {
+        true
+    }
+
+    fn keep(&mut self, notes: TalNotes<'_>) {
+        for note in notes {
+            self.is_whole = self.is_whole && self.take(&note).is_ok();
+        }
+    }
+
+    ghost got_none = { λ _. tt };
+
+    ghost got_both = { λ _ _ _ _ _ _ _. tt };
 }

@@ -8,6 +8,7 @@ use edf_header::stop::Stop;
 use edf_refusal::side::Side;
 use edf_refusal::stop::RunStop;
 use edf_stream::annotations::Annotations;
+use edf_stream::note_keeper::{KeepsNone, NoteKeeper};
 use edf_stream::reader::FileReader;
 use std::alloc::Global;
 
@@ -94,9 +95,13 @@ impl Stand {
         self.moved_ps = ps;
     }
 
-    /// Reads the next data record: false where the file ends, or has a fault there.
-    pub(crate) fn next<S: Source>(&mut self, source: &mut S) -> Result<bool, RunStop> {
-        match self.reader.next(source) {
+    /// Reads the next data record, whose annotations go to a keeper: false where the file ends, or has a fault there.
+    pub(crate) fn next_with<S: Source, K: NoteKeeper>(
+        &mut self,
+        source: &mut S,
+        keeper: &mut K,
+    ) -> Result<bool, RunStop> {
+        match self.reader.next_with(source, keeper) {
             Ok(more) => {
                 if more {
                     self.read = self.read.saturating_add(1);
@@ -108,6 +113,11 @@ impl Stand {
                 Ok(false)
             }
         }
+    }
+
+    /// The same, and nobody gets the annotations.
+    pub(crate) fn next<S: Source>(&mut self, source: &mut S) -> Result<bool, RunStop> {
+        self.next_with(source, &mut KeepsNone)
     }
 
     /// Reads the file to its end, or to its first fault.

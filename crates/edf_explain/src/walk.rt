@@ -3,7 +3,7 @@
 use crate::found::Stands;
 use crate::merge::Strides;
 use crate::names::Shown;
-use crate::notes::Notes;
+use crate::notes::{NoteTaker, Notes, Whose};
 use crate::stand::{Lane, Stand, Stretch};
 use crate::starts::Starts;
 use crate::text::SECOND;
@@ -245,17 +245,21 @@ impl<'a> Walk<'a> {
 
     /// Reads the next data record of the original, and takes in its annotations.
     fn next_original<O: Source>(&mut self, source: &mut O) -> Result<bool, RunStop> {
-        let more = self.original.next(source)?;
+        let whose = Whose::Original(self.claim);
+        let mut taker = NoteTaker::new(self.alloc, &mut self.notes, whose);
+        let more = self.original.next_with(source, &mut taker)?;
+        taker.ended()?;
         begin_original(&mut self.tracks);
-        self.notes
-            .take_original(self.alloc, self.claim, &self.original)?;
         Ok(more)
     }
 
-    /// Takes in the annotations of the data record of the export that is at hand.
-    fn take_export(&mut self) -> Result<(), RunStop> {
+    /// Reads the next data record of the export, and takes in its annotations.
+    fn next_export<E: Source>(&mut self, source: &mut E) -> Result<(), RunStop> {
+        let whose = Whose::Export(self.export.moved_ps());
+        let mut taker = NoteTaker::new(self.alloc, &mut self.notes, whose);
+        self.export.next_with(source, &mut taker)?;
+        taker.ended()?;
         begin_export(&mut self.tracks);
-        self.notes.take_export(self.alloc, &self.export)?;
         Ok(())
     }
 
@@ -423,8 +427,7 @@ impl<'a> Walk<'a> {
         if let Some(stretch) = self.export.stretch()
             && stretch.to_ps <= end_ps
         {
-            self.export.next(export)?;
-            self.take_export()?;
+            self.next_export(export)?;
         }
         Ok(())
     }
@@ -435,7 +438,7 @@ impl<'a> Walk<'a> {
         original: &mut O,
         export: &mut E,
     ) -> Result<(), RunStop> {
-        self.take_export()?;
+        self.notes.take_export(self.alloc, &self.export)?;
         let mut time = self.time();
         for _ in 0..u64::MAX {
             let Some(end) = self.end_behind(time) else {

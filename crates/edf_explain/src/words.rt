@@ -66,7 +66,7 @@ pub(crate) fn name(side: Side) -> &'static str {
 pub(crate) fn remedy(side: Side) -> &'static str {
     match side {
         Side::Original => {
-            "Export the original anew from the recording system, as EDF+. If the recorder itself makes the fault, a corrected copy can stand for the original, and it is written down who corrected what."
+            "Export the original again from the recording system, as EDF+. If the recorder itself causes the fault, a corrected copy can take the place of the original: note down who corrected what."
         }
         Side::Export => {
             "It looks like a fault of the software that made the export: export again with other settings or other software, and send these lines to its maker."
@@ -78,10 +78,10 @@ pub(crate) fn remedy(side: Side) -> &'static str {
 fn field_cause(cause: FieldCause) -> &'static str {
     match cause {
         FieldCause::NotPrintable => {
-            "The field has a sign other than the plain letters, digits and marks of English: write ue for an umlaut, for instance."
+            "The field has a character other than the plain letters, digits and punctuation of English: write ue for an umlaut, for instance."
         }
         FieldCause::LeadingSpace => {
-            "The field begins with a space, or is empty. EDF+ wants X for each thing that isn't said."
+            "The field begins with a space, or is empty. EDF+ asks for X where nothing is stated."
         }
         FieldCause::TooFewSubfields => {
             "The field has too few words: the patient has a code, a sex, a birthdate and a name, the recording has Startdate, a date, a number, a technician and the equipment."
@@ -98,20 +98,20 @@ fn field_cause(cause: FieldCause) -> &'static str {
 fn tal_cause(cause: TalCause) -> &'static str {
     match cause {
         TalCause::BadOnset => {
-            "The time of an annotation is no number with + or - in front, or has too many digits."
+            "The time of an annotation isn't a number with + or - in front, or has too many digits."
         }
-        TalCause::BadDuration => "The duration of an annotation is no number, or has a sign.",
+        TalCause::BadDuration => "The duration of an annotation isn't a number, or has a sign.",
         TalCause::NoEnd => {
-            "An annotation isn't ended as EDF+ says. It may have been too long for its place and was cut: export with more room for annotations, or with shorter texts."
+            "An annotation isn't closed as EDF+ asks. It may have been too long for its place and been cut off: export with more room for annotations, or with shorter texts."
         }
         TalCause::NotUtf8 => {
-            "The text of an annotation isn't UTF-8: it looks like an old coding, or a letter of several bytes that was cut. Export with UTF-8, or write the text without such letters."
+            "The text of an annotation isn't UTF-8: it looks like an older encoding, or a letter of several bytes that was cut in two. Export as UTF-8, or write the text without such letters."
         }
         TalCause::ControlByte => {
-            "The text of an annotation has a sign in it that can't be shown: type the text again."
+            "The text of an annotation has a control character in it: type the text again."
         }
         TalCause::NotZeroFilled => {
-            "Behind the annotations, where nothing should be, something is. No viewer shows it, and it could be anything."
+            "There is something behind the annotations, where there should be nothing. It isn't read, and could be anything."
         }
     }
 }
@@ -120,31 +120,31 @@ const NO_RECORDS: &str =
     "There are no data records. A number of -1 says that the file is still being recorded: close the recording, and export again.";
 
 const NO_DURATION_OF_RECORD: &str =
-    "A data record lasts no time: the file may hold annotations alone. Export with channels.";
+    "The data records have no length in time: the file may hold only annotations. Export with channels.";
 
 const NO_SIGNALS: &str = "There are no signals. Export with channels.";
 
 const DIGITAL_RANGE: &str =
-    "The numbers of the channel go beyond -32768 and 32767, or the greatest isn't above the least: the file may have 24 bits. Export as EDF+ with 16 bits.";
+    "The channel's digital range goes beyond -32768 to 32767, or its maximum isn't above its minimum: the file may have 24 bits. Export as EDF+ with 16 bits.";
 
 const PHYSICAL_RANGE: &str =
-    "Both physical extremes are the same, so that no number means anything: set the channel's range in the recording system.";
+    "The physical minimum and maximum are the same, so the numbers have no meaning: set the channel's range in the recording system.";
 
 const NO_SAMPLES: &str = "The signal has no samples: export without this signal.";
 
-const OTHER_RANGE: &str = "The number can't stand there.";
+const OTHER_RANGE: &str = "This number isn't allowed there.";
 
 const TRUNCATED: &str =
-    "The file ends before all is there that its header speaks of: it looks like a copy that was broken off, or a recording that wasn't closed. Copy it again, and compare the sizes.";
+    "The file ends before everything that its header announces: it looks like a copy that was broken off, or a recording that wasn't closed. Copy it again, and compare the sizes.";
 
 pub(crate) const EMPTY: &str =
     "The file is empty: no byte of it could be read. Copy it again, and compare the sizes.";
 
 pub(crate) const BDF: &str =
-    "The file is one of BDF, which has 24 bits a sample. Export it as EDF+, which has 16.";
+    "This is a BDF file, which has 24 bits a sample. Export it as EDF+, which has 16.";
 
 const NOT_PRINTABLE: &str =
-    "The field has a sign other than the plain letters, digits and marks of English, such as an umlaut or a micro sign: write ue or uV, for instance.";
+    "The field has a character other than the plain letters, digits and punctuation of English, such as an umlaut or a micro sign: write ue or uV, for instance.";
 
 const BAD_VERSION: &str =
     "The file doesn't begin as an EDF file does: it is of another kind, or was damaged. Export it as EDF+.";
@@ -153,48 +153,48 @@ const BAD_START: &str =
     "The start isn't a day such as 17.03.19 and a time such as 23.10.00, or its year is after 2084 and isn't written as yy beside the date in the recording's line.";
 
 const STARTDATE_DIFFERS: &str =
-    "The header says the day of the recording twice, and they are two days: it looks like one of them alone was moved, or a year after 2084 was written with two digits.";
+    "The header gives the day of the recording twice, and the two differ: it looks like only one of them was moved, or a year after 2084 was written with two digits.";
 
 const BAD_HEADER_SIZE: &str =
-    "The size that the header says of itself doesn't go with its number of signals: it looks like a program added or took away signals, and forgot this number.";
+    "The header's own size doesn't match its number of signals: it looks like a program added or removed signals without changing this number.";
 
 pub(crate) const NOT_EDF_PLUS: &str =
-    "The file says neither EDF+C nor EDF+D: it looks like one of the older EDF. Export it as EDF+.";
+    "The file says neither EDF+C nor EDF+D: it looks like a file of the older, plain EDF. Export it as EDF+.";
 
 const BAD_NUMBER: &str =
-    "The field holds no plain number: there is a comma, an exponent, a space in front, or nothing.";
+    "The field isn't a plain number, which has no comma, no exponent and no space in front.";
 
 const BAD_ANNOTATION_SIGNAL: &str =
-    "The signal holds annotations, and its digital extremes aren't -32768 and 32767.";
+    "The signal holds annotations, and its digital minimum and maximum aren't -32768 and 32767.";
 
 const NO_ANNOTATION_SIGNAL: &str =
-    "No signal is labelled EDF Annotations, which EDF+ asks for, also where there are no annotations.";
+    "No signal is labelled EDF Annotations, which EDF+ asks for even where there are no annotations.";
 
 const NO_ORDINARY_SIGNAL: &str =
     "All signals hold annotations: there is no channel. Export with channels.";
 
 const DUPLICATE_LABEL: &str =
-    "Two channels have the same label, so that the label names no one channel: give one of them another label.";
+    "Two channels have the same label, so the label doesn't tell them apart: give one of them another label.";
 
 const RECORD_TOO_LARGE: &str =
     "A data record has more than 16777216 bytes: export with shorter data records.";
 
-const NO_TIMEKEEPING: &str = "The data record doesn't say when it starts, as EDF+ asks for.";
+const NO_TIMEKEEPING: &str = "The data record doesn't say when it starts, as EDF+ asks.";
 
 const BAD_FIRST_START: &str =
-    "The first data record starts before the file, or a second later or more.";
+    "The first data record starts before the file's own start, or a second or more after it.";
 
 const NOT_CONTIGUOUS: &str =
-    "The file says that it has no gap, and this data record doesn't start where the one before ends. Where there is a gap, export as EDF+D; where there is none, the software rounds the times, and data records of 1 s help.";
+    "The file says that it has no gaps, but this data record doesn't start where the one before it ends. If there is a gap, export as EDF+D; if there is none, the times may have been rounded, and data records of 1 s help.";
 
 const OVERLAP: &str =
-    "This data record starts before the one before ends: the pieces may stand in another order than that of time.";
+    "This data record starts before the one before it ends: the pieces may not be in the order of time.";
 
 const TOO_MANY_ANNOTATIONS: &str =
-    "There are more than 1000000 annotations. A marker of each sample belongs into a channel.";
+    "There are more than 1000000 annotations. A marker for each sample belongs in a channel.";
 
 const TRAILING_BYTES: &str =
-    "Behind the last data record something follows, which isn't looked at and could be anything: the header says fewer data records than there are, or something was appended.";
+    "Something follows the last data record. It isn't read, and could be anything: the header gives fewer data records than there are, or something was appended.";
 
 /// What is wrong with a number that can't stand where it does.
 fn range(place: Place) -> &'static str {
@@ -311,7 +311,7 @@ pub(crate) const PREFILTER: &str =
     "Channel {0} has another filter in the export: the original has {1}, the export has {2}. If the export was filtered, it is no cut of the original; if not, export again so that this text stays as it is.";
 
 pub(crate) const TEXT_CUT: &str =
-    "The export has the begin of the original's text alone: some writers cut such texts short.";
+    "The export has only the beginning of the original's text: some writers cut such texts short.";
 
 pub(crate) const CALIBRATION: &str =
     "Channel {0} has another scale or another unit in the export: the same numbers mean other values there.";
@@ -365,7 +365,7 @@ pub(crate) fn meaning(which: Which) -> &'static str {
         Which::Date => "the day of the recording, as the recording's line says it",
         Which::Administration => "the number of the investigation",
         Which::Technician => "who recorded",
-        Which::Equipment => "what was recorded with",
+        Which::Equipment => "the equipment that was used",
         Which::RecordingExtras => "all that stands behind the equipment",
     }
 }
@@ -380,7 +380,7 @@ pub(crate) const STARTS_LATER: &str =
     "The export starts {0} later than claimed: its first samples stand at {1}, and by the claim they stand at {2}.";
 
 pub(crate) const SHIFT_FORGOTTEN: &str =
-    "It starts as if nothing had been moved: it looks like the shift of the claim was forgotten in the export, or isn't meant. The date of the recording may be the true one then, and the export doesn't go out before that is settled.";
+    "It starts as if nothing had been moved: it looks like the shift of the claim was forgotten in the export, or isn't meant. The date of the recording may then be the true one, and the export doesn't go out before that is settled.";
 
 pub(crate) const SHIFT_TURNED: &str =
     "It starts as if it had been moved the other way: it looks like the sign of the shift was turned, in the export or in the claim.";
@@ -399,10 +399,10 @@ pub(crate) const CUT_ELSEWHERE: &str =
     ". It looks like the export was cut elsewhere than claimed: compare the intervals of the claim with what was exported.";
 
 pub(crate) const RECKONED_ANEW: &str =
-    "With it all samples are as claimed. What follows is reckoned with shift = {0}.";
+    "With it all samples are as claimed. What follows is worked out with shift = {0}.";
 
 pub(crate) const RECKONED_AS_CLAIMED: &str =
-    "What follows is reckoned with shift = {0}, as claimed.";
+    "What follows is worked out with shift = {0}, as claimed.";
 
 pub(crate) const NO_SHIFT_FITS: &str =
     "No shift lets it start as claimed, as a shift is whole seconds. Where the original starts inside a second, its first data record says so, and so does that of an export: some software leaves this fraction out.";
@@ -414,7 +414,7 @@ pub(crate) const NOTHING_KEPT: &str =
     "The claim keeps no sample of the original: its intervals lie behind the end of the recording, in a gap, or before its first data record. They count seconds from the original's start.";
 
 pub(crate) const KEPT_BETWEEN: &str =
-    "The claim keeps no sample of the original: an interval lies within a data record, and no sample of a claimed channel stands in it, as between two samples. An interval keeps what stands at its begin, and not what stands at its end.";
+    "The claim keeps no sample of the original: an interval lies within a data record, and no sample of a claimed channel stands in it, as between two samples. An interval keeps what stands at its beginning, and not what stands at its end.";
 
 // Samples. The label is the first thing, how many there are the second.
 
@@ -454,7 +454,7 @@ pub(crate) const CAUSE_OF_MISSING: &str =
     "Samples are missing where the export begins too late, ends too early, has a gap, has fewer samples a second, or is moved by another time than claimed: compare the intervals and the shift of the claim with what was exported.";
 
 pub(crate) const CAUSE_OF_EXTRA: &str =
-    "Samples are too many where the export begins too early, ends too late, has more samples a second, or is moved by another time than claimed.";
+    "There are too many samples where the export begins too early, ends too late, has more samples a second, or is moved by another time than claimed.";
 
 pub(crate) const CAUSE_OF_CHANGED: &str =
     "It looks like a filter, a new scale or a mistake in copying: none of these is a cut of the original.";
@@ -493,7 +493,7 @@ pub(crate) const NOTE_TEXT: &str = "{0}";
 pub(crate) const NOT_LISTED: &str = "  and {0} more";
 
 pub(crate) const AT_END: &str =
-    "    It begins exactly at the end of a kept interval, and what begins there isn't kept; some writers, as EDFbrowser, keep it. Delete it from the export.";
+    "    It begins exactly at the end of a kept interval, and what begins there isn't kept; some writers, such as EDFbrowser, keep it. Delete it from the export.";
 
 /// The end of an interval that was tried, the claimed one, and what the check answers with it.
 pub(crate) const WITH_END_YES: &str =
@@ -508,10 +508,10 @@ pub(crate) const REMOVED_BUT_THERE: &str =
     "    The claim removes this text. If it names somebody, the export doesn't go out.";
 
 pub(crate) const LIKE_CUT: &str =
-    "    It is the begin of a longer text of the original at this time: some writers, as EDFlib, cut texts to 40 bytes. Keep texts short, or export with other software.";
+    "    It is the beginning of a longer text of the original at this time: some writers, such as EDFlib, cut texts to 40 bytes. Keep texts short, or export with other software.";
 
 pub(crate) const LIKE_ROUNDED: &str =
-    "    The claim keeps this text a little earlier or later: it looks like a time that was rounded; some writers, as EDFlib, write times to 0.1 ms.";
+    "    The claim keeps this text a little earlier or later: it looks like a time that was rounded; some writers, such as EDFlib, write times to 0.1 ms.";
 
 /// The bytes of the original, and those of the export.
 pub(crate) const LIKE_ALIKE: &str =
@@ -533,7 +533,7 @@ pub(crate) const NOT_IN_ORIGINAL: &str =
     "    The original has no such annotation: delete it from the export.";
 
 pub(crate) const LESS_OFTEN: &str =
-    "    The claim keeps this annotation, and less often than the export has it: delete from the export what is too many.";
+    "    The claim keeps this annotation, but fewer times than the export has it: delete the surplus ones from the export.";
 
 pub(crate) const LIKE_MOVED: &str =
     "    The export lacks an annotation with this text at another time: it looks like one that was moved.";
@@ -547,7 +547,7 @@ pub(crate) const NOTES_ALL: &str = "Run edfclaim notes on both files to see all 
 
 /// Where the second reading finds something behind a Yes, or nothing behind a No.
 pub(crate) const READ_ANEW: &str =
-    "The second reading of the files doesn't find what the first line says: a file was changed between the two, or is no file that can be read twice. The first line is the answer, and these sentences aren't to be used.";
+    "The second reading of the files doesn't find what the first line says: a file was changed between the two, or can't be read twice. The first line is the answer, and these sentences aren't to be used.";
 
 pub(crate) const CHECK_AGAIN: &str = "Mend what is named here, and check again.";
 
@@ -557,24 +557,24 @@ pub(crate) const AS_CLAIMED: &str =
     "Before the export goes out, a person reads its texts: a Yes says nothing of names in them.";
 /// The text, and its key.
 pub(crate) const TEXT_UNSEEN: &str =
-    "No annotation in the kept intervals of the original has the text {0} of {1}, in these very bytes: it may be misspelt.";
+    "No annotation in the kept intervals of the original has exactly the text {0} of {1}: it may be misspelt.";
 
 /// The bytes of the claim, and those of the annotation.
 pub(crate) const SEEN_ALIKE: &str =
     "  An annotation has a text that looks the same, and has other bytes: the claim has {0} where the annotation has {1}.";
 
 pub(crate) const BEGIN_UNSEEN: &str =
-    "No annotation in the kept intervals of the original begins with the text {0} of {1}, in these very bytes: it may be misspelt.";
+    "No annotation in the kept intervals of the original begins with exactly the text {0} of {1}: it may be misspelt.";
 /// The time, the text, and what is spelled in it.
-pub(crate) const NAME_IN_NOTE: &str = "The annotation at {0} has what is spelled like {2}: {1}.";
+pub(crate) const NAME_IN_NOTE: &str = "The annotation at {0} has something spelled like {2}: {1}.";
 /// The label, the text, and what is spelled in it.
-pub(crate) const NAME_IN_CHANNEL: &str = "A text of channel {0} has what is spelled like {2}: {1}.";
+pub(crate) const NAME_IN_CHANNEL: &str = "A text of channel {0} has something spelled like {2}: {1}.";
 /// The subfield, its text, and what is spelled in it.
 pub(crate) const NAME_IN_SUBFIELD: &str =
-    "The subfield {0} of the export has what is spelled like {2}: {1}.";
+    "The subfield {0} of the export has something spelled like {2}: {1}.";
 
 pub(crate) const SPELLED_ALIKE: &str =
-    "Names were looked for in annotations, texts of channels and subfields that aren't hidden: what is spelled like the patient's name or like what the claim hides is found, and nothing else. A name that is spelled otherwise, a nickname or a relative isn't found, and what is found may be harmless.";
+    "Names were looked for in annotations, texts of channels and subfields that aren't hidden: what is spelled like the patient's name, or like something that the claim hides, is found, and nothing else. A name that is spelled in another way, a nickname or a relative isn't found, and what is found may be harmless.";
 
 /// What is spelled in a text, by the subfield that has it.
 pub(crate) fn spelled(which: Which) -> &'static str {
@@ -587,7 +587,7 @@ pub(crate) fn spelled(which: Which) -> &'static str {
         Which::Date => "the day of the recording",
         Which::Administration => "the number of the investigation",
         Which::Technician => "the name or the initials of who recorded",
-        Which::Equipment => "a word of what was recorded with",
+        Which::Equipment => "a word of the equipment",
         Which::RecordingExtras => "a word of what stands behind the equipment",
     }
 }
@@ -652,7 +652,7 @@ pub(crate) const FORMAT_IN_TABLE: &str =
 pub(crate) const KEY_OF_FORMAT_2: &str = "{0} is a key of format 2: write format = 2";
 
 pub(crate) const KEY_OF_KEEP: &str =
-    "{0} belongs into an interval: write [[keep]] in the line in front of it";
+    "{0} belongs in an interval: write [[keep]] in the line in front of it";
 /// The key, and the one that may be meant.
 pub(crate) const KEY_MISSPELT: &str = "{0} isn't a key of a claim: {1} may be meant";
 
@@ -697,10 +697,10 @@ pub(crate) const LABEL_OF_ANNOTATIONS: &str =
     "{0} is the label of signals that hold annotations and can't be claimed: take it out. Annotations are kept by their times and texts.";
 
 pub(crate) const LABEL_NOT_ASCII: &str =
-    "{0} can't be a label: it has a sign other than the plain letters, digits and marks of English";
+    "{0} can't be a label: it has a character other than the plain letters, digits and punctuation of English";
 
 pub(crate) const LABEL_WITH_CONTROL: &str =
-    "{0} can't be a label: it has a control sign, such as a tab or a line break";
+    "{0} can't be a label: it has a control character, such as a tab or a line break";
 
 pub(crate) const LABEL_TOO_LONG: &str = "{0} can't be a label: a label has at most 16 letters";
 
@@ -717,7 +717,7 @@ pub(crate) const KEEP_MISSING: &str =
     "The claim keeps no interval: write [[keep]], and below it from = \"0\" and to = \"999999999\" for the whole recording.";
 
 pub(crate) const KEEP_SINGLE: &str =
-    "An interval is written below [[keep]], with double brackets, also where there is one alone: [keep] is another thing.";
+    "An interval is written below [[keep]], with double brackets, even where there is only one: [keep] means something else.";
 
 pub(crate) const KEEP_TOO_MANY: &str = "The claim keeps {0} intervals: 1000 are allowed.";
 
@@ -728,7 +728,7 @@ pub(crate) const KEEP_HAS_KEY_OF_CLAIM: &str =
     "{0} stands behind a [[keep]] and belongs to it: write it in front of the first [[keep]]";
 
 pub(crate) const KEEP_HAS_OTHER_KEY: &str =
-    "{0} isn't a key of an interval, which has from and to alone";
+    "{0} isn't a key of an interval, which has only from and to";
 
 pub(crate) const KEEP_BACKWARDS: &str =
     "interval {1} ends where it begins, or before: from is below to";
@@ -751,14 +751,14 @@ pub(crate) const TIME_EMPTY: &str =
     "{0} is empty: write seconds from the original's start, as {0} = \"600\"";
 
 pub(crate) const TIME_IS_A_CLOCK: &str =
-    "{0} isn't a time of the day: write seconds from the original's start, which edfclaim show prints; an hour is 3600 s";
+    "{0} isn't a time of day: write seconds from the original's start, which edfclaim show prints; an hour is 3600 s";
 
 /// The key, what stands there, and the seconds.
 pub(crate) const TIME_IN_SECONDS: &str =
-    "  {1} is {2} s: as a length of time, {0} = \"{2}\". Of a time of the day the original's start is taken off, which edfclaim show prints, and 86400 s are added where it is of the next day.";
+    "  {1} is {2} s: as a length of time, {0} = \"{2}\". From a time of day, subtract the original's start, which edfclaim show prints, and add 86400 s if it is on the next day.";
 /// The key, and the name of the mark.
 pub(crate) const TIME_WITH_MARK: &str =
-    "{0} has {1}: write digits alone, and maybe a dot between them, as {0} = \"0.5\"";
+    "{0} has {1}: write only digits, with a dot between them if needed, as {0} = \"0.5\"";
 
 pub(crate) const TIME_WITH_COMMA: &str = "{0} has a comma: write a dot in its place";
 
@@ -774,4 +774,4 @@ pub(crate) const TIME_TOO_LONG: &str =
     "{0} has too many digits: at most 9 stand in front of the dot, and 12 behind it";
 
 pub(crate) const TIME_OTHER: &str =
-    "{0} is no number of seconds: digits alone, and maybe a dot between them, as {0} = \"600\" or {0} = \"0.5\"";
+    "{0} isn't a number of seconds: write only digits, with a dot between them if needed, as {0} = \"600\" or {0} = \"0.5\"";

@@ -3,16 +3,19 @@
 ghost use Rattle.std.specs.Prelude.{◌≡◌, ◌≤◌, length, take, IfOk, IfErr, IsTrue};
 ghost use Rattle.edf_fields.specs.Sources.{Fails};
 ghost use Rattle.edf_refusal.specs.Refusals.{ClaimReadStops};
+ghost use Rattle.edf_refusal.specs.declared.refusal.Refusal.TheVariants as refusals;
 ghost use Rattle.edfclaim.specs.Opening.{ClaimTextStops, OpeningStops};
 
+use crate::signs::{Signs, Watched};
 use edf_claim::claim::MOST_BYTES;
 use edf_fields::digest_source::DigestSource;
 use edf_fields::source::{ReadSource, Source, fill};
 use edf_refusal::refusal::{Refusal, Role};
 use std::alloc::Global;
 use std::fs;
-use std::io::{BufReader, ErrorKind};
+use std::io::{BufReader, ErrorKind, Read};
 use std::rt::Files;
+use std::time::Clock;
 
 /// How many bytes are read ahead of what is asked for. A read that asks for as many or more goes past
 /// the buffer where this is empty.
@@ -38,19 +41,17 @@ fn open<R: Files>(rt: &R, path: &str, role: Role) -> Result<R::File, Refusal>
     }
 }
 
-/// Opens a recording as a source, whose small reads are taken from larger ones of so many bytes.
+/// A file as a source, whose small reads are taken from larger ones of so many bytes.
 ///
-/// The error is `CannotOpen`, or want of memory.
-fn recording_ahead<R: Files + AllocGlobal>(
-    rt: &R,
-    path: &str,
-    role: Role,
+/// The error is want of memory.
+fn source_over<F: Read + Drop>(
+    alloc: Global,
+    file: F,
     ahead: usize,
-) -> Result<ReadSource<BufReader<R::File>>, Refusal>
-    ensures stop { IfErr result (OpeningStops role) }
+) -> Result<ReadSource<BufReader<F>>, Refusal>
+    ensures stop { IfErr result (λ refusal. refusal ≡ refusals.Memory) }
 {
-    let file = open(rt, path, role)?;
-    match BufReader::with_capacity(rt.alloc(), ahead, file) {
+    match BufReader::with_capacity(alloc, ahead, file) {
         Ok(reader) => Ok(ReadSource::new(reader)),
         Err(_) => Err(Refusal::Memory),
     }
@@ -66,23 +67,55 @@ pub fn recording<R: Files + AllocGlobal>(
 ) -> Result<ReadSource<BufReader<R::File>>, Refusal>
     ensures stop { IfErr result (OpeningStops role) }
 {
-    recording_ahead(rt, path, role, READ_AHEAD)
+    let file = open(rt, path, role)?;
+    source_over(rt.alloc(), file, READ_AHEAD)
+}
+
+/// Opens a recording as a source of which it is shown how much is read, with small reads taken from larger ones of so many
+/// bytes.
+///
+/// The error is `CannotOpen`, or want of memory.
+fn watched_ahead<'a, R: Files + Eprint + Clock + AllocGlobal>(
+    signs: &'a Signs<'a, R>,
+    path: &str,
+    role: Role,
+    ahead: usize,
+) -> Result<Watched<'a, R, ReadSource<BufReader<R::File>>>, Refusal>
+    ensures stop { IfErr result (OpeningStops role) }
+{
+    let file = open(signs.rt(), path, role)?;
+    signs.opened(&file);
+    let source = source_over(signs.rt().alloc(), file, ahead)?;
+    Ok(Watched::new(source, signs))
+}
+
+/// The same as `recording`, by a source of which it is shown how much is read.
+///
+/// The error is `CannotOpen`, or want of memory.
+pub fn watched<'a, R: Files + Eprint + Clock + AllocGlobal>(
+    signs: &'a Signs<'a, R>,
+    path: &str,
+    role: Role,
+) -> Result<Watched<'a, R, ReadSource<BufReader<R::File>>>, Refusal>
+    ensures stop { IfErr result (OpeningStops role) }
+{
+    watched_ahead(signs, path, role, READ_AHEAD)
 }
 
 /// Opens recordings as sources, one after the other.
 ///
 /// The error is `CannotOpen`, or want of memory.
-pub fn recordings<R: Files + AllocGlobal>(
-    rt: &R,
+pub fn recordings<'a, R: Files + Eprint + Clock + AllocGlobal>(
+    signs: &'a Signs<'a, R>,
     paths: &[&str],
     role: Role,
-) -> Result<Vec<ReadSource<BufReader<R::File>>>, Refusal>
+) -> Result<Vec<Watched<'a, R, ReadSource<BufReader<R::File>>>>, Refusal>
     ensures each { IfOk result (λ sources. length sources.items ≡ length paths.now) }
     ensures stop { IfErr result (OpeningStops role) }
 {
-    let mut sources = Vec::with_capacity(rt.alloc(), paths.len())?;
+    let mut sources = Vec::with_capacity(signs.rt().alloc(), paths.len())?;
     for path in paths {
-        sources.push(recording_ahead(rt, path, role, READ_AHEAD_OF_SEVERAL)?)?;
+        sources.push(watched_ahead(signs, path, role, READ_AHEAD_OF_SEVERAL)?)?;
     }
     Ok(sources)
 }
@@ -90,17 +123,17 @@ pub fn recordings<R: Files + AllocGlobal>(
 /// The same as `recordings`, by sources that digest what they give.
 ///
 /// The error is `CannotOpen`, or want of memory.
-pub fn digested_recordings<R: Files + AllocGlobal>(
-    rt: &R,
+pub fn digested_recordings<'a, R: Files + Eprint + Clock + AllocGlobal>(
+    signs: &'a Signs<'a, R>,
     paths: &[&str],
     role: Role,
-) -> Result<Vec<DigestSource<ReadSource<BufReader<R::File>>>>, Refusal>
+) -> Result<Vec<DigestSource<Watched<'a, R, ReadSource<BufReader<R::File>>>>>, Refusal>
     ensures each { IfOk result (λ sources. length sources.items ≡ length paths.now) }
     ensures stop { IfErr result (OpeningStops role) }
 {
-    let mut sources = Vec::with_capacity(rt.alloc(), paths.len())?;
+    let mut sources = Vec::with_capacity(signs.rt().alloc(), paths.len())?;
     for path in paths {
-        let source = recording_ahead(rt, path, role, READ_AHEAD_OF_SEVERAL)?;
+        let source = watched_ahead(signs, path, role, READ_AHEAD_OF_SEVERAL)?;
         sources.push(DigestSource::new(source))?;
     }
     Ok(sources)

@@ -2,7 +2,8 @@
 
 ghost use Rattle.std.specs.Prelude.{[], false};
 
-use crate::files::recording;
+use crate::files::watched;
+use crate::signs::{Signs, Watched};
 use edf_fields::source::ReadSource;
 use edf_refusal::refusal::Refusal;
 use edf_refusal::side::Side;
@@ -10,43 +11,48 @@ use edf_refusal::stop::CheckStop;
 use edf_trial::recordings::Recordings;
 use std::io::BufReader;
 use std::rt::Files;
+use std::time::Clock;
 
 /// An original and its export, by their paths.
 #[derive(Drop)]
 pub struct FilesAgain<'a, R> {
-    rt: &'a R,
+    signs: &'a Signs<'a, R>,
     original: &'a str,
     export: &'a str,
 }
 
 /// Opens a recording once more. One that can't be opened any more is one that can't be read.
-fn open_again<R: Files + AllocGlobal>(
-    rt: &R,
+fn open_again<'a, R: Files + Eprint + Clock + AllocGlobal>(
+    signs: &'a Signs<'a, R>,
     path: &str,
     side: Side,
-) -> Result<ReadSource<BufReader<R::File>>, CheckStop> {
-    match recording(rt, path, side.into()) {
+) -> Result<Watched<'a, R, ReadSource<BufReader<R::File>>>, CheckStop> {
+    match watched(signs, path, side.into()) {
         Ok(source) => Ok(source),
         Err(Refusal::Memory) => Err(CheckStop::OutOfMemory),
         Err(_) => Err(CheckStop::ReadFailed(side)),
     }
 }
 
-impl<'a, R: Files + AllocGlobal> FilesAgain<'a, R> {
+impl<'a, R: Files + Eprint + Clock + AllocGlobal> FilesAgain<'a, R> {
     /// The recordings at these paths.
-    pub fn new(rt: &'a R, original: &'a str, export: &'a str) -> FilesAgain<'a, R> {
+    pub fn new(
+        signs: &'a Signs<'a, R>,
+        original: &'a str,
+        export: &'a str,
+    ) -> FilesAgain<'a, R> {
         FilesAgain {
-            rt,
+            signs,
             original,
             export,
         }
     }
 }
 
-impl<'a, R: Files + AllocGlobal> Recordings for FilesAgain<'a, R> {
-    type Original = ReadSource<BufReader<R::File>>;
+impl<'a, R: Files + Eprint + Clock + AllocGlobal> Recordings for FilesAgain<'a, R> {
+    type Original = Watched<'a, R, ReadSource<BufReader<R::File>>>;
 
-    type Export = ReadSource<BufReader<R::File>>;
+    type Export = Watched<'a, R, ReadSource<BufReader<R::File>>>;
 
     ghost original = { λ _. [] };
 
@@ -54,11 +60,11 @@ impl<'a, R: Files + AllocGlobal> Recordings for FilesAgain<'a, R> {
 
     ghost are_honest = { λ _. false };
 
-    fn open_original(&self) -> Result<ReadSource<BufReader<R::File>>, CheckStop> {
-        open_again(self.rt, self.original, Side::Original)
+    fn open_original(&self) -> Result<Watched<'a, R, ReadSource<BufReader<R::File>>>, CheckStop> {
+        open_again(self.signs, self.original, Side::Original)
     }
 
-    fn open_export(&self) -> Result<ReadSource<BufReader<R::File>>, CheckStop> {
-        open_again(self.rt, self.export, Side::Export)
+    fn open_export(&self) -> Result<Watched<'a, R, ReadSource<BufReader<R::File>>>, CheckStop> {
+        open_again(self.signs, self.export, Side::Export)
     }
 }

@@ -11,6 +11,7 @@ mod files;
 mod files_again;
 mod hints;
 mod perform;
+mod signs;
 
 ghost use Rattle.edf_job.specs.Jobs.{HasExports};
 
@@ -20,7 +21,9 @@ use edf_job::job::Job;
 use edf_refusal::refusal::Refusal;
 use edf_refusal::status;
 use std::process::ExitCode;
+use std::io::IsTerminal;
 use std::rt::{Env, Files};
+use std::time::Clock;
 use std::{env, io};
 
 /// Writes a line to standard error, and gives the status of a refusal.
@@ -57,11 +60,15 @@ fn hint(rt: &(impl Files + Eprint + AllocGlobal), asked: Job<'_>, refusal: &Refu
     }
 }
 
-/// Does a job, and gives the status.
-fn answer_job(rt: &(impl Files + Print + Eprint + AllocGlobal), asked: Job<'_>) -> u8
+/// Does a job, and gives the status. Where standard error is a terminal, how much is read is shown there meanwhile.
+fn answer_job(
+    rt: &(impl Files + Print + Eprint + Clock + AllocGlobal),
+    asked: Job<'_>,
+    is_terminal: bool,
+) -> u8
     requires { HasExports asked }
 {
-    let ended = perform::perform(rt, asked);
+    let ended = perform::perform(rt, asked, is_terminal);
     if let Err(refusal) = &ended {
         refuse(rt, refusal.text());
         hint(rt, asked, refusal);
@@ -70,9 +77,13 @@ fn answer_job(rt: &(impl Files + Print + Eprint + AllocGlobal), asked: Job<'_>) 
 }
 
 /// Does what the words say, of which the first is the program's name, and gives the status.
-fn answer(rt: &(impl Files + Print + Eprint + AllocGlobal), words: &[&str]) -> u8 {
+fn answer(
+    rt: &(impl Files + Print + Eprint + Clock + AllocGlobal),
+    words: &[&str],
+    is_terminal: bool,
+) -> u8 {
     match command::job(rt.alloc(), words) {
-        Ok(Some(asked)) => answer_job(rt, asked),
+        Ok(Some(asked)) => answer_job(rt, asked, is_terminal),
         Ok(None) => refuse(rt, "edfclaim: not a command"),
         Err(fault) => answer_fault(rt, &fault),
     }
@@ -85,7 +96,10 @@ fn words_of(rt: &(impl Env + AllocGlobal)) -> io::Result<Vec<String>> {
 }
 
 /// Does what the command line says, and gives the status.
-fn run(rt: &(impl Env + Files + Print + Eprint + AllocGlobal)) -> u8 {
+fn run(
+    rt: &(impl Env + Files + Print + Eprint + Clock + AllocGlobal),
+    is_terminal: bool,
+) -> u8 {
     let words = match words_of(rt) {
         Ok(words) => words,
         Err(fault) if fault.kind() == io::ErrorKind::OutOfMemory => {
@@ -98,11 +112,12 @@ fn run(rt: &(impl Env + Files + Print + Eprint + AllocGlobal)) -> u8 {
         .map(|word| word.as_str())
         .collect::<Vec<&str>>(rt.alloc())
     {
-        Ok(texts) => answer(rt, &texts),
+        Ok(texts) => answer(rt, &texts, is_terminal),
         Err(_) => refuse(rt, Refusal::Memory.text()),
     }
 }
 
 fn main(rt: HostRuntime) -> ExitCode {
-    ExitCode::from(run(&rt))
+    let is_terminal = rt.stderr().is_terminal();
+    ExitCode::from(run(&rt, is_terminal))
 }

@@ -5,8 +5,9 @@ ghost use Rattle.edf_job.specs.Jobs.{HasExports};
 ghost use Rattle.edf_refusal.specs.declared.refusal.Refusal.TheVariants as refusals;
 ghost use Rattle.edfclaim.specs.Opening.{CheckIsRefused, DraftIsRefused, PartsAreRefused, ReportIsRefused};
 
-use crate::files::{claim_text, digested_recordings, recording, recordings};
+use crate::files::{claim_text, digested_recordings, recording, recordings, watched};
 use crate::files_again::FilesAgain;
+use crate::signs::{Signs, Wiped};
 use edf_check::vectors::vectors_to;
 use edf_check::{run, run_parts};
 use edf_command_line::VERSION;
@@ -24,6 +25,7 @@ use edf_report::show::show_to;
 use edf_verdict::outcome::Outcome;
 use std::io;
 use std::rt::Files;
+use std::time::Clock;
 
 /// The most exports that are checked together.
 const MOST_EXPORTS: usize = 64;
@@ -32,8 +34,8 @@ const MOST_EXPORTS: usize = 64;
 ///
 /// The claim is opened and read first, then the original is opened, then the export; the text of the
 /// claim is judged behind that.
-fn check<R: Files + AllocGlobal, K: Sink>(
-    rt: &R,
+fn check<'a, R: Files + Eprint + Clock + AllocGlobal, K: Sink>(
+    signs: &'a Signs<'a, R>,
     original: &str,
     export: &str,
     claim: &str,
@@ -41,18 +43,18 @@ fn check<R: Files + AllocGlobal, K: Sink>(
 ) -> Result<Outcome, Refusal>
     ensures stop { IfErr result CheckIsRefused }
 {
-    let text = claim_text(rt, claim)?;
-    let mut first = recording(rt, original, Role::Original)?;
-    let mut second = recording(rt, export, Role::Export)?;
-    Ok(run::run(rt.alloc(), &mut first, &mut second, &text, sink)?)
+    let text = claim_text(signs.rt(), claim)?;
+    let mut first = watched(signs, original, Role::Original)?;
+    let mut second = watched(signs, export, Role::Export)?;
+    Ok(run::run(signs.rt().alloc(), &mut first, &mut second, &text, sink)?)
 }
 
 /// Checks exports, in the order of time, against their one original under a claim.
 ///
 /// More than 64 exports are refused before a file is opened. Else the claim is opened and read first, then the
 /// original is opened, then the exports in their order; the text of the claim is judged behind that.
-fn check_parts<R: Files + AllocGlobal, K: Sink>(
-    rt: &R,
+fn check_parts<'a, R: Files + Eprint + Clock + AllocGlobal, K: Sink>(
+    signs: &'a Signs<'a, R>,
     original: &str,
     claim: &str,
     exports: &[&str],
@@ -65,15 +67,15 @@ fn check_parts<R: Files + AllocGlobal, K: Sink>(
     if exports.len() > MOST_EXPORTS {
         return Err(Refusal::TooManyExports);
     }
-    let text = claim_text(rt, claim)?;
-    let mut first = recording(rt, original, Role::Original)?;
-    let mut parts = recordings(rt, exports, Role::Export)?;
-    Ok(run_parts::run_parts(rt.alloc(), &mut first, &mut parts, &text, sink)?)
+    let text = claim_text(signs.rt(), claim)?;
+    let mut first = watched(signs, original, Role::Original)?;
+    let mut parts = recordings(signs, exports, Role::Export)?;
+    Ok(run_parts::run_parts(signs.rt().alloc(), &mut first, &mut parts, &text, sink)?)
 }
 
 /// The same as `check`, with a receipt for its answer.
-fn receipt<R: Files + AllocGlobal, K: Sink>(
-    rt: &R,
+fn receipt<'a, R: Files + Eprint + Clock + AllocGlobal, K: Sink>(
+    signs: &'a Signs<'a, R>,
     original: &str,
     export: &str,
     claim: &str,
@@ -81,15 +83,15 @@ fn receipt<R: Files + AllocGlobal, K: Sink>(
 ) -> Result<Outcome, Refusal>
     ensures stop { IfErr result CheckIsRefused }
 {
-    let text = claim_text(rt, claim)?;
-    let mut first = DigestSource::new(recording(rt, original, Role::Original)?);
-    let mut second = DigestSource::new(recording(rt, export, Role::Export)?);
-    Ok(receipt_to(rt.alloc(), VERSION, &mut first, &mut second, &text, sink)?)
+    let text = claim_text(signs.rt(), claim)?;
+    let mut first = DigestSource::new(watched(signs, original, Role::Original)?);
+    let mut second = DigestSource::new(watched(signs, export, Role::Export)?);
+    Ok(receipt_to(signs.rt().alloc(), VERSION, &mut first, &mut second, &text, sink)?)
 }
 
 /// The same as `check_parts`, with a receipt for its answer.
-fn receipt_parts<R: Files + AllocGlobal, K: Sink>(
-    rt: &R,
+fn receipt_parts<'a, R: Files + Eprint + Clock + AllocGlobal, K: Sink>(
+    signs: &'a Signs<'a, R>,
     original: &str,
     claim: &str,
     exports: &[&str],
@@ -102,32 +104,32 @@ fn receipt_parts<R: Files + AllocGlobal, K: Sink>(
     if exports.len() > MOST_EXPORTS {
         return Err(Refusal::TooManyExports);
     }
-    let text = claim_text(rt, claim)?;
-    let mut first = DigestSource::new(recording(rt, original, Role::Original)?);
-    let mut parts = digested_recordings(rt, exports, Role::Export)?;
-    Ok(receipt_parts_to(rt.alloc(), VERSION, &mut first, &mut parts, &text, sink)?)
+    let text = claim_text(signs.rt(), claim)?;
+    let mut first = DigestSource::new(watched(signs, original, Role::Original)?);
+    let mut parts = digested_recordings(signs, exports, Role::Export)?;
+    Ok(receipt_parts_to(signs.rt().alloc(), VERSION, &mut first, &mut parts, &text, sink)?)
 }
 
 /// Drafts the claim by which a recording is the export of another.
 ///
 /// The original is opened first, then the export. The draft is tried on both, which are opened anew for that.
-fn draft<R: Files + AllocGlobal, K: Sink>(
-    rt: &R,
+fn draft<'a, R: Files + Eprint + Clock + AllocGlobal, K: Sink>(
+    signs: &'a Signs<'a, R>,
     original: &str,
     export: &str,
     sink: &mut K,
 ) -> Result<Outcome, Refusal>
     ensures stop { IfErr result DraftIsRefused }
 {
-    let mut first = recording(rt, original, Role::Original)?;
-    let mut second = recording(rt, export, Role::Export)?;
-    let again = FilesAgain::new(rt, original, export);
-    Ok(draft_to(rt.alloc(), &mut first, &mut second, &again, sink)?)
+    let mut first = watched(signs, original, Role::Original)?;
+    let mut second = watched(signs, export, Role::Export)?;
+    let again = FilesAgain::new(signs, original, export);
+    Ok(draft_to(signs.rt().alloc(), &mut first, &mut second, &again, sink)?)
 }
 
 /// The same as `check`, with sentences behind its line, for which both recordings are opened anew.
-fn explain<R: Files + AllocGlobal, K: Sink>(
-    rt: &R,
+fn explain<'a, R: Files + Eprint + Clock + AllocGlobal, K: Sink>(
+    signs: &'a Signs<'a, R>,
     original: &str,
     export: &str,
     claim: &str,
@@ -135,23 +137,23 @@ fn explain<R: Files + AllocGlobal, K: Sink>(
 ) -> Result<Outcome, Refusal>
     ensures stop { IfErr result CheckIsRefused }
 {
-    let text = claim_text(rt, claim)?;
-    let mut first = recording(rt, original, Role::Original)?;
-    let mut second = recording(rt, export, Role::Export)?;
-    let again = FilesAgain::new(rt, original, export);
-    Ok(run_explained(rt.alloc(), &mut first, &mut second, &again, &text, sink)?)
+    let text = claim_text(signs.rt(), claim)?;
+    let mut first = watched(signs, original, Role::Original)?;
+    let mut second = watched(signs, export, Role::Export)?;
+    let again = FilesAgain::new(signs, original, export);
+    Ok(run_explained(signs.rt().alloc(), &mut first, &mut second, &again, &text, sink)?)
 }
 
 /// Says whether a file conforms.
-fn conform<R: Files + AllocGlobal, K: Sink>(
-    rt: &R,
+fn conform<'a, R: Files + Eprint + Clock + AllocGlobal, K: Sink>(
+    signs: &'a Signs<'a, R>,
     path: &str,
     sink: &mut K,
 ) -> Result<Outcome, Refusal>
     ensures stop { IfErr result ReportIsRefused }
 {
-    let mut source = recording(rt, path, Role::File)?;
-    Ok(conform_to(rt.alloc(), &mut source, sink)?)
+    let mut source = watched(signs, path, Role::File)?;
+    Ok(conform_to(signs.rt().alloc(), &mut source, sink)?)
 }
 
 /// Shows what the header of a file says.
@@ -179,8 +181,8 @@ fn notes<R: Files + AllocGlobal, K: Sink>(
 }
 
 /// Does a job, and writes its text to the sink.
-fn report<R: Files + AllocGlobal, K: Sink>(
-    rt: &R,
+fn report<'a, R: Files + Eprint + Clock + AllocGlobal, K: Sink>(
+    signs: &'a Signs<'a, R>,
     job: Job<'_>,
     sink: &mut K,
 ) -> Result<Outcome, Refusal>
@@ -191,41 +193,49 @@ fn report<R: Files + AllocGlobal, K: Sink>(
             original,
             export,
             claim,
-        } => check(rt, original, export, claim, sink),
+        } => check(signs, original, export, claim, sink),
         Job::CheckParts {
             original,
             claim,
             exports,
-        } => check_parts(rt, original, claim, exports, sink),
+        } => check_parts(signs, original, claim, exports, sink),
         Job::Receipt {
             original,
             export,
             claim,
-        } => receipt(rt, original, export, claim, sink),
+        } => receipt(signs, original, export, claim, sink),
         Job::ReceiptParts {
             original,
             claim,
             exports,
-        } => receipt_parts(rt, original, claim, exports, sink),
-        Job::Draft { original, export } => draft(rt, original, export, sink),
+        } => receipt_parts(signs, original, claim, exports, sink),
+        Job::Draft { original, export } => draft(signs, original, export, sink),
         Job::Explain {
             original,
             export,
             claim,
-        } => explain(rt, original, export, claim, sink),
-        Job::Conform(path) => conform(rt, path, sink),
-        Job::Show(path) => show(rt, path, sink),
-        Job::Notes(path) => notes(rt, path, sink),
-        Job::Vectors => Ok(vectors_to(rt.alloc(), sink)?),
+        } => explain(signs, original, export, claim, sink),
+        Job::Conform(path) => conform(signs, path, sink),
+        Job::Show(path) => show(signs.rt(), path, sink),
+        Job::Notes(path) => notes(signs.rt(), path, sink),
+        Job::Vectors => Ok(vectors_to(signs.rt().alloc(), sink)?),
     }
 }
 
-/// Does a job, and writes its text to standard output; a failed flush is a failed write.
-pub fn perform<R: Files + Print + AllocGlobal>(rt: &R, job: Job<'_>) -> Result<Outcome, Refusal>
+/// Does a job, and writes its text to standard output; a failed flush is a failed write. Where standard error is a terminal, it is
+/// shown there meanwhile how much is read, and nothing of that is left.
+pub fn perform<R: Files + Print + Eprint + Clock + AllocGlobal>(
+    rt: &R,
+    job: Job<'_>,
+    is_terminal: bool,
+) -> Result<Outcome, Refusal>
     requires { HasExports job }
 {
-    let mut sink = WriteSink::new(io::writer(rt));
-    let outcome = report(rt, job, &mut sink)?;
-    sink.flush()?;
+    let signs = Signs::new(rt, is_terminal);
+    let mut sink = Wiped::new(WriteSink::new(io::writer(rt)), &signs);
+    let ended = report(&signs, job, &mut sink);
+    signs.wipe();
+    let outcome = ended?;
+    sink.inner.flush()?;
     Ok(outcome)
 }
