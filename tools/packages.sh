@@ -141,12 +141,12 @@ look_at_deb() {
 
 if command -v dpkg-deb >/dev/null; then
     name=edfclaim_${version}_amd64.deb
-    pack plain "$name"
-    look_at_deb plain "$name"
+    pack deb "$name"
+    look_at_deb deb "$name"
     if command -v dh >/dev/null; then
-        pack deb "$name"
-        look_at_deb deb "$name"
-        judge "$(status_of diff -r "$work/plain" "$work/deb")" 0 "deb and plain: the files: $(cat "$work/said")"
+        pack plain "$name"
+        look_at_deb plain "$name"
+        judge "$(status_of diff -r "$work/deb" "$work/plain")" 0 "deb and plain: the files: $(cat "$work/said")"
     else
         echo "no debhelper: the Debian package is packed without it"
     fi
