@@ -91,7 +91,7 @@ def main():
     else:
         root = TOP
         listed = subprocess.run(["git", "ls-files", "-z", "*.md"], cwd=TOP, capture_output=True, text=True, check=True).stdout
-        pages = [root / name for name in listed.split("\0") if name]
+        pages = [root / name for name in listed.split("\0") if name and (root / name).is_file()]
     return 0 if look(root, pages) else 1
 
 
