@@ -13,17 +13,18 @@ run:
 build:
 	@tools/prove.py build
 
-# Installs the program with its manual page, the users' pages, and what helps those who script. Where it stands there,
-# and is that of the sources as they are, it is installed as it stands.
+# Installs the program with its manual pages, the users' pages, the licences, and what helps those who script. Where it
+# stands there, and is that of the sources as they are, it is installed as it stands.
 install:
 	@tools/prove.py current || tools/prove.py build
 	install -d "$(DESTDIR)$(PREFIX)/bin" "$(DESTDIR)$(PREFIX)/share/man/man1" "$(DESTDIR)$(PREFIX)/share/doc/edfclaim"
 	install -m 755 $(PROGRAM) "$(DESTDIR)$(PREFIX)/bin/edfclaim"
-	install -m 644 docs/edfclaim.1 "$(DESTDIR)$(PREFIX)/share/man/man1/edfclaim.1"
+	for name in edfclaim edfclaim-look; do install -m 644 "docs/$$name.1" "$(DESTDIR)$(PREFIX)/share/man/man1/$$name.1" || exit 1; done
 	install -d "$(DESTDIR)$(PREFIX)/lib" "$(DESTDIR)$(PREFIX)/share/bash-completion/completions"
 	install -m 755 extras/edfclaim-look "$(DESTDIR)$(PREFIX)/bin/edfclaim-look"
 	install -m 644 extras/edfclaim.py "$(DESTDIR)$(PREFIX)/lib/edfclaim.py"
 	install -m 644 extras/edfclaim.bash-completion "$(DESTDIR)$(PREFIX)/share/bash-completion/completions/edfclaim"
+	install -m 644 LICENSE-MIT LICENSE-APACHE THIRD-PARTY.md "$(DESTDIR)$(PREFIX)/share/doc/edfclaim"
 	for page in $(PAGES); do install -m 644 "docs/$$page" "$(DESTDIR)$(PREFIX)/share/doc/edfclaim/$$page" || exit 1; done
 
 # Packs the program, in the folder out: as a Debian package, and as a tarball with its digest.

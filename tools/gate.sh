@@ -1,11 +1,12 @@
 #!/usr/bin/env bash
-# The whole gate. First `rt ci`: all proofs, tests, must-fail edits and runs; what it passed earlier on this
-# machine isn't proved again as long as nothing changes that it stands on. Then the scripts: the table of wrong
-# bodies, what the crates cite of one another's proofs, whether the document of the headline is whole, and the
-# program that was built, on command lines and files that it refuses, on the example night, its receipts beside
-# sha256sum, on the tables of cases and of claims, its drafts of claims, its explanations of checks, and with each growth
-# of memory, each read and each write failing in turn; then what stands around the program: the completions, the packages,
-# the module for scripts, the page of a No, and many nights; and the instructions of the benchmark on short nights.
+# The whole gate. First `rt ci`: all proofs, tests, must-fail edits and runs; what it passed earlier on this machine
+# isn't proved again as long as nothing changes that it stands on. Then the scripts: the table of wrong bodies, what the
+# crates cite of one another's proofs, whether the document of the headline is whole, what is linked in with its
+# licences, and the program that was built, on command lines and files that it refuses, on the example night and the
+# lines of docs/START.md, its receipts beside sha256sum, on the tables of cases and of claims, its drafts of claims, its
+# explanations of checks, and with each growth of memory, each read and each write failing in turn; then what stands
+# around the program: the completions, the packages, the module for scripts, the page of a No, and many nights; and the
+# instructions of the benchmark on short nights.
 #
 # usage: tools/gate.sh
 #
@@ -81,9 +82,11 @@ counted() {
 counted tools/wrong_bodies.py --check
 counted tools/imports.sh
 counted tools/headline.py --check
+counted tools/third_party.py --check
 counted tools/version.sh "$program"
 counted tools/statuses.sh "$program"
 counted tools/night.sh "$program"
+counted tools/officer.sh "$program"
 counted tools/receipts.sh "$program"
 counted tools/cases.sh "$program"
 counted tools/claims.py "$program"

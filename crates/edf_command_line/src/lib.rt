@@ -4,4 +4,4 @@
 pub mod command;
 
 /// The version of the program, as `edfclaim --version` and its manual page say it.
-pub const VERSION: &str = "0.1.0";
+pub const VERSION: &str = "0.2.0";

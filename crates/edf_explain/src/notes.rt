@@ -157,17 +157,17 @@ pub(crate) enum Whose<'a> {
 
 /// Takes in the annotations of a data record while it is judged.
 #[derive(Drop)]
-pub(crate) struct NoteTaker<'a> {
+pub(crate) struct NoteTaker<'n, 'c> {
     alloc: Global,
-    notes: &'a mut Notes,
-    whose: Whose<'a>,
+    notes: &'n mut Notes,
+    whose: Whose<'c>,
     /// Whether there was memory for all of them.
     is_whole: bool,
 }
 
-impl<'a> NoteTaker<'a> {
+impl<'n, 'c> NoteTaker<'n, 'c> {
     /// Takes in annotations of a file.
-    pub(crate) fn new(alloc: Global, notes: &'a mut Notes, whose: Whose<'a>) -> NoteTaker<'a> {
+    pub(crate) fn new(alloc: Global, notes: &'n mut Notes, whose: Whose<'c>) -> NoteTaker<'n, 'c> {
         NoteTaker {
             alloc,
             notes,
@@ -194,7 +194,7 @@ impl<'a> NoteTaker<'a> {
     }
 }
 
-impl<'a> NoteKeeper for NoteTaker<'a> {
+impl<'n, 'c> NoteKeeper for NoteTaker<'n, 'c> {
     ghost got = { λ _ _ _. Unit {0} };
 
     fn wants(&self) -> bool {
