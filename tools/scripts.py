@@ -375,10 +375,10 @@ def wanted_header():
 def try_headers(counts, program):
     """The headers and the annotations of the night's files, of one with odd texts, and of files with faults."""
     counts.judge(edfclaim.show("original.edf", program=program) == wanted_header(), "show: another header than the night's")
-    for path in sorted(pathlib.Path(".").glob("*.edf")):
-        header, lines = edfclaim.show(path, program=program), run_alone(program, "show", str(path))[1]
+    for path in sorted(path.name for path in NIGHT.glob("*.edf")):
+        header, lines = edfclaim.show(path, program=program), run_alone(program, "show", path)[1]
         counts.judge(list(written_header(header)) == lines, f"show {path}: {header}")
-        found, lines = edfclaim.notes(path, program=program), run_alone(program, "notes", str(path))[1]
+        found, lines = edfclaim.notes(path, program=program), run_alone(program, "notes", path)[1]
         counts.judge([written_note(note) for note in found] == lines, f"notes {path}: {found}")
     odd = '"a\\b" \t \u2028 \x85 \u00e4 X\r\n'
     lanes = [*LANES[:2], b"+2\x14\x14\0-7.25\x15\x30\x14" + odd.encode() + b"\x14\0", LANES[3]]
