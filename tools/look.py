@@ -571,6 +571,39 @@ def try_far(counts, program):
     counts.judge(picture.bars[0] == picture.bars[1] == bars and not picture.remarks, f"{picture.bars}, {picture.remarks}")
 
 
+# a night of 8 hours with two gaps, the second of which is too narrow to be seen
+EVENING, NIGHT, MORNING = (0, 3_600), (3_960, 20_000), (20_001, 28_800)
+STAGES = [at for first, last in (EVENING, NIGHT, MORNING) for at in range(0, 28_800, 30) if first <= at < last]
+HOURS = made.Made(
+    [EVENING, NIGHT, MORNING], {"ECG": [at % 500 for at in range(57_600)]}, [(at * PS, 30 * PS, "Sleep stage N2") for at in STAGES],
+)
+
+
+def try_hours(counts, program):
+    """A night of 8 hours with gaps: a Yes, an export that was cut a minute later, and one that is moved by 100 days more."""
+    files = ["made-original.edf", "made-export.edf", "made.toml"]
+    pathlib.Path(files[0]).write_bytes(HOURS.bytes())
+    pathlib.Path(files[2]).write_text(made.Claimed(["ECG"], [(1_800, 27_000)]).text(), encoding="utf-8")
+    yes = "YES channels 1 samples 49678 annotations 828"
+    for first, shift, line in [
+        (1_800, 0, yes), (1_860, 0, f'NO 10 sample "ECG" at {1_800 * PS} ps missing'),
+        (1_800, -100 * DAY, f'NO 10 sample "ECG" at {(1_800 - 100 * DAY) * PS} ps extra'),
+    ]:
+        parts = [(first, 3_600), NIGHT, (20_001, first + 25_200)]
+        kept = [note for note in HOURS.notes if first * PS <= note[0] < (first + 25_200) * PS]
+        pathlib.Path(files[1]).write_bytes(HOURS.but(stretches=parts, notes=kept, shift=shift).bytes())
+        ran, picture = run(program, *files), Picture(files, line)
+        counts.judge(ran == (line != yes, f"{line}\n", ""), f"{ran}; wanted: {line}")
+        moved = [(begin + shift, end + shift) for begin, end in parts]
+        right = picture.bars[:3] == [[EVENING, NIGHT, MORNING], moved, [(1_800, 27_000)]]
+        counts.judge(right and picture.times("narrow gap") == [20_000], f"{line}: {picture.bars}, {picture.lines[-1].keys()}")
+        narrow = [bar for bar in (moved[1], NIGHT) if picture.place_of(bar[1]) - picture.place_of(bar[0]) < 100]
+        counts.judge(not narrow, f"{line}: of less than 100 dots are the bars {narrow}")
+        times = sorted(onset // PS + shift for onset, _, _ in kept)
+        counts.judge(sorted(picture.times("annotation of the export")) == times, f"{line}: the annotations of the export")
+        try_ticks(counts, line, picture, made.START)
+
+
 def try_title(counts):
     """A line that is long: all lines of the title are within the picture, and the page has the whole line."""
     line = f'NO 11 annotation extra at 72500000000000 ps duration none text "{"Asks for water. " * 40}"'
@@ -676,6 +709,7 @@ def main():
         try_moved(counts, program)
         try_cut_off(counts, program)
         try_far(counts, program)
+        try_hours(counts, program)
         try_title(counts)
         try_odd(counts, program)
         try_explain(counts, program)
