@@ -5,12 +5,15 @@
         print(verdict.fields["samples"])
 
 Where there is no answer (a status 2, say, or a program that was ended), each call raises NoAnswer, and where the
-program says what it doesn't write, BadLine. Neither of the two is a No.
+program says what it doesn't write, BadLine. Neither of the two is a No. Where the header or the annotations of a file
+with a fault are asked for, Faulty is raised.
 """
 
 from __future__ import annotations
 
 import dataclasses
+import datetime
+import decimal
 import os
 import re
 import subprocess
@@ -34,6 +37,8 @@ COUNTS = f"channels (?P<channels>{COUNT}) samples (?P<samples>{COUNT}) annotatio
 LABEL, TEXT = QUOTED.replace('"(', '"(?P<label>', 1), QUOTED.replace('"(', '"(?P<text>', 1)
 VALUES = f"original (?P<original>{SIGNED}) export (?P<export>{SIGNED})"
 DURATION = f"(?:none|(?P<duration_ps>{COUNT}) ps)"
+DAY, WORD = "[0-9]{2}-(?:JAN|FEB|MAR|APR|MAY|JUN|JUL|AUG|SEP|OCT|NOV|DEC)-[0-9]{4}", "[!-~]+"
+NOTE = f"(?P<at_ps>{SIGNED}) ps duration {DURATION} text {TEXT}"
 
 # The number of each line, its kind, its words, and whether check-parts says in it which export it is about.
 LINES = [
@@ -47,9 +52,26 @@ LINES = [
     (8, "subfield", f"subfield (?P<subfield>{SUBFIELD}) (?P<how>not X|changed)", True),
     (9, "not clean", f"not clean (?:header|{LABEL})", True),
     (10, "sample", f"sample {LABEL} at (?P<at_ps>{SIGNED}) ps (?P<how>missing|extra|{VALUES})", False),
-    (11, "annotation", f"annotation (?P<how>missing|extra) at (?P<at_ps>{SIGNED}) ps duration {DURATION} text {TEXT}", False),
+    (11, "annotation", f"annotation (?P<how>missing|extra) at {NOTE}", False),
     (12, "starts early", "starts early", True),
 ]
+# The words in front of the lines of show, up to the channels: what stands behind each, and how often the line may stand.
+HEADER = [
+    ("kind", r"EDF\+[CD]", "once"), ("start", "[0-9]{4}-[0-9]{2}-[0-9]{2} [0-9]{2}:[0-9]{2}:[0-9]{2}", "once"),
+    ("records", COUNT, "once"), ("duration", f"{COUNT} ps", "once"),
+    ("code", WORD, "once"), ("sex", "[FMX]", "once"), ("birthdate", f"X|{DAY}", "once"), ("name", WORD, "once"),
+    ("patient-extra", WORD, "often"),
+    ("date", f"X|{DAY}", "once"), ("administration", WORD, "once"), ("technician", WORD, "once"),
+    ("equipment", WORD, "once"), ("recording-extra", WORD, "often"),
+]
+EXTREMES = f"physical (?P<low>{SIGNED}) (?P<high>{SIGNED}) digital (?P<least>{SIGNED}) (?P<most>{SIGNED})"
+CHANNEL = f"channel {LABEL} samples (?P<samples>{COUNT}) {EXTREMES}"
+CHANNEL += "".join(f" {name} {QUOTED.replace('(', f'(?P<{name}>', 1)}" for name in ("dimension", "transducer", "prefilter"))
+
+# What stands in front of the answer of the check with a draft, in its first line: with a Yes, and with a No.
+WITH_DRAFT = "# With this draft the check answers: "
+NOT_A_YES = "# NOT A YES: with this draft the check answers: "
+FAULT_OF = {"# the original": "original fault", "# the export": "export fault"}
 NUMBERS = {"channels", "samples", "annotations", "parts", "part", "records", "at_ps", "duration_ps", "original", "export"}
 
 
@@ -66,11 +88,12 @@ class BadLine(Exception):
 
 
 class Faulty(Exception):
-    """The annotations of a file with a fault were asked for; the fault, as conform answers it."""
+    """The header of a file or its annotations were asked for, and it has a fault; the fault, as conform answers it, and
+    the annotations of the data records before it."""
 
-    def __init__(self, verdict):
+    def __init__(self, verdict, notes=()):
         super().__init__(verdict.line)
-        self.verdict = verdict
+        self.verdict, self.notes = verdict, list(notes)
 
 
 @dataclasses.dataclass(frozen=True)
@@ -98,6 +121,59 @@ class Receipt:
     version: str
     files: dict
     verdict: Verdict
+
+
+@dataclasses.dataclass(frozen=True)
+class Explanation:
+    """The answer of a check, and the sentences behind it, each with its indent."""
+
+    verdict: Verdict
+    sentences: list
+
+
+@dataclasses.dataclass(frozen=True)
+class Draft:
+    """The draft of a claim. It is true where it is one."""
+
+    status: int  # 0 where it is a claim, 1 where there is none
+    kind: str  # "draft", "no draft", or which file has a fault: "original fault" or "export fault"
+    text: str  # all that was printed, with its line ends: of a draft the claim
+    verdict: Verdict | None  # what the check answers with the draft, if it was tried; of a fault the fault
+
+    @property
+    def first(self):
+        """The first line, without its end."""
+        return self.text.split("\n", 1)[0]
+
+    def __bool__(self):
+        return self.kind == "draft"
+
+
+@dataclasses.dataclass(frozen=True)
+class Channel:
+    """A channel as a header has it. The physical extremes are in units of the dimension."""
+
+    label: str
+    samples: int  # in a data record
+    physical_minimum: decimal.Decimal
+    physical_maximum: decimal.Decimal
+    digital_minimum: int
+    digital_maximum: int
+    dimension: str
+    transducer: str
+    prefilter: str
+
+
+@dataclasses.dataclass(frozen=True)
+class Header:
+    """What the header of a file says."""
+
+    kind: str  # "EDF+C", or "EDF+D" of a file that may have gaps
+    start: datetime.datetime
+    records: int
+    duration_ps: int  # of a data record
+    subfields: dict  # by the names that a claim has for them; "patient-extras" and "recording-extras" are lists of texts
+    channels: list  # in the order of the file, each a Channel
 
 
 @dataclasses.dataclass(frozen=True)
@@ -152,7 +228,8 @@ def parse(line, forms=CHECK):
 
 
 def run(*words, program=None):
-    """The status of the program on these words, 0 or 1, and the lines that it printed."""
+    """The status of the program on these words, 0 or 1, and the lines that it printed. Any other status is no answer, and
+    so is a word on standard error."""
     # a file whose name begins with - is written with its folder
     files = [b"./" + name if name.startswith(b"-") else name for name in map(os.fsencode, words[1:])]
     ran = subprocess.run([program or PROGRAM, words[0], *files], stdin=subprocess.DEVNULL, capture_output=True)
@@ -225,12 +302,109 @@ def receipt_parts(original, claim, exports, program=None):
     return read_receipt(*ran, names, CHECK_PARTS)
 
 
+def explain(original, export, claim, program=None):
+    """The verdict on an export, as that of check, and the sentences behind it."""
+    status, lines = run("explain", original, export, claim, program=program)
+    return Explanation(answer(status, lines[:1], CHECK)[0], lines[1:])
+
+
+def read_first(line):
+    """What the check answers with a draft by its first line, or none where it wasn't tried."""
+    if line.startswith("# NOT TRIED: "):
+        return None
+    if line.startswith(WITH_DRAFT):
+        verdict = parse(line[len(WITH_DRAFT):])
+        if verdict.yes:
+            return verdict
+    # behind a No stands a dot, and behind that one maybe more
+    end = len(line)
+    while line.startswith(NOT_A_YES) and (end := line.rfind(".", 0, end)) > 0:
+        try:
+            verdict = parse(line[len(NOT_A_YES):end])
+        except BadLine:
+            continue
+        if not verdict.yes:
+            return verdict
+    raise BadLine(line)
+
+
+def draft(original, export, program=None):
+    """The claim by which this export would be the export of this original, for a person to confirm line by line; or why
+    there is none."""
+    status, lines = run("draft", original, export, program=program)
+    text, first = "".join(f"{line}\n" for line in lines), lines[0] if lines else ""
+    if status == 0:
+        return Draft(status, "draft", text, read_first(first))
+    if first.startswith("# no draft") and len(lines) == 1:
+        return Draft(status, "no draft", text, None)
+    if first in FAULT_OF and len(lines) == 2:
+        return Draft(status, FAULT_OF[first], text, answer(status, lines[1:], CONFORM)[0])
+    raise BadLine(f"status {status} with {first}")
+
+
+def read_channel(line):
+    """The channel in a line of show."""
+    found = re.fullmatch(CHANNEL, line)
+    if not found:
+        raise BadLine(line)
+    # as the line has them, they are in units of 10^-7
+    low, high = (decimal.Decimal(found[name]).scaleb(-7) for name in ("low", "high"))
+    texts = {name: plain(found[name]) for name in ("dimension", "transducer", "prefilter")}
+    return Channel(plain(found["label"]), int(found["samples"]), low, high, int(found["least"]), int(found["most"]), **texts)
+
+
+def read_header(lines):
+    """The header in the lines of show."""
+    said, at = {}, 0
+    for word, form, often in HEADER:
+        said[word] = []
+        while at < len(lines) and (often == "often" or not said[word]):
+            found = re.fullmatch(f"{word} ({form})", lines[at])
+            if not found:
+                break
+            said[word].append(found[1])
+            at += 1
+        if often == "once" and not said[word]:
+            raise BadLine(lines[at] if at < len(lines) else f"no line {word}")
+    kind, start, records, duration = (said.pop(word)[0] for word in ("kind", "start", "records", "duration"))
+    try:
+        start = datetime.datetime.strptime(start, "%Y-%m-%d %H:%M:%S")
+    except ValueError:
+        raise BadLine(f"start {start}") from None
+    channels = [read_channel(line) for line in lines[at:]]
+    if not channels:
+        raise BadLine("a header without a channel")
+    subfields = {}
+    for word, texts in said.items():
+        is_extra = word.endswith("-extra")
+        subfields[f"{word}s" if is_extra else word] = texts if is_extra else texts[0]
+    return Header(kind, start, int(records), int(duration[:-len(" ps")]), subfields, channels)
+
+
+def show(file, program=None):
+    """What the header of a file says. A file whose header has a fault raises Faulty."""
+    status, lines = run("show", file, program=program)
+    if status:
+        verdict, before = answer(status, lines, CONFORM)
+        if before:
+            raise BadLine(before[0])
+        raise Faulty(verdict)
+    return read_header(lines)
+
+
+def read_note(line):
+    """The annotation in a line of notes."""
+    said = matched(NOTE, line)
+    if said is None:
+        raise BadLine(line)
+    return Note(said["at_ps"], said["duration_ps"], said["text"])
+
+
 def notes(file, program=None):
-    """The annotations of a file, in the order in which it has them. A file with a fault raises Faulty."""
+    """The annotations of a file, in the order in which it has them. A file with a fault raises Faulty, which has those
+    before the fault."""
     status, lines = run("notes", file, program=program)
     if status:
-        raise Faulty(answer(status, lines, CONFORM)[0])
-    said = [matched(f"(?P<at_ps>{SIGNED}) ps duration {DURATION} text {TEXT}", line) for line in lines]
-    if None in said:
-        raise BadLine(lines[said.index(None)])
-    return [Note(each["at_ps"], each["duration_ps"], each["text"]) for each in said]
+        verdict, before = answer(status, lines, CONFORM)
+        raise Faulty(verdict, map(read_note, before))
+    return [read_note(line) for line in lines]

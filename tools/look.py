@@ -1,11 +1,12 @@
 """Tries extras/edfclaim-look: its reader beside `edfclaim notes` and the values of which the night was made, and its
-pages on the example night, on claims in other spellings, on files with faults, with gaps, with starts inside a second
-and with odd signs, and with programs that have `explain` or don't.
+pages on the example night, on claims in other spellings, on exports that are moved far, on files that are cut off, with
+faults, with gaps, with starts inside a second and with odd signs, and with programs that have `explain` or don't.
 
 usage: look.py PROGRAM, by tools/look.sh
 """
 
 import contextlib
+import datetime
 import importlib.machinery
 import importlib.util
 import io
@@ -24,6 +25,7 @@ sys.path[:0] = [str(TOP / "extras"), str(TOP / "tools")]
 os.environ.setdefault("MPLCONFIGDIR", tempfile.gettempdir())
 
 import edfclaim  # noqa: E402
+import made  # noqa: E402
 import night  # noqa: E402
 from cases.files import (  # noqa: E402
     LANES, bytes_of, claim_of, cut, field, lane, recorded, recording, temp_file, values as values_of,
@@ -114,6 +116,10 @@ def try_night(counts, program):
         counts.judge(sorted(os.listdir("page")) == ["look.html", "look.png"], f"{words}: {os.listdir('page')}")
         counts.judge(f">{line.replace(chr(34), '&quot;')}<" in page, f"{words}: the line isn't in the page")
         right = page.count("<img") == 1 and '<p class="left-out">' not in page and "no witness" in page
+        right = right and page.index('<p class="line">') < page.index("<img") < page.index("<table>")
+        sentences = [match.start() for match in re.finditer('<p class="sentence"', page)]
+        right = right and (not sentences or page.index("<img") < sentences[0] < page.index("<table>"))
+        right = right and "@page { size: A4;" in page and "overflow-wrap: anywhere" in page
         counts.judge(right, f"{words}: the page")
         picture = pathlib.Path("page/look.png").read_bytes()
         counts.judge(picture.startswith(b"\x89PNG\r\n") and look.base64.b64encode(picture).decode() in page, f"{words}: the picture")
@@ -121,7 +127,8 @@ def try_night(counts, program):
 
 class Picture:
     """What is drawn of a check: the points of each line by its name in the legend, of the channel and of the timeline;
-    the words of each axis; the names of the rows, the bars and the borders of the timeline; and the page's remarks."""
+    the words of each axis; the names of the rows, the bars, the bars in outlines, the ticks, the texts and the borders of
+    the timeline; and the page's remarks."""
 
     def __init__(self, files, line):
         import matplotlib.pyplot as pyplot
@@ -135,10 +142,14 @@ class Picture:
             pyplot.close = close
         axes, timeline = found[-1].axes, found[-1].axes[-1]
         self.lines = [{line.get_label(): line.get_xydata().tolist() for line in each.lines} for each in axes]
-        self.words = [each.get_xlabel() for each in axes]
-        self.rows = [tick.get_text() for tick in timeline.get_yticklabels()] if timeline.axison else []
-        self.bars = bars_of(timeline)
+        self.words = [each.get_xlabel().replace("\n", " ") for each in axes]
+        self.rows = [tick.get_text().replace("\n", " ") for tick in timeline.get_yticklabels()] if timeline.axison else []
+        self.bars, self.outlines = bars_of(timeline), outlines_of(timeline)
+        self.ticks = list(zip(timeline.get_xticks(), (tick.get_text() for tick in timeline.get_xticklabels())))
+        self.texts = [text.get_text() for text in timeline.texts]
+        self.place_of = lambda time: timeline.transData.transform((time, 0))[0]
         self.borders, self.remarks = timeline.get_xlim(), night_of.remarks
+        self.title = found[-1]._suptitle.get_text()
         close(found[-1])
 
     def times(self, name):
@@ -152,6 +163,14 @@ def bars_of(axes):
 
     rows = [each.get_paths() for each in axes.collections if isinstance(each, PolyCollection)]
     return [[(path.get_extents().x0, path.get_extents().x1) for path in paths] for paths in rows]
+
+
+def outlines_of(axes):
+    """The bars in outlines, each with its begin, its end and its row."""
+    from matplotlib.patches import Rectangle
+
+    found = [it for it in axes.patches if isinstance(it, Rectangle) and not it.get_hatch() and it.get_facecolor()[3] == 0]
+    return [(it.get_x(), it.get_x() + it.get_width(), it.get_y() + it.get_height() / 2) for it in found]
 
 
 def drawn(files, verdict):
@@ -245,7 +264,7 @@ def try_claims(counts, program):
             right = right and '<p class="left-out">' not in page
         else:
             right = found == [[], [], onsets, []] and rows == [False, True, True, False, True]
-            right = right and len(picture.lines) == 1 and picture.words == ["seconds after the start of the original"]
+            right = right and len(picture.lines) == 1 and picture.words == ["clock of the original, and seconds after its start"]
             right = right and len(picture.bars[0]) == 1 and not sum(picture.bars[1:], [])
             right = right and all(words in page for words in NOT_READ)
         counts.judge(right, f"{new!r}: drawn are {found}, {picture.rows}, {picture.words}; said: {picture.remarks}")
@@ -405,6 +424,195 @@ def put(name, source, old, new):
     pathlib.Path(name).write_bytes(data.replace(old, new))
 
 
+ECG = {"ECG": [at % 100 for at in range(2400)]}
+MINUTE = made.Made([(0, 60)], ECG, [(5 * PS, None, "Lights off"), (20 * PS, None, "Apnea")])
+DAY, AGE = 86_400, 10_000_000_000
+
+# By how many seconds an export of the seconds 10 to 40 is moved, and by how many it is claimed to be; where its bar is
+# then, in seconds after the start of the original, and what is said to be left out, if something is.
+MOVED = [
+    (-100 * DAY, -100 * DAY, (10, 40), None),
+    (-200 * DAY, -100 * DAY, (10 - 100 * DAY, 40 - 100 * DAY), "99 days 23 h 59 min 20 s"),
+    (0, -100 * DAY, (10 + 100 * DAY, 40 + 100 * DAY), "99 days 23 h 59 min 10 s"),
+    (-DAY, 0, (10 - DAY, 40 - DAY), "23 h 59 min 20 s"),
+    (2 * DAY, 0, (10 + 2 * DAY, 40 + 2 * DAY), "1 day 23 h 59 min 10 s"),
+    (3600, 0, (3610, 3640), "59 min 10 s"),
+    # the time between isn't long beside both recordings
+    (120, 0, (130, 160), None),
+    (0, AGE, (10 - AGE, 40 - AGE), "115,740 days 17 h 46 min"),
+    (0, -AGE, (10 + AGE, 40 + AGE), "115,740 days 17 h 45 min 50 s"),
+]
+
+
+def try_moved(counts, program):
+    """Exports that are moved by other times than claimed: no bar is narrow, and the axis says what it leaves out."""
+    files = ["made-original.edf", "made-export.edf", "made.toml"]
+    pathlib.Path(files[0]).write_bytes(MINUTE.bytes())
+    for moved, claimed, bar, left_out in MOVED:
+        pathlib.Path(files[1]).write_bytes(MINUTE.cut(10, 40, moved).bytes())
+        pathlib.Path(files[2]).write_text(made.Claimed(["ECG"], [(10, 40)], claimed).text(), encoding="utf-8")
+        first = min(bar[0], 10)
+        line = "YES channels 1 samples 60 annotations 1"
+        if bar[0] != 10:
+            line = f'NO 10 sample "ECG" at {first * PS} ps {"extra" if bar[0] < 10 else "missing"}'
+        ran = run(program, *files)
+        counts.judge(ran == (line.startswith("NO"), f"{line}\n", ""), f"moved by {moved}: {ran}; wanted: {line}")
+        page, picture = pathlib.Path("look.html").read_text(encoding="utf-8"), Picture(files, line)
+        found = [bars[0] for bars in (picture.bars[0], picture.bars[1], picture.bars[2])]
+        counts.judge(found == [(0, 60), bar, (10, 40)], f"moved by {moved}: {found}")
+        narrow = [each for each in found if abs(picture.place_of(each[1]) - picture.place_of(each[0])) < 100]
+        counts.judge(not narrow, f"moved by {moved}: of less than 100 dots are the bars {narrow}")
+        said = [text for text in picture.texts if text.startswith("left out: ")]
+        counts.judge(said == ([f"left out: {left_out}"] if left_out else []), f"moved by {moved}: {said}")
+        right = (f"The axis is broken: {left_out} without a data record are left out" in page) if left_out else "broken" not in page
+        counts.judge(right, f"moved by {moved}: {picture.remarks}")
+        try_ticks(counts, f"moved by {moved}", picture, made.START)
+
+
+def try_ticks(counts, name, picture, start):
+    """The ticks of a timeline: the clock of the original, the seconds after its start, and a day where it is another one."""
+    before, faults = None, []
+    for time, text in picture.ticks:
+        clock, after, *day = text.split("\n")
+        shown = start + datetime.timedelta(seconds=time)
+        right = clock == shown.strftime("%H:%M:%S") and after in (f"{time:g} s", f"{time:.0f} s")
+        days = [shown.strftime("%Y-%m-%d")]
+        faults += [] if right and day == (days if days != before else []) else [text]
+        before = days
+    places = [picture.place_of(time) for time, _ in picture.ticks]
+    near = [after - at for at, after in zip(places, places[1:]) if after - at < 80]
+    counts.judge(picture.ticks and not faults and not near, f"{name}: the ticks {picture.ticks}, {faults}, {near}")
+
+
+def whole(parts):
+    """A file of these seconds, and where its data records begin."""
+    data = MINUTE.but(stretches=parts).bytes()
+    count = sum(last - first for first, last in parts)
+    length = 2 * 2 + made.LANE
+    return data, len(data) - count * length, length
+
+
+GAPPED = [(0, 20), (30, 60)]
+
+# The parts of a file, how many of its data records have all bytes, and how many bytes stand behind these; where its bytes
+# end and where it would end by its header, both in seconds after its start; and words of the page.
+CUT_OFF = [
+    ([(0, 60)], 17, 5, 17, 60, "end inside data record 17 of 60, counted from 0, at 2002-03-02 22:00:17 (17 s). By its header it would "
+     "end at 2002-03-02 22:01:00 (60 s)."),
+    ([(0, 60)], 17, 0, 17, 60, "end before data record 17 of 60, counted from 0, at 2002-03-02 22:00:17 (17 s). By its header it would "
+     "end at 2002-03-02 22:01:00 (60 s)."),
+    ([(0, 60)], 59, 303, 59, 60, "end inside data record 59 of 60, counted from 0"),
+    ([(0, 60)], 1, 0, 1, 60, "end before data record 1 of 60, counted from 0"),
+    ([(0, 60)], 0, 3, 0, 60, "end inside data record 0 of 60, counted from 0, at 2002-03-02 22:00:00 (0 s). By its header it would "
+     "end at 2002-03-02 22:01:00 (60 s)."),
+    ([(0, 60)], 0, 0, 0, 60, "end before data record 0 of 60, counted from 0"),
+    # with gaps, of which the header says nothing
+    (GAPPED, 10, 9, 10, 50, "By its header it would end no earlier than at 2002-03-02 22:00:50 (50 s)."),
+    (GAPPED, 25, 9, 35, 60, "By its header it would end no earlier than at 2002-03-02 22:01:00 (60 s)."),
+]
+
+
+def try_cut_off(counts, program):
+    """Files that are cut off: where the bytes end, and where they would by the header."""
+    files = ["made-original.edf", "made-export.edf", "made.toml"]
+    pathlib.Path(files[2]).write_text(made.Claimed(["ECG"], [(0, 60)]).text(), encoding="utf-8")
+    for parts, records, rest, end, last, words in CUT_OFF:
+        data, front, length = whole(parts)
+        for number, name in enumerate(("original", "export")):
+            pathlib.Path(files[1 - number]).write_bytes(data)
+            pathlib.Path(files[number]).write_bytes(data[:front + records * length + rest])
+            line = f"NO {number + 1} {name} fault: Truncated at record {records}"
+            ran = run(program, *files)
+            counts.judge(ran == (1, f"{line}\n", ""), f"{ran}; wanted: {line}")
+            page, picture = pathlib.Path("look.html").read_text(encoding="utf-8"), Picture(files, line)
+            counts.judge(picture.outlines == [(end, last, 4 - 2 * number)], f"{line}: in outlines are {picture.outlines}")
+            counts.judge(f"The bytes of the {name} {words}" in page or words in page, f"{line}: {picture.remarks}")
+            cut = [row for row in picture.rows if "(" in row]
+            counts.judge(cut == [f"{name}: data records (cut off)"], f"{line}: {picture.rows}")
+            ends = [bar[1] for bar in picture.bars[number]]
+            counts.judge(ends[-1:] == ([end] if end else []), f"{line}: bars that end at {ends}")
+            counts.judge(picture.times("the data record of the fault") == [end, end], f"{line}: {picture.lines[-1]}")
+            try_ticks(counts, line, picture, made.START)
+        counts.judge(Picture([files[0], files[0], files[2]], "YES channels 1 samples 120 annotations 2").outlines == [], f"{words}: no cut")
+
+
+def try_far(counts, program):
+    """What lies far from the night: the end by a header, an annotation, and the place of the difference; and gaps that are
+    too narrow to be seen."""
+    files = ["made-original.edf", "made-export.edf", "made.toml"]
+    claim = made.Claimed(["ECG"], [(0, 60)])
+    pathlib.Path(files[0]).write_bytes(MINUTE.bytes())
+    pathlib.Path(files[1]).write_bytes(MINUTE.but(edits=[(field("records"), "99999999")]).bytes())
+    pathlib.Path(files[2]).write_text(claim.text(), encoding="utf-8")
+    line = "NO 2 export fault: Truncated at record 60"
+    ran, picture = run(program, *files), Picture(files, line)
+    counts.judge(ran == (1, f"{line}\n", ""), f"{ran}; wanted: {line}")
+    counts.judge(picture.outlines == [(60, 99_999_999, 2)], f"a header of 99,999,999 data records: {picture.outlines}")
+    counts.judge(picture.texts[-1] == "left out: 1,157 days 9 h 45 min 39 s", f"a header of 99,999,999: {picture.texts}")
+    # an hour before the start of the export, which is moved a day back, and two days before it
+    notes = [(-3_600 * PS, None, "Soon"), (-2 * DAY * PS, None, "Sooner")]
+    pathlib.Path(files[0]).write_bytes(MINUTE.but(notes=MINUTE.notes + notes).bytes())
+    pathlib.Path(files[1]).write_bytes(MINUTE.but(shift=-DAY).bytes())
+    picture = Picture(files, f'NO 10 sample "ECG" at {-DAY * PS} ps extra')
+    words = "Outside of the times of the picture, and not drawn: 2 of the annotations of the original."
+    counts.judge(words in picture.remarks and len(picture.times("annotation outside of the intervals")) == 0, f"{picture.remarks}")
+    line = f'NO 11 annotation extra at {-2 * DAY * PS} ps duration none text "Sooner"'
+    pathlib.Path(files[1]).write_bytes(MINUTE.but(notes=MINUTE.notes + notes).bytes())
+    pathlib.Path(files[0]).write_bytes(MINUTE.bytes())
+    ran, picture = run(program, *files), Picture(files, line)
+    counts.judge(ran == (1, f"{line}\n", ""), f"{ran}; wanted: {line}")
+    counts.judge(picture.times("annotation of the export") == [-2 * DAY, 5, 20], f"{picture.lines[-1]}")
+    counts.judge(any("1 of the annotations of the export" in remark for remark in picture.remarks), f"{picture.remarks}")
+    long = made.Made([(0, 700), (701, 800), (850, 1200)], ECG)
+    pathlib.Path(files[0]).write_bytes(long.bytes())
+    picture = Picture([files[0], files[0], files[2]], "YES channels 1 samples 2298 annotations 0")
+    counts.judge(picture.times("narrow gap") == [700], f"narrow gaps at {picture.times('narrow gap')}")
+    bars = [(0, 700), (701, 800), (850, 1200)]
+    counts.judge(picture.bars[0] == picture.bars[1] == bars and not picture.remarks, f"{picture.bars}, {picture.remarks}")
+
+
+# a night of 8 hours with two gaps, the second of which is too narrow to be seen
+EVENING, NIGHT, MORNING = (0, 3_600), (3_960, 20_000), (20_001, 28_800)
+STAGES = [at for first, last in (EVENING, NIGHT, MORNING) for at in range(0, 28_800, 30) if first <= at < last]
+HOURS = made.Made(
+    [EVENING, NIGHT, MORNING], {"ECG": [at % 500 for at in range(57_600)]}, [(at * PS, 30 * PS, "Sleep stage N2") for at in STAGES],
+)
+
+
+def try_hours(counts, program):
+    """A night of 8 hours with gaps: a Yes, an export that was cut a minute later, and one that is moved by 100 days more."""
+    files = ["made-original.edf", "made-export.edf", "made.toml"]
+    pathlib.Path(files[0]).write_bytes(HOURS.bytes())
+    pathlib.Path(files[2]).write_text(made.Claimed(["ECG"], [(1_800, 27_000)]).text(), encoding="utf-8")
+    yes = "YES channels 1 samples 49678 annotations 828"
+    for first, shift, line in [
+        (1_800, 0, yes), (1_860, 0, f'NO 10 sample "ECG" at {1_800 * PS} ps missing'),
+        (1_800, -100 * DAY, f'NO 10 sample "ECG" at {(1_800 - 100 * DAY) * PS} ps extra'),
+    ]:
+        parts = [(first, 3_600), NIGHT, (20_001, first + 25_200)]
+        kept = [note for note in HOURS.notes if first * PS <= note[0] < (first + 25_200) * PS]
+        pathlib.Path(files[1]).write_bytes(HOURS.but(stretches=parts, notes=kept, shift=shift).bytes())
+        ran, picture = run(program, *files), Picture(files, line)
+        counts.judge(ran == (line != yes, f"{line}\n", ""), f"{ran}; wanted: {line}")
+        moved = [(begin + shift, end + shift) for begin, end in parts]
+        right = picture.bars[:3] == [[EVENING, NIGHT, MORNING], moved, [(1_800, 27_000)]]
+        counts.judge(right and picture.times("narrow gap") == [20_000], f"{line}: {picture.bars}, {picture.lines[-1].keys()}")
+        narrow = [bar for bar in (moved[1], NIGHT) if picture.place_of(bar[1]) - picture.place_of(bar[0]) < 100]
+        counts.judge(not narrow, f"{line}: of less than 100 dots are the bars {narrow}")
+        times = sorted(onset // PS + shift for onset, _, _ in kept)
+        counts.judge(sorted(picture.times("annotation of the export")) == times, f"{line}: the annotations of the export")
+        try_ticks(counts, line, picture, made.START)
+
+
+def try_title(counts):
+    """A line that is long: all lines of the title are within the picture, and the page has the whole line."""
+    line = f'NO 11 annotation extra at 72500000000000 ps duration none text "{"Asks for water. " * 40}"'
+    picture = Picture(["original.edf", "cut.edf", "cut.toml"], line)
+    lines = picture.title.split("\n")
+    right = len(lines) == 3 and all(len(each) <= 100 for each in lines) and line.startswith(lines[0]) and lines[2].endswith("...")
+    counts.judge(right, f"a long line: {lines}")
+
+
 def try_odd(counts, program):
     """Files with faults, and signs that mean something to a page or a picture."""
     data = pathlib.Path("cut.edf").read_bytes()
@@ -423,6 +631,13 @@ def try_odd(counts, program):
     counts.judge(status == 1 and "<script>" in said and not err, f"a text with signs: {status}, {said}{err}")
     right = "<script" not in page and "&lt;script&gt;" in page and "a &lt;b&gt;&amp; $x$.edf" in page and "\u202e" not in page
     counts.judge(right, "signs of a page aren't escaped")
+    # a field of the header that can't be read is said in a remark, and the name of the file stands in the table
+    put("duration.edf", "cut.edf", b"18      5       4   ", b"18      <b>1</b>4   ")
+    os.replace("duration.edf", "\"><img src=x>.edf")
+    status, said, err = run(program, "original.edf", "\"><img src=x>.edf", "cut.toml")
+    page = pathlib.Path("look.html").read_text(encoding="utf-8")
+    right = status == 1 and said.startswith("NO 2 ") and not err and "&lt;b&gt;1&lt;/b&gt;" in page and "<b>" not in page
+    counts.judge(right and page.count("<img") == 1 and "&quot;&gt;&lt;img src=x&gt;.edf" in page, f"signs in a header: {said}{err}")
     for name in ("original", "changed-value"):
         put(f"dollar-{name}.edf", f"{name}.edf", b"EEG C4-M1", b"$\\f{ $xx ")
     put("dollar.toml", "cut.toml", b'"EEG C4-M1"', b"'$\\f{ $xx' ")
@@ -434,12 +649,20 @@ def try_odd(counts, program):
     counts.judge(pathlib.Path("dollar.svg").read_bytes() == made, "the same files give another picture")
 
 
+def indent(wide, spaces):
+    """What stands in front of a sentence that is indented by so many spaces."""
+    return f'<p class="sentence" style="padding-left: {wide}em"><span style="width: {wide}em; margin-left: -{wide}em">{" " * spaces}</span>'
+
+
 # What a program does with `explain`, and what the script gives: its status, and words of the page or of what it says.
 EXPLAIN = [
-    ('echo "NO 8 subfield name not X"; echo "The <i>name</i> & more."; exit 1', 1, "<p>The &lt;i&gt;name&lt;/i&gt; &amp; more.</p>"),
+    ('echo "NO 8 subfield name not X"; echo "The <i>name</i> & more."; exit 1', 1,
+     '<p class="sentence">The &lt;i&gt;name&lt;/i&gt; &amp; more.</p>'),
     ('echo "YES channels 3 samples 13590 annotations 5"; echo "A text is left."', 0, "can name somebody"),
     ("printf 'NO 8 subfield name not X\\nA \\342\\200\\256 text.\\n'; exit 1", 1, "are written by their numbers"),
-    ("printf 'NO 8 subfield name not X\\na  b\\302\\240c\\n'; exit 1", 1, "<p>a  b\\u00a0c</p>"),
+    ("printf 'NO 8 subfield name not X\\na  b\\302\\240c\\n'; exit 1", 1, '<p class="sentence">a  b\\u00a0c</p>'),
+    ("printf 'NO 8 subfield name not X\\n  <b>in</b>\\n    deeper\\n'; exit 1", 1, f'{indent("1.2", 2)}&lt;b&gt;in&lt;/b&gt;</p>'),
+    ("printf 'NO 8 subfield name not X\\n  <b>in</b>\\n    deeper\\n'; exit 1", 1, f'{indent("2.4", 4)}deeper</p>'),
     ("echo 'NO 8 subfield name not X'; exit 1", 1, "p, td { white-space: pre-wrap; }"),
     ("echo \"error: unrecognized subcommand 'explain'\" >&2; exit 2", 1, "<p class=\"line\">NO 8 subfield name not X</p>"),
     ('echo "edfclaim: out of memory" >&2; exit 2', 2, "no answer: edfclaim: out of memory"),
@@ -483,6 +706,11 @@ def main():
         try_files(counts, program)
         try_checks(counts, program)
         try_left_out(counts)
+        try_moved(counts, program)
+        try_cut_off(counts, program)
+        try_far(counts, program)
+        try_hours(counts, program)
+        try_title(counts)
         try_odd(counts, program)
         try_explain(counts, program)
         os.chdir(TOP)

@@ -210,6 +210,31 @@ try_tables() {
     done
     printf '%ba\tb b\tc\td\n' "$head" >table
     judge "$("$top/examples/many-nights/nights.sh" rows table | tr '\0' ':')" 'a:b b:c:d:' 'a table of one night'
+    # as other systems and programs write it: a byte order mark, CR LF at the end of all lines, of the first, of none of two
+    local mark='\357\273\277' by_two='night\toriginal\texport\tclaim\r\n'
+    for rows in "$mark${head}a\tb b\tc\td\n" "${by_two}a\tb b\tc\td\r\n" "$mark${by_two}a\tb b\tc\td\r\n" "${by_two}a\tb b\tc\td\n" \
+        "${by_two}a\tb b\tc\td"; do
+        # shellcheck disable=SC2059
+        printf "$rows" >table
+        judge "$("$top/examples/many-nights/nights.sh" rows table | tr '\0' ':')" 'a:b b:c:d:' "the table $rows"
+    done
+    try_line_ends "$head"
+}
+
+# What is said of a table whose lines end in a way that isn't read, and of one in UTF-16.
+try_line_ends() {
+    local rows said
+    while IFS='|' read -r rows said; do
+        # shellcheck disable=SC2059
+        printf "$rows" >table
+        judge "$("$top/examples/many-nights/nights.sh" rows table 2>&1; echo "${PIPESTATUS[0]}")" "table, line $said"$'\n2' "the table $rows"
+    done <<END
+$1a\tb\tc\td\ne\tb\tc\td\r\n|3: it ends by CR LF, and the first line by LF alone
+night\toriginal\texport\tclaim\ra\tb\tc\td\r|1: its lines end by CR alone: save it with LF or CR LF
+\377\376n\0i\0g\0h\0t\0|1: a table in UTF-16: save it as UTF-8
+\376\377\0n\0i\0g\0h\0t|1: a table in UTF-16: save it as UTF-8
+night,original,export,claim\r\n|1: not the words night, original, export, claim, with tabs between them
+END
 }
 
 # Programs that say what edfclaim doesn't, or are ended: no answer.
@@ -238,6 +263,11 @@ try_page() {
     judge "$(./nights.sh table nights.tsv answers | cut -f 1-3)" \
         "$(awk '$0 == "$ cut -f 1-3 answers.tsv" { inside = 1; next } /^```/ { inside = 0 } inside' README.md)" "the example's table"
     judge "$(tail -n +2 answers/as-claimed.txt | cmp - ../night/receipt.txt && echo same)" same "the example's receipt"
+    # the same table as Windows saves it: each night has its answer already, and the table of the answers is the same
+    { printf '\357\273\277' && sed 's/$/\r/' nights.tsv; } >windows.tsv
+    judge "$(./nights.sh rows windows.tsv | cmp - <(./nights.sh rows nights.tsv) && echo same)" same 'the example by Windows'
+    judge "$(./nights.sh table windows.tsv answers | cmp - <(./nights.sh table nights.tsv answers) && echo same)" same \
+        "the example's answers by Windows"
 }
 
 try_tables

@@ -7,7 +7,8 @@
 #
 # TABLE is a text of lines with tabs between the words: the first line is `night original export claim`, and each
 # further one is a night. A night's name has letters, digits, `.`, `_` and `-`, begins with a letter, a digit or `_`, and
-# stands once.
+# stands once. A byte order mark of UTF-8 in front is skipped. Where the first line ends as on Windows, by CR LF, the
+# others may, too.
 #
 # The answer of a night is the file ANSWERS/NIGHT.txt: the night's line of the table, and the receipt. It is written to
 # a folder of its own in ANSWERS and moved once it is whole. A Yes and a No are answers, with status 0. Where there is no
@@ -34,7 +35,11 @@ is_name() {
 print_rows() {
     TABLE=$1 awk -F '\t' '
         function wrong(why) { print ENVIRON["TABLE"] ", line " NR ": " why >"/dev/stderr"; failed = 1; exit 2 }
-        NR == 1 { if ($0 != "night\toriginal\texport\tclaim") wrong("not the words night, original, export, claim"); next }
+        NR == 1 && sub(/^(\376\377|\377\376)/, "") { wrong("a table in UTF-16: save it as UTF-8") }
+        NR == 1 { sub(/^\357\273\277/, ""); by_two = sub(/\r$/, "") }
+        NR == 1 && /\r/ { wrong("its lines end by CR alone: save it with LF or CR LF") }
+        NR == 1 { if ($0 != "night\toriginal\texport\tclaim") wrong("not the words night, original, export, claim, with tabs between them"); next }
+        sub(/\r$/, "") && !by_two { wrong("it ends by CR LF, and the first line by LF alone") }
         NF != 4 || $2 == "" || $3 == "" || $4 == "" { wrong("not four words with tabs between them") }
         $1 !~ /^[A-Za-z0-9_][A-Za-z0-9._-]*$/ { wrong("not the name of a night: " $1) }
         $1 in seen { wrong("the night stands twice: " $1) }
