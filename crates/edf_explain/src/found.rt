@@ -1,8 +1,8 @@
 //! What was found of the samples of a channel: how many, the first and the last.
 
+use crate::blocks::numbers_of;
 use crate::run::Run;
-use crate::stand::Stand;
-use std::simd::prelude::*;
+use crate::stand::{Stand, Stretch};
 
 /// A sample that was found.
 #[derive(Clone, Copy)]
@@ -17,22 +17,74 @@ pub(crate) struct Spot {
     pub(crate) values: Option<(i16, i16)>,
 }
 
+/// A data record at hand: its time, and its number from 0 on; no time where none is at hand.
+#[derive(Clone, Copy)]
+pub(crate) struct Hand {
+    pub(crate) stretch: Option<Stretch>,
+    pub(crate) number: u64,
+}
+
+impl Hand {
+    /// The number of the data record, where a time lies in it.
+    fn number_at(self, at_ps: i128) -> Option<u64> {
+        let stretch = self.stretch?;
+        if stretch.from_ps <= at_ps && at_ps < stretch.to_ps {
+            Some(self.number)
+        } else {
+            None
+        }
+    }
+}
+
 /// The data records at hand of both files.
 #[derive(Clone, Copy)]
 pub(crate) struct Stands<'a> {
     pub(crate) original: &'a Stand,
     pub(crate) export: &'a Stand,
+    pub(crate) hands: (Hand, Hand),
 }
 
 impl<'a> Stands<'a> {
+    /// Those of two files.
+    pub(crate) fn new(original: &'a Stand, export: &'a Stand) -> Stands<'a> {
+        Stands {
+            original,
+            export,
+            hands: (original.hand(), export.hand()),
+        }
+    }
+
     /// The sample of a run at a place.
-    fn spot(self, run: Run<'_>, place: usize) -> Spot {
-        let at_ps = run.at_ps(place);
+    fn mark(self, run: Run<'_>, place: usize) -> Mark {
+        Mark {
+            run: Run { bytes: &[], ..run },
+            place,
+            hands: self.hands,
+            values: None,
+        }
+    }
+}
+
+/// A sample that was found, of which its time isn't reckoned so far.
+#[derive(Clone, Copy)]
+struct Mark {
+    /// The run that it is of, without its bytes.
+    run: Run<'static>,
+    place: usize,
+    hands: (Hand, Hand),
+    values: Option<(i16, i16)>,
+}
+
+impl Mark {
+    /// The sample.
+    fn spot(self) -> Spot {
+        let at_ps = self.run.at_ps(self.place);
+        let (original, export) = self.hands;
         Spot {
             at_ps,
-            original_record: self.original.number_at(at_ps),
-            export_record: self.export.number_at(at_ps),
-            values: None,
+            original_record: original.number_at(at_ps),
+            export_record: export.number_at(at_ps),
+            values: self.values,
         }
     }
 }
@@ -41,36 +93,35 @@ impl<'a> Stands<'a> {
 #[derive(Clone, Copy)]
 pub(crate) struct Found {
     pub(crate) count: u64,
-    pub(crate) ends: Option<(Spot, Spot)>,
+    first: Option<Mark>,
+    last: Option<Mark>,
 }
 
 impl Found {
     /// None so far.
     pub(crate) const NONE: Found = Found {
         count: 0,
-        ends: None,
+        first: None,
+        last: None,
     };
 
-    /// The first of those so far.
-    fn first(&self) -> Option<Spot> {
-        let (first, _) = self.ends?;
-        Some(first)
+    /// The first and the last, where there are some.
+    pub(crate) fn ends(&self) -> Option<(Spot, Spot)> {
+        Some((self.first?.spot(), self.last?.spot()))
     }
 
-    /// Takes in so many samples behind those so far, by the first of all and the last of them.
-    fn take_in(&mut self, count: usize, first: Spot, last: Spot) {
+    /// Takes in so many samples behind those so far, of which this is the last.
+    fn take_in(&mut self, count: usize, last: Mark) {
         self.count = self.count.saturating_add(count as u64);
-        self.ends = Some((first, last));
+        self.last = Some(last);
     }
 
     /// Takes in samples of a run, by their places.
     pub(crate) fn add_places(&mut self, run: Run<'_>, places: Places, stands: Stands<'_>) {
-        let first = match self.first() {
-            Some(first) => first,
-            None => stands.spot(run, places.first),
-        };
-        let last = stands.spot(run, places.last);
-        self.take_in(places.count, first, last);
+        if self.first.is_none() {
+            self.first = Some(stands.mark(run, places.first));
+        }
+        self.take_in(places.count, stands.mark(run, places.last));
     }
 
     /// Takes in the samples of a run.
@@ -94,12 +145,11 @@ impl Found {
         export: Places,
         stands: Stands<'_>,
     ) {
-        let first = match self.first() {
-            Some(first) => first,
-            None => pair.spot(original.first, export.first, stands),
-        };
-        let last = pair.spot(original.last, export.last, stands);
-        self.take_in(original.count, first, last);
+        if self.first.is_none() {
+            self.first = Some(pair.mark(original.first, export.first, stands));
+        }
+        let last = pair.mark(original.last, export.last, stands);
+        self.take_in(original.count, last);
     }
 }
 
@@ -155,75 +205,6 @@ pub(crate) struct Pair<'a> {
     pub(crate) export: Run<'a>,
 }
 
-/// How many samples are compared at a time, and how many bytes they have.
-pub(crate) const SAMPLES: usize = 16;
-
-pub(crate) const BLOCK: usize = 32;
-
-/// Of 16 samples those that have other values: of 16 pairs of bits the lower one of each.
-pub(crate) fn others_of(original: u8x32, export: u8x32) -> u64 {
-    let bytes = original.simd_ne(export).to_bitmask();
-    (bytes | (bytes >> 1)) & 0x5555_5555
-}
-
-/// Which of 16 samples have other values: of 16 pairs of bits the lower one of each such sample. None of fewer.
-#[inline(always)]
-fn others_in(original: &[u8], export: &[u8]) -> u64 {
-    if original.len() < BLOCK || export.len() < BLOCK {
-        return 0;
-    }
-    others_of(u8x32::from_slice(original), u8x32::from_slice(export))
-}
-
-impl Places {
-    /// These, and those of 16 samples from a place on, of which others there are.
-    pub(crate) fn with_block(places: Option<Places>, place: usize, others: u64) -> Option<Places> {
-        if others == 0 {
-            return places;
-        }
-        let first = place.saturating_add((others.trailing_zeros() / 2) as usize);
-        let last = place.saturating_add((63 - others.leading_zeros().min(63)) as usize / 2);
-        let (before, first) = match places {
-            Some(before) => (before.count, before.first),
-            None => (0, first),
-        };
-        Some(Places {
-            count: before.saturating_add(others.count_ones() as usize),
-            first,
-            last,
-        })
-    }
-}
-
-/// Where the values of two runs differ, by their bytes, as far as whole blocks go.
-fn places_in_blocks(original: &[u8], export: &[u8]) -> Option<Places> {
-    let mut places = None;
-    for (block, (old, new)) in original
-        .chunks_exact(BLOCK)
-        .zip(export.chunks_exact(BLOCK))
-        .enumerate()
-    {
-        let place = block.saturating_mul(SAMPLES);
-        places = Places::with_block(places, place, others_in(old, new));
-    }
-    places
-}
-
-/// Where the values of two runs differ, by their bytes.
-fn places_of(original: &[u8], export: &[u8]) -> Option<Places> {
-    let mut places = places_in_blocks(original, export);
-    let blocks = original.len().min(export.len()) / BLOCK;
-    let place = blocks.saturating_mul(SAMPLES);
-    let old = original.get(blocks.saturating_mul(BLOCK)..).unwrap_or(&[]);
-    let new = export.get(blocks.saturating_mul(BLOCK)..).unwrap_or(&[]);
-    for (behind, (old, new)) in old.chunks_exact(2).zip(new.chunks_exact(2)).enumerate() {
-        if old != new {
-            places = Places::with_one(places, place.saturating_add(behind));
-        }
-    }
-    places
-}
-
 impl<'a> Pair<'a> {
     /// Where the values of two runs differ that have as many samples, counted from the first of them.
     pub(crate) fn places(self) -> Option<Places> {
@@ -232,14 +213,14 @@ impl<'a> Pair<'a> {
         if original == export {
             return None;
         }
-        places_of(original, export)
+        numbers_of::<1>(original, export, original.len().min(export.len()) / 2)
     }
 
     /// The samples at a place of the original and one of the export.
-    fn spot(self, original: usize, export: usize, stands: Stands<'_>) -> Spot {
-        Spot {
+    fn mark(self, original: usize, export: usize, stands: Stands<'_>) -> Mark {
+        Mark {
             values: Some((self.original.value(original), self.export.value(export))),
-            ..stands.spot(self.original, original)
+            ..stands.mark(self.original, original)
         }
     }
 }

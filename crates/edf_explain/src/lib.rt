@@ -4,6 +4,7 @@
 mod alike;
 mod amounts;
 mod answers;
+mod blocks;
 mod claim_lines;
 mod exchanged;
 pub mod explain;

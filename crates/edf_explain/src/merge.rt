@@ -165,10 +165,13 @@ impl Common {
     /// How many there can be in a run.
     fn most(self, run: Run<'_>) -> usize {
         let behind = run.to.saturating_sub(1).saturating_sub(self.first);
-        behind
-            .checked_div(self.stride)
-            .unwrap_or(0)
-            .saturating_add(1)
+        // a division takes as long as the comparison of some forty samples
+        let strides = match self.stride {
+            1 => behind,
+            2 => behind / 2,
+            stride => behind.checked_div(stride).unwrap_or(0),
+        };
+        strides.saturating_add(1)
     }
 
     /// The first sample of a run that isn't one of them, if there is one.

@@ -139,14 +139,12 @@ impl<'a> Run<'a> {
             .cmp(&second.num.saturating_mul(i128::from(first.den)))
     }
 
-    /// Whether both have samples, the first of them taken at one time, and each further one as long behind the one
-    /// before.
-    pub(crate) fn is_on_grid_of(&self, other: &Run<'_>) -> bool {
-        let step = self.duration_ps.saturating_mul(i128::from(other.samples));
-        let other_step = other.duration_ps.saturating_mul(i128::from(self.samples));
-        step == other_step
-            && !self.is_empty()
-            && !other.is_empty()
-            && self.order(other) == Ordering::Equal
+    /// Whether both have samples, and the first of them are taken at one time.
+    pub(crate) fn begins_with(&self, other: &Run<'_>) -> bool {
+        if self.is_empty() || other.is_empty() {
+            return false;
+        }
+        let are_first = self.from == 0 && other.from == 0 && self.start_ps == other.start_ps;
+        are_first || self.order(other) == Ordering::Equal
     }
 }

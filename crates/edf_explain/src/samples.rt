@@ -62,7 +62,7 @@ fn say_found(
     found: Found,
     clocks: Clocks,
 ) -> Result<(), AllocError> {
-    let Some((first, last)) = found.ends else {
+    let Some((first, last)) = found.ends() else {
         return Ok(());
     };
     let pieces = [Piece::Quoted(label), Piece::Number(i128::from(found.count))];

@@ -1,5 +1,6 @@
 //! Where the reading of a file stands: its data record at hand, on the clock of the original.
 
+use crate::found::Hand;
 use crate::run::Run;
 use edf_fields::fault::Fault;
 use edf_fields::source::Source;
@@ -150,18 +151,11 @@ impl Stand {
         }
     }
 
-    /// The number of the data record at hand, from 0 on.
-    pub(crate) fn number(&self) -> u64 {
-        self.read.saturating_sub(1)
-    }
-
-    /// The number of the data record at hand, where a time lies in it.
-    pub(crate) fn number_at(&self, at_ps: i128) -> Option<u64> {
-        let stretch = self.stretch()?;
-        if stretch.from_ps <= at_ps && at_ps < stretch.to_ps {
-            Some(self.number())
-        } else {
-            None
+    /// The data record at hand, and its number from 0 on.
+    pub(crate) fn hand(&self) -> Hand {
+        Hand {
+            stretch: self.stretch(),
+            number: self.read.saturating_sub(1),
         }
     }
 
@@ -174,26 +168,40 @@ impl Stand {
         }
     }
 
+    /// All samples of a signal in the data record at hand, which has this time.
+    fn samples_in(&self, lane: Lane, stretch: Stretch) -> Run<'_> {
+        Run {
+            bytes: self.bytes(lane.signal),
+            start_ps: stretch.from_ps,
+            duration_ps: self.header().duration_ps(),
+            samples: lane.samples,
+            from: 0,
+            to: lane.samples as usize,
+        }
+    }
+
     /// All samples of a signal in the data record at hand.
     pub(crate) fn samples(&self, lane: Lane) -> Run<'_> {
         match self.stretch() {
-            Some(stretch) => Run {
-                bytes: self.bytes(lane.signal),
-                start_ps: stretch.from_ps,
-                duration_ps: self.header().duration_ps(),
-                samples: lane.samples,
-                from: 0,
-                to: lane.samples as usize,
-            },
+            Some(stretch) => self.samples_in(lane, stretch),
             None => Run::NONE,
         }
     }
 
-    /// The samples of a signal in the data record at hand that aren't done with, up to a time. They are done with then.
-    pub(crate) fn take(&self, lane: &mut Lane, end_ps: i128) -> Run<'_> {
-        let run = self.samples(*lane).behind(lane.done).before(end_ps);
-        lane.done = run.to;
-        run
+    /// The samples of a signal in the data record at hand, which has this time, that aren't done with, up to a time. They are done
+    /// with then.
+    pub(crate) fn take(&self, lane: &mut Lane, hand: Hand, end_ps: i128) -> Run<'_> {
+        let Some(stretch) = hand.stretch else {
+            return Run::NONE;
+        };
+        let run = self.samples_in(*lane, stretch).behind(lane.done);
+        let taken = if end_ps < stretch.to_ps {
+            run.before(end_ps)
+        } else {
+            run
+        };
+        lane.done = taken.to;
+        taken
     }
 
     /// The bytes of the data record at hand.

@@ -57,11 +57,12 @@ impl Track {
 
     /// Takes in the samples of both files up to a time, of which all those of the original are kept, or none.
     pub(crate) fn compare(&mut self, stands: Stands<'_>, end_ps: i128, is_kept: bool) {
-        let original = stands.original.take(&mut self.original, end_ps);
-        let export = stands.export.take(&mut self.export, end_ps);
+        let (old, new) = stands.hands;
+        let original = stands.original.take(&mut self.original, old, end_ps);
+        let export = stands.export.take(&mut self.export, new, end_ps);
         if !is_kept || original.is_empty() {
             self.extra.add(export, stands);
-        } else if original.is_on_grid_of(&export) {
+        } else if !self.has_other_rate && original.begins_with(&export) {
             self.compare_on_grid(original, export, stands);
         } else {
             self.compare_apart(original, export, stands);

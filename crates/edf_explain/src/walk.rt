@@ -404,10 +404,7 @@ impl<'a> Walk<'a> {
             self.alike = self.alike.saturating_add(1);
             return;
         }
-        let stands = Stands {
-            original: &self.original,
-            export: &self.export,
-        };
+        let stands = Stands::new(&self.original, &self.export);
         let is_kept = self.claim.keeps_instant(from_ps, 1);
         compare_all(&mut self.tracks, stands, end_ps, is_kept);
     }

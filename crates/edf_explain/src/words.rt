@@ -568,7 +568,8 @@ pub(crate) const BEGIN_UNSEEN: &str =
 /// The time, the text, and what is spelled in it.
 pub(crate) const NAME_IN_NOTE: &str = "The annotation at {0} has something spelled like {2}: {1}.";
 /// The label, the text, and what is spelled in it.
-pub(crate) const NAME_IN_CHANNEL: &str = "A text of channel {0} has something spelled like {2}: {1}.";
+pub(crate) const NAME_IN_CHANNEL: &str =
+    "A text of channel {0} has something spelled like {2}: {1}.";
 /// The subfield, its text, and what is spelled in it.
 pub(crate) const NAME_IN_SUBFIELD: &str =
     "The subfield {0} of the export has something spelled like {2}: {1}.";
