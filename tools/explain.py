@@ -43,9 +43,9 @@ WORDS = {
     "an annotation at the end of the interval": ["exactly at the end of a kept interval"],
     "an annotation at the end of the recording": [
         "exactly at the end of a kept interval",
-        'With to = "3.000000000001" in the place of "3" the answer would be YES channels 2 samples 18 annotations 3. ',
+        'With to = "3.000000000001" in place of "3" the answer would be YES channels 2 samples 18 annotations 3. ',
     ],
-    "an annotation outside of the interval": ["outside of the kept intervals"],
+    "an annotation outside of the interval": ["outside the kept intervals"],
     "extremes that are cut off": ['"EEG Fpz-Cz"', "digits cut off", "3276.7 ", "3276.699 ", "EDFlib"],
     "a text that is cut": ["cut texts to 40 bytes", "EDFlib"],
     "a time that is rounded": ["a little earlier or later", "0.1 ms"],
@@ -64,7 +64,7 @@ WORDS = {
     "a key of a claim that is misspelt": ["line 3: remvoe = ", "remove may be meant"],
     "a name of a subfield that is misspelt": ['"brithdate"', "birthdate may be meant"],
     "single brackets": ["[[keep]]", "double brackets"],
-    "a shift behind an interval": ["shift", "in front of the first [[keep]]"],
+    "a shift behind an interval": ["shift", "before the first [[keep]]"],
     "the claim and the export exchanged": ["looks like a recording", "The order is: the original, the export, the claim"],
     "the claim for the export": ["looks like a claim", "The order is: the original, the export, the claim"],
     "the claim for the original": ["looks like a claim", "The order is: the original, the export, the claim"],
@@ -294,7 +294,7 @@ class Explanations:
             path = "/dev/stdin" if export is WHOLE else export
             ran = subprocess.run([self.program, "explain", original, path, claim], input=WHOLE, capture_output=True)
             lines = ran.stdout.splitlines()
-            is_anew = len(lines) == 2 and b"these sentences aren't to be used" in lines[1]
+            is_anew = len(lines) == 2 and b"don't use these sentences" in lines[1]
             well = ran.returncode == 0 and lines[0].startswith(b"YES ") and is_anew != is_there
             self.judge(f"explain from {path}", None if well else shown((ran.returncode, ran.stdout, ran.stderr)))
 

@@ -47,9 +47,9 @@ def with_notes(*notes, edits=(), base=NIGHT, size=240):
 NAME = "a word of the patient's name"
 CODE = "the code by which the hospital knows the patient"
 BIRTH = "the day of birth"
-EXTRAS = "a word of what stands behind the patient's name"
+EXTRAS = "a word of what comes after the patient's name"
 NUMBER = "the number of the investigation"
-TECHNICIAN = "the name or the initials of who recorded"
+TECHNICIAN = "the name or the initials of who made the recording"
 TEXTS = [
     ("haagse schnarcht", NAME),
     ("Fr. Haagses Tochter ruft an", NAME),
@@ -197,7 +197,7 @@ def scaled(low, high):
 
 def of_scales():
     """Extremes that differ by what eight characters don't hold, and by more."""
-    cut, other = "with their last digits cut off", "They may have been rounded, or the samples were scaled anew."
+    cut, other = "with their last digits cut off", "They may have been rounded, or the samples were rescaled."
     for original, export, is_cut in (
         (("-3276.7", "3276.7"), ("-3276.69", "3276.699"), True),
         (("-3276.7", "3276.7"), ("-3276.7", "3276.699"), True),
@@ -271,7 +271,7 @@ def of_samples():
         there, absent = ([looks, "24 of the 24"], [filtered]) if is_all else ([filtered], [looks])
         yield name, 1, WHOLE, with_values(change), ALL_OF_IT, there, absent
     between = "an interval lies within a data record, and no sample of a claimed channel stands in it"
-    behind = "its intervals lie behind the end of the recording, in a gap, or before its first data record"
+    behind = "its intervals lie after the end of the recording, in a gap, or before its first data record"
     for keep, there, absent in (((("0.1", "0.2"),), [between], [behind]), ((("100", "101"),), [behind], [between]),
                                 ((("0.1", "0.3"),), [], [behind, between])):
         yield f"what is kept is {keep}", 1, WHOLE, WHOLE, claim_of(BOTH, "", keep), there, absent
@@ -290,13 +290,13 @@ def of_rates():
     half = [[40 * record, 40 * record + 20] for record in range(4)]
     missing = 'Channel "EEG Fpz-Cz": 8 samples that the claim keeps are missing in the export.'
     extra = 'Channel "EEG Fpz-Cz": 8 samples of the export are ones that the claim doesn\'t keep'
-    at = "  The first stands at 0.25 s ", "  The last stands at 3.75 s "
+    at = "  The first is at 0.25 s ", "  The last is at 3.75 s "
     changed = "another value in the export"
     yield "half the samples", 1, WHOLE, sampled(half), ALL_OF_IT, [rate, missing, *at], [changed]
     yield "twice the samples", 1, sampled(half), WHOLE, ALL_OF_IT, [rate, extra, *at], [changed]
     other = [half[0], [40, 61], *half[2:]]
     yield ("half the samples, of which one is another", 1, WHOLE, sampled(other), ALL_OF_IT,
-           [missing, 'Channel "EEG Fpz-Cz": 1 sample has another value', "  It stands at 1.5 s ", ": 60 in the original, 61 in the export."], [])
+           [missing, 'Channel "EEG Fpz-Cz": 1 sample has another value', "  It is at 1.5 s ", ": 60 in the original, 61 in the export."], [])
     third = [[40 * record + place for place in range(3)] for record in range(4)]
     yield ("three samples for four", 1, WHOLE, sampled(third), ALL_OF_IT,
            ['Channel "EEG Fpz-Cz": 12 samples that the claim keeps are missing',
@@ -334,7 +334,7 @@ def of_removed_texts():
     for key, there, absent in ((keys[0], removed, blanked), (keys[1], removed, blanked), (keys[2], blanked, removed)):
         yield f"a text in the interval, {key}", 1, early, early, claim_of(BOTH, key, ALL, 2), [there], [absent]
         yield (f"a text outside of the interval, {key}", 1, late, half, claim_of(BOTH, key, [("0", "2")], 2), [there],
-               [absent, "outside of the kept intervals"])
+               [absent, "outside the kept intervals"])
     literal, other = with_notes(note(0.5, "X")), with_notes(note(0.5, "Y"))
     yield ("another text for an X of the original", 1, literal, other, ALL_OF_IT,
            ["    At this time the claim keeps an annotation with another text, which the export lacks."], [blanked, removed])
@@ -427,8 +427,8 @@ def of_one_way():
     def pair(change):
         return (with_notes(*(note(*one) for one in some)) for some in (notes, [change(*one) for one in notes]))
 
-    lost, later, earlier = "All 3 annotations that differ lack their durations", "0.125 s later", "0.125 s earlier"
-    moved = "All 3 annotations that differ are moved"
+    lost, later, earlier = "All 3 annotations that differ only lack their durations", "0.125 s later", "0.125 s earlier"
+    moved = "All 3 annotations that differ are only moved"
     listed = "The export lacks 3 annotations"
     yield "durations that are lost", 1, *pair(lambda at, text, span: (at, text)), ALL_OF_IT, [lost], [moved, listed]
     yield ("durations that are lost, and a text that is another", 1,
@@ -459,13 +459,13 @@ def of_claims():
         yield f"a claim with {name}", 2, WHOLE, WHOLE, claimed(line, *KEEP), [words], []
     yield "a claim without marks", 2, WHOLE, WHOLE, claimed("shift = off", *KEEP), [], ["This line has"]
     yield ("a time with an en dash", 2, WHOLE, WHOLE, claimed("[[keep]]", 'from = "0\u20134"', 'to = "4"'),
-           ["from has an en dash (U+2013)"], ["is no number of seconds"])
-    day = "86400 s are one day"
+           ["from has an en dash (U+2013)"], ["a number of seconds"])
+    day = "one day is 86400 s"
     for text, unit, seconds in (('"-100 days"', day, -8640000), ('"-100days"', day, -8640000), ("-100 days", day, -8640000),
-                                ('"2 hours"', "3600 s are one hour", 7200), ('"-1 week"', "604800 s are one week", -604800)):
+                                ('"2 hours"', "one hour is 3600 s", 7200), ('"-1 week"', "one week is 604800 s", -604800)):
         yield (f"a shift of {text}", 2, WHOLE, WHOLE, claimed(f"shift = {text}", *KEEP),
                [unit, f"is shift = {seconds}"], ["This line has"])
-    yield "a shift between quotation marks", 2, WHOLE, WHOLE, claimed('shift = "-86400"', *KEEP), ["without quotation marks"], ["s are one"]
+    yield "a shift between quotation marks", 2, WHOLE, WHOLE, claimed('shift = "-86400"', *KEEP), ["without quotation marks"], ["one day is"]
     for text, seconds in (("00:10:00", 600), ("23:30", 84600), ("1:00:01", 3601)):
         yield (f"the clock {text}", 2, WHOLE, WHOLE, claimed("[[keep]]", f'from = "{text}"', 'to = "99999"'),
                [f'"{text}" is {seconds} s: as a length of time, from = "{seconds}"'], [])

@@ -115,7 +115,7 @@ def with_no():
            ["With shift", "were tried"])
     other = {label: [value + 1 for value in channel] for label, channel in NIGHT.channels.items()}
     yield ("another night", 1, NIGHT, NIGHT.but(channels=other).cut(10, 70, -DAY), of_ten(),
-           ['"EEG Fpz-Cz": 240 samples have another value', "360 of the 360 that both files have at one time: it looks like another cut"],
+           ['"EEG Fpz-Cz": 240 samples have another value', "360 of the 360 that both files have at the same time: it looks like another cut"],
            ["a filter", "The export starts", *NO_SHIFT])
     half = {**NIGHT.channels, "ECG": other["ECG"]}
     yield ("another filter of one channel", 1, NIGHT, NIGHT.but(channels=half).cut(10, 70, -DAY), of_ten(),

@@ -35,18 +35,18 @@ TEXTS = ["Apnea", "Lights off", "Arousal", "Position left", "Movement"]
 
 DAY = 86_400
 AT = r"at (\S+) s \((\S+ \S+) in the original, (\S+ \S+) in the export\)"
-SPOT = re.compile(rf"^  (It|The first|The last) stands {AT}(?:, data record (\d+) of the original)?"
+SPOT = re.compile(rf"^  (It|The first|The last) is {AT}(?:, data record (\d+) of the original)?"
                   r"(?:, data record (\d+) of the export)?(?:: (-?\d+) in the original, (-?\d+) in the export)?\.$")
 COUNTS = {
     "missing": re.compile(r'^Channel "(.*)": (\d+) samples? that the claim keeps (?:is|are) missing in the export\.$'),
     "extra": re.compile(r'^Channel "(.*)": (\d+) samples? of the export (?:is one|are ones) that the claim doesn\'t keep'),
     "changed": re.compile(r'^Channel "(.*)": (\d+) samples? (?:has|have) another value in the export\.$'),
 }
-STARTS = re.compile(r"^The export starts (.*) (earlier|later) than claimed: its first samples stand at (\S+ \S+), "
-                    r"and by the claim they stand at (\S+ \S+)\.$")
+STARTS = re.compile(r"^The export starts (.*) (earlier|later) than claimed: its first samples are at (\S+ \S+), "
+                    r"and by the claim they should be at (\S+ \S+)\.$")
 WITH = re.compile(r"^With shift = (-?\d+) (?:the answer would be (YES .*)\. Export again|the first difference would be (NO .*)\.$)")
 CHANNELS = re.compile(r'^With channels = \["(.*)"\] (?:the answer would be (YES .*)\. Export again|the first difference would be (NO .*)\.$)')
-END = re.compile(r'^With to = "(\d+)\.0{11}1" in the place of "(\d+)" (?:the answer would be (YES .*)\. Export again'
+END = re.compile(r'^With to = "(\d+)\.0{11}1" in place of "(\d+)" (?:the answer would be (YES .*)\. Export again'
                  r"|the first difference would be (NO .*)\.$)")
 TRIED = re.compile(r"^Other shifts were tried, and with none of them the first samples are as claimed: ([-0-9, ]*)\.")
 RECKONED = re.compile(r"What follows is worked out with shift = (-?\d+)")
@@ -54,8 +54,8 @@ NOTES = {
     "lacks": re.compile(r"^The export lacks (\d+) annotations? that the claim keeps:$"),
     "has": re.compile(r"^The export has (\d+) annotations? that the claim doesn't keep:$"),
 }
-ONE_WAY = re.compile(r"^All (\d+) annotations that differ (?:are moved, and no more: the export has each of them with its text and its duration, "
-                     r"(.*) (later|earlier) than the claim keeps it|(lack their durations, and no more))")
+ONE_WAY = re.compile(r"^All (\d+) annotations that differ (?:are only moved: the export has each of them with its text and its duration, "
+                     r"(.*) (later|earlier) than the claim keeps it|(only lack their durations))")
 LENGTH = re.compile(r"(\d+(?:\.\d+)?) (days?|hours?|minutes?|s)\b")
 UNITS = {"day": DAY * PS, "hour": 3600 * PS, "minute": 60 * PS}
 

@@ -84,7 +84,7 @@ fn field_cause(cause: FieldCause) -> &'static str {
             "The field begins with a space, or is empty. EDF+ asks for X where nothing is stated."
         }
         FieldCause::TooFewSubfields => {
-            "The field has too few words: the patient has a code, a sex, a birthdate and a name, the recording has Startdate, a date, a number, a technician and the equipment."
+            "The field has too few words: EDF+ asks for a code, a sex, a birthdate and a name of the patient, and for Startdate, a date, a number, a technician and the equipment of the recording."
         }
         FieldCause::BadSex => "The sex isn't F, M or X.",
         FieldCause::BadDate => {
@@ -125,14 +125,14 @@ const NO_DURATION_OF_RECORD: &str =
 const NO_SIGNALS: &str = "There are no signals. Export with channels.";
 
 const DIGITAL_RANGE: &str =
-    "The channel's digital range goes beyond -32768 to 32767, or its maximum isn't above its minimum: the file may have 24 bits. Export as EDF+ with 16 bits.";
+    "The channel's digital range goes beyond -32768 to 32767, or its maximum isn't above its minimum. If the file has 24 bits, export it as EDF+ with 16 bits; if not, export again with other software.";
 
 const PHYSICAL_RANGE: &str =
     "The physical minimum and maximum are the same, so the numbers have no meaning: set the channel's range in the recording system.";
 
 const NO_SAMPLES: &str = "The signal has no samples: export without this signal.";
 
-const OTHER_RANGE: &str = "This number isn't allowed there.";
+const OTHER_RANGE: &str = "This number isn't allowed here.";
 
 const TRUNCATED: &str =
     "The file ends before everything that its header announces: it looks like a copy that was broken off, or a recording that wasn't closed. Copy it again, and compare the sizes.";
@@ -150,7 +150,7 @@ const BAD_VERSION: &str =
     "The file doesn't begin as an EDF file does: it is of another kind, or was damaged. Export it as EDF+.";
 
 const BAD_START: &str =
-    "The start isn't a day such as 17.03.19 and a time such as 23.10.00, or its year is after 2084 and isn't written as yy beside the date in the recording's line.";
+    "The start isn't a day such as 17.03.19 and a time such as 23.10.00, or the year is written as yy, as after 2084, and the recording's line has no date of that time.";
 
 const STARTDATE_DIFFERS: &str =
     "The header gives the day of the recording twice, and the two differ: it looks like only one of them was moved, or a year after 2084 was written with two digits.";
@@ -274,18 +274,18 @@ pub(crate) const EXPORT_TWICE: &str =
     "Both files say the same in their headers, and have X where the claim hides something: it looks like the export was typed as the original, too. The order is: the original, the export, the claim.";
 
 pub(crate) const ORIGINAL_TWICE: &str =
-    "Both files say the same in their headers, though the claim moves or hides something: it looks like the original was typed as the export, too, or nothing was moved and hidden in the export. The order is: the original, the export, the claim.";
+    "Both files say the same in their headers, though the claim moves or hides something: it looks like the original was typed as the export, too, or nothing was moved or hidden in the export. The order is: the original, the export, the claim.";
 
 pub(crate) const EXCHANGED: &str =
-    "The original has X where the claim hides something, and the export hasn't: it looks like these two were exchanged. The order is: the original, the export, the claim.";
+    "The original has X where the claim hides something, and the export doesn't: it looks like these two were exchanged. The order is: the original, the export, the claim.";
 
 // Channels. The label is the first thing.
 
 pub(crate) const UNKNOWN_CHANNEL: &str =
-    "The claim names channel {0}, and the original doesn't have it: it may be misspelt. Compare the claim with what edfclaim show prints of the original. Small and capital letters and spaces count.";
+    "The claim names channel {0}, but the original doesn't have it: it may be misspelt. Compare the claim with what edfclaim show prints of the original. Small and capital letters and spaces count.";
 
 pub(crate) const MISSING_CHANNEL: &str =
-    "The claim names channel {0}, and the export doesn't have it: if it is to go out, export again with it.";
+    "The claim names channel {0}, but the export doesn't have it: if it is to go out, export again with it.";
 
 pub(crate) const CHANNEL_NOWHERE: &str =
     "The claim names channel {0}, and neither the original nor the export has it: it may be misspelt. Compare the claim with what edfclaim show prints of the original. Small and capital letters and spaces count.";
@@ -326,10 +326,10 @@ pub(crate) const CALIBRATION_CUT_OFF: &str =
     "  It looks like the original's extremes with their last digits cut off: they differ by no more than one unit of the last digit that eight characters hold. Some writers cut digits off and don't round: EDFlib writes 3276.7 as 3276.699. Have the recorder write extremes that survive, such as whole numbers, or export with other software.";
 
 pub(crate) const CALIBRATION_DIMENSION: &str =
-    "  The unit is another one. Export again with the original's unit and extremes.";
+    "  The unit is different. Export again with the original's unit and extremes.";
 
 pub(crate) const CALIBRATION_SCALE: &str =
-    "  Export again with the original's extremes. They may have been rounded, or the samples were scaled anew.";
+    "  Export again with the original's extremes. They may have been rounded, or the samples were rescaled.";
 
 pub(crate) const FREE_TEXT_OF_CHANNEL: &str =
     "In the export, channel {0} has the text {1} in its reserved field, where anybody can write anything: export again with this field empty, whatever it holds.";
@@ -340,7 +340,7 @@ pub(crate) const FREE_TEXT_OF_HEADER: &str =
 // Subfields. The name is the first thing, the meaning the second.
 
 pub(crate) const SUBFIELD_NOT_X: &str =
-    "The claim hides {0} ({1}), and the export shows something there. The export doesn't go out: make it again with X in this place.";
+    "The claim hides {0} ({1}), but the export shows something there. The export doesn't go out: make it again with X in this place.";
 
 pub(crate) const SUBFIELD_CHANGED: &str =
     "The claim doesn't hide {0} ({1}), and the export has another text there than the original: export again with the original's text; or, if it is to be hidden, with X in this place, and add \"{0}\" to anonymous in the claim.";
@@ -361,12 +361,12 @@ pub(crate) fn meaning(which: Which) -> &'static str {
         Which::Sex => "the patient's sex",
         Which::Birthdate => "the day of birth",
         Which::Name => "the patient's name",
-        Which::PatientExtras => "all that stands behind the patient's name",
+        Which::PatientExtras => "everything that comes after the patient's name",
         Which::Date => "the day of the recording, as the recording's line says it",
         Which::Administration => "the number of the investigation",
-        Which::Technician => "who recorded",
+        Which::Technician => "who made the recording",
         Which::Equipment => "the equipment that was used",
-        Which::RecordingExtras => "all that stands behind the equipment",
+        Which::RecordingExtras => "everything that comes after the equipment",
     }
 }
 
@@ -374,16 +374,16 @@ pub(crate) fn meaning(which: Which) -> &'static str {
 
 /// By how much, when it starts, and when it is claimed to.
 pub(crate) const STARTS_EARLIER: &str =
-    "The export starts {0} earlier than claimed: its first samples stand at {1}, and by the claim they stand at {2}.";
+    "The export starts {0} earlier than claimed: its first samples are at {1}, and by the claim they should be at {2}.";
 
 pub(crate) const STARTS_LATER: &str =
-    "The export starts {0} later than claimed: its first samples stand at {1}, and by the claim they stand at {2}.";
+    "The export starts {0} later than claimed: its first samples are at {1}, and by the claim they should be at {2}.";
 
 pub(crate) const SHIFT_FORGOTTEN: &str =
     "It starts as if nothing had been moved: it looks like the shift of the claim was forgotten in the export, or isn't meant. The date of the recording may then be the true one, and the export doesn't go out before that is settled.";
 
 pub(crate) const SHIFT_TURNED: &str =
-    "It starts as if it had been moved the other way: it looks like the sign of the shift was turned, in the export or in the claim.";
+    "It starts as if it had been moved the other way: it looks like the sign of the shift was reversed, in the export or in the claim.";
 /// A shift that was tried, and what the check answers with it.
 pub(crate) const WITH_SHIFT_YES: &str =
     "With shift = {0} the answer would be {1}. Export again, or claim this shift if it is meant. Nothing else differs, so no sample and no annotation is listed.";
@@ -408,18 +408,18 @@ pub(crate) const NO_SHIFT_FITS: &str =
     "No shift lets it start as claimed, as a shift is whole seconds. Where the original starts inside a second, its first data record says so, and so does that of an export: some software leaves this fraction out.";
 
 pub(crate) const SHIFT_BEYOND: &str =
-    "No shift lets it start as claimed, as a shift is at most 10000000000 s.";
+    "No shift lets it start as claimed, as a shift is at most 10000000000 s either way.";
 
 pub(crate) const NOTHING_KEPT: &str =
-    "The claim keeps no sample of the original: its intervals lie behind the end of the recording, in a gap, or before its first data record. They count seconds from the original's start.";
+    "The claim keeps no sample of the original: its intervals lie after the end of the recording, in a gap, or before its first data record. They count seconds from the original's start.";
 
 pub(crate) const KEPT_BETWEEN: &str =
-    "The claim keeps no sample of the original: an interval lies within a data record, and no sample of a claimed channel stands in it, as between two samples. An interval keeps what stands at its beginning, and not what stands at its end.";
+    "The claim keeps no sample of the original: an interval lies within a data record, and no sample of a claimed channel stands in it, for instance between two samples. An interval keeps what stands at its beginning, and not what stands at its end.";
 
 // Samples. The label is the first thing, how many there are the second.
 
 pub(crate) const OTHER_RATE: &str =
-    "Channel {0} has another number of samples a second in the export: it looks like it was sampled anew, or is another channel of this label. Neither is a cut of the original.";
+    "Channel {0} has another number of samples a second in the export: it looks like it was resampled, or is another channel with this label. Neither is a cut of the original.";
 
 pub(crate) const SAMPLE_MISSING: &str =
     "Channel {0}: 1 sample that the claim keeps is missing in the export.";
@@ -438,11 +438,11 @@ pub(crate) const SAMPLE_CHANGED: &str = "Channel {0}: 1 sample has another value
 pub(crate) const SAMPLES_CHANGED: &str =
     "Channel {0}: {1} samples have another value in the export.";
 
-pub(crate) const THE_SAMPLE: &str = "  It stands ";
+pub(crate) const THE_SAMPLE: &str = "  It is ";
 
-pub(crate) const THE_FIRST: &str = "  The first stands ";
+pub(crate) const THE_FIRST: &str = "  The first is ";
 
-pub(crate) const THE_LAST: &str = "  The last stands ";
+pub(crate) const THE_LAST: &str = "  The last is ";
 
 pub(crate) const RECORD_OF_ORIGINAL: &str = ", data record {0} of the original";
 
@@ -460,7 +460,7 @@ pub(crate) const CAUSE_OF_CHANGED: &str =
     "It looks like a filter, a new scale or a mistake in copying: none of these is a cut of the original.";
 /// How many samples have other values, of how many that both files have.
 pub(crate) const CAUSE_OF_ALL_CHANGED: &str =
-    "Nearly all samples have other values in each of the channels, {0} of the {1} that both files have at one time: it looks like another cut of the night than claimed, or another night. A filter or a new scale of all channels does so, too, and is no cut of the original.";
+    "Nearly all samples have other values in each of the channels, {0} of the {1} that both files have at the same time: it looks like another cut of the night than claimed, or another night. A filter or a new scale of all channels would do so, too, and is no cut of the original.";
 
 // Annotations.
 
@@ -474,13 +474,13 @@ pub(crate) const NOTES_EXTRA: &str = "The export has {0} annotations that the cl
 
 /// How many annotations, and by how much they are moved.
 pub(crate) const NOTES_LATER: &str =
-    "All {0} annotations that differ are moved, and no more: the export has each of them with its text and its duration, {1} later than the claim keeps it.";
+    "All {0} annotations that differ are only moved: the export has each of them with its text and its duration, {1} later than the claim keeps it.";
 
 pub(crate) const NOTES_EARLIER: &str =
-    "All {0} annotations that differ are moved, and no more: the export has each of them with its text and its duration, {1} earlier than the claim keeps it.";
+    "All {0} annotations that differ are only moved: the export has each of them with its text and its duration, {1} earlier than the claim keeps it.";
 
 pub(crate) const NOTES_WITHOUT_DURATIONS: &str =
-    "All {0} annotations that differ lack their durations, and no more: the export has each of them at its time and with its text. Export again with durations.";
+    "All {0} annotations that differ only lack their durations: the export has each of them at its time and with its text. Export again with durations.";
 
 pub(crate) const LISTED: &str = "  ";
 
@@ -497,12 +497,12 @@ pub(crate) const AT_END: &str =
 
 /// The end of an interval that was tried, the claimed one, and what the check answers with it.
 pub(crate) const WITH_END_YES: &str =
-    "With to = \"{0}\" in the place of \"{1}\" the answer would be {2}. Export again, or claim this end if it is meant.";
+    "With to = \"{0}\" in place of \"{1}\" the answer would be {2}. Export again, or claim this end if it is meant.";
 
 pub(crate) const WITH_END_NO: &str =
-    "With to = \"{0}\" in the place of \"{1}\" the first difference would be {2}.";
+    "With to = \"{0}\" in place of \"{1}\" the first difference would be {2}.";
 
-pub(crate) const OUTSIDE: &str = "    It begins outside of the kept intervals.";
+pub(crate) const OUTSIDE: &str = "    It begins outside the kept intervals.";
 
 pub(crate) const REMOVED_BUT_THERE: &str =
     "    The claim removes this text. If it names somebody, the export doesn't go out.";
@@ -547,14 +547,14 @@ pub(crate) const NOTES_ALL: &str = "Run edfclaim notes on both files to see all 
 
 /// Where the second reading finds something behind a Yes, or nothing behind a No.
 pub(crate) const READ_ANEW: &str =
-    "The second reading of the files doesn't find what the first line says: a file was changed between the two, or can't be read twice. The first line is the answer, and these sentences aren't to be used.";
+    "The second reading of the files doesn't find what the first line says: a file was changed between the two, or can't be read twice. The first line is the answer: don't use these sentences.";
 
 pub(crate) const CHECK_AGAIN: &str = "Mend what is named here, and check again.";
 
 // Behind a Yes.
 
 pub(crate) const AS_CLAIMED: &str =
-    "Before the export goes out, a person reads its texts: a Yes says nothing of names in them.";
+    "Before the export goes out, a person reads its texts: a Yes says nothing about names in them.";
 /// The text, and its key.
 pub(crate) const TEXT_UNSEEN: &str =
     "No annotation in the kept intervals of the original has exactly the text {0} of {1}: it may be misspelt.";
@@ -584,12 +584,12 @@ pub(crate) fn spelled(which: Which) -> &'static str {
         Which::Sex => "the patient's sex",
         Which::Birthdate => "the day of birth",
         Which::Name => "a word of the patient's name",
-        Which::PatientExtras => "a word of what stands behind the patient's name",
+        Which::PatientExtras => "a word of what comes after the patient's name",
         Which::Date => "the day of the recording",
         Which::Administration => "the number of the investigation",
-        Which::Technician => "the name or the initials of who recorded",
+        Which::Technician => "the name or the initials of who made the recording",
         Which::Equipment => "a word of the equipment",
-        Which::RecordingExtras => "a word of what stands behind the equipment",
+        Which::RecordingExtras => "a word of what comes after the equipment",
     }
 }
 
@@ -598,12 +598,12 @@ pub(crate) const SUBFIELDS_SHOWN: &str = "These subfields of the export aren't X
 pub(crate) const NEXT_SUBFIELD: &str = ", {0}";
 
 pub(crate) const CHANNEL_TEXTS: &str =
-    "These texts stand beside the labels of channels, and no claim hides them:";
+    "These texts are in the header beside the labels of channels, and no claim hides them:";
 /// The label, the sensor and the filter.
 pub(crate) const CHANNEL_TEXT: &str = "  channel {0}, sensor {1}, filter {2}";
 
 pub(crate) const READ_THE_TEXTS: &str =
-    "Read all texts of the export by edfclaim notes and edfclaim show.";
+    "Read all texts of the export with edfclaim notes and edfclaim show.";
 
 // A file that can't be opened: its path, and why the system doesn't open it. And one that can't be read: its path.
 
@@ -648,12 +648,12 @@ pub(crate) const FORMAT_QUOTED: &str = "write format = 1 or format = 2, without 
 pub(crate) const FORMAT_OTHER: &str = "write format = 1 or format = 2";
 
 pub(crate) const FORMAT_IN_TABLE: &str =
-    "this line stands behind a [[keep]] and belongs to it: write it in front of the first [[keep]]";
+    "this line comes after a [[keep]] and belongs to it: write it before the first [[keep]]";
 /// The key.
 pub(crate) const KEY_OF_FORMAT_2: &str = "{0} is a key of format 2: write format = 2";
 
 pub(crate) const KEY_OF_KEEP: &str =
-    "{0} belongs in an interval: write [[keep]] in the line in front of it";
+    "{0} belongs in an interval: write [[keep]] in the line above it";
 /// The key, and the one that may be meant.
 pub(crate) const KEY_MISSPELT: &str = "{0} isn't a key of a claim: {1} may be meant";
 
@@ -666,16 +666,16 @@ pub(crate) const SHIFT_TOO_LARGE: &str =
 pub(crate) const SHIFT_NOT_WHOLE: &str =
     "a shift is whole seconds: write it without a dot and without an exponent";
 
-pub(crate) const SHIFT_QUOTED: &str = "write the shift without quotation marks, as shift = -86400";
+pub(crate) const SHIFT_QUOTED: &str = "write the shift without quotation marks, such as shift = -86400";
 
 /// What stands there, the seconds, the unit, and how many seconds it has.
 pub(crate) const SHIFT_IN_UNITS: &str =
-    "a shift is whole seconds, without quotation marks and without a unit: {3} s are one {2}, so {0} is shift = {1}";
+    "a shift is whole seconds, without quotation marks and without a unit: one {2} is {3} s, so {0} is shift = {1}";
 
-pub(crate) const SHIFT_OTHER: &str = "a shift is whole seconds, as shift = -86400 for a day back";
+pub(crate) const SHIFT_OTHER: &str = "a shift is whole seconds, such as shift = -86400 for a day back";
 /// The key.
 pub(crate) const TEXTS_MISSING: &str =
-    "The claim has no {0} in front of the first [[keep]]: write {0} = [\"..\"], with each text between quotation marks.";
+    "The claim has no {0} before the first [[keep]]: write {0} = [\"..\"], with each text between quotation marks.";
 
 pub(crate) const TEXTS_NO_ARRAY: &str =
     "write {0} = [\"..\"]: a list between [ and ], with each text between quotation marks";
@@ -686,7 +686,7 @@ pub(crate) const TEXTS_NO_TEXT: &str =
 pub(crate) const TEXTS_NESTED: &str =
     "there is a list in the list of {0}: write all texts in one list";
 /// The text, and the key.
-pub(crate) const TEXT_TWICE: &str = "{0} stands twice in {1}: write it once";
+pub(crate) const TEXT_TWICE: &str = "{0} occurs twice in {1}: write it once";
 
 pub(crate) const PREFIX_EMPTY: &str =
     "an empty text in remove-prefix would remove all annotations: take it out";
@@ -703,14 +703,14 @@ pub(crate) const LABEL_NOT_ASCII: &str =
 pub(crate) const LABEL_WITH_CONTROL: &str =
     "{0} can't be a label: it has a control character, such as a tab or a line break";
 
-pub(crate) const LABEL_TOO_LONG: &str = "{0} can't be a label: a label has at most 16 letters";
+pub(crate) const LABEL_TOO_LONG: &str = "{0} can't be a label: a label has at most 16 characters";
 
 pub(crate) const LABEL_WITH_SPACE: &str =
     "{0} can't be a label: write it without the space at its end";
 /// The name, and the one that may be meant.
-pub(crate) const NAME_MISSPELT: &str = "{0} is no subfield: {1} may be meant";
+pub(crate) const NAME_MISSPELT: &str = "{0} isn't a subfield: {1} may be meant";
 
-pub(crate) const NAME_UNKNOWN: &str = "{0} is no subfield";
+pub(crate) const NAME_UNKNOWN: &str = "{0} isn't a subfield";
 
 pub(crate) const NAMES: &str = "The names that anonymous can have are: {0}";
 
@@ -720,19 +720,19 @@ pub(crate) const KEEP_MISSING: &str =
 pub(crate) const KEEP_SINGLE: &str =
     "An interval is written below [[keep]], with double brackets, even where there is only one: [keep] means something else.";
 
-pub(crate) const KEEP_TOO_MANY: &str = "The claim keeps {0} intervals: 1000 are allowed.";
+pub(crate) const KEEP_TOO_MANY: &str = "The claim keeps {0} intervals: at most 1000 are allowed.";
 
 pub(crate) const KEEP_NO_TABLE: &str =
     "write each interval below a line [[keep]] of its own, with a line from = \"..\" and a line to = \"..\"";
 /// The key, and the number of the interval from 1 on.
 pub(crate) const KEEP_HAS_KEY_OF_CLAIM: &str =
-    "{0} stands behind a [[keep]] and belongs to it: write it in front of the first [[keep]]";
+    "{0} comes after a [[keep]] and belongs to it: write it before the first [[keep]]";
 
 pub(crate) const KEEP_HAS_OTHER_KEY: &str =
     "{0} isn't a key of an interval, which has only from and to";
 
 pub(crate) const KEEP_BACKWARDS: &str =
-    "interval {1} ends where it begins, or before: from is below to";
+    "interval {1} ends where it begins, or earlier: from has to be less than to";
 
 pub(crate) const KEEP_OUT_OF_ORDER: &str =
     "interval {1} begins before the one in front of it ends: write the intervals in the order of time, so that none overlap";
@@ -741,7 +741,7 @@ pub(crate) const TIME_MISSING: &str =
     "interval {1} has no {0}: write {0} = \"..\", in seconds from the original's start";
 
 pub(crate) const TIME_NO_TEXT: &str =
-    "{0} is a text: write seconds between quotation marks, as {0} = \"600\"";
+    "{0} has to be a text: write seconds between quotation marks, as {0} = \"600\"";
 /// The key, and what stands there.
 pub(crate) const TIME_NOT_QUOTED: &str = "write {0} = \"{1}\", between quotation marks";
 
@@ -752,7 +752,7 @@ pub(crate) const TIME_EMPTY: &str =
     "{0} is empty: write seconds from the original's start, as {0} = \"600\"";
 
 pub(crate) const TIME_IS_A_CLOCK: &str =
-    "{0} isn't a time of day: write seconds from the original's start, which edfclaim show prints; an hour is 3600 s";
+    "{0} can't be a date or a time of day: write seconds from the original's start, which edfclaim show prints; an hour is 3600 s";
 
 /// The key, what stands there, and the seconds.
 pub(crate) const TIME_IN_SECONDS: &str =
