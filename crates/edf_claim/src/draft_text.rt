@@ -126,12 +126,7 @@ impl Draft {
     }
 
     /// Puts the lines of the intervals behind a text.
-    fn push_keep(
-        &self,
-        text: &mut Vec<u8>,
-        alloc: Global,
-        start: u32,
-    ) -> Result<(), AllocError> {
+    fn push_keep(&self, text: &mut Vec<u8>, alloc: Global, start: u32) -> Result<(), AllocError> {
         push(
             text,
             "\n# the time that the export's data records cover, in seconds from the original's start, and by its clock\nkeep = [\n",

@@ -17,7 +17,8 @@ use edf_job::words::job_of;
 use std::alloc::{AllocError, Global};
 
 /// What the program is, in the help.
-const ABOUT: &str = "Checks that an exported sleep recording (EDF+) is its original, cut and made anonymous exactly as a claim says";
+const ABOUT: &str =
+    "Checks that an exported sleep recording (EDF+) is its original, cut and made anonymous exactly as a claim says";
 
 /// What stands behind the commands in the help.
 const BEHIND: &str = "Example, in the folder of the example night:

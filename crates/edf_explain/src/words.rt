@@ -666,13 +666,15 @@ pub(crate) const SHIFT_TOO_LARGE: &str =
 pub(crate) const SHIFT_NOT_WHOLE: &str =
     "a shift is whole seconds: write it without a dot and without an exponent";
 
-pub(crate) const SHIFT_QUOTED: &str = "write the shift without quotation marks, such as shift = -86400";
+pub(crate) const SHIFT_QUOTED: &str =
+    "write the shift without quotation marks, such as shift = -86400";
 
 /// What stands there, the seconds, the unit, and how many seconds it has.
 pub(crate) const SHIFT_IN_UNITS: &str =
     "a shift is whole seconds, without quotation marks and without a unit: one {2} is {3} s, so {0} is shift = {1}";
 
-pub(crate) const SHIFT_OTHER: &str = "a shift is whole seconds, such as shift = -86400 for a day back";
+pub(crate) const SHIFT_OTHER: &str =
+    "a shift is whole seconds, such as shift = -86400 for a day back";
 /// The key.
 pub(crate) const TEXTS_MISSING: &str =
     "The claim has no {0} before the first [[keep]]: write {0} = [\"..\"], with each text between quotation marks.";

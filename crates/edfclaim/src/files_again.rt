@@ -36,11 +36,7 @@ fn open_again<'a, R: Files + Eprint + Clock + AllocGlobal>(
 
 impl<'a, R: Files + Eprint + Clock + AllocGlobal> FilesAgain<'a, R> {
     /// The recordings at these paths.
-    pub fn new(
-        signs: &'a Signs<'a, R>,
-        original: &'a str,
-        export: &'a str,
-    ) -> FilesAgain<'a, R> {
+    pub fn new(signs: &'a Signs<'a, R>, original: &'a str, export: &'a str) -> FilesAgain<'a, R> {
         FilesAgain {
             signs,
             original,

@@ -20,8 +20,8 @@ use edf_command_line::command;
 use edf_job::job::Job;
 use edf_refusal::refusal::Refusal;
 use edf_refusal::status;
-use std::process::ExitCode;
 use std::io::IsTerminal;
+use std::process::ExitCode;
 use std::rt::{Env, Files};
 use std::time::Clock;
 use std::{env, io};
@@ -96,10 +96,7 @@ fn words_of(rt: &(impl Env + AllocGlobal)) -> io::Result<Vec<String>> {
 }
 
 /// Does what the command line says, and gives the status.
-fn run(
-    rt: &(impl Env + Files + Print + Eprint + Clock + AllocGlobal),
-    is_terminal: bool,
-) -> u8 {
+fn run(rt: &(impl Env + Files + Print + Eprint + Clock + AllocGlobal), is_terminal: bool) -> u8 {
     let words = match words_of(rt) {
         Ok(words) => words,
         Err(fault) if fault.kind() == io::ErrorKind::OutOfMemory => {

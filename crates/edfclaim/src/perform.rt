@@ -86,7 +86,14 @@ fn receipt<'a, R: Files + Eprint + Clock + AllocGlobal, K: Sink>(
     let text = claim_text(signs.rt(), claim)?;
     let mut first = DigestSource::new(watched(signs, original, Role::Original)?);
     let mut second = DigestSource::new(watched(signs, export, Role::Export)?);
-    Ok(receipt_to(signs.rt().alloc(), VERSION, &mut first, &mut second, &text, sink)?)
+    Ok(receipt_to(
+        signs.rt().alloc(),
+        VERSION,
+        &mut first,
+        &mut second,
+        &text,
+        sink,
+    )?)
 }
 
 /// The same as `check_parts`, with a receipt for its answer.
@@ -107,7 +114,14 @@ fn receipt_parts<'a, R: Files + Eprint + Clock + AllocGlobal, K: Sink>(
     let text = claim_text(signs.rt(), claim)?;
     let mut first = DigestSource::new(watched(signs, original, Role::Original)?);
     let mut parts = digested_recordings(signs, exports, Role::Export)?;
-    Ok(receipt_parts_to(signs.rt().alloc(), VERSION, &mut first, &mut parts, &text, sink)?)
+    Ok(receipt_parts_to(
+        signs.rt().alloc(),
+        VERSION,
+        &mut first,
+        &mut parts,
+        &text,
+        sink,
+    )?)
 }
 
 /// Drafts the claim by which a recording is the export of another.
@@ -141,7 +155,14 @@ fn explain<'a, R: Files + Eprint + Clock + AllocGlobal, K: Sink>(
     let mut first = watched(signs, original, Role::Original)?;
     let mut second = watched(signs, export, Role::Export)?;
     let again = FilesAgain::new(signs, original, export);
-    Ok(run_explained(signs.rt().alloc(), &mut first, &mut second, &again, &text, sink)?)
+    Ok(run_explained(
+        signs.rt().alloc(),
+        &mut first,
+        &mut second,
+        &again,
+        &text,
+        sink,
+    )?)
 }
 
 /// Says whether a file conforms.

@@ -86,7 +86,8 @@ impl<'a, R: Clock + Eprint> Signs<'a, R> {
         if self.begun.is_some()
             && let Ok(metadata) = file.metadata()
         {
-            self.whole.set(self.whole.get().saturating_add(metadata.len()));
+            self.whole
+                .set(self.whole.get().saturating_add(metadata.len()));
         }
     }
 
