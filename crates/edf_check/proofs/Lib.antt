@@ -1,6 +1,7 @@
 pub mod CourseFacts
 pub mod JoinFacts
 pub mod KeptFacts
+pub mod LeftFacts
 pub mod PartsFacts
 pub mod FoundFacts
 pub mod CompareFacts

@@ -20,10 +20,11 @@ use Rattle.edf_verdict.specs.declared.verdict.Difference.TheVariants as differen
 use Rattle.edf_check.specs.Annotations.{IsFirstNote, SameNotes}
 use Rattle.edf_check.specs.Courses.{Course, Agree, IsFirstMismatch}
 use Rattle.edf_check.specs.KeptReading.{KeptAt, kept_notes}
-use Rattle.edf_check.specs.Laws.{OneVerdictOnParts}
+use Rattle.edf_check.specs.Laws.{OneVerdict, OneVerdictOnParts, YesExactly}
 use Rattle.edf_check.specs.Parts.{AllConform, ExportedByOne, FollowOneAnother, exported_by_all}
 use Rattle.edf_check.specs.PartsFirst.{GoesFirst, IsFirstFault, IsFirstHead, rank}
 use Rattle.edf_check.specs.PartsVerdicts.{AllInOrder, HaveCounts, IsFirstOverlap, IsVerdictOnParts}
+use Rattle.edf_check.specs.Verdicts.{IsVerdict}
 use Rattle.edf_check.specs.Unions.{IsCutAt}
 use Rattle.edf_check.specs.samples.Cuts.{whole}
 use Rattle.edf_check.specs.walk.Series.{moved_part, part_begin, part_end, AreInOrder}
@@ -31,7 +32,8 @@ use Rattle.edf_check.proofs.CourseFacts.{IsCourse, first-apart, one-first}
 use Rattle.edf_check.proofs.FoundFacts.{faultless_part}
 use Rattle.edf_check.proofs.JoinFacts.{back-of, front-of}
 use Rattle.edf_check.proofs.KeptFacts.{exported-course, kept-course}
-use Rattle.edf_check.proofs.PartsVerdictFacts.{agreeing-course}
+use Rattle.edf_check.proofs.PartsFacts.{one_part}
+use Rattle.edf_check.proofs.PartsVerdictFacts.{agreeing-course, conforms-alone, one-conforms, one_part_verdict, yes_together}
 use Rattle.edf_check.proofs.TogetherFacts.{begin-moved, end-moved}
 use Rattle.edf_check.proofs.VerdictFacts.{no-fault}
 use Rattle.edf_check.proofs.notes.NoteFacts.{note-apart, one-note}
@@ -284,3 +286,19 @@ one_verdict_on_parts o parts c v w p q =
     either-one (OfOriginal o) (FromPart o parts c) (file_fault o ≡ None) (one-of-original o) (λ x kind none. no-fault o kind.0 kind.3 none)
     (λ none. either-one (OfPart parts) (FromHead o parts c) (AllConform o parts) (one-of-part parts) (part-apart o parts) (one-conforming o parts c))
     v w (kind-of o parts c v.part v.verdict p) (kind-of o parts c w.part w.verdict q)
+
+-- ---- two files have one verdict at most, and it is a Yes exactly for an export: both by the only part
+
+on-part : (o e : List ℕ) (c : Terms) (v : Verdict) → IsVerdict o e c v → IsVerdictOnParts o (e ∷ []) c 0 v
+on-part o e c v h = (one_part_verdict o e c (record { part = 0; verdict = v })).1 (refl, h)
+
+pub one_verdict : OneVerdict
+one_verdict o e c v w p q =
+    ap (λ (x : PartsVerdict). x.verdict) (one_verdict_on_parts o (e ∷ []) c (record { part = 0; verdict = v }) (record { part = 0; verdict = w }) (on-part o e c v p) (on-part o e c w q))
+
+pub yes_exactly : YesExactly
+yes_exactly o e c v h =
+    let on = yes_together o (e ∷ []) c (record { part = 0; verdict = v }) (on-part o e c v h) in (
+      λ x. on.0 (one-conforms o e x.0, (one_part o e c).1 x.1),
+      λ y. (let z = on.1 y in (conforms-alone o e z.0, (one_part o e c).0 z.1)),
+    )

@@ -82,10 +82,10 @@ yes_together o parts c v h = (λ x. together-yes o parts c v.part v.verdict h x.
 alone : (P : List ℕ → Type 0) (e part : List ℕ) → Has (e ∷ []) part → P e → P part
 alone P e part i p = ⊎_elim (λ same. subst P same p) (λ j. absurd j) i
 
-one-conforms : (o e : List ℕ) → BothConform o e → AllConform o (e ∷ [])
+pub one-conforms : (o e : List ℕ) → BothConform o e → AllConform o (e ∷ [])
 one-conforms o e both = record { original_conforms = both.original_conforms; parts_conform = λ part i. alone (λ x. Conforms x (head_of x)) e part i both.export_conforms }
 
-conforms-alone : (o e : List ℕ) → AllConform o (e ∷ []) → BothConform o e
+pub conforms-alone : (o e : List ℕ) → AllConform o (e ∷ []) → BothConform o e
 conforms-alone o e all = record { original_conforms = all.original_conforms; export_conforms = all.parts_conform e (inl refl) }
 
 one-in-order : (o e : List ℕ) (c : Terms) → BothConform o e → HeadsAgree (head_of o) (head_of e) c → AllInOrder o (e ∷ []) c

@@ -100,7 +100,7 @@ part-conforms last o h left notes part g left' notes' claim a b t u places outco
 part-conforms last o h left notes part g left' notes' claim a b t u places outcomes.Same read = ((read.1).export).conforms
 part-conforms last o h left notes part g left' notes' claim a b t u places (outcomes.Differs found) read = ((read.1).export).conforms
 
-read-through : (last : Bool) (o : List ℕ) (h : Head) (left : List ℕ) (notes : List NoteValue) (part : List ℕ) (g : Head) (left' : List ℕ) (notes' : List NoteValue) (claim : Terms) (a b t u : ℤ) (places : _) (outcome : Outcome)
+pub read-through : (last : Bool) (o : List ℕ) (h : Head) (left : List ℕ) (notes : List NoteValue) (part : List ℕ) (g : Head) (left' : List ℕ) (notes' : List NoteValue) (claim : Terms) (a b t u : ℤ) (places : _) (outcome : Outcome)
     → (outcome ≡ outcomes.Same → last ≡ true) → IsPartRead last o h left notes part g left' notes' claim a b places t u outcome → IsReadThrough o h left
 read-through last o h left notes part g left' notes' claim a b t u places outcomes.Early same read = read.1
 read-through last o h left notes part g left' notes' claim a b t u places outcomes.Same same read = ((read.1).through (same refl)).0

@@ -1,13 +1,10 @@
 -- Two files have one verdict at most, and it is a Yes exactly for an export.
-use Rattle.std.proofs.Common.{◌≡◌, ℕ, ℤ, ◌*◌, length, List, None, Some, ◌⊎◌, inl, inr, refl, sym, ap, ◌∙◌, subst}
+use Rattle.std.proofs.Common.{◌≡◌, ℕ, ℤ, List, None, Some, ◌⊎◌, inl, inr, refl, sym, ◌∙◌}
 use Rattle.edf_claim.specs.Terms.{Terms}
 use Rattle.edf_fields.specs.declared.fault.Fault.{Fault}
-use Rattle.edf_header.specs.Heads.{samples_together}
 use Rattle.edf_header.specs.HeadsReading.{head_of}
 use Rattle.edf_stream.specs.Faults.{file_fault}
 use Rattle.edf_stream.specs.Notes.{NoteValue}
-use Rattle.edf_stream.specs.NotesReading.{notes_of}
-use Rattle.edf_header.specs.Channels.{channels_among}
 use Rattle.edf_stream.proofs.ForCallers.{conforming_is_faultless}
 use Rattle.edf_verdict.specs.declared.verdict.Verdict.{Verdict}
 use Rattle.edf_verdict.specs.declared.verdict.Verdict.TheVariants.{Yes, No}
@@ -19,12 +16,7 @@ use Rattle.edf_check.specs.Courses.{IsFirstMismatch}
 use Rattle.edf_check.specs.Exports.{BothConform, SameSamples, HasCounts}
 use Rattle.edf_heads.specs.HeadVerdicts.{HeadsAgree, IsHeadVerdict}
 use Rattle.edf_check.specs.KeptReading.{KeptAt, ExportedAt, kept_notes, exported_notes}
-use Rattle.edf_check.specs.Laws.{OneVerdict, YesExactly}
 use Rattle.edf_check.specs.Verdicts.{IsVerdict}
-use Rattle.edf_check.proofs.CourseFacts.{first-apart, one-first}
-use Rattle.edf_heads.proofs.ForCallers.{agree-apart, either-one, one_head_verdict}
-use Rattle.edf_check.proofs.KeptFacts.{kept-course, exported-course}
-use Rattle.edf_check.proofs.notes.NoteFacts.{note-apart, one-note}
 
 -- a file that conforms has no fault
 pub no-fault : (file : List ℕ) (fault : Fault) → file_fault file ≡ Some fault → file_fault file ≡ None → ⊥
@@ -90,62 +82,3 @@ kind-of o e c (No differences.PartOrder) h = absurd h
 kind-of o e c (No (differences.Sample label at_ps mismatch)) h = from-heads o e c _ h.0 (inr (h.1, inl (label, at_ps, mismatch, refl, h.2)))
 kind-of o e c (No (differences.Annotation mismatch onset duration text)) h =
     from-heads o e c _ h.0 (inr (h.1, inr (h.2, inl (mismatch, (record { onset = onset; duration = duration; text = text }), refl, h.3))))
-
--- of each kind there is one
-one-original : (o e : List ℕ) (c : Terms) (v w : Verdict) → OfOriginal o e c v → OfOriginal o e c w → v ≡ w
-one-original o e c v w x y =
-    let same : x.0 ≡ y.0 = (let z : Some x.0 ≡ Some y.0 = sym x.2 ∙ y.2 in cc) in
-    x.1 ∙ ap (λ f. No (differences.OriginalFault f)) same ∙ sym y.1
-
-one-export : (o e : List ℕ) (c : Terms) (v w : Verdict) → OfExport o e c v → OfExport o e c w → v ≡ w
-one-export o e c v w x y =
-    let same : x.0 ≡ y.0 = (let z : Some x.0 ≡ Some y.0 = sym x.2 ∙ y.2 in cc) in
-    x.1 ∙ ap (λ f. No (differences.ExportFault f)) same ∙ sym y.1
-
-one-samples : (o e : List ℕ) (c : Terms) → BothConform o e → (v w : Verdict) → OfSamples o e c v → OfSamples o e c w → v ≡ w
-one-samples o e c both v w x y =
-    let r = one-first (KeptAt o c) (ExportedAt o e c) (kept-course o c both.original_conforms) (exported-course o e c both.export_conforms) x.0 y.0 x.1 y.1 x.2 y.2 x.4 y.4 in
-    x.3 ∙ ap (λ l. No (differences.Sample l x.1 x.2)) r.0 ∙ ap (λ p. No (differences.Sample y.0 p x.2)) r.1 ∙ ap (λ m. No (differences.Sample y.0 y.1 m)) r.2 ∙ sym y.3
-
-one-notes : (o e : List ℕ) (c : Terms) (v w : Verdict) → OfNotes o e c v → OfNotes o e c w → v ≡ w
-one-notes o e c v w x y =
-    let r = one-note (kept_notes o c) (exported_notes o e c) x.0 y.0 x.1 y.1 x.3 y.3 in
-    x.2 ∙ ap (λ m. No (differences.Annotation m (x.1).onset (x.1).duration (x.1).text)) r.0
-    ∙ ap (λ (n : NoteValue). No (differences.Annotation y.0 n.onset n.duration n.text)) r.1 ∙ sym y.2
-
-one-yes : (o e : List ℕ) (c : Terms) (v w : Verdict) → OfYes o e c v → OfYes o e c w → v ≡ w
-one-yes o e c v w x y =
-    let a = x.4 in
-    let b = y.4 in
-    x.3 ∙ ap (λ n. Yes n x.1 x.2) (a.channels_are ∙ sym b.channels_are) ∙ ap (λ n. Yes y.0 n x.2) (a.samples_are ∙ sym b.samples_are)
-    ∙ ap (λ n. Yes y.0 y.1 n) (a.annotations_are ∙ sym b.annotations_are) ∙ sym y.3
-
--- behind the faults, where both files conform
-one-behind : (o e : List ℕ) (c : Terms) → BothConform o e → (v w : Verdict) → FromHeads o e c v → FromHeads o e c w → v ≡ w
-one-behind o e c both =
-    either-one (OfHeads o e c) (FromSamples o e c) (HeadsAgree (head_of o) (head_of e) c) (one_head_verdict (head_of o) (head_of e) c) (λ v x. agree-apart (head_of o) (head_of e) c v x)
-    (either-one (OfSamples o e c) (FromNotes o e c) (SameSamples o e c) (one-samples o e c both)
-    (λ v x same. first-apart (KeptAt o c) (ExportedAt o e c) x.0 x.1 x.2 (exported-course o e c both.export_conforms) same x.4)
-    (either-one (OfNotes o e c) (OfYes o e c) (SameNotes (kept_notes o c) (exported_notes o e c)) (one-notes o e c)
-    (λ v x same. note-apart (kept_notes o c) (exported_notes o e c) x.0 x.1 same x.3) (one-yes o e c)))
-
-pub one_verdict : OneVerdict
-one_verdict o e c v w p q =
-    either-one (OfOriginal o e c) (FromExport o e c) (file_fault o ≡ None) (one-original o e c) (λ v x. no-fault o x.0 x.2)
-    export v w (kind-of o e c v p) (kind-of o e c w q)
-  where
-    export : (v w : Verdict) → FromExport o e c v → FromExport o e c w → v ≡ w
-    export v w (inl x) (inl y) = one-export o e c v w x y
-    export v w (inl x) (inr y) = absurd (no-fault e x.0 x.2 (faultless o e y.0).1)
-    export v w (inr x) (inl y) = absurd (no-fault e y.0 y.2 (faultless o e x.0).1)
-    export v w (inr x) (inr y) = one-behind o e c x.0 v w x.1 y.1
-
-pub yes_exactly : YesExactly
-yes_exactly o e c v h = (
-  λ x.
-      let a = length (channels_among (head_of e).signals) in
-      let b = (head_of e).records * samples_together (channels_among (head_of e).signals) in
-      let n = length (notes_of e (head_of e)) in
-      (a, b, n, one_verdict o e c v (Yes a b n) h (x.0, x.1, record { channels_are = refl; samples_are = refl; annotations_are = refl })),
-  λ y. let z = subst (IsVerdict o e c) y.3 h in (z.0, z.1),
-)

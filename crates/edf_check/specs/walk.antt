@@ -1,4 +1,4 @@
-pub mod Walks
+pub mod Clocks
 pub mod Layouts
 pub mod Pairs
 pub mod Shares

@@ -6,9 +6,11 @@ ghost use Rattle.edf_check.specs.Checks.{AreRead, CheckStops};
 ghost use Rattle.edf_check.specs.Headline.{YesMeans};
 ghost use Rattle.edf_check.specs.Verdicts.{IsVerdict};
 
-use crate::walk::walk;
+use crate::check_parts::check_series;
 use edf_claim::claim::Claim;
 use edf_fields::source::Source;
+use edf_refusal::parts_stop::{PartSide, PartsStop};
+use edf_refusal::side::Side;
 use edf_refusal::stop::CheckStop;
 use edf_verdict::verdict::Verdict;
 use std::alloc::Global;
@@ -37,6 +39,12 @@ pub fn check<O: Source, E: Source>(
         (Fails (E.reads export.old) (E.reads export.new))
         ((O.reads original.new ≡ O.reads original.old) × (E.reads export.new ≡ E.reads export.old))) }
 {
-    let walked = walk(alloc, original, export, claim)?;
-    Ok(walked.verdict())
+    match check_series(alloc, original, export, &mut [], claim) {
+        Ok(on_parts) => Ok(on_parts.verdict),
+        Err(PartsStop::OutOfMemory) => Err(CheckStop::OutOfMemory),
+        Err(PartsStop::ReadFailed(PartSide::Original)) => {
+            Err(CheckStop::ReadFailed(Side::Original))
+        }
+        Err(PartsStop::ReadFailed(PartSide::Part(_))) => Err(CheckStop::ReadFailed(Side::Export)),
+    }
 }

@@ -1,8 +1,9 @@
 //! The check of several exports of one original, one after the other, against that and a claim.
 
-ghost use Rattle.std.specs.Prelude.{◌≡◌, ◌<◌, ◌≤◌, map, length, IfOk, IfErr, OnOk, IsTrue};
+ghost use Rattle.std.specs.Prelude.{◌≡◌, ◌<◌, ◌≤◌, ◌∷◌, map, length, IfOk, IfErr, OnOk, IsTrue};
 ghost use Rattle.std.specs.List.{AllByRecursion};
 ghost use Rattle.edf_fields.specs.Sources.{Fails};
+ghost use Rattle.edf_check.specs.Checks.{AreRead};
 ghost use Rattle.edf_check.specs.PartsStops.{PartsStops};
 ghost use Rattle.edf_check.specs.PartsVerdicts.{IsPartsVerdict};
 
@@ -18,6 +19,58 @@ use edf_refusal::side::Side;
 use edf_verdict::parts_verdict::PartsVerdict;
 use edf_verdict::verdict::{Difference, Verdict};
 use std::alloc::Global;
+
+/// Checks an export and those behind it.
+///
+/// The error is want of memory, or a failure of one of the sources.
+pub(crate) fn check_series<O: Source, E: Source>(
+    alloc: Global,
+    original: &mut O,
+    part: &mut E,
+    others: &mut [E],
+    claim: &Claim,
+) -> Result<PartsVerdict, PartsStop>
+    requires few { length others.old < 64 }
+    ensures verdict { IfOk result (λ verdict. IsTrue (O.is_honest original.old) → IsTrue (E.is_honest part.old) → AllByRecursion IsTrue (map E.is_honest others.old) →
+        IsPartsVerdict (O.left original.old) (E.left part.old ∷ map E.left others.old) claim.now verdict) }
+    ensures read { IfOk result (λ verdict. IsTrue (O.is_honest original.old) → IsTrue (E.is_honest part.old) → AllByRecursion IsTrue (map E.is_honest others.old) →
+        AllByRecursion (AreRead verdict.verdict (O.left original.new)) (E.left part.new ∷ map E.left others.new)) }
+    ensures failures { OnOk result ((O.reads original.new ≡ O.reads original.old) × (E.reads part.new ≡ E.reads part.old) × (map E.reads others.new ≡ map E.reads others.old)) }
+    ensures stop { IfErr result (PartsStops (Fails (O.reads original.old) (O.reads original.new))
+        ((O.reads original.new ≡ O.reads original.old) × (E.reads part.new ≡ E.reads part.old) × (map E.reads others.new ≡ map E.reads others.old)) 0
+        (E.reads part.old ∷ map E.reads others.old) (E.reads part.new ∷ map E.reads others.new)) }
+{
+    let mut reading = match open(alloc, original, Side::Original) {
+        Ok(Ok(reading)) => reading,
+        Ok(Err(fault)) => return Ok(of_all(Verdict::No(Difference::OriginalFault(fault)))),
+        Err(stop) => return Err(at_part(stop, 0)),
+    };
+    let labels = in_order(alloc, claim.channels())?;
+    let mut exported = Exported {
+        samples: 0,
+        notes: Vec::new(alloc),
+    };
+    let walked = walk_parts(
+        alloc,
+        &mut reading,
+        original,
+        part,
+        others,
+        claim,
+        &labels,
+        &mut exported,
+    )?;
+    let channels = claim.channels().len() as u64;
+    let verdict = conclude_parts(
+        alloc,
+        walked,
+        channels,
+        &labels,
+        &mut reading.notes,
+        &mut exported,
+    )?;
+    Ok(verdict)
+}
 
 /// Checks whether one to 64 exports, in the order of time, are together the original, cut and made anonymous as the claim
 /// says, and nothing else.
@@ -38,37 +91,17 @@ pub fn check_parts<O: Source, E: Source>(
     requires few { length parts.old ≤ 64 }
     ensures verdict { IfOk result (λ verdict. IsTrue (O.is_honest original.old) → AllByRecursion IsTrue (map E.is_honest parts.old) →
         IsPartsVerdict (O.left original.old) (map E.left parts.old) claim.now verdict) }
+    ensures read { IfOk result (λ verdict. IsTrue (O.is_honest original.old) → AllByRecursion IsTrue (map E.is_honest parts.old) →
+        AllByRecursion (AreRead verdict.verdict (O.left original.new)) (map E.left parts.new)) }
     ensures failures { OnOk result ((O.reads original.new ≡ O.reads original.old) × (map E.reads parts.new ≡ map E.reads parts.old)) }
     ensures stop { IfErr result (PartsStops (Fails (O.reads original.old) (O.reads original.new))
         ((O.reads original.new ≡ O.reads original.old) × (map E.reads parts.new ≡ map E.reads parts.old)) 0 (map E.reads parts.old) (map E.reads parts.new)) }
 {
-    let mut reading = match open(alloc, original, Side::Original) {
-        Ok(Ok(reading)) => reading,
-        Ok(Err(fault)) => return Ok(of_all(Verdict::No(Difference::OriginalFault(fault)))),
-        Err(stop) => return Err(at_part(stop, 0)),
-    };
-    let labels = in_order(alloc, claim.channels())?;
-    let mut exported = Exported {
-        samples: 0,
-        notes: Vec::new(alloc),
-    };
-    let walked = walk_parts(
-        alloc,
-        &mut reading,
-        original,
-        parts,
-        claim,
-        &labels,
-        &mut exported,
-    )?;
-    let channels = claim.channels().len() as u64;
-    let verdict = conclude_parts(
-        alloc,
-        walked,
-        channels,
-        &labels,
-        &mut reading.notes,
-        &mut exported,
-    )?;
-    Ok(verdict)
+    match parts.split_first_mut() {
+        None => unreachable!(),
+        Some((part, others)) => match check_series(alloc, original, part, others, claim) {
+            Ok(verdict) => Ok(verdict),
+            Err(stop) => Err(stop),
+        },
+    }
 }

@@ -128,14 +128,15 @@ fn reads_the_original_of_a_bad_export(rt: HostRuntime) -> Result<(), Fail> {
 }
 
 /// How much is left of an original that breaks off, its fault, and how often the export is read then: not at all, or
-/// as far as its header.
+/// its header and its first data record.
 const BROKEN: &[(usize, &str, u32)] = &[
     (
         0,
         "NO 1 original fault: Truncated at header field version\n",
         0,
     ),
-    (1050, "NO 1 original fault: Truncated at record 0\n", 11),
+    (1050, "NO 1 original fault: Truncated at record 0\n", 0),
+    (1090, "NO 1 original fault: Truncated at record 1\n", 12),
 ];
 
 /// Behind a fault of the original the export isn't read on.

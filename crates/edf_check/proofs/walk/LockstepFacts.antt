@@ -1,12 +1,10 @@
 -- One step of a walk over two files, and its end.
-use Rattle.std.proofs.Common.{◌≡◌, ℕ, ℤ, ◌≤ℤ◌, ◌<◌, ◌^◌, pos, neg_ℤ, unsigned_abs, true, false, List, [], ◌∷◌, map, Option, None, Some, option_map, IfSome, IfNone, refl, sym, ap, ◌∙◌, arith, subst}
+use Rattle.std.proofs.Common.{◌≡◌, ℕ, ℤ, ◌≤ℤ◌, false, List, [], ◌∷◌, map, Option, None, Some, option_map, IfSome, refl, sym, ap, ◌∙◌, arith, subst}
 use Rattle.std.proofs.lemmas.Int.{ints}
 use Rattle.std.proofs.lemmas.List.Elements.{All-head, All-tail}
 use Rattle.edf_claim.specs.Terms.{Terms}
 use Rattle.edf_fields.specs.declared.fault.Fault.{Fault}
 use Rattle.edf_header.specs.Heads.{Head}
-use Rattle.edf_header.specs.Sound.{IsSound}
-use Rattle.edf_stream.proofs.ForCallers.{sound-of}
 use Rattle.edf_stream.specs.declared.status.Status.{Status}
 use Rattle.edf_stream.specs.declared.status.Status.TheVariants.{Ended}
 use Rattle.edf_stream.specs.Conforming.{Conforms}
@@ -14,19 +12,16 @@ use Rattle.edf_stream.specs.Faults.{body_fault}
 use Rattle.edf_stream.specs.Notes.{NoteValue}
 use Rattle.edf_stream.specs.NotesReading.{moved_notes_before, notes_of}
 use Rattle.edf_stream.specs.Readers.{Reader, is_current}
-use Rattle.edf_stream.specs.Starts.{file_start}
-use Rattle.edf_check.specs.declared.samples.earliest.Found.{Found}
 use Rattle.edf_check.specs.declared.walk.walked.FaultOf.{FaultOf}
 use Rattle.edf_check.specs.declared.walk.track.Pair.{Pair}
 use Rattle.edf_check.specs.declared.walk.track.Track.{Track}
-use Rattle.edf_check.specs.walk.Windows.{sampled, whole_difference, rest_difference}
 use Rattle.edf_check.specs.walk.Pairs.{places_of, ArePairs, IsTrack, IsPlaceIn}
 use Rattle.edf_check.specs.walk.Shown.{Shows, ArePast, Reaches, IsGoing, Covers}
 use Rattle.edf_check.specs.walk.Readings.{IsAt}
 use Rattle.edf_check.specs.walk.Gathered.{gathered_of}
-use Rattle.edf_check.specs.walk.Ends.{first_fault_of, IsFaultOf, IsReadThrough, AreReadOn, AreWalked}
+use Rattle.edf_check.specs.walk.Ends.{first_fault_of, IsFaultOf, IsReadThrough}
 use Rattle.edf_check.proofs.walk.PassFacts.{ended_is}
-use Rattle.edf_check.proofs.walk.SplitFacts.{ArePlaces, at_start}
+use Rattle.edf_check.proofs.walk.SplitFacts.{ArePlaces}
 
 -- ---- the channels of pairs
 
@@ -41,20 +36,6 @@ are_places h g (p ∷ ps) all =
     let P : Pair → Type 0 = λ q. IfSome q.original (IsTrack h) × IfSome q.export (IsTrack g) in
     let here = All-head P p ps all in
     (place-of-track h p.original here.0, place-of-track g p.export here.1, are_places h g ps (All-tail P p ps all))
-
--- ---- the start
-
-start-near : (h : Head) → IsSound h → neg_ℤ (pos (2 ^ 80)) ≤ℤ file_start h
-start-near h s =
-    let near = (s.bounds).near in
-    omega (arith, ints, near)
-
-pub rest_start : (claim : Terms) (o e : List ℕ) (h g : Head) (a b t : ℤ) (pairs : List Pair) → Conforms o h → Conforms e g → ArePairs h g pairs → unsigned_abs a < 2 ^ 80 → unsigned_abs b < 2 ^ 80 → t ≡ neg_ℤ (pos (2 ^ 90))
-    → whole_difference claim (sampled o h a) (sampled e g b) (map places_of pairs) ≡ rest_difference claim (sampled o h a) (sampled e g b) (map places_of pairs) t
-rest_start claim o e h g a b t pairs co ce all na nb time =
-    let no = start-near h (sound-of o h co) in
-    let ne = start-near g (sound-of e g ce) in
-    at_start claim o e h g a b t (map places_of pairs) co ce (are_places h g pairs all) (omega (arith, ints, no, na, time)) (omega (arith, ints, ne, nb, time))
 
 -- ---- a step
 
@@ -87,23 +68,6 @@ has_ended first now left notes file claim ps t head going none at =
       gathered = all-gathered claim ps file now.head now.read notes at.gathered both.3;
       past = past;
     })
-
--- two files that were read on from a time before both begin, to the ends of both
-pub all_read : (claim : Terms) (pairs : List Pair) (x y lo le : List ℕ) (h g : Head) (ns ms : List NoteValue) (a b t u : ℤ) (found : Option Found) → ArePairs h g pairs → unsigned_abs a < 2 ^ 80 → unsigned_abs b < 2 ^ 80 → t ≡ neg_ℤ (pos (2 ^ 90))
-    → AreReadOn true x h lo ns y g le ms claim a b (map places_of pairs) t u found → AreWalked x h lo ns y g le ms claim a b (map places_of pairs) found
-all_read claim pairs x y lo le h g ns ms a b t u found are na nb time r =
-    let through = r.through refl in
-    let co = (through.0).conforms in
-    record {
-      original = through.0;
-      export = r.export;
-      first = r.first co ∙ sym (rest_start claim x y h g a b t pairs co (r.export).conforms are na nb time);
-      gathered = both found through.1 r.gathered;
-    }
-  where
-    both : (f : Option Found) → IfNone f (ns ≡ gathered_of (Some claim) a (notes_of x h)) → IfNone f (ms ≡ gathered_of None b (notes_of y g)) → IfNone f ((ns ≡ gathered_of (Some claim) a (notes_of x h)) × (ms ≡ gathered_of None b (notes_of y g)))
-    both None p q = (p, q)
-    both (Some f) p q = tt
 
 -- ---- faults
 

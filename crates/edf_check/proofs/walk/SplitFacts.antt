@@ -1,5 +1,5 @@
 -- The earliest difference from a time on is that before a later time, or else that from there on.
-use Rattle.std.proofs.Common.{◌≡◌, ℕ, ◌+◌, ◌<◌, ℤ, ◌+ℤ◌, ◌≤ℤ◌, Bool, true, false, not, cond, List, [], ◌∷◌, ◌++◌, map, filter, Option, Some, None, option_map, IfSome, refl, sym, ap, ◌∙◌, lit<, subst}
+use Rattle.std.proofs.Common.{◌≡◌, ℕ, ◌+◌, ◌<◌, ℤ, ◌≤ℤ◌, Bool, true, false, not, cond, List, [], ◌∷◌, ◌++◌, map, filter, Option, Some, None, option_map, IfSome, refl, sym, ap, ◌∙◌, lit<, subst}
 use Rattle.std.specs.Option.{option_or}
 use Rattle.edf_claim.specs.Terms.{Terms}
 use Rattle.edf_claim.specs.Keeps.{keeps_instant}
@@ -7,25 +7,23 @@ use Rattle.edf_header.specs.Heads.{Head}
 use Rattle.edf_stream.specs.declared.instant.Instant.{Instant}
 use Rattle.edf_stream.specs.Conforming.{Conforms}
 use Rattle.edf_stream.specs.InstantOrder.{IsNotBefore}
-use Rattle.edf_stream.specs.Starts.{file_start}
 use Rattle.edf_check.specs.declared.walk.channel_place.ChannelPlace.{ChannelPlace}
 use Rattle.edf_check.specs.declared.samples.difference.PointDifference.{PointDifference}
 use Rattle.edf_check.specs.declared.samples.earliest.Found.{Found}
 use Rattle.edf_check.specs.declared.samples.point.Point.{Point}
-use Rattle.edf_check.specs.samples.Columns.{Sampled, difference_at}
-use Rattle.edf_check.specs.samples.Differences.{instant, first_difference_of, IsAscending, AreFrom}
+use Rattle.edf_check.specs.samples.Columns.{Sampled}
+use Rattle.edf_check.specs.samples.Differences.{instant, first_difference_of, IsAscending}
 use Rattle.edf_check.specs.samples.Earliest.{found, earlier, earliest}
 use Rattle.edf_check.specs.InstantOrder.{IsBefore, is_before}
 use Rattle.edf_check.specs.samples.Cuts.{whole, since, until}
-use Rattle.edf_check.specs.walk.Windows.{sampled, points_at, kept_at, rest_of, window_of, whole_difference, rest_difference, window_difference}
+use Rattle.edf_check.specs.walk.Windows.{sampled, points_at, kept_at, rest_of, window_of, rest_difference, window_difference}
 use Rattle.edf_check.specs.walk.Pairs.{Places, IsPlaceIn}
 use Rattle.edf_check.specs.walk.Shown.{ArePast}
-use Rattle.edf_check.proofs.samples.CutFacts.{since_split, since-from, until-before, since_all, filter-ascending}
+use Rattle.edf_check.proofs.samples.CutFacts.{since_split, since-from, until-before, filter-ascending}
 use Rattle.edf_check.proofs.samples.DifferenceFacts.{difference_splits, difference-before, difference-from}
 use Rattle.edf_check.proofs.samples.FilterFacts.{filters_swap}
 use Rattle.edf_check.proofs.samples.FractionFacts.{before-not_before, before_below, true-is_before, false-is_before}
-use Rattle.edf_check.proofs.walk.RecordFacts.{points-are-kept, points-ascend, nothing-left, from-start}
-use Rattle.edf_fields.proofs.ForCallers.{has-filtered}
+use Rattle.edf_check.proofs.walk.RecordFacts.{points-are-kept, points-ascend, nothing-left}
 
 -- ---- the earliest of fronts and of backs
 
@@ -199,34 +197,6 @@ pub step : (claim : Terms) (o e : List ℕ) (h g : Head) (a b : ℤ) (ps : List 
 step claim o e h g a b ps t u held all co ce places l before =
     before ∙ ap (option_or held) (all_splits claim (sampled o h a) (sampled e g b) ps t u (all_sound claim o e h g a b ps co ce places) l)
     ∙ or_assoc held (window_difference claim (sampled o h a) (sampled e g b) ps t u) (rest_difference claim (sampled o h a) (sampled e g b) ps u)
-
--- ---- at the start
-
-place_start : (claim : Terms) (o e : List ℕ) (h g : Head) (a b t : ℤ) (p q : Option ChannelPlace) → Conforms o h → Conforms e g → IfSome p (IsPlaceIn h) → IfSome q (IsPlaceIn g)
-    → t ≤ℤ (file_start h +ℤ a) → t ≤ℤ (file_start g +ℤ b) → difference_at claim (sampled o h a) (sampled e g b) p q ≡ rest_of claim (sampled o h a) (sampled e g b) t p q
-place_start claim o e h g a b t None q co ce ip iq lo le = refl
-place_start claim o e h g a b t (Some p) None co ce ip iq lo le = refl
-place_start claim o e h g a b t (Some p) (Some q) co ce ip iq lo le =
-    let n = p.samples in
-    let m = q.samples in
-    let f = sampled o h a in
-    let k = sampled e g b in
-    let kept : AreFrom n (kept_at claim f p) (whole t) =
-    subst (λ (xs : List Point). AreFrom n xs (whole t)) (sym (points-are-kept claim o h p a co ip))
-    (λ x i. from-start o h p a t co ip lo x (has-filtered (λ y. keeps_instant claim y.num n) (points_at f p) x i).0) in
-    ap (λ xs. first_difference_of n xs m (points_at k q)) (sym (since_all n t (kept_at claim f p) kept))
-    ∙ ap (λ ys. first_difference_of n (since n t (kept_at claim f p)) m ys) (sym (since_all m t (points_at k q) (from-start e g q b t ce iq le)))
-
-places_start : (claim : Terms) (o e : List ℕ) (h g : Head) (a b t : ℤ) (ps : List Places) → Conforms o h → Conforms e g → ArePlaces h g ps → t ≤ℤ (file_start h +ℤ a) → t ≤ℤ (file_start g +ℤ b)
-    → map (λ p. difference_at claim (sampled o h a) (sampled e g b) p.0 p.1) ps ≡ map (λ p. rest_of claim (sampled o h a) (sampled e g b) t p.0 p.1) ps
-unfolding ArePlaces
-places_start claim o e h g a b t [] co ce all lo le = refl
-places_start claim o e h g a b t (p ∷ ps) co ce all lo le = rw (place_start claim o e h g a b t p.0 p.1 co ce all.0 all.1 lo le, places_start claim o e h g a b t ps co ce all.2 lo le) refl
-
-pub at_start : (claim : Terms) (o e : List ℕ) (h g : Head) (a b t : ℤ) (ps : List Places) → Conforms o h → Conforms e g → ArePlaces h g ps → t ≤ℤ (file_start h +ℤ a) → t ≤ℤ (file_start g +ℤ b)
-    → whole_difference claim (sampled o h a) (sampled e g b) ps ≡ option_or None (rest_difference claim (sampled o h a) (sampled e g b) ps t)
-unfolding whole_difference rest_difference
-at_start claim o e h g a b t ps co ce all lo le = ap (earliest 0) (places_start claim o e h g a b t ps co ce all lo le)
 
 -- ---- at the end
 

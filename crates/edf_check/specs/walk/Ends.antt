@@ -13,7 +13,7 @@ use Rattle.edf_check.specs.declared.walk.walked.FaultOf.{FaultOf}
 use Rattle.edf_check.specs.declared.walk.walked.FaultOf.TheVariants.{Original as OfOriginal, Export as OfExport}
 use Rattle.edf_check.specs.walk.Pairs.{Places}
 use Rattle.edf_check.specs.walk.Shown.{last_end_by}
-use Rattle.edf_check.specs.walk.Windows.{sampled, whole_difference, span_difference}
+use Rattle.edf_check.specs.walk.Windows.{sampled, span_difference}
 use Rattle.edf_check.specs.walk.Gathered.{gathered_of}
 
 -- what a fault of the export comes to, behind that of the original
@@ -36,14 +36,6 @@ pub record IsReadThrough (file : List ℕ) (h : Head) (left : List ℕ) : Type 0
   pub fault : body_fault file h ≡ None
   pub conforms : Conforms file h
   pub gone : left ≡ []
-
--- the same of both files, and this is the first difference of their channels; where there is none, these annotations were gathered
-pub record AreWalked (o : List ℕ) (h : Head) (left : List ℕ) (notes : List NoteValue) (e : List ℕ) (g : Head) (left' : List ℕ) (notes' : List NoteValue)
-    (claim : Terms) (a b : ℤ) (places : List Places) (found : Option Found) : Type 0 where
-  pub original : IsReadThrough o h left
-  pub export : IsReadThrough e g left'
-  pub first : found ≡ whole_difference claim (sampled o h a) (sampled e g b) places
-  pub gathered : IfNone found ((notes ≡ gathered_of (Some claim) a (notes_of o h)) × (notes' ≡ gathered_of None b (notes_of e g)))
 
 -- both files were read on from t on: the export to its end, which is u where further exports follow; and the original to its end, too, where
 -- none follow or a difference was found. Where the original conforms, this is the first difference of their channels from t on and, where

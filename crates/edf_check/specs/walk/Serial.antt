@@ -2,6 +2,7 @@
 -- between the definitions and the code.
 use Rattle.std.specs.Prelude.{◌≡◌, ℕ, ℤ, pos, List, [], ◌∷◌, ◌++◌, Option, None, Some}
 use Rattle.std.specs.Borrow.{Bor}
+use Rattle.std.specs.List.{AllByRecursion}
 use Rattle.std.specs.Option.{option_or}
 use Rattle.edf_claim.specs.Terms.{Terms}
 use Rattle.edf_header.specs.Heads.{Head}
@@ -62,6 +63,15 @@ AreWalkedSo claim o h left notes a b labels t first parts before behind (Samples
 AreWalkedSo claim o h left notes a b labels t first parts before behind Same =
     IsReadThrough o h left × AllConformAt parts × AreSerial claim o h a b labels t parts None
     × (notes ≡ gathered_of (Some claim) a (notes_of o h)) × (behind ≡ before ++ gathered_of_all b parts)
+
+-- how far the original and the parts were read, by what they have left: to their ends, but for a fault; where a part has one, the original was
+abbrev pub AreLeft : PartsWalked → List ℕ → List (List ℕ) → Type 0
+AreLeft (OriginalFault fault) original parts = Unit {0}
+AreLeft (PartFault fault) original parts = original ≡ []
+AreLeft (HeadsDiffer heads) original parts = (original ≡ []) × AllByRecursion (λ left. left ≡ []) parts
+AreLeft (Early part) original parts = (original ≡ []) × AllByRecursion (λ left. left ≡ []) parts
+AreLeft (SamplesDiffer found) original parts = (original ≡ []) × AllByRecursion (λ left. left ≡ []) parts
+AreLeft Same original parts = (original ≡ []) × AllByRecursion (λ left. left ≡ []) parts
 
 -- a fault of the original, or else of this part
 abbrev pub faulty_at : FaultOf → ℕ → PartsWalked

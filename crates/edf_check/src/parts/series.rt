@@ -1,13 +1,13 @@
 //! Several exports, one after the other, walked through beside the original.
 
-ghost use Rattle.std.specs.Prelude.{◌≡◌, ◌+◌, ◌*◌, ◌<◌, ◌≤◌, ◌^◌, neg_ℤ, pos, ◌≤ℤ◌, ◌<ℤ◌, ◌++◌, map, length, false, Some, IfOk, IfErr, IfSome, IfNone, OnOk, IsTrue, unsigned_abs};
+ghost use Rattle.std.specs.Prelude.{◌≡◌, ◌+◌, ◌*◌, ◌<◌, ◌≤◌, ◌^◌, neg_ℤ, pos, ◌≤ℤ◌, ◌<ℤ◌, ◌++◌, ◌∷◌, map, length, false, Some, IfOk, IfErr, IfSome, IfNone, OnOk, IsTrue, unsigned_abs};
 ghost use Rattle.std.specs.List.{AllByRecursion};
 ghost use Rattle.edf_fields.specs.Sources.{Fails};
 ghost use Rattle.edf_stream.specs.Views.{note_value};
 ghost use Rattle.edf_check.specs.Premises.{OfFile};
 ghost use Rattle.edf_check.specs.PartsStops.{PartsStops};
 ghost use Rattle.edf_check.specs.walk.Readings.{IsAt};
-ghost use Rattle.edf_check.specs.walk.Serial.{AreWalkedSo, agreeing_of, end_of, faulty_at, walked_of};
+ghost use Rattle.edf_check.specs.walk.Serial.{AreLeft, AreWalkedSo, agreeing_of, end_of, faulty_at, walked_of};
 ghost use Rattle.edf_check.specs.PartsVerdicts.{samples_in, samples_of_all};
 ghost use Rattle.edf_check.specs.InstantOrder.{IsModest};
 ghost use Rattle.edf_check.specs.declared.parts.compare.Came.TheVariants as came;
@@ -59,17 +59,25 @@ pub(crate) struct Exported {
     pub notes: Vec<Note>,
 }
 
+/// How many samples the channels of a file have that was read to its end.
+fn samples_of(reading: &Reading) -> u64
+    ensures value { result ≡ samples_in (reading.now.reader).head }
+    ensures few { result ≤ 2 ^ 50 }
+{
+    Summary::of(reading.reader.header(), 0).samples
+}
+
 impl Exported {
-    /// Takes in what a part holds that was read to its end.
+    /// Takes in what a part holds that was read to its end: so many samples, and its annotations.
     ///
     /// The error is want of memory.
-    fn take(&mut self, reading: Reading) -> Result<(), AllocError>
-        requires { self.old.samples ≤ 63 * 2 ^ 50 }
+    fn take(&mut self, samples: u64, reading: Reading) -> Result<(), AllocError>
+        requires held { self.old.samples ≤ 63 * 2 ^ 50 }
+        requires few { samples ≤ 2 ^ 50 }
         ensures notes { OnOk result (map note_value (self.new.notes).items ≡ map note_value (self.old.notes).items ++ map note_value (reading.notes).items) }
-        ensures samples { OnOk result (self.new.samples ≡ self.old.samples + samples_in (reading.reader).head) }
-        ensures few { OnOk result (self.new.samples ≤ self.old.samples + 2 ^ 50) }
+        ensures samples { OnOk result (self.new.samples ≡ self.old.samples + samples) }
     {
-        self.samples += Summary::of(reading.reader.header(), 0).samples;
+        self.samples += samples;
         if self.notes.is_empty() {
             self.notes = reading.notes;
             return Ok(());
@@ -146,15 +154,16 @@ fn are_none<E: Source>(parts: &[E]) -> bool
     }
 }
 
-/// Walks through parts beside the original, which stands at the begin of the first one's span, and answers what they come
-/// to; the first part has this number. Where the samples of all are the same, their annotations stand behind those that
-/// were there.
+/// Walks through a part and those behind it beside the original, which stands at the begin of the part's span, and answers
+/// what they come to; the part has this number. Where the samples of all are the same, their annotations stand behind those
+/// that were there.
 ///
 /// The error is want of memory, or a failure of one of the sources.
 pub(crate) fn compare_parts<O: Source, E: Source>(
     original: &mut Reading,
     o: &mut O,
-    parts: &mut [E],
+    part: &mut E,
+    others: &mut [E],
     under: Under<'_>,
     first: u16,
     from: Time,
@@ -164,53 +173,59 @@ pub(crate) fn compare_parts<O: Source, E: Source>(
     requires from { (neg_ℤ (pos (2 ^ 90)) ≤ℤ from.ps) × (from.ps <ℤ pos (2 ^ 83)) }
     requires original_near { unsigned_abs (under.clock.original).ps < 2 ^ 80 }
     requires export_near { unsigned_abs (under.clock.export).ps < 2 ^ 80 }
-    requires some { 0 < length parts.old }
-    requires few { first + length parts.old ≤ 64 }
+    requires few { first + length others.old < 64 }
     requires held { exported.old.samples ≤ first * 2 ^ 50 }
     ensures walked { IfOk result (λ walked. OfFile (O.is_honest o.old)
         (λ a. IsAt original.old.reader (O.left o.old) (map note_value (original.old.notes).items) a (Some under.entry.claim.now)
         (under.entry.clock.original).ps from.ps)
-        (λ a. AllByRecursion IsTrue (map E.is_honest parts.old) → AreWalkedSo under.entry.claim.now a (original.old.reader).head (O.left o.new)
+        (λ a. IsTrue (E.is_honest part.old) → AllByRecursion IsTrue (map E.is_honest others.old) → AreWalkedSo under.entry.claim.now a (original.old.reader).head (O.left o.new)
         (map note_value (original.new.notes).items) (under.entry.clock.original).ps (under.entry.clock.export).ps under.entry.labels.now from.ps first
-        (map E.left parts.old) (map note_value (exported.old.notes).items) (map note_value (exported.new.notes).items) walked)) }
-    ensures counted { IfOk result (λ walked. walked ≡ walks.Same → AllByRecursion IsTrue (map E.is_honest parts.old) →
-        exported.new.samples ≡ exported.old.samples + samples_of_all (map E.left parts.old)) }
+        (E.left part.old ∷ map E.left others.old) (map note_value (exported.old.notes).items) (map note_value (exported.new.notes).items) walked)) }
+    ensures read { IfOk result (λ walked. OfFile (O.is_honest o.old)
+        (λ a. IsAt original.old.reader (O.left o.old) (map note_value (original.old.notes).items) a (Some under.entry.claim.now)
+        (under.entry.clock.original).ps from.ps)
+        (λ a. IsTrue (E.is_honest part.old) → AllByRecursion IsTrue (map E.is_honest others.old) →
+        AreLeft walked (O.left o.new) (E.left part.new ∷ map E.left others.new))) }
+    ensures counted { IfOk result (λ walked. walked ≡ walks.Same → IsTrue (E.is_honest part.old) → AllByRecursion IsTrue (map E.is_honest others.old) →
+        exported.new.samples ≡ exported.old.samples + samples_of_all (E.left part.old ∷ map E.left others.old)) }
     ensures modest { IfOk result (λ walked. (found : Found) → walked ≡ walks.SamplesDiffer found → IsModest found.difference.at × (found.channel < length under.entry.labels.now)) }
-    ensures failures { OnOk result ((O.reads o.new ≡ O.reads o.old) × (map E.reads parts.new ≡ map E.reads parts.old)) }
+    ensures failures { OnOk result ((O.reads o.new ≡ O.reads o.old) × (E.reads part.new ≡ E.reads part.old) × (map E.reads others.new ≡ map E.reads others.old)) }
     ensures stop { IfErr result (PartsStops (Fails (O.reads o.old) (O.reads o.new))
-        ((O.reads o.new ≡ O.reads o.old) × (map E.reads parts.new ≡ map E.reads parts.old)) first (map E.reads parts.old) (map E.reads parts.new)) }
+        ((O.reads o.new ≡ O.reads o.old) × (E.reads part.new ≡ E.reads part.old) × (map E.reads others.new ≡ map E.reads others.old)) first
+        (E.reads part.old ∷ map E.reads others.old) (E.reads part.new ∷ map E.reads others.new)) }
 {
-    match parts.split_first_mut() {
-        None => unreachable!(),
-        Some((part, others)) => {
-            let span = Span {
-                from,
-                is_last: are_none(others),
-            };
-            let Compared {
-                reading,
-                came,
-                goes_on,
-            } = match compare_part(original, o, part, under, span) {
-                Ok(Ok(compared)) => compared,
-                Ok(Err(fault)) => return Ok(fault_at(fault, first)),
-                Err(stop) => return Err(at_part(stop, first)),
-            };
-            exported.take(reading)?;
-            if let Some(end) = goes_on {
-                return compare_parts(original, o, others, under, first + 1, end, exported);
+    let span = Span {
+        from,
+        is_last: are_none(others),
+    };
+    let Compared {
+        reading,
+        came,
+        goes_on,
+    } = match compare_part(original, o, part, under, span) {
+        Ok(Ok(compared)) => compared,
+        Ok(Err(fault)) => return Ok(fault_at(fault, first)),
+        Err(stop) => return Err(at_part(stop, first)),
+    };
+    let samples = samples_of(&reading);
+    exported.take(samples, reading)?;
+    if let Some(end) = goes_on {
+        return match others.split_first_mut() {
+            None => unreachable!(),
+            Some((next, behind)) => {
+                compare_parts(original, o, next, behind, under, first + 1, end, exported)
             }
-            let beside = Beside {
-                alloc: under.alloc,
-                original: original.reader.header(),
-                claim: under.claim,
-                by: under.clock.export,
-            };
-            match read_rest(others, beside, first + 1, came.end()) {
-                Ok(Ok(rest)) => Ok(came_to(first, came, rest)),
-                Ok(Err(fault)) => Ok(PartsWalked::PartFault(fault)),
-                Err(stop) => Err(stop),
-            }
-        }
+        };
+    }
+    let beside = Beside {
+        alloc: under.alloc,
+        original: original.reader.header(),
+        claim: under.claim,
+        by: under.clock.export,
+    };
+    match read_rest(others, beside, first + 1, came.end()) {
+        Ok(Ok(rest)) => Ok(came_to(first, came, rest)),
+        Ok(Err(fault)) => Ok(PartsWalked::PartFault(fault)),
+        Err(stop) => Err(stop),
     }
 }

@@ -1,6 +1,6 @@
 //! An original and several exports, from the start of the original to what they come to together.
 
-ghost use Rattle.std.specs.Prelude.{◌≡◌, ◌<◌, ◌≤◌, ℕ, List, [], map, length, IfOk, IfErr, OnOk, IsTrue};
+ghost use Rattle.std.specs.Prelude.{◌≡◌, ◌<◌, ◌≤◌, ℕ, List, [], ◌∷◌, map, length, IfOk, IfErr, OnOk, IsTrue};
 ghost use Rattle.std.specs.List.{AllByRecursion};
 ghost use Rattle.edf_claim.specs.Terms.{Terms};
 ghost use Rattle.edf_fields.specs.Sources.{Fails};
@@ -14,7 +14,9 @@ ghost use Rattle.edf_check.specs.PartsVerdicts.{IsPartsVerdict, IsVerdictOnParts
 ghost use Rattle.edf_check.specs.Premises.{OfFile};
 ghost use Rattle.edf_check.specs.declared.parts.series.PartsWalked.TheVariants as walks;
 ghost use Rattle.edf_check.specs.declared.samples.earliest.Found.{Found};
+ghost use Rattle.edf_check.specs.walk.Serial.{AreLeft};
 ghost use Rattle.edf_check.specs.walk.Together.{AreFound};
+ghost use Rattle.edf_check.specs.Checks.{AreRead};
 
 use crate::notes::note_difference::note_difference;
 use crate::parts::compare::Under;
@@ -24,7 +26,7 @@ use crate::samples::sample_difference::with_label;
 use crate::walk::clock::Clock;
 use crate::walk::gather::View;
 use crate::walk::reading::{Reading, start};
-use crate::walk::records::BEGINNING;
+use crate::walk::time::BEGINNING;
 use edf_claim::claim::Claim;
 use edf_fields::source::Source;
 use edf_refusal::parts_stop::PartsStop;
@@ -34,7 +36,8 @@ use edf_verdict::parts_verdict::PartsVerdict;
 use edf_verdict::verdict::{Difference, Verdict};
 use std::alloc::{AllocError, Global};
 
-/// Reads the first data record of the original, of which the header was read, and walks through the parts beside it.
+/// Reads the first data record of the original, of which the header was read, and walks through a part and those behind it
+/// beside it.
 ///
 /// The labels are those of the claim, in the order of their bytes. The error is want of memory, or a failure of one of
 /// the sources.
@@ -42,25 +45,29 @@ pub(crate) fn walk_parts<O: Source, E: Source>(
     alloc: Global,
     original: &mut Reading,
     o: &mut O,
-    parts: &mut [E],
+    part: &mut E,
+    others: &mut [E],
     claim: &Claim,
     labels: &[&[u8]],
     exported: &mut Exported,
 ) -> Result<PartsWalked, PartsStop>
     requires original { HasBegun original.old.reader × ((original.old.notes).items ≡ []) }
-    requires some { 0 < length parts.old }
-    requires few { length parts.old ≤ 64 }
+    requires few { length others.old < 64 }
     requires none { (exported.old.samples ≡ 0) × ((exported.old.notes).items ≡ []) }
     requires sorted { AreSorted claim.now.channels labels.now }
     ensures found { IfOk result (λ walked. OfFile (O.is_honest o.old) (StandsIn original.old.reader (O.left o.old))
-        (λ a. AllByRecursion IsTrue (map E.is_honest parts.old) → AreFound a (map E.left parts.old) claim.now (map (λ label. label.now) labels.now)
+        (λ a. IsTrue (E.is_honest part.old) → AllByRecursion IsTrue (map E.is_honest others.old) → AreFound a (E.left part.old ∷ map E.left others.old) claim.now (map (λ label. label.now) labels.now)
         (map note_value (original.new.notes).items) (map note_value (exported.new.notes).items) walked)) }
-    ensures counted { IfOk result (λ walked. walked ≡ walks.Same → AllByRecursion IsTrue (map E.is_honest parts.old) →
-        exported.new.samples ≡ samples_of_all (map E.left parts.old)) }
+    ensures read { IfOk result (λ walked. OfFile (O.is_honest o.old) (StandsIn original.old.reader (O.left o.old))
+        (λ a. IsTrue (E.is_honest part.old) → AllByRecursion IsTrue (map E.is_honest others.old) →
+        AreLeft walked (O.left o.new) (E.left part.new ∷ map E.left others.new))) }
+    ensures counted { IfOk result (λ walked. walked ≡ walks.Same → IsTrue (E.is_honest part.old) → AllByRecursion IsTrue (map E.is_honest others.old) →
+        exported.new.samples ≡ samples_of_all (E.left part.old ∷ map E.left others.old)) }
     ensures modest { IfOk result (λ walked. (found : Found) → walked ≡ walks.SamplesDiffer found → IsModest found.difference.at × (found.channel < length labels.now)) }
-    ensures failures { OnOk result ((O.reads o.new ≡ O.reads o.old) × (map E.reads parts.new ≡ map E.reads parts.old)) }
+    ensures failures { OnOk result ((O.reads o.new ≡ O.reads o.old) × (E.reads part.new ≡ E.reads part.old) × (map E.reads others.new ≡ map E.reads others.old)) }
     ensures stop { IfErr result (PartsStops (Fails (O.reads o.old) (O.reads o.new))
-        ((O.reads o.new ≡ O.reads o.old) × (map E.reads parts.new ≡ map E.reads parts.old)) 0 (map E.reads parts.old) (map E.reads parts.new)) }
+        ((O.reads o.new ≡ O.reads o.old) × (E.reads part.new ≡ E.reads part.old) × (map E.reads others.new ≡ map E.reads others.old)) 0
+        (E.reads part.old ∷ map E.reads others.old) (E.reads part.new ∷ map E.reads others.new)) }
 {
     let clock = Clock::new(original.reader.header(), claim);
     let view = View {
@@ -78,7 +85,7 @@ pub(crate) fn walk_parts<O: Source, E: Source>(
         claim,
         labels,
     };
-    match compare_parts(original, o, parts, under, 0, BEGINNING, exported) {
+    match compare_parts(original, o, part, others, under, 0, BEGINNING, exported) {
         Ok(walked) => Ok(walked),
         Err(stop) => Err(stop),
     }
@@ -119,6 +126,7 @@ fn conclude_notes(
 /// The verdict, by what an original and its parts came to.
 ///
 /// The error is want of memory.
+#[tactic(auto, using(crate::proofs::LeftFacts::read_all, crate::proofs::LeftFacts::read_original, crate::proofs::LeftFacts::read_fault))]
 pub(crate) fn conclude_parts(
     alloc: Global,
     walked: PartsWalked,
@@ -128,7 +136,8 @@ pub(crate) fn conclude_parts(
     exported: &mut Exported,
 ) -> Result<PartsVerdict, AllocError>
     requires { (found : Found) → walked ≡ walks.SamplesDiffer found → IsModest found.difference.at × (found.channel < length labels.now) }
-    ensures { IfOk result (λ verdict. (o : List ℕ) (parts : List (List ℕ)) (claim : Terms) →
+    ensures read { IfOk result (λ verdict. (original : List ℕ) (lefts : List (List ℕ)) → AreLeft walked original lefts → AllByRecursion (AreRead verdict.verdict original) lefts) }
+    ensures verdict { IfOk result (λ verdict. (o : List ℕ) (parts : List (List ℕ)) (claim : Terms) →
         AreFound o parts claim (map (λ label. label.now) labels.now) (map note_value kept.old.items) (map note_value (exported.old.notes).items) walked →
         (walked ≡ walks.Same → exported.old.samples ≡ samples_of_all parts) → channels ≡ length claim.channels → IsPartsVerdict o parts claim verdict) }
 {

@@ -2,7 +2,7 @@
 
 ghost use Rattle.std.specs.Prelude.{◌≡◌, ◌<◌, ◌^◌, neg_ℤ, ◌+ℤ◌, unsigned_abs};
 ghost use Rattle.edf_stream.specs.Starts.{file_start};
-ghost use Rattle.edf_check.specs.walk.Walks.{IsClock};
+ghost use Rattle.edf_check.specs.walk.Clocks.{IsClock};
 
 use crate::walk::offset::Offset;
 use edf_claim::claim::Claim;

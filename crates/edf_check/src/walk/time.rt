@@ -12,3 +12,6 @@ pub struct Window {
     pub from: Time,
     pub to: Time,
 }
+
+/// A time before all data records of all files.
+pub(crate) const BEGINNING: Time = Time { ps: -(1 << 90) };

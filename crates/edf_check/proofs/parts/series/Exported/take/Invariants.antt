@@ -1,9 +1,8 @@
-use Rattle.std.proofs.Common.{◌≡◌, ◌+◌, ◌≤◌, ◌^◌, ◌++◌, map}
+use Rattle.std.proofs.Common.{◌≡◌, ◌+◌, ◌++◌, map}
 use Rattle.edf_stream.specs.Views.{note_value}
-use Rattle.edf_check.specs.PartsVerdicts.{samples_in}
 use Rattle.edf_check.proofs.parts.series.Exported.take.Given as goal
 
 abbrev pub invariant-loop-note : goal.invariant-loop-note
 invariant-loop-note l =
     (map note_value (l.self.notes).items ++ map note_value (l.note-iterator.rest).items ≡ map note_value (l.fn.self.notes).items ++ map note_value (l.fn.reading.notes).items)
-    × (l.self.samples ≡ l.fn.self.samples + samples_in (l.fn.reading.reader).head) × (l.self.samples ≤ l.fn.self.samples + 2 ^ 50)
+    × (l.self.samples ≡ l.fn.self.samples + l.fn.samples)
