@@ -151,20 +151,29 @@ class Drafts:
         is_so = b"With shift = -300 the answer would be YES channels 2 samples 1800 annotations 0." in given[1]
         self.judge("five minutes back, with the intervals that were meant", None if is_so else f"the explanation has {given!r}")
         cut = NIGHT.cut(10, 70, -86_400)
-        self.said("in order", NIGHT, cut, ["# With this draft the check answers: YES channels 2 samples 360 annotations 1\n"], [*remarks, "NOT A YES"])
+        self.said("in order", NIGHT, cut,
+                  ["# With this draft the check answers: YES channels 2 samples 360 annotations 1\n",
+                   '{ from = "10", to = "70" }, # confirm: 22:00:10 to 22:01:10\n', "\nshift = -86400 # confirm: 1 day back\n"],
+                  [*remarks, "NOT A YES", "no such channel"])
+        for shift, way in ((0, "not moved"), (86_400, "1 day forward"), (-8_640_000, "100 days back")):
+            self.said(way, NIGHT, NIGHT.cut(0, 100, shift), [f"\nshift = {shift} # confirm: {way}\n"], remarks)
         swapped = "# It looks like the two files were swapped."
         self.said("swapped", cut, NIGHT, [f'{no}NO 10 sample "ECG" at 0 ps original {ecg(10)} export {ecg(0)}. ', swapped])
         hidden = NIGHT.but(edits=[(field("patient"), "X F X X")])
         self.said("swapped, of one length", hidden, NIGHT, [f"{no}NO 8 subfield code changed", swapped])
         nobody, shown = NIGHT.but(edits=dated), NIGHT.but(edits=[dated[0], (field("recording"), "Startdate 02-MAR-2002 X X X")])
         self.said("a date that the export shows", nobody, shown, ["# NOT A YES: "], remarks)
-        self.said("hidden", NIGHT, hidden, ["# With this draft the check answers: YES channels 2 samples 600 annotations 2\n"], remarks)
+        self.said("hidden", NIGHT, hidden,
+                  ["# With this draft the check answers: YES channels 2 samples 600 annotations 2\n",
+                   "\n# the export shows: sex, date, administration, technician, equipment\n"], remarks)
+        nothing = [(field("patient"), "X X X X"), (field("recording"), "Startdate X X X X")]
+        self.said("all hidden", NIGHT, NIGHT.but(edits=nothing), ["# With this draft"], [*remarks, "the export shows"])
         beside = 80 * PS + PS // 3, None, "Asks for water"
         asked = NIGHT.but(notes=[*NIGHT.notes, beside])
         self.said("an annotation beside the data records", asked, asked.cut(10, 70).but(notes=[APNEA, beside]),
                   ["# With this draft the check answers: YES channels 2 samples 360 annotations 2\n",
                    "# BESIDE THE DATA RECORDS: 1 of the export's annotations begin outside",
-                   '{ from = "80.333333333333", to = "80.333333333334" }, # confirm\n'], remarks)
+                   '{ from = "80.333333333333", to = "80.333333333334" }, # confirm: 22:01:20.333333333333 to 22:01:20.333333333334\n'], remarks)
         broken_off = NIGHT.but(stretches=[(0, 30), (60, 100)], notes=[(40 * PS, None, "Apnea"), (50 * PS, None, "Apnea")])
         self.said("one of two annotations in a gap", broken_off, broken_off.but(notes=[(40 * PS, None, "Apnea")]),
                   ["# With this draft the check answers: YES channels 2 samples 420 annotations 1\n", "# BESIDE"], remarks)
@@ -173,7 +182,7 @@ class Drafts:
         three = NIGHT.but(stretches=[(0, 30), (60, 100)], notes=[(at * PS, None, "Apnea") for at in (35, 40, 45)])
         self.said("the middle one of three", three, three.but(notes=[(40 * PS, None, "Apnea")]),
                   ["# With this draft the check answers: YES channels 2 samples 420 annotations 1\n",
-                   '{ from = "40", to = "40.000000000001" }, # confirm\n'], remarks)
+                   '{ from = "40", to = "40.000000000001" }, # confirm: 22:00:40 to 22:00:40.000000000001\n'], remarks)
         blanked = NIGHT.but(notes=[LIGHTS, (APNEA[0], None, "X")])
         self.said("a text that was blanked", NIGHT, blanked,
                   ["# With this draft the check answers: YES channels 2 samples 600 annotations 2\n", "format = 2\n",
@@ -183,13 +192,17 @@ class Drafts:
                   ["# With this draft the check answers: YES channels 2 samples 600 annotations 2\n", "format = 1\n",
                    'remove = [\n  "Apnea", # confirm; how often it stands: 1\n]'], ["blank = ["])
         more = NIGHT.but(channels={**NIGHT.channels, "Temp": [place % 50 for place in range(100)]})
-        self.said("a channel more", NIGHT, more, [f'{no}NO 3 unknown channel "Temp"', '# NOT IN THE ORIGINAL: channel "Temp".'], remarks[:2])
+        self.said("a channel more", NIGHT, more,
+                  [f'{no}NO 3 unknown channel "Temp"', '# NOT IN THE ORIGINAL: channel "Temp".',
+                   '\n  "ECG", # confirm\n', '\n  "Temp", # the original has no such channel\n'], remarks[:2])
         days = 200_000
         long = {"EEG Fpz-Cz": [place * 7 % 4001 - 2000 for place in range(4 * days + 40)], "ECG": [7] * (2 * days + 20)}
         days_long = Made([(0, 10), (days, days + 10)], long)
         self.said("two days and more", days_long, days_long.cut(0, 10),
                   ["# With this draft the check answers: YES channels 2 samples 60 annotations 0\n",
                    "# OTHER DAYS FIT AS WELL: with a shift by -2 to 0 whole days"], ["# It looks like", "# NOT"])
+        self.said("a later day", days_long, days_long.cut(days, days + 10),
+                  ['{ from = "200000", to = "200010" }, # confirm: 05:33:20 of day 4 to 05:33:30 of day 4\n'], ["# NOT A YES"])
         whole, export = (self.path(name, made.bytes()) for name, made in (("original", NIGHT), ("export", cut)))
         with open(whole, "rb") as piped:
             how = {"stdout": subprocess.PIPE, "stderr": subprocess.PIPE}
@@ -216,7 +229,7 @@ class Drafts:
             is_so = ran[0] == 1 and ran[1].startswith(b"# no draft: ") and ran[1].count(b"\n") == 1 and not ran[2]
             self.judge(name, None if is_so else f"the draft has {ran!r}")
         name, ran = given("an hour back", whole, file([(30, 120)], shift=-3600))
-        words = b"# NOT TOLD", b"\nshift = -3570 # confirm\n", b'{ from = "0", to = "90" }'
+        words = b"# NOT TOLD", b"\nshift = -3570 # confirm: 00:59:30 back\n", b'{ from = "0", to = "90" }'
         is_so = ran[0] == 0 and not ran[2] and all(word in ran[1] for word in words)
         self.judge(name, None if is_so else f"the draft has {ran!r}")
         keep = [(at, at + 1) for at in range(0, 2000, 2)]

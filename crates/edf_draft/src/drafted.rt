@@ -1,6 +1,7 @@
 //! The draft of a claim, of two files that conform.
 
 ghost use Rattle.std.specs.Prelude.{IfOk, IfSome};
+ghost use Rattle.edf_claim.specs.Claims.{SaysClaimText};
 ghost use Rattle.edf_draft.specs.Answers.{IsTextOf};
 ghost use Rattle.edf_draft.specs.Drafts.{IsDraftFor};
 
@@ -10,10 +11,11 @@ use crate::hidden::{hidden_subfields, shown_subfields};
 use crate::keep::{Back, kept_intervals};
 use crate::recorded::Recorded;
 use crate::remarks::remarks_of;
-use crate::shift::shift_of;
+use crate::shift::{Shift, shift_of};
 use crate::texts::{Lacking, lacking_texts};
 use crate::tried::tried_text;
 use edf_claim::draft::{Comments, Draft};
+use edf_fields::which::Which;
 use edf_trial::recordings::Recordings;
 use std::alloc::{AllocError, Global};
 
@@ -23,6 +25,15 @@ struct Drafted {
     draft: Draft,
     removed: Vec<u64>,
     blanked: Vec<u64>,
+}
+
+/// What a person is told of two files beside the lines of their draft: remarks, of each channel whether the original has it, and
+/// the subfields that the export shows.
+#[derive(Drop)]
+struct Told {
+    remarks: String,
+    are_known: Vec<bool>,
+    shown: Vec<Which>,
 }
 
 impl Recorded {
@@ -72,6 +83,38 @@ fn draft_of(
     })
 }
 
+/// What a person is told of two files whose draft has this shift and these channels.
+fn told_of(
+    alloc: Global,
+    original: &Recorded,
+    export: &Recorded,
+    shift: Shift,
+    channels: &[Vec<u8>],
+) -> Result<Told, AllocError> {
+    Ok(Told {
+        remarks: remarks_of(alloc, original, export, shift)?,
+        are_known: are_known(alloc, original.reader.header(), channels)?,
+        shown: shown_subfields(alloc, export.reader.header())?,
+    })
+}
+
+impl Drafted {
+    /// The text of the draft, of an original that starts at this second of the day; none where no claim says it.
+    fn text(&self, alloc: Global, start: u32, told: &Told) -> Result<Option<Vec<u8>>, AllocError>
+        ensures { IfOk result (λ text. IfSome text (λ t. SaysClaimText t.items self.now.draft)) }
+    {
+        let comments = Comments {
+            remarks: &told.remarks,
+            are_known: &told.are_known,
+            start,
+            shown: &told.shown,
+            removed: &self.removed,
+            blanked: &self.blanked,
+        };
+        self.draft.text(alloc, &comments)
+    }
+}
+
 /// The text of a draft of a claim by which one recording is the export of another, with what the check answers with it in its
 /// first line; none where no claim says it, as where it needs more than 1,000 intervals or 65,536 bytes.
 pub(crate) fn draft_text<R: Recordings>(
@@ -84,18 +127,8 @@ pub(crate) fn draft_text<R: Recordings>(
 {
     let shift = shift_of(original, export);
     let drafted = draft_of(alloc, original, export, shift.seconds)?;
-    let remarks = remarks_of(alloc, original, export, shift)?;
-    let are_known = are_known(alloc, original.reader.header(), &drafted.draft.channels)?;
-    let shown = shown_subfields(alloc, export.reader.header())?;
-    let comments = Comments {
-        remarks: &remarks,
-        are_known: &are_known,
-        start: original.start_of_day(),
-        shown: &shown,
-        removed: &drafted.removed,
-        blanked: &drafted.blanked,
-    };
-    match drafted.draft.text(alloc, &comments)? {
+    let told = told_of(alloc, original, export, shift, &drafted.draft.channels)?;
+    match drafted.text(alloc, original.start_of_day(), &told)? {
         Some(text) => tried_text(alloc, &drafted.draft, &text, again),
         None => Ok(None),
     }
