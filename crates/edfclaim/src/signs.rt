@@ -30,7 +30,7 @@ struct Line {
 }
 
 impl Display for Line {
-    fn fmt(&self, f: &mut Formatter<'_>) -> fmt::Result {
+    fn fmt<W: fmt::Write>(&self, f: &mut Formatter<W>) -> fmt::Result {
         let (read, whole) = (self.read / MEGABYTE, self.whole / MEGABYTE);
         if self.read > self.whole {
             write!(f, "\redfclaim: {read} MB read")
