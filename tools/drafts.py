@@ -236,6 +236,10 @@ class Drafts:
         claim = 'format = 1\nchannels = ["Temp rectal"]\nshift = -86400\n'
         claim += "".join(f'[[keep]]\nfrom = "{start}"\nto = "{end}"\n' for start, end in keep)
         self.judge("1,000 intervals", self.checked(whole, file(keep, shift=-86_400), claim.encode()))
+        # with times by the clock it would have more than 65,536 bytes
+        name, ran = given("1,000 intervals, without times", whole, file(keep, shift=-86_400))
+        is_so = b'{ from = "1998", to = "1999" }, # confirm\n' in ran[1] and b"start\nkeep = [\n" in ran[1]
+        self.judge(name, None if is_so else f"the draft has {ran!r}")
 
 
 def main():

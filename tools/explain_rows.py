@@ -140,7 +140,7 @@ def of_names():
             ("date", RECORDED, "Startdate X PSG-0310/2019 KV Recorder7", "02.03.2002", "the day of the recording"),
             ("equipment", RECORDED, "Startdate 02-MAR-2002 PSG-0310/2019 KV X", "Recorder7 stops", "a word of the equipment"),
             ("recording-extras", f"{RECORDED} Room5", "Startdate 02-MAR-2002 PSG-0310/2019 KV Recorder7 X", "Room5",
-             "a word of what stands behind the equipment")):
+             "a word of what comes after the equipment")):
         nobody = (field("patient"), "X F X X")
         pair = [with_notes(note(0.5, text), edits=[nobody, (field("recording"), said)]) for said in (recorded, hidden)]
         yield (f"{which} in a text", 0, *pair, claim_of(BOTH, anonymous([which]), ALL),
@@ -214,7 +214,7 @@ def of_scales():
         yield f"extremes {original} as {export}", 1, *pair, ALL_OF_IT, [there], [absent]
     wide, cut = ([(signal(0, "physical-minimum"), low), (signal(0, "physical-maximum"), high)]
                  for low, high in (("-3276.7", "3276.7"), ("-3276.69", "3276.699")))
-    for name, edit, there in (("unit", (signal(0, "dimension"), "mV"), "  The unit is another one."),
+    for name, edit, there in (("unit", (signal(0, "dimension"), "mV"), "  The unit is different."),
                               ("range", (signal(0, "digital-maximum"), "2046"), "  Export again with the original's extremes.")):
         yield (f"extremes cut off, and another {name}", 1, edited(NIGHT, *wide), edited(NIGHT, *cut, edit), ALL_OF_IT, [there],
                ["digits cut off"])

@@ -104,7 +104,7 @@ def with_no():
            ["would be YES", "cut elsewhere", *LIKELY])
     far = Claimed(BOTH, [(10, 70)], 9_999_999_999)
     yield ("a shift that is beyond the limit", 1, NIGHT, NIGHT.cut(10, 70, 10_000_000_001), far,
-           ["The export starts 2 s later than claimed", "No shift lets it start as claimed, as a shift is at most 10000000000 s."],
+           ["The export starts 2 s later than claimed", "No shift lets it start as claimed, as a shift is at most 10000000000 s either way."],
            ["would be YES", "whole seconds", "cut elsewhere"])
     yield ("a part of a second that is kept", 1, late, late.but(shift=0), Claimed(BOTH, [(0, 200)], -DAY),
            ["With shift = 0 the answer would be YES channels 2 samples 600 annotations 2."],

@@ -35,8 +35,8 @@ pub struct Comments<'a> {
     pub remarks: &'a str,
     /// Of each channel, whether the original has it.
     pub are_known: &'a [bool],
-    /// The second of the day at which the original starts.
-    pub start: u32,
+    /// The second of the day at which the original starts; none where no time is said by its clock.
+    pub start: Option<u32>,
     /// The subfields that the export shows.
     pub shown: &'a [Which],
     /// How often each text that is removed stands in the original, and each that is blanked.

@@ -56,21 +56,35 @@ fn push_seconds(text: &mut Vec<u8>, alloc: Global, ps: i128) -> Result<(), Alloc
     Ok(())
 }
 
-/// Puts the line of an interval behind a text, with its times by the clock of an original that starts at a second of the day.
-fn push_interval(
+/// Puts the times of an interval behind a text, by the clock of an original that starts at a second of the day.
+fn push_clock(
     text: &mut Vec<u8>,
     alloc: Global,
     interval: Interval,
     start: u32,
 ) -> Result<(), AllocError> {
+    let from = clock_time(alloc, start, interval.from_ps)?;
+    let to = clock_time(alloc, start, interval.to_ps)?;
+    let times = format!(in alloc; ": {from} to {to}")?;
+    push(text, &times)
+}
+
+/// Puts the line of an interval behind a text, with its times by the clock where the start of the original is known.
+fn push_interval(
+    text: &mut Vec<u8>,
+    alloc: Global,
+    interval: Interval,
+    start: Option<u32>,
+) -> Result<(), AllocError> {
     push(text, "  { from = ")?;
     push_seconds(text, alloc, interval.from_ps)?;
     push(text, ", to = ")?;
     push_seconds(text, alloc, interval.to_ps)?;
-    let from = clock_time(alloc, start, interval.from_ps)?;
-    let to = clock_time(alloc, start, interval.to_ps)?;
-    let times = format!(in alloc; " }}, # confirm: {from} to {to}\n")?;
-    push(text, &times)
+    push(text, " }, # confirm")?;
+    if let Some(start) = start {
+        push_clock(text, alloc, interval, start)?;
+    }
+    push(text, "\n")
 }
 
 /// Puts a line of the subfields that the export shows behind a text, where there are some.
@@ -126,11 +140,23 @@ impl Draft {
     }
 
     /// Puts the lines of the intervals behind a text.
-    fn push_keep(&self, text: &mut Vec<u8>, alloc: Global, start: u32) -> Result<(), AllocError> {
+    fn push_keep(
+        &self,
+        text: &mut Vec<u8>,
+        alloc: Global,
+        start: Option<u32>,
+    ) -> Result<(), AllocError> {
         push(
             text,
-            "\n# the time that the export's data records cover, in seconds from the original's start, and by its clock\nkeep = [\n",
+            "\n# the time that the export's data records cover, in seconds from the original's start",
         )?;
+        let behind = if start.is_some() {
+            ", and by its clock"
+        } else {
+            ""
+        };
+        push(text, behind)?;
+        push(text, "\nkeep = [\n")?;
         for interval in &self.keep {
             push_interval(text, alloc, *interval, start)?;
         }

@@ -99,8 +99,14 @@ fn told_of(
 }
 
 impl Drafted {
-    /// The text of the draft, of an original that starts at this second of the day; none where no claim says it.
-    fn text(&self, alloc: Global, start: u32, told: &Told) -> Result<Option<Vec<u8>>, AllocError>
+    /// The text of the draft, of an original that starts at this second of the day, or without times by its clock; none where no
+    /// claim says it.
+    fn text(
+        &self,
+        alloc: Global,
+        start: Option<u32>,
+        told: &Told,
+    ) -> Result<Option<Vec<u8>>, AllocError>
         ensures { IfOk result (λ text. IfSome text (λ t. SaysClaimText t.items self.now.draft)) }
     {
         let comments = Comments {
@@ -113,10 +119,27 @@ impl Drafted {
         };
         self.draft.text(alloc, &comments)
     }
+
+    /// The same, with what the check answers with it in its first line.
+    fn tried<R: Recordings>(
+        &self,
+        alloc: Global,
+        start: Option<u32>,
+        told: &Told,
+        again: &R,
+    ) -> Result<Option<Vec<u8>>, AllocError>
+        ensures { IfOk result (λ text. IfSome text (λ t. SaysClaimText t.items self.now.draft)) }
+    {
+        match self.text(alloc, start, told)? {
+            Some(text) => tried_text(alloc, &self.draft, &text, again),
+            None => Ok(None),
+        }
+    }
 }
 
 /// The text of a draft of a claim by which one recording is the export of another, with what the check answers with it in its
-/// first line; none where no claim says it, as where it needs more than 1,000 intervals or 65,536 bytes.
+/// first line; none where no claim says it, as where it needs more than 1,000 intervals or 65,536 bytes. Where it would be too
+/// long with times by the clock, it has none.
 pub(crate) fn draft_text<R: Recordings>(
     alloc: Global,
     original: &Recorded,
@@ -128,8 +151,9 @@ pub(crate) fn draft_text<R: Recordings>(
     let shift = shift_of(original, export);
     let drafted = draft_of(alloc, original, export, shift.seconds)?;
     let told = told_of(alloc, original, export, shift, &drafted.draft.channels)?;
-    match drafted.text(alloc, original.start_of_day(), &told)? {
-        Some(text) => tried_text(alloc, &drafted.draft, &text, again),
-        None => Ok(None),
+    let start = Some(original.start_of_day());
+    match drafted.tried(alloc, start, &told, again)? {
+        Some(text) => Ok(Some(text)),
+        None => drafted.tried(alloc, None, &told, again),
     }
 }
