@@ -57,7 +57,9 @@ impl<'a> Stands<'a> {
     /// The sample of a run at a place.
     fn mark(self, run: Run<'_>, place: usize) -> Mark {
         Mark {
-            run: Run { bytes: &[], ..run },
+            start_ps: run.start_ps,
+            duration_ps: run.duration_ps,
+            samples: run.samples,
             place,
             hands: self.hands,
             values: None,
@@ -68,8 +70,10 @@ impl<'a> Stands<'a> {
 /// A sample that was found, of which its time isn't reckoned so far.
 #[derive(Clone, Copy)]
 struct Mark {
-    /// The run that it is of, without its bytes.
-    run: Run<'static>,
+    /// The data record that it is of, and how many samples of its signal that has.
+    start_ps: i128,
+    duration_ps: i128,
+    samples: u32,
     place: usize,
     hands: (Hand, Hand),
     values: Option<(i16, i16)>,
@@ -78,7 +82,13 @@ struct Mark {
 impl Mark {
     /// The sample.
     fn spot(self) -> Spot {
-        let at_ps = self.run.at_ps(self.place);
+        let run = Run {
+            start_ps: self.start_ps,
+            duration_ps: self.duration_ps,
+            samples: self.samples,
+            ..Run::NONE
+        };
+        let at_ps = run.at_ps(self.place);
         let (original, export) = self.hands;
         Spot {
             at_ps,
