@@ -465,7 +465,7 @@ def of_claims():
                                 ('"2 hours"', "one hour is 3600 s", 7200), ('"-1 week"', "one week is 604800 s", -604800)):
         yield (f"a shift of {text}", 2, WHOLE, WHOLE, claimed(f"shift = {text}", *KEEP),
                [unit, f"is shift = {seconds}"], ["This line has"])
-    yield "a shift between quotation marks", 2, WHOLE, WHOLE, claimed('shift = "-86400"', *KEEP), ["without quotation marks"], ["one day is"]
+    yield "a shift between quotation marks", 2, WHOLE, WHOLE, claimed('shift = "-86400"', *KEEP), ["without quotation marks"], ["is shift = "]
     for text, seconds in (("00:10:00", 600), ("23:30", 84600), ("1:00:01", 3601)):
         yield (f"the clock {text}", 2, WHOLE, WHOLE, claimed("[[keep]]", f'from = "{text}"', 'to = "99999"'),
                [f'"{text}" is {seconds} s: as a length of time, from = "{seconds}"'], [])

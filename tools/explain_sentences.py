@@ -56,7 +56,7 @@ OF_ROWS = {
     "NOTES_LATER": ("annotations that differ are only moved", "annotations that differ are only moved"),
     "NOTES_EARLIER": ("annotations that differ are only moved", "annotations that differ are only moved"),
     "MARK_IN_LINE": ("If it isn't meant as a part of a text, write the plain", "This line has"),
-    "SHIFT_IN_UNITS": ("without a unit: one ", "without a unit: one"),
+    "SHIFT_IN_UNITS": ("is shift = ", "is shift = "),
     "TIME_IN_SECONDS": ("as a length of time", "as a length of time"),
     "WITH_SHIFT_YES": ("With shift = ", "With shift"),
     "WITH_SHIFT_NO": ("With shift = ", "With shift"),
