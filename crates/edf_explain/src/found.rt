@@ -198,6 +198,15 @@ impl Places {
         }
     }
 
+    /// Those of every second sample, of which these are the numbers.
+    pub(crate) fn doubled(self) -> Places {
+        Places {
+            count: self.count,
+            first: self.first.saturating_mul(2),
+            last: self.last.saturating_mul(2),
+        }
+    }
+
     /// These, so many places later.
     pub(crate) fn behind(self, count: usize) -> Places {
         Places {

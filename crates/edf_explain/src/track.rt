@@ -1,6 +1,7 @@
 //! A channel that both files have, and what was found of its samples.
 
-use crate::found::{Found, Pair, Stands};
+use crate::blocks::numbers_of;
+use crate::found::{Found, Pair, Places, Stands};
 use crate::merge::{Strides, side_by_side};
 use crate::run::Run;
 use crate::stand::Lane;
@@ -66,6 +67,48 @@ impl Track {
             self.compare_on_grid(original, export, stands);
         } else {
             self.compare_apart(original, export, stands);
+        }
+    }
+
+    /// Takes in all samples of data records that begin together and last as long, and are kept.
+    pub(crate) fn compare_whole(&mut self, stands: Stands<'_>, end_ps: i128) {
+        let (old, new) = stands.hands;
+        match (self.strides.original, self.strides.export) {
+            (1, 1) => {
+                let original = stands.original.take(&mut self.original, old, end_ps);
+                let export = stands.export.take(&mut self.export, new, end_ps);
+                self.compare_each(Pair { original, export }, stands);
+            }
+            (2, 1) => {
+                let original = stands.original.take(&mut self.original, old, end_ps);
+                let export = stands.export.take(&mut self.export, new, end_ps);
+                self.compare_halved(Pair { original, export }, stands);
+            }
+            _ => self.compare(stands, end_ps, true),
+        }
+    }
+
+    /// Takes in samples of two runs, each of which is taken at the time of the other's.
+    fn compare_each(&mut self, pair: Pair<'_>, stands: Stands<'_>) {
+        self.count_compared(pair.original.to);
+        if let Some(places) = pair.places() {
+            self.changed.add_changed(pair, places, places, stands);
+        }
+    }
+
+    /// Takes in samples of two runs, of which the original's has two for each of the export's.
+    fn compare_halved(&mut self, pair: Pair<'_>, stands: Stands<'_>) {
+        let (original, export) = (pair.original, pair.export);
+        self.count_compared(export.to);
+        let left_out = Places {
+            count: export.to,
+            first: 1,
+            last: original.to.saturating_sub(1),
+        };
+        self.missing.add_places(original, left_out, stands);
+        if let Some(numbers) = numbers_of::<2>(original.bytes, export.bytes, export.to) {
+            let places = numbers.doubled();
+            self.changed.add_changed(pair, places, numbers, stands);
         }
     }
 

@@ -112,6 +112,27 @@ fn compare_all(tracks: &mut [Track], stands: Stands<'_>, end_ps: i128, is_kept: 
     }
 }
 
+/// Compares all samples of each channel in data records that begin together and last as long, and are kept.
+fn compare_whole(tracks: &mut [Track], stands: Stands<'_>, end_ps: i128) {
+    for track in tracks.iter_mut() {
+        track.compare_whole(stands, end_ps);
+    }
+}
+
+/// Whether two data records have the same values in their first few bytes.
+fn are_alike(stands: Stands<'_>, room: Option<usize>) -> bool {
+    let Some(room) = room else {
+        return false;
+    };
+    match (
+        stands.original.record().get(..room),
+        stands.export.record().get(..room),
+    ) {
+        (Some(original), Some(export)) => original == export,
+        _ => false,
+    }
+}
+
 /// A walk through both files.
 #[derive(Drop)]
 pub(crate) struct Walk<'a> {
@@ -367,28 +388,6 @@ impl<'a> Walk<'a> {
         }
     }
 
-    /// Whether the data records at hand have the same values, and are those from a time on up to another.
-    fn are_alike(&self, from_ps: i128, end_ps: i128) -> bool {
-        let Some(room) = self.room else {
-            return false;
-        };
-        if !are_whole(
-            self.original.stretch(),
-            self.export.stretch(),
-            from_ps,
-            end_ps,
-        ) {
-            return false;
-        }
-        match (
-            self.original.record().get(..room),
-            self.export.record().get(..room),
-        ) {
-            (Some(original), Some(export)) => original == export,
-            _ => false,
-        }
-    }
-
     /// Counts the samples of the data records that were found alike as compared.
     fn count_alike(&mut self) {
         for track in self.tracks.iter_mut() {
@@ -400,13 +399,16 @@ impl<'a> Walk<'a> {
 
     /// Compares the samples of both files from a time on up to another.
     fn compare(&mut self, from_ps: i128, end_ps: i128) {
-        if self.claim.keeps_instant(from_ps, 1) && self.are_alike(from_ps, end_ps) {
-            self.alike = self.alike.saturating_add(1);
-            return;
-        }
         let stands = Stands::new(&self.original, &self.export);
         let is_kept = self.claim.keeps_instant(from_ps, 1);
-        compare_all(&mut self.tracks, stands, end_ps, is_kept);
+        let (old, new) = stands.hands;
+        if !is_kept || !are_whole(old.stretch, new.stretch, from_ps, end_ps) {
+            compare_all(&mut self.tracks, stands, end_ps, is_kept);
+        } else if are_alike(stands, self.room) {
+            self.alike = self.alike.saturating_add(1);
+        } else {
+            compare_whole(&mut self.tracks, stands, end_ps);
+        }
     }
 
     /// Reads on in each file whose data record ends at a time.
