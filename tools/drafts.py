@@ -156,7 +156,8 @@ class Drafts:
                    '{ from = "10", to = "70" }, # confirm: 22:00:10 to 22:01:10\n', "\nshift = -86400 # confirm: 1 day back\n"],
                   [*remarks, "NOT A YES", "no such channel"])
         for shift, way in ((0, "not moved"), (86_400, "1 day forward"), (-8_640_000, "100 days back")):
-            self.said(way, NIGHT, NIGHT.cut(0, 100, shift), [f"\nshift = {shift} # confirm: {way}\n"], remarks)
+            moved = "# NOT MOVED" if shift else "# confirm: 1"
+            self.said(way, NIGHT, NIGHT.cut(0, 100, shift), [f"\nshift = {shift} # confirm: {way}\n"], [*remarks, moved])
         swapped = "# It looks like the two files were swapped."
         self.said("swapped", cut, NIGHT, [f'{no}NO 10 sample "ECG" at 0 ps original {ecg(10)} export {ecg(0)}. ', swapped])
         hidden = NIGHT.but(edits=[(field("patient"), "X F X X")])
@@ -167,7 +168,7 @@ class Drafts:
                   ["# With this draft the check answers: YES channels 2 samples 600 annotations 2\n",
                    "\n# the export shows: sex, date, administration, technician, equipment\n"], remarks)
         nothing = [(field("patient"), "X X X X"), (field("recording"), "Startdate X X X X")]
-        self.said("all hidden", NIGHT, NIGHT.but(edits=nothing), ["# With this draft"], [*remarks, "the export shows"])
+        self.said("all hidden", NIGHT, NIGHT.but(edits=nothing), ["# With this draft", "\n# NOT MOVED: "], [*remarks, "the export shows"])
         beside = 80 * PS + PS // 3, None, "Asks for water"
         asked = NIGHT.but(notes=[*NIGHT.notes, beside])
         self.said("an annotation beside the data records", asked, asked.cut(10, 70).but(notes=[APNEA, beside]),
@@ -203,6 +204,9 @@ class Drafts:
                    "# OTHER DAYS FIT AS WELL: with a shift by -2 to 0 whole days"], ["# It looks like", "# NOT"])
         self.said("a later day", days_long, days_long.cut(days, days + 10),
                   ['{ from = "200000", to = "200010" }, # confirm: 05:33:20 of day 4 to 05:33:30 of day 4\n'], ["# NOT A YES"])
+        day = Made([(0, 86_500)], {"ECG": [place * 7 % 1999 for place in range(2 * 86_500)]})
+        self.said("over a day", day, day.cut(86_395, 86_405),
+                  ['{ from = "86395", to = "86405" }, # confirm: 21:59:55 of day 2 to 22:00:05 of day 2\n'], ["# NOT A YES"])
         whole, export = (self.path(name, made.bytes()) for name, made in (("original", NIGHT), ("export", cut)))
         with open(whole, "rb") as piped:
             how = {"stdout": subprocess.PIPE, "stderr": subprocess.PIPE}

@@ -28,7 +28,7 @@ NIGHT = Night(600, channels=4, rate=500)
 CONFORMS = b"CONFORMS records 600 channels 4 samples 1200000 annotations 20\n"
 YES = b"YES channels 4 samples 1200000 annotations 20\n"
 CLAIM = b'format = 1\nchannels = ["EEG 0", "EEG 1", "EEG 2", "EEG 3"]\nkeep = [{ from = "0", to = "999999999" }]\n'
-LINE = re.compile(rb"\redfclaim: (\d+)(?: of (\d+))? MB read")
+LINE = re.compile(rb"\redfclaim: (\d+)(?: of (\d+))? MB read\x1b\[K")
 WIPE = b"\r\x1b[K"
 # the night goes through the pipe in so many pieces, one each so many seconds
 PIECES, PAUSE = 20, 0.08

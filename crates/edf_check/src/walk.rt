@@ -1,4 +1,4 @@
-//! Two files read to their ends and compared.
+//! Two files that are read in step, and how the file of one side is opened.
 
 ghost use Rattle.std.specs.Prelude.{◌≡◌, [], Some, IfOk, IfErr, OnOk, IsTrue};
 ghost use Rattle.edf_fields.specs.Sources.{Fails};

@@ -4,7 +4,7 @@ ghost use Rattle.std.specs.Prelude.{IfOk, IfSome};
 ghost use Rattle.edf_claim.specs.Claims.{SaysClaimText};
 
 use crate::draft::{Comments, Draft};
-use crate::draft_times::{SECOND, clock_time, way_of};
+use crate::draft_times::{SECOND, clock_time, is_behind_a_day, way_of};
 use crate::interval::Interval;
 use edf_fields::which::Which;
 use std::alloc::{AllocError, Global};
@@ -56,15 +56,17 @@ fn push_seconds(text: &mut Vec<u8>, alloc: Global, ps: i128) -> Result<(), Alloc
     Ok(())
 }
 
-/// Puts the times of an interval behind a text, by the clock of an original that starts at a second of the day.
+/// Puts the times of an interval behind a text, by the clock of an original that starts at a second of the day. Both say their days
+/// where the interval ends a day or more behind that.
 fn push_clock(
     text: &mut Vec<u8>,
     alloc: Global,
     interval: Interval,
     start: u32,
 ) -> Result<(), AllocError> {
-    let from = clock_time(alloc, start, interval.from_ps)?;
-    let to = clock_time(alloc, start, interval.to_ps)?;
+    let says_day = is_behind_a_day(interval.to_ps);
+    let from = clock_time(alloc, start, interval.from_ps, says_day)?;
+    let to = clock_time(alloc, start, interval.to_ps, says_day)?;
     let times = format!(in alloc; ": {from} to {to}")?;
     push(text, &times)
 }
@@ -148,7 +150,7 @@ impl Draft {
     ) -> Result<(), AllocError> {
         push(
             text,
-            "\n# the time that the export's data records cover, in seconds from the original's start",
+            "\n# the time that the export's data records and annotations cover, in seconds from the original's start",
         )?;
         let behind = if start.is_some() {
             ", and by its clock"

@@ -31,13 +31,23 @@ fn push_fraction(text: &mut String, alloc: Global, ps: i128) -> Result<(), Alloc
     text.push_str(fraction.trim_end_matches('0'))
 }
 
-/// A time of a recording by its own clock: so many picoseconds behind the second of the day at which it starts. From a day on
-/// it says which day of the recording it is.
-pub(crate) fn clock_time(alloc: Global, start: u32, ps: i128) -> Result<String, AllocError> {
+/// Whether a time is a day or more behind the second at which a recording starts.
+pub(crate) fn is_behind_a_day(ps: i128) -> bool {
+    ps.div_euclid(SECOND) >= DAY
+}
+
+/// A time of a recording by its own clock: so many picoseconds behind the second of the day at which it starts. It may say which
+/// day it is, from 1 on, by the date at which the recording starts.
+pub(crate) fn clock_time(
+    alloc: Global,
+    start: u32,
+    ps: i128,
+    says_day: bool,
+) -> Result<String, AllocError> {
     let seconds = ps.div_euclid(SECOND).saturating_add(i128::from(start));
     let mut text = of_day(alloc, seconds.rem_euclid(DAY))?;
     push_fraction(&mut text, alloc, ps)?;
-    if ps.div_euclid(SECOND) >= DAY {
+    if says_day {
         let day = format!(in alloc; " of day {}", seconds.div_euclid(DAY).saturating_add(1))?;
         text.push_str(&day)?;
     }

@@ -7,6 +7,7 @@ use crate::shift::{Shift, shift_of};
 use edf_fields::which::Which;
 use edf_header::header::Header;
 use edf_heads::channel_index::ChannelIndex;
+use edf_verdict::quote::push_quoted;
 use std::alloc::{AllocError, Global};
 
 /// How many picoseconds a day has.
@@ -16,6 +17,12 @@ const DAY_PS: i128 = 86_400_000_000_000_000;
 const UNTOLD: &str = "
 # NOT TOLD by the starts: no shift by whole days puts the export into the time of the original. The shift below lets
 # both begin together, which is a guess, and the intervals follow from it. Set both right before anything else.
+";
+
+/// What stands in a draft by which nothing is moved.
+const NOT_MOVED: &str = "
+# NOT MOVED: the header of the export says the day and the time at which the recording really starts, also where the
+# date is hidden. Confirm that this was meant.
 ";
 
 const SWAPPED: &str = "
@@ -31,14 +38,15 @@ fn say_channels(
 ) -> Result<(), AllocError> {
     let originals = ChannelIndex::new(alloc, original)?;
     for signal in export.signals() {
-        if !signal.is_annotations()
-            && originals.channel(signal.label()).is_none()
-            && let Ok(label) = str::from_utf8(signal.label())
-        {
-            let line = format!(in alloc;
-                "\n# NOT IN THE ORIGINAL: channel \"{label}\". With it in the export no claim is a Yes.\n"
-            )?;
-            text.push_str(&line)?;
+        if !signal.is_annotations() && originals.channel(signal.label()).is_none() {
+            let mut quoted = Vec::new(alloc);
+            push_quoted(&mut quoted, signal.label())?;
+            if let Ok(label) = str::from_utf8(&quoted) {
+                let line = format!(in alloc;
+                    "\n# NOT IN THE ORIGINAL: channel {label}. With it in the export no claim is a Yes.\n"
+                )?;
+                text.push_str(&line)?;
+            }
         }
     }
     Ok(())
@@ -137,6 +145,9 @@ pub(crate) fn remarks_of(
         say_days(&mut text, alloc, original, export)?;
     } else {
         text.push_str(UNTOLD)?;
+    }
+    if shift.seconds == 0 {
+        text.push_str(NOT_MOVED)?;
     }
     say_beside(&mut text, alloc, original, export, shift)?;
     say_channels(

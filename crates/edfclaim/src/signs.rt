@@ -19,6 +19,9 @@ const STEP: u64 = 65_536;
 /// How many bytes a megabyte has.
 const MEGABYTE: u64 = 1_000_000;
 
+/// What wipes the rest of a line behind a shorter one.
+const REST: &str = "\u{1b}[K";
+
 /// What wipes the line that stands on a terminal.
 const WIPE: &str = "\r\u{1b}[K";
 
@@ -33,9 +36,9 @@ impl Display for Line {
     fn fmt<W: fmt::Write>(&self, f: &mut Formatter<W>) -> fmt::Result {
         let (read, whole) = (self.read / MEGABYTE, self.whole / MEGABYTE);
         if self.read > self.whole {
-            write!(f, "\redfclaim: {read} MB read")
+            write!(f, "\redfclaim: {read} MB read{REST}")
         } else {
-            write!(f, "\redfclaim: {read} of {whole} MB read")
+            write!(f, "\redfclaim: {read} of {whole} MB read{REST}")
         }
     }
 }

@@ -269,10 +269,6 @@ nothing-kept claim file h place ps t c p past =
     ∙ filters_swap (λ x. not (is_before (instant n x) (whole t))) keeps (points_at (sampled file h ps) place)
     ∙ ap (filter keeps) (nothing-left file h place ps t c p past)
 
-pub from-start : (file : List ℕ) (h : Head) (place : ChannelPlace) (ps t : ℤ) → Conforms file h → IsPlaceIn h place → t ≤ℤ (file_start h +ℤ ps) → AreFrom place.samples (points_at (sampled file h ps) place) (whole t)
-unfolding samples_of
-from-start file h place ps t c p early = before-late file h place ps h.records t c p (omega arith) early
-
 -- those of a file whose first data record doesn't begin before t
 begins-from : (file : List ℕ) (h : Head) (ps t : ℤ) (k : ℕ) → Conforms file h → k < h.records → t ≤ℤ begin_by file h ps 0 → t ≤ℤ begin_by file h ps k
 begins-from file h ps t zero c lt from = from
