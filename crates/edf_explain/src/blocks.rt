@@ -10,6 +10,9 @@ const SAMPLES: usize = 16;
 
 const BLOCK: usize = 32;
 
+/// How many bytes are counted together, so that no lane of a vector overflows.
+const COUNTED: usize = 32_768;
+
 /// So many bytes of one file, and as many times more of one with a stride; at least one.
 #[inline(always)]
 fn size_with<const STRIDE: usize>(bytes: usize) -> usize
@@ -51,65 +54,65 @@ fn bytes_from(bytes: &[u8], place: usize) -> &[u8] {
     bytes.get(place..).unwrap_or(&[])
 }
 
-/// What was found of values that are compared 16 at a time: how many differ, and the first and the last 16 of which some do, by
-/// the number of the first of them and a bit each.
-#[derive(Clone, Copy)]
-struct Tally {
-    count: usize,
-    first: (usize, u64),
-    last: (usize, u64),
+/// How many of the values in whole blocks of 16 differ, of as many bytes as are counted together.
+fn count_together<const STRIDE: usize>(long: &[u8], short: &[u8]) -> usize {
+    let mut sums = i16x16::splat(0);
+    for (old, new) in long
+        .chunks_exact(size_with::<STRIDE>(BLOCK))
+        .zip(short.chunks_exact(BLOCK))
+    {
+        let one = u16x16::from_le_bytes(values_in::<STRIDE>(old));
+        let two = u16x16::from_le_bytes(values_in::<1>(new));
+        // a lane of a mask is -1 where it is set
+        sums = sums.saturating_add(one.simd_ne(two).to_simd());
+    }
+    usize::from(sums.reduce_sum().unsigned_abs())
 }
 
-impl Tally {
-    /// Nothing so far.
-    const NONE: Tally = Tally {
-        count: 0,
-        first: (0, 0),
-        last: (0, 0),
-    };
-
-    /// With 16 values more, from a number on, of which these differ.
-    #[inline(always)]
-    fn with(self, number: usize, others: u64) -> Tally {
-        if others == 0 {
-            return self;
-        }
-        let block = (number, others);
-        Tally {
-            count: self.count.saturating_add(others.count_ones() as usize),
-            first: if self.count == 0 { block } else { self.first },
-            last: block,
-        }
+/// How many of the values in whole blocks of 16 differ.
+fn count_in<const STRIDE: usize>(long: &[u8], short: &[u8]) -> usize {
+    if short.len() <= COUNTED {
+        return count_together::<STRIDE>(long, short);
     }
-
-    /// The numbers of the values that differ.
-    fn numbers(self) -> Option<Places> {
-        if self.count == 0 {
-            return None;
-        }
-        let (first, front) = self.first;
-        let (last, back) = self.last;
-        Some(Places {
-            count: self.count,
-            first: first.saturating_add(front.trailing_zeros() as usize),
-            last: last.saturating_add(last_bit(back)),
-        })
+    let mut count: usize = 0;
+    for (old, new) in long
+        .chunks(size_with::<STRIDE>(COUNTED))
+        .zip(short.chunks(COUNTED))
+    {
+        count = count.saturating_add(count_together::<STRIDE>(old, new));
     }
+    count
 }
 
-/// What is found of the values in whole blocks of 16.
-#[inline(always)]
-fn tally_of<const STRIDE: usize>(long: &[u8], short: &[u8]) -> Tally {
-    let mut tally = Tally::NONE;
+/// The number of the first value in whole blocks of 16 that differs.
+fn first_in<const STRIDE: usize>(long: &[u8], short: &[u8]) -> Option<usize> {
     let mut number: usize = 0;
     for (old, new) in long
         .chunks_exact(size_with::<STRIDE>(BLOCK))
         .zip(short.chunks_exact(BLOCK))
     {
-        tally = tally.with(number, others_in::<STRIDE>(old, new));
+        let others = others_in::<STRIDE>(old, new);
+        if others != 0 {
+            return Some(number.saturating_add(others.trailing_zeros() as usize));
+        }
         number = number.wrapping_add(SAMPLES);
     }
-    tally
+    None
+}
+
+/// The number of the last value that differs, of so many blocks of 16 from the first on.
+fn last_in<const STRIDE: usize>(long: &[u8], short: &[u8], blocks: usize) -> Option<usize> {
+    for behind in 1..=blocks {
+        let block = blocks.saturating_sub(behind);
+        let place = block.saturating_mul(BLOCK);
+        let old = bytes_from(long, STRIDE.saturating_mul(place));
+        let others = others_in::<STRIDE>(old, bytes_from(short, place));
+        if others != 0 {
+            let first = block.saturating_mul(SAMPLES);
+            return Some(first.saturating_add(last_bit(others)));
+        }
+    }
+    None
 }
 
 /// The number of the highest bit of some, of which one is set.
@@ -134,9 +137,22 @@ fn others_behind<const STRIDE: usize>(long: &[u8], short: &[u8], count: usize) -
 /// each of the other.
 fn numbers_of_many<const STRIDE: usize>(long: &[u8], short: &[u8], count: usize) -> Option<Places> {
     let behind = others_behind::<STRIDE>(long, short, count);
-    tally_of::<STRIDE>(long, short)
-        .with(count.saturating_sub(SAMPLES), behind)
-        .numbers()
+    let in_blocks = first_in::<STRIDE>(long, short);
+    if behind == 0 && in_blocks.is_none() {
+        return None;
+    }
+    let place = count.saturating_sub(SAMPLES);
+    let first_behind = place.saturating_add(behind.trailing_zeros() as usize);
+    let last = if behind == 0 {
+        last_in::<STRIDE>(long, short, count / SAMPLES).unwrap_or(first_behind)
+    } else {
+        place.saturating_add(last_bit(behind))
+    };
+    Some(Places {
+        count: count_in::<STRIDE>(long, short).saturating_add(behind.count_ones() as usize),
+        first: in_blocks.unwrap_or(first_behind),
+        last,
+    })
 }
 
 /// The numbers of those of fewer than 16 values that differ.
