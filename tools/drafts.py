@@ -201,7 +201,7 @@ class Drafts:
         days_long = Made([(0, 10), (days, days + 10)], long)
         self.said("two days and more", days_long, days_long.cut(0, 10),
                   ["# With this draft the check answers: YES channels 2 samples 60 annotations 0\n",
-                   "# OTHER DAYS FIT AS WELL: with a shift by -2 to 0 whole days"], ["# It looks like", "# NOT"])
+                   "# OTHER DAYS FIT AS WELL: with a shift by -2 to 0 whole days"], ["# It looks like", "# NOT IN", "# NOT TOLD", "# NOT A"])
         self.said("a later day", days_long, days_long.cut(days, days + 10),
                   ['{ from = "200000", to = "200010" }, # confirm: 05:33:20 of day 4 to 05:33:30 of day 4\n'], ["# NOT A YES"])
         day = Made([(0, 86_500)], {"ECG": [place * 7 % 1999 for place in range(2 * 86_500)]})
