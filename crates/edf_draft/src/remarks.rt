@@ -21,8 +21,8 @@ const UNTOLD: &str = "
 
 /// What stands in a draft by which nothing is moved.
 const NOT_MOVED: &str = "
-# NOT MOVED: the header of the export says the day and the time at which the recording really starts, also where the
-# date is hidden. Confirm that this was meant.
+# NOT MOVED: with a shift of 0 the header of the export has the day and the time of the original's own clock, also where
+# the date is hidden. Confirm that this was meant.
 ";
 
 const SWAPPED: &str = "
