@@ -39,7 +39,7 @@ answers() {
     fi
 }
 
-for crate in edf_fields edf_header edf_tal edf_stream edf_claim edf_verdict edf_refusal edf_rows edf_heads edf_check \
+for crate in edf_fields edf_header edf_tal edf_stream edf_claim edf_verdict edf_refusal edf_heads edf_check \
     edf_trial edf_draft; do
     take "$work" "$crate"
 done

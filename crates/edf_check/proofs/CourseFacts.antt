@@ -14,7 +14,10 @@ pub record IsCourse (K : Course) : Type 0 where
   pub moves : (l : List ℕ) (t u : Instant) (v : ℤ) → 0 < t.den → 0 < u.den → IsSame t u → K l t v → K l u v
   pub one : (l : List ℕ) (t : Instant) (v w : ℤ) → 0 < t.den → K l t v → K l t w → v ≡ w
 
-agree-back : (K L : Course) → Agree K L → Agree L K
+pub agree-self : (K : Course) → Agree K K
+agree-self K l t v p = (λ h. h, λ h. h)
+
+pub agree-back : (K L : Course) → Agree K L → Agree L K
 agree-back K L a l t v p = ((a l t v p).1, (a l t v p).0)
 
 -- courses in place of others with which they agree

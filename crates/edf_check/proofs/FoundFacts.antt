@@ -12,11 +12,8 @@ use Rattle.edf_verdict.specs.declared.verdict.Verdict.{Verdict}
 use Rattle.edf_stream.proofs.ForCallers.{conforming_is_faultless}
 use Rattle.edf_heads.proofs.ForCallers.{one_head_verdict, agree-apart}
 use Rattle.edf_check.specs.declared.parts.found.PartVerdict.{PartVerdict}
-use Rattle.edf_check.specs.declared.parts.found.PartsFound.{PartsFound}
-use Rattle.edf_check.specs.declared.parts.order.Ordered.{Ordered}
-use Rattle.edf_check.specs.walk.Orders.{IsOrdered}
 use Rattle.edf_check.specs.PartsFirst.{IsPart, IsFirstFault, rank, GoesFirst, IsFirstHead}
-use Rattle.edf_check.specs.PartsFound.{AllAgree, AllConformAt, IsHeadsFound, earlier_of, first_of, AreRead, end_before_part, IsFirstEarly, IsEarlyFound}
+use Rattle.edf_check.specs.PartsFound.{AllAgree, AllConformAt, IsHeadsFound, earlier_of, first_of, end_before_part, IsFirstEarly, IsEarlyFound}
 use Rattle.edf_check.specs.walk.Shown.{begin_by, last_end_by}
 use Rattle.edf_check.proofs.samples.FilterFacts.{by_test}
 
@@ -129,21 +126,6 @@ pub early_more : (by t : ℤ) (first : ℕ) (part : List ℕ) (parts : List (Lis
 early_more by t first part parts true later early from rest = early_here by t first part parts (early refl)
 early_more by t first part parts false None early from rest = (from refl, rest)
 early_more by t first part parts false (Some k) early from rest = early_later by t first part parts k (from refl) rest
-
--- one part that was read, and those behind it
-pub read_more : (h : Head) (claim : Terms) (by t : ℤ) (first : ℕ) (part : List ℕ) (parts : List (List ℕ)) (left : List ℕ) (lefts : List (List ℕ)) (mine : Ordered) (rest : PartsFound) (heads : Option PartVerdict) (early : Option ℕ)
-    → heads ≡ first_of first mine.heads rest.heads → early ≡ (if mine.is_early then Some first else rest.early) → IsOrdered h claim part left by t mine → AreRead h claim by mine.end.ps (first + 1) parts lefts rest
-    → AreRead h claim by t first (part ∷ parts) (left ∷ lefts) (record { heads = heads; early = early })
-read_more h claim by t first part parts left lefts mine rest heads early heads-are early-is m r =
-    let P : Option PartVerdict → Type 0 = IsHeadsFound h claim first (part ∷ parts) in
-    let Q : Option ℕ → Type 0 = IsEarlyFound by t first (part ∷ parts) in
-    let R : ℤ → Type 0 = λ u. IsEarlyFound by u (first + 1) parts rest.early in
-    record {
-      conform = conform_more part parts m.conforms r.conform;
-      gone = (m.gone, r.gone);
-      heads_are = subst P (sym heads-are) (heads_more h claim first part parts mine.heads rest.heads m.heads_are r.heads_are);
-      early_is = subst Q (sym early-is) (early_more by t first part parts mine.is_early rest.early m.early m.later (subst R m.end_is r.early_is));
-    }
 
 pub faultless_part : (part : List ℕ) → Conforms part (head_of part) → file_fault part ≡ None
 faultless_part part c = (conforming_is_faultless part).1 (head_of part, c)

@@ -1,7 +1,8 @@
 -- What a Yes means, and that it is so exactly for an export.
 use Rattle.std.proofs.Common.{◌≡◌, ℕ, ℤ, pos, neg_ℤ, ◌+ℤ◌, ◌-ℤ◌, List, [], ◌∷◌, map, length, refl, sym, ap, ◌∙◌, subst, arith}
 use Rattle.std.proofs.lemmas.Int.{ints}
-use Rattle.std.proofs.lemmas.List.{length-map}
+use Rattle.std.proofs.lemmas.List.{length-map, map-id}
+use Rattle.std.proofs.lemmas.Simd.{map-map}
 use Rattle.std.specs.List.Sorted.{IsPermutation}
 use Rattle.edf_claim.specs.Terms.{Terms}
 use Rattle.edf_header.specs.Heads.{Head}
@@ -27,22 +28,22 @@ use Rattle.edf_check.proofs.WordsFacts.{samples_in_words}
 onset-at : NoteValue → ℤ → NoteValue
 onset-at note onset = record { onset = onset; duration = note.duration; text = note.text }
 
+pointwise : (f g : NoteValue → NoteValue) → ((note : NoteValue) → f note ≡ g note) → (notes : List NoteValue) → map f notes ≡ map g notes
+pointwise f g e [] = refl
+pointwise f g e (note ∷ notes) = ap (λ n. n ∷ map f notes) (e note) ∙ ap (λ ns. g note ∷ ns) (pointwise f g e notes)
+
 moved-twice : (a b d : ℤ) (notes : List NoteValue) → a +ℤ b ≡ d → map (moved_by a) (map (moved_by b) notes) ≡ map (moved_by d) notes
 unfolding onset-at
-moved-twice a b d [] e = refl
-moved-twice a b d (note ∷ notes) e =
-    let o : a +ℤ (b +ℤ note.onset) ≡ d +ℤ note.onset = omega (arith, ints, e) in
-    ap (λ onset. onset-at note onset ∷ map (moved_by a) (map (moved_by b) notes)) o ∙ ap (λ rest. moved_by d note ∷ rest) (moved-twice a b d notes e)
-
-not-moved : (d : ℤ) (notes : List NoteValue) → d ≡ pos 0 → map (moved_by d) notes ≡ notes
-unfolding onset-at
-not-moved d [] e = refl
-not-moved d (note ∷ notes) e =
-    let o : d +ℤ note.onset ≡ note.onset = omega (arith, ints, e) in
-    ap (λ onset. onset-at note onset ∷ map (moved_by d) notes) o ∙ ap (λ rest. note ∷ rest) (not-moved d notes e)
+moved-twice a b d notes e =
+    map-map (moved_by a) (moved_by b) notes
+    ∙ pointwise (λ n. moved_by a (moved_by b n)) (moved_by d) (λ n. let o : a +ℤ (b +ℤ n.onset) ≡ d +ℤ n.onset = omega (arith, ints, e) in ap (onset-at n) o) notes
 
 moved-back : (a b : ℤ) (notes : List NoteValue) → a +ℤ b ≡ pos 0 → map (moved_by a) (map (moved_by b) notes) ≡ notes
-moved-back a b notes e = moved-twice a b (pos 0) notes e ∙ not-moved (pos 0) notes refl
+unfolding onset-at
+moved-back a b notes e =
+    map-map (moved_by a) (moved_by b) notes
+    ∙ pointwise (λ n. moved_by a (moved_by b n)) (λ n. n) (λ n. let o : a +ℤ (b +ℤ n.onset) ≡ n.onset = omega (arith, ints, e) in ap (onset-at n) o) notes
+    ∙ map-id notes
 
 -- the annotations of a file that conforms, as the file says them and as they are read
 read-so : (file : List ℕ) (notes : List NoteValue) → Conforms file (head_of file) → HasNotes file (head_of file) notes
@@ -95,28 +96,16 @@ headline-of o e claim both is =
     }
 
 -- what the headline says of its two headers and annotations
-record Says (o e : List ℕ) (claim : Terms) (ns ms : List NoteValue) (h g : Head) : Type 0 where
-  pub original_conforms : Conforms o h
-  pub export_conforms : Conforms e g
-  pub original_says : HasNotes o h ns
-  pub export_says : HasNotes e g ms
-  pub heads : HeadsAgree h g claim
-  pub samples : SamplesAsKept o e h g claim
-  pub annotations : IsPermutation (kept_of claim ns) (unshifted h g claim ms)
+abbrev Says : List ℕ → List ℕ → Terms → List NoteValue → List NoteValue → Head → Head → Type 0
+Says o e claim ns ms h g =
+    (Conforms o h × Conforms e g × HasNotes o h ns × HasNotes e g ms) × HeadsAgree h g claim × SamplesAsKept o e h g claim × IsPermutation (kept_of claim ns) (unshifted h g claim ms)
 
 says-of : (o e : List ℕ) (claim : Terms) (r : Headline o e claim) → Says o e claim r.original_notes r.export_notes (head_of o) (head_of e)
 says-of o e claim r =
     let ho = (head-is o r.original_head (r.original_conforms).header).1 in
     let he = (head-is e r.export_head (r.export_conforms).header).1 in
-    let all : Says o e claim r.original_notes r.export_notes r.original_head r.export_head = record {
-      original_conforms = r.original_conforms;
-      export_conforms = r.export_conforms;
-      original_says = r.original_says;
-      export_says = r.export_says;
-      heads = record { channels = r.channels; texts = r.texts; calibrations = r.calibrations; subfields = r.subfields; blank = r.blank };
-      samples = r.samples;
-      annotations = r.annotations;
-    } in
+    let heads : HeadsAgree r.original_head r.export_head claim = record { channels = r.channels; texts = r.texts; calibrations = r.calibrations; subfields = r.subfields; blank = r.blank } in
+    let all : Says o e claim r.original_notes r.export_notes r.original_head r.export_head = ((r.original_conforms, r.export_conforms, r.original_says, r.export_says), heads, r.samples, r.annotations) in
     subst (Says o e claim r.original_notes r.export_notes (head_of o)) he (subst (λ h. Says o e claim r.original_notes r.export_notes h r.export_head) ho all)
 
 export-of : (o e : List ℕ) (claim : Terms) → Headline o e claim → BothConform o e × IsExport o e claim
@@ -124,14 +113,14 @@ export-of o e claim r =
     let s = says-of o e claim r in
     let ns = r.original_notes in
     let ms = r.export_notes in
-    let kept = kept-so o claim ns s.original_conforms s.original_says in
-    let exported = exported-so o e claim ms s.export_conforms s.export_says in
+    let kept = kept-so o claim ns (s.0).0 (s.0).2 in
+    let exported = exported-so o e claim ms (s.0).1 (s.0).3 in
     let same : IsPermutation (kept_notes o claim) (exported_notes o e claim) =
-    subst (λ xs. IsPermutation xs (exported_notes o e claim)) (sym kept) (subst (λ xs. IsPermutation (kept_of claim ns) xs) (sym exported) s.annotations) in (
-      record { original_conforms = s.original_conforms; export_conforms = s.export_conforms },
+    subst (λ xs. IsPermutation xs (exported_notes o e claim)) (sym kept) (subst (λ xs. IsPermutation (kept_of claim ns) xs) (sym exported) s.3) in (
+      record { original_conforms = (s.0).0; export_conforms = (s.0).1 },
       record {
-        heads = s.heads;
-        samples = (samples_in_words o e claim).1 s.samples;
+        heads = s.1;
+        samples = (samples_in_words o e claim).1 s.2;
         notes = (notes_in_words (kept_notes o claim) (exported_notes o e claim)).1 same;
       },
     )

@@ -1,15 +1,20 @@
 -- Two courses that are cut at an instant: they agree where both their fronts and their backs do, and their first mismatch is that of
 -- the fronts, or else that of the backs.
-use Rattle.std.proofs.Common.{ℕ, ◌<◌, ℤ, List, ⊎_elim}
+use Rattle.std.proofs.Common.{ℕ, ◌<◌, ℤ, List, ⊎_elim, ◌⊎◌}
 use Rattle.edf_stream.specs.declared.instant.Instant.{Instant}
 use Rattle.edf_stream.specs.InstantOrder.{IsNotBefore}
 use Rattle.edf_verdict.specs.declared.verdict.SampleMismatch.{SampleMismatch}
 use Rattle.edf_verdict.specs.declared.verdict.SampleMismatch.TheVariants.{Missing, Extra, Value}
 use Rattle.edf_check.specs.Courses.{Course, Agree, DifferAt, IsFirstMismatch}
 use Rattle.edf_check.specs.InstantOrder.{IsBefore}
-use Rattle.edf_check.specs.Unions.{IsCutAt}
 use Rattle.edf_check.proofs.CourseFacts.{IsCourse, agree-apart}
 use Rattle.edf_check.proofs.samples.FractionFacts.{by_before, before_not, before-not_before, same_before, before_below}
+
+-- the first of three courses is made of the other two: what stands in it before the instant u, and what stands from there on
+pub record IsCutAt (u : Instant) (whole first second : Course) : Type 0 where
+  pub front : (label : List ℕ) (at : Instant) (value : ℤ) → 0 < at.den → first label at value → whole label at value × IsBefore at u
+  pub back : (label : List ℕ) (at : Instant) (value : ℤ) → 0 < at.den → second label at value → whole label at value × IsNotBefore at u
+  pub each : (label : List ℕ) (at : Instant) (value : ℤ) → 0 < at.den → whole label at value → first label at value ⊎ second label at value
 
 -- what stands before the cut is in the front, and what doesn't in the back
 pub front-of : (u : Instant) (K A B : Course) → IsCutAt u K A B → (l : List ℕ) (t : Instant) (v : ℤ) → 0 < t.den → IsBefore t u → K l t v → A l t v

@@ -1,5 +1,5 @@
 -- What a claim keeps, and what an export holds, are courses.
-use Rattle.std.proofs.Common.{◌≡◌, ℕ, ◌<◌, ◌+◌, ◌*◌, ◌<ℤ◌, ◌≤ℤ◌, ℤ, pos, ◌+ℤ◌, ◌*ℤ◌, List, refl, sym, ap, ◌∙◌, arith}
+use Rattle.std.proofs.Common.{◌≡◌, ℕ, ◌<◌, ◌+◌, ◌*◌, ℤ, pos, ◌+ℤ◌, ◌*ℤ◌, List, refl, sym, ap, ◌∙◌, arith}
 use Rattle.std.proofs.lemmas.Int.{ints}
 use borrow.Author.Differences.{up, down}
 use Rattle.edf_claim.specs.Terms.{Terms}
@@ -11,8 +11,8 @@ use Rattle.edf_stream.specs.Instants.{IsSame}
 use Rattle.edf_stream.specs.InstantOrder.{IsNotBefore}
 use Rattle.edf_stream.specs.Samples.{SampleValue, IsSample}
 use Rattle.edf_stream.proofs.ForCallers.{one_at_an_instant}
-use Rattle.edf_check.specs.Instants.{later}
 use Rattle.edf_check.specs.InstantOrder.{IsBefore}
+use Rattle.edf_check.specs.Instants.{later}
 use Rattle.edf_check.specs.Kept.{shift_ps}
 use Rattle.edf_check.specs.KeptReading.{origin_of, ValueAt, KeptAt, ExportedAt}
 use Rattle.edf_check.proofs.CourseFacts.{IsCourse}
@@ -39,26 +39,15 @@ sums a b z w d n m ez ew e =
 pub later-same : (ps : ℤ) (t u : Instant) → IsSame t u → IsSame (later ps t) (later ps u)
 later-same ps t u s = sums t.num u.num (t.num +ℤ (pos t.den *ℤ ps)) (u.num +ℤ (pos u.den *ℤ ps)) ps t.den u.den refl refl s
 
--- an instant in an interval, as one between two others
-from-instant : (ps num : ℤ) (den : ℕ) → (ps *ℤ pos den) ≤ℤ num → IsNotBefore (record { num = num; den = den }) (record { num = ps; den = 1 })
-from-instant ps num den le = let z : num *ℤ pos 1 ≡ num = omega (arith, ints) in rw z le
-
-of-instant : (ps num : ℤ) (den : ℕ) → IsNotBefore (record { num = num; den = den }) (record { num = ps; den = 1 }) → (ps *ℤ pos den) ≤ℤ num
-of-instant ps num den le = let z : num ≡ num *ℤ pos 1 = omega (arith, ints) in rw z le
-
-to-instant : (ps num : ℤ) (den : ℕ) → num <ℤ (ps *ℤ pos den) → IsBefore (record { num = num; den = den }) (record { num = ps; den = 1 })
-to-instant ps num den lt = let z : num *ℤ pos 1 ≡ num = omega (arith, ints) in rw z lt
-
-before-instant : (ps num : ℤ) (den : ℕ) → IsBefore (record { num = num; den = den }) (record { num = ps; den = 1 }) → num <ℤ (ps *ℤ pos den)
-before-instant ps num den lt = let z : num ≡ num *ℤ pos 1 = omega (arith, ints) in rw z lt
-
 pub keeps-same : (claim : Terms) (t u : Instant) → 0 < t.den → 0 < u.den → IsSame t u → KeepsInstant claim t.num t.den → KeepsInstant claim u.num u.den
 keeps-same claim t u pt pu s (interval, there, within) =
     let from : Instant = record { num = interval.from_ps; den = 1 } in
     let to : Instant = record { num = interval.to_ps; den = 1 } in
-    let low = of-instant interval.from_ps u.num u.den (from_below u t from pt (same_below t u s) (from-instant interval.from_ps t.num t.den within.0)) in
-    let high = before-instant interval.to_ps u.num u.den (same_before u t to pu (same_back t u s) (to-instant interval.to_ps t.num t.den within.1)) in
-    (interval, there, (low, high))
+    let a = within.0 in
+    let b = within.1 in
+    let low : IsNotBefore u from = from_below u t from pt (same_below t u s) (omega (arith, ints, a)) in
+    let high : IsBefore u to = same_before u t to pu (same_back t u s) (omega (arith, ints, b)) in
+    (interval, there, (omega (arith, ints, low), omega (arith, ints, high)))
 
 pub kept-course : (o : List ℕ) (claim : Terms) → Conforms o (head_of o) → IsCourse (KeptAt o claim)
 kept-course o claim c = record {

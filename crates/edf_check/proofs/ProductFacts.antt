@@ -55,13 +55,6 @@ calibration-of file x c i =
     let numbers : HasShortNumbers x = subst HasShortNumbers (get-index h.signals at.0 x x at.1) ((sound.bounds).signals at.0 x within) in
     record { extremes = signal.calibration; short = numbers.extremes }
 
-start-small : (file : List ℕ) → Conforms file (head_of file) → unsigned_abs (neg_ℤ (origin_of file)) ≤ 2 ^ 79
-start-small file c =
-    let bounds = (sound-of file (head_of file) c).bounds in
-    let near = bounds.near in
-    let early = bounds.early in
-    omega (arith, ints, near, early)
-
 start-near : (file : List ℕ) → Conforms file (head_of file) → unsigned_abs (origin_of file) ≤ 2 ^ 79
 start-near file c =
     let bounds = (sound-of file (head_of file) c).bounds in
@@ -89,7 +82,8 @@ products_fit original export claim both c = record {
       let shift = product (shift_ps claim) (x.instant).den (2 ^ 79) (shift-small claim c) (omega (arith, few)) in
       (omega (arith, start), omega (arith, shift));
   kept = λ x s.
-      let p = moved-small x.instant (neg_ℤ (origin_of original)) (small-of original x both.original_conforms s) (start-small original both.original_conforms) in
+      let near = start-near original both.original_conforms in
+      let p = moved-small x.instant (neg_ℤ (origin_of original)) (small-of original x both.original_conforms s) (omega (arith, ints, near)) in
       omega (arith, p);
   moved = λ x y s t.
       let p = moved-small x.instant (shift_ps claim) (small-of original x both.original_conforms s) (shift-small claim c) in

@@ -1,5 +1,5 @@
 -- Files that hold the same have the same verdict.
-use Rattle.std.proofs.Common.{◌≡◌, ℕ, ◌+◌, ◌<◌, ℤ, pos, neg_ℤ, ◌+ℤ◌, ◌*ℤ◌, ◌<ℤ◌, ◌^◌, Bool, true, false, cond, List, [], ◌∷◌, length, map, filter, Some, inl, inr, refl, sym, ap, ◌∙◌, subst, arith}
+use Rattle.std.proofs.Common.{◌≡◌, ℕ, ◌+◌, ◌<◌, ℤ, pos, neg_ℤ, ◌+ℤ◌, ◌*ℤ◌, ◌<ℤ◌, ◌^◌, Bool, true, false, cond, List, [], ◌∷◌, length, map, filter, refl, sym, ap, ◌∙◌, subst, arith}
 use Rattle.std.specs.List.{sum_by}
 use Rattle.std.specs.List.Sorted.{IsPermutation}
 use Rattle.std.specs.Ordering.{is_eq}
@@ -9,19 +9,17 @@ use Rattle.std.proofs.lemmas.List.{length-map}
 use Rattle.std.proofs.lemmas.List.Sums.{sum_by-cons}
 use Rattle.edf_claim.specs.Terms.{Terms}
 use Rattle.edf_claim.specs.Keeps.{keeps_annotation}
-use Rattle.edf_fields.specs.declared.fault.Fault.{Fault}
 use Rattle.edf_header.specs.Channels.{channels_among, channel_labels}
 use Rattle.edf_header.specs.Heads.{SignalHead, start_second}
 use Rattle.edf_header.specs.HeadsReading.{head_of}
 use Rattle.edf_stream.specs.declared.instant.Instant.{Instant}
 use Rattle.edf_stream.specs.Conforming.{Conforms}
-use Rattle.edf_stream.specs.Faults.{file_fault}
 use Rattle.edf_stream.specs.InstantOrder.{IsNotBefore, IsSecondOf}
 use Rattle.edf_stream.specs.Instants.{IsSame}
 use Rattle.edf_stream.specs.Notes.{NoteValue, moved_by}
 use Rattle.edf_stream.specs.NotesReading.{notes_of}
 use Rattle.edf_stream.specs.Samples.{SampleValue, IsSample}
-use Rattle.edf_stream.proofs.ForCallers.{start_is_of_least, conforming_is_faultless}
+use Rattle.edf_stream.proofs.ForCallers.{start_is_of_least}
 use Rattle.edf_verdict.specs.declared.verdict.Verdict.{Verdict}
 use Rattle.edf_verdict.specs.declared.verdict.Verdict.TheVariants.{Yes, No}
 use Rattle.edf_verdict.specs.declared.verdict.Difference.TheVariants as differences
@@ -39,9 +37,10 @@ use Rattle.edf_check.specs.KeptReading.{origin_of, ValueAt, KeptAt, ExportedAt, 
 use Rattle.edf_check.specs.Laws.{AnyCutOfExport, AnyCutOfOriginal}
 use Rattle.edf_check.specs.SameFiles.{HoldTheSame}
 use Rattle.edf_check.specs.Verdicts.{IsVerdict}
-use Rattle.edf_check.proofs.CourseFacts.{agree-alike, first-alike}
+use Rattle.edf_check.proofs.CourseFacts.{agree-alike, agree-back, first-alike}
 use Rattle.edf_check.proofs.StartFacts.{whole-at, once, reached-at, before-at, same-second}
-use Rattle.edf_check.proofs.VerdictFacts.{no-fault, FromOriginal, kind-of}
+use Rattle.edf_check.proofs.FoundFacts.{faultless_part}
+use Rattle.edf_check.proofs.PartsVerdictFacts.{no-fault}
 use Rattle.edf_check.proofs.notes.NoteOrderFacts.{more-with}
 use Rattle.edf_check.proofs.samples.FractionFacts.{not_before-before, same_above, same_back, both_same, from_below}
 use Rattle.edf_check.proofs.walk.NightFacts.{sound-head}
@@ -54,7 +53,7 @@ unfolding whole-at
 below p s t some h i =
     let low = s *ℤ pos (10 ^ 12) in
     let high = (t +ℤ pos 1) *ℤ pos (10 ^ 12) in
-    let order : IsBefore (whole-at low) (whole-at high) = not_before-before (whole-at low) p (whole-at high) (omega arith) (reached-at p low h.reached) (before-at p high i.next_is_later) in
+    let order : IsBefore (whole-at low) (whole-at high) = not_before-before (whole-at low) p (whole-at high) (omega arith) ((reached-at p low).0 h.reached) ((before-at p high).0 i.next_is_later) in
     let plain : (s *ℤ pos 1000000000000) <ℤ ((t +ℤ pos 1) *ℤ pos 1000000000000) = (let a = once low in let b = once high in omega (arith, ints, order, a, b)) in
     omega (arith, ints, plain)
 
@@ -73,9 +72,6 @@ not-later a b agree x y is least =
     let few = (twin.1).in_lane in
     from_below x.instant z.instant y.instant (omega (arith, few)) (same_above x.instant z.instant (same_back z.instant x.instant twin.3)) (least z twin.1)
 
-agree-back : (a b : List ℕ) → Agree (ValueAt a) (ValueAt b) → Agree (ValueAt b) (ValueAt a)
-agree-back a b agree l t v p = let both = agree l t v p in (both.1, both.0)
-
 same-start : (a b : List ℕ) → HoldTheSame a b → start_second (head_of a) ≡ start_second (head_of b)
 same-start a b s =
     let p = start_is_of_least a (head_of a) s.first_conforms in
@@ -84,7 +80,7 @@ same-start a b s =
     let y = q.0 in
     let px = ((p.1).sample).in_lane in
     let py = ((q.1).sample).in_lane in
-    let same = both_same x.instant y.instant (not-later a b s.samples x y (p.1).sample (q.1).least) (not-later b a (agree-back a b s.samples) y x (q.1).sample (p.1).least) in
+    let same = both_same x.instant y.instant (not-later a b s.samples x y (p.1).sample (q.1).least) (not-later b a (agree-back (ValueAt a) (ValueAt b) s.samples) y x (q.1).sample (p.1).least) in
     one-second x.instant (start_second (head_of a)) (start_second (head_of b)) (omega (arith, px)) (p.1).second
     (same-second x.instant y.instant (start_second (head_of b)) (omega (arith, px)) (omega (arith, py)) same (q.1).second)
 
@@ -155,17 +151,11 @@ pairs-of o e o' e' s r = record {
   other_export_sound = sound-head e' r.second_conforms;
 }
 
-others-conform : (o e o' e' : List ℕ) → HoldTheSame o o' → HoldTheSame e e' → BothConform o' e'
-others-conform o e o' e' s r = record { original_conforms = s.second_conforms; export_conforms = r.second_conforms }
-
-conforming-faultless : (file : List ℕ) → Conforms file (head_of file) → (fault : Fault) → file_fault file ≡ Some fault → ⊥
-conforming-faultless file c fault e = no-fault file fault e ((conforming_is_faultless file).1 (head_of file, c))
-
 carried : (o e o' e' : List ℕ) (c : Terms) (v : Verdict) → HoldTheSame o o' → HoldTheSame e e' → AreBlankAlike (head_of e) (head_of e') → IsVerdict o e c v → IsVerdict o' e' c v
 carried o e o' e' c v s r b = by-kind v
   where
     both : BothConform o' e'
-    both = others-conform o e o' e' s r
+    both = record { original_conforms = s.second_conforms; export_conforms = r.second_conforms }
 
     heads : (w : Verdict) → IsHeadVerdict (head_of o) (head_of e) c w → IsHeadVerdict (head_of o') (head_of e') c w
     heads w = head_verdict_carried (head_of o) (head_of e) (head_of o') (head_of e') (pairs-of o e o' e' s r) b c w
@@ -199,15 +189,8 @@ carried o e o' e' c v s r b = by-kind v
             annotations_are = y.annotations_are ∙ same-length (notes_of e (head_of e)) (notes_of e' (head_of e')) r.notes;
           },
         )
-    by-kind (No (differences.OriginalFault fault)) h = absurd (conforming-faultless o s.first_conforms fault h)
-    by-kind (No (differences.ExportFault fault)) h = absurd (conforming-faultless e r.first_conforms fault h.1)
-    by-kind (No (differences.UnknownChannel label)) h = (both, heads (No (differences.UnknownChannel label)) h.1)
-    by-kind (No (differences.MissingChannel label)) h = (both, heads (No (differences.MissingChannel label)) h.1)
-    by-kind (No (differences.ExtraChannel label)) h = (both, heads (No (differences.ExtraChannel label)) h.1)
-    by-kind (No (differences.ChannelText label field)) h = (both, heads (No (differences.ChannelText label field)) h.1)
-    by-kind (No (differences.Calibration label)) h = (both, heads (No (differences.Calibration label)) h.1)
-    by-kind (No (differences.Subfield which mismatch)) h = (both, heads (No (differences.Subfield which mismatch)) h.1)
-    by-kind (No (differences.NotClean text)) h = (both, heads (No (differences.NotClean text)) h.1)
+    by-kind (No (differences.OriginalFault fault)) h = absurd (no-fault o fault h (faultless_part o s.first_conforms))
+    by-kind (No (differences.ExportFault fault)) h = absurd (no-fault e fault h.1 (faultless_part e r.first_conforms))
     by-kind (No differences.PartOrder) h = h
     by-kind (No (differences.Sample label at_ps mismatch)) h =
         (both, agree h.1, first-alike (KeptAt o c) (KeptAt o' c) (ExportedAt o e c) (ExportedAt o' e' c) kept exported label at_ps mismatch h.2)
@@ -224,6 +207,7 @@ carried o e o' e' c v s r b = by-kind v
             least = λ other l. sym (kept-notes-same o o' c s other) ∙ f.least other l ∙ exported-notes-same o e o' e' c s r other;
           },
         )
+    by-kind v h = (both, heads v h.1)
 
 -- a file holds the same as itself
 itself : (file : List ℕ) → Conforms file (head_of file) → HoldTheSame file file
@@ -237,18 +221,14 @@ itself file c = record {
 }
 
 pub any_cut_of_export : AnyCutOfExport
-any_cut_of_export o e e' c v r b h = cases (kind-of o e c v h)
-  where
-    cases : FromOriginal o e c v → IsVerdict o e' c v
-    cases (inl x) = subst (IsVerdict o e' c) (sym x.1) x.2
-    cases (inr (none, inl x)) = absurd (conforming-faultless e r.first_conforms x.0 x.2)
-    cases (inr (none, inr x)) = carried o e o e' c v (itself o (x.0).original_conforms) r b h
+any_cut_of_export o e e' c (No (differences.OriginalFault fault)) r b h = h
+any_cut_of_export o e e' c (No (differences.ExportFault fault)) r b h = absurd (no-fault e fault h.1 (faultless_part e r.first_conforms))
+any_cut_of_export o e e' c (No differences.PartOrder) r b h = h
+any_cut_of_export o e e' c v r b h = carried o e o e' c v (itself o (h.0).original_conforms) r b h
 
 pub any_cut_of_original : AnyCutOfOriginal
-any_cut_of_original o o' e c v s h = cases (kind-of o e c v h)
-  where
-    cases : FromOriginal o e c v → IsVerdict o' e c v
-    cases (inl x) = absurd (conforming-faultless o s.first_conforms x.0 x.2)
-    cases (inr (none, inl x)) = subst (IsVerdict o' e c) (sym x.1) ((conforming_is_faultless o').1 (head_of o', s.second_conforms), x.2)
-    cases (inr (none, inr x)) =
-        carried o e o' e c v s (itself e (x.0).export_conforms) (blank-alike-self (head_of e) (sound-head e (x.0).export_conforms)) h
+any_cut_of_original o o' e c (No (differences.OriginalFault fault)) s h = absurd (no-fault o fault h (faultless_part o s.first_conforms))
+any_cut_of_original o o' e c (No (differences.ExportFault fault)) s h = (faultless_part o' s.second_conforms, h.1)
+any_cut_of_original o o' e c (No differences.PartOrder) s h = h
+any_cut_of_original o o' e c v s h =
+    carried o e o' e c v s (itself e (h.0).export_conforms) (blank-alike-self (head_of e) (sound-head e (h.0).export_conforms)) h

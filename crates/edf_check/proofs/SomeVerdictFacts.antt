@@ -1,11 +1,14 @@
 -- Two files have a verdict under a claim.
-use Rattle.std.proofs.Common.{Ordering, Less, Equal, Greater, ◌≡◌, ◌≢◌, ℕ, zero, suc, ◌+◌, ◌*◌, ℤ, neg_ℤ, ◌+ℤ◌, List, [], ◌∷◌, length, map, Option, Some, None, MatchOption, ◌⊎◌, inl, inr, ⊎_elim, refl, sym, ap, ◌∙◌, subst, arith}
-use Rattle.std.specs.Ordering.{is_eq}
+use Rattle.std.proofs.Common.{Ordering, Less, Equal, Greater, ◌≡◌, ℕ, zero, suc, ◌*◌, ℤ, neg_ℤ, ◌+ℤ◌, true, false, List, [], ◌∷◌, length, map, Option, Some, None, MatchOption, ◌⊎◌, inl, inr, ⊎_elim, refl, sym, ap, ◌∙◌, subst, arith}
+use Rattle.std.specs.List.Sorted.{IsPermutation}
+use Rattle.std.specs.Ordering.{is_eq, is_gt}
+use Rattle.std.proofs.lemmas.Cmp.{upto}
+use Rattle.std.proofs.lemmas.List.Sorted.{IsPermutation-refl, IsPermutation-sym, IsPermutation-cons, IsPermutation-trans, IsPermutation-middle, sum_by-IsPermutation}
 use Rattle.edf_claim.specs.Claims.{IsClaim}
 use Rattle.edf_claim.specs.Terms.{Terms}
 use Rattle.edf_fields.specs.declared.fault.Fault.{Fault}
 use Rattle.edf_fields.specs.Lists.{Has}
-use Rattle.edf_fields.proofs.ForCallers.{has-at}
+use Rattle.edf_fields.proofs.ForCallers.{has-at, has-permutation}
 use Rattle.edf_header.specs.Channels.{channels_among}
 use Rattle.edf_header.specs.Heads.{samples_together}
 use Rattle.edf_header.specs.HeadsReading.{head_of}
@@ -31,49 +34,48 @@ use Rattle.edf_check.specs.KeptReading.{origin_of, KeptAt, ExportedAt, kept_note
 use Rattle.edf_check.specs.Laws.{SomeVerdict}
 use Rattle.edf_check.specs.Verdicts.{IsVerdict}
 use Rattle.edf_check.specs.declared.samples.earliest.Found.{Found}
-use Rattle.edf_check.specs.notes.NoteOrder.{AreInOrder, NoteMismatch, first_unequal_of}
-use Rattle.edf_check.specs.samples.Columns.{Sampled, Column, KeptIn, ExportedIn, LabelsRise, difference_of, AreNights}
-use Rattle.edf_check.specs.samples.Earliest.{earliest}
+use Rattle.edf_check.specs.notes.NoteOrder.{NoteMismatch, first_unequal_of}
+use Rattle.edf_check.specs.samples.Columns.{Sampled}
+use Rattle.edf_check.specs.samples.Differences.{earliest}
 use Rattle.edf_check.proofs.CourseFacts.{agree-alike, first-alike}
 use Rattle.edf_check.proofs.notes.NoteFacts.{note-total}
-use Rattle.edf_check.proofs.notes.NoteOrderFacts.{once, turn, times-cons, from-head, more-with, Answer, unequal-exact}
-use Rattle.edf_check.proofs.samples.ColumnFacts.{named, first-is-first}
-use Rattle.edf_check.proofs.walk.NightFacts.{sound-head, AreClaimed, columns_of, kept-agree, exported-agree, are-columns}
+use Rattle.edf_check.proofs.notes.NoteOrderFacts.{once, turn, more-with, Answer, unequal-exact, AreInOrder}
+use Rattle.edf_check.proofs.samples.ColumnFacts.{named, first-is-first, Column, KeptIn, ExportedIn, LabelsRise, difference_of}
+use Rattle.edf_check.proofs.walk.NightFacts.{sound-head, AreClaimed, columns_of, kept-agree, exported-agree, are-columns, AreNights}
 use Rattle.edf_check.proofs.walk.WalkFacts.{of_heads}
+
+-- ---- a list in order
+
+abbrev Rises : {X : Type 0} → (X → X → Type 0) → List X → Type 0
+Rises R [] = Unit {0}
+Rises {X} R (x ∷ xs) = ((y : X) → Has xs y → R x y) × Rises R xs
+
+-- a rearrangement of the list that rises
+abbrev InOrder : {X : Type 0} → (X → X → Type 0) → List X → Type 0
+InOrder {X} R xs = (ys : List X) × Rises R ys × IsPermutation xs ys
+
+put : {X : Type 0} (R : X → X → Type 0) → ((x y : X) → R x y ⊎ R y x) → ((x y z : X) → R x y → R y z → R x z) → (x : X) (xs : List X) → Rises R xs → InOrder R (x ∷ xs)
+put R either through x [] up = (x ∷ [], (λ y h. absurd h, tt), IsPermutation-refl (x ∷ []))
+put {X} R either through x (y ∷ ys) up = cases (either x y) (put R either through x ys up.1)
+  where
+    cases : R x y ⊎ R y x → InOrder R (x ∷ ys) → InOrder R (x ∷ y ∷ ys)
+    cases (inl le) r = (x ∷ y ∷ ys, (λ z h. ⊎_elim (λ e. subst (R x) e le) (λ i. through x y z le (up.0 z i)) h, up), IsPermutation-refl (x ∷ y ∷ ys))
+    cases (inr le) r = (
+      y ∷ r.0,
+      (λ z h. ⊎_elim (λ e. subst (R y) e le) (λ i. up.0 z i) (has-permutation r.0 (x ∷ ys) z (IsPermutation-sym (x ∷ ys) r.0 r.2) h), r.1),
+      IsPermutation-trans (x ∷ y ∷ ys) (y ∷ x ∷ ys) (y ∷ r.0) (IsPermutation-middle (x ∷ []) y ys) (IsPermutation-cons y (x ∷ ys) r.0 r.2),
+    )
+
+in-order : {X : Type 0} (R : X → X → Type 0) → ((x y : X) → R x y ⊎ R y x) → ((x y z : X) → R x y → R y z → R x z) → (xs : List X) → InOrder R xs
+in-order R either through [] = ([], tt, IsPermutation-refl [])
+in-order R either through (x ∷ xs) =
+    let r = in-order R either through xs in
+    let p = put R either through x r.0 r.1 in
+    (p.0, p.1, IsPermutation-trans (x ∷ xs) (x ∷ r.0) p.0 (IsPermutation-cons x xs r.0 r.2) p.2)
 
 -- ---- labels in order
 
-abbrev Rising : List (List ℕ) → Type 0
-Rising [] = Unit {0}
-Rising (x ∷ xs) = ((y : List ℕ) → Has xs y → IsNotAbove x y) × Rising xs
-
--- the lists have the same members
-abbrev SameMembers : List (List ℕ) → List (List ℕ) → Type 0
-SameMembers xs ys = (l : List ℕ) → (Has xs l → Has ys l) × (Has ys l → Has xs l)
-
-put-label : (x : List ℕ) (xs : List (List ℕ)) → Rising xs → (ys : List (List ℕ)) × Rising ys × SameMembers ys (x ∷ xs)
-put-label x [] up = (x ∷ [], (λ y h. absurd h, tt), λ l. (λ h. h, λ h. h))
-put-label x (y ∷ ys) up = cases (one-not-above x y) (put-label x ys up.1)
-  where
-    cases : IsNotAbove x y ⊎ IsNotAbove y x → (zs : List (List ℕ)) × Rising zs × SameMembers zs (x ∷ ys) → (zs : List (List ℕ)) × Rising zs × SameMembers zs (x ∷ y ∷ ys)
-    cases (inl le) r = (x ∷ y ∷ ys, (λ z h. ⊎_elim (λ e. subst (IsNotAbove x) e le) (λ i. not-above-behind x y z le (up.0 z i)) h, up), λ l. (λ h. h, λ h. h))
-    cases (inr le) r = (
-      y ∷ r.0,
-      (λ z h. ⊎_elim (λ e. subst (IsNotAbove y) e le) (λ i. up.0 z i) ((r.2 z).0 h), r.1),
-      λ l. (
-        λ h. ⊎_elim (λ e. inr (inl e)) (λ i. ⊎_elim (λ e. inl e) (λ j. inr (inr j)) ((r.2 l).0 i)) h,
-        λ h. ⊎_elim (λ e. inr ((r.2 l).1 (inl e))) (λ i. ⊎_elim (λ e. inl e) (λ j. inr ((r.2 l).1 (inr j))) i) h,
-      ),
-    )
-
-labels-in-order : (xs : List (List ℕ)) → (ys : List (List ℕ)) × Rising ys × SameMembers ys xs
-labels-in-order [] = ([], tt, λ l. (λ h. h, λ h. h))
-labels-in-order (x ∷ xs) =
-    let r = labels-in-order xs in
-    let p = put-label x r.0 r.1 in
-    (p.0, p.1, λ l. (λ h. ⊎_elim (λ e. inl e) (λ i. inr ((r.2 l).0 i)) ((p.2 l).0 h), λ h. (p.2 l).1 (⊎_elim (λ e. inl e) (λ i. inr ((r.2 l).1 i)) h)))
-
-labels-rise : (xs : List (List ℕ)) → Rising xs → LabelsRise xs
+labels-rise : (xs : List (List ℕ)) → Rises IsNotAbove xs → LabelsRise xs
 labels-rise [] up i j label other le a b = absurd (let z : None ≡ Some label = a in cc)
 labels-rise (x ∷ xs) up zero zero label other le a b =
     let p : x ≡ label = (let z : Some x ≡ Some label = a in cc) in
@@ -87,39 +89,26 @@ labels-rise (x ∷ xs) up (suc i) (suc j) label other le a b = labels-rise xs up
 
 -- ---- annotations in order
 
-put-note : (x : NoteValue) (xs : List NoteValue) → AreInOrder xs
-    → (ys : List NoteValue) × AreInOrder ys × ((n : NoteValue) → Has ys n → Has (x ∷ xs) n) × ((n : NoteValue) → times ys n ≡ times (x ∷ xs) n)
-put-note x [] up = (x ∷ [], (λ y h. absurd h, tt), λ n h. h, λ n. refl)
-put-note x (y ∷ ys) up = cases (note_cmp x y) refl (put-note x ys up.1)
+-- the second isn't before the first
+abbrev IsUpTo : NoteValue → NoteValue → Type 0
+IsUpTo x y = is_gt (note_cmp x y) ≡ false
+
+either-up : (x y : NoteValue) → IsUpTo x y ⊎ IsUpTo y x
+either-up x y = cases (note_cmp x y) refl
   where
-    Put : List NoteValue → Type 0
-    Put xs = (zs : List NoteValue) × AreInOrder zs × ((n : NoteValue) → Has zs n → Has (x ∷ xs) n) × ((n : NoteValue) → times zs n ≡ times (x ∷ xs) n)
+    cases : (o : Ordering) → note_cmp x y ≡ o → (is_gt (note_cmp x y) ≡ false) ⊎ (is_gt (note_cmp y x) ≡ false)
+    cases Less e = inl (ap is_gt e)
+    cases Equal e = inl (ap is_gt e)
+    cases Greater e = inr (ap is_gt (turn x y Greater e))
 
-    front : ((z : NoteValue) → Has (y ∷ ys) z → note_cmp z x ≢ Less) → Put (y ∷ ys)
-    front before = (x ∷ y ∷ ys, (before, up), λ n h. h, λ n. refl)
-
-    cases : (o : Ordering) → note_cmp x y ≡ o → Put ys → Put (y ∷ ys)
-    cases Less e r = front (λ z h l. from-head y ys up z h (note-total.trans z x y l e))
-    cases Equal e r = front (λ z h l. from-head y ys up z h (turn y z Greater (sym (note-total.congr x y z e) ∙ turn z x Less l)))
-    cases Greater e r = (
-      y ∷ r.0,
-      (λ z h l. ⊎_elim (λ q. let f : Greater ≡ Less = sym e ∙ ap (λ w. note_cmp w y) q ∙ l in absurd (let g : Greater ≡ Less = f in cc)) (λ i. up.0 z i l) (r.2 z h), r.1),
-      λ n h. ⊎_elim (λ q. inr (inl q)) (λ i. ⊎_elim (λ q. inl q) (λ j. inr (inr j)) (r.2 n i)) h,
-      λ n.
-          let a = times-cons y r.0 n in
-          let b = r.3 n in
-          let c = times-cons x ys n in
-          let d = times-cons x (y ∷ ys) n in
-          let f = times-cons y ys n in
-          omega (arith, a, b, c, d, f),
-    )
+rising-notes : (xs : List NoteValue) → Rises IsUpTo xs → AreInOrder xs
+rising-notes [] up = tt
+rising-notes (x ∷ xs) up = (λ y h l. let f : true ≡ false = sym (ap is_gt (turn y x Less l)) ∙ up.0 y h in absurd (let g : true ≡ false = f in cc), rising-notes xs up.1)
 
 notes-in-order : (xs : List NoteValue) → (ys : List NoteValue) × AreInOrder ys × ((n : NoteValue) → times ys n ≡ times xs n)
-notes-in-order [] = ([], tt, λ n. refl)
-notes-in-order (x ∷ xs) =
-    let r = notes-in-order xs in
-    let p = put-note x r.0 r.1 in
-    (p.0, p.1, λ n. p.3 n ∙ times-cons x r.0 n ∙ ap (λ k. once (is_eq (note_cmp x n)) + k) (r.2 n) ∙ sym (times-cons x xs n))
+notes-in-order xs =
+    let r = in-order IsUpTo either-up (upto note-total) xs in
+    (r.0, rising-notes r.0 r.1, λ n. sum_by-IsPermutation (λ other. once (is_eq (note_cmp other n))) xs r.0 r.2)
 
 same-or-first : (kept exported : List NoteValue) → SameNotes kept exported ⊎ ((m : AnnotationMismatch) × (n : NoteValue) × IsFirstNote kept exported m n)
 same-or-first kept exported =
@@ -159,14 +148,14 @@ agree-or-mismatch o e c both agree = cases (earliest 0 (map difference_of cs)) (
     nights : AreNights o e c x y
     nights = record { conform = both; channels = agree.channels; original_head = refl; original_samples = refl; original_moved = refl; export_head = refl; export_samples = refl; export_moved = refl }
 
-    sorted : (ys : List (List ℕ)) × Rising ys × SameMembers ys c.channels
-    sorted = labels-in-order c.channels
+    sorted : InOrder IsNotAbove c.channels
+    sorted = in-order IsNotAbove one-not-above not-above-behind c.channels
 
     labels : List (List ℕ)
     labels = sorted.0
 
     claimed : AreClaimed c labels
-    claimed l = sorted.2 l
+    claimed l = (has-permutation labels c.channels l (IsPermutation-sym c.channels labels sorted.2), has-permutation c.channels labels l sorted.2)
 
     cs : List Column
     cs = columns_of c x y labels

@@ -1,5 +1,5 @@
 -- The start of an export follows from the samples that are kept.
-use Rattle.std.proofs.Common.{◌≡◌, ℕ, ℤ, pos, ◌+◌, ◌*◌, ◌<◌, ◌+ℤ◌, ◌*ℤ◌, ◌≤ℤ◌, ◌<ℤ◌, ◌^◌, List, refl, ap, arith}
+use Rattle.std.proofs.Common.{◌≡◌, ◌↔◌, ℕ, ℤ, pos, ◌+◌, ◌*◌, ◌<◌, ◌+ℤ◌, ◌*ℤ◌, ◌≤ℤ◌, ◌<ℤ◌, ◌^◌, List, refl, ap, arith}
 use Rattle.std.proofs.lemmas.Int.{ints}
 use borrow.Author.Differences.{up, down}
 use Rattle.edf_claim.specs.Terms.{Terms}
@@ -25,21 +25,13 @@ turned n z = omega (arith, ints)
 pub once : (z : ℤ) → z *ℤ pos 1 ≡ z
 once z = omega (arith, ints)
 
-pub reached-at : (p : Instant) (ps : ℤ) → (pos p.den *ℤ ps) ≤ℤ p.num → IsNotBefore p (whole-at ps)
+pub reached-at : (p : Instant) (ps : ℤ) → ((pos p.den *ℤ ps) ≤ℤ p.num) ↔ IsNotBefore p (whole-at ps)
 unfolding whole-at
-reached-at p ps le = let t = turned p.den ps in let o = once p.num in omega (arith, ints, le, t, o)
+reached-at p ps = let t = turned p.den ps in let o = once p.num in (λ le. omega (arith, ints, le, t, o), λ le. omega (arith, ints, le, t, o))
 
-at-reached : (p : Instant) (ps : ℤ) → IsNotBefore p (whole-at ps) → (pos p.den *ℤ ps) ≤ℤ p.num
+pub before-at : (p : Instant) (ps : ℤ) → (p.num <ℤ (pos p.den *ℤ ps)) ↔ IsBefore p (whole-at ps)
 unfolding whole-at
-at-reached p ps le = let t = turned p.den ps in let o = once p.num in omega (arith, ints, le, t, o)
-
-pub before-at : (p : Instant) (ps : ℤ) → p.num <ℤ (pos p.den *ℤ ps) → IsBefore p (whole-at ps)
-unfolding whole-at
-before-at p ps lt = let t = turned p.den ps in let o = once p.num in omega (arith, ints, lt, t, o)
-
-at-before : (p : Instant) (ps : ℤ) → IsBefore p (whole-at ps) → p.num <ℤ (pos p.den *ℤ ps)
-unfolding whole-at
-at-before p ps lt = let t = turned p.den ps in let o = once p.num in omega (arith, ints, lt, t, o)
+before-at p ps = let t = turned p.den ps in let o = once p.num in (λ lt. omega (arith, ints, lt, t, o), λ lt. omega (arith, ints, lt, t, o))
 
 -- the same instants have one whole second
 pub same-second : (p q : Instant) (second : ℤ) → 0 < p.den → 0 < q.den → IsSame p q → IsSecondOf q second → IsSecondOf p second
@@ -47,8 +39,8 @@ same-second p q second pp pq same is =
     let low = second *ℤ pos (10 ^ 12) in
     let high = (second +ℤ pos 1) *ℤ pos (10 ^ 12) in
     record {
-      reached = at-reached p low (from_below p q (whole-at low) pq (same_above p q same) (reached-at q low is.reached));
-      next_is_later = at-before p high (same_before p q (whole-at high) pp same (before-at q high is.next_is_later));
+      reached = (reached-at p low).1 (from_below p q (whole-at low) pq (same_above p q same) ((reached-at q low).0 is.reached));
+      next_is_later = (before-at p high).1 (same_before p q (whole-at high) pp same ((before-at q high).0 is.next_is_later));
     }
 
 -- of two instants that are later by one number

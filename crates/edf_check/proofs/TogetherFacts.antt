@@ -1,7 +1,6 @@
 -- From an original and its parts, as they were walked through, to the words of their bytes.
-use Rattle.std.proofs.Common.{◌≡◌, ℕ, zero, suc, ◌+◌, ◌<◌, ◌^◌, ℤ, pos, neg_ℤ, ◌+ℤ◌, ◌≤ℤ◌, ◌<ℤ◌, unsigned_abs, Bor, List, [], ◌∷◌, ◌++◌, length, map, Option, None, Some, slice_get, inl, inr, refl, sym, ap, ◌∙◌, arith, subst}
+use Rattle.std.proofs.Common.{◌≡◌, ℕ, zero, suc, ◌+◌, ◌<◌, ◌^◌, ℤ, pos, neg_ℤ, ◌+ℤ◌, ◌≤ℤ◌, ◌<ℤ◌, unsigned_abs, Bor, List, [], ◌∷◌, ◌++◌, length, map, Option, None, Some, slice_get, inl, inr, true, refl, sym, ap, ◌∙◌, arith, subst}
 use Rattle.std.proofs.lemmas.Int.{ints}
-use Rattle.std.specs.Option.{option_or}
 use Rattle.edf_claim.specs.Terms.{Terms}
 use Rattle.edf_fields.specs.Lists.{Has}
 use Rattle.edf_header.specs.Heads.{Head}
@@ -12,23 +11,31 @@ use Rattle.edf_stream.specs.Conforming.{Conforms}
 use Rattle.edf_stream.specs.Faults.{body_fault, file_fault}
 use Rattle.edf_stream.specs.Notes.{NoteValue}
 use Rattle.edf_stream.specs.NotesReading.{notes_of}
+use Rattle.edf_stream.specs.Starts.{file_start}
+use Rattle.edf_stream.specs.Views.{note_value}
 use Rattle.edf_stream.proofs.ForCallers.{sound-of, starts_late}
 use Rattle.edf_verdict.specs.declared.verdict.Verdict.{Verdict}
 use Rattle.edf_verdict.specs.declared.verdict.Verdict.TheVariants.{Yes, No}
 use Rattle.edf_verdict.specs.declared.verdict.Difference.TheVariants as differences
-use Rattle.edf_check.specs.declared.parts.series.PartsWalked.{PartsWalked}
-use Rattle.edf_check.specs.declared.parts.series.PartsWalked.TheVariants as walks
+use Rattle.edf_check.specs.declared.parts.found.PartVerdict.{PartVerdict}
+use Rattle.edf_check.specs.declared.parts.found.PartsFound.{PartsFound}
+use Rattle.edf_check.specs.declared.parts.series.Exported.{Exported}
 use Rattle.edf_check.specs.declared.samples.earliest.Found.{Found}
+use Rattle.edf_check.specs.declared.walk.turn.Turn.{Turn}
+use Rattle.edf_check.specs.declared.walk.walked.FaultOf.{FaultOf}
+use Rattle.edf_check.specs.declared.walk.walked.FaultOf.TheVariants as faults
+use Rattle.edf_check.specs.Kept.{shift_ps}
 use Rattle.edf_check.specs.KeptReading.{origin_of, KeptAt}
+use Rattle.edf_check.specs.PartsFirst.{IsFirstHead}
 use Rattle.edf_check.specs.Parts.{AllConform, ExportedByOne, FollowOneAnother, exported_by_all, first_begin, last_end}
-use Rattle.edf_check.specs.PartsFound.{AllAgree, AllConformAt, AreOrdered, IsFirstEarly, end_before_part}
+use Rattle.edf_check.specs.PartsFound.{AllAgree, AllConformAt, AreOrdered, IsEarlyFound, IsFirstEarly, IsHeadsFound, end_before_part}
 use Rattle.edf_check.specs.PartsVerdicts.{AllAgreed, AllInOrder, HeadDiffers, IsFirstOverlap, IsVerdictOnParts}
 use Rattle.edf_check.specs.walk.Gathered.{gathered_of}
-use Rattle.edf_check.specs.walk.Serial.{AreSerial, AreWalkedSo, gathered_of_all, serial_difference}
-use Rattle.edf_check.specs.walk.Series.{AreInOrder, is_last, moved_part, part_difference, part_end, parts_difference}
+use Rattle.edf_check.specs.walk.Readings.{IsSetting}
+use Rattle.edf_check.specs.walk.Ends.{moved_export, moved_original}
+use Rattle.edf_check.specs.walk.Together.{AreRead, HaveFault, gathered_of_all, serial_difference, AreFoundIn, AreJudged, IsFirstOfAll, IsLeftBy}
 use Rattle.edf_check.specs.walk.Shown.{begin_by, last_end_by}
-use Rattle.edf_check.specs.walk.Together.{AreFound}
-use Rattle.edf_check.proofs.walk.SeriesFacts.{IsFirst, parts_first}
+use Rattle.edf_check.proofs.walk.SeriesFacts.{IsFirst, parts_first, moved_part}
 
 -- ---- parts by their places and by their bytes
 
@@ -122,14 +129,6 @@ overlap by t parts part is near cs e (suc j) z =
 
 -- ---- the samples and the annotations
 
-serial-is : (claim : Terms) (o : List ℕ) (labels : List (Bor (List ℕ))) (t : ℤ) (parts : List (List ℕ)) → serial_difference claim o (head_of o) (neg_ℤ (origin_of o)) (moved_part o claim) labels t parts ≡ parts_difference o claim labels t parts
-serial-is claim o labels t [] = refl
-serial-is claim o labels t (part ∷ parts) = ap (option_or (part_difference (is_last parts) o claim labels t part)) (serial-is claim o labels (part_end o claim part) parts)
-
-in-order : (o : List ℕ) (claim : Terms) (t : ℤ) (parts : List (List ℕ)) → AreOrdered (moved_part o claim) t parts → AreInOrder o claim t parts
-in-order o claim t [] h = tt
-in-order o claim t (part ∷ parts) h = (h.0, in-order o claim (part_end o claim part) parts h.1)
-
 gathered-is : (o : List ℕ) (claim : Terms) (parts : List (List ℕ)) → gathered_of_all (moved_part o claim) parts ≡ exported_by_all o parts claim
 gathered-is o claim [] = refl
 gathered-is o claim (part ∷ parts) = ap (λ ns. gathered_of None (moved_part o claim) (notes_of part (head_of part)) ++ ns) (gathered-is o claim parts)
@@ -138,53 +137,93 @@ gathered-is o claim (part ∷ parts) = ap (λ ns. gathered_of None (moved_part o
 before-all : (o : List ℕ) (t : ℤ) → Conforms o (head_of o) → t ≡ neg_ℤ (pos (2 ^ 90)) → t ≤ℤ begin_by o (head_of o) (neg_ℤ (origin_of o)) 0
 before-all o t c is = let late = starts_late o (head_of o) c in omega (arith, ints, is, late)
 
+-- parts of which no header differs and none begins early
 serial-first : (claim : Terms) (o : List ℕ) (labels : List (Bor (List ℕ))) (t : ℤ) (parts : List (List ℕ)) (found : Option Found) → t ≡ neg_ℤ (pos (2 ^ 90)) → AreSorted claim.channels labels → 0 < length parts → Conforms o (head_of o) → AllConformAt parts
-    → AreSerial claim o (head_of o) (neg_ℤ (origin_of o)) (moved_part o claim) labels t parts found → AllInOrder o parts claim × IsFirst (KeptAt o claim) (ExportedByOne o parts claim) labels found
-serial-first claim o labels t [] found is sorted some c cs s = absurd (omega (arith, some))
-serial-first claim o labels t (part ∷ parts) found is sorted some c cs s =
-    let agreed = all-agreed o (part ∷ parts) claim c cs s.agree in
-    let first = parts_first o claim labels t part parts c (agreed.conform).parts_conform agreed.agree sorted (in-order o claim t (part ∷ parts) s.ordered) (before-all o t c is) in (
-      record { agreed = agreed; order = follow-on (moved_part o claim) t (part ∷ parts) s.ordered },
-      subst (IsFirst (KeptAt o claim) (ExportedByOne o (part ∷ parts) claim) labels) (sym (serial-is claim o labels t (part ∷ parts)) ∙ s.first) first,
+    → AllAgree (head_of o) claim parts → AreOrdered (moved_part o claim) t parts → serial_difference claim o (head_of o) (neg_ℤ (origin_of o)) (moved_part o claim) labels t parts ≡ found
+    → AllInOrder o parts claim × IsFirst (KeptAt o claim) (ExportedByOne o parts claim) labels found
+serial-first claim o labels t [] found is sorted some c cs agree ordered s = absurd (omega (arith, some))
+serial-first claim o labels t (part ∷ parts) found is sorted some c cs agree ordered s =
+    let agreed = all-agreed o (part ∷ parts) claim c cs agree in
+    let first = parts_first o claim labels t part parts c (agreed.conform).parts_conform agreed.agree sorted ordered (before-all o t c is) in (
+      record { agreed = agreed; order = follow-on (moved_part o claim) t (part ∷ parts) ordered },
+      subst (IsFirst (KeptAt o claim) (ExportedByOne o (part ∷ parts) claim) labels) s first,
     )
 
 -- ---- all
 
-found-so : (claim : Terms) (o left : List ℕ) (notes : List NoteValue) (labels : List (Bor (List ℕ))) (t : ℤ) (parts : List (List ℕ)) (behind : List NoteValue) (w : PartsWalked) → t ≡ neg_ℤ (pos (2 ^ 90)) → unsigned_abs (moved_part o claim) < 2 ^ 80
-    → AreSorted claim.channels labels → 0 < length parts → file_fault o ≡ body_fault o (head_of o) → AreWalkedSo claim o (head_of o) left notes (neg_ℤ (origin_of o)) (moved_part o claim) labels t 0 parts [] behind w
-    → AreFound o parts claim (map (λ l. l.now) labels) notes behind w
-found-so claim o left notes labels t parts behind (walks.OriginalFault fault) is near sorted some fault-is w = fault-is ∙ w
-found-so claim o left notes labels t parts behind (walks.PartFault fault) is near sorted some fault-is w = (fault-is ∙ w.0, w.1)
-found-so claim o left notes labels t parts behind (walks.HeadsDiffer heads) is near sorted some fault-is w = (all-conform o parts (w.0).conforms w.1, w.2)
-found-so claim o left notes labels t parts behind (walks.Early part) is near sorted some fault-is w =
-    (all-agreed o parts claim (w.0).conforms w.1 w.2, overlap (moved_part o claim) t parts part is near w.1 w.3 (w.3).at refl)
-found-so claim o left notes labels t parts behind (walks.SamplesDiffer found) is near sorted some fault-is w = serial-first claim o labels t parts (Some found) is sorted some (w.0).conforms w.1 w.2
-found-so claim o left notes labels t parts behind walks.Same is near sorted some fault-is w =
-    let first = serial-first claim o labels t parts None is sorted some (w.0).conforms w.1 w.2 in (first.0, first.1, w.3, w.4 ∙ gathered-is o claim parts)
+-- what the turn of the first part finds is found of all, by what is found
+found-so : (turn : Turn) (o left : List ℕ) (notes : List NoteValue) (parts lefts : List (List ℕ)) (before behind : Exported) (found : PartsFound) → (turn.from).ps ≡ neg_ℤ (pos (2 ^ 90)) → turn.part ≡ 0 → turn.is_compared ≡ true
+    → moved_original turn ≡ neg_ℤ (origin_of o) → moved_export turn ≡ moved_part o ((turn.setting).claim).now → unsigned_abs (moved_export turn) < 2 ^ 80
+    → AreSorted (((turn.setting).claim).now).channels ((turn.setting).labels).now → 0 < length parts → (before.notes).items ≡ [] → AreRead turn o (head_of o) left notes parts lefts before behind found
+    → (heads : Option PartVerdict) (early : Option ℕ) (first : Option Found) → found.heads ≡ heads → found.early ≡ early → found.found ≡ first
+    → AreFoundIn o parts ((turn.setting).claim).now (map (λ l. l.now) ((turn.setting).labels).now) notes (map note_value (behind.notes).items) heads early first
+found-so turn o left notes parts lefts before behind found is zero' compared ha hb near sorted some none r (Some p) early first eh ee ef =
+    let claim = ((turn.setting).claim).now in
+    let P : Option PartVerdict → Type 0 = IsHeadsFound (head_of o) claim turn.part parts in
+    let Q : ℕ → Type 0 = λ k. IsFirstHead (head_of o) claim k parts p.part p.verdict in
+    (all-conform o parts (r.through).conforms r.conform, subst Q zero' (subst P eh r.heads_are))
+found-so turn o left notes parts lefts before behind found is zero' compared ha hb near sorted some none r None (Some part) first eh ee ef =
+    let claim = ((turn.setting).claim).now in
+    let P : Option PartVerdict → Type 0 = IsHeadsFound (head_of o) claim turn.part parts in
+    let Q : Option ℕ → Type 0 = IsEarlyFound (moved_export turn) (turn.from).ps turn.part parts in
+    let N : ℕ → Type 0 = λ k. IsFirstEarly (moved_export turn) (turn.from).ps k parts part in
+    let e = subst N zero' (subst Q ee r.early_is) in
+    (all-agreed o parts claim (r.through).conforms r.conform (subst P eh r.heads_are), overlap (moved_export turn) (turn.from).ps parts part is near r.conform e e.at refl)
+found-so turn o left notes parts lefts before behind found is zero' compared ha hb near sorted some none r None None first eh ee ef = by first ef
+  where
+    claim : Terms
+    claim = ((turn.setting).claim).now
 
--- the same, of the original's header and of times that the code knows by others
-pub found_together : (claim : Terms) (o : List ℕ) (h : Head) (left : List ℕ) (notes : List NoteValue) (a b : ℤ) (labels : List (Bor (List ℕ))) (t : ℤ) (parts : List (List ℕ)) (behind : List NoteValue) (w : PartsWalked) → t ≡ neg_ℤ (pos (2 ^ 90)) → unsigned_abs b < 2 ^ 80
-    → h ≡ head_of o → a ≡ neg_ℤ (origin_of o) → b ≡ moved_part o claim → AreSorted claim.channels labels → 0 < length parts → file_fault o ≡ body_fault o h
-    → AreWalkedSo claim o h left notes a b labels t 0 parts [] behind w → AreFound o parts claim (map (λ l. l.now) labels) notes behind w
-found_together claim o h left notes a b labels t parts behind w is near ho ha hb sorted some fault-is walked =
-    let P : ℤ → Type 0 = λ x. AreWalkedSo claim o h left notes x b labels t 0 parts [] behind w in
-    let Q : ℤ → Type 0 = λ y. AreWalkedSo claim o h left notes (neg_ℤ (origin_of o)) y labels t 0 parts [] behind w in
-    let R : Head → Type 0 = λ k. AreWalkedSo claim o k left notes (neg_ℤ (origin_of o)) (moved_part o claim) labels t 0 parts [] behind w in
-    let N : ℤ → Type 0 = λ y. unsigned_abs y < 2 ^ 80 in
-    found-so claim o left notes labels t parts behind w is (subst N hb near) sorted some (fault-is ∙ ap (body_fault o) ho) (subst R ho (subst Q hb (subst P ha walked)))
+    P : Option PartVerdict → Type 0
+    P = IsHeadsFound (head_of o) claim turn.part parts
+
+    Q : Option ℕ → Type 0
+    Q = IsEarlyFound (moved_export turn) (turn.from).ps turn.part parts
+
+    O : ℤ → Type 0
+    O b = AreOrdered b (turn.from).ps parts
+
+    D : ℤ → ℤ → Type 0
+    D a b = serial_difference claim o (head_of o) a b ((turn.setting).labels).now (turn.from).ps parts ≡ found.found
+
+    whole : AllInOrder o parts claim × IsFirst (KeptAt o claim) (ExportedByOne o parts claim) ((turn.setting).labels).now found.found
+    whole = serial-first claim o ((turn.setting).labels).now (turn.from).ps parts found.found is sorted some (r.through).conforms r.conform (subst P eh r.heads_are) (subst O hb (subst Q ee r.early_is))
+        (subst (D (neg_ℤ (origin_of o))) hb (subst (λ a. D a (moved_export turn)) ha (r.first compared eh ee)))
+
+    by : (f : Option Found) → found.found ≡ f → AreFoundIn o parts claim (map (λ l. l.now) ((turn.setting).labels).now) notes (map note_value (behind.notes).items) None None f
+    by (Some f) e = let F : Option Found → Type 0 = IsFirst (KeptAt o claim) (ExportedByOne o parts claim) ((turn.setting).labels).now in (whole.0, subst F e whole.1)
+    by None e =
+        let F : Option Found → Type 0 = IsFirst (KeptAt o claim) (ExportedByOne o parts claim) ((turn.setting).labels).now in
+        let same = r.same compared eh ee e in (
+          whole.0,
+          subst F e whole.1,
+          same.0 ∙ ap (λ a. gathered_of (Some claim) a (notes_of o (head_of o))) ha,
+          same.1 ∙ ap (λ ns. map note_value ns ++ gathered_of_all (moved_export turn) parts) none ∙ ap (λ b. gathered_of_all b parts) hb ∙ gathered-is o claim parts,
+        )
+
+pub found_together : (turn : Turn) (o : List ℕ) (h k : Head) (left : List ℕ) (notes : List NoteValue) (parts lefts : List (List ℕ)) (before behind : Exported) (found : PartsFound) → AreRead turn o h left notes parts lefts before behind found
+    → (turn.from).ps ≡ neg_ℤ (pos (2 ^ 90)) → turn.part ≡ 0 → turn.is_compared ≡ true → h ≡ head_of o → k ≡ head_of o → IsSetting k turn.setting → 0 < length parts → (before.notes).items ≡ [] → before.samples ≡ 0
+    → AreJudged o parts turn.setting notes behind found
+found_together turn o h k left notes parts lefts before behind found r is zero' compared head head' setting some none nought =
+    let P : Head → Type 0 = λ x. AreRead turn o x left notes parts lefts before behind found in
+    let clock = setting.clock in
+    record {
+      found_are = found-so turn o left notes parts lefts before behind found is zero' compared (clock.original ∙ ap (λ x. neg_ℤ (file_start x)) head') (clock.export ∙ ap (λ x. neg_ℤ (file_start x +ℤ shift_ps ((turn.setting).claim).now)) head')
+          (((turn.setting).clock).export).near setting.sorted some none (subst P head r) found.heads found.early found.found refl refl refl;
+      samples_are = (let counted = r.counted in omega (arith, counted, nought));
+    }
+
+-- a fault of the parts from the first one on is the first of all
+pub first_of_all : (o : List ℕ) (h : Head) (left : List ℕ) (parts : List (List ℕ)) (w : FaultOf) → file_fault o ≡ body_fault o h → HaveFault 0 o h left parts w → IsFirstOfAll o parts w × IsLeftBy w left
+first_of_all o h left parts (faults.Original fault) is w = (is ∙ w, tt)
+first_of_all o h left parts (faults.Part part fault) is w = ((is ∙ w.0, w.1), w.2)
 
 -- the first difference of headers is the verdict
 pub of_head : (o : List ℕ) (parts : List (List ℕ)) (claim : Terms) (part : ℕ) (v : Verdict) → HeadDiffers o parts claim part v → IsVerdictOnParts o parts claim part v
 of_head o parts claim part (Yes channels samples annotations) h = absurd (h.1).differs
 of_head o parts claim part (No (differences.OriginalFault fault)) h = absurd (h.1).differs
 of_head o parts claim part (No (differences.ExportFault fault)) h = absurd (h.1).differs
-of_head o parts claim part (No (differences.UnknownChannel label)) h = h
-of_head o parts claim part (No (differences.MissingChannel label)) h = h
-of_head o parts claim part (No (differences.ExtraChannel label)) h = h
-of_head o parts claim part (No (differences.ChannelText label field)) h = h
-of_head o parts claim part (No (differences.Calibration label)) h = h
-of_head o parts claim part (No (differences.Subfield which mismatch)) h = h
-of_head o parts claim part (No (differences.NotClean text)) h = h
 of_head o parts claim part (No differences.PartOrder) h = absurd (h.1).differs
 of_head o parts claim part (No (differences.Sample label at_ps mismatch)) h = absurd (h.1).differs
 of_head o parts claim part (No (differences.Annotation mismatch onset duration text)) h = absurd (h.1).differs
+of_head o parts claim part v h = h

@@ -15,7 +15,7 @@ use Rattle.edf_check.proofs.samples.FractionFacts.{same_through, same_back}
 use Rattle.edf_check.proofs.KeptFacts.{positive, later-same, keeps-same}
 
 -- later by one number and then by another
-scaled : (n : ℕ) (x y z : ℤ) → z ≡ x +ℤ y → pos n *ℤ z ≡ (pos n *ℤ x) +ℤ (pos n *ℤ y)
+pub scaled : (n : ℕ) (x y z : ℤ) → z ≡ x +ℤ y → pos n *ℤ z ≡ (pos n *ℤ x) +ℤ (pos n *ℤ y)
 scaled zero x y z e = omega (arith, ints)
 scaled (suc n) x y z e = let r : pos n *ℤ z ≡ (pos n *ℤ x) +ℤ (pos n *ℤ y) = scaled n x y z e in omega (arith, ints)
 
@@ -32,18 +32,19 @@ later-later x y z t e =
 nothing : (n : ℕ) → pos n *ℤ pos 0 ≡ pos 0
 nothing n = omega (arith, ints)
 
-later-none : (z : ℤ) (t : Instant) → z ≡ pos 0 → later z t ≡ t
+later-undone : (x y : ℤ) (t : Instant) → pos 0 ≡ x +ℤ y → later y (later x t) ≡ t
 unfolding at-num
-later-none z t e =
-    let s : pos t.den *ℤ z ≡ pos 0 = ap (λ k. pos t.den *ℤ k) e ∙ nothing t.den in
-    let n : t.num +ℤ (pos t.den *ℤ z) ≡ t.num = omega (arith, ints, s) in
+later-undone x y t e =
+    let s = scaled t.den x y (pos 0) e in
+    let z = nothing t.den in
+    let n : (t.num +ℤ (pos t.den *ℤ x)) +ℤ (pos t.den *ℤ y) ≡ t.num = omega (arith, ints, s, z) in
     ap (at-num t.den) n
 
 pub later-back : (s : ℤ) (t : Instant) → later s (later (neg_ℤ s) t) ≡ t
-later-back s t = later-later (neg_ℤ s) s (pos 0) t (omega (arith, ints)) ∙ later-none (pos 0) t refl
+later-back s t = later-undone (neg_ℤ s) s t (omega (arith, ints))
 
 later-forth : (s : ℤ) (t : Instant) → later (neg_ℤ s) (later s t) ≡ t
-later-forth s t = later-later s (neg_ℤ s) (pos 0) t (omega (arith, ints)) ∙ later-none (pos 0) t refl
+later-forth s t = later-undone s (neg_ℤ s) t (omega (arith, ints))
 
 -- x is at t, counted from s
 pub since-same : (s : ℤ) (x t : Instant) → IsSame x (later s t) → IsSame (later (neg_ℤ s) x) t

@@ -3,10 +3,8 @@ use Rattle.std.specs.Prelude.{ℕ, List}
 use Rattle.edf_claim.specs.Terms.{Terms}
 use Rattle.edf_header.specs.HeadsReading.{head_of}
 use Rattle.edf_stream.specs.Conforming.{Conforms}
-use Rattle.edf_stream.specs.NotesReading.{notes_of}
 use Rattle.edf_check.specs.Annotations.{SameNotes}
 use Rattle.edf_check.specs.Courses.{Agree}
-use Rattle.edf_check.specs.Headline.{AreCounts}
 use Rattle.edf_heads.specs.HeadVerdicts.{HeadsAgree}
 use Rattle.edf_check.specs.KeptReading.{KeptAt, ExportedAt, kept_notes, exported_notes}
 
@@ -25,7 +23,3 @@ pub record IsExport (original export : List ℕ) (claim : Terms) : Type 0 where
   pub heads : HeadsAgree (head_of original) (head_of export) claim
   pub samples : SameSamples original export claim
   pub notes : SameNotes (kept_notes original claim) (exported_notes original export claim)
-
--- what a Yes counts in the export
-abbrev pub HasCounts : List ℕ → ℕ → ℕ → ℕ → Type 0
-HasCounts export channels samples annotations = AreCounts (head_of export) (notes_of export (head_of export)) channels samples annotations

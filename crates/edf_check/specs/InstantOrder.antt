@@ -1,7 +1,7 @@
 -- The order of instants, and the picosecond of one.
 use Rattle.std.specs.Prelude.{ℤ, pos, ◌*ℤ◌, ◌<ℤ◌, Bool, int_lt, ◌<◌, ◌≤◌, ◌^◌, unsigned_abs}
+use Rattle.edf_check.specs.Words.{Instant}
 use Rattle.std.specs.Int.{int_div_euclid}
-use Rattle.edf_stream.specs.declared.instant.Instant.{Instant}
 
 -- the first instant is the earlier one
 abbrev pub IsBefore : Instant → Instant → Type 0

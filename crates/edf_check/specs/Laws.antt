@@ -1,20 +1,12 @@
 -- What follows from the definition of the verdict.
 use Rattle.std.specs.Prelude.{◌≡◌, ◌↔◌, ◌<◌, ◌^◌, ◌*ℤ◌, ℕ, pos, neg_ℤ, unsigned_abs, List, [], ◌∷◌, ℤ, ◌+ℤ◌, ◌<ℤ◌, ◌≤ℤ◌}
-use Rattle.std.specs.List.Sorted.{IsPermutation}
-use Rattle.edf_claim.specs.Claims.{IsClaim}
-use Rattle.edf_claim.specs.Terms.{Terms}
+use Rattle.edf_check.specs.Words.{IsPermutation, IsClaim, Terms, Has, SignalHead, Head, start_second, head_of, AreBlankAlike, NoteValue, PartsVerdict, Verdict}
 use Rattle.edf_claim.specs.declared.interval.Interval.{Interval}
 use Rattle.edf_fields.specs.Dates.{NamesDashedDay}
-use Rattle.edf_fields.specs.Lists.{Has}
 use Rattle.edf_stream.specs.InstantOrder.{IsNotBefore, IsSecondOf}
 use Rattle.edf_header.specs.CalibrationLaws.{FitTogether}
-use Rattle.edf_header.specs.Heads.{SignalHead, Head, start_second}
-use Rattle.edf_header.specs.HeadsReading.{head_of}
-use Rattle.edf_stream.specs.Notes.{NoteValue}
 use Rattle.edf_stream.specs.Samples.{SampleValue, IsSample}
 use Rattle.edf_check.specs.Annotations.{SameNotes}
-use Rattle.edf_verdict.specs.declared.parts_verdict.PartsVerdict.{PartsVerdict}
-use Rattle.edf_verdict.specs.declared.verdict.Verdict.{Verdict}
 use Rattle.edf_verdict.specs.declared.verdict.Verdict.TheVariants.{Yes}
 use Rattle.edf_check.specs.Exports.{BothConform, SameSamples, IsExport}
 use Rattle.edf_check.specs.Instants.{later}
@@ -25,7 +17,6 @@ use Rattle.edf_check.specs.Parts.{AllConform, AreTogether}
 use Rattle.edf_check.specs.PartsVerdicts.{IsPartsVerdict}
 use Rattle.edf_check.specs.SameFiles.{HoldTheSame}
 use Rattle.edf_check.specs.Verdicts.{IsVerdict}
-use Rattle.edf_heads.specs.SameHeads.{AreBlankAlike}
 
 -- there is one verdict at most
 abbrev pub OneVerdict : Type 0

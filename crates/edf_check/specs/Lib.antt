@@ -1,7 +1,7 @@
+pub mod Words
 pub mod Instants
 pub mod InstantOrder
 pub mod Courses
-pub mod Unions
 pub mod Premises
 pub mod Kept
 pub mod KeptReading
@@ -18,8 +18,6 @@ pub mod SameFiles
 pub mod Laws
 pub mod Checks
 pub mod Runs
-pub mod PartsRuns
-pub mod Vectors
 pub mod samples
 pub mod notes
 pub mod walk

@@ -1,12 +1,6 @@
 -- Which fault, and which difference of a header, is the first one of several exports of one original, of which the first has a number.
 use Rattle.std.specs.Prelude.{◌≡◌, ℕ, ◌+◌, ◌<◌, ◌≤◌, ◌⊎◌, List, None, Some, slice_get}
-use Rattle.edf_claim.specs.Terms.{Terms}
-use Rattle.edf_fields.specs.declared.fault.Fault.{Fault}
-use Rattle.edf_header.specs.Heads.{Head}
-use Rattle.edf_header.specs.HeadsReading.{head_of}
-use Rattle.edf_heads.specs.HeadVerdicts.{IsHeadVerdict}
-use Rattle.edf_stream.specs.Faults.{file_fault}
-use Rattle.edf_verdict.specs.declared.verdict.Verdict.{Verdict}
+use Rattle.edf_check.specs.Words.{Terms, Fault, Head, head_of, IsHeadVerdict, file_fault, Verdict}
 use Rattle.edf_verdict.specs.declared.verdict.Verdict.TheVariants.{Yes, No}
 use Rattle.edf_verdict.specs.Numbers.{number_of}
 

@@ -3,15 +3,7 @@
 -- from there. These are steps between the definitions and the code.
 use Rattle.edf_check.specs.PartsFirst.{IsPart, rank, IsFirstHead}
 use Rattle.std.specs.Prelude.{◌≡◌, ℕ, zero, suc, ◌<◌, ℤ, ◌≤ℤ◌, ◌<ℤ◌, nat_lt, if◌then◌else◌, List, [], ◌∷◌, Option, None, Some, MatchOption, slice_get}
-use Rattle.std.specs.List.{AllByRecursion}
-use Rattle.edf_claim.specs.Terms.{Terms}
-use Rattle.edf_header.specs.Heads.{Head}
-use Rattle.edf_header.specs.HeadsReading.{head_of}
-use Rattle.edf_heads.specs.HeadVerdicts.{HeadsAgree}
-use Rattle.edf_stream.specs.Conforming.{Conforms}
-use Rattle.edf_verdict.specs.declared.verdict.Verdict.{Verdict}
-use Rattle.edf_check.specs.declared.parts.found.PartVerdict.{PartVerdict}
-use Rattle.edf_check.specs.declared.parts.found.PartsFound.{PartsFound}
+use Rattle.edf_check.specs.Words.{option_or, Terms, Head, head_of, HeadsAgree, Conforms, Verdict, PartVerdict, PartsFound, Course}
 use Rattle.edf_check.specs.walk.Shown.{begin_by, last_end_by}
 
 -- the headers of all parts agree
@@ -59,9 +51,14 @@ abbrev pub first_of : ℕ → Option Verdict → Option PartVerdict → Option P
 first_of part None later = later
 first_of part (Some verdict) later = Some (earlier_of part verdict later)
 
--- parts of which none has a fault were read to their ends, beside an original with this header
-pub record AreRead (h : Head) (claim : Terms) (by t : ℤ) (first : ℕ) (parts lefts : List (List ℕ)) (found : PartsFound) : Type 0 where
-  pub conform : AllConformAt parts
-  pub gone : AllByRecursion (λ left. left ≡ []) lefts
-  pub heads_are : IsHeadsFound h claim first parts found.heads
-  pub early_is : IsEarlyFound by t first parts found.early
+-- nothing was found
+abbrev pub nothing : PartsFound
+nothing = record { heads = None; early = None; found = None }
+
+-- what is found in a part whose header differs so, and in those behind it
+abbrev pub found_with : ℕ → Option Verdict → Course → PartsFound → PartsFound
+found_with part heads course rest = record {
+  heads = first_of part heads rest.heads;
+  early = if course.is_early then Some part else rest.early;
+  found = option_or course.found rest.found;
+}

@@ -1,22 +1,14 @@
 -- The verdict on an original and several exports, one after the other: the first difference in the order of `Difference`, but that the
 -- order of the exports goes before the samples; or Yes.
 use Rattle.std.specs.Prelude.{◌≡◌, ℕ, ◌+◌, ◌*◌, ◌<◌, ◌<ℤ◌, ◌≤ℤ◌, List, [], ◌∷◌, length, None, Some, slice_get}
-use Rattle.edf_claim.specs.Terms.{Terms}
-use Rattle.edf_fields.specs.Lists.{Has}
-use Rattle.edf_header.specs.Channels.{channels_among}
-use Rattle.edf_header.specs.Heads.{Head, samples_together}
-use Rattle.edf_header.specs.HeadsReading.{head_of}
-use Rattle.edf_heads.specs.HeadVerdicts.{HeadsAgree}
-use Rattle.edf_stream.specs.Faults.{file_fault}
+use Rattle.edf_check.specs.Words.{Terms, Has, channels_among, Head, samples_together, head_of, HeadsAgree, file_fault, PartsVerdict, Verdict}
 use Rattle.edf_check.specs.Annotations.{IsFirstNote}
 use Rattle.edf_check.specs.Courses.{Agree, IsFirstMismatch}
 use Rattle.edf_check.specs.KeptReading.{KeptAt, kept_notes}
 use Rattle.edf_check.specs.Parts.{AllConform, AreTogether, ExportedByOne, FollowOneAnother, exported_by_all, first_begin, last_end}
 use Rattle.edf_check.specs.PartsFirst.{IsFirstFault, IsFirstHead}
-use Rattle.edf_verdict.specs.declared.parts_verdict.PartsVerdict.{PartsVerdict}
-use Rattle.edf_verdict.specs.declared.verdict.Verdict.{Verdict}
 use Rattle.edf_verdict.specs.declared.verdict.Verdict.TheVariants.{Yes, No}
-use Rattle.edf_verdict.specs.declared.verdict.Difference.TheVariants.{OriginalFault, ExportFault, UnknownChannel, MissingChannel, ExtraChannel, ChannelText, Calibration, Subfield, NotClean, PartOrder, Sample, Annotation}
+use Rattle.edf_verdict.specs.declared.verdict.Difference.TheVariants.{OriginalFault, ExportFault, PartOrder, Sample, Annotation}
 
 -- the part of this number, counted from 0, is the first one that begins before the one before it ends
 pub record IsFirstOverlap (parts : List (List ℕ)) (part : ℕ) : Type 0 where
@@ -59,17 +51,11 @@ pub record HaveCounts (original : List ℕ) (parts : List (List ℕ)) (claim : T
 abbrev pub HeadDiffers : List ℕ → List (List ℕ) → Terms → ℕ → Verdict → Type 0
 HeadDiffers original parts claim part verdict = AllConform original parts × IsFirstHead (head_of original) claim 0 parts part verdict
 
--- this is the verdict, and it is said of this part; each says that those before it don't apply
+-- this is the verdict, and it is said of this part; each says that those before it don't apply. Any other than those named here is a rule of
+-- two headers
 abbrev pub IsVerdictOnParts : List ℕ → List (List ℕ) → Terms → ℕ → Verdict → Type 0
 IsVerdictOnParts original parts claim part (No (OriginalFault fault)) = (part ≡ 0) × (file_fault original ≡ Some fault)
 IsVerdictOnParts original parts claim part (No (ExportFault fault)) = (file_fault original ≡ None) × IsFirstFault 0 parts part fault
-IsVerdictOnParts original parts claim part (No (UnknownChannel label)) = HeadDiffers original parts claim part (No (UnknownChannel label))
-IsVerdictOnParts original parts claim part (No (MissingChannel label)) = HeadDiffers original parts claim part (No (MissingChannel label))
-IsVerdictOnParts original parts claim part (No (ExtraChannel label)) = HeadDiffers original parts claim part (No (ExtraChannel label))
-IsVerdictOnParts original parts claim part (No (ChannelText label field)) = HeadDiffers original parts claim part (No (ChannelText label field))
-IsVerdictOnParts original parts claim part (No (Calibration label)) = HeadDiffers original parts claim part (No (Calibration label))
-IsVerdictOnParts original parts claim part (No (Subfield which mismatch)) = HeadDiffers original parts claim part (No (Subfield which mismatch))
-IsVerdictOnParts original parts claim part (No (NotClean text)) = HeadDiffers original parts claim part (No (NotClean text))
 IsVerdictOnParts original parts claim part (No PartOrder) = AllAgreed original parts claim × IsFirstOverlap parts part
 IsVerdictOnParts original parts claim part (No (Sample label at_ps mismatch)) =
     (part ≡ 0) × AllInOrder original parts claim × IsFirstMismatch (KeptAt original claim) (ExportedByOne original parts claim) label at_ps mismatch
@@ -78,6 +64,7 @@ IsVerdictOnParts original parts claim part (No (Annotation mismatch onset durati
     × IsFirstNote (kept_notes original claim) (exported_by_all original parts claim) mismatch (record { onset = onset; duration = duration; text = text })
 IsVerdictOnParts original parts claim part (Yes channels samples annotations) =
     (part ≡ 0) × AllConform original parts × AreTogether original parts claim × HaveCounts original parts claim channels samples annotations
+IsVerdictOnParts original parts claim part verdict = HeadDiffers original parts claim part verdict
 
 abbrev pub IsPartsVerdict : List ℕ → List (List ℕ) → Terms → PartsVerdict → Type 0
 IsPartsVerdict original parts claim verdict = IsVerdictOnParts original parts claim verdict.part verdict.verdict

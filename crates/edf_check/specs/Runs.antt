@@ -1,18 +1,20 @@
--- What a run of the check writes, and why it stops.
-use Rattle.std.specs.Prelude.{◌≡◌, ℕ, List, ◌++◌}
-use Rattle.edf_claim.specs.Claims.{SaysClaimText}
-use Rattle.edf_claim.specs.Terms.{Terms}
-use Rattle.edf_claim.specs.declared.stop.ClaimStop.{ClaimStop}
+-- What a check under the claim of a text says, and what a run writes: of one export, and of several.
+use Rattle.std.specs.Prelude.{◌≡◌, ◌≢◌, ℕ, List, ◌++◌, Bool, IsTrue, length}
+use Rattle.edf_check.specs.Words.{SaysClaimText, FirstClaimFault, Terms, ClaimStop, Fails, Reads, outcome_of, Outcome, Verdict, AllByRecursion, PartsVerdict}
 use Rattle.edf_fields.specs.Sinks.{HoldsPrefix}
-use Rattle.edf_check.specs.Headline.{YesMeans}
-use Rattle.edf_verdict.specs.declared.outcome.Outcome.{Outcome}
 use Rattle.edf_refusal.specs.declared.stop.RunStop.{RunStop}
 use Rattle.edf_refusal.specs.declared.stop.RunStop.TheVariants.{OutOfMemory, ReadFailed, Claim, WriteFailed}
-use Rattle.edf_refusal.specs.declared.side.Side.TheVariants as sides
-use Rattle.edf_verdict.specs.declared.verdict.Verdict.{Verdict}
 use Rattle.edf_verdict.specs.Lines.{verdict_line}
-use Rattle.edf_verdict.specs.Outcomes.{outcome_of}
+use Rattle.edf_refusal.specs.declared.parts_stop.PartsRunStop.{PartsRunStop}
+use Rattle.edf_refusal.specs.declared.parts_stop.PartsRunStop.TheVariants.{OutOfMemory, ReadFailed, Claim, WriteFailed}
+use Rattle.edf_verdict.specs.PartsLines.{parts_verdict_line}
+use Rattle.edf_check.specs.Headline.{YesMeans}
 use Rattle.edf_check.specs.Verdicts.{IsVerdict}
+use Rattle.edf_check.specs.PartsStops.{HasFailed}
+use Rattle.edf_check.specs.PartsVerdicts.{IsPartsVerdict}
+use Rattle.edf_claim.specs.declared.stop.ClaimStop.TheVariants as claims
+use Rattle.edf_refusal.specs.declared.side.Side.TheVariants as sides
+use Rattle.edf_refusal.specs.declared.parts_stop.PartSide.TheVariants as part_sides
 
 -- this is the verdict on two files under the claim that a text says
 pub record IsVerdictUnder (original export text : List ℕ) (verdict : Verdict) : Type 0 where
@@ -21,24 +23,34 @@ pub record IsVerdictUnder (original export text : List ℕ) (verdict : Verdict) 
   pub is : IsVerdict original export claim verdict
   pub means : YesMeans original export claim verdict
 
--- behind what was held stands the line of the verdict on two files under the claim that a text says, and nothing else; the outcome
--- is the verdict's
-pub record IsReport (original export text old new : List ℕ) (outcome : Outcome) : Type 0 where
-  pub verdict : Verdict
-  pub under : IsVerdictUnder original export text verdict
-  pub line : new ≡ old ++ verdict_line verdict
-  pub outcome_is : outcome ≡ outcome_of verdict
+-- of two sources with these bytes it is so where both are honest
+abbrev pub IsJudged : (honest : Bool) (original : List ℕ) (sound : Bool) (export text : List ℕ) → Verdict → Type 0
+IsJudged honest original sound export text verdict = IsTrue honest → IsTrue sound → IsVerdictUnder original export text verdict
 
--- behind what was held stands a front of that line
-pub record IsPartOfReport (original export text old new : List ℕ) : Type 0 where
-  pub verdict : Verdict
-  pub under : IsVerdictUnder original export text verdict
-  pub part : HoldsPrefix old new (verdict_line verdict)
+-- behind what was held stands the text of such a verdict, and nothing else; the outcome is the verdict's
+pub record IsWritten (V : Type 0) (IsSuch : V → Type 0) (text_of : V → List ℕ) (outcome_of_it : V → Outcome) (old new : List ℕ) (outcome : Outcome) : Type 0 where
+  pub verdict : V
+  pub under : IsSuch verdict
+  pub text_is : new ≡ old ++ text_of verdict
+  pub outcome_is : outcome ≡ outcome_of_it verdict
+
+-- behind what was held stands a front of the text of such a verdict
+pub record IsPartWritten (V : Type 0) (IsSuch : V → Type 0) (text_of : V → List ℕ) (old new : List ℕ) : Type 0 where
+  pub verdict : V
+  pub under : IsSuch verdict
+  pub part : HoldsPrefix old new (text_of verdict)
+
+-- the line of the verdict on two files under the claim that a text says was written, with its outcome
+abbrev pub IsReport : (original export text old new : List ℕ) (outcome : Outcome) → Type 0
+IsReport original export text = IsWritten Verdict (IsVerdictUnder original export text) verdict_line outcome_of
+
+-- a front of that line was written
+abbrev pub IsPartOfReport : (original export text old new : List ℕ) → Type 0
+IsPartOfReport original export text = IsPartWritten Verdict (IsVerdictUnder original export text) verdict_line
 
 -- the same, whatever the sources are: a front of the line of some verdict
-pub record IsFrontOfALine (old new : List ℕ) : Type 0 where
-  pub verdict : Verdict
-  pub part : HoldsPrefix old new (verdict_line verdict)
+abbrev pub IsFrontOfALine : (old new : List ℕ) → Type 0
+IsFrontOfALine = IsPartWritten Verdict (λ verdict. Unit {0}) verdict_line
 
 -- of a refused claim this is said, of a failed read of the original or of the export that, of a failed write the fourth, and of want of
 -- memory the last: that no read failed
@@ -49,9 +61,46 @@ RunStops refused original export failed none (ReadFailed sides.Export) = export
 RunStops refused original export failed none (Claim cause) = refused cause
 RunStops refused original export failed none WriteFailed = failed
 
--- a line isn't written for want of memory, or where the sink failed, and then this is said
-abbrev pub WriteStops : Type 0 → RunStop → Type 0
-WriteStops failed OutOfMemory = Unit {0}
-WriteStops failed (ReadFailed side) = ⊥
-WriteStops failed (Claim cause) = ⊥
-WriteStops failed WriteFailed = failed
+-- of what is told of the reads of both sources, before and behind, this is said of a judgement under the claim of a text that stops
+abbrev pub JudgeStops : (text : List ℕ) (original original_behind export export_behind : Reads) → RunStop → Type 0
+JudgeStops text original original_behind export export_behind =
+    RunStops (λ cause. (cause ≢ claims.OutOfMemory) × FirstClaimFault text cause) (Fails original original_behind) (Fails export export_behind)
+    ⊥ ((original_behind ≡ original) × (export_behind ≡ export))
+
+-- this is the verdict on an original and several exports under the claim that a text says
+pub record IsPartsVerdictUnder (original : List ℕ) (parts : List (List ℕ)) (text : List ℕ) (verdict : PartsVerdict) : Type 0 where
+  pub claim : Terms
+  pub says : SaysClaimText text claim
+  pub is : IsPartsVerdict original parts claim verdict
+
+-- of sources with these bytes it is so where all are honest
+abbrev pub IsPartsJudged : (honest : Bool) (original : List ℕ) (sound : List Bool) (parts : List (List ℕ)) (text : List ℕ) → PartsVerdict → Type 0
+IsPartsJudged honest original sound parts text verdict = IsTrue honest → AllByRecursion IsTrue sound → IsPartsVerdictUnder original parts text verdict
+
+-- the line of that verdict was written, with its outcome
+abbrev pub IsPartsReport : (original : List ℕ) (parts : List (List ℕ)) (text old new : List ℕ) (outcome : Outcome) → Type 0
+IsPartsReport original parts text =
+    IsWritten PartsVerdict (IsPartsVerdictUnder original parts text) (parts_verdict_line (length parts)) (λ verdict. outcome_of verdict.verdict)
+
+-- a front of that line was written
+abbrev pub IsPartOfPartsReport : (original : List ℕ) (parts : List (List ℕ)) (text old new : List ℕ) → Type 0
+IsPartOfPartsReport original parts text = IsPartWritten PartsVerdict (IsPartsVerdictUnder original parts text) (parts_verdict_line (length parts))
+
+-- the same, whatever the sources are: a front of the line of some verdict on so many exports
+abbrev pub IsFrontOfAPartsLine : (parts : ℕ) (old new : List ℕ) → Type 0
+IsFrontOfAPartsLine parts = IsPartWritten PartsVerdict (λ verdict. Unit {0}) (parts_verdict_line parts)
+
+-- of a refused claim this is said, of a failed read of the original that, of a failed write the third, and of want of memory the fourth: that
+-- no read failed; of a failed read of an export it is said that it was one of this
+abbrev pub PartsRunStops : (ClaimStop → Type 0) → Type 0 → Type 0 → Type 0 → List Reads → List Reads → PartsRunStop → Type 0
+PartsRunStops refused original failed none olds news OutOfMemory = none
+PartsRunStops refused original failed none olds news (ReadFailed part_sides.Original) = original
+PartsRunStops refused original failed none olds news (ReadFailed (part_sides.Part part)) = HasFailed 0 olds news part
+PartsRunStops refused original failed none olds news (Claim cause) = refused cause
+PartsRunStops refused original failed none olds news WriteFailed = failed
+
+-- of what is told of the reads of all sources, before and behind, this is said of a judgement under the claim of a text that stops
+abbrev pub PartsJudgeStops : (text : List ℕ) (original original_behind : Reads) (olds news : List Reads) → PartsRunStop → Type 0
+PartsJudgeStops text original original_behind olds news =
+    PartsRunStops (λ cause. (cause ≢ claims.OutOfMemory) × FirstClaimFault text cause) (Fails original original_behind)
+    ⊥ ((original_behind ≡ original) × (news ≡ olds)) olds news

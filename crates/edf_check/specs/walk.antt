@@ -1,16 +1,8 @@
-pub mod Clocks
-pub mod Layouts
 pub mod Pairs
-pub mod Shares
 pub mod Windows
 pub mod Shown
 pub mod Gathered
 pub mod Keepers
 pub mod Readings
 pub mod Ends
-pub mod Spans
-pub mod Series
-pub mod Outcomes
-pub mod Orders
-pub mod Serial
 pub mod Together

@@ -4,20 +4,21 @@ ghost use Rattle.std.specs.Prelude.{◌≡◌, ◌<◌, ◌≤◌, ◌∷◌, ma
 ghost use Rattle.std.specs.List.{AllByRecursion};
 ghost use Rattle.edf_fields.specs.Sources.{Fails};
 ghost use Rattle.edf_check.specs.Checks.{AreRead};
-ghost use Rattle.edf_check.specs.PartsStops.{PartsStops};
+ghost use Rattle.edf_check.specs.PartsStops.{NoneFailed, PartsStops, StopsOfAll};
 ghost use Rattle.edf_check.specs.PartsVerdicts.{IsPartsVerdict};
+ghost use Rattle.edf_check.specs.walk.Together.{IsReadBy, IsVerdictOf};
 
-use crate::parts::rest::at_part;
 use crate::parts::series::Exported;
-use crate::parts::together::{conclude_parts, of_all, walk_parts};
-use crate::walk::open;
+use crate::parts::together::{conclude_parts, of_fault, walk_parts};
+use crate::walk::clock::Clock;
+use crate::walk::reading::open;
+use crate::walk::turn::Setting;
+use crate::walk::walked::FaultOf;
 use edf_claim::claim::Claim;
 use edf_fields::source::Source;
 use edf_heads::labels::in_order;
-use edf_refusal::parts_stop::PartsStop;
-use edf_refusal::side::Side;
+use edf_refusal::parts_stop::{PartSide, PartsStop};
 use edf_verdict::parts_verdict::PartsVerdict;
-use edf_verdict::verdict::{Difference, Verdict};
 use std::alloc::Global;
 
 /// Checks an export and those behind it.
@@ -31,45 +32,36 @@ pub(crate) fn check_series<O: Source, E: Source>(
     claim: &Claim,
 ) -> Result<PartsVerdict, PartsStop>
     requires few { length others.old < 64 }
-    ensures verdict { IfOk result (λ verdict. IsTrue (O.is_honest original.old) → IsTrue (E.is_honest part.old) → AllByRecursion IsTrue (map E.is_honest others.old) →
-        IsPartsVerdict (O.left original.old) (E.left part.old ∷ map E.left others.old) claim.now verdict) }
-    ensures read { IfOk result (λ verdict. IsTrue (O.is_honest original.old) → IsTrue (E.is_honest part.old) → AllByRecursion IsTrue (map E.is_honest others.old) →
-        AllByRecursion (AreRead verdict.verdict (O.left original.new)) (E.left part.new ∷ map E.left others.new)) }
-    ensures failures { OnOk result ((O.reads original.new ≡ O.reads original.old) × (E.reads part.new ≡ E.reads part.old) × (map E.reads others.new ≡ map E.reads others.old)) }
-    ensures stop { IfErr result (PartsStops (Fails (O.reads original.old) (O.reads original.new))
-        ((O.reads original.new ≡ O.reads original.old) × (E.reads part.new ≡ E.reads part.old) × (map E.reads others.new ≡ map E.reads others.old)) 0
-        (E.reads part.old ∷ map E.reads others.old) (E.reads part.new ∷ map E.reads others.new)) }
+    ensures verdict { IfOk result (IsVerdictOf O.Source E.Source original.old (part.old ∷ others.old) claim.now) }
+    ensures read { IfOk result (IsReadBy O.Source E.Source original.old original.new
+        (part.old ∷ others.old) (part.new ∷ others.new)) }
+    ensures failures { OnOk result (NoneFailed O.Source original.old original.new E.Source part.old part.new others.old others.new) }
+    ensures stop { IfErr result (StopsOfAll O.Source original.old original.new E.Source 0 (part.old ∷ others.old) (part.new ∷ others.new)) }
 {
-    let mut reading = match open(alloc, original, Side::Original) {
+    let mut reading = match open(alloc, original, PartSide::Original) {
         Ok(Ok(reading)) => reading,
-        Ok(Err(fault)) => return Ok(of_all(Verdict::No(Difference::OriginalFault(fault)))),
-        Err(stop) => return Err(at_part(stop, 0)),
+        Ok(Err(fault)) => return Ok(of_fault(FaultOf::Original(fault))),
+        Err(stop) => return Err(stop),
     };
     let labels = in_order(alloc, claim.channels())?;
+    let setting = Setting {
+        alloc,
+        clock: Clock::new(reading.reader.header(), claim),
+        claim,
+        labels: &labels,
+    };
     let mut exported = Exported {
         samples: 0,
         notes: Vec::new(alloc),
     };
-    let walked = walk_parts(
-        alloc,
-        &mut reading,
-        original,
-        part,
-        others,
-        claim,
-        &labels,
-        &mut exported,
-    )?;
-    let channels = claim.channels().len() as u64;
-    let verdict = conclude_parts(
-        alloc,
-        walked,
-        channels,
-        &labels,
-        &mut reading.notes,
-        &mut exported,
-    )?;
-    Ok(verdict)
+    match walk_parts(&mut reading, original, part, others, setting, &mut exported) {
+        Ok(Ok(found)) => {
+            let verdict = conclude_parts(setting, found, &mut reading.notes, &mut exported)?;
+            Ok(verdict)
+        }
+        Ok(Err(fault)) => Ok(of_fault(fault)),
+        Err(stop) => Err(stop),
+    }
 }
 
 /// Checks whether one to 64 exports, in the order of time, are together the original, cut and made anonymous as the claim

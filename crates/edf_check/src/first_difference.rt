@@ -1,7 +1,7 @@
 //! Where two slices of bytes differ first.
 
 ghost use Rattle.std.specs.Prelude.{◌≡◌, ◌+◌, ◌≤◌, ◌<◌, ℕ, length, slice_index, IsTrue, IfSome, IfNone};
-ghost use Rattle.edf_check.specs.samples.Alike.{AreAlikeBefore, IsLeastPlace};
+ghost use Rattle.edf_check.specs.samples.Stretches.{AreAlikeBefore, IsLeastPlace};
 
 use std::simd::prelude::*;
 

@@ -1,15 +1,15 @@
 //! Whether an export of an EDF+ recording is what a claim says of its original, and nothing else: the
-//! verdict, as it is defined, the check that gives it, the run that writes its line, and the worked rows.
+//! verdict, as it is defined, the check that gives it, and the run that writes its line.
 #![tactic(auto)]
 
 pub mod check;
 pub mod check_parts;
 pub mod first_difference;
+pub mod judge;
 pub mod laws;
 mod notes;
 mod parts;
 pub mod run;
 pub mod run_parts;
 mod samples;
-pub mod vectors;
 mod walk;

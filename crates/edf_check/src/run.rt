@@ -1,37 +1,18 @@
 //! A check of two files under the text of a claim, with one line of text for its answer.
 
-ghost use Rattle.std.specs.Prelude.{◌≡◌, ◌≢◌, ◌++◌, IfOk, IfErr, OnOk, IsTrue};
+ghost use Rattle.std.specs.Prelude.{◌≡◌, ◌≢◌, IfOk, IfErr, OnOk, IsTrue};
 ghost use Rattle.edf_claim.specs.declared.stop.ClaimStop.TheVariants as claim_stops;
 ghost use Rattle.edf_claim.specs.Faults.{FirstClaimFault};
-ghost use Rattle.edf_fields.specs.Sinks.{HoldsPrefix};
 ghost use Rattle.edf_fields.specs.Sources.{Fails, Rises};
-ghost use Rattle.edf_verdict.specs.Lines.{verdict_line};
 ghost use Rattle.edf_refusal.specs.declared.stop.RunStop.TheVariants as stops;
-ghost use Rattle.edf_check.specs.Runs.{IsReport, IsPartOfReport, IsFrontOfALine, RunStops, WriteStops};
+ghost use Rattle.edf_check.specs.Runs.{IsReport, IsPartOfReport, IsFrontOfALine, RunStops};
 
-use crate::check::check;
-use edf_claim::claim::Claim;
+use crate::judge::judge;
 use edf_fields::sink::{Sink, put_all};
 use edf_fields::source::Source;
 use edf_refusal::stop::RunStop;
 use edf_verdict::outcome::Outcome;
-use edf_verdict::verdict::Verdict;
 use std::alloc::Global;
-
-/// Writes the line of a verdict. Where the sink fails, a front of the line was written.
-fn write_line<K: Sink>(alloc: Global, verdict: &Verdict, sink: &mut K) -> Result<(), RunStop>
-    ensures written { IfOk result (λ _. IsTrue (K.is_honest sink.old) → K.held sink.new ≡ K.held sink.old ++ verdict_line verdict.now) }
-    ensures failures { OnOk result (K.failures sink.new ≡ K.failures sink.old) }
-    ensures honesty { IsTrue (K.is_honest sink.old) → IsTrue (K.is_honest sink.new) }
-    ensures nothing { IfErr result (λ stop. stop ≢ stops.WriteFailed → sink.new ≡ sink.old) }
-    ensures part { IfErr result (λ stop. stop ≡ stops.WriteFailed → IsTrue (K.is_honest sink.old)
-        → HoldsPrefix (K.held sink.old) (K.held sink.new) (verdict_line verdict.now)) }
-    ensures stop { IfErr result (WriteStops (Rises (K.failures sink.old) (K.failures sink.new))) }
-{
-    let line = verdict.line(alloc)?;
-    put_all(sink, &line)?;
-    Ok(())
-}
 
 /// Reads the claim that a text says, checks the export against the original, and writes the line of the
 /// verdict.
@@ -61,8 +42,8 @@ pub fn run<O: Source, E: Source, K: Sink>(
         (Rises (K.failures sink.old) (K.failures sink.new))
         ((O.reads original.new ≡ O.reads original.old) × (E.reads export.new ≡ E.reads export.old))) }
 {
-    let claim = Claim::read(alloc, claim_text)?;
-    let verdict = check(alloc, original, export, &claim)?;
-    write_line(alloc, &verdict, sink)?;
+    let verdict = judge(alloc, original, export, claim_text)?;
+    let line = verdict.line(alloc)?;
+    put_all(sink, &line)?;
     Ok(verdict.outcome())
 }

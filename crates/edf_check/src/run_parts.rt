@@ -1,51 +1,19 @@
 //! A check of several exports under the text of a claim, with one line of text for its answer.
 
-ghost use Rattle.std.specs.Prelude.{◌≡◌, ◌≢◌, ◌<◌, ◌≤◌, ◌++◌, map, length, IfOk, IfErr, OnOk, IsTrue};
+ghost use Rattle.std.specs.Prelude.{◌≡◌, ◌≢◌, ◌<◌, ◌≤◌, map, length, IfOk, IfErr, OnOk, IsTrue};
 ghost use Rattle.std.specs.List.{AllByRecursion};
 ghost use Rattle.edf_claim.specs.declared.stop.ClaimStop.TheVariants as claim_stops;
 ghost use Rattle.edf_claim.specs.Faults.{FirstClaimFault};
-ghost use Rattle.edf_fields.specs.Sinks.{HoldsPrefix};
 ghost use Rattle.edf_fields.specs.Sources.{Fails, Rises};
-ghost use Rattle.edf_verdict.specs.PartsLines.{parts_verdict_line};
 ghost use Rattle.edf_refusal.specs.declared.parts_stop.PartsRunStop.TheVariants as stops;
-ghost use Rattle.edf_check.specs.PartsRuns.{IsFrontOfAPartsLine, IsPartsReport, IsPartOfPartsReport, PartsRunStops, PartsWriteStops};
+ghost use Rattle.edf_check.specs.Runs.{IsFrontOfAPartsLine, IsPartsReport, IsPartOfPartsReport, PartsRunStops};
 
-use crate::check_parts::check_parts;
-use edf_claim::claim::Claim;
+use crate::judge::judge_parts;
 use edf_fields::sink::{Sink, put_all};
 use edf_fields::source::Source;
 use edf_refusal::parts_stop::PartsRunStop;
 use edf_verdict::outcome::Outcome;
-use edf_verdict::parts_verdict::PartsVerdict;
 use std::alloc::Global;
-
-/// How many exports there are.
-fn count_of<E: Source>(parts: &[E]) -> u16
-    requires { length parts.now ≤ 64 }
-    ensures { result ≡ length parts.now }
-{
-    parts.len() as u16
-}
-
-/// Writes the line of a verdict on so many exports. Where the sink fails, a front of the line was written.
-fn write_line<K: Sink>(
-    alloc: Global,
-    verdict: &PartsVerdict,
-    parts: u16,
-    sink: &mut K,
-) -> Result<(), PartsRunStop>
-    ensures written { IfOk result (λ _. IsTrue (K.is_honest sink.old) → K.held sink.new ≡ K.held sink.old ++ parts_verdict_line parts verdict.now) }
-    ensures failures { OnOk result (K.failures sink.new ≡ K.failures sink.old) }
-    ensures honesty { IsTrue (K.is_honest sink.old) → IsTrue (K.is_honest sink.new) }
-    ensures nothing { IfErr result (λ stop. stop ≢ stops.WriteFailed → sink.new ≡ sink.old) }
-    ensures part { IfErr result (λ stop. stop ≡ stops.WriteFailed → IsTrue (K.is_honest sink.old)
-        → HoldsPrefix (K.held sink.old) (K.held sink.new) (parts_verdict_line parts verdict.now)) }
-    ensures stop { IfErr result (PartsWriteStops (Rises (K.failures sink.old) (K.failures sink.new))) }
-{
-    let line = verdict.line(alloc, parts)?;
-    put_all(sink, &line)?;
-    Ok(())
-}
 
 /// Reads the claim that a text says, checks one to 64 exports, in the order of time, against the original, and writes the
 /// line of the verdict.
@@ -78,9 +46,9 @@ pub fn run_parts<O: Source, E: Source, K: Sink>(
         ((O.reads original.new ≡ O.reads original.old) × (map E.reads parts.new ≡ map E.reads parts.old))
         (map E.reads parts.old) (map E.reads parts.new)) }
 {
-    let claim = Claim::read(alloc, claim_text)?;
-    let count = count_of(parts);
-    let verdict = check_parts(alloc, original, parts, &claim)?;
-    write_line(alloc, &verdict, count, sink)?;
+    let count = parts.len() as u16;
+    let verdict = judge_parts(alloc, original, parts, claim_text)?;
+    let line = verdict.line(alloc, count)?;
+    put_all(sink, &line)?;
     Ok(verdict.verdict.outcome())
 }

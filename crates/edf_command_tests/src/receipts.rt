@@ -1,6 +1,5 @@
 //! The receipts of small files, whose digests are those of `sha256sum`, and what is written where a read or a sink fails.
 
-use edf_check::vectors::line::Line;
 use edf_claim::stop::ClaimStop;
 use edf_fields::digest_source::DigestSource;
 use edf_fields::faulty_source::FaultySource;
@@ -11,6 +10,7 @@ use edf_receipt::receipt::receipt_to;
 use edf_refusal::parts_stop::{PartSide, PartsRunStop};
 use edf_refusal::side::Side;
 use edf_refusal::stop::RunStop;
+use edf_vectors::line::Line;
 use edf_verdict::outcome::Outcome;
 use std::alloc::Global;
 use std::process::Abort;

@@ -1,7 +1,6 @@
 //! The reports on one file: their texts, and what stands in a sink that is soon full, or where a read fails;
 //! `tools/cases` has more of their texts.
 
-use edf_check::vectors::line::Line;
 use edf_fields::fault::Place::{AtField, AtSignal};
 use edf_fields::faulty_source::FaultySource;
 use edf_fields::layout::{FixedField as Fixed, SignalField as Field};
@@ -13,6 +12,7 @@ use edf_report::notes::notes_to;
 use edf_report::show::show_to;
 use edf_test_files::file::Edit;
 use edf_test_files::record::{LANES, recorded};
+use edf_vectors::line::Line;
 use edf_verdict::outcome::Outcome;
 use std::alloc::Global;
 use std::process::Abort;

@@ -5,16 +5,16 @@ ghost use Rattle.std.specs.Prelude.{◌<◌, ◌≤◌, length};
 
 use edf_check::run::run;
 use edf_check::run_parts::run_parts;
-use edf_check::vectors::line::Line;
-use edf_check::vectors::vectors_to;
 use edf_fields::faulty_source::FaultySource;
 use edf_fields::sink::SliceSink;
 use edf_fields::source::SliceSource;
 use edf_refusal::stop::ReportStop;
 use edf_rows::build::bytes_of;
-use edf_rows::parts_rows::{PartsRow, worked_parts_rows};
-use edf_rows::rows::{Row, worked_rows};
+use edf_rows::claims::claim_text;
+use edf_rows::rows::{Exports, Row, worked_rows};
 use edf_test_files::scarce::Scarce;
+use edf_vectors::line::Line;
+use edf_vectors::vectors::vectors_to;
 use edf_verdict::outcome::Outcome;
 use std::alloc::{AllocError, Global};
 use std::test::Fail;
@@ -162,14 +162,16 @@ fn writes_the_rows_or_wants_memory(rt: HostRuntime) -> Result<(), Fail> {
     Ok(())
 }
 
-/// The line of a row whose files are read byte by byte.
-fn line_by_bytes(alloc: Global, row: &Row) -> Result<Line, AllocError> {
-    let original = bytes_of(alloc, &row.original)?;
-    let export = bytes_of(alloc, &row.export)?;
-    let mut first = FaultySource::new(SliceSource::new(&original), u64::MAX, 1);
-    let mut second = FaultySource::new(SliceSource::new(&export), u64::MAX, 1);
+/// The line of two files that are read byte by byte.
+fn line_of(
+    alloc: Global,
+    original: &[u8],
+    export: &[u8],
+    claim: &[u8],
+) -> Result<Line, AllocError> {
+    let mut first = FaultySource::new(SliceSource::new(original), u64::MAX, 1);
+    let mut second = FaultySource::new(SliceSource::new(export), u64::MAX, 1);
     let mut line = Line::new(alloc);
-    let claim = row.claim.as_bytes();
     match run(alloc, &mut first, &mut second, claim, &mut line) {
         Ok(_) => Ok(line),
         Err(_) => Err(AllocError),
@@ -181,30 +183,39 @@ fn parts_line(
     alloc: Global,
     original: &[u8],
     parts: &mut [FaultySource<SliceSource<'_>>],
-    claim: &str,
+    claim: &[u8],
 ) -> Result<Line, AllocError>
     requires some { 0 < length parts.old }
     requires few { length parts.old ≤ 64 }
 {
     let mut whole = FaultySource::new(SliceSource::new(original), u64::MAX, 1);
     let mut line = Line::new(alloc);
-    match run_parts(alloc, &mut whole, parts, claim.as_bytes(), &mut line) {
+    match run_parts(alloc, &mut whole, parts, claim, &mut line) {
         Ok(_) => Ok(line),
         Err(_) => Err(AllocError),
     }
 }
 
-/// The line of a row of several exports whose files are read byte by byte.
-fn parts_line_by_bytes(alloc: Global, row: &PartsRow) -> Result<Line, AllocError> {
+/// The line of a row whose files are read byte by byte.
+fn line_by_bytes(alloc: Global, row: &Row) -> Result<Line, AllocError> {
     let original = bytes_of(alloc, &row.original)?;
-    let first = bytes_of(alloc, &row.first)?;
-    let one = FaultySource::new(SliceSource::new(&first), u64::MAX, 1);
-    match row.second {
-        None => parts_line(alloc, &original, &mut [one], row.claim),
-        Some(file) => {
-            let second = bytes_of(alloc, &file)?;
+    let claim = claim_text(alloc, row.claim)?;
+    match row.exports {
+        Exports::One(file) => {
+            let export = bytes_of(alloc, &file)?;
+            line_of(alloc, &original, &export, &claim)
+        }
+        Exports::Several(file, None) => {
+            let first = bytes_of(alloc, &file)?;
+            let one = FaultySource::new(SliceSource::new(&first), u64::MAX, 1);
+            parts_line(alloc, &original, &mut [one], &claim)
+        }
+        Exports::Several(file, Some(behind)) => {
+            let first = bytes_of(alloc, &file)?;
+            let second = bytes_of(alloc, &behind)?;
+            let one = FaultySource::new(SliceSource::new(&first), u64::MAX, 1);
             let other = FaultySource::new(SliceSource::new(&second), u64::MAX, 1);
-            parts_line(alloc, &original, &mut [one, other], row.claim)
+            parts_line(alloc, &original, &mut [one, other], &claim)
         }
     }
 }
@@ -213,15 +224,6 @@ fn parts_line_by_bytes(alloc: Global, row: &PartsRow) -> Result<Line, AllocError
 fn gives_the_same_lines_byte_by_byte(rt: HostRuntime) -> Result<(), Fail> {
     for row in worked_rows() {
         let line = line_by_bytes(rt.alloc(), row)?;
-        assert_eq!(rt; line.bytes(), row.stored.as_bytes());
-    }
-    Ok(())
-}
-
-#[test]
-fn gives_the_same_lines_of_several_exports_byte_by_byte(rt: HostRuntime) -> Result<(), Fail> {
-    for row in worked_parts_rows() {
-        let line = parts_line_by_bytes(rt.alloc(), row)?;
         assert_eq!(rt; line.bytes(), row.stored.as_bytes());
     }
     Ok(())

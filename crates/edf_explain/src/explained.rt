@@ -4,8 +4,7 @@ ghost use Rattle.std.specs.Prelude.{IfOk, IsTrue};
 ghost use Rattle.edf_explain.specs.Explained.{IsExplained};
 
 use crate::explain::explain_to;
-use edf_check::check::check;
-use edf_claim::claim::Claim;
+use edf_check::judge::judge;
 use edf_fields::sink::{Sink, put_all};
 use edf_fields::source::Source;
 use edf_refusal::stop::RunStop;
@@ -30,8 +29,7 @@ pub fn run_explained<O: Source, E: Source, K: Sink, R: Recordings>(
         IsExplained (O.left original.old) (E.left export.old) claim_text.now (K.held sink.old) (K.held sink.new) outcome) }
     ensures honesty { IsTrue (K.is_honest sink.old) → IsTrue (K.is_honest sink.new) }
 {
-    let claim = Claim::read(alloc, claim_text)?;
-    let verdict = check(alloc, original, export, &claim)?;
+    let verdict = judge(alloc, original, export, claim_text)?;
     let line = verdict.line(alloc)?;
     put_all(sink, &line)?;
     explain_to(alloc, again, claim_text, &verdict, sink)?;

@@ -7,14 +7,12 @@ use Rattle.std.proofs.lemmas.List.Sorted.{IsPermutation-sym, sorted_far, ranks_b
 use Rattle.edf_fields.specs.Lists.{Has, is_one_of}
 use Rattle.edf_fields.proofs.ForCallers.{has-one_of, one_of-has, not-true, at-has, get-index, get-within, map-has, has-permutation, has-filtered, filtered-has, find-none, find-some}
 use Rattle.edf_header.specs.Heads.{SignalHead, Head, is_annotations}
-use Rattle.edf_claim.specs.Terms.{Terms}
 use Rattle.edf_heads.specs.Channels.{IsChannelOf, HasChannel, HasAll}
 use Rattle.edf_heads.specs.ChannelDifferences.{HasNoChannel, IsLeastExtra}
 use Rattle.edf_heads.specs.ChannelIndexes.{AreByLabel, IsChannelIndex}
 use Rattle.edf_heads.specs.declared.channel_index.Channel.{Channel}
-use Rattle.edf_heads.specs.Comparisons.{channel_of, Claimed, claimed_of, claimed_view, AreSorted, HasNoExtra, IsComparison}
+use Rattle.edf_heads.specs.Comparisons.{channel_of, Claimed, claimed_of, AreSorted, HasNoExtra}
 use Rattle.edf_header.specs.Channels.{is_ordinary}
-use Rattle.edf_heads.specs.declared.channels.ClaimedChannel.{ClaimedChannel}
 use Rattle.edf_heads.specs.Firsts.{IsFirstWith}
 use Rattle.edf_heads.specs.Labels.{IsNotAbove}
 use Rattle.edf_heads.proofs.ChannelFacts.{channel-some, channel-none}
@@ -39,13 +37,7 @@ said-of Nothing P None (Some x) e h = absurd (let f : None ≡ Some x = e in cc)
 said-of Nothing P (Some x) None e h = absurd (let f : Some x.now ≡ None = e in cc)
 said-of Nothing P (Some x) (Some y) e h = let same : x.now ≡ y = (let f : Some x.now ≡ Some y = e in cc) in subst P (sym same) h
 
--- a label of the claim that was found by a test of its channels
-pub claimed-said : (Nothing : Type 0) (o e : List SignalHead) (labels : List (List ℕ)) (views : List Claimed) (test : Claimed → Bool) (P : List ℕ → Type 0) (r : Option (Bor (List ℕ))) → views ≡ map (claimed_of o e) labels
-    → option_map (λ label. label.now) r ≡ option_map (λ (c : Claimed). c.label) (find test views) → MatchOption (find (λ l. test (claimed_of o e l)) labels) Nothing P → MatchOption r Nothing (λ label. P label.now)
-claimed-said Nothing o e labels views test P r are is h =
-    said-of Nothing P r (find (λ l. test (claimed_of o e l)) labels) (is ∙ ap (λ cs. option_map (λ (c : Claimed). c.label) (find test cs)) are ∙ find-claimed o e test labels) h
-
-absent-first : (h : Head) (labels : List (List ℕ)) → MatchOption (find (λ l. is_none (channel_of l h.signals)) labels) (HasAll h labels) (IsFirstWith (HasNoChannel h) labels)
+pub absent-first : (h : Head) (labels : List (List ℕ)) → MatchOption (find (λ l. is_none (channel_of l h.signals)) labels) (HasAll h labels) (IsFirstWith (HasNoChannel h) labels)
 absent-first h labels =
     first-found (λ l. is_none (channel_of l h.signals)) (HasNoChannel h) (HasChannel h) labels
     (λ l there t. channel-none h l (none-is (channel_of l h.signals) t))
@@ -59,19 +51,6 @@ absent-first h labels =
     some-is : (o : Option SignalHead) → is_none o ≡ false → (x : SignalHead) × (o ≡ Some x)
     some-is None f = absurd (let g : true ≡ false = f in cc)
     some-is (Some x) f = (x, refl)
-
--- the first claimed label without a channel
-pub unknown_said : (o e : Head) (claim : Terms) (claimed : List ClaimedChannel) (labels : List (Bor (List ℕ))) (seen : List ClaimedChannel) (r : Option (Bor (List ℕ))) → IsComparison o e claim claimed labels → seen ≡ claimed
-    → option_map (λ label. label.now) r ≡ option_map (λ (c : Claimed). c.label) (find (λ (c : Claimed). is_none c.original) (map claimed_view seen))
-    → MatchOption r (HasAll o claim.channels) (λ label. IsFirstWith (HasNoChannel o) claim.channels label.now)
-unknown_said o e claim claimed labels seen r is all found =
-    claimed-said (HasAll o claim.channels) o.signals e.signals claim.channels (map claimed_view seen) (λ (c : Claimed). is_none c.original) (IsFirstWith (HasNoChannel o) claim.channels) r (ap (map claimed_view) all ∙ is.claimed_are) found (absent-first o claim.channels)
-
-pub missing_said : (o e : Head) (claim : Terms) (claimed : List ClaimedChannel) (labels : List (Bor (List ℕ))) (seen : List ClaimedChannel) (r : Option (Bor (List ℕ))) → IsComparison o e claim claimed labels → seen ≡ claimed
-    → option_map (λ label. label.now) r ≡ option_map (λ (c : Claimed). c.label) (find (λ (c : Claimed). is_none c.export) (map claimed_view seen))
-    → MatchOption r (HasAll e claim.channels) (λ label. IsFirstWith (HasNoChannel e) claim.channels label.now)
-missing_said o e claim claimed labels seen r is all found =
-    claimed-said (HasAll e claim.channels) o.signals e.signals claim.channels (map claimed_view seen) (λ (c : Claimed). is_none c.export) (IsFirstWith (HasNoChannel e) claim.channels) r (ap (map claimed_view) all ∙ is.claimed_are) found (absent-first e claim.channels)
 
 -- ---- a channel that isn't claimed
 

@@ -16,19 +16,20 @@ use Rattle.edf_claim.specs.Terms.{Terms}
 use Rattle.edf_heads.specs.Blank.{HasNoTexts, IsBlankHeader}
 use Rattle.edf_heads.specs.BlankDifference.{HasFreeText, IsFirstWithFreeText}
 use Rattle.edf_heads.specs.Calibrations.{HaveSameCalibration, SameCalibrations}
-use Rattle.edf_heads.specs.CalibrationDifference.{IsCalibrationDifference}
 use Rattle.edf_heads.specs.Channels.{AreAlike}
-use Rattle.edf_heads.specs.ChannelDifferences.{AreUnlike}
-use Rattle.edf_heads.specs.Comparisons.{channel_of, Claimed, claimed_of, claimed_view, IsComparison, text_difference_of, first_text_difference, is_same_line, has_other_calibration, of_both, has_text, HasNoFreeText, is_blank_signal}
+use Rattle.edf_heads.specs.ChannelDifferences.{AreUnlike, IsFirstUnlike}
+use Rattle.edf_heads.specs.Comparisons.{channel_of, Claimed, Compared, claimed_of, claimed_view, IsComparison, text_difference_of, first_text_difference, is_same_line, has_other_calibration, of_both, has_text, HasNoFreeText, is_blank_signal, breaks, Breaks, Keep}
 use Rattle.edf_heads.specs.Firsts.{IsFirstWith}
 use Rattle.edf_heads.specs.Texts.{HaveSameText, HaveSameTexts, SameTexts}
 use Rattle.edf_heads.specs.TextDifference.{IsFirstText, IsTextDifference}
 use Rattle.edf_heads.specs.declared.channels.ClaimedChannel.{ClaimedChannel}
+use Rattle.edf_heads.specs.declared.rules.ChannelRule.{ChannelRule}
+use Rattle.edf_heads.specs.declared.rules.ChannelRule.TheVariants.{Known, Exported, Calibrated, Clean}
 use Rattle.edf_heads.specs.declared.channel_texts.TextDifference.{TextDifference}
 use Rattle.edf_verdict.specs.declared.verdict.TextField.{TextField}
 use Rattle.edf_verdict.specs.declared.verdict.TextField.TheVariants.{Transducer, Prefilter}
 use Rattle.edf_heads.proofs.ChannelFacts.{one-channel, channel-some, channel-none, channel-is}
-use Rattle.edf_heads.proofs.ComparisonFacts.{claimed-said}
+use Rattle.edf_heads.proofs.ComparisonFacts.{absent-first, find-claimed, said-of}
 use Rattle.edf_heads.proofs.ListFacts.{first-found}
 
 -- ---- the two channels of a label
@@ -49,7 +50,7 @@ not-left Alike o e l none u v c d = absurd (channel-none o l none (u, c))
 not-right : (Alike : SignalHead → SignalHead → Type 0) (o e : Head) (l : List ℕ) → channel_of l e.signals ≡ None → AreAlike Alike o e l
 not-right Alike o e l none u v c d = absurd (channel-none e l none (v, d))
 
-pub differ-tested : (Alike : SignalHead → SignalHead → Type 0) (test : SignalHead → SignalHead → Bool) (o e : Head) (l : List ℕ) → ((x y : SignalHead) → test x y ≡ true → Alike x y → ⊥)
+differ-tested : (Alike : SignalHead → SignalHead → Type 0) (test : SignalHead → SignalHead → Bool) (o e : Head) (l : List ℕ) → ((x y : SignalHead) → test x y ≡ true → Alike x y → ⊥)
     → of_both test (channel_of l o.signals) (channel_of l e.signals) ≡ true → AreUnlike Alike o e l
 differ-tested Alike test o e l unlike t = tested-case (channel_of l o.signals) (channel_of l e.signals) refl refl t
   where
@@ -58,7 +59,7 @@ differ-tested Alike test o e l unlike t = tested-case (channel_of l o.signals) (
     tested-case (Some x) None there here t = absurd (let f : false ≡ true = t in cc)
     tested-case (Some x) (Some y) there here t = both-differ Alike o e l x y there here (unlike x y t)
 
-pub alike-tested : (Alike : SignalHead → SignalHead → Type 0) (test : SignalHead → SignalHead → Bool) (o e : Head) (l : List ℕ) → IsSound o → IsSound e → ((x y : SignalHead) → test x y ≡ false → Alike x y)
+alike-tested : (Alike : SignalHead → SignalHead → Type 0) (test : SignalHead → SignalHead → Bool) (o e : Head) (l : List ℕ) → IsSound o → IsSound e → ((x y : SignalHead) → test x y ≡ false → Alike x y)
     → of_both test (channel_of l o.signals) (channel_of l e.signals) ≡ false → AreAlike Alike o e l
 alike-tested Alike test o e l so se alike f = tested-case (channel_of l o.signals) (channel_of l e.signals) refl refl f
   where
@@ -128,56 +129,51 @@ texts_said o e claim claimed labels seen r is all found =
 
 -- ---- free text
 
+untrue : (b : Bool) → not b ≡ false → b ≡ true
+untrue true e = refl
+untrue false e = absurd (let f : true ≡ false = e in cc)
+
 empty-is : (xs : List ℕ) → (length xs == 0) ≡ true → xs ≡ []
 empty-is [] h = refl
 empty-is (x ∷ xs) h = absurd (let e : suc (length xs) ≡ 0 = (Decides-eqb (suc (length xs)) 0).0 h in omega (arith, e))
 
-pub text-there : (e : Head) (l : List ℕ) → has_text (channel_of l e.signals) ≡ true → HasFreeText e l
+text-there : (e : Head) (l : List ℕ) → has_text (channel_of l e.signals) ≡ true → HasFreeText e l
 text-there e l t = there-case (channel_of l e.signals) refl t
   where
     there-case : (p : Option SignalHead) → channel_of l e.signals ≡ p → has_text p ≡ true → HasFreeText e l
     there-case None q t = absurd (let f : false ≡ true = t in cc)
     there-case (Some x) q t = (x, channel-some e l x q, λ none. let f : false ≡ true = sym (ap (λ (xs : List ℕ). not (length xs == 0)) none) ∙ t in cc)
 
-pub no-text : (e : Head) (l : List ℕ) → IsSound e → has_text (channel_of l e.signals) ≡ false → HasFreeText e l → ⊥
+no-text : (e : Head) (l : List ℕ) → IsSound e → has_text (channel_of l e.signals) ≡ false → HasFreeText e l → ⊥
 no-text e l se f h =
     let g : not (length (h.0).reserved == 0) ≡ false = sym (ap has_text (channel-is e l h.0 se h.1)) ∙ f in
     h.2 (empty-is (h.0).reserved (untrue (length (h.0).reserved == 0) g))
-  where
-    untrue : (b : Bool) → not b ≡ false → b ≡ true
-    untrue true e = refl
-    untrue false e = absurd (let f : true ≡ false = e in cc)
 
-pub texts_left_said : (o e : Head) (claim : Terms) (claimed : List ClaimedChannel) (labels : List (Bor (List ℕ))) (seen : List ClaimedChannel) (r : Option (Bor (List ℕ))) → IsComparison o e claim claimed labels → seen ≡ claimed
-    → option_map (λ label. label.now) r ≡ option_map (λ (c : Claimed). c.label) (find (λ (c : Claimed). has_text c.export) (map claimed_view seen))
-    → MatchOption r (HasNoFreeText e claim) (λ label. IsFirstWithFreeText e claim label.now)
-texts_left_said o e claim claimed labels seen r is all found =
-    claimed-said (HasNoFreeText e claim) o.signals e.signals claim.channels (map claimed_view seen) (λ (c : Claimed). has_text c.export) (IsFirstWith (HasFreeText e) claim.channels) r (ap (map claimed_view) all ∙ is.claimed_are) found
-    (first-found (λ l. has_text (channel_of l e.signals)) (HasFreeText e) (λ l. HasFreeText e l → ⊥) claim.channels
-    (λ l there t. text-there e l t) (λ l there f. no-text e l is.export_sound f) (λ l none h. none h))
+pub free-found : (e : Head) (claim : Terms) → IsSound e → MatchOption (find (λ l. has_text (channel_of l e.signals)) claim.channels) (HasNoFreeText e claim) (IsFirstWithFreeText e claim)
+free-found e claim se =
+    first-found (λ l. has_text (channel_of l e.signals)) (HasFreeText e) (λ l. HasFreeText e l → ⊥) claim.channels
+    (λ l there t. text-there e l t) (λ l there f. no-text e l se f) (λ l none h. none h)
+
+is-empty : (xs : List ℕ) → Decides (length xs == 0) (xs ≡ [])
+is-empty xs = (empty-is xs, λ e. ap (λ (ys : List ℕ). length ys == 0) e)
+
+no-texts : (x : SignalHead) → Decides ((length x.transducer == 0) && ((length x.dimension == 0) && ((length x.prefilter == 0) && (length x.reserved == 0))))
+    ((x.transducer ≡ []) × ((x.dimension ≡ []) × ((x.prefilter ≡ []) × (x.reserved ≡ []))))
+no-texts x =
+    Decides-and (length x.transducer == 0) _ (is-empty x.transducer)
+    (Decides-and (length x.dimension == 0) _ (is-empty x.dimension) (Decides-and (length x.prefilter == 0) _ (is-empty x.prefilter) (is-empty x.reserved)))
 
 blank-signal : (x : SignalHead) → is_blank_signal x ≡ true → is_annotations x.label ≡ true → HasNoTexts x
 blank-signal x h a =
-    let parts : ((length x.transducer == 0) && ((length x.dimension == 0) && ((length x.prefilter == 0) && (length x.reserved == 0)))) ≡ true =
-    ap (λ b. not b || ((length x.transducer == 0) && ((length x.dimension == 0) && ((length x.prefilter == 0) && (length x.reserved == 0))))) (sym a) ∙ h in
-    let one = and-true (length x.transducer == 0) ((length x.dimension == 0) && ((length x.prefilter == 0) && (length x.reserved == 0))) parts in
-    let two = and-true (length x.dimension == 0) ((length x.prefilter == 0) && (length x.reserved == 0)) one.1 in
-    let three = and-true (length x.prefilter == 0) (length x.reserved == 0) two.1 in
-    record { transducer = empty-is x.transducer one.0; dimension = empty-is x.dimension two.0; prefilter = empty-is x.prefilter three.0; reserved = empty-is x.reserved three.1 }
+    let t = (no-texts x).0 (ap (λ b. not b || ((length x.transducer == 0) && ((length x.dimension == 0) && ((length x.prefilter == 0) && (length x.reserved == 0))))) (sym a) ∙ h) in
+    record { transducer = t.0; dimension = (t.1).0; prefilter = ((t.1).1).0; reserved = ((t.1).1).1 }
 
 signal-blank : (x : SignalHead) → (IsTrue (is_annotations x.label) → HasNoTexts x) → is_blank_signal x ≡ true
-signal-blank x h = blank-case (is_annotations x.label) (λ t. h t)
+signal-blank x h = blank-case (is_annotations x.label) h
   where
-    length-none : (xs : List ℕ) → xs ≡ [] → (length xs == 0) ≡ true
-    length-none xs e = ap (λ (ys : List ℕ). length ys == 0) e
-
     blank-case : (b : Bool) → (IsTrue b → HasNoTexts x) → (not b || ((length x.transducer == 0) && ((length x.dimension == 0) && ((length x.prefilter == 0) && (length x.reserved == 0))))) ≡ true
     blank-case false h = refl
-    blank-case true h =
-        let n = h refl in
-        both-true (length x.transducer == 0) ((length x.dimension == 0) && ((length x.prefilter == 0) && (length x.reserved == 0))) (length-none x.transducer n.transducer)
-        (both-true (length x.dimension == 0) ((length x.prefilter == 0) && (length x.reserved == 0)) (length-none x.dimension n.dimension)
-        (both-true (length x.prefilter == 0) (length x.reserved == 0) (length-none x.prefilter n.prefilter) (length-none x.reserved n.reserved)))
+    blank-case true h = let n = h refl in (no-texts x).1 (n.transducer, (n.dimension, (n.prefilter, n.reserved)))
 
 all-blank : (xs : List SignalHead) → list_all is_blank_signal xs ≡ true → (x : SignalHead) → Has xs x → is_blank_signal x ≡ true
 all-blank [] h x there = absurd there
@@ -202,41 +198,55 @@ blank_decided h b is = (
 
 -- ---- calibrations
 
-pub line_tested : (l m : Line) (b : Bool) → IsTrue b ↔ SameLine l m → b ≡ is_same_line l m
-line_tested l m b h =
-    same_from_decides b (is_same_line l m) (h.0, h.1)
-    (Decides-and (int_eq (physical_span l *ℤ digital_span m) (physical_span m *ℤ digital_span l)) (int_eq (offset_times_span l *ℤ digital_span m) (offset_times_span m *ℤ digital_span l))
-    (Decides-int_eq (physical_span l *ℤ digital_span m) (physical_span m *ℤ digital_span l)) (Decides-int_eq (offset_times_span l *ℤ digital_span m) (offset_times_span m *ℤ digital_span l)))
-
 line-decided : (l m : Line) → Decides (is_same_line l m) (SameLine l m)
 line-decided l m =
     Decides-and (int_eq (physical_span l *ℤ digital_span m) (physical_span m *ℤ digital_span l)) (int_eq (offset_times_span l *ℤ digital_span m) (offset_times_span m *ℤ digital_span l))
     (Decides-int_eq (physical_span l *ℤ digital_span m) (physical_span m *ℤ digital_span l)) (Decides-int_eq (offset_times_span l *ℤ digital_span m) (offset_times_span m *ℤ digital_span l))
 
-pub other-calibration : (x y : SignalHead) → has_other_calibration x y ≡ true → HaveSameCalibration x y → ⊥
+pub line_tested : (l m : Line) (b : Bool) → IsTrue b ↔ SameLine l m → b ≡ is_same_line l m
+line_tested l m b h = same_from_decides b (is_same_line l m) (h.0, h.1) (line-decided l m)
+
+calibration-decided : (x y : SignalHead) → Decides (bytes_eq x.dimension y.dimension && is_same_line x.calibration y.calibration) ((x.dimension ≡ y.dimension) × SameLine x.calibration y.calibration)
+calibration-decided x y =
+    Decides-and (bytes_eq x.dimension y.dimension) (is_same_line x.calibration y.calibration) (bytes_eq-Decides x.dimension y.dimension) (line-decided x.calibration y.calibration)
+
+either-not : (a b : Bool) → (not a || not b) ≡ not (a && b)
+either-not true b = refl
+either-not false b = refl
+
+other-calibration : (x y : SignalHead) → has_other_calibration x y ≡ true → HaveSameCalibration x y → ⊥
 other-calibration x y t h =
-    let d = (bytes_eq-Decides x.dimension y.dimension).1 h.dimension in
-    let l = (line-decided x.calibration y.calibration).1 h.line in
-    let f : has_other_calibration x y ≡ false = ap (λ b. not b || not (is_same_line x.calibration y.calibration)) d ∙ ap (λ b. not true || not b) l in
-    let g : true ≡ false = sym t ∙ f in
+    let same = (calibration-decided x y).1 (h.dimension, h.line) in
+    let f : true ≡ false = sym t ∙ either-not (bytes_eq x.dimension y.dimension) (is_same_line x.calibration y.calibration) ∙ ap not same in
     cc
 
-pub same-calibration : (x y : SignalHead) → has_other_calibration x y ≡ false → HaveSameCalibration x y
+same-calibration : (x y : SignalHead) → has_other_calibration x y ≡ false → HaveSameCalibration x y
 same-calibration x y f =
-    let both = neither (bytes_eq x.dimension y.dimension) (is_same_line x.calibration y.calibration) f in
-    record { dimension = (bytes_eq-Decides x.dimension y.dimension).0 both.0; line = (line-decided x.calibration y.calibration).0 both.1 }
-  where
-    neither : (a b : Bool) → (not a || not b) ≡ false → (a ≡ true) × (b ≡ true)
-    neither true true h = (refl, refl)
-    neither true false h = absurd (let g : true ≡ false = h in cc)
-    neither false b h = absurd (let g : true ≡ false = h in cc)
+    let test = bytes_eq x.dimension y.dimension && is_same_line x.calibration y.calibration in
+    let both = (calibration-decided x y).0 (untrue test (sym (either-not (bytes_eq x.dimension y.dimension) (is_same_line x.calibration y.calibration)) ∙ f)) in
+    record { dimension = both.0; line = both.1 }
 
-pub calibrations_said : (o e : Head) (claim : Terms) (claimed : List ClaimedChannel) (labels : List (Bor (List ℕ))) (seen : List ClaimedChannel) (r : Option (Bor (List ℕ))) → IsComparison o e claim claimed labels → seen ≡ claimed
-    → option_map (λ label. label.now) r ≡ option_map (λ (c : Claimed). c.label) (find (λ (c : Claimed). of_both has_other_calibration c.original c.export) (map claimed_view seen))
-    → MatchOption r (SameCalibrations o e claim) (λ label. IsCalibrationDifference o e claim label.now)
-calibrations_said o e claim claimed labels seen r is all found =
-    claimed-said (SameCalibrations o e claim) o.signals e.signals claim.channels (map claimed_view seen) (λ (c : Claimed). of_both has_other_calibration c.original c.export) (IsFirstWith (AreUnlike HaveSameCalibration o e) claim.channels) r (ap (map claimed_view) all ∙ is.claimed_are) found
-    (first-found (λ l. of_both has_other_calibration (channel_of l o.signals) (channel_of l e.signals)) (AreUnlike HaveSameCalibration o e) (AreAlike HaveSameCalibration o e) claim.channels
+pub calibrations-found : (o e : Head) (claim : Terms) → IsSound o → IsSound e
+    → MatchOption (find (λ l. of_both has_other_calibration (channel_of l o.signals) (channel_of l e.signals)) claim.channels) (SameCalibrations o e claim) (IsFirstUnlike HaveSameCalibration o e claim)
+calibrations-found o e claim so se =
+    first-found (λ l. of_both has_other_calibration (channel_of l o.signals) (channel_of l e.signals)) (AreUnlike HaveSameCalibration o e) (AreAlike HaveSameCalibration o e) claim.channels
     (λ l there t. differ-tested HaveSameCalibration has_other_calibration o e l other-calibration t)
-    (λ l there f. alike-tested HaveSameCalibration has_other_calibration o e l is.original_sound is.export_sound same-calibration f)
-    (λ l a d. alike-differ HaveSameCalibration o e l a d))
+    (λ l there f. alike-tested HaveSameCalibration has_other_calibration o e l so se same-calibration f)
+    (λ l a d. alike-differ HaveSameCalibration o e l a d)
+
+-- ---- the first channel that breaks a rule
+
+rule-found : (rule : ChannelRule) (c : Compared) → IsSound c.original → IsSound c.export
+    → MatchOption (find (λ l. breaks rule (claimed_of c.original.signals c.export.signals l)) c.claim.channels) (Keep rule c) (IsFirstWith (Breaks rule c) c.claim.channels)
+rule-found Known c so se = absent-first c.original c.claim.channels
+rule-found Exported c so se = absent-first c.export c.claim.channels
+rule-found Calibrated c so se = calibrations-found c.original c.export c.claim so se
+rule-found Clean c so se = free-found c.export c.claim se
+
+pub rule_said : (rule : ChannelRule) (c : Compared) (claimed : List ClaimedChannel) (labels : List (Bor (List ℕ))) (seen : List ClaimedChannel) (r : Option (Bor (List ℕ))) → IsComparison c.original c.export c.claim claimed labels → seen ≡ claimed
+    → option_map (λ label. label.now) r ≡ option_map (λ (x : Claimed). x.label) (find (breaks rule) (map claimed_view seen))
+    → MatchOption r (Keep rule c) (λ label. IsFirstWith (Breaks rule c) c.claim.channels label.now)
+rule_said rule c claimed labels seen r is all found =
+    said-of (Keep rule c) (IsFirstWith (Breaks rule c) c.claim.channels) r (find (λ l. breaks rule (claimed_of c.original.signals c.export.signals l)) c.claim.channels)
+    (found ∙ ap (λ cs. option_map (λ (x : Claimed). x.label) (find (breaks rule) cs)) (ap (map claimed_view) all ∙ is.claimed_are) ∙ find-claimed c.original.signals c.export.signals (breaks rule) c.claim.channels)
+    (rule-found rule c is.original_sound is.export_sound)

@@ -20,7 +20,7 @@ use Rattle.edf_heads.specs.Subfields.{IsAsClaimed, SubfieldsAsClaimed}
 use Rattle.edf_fields.specs.SubfieldNamesReading.{all_subfields}
 use Rattle.edf_heads.specs.Texts.{HaveSameTexts}
 use Rattle.edf_verdict.specs.declared.verdict.Verdict.{Verdict}
-use Rattle.edf_verdict.specs.declared.verdict.Verdict.TheVariants.{Yes, No}
+use Rattle.edf_verdict.specs.declared.verdict.Verdict.TheVariants.{No}
 use Rattle.edf_verdict.specs.declared.verdict.Difference.TheVariants as differences
 use Rattle.edf_verdict.specs.declared.verdict.FreeText.TheVariants.{Header, Channel}
 use Rattle.edf_heads.proofs.ContentFacts.{alike-differ}
@@ -118,9 +118,6 @@ unlike-alike Alike o e claim l all first =
     alike-differ Alike o e l (all l r.0) r.1
 
 pub agree-apart : (o e : Head) (claim : Terms) (v : Verdict) → IsHeadVerdict o e claim v → HeadsAgree o e claim → ⊥
-agree-apart o e claim (Yes channels samples annotations) v h = v
-agree-apart o e claim (No (differences.OriginalFault fault)) v h = v
-agree-apart o e claim (No (differences.ExportFault fault)) v h = v
 agree-apart o e claim (No (differences.UnknownChannel label)) v h =
     let r = first-has (HasNoChannel o) claim.channels label v in
     r.1 (h.channels.in_original label r.0)
@@ -139,9 +136,7 @@ agree-apart o e claim (No (differences.NotClean Header)) v h = v.2 h.blank.heade
 agree-apart o e claim (No (differences.NotClean (Channel label))) v h =
     let r = first-has (HasFreeText e) claim.channels label v.3 in
     (r.1).2 (h.blank.channels label (r.1).0 (r.1).1)
-agree-apart o e claim (No differences.PartOrder) v h = v
-agree-apart o e claim (No (differences.Sample label at_ps mismatch)) v h = v
-agree-apart o e claim (No (differences.Annotation mismatch onset duration text)) v h = v
+agree-apart o e claim w v h = v
 
 -- none is answered exactly where the headers agree
 pub agree_or_differ : (o e : Head) (claim : Terms) (found : Option Verdict) → MatchOption found (HeadsAgree o e claim) (IsHeadVerdict o e claim) → (found ≡ None) ↔ HeadsAgree o e claim

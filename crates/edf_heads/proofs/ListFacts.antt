@@ -32,12 +32,6 @@ first-found {X} p Holds Otherwise (z ∷ xs) passed failed apart =
     later None here rest = λ x h. ⊎_elim (λ e. subst Otherwise e here) (λ i. rest x i) h
     later (Some y) here rest = inr ((λ holds. apart z here holds), rest)
 
--- where all are otherwise, there is no first of which it holds
-pub no-first : {X : Type 0} (Holds : X → Type 0) (xs : List X) (x : X) → ((y : X) → Has xs y → Holds y → ⊥) → IsFirstWith Holds xs x → ⊥
-no-first Holds [] x none h = h
-no-first Holds (y ∷ ys) x none (inl h) = none y (inl refl) h.1
-no-first Holds (y ∷ ys) x none (inr h) = no-first Holds ys x (λ z i. none z (inr i)) h.1
-
 pub first-has : {X : Type 0} (Holds : X → Type 0) (xs : List X) (x : X) → IsFirstWith Holds xs x → Has xs x × Holds x
 first-has Holds [] x h = absurd h
 first-has Holds (y ∷ ys) x (inl h) = (inl h.0, subst Holds h.0 h.1)

@@ -4,7 +4,7 @@ use Rattle.edf_claim.specs.Terms.{Terms}
 use Rattle.edf_fields.specs.declared.which.Which.{Which}
 use Rattle.edf_header.specs.Heads.{Head}
 use Rattle.edf_verdict.specs.declared.verdict.Verdict.{Verdict}
-use Rattle.edf_verdict.specs.declared.verdict.Verdict.TheVariants.{Yes, No}
+use Rattle.edf_verdict.specs.declared.verdict.Verdict.TheVariants.{No}
 use Rattle.edf_verdict.specs.declared.verdict.Difference.TheVariants as differences
 use Rattle.edf_verdict.specs.declared.verdict.FreeText.TheVariants.{Header, Channel}
 use Rattle.edf_verdict.specs.declared.verdict.TextField.{TextField}
@@ -14,9 +14,8 @@ use Rattle.edf_verdict.specs.declared.verdict.SubfieldMismatch.TheVariants.{NotX
 use Rattle.edf_heads.specs.Blank.{IsBlankHeader}
 use Rattle.edf_heads.specs.BlankDifference.{HasFreeText, IsFirstWithFreeText}
 use Rattle.edf_heads.specs.Calibrations.{SameCalibrations, HaveSameCalibration}
-use Rattle.edf_heads.specs.CalibrationDifference.{IsCalibrationDifference}
 use Rattle.edf_heads.specs.Channels.{HasAll, SameChannels}
-use Rattle.edf_heads.specs.ChannelDifferences.{HasNoChannel, IsLeastExtra, AreUnlike}
+use Rattle.edf_heads.specs.ChannelDifferences.{HasNoChannel, IsLeastExtra, AreUnlike, IsFirstUnlike}
 use Rattle.edf_heads.specs.Firsts.{IsFirstWith}
 use Rattle.edf_heads.specs.HeadVerdicts.{SignalsAgree, IsHeadVerdict}
 use Rattle.edf_heads.specs.Subfields.{IsAsClaimed, SubfieldsAsClaimed}
@@ -37,99 +36,67 @@ one-of-first Holds (z ∷ zs) x y (inl p) (inr q) = absurd (q.0 p.1)
 one-of-first Holds (z ∷ zs) x y (inr p) (inl q) = absurd (p.0 q.1)
 one-of-first Holds (z ∷ zs) x y (inr p) (inr q) = one-of-first Holds zs x y p.1 q.1
 
--- one of two kinds of verdicts, the second of which says that the first doesn't apply
-pub either-one : (A B : Verdict → Type 0) (P : Type 0) → ((v w : Verdict) → A v → A w → v ≡ w) → ((v : Verdict) → A v → P → ⊥) → ((v w : Verdict) → B v → B w → v ≡ w)
-    → (v w : Verdict) → A v ⊎ (P × B v) → A w ⊎ (P × B w) → v ≡ w
-either-one A B P a apart b v w (inl x) (inl y) = a v w x y
-either-one A B P a apart b v w (inl x) (inr y) = absurd (apart v x y.0)
-either-one A B P a apart b v w (inr x) (inl y) = absurd (apart w y x.0)
-either-one A B P a apart b v w (inr x) (inr y) = b v w x.1 y.1
+-- ---- kinds of values, one behind the other
 
--- the kinds, and what each behind a kind says of it
-abbrev IsUnknown : Head → Head → Terms → Verdict → Type 0
-IsUnknown o e c v = (l : List ℕ) × (v ≡ No (differences.UnknownChannel l)) × IsFirstWith (HasNoChannel o) c.channels l
+-- there is one value of a kind at most
+abbrev pub One : {X : Type 0} → (X → Type 0) → Type 0
+One {X} A = (x y : X) → A x → A y → x ≡ y
 
-abbrev IsMissing : Head → Head → Terms → Verdict → Type 0
-IsMissing o e c v = (l : List ℕ) × (v ≡ No (differences.MissingChannel l)) × IsFirstWith (HasNoChannel e) c.channels l
+-- the value is made of something of which this holds
+abbrev pub Made : {X Y : Type 0} → (Y → X) → (Y → Type 0) → X → Type 0
+Made {X} {Y} make P x = (y : Y) × (x ≡ make y) × P y
 
-abbrev IsOther : Head → Head → Terms → Verdict → Type 0
-IsOther o e c v = (l : List ℕ) × (v ≡ No (differences.ExtraChannel l)) × IsLeastExtra e c.channels l
+-- it is of the first kind, or that kind doesn't apply and it is of those behind
+abbrev pub Else : {X : Type 0} → (X → Type 0) → Type 0 → (X → Type 0) → X → Type 0
+Else A P B x = A x ⊎ (P × B x)
 
-abbrev IsOfText : Head → Head → Terms → Verdict → Type 0
-IsOfText o e c v = (l : List ℕ) × (field : TextField) × (v ≡ No (differences.ChannelText l field)) × IsTextDifference o e c l field
+pub one-made : {X Y : Type 0} {make : Y → X} {P : Y → Type 0} → ((y z : Y) → P y → P z → y ≡ z) → One (Made make P)
+one-made {make = make} one x w (y, e, p) (z, f, q) = e ∙ ap make (one y z p q) ∙ sym f
 
-abbrev IsOfCalibration : Head → Head → Terms → Verdict → Type 0
-IsOfCalibration o e c v = (l : List ℕ) × (v ≡ No (differences.Calibration l)) × IsCalibrationDifference o e c l
+pub either-one : {X : Type 0} {A B : X → Type 0} {P : Type 0} → One A → ((x : X) → A x → P → ⊥) → (P → One B) → One (Else A P B)
+either-one a apart b x y (inl p) (inl q) = a x y p q
+either-one a apart b x y (inl p) (inr q) = absurd (apart x p q.0)
+either-one a apart b x y (inr p) (inl q) = absurd (apart y q p.0)
+either-one a apart b x y (inr p) (inr q) = b p.0 x y p.1 q.1
 
-abbrev IsOfSubfield : Head → Head → Terms → Verdict → Type 0
-IsOfSubfield o e c v = (which : Which) × (mismatch : SubfieldMismatch) × (v ≡ No (differences.Subfield which mismatch)) × IsSubfieldDifference o e c which mismatch
-
-abbrev IsOfHeader : Head → Head → Terms → Verdict → Type 0
-IsOfHeader o e c v = (v ≡ No (differences.NotClean Header)) × (IsBlankHeader e → ⊥)
-
-abbrev IsOfChannel : Head → Head → Terms → Verdict → Type 0
-IsOfChannel o e c v = (l : List ℕ) × (v ≡ No (differences.NotClean (Channel l))) × IsFirstWithFreeText e c l
-
--- from each kind on
-abbrev FromHeader : Head → Head → Terms → Verdict → Type 0
-FromHeader o e c v = IsOfHeader o e c v ⊎ (IsBlankHeader e × IsOfChannel o e c v)
+-- ---- the kinds of differences of two headers
 
 abbrev FromSubfield : Head → Head → Terms → Verdict → Type 0
-FromSubfield o e c v = IsOfSubfield o e c v ⊎ (SubfieldsAsClaimed o e c × FromHeader o e c v)
-
-abbrev FromCalibration : Head → Head → Terms → Verdict → Type 0
-FromCalibration o e c v = IsOfCalibration o e c v ⊎ (SameCalibrations o e c × FromSubfield o e c v)
+FromSubfield o e c =
+    Else (Made (λ (d : Which × SubfieldMismatch). No (differences.Subfield d.0 d.1)) (λ d. IsSubfieldDifference o e c d.0 d.1)) (SubfieldsAsClaimed o e c)
+    (Else (Made (λ (u : Unit {0}). No (differences.NotClean Header)) (λ u. IsBlankHeader e → ⊥)) (IsBlankHeader e)
+    (Made (λ l. No (differences.NotClean (Channel l))) (IsFirstWithFreeText e c)))
 
 abbrev FromText : Head → Head → Terms → Verdict → Type 0
-FromText o e c v = IsOfText o e c v ⊎ (SameTexts o e c × FromCalibration o e c v)
-
-abbrev FromOther : Head → Head → Terms → Verdict → Type 0
-FromOther o e c v = IsOther o e c v ⊎ (SameChannels o e c × FromText o e c v)
-
-abbrev FromMissing : Head → Head → Terms → Verdict → Type 0
-FromMissing o e c v = IsMissing o e c v ⊎ (HasAll e c.channels × FromOther o e c v)
+FromText o e c =
+    Else (Made (λ (d : List ℕ × TextField). No (differences.ChannelText d.0 d.1)) (λ d. IsTextDifference o e c d.0 d.1)) (SameTexts o e c)
+    (Else (Made (λ l. No (differences.Calibration l)) (IsFirstUnlike HaveSameCalibration o e c)) (SameCalibrations o e c) (FromSubfield o e c))
 
 abbrev FromUnknown : Head → Head → Terms → Verdict → Type 0
-FromUnknown o e c v = IsUnknown o e c v ⊎ (HasAll o c.channels × FromMissing o e c v)
+FromUnknown o e c =
+    Else (Made (λ l. No (differences.UnknownChannel l)) (IsFirstWith (HasNoChannel o) c.channels)) (HasAll o c.channels)
+    (Else (Made (λ l. No (differences.MissingChannel l)) (IsFirstWith (HasNoChannel e) c.channels)) (HasAll e c.channels)
+    (Else (Made (λ l. No (differences.ExtraChannel l)) (IsLeastExtra e c.channels)) (SameChannels o e c) (FromText o e c)))
 
 -- each verdict is of its kind, and those before it don't apply
-has-all : (o e : Head) (c : Terms) → SameChannels o e c → HasAll o c.channels × HasAll e c.channels
-has-all o e c same = (same.in_original, in-export o e c same)
-
 from-text : (o e : Head) (c : Terms) (v : Verdict) → SameChannels o e c → FromText o e c v → FromUnknown o e c v
-from-text o e c v same kind = let all = has-all o e c same in inr (all.0, inr (all.1, inr (same, kind)))
+from-text o e c v same kind = inr (same.in_original, inr (in-export o e c same, inr (same, kind)))
 
 from-subfield : (o e : Head) (c : Terms) (v : Verdict) → SignalsAgree o e c → FromSubfield o e c v → FromUnknown o e c v
 from-subfield o e c v agree kind = from-text o e c v agree.channels (inr (agree.texts, inr (agree.calibrations, kind)))
 
 kind-of : (o e : Head) (c : Terms) (v : Verdict) → IsHeadVerdict o e c v → FromUnknown o e c v
-kind-of o e c (Yes channels samples annotations) h = absurd h
-kind-of o e c (No (differences.OriginalFault fault)) h = absurd h
-kind-of o e c (No (differences.ExportFault fault)) h = absurd h
 kind-of o e c (No (differences.UnknownChannel l)) h = inl (l, refl, h)
 kind-of o e c (No (differences.MissingChannel l)) h = inr (h.0, inl (l, refl, h.1))
 kind-of o e c (No (differences.ExtraChannel l)) h = inr (h.0, inr (h.1, inl (l, refl, h.2)))
-kind-of o e c (No (differences.ChannelText l field)) h = from-text o e c _ h.0 (inl (l, field, refl, h.1))
+kind-of o e c (No (differences.ChannelText l field)) h = from-text o e c _ h.0 (inl ((l, field), refl, h.1))
 kind-of o e c (No (differences.Calibration l)) h = from-text o e c _ h.0 (inr (h.1, inl (l, refl, h.2)))
-kind-of o e c (No (differences.Subfield which mismatch)) h = from-subfield o e c _ h.0 (inl (which, mismatch, refl, h.1))
-kind-of o e c (No (differences.NotClean Header)) h = from-subfield o e c _ h.0 (inr (h.1, inl (refl, h.2)))
+kind-of o e c (No (differences.Subfield which mismatch)) h = from-subfield o e c _ h.0 (inl ((which, mismatch), refl, h.1))
+kind-of o e c (No (differences.NotClean Header)) h = from-subfield o e c _ h.0 (inr (h.1, inl (tt, refl, h.2)))
 kind-of o e c (No (differences.NotClean (Channel l))) h = from-subfield o e c _ h.0 (inr (h.1, inr (h.2, (l, refl, h.3))))
-kind-of o e c (No differences.PartOrder) h = absurd h
-kind-of o e c (No (differences.Sample l at_ps mismatch)) h = absurd h
-kind-of o e c (No (differences.Annotation mismatch onset duration text)) h = absurd h
+kind-of o e c v h = absurd h
 
--- of each kind there is one
-one-unknown : (o e : Head) (c : Terms) (v w : Verdict) → IsUnknown o e c v → IsUnknown o e c w → v ≡ w
-one-unknown o e c v w x y = x.1 ∙ ap (λ l. No (differences.UnknownChannel l)) (one-of-first (HasNoChannel o) c.channels x.0 y.0 x.2 y.2) ∙ sym y.1
-
-one-missing : (o e : Head) (c : Terms) (v w : Verdict) → IsMissing o e c v → IsMissing o e c w → v ≡ w
-one-missing o e c v w x y = x.1 ∙ ap (λ l. No (differences.MissingChannel l)) (one-of-first (HasNoChannel e) c.channels x.0 y.0 x.2 y.2) ∙ sym y.1
-
-one-other : (o e : Head) (c : Terms) (v w : Verdict) → IsOther o e c v → IsOther o e c w → v ≡ w
-one-other o e c v w x y =
-    let a = x.2 in
-    let b = y.2 in
-    x.1 ∙ ap (λ l. No (differences.ExtraChannel l)) (one-label x.0 y.0 (a.least y.0 b.extra) (b.least x.0 a.extra)) ∙ sym y.1
+-- ---- of each kind there is one
 
 -- of the texts of a label one is the first that differs
 one-field : (o e : Head) (l : List ℕ) (p q : TextField) → IsFirstText o e l p → IsFirstText o e l q → p ≡ q
@@ -138,16 +105,11 @@ one-field o e l Transducer Prefilter h i = absurd (alike-differ (HaveSameText Tr
 one-field o e l Prefilter Transducer h i = absurd (alike-differ (HaveSameText Transducer) o e l h.0 i)
 one-field o e l Prefilter Prefilter h i = refl
 
-one-text : (o e : Head) (c : Terms) (v w : Verdict) → IsOfText o e c v → IsOfText o e c w → v ≡ w
-one-text o e c v w x y =
-    let a = x.3 in
-    let b = y.3 in
-    let label : x.0 ≡ y.0 = one-of-first (AreUnlike HaveSameTexts o e) c.channels x.0 y.0 a.channel b.channel in
-    let field : x.1 ≡ y.1 = one-field o e y.0 x.1 y.1 (subst (λ l. IsFirstText o e l x.1) label a.text) b.text in
-    x.2 ∙ ap (λ l. No (differences.ChannelText l x.1)) label ∙ ap (λ f. No (differences.ChannelText y.0 f)) field ∙ sym y.2
-
-one-calibration : (o e : Head) (c : Terms) (v w : Verdict) → IsOfCalibration o e c v → IsOfCalibration o e c w → v ≡ w
-one-calibration o e c v w x y = x.1 ∙ ap (λ l. No (differences.Calibration l)) (one-of-first (AreUnlike HaveSameCalibration o e) c.channels x.0 y.0 x.2 y.2) ∙ sym y.1
+one-text : (o e : Head) (c : Terms) (d f : List ℕ × TextField) → IsTextDifference o e c d.0 d.1 → IsTextDifference o e c f.0 f.1 → d ≡ f
+one-text o e c (l, p) (m, q) a b =
+    let label : l ≡ m = one-of-first (AreUnlike HaveSameTexts o e) c.channels l m a.channel b.channel in
+    let field : p ≡ q = one-field o e m p q (subst (λ k. IsFirstText o e k p) label a.text) b.text in
+    cc
 
 one-side : (c : Terms) (which : Which) (p q : SubfieldMismatch) → IsMismatch c which p → IsMismatch c which q → p ≡ q
 one-side c which NotX NotX h i = refl
@@ -155,32 +117,31 @@ one-side c which NotX Changed h i = absurd (i h)
 one-side c which Changed NotX h i = absurd (h i)
 one-side c which Changed Changed h i = refl
 
-one-subfield : (o e : Head) (c : Terms) (v w : Verdict) → IsOfSubfield o e c v → IsOfSubfield o e c w → v ≡ w
-one-subfield o e c v w x y =
-    let a = x.3 in
-    let b = y.3 in
-    let which : x.0 ≡ y.0 = one-of-first (λ w. IsAsClaimed o e c w → ⊥) all_subfields x.0 y.0 a.subfield b.subfield in
-    let side : x.1 ≡ y.1 = one-side c y.0 x.1 y.1 (subst (λ w. IsMismatch c w x.1) which a.mismatch_is) b.mismatch_is in
-    x.2 ∙ ap (λ w. No (differences.Subfield w x.1)) which ∙ ap (λ m. No (differences.Subfield y.0 m)) side ∙ sym y.2
-
-one-header : (o e : Head) (c : Terms) (v w : Verdict) → IsOfHeader o e c v → IsOfHeader o e c w → v ≡ w
-one-header o e c v w x y = x.0 ∙ sym y.0
-
-one-channel-text : (o e : Head) (c : Terms) (v w : Verdict) → IsOfChannel o e c v → IsOfChannel o e c w → v ≡ w
-one-channel-text o e c v w x y = x.1 ∙ ap (λ l. No (differences.NotClean (Channel l))) (one-of-first (HasFreeText e) c.channels x.0 y.0 x.2 y.2) ∙ sym y.1
+one-subfield : (o e : Head) (c : Terms) (d f : Which × SubfieldMismatch) → IsSubfieldDifference o e c d.0 d.1 → IsSubfieldDifference o e c f.0 f.1 → d ≡ f
+one-subfield o e c (v, p) (w, q) a b =
+    let which : v ≡ w = one-of-first (λ u. IsAsClaimed o e c u → ⊥) all_subfields v w a.subfield b.subfield in
+    let side : p ≡ q = one-side c w p q (subst (λ u. IsMismatch c u p) which a.mismatch_is) b.mismatch_is in
+    cc
 
 -- a first one doesn't apply where all have what it lacks
 first-apart : (h : Head) (labels : List (List ℕ)) (l : List ℕ) → IsFirstWith (HasNoChannel h) labels l → HasAll h labels → ⊥
 first-apart h labels l first all = let r = first-has (HasNoChannel h) labels l first in r.1 (all l r.0)
 
+one-from-text : (o e : Head) (c : Terms) → One (FromText o e c)
+one-from-text o e c =
+    either-one (one-made (one-text o e c)) (λ v x all. unlike-alike HaveSameTexts o e c (x.0).0 all (x.2).channel)
+    (λ texts. either-one (one-made (one-of-first (AreUnlike HaveSameCalibration o e) c.channels)) (λ v x all. unlike-alike HaveSameCalibration o e c x.0 all x.2)
+    (λ calibrations. either-one (one-made (one-subfield o e c)) (λ v x all. let r = first-has (λ w. IsAsClaimed o e c w → ⊥) all_subfields (x.0).0 (x.2).subfield in r.1 (all (x.0).0))
+    (λ subfields. either-one (one-made (λ u v p q. refl)) (λ v x. x.2)
+    (λ blank. one-made (one-of-first (HasFreeText e) c.channels)))))
+
+one-from-unknown : (o e : Head) (c : Terms) → One (FromUnknown o e c)
+one-from-unknown o e c =
+    either-one (one-made (one-of-first (HasNoChannel o) c.channels)) (λ v x. first-apart o c.channels x.0 x.2)
+    (λ there. either-one (one-made (one-of-first (HasNoChannel e) c.channels)) (λ v x. first-apart e c.channels x.0 x.2)
+    (λ here. either-one (one-made (λ l m a b. one-label l m (a.least m b.extra) (b.least l a.extra)))
+    (λ v x same. let a = (x.2).extra in a.unclaimed (claimed-in o e c same x.0 a.there))
+    (λ same. one-from-text o e c)))
+
 pub one_head_verdict : (o e : Head) (c : Terms) (v w : Verdict) → IsHeadVerdict o e c v → IsHeadVerdict o e c w → v ≡ w
-one_head_verdict o e c v w p q =
-    either-one (IsUnknown o e c) (FromMissing o e c) (HasAll o c.channels) (one-unknown o e c) (λ v x. first-apart o c.channels x.0 x.2)
-    (either-one (IsMissing o e c) (FromOther o e c) (HasAll e c.channels) (one-missing o e c) (λ v x. first-apart e c.channels x.0 x.2)
-    (either-one (IsOther o e c) (FromText o e c) (SameChannels o e c) (one-other o e c) (λ v x same. let a = (x.2).extra in a.unclaimed (claimed-in o e c same x.0 a.there))
-    (either-one (IsOfText o e c) (FromCalibration o e c) (SameTexts o e c) (one-text o e c) (λ v x all. let a = x.3 in unlike-alike HaveSameTexts o e c x.0 all a.channel)
-    (either-one (IsOfCalibration o e c) (FromSubfield o e c) (SameCalibrations o e c) (one-calibration o e c) (λ v x all. unlike-alike HaveSameCalibration o e c x.0 all x.2)
-    (either-one (IsOfSubfield o e c) (FromHeader o e c) (SubfieldsAsClaimed o e c) (one-subfield o e c)
-    (λ v x all. let a = x.3 in let r = first-has (λ w. IsAsClaimed o e c w → ⊥) all_subfields x.0 a.subfield in r.1 (all x.0))
-    (either-one (IsOfHeader o e c) (IsOfChannel o e c) (IsBlankHeader e) (one-header o e c) (λ v x. x.1) (one-channel-text o e c)))))))
-    v w (kind-of o e c v p) (kind-of o e c w q)
+one_head_verdict o e c v w p q = one-from-unknown o e c v w (kind-of o e c v p) (kind-of o e c w q)

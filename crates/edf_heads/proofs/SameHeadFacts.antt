@@ -1,11 +1,11 @@
 -- Headers that say the same agree, or differ first, in the same way under every claim.
-use Rattle.std.proofs.Common.{◌≡◌, ◌↔◌, ℕ, List, [], ◌∷◌, inl, inr, ⊎_elim, refl, sym, ap, ◌∙◌, subst}
+use Rattle.std.proofs.Common.{◌≡◌, ◌↔◌, ℕ, List, [], ◌∷◌, inl, inr, ⊎_elim, refl, sym, ◌∙◌, subst}
 use Rattle.std.specs.List.{All}
 use Rattle.std.proofs.lemmas.List.Elements.{All-head, All-tail}
 use Rattle.std.proofs.lemmas.List.Sorted.{IsPermutation-refl, IsPermutation-sym, IsPermutation-trans}
 use Rattle.edf_claim.specs.Terms.{Terms}
 use Rattle.edf_fields.specs.declared.which.Which.{Which}
-use Rattle.edf_fields.specs.declared.which.Which.TheVariants.{Code, Sex, Birthdate, Name, PatientExtras, Date, Administration, Technician, Equipment, RecordingExtras}
+use Rattle.edf_fields.specs.declared.which.Which.TheVariants.{PatientExtras, Date, RecordingExtras}
 use Rattle.edf_fields.specs.Identifications.{Patient, Recording}
 use Rattle.edf_fields.specs.Lists.{Has}
 use Rattle.edf_fields.specs.SubfieldNamesReading.{all_subfields}
@@ -17,7 +17,7 @@ use Rattle.edf_header.specs.Sound.{IsSound}
 use Rattle.edf_header.specs.Standard.{IsSoundSignal}
 use Rattle.edf_header.proofs.ForCallers.{same_line_is_equivalence}
 use Rattle.edf_verdict.specs.declared.verdict.Verdict.{Verdict}
-use Rattle.edf_verdict.specs.declared.verdict.Verdict.TheVariants.{Yes, No}
+use Rattle.edf_verdict.specs.declared.verdict.Verdict.TheVariants.{No}
 use Rattle.edf_verdict.specs.declared.verdict.Difference.TheVariants as differences
 use Rattle.edf_verdict.specs.declared.verdict.FreeText.TheVariants.{Header, Channel}
 use Rattle.edf_verdict.specs.declared.verdict.TextField.{TextField}
@@ -176,11 +176,9 @@ same-channels-carried o e o' e' s c h = record {
   in_export = IsPermutation-trans c.channels (channel_labels e.signals) (channel_labels e'.signals) h.in_export s.export.channels;
 }
 
-nowhere-carried : (h g : Head) → AreSameHeads h g → (l : List ℕ) → HasNoChannel h l → HasNoChannel g l
-nowhere-carried h g s l none c = none (there g h (same-heads-back h g s) l c)
-
 first-nowhere-carried : (h g : Head) → AreSameHeads h g → (ls : List (List ℕ)) (l : List ℕ) → IsFirstWith (HasNoChannel h) ls l → IsFirstWith (HasNoChannel g) ls l
-first-nowhere-carried h g s ls l first = first-carried (HasNoChannel h) (HasNoChannel g) (nowhere-carried h g s) (nowhere-carried g h (same-heads-back h g s)) ls l first
+first-nowhere-carried h g s ls l first =
+    first-carried (HasNoChannel h) (HasNoChannel g) (λ m none c. none (there g h (same-heads-back h g s) m c)) (λ m none c. none (there h g s m c)) ls l first
 
 extra-carried : (h g : Head) → AreSameHeads h g → (ls : List (List ℕ)) (l : List ℕ) → IsExtra h ls l → IsExtra g ls l
 extra-carried h g s ls l x = record { there = there h g s l x.there; unclaimed = x.unclaimed }
@@ -198,31 +196,17 @@ x-carried : (r s : Recording) → AreSameRecordings r s → IsX r.date → IsX s
 x-carried r s h x = ⊎_elim (λ e. sym e ∙ x) (λ n. absurd (n.0 x)) h.date
 
 anonymous-carried : (e e' : Head) → AreSameHeads e e' → (w : Which) → IsAnonymous e w → IsAnonymous e' w
-anonymous-carried e e' s Code h = subst (λ (p : Patient). IsX p.code) s.patient h
-anonymous-carried e e' s Sex h = subst (λ (p : Patient). IsX p.sex) s.patient h
-anonymous-carried e e' s Birthdate h = subst (λ (p : Patient). IsX p.birthdate) s.patient h
-anonymous-carried e e' s Name h = subst (λ (p : Patient). IsX p.name) s.patient h
-anonymous-carried e e' s PatientExtras h = subst (λ (p : Patient). AreAllX p.extras) s.patient h
 anonymous-carried e e' s Date h = x-carried e.recording e'.recording s.recording h
-anonymous-carried e e' s Administration h = subst IsX s.recording.admin h
-anonymous-carried e e' s Technician h = subst IsX s.recording.technician h
-anonymous-carried e e' s Equipment h = subst IsX s.recording.equipment h
+anonymous-carried e e' s PatientExtras h = subst (λ (p : Patient). AreAllX p.extras) s.patient h
 anonymous-carried e e' s RecordingExtras h = subst AreAllX s.recording.extras h
+anonymous-carried e e' s w h = cc
 
 unchanged-carried : (o e o' e' : Head) → AreSameHeads o o' → AreSameHeads e e' → (w : Which) → IsUnchanged o e w → IsUnchanged o' e' w
-unchanged-carried o e o' e' s r Code h = sym (ap (λ (p : Patient). p.code) r.patient) ∙ h ∙ ap (λ (p : Patient). p.code) s.patient
-unchanged-carried o e o' e' s r Sex h = sym (ap (λ (p : Patient). p.sex) r.patient) ∙ h ∙ ap (λ (p : Patient). p.sex) s.patient
-unchanged-carried o e o' e' s r Birthdate h = sym (ap (λ (p : Patient). p.birthdate) r.patient) ∙ h ∙ ap (λ (p : Patient). p.birthdate) s.patient
-unchanged-carried o e o' e' s r Name h = sym (ap (λ (p : Patient). p.name) r.patient) ∙ h ∙ ap (λ (p : Patient). p.name) s.patient
-unchanged-carried o e o' e' s r PatientExtras h = sym (ap (λ (p : Patient). p.extras) r.patient) ∙ h ∙ ap (λ (p : Patient). p.extras) s.patient
 unchanged-carried o e o' e' s r Date h = (
   λ x. x-carried o.recording o'.recording s.recording (h.0 (x-carried e'.recording e.recording (recordings-back e.recording e'.recording r.recording) x)),
   λ x. x-carried e.recording e'.recording r.recording (h.1 (x-carried o'.recording o.recording (recordings-back o.recording o'.recording s.recording) x)),
 )
-unchanged-carried o e o' e' s r Administration h = sym r.recording.admin ∙ h ∙ s.recording.admin
-unchanged-carried o e o' e' s r Technician h = sym r.recording.technician ∙ h ∙ s.recording.technician
-unchanged-carried o e o' e' s r Equipment h = sym r.recording.equipment ∙ h ∙ s.recording.equipment
-unchanged-carried o e o' e' s r RecordingExtras h = sym r.recording.extras ∙ h ∙ s.recording.extras
+unchanged-carried o e o' e' s r w h = cc
 
 claimed-carried : (o e o' e' : Head) → AreSamePairs o e o' e' → (c : Terms) (w : Which) → IsAsClaimed o e c w → IsAsClaimed o' e' c w
 claimed-carried o e o' e' s c w h =
@@ -262,9 +246,6 @@ text-first-carried o e o' e' s l Prefilter h = (
 )
 
 pub head_verdict_carried : (o e o' e' : Head) → AreSamePairs o e o' e' → AreBlankAlike e e' → (c : Terms) (v : Verdict) → IsHeadVerdict o e c v → IsHeadVerdict o' e' c v
-head_verdict_carried o e o' e' s b c (Yes channels samples annotations) h = h
-head_verdict_carried o e o' e' s b c (No (differences.OriginalFault fault)) h = h
-head_verdict_carried o e o' e' s b c (No (differences.ExportFault fault)) h = h
 head_verdict_carried o e o' e' s b c (No (differences.UnknownChannel l)) h = first-nowhere-carried o o' s.original c.channels l h
 head_verdict_carried o e o' e' s b c (No (differences.MissingChannel l)) h = (all-there o o' s.original c.channels h.0, first-nowhere-carried e e' s.export c.channels l h.1)
 head_verdict_carried o e o' e' s b c (No (differences.ExtraChannel l)) h = (
@@ -306,6 +287,4 @@ head_verdict_carried o e o' e' s b c (No (differences.NotClean (Channel l))) h =
   b.header.0 h.2,
   first-carried (HasFreeText e) (HasFreeText e') (free-carried e e' s.export b) (free-carried e' e (same-heads-back e e' s.export) (blank-alike-back e e' b)) c.channels l h.3,
 )
-head_verdict_carried o e o' e' s b c (No differences.PartOrder) h = h
-head_verdict_carried o e o' e' s b c (No (differences.Sample l at_ps mismatch)) h = h
-head_verdict_carried o e o' e' s b c (No (differences.Annotation mismatch onset duration text)) h = h
+head_verdict_carried o e o' e' s b c v h = absurd h

@@ -56,27 +56,11 @@ same_tested b ts us e = (λ h. same-is ts us (sym e ∙ h), λ h. e ∙ subst (�
 -- it is `X` where it is claimed anonymous, and else the original's
 pub to-claimed : (o e : Head) (claim : Terms) (w : Which) → ByClaim claim w (IsAnonymous e w) (IsUnchanged o e w) → IsAsClaimed o e claim w
 to-claimed o e claim Code h = h
-to-claimed o e claim Sex h = h
-to-claimed o e claim Birthdate h = h
-to-claimed o e claim Name h = h
-to-claimed o e claim PatientExtras h = h
-to-claimed o e claim Date h = h
-to-claimed o e claim Administration h = h
-to-claimed o e claim Technician h = h
-to-claimed o e claim Equipment h = h
-to-claimed o e claim RecordingExtras h = h
+to-claimed o e claim w h = h
 
 pub of-claimed : (o e : Head) (claim : Terms) (w : Which) → IsAsClaimed o e claim w → ByClaim claim w (IsAnonymous e w) (IsUnchanged o e w)
 of-claimed o e claim Code h = h
-of-claimed o e claim Sex h = h
-of-claimed o e claim Birthdate h = h
-of-claimed o e claim Name h = h
-of-claimed o e claim PatientExtras h = h
-of-claimed o e claim Date h = h
-of-claimed o e claim Administration h = h
-of-claimed o e claim Technician h = h
-of-claimed o e claim Equipment h = h
-of-claimed o e claim RecordingExtras h = h
+of-claimed o e claim w h = h
 
 pub claimed_anonymous : (o e : Head) (claim : Terms) (w : Which) → Has claim.anonymous w → IsAnonymous e w → IsAsClaimed o e claim w
 claimed_anonymous o e claim w there h = to-claimed o e claim w (record { claimed = λ i. h; unclaimed = λ out. absurd (out there) })

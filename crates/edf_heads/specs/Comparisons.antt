@@ -1,5 +1,5 @@
 -- What a comparison of two headers holds: the channels of each claimed label, found once. These are steps between the definitions and the code.
-use Rattle.std.specs.Prelude.{◌≡◌, ◌↔◌, ℕ, ◌==◌, Bool, true, false, not, ◌&&◌, ◌||◌, List, [], ◌∷◌, length, map, find, Option, None, Some, option_map, MatchOption, ◌*ℤ◌, codes, if◌then◌else◌}
+use Rattle.std.specs.Prelude.{◌≡◌, ◌↔◌, ℕ, ◌==◌, Bool, true, false, not, ◌&&◌, ◌||◌, List, [], ◌∷◌, length, map, find, Option, None, Some, option_map, is_none, MatchOption, ◌*ℤ◌, codes, if◌then◌else◌}
 use Rattle.std.specs.Borrow.{Bor}
 use Rattle.std.specs.Cmp.Lexicographic.{slice_cmp}
 use Rattle.std.specs.List.Sorted.{IsSorted, IsPermutation}
@@ -17,12 +17,15 @@ use Rattle.edf_claim.specs.Terms.{Terms}
 use Rattle.edf_fields.specs.declared.which.Which.{Which}
 use Rattle.edf_fields.specs.declared.which.Which.TheVariants.{Code, Sex, Birthdate, Name, PatientExtras, Date, Administration, Technician, Equipment, RecordingExtras}
 use Rattle.edf_heads.specs.BlankDifference.{HasFreeText}
+use Rattle.edf_heads.specs.Calibrations.{HaveSameCalibration, SameCalibrations}
 use Rattle.edf_heads.specs.Channels.{HasAll}
-use Rattle.edf_heads.specs.ChannelDifferences.{IsExtra}
+use Rattle.edf_heads.specs.ChannelDifferences.{HasNoChannel, IsExtra, AreUnlike}
 use Rattle.edf_heads.specs.Firsts.{IsFirstWith}
 use Rattle.edf_heads.specs.Subfields.{IsX, AreAllX, IsAsClaimed}
 use Rattle.edf_heads.specs.SubfieldDifference.{IsMismatch}
 use Rattle.edf_heads.specs.declared.channels.ClaimedChannel.{ClaimedChannel}
+use Rattle.edf_heads.specs.declared.rules.ChannelRule.{ChannelRule}
+use Rattle.edf_heads.specs.declared.rules.ChannelRule.TheVariants.{Known, Exported, Calibrated, Clean}
 use Rattle.edf_heads.specs.declared.subfields.SubfieldDifference.{SubfieldDifference}
 use Rattle.edf_verdict.specs.declared.verdict.TextField.{TextField}
 use Rattle.edf_verdict.specs.declared.verdict.TextField.TheVariants.{Transducer, Prefilter}
@@ -113,6 +116,27 @@ has_text (Some x) = not (length x.reserved == 0)
 -- no claimed channel has free text in the export
 abbrev pub HasNoFreeText : Head → Terms → Type 0
 HasNoFreeText export claim = (label : List ℕ) → Has claim.channels label → HasFreeText export label → ⊥
+
+-- the channel breaks the rule
+abbrev pub breaks : ChannelRule → Claimed → Bool
+breaks Known c = is_none c.original
+breaks Exported c = is_none c.export
+breaks Calibrated c = of_both has_other_calibration c.original c.export
+breaks Clean c = has_text c.export
+
+-- the headers break the rule at this label
+abbrev pub Breaks : ChannelRule → Compared → List ℕ → Type 0
+Breaks Known c label = HasNoChannel c.original label
+Breaks Exported c label = HasNoChannel c.export label
+Breaks Calibrated c label = AreUnlike HaveSameCalibration c.original c.export label
+Breaks Clean c label = HasFreeText c.export label
+
+-- they keep it at each label of the claim
+abbrev pub Keep : ChannelRule → Compared → Type 0
+Keep Known c = HasAll c.original c.claim.channels
+Keep Exported c = HasAll c.export c.claim.channels
+Keep Calibrated c = SameCalibrations c.original c.export c.claim
+Keep Clean c = HasNoFreeText c.export c.claim
 
 -- the signal is a channel, or has no text but its label
 abbrev pub is_blank_signal : SignalHead → Bool

@@ -1,35 +1,25 @@
 -- A difference of two headers as the code holds it, with a borrowed label: a step between the definitions and the code.
 use Rattle.edf_header.specs.Heads.{Head}
 use Rattle.edf_claim.specs.Terms.{Terms}
-use Rattle.edf_heads.specs.Blank.{IsBlankHeader}
-use Rattle.edf_heads.specs.BlankDifference.{IsFirstWithFreeText}
-use Rattle.edf_heads.specs.CalibrationDifference.{IsCalibrationDifference}
-use Rattle.edf_heads.specs.Channels.{HasAll, SameChannels}
-use Rattle.edf_heads.specs.ChannelDifferences.{HasNoChannel, IsLeastExtra}
-use Rattle.edf_heads.specs.Firsts.{IsFirstWith}
-use Rattle.edf_heads.specs.HeadVerdicts.{SignalsAgree}
-use Rattle.edf_heads.specs.Subfields.{SubfieldsAsClaimed}
-use Rattle.edf_heads.specs.SubfieldDifference.{IsSubfieldDifference}
-use Rattle.edf_heads.specs.Texts.{SameTexts}
-use Rattle.edf_heads.specs.TextDifference.{IsTextDifference}
+use Rattle.edf_heads.specs.HeadVerdicts.{IsHeadVerdict}
 use Rattle.edf_heads.specs.declared.head_difference.HeadDifference.{HeadDifference}
-use Rattle.edf_heads.specs.declared.head_difference.HeadDifference.TheVariants.{UnknownChannel, MissingChannel, ExtraChannel, ChannelText, Calibration, Subfield, FreeTextInHeader, FreeTextInChannel}
+use Rattle.edf_heads.specs.declared.head_difference.HeadDifference.TheVariants as heads
+use Rattle.edf_verdict.specs.declared.verdict.Difference.{Difference}
+use Rattle.edf_verdict.specs.declared.verdict.Difference.TheVariants.{UnknownChannel, MissingChannel, ExtraChannel, ChannelText, Calibration, Subfield, NotClean}
+use Rattle.edf_verdict.specs.declared.verdict.FreeText.TheVariants.{Header, Channel}
+use Rattle.edf_verdict.specs.declared.verdict.Verdict.TheVariants.{No}
 
--- the difference is the first of the headers: `IsHeadVerdict` of the verdict that it becomes
+-- the difference that it is
+abbrev pub difference_of : HeadDifference → Difference
+difference_of (heads.UnknownChannel label) = UnknownChannel label.now
+difference_of (heads.MissingChannel label) = MissingChannel label.now
+difference_of (heads.ExtraChannel label) = ExtraChannel label.now
+difference_of (heads.ChannelText label field) = ChannelText label.now field
+difference_of (heads.Calibration label) = Calibration label.now
+difference_of (heads.Subfield which mismatch) = Subfield which mismatch
+difference_of heads.FreeTextInHeader = NotClean Header
+difference_of (heads.FreeTextInChannel label) = NotClean (Channel label.now)
+
+-- it is the first difference of the headers
 abbrev pub IsHeadDifference : Head → Head → Terms → HeadDifference → Type 0
-IsHeadDifference original export claim (UnknownChannel label) =
-    IsFirstWith (HasNoChannel original) claim.channels label.now
-IsHeadDifference original export claim (MissingChannel label) =
-    HasAll original claim.channels × IsFirstWith (HasNoChannel export) claim.channels label.now
-IsHeadDifference original export claim (ExtraChannel label) =
-    HasAll original claim.channels × HasAll export claim.channels × IsLeastExtra export claim.channels label.now
-IsHeadDifference original export claim (ChannelText label field) =
-    SameChannels original export claim × IsTextDifference original export claim label.now field
-IsHeadDifference original export claim (Calibration label) =
-    SameChannels original export claim × SameTexts original export claim × IsCalibrationDifference original export claim label.now
-IsHeadDifference original export claim (Subfield which mismatch) =
-    SignalsAgree original export claim × IsSubfieldDifference original export claim which mismatch
-IsHeadDifference original export claim FreeTextInHeader =
-    SignalsAgree original export claim × SubfieldsAsClaimed original export claim × (IsBlankHeader export → ⊥)
-IsHeadDifference original export claim (FreeTextInChannel label) =
-    SignalsAgree original export claim × SubfieldsAsClaimed original export claim × IsBlankHeader export × IsFirstWithFreeText export claim label.now
+IsHeadDifference original export claim difference = IsHeadVerdict original export claim (No (difference_of difference))

@@ -3,18 +3,17 @@ use Rattle.edf_header.specs.Heads.{Head}
 use Rattle.edf_claim.specs.Terms.{Terms}
 use Rattle.edf_heads.specs.Firsts.{IsFirstWith}
 use Rattle.edf_heads.specs.Channels.{HasAll, SameChannels}
-use Rattle.edf_heads.specs.ChannelDifferences.{HasNoChannel, IsLeastExtra}
+use Rattle.edf_heads.specs.ChannelDifferences.{HasNoChannel, IsFirstUnlike, IsLeastExtra}
 use Rattle.edf_heads.specs.Texts.{SameTexts}
 use Rattle.edf_heads.specs.TextDifference.{IsTextDifference}
-use Rattle.edf_heads.specs.Calibrations.{SameCalibrations}
-use Rattle.edf_heads.specs.CalibrationDifference.{IsCalibrationDifference}
+use Rattle.edf_heads.specs.Calibrations.{HaveSameCalibration, SameCalibrations}
 use Rattle.edf_heads.specs.Subfields.{SubfieldsAsClaimed}
 use Rattle.edf_heads.specs.SubfieldDifference.{IsSubfieldDifference}
 use Rattle.edf_heads.specs.Blank.{IsBlankHeader, IsBlank}
 use Rattle.edf_heads.specs.BlankDifference.{IsFirstWithFreeText}
 use Rattle.edf_verdict.specs.declared.verdict.Verdict.{Verdict}
-use Rattle.edf_verdict.specs.declared.verdict.Verdict.TheVariants.{Yes, No}
-use Rattle.edf_verdict.specs.declared.verdict.Difference.TheVariants.{OriginalFault, ExportFault, UnknownChannel, MissingChannel, ExtraChannel, ChannelText, Calibration, Subfield, NotClean, PartOrder, Sample, Annotation}
+use Rattle.edf_verdict.specs.declared.verdict.Verdict.TheVariants.{No}
+use Rattle.edf_verdict.specs.declared.verdict.Difference.TheVariants.{UnknownChannel, MissingChannel, ExtraChannel, ChannelText, Calibration, Subfield, NotClean}
 use Rattle.edf_verdict.specs.declared.verdict.FreeText.TheVariants.{Header, Channel}
 
 -- the export's header is what the claim says of the original's
@@ -31,11 +30,8 @@ pub record SignalsAgree (original export : Head) (claim : Terms) : Type 0 where
   pub texts : SameTexts original export claim
   pub calibrations : SameCalibrations original export claim
 
--- the verdict is the first difference of the headers; each says that those before it don't apply
+-- the verdict is the first rule of two headers that is broken; each says that those before it aren't, and no other verdict is on headers
 abbrev pub IsHeadVerdict : Head → Head → Terms → Verdict → Type 0
-IsHeadVerdict original export claim (Yes channels samples annotations) = ⊥
-IsHeadVerdict original export claim (No (OriginalFault fault)) = ⊥
-IsHeadVerdict original export claim (No (ExportFault fault)) = ⊥
 IsHeadVerdict original export claim (No (UnknownChannel label)) =
     IsFirstWith (HasNoChannel original) claim.channels label
 IsHeadVerdict original export claim (No (MissingChannel label)) =
@@ -45,13 +41,11 @@ IsHeadVerdict original export claim (No (ExtraChannel label)) =
 IsHeadVerdict original export claim (No (ChannelText label field)) =
     SameChannels original export claim × IsTextDifference original export claim label field
 IsHeadVerdict original export claim (No (Calibration label)) =
-    SameChannels original export claim × SameTexts original export claim × IsCalibrationDifference original export claim label
+    SameChannels original export claim × SameTexts original export claim × IsFirstUnlike HaveSameCalibration original export claim label
 IsHeadVerdict original export claim (No (Subfield which mismatch)) =
     SignalsAgree original export claim × IsSubfieldDifference original export claim which mismatch
 IsHeadVerdict original export claim (No (NotClean Header)) =
     SignalsAgree original export claim × SubfieldsAsClaimed original export claim × (IsBlankHeader export → ⊥)
 IsHeadVerdict original export claim (No (NotClean (Channel label))) =
     SignalsAgree original export claim × SubfieldsAsClaimed original export claim × IsBlankHeader export × IsFirstWithFreeText export claim label
-IsHeadVerdict original export claim (No PartOrder) = ⊥
-IsHeadVerdict original export claim (No (Sample label at_ps mismatch)) = ⊥
-IsHeadVerdict original export claim (No (Annotation mismatch onset duration text)) = ⊥
+IsHeadVerdict original export claim verdict = ⊥

@@ -1,7 +1,6 @@
 pub mod Blank
 pub mod BlankDifference
 pub mod Calibrations
-pub mod CalibrationDifference
 pub mod Channels
 pub mod ChannelIndexes
 pub mod ChannelDifferences

@@ -1,10 +1,8 @@
 //! Two headers and a claim, with the channels that are claimed.
 
-ghost use Rattle.std.specs.Prelude.{◌≡◌, map, find, option_map, is_none, IfOk, MatchOption};
-ghost use Rattle.edf_heads.specs.Channels.{HasAll};
-ghost use Rattle.edf_heads.specs.ChannelDifferences.{HasNoChannel, IsLeastExtra};
-ghost use Rattle.edf_heads.specs.Comparisons.{claimed_view, HasOnly};
-ghost use Rattle.edf_heads.specs.Firsts.{IsFirstWith};
+ghost use Rattle.std.specs.Prelude.{◌≡◌, IfOk, MatchOption};
+ghost use Rattle.edf_heads.specs.ChannelDifferences.{IsLeastExtra};
+ghost use Rattle.edf_heads.specs.Comparisons.{HasOnly};
 
 use crate::channel_index::ChannelIndex;
 use crate::channels::{ClaimedChannel, claimed_channels};
@@ -36,30 +34,6 @@ impl<'a> Model for Comparison<'a> {
     ghost invariant = { λ c. IsComparison c.original.now c.export c.claim.now c.claimed.items c.labels.items };
 }
 
-/// The first claimed label whose channel isn't in the original.
-fn first_unknown<'a>(claimed: &[ClaimedChannel<'a>]) -> Option<&'a [u8]>
-    ensures { option_map (λ label. label.now) result ≡ option_map (λ c. c.label) (find (λ c. is_none c.original) (map claimed_view claimed.now)) }
-{
-    for channel in claimed {
-        if channel.original.is_none() {
-            return Some(channel.label.text());
-        }
-    }
-    None
-}
-
-/// The first claimed label whose channel isn't in the export.
-fn first_missing<'a>(claimed: &[ClaimedChannel<'a>]) -> Option<&'a [u8]>
-    ensures { option_map (λ label. label.now) result ≡ option_map (λ c. c.label) (find (λ c. is_none c.export) (map claimed_view claimed.now)) }
-{
-    for channel in claimed {
-        if channel.export.is_none() {
-            return Some(channel.label.text());
-        }
-    }
-    None
-}
-
 impl<'a> Comparison<'a> {
     /// The comparison of these headers by this claim.
     ///
@@ -83,24 +57,6 @@ impl<'a> Comparison<'a> {
             claimed,
             labels,
         })
-    }
-
-    /// The first claimed label that no channel of the original has.
-    pub(crate) fn unknown_channel(&self) -> Option<&'a [u8]>
-        ensures { MatchOption result
-            (HasAll self.now.original self.now.claim.channels)
-            (λ label. IsFirstWith (HasNoChannel self.now.original) self.now.claim.channels label.now) }
-    {
-        first_unknown(&self.claimed)
-    }
-
-    /// The first claimed label that no channel of the export has.
-    pub(crate) fn missing_channel(&self) -> Option<&'a [u8]>
-        ensures { MatchOption result
-            (HasAll self.now.export self.now.claim.channels)
-            (λ label. IsFirstWith (HasNoChannel self.now.export) self.now.claim.channels label.now) }
-    {
-        first_missing(&self.claimed)
     }
 
     /// The least label, in the order of bytes, of the export's channels that aren't claimed.

@@ -1,14 +1,13 @@
 //! The first difference of two headers.
 
 ghost use Rattle.std.specs.Prelude.{◌≡◌, ◌↔◌, None, IfOk, IfSome, MatchOption};
-ghost use Rattle.edf_claim.specs.Terms.{Terms};
-ghost use Rattle.edf_header.specs.Heads.{Head};
 ghost use Rattle.edf_heads.specs.Channels.{SameChannels};
-ghost use Rattle.edf_heads.specs.HeadDifferences.{IsHeadDifference};
+ghost use Rattle.edf_heads.specs.HeadDifferences.{difference_of, IsHeadDifference};
 ghost use Rattle.edf_heads.specs.HeadVerdicts.{HeadsAgree, SignalsAgree, IsHeadVerdict};
 
 use crate::channel_texts::TextDifference;
 use crate::comparison::Comparison;
+use crate::rules::ChannelRule;
 use crate::subfields::SubfieldDifference;
 use edf_claim::claim::Claim;
 use edf_fields::which::Which;
@@ -39,13 +38,13 @@ enum HeadDifference<'a> {
 }
 
 impl<'a> HeadDifference<'a> {
-    /// The verdict No for this difference, which has a label of its own.
+    /// The difference, with a label of its own.
     ///
     /// The error is want of memory.
-    fn verdict(self, alloc: Global) -> Result<Verdict, AllocError>
-        ensures { IfOk result (λ verdict. (o e : Head) (claim : Terms) → IsHeadDifference o e claim self.entry → IsHeadVerdict o e claim verdict) }
+    fn difference(self, alloc: Global) -> Result<Difference, AllocError>
+        ensures { IfOk result (λ difference. difference ≡ difference_of self.entry) }
     {
-        let difference = match self {
+        Ok(match self {
             HeadDifference::UnknownChannel(label) => {
                 Difference::UnknownChannel(Label::new(alloc, label)?)
             }
@@ -66,8 +65,7 @@ impl<'a> HeadDifference<'a> {
             HeadDifference::FreeTextInChannel(label) => {
                 Difference::NotClean(FreeText::Channel(Label::new(alloc, label)?))
             }
-        };
-        Ok(Verdict::No(difference))
+        })
     }
 }
 
@@ -79,10 +77,10 @@ impl<'a> Comparison<'a> {
             (SameChannels self.now.original self.now.export self.now.claim)
             (IsHeadDifference self.now.original self.now.export self.now.claim) }
     {
-        if let Some(label) = self.unknown_channel() {
+        if let Some(label) = self.first_breaking(ChannelRule::Known) {
             return Some(HeadDifference::UnknownChannel(label));
         }
-        if let Some(label) = self.missing_channel() {
+        if let Some(label) = self.first_breaking(ChannelRule::Exported) {
             return Some(HeadDifference::MissingChannel(label));
         }
         if let Some(label) = self.extra_channel() {
@@ -101,7 +99,7 @@ impl<'a> Comparison<'a> {
         if let Some(TextDifference { label, field }) = self.text_difference() {
             return Some(HeadDifference::ChannelText(label, field));
         }
-        if let Some(label) = self.recalibrated_channel() {
+        if let Some(label) = self.first_breaking(ChannelRule::Calibrated) {
             return Some(HeadDifference::Calibration(label));
         }
         None
@@ -121,7 +119,7 @@ impl<'a> Comparison<'a> {
         if !self.is_header_blank() {
             return Some(HeadDifference::FreeTextInHeader);
         }
-        if let Some(label) = self.channel_with_text() {
+        if let Some(label) = self.first_breaking(ChannelRule::Clean) {
             return Some(HeadDifference::FreeTextInChannel(label));
         }
         None
@@ -163,7 +161,7 @@ pub fn head_difference(
 {
     let comparison = Comparison::new(alloc, original, export, claim)?;
     match comparison.difference() {
-        Some(difference) => Ok(Some(difference.verdict(alloc)?)),
+        Some(first) => Ok(Some(Verdict::No(first.difference(alloc)?))),
         None => Ok(None),
     }
 }

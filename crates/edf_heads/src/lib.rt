@@ -10,4 +10,5 @@ mod channels;
 mod comparison;
 pub mod head_difference;
 pub mod labels;
+mod rules;
 pub mod subfields;

@@ -1,3 +1,2 @@
-pub mod PartsFacts
 pub mod LineFacts
 pub mod RunLineFacts

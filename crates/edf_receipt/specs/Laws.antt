@@ -1,9 +1,7 @@
 -- Laws of receipts.
 use Rattle.std.specs.Prelude.{◌≡◌, ◌<◌, ◌^◌, ℕ, List, [], ◌∷◌, ◌++◌, length}
-use Rattle.edf_check.specs.PartsRuns.{IsPartsReport}
-use Rattle.edf_check.specs.Runs.{IsReport}
-use Rattle.edf_receipt.specs.PartsReceipts.{IsPartsReceipt}
-use Rattle.edf_receipt.specs.ReceiptRuns.{IsReceipt}
+use Rattle.edf_check.specs.Runs.{IsPartsReport, IsReport}
+use Rattle.edf_receipt.specs.ReceiptRuns.{IsPartsReceipt, IsReceipt}
 use Rattle.edf_receipt.specs.Receipts.{receipt}
 use Rattle.edf_receipt.specs.declared.file_line.FileLine.{FileLine}
 use Rattle.edf_receipt.specs.declared.file_line.ReceiptFile.{ReceiptFile}

@@ -1,4 +1,3 @@
 pub mod Receipts
 pub mod ReceiptRuns
-pub mod PartsReceipts
 pub mod Laws

@@ -1,38 +1,66 @@
 -- What is written where a receipt is asked for.
-use Rattle.std.specs.Prelude.{◌≡◌, ◌<◌, ◌-◌, ◌^◌, ℕ, List, ◌++◌, Bool, true, IsTrue, length}
-use Rattle.edf_check.specs.Runs.{IsVerdictUnder}
+use Rattle.std.specs.Prelude.{◌≡◌, ◌<◌, ◌-◌, ◌^◌, ℕ, List, [], ◌∷◌, Bool, true, IsTrue, length}
+use Rattle.std.specs.List.{AllByRecursion}
+use Rattle.edf_check.specs.Runs.{IsPartsVerdictUnder, IsPartWritten, IsVerdictUnder, IsWritten}
 use Rattle.edf_fields.specs.Digests.{digest_reads}
 use Rattle.edf_fields.specs.Sources.{Reads}
-use Rattle.edf_fields.specs.Sinks.{HoldsPrefix}
-use Rattle.edf_receipt.specs.Receipts.{files_of, receipt}
+use Rattle.edf_receipt.specs.Receipts.{files_of, line_of, part_lines, receipt}
 use Rattle.edf_receipt.specs.declared.file_line.FileLine.{FileLine}
+use Rattle.edf_receipt.specs.declared.file_line.ReceiptFile.TheVariants.{Export}
 use Rattle.edf_verdict.specs.Lines.{verdict_line}
 use Rattle.edf_verdict.specs.Outcomes.{outcome_of}
+use Rattle.edf_verdict.specs.PartsLines.{parts_verdict_line}
 use Rattle.edf_verdict.specs.declared.outcome.Outcome.{Outcome}
+use Rattle.edf_verdict.specs.declared.parts_verdict.PartsVerdict.{PartsVerdict}
 use Rattle.edf_verdict.specs.declared.verdict.Verdict.{Verdict}
+
+-- this is told of the reads of a source that digests and began with these bytes, fewer than the most that are counted
+abbrev pub IsDigested : Reads → List ℕ → Type 0
+IsDigested reads whole = (reads ≡ digest_reads 0 whole true) × (length whole < 2 ^ 64 - 1)
+
+-- the same of several
+abbrev pub AreDigested : List Reads → List (List ℕ) → Type 0
+AreDigested [] [] = Unit {0}
+AreDigested (read ∷ reads) (whole ∷ wholes) = IsDigested read whole × AreDigested reads wholes
+AreDigested reads wholes = ⊥
 
 -- nothing was read yet of a source that digests, its bytes are known, and they are fewer than the most that are counted
 pub record IsFresh (reads : Reads) (honest : Bool) (left : List ℕ) : Type 0 where
   pub honest_is : IsTrue honest
-  pub reads_are : reads ≡ digest_reads 0 left true
-  pub fits : length left < 2 ^ 64 - 1
+  pub digested : IsDigested reads left
 
--- behind what was held stands the receipt of two files and of the text of a claim, with the line of the verdict on these very bytes, and
--- nothing else; the outcome is the verdict's
-pub record IsReceipt (version original export text old new : List ℕ) (outcome : Outcome) : Type 0 where
-  pub verdict : Verdict
-  pub under : IsVerdictUnder original export text verdict
-  pub text_is : new ≡ old ++ receipt version (files_of original export text) (verdict_line verdict)
-  pub outcome_is : outcome ≡ outcome_of verdict
+-- the same of several
+pub record AreFresh (reads : List Reads) (honests : List Bool) (lefts : List (List ℕ)) : Type 0 where
+  pub honest_are : AllByRecursion IsTrue honests
+  pub digested : AreDigested reads lefts
 
--- behind what was held stands a front of that receipt
-pub record IsPartOfReceipt (version original export text old new : List ℕ) : Type 0 where
-  pub verdict : Verdict
-  pub under : IsVerdictUnder original export text verdict
-  pub part : HoldsPrefix old new (receipt version (files_of original export text) (verdict_line verdict))
+-- the receipt of two files and of the text of a claim was written, with the line of the verdict on these very bytes and its outcome
+abbrev pub IsReceipt : (version original export text old new : List ℕ) (outcome : Outcome) → Type 0
+IsReceipt version original export text =
+    IsWritten Verdict (IsVerdictUnder original export text) (λ v. receipt version (files_of original (line_of Export export ∷ []) text) (verdict_line v)) outcome_of
+
+-- a front of that receipt was written
+abbrev pub IsPartOfReceipt : (version original export text old new : List ℕ) → Type 0
+IsPartOfReceipt version original export text =
+    IsPartWritten Verdict (IsVerdictUnder original export text) (λ v. receipt version (files_of original (line_of Export export ∷ []) text) (verdict_line v))
 
 -- the same, whatever the sources are: a front of a receipt that names some files and has the line of some verdict
-pub record IsFrontOfAReceipt (version old new : List ℕ) : Type 0 where
-  pub files : List FileLine
-  pub verdict : Verdict
-  pub part : HoldsPrefix old new (receipt version files (verdict_line verdict))
+abbrev pub IsFrontOfAReceipt : (version old new : List ℕ) → Type 0
+IsFrontOfAReceipt version = IsPartWritten (List FileLine × Verdict) (λ said. Unit {0}) (λ said. receipt version said.0 (verdict_line said.1))
+
+-- the receipt of an original, several exports and the text of a claim was written, in the same way
+abbrev pub IsPartsReceipt : (version original : List ℕ) (parts : List (List ℕ)) (text old new : List ℕ) (outcome : Outcome) → Type 0
+IsPartsReceipt version original parts text =
+    IsWritten PartsVerdict (IsPartsVerdictUnder original parts text)
+    (λ v. receipt version (files_of original (part_lines 0 parts) text) (parts_verdict_line (length parts) v)) (λ v. outcome_of v.verdict)
+
+-- a front of that receipt was written
+abbrev pub IsPartOfPartsReceipt : (version original : List ℕ) (parts : List (List ℕ)) (text old new : List ℕ) → Type 0
+IsPartOfPartsReceipt version original parts text =
+    IsPartWritten PartsVerdict (IsPartsVerdictUnder original parts text)
+    (λ v. receipt version (files_of original (part_lines 0 parts) text) (parts_verdict_line (length parts) v))
+
+-- the same, whatever the sources are: a front of a receipt that names some files and has the line of some verdict on so many exports
+abbrev pub IsFrontOfAPartsReceipt : (version : List ℕ) (parts : ℕ) (old new : List ℕ) → Type 0
+IsFrontOfAPartsReceipt version parts =
+    IsPartWritten (List FileLine × PartsVerdict) (λ said. Unit {0}) (λ said. receipt version said.0 (parts_verdict_line parts said.1))

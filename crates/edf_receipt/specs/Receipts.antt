@@ -1,5 +1,5 @@
 -- The text of a receipt.
-use Rattle.std.specs.Prelude.{ℕ, List, [], ◌∷◌, ◌++◌, codes, length}
+use Rattle.std.specs.Prelude.{ℕ, List, [], ◌∷◌, ◌+◌, ◌++◌, codes, length}
 use Rattle.std.specs.Fmt.{decimal}
 use Rattle.std.specs.List.{flat_map}
 use Rattle.hex.specs.Hex.{encode_lower}
@@ -35,6 +35,11 @@ receipt version files line = version_line version ++ (flat_map file_line files +
 abbrev pub line_of : ReceiptFile → List ℕ → FileLine
 line_of file whole = record { file = file; digested = record { bytes = length whole; sha256 = sha256 whole } }
 
--- the files of a check
-abbrev pub files_of : List ℕ → List ℕ → List ℕ → List FileLine
-files_of original export text = line_of Original original ∷ line_of Export export ∷ line_of Claim text ∷ []
+-- several exports, of which the first has the number j
+abbrev pub part_lines : ℕ → List (List ℕ) → List FileLine
+part_lines j [] = []
+part_lines j (whole ∷ wholes) = line_of (Part j) whole ∷ part_lines (j + 1) wholes
+
+-- the files of a check: the original, these exports, and the claim
+abbrev pub files_of : List ℕ → List FileLine → List ℕ → List FileLine
+files_of original exports text = line_of Original original ∷ (exports ++ (line_of Claim text ∷ []))

@@ -1,13 +1,12 @@
 //! The files that were judged, each read to its end.
 
-ghost use Rattle.std.specs.Prelude.{◌≡◌, ◌+◌, ◌-◌, ◌<◌, ◌≤◌, ◌^◌, ◌++◌, ℕ, List, length, map, true, IfOk, IfErr, OnOk, OnErr};
+ghost use Rattle.std.specs.Prelude.{◌≡◌, ◌+◌, ◌<◌, ◌≤◌, ◌++◌, ◌∷◌, [], ℕ, List, length, map, IfOk, IfErr, OnOk, OnErr};
 ghost use Rattle.edf_check.specs.Checks.{CheckStops};
 ghost use Rattle.edf_check.specs.PartsStops.{PartsStops};
-ghost use Rattle.edf_fields.specs.Digests.{digest_reads};
 ghost use Rattle.edf_fields.specs.Sources.{Fails};
-ghost use Rattle.edf_receipt.specs.PartsReceipts.{AreDigested, files_of_parts, part_lines};
-ghost use Rattle.edf_receipt.specs.Receipts.{line_of};
-ghost use Rattle.edf_receipt.specs.declared.file_line.ReceiptFile.TheVariants as files;
+ghost use Rattle.edf_receipt.specs.ReceiptRuns.{AreDigested, IsDigested};
+ghost use Rattle.edf_receipt.specs.Receipts.{files_of as all_files, line_of as line_naming, part_lines};
+ghost use Rattle.edf_receipt.specs.declared.file_line.ReceiptFile.TheVariants as names;
 
 use crate::file_line::{FileLine, ReceiptFile};
 use edf_fields::digest_source::{DigestSource, digest_of};
@@ -29,8 +28,7 @@ fn line_of<S: Source + Drop>(
     buf: &mut [u8],
 ) -> Result<FileLine, ReadFault>
     requires { 0 < length buf.old }
-    ensures line { IfOk result (λ line. (whole : List ℕ) → ⟦<DigestSource<S> as Source>⟧.reads source.old ≡ digest_reads 0 whole true →
-        length whole < 2 ^ 64 - 1 → line ≡ line_of file whole) }
+    ensures line { IfOk result (λ line. (whole : List ℕ) → IsDigested (⟦<DigestSource<S> as Source>⟧.reads source.old) whole → line ≡ line_naming file whole) }
     ensures room { length buf.new ≡ length buf.old }
     ensures failures { OnOk result (⟦<DigestSource<S> as Source>⟧.reads source.new ≡ ⟦<DigestSource<S> as Source>⟧.reads source.old) }
     ensures fails { OnErr result (Fails (⟦<DigestSource<S> as Source>⟧.reads source.old) (⟦<DigestSource<S> as Source>⟧.reads source.new)) }
@@ -41,20 +39,12 @@ fn line_of<S: Source + Drop>(
 
 /// The line that names a claim of this text.
 fn claim_line(text: &[u8]) -> FileLine
-    ensures { result ≡ line_of files.Claim text.now }
+    ensures { result ≡ line_naming names.Claim text.now }
 {
     FileLine {
         file: ReceiptFile::Claim,
         digested: digest_of(text),
     }
-}
-
-/// The lines that name the files of a check.
-#[derive(Clone, Copy)]
-pub(crate) struct CheckFiles {
-    pub(crate) original: FileLine,
-    pub(crate) export: FileLine,
-    pub(crate) claim: FileLine,
 }
 
 /// The lines that name the files of a check, of which both recordings are read to their ends.
@@ -65,12 +55,10 @@ pub(crate) fn files_of<O: Source + Drop, E: Source + Drop>(
     original: &mut DigestSource<O>,
     export: &mut DigestSource<E>,
     claim_text: &[u8],
-) -> Result<CheckFiles, CheckStop>
-    ensures original { IfOk result (λ lines. (whole : List ℕ) → ⟦<DigestSource<O> as Source>⟧.reads original.old ≡ digest_reads 0 whole true →
-        length whole < 2 ^ 64 - 1 → lines.original ≡ line_of files.Original whole) }
-    ensures export { IfOk result (λ lines. (whole : List ℕ) → ⟦<DigestSource<E> as Source>⟧.reads export.old ≡ digest_reads 0 whole true →
-        length whole < 2 ^ 64 - 1 → lines.export ≡ line_of files.Export whole) }
-    ensures claim { IfOk result (λ lines. lines.claim ≡ line_of files.Claim claim_text.now) }
+) -> Result<[FileLine; 3], CheckStop>
+    ensures files { IfOk result (λ files. (first second : List ℕ) → IsDigested (⟦<DigestSource<O> as Source>⟧.reads original.old) first →
+        IsDigested (⟦<DigestSource<E> as Source>⟧.reads export.old) second →
+        files ≡ all_files first (line_naming names.Export second ∷ []) claim_text.now) }
     ensures failures { OnOk result ((⟦<DigestSource<O> as Source>⟧.reads original.new ≡ ⟦<DigestSource<O> as Source>⟧.reads original.old)
         × (⟦<DigestSource<E> as Source>⟧.reads export.new ≡ ⟦<DigestSource<E> as Source>⟧.reads export.old)) }
     ensures stop { IfErr result (CheckStops
@@ -86,11 +74,7 @@ pub(crate) fn files_of<O: Source + Drop, E: Source + Drop>(
     let Ok(second) = line_of(ReceiptFile::Export, export, &mut buf) else {
         return Err(CheckStop::ReadFailed(Side::Export));
     };
-    Ok(CheckFiles {
-        original: first,
-        export: second,
-        claim: claim_line(claim_text),
-    })
+    Ok([first, second, claim_line(claim_text)])
 }
 
 /// Reads exports to their ends, and puts the lines that name them behind those of other files; the first has this number.
@@ -130,9 +114,8 @@ pub(crate) fn files_of_parts<O: Source + Drop, E: Source + Drop>(
     claim_text: &[u8],
 ) -> Result<Vec<FileLine>, PartsStop>
     requires few { length parts.old ≤ 64 }
-    ensures files { IfOk result (λ files. (first : List ℕ) (wholes : List (List ℕ)) → ⟦<DigestSource<O> as Source>⟧.reads original.old ≡ digest_reads 0 first true →
-        length first < 2 ^ 64 - 1 → AreDigested (map ⟦<DigestSource<E> as Source>⟧.reads parts.old) wholes →
-        files.items ≡ files_of_parts first wholes claim_text.now) }
+    ensures files { IfOk result (λ files. (first : List ℕ) (wholes : List (List ℕ)) → IsDigested (⟦<DigestSource<O> as Source>⟧.reads original.old) first →
+        AreDigested (map ⟦<DigestSource<E> as Source>⟧.reads parts.old) wholes → files.items ≡ all_files first (part_lines 0 wholes) claim_text.now) }
     ensures failures { OnOk result ((⟦<DigestSource<O> as Source>⟧.reads original.new ≡ ⟦<DigestSource<O> as Source>⟧.reads original.old)
         × (map ⟦<DigestSource<E> as Source>⟧.reads parts.new ≡ map ⟦<DigestSource<E> as Source>⟧.reads parts.old)) }
     ensures stop { IfErr result (PartsStops

@@ -1,76 +1,22 @@
 //! A check of two files under the text of a claim, with a receipt for its answer.
 
-ghost use Rattle.std.specs.Prelude.{◌≡◌, ◌≢◌, ◌++◌, IfOk, IfErr, OnOk, IsTrue};
+ghost use Rattle.std.specs.Prelude.{◌≡◌, ◌≢◌, IfOk, IfErr, OnOk, IsTrue};
 ghost use Rattle.edf_claim.specs.declared.stop.ClaimStop.TheVariants as claim_stops;
 ghost use Rattle.edf_claim.specs.Faults.{FirstClaimFault};
-ghost use Rattle.edf_check.specs.Runs.{IsVerdictUnder, RunStops, WriteStops};
-ghost use Rattle.edf_fields.specs.Sinks.{HoldsPrefix};
+ghost use Rattle.edf_check.specs.Runs.{RunStops};
 ghost use Rattle.edf_fields.specs.Sources.{Fails, Rises};
 ghost use Rattle.edf_receipt.specs.ReceiptRuns.{IsFresh, IsFrontOfAReceipt, IsPartOfReceipt, IsReceipt};
-ghost use Rattle.edf_receipt.specs.Receipts.{receipt};
 ghost use Rattle.edf_refusal.specs.declared.stop.RunStop.TheVariants as stops;
-ghost use Rattle.edf_verdict.specs.Lines.{verdict_line};
 
-use crate::file_line::FileLine;
 use crate::files::files_of;
 use crate::text::receipt_text;
-use edf_check::check::check;
-use edf_claim::claim::Claim;
-use edf_claim::stop::ClaimStop;
+use edf_check::judge::judge;
 use edf_fields::digest_source::DigestSource;
 use edf_fields::sink::{Sink, put_all};
 use edf_fields::source::Source;
 use edf_refusal::stop::RunStop;
 use edf_verdict::outcome::Outcome;
-use edf_verdict::verdict::Verdict;
 use std::alloc::Global;
-
-/// Reads the claim that a text says, and checks the export against the original.
-fn judge<O: Source, E: Source>(
-    alloc: Global,
-    original: &mut O,
-    export: &mut E,
-    claim_text: &[u8],
-) -> Result<Verdict, RunStop>
-    ensures under { IfOk result (λ verdict. IsTrue (O.is_honest original.old) → IsTrue (E.is_honest export.old) →
-        IsVerdictUnder (O.left original.old) (E.left export.old) claim_text.now verdict) }
-    ensures failures { OnOk result ((O.reads original.new ≡ O.reads original.old) × (E.reads export.new ≡ E.reads export.old)) }
-    ensures stop { IfErr result (RunStops
-        (λ cause. (cause ≢ claim_stops.OutOfMemory) × FirstClaimFault claim_text.now cause)
-        (Fails (O.reads original.old) (O.reads original.new))
-        (Fails (E.reads export.old) (E.reads export.new))
-        ⊥
-        ((O.reads original.new ≡ O.reads original.old) × (E.reads export.new ≡ E.reads export.old))) }
-{
-    match Claim::read(alloc, claim_text) {
-        Ok(claim) => Ok(check(alloc, original, export, &claim)?),
-        Err(cause) if cause != ClaimStop::OutOfMemory => Err(RunStop::Claim(cause)),
-        Err(_) => Err(RunStop::OutOfMemory),
-    }
-}
-
-/// Writes a receipt of these files. Where the sink fails, a front of it was written.
-fn write_receipt<K: Sink>(
-    alloc: Global,
-    version: &str,
-    files: &[FileLine],
-    verdict: &Verdict,
-    sink: &mut K,
-) -> Result<(), RunStop>
-    ensures written { IfOk result (λ _. IsTrue (K.is_honest sink.old) →
-        K.held sink.new ≡ K.held sink.old ++ receipt version.now files.now (verdict_line verdict.now)) }
-    ensures failures { OnOk result (K.failures sink.new ≡ K.failures sink.old) }
-    ensures honesty { IsTrue (K.is_honest sink.old) → IsTrue (K.is_honest sink.new) }
-    ensures nothing { IfErr result (λ stop. stop ≢ stops.WriteFailed → sink.new ≡ sink.old) }
-    ensures part { IfErr result (λ stop. stop ≡ stops.WriteFailed → IsTrue (K.is_honest sink.old)
-        → HoldsPrefix (K.held sink.old) (K.held sink.new) (receipt version.now files.now (verdict_line verdict.now))) }
-    ensures stop { IfErr result (WriteStops (Rises (K.failures sink.old) (K.failures sink.new))) }
-{
-    let line = verdict.line(alloc)?;
-    let text = receipt_text(alloc, version, files, &line)?;
-    put_all(sink, &text)?;
-    Ok(())
-}
 
 /// Reads the claim that a text says, checks the export against the original, and writes a receipt: the version of the
 /// program, the digest and the length of each file, and the line of the verdict.
@@ -115,7 +61,7 @@ pub fn receipt_to<O: Source + Drop, E: Source + Drop, K: Sink>(
 {
     let verdict = judge(alloc, original, export, claim_text)?;
     let files = files_of(alloc, original, export, claim_text)?;
-    let lines = [files.original, files.export, files.claim];
-    write_receipt(alloc, version, &lines, &verdict, sink)?;
+    let text = receipt_text(alloc, version, &files, &verdict.line(alloc)?)?;
+    put_all(sink, &text)?;
     Ok(verdict.outcome())
 }

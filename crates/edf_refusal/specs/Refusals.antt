@@ -1,12 +1,10 @@
 -- Why a command is refused, and the line that says so.
 use Rattle.std.specs.Prelude.{ℕ, List, ◌++◌, codes}
-use Rattle.edf_refusal.specs.declared.parts_stop.PartSide.{PartSide}
 use Rattle.edf_refusal.specs.declared.parts_stop.PartSide.TheVariants as part_sides
 use Rattle.edf_refusal.specs.declared.parts_stop.PartsRunStop.{PartsRunStop}
 use Rattle.edf_refusal.specs.declared.parts_stop.PartsRunStop.TheVariants as parts_runs
 use Rattle.edf_refusal.specs.declared.stop.RunStop.{RunStop}
 use Rattle.edf_refusal.specs.declared.stop.RunStop.TheVariants as runs
-use Rattle.edf_refusal.specs.declared.side.Side.{Side}
 use Rattle.edf_refusal.specs.declared.side.Side.TheVariants as sides
 use Rattle.edf_claim.specs.declared.stop.ClaimStop.{ClaimStop}
 use Rattle.edf_claim.specs.declared.stop.ClaimStop.TheVariants as claims
@@ -62,27 +60,19 @@ refusal_text refusals.Memory = memory_text
 refusal_text refusals.Writing = codes "edfclaim: writing failed"
 refusal_text refusals.TooManyExports = codes "edfclaim: too many exports"
 
--- what a file of a check is
-abbrev pub role_of : Side → Role
-role_of sides.Original = roles.Original
-role_of sides.Export = roles.Export
-
 -- how a check that stopped is refused
 abbrev pub refusal_of_run : RunStop → Refusal
 refusal_of_run runs.OutOfMemory = refusals.Memory
-refusal_of_run (runs.ReadFailed side) = refusals.Reading (role_of side)
+refusal_of_run (runs.ReadFailed sides.Original) = refusals.Reading roles.Original
+refusal_of_run (runs.ReadFailed sides.Export) = refusals.Reading roles.Export
 refusal_of_run (runs.Claim cause) = refusals.Claim cause
 refusal_of_run runs.WriteFailed = refusals.Writing
 
--- what a file of a check of several exports is: each of them is an export
-abbrev pub role_of_part : PartSide → Role
-role_of_part part_sides.Original = roles.Original
-role_of_part (part_sides.Part part) = roles.Export
-
--- how a check of several exports that stopped is refused
+-- the same of several exports, each of which is an export
 abbrev pub refusal_of_parts_run : PartsRunStop → Refusal
 refusal_of_parts_run parts_runs.OutOfMemory = refusals.Memory
-refusal_of_parts_run (parts_runs.ReadFailed side) = refusals.Reading (role_of_part side)
+refusal_of_parts_run (parts_runs.ReadFailed part_sides.Original) = refusals.Reading roles.Original
+refusal_of_parts_run (parts_runs.ReadFailed (part_sides.Part part)) = refusals.Reading roles.Export
 refusal_of_parts_run (parts_runs.Claim cause) = refusals.Claim cause
 refusal_of_parts_run parts_runs.WriteFailed = refusals.Writing
 

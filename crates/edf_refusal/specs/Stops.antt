@@ -23,10 +23,6 @@ stop_of_check checks.OutOfMemory = OutOfMemory
 stop_of_check (checks.ReadFailed side) = ReadFailed side
 
 -- the same of a run over several exports
-abbrev pub parts_stop_of_claim : ClaimStop → PartsRunStop
-parts_stop_of_claim claims.OutOfMemory = parts_runs.OutOfMemory
-parts_stop_of_claim cause = parts_runs.Claim cause
-
 abbrev pub parts_stop_of_check : PartsStop → PartsRunStop
 parts_stop_of_check parts.OutOfMemory = parts_runs.OutOfMemory
 parts_stop_of_check (parts.ReadFailed side) = parts_runs.ReadFailed side

@@ -3,7 +3,7 @@
 ghost use Rattle.std.specs.Prelude.{◌≡◌};
 ghost use Rattle.edf_refusal.specs.declared.parts_stop.PartsRunStop.TheVariants as run_stops;
 ghost use Rattle.edf_refusal.specs.declared.parts_stop.PartsStop.TheVariants as stops;
-ghost use Rattle.edf_refusal.specs.Stops.{parts_stop_of_check, parts_stop_of_claim};
+ghost use Rattle.edf_refusal.specs.Stops.{parts_stop_of_check};
 
 use edf_claim::stop::ClaimStop;
 use edf_fields::sink::WriteFault;
@@ -61,17 +61,6 @@ impl From<AllocError> for PartsRunStop {
 
     fn from(_error: AllocError) -> PartsRunStop {
         PartsRunStop::OutOfMemory
-    }
-}
-
-impl From<ClaimStop> for PartsRunStop {
-    ghost from_gives = { λ stop e. e ≡ parts_stop_of_claim stop };
-
-    fn from(stop: ClaimStop) -> PartsRunStop {
-        match stop {
-            ClaimStop::OutOfMemory => PartsRunStop::OutOfMemory,
-            cause => PartsRunStop::Claim(cause),
-        }
     }
 }
 

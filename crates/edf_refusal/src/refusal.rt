@@ -2,7 +2,7 @@
 
 ghost use Rattle.std.specs.Prelude.{◌≡◌};
 ghost use Rattle.edf_refusal.specs.declared.refusal.Refusal.TheVariants as refusals;
-ghost use Rattle.edf_refusal.specs.Refusals.{claim_text, opening_text, reading_text, refusal_of_parts_run, refusal_of_report, refusal_of_run, refusal_text, role_of, role_of_part};
+ghost use Rattle.edf_refusal.specs.Refusals.{claim_text, opening_text, reading_text, refusal_of_parts_run, refusal_of_report, refusal_of_run, refusal_text};
 
 use crate::parts_stop::{PartSide, PartsRunStop};
 use crate::side::Side;
@@ -22,28 +22,6 @@ pub enum Role {
     Export,
     /// The only file of its command.
     File,
-}
-
-impl From<Side> for Role {
-    ghost from_gives = { λ side role. role ≡ role_of side };
-
-    fn from(side: Side) -> Role {
-        match side {
-            Side::Original => Role::Original,
-            Side::Export => Role::Export,
-        }
-    }
-}
-
-impl From<PartSide> for Role {
-    ghost from_gives = { λ side role. role ≡ role_of_part side };
-
-    fn from(side: PartSide) -> Role {
-        match side {
-            PartSide::Original => Role::Original,
-            PartSide::Part(_) => Role::Export,
-        }
-    }
 }
 
 /// Why a command ended without an outcome.
@@ -165,7 +143,8 @@ impl From<RunStop> for Refusal {
     fn from(stop: RunStop) -> Refusal {
         match stop {
             RunStop::OutOfMemory => Refusal::Memory,
-            RunStop::ReadFailed(side) => Refusal::Reading(side.into()),
+            RunStop::ReadFailed(Side::Original) => Refusal::Reading(Role::Original),
+            RunStop::ReadFailed(Side::Export) => Refusal::Reading(Role::Export),
             RunStop::Claim(cause) => Refusal::Claim(cause),
             RunStop::WriteFailed => Refusal::Writing,
         }
@@ -178,7 +157,8 @@ impl From<PartsRunStop> for Refusal {
     fn from(stop: PartsRunStop) -> Refusal {
         match stop {
             PartsRunStop::OutOfMemory => Refusal::Memory,
-            PartsRunStop::ReadFailed(side) => Refusal::Reading(side.into()),
+            PartsRunStop::ReadFailed(PartSide::Original) => Refusal::Reading(Role::Original),
+            PartsRunStop::ReadFailed(PartSide::Part(_)) => Refusal::Reading(Role::Export),
             PartsRunStop::Claim(cause) => Refusal::Claim(cause),
             PartsRunStop::WriteFailed => Refusal::Writing,
         }

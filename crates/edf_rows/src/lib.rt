@@ -5,5 +5,4 @@
 pub mod build;
 pub mod claims;
 pub mod files;
-pub mod parts_rows;
 pub mod rows;

@@ -1,30 +1,40 @@
-//! The worked rows of one export: the files, the claim, and the line that is stored for them.
+//! The worked rows: the files, the claim, and the line that is stored for them.
 
 ghost use Rattle.std.specs.Prelude.{◌≡◌, map};
 ghost use Rattle.edf_rows.specs.Rows.{row_of, worked_rows};
 
-use crate::claims;
+use crate::claims::Claimed;
 use crate::files::{Base, File};
+use crate::rows::Exports::{One, Several};
 use edf_fields::fault::Place::{AtField, AtSignal};
 use edf_fields::layout::{FixedField as Fixed, SignalField as Field};
 
-/// A worked row of one export.
+/// The exports of a worked row.
+#[derive(Clone, Copy)]
+pub enum Exports {
+    /// One, which is checked alone.
+    One(File),
+    /// One or two, one after the other, which are checked together.
+    Several(File, Option<File>),
+}
+
+/// A worked row.
 #[derive(Clone, Copy)]
 pub struct Row {
     /// Its number, which is printed.
     pub number: u8,
     /// The original.
     pub original: File,
-    /// The export.
-    pub export: File,
-    /// The text of the claim.
-    pub claim: &'static str,
+    /// The export, or the exports.
+    pub exports: Exports,
+    /// The claim.
+    pub claim: Claimed,
     /// The line that is stored for them.
     pub stored: &'static str,
 }
 
 /// The night, as it was recorded.
-pub(crate) const NIGHT: File = File {
+const NIGHT: File = File {
     base: Base::Reference,
     texts: &[],
     bytes: &[],
@@ -203,268 +213,278 @@ const WITHOUT_APNEA: File = File {
     ..NIGHT
 };
 
-/// The worked rows of one export, in the order in which they are written. The header of the night has 1,024 bytes, and a
-/// data record of it 52, of which the last 40 are the lane.
+const FIRST_HALF: File = File {
+    base: Base::FirstHalf,
+    ..NIGHT
+};
+
+const SECOND_HALF: File = File {
+    base: Base::SecondHalf,
+    ..NIGHT
+};
+
+/// The worked rows, in the order in which they are written. The header of the night has 1,024 bytes, and a data record of
+/// it 52, of which the last 40 are the lane; its second half has 1,128 bytes.
 const ROWS: &[Row] = &[
     Row {
         number: 1,
         original: SMALL,
-        export: SMALL,
-        claim: claims::TEMP,
+        exports: One(SMALL),
+        claim: Claimed::Temp,
         stored: "YES channels 1 samples 2 annotations 0\n",
     },
     Row {
         number: 2,
         original: NIGHT,
-        export: NIGHT,
-        claim: claims::ALL,
+        exports: One(NIGHT),
+        claim: Claimed::All,
         stored: "YES channels 2 samples 24 annotations 3\n",
     },
     Row {
         number: 3,
         original: NIGHT,
-        export: EXCHANGED,
-        claim: claims::ALL,
+        exports: One(EXCHANGED),
+        claim: Claimed::All,
         stored: "YES channels 2 samples 24 annotations 3\n",
     },
     Row {
         number: 4,
         original: NIGHT,
-        export: EXCERPT,
-        claim: claims::EXCERPT,
+        exports: One(EXCERPT),
+        claim: Claimed::Excerpt,
         stored: "YES channels 2 samples 12 annotations 1\n",
     },
     Row {
         number: 5,
         original: NIGHT,
-        export: LONG_EXCERPT,
-        claim: claims::EXCERPT,
+        exports: One(LONG_EXCERPT),
+        claim: Claimed::Excerpt,
         stored: "NO 10 sample \"ECG\" at 3000000000000 ps extra\n",
     },
     Row {
         number: 6,
         original: NIGHT,
-        export: GAP,
-        claim: claims::GAP,
+        exports: One(GAP),
+        claim: Claimed::Gap,
         stored: "YES channels 2 samples 12 annotations 2\n",
     },
     Row {
         number: 7,
         original: NIGHT,
-        export: File {
+        exports: One(File {
             texts: &[(AtField(Fixed::Reserved), "EDF+C")],
             ..GAP
-        },
-        claim: claims::GAP,
+        }),
+        claim: Claimed::Gap,
         stored: "NO 2 export fault: NotContiguous at record 1\n",
     },
     Row {
         number: 8,
         original: NIGHT,
-        export: File {
+        exports: One(File {
             bytes: &[(1030, &[31])],
             ..NIGHT
-        },
-        claim: claims::ALL,
+        }),
+        claim: Claimed::All,
         stored: "NO 10 sample \"EEG Fpz-Cz\" at 750000000000 ps original 30 export 31\n",
     },
     Row {
         number: 9,
         original: NIGHT,
-        export: File {
+        exports: One(File {
             bytes: &[(1134, &[0]), (1138, &[104])],
             ..NIGHT
-        },
-        claim: claims::ALL,
+        }),
+        claim: Claimed::All,
         stored: "NO 10 sample \"ECG\" at 2500000000000 ps original 105 export 104\n",
     },
     Row {
         number: 10,
         original: PAIRS,
-        export: TRIPLES,
-        claim: claims::TEMP,
+        exports: One(TRIPLES),
+        claim: Claimed::Temp,
         stored: "YES channels 1 samples 6 annotations 0\n",
     },
     Row {
         number: 11,
         original: PAIRS,
-        export: SPARSE,
-        claim: claims::TEMP,
+        exports: One(SPARSE),
+        claim: Claimed::Temp,
         stored: "NO 10 sample \"Temp\" at 1000000000000 ps missing\n",
     },
     Row {
         number: 12,
         original: THIRDS,
-        export: SPREAD,
-        claim: claims::TEMP,
+        exports: One(SPREAD),
+        claim: Claimed::Temp,
         stored: "NO 10 sample \"Temp\" at 333333333333 ps extra\n",
     },
     Row {
         number: 13,
         original: THIRDS,
-        export: File {
+        exports: One(File {
             bytes: &[(770, &[9])],
             ..THIRDS
-        },
-        claim: claims::TEMP,
+        }),
+        claim: Claimed::Temp,
         stored: "NO 10 sample \"Temp\" at 333333333333 ps original 2 export 9\n",
     },
     Row {
         number: 14,
         original: NIGHT,
-        export: File {
+        exports: One(File {
             texts: &[
                 (AtSignal(0, Field::PhysicalMinimum), "-100.0"),
                 (AtSignal(0, Field::PhysicalMaximum), "100.00"),
             ],
             ..NIGHT
-        },
-        claim: claims::ALL,
+        }),
+        claim: Claimed::All,
         stored: "YES channels 2 samples 24 annotations 3\n",
     },
     Row {
         number: 15,
         original: NIGHT,
-        export: File {
+        exports: One(File {
             texts: &[
                 (AtSignal(0, Field::PhysicalMaximum), "-60"),
                 (AtSignal(0, Field::DigitalMaximum), "-1229"),
             ],
             ..NIGHT
-        },
-        claim: claims::ALL,
+        }),
+        claim: Claimed::All,
         stored: "YES channels 2 samples 24 annotations 3\n",
     },
     Row {
         number: 16,
         original: NIGHT,
-        export: File {
+        exports: One(File {
             texts: &[(AtSignal(0, Field::PhysicalMaximum), "100.0001")],
             ..NIGHT
-        },
-        claim: claims::ALL,
+        }),
+        claim: Claimed::All,
         stored: "NO 7 calibration \"EEG Fpz-Cz\"\n",
     },
     Row {
         number: 17,
         original: NIGHT,
-        export: File {
+        exports: One(File {
             texts: &[
                 (AtSignal(0, Field::PhysicalMinimum), "-99"),
                 (AtSignal(0, Field::PhysicalMaximum), "101"),
             ],
             ..NIGHT
-        },
-        claim: claims::ALL,
+        }),
+        claim: Claimed::All,
         stored: "NO 7 calibration \"EEG Fpz-Cz\"\n",
     },
     Row {
         number: 18,
         original: NIGHT,
-        export: NIGHT,
-        claim: claims::NO_NAME,
+        exports: One(NIGHT),
+        claim: Claimed::NoName,
         stored: "NO 8 subfield name not X\n",
     },
     Row {
         number: 19,
         original: NIGHT,
-        export: File {
+        exports: One(File {
             texts: &[(
                 AtField(Fixed::Patient),
                 "MCH-0234567 X 02-MAY-1951 Haagse_Harry",
             )],
             ..NIGHT
-        },
-        claim: claims::ALL,
+        }),
+        claim: Claimed::All,
         stored: "NO 8 subfield sex changed\n",
     },
     Row {
         number: 20,
         original: WARD,
-        export: NIGHT,
-        claim: claims::NO_PATIENT_EXTRAS,
+        exports: One(NIGHT),
+        claim: Claimed::NoPatientExtras,
         stored: "YES channels 2 samples 24 annotations 3\n",
     },
     Row {
         number: 21,
         original: WARD,
-        export: WARD,
-        claim: claims::NO_PATIENT_EXTRAS,
+        exports: One(WARD),
+        claim: Claimed::NoPatientExtras,
         stored: "NO 8 subfield patient-extras not X\n",
     },
     Row {
         number: 22,
         original: WARD,
-        export: NIGHT,
-        claim: claims::ALL,
+        exports: One(NIGHT),
+        claim: Claimed::All,
         stored: "NO 8 subfield patient-extras changed\n",
     },
     Row {
         number: 23,
         original: NIGHT,
-        export: DATELESS,
-        claim: claims::NO_DATE,
+        exports: One(DATELESS),
+        claim: Claimed::NoDate,
         stored: "YES channels 2 samples 24 annotations 3\n",
     },
     Row {
         number: 24,
         original: NIGHT,
-        export: DATELESS,
-        claim: claims::ALL,
+        exports: One(DATELESS),
+        claim: Claimed::All,
         stored: "NO 8 subfield date changed\n",
     },
     Row {
         number: 25,
         original: NIGHT,
-        export: File {
+        exports: One(File {
             texts: &[(
                 AtField(Fixed::Recording),
                 "Startdate 02-MAR-2002 PSG-1234/2002 NN Telemetry03",
             )],
             ..EXCERPT
-        },
-        claim: claims::EXCERPT,
+        }),
+        claim: Claimed::Excerpt,
         stored: "NO 2 export fault: StartdateDiffers at header field startdate\n",
     },
     Row {
         number: 26,
         original: NIGHT,
-        export: MOVED,
-        claim: claims::ALL,
+        exports: One(MOVED),
+        claim: Claimed::All,
         stored: "YES channels 2 samples 24 annotations 3\n",
     },
     Row {
         number: 27,
         original: TWICE,
-        export: NIGHT,
-        claim: claims::ALL,
+        exports: One(NIGHT),
+        claim: Claimed::All,
         stored: "NO 11 annotation missing at 1500000000000 ps duration 1000000000000 ps text \"Apnea\"\n",
     },
     Row {
         number: 28,
         original: NIGHT,
-        export: NIGHT,
-        claim: claims::NO_LIGHTS,
+        exports: One(NIGHT),
+        claim: Claimed::NoLights,
         stored: "NO 11 annotation extra at 500000000000 ps duration none text \"Lights off\"\n",
     },
     Row {
         number: 29,
         original: NIGHT,
-        export: File {
+        exports: One(File {
             length: Some(1231),
             ..NIGHT
-        },
-        claim: claims::ALL,
+        }),
+        claim: Claimed::All,
         stored: "NO 2 export fault: Truncated at record 3\n",
     },
     Row {
         number: 30,
         original: NIGHT,
-        export: File {
+        exports: One(File {
             length: Some(1233),
             ..NIGHT
-        },
-        claim: claims::ALL,
+        }),
+        claim: Claimed::All,
         stored: "NO 2 export fault: TrailingBytes at end\n",
     },
     Row {
@@ -473,25 +493,25 @@ const ROWS: &[Row] = &[
             length: Some(0),
             ..NIGHT
         },
-        export: NIGHT,
-        claim: claims::ALL,
+        exports: One(NIGHT),
+        claim: Claimed::All,
         stored: "NO 1 original fault: Truncated at header field version\n",
     },
     Row {
         number: 32,
         original: NIGHT,
-        export: File {
+        exports: One(File {
             length: Some(300),
             ..NIGHT
-        },
-        claim: claims::ALL,
+        }),
+        claim: Claimed::All,
         stored: "NO 2 export fault: Truncated at signal 2 field label\n",
     },
     Row {
         number: 33,
         original: NIGHT,
-        export: BAD_TEXT,
-        claim: claims::ALL,
+        exports: One(BAD_TEXT),
+        claim: Claimed::All,
         stored: "NO 2 export fault: BadTal(NotUtf8) at record 3\n",
     },
     Row {
@@ -500,28 +520,28 @@ const ROWS: &[Row] = &[
             texts: &[(AtField(Fixed::Records), "-1")],
             ..NIGHT
         },
-        export: BAD_TEXT,
-        claim: claims::ALL,
+        exports: One(BAD_TEXT),
+        claim: Claimed::All,
         stored: "NO 1 original fault: BadRange at header field records\n",
     },
     Row {
         number: 35,
         original: NIGHT,
-        export: File {
+        exports: One(File {
             texts: &[(AtField(Fixed::Reserved), "EDF+C by J")],
             ..NIGHT
-        },
-        claim: claims::ALL,
+        }),
+        claim: Claimed::All,
         stored: "NO 9 not clean header\n",
     },
     Row {
         number: 36,
         original: NIGHT,
-        export: File {
+        exports: One(File {
             texts: &[(AtSignal(1, Field::Reserved), "room 4")],
             ..NIGHT
-        },
-        claim: claims::ALL,
+        }),
+        claim: Claimed::All,
         stored: "NO 9 not clean \"ECG\"\n",
     },
     Row {
@@ -533,124 +553,188 @@ const ROWS: &[Row] = &[
             ],
             ..NIGHT
         },
-        export: NIGHT,
-        claim: claims::ALL,
+        exports: One(NIGHT),
+        claim: Claimed::All,
         stored: "YES channels 2 samples 24 annotations 3\n",
     },
     Row {
         number: 38,
         original: NIGHT,
-        export: NIGHT,
-        claim: claims::ECG,
+        exports: One(NIGHT),
+        claim: Claimed::Ecg,
         stored: "NO 5 extra channel \"EEG Fpz-Cz\"\n",
     },
     Row {
         number: 39,
         original: NIGHT,
-        export: ONE_CHANNEL,
-        claim: claims::ALL,
+        exports: One(ONE_CHANNEL),
+        claim: Claimed::All,
         stored: "NO 4 missing channel \"ECG\"\n",
     },
     Row {
         number: 40,
         original: NIGHT,
-        export: File {
+        exports: One(File {
             texts: &[(AtSignal(1, Field::Prefilter), "HP:1Hz")],
             ..NIGHT
-        },
-        claim: claims::ALL,
+        }),
+        claim: Claimed::All,
         stored: "NO 6 channel text \"ECG\" prefilter\n",
     },
     Row {
         number: 41,
         original: NIGHT,
-        export: NIGHT,
-        claim: claims::UNKNOWN,
+        exports: One(NIGHT),
+        claim: Claimed::Unknown,
         stored: "NO 3 unknown channel \"EMG\"\n",
     },
     Row {
         number: 42,
         original: NIGHT,
-        export: File {
+        exports: One(File {
             texts: &[(AtField(Fixed::Startdate), "02.03.yy")],
             ..NIGHT
-        },
-        claim: claims::ALL,
+        }),
+        claim: Claimed::All,
         stored: "NO 2 export fault: BadStart at header field startdate\n",
     },
     Row {
         number: 53,
         original: NIGHT,
-        export: NIGHT,
-        claim: claims::BLANK_APNEA,
+        exports: One(NIGHT),
+        claim: Claimed::BlankApnea,
         stored: "NO 11 annotation extra at 1500000000000 ps duration 1000000000000 ps text \"Apnea\"\n",
     },
     Row {
         number: 54,
         original: NIGHT,
-        export: BLANKED,
-        claim: claims::BLANK_APNEA,
+        exports: One(BLANKED),
+        claim: Claimed::BlankApnea,
         stored: "YES channels 2 samples 24 annotations 3\n",
     },
     Row {
         number: 55,
         original: NIGHT,
-        export: NIGHT,
-        claim: claims::NO_LIGHTS_BY_BEGIN,
+        exports: One(NIGHT),
+        claim: Claimed::NoLightsByBegin,
         stored: "NO 11 annotation extra at 500000000000 ps duration none text \"Lights off\"\n",
     },
     Row {
         number: 56,
         original: NIGHT,
-        export: LIT,
-        claim: claims::NO_LIGHTS_BY_BEGIN,
+        exports: One(LIT),
+        claim: Claimed::NoLightsByBegin,
         stored: "YES channels 2 samples 24 annotations 2\n",
     },
     Row {
         number: 57,
         original: NIGHT,
-        export: WITHOUT_APNEA,
-        claim: claims::NO_APNEA,
+        exports: One(WITHOUT_APNEA),
+        claim: Claimed::NoApnea,
         stored: "YES channels 2 samples 24 annotations 1\n",
     },
     Row {
         number: 58,
         original: LATE,
-        export: LATE,
-        claim: claims::ALL,
+        exports: One(LATE),
+        claim: Claimed::All,
         stored: "YES channels 2 samples 24 annotations 3\n",
     },
     Row {
         number: 59,
         original: NIGHT,
-        export: LATE,
-        claim: claims::LATE,
+        exports: One(LATE),
+        claim: Claimed::Late,
         stored: "YES channels 2 samples 24 annotations 3\n",
     },
     Row {
         number: 60,
         original: NIGHT,
-        export: LATE_AND_DATELESS,
-        claim: claims::LATE_AND_DATELESS,
+        exports: One(LATE_AND_DATELESS),
+        claim: Claimed::LateAndDateless,
         stored: "NO 2 export fault: BadStart at header field startdate\n",
     },
     Row {
         number: 61,
         original: LATE,
-        export: LATE_WITH_TWO_DAYS,
-        claim: claims::ALL,
+        exports: One(LATE_WITH_TWO_DAYS),
+        claim: Claimed::All,
         stored: "NO 2 export fault: StartdateDiffers at header field startdate\n",
     },
     Row {
         number: 62,
         original: LATE,
-        export: LATE_IN_DIGITS,
-        claim: claims::ALL,
+        exports: One(LATE_IN_DIGITS),
+        claim: Claimed::All,
         stored: "NO 2 export fault: StartdateDiffers at header field startdate\n",
+    },
+    Row {
+        number: 63,
+        original: NIGHT,
+        exports: Several(NIGHT, None),
+        claim: Claimed::All,
+        stored: "YES parts 1 channels 2 samples 24 annotations 3\n",
+    },
+    Row {
+        number: 64,
+        original: NIGHT,
+        exports: Several(FIRST_HALF, Some(SECOND_HALF)),
+        claim: Claimed::All,
+        stored: "YES parts 2 channels 2 samples 24 annotations 3\n",
+    },
+    Row {
+        number: 65,
+        original: NIGHT,
+        exports: Several(SECOND_HALF, Some(FIRST_HALF)),
+        claim: Claimed::All,
+        stored: "NO 12 part 1 starts early\n",
+    },
+    Row {
+        number: 66,
+        original: NIGHT,
+        exports: Several(FIRST_HALF, Some(FIRST_HALF)),
+        claim: Claimed::All,
+        stored: "NO 12 part 1 starts early\n",
+    },
+    Row {
+        number: 67,
+        original: NIGHT,
+        exports: Several(FIRST_HALF, None),
+        claim: Claimed::All,
+        stored: "NO 10 sample \"ECG\" at 2000000000000 ps missing\n",
+    },
+    Row {
+        number: 68,
+        original: NIGHT,
+        exports: Several(
+            FIRST_HALF,
+            Some(File {
+                length: Some(1127),
+                ..SECOND_HALF
+            }),
+        ),
+        claim: Claimed::All,
+        stored: "NO 2 part 1 export fault: Truncated at record 1\n",
+    },
+    Row {
+        number: 69,
+        original: NIGHT,
+        exports: Several(
+            FIRST_HALF,
+            Some(File {
+                texts: &[(
+                    AtField(Fixed::Patient),
+                    "MCH-0234567 X 02-MAY-1951 Haagse_Harry",
+                )],
+                ..SECOND_HALF
+            }),
+        ),
+        claim: Claimed::All,
+        stored: "NO 8 part 1 subfield sex changed\n",
     },
 ];
 
-/// The worked rows of one export, in the order in which they are written.
+/// The worked rows, in the order in which they are written.
 #[tactic(auto, unfolding(crate::specs::Rows::worked_rows))]
 pub fn worked_rows() -> &'static [Row]
     ensures { map row_of result.now ≡ worked_rows }

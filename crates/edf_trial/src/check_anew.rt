@@ -4,8 +4,7 @@ ghost use Rattle.std.specs.Prelude.{IfOk, IsTrue};
 ghost use Rattle.edf_check.specs.Runs.{IsVerdictUnder};
 
 use crate::recordings::Recordings;
-use edf_check::check::check;
-use edf_claim::claim::Claim;
+use edf_check::judge::judge;
 use edf_refusal::stop::RunStop;
 use edf_verdict::verdict::Verdict;
 use std::alloc::Global;
@@ -22,9 +21,7 @@ pub fn check_anew<R: Recordings>(
     ensures { IfOk result (λ verdict. IsTrue (R.are_honest recordings.now) →
         IsVerdictUnder (R.original recordings.now) (R.export recordings.now) claim_text.now verdict) }
 {
-    let claim = Claim::read(alloc, claim_text)?;
     let mut original = recordings.open_original()?;
     let mut export = recordings.open_export()?;
-    let verdict = check(alloc, &mut original, &mut export, &claim)?;
-    Ok(verdict)
+    judge(alloc, &mut original, &mut export, claim_text)
 }

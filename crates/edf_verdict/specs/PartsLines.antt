@@ -3,7 +3,7 @@ use Rattle.std.specs.Prelude.{ℕ, Bool, true, false, if◌then◌else◌, List,
 use Rattle.std.specs.Fmt.{decimal}
 use Rattle.edf_verdict.specs.declared.parts_verdict.PartsVerdict.{PartsVerdict}
 use Rattle.edf_verdict.specs.declared.verdict.Difference.{Difference}
-use Rattle.edf_verdict.specs.declared.verdict.Difference.TheVariants.{OriginalFault, ExportFault, UnknownChannel, MissingChannel, ExtraChannel, ChannelText, Calibration, Subfield, NotClean, PartOrder, Sample, Annotation}
+use Rattle.edf_verdict.specs.declared.verdict.Difference.TheVariants.{OriginalFault, UnknownChannel, Sample, Annotation}
 use Rattle.edf_verdict.specs.declared.verdict.Verdict.{Verdict}
 use Rattle.edf_verdict.specs.declared.verdict.Verdict.TheVariants.{Yes, No}
 use Rattle.edf_verdict.specs.Lines.{no_text, what_text}
@@ -12,17 +12,10 @@ use Rattle.edf_verdict.specs.Numbers.{number_of}
 -- the difference is said of one of the exports, and not of the original, of the claim, or of all exports together
 abbrev pub is_of_part : Difference → Bool
 is_of_part (OriginalFault fault) = false
-is_of_part (ExportFault fault) = true
 is_of_part (UnknownChannel label) = false
-is_of_part (MissingChannel label) = true
-is_of_part (ExtraChannel label) = true
-is_of_part (ChannelText label field) = true
-is_of_part (Calibration label) = true
-is_of_part (Subfield which mismatch) = true
-is_of_part (NotClean text) = true
-is_of_part PartOrder = true
 is_of_part (Sample label at_ps mismatch) = false
 is_of_part (Annotation mismatch onset duration text) = false
+is_of_part difference = true
 
 -- which export, counted from 0
 unfoldable pub part_words : ℕ → List ℕ

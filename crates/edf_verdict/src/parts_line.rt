@@ -40,20 +40,13 @@ impl Difference {
     fn is_of_part(&self) -> bool
         ensures { result ≡ is_of_part self.now }
     {
-        match self {
+        !matches!(
+            self,
             Difference::OriginalFault(_)
-            | Difference::UnknownChannel(_)
-            | Difference::Sample { .. }
-            | Difference::Annotation { .. } => false,
-            Difference::ExportFault(_)
-            | Difference::MissingChannel(_)
-            | Difference::ExtraChannel(_)
-            | Difference::ChannelText(_, _)
-            | Difference::Calibration(_)
-            | Difference::Subfield(_, _)
-            | Difference::NotClean(_)
-            | Difference::PartOrder => true,
-        }
+                | Difference::UnknownChannel(_)
+                | Difference::Sample { .. }
+                | Difference::Annotation { .. }
+        )
     }
 
     /// Puts the difference in words behind the line, with the export of which it is said, where it is said of one.

@@ -5,7 +5,7 @@ ghost use Rattle.std.specs.Prelude.{[], false};
 use crate::files::watched;
 use crate::signs::{Signs, Watched};
 use edf_fields::source::ReadSource;
-use edf_refusal::refusal::Refusal;
+use edf_refusal::refusal::{Refusal, Role};
 use edf_refusal::side::Side;
 use edf_refusal::stop::CheckStop;
 use edf_trial::recordings::Recordings;
@@ -27,7 +27,11 @@ fn open_again<'a, R: Files + Eprint + Clock + AllocGlobal>(
     path: &str,
     side: Side,
 ) -> Result<Watched<'a, R, ReadSource<BufReader<R::File>>>, CheckStop> {
-    match watched(signs, path, side.into()) {
+    let role = match side {
+        Side::Original => Role::Original,
+        Side::Export => Role::Export,
+    };
+    match watched(signs, path, role) {
         Ok(source) => Ok(source),
         Err(Refusal::Memory) => Err(CheckStop::OutOfMemory),
         Err(_) => Err(CheckStop::ReadFailed(side)),

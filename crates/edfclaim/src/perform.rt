@@ -8,7 +8,6 @@ ghost use Rattle.edfclaim.specs.Opening.{CheckIsRefused, DraftIsRefused, PartsAr
 use crate::files::{claim_text, digested_recordings, recording, recordings, watched};
 use crate::files_again::FilesAgain;
 use crate::signs::{Signs, Wiped};
-use edf_check::vectors::vectors_to;
 use edf_check::{run, run_parts};
 use edf_command_line::VERSION;
 use edf_draft::draft::draft_to;
@@ -22,6 +21,7 @@ use edf_refusal::refusal::{Refusal, Role};
 use edf_report::conform::conform_to;
 use edf_report::notes::notes_to;
 use edf_report::show::show_to;
+use edf_vectors::vectors::vectors_to;
 use edf_verdict::outcome::Outcome;
 use std::io;
 use std::rt::Files;

@@ -6,7 +6,7 @@ use Rattle.std.proofs.lemmas.Cmp.{tied_itself}
 use Rattle.std.proofs.lemmas.List.Sorted.{sum_by-IsPermutation, IsPermutation-map, sorted_far, ranks_by}
 use Rattle.std.proofs.Math.Seq.{take-suc, take-length}
 use Rattle.std.proofs.lemmas.List.{map-append, take-append-drop}
-use Rattle.std.proofs.lemmas.List.Sums.{sum_by-cons, sum_by-append}
+use Rattle.std.proofs.lemmas.List.Sums.{sum_by-cons}
 use Rattle.edf_fields.specs.Lists.{Has}
 use Rattle.edf_fields.proofs.ForCallers.{map-has, at-has, get-index, get-within}
 use Rattle.edf_stream.specs.declared.notes.Note.{Note}
@@ -15,8 +15,14 @@ use Rattle.edf_stream.specs.Views.{note_value}
 use Rattle.edf_verdict.specs.declared.verdict.AnnotationMismatch.{AnnotationMismatch}
 use Rattle.edf_verdict.specs.declared.verdict.AnnotationMismatch.TheVariants.{Missing, Extra}
 use Rattle.edf_check.specs.Annotations.{note_cmp, times, IsMore, IsFirstNote, SameNotes}
-use Rattle.edf_check.specs.notes.NoteOrder.{AreInOrder, NoteMismatch, by_order, first_unequal_of}
+use Rattle.edf_check.specs.notes.NoteOrder.{NoteMismatch, by_order, first_unequal_of}
 use Rattle.edf_check.proofs.notes.NoteFacts.{note-total, note-exact}
+use Rattle.edf_check.proofs.notes.RearrangedFacts.{times-append}
+
+-- no annotation is before one that stands ahead of it
+abbrev pub AreInOrder : List NoteValue → Type 0
+AreInOrder [] = Unit {0}
+AreInOrder (x ∷ xs) = ((y : NoteValue) → Has xs y → note_cmp y x ≢ Less) × AreInOrder xs
 
 abbrev pub once : Bool → ℕ
 once b = cond b 1 0
@@ -166,9 +172,6 @@ extra_first [] (y ∷ ys) note is some none = ap (λ (n : Note). first_unequal_o
 extra_first (x ∷ xs) exported note is some none = absurd (omega (arith, none))
 
 -- ---- those at the front that are the same
-
-times-append : (xs ys : List NoteValue) (n : NoteValue) → times (xs ++ ys) n ≡ times xs n + times ys n
-times-append xs ys n = sum_by-append (λ other. once (is_eq (note_cmp other n))) xs ys
 
 in-two : (xs : List Note) (i : ℕ) → map note_value xs ≡ map note_value (take i xs) ++ map note_value (drop i xs)
 in-two xs i = ap (map note_value) (sym (take-append-drop i xs)) ∙ map-append note_value (take i xs) (drop i xs)

@@ -20,7 +20,7 @@ times-cons : (x : NoteValue) (xs : List NoteValue) (n : NoteValue) → times (x 
 unfolding counted
 times-cons x xs n = sum_by-cons (λ other. cond (is_eq (note_cmp other n)) 1 0) x xs
 
-times-append : (xs ys : List NoteValue) (n : NoteValue) → times (xs ++ ys) n ≡ times xs n + times ys n
+pub times-append : (xs ys : List NoteValue) (n : NoteValue) → times (xs ++ ys) n ≡ times xs n + times ys n
 times-append xs ys n = sum_by-append (λ other. cond (is_eq (note_cmp other n)) 1 0) xs ys
 
 itself : (x : NoteValue) → counted x x ≡ 1

@@ -1,5 +1,5 @@
 -- The earliest difference of the columns is the first mismatch of what they hold.
-use Rattle.std.proofs.Common.{◌≡◌, ℕ, ◌<◌, ℤ, List, [], ◌∷◌, map, Option, Some, None, option_map, MatchOption, IfSome, slice_get, unwrap_or, inl, inr, refl, sym, ap, ◌∙◌, subst}
+use Rattle.std.proofs.Common.{◌≡◌, ℕ, ◌<◌, ℤ, List, [], ◌∷◌, map, Option, Some, None, option_map, MatchOption, IfSome, slice_get, unwrap_or, inl, inr, refl, sym, ap, ◌∙◌, subst, ◌≤◌}
 use Rattle.edf_fields.specs.Lists.{Has}
 use Rattle.edf_fields.proofs.ForCallers.{at-has, has-at, map-get, get-map}
 use Rattle.edf_stream.specs.declared.instant.Instant.{Instant}
@@ -8,15 +8,50 @@ use Rattle.edf_check.specs.declared.samples.difference.PointDifference.{PointDif
 use Rattle.edf_check.specs.declared.samples.earliest.Found.{Found}
 use Rattle.edf_verdict.specs.declared.verdict.SampleMismatch.{SampleMismatch}
 use Rattle.edf_verdict.specs.declared.verdict.SampleMismatch.TheVariants.{Missing, Extra, Value}
-use Rattle.edf_check.specs.samples.Columns.{Column, label_of, KeptIn, ExportedIn, IsColumn, AreColumns, difference_of}
-use Rattle.edf_check.specs.Courses.{Agree, DifferAt, IsFirstMismatch}
-use Rattle.edf_check.specs.samples.Differences.{HasValue, Match, Differ, IsLeastDifference}
-use Rattle.edf_check.specs.samples.Earliest.{earliest, IsEarliest, AreInstants}
+use Rattle.edf_check.specs.Courses.{Agree, DifferAt, IsFirstMismatch, Course}
 use Rattle.edf_check.specs.InstantOrder.{floor_of}
 use Rattle.edf_heads.specs.Labels.{IsNotAbove}
-use Rattle.edf_check.proofs.samples.DifferenceFacts.{exact, partner_at, match_not_differ}
-use Rattle.edf_check.proofs.samples.EarliestFacts.{earliest-is-least}
+use Rattle.edf_check.proofs.samples.DifferenceFacts.{exact, partner_at, match_not_differ, HasValue, Match, Differ, IsLeastDifference, IsAscending}
+use Rattle.edf_check.proofs.samples.EarliestFacts.{earliest-is-least, IsEarliest, AreInstants}
 use Rattle.edf_check.proofs.samples.FractionFacts.{same_below, from_below, before_not, by_before, both_same}
+use Rattle.edf_check.specs.declared.samples.point.Point.{Point}
+use Rattle.edf_check.specs.samples.Differences.{first_difference_of, earliest}
+
+-- a label, the kept samples of its channel, with n of them in a data record of the original, and the exported ones, with m in one of the export
+pub record Column : Type 0 where
+  pub label : List ℕ
+  pub n : ℕ
+  pub kept : List Point
+  pub m : ℕ
+  pub exported : List Point
+
+abbrev pub label_of : Column → List ℕ
+label_of c = c.label
+
+abbrev pub KeptIn : List Column → Course
+KeptIn cs label at value = (c : Column) × Has cs c × (c.label ≡ label) × HasValue c.n c.kept at value
+
+abbrev pub ExportedIn : List Column → Course
+ExportedIn cs label at value = (c : Column) × Has cs c × (c.label ≡ label) × HasValue c.m c.exported at value
+
+-- a column in good order
+pub record IsColumn (c : Column) : Type 0 where
+  pub n : 0 < c.n
+  pub m : 0 < c.m
+  pub kept : IsAscending c.kept
+  pub exported : IsAscending c.exported
+
+-- no label is above one behind it
+abbrev pub LabelsRise : List (List ℕ) → Type 0
+LabelsRise labels = (i j : ℕ) (label other : List ℕ) → i ≤ j → slice_get labels i ≡ Some label → slice_get labels j ≡ Some other → IsNotAbove label other
+
+pub record AreColumns (cs : List Column) : Type 0 where
+  pub each : (c : Column) → Has cs c → IsColumn c
+  pub distinct : (c d : Column) → Has cs c → Has cs d → c.label ≡ d.label → c ≡ d
+  pub rising : LabelsRise (map label_of cs)
+
+abbrev pub difference_of : Column → Option PointDifference
+difference_of c = first_difference_of c.n c.kept c.m c.exported
 
 -- the label, the floor and the mismatch of a difference of the columns
 pub record First : Type 0 where

@@ -4,15 +4,14 @@ use Rattle.std.proofs.lemmas.Int.{ints}
 use Rattle.std.proofs.lemmas.List.{take-append-drop}
 use Rattle.std.proofs.Math.Nat.{mul-le-mul_right}
 use borrow.Author.Differences.{up, down}
-use Rattle.edf_fields.proofs.ForCallers.{has-filtered}
+use Rattle.edf_fields.proofs.ForCallers.{has-filtered, not-true}
 use Rattle.edf_stream.specs.declared.instant.Instant.{Instant}
 use Rattle.edf_stream.specs.InstantOrder.{IsNotBefore}
 use Rattle.edf_check.specs.declared.samples.point.Point.{Point}
-use Rattle.edf_check.specs.samples.Differences.{instant, IsAscending, AreBefore, AreFrom}
+use Rattle.edf_check.specs.samples.Differences.{instant}
 use Rattle.edf_check.specs.InstantOrder.{IsBefore, is_before}
-use Rattle.edf_check.specs.samples.Stretches.{front_count}
-use Rattle.edf_check.specs.samples.Cuts.{whole, since, until}
-use Rattle.edf_check.proofs.samples.DifferenceFacts.{head_above}
+use Rattle.edf_check.specs.samples.Stretches.{front_count, whole, since, until}
+use Rattle.edf_check.proofs.samples.DifferenceFacts.{head_above, IsAscending, AreBefore, AreFrom}
 use Rattle.edf_check.proofs.samples.FilterFacts.{by_test, filter_all, filter_none, filter_implied}
 use Rattle.edf_check.proofs.samples.FractionFacts.{is_before-true, is_before-false, true-is_before, false-is_before, from_below}
 
@@ -29,12 +28,8 @@ until_none n t xs h = filter_none (λ x. is_before (instant n x) (whole t)) xs (
 
 -- ---- what a cut leaves stands on its side
 
-not_true : (b : Bool) → not b ≡ true → b ≡ false
-not_true true h = absurd (let f : false ≡ true = h in cc)
-not_true false h = refl
-
 pub since-from : (n : ℕ) (t : ℤ) (xs : List Point) → AreFrom n (since n t xs) (whole t)
-since-from n t xs x h = is_before-false (instant n x) (whole t) (not_true (is_before (instant n x) (whole t)) (has-filtered (λ y. not (is_before (instant n y) (whole t))) xs x h).1)
+since-from n t xs x h = is_before-false (instant n x) (whole t) (not-true (is_before (instant n x) (whole t)) (has-filtered (λ y. not (is_before (instant n y) (whole t))) xs x h).1)
 
 pub until-before : (n : ℕ) (t : ℤ) (xs : List Point) → AreBefore n (until n t xs) (whole t)
 until-before n t xs x h = is_before-true (instant n x) (whole t) (has-filtered (λ y. is_before (instant n y) (whole t)) xs x h).1
@@ -134,5 +129,5 @@ since_split n t u xs pn a l =
     let k = front_count n ys (whole u) in
     let again : since n u ys ≡ since n u xs =
     filter_implied (λ x. not (is_before (instant n x) (whole u))) (λ x. not (is_before (instant n x) (whole t))) xs
-    (λ x h. ap not (false-is_before (instant n x) (whole t) (earlier_from (instant n x) t u l (is_before-false (instant n x) (whole u) (not_true (is_before (instant n x) (whole u)) h))))) in
+    (λ x h. ap not (false-is_before (instant n x) (whole t) (earlier_from (instant n x) t u l (is_before-false (instant n x) (whole u) (not-true (is_before (instant n x) (whole u)) h))))) in
     sym (ap (λ zs. zs ++ since n u xs) (until_take n u ys pn ay) ∙ ap (λ zs. take k ys ++ zs) (sym again ∙ since_drop n u ys pn ay) ∙ take-append-drop k ys)

@@ -1,7 +1,6 @@
 -- The difference read from the left is the least one.
-use Rattle.std.proofs.Common.{◌≡◌, ◌≢◌, ℕ, ◌<◌, Bool, true, false, cond, ℤ, List, [], ◌∷◌, ◌++◌, Option, Some, None, inl, inr, ⊎_elim, refl, sym, ap, ◌∙◌, subst, arith, MatchOption, IfSome}
+use Rattle.std.proofs.Common.{◌≡◌, ◌≢◌, ℕ, ◌<◌, Bool, true, false, cond, ℤ, List, [], ◌∷◌, ◌++◌, Option, Some, None, inl, inr, ⊎_elim, refl, sym, ap, ◌∙◌, subst, MatchOption, IfSome, ◌<ℤ◌}
 use Rattle.std.proofs.lemmas.Bool.Decides.{Decides-int_eq}
-use Rattle.std.proofs.lemmas.Int.{ints}
 use Rattle.std.proofs.lemmas.Bool.{false≢true}
 use Rattle.std.specs.Option.{option_or}
 use Rattle.std.specs.Ordering.{int_eq}
@@ -14,8 +13,51 @@ use Rattle.edf_stream.specs.Instants.{IsSame}
 use Rattle.edf_stream.specs.InstantOrder.{IsNotBefore}
 use Rattle.edf_check.specs.InstantOrder.{IsBefore, is_before}
 use Rattle.edf_fields.specs.Lists.{Has}
-use Rattle.edf_check.specs.samples.Differences.{instant, IsAscending, HasValue, HasNone, AreIn, Match, Differ, IsDifference, IsLeastDifference, first_difference_of, missing, extra, other, heads, AreBefore, AreFrom, DifferenceSplits}
-use Rattle.edf_check.proofs.samples.FractionFacts.{before-not_before, same_below, same_above, before_below, before_same, before_same_back, is_before-true, is_before-false, true-is_before, false-is_before, both_same, before_over, same_through, same_before, same_back}
+use Rattle.edf_check.specs.samples.Differences.{instant, first_difference_of, missing, extra, other, heads}
+use Rattle.edf_check.proofs.samples.FractionFacts.{before-not_before, same_below, same_above, before_below, before_same, before_same_back, is_before-true, is_before-false, true-is_before, false-is_before, both_same, before_over, same_through, same_before, same_back, self_above}
+
+-- each numerator is below all that follow it
+abbrev pub IsAscending : List Point → Type 0
+IsAscending [] = Unit {0}
+IsAscending (x ∷ xs) = ((y : Point) → Has xs y → x.num <ℤ y.num) × IsAscending xs
+
+-- there is a sample with this value at this instant
+abbrev pub HasValue : ℕ → List Point → Instant → ℤ → Type 0
+HasValue n xs t v = (x : Point) × Has xs x × IsSame (instant n x) t × (x.value ≡ v)
+
+-- there is no sample at this instant
+abbrev HasNone : ℕ → List Point → Instant → Type 0
+HasNone n xs t = (x : Point) → Has xs x → IsSame (instant n x) t → ⊥
+
+-- each sample of the first list has a partner in the second: at the same instant, of the same value
+abbrev AreIn : ℕ → List Point → ℕ → List Point → Type 0
+AreIn n xs m ys = (x : Point) → Has xs x → HasValue m ys (instant n x) x.value
+
+-- the same in both directions
+abbrev pub Match : ℕ → List Point → ℕ → List Point → Type 0
+Match n xs m ys = AreIn n xs m ys × AreIn m ys n xs
+
+-- what the two lists have at an instant
+abbrev pub Differ : ℕ → List Point → ℕ → List Point → Instant → SampleMismatch → Type 0
+Differ n xs m ys t Missing = ((v : ℤ) × HasValue n xs t v) × HasNone m ys t
+Differ n xs m ys t Extra = ((w : ℤ) × HasValue m ys t w) × HasNone n xs t
+Differ n xs m ys t (Value v w) = HasValue n xs t v × HasValue m ys t w × (v ≢ w)
+
+-- a difference, and the instant at which it is
+abbrev IsDifference : ℕ → List Point → ℕ → List Point → PointDifference → Type 0
+IsDifference n xs m ys d = (0 < d.at.den) × Differ n xs m ys d.at d.mismatch
+
+-- a difference, and none is before it
+abbrev pub IsLeastDifference : ℕ → List Point → ℕ → List Point → PointDifference → Type 0
+IsLeastDifference n xs m ys d = IsDifference n xs m ys d × ((e : PointDifference) → IsDifference n xs m ys e → IsBefore e.at d.at → ⊥)
+
+-- each member is before t
+abbrev pub AreBefore : ℕ → List Point → Instant → Type 0
+AreBefore n xs t = (x : Point) → Has xs x → IsBefore (instant n x) t
+
+-- no member is before t
+abbrev pub AreFrom : ℕ → List Point → Instant → Type 0
+AreFrom n xs t = (x : Point) → Has xs x → IsNotBefore (instant n x) t
 
 -- what a test gives, by its two cases
 pub tested : {X : Type 0} (b : Bool) (u v : X) (Q : X → Type 0) → (b ≡ true → Q u) → (b ≡ false → Q v) → Q (cond b u v)
@@ -39,32 +81,25 @@ difference_cases n x xs m y ys Q first second same differs =
     (λ g. same s ((Decides-int_eq x.value y.value).0 g))
     (λ g. differs s (λ v. false≢true (sym g ∙ (Decides-int_eq x.value y.value).1 v)))))
 
--- no member of the list is before t
-abbrev pub Above : ℕ → List Point → Instant → Type 0
-Above n xs t = (x : Point) → Has xs x → IsNotBefore (instant n x) t
-
 -- each member of the list is after t
-abbrev pub After : ℕ → List Point → Instant → Type 0
+abbrev After : ℕ → List Point → Instant → Type 0
 After n xs t = (x : Point) → Has xs x → IsBefore t (instant n x)
 
 rest_after : (n : ℕ) (x : Point) (xs : List Point) → 0 < n → IsAscending (x ∷ xs) → After n xs (instant n x)
 rest_after n x xs pn a y h = before_over x.num y.num n pn (a.0 y h)
 
-self_above : (t : Instant) → IsNotBefore t t
-self_above t = omega (arith, ints)
-
 -- the head and the rest, from the rest
-pub with_head : (n : ℕ) (x : Point) (xs : List Point) (t : Instant) → IsNotBefore (instant n x) t → Above n xs t → Above n (x ∷ xs) t
+pub with_head : (n : ℕ) (x : Point) (xs : List Point) (t : Instant) → IsNotBefore (instant n x) t → AreFrom n xs t → AreFrom n (x ∷ xs) t
 with_head n x xs t h rest y i = ⊎_elim (λ e. let P : Point → Type 0 = λ z. IsNotBefore (instant n z) t in subst P e h) (λ j. rest y j) i
 
-pub head_above : (n : ℕ) (x : Point) (xs : List Point) → 0 < n → IsAscending (x ∷ xs) → Above n (x ∷ xs) (instant n x)
+pub head_above : (n : ℕ) (x : Point) (xs : List Point) → 0 < n → IsAscending (x ∷ xs) → AreFrom n (x ∷ xs) (instant n x)
 head_above n x xs pn a = with_head n x xs (instant n x) (self_above (instant n x)) (λ y h. before_below (instant n x) (instant n y) (rest_after n x xs pn a y h))
 
 -- what is before the head is before all
 after_head : (n : ℕ) (x : Point) (xs : List Point) (t : Instant) → 0 < n → IsAscending (x ∷ xs) → IsBefore t (instant n x) → After n (x ∷ xs) t
 after_head n x xs t pn a b y h = before-not_before t (instant n x) (instant n y) pn b (head_above n x xs pn a y h)
 
-after-above : (n : ℕ) (xs : List Point) (t : Instant) → After n xs t → Above n xs t
+after-above : (n : ℕ) (xs : List Point) (t : Instant) → After n xs t → AreFrom n xs t
 after-above n xs t a y h = before_below t (instant n y) (a y h)
 
 -- nothing stands at t where all is after t
@@ -72,17 +107,17 @@ none_at : (n : ℕ) (xs : List Point) (t : Instant) → After n xs t → HasNone
 none_at n xs t a x h s = before_same_back t (instant n x) (a x h) s
 
 -- a value at t is not before s where the list is not
-value_above : (n : ℕ) (xs : List Point) (t s : Instant) (v : ℤ) → 0 < n → Above n xs s → HasValue n xs t v → IsBefore t s → ⊥
+value_above : (n : ℕ) (xs : List Point) (t s : Instant) (v : ℤ) → 0 < n → AreFrom n xs s → HasValue n xs t v → IsBefore t s → ⊥
 value_above n xs t s v pn a h b =
     before_same_back t (instant n h.0) (before-not_before t s (instant n h.0) pn b (a h.0 h.1)) h.2
 
-differ_above : (n : ℕ) (xs : List Point) (m : ℕ) (ys : List Point) (t s : Instant) (k : SampleMismatch) → 0 < n → 0 < m → Above n xs s → Above m ys s → Differ n xs m ys t k → IsBefore t s → ⊥
+differ_above : (n : ℕ) (xs : List Point) (m : ℕ) (ys : List Point) (t s : Instant) (k : SampleMismatch) → 0 < n → 0 < m → AreFrom n xs s → AreFrom m ys s → Differ n xs m ys t k → IsBefore t s → ⊥
 differ_above n xs m ys t s Missing pn pm ax ay d b = value_above n xs t s d.0.0 pn ax d.0.1 b
 differ_above n xs m ys t s Extra pn pm ax ay d b = value_above m ys t s d.0.0 pm ay d.0.1 b
 differ_above n xs m ys t s (Value v w) pn pm ax ay d b = value_above n xs t s v pn ax d.0 b
 
 -- a difference where all is not before it is the least
-least_here : (n : ℕ) (xs : List Point) (m : ℕ) (ys : List Point) (d : PointDifference) → 0 < n → 0 < m → IsDifference n xs m ys d → Above n xs d.at → Above m ys d.at → IsLeastDifference n xs m ys d
+least_here : (n : ℕ) (xs : List Point) (m : ℕ) (ys : List Point) (d : PointDifference) → 0 < n → 0 < m → IsDifference n xs m ys d → AreFrom n xs d.at → AreFrom m ys d.at → IsLeastDifference n xs m ys d
 least_here n xs m ys d pn pm i ax ay = (i, λ e j b. differ_above n xs m ys e.at d.at e.mismatch pn pm ax ay j.1 b)
 
 weaker_value : (n : ℕ) (x : Point) (xs : List Point) (t : Instant) (v : ℤ) → HasValue n xs t v → HasValue n (x ∷ xs) t v
@@ -177,7 +212,7 @@ mapped : {A : Type 0} (o : Option A) {P Q : Type 0} {F G : A → Type 0} → (P 
 mapped None f g h = f h
 mapped (Some a) f g h = g a h
 
-empty_above : (n : ℕ) (t : Instant) → Above n [] t
+empty_above : (n : ℕ) (t : Instant) → AreFrom n [] t
 empty_above n t x h = absurd h
 
 -- none where the lists match, else the least difference
@@ -234,21 +269,18 @@ match_not_differ n xs m ys t (Value v w) pn pm pt a i d =
     let s : IsSame (instant m p.0) (instant m q.0) = same_through (instant m p.0) t (instant m q.0) pm pt pm p.2 (same_back (instant m q.0) t q.2) in
     d.2 (sym p.3 ∙ (ap (λ (z : Point). z.value) (one_at m ys pm a p.0 q.0 p.1 q.1 s) ∙ q.3))
 
-none_of : (n : ℕ) (xs : List Point) (m : ℕ) (ys : List Point) → 0 < n → 0 < m → IsAscending ys → Match n xs m ys → (o : Option PointDifference) → MatchOption o (Match n xs m ys) (IsLeastDifference n xs m ys) → o ≡ None
-none_of n xs m ys pn pm a i None h = refl
-none_of n xs m ys pn pm a i (Some d) h = absurd (match_not_differ n xs m ys d.at d.mismatch pn pm h.0.0 a i h.0.1)
-
 difference-missing : (n : ℕ) (x : Point) (xs : List Point) (m : ℕ) (y : Point) (ys : List Point) → IsBefore (instant n x) (instant m y) → first_difference_of n (x ∷ xs) m (y ∷ ys) ≡ Some (missing n x)
 difference-missing n x xs m y ys b = rw (true-is_before (instant n x) (instant m y) b)
 
 difference-extra : (n : ℕ) (x : Point) (xs : List Point) (m : ℕ) (y : Point) (ys : List Point) → IsBefore (instant m y) (instant n x) → first_difference_of n (x ∷ xs) m (y ∷ ys) ≡ Some (extra m y)
 difference-extra n x xs m y ys b = rw (false-is_before (instant n x) (instant m y) (before_below (instant m y) (instant n x) b), true-is_before (instant m y) (instant n x) b)
 
-or_assoc : {A : Type 0} (a b c : Option A) → option_or a (option_or b c) ≡ option_or (option_or a b) c
+pub or_assoc : {A : Type 0} (a b c : Option A) → option_or a (option_or b c) ≡ option_or (option_or a b) c
 or_assoc None b c = refl
 or_assoc (Some x) b c = refl
 
-pub difference_splits : DifferenceSplits
+pub difference_splits : (n m : ℕ) (xs xs' ys ys' : List Point) (t : Instant) → 0 < n → 0 < m → 0 < t.den → AreBefore n xs t → AreBefore m ys t → AreFrom n xs' t → AreFrom m ys' t →
+    first_difference_of n (xs ++ xs') m (ys ++ ys') ≡ option_or (first_difference_of n xs m ys) (first_difference_of n xs' m ys')
 difference_splits n m [] xs' [] ys' t pn pm pt bx by' fx fy = refl
 difference_splits n m [] [] (y ∷ ys) ys' t pn pm pt bx by' fx fy = refl
 difference_splits n m [] (x ∷ xs') (y ∷ ys) ys' t pn pm pt bx by' fx fy =

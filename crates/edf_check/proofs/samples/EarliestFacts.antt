@@ -2,16 +2,26 @@
 use Rattle.std.proofs.Common.{slice_get, zero, suc, ◌≤◌, MatchOption, ◌≡◌, ℕ, ◌+◌, ◌<◌, Bool, true, false, cond, List, [], ◌∷◌, Option, Some, None, IfSome, refl, subst, arith, length, map, drop, get_or, sym, ap, ◌∙◌, add-one, ◌⊎◌, inl, inr, ⊎_elim}
 use Rattle.std.proofs.Math.Seq.{drop-cons}
 use Rattle.std.specs.Option.{option_map}
-use Rattle.std.proofs.lemmas.Int.{ints}
-use Rattle.edf_stream.specs.declared.instant.Instant.{Instant}
 use Rattle.edf_check.specs.declared.samples.difference.PointDifference.{PointDifference}
 use Rattle.edf_check.specs.declared.samples.earliest.Found.{Found}
 use Rattle.edf_stream.specs.Instants.{IsSame}
 use Rattle.edf_stream.specs.InstantOrder.{IsNotBefore}
 use Rattle.edf_check.specs.InstantOrder.{IsBefore, is_before}
 use Rattle.edf_fields.specs.Lists.{Has}
-use Rattle.edf_check.specs.samples.Earliest.{found, earlier, earliest, IsEarliest, AreInstants, EarliestIsLeast}
-use Rattle.edf_check.proofs.samples.FractionFacts.{before_below, is_before-true, is_before-false, before_same_back, from_below}
+use Rattle.edf_check.specs.samples.Differences.{found, earlier, earliest}
+use Rattle.edf_check.proofs.samples.FractionFacts.{before_below, is_before-true, is_before-false, before_same_back, from_below, self_above}
+use Rattle.std.specs.List.{AllByRecursion}
+
+-- f is some channel's difference; none is before it, and none of a lower channel is at its instant
+abbrev pub IsEarliest : List (Option PointDifference) → Found → Type 0
+IsEarliest ds f =
+    (slice_get ds f.channel ≡ Some (Some f.difference)) ×
+    ((k : ℕ) (d : PointDifference) → slice_get ds k ≡ Some (Some d) → IsNotBefore d.at f.difference.at) ×
+    ((k : ℕ) (d : PointDifference) → slice_get ds k ≡ Some (Some d) → IsSame d.at f.difference.at → f.channel ≤ k)
+
+-- each difference is at an instant
+abbrev pub AreInstants : List (Option PointDifference) → Type 0
+AreInstants ds = AllByRecursion (λ o. IfSome o (λ d. 0 < d.at.den)) ds
 
 -- `IsEarliest`, where the first place is that of channel k
 record IsEarliestFrom (k : ℕ) (ds : List (Option PointDifference)) (f : Found) : Type 0 where
@@ -34,16 +44,13 @@ every o ds Q h t (suc j) d e = t j d e
 at_head : (a : PointDifference) (P : PointDifference → Type 0) → P a → (d : PointDifference) → Some a ≡ Some d → P d
 at_head a P h d e = let i : a ≡ d = cc in subst P i h
 
-self : (t : Instant) → IsNotBefore t t
-self t = omega (arith, ints)
-
 head_alone : (k : ℕ) (a : PointDifference) (ds : List (Option PointDifference)) → 0 < a.at.den → ((j : ℕ) (d : PointDifference) → slice_get ds j ≡ Some (Some d) → IsNotBefore d.at a.at) → IsEarliestFrom k (Some a ∷ ds) (found k a)
 head_alone k a ds pa above = record {
   place = 0;
   channel = omega arith;
   is_there = refl;
   positive = pa;
-  first = every (Some a) ds (λ j d. IsNotBefore d.at a.at) (at_head a (λ d. IsNotBefore d.at a.at) (self a.at)) above;
+  first = every (Some a) ds (λ j d. IsNotBefore d.at a.at) (at_head a (λ d. IsNotBefore d.at a.at) (self_above a.at)) above;
   least = λ j d e s. omega arith;
 }
 
@@ -92,7 +99,8 @@ from_zero ds (Some f) h =
     let e : f.channel ≡ h.place = (let c = h.channel in omega arith) in
     (rw e h.is_there, h.first, λ j d i s. rw e (h.least j d i s))
 
-pub earliest-is-least : EarliestIsLeast
+pub earliest-is-least : (ds : List (Option PointDifference)) → AreInstants ds →
+    MatchOption (earliest 0 ds) ((j : ℕ) (d : PointDifference) → slice_get ds j ≡ Some (Some d) → ⊥) (IsEarliest ds)
 earliest-is-least ds p = from_zero ds (earliest 0 ds) (answers 0 ds p)
 
 -- one more channel, before those that were compared

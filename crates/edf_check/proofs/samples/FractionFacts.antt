@@ -8,6 +8,9 @@ use Rattle.edf_stream.specs.Instants.{IsSame}
 use Rattle.edf_stream.specs.InstantOrder.{IsNotBefore}
 use Rattle.edf_check.specs.InstantOrder.{IsBefore, is_before}
 
+pub self_above : (t : Instant) → IsNotBefore t t
+self_above t = omega (arith, ints)
+
 -- with a - a' over n, and so on: the first is below the second, the second at most the third
 cross_lt_le : (a a' b b' c c' n m k : ℕ) → 0 < k → a * m + b' * n < b * n + a' * m → b * k + c' * m ≤ c * m + b' * k → a * k + c' * n < c * n + a' * k
 cross_lt_le a a' b b' c c' n m k pk p q =

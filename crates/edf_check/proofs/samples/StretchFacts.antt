@@ -12,11 +12,10 @@ use Rattle.edf_stream.specs.declared.instant.Instant.{Instant}
 use Rattle.edf_check.specs.declared.samples.point.Point.{Point}
 use Rattle.edf_check.specs.declared.samples.stretch.Stretch.{Stretch}
 use Rattle.edf_verdict.specs.declared.verdict.SampleMismatch.TheVariants.{Missing, Extra}
-use Rattle.edf_check.specs.samples.Alike.{AreAlikeBefore}
-use Rattle.edf_check.specs.samples.Differences.{heads, first_difference_of, IsAscending}
+use Rattle.edf_check.specs.samples.Differences.{heads, first_difference_of}
+use Rattle.edf_check.proofs.samples.DifferenceFacts.{IsAscending}
 use Rattle.edf_check.specs.InstantOrder.{is_before}
-use Rattle.edf_check.specs.samples.Stretches.{stretch_points, points_in, points_behind, front_count, are_on_one_grid}
-use Rattle.edf_check.specs.samples.Cuts.{whole}
+use Rattle.edf_check.specs.samples.Stretches.{stretch_points, points_in, points_behind, front_count, are_on_one_grid, AreAlikeBefore, whole}
 use Rattle.edf_check.proofs.samples.FractionFacts.{true-is_before, false-is_before}
 
 -- ---- behind a place

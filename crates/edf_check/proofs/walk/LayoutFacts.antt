@@ -22,17 +22,16 @@ use Rattle.edf_check.specs.declared.samples.difference.PointDifference.{PointDif
 use Rattle.edf_check.specs.declared.samples.point.Point.{Point}
 use Rattle.edf_check.specs.declared.walk.track.Pair.{Pair}
 use Rattle.edf_check.specs.declared.walk.track.Track.{Track}
-use Rattle.edf_check.specs.samples.Differences.{first_difference_of}
-use Rattle.edf_check.specs.samples.Earliest.{earliest}
-use Rattle.edf_check.specs.walk.Layouts.{AreLaidAlike, AreRecordsAlike}
-use Rattle.edf_check.specs.samples.Stretches.{stretch_points}
+use Rattle.edf_check.specs.samples.Differences.{first_difference_of, earliest}
+use Rattle.edf_check.specs.walk.Pairs.{AreLaidAlike, AreRecordsAlike, Places, places_of, IsTrack, ArePairs}
+use Rattle.edf_check.specs.samples.Stretches.{stretch_points, since, until}
 use Rattle.edf_check.specs.walk.Windows.{sampled, points_at, window_of, window_difference}
-use Rattle.edf_check.specs.samples.Cuts.{since, until}
-use Rattle.edf_check.specs.walk.Pairs.{Places, places_of, IsTrack, ArePairs}
-use Rattle.edf_check.specs.walk.Shown.{shown_points, Covers}
+use Rattle.edf_check.specs.walk.Shown.{Covers}
+use Rattle.edf_check.proofs.walk.RecordFacts.{shown_points}
 use Rattle.edf_check.proofs.walk.ShownFacts.{covers_current, kept_all}
 use Rattle.edf_check.proofs.samples.StretchFacts.{alike-heads}
 use Rattle.edf_check.proofs.walk.TrackFacts.{lane_is}
+use Rattle.edf_check.proofs.WordsFacts.{scaled}
 
 -- ---- the same first bytes
 
@@ -104,16 +103,12 @@ none-first : (n : ℕ) (xs : List Point) → first_difference_of n xs n xs ≡ N
 none-first n [] = refl
 none-first n (x ∷ xs) = rw (alike-heads n n x.num x.num x.value refl) (none-first n xs)
 
-scaled-sum : (n : ℕ) (x y z : ℤ) → z ≡ x +ℤ y → pos n *ℤ z ≡ (pos n *ℤ x) +ℤ (pos n *ℤ y)
-scaled-sum zero x y z e = omega (arith, ints)
-scaled-sum (suc n) x y z e = let r : pos n *ℤ z ≡ (pos n *ℤ x) +ℤ (pos n *ℤ y) = scaled-sum n x y z e in omega (arith, ints)
-
 same-start : (n : ℕ) (f a s f' a' s' : ℤ) → (f +ℤ a) +ℤ s ≡ (f' +ℤ a') +ℤ s' → (pos n *ℤ (f +ℤ s)) +ℤ (pos n *ℤ a) ≡ (pos n *ℤ (f' +ℤ s')) +ℤ (pos n *ℤ a')
 same-start n f a s f' a' s' e =
     let whole : ℤ = (f +ℤ a) +ℤ s in
     let l : whole ≡ (f +ℤ s) +ℤ a = omega (arith, ints) in
     let r : whole ≡ (f' +ℤ s') +ℤ a' = omega (arith, ints, e) in
-    sym (scaled-sum n (f +ℤ s) a whole l) ∙ scaled-sum n (f' +ℤ s') a' whole r
+    sym (scaled n (f +ℤ s) a whole l) ∙ scaled n (f' +ℤ s') a' whole r
 
 same-shown : (r s : Reader) (n : ℕ) (a b : ℤ) (pair : Pair) (x y : Track) → AreRecordsAlike r s n a b → AreLaidAlike r.head s.head n pair → pair.original ≡ Some x → pair.export ≡ Some y
     → (tx : IsTrack r.head x) (ty : IsTrack s.head y) → shown_points r.head a (tx.place).channel r.current ≡ shown_points s.head b (ty.place).channel s.current

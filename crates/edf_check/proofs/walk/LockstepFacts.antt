@@ -8,20 +8,22 @@ use Rattle.edf_header.specs.Heads.{Head}
 use Rattle.edf_stream.specs.declared.status.Status.{Status}
 use Rattle.edf_stream.specs.declared.status.Status.TheVariants.{Ended}
 use Rattle.edf_stream.specs.Conforming.{Conforms}
-use Rattle.edf_stream.specs.Faults.{body_fault}
+use Rattle.edf_stream.specs.Faults.{body_fault, file_fault}
 use Rattle.edf_stream.specs.Notes.{NoteValue}
 use Rattle.edf_stream.specs.NotesReading.{moved_notes_before, notes_of}
-use Rattle.edf_stream.specs.Readers.{Reader, is_current}
+use Rattle.edf_stream.specs.Readers.{Reader, StandsIn, is_current}
 use Rattle.edf_check.specs.declared.walk.walked.FaultOf.{FaultOf}
+use Rattle.edf_check.specs.declared.walk.walked.FaultOf.TheVariants as faults
 use Rattle.edf_check.specs.declared.walk.track.Pair.{Pair}
 use Rattle.edf_check.specs.declared.walk.track.Track.{Track}
 use Rattle.edf_check.specs.walk.Pairs.{places_of, ArePairs, IsTrack, IsPlaceIn}
 use Rattle.edf_check.specs.walk.Shown.{Shows, ArePast, Reaches, IsGoing, Covers}
 use Rattle.edf_check.specs.walk.Readings.{IsAt}
 use Rattle.edf_check.specs.walk.Gathered.{gathered_of}
-use Rattle.edf_check.specs.walk.Ends.{first_fault_of, IsFaultOf, IsReadThrough}
+use Rattle.edf_check.specs.walk.Ends.{first_fault_of, IsFaultBy, IsFaultOf, IsReadThrough}
 use Rattle.edf_check.proofs.walk.PassFacts.{ended_is}
 use Rattle.edf_check.proofs.walk.SplitFacts.{ArePlaces}
+use Rattle.edf_check.proofs.walk.WalkFacts.{fault_is}
 
 -- ---- the channels of pairs
 
@@ -71,18 +73,31 @@ has_ended first now left notes file claim ps t head going none at =
 
 -- ---- faults
 
-fault_behind : (o e : List ℕ) (h g : Head) (x : Option Fault) (f : Fault) → body_fault o h ≡ x → body_fault e g ≡ Some f → IsFaultOf o h e g (first_fault_of x f)
-fault_behind o e h g None f p q = (p, q)
-fault_behind o e h g (Some first) f p q = p
+-- the original's fault, or else that of the part
+pub fault_after : (o : List ℕ) (h : Head) (left e : List ℕ) (g : Head) (part : ℕ) (f : Fault) (w : FaultOf) → body_fault e g ≡ Some f → w ≡ first_fault_of (body_fault o h) part f → (body_fault o h ≡ None → left ≡ [])
+    → IsFaultOf o h left e g part w
+fault_after o h left e g part f w fault is gone = subst (IsFaultOf o h left e g part) (sym is) (cases (body_fault o h) refl)
+  where
+    cases : (x : Option Fault) → body_fault o h ≡ x → IsFaultOf o h left e g part (first_fault_of x part f)
+    cases None p = (refl, p, fault, gone p)
+    cases (Some first) p = p
 
--- the original's fault, or else that of the export
-pub fault_after : (old new : Reader) (o e : List ℕ) (g : Head) (f : Fault) (w : FaultOf) → new.head ≡ old.head → body_fault e g ≡ Some f → w ≡ first_fault_of (body_fault o new.head) f → IsFaultOf o old.head e g w
-fault_after old new o e g f w head fault is =
-    let P : FaultOf → Type 0 = IsFaultOf o old.head e g in
-    subst P (sym (is ∙ ap (λ h. first_fault_of (body_fault o h) f) head)) (fault_behind o e old.head g (body_fault o old.head) f refl fault)
+-- the same where the part's header may have the fault
+pub fault_by_header : (o : List ℕ) (h : Head) (left e : List ℕ) (part : ℕ) (f : Fault) (w : FaultOf) → file_fault e ≡ Some f → w ≡ first_fault_of (body_fault o h) part f → (body_fault o h ≡ None → left ≡ [])
+    → IsFaultBy o h left e part w
+fault_by_header o h left e part f w fault is gone = subst (IsFaultBy o h left e part) (sym is) (cases (body_fault o h) refl)
+  where
+    cases : (x : Option Fault) → body_fault o h ≡ x → IsFaultBy o h left e part (first_fault_of x part f)
+    cases None p = (refl, p, fault, gone p)
+    cases (Some first) p = p
 
-pub fault_of_heads : (o e : List ℕ) (h h' g g' : Head) (w : FaultOf) → h ≡ h' → g ≡ g' → IsFaultOf o h e g w → IsFaultOf o h' e g' w
-fault_of_heads o e h h' g g' w p q is =
-    let P : Head → Type 0 = λ x. IsFaultOf o x e g w in
-    let Q : Head → Type 0 = λ x. IsFaultOf o h' e x w in
+-- the fault of a part in which a reader stands
+pub fault_by : (o : List ℕ) (h : Head) (left : List ℕ) (r : Reader) (left' e : List ℕ) (part : ℕ) (w : FaultOf) → StandsIn r left' e → IsFaultOf o h left e r.head part w → IsFaultBy o h left e part w
+fault_by o h left r left' e part (faults.Original fault) s p = p
+fault_by o h left r left' e part (faults.Part other fault) s p = (p.0, p.1, fault_is r left' e s ∙ p.2, p.3)
+
+pub fault_of_heads : (o left e : List ℕ) (h h' g g' : Head) (part : ℕ) (w : FaultOf) → h ≡ h' → g ≡ g' → IsFaultOf o h left e g part w → IsFaultOf o h' left e g' part w
+fault_of_heads o left e h h' g g' part w p q is =
+    let P : Head → Type 0 = λ x. IsFaultOf o x left e g part w in
+    let Q : Head → Type 0 = λ x. IsFaultOf o h' left e x part w in
     subst Q q (subst P p is)

@@ -1,5 +1,5 @@
 -- The columns of two files hold what the claim keeps of the original, and what the export holds.
-use Rattle.std.proofs.Common.{◌≡◌, ℕ, suc, ◌<◌, ◌<ℤ◌, ◌+ℤ◌, ◌*ℤ◌, ℤ, pos, neg_ℤ, Bool, true, false, not, cond, Bor, List, [], ◌∷◌, length, get_or, map, filter, Option, Some, None, MatchOption, slice_get, unwrap_or, option_map, inl, inr, refl, sym, ap, ◌∙◌, subst, arith}
+use Rattle.std.proofs.Common.{◌≡◌, ℕ, ◌<◌, ◌<ℤ◌, ◌+ℤ◌, ◌*ℤ◌, ℤ, pos, neg_ℤ, Bool, true, false, not, cond, Bor, List, [], ◌∷◌, get_or, map, filter, Option, Some, None, MatchOption, slice_get, unwrap_or, option_map, inl, inr, refl, sym, ap, ◌∙◌, subst, arith}
 use Rattle.std.specs.Cmp.Lexicographic.{slice_cmp}
 use Rattle.std.specs.List.Sorted.{IsSorted}
 use Rattle.std.specs.Option.{option_map_or}
@@ -26,18 +26,18 @@ use Rattle.edf_header.specs.Channels.{channels_among, channel_labels}
 use Rattle.edf_stream.proofs.ForCallers.{sound-of, samples_are_listed, samples_are_of_channels, samples_rise}
 use Rattle.edf_check.specs.declared.walk.channel_place.ChannelPlace.{ChannelPlace}
 use Rattle.edf_check.specs.declared.samples.point.Point.{Point}
-use Rattle.edf_heads.specs.Channels.{HasChannel}
-use Rattle.edf_check.specs.samples.Columns.{channel_at, Sampled, point_of, is_of, is_kept, points_of, difference_at, label_difference, Column, label_of, KeptIn, ExportedIn, IsColumn, LabelsRise, AreColumns, difference_of, AreNights}
+use Rattle.edf_heads.specs.Channels.{HasChannel, SameChannels}
+use Rattle.edf_check.specs.samples.Columns.{channel_at, Sampled, point_of, is_of, is_kept, points_of}
 use Rattle.edf_heads.specs.Comparisons.{AreSorted}
 use Rattle.edf_check.specs.Courses.{Agree, IsFirstMismatch}
 use Rattle.edf_check.specs.declared.samples.earliest.Found.{Found}
-use Rattle.edf_check.specs.samples.Earliest.{earliest}
-use Rattle.edf_check.specs.Exports.{SameSamples}
-use Rattle.edf_check.specs.Instants.{later}
+use Rattle.edf_check.specs.Exports.{SameSamples, BothConform}
 use Rattle.edf_check.specs.InstantOrder.{floor_of}
-use Rattle.edf_check.proofs.samples.ColumnFacts.{named, first-is-first}
+use Rattle.edf_check.specs.Instants.{later}
+use Rattle.edf_check.proofs.samples.ColumnFacts.{named, first-is-first, Column, label_of, KeptIn, ExportedIn, IsColumn, LabelsRise, AreColumns, difference_of}
 use Rattle.edf_check.proofs.CourseFacts.{agree-alike, first-alike}
-use Rattle.edf_check.specs.samples.Differences.{instant, HasValue, IsAscending}
+use Rattle.edf_check.specs.samples.Differences.{instant, first_difference_of, earliest}
+use Rattle.edf_check.proofs.samples.DifferenceFacts.{HasValue, IsAscending}
 use Rattle.edf_check.specs.Kept.{shift_ps}
 use Rattle.edf_check.specs.KeptReading.{origin_of, ValueAt, KeptAt, ExportedAt}
 use Rattle.edf_heads.specs.Labels.{IsNotAbove}
@@ -46,6 +46,31 @@ use Rattle.edf_heads.proofs.ForCallers.{has-label, label-has, not_below}
 use Rattle.edf_check.proofs.KeptFacts.{later-same, keeps-same}
 use Rattle.edf_check.proofs.walk.PlaceFacts.{one-number, channels-distinct, at-found, at-there, channel-bounds}
 use Rattle.edf_check.proofs.WordsFacts.{later-back, since-same}
+use Rattle.edf_check.specs.declared.samples.difference.PointDifference.{PointDifference}
+use Rattle.std.proofs.lemmas.Simd.{map-map}
+
+-- the first difference of two channels; none where one of them isn't there
+abbrev pub difference_at : Terms → Sampled → Sampled → Option ChannelPlace → Option ChannelPlace → Option PointDifference
+difference_at claim o e None t = None
+difference_at claim o e (Some s) None = None
+difference_at claim o e (Some s) (Some t) =
+    first_difference_of s.samples (points_of (is_kept claim s.number o.moved) o.moved o.samples) t.samples (points_of (is_of t.number) e.moved e.samples)
+
+-- the first difference of the channels of this label
+unfoldable pub label_difference : Terms → Sampled → Sampled → List ℕ → Option PointDifference
+label_difference claim o e label = difference_at claim o e (channel_at label o.head) (channel_at label e.head)
+
+-- these are the samples of an original and an export that conform and have the claimed channels, counted from the second at which the
+-- original starts, before the shift
+pub record AreNights (original export : List ℕ) (claim : Terms) (o e : Sampled) : Type 0 where
+  pub conform : BothConform original export
+  pub channels : SameChannels (head_of original) (head_of export) claim
+  pub original_head : o.head ≡ head_of original
+  pub original_samples : o.samples ≡ samples_of original (head_of original)
+  pub original_moved : o.moved ≡ neg_ℤ (origin_of original)
+  pub export_head : e.head ≡ head_of export
+  pub export_samples : e.samples ≡ samples_of export (head_of export)
+  pub export_moved : e.moved ≡ neg_ℤ (origin_of original +ℤ shift_ps claim)
 
 -- ---- the channel of a label
 
@@ -452,21 +477,13 @@ are-claimed claim sorted s label =
 
 -- ---- the first mismatch
 
-map-twice : {X Y Z : Type 0} (f : Y → Z) (g : X → Y) (xs : List X) → map f (map g xs) ≡ map (λ x. f (g x)) xs
-map-twice f g [] = refl
-map-twice f g (x ∷ xs) = ap (λ ys. f (g x) ∷ ys) (map-twice f g xs)
-
-map-long : {X Y : Type 0} (f : X → Y) (xs : List X) → length (map f xs) ≡ length xs
-map-long f [] = refl
-map-long f (x ∷ xs) = ap suc (map-long f xs)
-
 -- what is compared for the labels are the differences of the columns
 compared-columns : (original export : List ℕ) (claim : Terms) (o e : Sampled) (labels : List (List ℕ)) → AreNights original export claim o e → AreClaimed claim labels
     → map (label_difference claim o e) labels ≡ map difference_of (columns_of claim o e labels)
 compared-columns original export claim o e labels a l =
     differences-are (label_difference claim o e) (λ label. difference_of (column_of claim o e label)) labels
     (λ label i. difference-is claim o e label (places original export claim o e label a ((l label).0 i)))
-    ∙ sym (map-twice difference_of (column_of claim o e) labels)
+    ∙ sym (map-map difference_of (column_of claim o e) labels)
 
 -- a label at its place among the columns
 named-label : (claim : Terms) (o e : Sampled) (labels : List (List ℕ)) (f : Found) (label : List ℕ) → slice_get labels f.channel ≡ Some label → (named (columns_of claim o e labels) f).label ≡ label
@@ -480,7 +497,7 @@ pub first-found : (original export : List ℕ) (claim : Terms) (o e : Sampled) (
 first-found original export claim o e sorted found a s is =
     let l = are-claimed claim sorted s in
     let same : found ≡ earliest 0 (map difference_of cs) =
-    is ∙ ap (earliest 0) (sym (map-twice (label_difference claim o e) (λ (x : Bor (List ℕ)). x.now) sorted) ∙ compared-columns original export claim o e labels a l) in
+    is ∙ ap (earliest 0) (sym (map-map (label_difference claim o e) (λ (x : Bor (List ℕ)). x.now) sorted) ∙ compared-columns original export claim o e labels a l) in
     cases found same (first-is-first cs (are-columns original export claim o e labels a l (sorted_rising sorted s.order)))
   where
     labels : List (List ℕ)

@@ -14,16 +14,18 @@ use Rattle.edf_stream.specs.Starts.{file_start}
 use Rattle.edf_stream.specs.StartsReading.{start_at, end_at, end_before}
 use Rattle.edf_stream.proofs.ForCallers.{starts-behind}
 use Rattle.edf_check.specs.declared.samples.earliest.Found.{Found}
+use Rattle.edf_check.specs.declared.walk.lockstep.ReadOn.{ReadOn}
 use Rattle.edf_check.specs.declared.walk.track.Pair.{Pair}
+use Rattle.edf_check.specs.declared.walk.turn.Turn.{Turn}
 use Rattle.edf_check.specs.walk.Windows.{sampled, rest_difference, window_difference, span_difference}
-use Rattle.edf_check.specs.walk.Pairs.{places_of, ArePairs}
+use Rattle.edf_check.specs.walk.Pairs.{Places, places_of, ArePairs, places_in}
 use Rattle.edf_check.specs.walk.Shown.{Shows, ArePast, Reaches, IsGoing, Covers, ends_at, begin_by, last_end_by}
 use Rattle.edf_check.specs.walk.Readings.{IsAt}
-use Rattle.edf_check.specs.walk.Ends.{IsReadThrough, AreReadOn}
-use Rattle.edf_check.proofs.walk.LockstepFacts.{are_places, covers_at, has_ended}
+use Rattle.edf_check.specs.walk.Ends.{IsMatched, IsWalked, moved_export, moved_original}
+use Rattle.edf_check.proofs.walk.LockstepFacts.{HasEnded, are_places, covers_at, has_ended}
 use Rattle.edf_check.proofs.walk.PassFacts.{current_is}
 use Rattle.edf_check.proofs.walk.RecordFacts.{lasts}
-use Rattle.edf_check.proofs.walk.SplitFacts.{at_end}
+use Rattle.edf_check.proofs.walk.SplitFacts.{ArePlaces, at_end}
 use Rattle.edf_check.proofs.walk.WindowFacts.{window_parts, rest_parts}
 
 -- ---- where a file ends
@@ -106,63 +108,66 @@ window_next claim pairs fo fe ro re lo le ns ms x y a b s t u end now ho he co c
 pub other_way : (b : Bool) → b ≡ true → b ≡ false → ⊥
 other_way b p q = let z : true ≡ false = sym p ∙ q in cc
 
-pub read_on_end : (is_last : Bool) (claim : Terms) (pairs : List Pair) (fo fe ro re : Reader) (lo le : List ℕ) (ns ms : List NoteValue) (x y : List ℕ) (a b s t : ℤ)
-    → ro.head ≡ fo.head → re.head ≡ fe.head → IsGoing ro.status → IsGoing re.status → (is_last ≡ true → is_current ro.status ≡ false) → is_current re.status ≡ false → ArePairs fo.head fe.head pairs → s ≤ℤ t
-    → (is_last ≡ false → t ≡ last_end_by y fe.head b) → IsAt ro lo ns x (Some claim) a t → IsAt re le ms y None b t
-    → (Conforms x fo.head → Conforms y fe.head → window_difference claim (sampled x fo.head a) (sampled y fe.head b) (map places_of pairs) s t ≡ None)
-    → AreReadOn is_last x fo.head lo ns y fe.head le ms claim a b (map places_of pairs) s t None
-read_on_end true claim pairs fo fe ro re lo le ns ms x y a b s t ho he go ge ngo nge are from ends ao ae before =
-    let o = has_ended fo ro lo ns x (Some claim) a t ho go (ngo refl) ao in
-    let e = has_ended fe re le ms y None b t he ge nge ae in
-    let ps = map places_of pairs in
-    let places = are_places fo.head fe.head pairs are in
-    let rest : Head → Head → Option Found = λ h g. rest_difference claim (sampled x h a) (sampled y g b) ps s in
-    record {
-      export = e.through;
-      end = λ z. absurd (other_way true refl z);
-      first = λ co.
-          at_end claim x y fo.head fe.head a b ps t None (rest fo.head fe.head) co (e.through).conforms places o.past e.past
-          (rest_parts claim x y fo.head fe.head a b ps s t co (e.through).conforms places from
-          ∙ ap (λ z. option_or z (rest_difference claim (sampled x fo.head a) (sampled y fe.head b) ps t)) (before co (e.through).conforms));
-      behind = tt;
-      through = λ z. (o.through, o.gathered);
-      gathered = e.gathered;
-    }
-read_on_end false claim pairs fo fe ro re lo le ns ms x y a b s t ho he go ge ngo nge are from ends ao ae before =
-    let e = has_ended fe re le ms y None b t he ge nge ae in
-    let ps = map places_of pairs in
-    record {
-      export = e.through;
-      end = λ z. ends refl;
-      first = λ co. sym (ap (window_difference claim (sampled x fo.head a) (sampled y fe.head b) ps s) (sym (ends refl)) ∙ before co (e.through).conforms);
-      behind = tt;
-      through = λ z. absurd (other_way false z refl);
-      gathered = e.gathered;
-    }
+-- what was found is the first difference from the turn's time on, and no difference before a time that all of both is past
+module _ (turn : Turn) (x : List ℕ) (h : Head) (ns : List NoteValue) (y : List ℕ) (g : Head) (ms : List NoteValue) (w : ReadOn) (ps : List Places) (same : ps ≡ places_in h g ((turn.setting).labels).now)
+    (places : ArePlaces h g ps) (from : (turn.from).ps ≤ℤ (w.seen).ps) (is : IsWalked turn ps x h y g w) where
+  abbrev claim : Terms
+  claim = ((turn.setting).claim).now
 
--- two files that were read on behind a difference before u
-pub read_on_behind : (is_last : Bool) (claim : Terms) (pairs : List Pair) (fo fe ro re : Reader) (lo le : List ℕ) (ns ms : List NoteValue) (x y : List ℕ) (a b s u end : ℤ) (found : Found)
-    → ro.head ≡ fo.head → re.head ≡ fe.head → ArePairs fo.head fe.head pairs → s ≤ℤ u → (is_last ≡ false → Conforms y fe.head → u ≤ℤ last_end_by y fe.head b)
-    → IsReadThrough x ro.head lo × IsReadThrough y re.head le × (end ≡ last_end_by y re.head b)
-    → (Conforms x fo.head → Conforms y fe.head → window_difference claim (sampled x fo.head a) (sampled y fe.head b) (map places_of pairs) s u ≡ Some found)
-    → AreReadOn is_last x fo.head lo ns y fe.head le ms claim a b (map places_of pairs) s end (Some found)
-read_on_behind is_last claim pairs fo fe ro re lo le ns ms x y a b s u end found ho he are from within both before =
-    record { export = e; end = λ z. both.2 ∙ ap (λ h. last_end_by y h b) he; first = λ co. first is_last within co; behind = o; through = λ z. (o, tt); gathered = tt }
-  where
-    o : IsReadThrough x fo.head lo
-    o = let P : Head → Type 0 = λ k. IsReadThrough x k lo in subst P ho both.0
+  abbrev a : ℤ
+  a = moved_original turn
 
-    e : IsReadThrough y fe.head le
-    e = let P : Head → Type 0 = λ k. IsReadThrough y k le in subst P he both.1
+  abbrev b : ℤ
+  b = moved_export turn
 
-    first : (last : Bool) → (last ≡ false → Conforms y fe.head → u ≤ℤ last_end_by y fe.head b) → Conforms x fo.head
-        → Some found ≡ span_difference last claim (sampled x fo.head a) (sampled y fe.head b) (map places_of pairs) s (last_end_by y fe.head b)
-    first true w co =
-        let ps = map places_of pairs in
-        sym (rest_parts claim x y fo.head fe.head a b ps s u co e.conforms (are_places fo.head fe.head pairs are) from
-        ∙ ap (λ z. option_or z (rest_difference claim (sampled x fo.head a) (sampled y fe.head b) ps u)) (before co e.conforms))
-    first false w co =
-        let ps = map places_of pairs in
-        let end = last_end_by y fe.head b in
-        sym (window_parts claim x y fo.head fe.head a b ps s u end co e.conforms (are_places fo.head fe.head pairs are) from (w refl e.conforms)
-        ∙ ap (λ z. option_or z (window_difference claim (sampled x fo.head a) (sampled y fe.head b) ps u end)) (before co e.conforms))
+  abbrev s : ℤ
+  s = (turn.from).ps
+
+  abbrev v : ℤ
+  v = last_end_by y g b
+
+  abbrev Spans : Bool → List Places → Type 0
+  Spans last places' = w.found ≡ span_difference last claim (sampled x h a) (sampled y g b) places' s v
+
+  over : (last : Bool) → turn.is_last ≡ last → Spans last ps → Spans turn.is_last (places_in h g ((turn.setting).labels).now)
+  over last e p = let P : Bool → Type 0 = λ l. Spans l (places_in h g ((turn.setting).labels).now) in subst P (sym e) (subst (Spans last) same p)
+
+  pub matched_end : {lo le : List ℕ} → turn.is_last ≡ true → w.found ≡ None → (w.seen).ps ≡ (w.reached).ps → HasEnded lo ns x h (Some claim) a (w.reached).ps → HasEnded le ms y g None b (w.reached).ps → IsMatched turn x h ns y g ms w.found
+  matched_end last none at o e =
+      let t = (w.reached).ps in
+      let ce = (e.through).conforms in
+      let P : ℤ → Type 0 = λ u. window_difference claim (sampled x h a) (sampled y g b) ps s u ≡ w.found in
+      let rest : ℤ → Option Found = rest_difference claim (sampled x h a) (sampled y g b) ps in
+      record {
+        first = λ co. over true last
+            (none
+            ∙ at_end claim x y h g a b ps t None (rest s) co ce places o.past e.past
+            (rest_parts claim x y h g a b ps s t co ce places (let le : s ≤ℤ t = omega (arith, ints, from, at) in le) ∙ ap (λ z. option_or z (rest t)) (subst P at (is.first co ce) ∙ none)));
+        gathered = λ z. e.gathered;
+        kept = λ l z. o.gathered;
+      }
+
+  pub matched_on : {le : List ℕ} → turn.is_last ≡ false → w.found ≡ None → (w.seen).ps ≡ (w.reached).ps → HasEnded le ms y g None b (w.reached).ps → IsMatched turn x h ns y g ms w.found
+  matched_on last none at e =
+      let P : ℤ → Type 0 = λ u. window_difference claim (sampled x h a) (sampled y g b) ps s u ≡ w.found in
+      record {
+        first = λ co. over false last (sym (subst P (at ∙ is.ends none last) (is.first co (e.through).conforms)));
+        gathered = λ z. e.gathered;
+        kept = λ l z. absurd (other_way turn.is_last l last);
+      }
+
+  pub matched_behind : (found : Found) → w.found ≡ Some found → Conforms y g → IsMatched turn x h ns y g ms w.found
+  matched_behind found some ce = record {
+    first = λ co. by turn.is_last refl co;
+    gathered = λ z. absurd (let e : Some found ≡ None = sym some ∙ z in cc);
+    kept = λ l z. absurd (let e : Some found ≡ None = sym some ∙ z in cc);
+  }
+    where
+      by : (last : Bool) → turn.is_last ≡ last → Conforms x h → Spans turn.is_last (places_in h g ((turn.setting).labels).now)
+      by true last co = over true last
+          (some
+          ∙ sym (rest_parts claim x y h g a b ps s (w.seen).ps co ce places from ∙ ap (λ z. option_or z (rest_difference claim (sampled x h a) (sampled y g b) ps (w.seen).ps)) (is.first co ce ∙ some)))
+      by false last co = over false last
+          (some
+          ∙ sym (window_parts claim x y h g a b ps s (w.seen).ps v co ce places from (is.within last ce)
+          ∙ ap (λ z. option_or z (window_difference claim (sampled x h a) (sampled y g b) ps (w.seen).ps v)) (is.first co ce ∙ some)))

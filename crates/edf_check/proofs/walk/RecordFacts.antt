@@ -24,16 +24,21 @@ use Rattle.edf_stream.proofs.ForCallers.{samples_are_of_channels, samples_rise, 
 use Rattle.edf_check.specs.declared.walk.channel_place.ChannelPlace.{ChannelPlace}
 use Rattle.edf_check.specs.declared.samples.point.Point.{Point}
 use Rattle.edf_check.specs.samples.Columns.{point_of, is_of, is_kept, points_of}
-use Rattle.edf_check.specs.samples.Differences.{instant, IsAscending, AreBefore, AreFrom}
+use Rattle.edf_check.specs.samples.Differences.{instant}
+use Rattle.edf_check.proofs.samples.DifferenceFacts.{IsAscending, AreBefore, AreFrom}
 use Rattle.edf_check.specs.InstantOrder.{IsBefore, is_before}
-use Rattle.edf_check.specs.samples.Stretches.{stretch_points}
-use Rattle.edf_check.specs.samples.Cuts.{whole, since, until}
+use Rattle.edf_check.specs.samples.Stretches.{stretch_points, whole, since, until}
 use Rattle.edf_check.specs.walk.Windows.{sampled, points_at, kept_at}
 use Rattle.edf_check.specs.walk.Pairs.{IsPlaceIn}
-use Rattle.edf_check.specs.walk.Shown.{begin_by, end_by, ArePast, shown_points}
+use Rattle.edf_check.specs.walk.Shown.{begin_by, end_by, ArePast}
 use Rattle.edf_check.proofs.samples.CutFacts.{since_none, until_none, later, earlier_from}
 use Rattle.edf_check.proofs.samples.FilterFacts.{by_test, filters_swap}
 use Rattle.edf_check.proofs.walk.NightFacts.{ascending}
+
+-- the samples of a channel in the data record of these bytes, moved
+abbrev pub shown_points : Head → ℤ → SignalHead → List ℕ → List Point
+shown_points h ps channel bytes =
+    stretch_points ((pos channel.samples *ℤ (file_start h +ℤ start_in h bytes)) +ℤ (pos channel.samples *ℤ ps)) h.duration (lane_of channel bytes)
 
 -- ---- the samples of a channel
 

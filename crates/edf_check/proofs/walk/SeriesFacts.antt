@@ -23,33 +23,49 @@ use Rattle.edf_stream.proofs.ForCallers.{samples_are_of_channels}
 use Rattle.edf_check.specs.declared.samples.earliest.Found.{Found}
 use Rattle.edf_check.specs.declared.samples.point.Point.{Point}
 use Rattle.edf_check.specs.declared.walk.channel_place.ChannelPlace.{ChannelPlace}
-use Rattle.edf_check.specs.samples.Columns.{point_of, is_of, channel_at, AreNights}
-use Rattle.edf_check.specs.samples.Cuts.{whole}
-use Rattle.edf_check.specs.samples.Differences.{instant}
+use Rattle.edf_check.specs.samples.Columns.{point_of, is_of, channel_at, Sampled}
+use Rattle.edf_check.specs.samples.Stretches.{whole}
+use Rattle.edf_check.specs.samples.Differences.{instant, earliest}
 use Rattle.edf_check.specs.Courses.{Course, Agree, IsFirstMismatch}
-use Rattle.edf_check.specs.Instants.{later}
 use Rattle.edf_check.specs.InstantOrder.{IsBefore, floor_of}
+use Rattle.edf_check.specs.Instants.{later}
 use Rattle.edf_check.specs.Kept.{shift_ps}
 use Rattle.edf_check.specs.KeptReading.{origin_of, ValueAt, KeptAt, ExportedAt}
 use Rattle.edf_check.specs.Parts.{ExportedByOne}
-use Rattle.edf_check.specs.Unions.{IsCutAt}
-use Rattle.edf_check.specs.walk.Pairs.{IsPlaceIn}
-use Rattle.edf_check.specs.walk.Series.{places_in, moved_part, part_begin, part_end, part_difference, parts_difference, AreInOrder}
+use Rattle.edf_check.specs.walk.Pairs.{IsPlaceIn, Places, places_in}
 use Rattle.edf_check.specs.walk.Shown.{begin_by, last_end_by}
-use Rattle.edf_check.specs.walk.Spans.{claim_within}
-use Rattle.edf_check.specs.walk.Windows.{sampled, points_at}
-use Rattle.edf_check.proofs.CourseFacts.{IsCourse, agree-alike, first-alike}
-use Rattle.edf_check.proofs.JoinFacts.{join-agree, join-first, join-later}
+use Rattle.edf_check.specs.walk.Windows.{sampled, points_at, span_difference}
+use Rattle.edf_check.proofs.CourseFacts.{IsCourse, agree-alike, first-alike, agree-self}
+use Rattle.edf_check.proofs.JoinFacts.{join-agree, join-first, join-later, IsCutAt}
 use Rattle.edf_check.proofs.KeptFacts.{exported-course}
 use Rattle.edf_check.proofs.samples.CutFacts.{earlier_from}
 use Rattle.edf_check.proofs.samples.FractionFacts.{by_before, same_before, same_back, same_below, from_below}
-use Rattle.edf_check.proofs.walk.NightFacts.{first-found, value-sampled, at-instant, sound-head}
+use Rattle.edf_check.proofs.walk.NightFacts.{first-found, value-sampled, at-instant, sound-head, AreNights, difference_at, label_difference}
 use Rattle.edf_check.proofs.walk.OnwardFacts.{past_all, ends_behind}
 use Rattle.edf_check.proofs.walk.PlaceFacts.{at-found, channel-bounds}
 use Rattle.edf_check.proofs.walk.RecordFacts.{from-first, before-past-all}
-use Rattle.edf_check.proofs.walk.SpanFacts.{within-keeps, within-from, within-until, span_is_whole}
+use Rattle.edf_check.proofs.walk.SpanFacts.{within-keeps, within-from, within-until, span_is_whole, whole_difference, claim_within}
 use Rattle.edf_check.proofs.walk.SplitFacts.{ArePlaces}
-use Rattle.edf_check.proofs.walk.WalkFacts.{labels-walked}
+use Rattle.std.proofs.lemmas.Simd.{map-map}
+use Rattle.edf_check.specs.PartsFound.{AreOrdered}
+use Rattle.edf_check.specs.walk.Together.{serial_difference}
+
+-- by how much a part is moved, so that it counts from the second at which the original starts, before the shift
+abbrev pub moved_part : List ℕ → Terms → ℤ
+moved_part original claim = neg_ℤ (origin_of original +ℤ shift_ps claim)
+
+-- where the first data record of a part begins, and where its last one ends
+abbrev pub part_begin : List ℕ → Terms → List ℕ → ℤ
+part_begin original claim part = begin_by part (head_of part) (moved_part original claim) 0
+
+abbrev pub part_end : List ℕ → Terms → List ℕ → ℤ
+part_end original claim part = last_end_by part (head_of part) (moved_part original claim)
+
+-- the first difference of the original and a part, of what is kept from t on, and, where others follow, before the end of the part
+abbrev part_difference : Bool → List ℕ → Terms → List (Bor (List ℕ)) → ℤ → List ℕ → Option Found
+part_difference last original claim labels t part =
+    span_difference last claim (sampled original (head_of original) (neg_ℤ (origin_of original))) (sampled part (head_of part) (moved_part original claim))
+    (places_in (head_of original) (head_of part) labels) t (part_end original claim part)
 
 -- ---- between which times a file has values
 
@@ -152,14 +168,14 @@ all-kept original claim t c from label at v p = (
 exported-from : (original part : List ℕ) (claim : Terms) (t : ℤ) (label : List ℕ) (at : Instant) (v : ℤ) → 0 < at.den → Conforms part (head_of part) → t ≤ℤ part_begin original claim part → ExportedAt original part claim label at v → IsNotBefore at (whole t)
 exported-from original part claim t label at v p c from h = value-from part (origin_of original +ℤ shift_ps claim) t label at v p c from h
 
-in-order-later : (original : List ℕ) (claim : Terms) (s t : ℤ) (parts : List (List ℕ)) → s ≤ℤ t → AreInOrder original claim t parts → AreInOrder original claim s parts
+in-order-later : (original : List ℕ) (claim : Terms) (s t : ℤ) (parts : List (List ℕ)) → s ≤ℤ t → AreOrdered (moved_part original claim) t parts → AreOrdered (moved_part original claim) s parts
 in-order-later original claim s t [] l h = tt
 in-order-later original claim s t (part ∷ parts) l h = (let f = h.0 in omega (arith, ints, l, f), h.1)
 
 part-order : (original part : List ℕ) (claim : Terms) → Conforms part (head_of part) → part_begin original claim part ≤ℤ part_end original claim part
 part-order original part claim c = ends_behind part (head_of part) (moved_part original claim) c
 
-one-from : (original : List ℕ) (claim : Terms) (t : ℤ) (parts : List (List ℕ)) (label : List ℕ) (at : Instant) (v : ℤ) → 0 < at.den → ((part : List ℕ) → Has parts part → Conforms part (head_of part)) → AreInOrder original claim t parts
+one-from : (original : List ℕ) (claim : Terms) (t : ℤ) (parts : List (List ℕ)) (label : List ℕ) (at : Instant) (v : ℤ) → 0 < at.den → ((part : List ℕ) → Has parts part → Conforms part (head_of part)) → AreOrdered (moved_part original claim) t parts
     → ExportedByOne original parts claim label at v → IsNotBefore at (whole t)
 one-from original claim t [] label at v p c order (part, i, h) = absurd i
 one-from original claim t (first ∷ parts) label at v p c order (part, i, h) =
@@ -169,7 +185,7 @@ one-from original claim t (first ∷ parts) label at v p c order (part, i, h) =
     let from : t ≤ℤ part_end original claim first = (let f = order.0 in let g = part-order original first claim (c first (inl refl)) in omega (arith, ints, f, g)) in
     one-from original claim t parts label at v p (λ x k. c x (inr k)) (in-order-later original claim t (part_end original claim first) parts from order.1) (part, j, h)) i
 
-pub parts-cut : (original : List ℕ) (claim : Terms) (t : ℤ) (part : List ℕ) (parts : List (List ℕ)) → ((x : List ℕ) → Has (part ∷ parts) x → Conforms x (head_of x)) → AreInOrder original claim t (part ∷ parts)
+pub parts-cut : (original : List ℕ) (claim : Terms) (t : ℤ) (part : List ℕ) (parts : List (List ℕ)) → ((x : List ℕ) → Has (part ∷ parts) x → Conforms x (head_of x)) → AreOrdered (moved_part original claim) t (part ∷ parts)
     → IsCutAt (whole (part_end original claim part)) (ExportedByOne original (part ∷ parts) claim) (ExportedAt original part claim) (ExportedByOne original parts claim)
 parts-cut original claim t part parts c order = record {
   front = λ label at v p h. ((part, inl refl, h), value-before part (origin_of original +ℤ shift_ps claim) (part_end original claim part) label at v p (c part (inl refl)) refl h);
@@ -199,6 +215,15 @@ abbrev pub IsFirst : Course → Course → List (Bor (List ℕ)) → Option Foun
 IsFirst kept exported labels found =
     MatchOption found (Agree kept exported)
     (λ f. (label : List ℕ) → slice_get (map (λ l. l.now) labels) f.channel ≡ Some label → IsFirstMismatch kept exported label (floor_of f.difference.at) f.difference.mismatch)
+
+-- the difference of the channels is that of the labels
+labels-walked : (claim : Terms) (o e : Sampled) (h g : Head) (labels : List (Bor (List ℕ))) → o.head ≡ h → e.head ≡ g
+    → whole_difference claim o e (map (λ label. (channel_at label.now h, channel_at label.now g)) labels) ≡ earliest 0 (map (λ label. label_difference claim o e label.now) labels)
+unfolding whole_difference label_difference
+labels-walked claim o e h g labels eo ee =
+    ap (earliest 0) (map-map (λ (p : Places). difference_at claim o e p.0 p.1) (λ (label : Bor (List ℕ)). (channel_at label.now h, channel_at label.now g)) labels)
+    ∙ ap (λ (x : Head). earliest 0 (map (λ (label : Bor (List ℕ)). difference_at claim o e (channel_at label.now x) (channel_at label.now g)) labels)) (sym eo)
+    ∙ ap (λ (x : Head). earliest 0 (map (λ (label : Bor (List ℕ)). difference_at claim o e (channel_at label.now o.head) (channel_at label.now x)) labels)) (sym ee)
 
 part-first : (last : Bool) (original part : List ℕ) (claim : Terms) (labels : List (Bor (List ℕ))) (t : ℤ) → Conforms original (head_of original) → Conforms part (head_of part) → HeadsAgree (head_of original) (head_of part) claim
     → AreSorted claim.channels labels → t ≤ℤ part_begin original claim part
@@ -233,9 +258,6 @@ one-alone original part claim label at v p = (
   λ (x, i, h). ⊎_elim (λ e. subst (λ y. ExportedAt original y claim label at v) (sym e) h) (λ j. absurd j) i,
 )
 
-same-course : (K : Course) → Agree K K
-same-course K label at v p = (λ h. h, λ h. h)
-
 is-first-alike : (K L E F : Course) (labels : List (Bor (List ℕ))) (found : Option Found) → Agree K L → Agree E F → IsFirst K E labels found → IsFirst L F labels found
 is-first-alike K L E F labels None a b h = agree-alike K L E F a b h
 is-first-alike K L E F labels (Some f) a b h = λ label at. first-alike K L E F a b label (floor_of f.difference.at) f.difference.mismatch (h label at)
@@ -250,30 +272,30 @@ joined u K A B E F G labels None (Some g) c d one p q = λ label at. join-later 
 joined u K A B E F G labels (Some f) y c d one p q = λ label at. join-first (whole u) K A B E F G (lit< tt) c d label (floor_of f.difference.at) f.difference.mismatch (p label at)
 
 parts-first : (original : List ℕ) (claim : Terms) (labels : List (Bor (List ℕ))) (t : ℤ) (part : List ℕ) (parts : List (List ℕ)) → Conforms original (head_of original) → ((x : List ℕ) → Has (part ∷ parts) x → Conforms x (head_of x))
-    → ((x : List ℕ) → Has (part ∷ parts) x → HeadsAgree (head_of original) (head_of x) claim) → AreSorted claim.channels labels → AreInOrder original claim t (part ∷ parts)
-    → IsFirst (KeptFrom original claim t) (ExportedByOne original (part ∷ parts) claim) labels (parts_difference original claim labels t (part ∷ parts))
+    → ((x : List ℕ) → Has (part ∷ parts) x → HeadsAgree (head_of original) (head_of x) claim) → AreSorted claim.channels labels → AreOrdered (moved_part original claim) t (part ∷ parts)
+    → IsFirst (KeptFrom original claim t) (ExportedByOne original (part ∷ parts) claim) labels (serial_difference claim original (head_of original) (neg_ℤ (origin_of original)) (moved_part original claim) labels t (part ∷ parts))
 parts-first original claim labels t part [] co cp agree sorted order =
     let K = KeptFrom original claim t in
     let found = part_difference true original claim labels t part in
     subst (IsFirst K (ExportedByOne original (part ∷ []) claim) labels) (or-none found)
-    (is-first-alike K K (ExportedAt original part claim) (ExportedByOne original (part ∷ []) claim) labels found (same-course K) (one-alone original part claim)
+    (is-first-alike K K (ExportedAt original part claim) (ExportedByOne original (part ∷ []) claim) labels found (agree-self K) (one-alone original part claim)
     (part-first true original part claim labels t co (cp part (inl refl)) (agree part (inl refl)) sorted order.0))
 parts-first original claim labels t part (next ∷ parts) co cp agree sorted order =
     let u = part_end original claim part in
     let here = cp part (inl refl) in
     let from : t ≤ℤ u = (let f = order.0 in let g = part-order original part claim here in omega (arith, ints, f, g)) in
     joined u (KeptFrom original claim t) (KeptUntil original claim t u) (KeptFrom original claim u) (ExportedByOne original (part ∷ next ∷ parts) claim) (ExportedAt original part claim) (ExportedByOne original (next ∷ parts) claim)
-    labels (part_difference false original claim labels t part) (parts_difference original claim labels u (next ∷ parts))
+    labels (part_difference false original claim labels t part) (serial_difference claim original (head_of original) (neg_ℤ (origin_of original)) (moved_part original claim) labels u (next ∷ parts))
     (kept-cut original claim t u from) (parts-cut original claim t part (next ∷ parts) cp order) (exported-course original part claim here)
     (part-first false original part claim labels t co here (agree part (inl refl)) sorted order.0)
     (parts-first original claim labels u next parts co (λ x i. cp x (inr i)) (λ x i. agree x (inr i)) sorted order.1)
 
 -- the first difference of an original and all parts, from a time on at which it hasn't begun
 pub parts_first : (original : List ℕ) (claim : Terms) (labels : List (Bor (List ℕ))) (t : ℤ) (part : List ℕ) (parts : List (List ℕ)) → Conforms original (head_of original) → ((x : List ℕ) → Has (part ∷ parts) x → Conforms x (head_of x))
-    → ((x : List ℕ) → Has (part ∷ parts) x → HeadsAgree (head_of original) (head_of x) claim) → AreSorted claim.channels labels → AreInOrder original claim t (part ∷ parts)
+    → ((x : List ℕ) → Has (part ∷ parts) x → HeadsAgree (head_of original) (head_of x) claim) → AreSorted claim.channels labels → AreOrdered (moved_part original claim) t (part ∷ parts)
     → t ≤ℤ begin_by original (head_of original) (neg_ℤ (origin_of original)) 0
-    → IsFirst (KeptAt original claim) (ExportedByOne original (part ∷ parts) claim) labels (parts_difference original claim labels t (part ∷ parts))
+    → IsFirst (KeptAt original claim) (ExportedByOne original (part ∷ parts) claim) labels (serial_difference claim original (head_of original) (neg_ℤ (origin_of original)) (moved_part original claim) labels t (part ∷ parts))
 parts_first original claim labels t part parts co cp agree sorted order from =
     let E = ExportedByOne original (part ∷ parts) claim in
-    is-first-alike (KeptFrom original claim t) (KeptAt original claim) E E labels (parts_difference original claim labels t (part ∷ parts)) (all-kept original claim t co from) (same-course E)
+    is-first-alike (KeptFrom original claim t) (KeptAt original claim) E E labels (serial_difference claim original (head_of original) (neg_ℤ (origin_of original)) (moved_part original claim) labels t (part ∷ parts)) (all-kept original claim t co from) (agree-self E)
     (parts-first original claim labels t part parts co cp agree sorted order)

@@ -1,5 +1,5 @@
 -- What a reader shows between two times.
-use Rattle.std.proofs.Common.{◌≡◌, ℕ, ◌<◌, ℤ, ◌≤ℤ◌, true, false, not, List, [], ◌∷◌, Option, Some, None, IfSome, option_map, map, drop, filter, refl, sym, ap, ◌∙◌, arith, subst}
+use Rattle.std.proofs.Common.{◌≡◌, ℕ, ◌<◌, ℤ, ◌≤ℤ◌, true, false, not, List, [], Option, Some, None, IfSome, option_map, map, drop, filter, sym, ap, ◌∙◌, arith, subst}
 use Rattle.std.proofs.lemmas.Int.{ints}
 use Rattle.edf_claim.specs.Terms.{Terms}
 use Rattle.edf_claim.specs.Keeps.{keeps_instant}
@@ -19,20 +19,18 @@ use Rattle.edf_check.specs.declared.samples.difference.PointDifference.{PointDif
 use Rattle.edf_check.specs.declared.walk.track.Pair.{Pair}
 use Rattle.edf_check.specs.declared.walk.track.Track.{Track}
 use Rattle.edf_check.specs.samples.Columns.{Sampled}
-use Rattle.edf_check.specs.samples.Earliest.{found, earlier, earliest}
-use Rattle.edf_check.specs.samples.Differences.{instant, first_difference_of}
+use Rattle.edf_check.specs.samples.Differences.{instant, first_difference_of, found, earlier, earliest}
 use Rattle.edf_check.specs.InstantOrder.{IsModest, is_before}
-use Rattle.edf_check.specs.samples.Cuts.{whole, since, until}
-use Rattle.edf_check.specs.walk.Windows.{sampled, points_at, kept_at, window_of, window_difference}
+use Rattle.edf_check.specs.walk.Windows.{sampled, points_at, kept_at, window_of, window_difference, first_at}
 use Rattle.edf_check.specs.walk.Pairs.{Places, places_of, IsPlaceIn}
 use Rattle.edf_stream.specs.Records.{lane_of}
-use Rattle.edf_check.specs.samples.Stretches.{stretch_points}
-use Rattle.edf_check.specs.walk.Shares.{first_at}
-use Rattle.edf_check.specs.walk.Shown.{shown_points, Shows, ends_at, Covers}
+use Rattle.edf_check.specs.samples.Stretches.{stretch_points, whole, since, until}
+use Rattle.edf_check.specs.walk.Shown.{Shows, ends_at, Covers}
 use Rattle.edf_check.proofs.samples.CutFacts.{until-before, since-from}
 use Rattle.edf_check.proofs.samples.FilterFacts.{filter_all, filter_none, filters_swap}
 use Rattle.edf_check.proofs.walk.SplitFacts.{earlier_both, mapped}
-use Rattle.edf_check.proofs.walk.RecordFacts.{points-are-kept, window-is, nothing-left}
+use Rattle.edf_check.proofs.walk.RecordFacts.{points-are-kept, window-is, nothing-left, shown_points}
+use Rattle.std.proofs.lemmas.Simd.{map-map}
 
 shows_current : (s : Status) (r : Reader) (file : List ℕ) (place : ChannelPlace) (ps t u : ℤ) → Conforms file r.head → (p : IsPlaceIn r.head place) → Shows s r file ps t → u ≤ℤ ends_at r ps → is_current s ≡ true
     → until place.samples u (since place.samples t (points_at (sampled file r.head ps) place)) ≡ until place.samples u (since place.samples t (shown_points r.head ps p.channel r.current))
@@ -99,16 +97,12 @@ kept_none claim file r place ps t u c p o e =
 
 -- ---- the channels of all pairs
 
-map-twice : {A B C : Type 0} (f : B → C) (g : A → B) (xs : List A) → map (λ x. f (g x)) xs ≡ map f (map g xs)
-map-twice f g [] = refl
-map-twice f g (x ∷ xs) = ap (λ ys. f (g x) ∷ ys) (map-twice f g xs)
-
 pub windows_are : (claim : Terms) (o e : Sampled) (t u : ℤ) (pairs : List Pair) (i : ℕ) (held : Option Found) → i ≡ 0
     → held ≡ earliest i (map (λ p. window_of claim o e t u (places_of p).0 (places_of p).1) (drop i pairs)) → held ≡ window_difference claim o e (map places_of pairs) t u
 unfolding window_difference
 windows_are claim o e t u pairs i held z h =
     h ∙ ap (λ j. earliest j (map (λ p. window_of claim o e t u (places_of p).0 (places_of p).1) (drop j pairs))) z
-    ∙ ap (earliest 0) (map-twice (λ (p : Places). window_of claim o e t u p.0 p.1) places_of pairs)
+    ∙ ap (earliest 0) (sym (map-map (λ (p : Places). window_of claim o e t u p.0 p.1) places_of pairs))
 
 -- the difference of the channels of a pair that has both
 pub pair_window : (claim : Terms) (o e : Sampled) (t u : ℤ) (pair : Pair) (here there : Track) (n m : ℕ) (xs ys : List Point) (d : Option PointDifference) → pair.original ≡ Some here → pair.export ≡ Some there

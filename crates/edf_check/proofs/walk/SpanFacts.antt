@@ -7,26 +7,48 @@ use borrow.Author.Differences.{up, down}
 use Rattle.edf_claim.specs.Terms.{Terms}
 use Rattle.edf_claim.specs.Keeps.{is_within, keeps_instant}
 use Rattle.edf_claim.specs.declared.interval.Interval.{Interval}
-use Rattle.edf_fields.proofs.ForCallers.{has-filtered}
+use Rattle.edf_fields.proofs.ForCallers.{has-filtered, not-true}
 use Rattle.edf_header.specs.Heads.{Head}
 use Rattle.edf_stream.specs.Conforming.{Conforms}
 use Rattle.edf_check.specs.declared.walk.channel_place.ChannelPlace.{ChannelPlace}
 use Rattle.edf_check.specs.declared.samples.point.Point.{Point}
-use Rattle.edf_check.specs.samples.Columns.{difference_at}
-use Rattle.edf_check.specs.samples.Cuts.{whole, since, until}
-use Rattle.edf_check.specs.samples.Differences.{instant, first_difference_of, AreBefore}
-use Rattle.edf_check.specs.samples.Earliest.{earliest}
+use Rattle.edf_check.proofs.walk.NightFacts.{difference_at}
+use Rattle.edf_check.specs.samples.Stretches.{whole, since, until}
+use Rattle.edf_check.specs.samples.Differences.{instant, first_difference_of, earliest}
+use Rattle.edf_check.proofs.samples.DifferenceFacts.{AreBefore}
 use Rattle.edf_check.specs.InstantOrder.{is_before}
 use Rattle.edf_check.specs.walk.Pairs.{Places, IsPlaceIn}
 use Rattle.edf_check.specs.walk.Shown.{begin_by, last_end_by}
-use Rattle.edf_check.specs.walk.Spans.{cut_from, cut_until, claim_within}
-use Rattle.edf_check.specs.walk.Windows.{sampled, points_at, kept_at, rest_of, window_of, whole_difference, rest_difference, window_difference, span_difference}
+use Rattle.edf_check.specs.walk.Windows.{sampled, points_at, kept_at, rest_of, window_of, rest_difference, window_difference, span_difference}
 use Rattle.edf_check.proofs.samples.CutFacts.{since_all}
 use Rattle.edf_check.proofs.samples.FilterFacts.{by_test, filter_all, filter_implied}
 use Rattle.edf_check.proofs.samples.FractionFacts.{is_before-true, is_before-false, true-is_before, false-is_before}
-use Rattle.edf_check.proofs.walk.OnwardFacts.{past_all}
+use Rattle.edf_check.proofs.walk.OnwardFacts.{past_all, other_way}
 use Rattle.edf_check.proofs.walk.RecordFacts.{points-are-kept, from-first, before-past-all}
 use Rattle.edf_check.proofs.walk.SplitFacts.{ArePlaces}
+use Rattle.edf_check.specs.declared.samples.earliest.Found.{Found}
+use Rattle.edf_check.specs.samples.Columns.{Sampled}
+
+-- of each interval what stands from t on
+abbrev cut_from : ℤ → List Interval → List Interval
+cut_from t keep = map (λ interval. record { from_ps = if int_le t interval.from_ps then interval.from_ps else t; to_ps = interval.to_ps }) keep
+
+-- of each interval what stands before u
+abbrev cut_until : ℤ → List Interval → List Interval
+cut_until u keep = map (λ interval. record { from_ps = interval.from_ps; to_ps = if int_le interval.to_ps u then interval.to_ps else u }) keep
+
+-- what stands from t on, and, where further exports follow, before u
+abbrev pub span : Bool → ℤ → ℤ → List Interval → List Interval
+span true t u keep = cut_from t keep
+span false t u keep = cut_until u (cut_from t keep)
+
+-- the claim that keeps only this
+abbrev pub claim_within : Bool → ℤ → ℤ → Terms → Terms
+claim_within is_last t u claim = record { channels = claim.channels; keep = span is_last t u claim.keep; anonymous = claim.anonymous; shift = claim.shift; remove = claim.remove; remove_prefix = claim.remove_prefix; blank = claim.blank }
+
+-- the earliest difference of these channels, of all samples
+unfoldable pub whole_difference : Terms → Sampled → Sampled → List Places → Option Found
+whole_difference claim o e places = earliest 0 (map (λ p. difference_at claim o e p.0 p.1) places)
 
 -- ---- intervals that are cut
 
@@ -98,9 +120,6 @@ until-none (i ∷ is) u num n h = rw (no-end n num i.to_ps u h, and-false (int_l
 
 -- ---- the claim within a span
 
-both-ways : (b : Bool) → b ≡ true → b ≡ false → ⊥
-both-ways b p q = let f : true ≡ false = sym p ∙ q in cc
-
 -- within its span it keeps what it kept
 pub within-keeps : (is_last : Bool) (claim : Terms) (t u num : ℤ) (n : ℕ) → (t *ℤ pos n) ≤ℤ num → (is_last ≡ false → num <ℤ (u *ℤ pos n)) → keeps_instant (claim_within is_last t u claim) num n ≡ keeps_instant claim num n
 within-keeps true claim t u num n h k = from-keeps claim.keep t num n h
@@ -117,14 +136,14 @@ none-before false claim t u num n h =
 pub within-from : (is_last : Bool) (claim : Terms) (t u num : ℤ) (n : ℕ) → keeps_instant (claim_within is_last t u claim) num n ≡ true → (t *ℤ pos n) ≤ℤ num
 within-from is_last claim t u num n h =
     by_test (int_lt num (t *ℤ pos n)) (λ b. (t *ℤ pos n) ≤ℤ num)
-    (λ e. absurd (both-ways (keeps_instant (claim_within is_last t u claim) num n) h (none-before is_last claim t u num n (omega (arith, ints, e)))))
+    (λ e. absurd (other_way (keeps_instant (claim_within is_last t u claim) num n) h (none-before is_last claim t u num n (omega (arith, ints, e)))))
     (λ e. omega (arith, ints, e))
 
 pub within-until : (claim : Terms) (t u num : ℤ) (n : ℕ) → keeps_instant (claim_within false t u claim) num n ≡ true → num <ℤ (u *ℤ pos n)
 within-until claim t u num n h =
     by_test (int_lt num (u *ℤ pos n)) (λ b. num <ℤ (u *ℤ pos n))
     (λ e. omega (arith, ints, e))
-    (λ e. absurd (both-ways (keeps_instant (claim_within false t u claim) num n) h (until-none (cut_from t claim.keep) u num n (omega (arith, ints, e)))))
+    (λ e. absurd (other_way (keeps_instant (claim_within false t u claim) num n) h (until-none (cut_from t claim.keep) u num n (omega (arith, ints, e)))))
 
 -- ---- the samples that are kept within a span
 
@@ -133,10 +152,6 @@ keeps_point claim n x = keeps_instant claim x.num n
 
 abbrev not_before : ℕ → ℤ → Point → Bool
 not_before n t x = not (is_before (instant n x) (whole t))
-
-not-true : (b : Bool) → not b ≡ true → b ≡ false
-not-true true h = absurd (let f : false ≡ true = h in cc)
-not-true false h = refl
 
 passes-from : (n : ℕ) (t : ℤ) (x : Point) → (t *ℤ pos n) ≤ℤ x.num → not_before n t x ≡ true
 passes-from n t x h = ap not (false-is_before (instant n x) (whole t) (omega (arith, ints, h)))

@@ -1,5 +1,5 @@
 -- The earliest difference from a time on is that before a later time, or else that from there on.
-use Rattle.std.proofs.Common.{◌≡◌, ℕ, ◌+◌, ◌<◌, ℤ, ◌≤ℤ◌, Bool, true, false, not, cond, List, [], ◌∷◌, ◌++◌, map, filter, Option, Some, None, option_map, IfSome, refl, sym, ap, ◌∙◌, lit<, subst}
+use Rattle.std.proofs.Common.{◌≡◌, ℕ, ◌+◌, ◌<◌, ℤ, ◌≤ℤ◌, Bool, true, false, cond, List, [], ◌∷◌, ◌++◌, map, Option, Some, None, option_map, IfSome, refl, sym, ap, ◌∙◌, lit<, subst}
 use Rattle.std.specs.Option.{option_or}
 use Rattle.edf_claim.specs.Terms.{Terms}
 use Rattle.edf_claim.specs.Keeps.{keeps_instant}
@@ -12,18 +12,17 @@ use Rattle.edf_check.specs.declared.samples.difference.PointDifference.{PointDif
 use Rattle.edf_check.specs.declared.samples.earliest.Found.{Found}
 use Rattle.edf_check.specs.declared.samples.point.Point.{Point}
 use Rattle.edf_check.specs.samples.Columns.{Sampled}
-use Rattle.edf_check.specs.samples.Differences.{instant, first_difference_of, IsAscending}
-use Rattle.edf_check.specs.samples.Earliest.{found, earlier, earliest}
+use Rattle.edf_check.specs.samples.Differences.{first_difference_of, found, earlier, earliest}
 use Rattle.edf_check.specs.InstantOrder.{IsBefore, is_before}
-use Rattle.edf_check.specs.samples.Cuts.{whole, since, until}
+use Rattle.edf_check.specs.samples.Stretches.{whole, since, until}
 use Rattle.edf_check.specs.walk.Windows.{sampled, points_at, kept_at, rest_of, window_of, rest_difference, window_difference}
 use Rattle.edf_check.specs.walk.Pairs.{Places, IsPlaceIn}
 use Rattle.edf_check.specs.walk.Shown.{ArePast}
 use Rattle.edf_check.proofs.samples.CutFacts.{since_split, since-from, until-before, filter-ascending}
-use Rattle.edf_check.proofs.samples.DifferenceFacts.{difference_splits, difference-before, difference-from}
-use Rattle.edf_check.proofs.samples.FilterFacts.{filters_swap}
+use Rattle.edf_check.proofs.samples.DifferenceFacts.{difference_splits, difference-before, difference-from, IsAscending, or_assoc}
 use Rattle.edf_check.proofs.samples.FractionFacts.{before-not_before, before_below, true-is_before, false-is_before}
-use Rattle.edf_check.proofs.walk.RecordFacts.{points-are-kept, points-ascend, nothing-left}
+use Rattle.edf_check.proofs.walk.RecordFacts.{points-are-kept, points-ascend, nothing-left, nothing-kept}
+use Rattle.std.proofs.lemmas.Simd.{map-map}
 
 -- ---- the earliest of fronts and of backs
 
@@ -95,10 +94,6 @@ earliest-splits t k (p ∷ ps) s =
     (regroup t (option_map (found k) p.0) (option_map (found k) p.1) (earliest (k + 1) (map (λ q. q.0) ps)) (earliest (k + 1) (map (λ q. q.1) ps))
     (mapped (λ f. IsBefore f.difference.at t) k p.0 s.0) (mapped P k p.1 s.1) (fronts_before t (k + 1) ps s.2) (backs_from t (k + 1) ps s.2))
 
-pub map_map : {A B C : Type 0} (f : B → C) (g : A → B) (xs : List A) → map f (map g xs) ≡ map (λ x. f (g x)) xs
-map_map f g [] = refl
-map_map f g (x ∷ xs) = ap (λ ys. f (g x) ∷ ys) (map_map f g xs)
-
 -- ---- one channel of both files
 
 -- where both are there, each has samples, and they rise
@@ -162,8 +157,8 @@ unfolding rest_difference window_difference sides_of
 all_splits claim o e ps t u sound l =
     ap (earliest 0) (rests claim o e ps t u sound l)
     ∙ earliest-splits (whole u) 0 (map (sides_of claim o e t u) ps) (are_sides claim o e ps t u sound)
-    ∙ ap (λ ds. option_or (earliest 0 ds) (earliest 0 (map (λ q. q.1) (map (sides_of claim o e t u) ps)))) (map_map (λ q. q.0) (sides_of claim o e t u) ps)
-    ∙ ap (λ ds. option_or (earliest 0 (map (λ p. window_of claim o e t u p.0 p.1) ps)) (earliest 0 ds)) (map_map (λ q. q.1) (sides_of claim o e t u) ps)
+    ∙ ap (λ ds. option_or (earliest 0 ds) (earliest 0 (map (λ q. q.1) (map (sides_of claim o e t u) ps)))) (map-map (λ q. q.0) (sides_of claim o e t u) ps)
+    ∙ ap (λ ds. option_or (earliest 0 (map (λ p. window_of claim o e t u p.0 p.1) ps)) (earliest 0 ds)) (map-map (λ q. q.1) (sides_of claim o e t u) ps)
 
 -- the places are those of channels of two headers
 unfoldable pub ArePlaces : Head → Head → List Places → Type 0
@@ -186,10 +181,6 @@ unfolding AllSound ArePlaces
 all_sound claim o e h g a b [] co ce all = tt
 all_sound claim o e h g a b (p ∷ ps) co ce all = (sound_place claim o e h g a b p.0 p.1 co ce all.0 all.1, all_sound claim o e h g a b ps co ce all.2)
 
-or_assoc : {A : Type 0} (a b c : Option A) → option_or a (option_or b c) ≡ option_or (option_or a b) c
-or_assoc None b c = refl
-or_assoc (Some x) b c = refl
-
 -- what is held so far, and what is left
 pub step : (claim : Terms) (o e : List ℕ) (h g : Head) (a b : ℤ) (ps : List Places) (t u : ℤ) (held all : Option Found) → Conforms o h → Conforms e g → ArePlaces h g ps → t ≤ℤ u
     → all ≡ option_or held (rest_difference claim (sampled o h a) (sampled e g b) ps t)
@@ -199,13 +190,6 @@ step claim o e h g a b ps t u held all co ce places l before =
     ∙ or_assoc held (window_difference claim (sampled o h a) (sampled e g b) ps t u) (rest_difference claim (sampled o h a) (sampled e g b) ps u)
 
 -- ---- at the end
-
-nothing-kept : (claim : Terms) (file : List ℕ) (h : Head) (p : ChannelPlace) (ps t : ℤ) → Conforms file h → IsPlaceIn h p → ArePast file h ps h.records t → since p.samples t (kept_at claim (sampled file h ps) p) ≡ []
-nothing-kept claim file h p ps t c is past =
-    let n = p.samples in
-    ap (since n t) (points-are-kept claim file h p ps c is)
-    ∙ filters_swap (λ x. not (is_before (instant n x) (whole t))) (λ x. keeps_instant claim x.num n) (points_at (sampled file h ps) p)
-    ∙ ap (filter (λ x. keeps_instant claim x.num n)) (nothing-left file h p ps t c is past)
 
 place_end : (claim : Terms) (o e : List ℕ) (h g : Head) (a b t : ℤ) (p q : Option ChannelPlace) → Conforms o h → Conforms e g → IfSome p (IsPlaceIn h) → IfSome q (IsPlaceIn g)
     → ArePast o h a h.records t → ArePast e g b g.records t → rest_of claim (sampled o h a) (sampled e g b) t p q ≡ None

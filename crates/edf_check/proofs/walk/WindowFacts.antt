@@ -11,17 +11,17 @@ use Rattle.edf_check.specs.declared.walk.channel_place.ChannelPlace.{ChannelPlac
 use Rattle.edf_check.specs.declared.samples.difference.PointDifference.{PointDifference}
 use Rattle.edf_check.specs.declared.samples.point.Point.{Point}
 use Rattle.edf_check.specs.samples.Columns.{Sampled}
-use Rattle.edf_check.specs.samples.Cuts.{whole, since, until}
-use Rattle.edf_check.specs.samples.Differences.{instant, first_difference_of, IsAscending, AreFrom}
-use Rattle.edf_check.specs.samples.Earliest.{earliest}
+use Rattle.edf_check.specs.samples.Stretches.{whole, since, until}
+use Rattle.edf_check.specs.samples.Differences.{instant, first_difference_of, earliest}
 use Rattle.edf_check.specs.InstantOrder.{is_before}
 use Rattle.edf_check.specs.walk.Pairs.{Places}
 use Rattle.edf_check.specs.walk.Windows.{sampled, points_at, kept_at, window_of, rest_difference, window_difference}
 use Rattle.edf_check.proofs.samples.CutFacts.{since_split, since-from, until-before, until_none, later}
-use Rattle.edf_check.proofs.samples.DifferenceFacts.{difference_splits, difference-from}
+use Rattle.edf_check.proofs.samples.DifferenceFacts.{difference_splits, difference-from, IsAscending, AreFrom}
 use Rattle.edf_check.proofs.samples.FilterFacts.{filter_all}
 use Rattle.edf_check.proofs.samples.FractionFacts.{true-is_before}
-use Rattle.edf_check.proofs.walk.SplitFacts.{AreSides, earliest-splits, map_map, AreSound, AllSound, place_before, all_sound, all_splits, ArePlaces}
+use Rattle.edf_check.proofs.walk.SplitFacts.{AreSides, earliest-splits, AreSound, AllSound, place_before, all_sound, all_splits, ArePlaces}
+use Rattle.std.proofs.lemmas.Simd.{map-map}
 
 -- ---- one channel
 
@@ -81,8 +81,8 @@ unfolding window_difference parts_of
 all_parts claim o e ps t u v sound l r =
     ap (earliest 0) (windows claim o e ps t u v sound l r)
     ∙ earliest-splits (whole u) 0 (map (parts_of claim o e t u v) ps) (are_parts claim o e ps t u v sound)
-    ∙ ap (λ ds. option_or (earliest 0 ds) (earliest 0 (map (λ q. q.1) (map (parts_of claim o e t u v) ps)))) (map_map (λ q. q.0) (parts_of claim o e t u v) ps)
-    ∙ ap (λ ds. option_or (earliest 0 (map (λ p. window_of claim o e t u p.0 p.1) ps)) (earliest 0 ds)) (map_map (λ q. q.1) (parts_of claim o e t u v) ps)
+    ∙ ap (λ ds. option_or (earliest 0 ds) (earliest 0 (map (λ q. q.1) (map (parts_of claim o e t u v) ps)))) (map-map (λ q. q.0) (parts_of claim o e t u v) ps)
+    ∙ ap (λ ds. option_or (earliest 0 (map (λ p. window_of claim o e t u p.0 p.1) ps)) (earliest 0 ds)) (map-map (λ q. q.1) (parts_of claim o e t u v) ps)
 
 pub window_parts : (claim : Terms) (o e : List ℕ) (h g : Head) (a b : ℤ) (ps : List Places) (t u v : ℤ) → Conforms o h → Conforms e g → ArePlaces h g ps → t ≤ℤ u → u ≤ℤ v
     → window_difference claim (sampled o h a) (sampled e g b) ps t v ≡ option_or (window_difference claim (sampled o h a) (sampled e g b) ps t u) (window_difference claim (sampled o h a) (sampled e g b) ps u v)

@@ -1,20 +1,13 @@
 -- What the code compares of annotations: two lists in order, read from the left.
-use Rattle.std.specs.Prelude.{◌≢◌, List, [], ◌∷◌, Option, Some, None}
+use Rattle.std.specs.Prelude.{◌≡◌, map, option_map, List, [], ◌∷◌, Option, Some, None, MatchOption}
+use Rattle.edf_check.specs.Words.{NoteValue, note_value, Note}
 use Rattle.std.specs.declared.cmp.Ordering.{Ordering}
 use Rattle.std.specs.declared.cmp.Ordering.TheVariants.{Less, Equal, Greater}
-use Rattle.edf_fields.specs.Lists.{Has}
-use Rattle.edf_stream.specs.Notes.{NoteValue}
-use Rattle.edf_stream.specs.Views.{note_value}
 use Rattle.edf_check.specs.declared.notes.note_difference.NoteDifference.{NoteDifference}
 use Rattle.edf_check.specs.declared.notes.unequal.Unequal.{Unequal}
 use Rattle.edf_verdict.specs.declared.verdict.AnnotationMismatch.{AnnotationMismatch}
 use Rattle.edf_verdict.specs.declared.verdict.AnnotationMismatch.TheVariants.{Missing, Extra}
-use Rattle.edf_check.specs.Annotations.{note_cmp}
-
--- no annotation is before one that stands ahead of it
-abbrev pub AreInOrder : List NoteValue → Type 0
-AreInOrder [] = Unit {0}
-AreInOrder (x ∷ xs) = ((y : NoteValue) → Has xs y → note_cmp y x ≢ Less) × AreInOrder xs
+use Rattle.edf_check.specs.Annotations.{IsFirstNote, SameNotes, note_cmp}
 
 -- an annotation, and how it doesn't stand equally often in two lists
 pub record NoteMismatch : Type 0 where
@@ -40,3 +33,10 @@ first_unequal_of [] [] = None
 first_unequal_of [] (y ∷ ys) = Some (record { mismatch = Extra; note = y })
 first_unequal_of (x ∷ xs) [] = Some (record { mismatch = Missing; note = x })
 first_unequal_of (x ∷ xs) (y ∷ ys) = by_order (note_cmp x y) x y (first_unequal_of xs ys)
+
+-- what was found is the first annotation that doesn't stand equally often in both
+abbrev pub IsNoteDifference : List NoteValue → List NoteValue → Option NoteDifference → Type 0
+IsNoteDifference kept exported found = MatchOption found (SameNotes kept exported) (λ d. IsFirstNote kept exported (note_mismatch d).mismatch (note_mismatch d).note)
+
+abbrev pub IsFirstUnequal : List Note → List Note → Option Unequal → Type 0
+IsFirstUnequal kept exported found = option_map unequal_view found ≡ first_unequal_of (map note_value kept) (map note_value exported)

@@ -1,55 +1,12 @@
--- Where two lists of samples differ, and the first difference of two rising lists.
-use Rattle.std.specs.Prelude.{◌≡◌, ◌≢◌, ◌++◌, ℕ, ◌<◌, ℤ, ◌<ℤ◌, List, [], ◌∷◌, Option, Some, None, if◌then◌else◌}
-use Rattle.std.specs.Option.{option_or}
-use Rattle.std.specs.Ordering.{int_eq}
-use Rattle.edf_stream.specs.declared.instant.Instant.{Instant}
-use Rattle.edf_check.specs.declared.samples.point.Point.{Point}
-use Rattle.edf_verdict.specs.declared.verdict.SampleMismatch.{SampleMismatch}
+-- The first difference of two rising lists of samples, and the earliest one of several channels.
+use Rattle.std.specs.Prelude.{ℕ, List, [], ◌∷◌, Option, Some, None, if◌then◌else◌, ◌+◌}
+use Rattle.edf_check.specs.Words.{option_or, option_map, int_eq, Instant, PointDifference, Found, Point}
 use Rattle.edf_verdict.specs.declared.verdict.SampleMismatch.TheVariants.{Missing, Extra, Value}
-use Rattle.edf_check.specs.declared.samples.difference.PointDifference.{PointDifference}
-use Rattle.edf_fields.specs.Lists.{Has}
-use Rattle.edf_stream.specs.Instants.{IsSame}
-use Rattle.edf_stream.specs.InstantOrder.{IsNotBefore}
-use Rattle.edf_check.specs.InstantOrder.{IsBefore, is_before}
+use Rattle.edf_check.specs.InstantOrder.{is_before}
 
 -- where a sample of a channel with n samples a record stands
 abbrev pub instant : ℕ → Point → Instant
 instant n x = record { num = x.num; den = n }
-
--- each numerator is below all that follow it
-abbrev pub IsAscending : List Point → Type 0
-IsAscending [] = Unit {0}
-IsAscending (x ∷ xs) = ((y : Point) → Has xs y → x.num <ℤ y.num) × IsAscending xs
-
--- there is a sample with this value at this instant
-abbrev pub HasValue : ℕ → List Point → Instant → ℤ → Type 0
-HasValue n xs t v = (x : Point) × Has xs x × IsSame (instant n x) t × (x.value ≡ v)
-
--- there is no sample at this instant
-abbrev pub HasNone : ℕ → List Point → Instant → Type 0
-HasNone n xs t = (x : Point) → Has xs x → IsSame (instant n x) t → ⊥
-
--- each sample of the first list has a partner in the second: at the same instant, of the same value
-abbrev pub AreIn : ℕ → List Point → ℕ → List Point → Type 0
-AreIn n xs m ys = (x : Point) → Has xs x → HasValue m ys (instant n x) x.value
-
--- the same in both directions
-abbrev pub Match : ℕ → List Point → ℕ → List Point → Type 0
-Match n xs m ys = AreIn n xs m ys × AreIn m ys n xs
-
--- what the two lists have at an instant
-abbrev pub Differ : ℕ → List Point → ℕ → List Point → Instant → SampleMismatch → Type 0
-Differ n xs m ys t Missing = ((v : ℤ) × HasValue n xs t v) × HasNone m ys t
-Differ n xs m ys t Extra = ((w : ℤ) × HasValue m ys t w) × HasNone n xs t
-Differ n xs m ys t (Value v w) = HasValue n xs t v × HasValue m ys t w × (v ≢ w)
-
--- a difference, and the instant at which it is
-abbrev pub IsDifference : ℕ → List Point → ℕ → List Point → PointDifference → Type 0
-IsDifference n xs m ys d = (0 < d.at.den) × Differ n xs m ys d.at d.mismatch
-
--- a difference, and none is before it
-abbrev pub IsLeastDifference : ℕ → List Point → ℕ → List Point → PointDifference → Type 0
-IsLeastDifference n xs m ys d = IsDifference n xs m ys d × ((e : PointDifference) → IsDifference n xs m ys e → IsBefore e.at d.at → ⊥)
 
 -- the sample of the first list has no partner
 abbrev pub missing : ℕ → Point → PointDifference
@@ -77,15 +34,17 @@ first_difference_of n [] m (y ∷ ys) = Some (extra m y)
 first_difference_of n (x ∷ xs) m [] = Some (missing n x)
 first_difference_of n (x ∷ xs) m (y ∷ ys) = option_or (heads n x m y) (first_difference_of n xs m ys)
 
--- each member is before t
-abbrev pub AreBefore : ℕ → List Point → Instant → Type 0
-AreBefore n xs t = (x : Point) → Has xs x → IsBefore (instant n x) t
+-- a difference of channel k
+abbrev pub found : ℕ → PointDifference → Found
+found k d = record { channel = k; difference = d }
 
--- no member is before t
-abbrev pub AreFrom : ℕ → List Point → Instant → Type 0
-AreFrom n xs t = (x : Point) → Has xs x → IsNotBefore (instant n x) t
+-- the earlier of two, and the first where they are at one instant
+abbrev pub earlier : Option Found → Option Found → Option Found
+earlier None b = b
+earlier (Some a) None = Some a
+earlier (Some a) (Some b) = if is_before b.difference.at a.difference.at then Some b else Some a
 
--- the first difference of two lists that are cut at one instant is that of the fronts, else that of the rests
-abbrev pub DifferenceSplits : Type 0
-DifferenceSplits = (n m : ℕ) (xs xs' ys ys' : List Point) (t : Instant) → 0 < n → 0 < m → 0 < t.den → AreBefore n xs t → AreBefore m ys t → AreFrom n xs' t → AreFrom m ys' t →
-    first_difference_of n (xs ++ xs') m (ys ++ ys') ≡ option_or (first_difference_of n xs m ys) (first_difference_of n xs' m ys')
+-- the earliest of the channels' differences, the first of which is that of channel k
+abbrev pub earliest : ℕ → List (Option PointDifference) → Option Found
+earliest k [] = None
+earliest k (d ∷ ds) = earlier (option_map (found k) d) (earliest (k + 1) ds)

@@ -1,12 +1,7 @@
 -- Which annotations are gathered of a file, moved by `ps` picoseconds. These are steps between the definitions and the code.
-use Rattle.std.specs.Prelude.{ℕ, ℤ, List, [], map, Option, None, Some, option_map, if◌then◌else◌}
-use Rattle.edf_claim.specs.Terms.{Terms}
-use Rattle.edf_claim.specs.Keeps.{keeps_annotation, kept_text}
-use Rattle.edf_stream.specs.Notes.{NoteValue, moved_by}
-use Rattle.edf_stream.specs.NotesReading.{moved_notes_in}
-use Rattle.edf_stream.specs.Readers.{Reader, is_current}
+use Rattle.std.specs.Prelude.{◌≡◌, ℕ, ℤ, List, [], ◌++◌, map, Option, None, Some, option_map, if◌then◌else◌}
+use Rattle.edf_check.specs.Words.{Bor, keeps_annotation, kept_text, Terms, NoteValue, moved_by, moved_notes_in, Reader, is_current, note_value, Note, View}
 use Rattle.edf_check.specs.Kept.{kept_of}
-use Rattle.edf_check.specs.declared.walk.gather.View.{View}
 
 -- an annotation that the claim keeps, as `kept_of` has it
 abbrev pub as_kept : Terms → NoteValue → NoteValue
@@ -30,6 +25,13 @@ gathered_of claim ps notes = counted_of claim (map (moved_by ps) notes)
 abbrev pub claim_of : View → Option Terms
 claim_of view = option_map (λ claim. claim.now) view.claim
 
+-- what counts of these annotations came to those that were gathered
+abbrev pub AreAdded : List Note → List Note → Option (Bor Terms) → ℤ → List NoteValue → Type 0
+AreAdded old new claim ps notes = map note_value new ≡ map note_value old ++ gathered_of (option_map (λ c. c.now) claim) ps notes
+
 -- the annotations of the data record at hand, if there is one, that are gathered
 abbrev pub gathered_in : Option Terms → ℤ → Reader → List NoteValue
 gathered_in claim ps r = if is_current r.status then gathered_of claim ps (moved_notes_in r.head r.current) else []
+
+abbrev pub gathered_by : View → Reader → List NoteValue
+gathered_by view r = gathered_in (claim_of view) (view.moved).ps r

@@ -1,12 +1,9 @@
 -- What is kept of annotations that come one after the other. These are steps between the definitions and the code.
 use Rattle.std.specs.Prelude.{◌≡◌, refl, ℤ, List, [], ◌++◌, map, filter, Option, None, Some, IsTrue}
+use Rattle.edf_check.specs.Words.{NoteValue, Terms, keeps_annotation, moved_by, note_value}
 use Rattle.std.proofs.Common.{sym, ap, ◌∙◌, append_assoc}
 use Rattle.std.proofs.lemmas.List.{append-nil, map-append}
 use Rattle.std.proofs.lemmas.List.Elements.{filter-append}
-use Rattle.edf_claim.specs.Keeps.{keeps_annotation}
-use Rattle.edf_claim.specs.Terms.{Terms}
-use Rattle.edf_stream.specs.Notes.{NoteValue, moved_by}
-use Rattle.edf_stream.specs.Views.{note_value}
 use Rattle.edf_check.specs.walk.Gathered.{as_kept, counted_of, claim_of, gathered_of}
 use Rattle.edf_check.specs.declared.walk.gather.Gathering.{Gathering}
 

@@ -1,10 +1,10 @@
 //! The first difference between the annotations that a claim keeps of an original and those of an export.
 
-ghost use Rattle.std.specs.Prelude.{◌≡◌, ◌≤◌, [], ◌∷◌, ◌⊎◌, map, length, take, drop, option_map, IfOk, MatchOption};
+ghost use Rattle.std.specs.Prelude.{◌≡◌, ◌≤◌, [], ◌∷◌, ◌⊎◌, map, length, take, drop, IfOk};
 ghost use Rattle.std.specs.List.Sorted.{IsPermutation, IsSorted};
 ghost use Rattle.edf_stream.specs.Views.{note_value};
-ghost use Rattle.edf_check.specs.Annotations.{note_cmp, IsFirstNote, SameNotes};
-ghost use Rattle.edf_check.specs.notes.NoteOrder.{first_unequal_of, note_mismatch, unequal_view};
+ghost use Rattle.edf_check.specs.Annotations.{note_cmp};
+ghost use Rattle.edf_check.specs.notes.NoteOrder.{IsFirstUnequal, IsNoteDifference, note_mismatch, unequal_view};
 
 use crate::notes::unequal::Unequal;
 use edf_stream::notes::Note;
@@ -60,7 +60,7 @@ fn same_front(kept: &[Note], exported: &[Note]) -> usize
 #[tactic(auto, using(crate::proofs::notes::NoteOrderFacts::missing_first, crate::proofs::notes::NoteOrderFacts::extra_first))]
 fn unequal_of_ends<'a>(kept: &'a [Note], exported: &'a [Note]) -> Option<Unequal<'a>>
     requires { (length kept.now ≡ 0) ⊎ (length exported.now ≡ 0) }
-    ensures { option_map unequal_view result ≡ first_unequal_of (map note_value kept.entry.now) (map note_value exported.entry.now) }
+    ensures { IsFirstUnequal kept.entry.now exported.entry.now result }
 {
     if let [note, ..] = kept {
         return Some(Unequal {
@@ -79,7 +79,7 @@ fn unequal_of_ends<'a>(kept: &'a [Note], exported: &'a [Note]) -> Option<Unequal
 
 /// The one of two annotations that is before the other.
 fn unequal_of_heads<'a>(kept: &'a Note, exported: &'a Note) -> Option<Unequal<'a>>
-    ensures { option_map unequal_view result ≡ first_unequal_of (note_value kept.entry.now ∷ []) (note_value exported.entry.now ∷ []) }
+    ensures { IsFirstUnequal (kept.entry.now ∷ []) (exported.entry.now ∷ []) result }
 {
     match order(kept, exported) {
         Ordering::Less => Some(Unequal {
@@ -96,7 +96,7 @@ fn unequal_of_heads<'a>(kept: &'a Note, exported: &'a Note) -> Option<Unequal<'a
 
 /// The first annotation that two lists in order don't have equally often.
 fn first_unequal<'a>(kept: &'a [Note], exported: &'a [Note]) -> Option<Unequal<'a>>
-    ensures { option_map unequal_view result ≡ first_unequal_of (map note_value kept.entry.now) (map note_value exported.entry.now) }
+    ensures { IsFirstUnequal kept.entry.now exported.entry.now result }
 {
     let both = kept.len().min(exported.len());
     for i in 0..both {
@@ -133,9 +133,7 @@ pub(crate) fn note_difference(
     kept: &mut Vec<Note>,
     exported: &mut Vec<Note>,
 ) -> Result<Option<NoteDifference>, AllocError>
-    ensures { IfOk result (λ found. MatchOption found
-        (SameNotes (map note_value kept.old.items) (map note_value exported.old.items))
-        (λ d. IsFirstNote (map note_value kept.old.items) (map note_value exported.old.items) (note_mismatch d).mismatch (note_mismatch d).note)) }
+    ensures { IfOk result (IsNoteDifference (map note_value kept.old.items) (map note_value exported.old.items)) }
 {
     let same = same_front(kept, exported);
     sort_notes(kept, same);

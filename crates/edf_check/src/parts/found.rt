@@ -1,18 +1,12 @@
 //! What is found first in several exports of one original.
 
-ghost use Rattle.std.specs.Prelude.{◌≡◌, if◌then◌else◌, Some};
+ghost use Rattle.std.specs.Prelude.{◌≡◌, Some, None};
 ghost use Rattle.edf_check.specs.PartsFirst.{rank as rank_of};
-ghost use Rattle.edf_check.specs.PartsFound.{earlier_of, first_of};
+ghost use Rattle.edf_check.specs.PartsFound.{earlier_of, first_of, found_with as found_with_those};
 
-use edf_fields::fault::Fault;
+use crate::parts::part::Course;
+use crate::samples::earliest::Found;
 use edf_verdict::verdict::Verdict;
-
-/// The fault of a part.
-#[derive(Clone, Copy)]
-pub(crate) struct PartFault {
-    pub part: u16,
-    pub fault: Fault,
-}
 
 /// The verdict on the header of a part.
 #[derive(Drop)]
@@ -21,13 +15,15 @@ pub(crate) struct PartVerdict {
     pub verdict: Verdict,
 }
 
-/// What is found in parts of which none has a fault.
+/// What is found in parts of which none has a fault. Each counts only where those before it aren't there.
 #[derive(Drop)]
 pub(crate) struct PartsFound {
     /// The first difference of their headers, where one differs.
     pub heads: Option<PartVerdict>,
     /// The first part that begins before the one before it ends.
     pub early: Option<u16>,
+    /// The first difference of the samples.
+    pub found: Option<Found>,
 }
 
 /// The number of a verdict No.
@@ -42,11 +38,7 @@ fn rank(verdict: &Verdict) -> u8
 
 /// Of a part's verdict and of the first one of the parts behind it, the one that goes first: the one with the lower
 /// number, and of the same number that of the part.
-pub(crate) fn earlier_verdict(
-    part: u16,
-    verdict: Verdict,
-    later: Option<PartVerdict>,
-) -> PartVerdict
+fn earlier_verdict(part: u16, verdict: Verdict, later: Option<PartVerdict>) -> PartVerdict
     ensures { result ≡ earlier_of part verdict later }
 {
     match later {
@@ -56,7 +48,7 @@ pub(crate) fn earlier_verdict(
 }
 
 /// The same, where the part may have none.
-pub(crate) fn first_verdict(
+fn first_verdict(
     part: u16,
     verdict: Option<Verdict>,
     later: Option<PartVerdict>,
@@ -69,9 +61,22 @@ pub(crate) fn first_verdict(
     }
 }
 
-/// The first early part, where this one may be it.
-pub(crate) fn first_early(part: u16, is_early: bool, later: Option<u16>) -> Option<u16>
-    ensures { result ≡ (if is_early then Some part else later) }
+/// What is found in a part with this verdict on its header, and in those behind it.
+pub(crate) fn found_with(
+    part: u16,
+    heads: Option<Verdict>,
+    course: Course,
+    rest: PartsFound,
+) -> PartsFound
+    ensures { result ≡ found_with_those part heads course rest }
 {
-    if is_early { Some(part) } else { later }
+    PartsFound {
+        heads: first_verdict(part, heads, rest.heads),
+        early: if course.is_early {
+            Some(part)
+        } else {
+            rest.early
+        },
+        found: course.found.or(rest.found),
+    }
 }

@@ -1,10 +1,9 @@
 //! The samples of a lane that stand between two times.
 
-ghost use Rattle.std.specs.Prelude.{◌≡◌, ◌≤◌, ◌<◌, ◌*◌, ◌^◌, ℤ, pos, ◌<ℤ◌, length, unsigned_abs};
+ghost use Rattle.std.specs.Prelude.{◌≡◌, ◌≤◌, ◌<◌, ◌*◌, ◌^◌, length, unsigned_abs};
 ghost use Rattle.edf_check.specs.declared.walk.time.Window.{Window};
-ghost use Rattle.edf_check.specs.samples.Cuts.{since, until, IsWindow};
-ghost use Rattle.edf_check.specs.samples.Shares.{IsShareOf};
-ghost use Rattle.edf_check.specs.samples.Stretches.{points_in, stretch_points, IsBounded, IsPart};
+ghost use Rattle.edf_check.specs.walk.Windows.{IsPartBy, IsShareOf};
+ghost use Rattle.edf_check.specs.samples.Stretches.{points_in, IsBounded, IsPart, stretch_points, since, until};
 
 use crate::samples::share::Share;
 use crate::samples::stretch::{Stretch, count_before};
@@ -27,7 +26,6 @@ pub(crate) fn share_of_none() -> Share
 pub(crate) fn share_of(lane: Stretch, within: Window) -> Share
     requires lane { IsBounded lane }
     requires whole { length lane.bytes.now ≡ 2 * lane.den }
-    requires window { IsWindow within }
     ensures samples { result.samples ≡ lane.entry.den }
     ensures share { IsShareOf lane.entry.num lane.entry.step within result }
 {
@@ -49,8 +47,7 @@ pub(crate) fn part_by<'a>(lane: &'a [u8], step: i128, share: &Share) -> Stretch<
     requires step { unsigned_abs step < 2 ^ 68 }
     ensures part { IsPart result }
     ensures den { result.den ≡ share.now.samples }
-    ensures value { (a : ℤ) (w : Window) → pos 0 <ℤ step → IsWindow w → IsShareOf a step w share.now → points_in result
-        ≡ until share.now.samples (w.to).ps (since share.now.samples (w.from).ps (stretch_points a step lane.entry.now)) }
+    ensures value { IsPartBy share.now step lane.entry.now (points_in result) }
 {
     Stretch {
         num: share.num,

@@ -2,7 +2,7 @@
 
 ghost use Rattle.std.specs.Prelude.{◌≡◌, IfSome};
 ghost use Rattle.std.specs.Option.{option_map};
-ghost use Rattle.edf_check.specs.samples.Earliest.{earlier as earlier_of, found};
+ghost use Rattle.edf_check.specs.samples.Differences.{earlier as earlier_of, found};
 ghost use Rattle.edf_check.specs.InstantOrder.{IsModest};
 
 use crate::samples::difference::PointDifference;

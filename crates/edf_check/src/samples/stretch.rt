@@ -1,14 +1,12 @@
 //! Samples of a channel that stand at even distances, as they lie in a lane of a data record. EDF (1992),
 //! "Data record".
 
-ghost use Rattle.std.specs.Prelude.{◌≡◌, ◌<◌, ◌≤◌, ◌+◌, ◌-◌, ◌*◌, ◌^◌, pos, ◌+ℤ◌, ◌-ℤ◌, ◌*ℤ◌, ◌≤ℤ◌, length, take, drop, min, [], IfSome, IsTrue, unsigned_abs};
+ghost use Rattle.std.specs.Prelude.{◌≡◌, ◌<◌, ◌≤◌, ◌+◌, ◌-◌, ◌*◌, ◌^◌, pos, ◌+ℤ◌, ◌-ℤ◌, ◌*ℤ◌, length, min, [], IfSome, unsigned_abs};
 ghost use Rattle.std.specs.Ordering.{int_eq};
 ghost use Rattle.edf_stream.specs.Values.{digital_value};
-ghost use Rattle.edf_check.specs.samples.Alike.{AreAlikeBefore};
-ghost use Rattle.edf_check.specs.samples.Differences.{first_difference_of};
+ghost use Rattle.edf_check.specs.samples.Stretches.{AreAlikeBefore, IsBounded, IsPart, are_on_one_grid, difference_from, difference_of_both, front_count, points_in, points_behind, whole};
 ghost use Rattle.edf_check.specs.InstantOrder.{IsModest};
-ghost use Rattle.edf_check.specs.samples.Stretches.{points_in, points_behind, front_count, IsBounded, IsPart, are_on_one_grid};
-ghost use Rattle.edf_check.specs.samples.Cuts.{whole};
+ghost use Rattle.edf_check.specs.samples.Differences.{first_difference_of};
 
 use crate::first_difference::first_difference;
 use crate::samples::difference::{PointDifference, difference_of_heads};
@@ -103,8 +101,7 @@ fn difference_behind(
     requires x_all { length x.bytes.now ≤ 2 * x_count + 1 }
     requires y_within { 2 * y_count ≤ length y.bytes.now }
     requires y_all { length y.bytes.now ≤ 2 * y_count + 1 }
-    ensures value { result ≡ first_difference_of x.entry.den (points_behind x.entry (min x_count y_count))
-        y.entry.den (points_behind y.entry (min x_count y_count)) }
+    ensures value { result ≡ difference_from x.entry y.entry (min x_count y_count) }
     ensures modest { IfSome result (λ d. IsModest d.at) }
 {
     if x_count > y_count {
@@ -161,8 +158,8 @@ fn alike_count(x: Stretch, y: Stretch, count: usize) -> usize
     requires x_within { 2 * count ≤ length x.bytes.now }
     requires y_within { 2 * count ≤ length y.bytes.now }
     ensures within { result ≤ count }
-    ensures value { first_difference_of x.entry.den (points_behind x.entry result) y.entry.den (points_behind y.entry result)
-        ≡ first_difference_of x.entry.den (points_in x.entry) y.entry.den (points_in y.entry) }
+    ensures value { difference_from x.entry y.entry result
+        ≡ difference_of_both x.entry y.entry }
 {
     if count == 0 || !is_one_grid(x, y) {
         return 0;
@@ -176,7 +173,7 @@ fn alike_count(x: Stretch, y: Stretch, count: usize) -> usize
 pub(crate) fn stretch_difference(x: Stretch, y: Stretch) -> Option<PointDifference>
     requires x { IsPart x }
     requires y { IsPart y }
-    ensures value { result ≡ first_difference_of x.entry.den (points_in x.entry) y.entry.den (points_in y.entry) }
+    ensures value { result ≡ difference_of_both x.entry y.entry }
     ensures modest { IfSome result (λ d. IsModest d.at) }
 {
     let x_count = count_in(x.bytes);
@@ -194,7 +191,6 @@ pub(crate) fn stretch_difference(x: Stretch, y: Stretch) -> Option<PointDifferen
 /// How far a time lies behind the first sample, times the denominator.
 fn gap_before(stretch: Stretch, time: Time) -> i128
     requires stretch { IsBounded stretch }
-    requires time { unsigned_abs time.ps < 2 ^ 100 }
     ensures value { result ≡ time.ps *ℤ pos stretch.entry.den -ℤ stretch.entry.num }
     ensures small { unsigned_abs result < 2 ^ 124 }
 {
@@ -203,7 +199,6 @@ fn gap_before(stretch: Stretch, time: Time) -> i128
 
 /// A time in units of 1 / `den` picoseconds.
 fn scaled_time(time: Time, den: u32) -> i128
-    requires time { unsigned_abs time.ps < 2 ^ 100 }
     requires den { den ≤ 2 ^ 23 }
     ensures value { result ≡ time.ps *ℤ pos den }
     ensures small { unsigned_abs result < 2 ^ 123 + 1 }
@@ -224,7 +219,6 @@ fn steps_below(gap: u128, step: u128) -> u128
 /// How many samples stand before a time.
 pub(crate) fn count_before(stretch: Stretch, time: Time) -> usize
     requires stretch { IsBounded stretch }
-    requires time { unsigned_abs time.ps < 2 ^ 100 }
     ensures value { result ≡ front_count stretch.entry.den (points_in stretch.entry) (whole time.ps) }
     ensures within { 2 * result ≤ length stretch.entry.bytes.now }
 {

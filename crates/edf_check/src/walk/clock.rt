@@ -2,7 +2,7 @@
 
 ghost use Rattle.std.specs.Prelude.{◌≡◌, ◌<◌, ◌^◌, neg_ℤ, ◌+ℤ◌, unsigned_abs};
 ghost use Rattle.edf_stream.specs.Starts.{file_start};
-ghost use Rattle.edf_check.specs.walk.Clocks.{IsClock};
+ghost use Rattle.edf_check.specs.Kept.{shift_ps};
 
 use crate::walk::offset::Offset;
 use edf_claim::claim::Claim;
@@ -20,14 +20,13 @@ pub struct Clock {
 impl Clock {
     /// That of an original with this header, under this claim.
     pub(crate) fn new(original: &Header, claim: &Claim) -> Clock
-        ensures { IsClock original.now claim.now result }
+        ensures original { (result.original).ps ≡ neg_ℤ (file_start original.now) }
+        ensures export { (result.export).ps ≡ neg_ℤ (file_start original.now +ℤ shift_ps claim.now) }
     {
         let start = file_start_ps(original);
         Clock {
-            original: Offset { ps: -start },
-            export: Offset {
-                ps: -(start + claim.shift_ps()),
-            },
+            original: Offset::back_from(start),
+            export: Offset::back_from(start + claim.shift_ps()),
         }
     }
 }

@@ -1,13 +1,13 @@
 //! The annotations of a file, as they are compared.
 
-ghost use Rattle.std.specs.Prelude.{◌≡◌, ◌<◌, ◌^◌, ◌*◌, [], ◌∷◌, ◌++◌, ◌+ℤ◌, map, unsigned_abs, true, Option, option_map, IfOk, OnOk};
+ghost use Rattle.std.specs.Prelude.{◌≡◌, ◌<◌, ◌^◌, [], ◌∷◌, unsigned_abs, true, Option, option_map, IfOk, OnOk};
 ghost use Rattle.edf_stream.specs.Keeping.{tal_notes_left};
-ghost use Rattle.edf_stream.specs.Starts.{file_start};
 ghost use Rattle.edf_stream.specs.Views.{note_view, note_value};
-ghost use Rattle.edf_check.specs.walk.Gathered.{counted_text, gathered_of};
+ghost use Rattle.edf_check.specs.walk.Gathered.{AreAdded, counted_text};
 
 use crate::walk::offset::Offset;
 use edf_claim::claim::Claim;
+use edf_refusal::parts_stop::PartSide;
 use edf_stream::grid::file_start_ps;
 use edf_stream::note::{NoteRef, TalNotes};
 use edf_stream::note_keeper::NoteKeeper;
@@ -16,12 +16,21 @@ use edf_stream::own_text::OwnText;
 use edf_stream::reader::FileReader;
 use std::alloc::{AllocError, Global};
 
-/// How a file is looked at: by how much it is moved, and which claim chooses from its annotations and blanks
-/// their texts; where there is none, all count as they are.
+/// How a file is looked at: which one it is, by how much it is moved, and which claim chooses from its annotations and
+/// blanks their texts; where there is none, all count as they are. Memory for them is taken of `alloc`.
 #[derive(Clone, Copy)]
-pub struct View<'a> {
+pub(crate) struct View<'a> {
+    pub alloc: Global,
+    pub file: PartSide,
     pub moved: Offset,
     pub claim: Option<&'a Claim>,
+}
+
+/// By how much the annotations of a file are later than the file has them.
+#[derive(Clone, Copy)]
+pub(crate) struct Delay {
+    pub ps: i128,
+    ghost near: { unsigned_abs ps < 2 ^ 81 },
 }
 
 /// What stands for a text that is blanked.
@@ -63,12 +72,10 @@ fn push_counted(
     alloc: Global,
     notes: &mut Vec<Note>,
     note: NoteRef<'_>,
-    by: Offset,
+    by: Delay,
     claim: Option<&Claim>,
 ) -> Result<(), AllocError>
-    requires near { unsigned_abs by.ps < 2 ^ 81 }
-    ensures { OnOk result (map note_value notes.new.items ≡ map note_value notes.old.items ++ gathered_of (option_map
-        (λ c. c.now) claim.entry) by.ps (note_view note.entry ∷ [])) }
+    ensures { OnOk result (AreAdded notes.old.items notes.new.items claim.entry by.ps (note_view note.entry ∷ [])) }
 {
     let onset = by.ps + note.onset;
     if let Some(text) = text_by(claim, onset, note.text) {
@@ -83,12 +90,10 @@ fn push_all_counted(
     alloc: Global,
     notes: &mut Vec<Note>,
     annotations: TalNotes<'_>,
-    by: Offset,
+    by: Delay,
     claim: Option<&Claim>,
 ) -> Result<(), AllocError>
-    requires near { unsigned_abs by.ps < 2 ^ 81 }
-    ensures { OnOk result (map note_value notes.new.items ≡ map note_value notes.old.items ++ gathered_of (option_map
-        (λ c. c.now) claim.entry) by.ps (tal_notes_left annotations.entry)) }
+    ensures { OnOk result (AreAdded notes.old.items notes.new.items claim.entry by.ps (tal_notes_left annotations.entry)) }
 {
     for note in annotations {
         push_counted(alloc, notes, note, by, claim)?;
@@ -99,28 +104,23 @@ fn push_all_counted(
 /// Keeps the annotations of one data record more that count, as a view has them.
 #[derive(Drop)]
 pub(crate) struct Gathering<'a> {
-    /// Where memory for them is taken.
-    alloc: Global,
     pub notes: Vec<Note>,
     view: View<'a>,
     /// By how much they are later than the file has them.
-    by: Offset,
+    by: Delay,
     /// Whether there was memory for all of them.
     pub whole: bool,
-    ghost near: { unsigned_abs by.ps < 2 ^ 81 },
 }
 
 impl<'a> Gathering<'a> {
     /// Keeps those of a data record as the view has them, so much later than in the file, behind these.
-    pub(crate) fn new(alloc: Global, notes: Vec<Note>, by: Offset, view: View<'a>) -> Gathering<'a>
-        requires near { unsigned_abs by.ps < 2 ^ 81 }
+    pub(crate) fn new(notes: Vec<Note>, by: Delay, view: View<'a>) -> Gathering<'a>
         ensures notes { result.notes ≡ notes }
         ensures view { result.view ≡ view.entry }
         ensures by { result.by ≡ by }
         ensures whole { result.whole ≡ true }
     {
         Gathering {
-            alloc,
             notes,
             view,
             by,
@@ -141,7 +141,7 @@ impl<'a> NoteKeeper for Gathering<'a> {
     fn keep(&mut self, notes: TalNotes<'_>) {
         if self.whole {
             let kept = push_all_counted(
-                self.alloc,
+                self.view.alloc,
                 &mut self.notes,
                 notes,
                 self.by,

@@ -1,19 +1,15 @@
 //! Where the channels of two files lie in their data records. EDF (1992), "Data record".
 
-ghost use Rattle.std.specs.Prelude.{◌≡◌, ◌<◌, ◌≤◌, ◌^◌, ◌+◌, ◌*◌, ◌+ℤ◌, ℕ, List, IfSome, IsTrue, take, unsigned_abs};
+ghost use Rattle.std.specs.Prelude.{◌≡◌, ◌<◌, ◌+◌, ◌*◌, IfSome, IsTrue, take};
 ghost use Rattle.std.specs.List.{All};
 ghost use Rattle.std.specs.Ordering.{int_eq};
 ghost use Rattle.edf_stream.specs.Readers.{is_current};
-ghost use Rattle.edf_stream.specs.RecordsReading.{lane_in};
-ghost use Rattle.edf_stream.specs.Starts.{file_start};
-ghost use Rattle.edf_stream.specs.StartsReading.{start_in};
-ghost use Rattle.edf_check.specs.walk.Layouts.{AreLaidAlike, are_together as begin_together, AreRecordsAlike};
-ghost use Rattle.edf_check.specs.walk.Pairs.{IsTrack, ArePairs};
+ghost use Rattle.edf_check.specs.walk.Pairs.{AreLaidAlike, AreLanesAlike, AreRecordsAlike, are_together as begin_together, IsTrack, ArePairs};
 
 use crate::first_difference::first_difference;
-use crate::walk::clock::{Clock, start_ps_of};
+use crate::walk::clock::Clock;
 use crate::walk::offset::Offset;
-use crate::walk::reading::end_ps_of;
+use crate::walk::reading::{begin_ps_of, end_ps_of};
 use crate::walk::time::Window;
 use crate::walk::track::{Pair, Track};
 use edf_header::header::Header;
@@ -31,8 +27,7 @@ fn lane_end(signal: &Signal) -> Option<usize>
 fn room_of_both(original: &Header, here: Track, export: &Header, there: Track) -> Option<usize>
     requires here { IsTrack original.now here }
     requires there { IsTrack export.now there }
-    ensures { IfSome result (λ n. (here.place.samples ≡ there.place.samples)
-        × ((xs ys : List ℕ) → take n xs ≡ take n ys → lane_in original.now xs here.signal ≡ lane_in export.now ys there.signal)) }
+    ensures { IfSome result (λ n. AreLanesAlike original.now export.now n here there) }
 {
     let x = &original.signals()[usize::from(here.signal)];
     let y = &export.signals()[usize::from(there.signal)];
@@ -70,15 +65,6 @@ pub(crate) fn common_room(original: &Header, export: &Header, pairs: &[Pair]) ->
     Some(room)
 }
 
-/// When the data record at hand begins, moved.
-fn begin_of(reader: &FileReader, by: Offset) -> i128
-    requires current { IsTrue (is_current reader.now.status) }
-    requires near { unsigned_abs by.ps < 2 ^ 80 }
-    ensures { result ≡ (file_start reader.now.head +ℤ by.ps) +ℤ start_in reader.now.head reader.now.current }
-{
-    start_ps_of(reader.header(), by) + reader.start_ps()
-}
-
 /// Whether two numbers of picoseconds are the same.
 fn is_equal(a: i128, b: i128) -> bool
     ensures { result ≡ int_eq a b }
@@ -90,13 +76,11 @@ fn is_equal(a: i128, b: i128) -> bool
 fn are_together(original: &FileReader, export: &FileReader, clock: Clock) -> bool
     requires original { IsTrue (is_current original.now.status) }
     requires export { IsTrue (is_current export.now.status) }
-    requires original_near { unsigned_abs (clock.original).ps < 2 ^ 80 }
-    requires export_near { unsigned_abs (clock.export).ps < 2 ^ 80 }
     ensures { result ≡ begin_together original.now export.now (clock.original).ps (clock.export).ps }
 {
     is_equal(
-        begin_of(original, clock.original),
-        begin_of(export, clock.export),
+        begin_ps_of(original, clock.original),
+        begin_ps_of(export, clock.export),
     ) && is_equal(
         original.header().duration_ps(),
         export.header().duration_ps(),
@@ -106,9 +90,8 @@ fn are_together(original: &FileReader, export: &FileReader, clock: Clock) -> boo
 /// Whether the data record at hand lies between two times: no border cuts it. Only speed rests on the answer.
 fn lies_between(reader: &FileReader, by: Offset, within: Window) -> bool
     requires current { IsTrue (is_current reader.now.status) }
-    requires near { unsigned_abs by.ps < 2 ^ 80 }
 {
-    within.from.ps <= begin_of(reader, by) && end_ps_of(reader, by) <= within.to.ps
+    within.from.ps <= begin_ps_of(reader, by) && end_ps_of(reader, by) <= within.to.ps
 }
 
 /// Whether two slices have the same first bytes, as many as are said.
@@ -128,8 +111,6 @@ pub(crate) fn are_alike(
     clock: Clock,
     within: Window,
 ) -> bool
-    requires original_near { unsigned_abs (clock.original).ps < 2 ^ 80 }
-    requires export_near { unsigned_abs (clock.export).ps < 2 ^ 80 }
     ensures { IsTrue result → AreRecordsAlike original.now export.now room (clock.original).ps (clock.export).ps }
 {
     if !original.has_current() || !export.has_current() {

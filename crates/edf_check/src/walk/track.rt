@@ -2,7 +2,7 @@
 
 ghost use Rattle.std.specs.Prelude.{◌≡◌, IfOk, IfSome, map, option_map};
 ghost use Rattle.edf_check.specs.samples.Columns.{channel_at as channel_in};
-ghost use Rattle.edf_check.specs.walk.Pairs.{ArePairs, IsTrack, places_of};
+ghost use Rattle.edf_check.specs.walk.Pairs.{places_in, ArePairs, IsTrack, places_of};
 
 use crate::walk::channel_place::ChannelPlace;
 use edf_header::header::Header;
@@ -78,8 +78,7 @@ fn pairs_among(
     exports: &ChannelIndex<'_>,
     labels: &[&[u8]],
 ) -> Result<Vec<Pair>, AllocError>
-    ensures places { IfOk result (λ pairs. map places_of pairs.items ≡ map
-        (λ label. (channel_in label.now originals.now, channel_in label.now exports.now)) labels.now) }
+    ensures places { IfOk result (λ pairs. map places_of pairs.items ≡ places_in originals.now exports.now labels.now) }
     ensures pairs { IfOk result (λ pairs. ArePairs originals.now exports.now pairs.items) }
 {
     let mut pairs = Vec::with_capacity(alloc, labels.len())?;
@@ -98,8 +97,7 @@ pub(crate) fn pairs_of(
     export: &Header,
     labels: &[&[u8]],
 ) -> Result<Vec<Pair>, AllocError>
-    ensures places { IfOk result (λ pairs. map places_of pairs.items ≡ map
-        (λ label. (channel_in label.now original.now, channel_in label.now export.now)) labels.now) }
+    ensures places { IfOk result (λ pairs. map places_of pairs.items ≡ places_in original.now export.now labels.now) }
     ensures pairs { IfOk result (λ pairs. ArePairs original.now export.now pairs.items) }
 {
     let originals = ChannelIndex::new(alloc, original)?;

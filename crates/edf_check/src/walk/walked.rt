@@ -1,4 +1,4 @@
-//! A fault of one of two files, and the verdict on a difference.
+//! A fault of an original or of one of its exports, and the verdict on a difference.
 
 ghost use Rattle.std.specs.Prelude.{◌≡◌};
 ghost use Rattle.edf_verdict.specs.declared.verdict.Verdict.TheVariants as verdicts;
@@ -9,11 +9,11 @@ use crate::samples::sample_difference::SampleDifference;
 use edf_fields::fault::Fault;
 use edf_verdict::verdict::{Difference, Verdict};
 
-/// A fault of one of two files. That of the original goes before that of the export.
+/// A fault of the original, or of the part of this number. That of the original goes before that of a part.
 #[derive(Clone, Copy)]
 pub(crate) enum FaultOf {
     Original(Fault),
-    Export(Fault),
+    Part(u16, Fault),
 }
 
 impl SampleDifference {

@@ -1,8 +1,7 @@
 //! What two files show between two times.
 
-ghost use Rattle.std.specs.Prelude.{◌≡◌, ◌<◌, ◌≤◌, ◌+ℤ◌, ◌*ℤ◌, ◌^◌, ◌*◌, ℕ, ℤ, pos, true, List, map, length, IsTrue, Some, IfSome, unsigned_abs};
+ghost use Rattle.std.specs.Prelude.{◌≡◌, ◌<◌, ◌≤◌, ◌+ℤ◌, ◌*ℤ◌, ◌^◌, ◌*◌, ℤ, pos, true, length, IsTrue, Some, IfSome, unsigned_abs};
 ghost use Rattle.edf_claim.specs.Keeps.{keeps_instant};
-ghost use Rattle.edf_claim.specs.Terms.{Terms};
 ghost use Rattle.edf_claim.specs.KeepsReading.{IsUncut};
 ghost use Rattle.edf_stream.specs.Readers.{is_current};
 ghost use Rattle.edf_stream.specs.Records.{lane_of};
@@ -11,12 +10,10 @@ ghost use Rattle.edf_stream.specs.StartsReading.{start_in};
 ghost use Rattle.edf_check.specs.declared.walk.clock.Clock.{Clock};
 ghost use Rattle.edf_check.specs.declared.walk.time.Window.{Window};
 ghost use Rattle.edf_check.specs.InstantOrder.{IsModest};
-ghost use Rattle.edf_check.specs.samples.Stretches.{points_in, IsBounded, IsPart};
-ghost use Rattle.edf_check.specs.samples.Cuts.{since, until, IsWindow};
-ghost use Rattle.edf_check.specs.walk.Windows.{sampled, points_at, kept_at, window_of, window_difference as difference_between};
-ghost use Rattle.edf_check.specs.walk.Pairs.{places_of, IsTrack, ArePairs};
-ghost use Rattle.edf_check.specs.walk.Shares.{first_at, IsShareIn};
-ghost use Rattle.edf_check.specs.walk.Shown.{Covers};
+ghost use Rattle.edf_check.specs.samples.Stretches.{points_in, IsBounded, IsPart, since, until};
+ghost use Rattle.edf_check.specs.walk.Windows.{AreKeptOf, AreShown, IsDifferenceIn, IsPairIn, sampled, points_at, kept_at, window_of, HasShare, IsShareIn, first_at};
+ghost use Rattle.edf_check.specs.walk.Pairs.{IsTrack, ArePairs, places_of};
+ghost use Rattle.edf_check.specs.walk.Shown.{IfAtHand, Covers};
 
 use crate::samples::between::{part_by, share_of, share_of_none};
 use crate::samples::difference::PointDifference;
@@ -64,8 +61,7 @@ fn record_start(reader: &FileReader) -> i128
 fn first_num(reader: &FileReader, samples: u32, moved: Offset) -> i128
     requires current { IsTrue (is_current reader.now.status) }
     requires samples { samples ≤ 2 ^ 23 }
-    requires near { unsigned_abs moved.ps < 2 ^ 80 }
-    ensures value { result ≡ (pos samples *ℤ (file_start reader.now.head +ℤ start_in reader.now.head reader.now.current)) +ℤ (pos samples *ℤ moved.ps) }
+    ensures value { result ≡ first_at reader.now moved.ps samples }
     ensures small { unsigned_abs result < 3 * 2 ^ 102 }
 {
     scaled_start(record_start(reader), samples) + scaled(moved.ps, samples)
@@ -86,7 +82,6 @@ fn lane_at<'a>(reader: &'a FileReader, track: Track) -> &'a [u8]
 fn lane_stretch<'a>(reader: &'a FileReader, track: Track, moved: Offset) -> Stretch<'a>
     requires current { IsTrue (is_current reader.now.status) }
     requires track { IsTrack reader.now.head track }
-    requires near { unsigned_abs moved.ps < 2 ^ 80 }
     ensures lane { IsBounded result }
     ensures whole { length result.bytes.now ≡ 2 * result.den }
     ensures den { result.den ≡ track.place.samples }
@@ -107,8 +102,6 @@ fn lane_stretch<'a>(reader: &'a FileReader, track: Track, moved: Offset) -> Stre
 fn share_at(reader: &FileReader, track: Track, moved: Offset, within: Window) -> Share
     requires current { IsTrue (is_current reader.now.status) }
     requires track { IsTrack reader.now.head track }
-    requires near { unsigned_abs moved.ps < 2 ^ 80 }
-    requires window { IsWindow within }
     ensures samples { result.samples ≡ track.place.samples }
     ensures share { IsShareIn reader.now moved.ps within result }
 {
@@ -127,10 +120,8 @@ fn keep_share(
     held: &mut Share,
 )
     requires track { IfSome track (IsTrack reader.now.head) }
-    requires near { unsigned_abs moved.ps < 2 ^ 80 }
-    requires window { IsWindow within }
     requires held { IsShareIn reader.now moved.ps within held.old }
-    ensures samples { is_wanted ≡ true → IfSome track (λ t. is_current reader.now.status ≡ true → held.new.samples ≡ t.place.samples) }
+    ensures samples { is_wanted ≡ true → IfSome track (λ t. IfAtHand reader.now (held.new.samples ≡ t.place.samples)) }
     ensures share { IsShareIn reader.now moved.ps within held.new }
 {
     if let Some(track) = track {
@@ -146,10 +137,7 @@ fn window<'a>(reader: &'a FileReader, track: Track, share: &Share) -> Stretch<'a
     requires share { is_current reader.now.status ≡ true → share.now.samples ≡ track.place.samples }
     ensures part { IsPart result }
     ensures den { result.den ≡ track.place.samples }
-    ensures value { (ps : ℤ) (w : Window) → IsWindow w → IsShareIn reader.now ps w share.now →
-        (file : List ℕ) → Covers reader.now file ps (w.from).ps (w.to).ps → points_in result
-        ≡ until track.place.samples (w.to).ps (since track.place.samples (w.from).ps (points_at
-        (sampled file reader.now.head ps) track.place)) }
+    ensures value { AreShown reader.now share.now track.place (points_in result) }
 {
     if reader.has_current() {
         part_by(lane_at(reader, track), reader.header().duration_ps(), share)
@@ -176,11 +164,7 @@ fn kept_window<'a>(
     requires share { is_kept ≡ true → is_current reader.now.status ≡ true → share.now.samples ≡ track.place.samples }
     ensures part { IsPart result }
     ensures den { result.den ≡ track.place.samples }
-    ensures value { (claim : Terms) (ps : ℤ) (w : Window) → IsWindow w → IsShareIn reader.now ps w share.now →
-        IsUncut claim.keep (w.from).ps (w.to).ps → is_kept ≡ keeps_instant claim (w.from).ps 1 →
-        (file : List ℕ) → Covers reader.now file ps (w.from).ps (w.to).ps → points_in result
-        ≡ until track.place.samples (w.to).ps (since track.place.samples (w.from).ps (kept_at claim
-        (sampled file reader.now.head ps) track.place)) }
+    ensures value { AreKeptOf reader.now share.now is_kept track.place (points_in result) }
 {
     if is_kept {
         window(reader, track, share)
@@ -207,15 +191,9 @@ fn pair_difference(
 ) -> Option<PointDifference>
     requires original { IfSome pair.original (IsTrack original.now.head) }
     requires export { IfSome pair.export (IsTrack export.now.head) }
-    requires original_share { shares.now.is_kept ≡ true → IfSome pair.original (λ t. is_current original.now.status ≡ true → (shares.now.original).samples ≡ t.place.samples) }
-    requires export_share { IfSome pair.export (λ t. is_current export.now.status ≡ true → (shares.now.export).samples ≡ t.place.samples) }
-    ensures value { (claim : Terms) (clock : Clock) (w : Window) → IsWindow w →
-        IsShareIn original.now (clock.original).ps w shares.now.original → IsShareIn export.now (clock.export).ps w shares.now.export →
-        IsUncut claim.keep (w.from).ps (w.to).ps → shares.now.is_kept ≡ keeps_instant claim (w.from).ps 1 →
-        (o e : List ℕ) → Covers original.now o (clock.original).ps (w.from).ps (w.to).ps →
-        Covers export.now e (clock.export).ps (w.from).ps (w.to).ps →
-        result ≡ window_of claim (sampled o original.now.head (clock.original).ps) (sampled e export.now.head (clock.export).ps)
-        (w.from).ps (w.to).ps (places_of pair).0 (places_of pair).1 }
+    requires original_share { shares.now.is_kept ≡ true → HasShare original.now pair.original shares.now.original }
+    requires export_share { HasShare export.now pair.export shares.now.export }
+    ensures value { IsPairIn original.now export.now shares.now pair result }
     ensures modest { IfSome result (λ d. IsModest d.at) }
 {
     match (pair.original, pair.export) {
@@ -242,14 +220,8 @@ pub(crate) fn window_difference(
     within: Window,
 ) -> Option<Found>
     requires pairs { ArePairs original.now.head export.now.head pairs.now }
-    requires original_near { unsigned_abs (clock.original).ps < 2 ^ 80 }
-    requires export_near { unsigned_abs (clock.export).ps < 2 ^ 80 }
-    requires window { IsWindow within }
     requires uncut { IsUncut claim.now.keep (within.from).ps (within.to).ps }
-    ensures value { (o e : List ℕ) → Covers original.now o (clock.original).ps (within.from).ps (within.to).ps →
-        Covers export.now e (clock.export).ps (within.from).ps (within.to).ps →
-        result ≡ difference_between claim.now (sampled o original.now.head (clock.original).ps) (sampled e export.now.head (clock.export).ps)
-        (map places_of pairs.now) (within.from).ps (within.to).ps }
+    ensures value { IsDifferenceIn original.now export.now claim.now clock pairs.now within result }
     ensures modest { IfSome result (λ f. IsModest f.difference.at × (f.channel < length pairs.now)) }
 {
     let mut shares = Shares {

@@ -4,7 +4,7 @@ use Rattle.edf_check.proofs.check.check.Goals as goal
 
 pub returns-in-Ok-clause-verdict : goal.returns-in-Ok-clause-verdict
 returns-in-Ok-clause-verdict g c = λ first second.
-    ((one_part_verdict (g.O.Source.left c.args.original.now) (g.E.Source.left c.args.export.now) c.args.claim.now c.in-Ok.on_parts).0 (c.in-Ok.ensures.verdict first second tt)).1
+    ((one_part_verdict (g.O.Source.left c.args.original.now) (g.E.Source.left c.args.export.now) c.args.claim.now c.in-Ok.on_parts).0 (c.in-Ok.ensures.verdict first (second, tt))).1
 
 pub returns-in-Ok-clause-headline : goal.returns-in-Ok-clause-headline
 returns-in-Ok-clause-headline g c = λ first second.

@@ -1,32 +1,49 @@
-use Rattle.std.proofs.Common.{◌≡◌, ◌<◌, ℕ, Bor, List, ◌∷◌, length, map, sym, ap, subst, ◌∙◌}
-use Rattle.edf_stream.specs.Views.{note_value}
-use Rattle.edf_check.specs.walk.Together.{AreFound}
+use Rattle.std.proofs.Common.{◌∷◌, map, sym, subst}
+use Rattle.std.specs.List.{AllByRecursion}
+use Rattle.edf_check.specs.Checks.{AreRead}
+use Rattle.edf_check.specs.declared.walk.walked.FaultOf.TheVariants as faults
+use Rattle.edf_check.proofs.LeftFacts.{read_all, read_fault}
 use Rattle.edf_check.proofs.check_parts.check_series.Goals as goal
 
-long : {X : Type 0} (xs ys : List X) → xs ≡ ys → length xs ≡ length ys
-long xs ys e = ap length e
+pub returns-in-Ok-Err-clause-verdict : goal.returns-in-Ok-Err-clause-verdict
+returns-in-Ok-Err-clause-verdict g c = λ ho he.
+    let fault = rw c.in-Ok-Err.field-0-is at c.in-Ok-Err.ensures.fault in
+    c.of_fault.ensures.of_all (g.O.Source.left c.args.original.now) (g.E.Source.left c.args.part.now ∷ map g.E.Source.left c.args.others.now) c.args.claim.now (fault ho)
 
-pub conclude_parts-requires : goal.conclude_parts-requires
-conclude_parts-requires g c = λ found is.
-    let first : c.deref.result.now ≡ c.deref-2.result.now = c.deref.ensures.value ∙ sym c.deref-2.ensures.value in
-    let modest = c.in_ok-walked.ensures.modest found is in
-    let P : List (Bor (List ℕ)) → Type 0 = λ ls. found.channel < length ls in
-    (modest.0, subst P first modest.1)
+pub returns-in-Ok-Err-clause-read : goal.returns-in-Ok-Err-clause-read
+returns-in-Ok-Err-clause-read g c = λ ho he.
+    let left = g.O.Source.left c.open.new.source in
+    let lefts = g.E.Source.left c.args.part.now ∷ map g.E.Source.left c.args.others.now in
+    subst (λ v. AllByRecursion (AreRead v left) lefts) (sym c.of_fault.ensures.verdict) (read_fault (faults.Original c.in-Ok-Err.fault) left lefts tt)
 
-pub returns-clause-verdict : goal.returns-clause-verdict
-returns-clause-verdict g c = λ ho he honest.
+pub returns-in-Ok-Ok-walk_parts-clause-verdict : goal.returns-in-Ok-Ok-walk_parts-clause-verdict
+returns-in-Ok-Ok-walk_parts-clause-verdict g c = λ ho he.
     let stands = rw c.in-Ok-Ok.field-0-is at c.in-Ok-Ok.ensures.stands in
     let honesty = rw c.in-Ok-Ok.field-0-is at c.in-Ok-Ok.ensures.honesty in
     let o = g.O.Source.left c.args.original.now in
-    let parts = g.E.Source.left c.args.part.now ∷ map g.E.Source.left c.args.others.now in
-    let first : c.deref.result.now ≡ c.deref-2.result.now = c.deref.ensures.value ∙ sym c.deref-2.ensures.value in
-    let P : List (Bor (List ℕ)) → Type 0 = λ ls. AreFound o parts c.args.claim.now (map (λ label. label.now) ls) (map note_value (c.walk_parts.new.original.notes).items) (map note_value (c.walk_parts.new.exported.notes).items) c.in_ok-walked.walked in
-    let found = subst P first (c.in_ok-walked.ensures.found (honesty ho) o (stands ho) he honest) in
-    c.in_ok-verdict.ensures.verdict o parts c.args.claim.now found (λ same. c.in_ok-walked.ensures.counted same he honest) (long c.channels-2.result.now c.args.claim.now.channels c.channels-2.ensures.channels)
+    let judged = (rw c.in-Ok-Ok-walk_parts.field-0-is at c.in-Ok-Ok-walk_parts.ensures.judged) (honesty ho) o (stands ho) he in
+    c.in_ok-verdict-in-Ok-Ok-walk_parts.ensures o (g.E.Source.left c.args.part.now ∷ map g.E.Source.left c.args.others.now) judged
 
-pub returns-clause-read : goal.returns-clause-read
-returns-clause-read g c = λ ho he honest.
+pub returns-in-Ok-Ok-walk_parts-clause-read : goal.returns-in-Ok-Ok-walk_parts-clause-read
+returns-in-Ok-Ok-walk_parts-clause-read g c = λ ho he.
     let stands = rw c.in-Ok-Ok.field-0-is at c.in-Ok-Ok.ensures.stands in
     let honesty = rw c.in-Ok-Ok.field-0-is at c.in-Ok-Ok.ensures.honesty in
-    c.in_ok-verdict.ensures.read (g.O.Source.left c.walk_parts.new.o) (g.E.Source.left c.walk_parts.new.part ∷ map g.E.Source.left c.walk_parts.new.others)
-    (c.in_ok-walked.ensures.read (honesty ho) (g.O.Source.left c.args.original.now) (stands ho) he honest)
+    let gone = (rw c.in-Ok-Ok-walk_parts.field-0-is at c.in-Ok-Ok-walk_parts.ensures.gone) (honesty ho) (g.O.Source.left c.args.original.now) (stands ho) he in
+    read_all c.in_ok-verdict-in-Ok-Ok-walk_parts.verdict.verdict (g.O.Source.left c.walk_parts.new.o) (g.E.Source.left c.walk_parts.new.part ∷ map g.E.Source.left c.walk_parts.new.others) gone.0 gone.1
+
+pub returns-in-Ok-Err-walk_parts-clause-verdict : goal.returns-in-Ok-Err-walk_parts-clause-verdict
+returns-in-Ok-Err-walk_parts-clause-verdict g c = λ ho he.
+    let stands = rw c.in-Ok-Ok.field-0-is at c.in-Ok-Ok.ensures.stands in
+    let honesty = rw c.in-Ok-Ok.field-0-is at c.in-Ok-Ok.ensures.honesty in
+    let o = g.O.Source.left c.args.original.now in
+    let fault = (rw c.in-Ok-Err-walk_parts.field-0-is at c.in-Ok-Err-walk_parts.ensures.fault) (honesty ho) o (stands ho) he in
+    c.of_fault-in-Ok-Err-walk_parts.ensures.of_all o (g.E.Source.left c.args.part.now ∷ map g.E.Source.left c.args.others.now) c.args.claim.now fault.0
+
+pub returns-in-Ok-Err-walk_parts-clause-read : goal.returns-in-Ok-Err-walk_parts-clause-read
+returns-in-Ok-Err-walk_parts-clause-read g c = λ ho he.
+    let stands = rw c.in-Ok-Ok.field-0-is at c.in-Ok-Ok.ensures.stands in
+    let honesty = rw c.in-Ok-Ok.field-0-is at c.in-Ok-Ok.ensures.honesty in
+    let left = g.O.Source.left c.walk_parts.new.o in
+    let lefts = g.E.Source.left c.walk_parts.new.part ∷ map g.E.Source.left c.walk_parts.new.others in
+    let fault = (rw c.in-Ok-Err-walk_parts.field-0-is at c.in-Ok-Err-walk_parts.ensures.fault) (honesty ho) (g.O.Source.left c.args.original.now) (stands ho) he in
+    subst (λ v. AllByRecursion (AreRead v left) lefts) (sym c.of_fault-in-Ok-Err-walk_parts.ensures.verdict) (read_fault c.in-Ok-Err-walk_parts.fault left lefts fault.1)

@@ -1,5 +1,5 @@
 use Rattle.std.proofs.Common.{◌+◌, ◌-◌, ◌≤◌, length}
-use Rattle.edf_check.specs.samples.Alike.{AreAlikeBefore}
+use Rattle.edf_check.specs.samples.Stretches.{AreAlikeBefore}
 use Rattle.edf_check.proofs.first_difference.alike_blocks.Given as goal
 
 abbrev pub invariant-loop-place : goal.invariant-loop-place

@@ -1,4 +1,4 @@
-use Rattle.edf_check.specs.samples.Alike.{AreAlikeBefore}
+use Rattle.edf_check.specs.samples.Stretches.{AreAlikeBefore}
 use Rattle.edf_check.proofs.first_difference.first_difference.Given as goal
 
 abbrev pub invariant-loop-place : goal.invariant-loop-place

@@ -1,25 +1,30 @@
-use Rattle.std.proofs.Common.{[], ◌∷◌, ◌∙◌, subst}
+use Rattle.std.proofs.Common.{◌∙◌, subst}
 use Rattle.std.proofs.lemmas.Result.{err_from_is_err_and}
 use Rattle.edf_fields.specs.Sinks.{HoldsPrefix}
 use Rattle.edf_receipt.specs.Receipts.{receipt}
-use Rattle.edf_verdict.specs.Lines.{verdict_line}
 use Rattle.edf_receipt.proofs.receipt.receipt_to.Goals as goal
 
-pub returns-in_err-write_receipt-clause-part : goal.returns-in_err-write_receipt-clause-part
-returns-in_err-write_receipt-clause-part g c =
-    let p = err_from_is_err_and c.from_residual-in_err-write_receipt.result c.from_residual-in_err-write_receipt.ensures.1 in
+pub returns-in_err-put_all-clause-part : goal.returns-in_err-put_all-clause-part
+returns-in_err-put_all-clause-part g c =
+    let p = err_from_is_err_and c.from_residual-in_err-put_all.result c.from_residual-in_err-put_all.ensures.1 in
+    let reads = c.in_ok-verdict.ensures.failures in
+    let line = c.deref.ensures.value ∙ c.in_ok-line.ensures in
     rw (p.1, p.2) (λ same o e sink.
-    let first = c.in_ok-files.ensures.original _ (c.in_ok-verdict.ensures.failures.0 ∙ o.reads_are) o.fits in
-    let second = c.in_ok-files.ensures.export _ (c.in_ok-verdict.ensures.failures.1 ∙ e.reads_are) e.fits in
-    let third = c.in_ok-files.ensures.claim in
+    let files = c.in_ok-files.ensures.files _ _ (reads.0 ∙ o.digested.0, o.digested.1) (reads.1 ∙ e.digested.0, e.digested.1) in
     record {
       verdict = c.in_ok-verdict.verdict;
       under = c.in_ok-verdict.ensures.under o.honest_is e.honest_is;
-      part = subst (λ fs. HoldsPrefix (g.K.Sink.held c.args.sink.now) (g.K.Sink.held c.write_receipt.new.sink) (receipt c.args.version.now fs (verdict_line c.in_ok-verdict.verdict)))
-          (λ i. first i ∷ second i ∷ third i ∷ []) (c.in_err-write_receipt.ensures.part same sink);
+      part = subst (HoldsPrefix (g.K.Sink.held c.args.sink.now) (g.K.Sink.held c.put_all.new.sink))
+          (c.deref-2.ensures.value ∙ c.in_ok-text.ensures ∙ (λ i. receipt c.args.version.now (files i) (line i))) (c.in_err-put_all.ensures.prefix sink);
     })
 
-pub returns-in_err-write_receipt-clause-front : goal.returns-in_err-write_receipt-clause-front
-returns-in_err-write_receipt-clause-front g c =
-    let p = err_from_is_err_and c.from_residual-in_err-write_receipt.result c.from_residual-in_err-write_receipt.ensures.1 in
-    rw (p.1, p.2) (λ same sink. record { files = c.in_ok-files.files.original ∷ c.in_ok-files.files.export ∷ c.in_ok-files.files.claim ∷ []; verdict = c.in_ok-verdict.verdict; part = c.in_err-write_receipt.ensures.part same sink })
+pub returns-in_err-put_all-clause-front : goal.returns-in_err-put_all-clause-front
+returns-in_err-put_all-clause-front g c =
+    let p = err_from_is_err_and c.from_residual-in_err-put_all.result c.from_residual-in_err-put_all.ensures.1 in
+    let line = c.deref.ensures.value ∙ c.in_ok-line.ensures in
+    rw (p.1, p.2) (λ same sink. record {
+      verdict = (c.in_ok-files.files, c.in_ok-verdict.verdict);
+      under = tt;
+      part = subst (HoldsPrefix (g.K.Sink.held c.args.sink.now) (g.K.Sink.held c.put_all.new.sink))
+          (c.deref-2.ensures.value ∙ c.in_ok-text.ensures ∙ (λ i. receipt c.args.version.now c.in_ok-files.files (line i))) (c.in_err-put_all.ensures.prefix sink);
+    })

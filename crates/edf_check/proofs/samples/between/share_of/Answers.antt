@@ -2,7 +2,7 @@ use Rattle.std.proofs.Common.{max, sym, ap, ◌∙◌, rules}
 use Rattle.std.proofs.lemmas.Int.{to_z-of_z}
 use mir.Val.{SFits}
 use mir.Syntax.{w128}
-use Rattle.edf_check.specs.samples.Cuts.{whole}
+use Rattle.edf_check.specs.samples.Stretches.{whole}
 use Rattle.edf_check.proofs.samples.StretchFacts.{front-alike}
 use Rattle.edf_check.proofs.samples.between.share_of.Goals as goal
 

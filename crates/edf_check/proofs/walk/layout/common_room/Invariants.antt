@@ -1,5 +1,5 @@
 use Rattle.std.specs.List.{AllWithin}
-use Rattle.edf_check.specs.walk.Layouts.{AreLaidAlike}
+use Rattle.edf_check.specs.walk.Pairs.{AreLaidAlike}
 use Rattle.edf_check.proofs.walk.layout.common_room.Given as goal
 
 abbrev pub invariant-loop-pair : goal.invariant-loop-pair

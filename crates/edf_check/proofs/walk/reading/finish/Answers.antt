@@ -1,41 +1,35 @@
-use Rattle.std.proofs.Common.{◌≡◌, ◌∙◌, sym, subst}
+use Rattle.std.proofs.Common.{◌∙◌, None, sym, subst}
 use Rattle.edf_header.specs.Heads.{Head}
-use Rattle.edf_stream.specs.Conforming.{Conforms}
-use Rattle.edf_stream.specs.StartsReading.{end_before}
+use Rattle.edf_check.specs.walk.Ends.{IsFinished}
 use Rattle.edf_check.proofs.walk.PassFacts.{there_next, current_open, ended_is}
 use Rattle.edf_check.proofs.walk.reading.finish.Goals as goal
 
-pub loop-side-preserved : goal.loop-side-preserved
-loop-side-preserved g c =
-    let inv = c.loop-side.invariant in
+pub loop-file-preserved : goal.loop-file-preserved
+loop-file-preserved g c =
+    let inv = c.loop-file.invariant in
     let ok = c.in-Ok-None.ensures in
     let none = c.in-Ok-None.field-0-is in
     let head = c.go_on.ensures.head in
-    let current = sym c.has_current.ensures ∙ c.loop-side-test.true in
+    let current = sym c.has_current.ensures ∙ c.loop-file-test.true in
     let going = rw none at ok.going in
     let failures = ok.failures in
     let honesty = rw none at ok.honesty in
     let comes = rw none at ok.comes in
     record {
-      going = going;
-      head = head ∙ inv.head;
+      goes = record {
+        head = head ∙ (inv.goes).head;
+        going = going;
+        honesty = λ h. honesty ((inv.goes).honesty h);
+        comes = λ h file at. there_next c.loop-file.reader c.go_on.new.reader (g.S.Source.left c.go_on.new.source) file going head
+            (comes ((inv.goes).honesty h) file (((inv.goes).comes h file at).stands (current_open (c.loop-file.reader).status current)));
+      };
       failures = failures ∙ inv.failures;
-      honesty = λ h. honesty (inv.honesty h);
-      there = λ h file at. there_next c.loop-side.reader c.go_on.new.reader (g.S.Source.left c.go_on.new.source) file going head
-          (comes (inv.honesty h) file ((inv.there h file at).stands (current_open (c.loop-side.reader).status current)));
     }
 
-pub returns-clause-out : goal.returns-clause-out
-returns-clause-out g c = λ h file at.
-    let inv = c.loop-side.invariant in
-    let past = sym c.has_current.ensures ∙ c.loop-side-test.false in
-    let done = (inv.there h file at).ended (ended_is (c.loop-side.reader).status inv.going past) in
-    (done.2, subst (Conforms file) inv.head done.1)
-
-pub returns-clause-end : goal.returns-clause-end
-returns-clause-end g c = λ h file at.
-    let inv = c.loop-side.invariant in
-    let past = sym c.has_current.ensures ∙ c.loop-side-test.false in
-    let done = (inv.there h file at).ended (ended_is (c.loop-side.reader).status inv.going past) in
-    let P : Head → Type 0 = λ k. (c.loop-side.reader).ended ≡ end_before file k k.records in
-    subst P inv.head done.4
+pub returns-clause-read : goal.returns-clause-read
+returns-clause-read g c = λ h file at.
+    let goes = (c.loop-file.invariant).goes in
+    let past = sym c.has_current.ensures ∙ c.loop-file-test.false in
+    let done = (goes.comes h file at).ended (ended_is (c.loop-file.reader).status goes.going past) in
+    let P : Head → Type 0 = λ k. IsFinished file k (g.S.Source.left c.loop-file.source) (c.loop-file.reader).ended None in
+    subst P goes.head (record { fault = done.0; conforms = done.1; gone = done.2 }, done.4)

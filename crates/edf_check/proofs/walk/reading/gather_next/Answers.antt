@@ -2,7 +2,7 @@ use Rattle.std.proofs.Common.{◌≡◌, ◌∙◌, ◌++◌, ◌+ℤ◌, sym, a
 use Rattle.std.proofs.lemmas.Int.{ints}
 use Rattle.edf_stream.specs.Starts.{file_start}
 use Rattle.edf_stream.specs.Views.{note_value}
-use Rattle.edf_check.specs.declared.walk.offset.Offset.{Offset}
+use Rattle.edf_check.specs.declared.walk.gather.Delay.{Delay}
 use Rattle.edf_check.specs.walk.Gathered.{claim_of, gathered_in}
 use Rattle.edf_check.proofs.walk.KeeperFacts.{gathered-more, where-none}
 use Rattle.edf_check.proofs.walk.reading.gather_next.Goals as goal
@@ -14,10 +14,10 @@ returns-then-gathering-clause-gathered g c =
     let claim = claim_of c.args.view in
     let ps = (c.args.view.moved).ps in
     let new = c.go_on.new.reader in
-    let sum = ap (λ (o : Offset). o.ps) made.by in
+    let sum = ap (λ (d : Delay). d.ps) made.by in
     let value = c.file_start_ps.ensures.value in
     let small = c.file_start_ps.ensures.small in
-    let near = c.requires.near in
+    let near = (c.args.view.moved).near in
     let head = ap (λ (r : _). file_start r) c.header.ensures in
     let by : c.new-gathering.result.by.ps ≡ file_start c.args.reading.now.reader.head +ℤ ps = omega (arith, ints, sum, value, small, near, head) in
     gathered-more claim ps new c.new-gathering.result c.go_on.new.keeper (ap claim_of made.view)

@@ -11,7 +11,7 @@ returns-then-not-is_past-clause-moves g c = record {
   ahead = c.is_past.ensures.no c.if-not-is_past.true;
   honesty = λ h. h;
   failures = refl;
-  comes = λ h file at. at_later c.args.reading.now.reader (g.S.Source.left c.args.source.now) (map note_value (c.args.reading.now.notes).items) file (claim_of c.args.view) (c.args.view.moved).ps (c.args.within.from).ps (c.args.within.to).ps c.requires.window.order at;
+  comes = λ h file at. at_later c.args.reading.now.reader (g.S.Source.left c.args.source.now) (map note_value (c.args.reading.now.notes).items) file (claim_of c.args.view) (c.args.view.moved).ps (c.args.within.from).ps (c.args.within.to).ps c.args.within.order at;
 }
 
 pub returns-in-Ok-None-clause-moves : goal.returns-in-Ok-None-clause-moves
@@ -31,5 +31,5 @@ returns-in-Ok-None-clause-moves g c =
       failures = ok.failures;
       comes = λ h file at. at_next c.args.reading.now.reader c.gather_next.new.reading.reader (g.S.Source.left c.args.source.now) (g.S.Source.left c.gather_next.new.source)
           (map note_value (c.args.reading.now.notes).items) (map note_value (c.gather_next.new.reading.notes).items) file (claim_of c.args.view) (c.args.view.moved).ps (c.args.within.from).ps (c.args.within.to).ps
-          past.0 c.requires.window.order past.1 going head (rw none at ok.count) (rw none at ok.gathered) at (comes h file ((at.there).stands (current_open (c.args.reading.now.reader).status past.0)));
+          past.0 c.args.within.order past.1 going head (rw none at ok.count) (rw none at ok.gathered) at (comes h file ((at.there).stands (current_open (c.args.reading.now.reader).status past.0)));
     }

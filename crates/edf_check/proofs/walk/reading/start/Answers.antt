@@ -1,4 +1,4 @@
-use Rattle.std.proofs.Common.{◌≡◌, true, ◌∙◌, ◌++◌, ap, map, arith}
+use Rattle.std.proofs.Common.{◌≡◌, ◌^◌, neg_ℤ, pos, true, ◌∙◌, ◌++◌, ap, map, arith}
 use Rattle.std.proofs.lemmas.Int.{ints}
 use Rattle.edf_check.specs.walk.Gathered.{claim_of, gathered_in}
 use Rattle.edf_check.proofs.walk.PassFacts.{at_first, begins_with_one}
@@ -15,15 +15,14 @@ returns-in-Ok-None-clause-follows g c =
     let gathered = rw none at ok.gathered in
     let start = rw none at ok.start in
     let near = c.gather_next.ensures.near in
-    let by = c.requires.near in
-    let time = c.requires.time in
+    let by = (c.args.view.moved).near in
     record {
       head = c.gather_next.ensures.head;
       going = going;
-      ahead = λ e. (let s = start e in omega (arith, ints, s, near, by, time));
+      ahead = λ e. (let s = start e in omega (arith, ints, s, near, by));
       honesty = rw none at ok.honesty;
       failures = ok.failures;
-      comes = λ h file s. at_first c.args.reading.now.reader c.gather_next.new.reading.reader (g.S.Source.left c.gather_next.new.source) (map note_value (c.gather_next.new.reading.notes).items) file (claim_of c.args.view) (c.args.view.moved).ps c.args.time.ps
+      comes = λ h file s. at_first c.args.reading.now.reader c.gather_next.new.reading.reader (g.S.Source.left c.gather_next.new.source) (map note_value (c.gather_next.new.reading.notes).items) file (claim_of c.args.view) (c.args.view.moved).ps (neg_ℤ (pos (2 ^ 90)))
           (c.requires.begun).1 going c.gather_next.ensures.head (rw none at ok.count)
           (gathered ∙ ap (λ ns. map note_value ns ++ gathered_in (claim_of c.args.view) (c.args.view.moved).ps c.gather_next.new.reading.reader) c.requires.none) (comes h file s);
     }

@@ -3,16 +3,14 @@ use Rattle.std.proofs.lemmas.Int.{ints, to_z-of_z}
 use mir.Val.{SFits}
 use mir.Syntax.{w128}
 use Rattle.edf_header.specs.Heads.{Head}
-use Rattle.edf_check.specs.samples.Stretches.{stretch_points}
-use Rattle.edf_check.specs.samples.Cuts.{since, until}
-use Rattle.edf_check.specs.samples.Shares.{IsShareOf}
-use Rattle.edf_check.specs.walk.Shares.{first_at}
+use Rattle.edf_check.specs.samples.Stretches.{stretch_points, since, until}
+use Rattle.edf_check.specs.walk.Windows.{first_at, IsShareOf}
 use Rattle.edf_stream.specs.Readers.{is_current}
 use Rattle.edf_check.proofs.walk.ShownFacts.{covers_current, covers_nothing, shown_by}
 use Rattle.edf_check.proofs.walk.window.window.Goals as goal
 
 pub returns-then-has_current-clause-value : goal.returns-then-has_current-clause-value
-returns-then-has_current-clause-value c = λ ps w iw sh file covers.
+returns-then-has_current-clause-value c = λ ps w sh file covers.
     let r = c.args.reader.now in
     let t = (w.from).ps in
     let u = (w.to).ps in
@@ -29,12 +27,12 @@ returns-then-has_current-clause-value c = λ ps w iw sh file covers.
     let positive : pos 0 <ℤ step = omega (arith, ints, first) in
     let fits : SFits w128 step = search rules in
     let value = simp to_z-of_z at c.part_by.ensures.value in
-    value (first_at r ps c.args.share.now.samples) w positive iw mine
+    value (first_at r ps c.args.share.now.samples) w positive mine
     ∙ ap (λ m. until m u (since m t (stretch_points (first_at r ps m) step c.lane_at.result.now))) same
     ∙ ap (λ d. until n u (since n t (stretch_points (first_at r ps n) d c.lane_at.result.now))) lasts
     ∙ ap (λ xs. until n u (since n t xs)) (shown_by r ps c.args.track.place track.place c.lane_at.result.now (c.lane_at.ensures.value track))
     ∙ sym (covers_current r file c.args.track.place ps t u track.place covers current)
 
 pub returns-else-has_current-clause-value : goal.returns-else-has_current-clause-value
-returns-else-has_current-clause-value c = λ ps w iw sh file covers.
+returns-else-has_current-clause-value c = λ ps w sh file covers.
     c.no_samples.ensures.value ∙ sym (covers_nothing c.args.reader.now file c.args.track.place ps (w.from).ps (w.to).ps (c.requires.track).place covers (sym c.has_current.ensures ∙ c.if-has_current.false))

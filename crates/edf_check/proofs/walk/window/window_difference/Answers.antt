@@ -1,5 +1,5 @@
 use Rattle.std.proofs.Common.{◌≡◌, ◌+◌, ◌-◌, ◌<◌, length, arith, Option, option_map, refl}
-use Rattle.edf_check.specs.samples.Earliest.{found}
+use Rattle.edf_check.specs.samples.Differences.{found}
 use Rattle.edf_check.specs.declared.samples.difference.PointDifference.{PointDifference}
 use Rattle.edf_check.specs.declared.walk.track.Pair.{Pair}
 use Rattle.edf_check.specs.walk.Windows.{sampled, window_of}
@@ -22,7 +22,7 @@ loop-i-preserved c =
       value = λ o e ho he.
           let of : Pair → Option PointDifference = λ p. window_of c.args.claim.now (sampled o c.args.original.now.head (c.args.clock.original).ps) (sampled e c.args.export.now.head (c.args.clock.export).ps) (c.args.within.from).ps (c.args.within.to).ps (places_of p).0 (places_of p).1 in
           earliest-step of c.args.pairs.now c.loop-i.i k _ c.pair_difference-next.result (option_map (found k) c.pair_difference-next.result) c.loop-i.held c.earlier_with-held.result
-          next lt (c.pair_difference-next.ensures.value c.args.claim.now c.args.clock c.args.within c.requires.window c.keep_share.ensures.share c.keep_share-in-loop-i.ensures.share c.requires.uncut inv.kept o e ho he) refl c.earlier_with-held.ensures.value (inv.value o e ho he);
+          next lt (c.pair_difference-next.ensures.value c.args.claim.now c.args.clock c.args.within c.keep_share.ensures.share c.keep_share-in-loop-i.ensures.share c.requires.uncut inv.kept o e ho he) refl c.earlier_with-held.ensures.value (inv.value o e ho he);
       modest = c.earlier_with-held.ensures.modest;
       channel = channel_more k (length c.args.pairs.now) c.pair_difference-next.result (option_map (found k) c.pair_difference-next.result) c.loop-i.held c.earlier_with-held.result lt refl c.earlier_with-held.ensures.value inv.channel;
     }

@@ -1,10 +1,9 @@
 use Rattle.std.proofs.Common.{◌≡◌, ◌<◌, ◌≤◌, List, ℕ, drop, map, length, IfSome}
 use Rattle.edf_claim.specs.Keeps.{keeps_instant}
-use Rattle.edf_check.specs.samples.Earliest.{earliest}
+use Rattle.edf_check.specs.samples.Differences.{earliest}
 use Rattle.edf_check.specs.InstantOrder.{IsModest}
-use Rattle.edf_check.specs.walk.Shares.{IsShareIn}
+use Rattle.edf_check.specs.walk.Windows.{IsShareIn, sampled, window_of}
 use Rattle.edf_check.specs.walk.Shown.{Covers}
-use Rattle.edf_check.specs.walk.Windows.{sampled, window_of}
 use Rattle.edf_check.specs.walk.Pairs.{places_of}
 use Rattle.edf_check.proofs.walk.window.window_difference.Given as goal
 

@@ -1,0 +1,64 @@
+//! The check under the claim that a text says.
+
+ghost use Rattle.std.specs.Prelude.{◌≡◌, ◌<◌, ◌≤◌, map, length, IfOk, IfErr, OnOk};
+ghost use Rattle.edf_check.specs.Runs.{IsJudged, JudgeStops, IsPartsJudged, PartsJudgeStops};
+
+use crate::check::check;
+use crate::check_parts::check_parts;
+use edf_claim::claim::Claim;
+use edf_claim::stop::ClaimStop;
+use edf_fields::source::Source;
+use edf_refusal::parts_stop::PartsRunStop;
+use edf_refusal::stop::RunStop;
+use edf_verdict::parts_verdict::PartsVerdict;
+use edf_verdict::verdict::Verdict;
+use std::alloc::Global;
+
+/// Reads the claim that a text says, and checks the export against the original under it.
+///
+/// The error is the first fault of the text, want of memory, or a failure of one of the sources.
+pub fn judge<O: Source, E: Source>(
+    alloc: Global,
+    original: &mut O,
+    export: &mut E,
+    claim_text: &[u8],
+) -> Result<Verdict, RunStop>
+    ensures under { IfOk result (IsJudged (O.is_honest original.old) (O.left original.old)
+        (E.is_honest export.old) (E.left export.old) claim_text.now) }
+    ensures failures { OnOk result ((O.reads original.new ≡ O.reads original.old)
+        × (E.reads export.new ≡ E.reads export.old)) }
+    ensures stop { IfErr result (JudgeStops claim_text.now (O.reads original.old) (O.reads original.new)
+        (E.reads export.old) (E.reads export.new)) }
+{
+    match Claim::read(alloc, claim_text) {
+        Ok(claim) => Ok(check(alloc, original, export, &claim)?),
+        Err(cause) if cause != ClaimStop::OutOfMemory => Err(RunStop::Claim(cause)),
+        Err(_) => Err(RunStop::OutOfMemory),
+    }
+}
+
+/// Reads the claim that a text says, and checks one to 64 exports, in the order of time, against the original under it.
+///
+/// The error is the first fault of the text, want of memory, or a failure of one of the sources.
+pub fn judge_parts<O: Source, E: Source>(
+    alloc: Global,
+    original: &mut O,
+    parts: &mut [E],
+    claim_text: &[u8],
+) -> Result<PartsVerdict, PartsRunStop>
+    requires some { 0 < length parts.old }
+    requires few { length parts.old ≤ 64 }
+    ensures under { IfOk result (IsPartsJudged (O.is_honest original.old) (O.left original.old)
+        (map E.is_honest parts.old) (map E.left parts.old) claim_text.now) }
+    ensures failures { OnOk result ((O.reads original.new ≡ O.reads original.old)
+        × (map E.reads parts.new ≡ map E.reads parts.old)) }
+    ensures size { length parts.new ≡ length parts.old }
+    ensures stop { IfErr result (PartsJudgeStops claim_text.now (O.reads original.old) (O.reads original.new)
+        (map E.reads parts.old) (map E.reads parts.new)) }
+{
+    match Claim::read(alloc, claim_text) {
+        Ok(claim) => Ok(check_parts(alloc, original, parts, &claim)?),
+        Err(cause) if cause != ClaimStop::OutOfMemory => Err(PartsRunStop::Claim(cause)),
+        Err(_) => Err(PartsRunStop::OutOfMemory),
+    }
+}

@@ -1,0 +1,351 @@
+//! One of several exports, read to its end beside the original.
+
+ghost use Rattle.std.specs.Prelude.{◌≡◌, ◌≤◌, ◌^◌, ◌≤ℤ◌, ◌<ℤ◌, ◌&&◌, ◌||◌, not, is_some, [], length, true, false, None, IfErr, OnOk, IfSome};
+ghost use Rattle.edf_stream.specs.Readers.{HasBegun, is_current};
+ghost use Rattle.edf_check.specs.PartsStops.{StopsOfTwo};
+ghost use Rattle.edf_check.specs.PartsVerdicts.{samples_in};
+ghost use Rattle.edf_check.specs.Premises.{IfFaulty, IfRead};
+ghost use Rattle.edf_check.specs.walk.Ends.{EndedBy, FaultyBy, IsFoundAmong, IsReady, MatchedBy, PartFaultBy, PartReadBy, PassedBy, PassesBehind, PassesOn, PassesPart, ThroughBy, at_part, at_turn, beside, goes_on, is_same as agrees, over};
+ghost use Rattle.edf_check.specs.walk.Readings.{HasGoneOn};
+ghost use Rattle.edf_check.specs.walk.Shown.{IfAtHand, IsAhead, IsGoing, StandsAt, begins_at};
+
+use crate::samples::earliest::Found;
+use crate::walk::gather::View;
+use crate::walk::layout::common_room;
+use crate::walk::lockstep::{Frame, end_both, export_fault, walk_on};
+use crate::walk::offset::Offset;
+use crate::walk::reading::{Reading, begin_ps_of, finish, go_on, open, start};
+use crate::walk::time::Time;
+use crate::walk::track::pairs_of;
+use crate::walk::turn::Turn;
+use crate::walk::walked::FaultOf;
+use edf_fields::source::Source;
+use edf_heads::head_difference::head_difference;
+use edf_refusal::parts_stop::{PartSide, PartsStop};
+use edf_stream::conform::Summary;
+use edf_stream::note_keeper::KeepsNone;
+use edf_stream::notes::Note;
+use edf_stream::reader::FileReader;
+use edf_verdict::verdict::Verdict;
+
+/// When the data records of a part begin and end, and what they differ in.
+#[derive(Clone, Copy)]
+pub(crate) struct Course {
+    /// Whether the first one begins before the part's turn.
+    pub is_early: bool,
+    /// Where the last one ends.
+    pub end: Time,
+    /// The first difference of the samples, where these are compared.
+    pub found: Option<Found>,
+}
+
+/// A part that was read to its end.
+#[derive(Drop)]
+pub(crate) struct PartRead {
+    /// The verdict on its header, where that differs.
+    pub heads: Option<Verdict>,
+    pub course: Course,
+    /// How many samples its channels have.
+    pub samples: u64,
+    /// Its annotations, where these are compared.
+    pub notes: Vec<Note>,
+}
+
+impl PartRead {
+    /// Whether the samples of the next part are compared: those of this one were, and nothing was found that differs.
+    pub(crate) fn goes_on(&self, turn: Turn<'_>) -> bool
+        ensures { result ≡ (turn.entry.is_compared && agrees self.now) }
+    {
+        turn.is_compared
+            && self.heads.is_none()
+            && !self.course.is_early
+            && self.course.found.is_none()
+    }
+}
+
+/// How many samples the channels of a file have that was read to its end.
+fn samples_of(reading: &Reading) -> u64
+    ensures value { result ≡ samples_in (reading.now.reader).head }
+    ensures few { result ≤ 2 ^ 50 }
+{
+    Summary::of(reading.reader.header(), 0).samples
+}
+
+/// Whether a data record is at hand that begins at a time or later.
+fn begins_from(reader: &FileReader, by: Offset, time: Time) -> bool
+    ensures current { result ≡ true → is_current reader.now.status ≡ true }
+    ensures later { result ≡ true → time.ps ≤ℤ begins_at reader.now by.ps }
+    ensures ahead { result ≡ true → IsAhead reader.now by.ps time.ps }
+    ensures early { result ≡ false → IfAtHand reader.now (begins_at reader.now by.ps <ℤ time.ps) }
+{
+    reader.has_current() && time.ps <= begin_ps_of(reader, by)
+}
+
+/// Whether nothing more is compared behind a part: its samples differ, or no further part follows.
+fn is_over(found: Option<Found>, is_last: bool) -> bool
+    ensures { result ≡ (is_some found || is_last) }
+{
+    found.is_some() || is_last
+}
+
+/// Compares a part, of which the first data record was read and doesn't begin early, with the original, which stands at the
+/// part's turn; or finds the first fault of the original, or else of the part. The part is read to its end, and the
+/// original, too, where no further part follows, or where the samples differ.
+///
+/// The error is want of memory, or a failure of one of the sources.
+fn compare_on<O: Source, E: Source>(
+    original: &mut Reading,
+    o: &mut O,
+    export: &mut Reading,
+    e: &mut E,
+    turn: Turn<'_>,
+) -> Result<Result<Course, FaultOf>, PartsStop>
+    requires compared { turn.is_compared ≡ true }
+    requires original { StandsAt original.old.reader ((turn.setting).clock.original).ps (turn.from).ps }
+    requires export { StandsAt export.old.reader ((turn.setting).clock.export).ps (turn.from).ps }
+    requires at_hand { is_current (export.old.reader).status ≡ true }
+    ensures modest { IfRead result (λ c. IfSome c.found (IsFoundAmong (length ((turn.entry.setting).labels).now))) }
+    ensures head { IfRead result (λ c. (export.new.reader).head ≡ (export.old.reader).head) }
+    ensures later { IfRead result (λ c. c.is_early ≡ false) }
+    ensures passes { IfRead result (PassesBehind O.Source original.old o.old original.new o.new turn.entry) }
+    ensures through { IfRead result (λ c. turn.entry.is_last ≡ true →
+        ThroughBy (at_turn O.Source E.Source original.old o.old export.old e.old turn.entry) (O.left o.new)) }
+    ensures ended { IfRead result (EndedBy (at_turn O.Source E.Source original.old o.old export.old e.old turn.entry)
+        turn.entry (E.left e.new)) }
+    ensures matched { IfRead result (MatchedBy (at_turn O.Source E.Source original.old o.old export.old e.old turn.entry)
+        turn.entry original.new export.new) }
+    ensures fault { IfFaulty result (FaultyBy (at_turn O.Source E.Source original.old o.old export.old e.old turn.entry)
+        (O.left o.new) turn.entry.part) }
+    ensures failures { OnOk result ((O.reads o.new ≡ O.reads o.old) × (E.reads e.new ≡ E.reads e.old)) }
+    ensures stop { IfErr result (StopsOfTwo O.Source o.old o.new E.Source turn.entry.part e.old e.new) }
+{
+    let (alloc, labels) = (turn.setting.alloc, turn.setting.labels);
+    let pairs = pairs_of(
+        alloc,
+        original.reader.header(),
+        export.reader.header(),
+        labels,
+    )?;
+    let room = common_room(original.reader.header(), export.reader.header(), &pairs);
+    let frame = Frame {
+        turn,
+        pairs: &pairs,
+        room,
+    };
+    let read = match walk_on(original, o, export, e, frame) {
+        Ok(Ok(read)) => read,
+        Ok(Err(fault)) => return Ok(Err(fault)),
+        Err(stop) => return Err(stop),
+    };
+    if !is_over(read.found, turn.is_last) {
+        return Ok(Ok(Course {
+            is_early: false,
+            end: read.reached,
+            found: None,
+        }));
+    }
+    match end_both(&mut original.reader, o, &mut export.reader, e, turn) {
+        Ok(Ok(end)) => Ok(Ok(Course {
+            is_early: false,
+            end,
+            found: read.found,
+        })),
+        Ok(Err(fault)) => Ok(Err(fault)),
+        Err(stop) => Err(stop),
+    }
+}
+
+/// Reads a part, of which the header was read and agrees, beside the original, which stands at the part's turn; or finds
+/// the first fault of the original, or else of the part. The part is read to its end, and the original, too, where no
+/// further part follows, or where the part isn't the same.
+///
+/// The error is want of memory, or a failure of one of the sources.
+fn compare<O: Source, E: Source>(
+    original: &mut Reading,
+    o: &mut O,
+    export: &mut Reading,
+    e: &mut E,
+    turn: Turn<'_>,
+) -> Result<Result<Course, FaultOf>, PartsStop>
+    requires compared { turn.is_compared ≡ true }
+    requires original { StandsAt original.old.reader ((turn.setting).clock.original).ps (turn.from).ps }
+    requires export { HasBegun export.old.reader × ((export.old.notes).items ≡ []) }
+    ensures modest { IfRead result (λ c. IfSome c.found (IsFoundAmong (length ((turn.entry.setting).labels).now))) }
+    ensures head { IfRead result (λ c. (export.new.reader).head ≡ (export.old.reader).head) }
+    ensures passes { IfRead result (PassesBehind O.Source original.old o.old original.new o.new turn.entry) }
+    ensures through { IfRead result (λ c. turn.entry.is_last ≡ true →
+        ThroughBy (at_part O.Source E.Source original.old o.old export.old e.old turn.entry) (O.left o.new)) }
+    ensures passed { IfRead result (PassedBy (at_part O.Source E.Source original.old o.old export.old e.old turn.entry)
+        turn.entry (E.left e.new)) }
+    ensures matched { IfRead result (MatchedBy (at_part O.Source E.Source original.old o.old export.old e.old turn.entry)
+        turn.entry original.new export.new) }
+    ensures fault { IfFaulty result (FaultyBy (at_part O.Source E.Source original.old o.old export.old e.old turn.entry)
+        (O.left o.new) turn.entry.part) }
+    ensures failures { OnOk result ((O.reads o.new ≡ O.reads o.old) × (E.reads e.new ≡ E.reads e.old)) }
+    ensures stop { IfErr result (StopsOfTwo O.Source o.old o.new E.Source turn.entry.part e.old e.new) }
+{
+    let view = View {
+        alloc: turn.setting.alloc,
+        file: PartSide::Part(turn.part),
+        moved: turn.setting.clock.export,
+        claim: None,
+    };
+    match start(export, e, view) {
+        Ok(None) => {}
+        Ok(Some(fault)) => {
+            return match export_fault(&mut original.reader, o, turn.part, fault) {
+                Ok(first) => Ok(Err(first)),
+                Err(stop) => Err(stop),
+            };
+        }
+        Err(stop) => return Err(stop),
+    }
+    if begins_from(&export.reader, turn.setting.clock.export, turn.from) {
+        return match compare_on(original, o, export, e, turn) {
+            Ok(Ok(course)) => Ok(Ok(course)),
+            Ok(Err(fault)) => Ok(Err(fault)),
+            Err(stop) => Err(stop),
+        };
+    }
+    match end_both(&mut original.reader, o, &mut export.reader, e, turn) {
+        Ok(Ok(end)) => Ok(Ok(Course {
+            is_early: true,
+            end,
+            found: None,
+        })),
+        Ok(Err(fault)) => Ok(Err(fault)),
+        Err(stop) => Err(stop),
+    }
+}
+
+/// Reads a part, of which the header was read, to its end, and the original, too: its samples aren't compared. Or finds the
+/// first fault of the original, or else of the part.
+///
+/// The error is a failure of one of the sources.
+fn pass_over<O: Source, E: Source>(
+    original: &mut FileReader,
+    o: &mut O,
+    export: &mut FileReader,
+    e: &mut E,
+    turn: Turn<'_>,
+) -> Result<Result<Course, FaultOf>, PartsStop>
+    requires original { IsGoing original.old.status }
+    requires export { HasBegun export.old }
+    ensures none { IfRead result (λ c. c.found ≡ None) }
+    ensures head { IfRead result (λ c. export.new.head ≡ export.old.head) }
+    ensures goes { IfRead result (λ c. HasGoneOn O.Source original.old o.old original.new o.new) }
+    ensures through { IfRead result (λ c. ThroughBy (over O.Source E.Source original.old o.old export.old e.old) (O.left o.new)) }
+    ensures passed { IfRead result (PassedBy (over O.Source E.Source original.old o.old export.old e.old) turn.entry (E.left e.new)) }
+    ensures fault { IfFaulty result (FaultyBy (over O.Source E.Source original.old o.old export.old e.old) (O.left o.new) turn.entry.part) }
+    ensures failures { OnOk result ((O.reads o.new ≡ O.reads o.old) × (E.reads e.new ≡ E.reads e.old)) }
+    ensures stop { IfErr result (StopsOfTwo O.Source o.old o.new E.Source turn.entry.part e.old e.new) }
+{
+    match finish(original, o, PartSide::Original) {
+        Ok(None) => {}
+        Ok(Some(fault)) => return Ok(Err(FaultOf::Original(fault))),
+        Err(stop) => return Err(stop),
+    }
+    match go_on(&mut KeepsNone, export, e, PartSide::Part(turn.part)) {
+        Ok(None) => {}
+        Ok(Some(fault)) => return Ok(Err(FaultOf::Part(turn.part, fault))),
+        Err(stop) => return Err(stop),
+    }
+    let is_early = !begins_from(export, turn.setting.clock.export, turn.from);
+    match end_both(original, o, export, e, turn) {
+        Ok(Ok(end)) => Ok(Ok(Course {
+            is_early,
+            end,
+            found: None,
+        })),
+        Ok(Err(fault)) => Ok(Err(fault)),
+        Err(stop) => Err(stop),
+    }
+}
+
+/// Reads a part, of which the header was read, as far as its turn says beside the original.
+///
+/// The error is want of memory, or a failure of one of the sources.
+fn read_course<O: Source, E: Source>(
+    original: &mut Reading,
+    o: &mut O,
+    export: &mut Reading,
+    e: &mut E,
+    turn: Turn<'_>,
+) -> Result<Result<Course, FaultOf>, PartsStop>
+    requires original { IsReady turn original.old.reader }
+    requires export { HasBegun export.old.reader × ((export.old.notes).items ≡ []) }
+    ensures modest { IfRead result (λ c. IfSome c.found (IsFoundAmong (length ((turn.entry.setting).labels).now))) }
+    ensures head { IfRead result (λ c. (export.new.reader).head ≡ (export.old.reader).head) }
+    ensures passes { IfRead result (PassesOn O.Source original.old o.old original.new o.new turn.entry) }
+    ensures through { IfRead result (λ c. turn.entry.is_last ≡ true →
+        ThroughBy (at_part O.Source E.Source original.old o.old export.old e.old turn.entry) (O.left o.new)) }
+    ensures passed { IfRead result (PassedBy (at_part O.Source E.Source original.old o.old export.old e.old turn.entry)
+        turn.entry (E.left e.new)) }
+    ensures matched { IfRead result (MatchedBy (at_part O.Source E.Source original.old o.old export.old e.old turn.entry)
+        turn.entry original.new export.new) }
+    ensures fault { IfFaulty result (FaultyBy (at_part O.Source E.Source original.old o.old export.old e.old turn.entry)
+        (O.left o.new) turn.entry.part) }
+    ensures failures { OnOk result ((O.reads o.new ≡ O.reads o.old) × (E.reads e.new ≡ E.reads e.old)) }
+    ensures stop { IfErr result (StopsOfTwo O.Source o.old o.new E.Source turn.entry.part e.old e.new) }
+{
+    if turn.is_compared {
+        compare(original, o, export, e, turn)
+    } else {
+        pass_over(&mut original.reader, o, &mut export.reader, e, turn)
+    }
+}
+
+/// Whether the samples of a part with this verdict on its header are compared.
+fn is_compared(turn: Turn<'_>, heads: &Option<Verdict>) -> bool
+    ensures { result ≡ (turn.entry.is_compared && not (is_some heads.now)) }
+{
+    turn.is_compared && heads.is_none()
+}
+
+/// Opens a part and reads it to its end beside the original, which stands at the part's turn where the part is compared; or
+/// finds the first fault of the original, or else of the part.
+///
+/// The error is want of memory, or a failure of one of the sources.
+pub(crate) fn read_part<O: Source, E: Source>(
+    original: &mut Reading,
+    o: &mut O,
+    e: &mut E,
+    turn: Turn<'_>,
+) -> Result<Result<PartRead, FaultOf>, PartsStop>
+    requires original { IsReady turn original.old.reader }
+    ensures modest { IfRead result (λ p. IfSome (p.course).found (IsFoundAmong (length ((turn.entry.setting).labels).now))) }
+    ensures few { IfRead result (λ p. p.samples ≤ 2 ^ 50) }
+    ensures passes { IfRead result (PassesPart O.Source original.old o.old original.new o.new turn.entry) }
+    ensures read { IfRead result (PartReadBy O.Source E.Source turn.entry original.old o.old original.new o.new e.old e.new) }
+    ensures fault { IfFaulty result (PartFaultBy O.Source E.Source turn.entry original.old o.old o.new e.old) }
+    ensures failures { OnOk result ((O.reads o.new ≡ O.reads o.old) × (E.reads e.new ≡ E.reads e.old)) }
+    ensures stop { IfErr result (StopsOfTwo O.Source o.old o.new E.Source turn.entry.part e.old e.new) }
+{
+    let setting = turn.setting;
+    let mut export = match open(setting.alloc, e, PartSide::Part(turn.part)) {
+        Ok(Ok(reading)) => reading,
+        Ok(Err(fault)) => {
+            return match export_fault(&mut original.reader, o, turn.part, fault) {
+                Ok(first) => Ok(Err(first)),
+                Err(stop) => Err(stop),
+            };
+        }
+        Err(stop) => return Err(stop),
+    };
+    let (here, there) = (original.reader.header(), export.reader.header());
+    let heads = head_difference(setting.alloc, here, there, setting.claim)?;
+    let turn = Turn {
+        is_compared: is_compared(turn, &heads),
+        ..turn
+    };
+    match read_course(original, o, &mut export, e, turn) {
+        Ok(Ok(course)) => Ok(Ok(PartRead {
+            heads,
+            course,
+            samples: samples_of(&export),
+            notes: export.notes,
+        })),
+        Ok(Err(fault)) => Ok(Err(fault)),
+        Err(stop) => Err(stop),
+    }
+}
