@@ -3,9 +3,10 @@ use Rattle.std.proofs.Common.{◌≡◌, ℕ, List, [], ◌∷◌}
 use Rattle.std.specs.List.{AllByRecursion}
 use Rattle.edf_verdict.specs.declared.verdict.Verdict.{Verdict}
 use Rattle.edf_check.specs.Checks.{AreRead}
-use Rattle.edf_check.specs.declared.walk.walked.FaultOf.{FaultOf}
-use Rattle.edf_check.specs.declared.walk.walked.FaultOf.TheVariants as faults
-use Rattle.edf_check.specs.walk.Ends.{verdict_of}
+use Rattle.edf_check.specs.declared.finding.FaultOf.{FaultOf}
+use Rattle.edf_check.specs.declared.finding.FaultOf.TheVariants as faults
+use Rattle.edf_check.specs.declared.finding.Finding.TheVariants as findings
+use Rattle.edf_check.specs.Findings.{verdict_on}
 use Rattle.edf_check.specs.walk.Together.{IsLeftBy}
 use Rattle.edf_check.proofs.walk.WalkFacts.{all_read}
 
@@ -14,7 +15,7 @@ read_all v left [] p q = tt
 read_all v left (mine ∷ lefts) p q = (all_read v left mine (p, q.0), read_all v left lefts p q.1)
 
 -- behind a fault
-pub read_fault : (fault : FaultOf) (left : List ℕ) (lefts : List (List ℕ)) → IsLeftBy fault left → AllByRecursion (AreRead (verdict_of fault) left) lefts
+pub read_fault : (fault : FaultOf) (left : List ℕ) (lefts : List (List ℕ)) → IsLeftBy fault left → AllByRecursion (AreRead (verdict_on (findings.Fault fault)).verdict left) lefts
 read_fault fault left [] p = tt
 read_fault (faults.Original f) left (mine ∷ lefts) p = (tt, read_fault (faults.Original f) left lefts p)
 read_fault (faults.Part part f) left (mine ∷ lefts) p = (p, read_fault (faults.Part part f) left lefts p)

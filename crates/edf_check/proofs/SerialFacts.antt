@@ -15,8 +15,8 @@ use Rattle.edf_check.specs.declared.parts.part.PartRead.{PartRead}
 use Rattle.edf_check.specs.declared.parts.series.Exported.{Exported}
 use Rattle.edf_check.specs.declared.samples.earliest.Found.{Found}
 use Rattle.edf_check.specs.declared.walk.turn.Turn.{Turn}
-use Rattle.edf_check.specs.declared.walk.walked.FaultOf.{FaultOf}
-use Rattle.edf_check.specs.declared.walk.walked.FaultOf.TheVariants as faults
+use Rattle.edf_check.specs.declared.finding.FaultOf.{FaultOf}
+use Rattle.edf_check.specs.declared.finding.FaultOf.TheVariants as faults
 use Rattle.edf_check.specs.PartsFirst.{IsFirstFault}
 use Rattle.edf_check.specs.PartsFound.{IsEarlyFound, first_of, found_with, nothing}
 use Rattle.edf_check.specs.walk.Ends.{IsFaultBy, IsPartRead, is_same, moved_export, moved_original}

@@ -13,6 +13,9 @@ use Rattle.edf_stream.specs.Notes.{NoteValue}
 use Rattle.edf_stream.specs.NotesReading.{notes_of}
 use Rattle.edf_stream.specs.Starts.{file_start}
 use Rattle.edf_stream.specs.Views.{note_value}
+use Rattle.edf_stream.specs.declared.notes.Note.{Note}
+use Rattle.edf_check.specs.Annotations.{SameNotes}
+use Rattle.std.proofs.lemmas.List.{length-map}
 use Rattle.edf_stream.proofs.ForCallers.{sound-of, starts_late}
 use Rattle.edf_verdict.specs.declared.verdict.Verdict.{Verdict}
 use Rattle.edf_verdict.specs.declared.verdict.Verdict.TheVariants.{Yes, No}
@@ -21,15 +24,18 @@ use Rattle.edf_check.specs.declared.parts.found.PartVerdict.{PartVerdict}
 use Rattle.edf_check.specs.declared.parts.found.PartsFound.{PartsFound}
 use Rattle.edf_check.specs.declared.parts.series.Exported.{Exported}
 use Rattle.edf_check.specs.declared.samples.earliest.Found.{Found}
+use Rattle.edf_check.specs.declared.walk.turn.Setting.{Setting}
 use Rattle.edf_check.specs.declared.walk.turn.Turn.{Turn}
-use Rattle.edf_check.specs.declared.walk.walked.FaultOf.{FaultOf}
-use Rattle.edf_check.specs.declared.walk.walked.FaultOf.TheVariants as faults
+use Rattle.edf_check.specs.declared.finding.FaultOf.{FaultOf}
+use Rattle.edf_check.specs.declared.finding.FaultOf.TheVariants as faults
+use Rattle.edf_check.specs.declared.finding.Finding.TheVariants as findings
+use Rattle.edf_check.specs.Findings.{verdict_on}
 use Rattle.edf_check.specs.Kept.{shift_ps}
 use Rattle.edf_check.specs.KeptReading.{origin_of, KeptAt}
 use Rattle.edf_check.specs.PartsFirst.{IsFirstHead}
 use Rattle.edf_check.specs.Parts.{AllConform, ExportedByOne, FollowOneAnother, exported_by_all, first_begin, last_end}
 use Rattle.edf_check.specs.PartsFound.{AllAgree, AllConformAt, AreOrdered, IsEarlyFound, IsFirstEarly, IsHeadsFound, end_before_part}
-use Rattle.edf_check.specs.PartsVerdicts.{AllAgreed, AllInOrder, HeadDiffers, IsFirstOverlap, IsVerdictOnParts}
+use Rattle.edf_check.specs.PartsVerdicts.{AllAgreed, AllInOrder, HeadDiffers, IsFirstOverlap, IsPartsVerdict, IsVerdictOnParts, samples_of_all}
 use Rattle.edf_check.specs.walk.Gathered.{gathered_of}
 use Rattle.edf_check.specs.walk.Readings.{IsSetting}
 use Rattle.edf_check.specs.walk.Ends.{moved_export, moved_original}
@@ -217,6 +223,36 @@ found_together turn o h k left notes parts lefts before behind found r is zero' 
 pub first_of_all : (o : List ℕ) (h : Head) (left : List ℕ) (parts : List (List ℕ)) (w : FaultOf) → file_fault o ≡ body_fault o h → HaveFault 0 o h left parts w → IsFirstOfAll o parts w × IsLeftBy w left
 first_of_all o h left parts (faults.Original fault) is w = (is ∙ w, tt)
 first_of_all o h left parts (faults.Part part fault) is w = ((is ∙ w.0, w.1), w.2)
+
+pub fault_verdict : (o : List ℕ) (parts : List (List ℕ)) (claim : Terms) (w : FaultOf) → IsFirstOfAll o parts w → IsPartsVerdict o parts claim (verdict_on (findings.Fault w))
+fault_verdict o parts claim (faults.Original fault) is = (refl, is)
+fault_verdict o parts claim (faults.Part part fault) is = is
+
+-- what was found, where the kinds before it weren't
+pub found_as : (o : List ℕ) (parts : List (List ℕ)) (setting : Setting) (kept : List NoteValue) (exported : Exported) (found : PartsFound) (heads : Option PartVerdict) (early : Option ℕ) (first : Option Found)
+    → found.heads ≡ heads → found.early ≡ early → found.found ≡ first → AreJudged o parts setting kept exported found
+    → AreFoundIn o parts (setting.claim).now (map (λ label. label.now) (setting.labels).now) kept (map note_value (exported.notes).items) heads early first
+found_as o parts setting kept exported found heads early first p q r judged =
+    let F : Option PartVerdict → Option ℕ → Option Found → Type 0 = AreFoundIn o parts (setting.claim).now (map (λ label. label.now) (setting.labels).now) kept (map note_value (exported.notes).items) in
+    subst (F heads early) r (subst (λ e. F heads e found.found) q (subst (λ h. F h found.early found.found) p judged.found_are))
+
+-- where nothing was found, the verdict is a Yes
+pub nothing_found : (o : List ℕ) (parts : List (List ℕ)) (claim : Terms) (labels : List (List ℕ)) (kept : List NoteValue) (notes : List Note) (samples : ℕ)
+    → AreFoundIn o parts claim labels kept (map note_value notes) None None None → SameNotes kept (map note_value notes) → samples ≡ samples_of_all parts
+    → IsVerdictOnParts o parts claim 0 (Yes (length claim.channels) samples (length notes))
+nothing_found o parts claim labels kept notes samples found same counted =
+    let agreed = (found.0).agreed in
+    (
+      refl,
+      agreed.conform,
+      record {
+        heads = agreed.agree;
+        order = (found.0).order;
+        samples = found.1;
+        notes = subst (λ ns. SameNotes ns (exported_by_all o parts claim)) found.2 (subst (SameNotes kept) found.3 same);
+      },
+      record { channels_are = refl; samples_are = counted; annotations_are = sym (length-map notes note_value) ∙ ap length found.3 },
+    )
 
 -- the first difference of headers is the verdict
 pub of_head : (o : List ℕ) (parts : List (List ℕ)) (claim : Terms) (part : ℕ) (v : Verdict) → HeadDiffers o parts claim part v → IsVerdictOnParts o parts claim part v

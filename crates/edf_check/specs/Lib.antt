@@ -14,6 +14,7 @@ pub mod PartsFound
 pub mod PartsStops
 pub mod PartsVerdicts
 pub mod Verdicts
+pub mod Findings
 pub mod SameFiles
 pub mod Laws
 pub mod Checks

@@ -32,6 +32,8 @@ pub use Rattle.edf_verdict.specs.Outcomes.{outcome_of}
 pub use Rattle.edf_verdict.specs.declared.outcome.Outcome.{Outcome}
 pub use Rattle.edf_verdict.specs.declared.parts_verdict.PartsVerdict.{PartsVerdict}
 pub use Rattle.edf_verdict.specs.declared.verdict.Verdict.{Verdict}
+pub use Rattle.edf_check.specs.declared.finding.FaultOf.{FaultOf}
+pub use Rattle.edf_check.specs.declared.finding.Finding.{Finding}
 pub use Rattle.edf_check.specs.declared.parts.found.PartVerdict.{PartVerdict}
 pub use Rattle.edf_check.specs.declared.parts.found.PartsFound.{PartsFound}
 pub use Rattle.edf_check.specs.declared.parts.part.Course.{Course}
@@ -51,4 +53,3 @@ pub use Rattle.edf_check.specs.declared.walk.track.Pair.{Pair}
 pub use Rattle.edf_check.specs.declared.walk.track.Track.{Track}
 pub use Rattle.edf_check.specs.declared.walk.turn.Setting.{Setting}
 pub use Rattle.edf_check.specs.declared.walk.turn.Turn.{Turn}
-pub use Rattle.edf_check.specs.declared.walk.walked.FaultOf.{FaultOf}

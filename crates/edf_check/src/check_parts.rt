@@ -8,12 +8,12 @@ ghost use Rattle.edf_check.specs.PartsStops.{NoneFailed, PartsStops, StopsOfAll}
 ghost use Rattle.edf_check.specs.PartsVerdicts.{IsPartsVerdict};
 ghost use Rattle.edf_check.specs.walk.Together.{IsReadBy, IsVerdictOf};
 
+use crate::finding::{FaultOf, Finding};
 use crate::parts::series::Exported;
-use crate::parts::together::{conclude_parts, of_fault, walk_parts};
+use crate::parts::together::{conclude_parts, walk_parts};
 use crate::walk::clock::Clock;
 use crate::walk::reading::open;
 use crate::walk::turn::Setting;
-use crate::walk::walked::FaultOf;
 use edf_claim::claim::Claim;
 use edf_fields::source::Source;
 use edf_heads::labels::in_order;
@@ -40,7 +40,7 @@ pub(crate) fn check_series<O: Source, E: Source>(
 {
     let mut reading = match open(alloc, original, PartSide::Original) {
         Ok(Ok(reading)) => reading,
-        Ok(Err(fault)) => return Ok(of_fault(FaultOf::Original(fault))),
+        Ok(Err(fault)) => return Ok(Finding::Fault(FaultOf::Original(fault)).verdict()),
         Err(stop) => return Err(stop),
     };
     let labels = in_order(alloc, claim.channels())?;
@@ -59,7 +59,7 @@ pub(crate) fn check_series<O: Source, E: Source>(
             let verdict = conclude_parts(setting, found, &mut reading.notes, &mut exported)?;
             Ok(verdict)
         }
-        Ok(Err(fault)) => Ok(of_fault(fault)),
+        Ok(Err(fault)) => Ok(Finding::Fault(fault).verdict()),
         Err(stop) => Err(stop),
     }
 }

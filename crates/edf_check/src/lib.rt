@@ -4,6 +4,7 @@
 
 pub mod check;
 pub mod check_parts;
+mod finding;
 pub mod first_difference;
 pub mod judge;
 pub mod laws;

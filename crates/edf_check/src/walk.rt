@@ -10,5 +10,4 @@ pub mod reading;
 pub mod time;
 pub mod track;
 pub mod turn;
-pub mod walked;
 pub mod window;

@@ -12,8 +12,8 @@ use Rattle.edf_stream.specs.Faults.{body_fault, file_fault}
 use Rattle.edf_stream.specs.Notes.{NoteValue}
 use Rattle.edf_stream.specs.NotesReading.{moved_notes_before, notes_of}
 use Rattle.edf_stream.specs.Readers.{Reader, StandsIn, is_current}
-use Rattle.edf_check.specs.declared.walk.walked.FaultOf.{FaultOf}
-use Rattle.edf_check.specs.declared.walk.walked.FaultOf.TheVariants as faults
+use Rattle.edf_check.specs.declared.finding.FaultOf.{FaultOf}
+use Rattle.edf_check.specs.declared.finding.FaultOf.TheVariants as faults
 use Rattle.edf_check.specs.declared.walk.track.Pair.{Pair}
 use Rattle.edf_check.specs.declared.walk.track.Track.{Track}
 use Rattle.edf_check.specs.walk.Pairs.{places_of, ArePairs, IsTrack, IsPlaceIn}

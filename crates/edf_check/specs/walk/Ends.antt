@@ -1,12 +1,10 @@
 -- How a walk over the data records of an original and a part ends. By `ps` a file is moved: its times, in picoseconds after 1970-01-01
 -- 00:00:00, then count from the second at which the original starts, before the shift. These are steps between the definitions and the code.
 use Rattle.std.specs.Prelude.{◌≡◌, ℕ, ℤ, ◌<◌, ◌≤ℤ◌, ◌<ℤ◌, Bool, true, false, not, ◌&&◌, IsTrue, is_some, List, [], map, Option, None, Some, MatchOption}
-use Rattle.edf_check.specs.Words.{Terms, Fault, Ghosts, Head, head_of, HeadsAgree, IsHeadVerdict, Conforms, body_fault, file_fault, NoteValue, notes_of, Reader, is_current, end_before, note_value, Verdict, Course, Found, Frame, Reading, Time, Window, Turn, FaultOf}
-use Rattle.edf_verdict.specs.declared.verdict.Difference.TheVariants.{OriginalFault, ExportFault}
-use Rattle.edf_verdict.specs.declared.verdict.Verdict.TheVariants.{No}
+use Rattle.edf_check.specs.Words.{Terms, Fault, Ghosts, Head, head_of, HeadsAgree, IsHeadVerdict, Conforms, body_fault, file_fault, NoteValue, notes_of, Reader, is_current, end_before, note_value, Course, Found, Frame, Reading, Time, Window, Turn, FaultOf}
 use Rattle.edf_check.specs.declared.parts.part.PartRead.{PartRead}
 use Rattle.edf_check.specs.declared.walk.lockstep.ReadOn.{ReadOn}
-use Rattle.edf_check.specs.declared.walk.walked.FaultOf.TheVariants.{Original as OfOriginal, Part as OfPart}
+use Rattle.edf_check.specs.declared.finding.FaultOf.TheVariants.{Original as OfOriginal, Part as OfPart}
 use Rattle.edf_check.specs.InstantOrder.{IsModest}
 use Rattle.edf_check.specs.PartsVerdicts.{samples_in}
 use Rattle.edf_check.specs.Premises.{Known, OfFile, OfFiles}
@@ -22,11 +20,6 @@ use Rattle.edf_check.specs.walk.Windows.{sampled, window_difference, span_differ
 abbrev pub first_fault_of : Option Fault → ℕ → Fault → FaultOf
 first_fault_of None part fault = OfPart part fault
 first_fault_of (Some first) part fault = OfOriginal first
-
--- the verdict on a fault
-abbrev pub verdict_of : FaultOf → Verdict
-verdict_of (OfOriginal fault) = No (OriginalFault fault)
-verdict_of (OfPart part fault) = No (ExportFault fault)
 
 -- the first fault of the data records of the original, or else of the part of this number; then nothing is left of the original
 abbrev pub IsFaultOf : List ℕ → Head → List ℕ → List ℕ → Head → ℕ → FaultOf → Type 0

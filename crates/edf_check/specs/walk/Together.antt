@@ -1,15 +1,17 @@
 -- An original and the parts of its export as they are read, one after the other, each in what it is moved by, and what was found in them when
 -- all were read to their ends, in the words of their bytes. These are steps between the definitions and the code.
-use Rattle.std.specs.Prelude.{◌≡◌, ℕ, List, [], IsTrue, map, Option, None, Some, slice_get, ◌+◌, ℤ, true, ◌∷◌, ◌++◌}
-use Rattle.edf_check.specs.Words.{AllByRecursion, Terms, Ghosts, head_of, file_fault, NoteValue, note_value, PartsVerdict, Verdict, PartVerdict, PartsFound, Exported, Found, Reading, Setting, FaultOf, Bor, option_or, Head, body_fault, notes_of, Turn}
-use Rattle.edf_check.specs.declared.walk.walked.FaultOf.TheVariants.{Original as OfOriginal, Part as OfPart}
+use Rattle.std.specs.Prelude.{◌≡◌, ℕ, List, [], IsTrue, length, map, Option, None, Some, slice_get, ◌+◌, ℤ, true, ◌∷◌, ◌++◌}
+use Rattle.edf_check.specs.Words.{AllByRecursion, Terms, Ghosts, head_of, file_fault, NoteValue, note_value, PartsVerdict, Finding, PartVerdict, PartsFound, Exported, Found, Reading, Setting, FaultOf, Bor, option_or, Head, body_fault, notes_of, Turn}
+use Rattle.edf_check.specs.declared.finding.FaultOf.TheVariants.{Original as OfOriginal, Part as OfPart}
+use Rattle.edf_verdict.specs.declared.verdict.Verdict.TheVariants.{Yes}
 use Rattle.edf_check.specs.Checks.{AreRead as AreLeft}
 use Rattle.edf_check.specs.Courses.{Agree, IsFirstMismatch}
+use Rattle.edf_check.specs.Findings.{verdict_on}
 use Rattle.edf_check.specs.InstantOrder.{floor_of}
 use Rattle.edf_check.specs.KeptReading.{KeptAt, kept_notes}
 use Rattle.edf_check.specs.Parts.{AllConform, ExportedByOne, exported_by_all}
 use Rattle.edf_check.specs.PartsFirst.{IsFirstFault, IsFirstHead}
-use Rattle.edf_check.specs.PartsVerdicts.{AllAgreed, AllInOrder, IsFirstOverlap, IsPartsVerdict, IsVerdictOnParts, samples_of_all}
+use Rattle.edf_check.specs.PartsVerdicts.{AllAgreed, AllInOrder, IsFirstOverlap, IsPartsVerdict, samples_of_all}
 use Rattle.edf_check.specs.Premises.{OfFile}
 use Rattle.edf_check.specs.walk.Readings.{standing}
 use Rattle.edf_check.specs.PartsFound.{AllConformAt, IsEarlyFound, IsHeadsFound}
@@ -93,16 +95,12 @@ pub record AreJudged (original : List ℕ) (parts : List (List ℕ)) (setting : 
       found.heads found.early found.found
   pub samples_are : exported.samples ≡ samples_of_all parts
 
--- so does this one from a fault
-abbrev pub FollowsFromFault : FaultOf → PartsVerdict → Type 0
-FollowsFromFault fault verdict = (o : List ℕ) (parts : List (List ℕ)) (claim : Terms) → IsFirstOfAll o parts fault → IsPartsVerdict o parts claim verdict
+-- the verdict on what was found first, or a Yes of what was taken in
+abbrev pub verdict_by : Setting → Exported → Option Finding → PartsVerdict
+verdict_by setting exported None = record { part = 0; verdict = Yes (length ((setting.claim).now).channels) exported.samples (length (exported.notes).items) }
+verdict_by setting exported (Some finding) = verdict_on finding
 
--- this verdict follows where nothing was found in the headers, the order and the samples; or by what was found
-abbrev pub FollowsFromNotes : Setting → List NoteValue → Exported → Verdict → Type 0
-FollowsFromNotes setting kept exported verdict = (o : List ℕ) (parts : List (List ℕ))
-    → AreFoundIn o parts (setting.claim).now [] kept (map note_value (exported.notes).items) None None None
-    → exported.samples ≡ samples_of_all parts → IsVerdictOnParts o parts (setting.claim).now 0 verdict
-
+-- this verdict follows from what was found in an original and its parts
 abbrev pub FollowsFrom : Setting → List NoteValue → Exported → PartsFound → PartsVerdict → Type 0
 FollowsFrom setting kept exported found verdict = (o : List ℕ) (parts : List (List ℕ))
     → AreJudged o parts setting kept exported found → IsPartsVerdict o parts (setting.claim).now verdict

@@ -9,6 +9,7 @@ ghost use Rattle.edf_check.specs.walk.Ends.{EndedBy, FaultyBy, IsFoundAmong, IsR
 ghost use Rattle.edf_check.specs.walk.Readings.{HasGoneOn};
 ghost use Rattle.edf_check.specs.walk.Shown.{IfAtHand, IsAhead, IsGoing, StandsAt, begins_at};
 
+use crate::finding::FaultOf;
 use crate::samples::earliest::Found;
 use crate::walk::gather::View;
 use crate::walk::layout::common_room;
@@ -18,7 +19,6 @@ use crate::walk::reading::{Reading, begin_ps_of, finish, go_on, open, start};
 use crate::walk::time::Time;
 use crate::walk::track::pairs_of;
 use crate::walk::turn::Turn;
-use crate::walk::walked::FaultOf;
 use edf_fields::source::Source;
 use edf_heads::head_difference::head_difference;
 use edf_refusal::parts_stop::{PartSide, PartsStop};

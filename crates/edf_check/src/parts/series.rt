@@ -9,11 +9,11 @@ ghost use Rattle.edf_check.specs.walk.Together.{AreReadFrom, HaveFaultFrom, held
 ghost use Rattle.edf_check.specs.walk.Windows.{is_last as is_last_of};
 ghost use Rattle.edf_check.specs.walk.Shown.{IsAhead, IsGoing};
 
+use crate::finding::FaultOf;
 use crate::parts::found::{PartsFound, found_with};
 use crate::parts::part::{PartRead, read_part};
 use crate::walk::reading::Reading;
 use crate::walk::turn::Turn;
-use crate::walk::walked::FaultOf;
 use edf_fields::source::Source;
 use edf_refusal::parts_stop::PartsStop;
 use edf_stream::notes::Note;

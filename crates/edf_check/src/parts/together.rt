@@ -6,9 +6,10 @@ ghost use Rattle.edf_stream.specs.Views.{note_value};
 ghost use Rattle.edf_check.specs.PartsStops.{NoneFailed, StopsOfAll};
 ghost use Rattle.edf_check.specs.Premises.{IfFaulty, IfRead};
 ghost use Rattle.edf_check.specs.walk.Readings.{IsSetting};
-ghost use Rattle.edf_check.specs.walk.Ends.{IsFoundAmong, verdict_of};
-ghost use Rattle.edf_check.specs.walk.Together.{AreGoneFrom, AreJudgedFrom, FollowsFrom, FollowsFromFault, FollowsFromNotes, IsFirstFrom};
+ghost use Rattle.edf_check.specs.walk.Ends.{IsFoundAmong};
+ghost use Rattle.edf_check.specs.walk.Together.{AreGoneFrom, AreJudgedFrom, FollowsFrom, IsFirstFrom, verdict_by};
 
+use crate::finding::{FaultOf, Finding};
 use crate::notes::note_difference::note_difference;
 use crate::parts::found::PartsFound;
 use crate::parts::series::{Exported, read_parts};
@@ -17,13 +18,12 @@ use crate::walk::gather::View;
 use crate::walk::reading::{Reading, start};
 use crate::walk::time::BEGINNING;
 use crate::walk::turn::{Setting, Turn};
-use crate::walk::walked::FaultOf;
 use edf_claim::claim::Claim;
 use edf_fields::source::Source;
 use edf_refusal::parts_stop::{PartSide, PartsStop};
 use edf_stream::notes::Note;
 use edf_verdict::parts_verdict::PartsVerdict;
-use edf_verdict::verdict::{Difference, Verdict};
+use edf_verdict::verdict::Verdict;
 use std::alloc::AllocError;
 
 /// Reads the first data record of the original, of which the header was read, and then it and the exports to their ends, and
@@ -83,51 +83,42 @@ fn channels_of(claim: &Claim) -> u64
     claim.channels().len() as u64
 }
 
-/// A verdict that is said of all exports together.
-fn of_all(verdict: Verdict) -> PartsVerdict
-    ensures part { result.part ≡ 0 }
-    ensures verdict { result.verdict ≡ verdict }
-{
-    PartsVerdict { part: 0, verdict }
-}
-
-/// The verdict on a fault.
-pub(crate) fn of_fault(fault: FaultOf) -> PartsVerdict
-    ensures of_all { FollowsFromFault fault result }
-    ensures verdict { result.verdict ≡ verdict_of fault }
-{
-    match fault {
-        FaultOf::Original(fault) => of_all(Verdict::No(Difference::OriginalFault(fault))),
-        FaultOf::Part(part, fault) => PartsVerdict {
-            part,
-            verdict: Verdict::No(Difference::ExportFault(fault)),
-        },
-    }
-}
-
-/// The verdict on an original and parts with the same samples: by their annotations, and by how much the parts hold.
+/// What is found first in an original and its exports: that of their headers, of their order, of their samples or of their
+/// annotations; none where they are the same.
 ///
 /// The error is want of memory.
-fn conclude_notes(
+fn first_finding(
     setting: Setting<'_>,
+    found: PartsFound,
     kept: &mut Vec<Note>,
     exported: &mut Exported,
-) -> Result<Verdict, AllocError>
-    ensures { IfOk result (FollowsFromNotes setting.entry (map note_value kept.old.items) exported.old) }
+) -> Result<Option<Finding>, AllocError>
+    requires { IfSome found.found (IsFoundAmong (length (setting.labels).now)) }
+    ensures { IfOk result (λ finding. FollowsFrom setting.entry (map note_value kept.old.items) exported.old found
+        (verdict_by setting.entry exported.old finding)) }
 {
-    let channels = channels_of(setting.claim);
-    let annotations = exported.notes.len() as u64;
+    let PartsFound {
+        heads,
+        early,
+        found,
+    } = found;
+    if let Some(heads) = heads {
+        return Ok(Some(Finding::Heads(heads.part, heads.verdict)));
+    }
+    if let Some(part) = early {
+        return Ok(Some(Finding::Order(part)));
+    }
+    if let Some(found) = found {
+        let sample = with_label(setting.alloc, setting.labels, found)?;
+        return Ok(Some(Finding::Sample(sample)));
+    }
     match note_difference(setting.alloc, kept, &mut exported.notes)? {
-        Some(difference) => Ok(difference.verdict()),
-        None => Ok(Verdict::Yes {
-            channels,
-            samples: exported.samples,
-            annotations,
-        }),
+        Some(note) => Ok(Some(Finding::Annotation(note))),
+        None => Ok(None),
     }
 }
 
-/// The verdict, by what was found in an original and its exports.
+/// The verdict on an original and its exports, of which none has a fault.
 ///
 /// The error is want of memory.
 pub(crate) fn conclude_parts(
@@ -139,25 +130,16 @@ pub(crate) fn conclude_parts(
     requires { IfSome found.found (IsFoundAmong (length (setting.labels).now)) }
     ensures { IfOk result (FollowsFrom setting.entry (map note_value kept.old.items) exported.old found) }
 {
-    let PartsFound {
-        heads,
-        early,
-        found,
-    } = found;
-    if let Some(heads) = heads {
-        return Ok(PartsVerdict {
-            part: heads.part,
-            verdict: heads.verdict,
-        });
-    }
-    if let Some(part) = early {
-        return Ok(PartsVerdict {
-            part,
-            verdict: Verdict::No(Difference::PartOrder),
-        });
-    }
-    match found {
-        Some(found) => Ok(of_all(with_label(setting.alloc, setting.labels, found)?.verdict())),
-        None => Ok(of_all(conclude_notes(setting, kept, exported)?)),
+    let yes = Verdict::Yes {
+        channels: channels_of(setting.claim),
+        samples: exported.samples,
+        annotations: exported.notes.len() as u64,
+    };
+    match first_finding(setting, found, kept, exported)? {
+        Some(finding) => Ok(finding.verdict()),
+        None => Ok(PartsVerdict {
+            part: 0,
+            verdict: yes,
+        }),
     }
 }

@@ -13,6 +13,7 @@ ghost use Rattle.edf_check.specs.walk.Shown.{IsBehind, IsGoing, Reaches, StandsA
 ghost use Rattle.edf_refusal.specs.declared.parts_stop.PartSide.TheVariants as sides;
 ghost use Rattle.edf_check.specs.walk.Windows.{IsDifferenceBy};
 
+use crate::finding::FaultOf;
 use crate::samples::earliest::Found;
 use crate::walk::clock::Clock;
 use crate::walk::gather::View;
@@ -21,7 +22,6 @@ use crate::walk::reading::{Reading, finish, last_end, lesser_end, pass};
 use crate::walk::time::{Time, Window};
 use crate::walk::track::Pair;
 use crate::walk::turn::Turn;
-use crate::walk::walked::FaultOf;
 use crate::walk::window::{keeps_at, window_difference};
 use edf_claim::claim::Claim;
 use edf_fields::fault::Fault;

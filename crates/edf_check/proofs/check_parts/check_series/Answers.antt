@@ -1,20 +1,24 @@
 use Rattle.std.proofs.Common.{◌∷◌, map, sym, subst}
 use Rattle.std.specs.List.{AllByRecursion}
 use Rattle.edf_check.specs.Checks.{AreRead}
-use Rattle.edf_check.specs.declared.walk.walked.FaultOf.TheVariants as faults
+use Rattle.edf_check.specs.declared.finding.FaultOf.TheVariants as faults
+use Rattle.edf_check.specs.PartsVerdicts.{IsPartsVerdict}
 use Rattle.edf_check.proofs.LeftFacts.{read_all, read_fault}
+use Rattle.edf_check.proofs.TogetherFacts.{fault_verdict}
 use Rattle.edf_check.proofs.check_parts.check_series.Goals as goal
 
 pub returns-in-Ok-Err-clause-verdict : goal.returns-in-Ok-Err-clause-verdict
 returns-in-Ok-Err-clause-verdict g c = λ ho he.
     let fault = rw c.in-Ok-Err.field-0-is at c.in-Ok-Err.ensures.fault in
-    c.of_fault.ensures.of_all (g.O.Source.left c.args.original.now) (g.E.Source.left c.args.part.now ∷ map g.E.Source.left c.args.others.now) c.args.claim.now (fault ho)
+    let o = g.O.Source.left c.args.original.now in
+    let parts = g.E.Source.left c.args.part.now ∷ map g.E.Source.left c.args.others.now in
+    subst (IsPartsVerdict o parts c.args.claim.now) (sym c.verdict.ensures) (fault_verdict o parts c.args.claim.now (faults.Original c.in-Ok-Err.fault) (fault ho))
 
 pub returns-in-Ok-Err-clause-read : goal.returns-in-Ok-Err-clause-read
 returns-in-Ok-Err-clause-read g c = λ ho he.
     let left = g.O.Source.left c.open.new.source in
     let lefts = g.E.Source.left c.args.part.now ∷ map g.E.Source.left c.args.others.now in
-    subst (λ v. AllByRecursion (AreRead v left) lefts) (sym c.of_fault.ensures.verdict) (read_fault (faults.Original c.in-Ok-Err.fault) left lefts tt)
+    subst (λ v. AllByRecursion (AreRead v.verdict left) lefts) (sym c.verdict.ensures) (read_fault (faults.Original c.in-Ok-Err.fault) left lefts tt)
 
 pub returns-in-Ok-Ok-walk_parts-clause-verdict : goal.returns-in-Ok-Ok-walk_parts-clause-verdict
 returns-in-Ok-Ok-walk_parts-clause-verdict g c = λ ho he.
@@ -37,7 +41,8 @@ returns-in-Ok-Err-walk_parts-clause-verdict g c = λ ho he.
     let honesty = rw c.in-Ok-Ok.field-0-is at c.in-Ok-Ok.ensures.honesty in
     let o = g.O.Source.left c.args.original.now in
     let fault = (rw c.in-Ok-Err-walk_parts.field-0-is at c.in-Ok-Err-walk_parts.ensures.fault) (honesty ho) o (stands ho) he in
-    c.of_fault-in-Ok-Err-walk_parts.ensures.of_all o (g.E.Source.left c.args.part.now ∷ map g.E.Source.left c.args.others.now) c.args.claim.now fault.0
+    let parts = g.E.Source.left c.args.part.now ∷ map g.E.Source.left c.args.others.now in
+    subst (IsPartsVerdict o parts c.args.claim.now) (sym c.verdict-in-Ok-Err-walk_parts.ensures) (fault_verdict o parts c.args.claim.now c.in-Ok-Err-walk_parts.fault fault.0)
 
 pub returns-in-Ok-Err-walk_parts-clause-read : goal.returns-in-Ok-Err-walk_parts-clause-read
 returns-in-Ok-Err-walk_parts-clause-read g c = λ ho he.
@@ -46,4 +51,4 @@ returns-in-Ok-Err-walk_parts-clause-read g c = λ ho he.
     let left = g.O.Source.left c.walk_parts.new.o in
     let lefts = g.E.Source.left c.walk_parts.new.part ∷ map g.E.Source.left c.walk_parts.new.others in
     let fault = (rw c.in-Ok-Err-walk_parts.field-0-is at c.in-Ok-Err-walk_parts.ensures.fault) (honesty ho) (g.O.Source.left c.args.original.now) (stands ho) he in
-    subst (λ v. AllByRecursion (AreRead v left) lefts) (sym c.of_fault-in-Ok-Err-walk_parts.ensures.verdict) (read_fault c.in-Ok-Err-walk_parts.fault left lefts fault.1)
+    subst (λ v. AllByRecursion (AreRead v.verdict left) lefts) (sym c.verdict-in-Ok-Err-walk_parts.ensures) (read_fault c.in-Ok-Err-walk_parts.fault left lefts fault.1)
