@@ -241,8 +241,7 @@ pub nothing_found : (o : List ℕ) (parts : List (List ℕ)) (claim : Terms) (la
     → AreFoundIn o parts claim labels kept (map note_value notes) None None None → SameNotes kept (map note_value notes) → samples ≡ samples_of_all parts
     → IsVerdictOnParts o parts claim 0 (Yes (length claim.channels) samples (length notes))
 nothing_found o parts claim labels kept notes samples found same counted =
-    let agreed = (found.0).agreed in
-    (
+    let agreed = (found.0).agreed in (
       refl,
       agreed.conform,
       record {

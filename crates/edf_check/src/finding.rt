@@ -51,11 +51,13 @@ impl Finding {
             Finding::Fault(FaultOf::Part(part, fault)) => no(part, Difference::ExportFault(fault)),
             Finding::Heads(part, verdict) => PartsVerdict { part, verdict },
             Finding::Order(part) => no(part, Difference::PartOrder),
-            Finding::Sample(SampleDifference {
-                label,
-                at_ps,
-                mismatch,
-            }) => no(
+            Finding::Sample(
+                SampleDifference {
+                    label,
+                    at_ps,
+                    mismatch,
+                },
+            ) => no(
                 0,
                 Difference::Sample {
                     label,
@@ -63,12 +65,14 @@ impl Finding {
                     mismatch,
                 },
             ),
-            Finding::Annotation(NoteDifference {
-                mismatch,
-                onset,
-                duration,
-                text,
-            }) => no(
+            Finding::Annotation(
+                NoteDifference {
+                    mismatch,
+                    onset,
+                    duration,
+                    text,
+                },
+            ) => no(
                 0,
                 Difference::Annotation {
                     mismatch,

@@ -9,12 +9,12 @@ use Rattle.edf_stream.specs.Readers.{Reader, is_current}
 use Rattle.edf_stream.specs.Starts.{file_start}
 use Rattle.edf_stream.specs.Views.{note_value}
 use Rattle.edf_check.specs.declared.walk.gather.Gathering.{Gathering}
-use Rattle.edf_check.specs.walk.Gathered.{claim_of, gathered_of, gathered_in}
-use Rattle.edf_check.specs.walk.Keepers.{GotCounted}
+use Rattle.edf_check.specs.walk.Gathered.{gathered_of, gathered_in}
+use Rattle.edf_check.specs.walk.Keepers.{GotCounted, terms_in}
 use Rattle.edf_check.proofs.walk.PassFacts.{gathered_here, gathered_nothing}
 
 -- where a data record came, it was given; where the file has ended, nothing was
-pub gathered-more : (claim : Option Terms) (ps : ℤ) (r : Reader) (before after : Gathering) → claim_of before.view ≡ claim → before.by.ps ≡ file_start r.head +ℤ ps → IsTrue after.whole
+pub gathered-more : (claim : Option Terms) (ps : ℤ) (r : Reader) (before after : Gathering) → terms_in before ≡ claim → before.by.ps ≡ file_start r.head +ℤ ps → IsTrue after.whole
     → (is_current r.status ≡ true → GotCounted before (notes_in r.head r.current) after) → (is_current r.status ≡ false → after ≡ before)
     → map note_value after.notes.items ≡ map note_value before.notes.items ++ gathered_in claim ps r
 gathered-more claim ps r before after view by whole came ended = go (is_current r.status) refl

@@ -1,6 +1,6 @@
 //! The earliest difference of several channels.
 
-ghost use Rattle.std.specs.Prelude.{◌≡◌, IfSome};
+ghost use Rattle.std.specs.Prelude.{◌≡◌, IfSome, Some};
 ghost use Rattle.std.specs.Option.{option_map};
 ghost use Rattle.edf_check.specs.samples.Differences.{earlier as earlier_of, found};
 ghost use Rattle.edf_check.specs.InstantOrder.{IsModest};
@@ -35,27 +35,38 @@ pub(crate) fn earlier(a: Option<Found>, b: Option<Found>) -> Option<Found>
     }
 }
 
-/// The difference of the channel at a place, or the one that is held, where that is earlier. Mostly there is no
-/// difference, and what is held stays.
+/// Puts a difference in the place of what is held, where that isn't earlier. It is a call of its own since it comes
+/// seldom: the loop over all channels then has its variables to itself.
+#[inline(never)]
+fn hold_earlier(found: Found, held: &mut Option<Found>)
+    requires found { IsModest found.difference.at }
+    requires held { IfSome held.old (λ f. IsModest f.difference.at) }
+    ensures value { held.new ≡ earlier_of (Some found) held.old }
+    ensures modest { IfSome held.new (λ f. IsModest f.difference.at) }
+{
+    *held = earlier(Some(found), *held);
+}
+
+/// Puts the difference of the channel at a place in the place of what is held, where that isn't earlier. Mostly there is
+/// no difference, and what is held stays.
 #[inline(always)]
-pub(crate) fn earlier_with(
+pub(crate) fn keep_earlier(
     channel: usize,
     difference: Option<PointDifference>,
-    held: Option<Found>,
-) -> Option<Found>
+    held: &mut Option<Found>,
+)
     requires difference { IfSome difference (λ d. IsModest d.at) }
-    requires held { IfSome held (λ f. IsModest f.difference.at) }
-    ensures value { result ≡ earlier_of (option_map (found channel) difference) held }
-    ensures modest { IfSome result (λ f. IsModest f.difference.at) }
+    requires held { IfSome held.old (λ f. IsModest f.difference.at) }
+    ensures value { held.new ≡ earlier_of (option_map (found channel) difference) held.old }
+    ensures modest { IfSome held.new (λ f. IsModest f.difference.at) }
 {
-    match difference {
-        Some(difference) => earlier(
-            Some(Found {
+    if let Some(difference) = difference {
+        hold_earlier(
+            Found {
                 channel,
                 difference,
-            }),
+            },
             held,
-        ),
-        None => held,
+        );
     }
 }

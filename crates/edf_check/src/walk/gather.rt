@@ -101,11 +101,13 @@ fn push_all_counted(
     Ok(())
 }
 
-/// Keeps the annotations of one data record more that count, as a view has them.
+/// Keeps the annotations of one data record more that count.
 #[derive(Drop)]
 pub(crate) struct Gathering<'a> {
     pub notes: Vec<Note>,
-    view: View<'a>,
+    alloc: Global,
+    /// The claim that chooses from them, where there is one.
+    claim: Option<&'a Claim>,
     /// By how much they are later than the file has them.
     by: Delay,
     /// Whether there was memory for all of them.
@@ -116,13 +118,14 @@ impl<'a> Gathering<'a> {
     /// Keeps those of a data record as the view has them, so much later than in the file, behind these.
     pub(crate) fn new(notes: Vec<Note>, by: Delay, view: View<'a>) -> Gathering<'a>
         ensures notes { result.notes ≡ notes }
-        ensures view { result.view ≡ view.entry }
+        ensures claim { result.claim ≡ view.entry.claim }
         ensures by { result.by ≡ by }
         ensures whole { result.whole ≡ true }
     {
         Gathering {
             notes,
-            view,
+            alloc: view.alloc,
+            claim: view.claim,
             by,
             whole: true,
         }
@@ -140,13 +143,7 @@ impl<'a> NoteKeeper for Gathering<'a> {
 
     fn keep(&mut self, notes: TalNotes<'_>) {
         if self.whole {
-            let kept = push_all_counted(
-                self.view.alloc,
-                &mut self.notes,
-                notes,
-                self.by,
-                self.view.claim,
-            );
+            let kept = push_all_counted(self.alloc, &mut self.notes, notes, self.by, self.claim);
             self.whole = kept.is_ok();
         }
     }

@@ -17,7 +17,7 @@ ghost use Rattle.edf_check.specs.walk.Shown.{IfAtHand, Covers};
 
 use crate::samples::between::{part_by, share_of, share_of_none};
 use crate::samples::difference::PointDifference;
-use crate::samples::earliest::{Found, earlier_with};
+use crate::samples::earliest::{Found, keep_earlier};
 use crate::samples::share::Share;
 use crate::samples::stretch::{Stretch, no_samples, stretch_difference};
 use crate::walk::clock::Clock;
@@ -251,7 +251,7 @@ pub(crate) fn window_difference(
             &mut shares.export,
         );
         let next = pair_difference(original, export, pair, &shares);
-        held = earlier_with(i, next, held);
+        keep_earlier(i, next, &mut held);
     }
     held
 }

@@ -21,10 +21,10 @@ loop-i-preserved c =
       kept = inv.kept;
       value = λ o e ho he.
           let of : Pair → Option PointDifference = λ p. window_of c.args.claim.now (sampled o c.args.original.now.head (c.args.clock.original).ps) (sampled e c.args.export.now.head (c.args.clock.export).ps) (c.args.within.from).ps (c.args.within.to).ps (places_of p).0 (places_of p).1 in
-          earliest-step of c.args.pairs.now c.loop-i.i k _ c.pair_difference-next.result (option_map (found k) c.pair_difference-next.result) c.loop-i.held c.earlier_with-held.result
-          next lt (c.pair_difference-next.ensures.value c.args.claim.now c.args.clock c.args.within c.keep_share.ensures.share c.keep_share-in-loop-i.ensures.share c.requires.uncut inv.kept o e ho he) refl c.earlier_with-held.ensures.value (inv.value o e ho he);
-      modest = c.earlier_with-held.ensures.modest;
-      channel = channel_more k (length c.args.pairs.now) c.pair_difference-next.result (option_map (found k) c.pair_difference-next.result) c.loop-i.held c.earlier_with-held.result lt refl c.earlier_with-held.ensures.value inv.channel;
+          earliest-step of c.args.pairs.now c.loop-i.i k _ c.pair_difference-next.result (option_map (found k) c.pair_difference-next.result) c.loop-i.held c.keep_earlier.new.held
+          next lt (c.pair_difference-next.ensures.value c.args.claim.now c.args.clock c.args.within c.keep_share.ensures.share c.keep_share-in-loop-i.ensures.share c.requires.uncut inv.kept o e ho he) refl c.keep_earlier.ensures.value (inv.value o e ho he);
+      modest = c.keep_earlier.ensures.modest;
+      channel = channel_more k (length c.args.pairs.now) c.pair_difference-next.result (option_map (found k) c.pair_difference-next.result) c.loop-i.held c.keep_earlier.new.held lt refl c.keep_earlier.ensures.value inv.channel;
     }
 
 pub returns-clause-value : goal.returns-clause-value
