@@ -39,7 +39,7 @@ answers() {
     fi
 }
 
-for crate in edf_fields edf_header edf_tal edf_stream edf_claim edf_verdict edf_refusal edf_heads edf_check \
+for crate in edf_fields edf_header edf_tal edf_stream edf_claim edf_verdict edf_stop edf_heads edf_pace edf_check \
     edf_trial edf_draft; do
     take "$work" "$crate"
 done
@@ -52,8 +52,8 @@ add() {
 }
 
 add answers "edf_fields edf_header edf_tal edf_stream edf_claim edf_heads edf_verdict jiff"
-add verdicts "edf_fields edf_claim edf_refusal edf_check"
-add parts "edf_fields edf_claim edf_refusal edf_check"
+add verdicts "edf_fields edf_claim edf_stop edf_check"
+add parts "edf_fields edf_claim edf_stop edf_check"
 add drafts "edf_fields edf_draft edf_trial"
 failed=0
 

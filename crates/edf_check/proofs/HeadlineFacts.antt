@@ -17,11 +17,11 @@ use Rattle.edf_verdict.specs.declared.verdict.Verdict.{Verdict}
 use Rattle.edf_verdict.specs.declared.verdict.Verdict.TheVariants.{Yes, No}
 use Rattle.edf_check.specs.Exports.{BothConform, IsExport}
 use Rattle.edf_check.specs.Headline.{Headline, YesMeans}
-use Rattle.edf_check.specs.Kept.{shift_ps, SamplesAsKept, kept_of, unshifted}
+use Rattle.edf_pace.specs.Kept.{shift_ps, SamplesAsKept, kept_of, unshifted}
 use Rattle.edf_check.specs.KeptReading.{kept_notes, exported_notes}
 use Rattle.edf_check.specs.Laws.{HeadlineExactly}
 use Rattle.edf_check.specs.Verdicts.{IsVerdict}
-use Rattle.edf_check.proofs.notes.RearrangedFacts.{notes_in_words}
+use Rattle.edf_pace.proofs.ForCallers.{notes_in_words}
 use Rattle.edf_check.proofs.WordsFacts.{samples_in_words}
 
 -- annotations that are moved by one number and then by another

@@ -1,14 +1,9 @@
 pub mod CourseFacts
 pub mod JoinFacts
 pub mod KeptFacts
-pub mod LeftFacts
-pub mod PartsFacts
-pub mod FoundFacts
-pub mod CompareFacts
-pub mod SerialFacts
-pub mod TogetherFacts
-pub mod PartsVerdictFacts
-pub mod OnePartsVerdictFacts
+pub mod ColumnFacts
+pub mod NightFacts
+pub mod WalkFacts
 pub mod SomeVerdictFacts
 pub mod SameFileFacts
 pub mod WordsFacts

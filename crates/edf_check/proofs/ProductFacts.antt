@@ -18,8 +18,8 @@ use Rattle.edf_stream.specs.Conforming.{Conforms}
 use Rattle.edf_stream.specs.InstantOrder.{IsSmall}
 use Rattle.edf_stream.specs.Samples.{SampleValue, IsSample}
 use Rattle.edf_stream.proofs.ForCallers.{instants_fit, sound-of}
-use Rattle.edf_check.specs.Instants.{later}
-use Rattle.edf_check.specs.Kept.{shift_ps}
+use Rattle.edf_pace.specs.Instants.{later}
+use Rattle.edf_pace.specs.Kept.{shift_ps}
 use Rattle.edf_check.specs.KeptReading.{origin_of}
 use Rattle.edf_check.specs.Laws.{AllProductsFit}
 

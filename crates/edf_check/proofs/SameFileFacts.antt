@@ -26,24 +26,23 @@ use Rattle.edf_verdict.specs.declared.verdict.Difference.TheVariants as differen
 use Rattle.edf_heads.specs.HeadVerdicts.{HeadsAgree, IsHeadVerdict}
 use Rattle.edf_heads.specs.SameHeads.{AreBlankAlike}
 use Rattle.edf_heads.proofs.ForCallers.{AreSamePairs, same-heads-self, blank-alike-self, agree_carried, head_verdict_carried}
-use Rattle.edf_check.specs.Annotations.{note_cmp, times}
+use Rattle.edf_pace.specs.Annotations.{note_cmp, times}
 use Rattle.edf_check.specs.Courses.{Agree}
 use Rattle.edf_check.specs.Exports.{BothConform, SameSamples}
-use Rattle.edf_check.specs.InstantOrder.{IsBefore}
-use Rattle.edf_check.specs.Instants.{later}
-use Rattle.edf_check.specs.Kept.{shift_ps, kept_of}
-use Rattle.edf_check.specs.walk.Gathered.{as_kept}
+use Rattle.edf_pace.specs.InstantOrder.{IsBefore}
+use Rattle.edf_pace.specs.Instants.{later}
+use Rattle.edf_pace.specs.Kept.{shift_ps, kept_of}
+use Rattle.edf_pace.specs.walk.Gathered.{as_kept}
 use Rattle.edf_check.specs.KeptReading.{origin_of, ValueAt, KeptAt, ExportedAt, kept_notes, exported_notes}
 use Rattle.edf_check.specs.Laws.{AnyCutOfExport, AnyCutOfOriginal}
 use Rattle.edf_check.specs.SameFiles.{HoldTheSame}
 use Rattle.edf_check.specs.Verdicts.{IsVerdict}
 use Rattle.edf_check.proofs.CourseFacts.{agree-alike, agree-back, first-alike}
 use Rattle.edf_check.proofs.StartFacts.{whole-at, once, reached-at, before-at, same-second}
-use Rattle.edf_check.proofs.FoundFacts.{faultless_part}
-use Rattle.edf_check.proofs.PartsVerdictFacts.{no-fault}
-use Rattle.edf_check.proofs.notes.NoteOrderFacts.{more-with}
-use Rattle.edf_check.proofs.samples.FractionFacts.{not_before-before, same_above, same_back, both_same, from_below}
-use Rattle.edf_check.proofs.walk.NightFacts.{sound-head}
+use Rattle.edf_check.proofs.parts.FoundFacts.{faultless_part}
+use Rattle.edf_check.proofs.parts.PartsVerdictFacts.{no-fault}
+use Rattle.edf_pace.proofs.ForCallers.{more-with, not_before-before, same_above, same_back, both_same, from_below}
+use Rattle.edf_check.proofs.NightFacts.{sound-head}
 
 -- ---- the start of a file follows from its samples
 

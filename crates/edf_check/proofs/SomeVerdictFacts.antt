@@ -26,23 +26,22 @@ use Rattle.edf_verdict.specs.declared.verdict.Difference.TheVariants as differen
 use Rattle.edf_heads.specs.HeadVerdicts.{HeadsAgree}
 use Rattle.edf_heads.specs.Labels.{IsNotAbove}
 use Rattle.edf_heads.proofs.ForCallers.{not-above-self, not-above-behind, one-not-above, agree_or_differ}
-use Rattle.edf_check.specs.Annotations.{note_cmp, times, IsFirstNote, SameNotes}
+use Rattle.edf_pace.specs.Annotations.{note_cmp, times, IsFirstNote, SameNotes}
 use Rattle.edf_check.specs.Courses.{Agree, IsFirstMismatch}
 use Rattle.edf_check.specs.Exports.{BothConform, SameSamples}
-use Rattle.edf_check.specs.Kept.{shift_ps}
+use Rattle.edf_pace.specs.Kept.{shift_ps}
 use Rattle.edf_check.specs.KeptReading.{origin_of, KeptAt, ExportedAt, kept_notes, exported_notes}
 use Rattle.edf_check.specs.Laws.{SomeVerdict}
 use Rattle.edf_check.specs.Verdicts.{IsVerdict}
-use Rattle.edf_check.specs.declared.samples.earliest.Found.{Found}
-use Rattle.edf_check.specs.notes.NoteOrder.{NoteMismatch, first_unequal_of}
-use Rattle.edf_check.specs.samples.Columns.{Sampled}
-use Rattle.edf_check.specs.samples.Differences.{earliest}
+use Rattle.edf_pace.specs.declared.samples.earliest.Found.{Found}
+use Rattle.edf_pace.specs.notes.NoteOrder.{NoteMismatch, first_unequal_of}
+use Rattle.edf_pace.specs.samples.Columns.{Sampled}
+use Rattle.edf_pace.specs.samples.Differences.{earliest}
 use Rattle.edf_check.proofs.CourseFacts.{agree-alike, first-alike}
-use Rattle.edf_check.proofs.notes.NoteFacts.{note-total}
-use Rattle.edf_check.proofs.notes.NoteOrderFacts.{once, turn, more-with, Answer, unequal-exact, AreInOrder}
-use Rattle.edf_check.proofs.samples.ColumnFacts.{named, first-is-first, Column, KeptIn, ExportedIn, LabelsRise, difference_of}
-use Rattle.edf_check.proofs.walk.NightFacts.{sound-head, AreClaimed, columns_of, kept-agree, exported-agree, are-columns, AreNights}
-use Rattle.edf_check.proofs.walk.WalkFacts.{of_heads}
+use Rattle.edf_pace.proofs.ForCallers.{note-total, once, turn, more-with, Answer, unequal-exact, AreInOrder}
+use Rattle.edf_check.proofs.ColumnFacts.{named, first-is-first, Column, KeptIn, ExportedIn, LabelsRise, difference_of}
+use Rattle.edf_check.proofs.NightFacts.{sound-head, AreClaimed, columns_of, kept-agree, exported-agree, are-columns, AreNights}
+use Rattle.edf_check.proofs.WalkFacts.{of_heads}
 
 -- ---- a list in order
 

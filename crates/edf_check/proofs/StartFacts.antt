@@ -9,11 +9,11 @@ use Rattle.edf_stream.specs.InstantOrder.{IsNotBefore, IsSecondOf}
 use Rattle.edf_stream.specs.Instants.{IsSame}
 use Rattle.edf_stream.specs.Samples.{SampleValue, IsSample}
 use Rattle.edf_stream.proofs.ForCallers.{start_is_of_least, sound-of}
-use Rattle.edf_check.specs.InstantOrder.{IsBefore}
-use Rattle.edf_check.specs.Instants.{later}
-use Rattle.edf_check.specs.Kept.{shift_ps, IsKeptSample, SamplesAsKept}
+use Rattle.edf_pace.specs.InstantOrder.{IsBefore}
+use Rattle.edf_pace.specs.Instants.{later}
+use Rattle.edf_pace.specs.Kept.{shift_ps, IsKeptSample, SamplesAsKept}
 use Rattle.edf_check.specs.Laws.{IsFirstKept, IsDayOf, StartFollows}
-use Rattle.edf_check.proofs.samples.FractionFacts.{same_above, same_below, same_before, from_below}
+use Rattle.edf_pace.proofs.ForCallers.{same_above, same_below, same_before, from_below}
 
 -- an instant, and a whole number of picoseconds
 unfoldable pub whole-at : ℤ → Instant

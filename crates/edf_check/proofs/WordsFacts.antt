@@ -1,23 +1,19 @@
 -- That the samples agree, in the words of samples.
-use Rattle.std.proofs.Common.{◌≡◌, ℕ, zero, suc, ℤ, pos, ◌+ℤ◌, ◌*ℤ◌, neg_ℤ, List, refl, sym, ap, ◌∙◌, subst, arith}
+use Rattle.std.proofs.Common.{◌≡◌, ℕ, ℤ, pos, ◌+ℤ◌, ◌*ℤ◌, neg_ℤ, List, refl, sym, ap, ◌∙◌, subst, arith}
 use Rattle.std.proofs.lemmas.Int.{ints}
 use Rattle.edf_claim.specs.Terms.{Terms}
 use Rattle.edf_fields.specs.Lists.{Has}
 use Rattle.edf_header.specs.HeadsReading.{head_of}
 use Rattle.edf_stream.specs.declared.instant.Instant.{Instant}
 use Rattle.edf_stream.specs.Instants.{IsSame}
-use Rattle.edf_check.specs.Instants.{later}
+use Rattle.edf_pace.specs.Instants.{later}
 use Rattle.edf_check.specs.Exports.{SameSamples}
-use Rattle.edf_check.specs.Kept.{shift_ps, SamplesAsKept}
+use Rattle.edf_pace.specs.Kept.{shift_ps, SamplesAsKept}
 use Rattle.edf_check.specs.KeptReading.{origin_of}
 use Rattle.edf_check.specs.Laws.{SamplesInWords}
-use Rattle.edf_check.proofs.samples.FractionFacts.{same_through, same_back}
+use Rattle.edf_pace.proofs.ForCallers.{same_through, same_back}
 use Rattle.edf_check.proofs.KeptFacts.{positive, later-same, keeps-same}
-
--- later by one number and then by another
-pub scaled : (n : ℕ) (x y z : ℤ) → z ≡ x +ℤ y → pos n *ℤ z ≡ (pos n *ℤ x) +ℤ (pos n *ℤ y)
-scaled zero x y z e = omega (arith, ints)
-scaled (suc n) x y z e = let r : pos n *ℤ z ≡ (pos n *ℤ x) +ℤ (pos n *ℤ y) = scaled n x y z e in omega (arith, ints)
+use Rattle.edf_pace.proofs.ForCallers.{scaled}
 
 at-num : ℕ → ℤ → Instant
 at-num n k = record { num = k; den = n }

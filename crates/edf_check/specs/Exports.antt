@@ -3,7 +3,7 @@ use Rattle.std.specs.Prelude.{ℕ, List}
 use Rattle.edf_claim.specs.Terms.{Terms}
 use Rattle.edf_header.specs.HeadsReading.{head_of}
 use Rattle.edf_stream.specs.Conforming.{Conforms}
-use Rattle.edf_check.specs.Annotations.{SameNotes}
+use Rattle.edf_pace.specs.Annotations.{SameNotes}
 use Rattle.edf_check.specs.Courses.{Agree}
 use Rattle.edf_heads.specs.HeadVerdicts.{HeadsAgree}
 use Rattle.edf_check.specs.KeptReading.{KeptAt, ExportedAt, kept_notes, exported_notes}

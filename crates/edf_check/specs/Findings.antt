@@ -1,7 +1,7 @@
 -- The verdict on what a check finds first, in one of five ways.
 use Rattle.std.specs.Prelude.{ℕ}
 use Rattle.edf_check.specs.Words.{PartsVerdict}
-use Rattle.edf_check.specs.declared.finding.FaultOf.TheVariants.{Original, Part}
+use Rattle.edf_pace.specs.declared.walk.fault_of.FaultOf.TheVariants.{Original, Part}
 use Rattle.edf_check.specs.declared.finding.Finding.{Finding}
 use Rattle.edf_check.specs.declared.finding.Finding.TheVariants as findings
 use Rattle.edf_verdict.specs.declared.verdict.Verdict.TheVariants.{No}

@@ -13,7 +13,7 @@ use Rattle.edf_stream.specs.Notes.{NoteValue, HasNotes}
 use Rattle.edf_header.specs.Channels.{channels_among}
 use Rattle.edf_verdict.specs.declared.verdict.Verdict.{Verdict}
 use Rattle.edf_verdict.specs.declared.verdict.Verdict.TheVariants.{Yes, No}
-use Rattle.edf_check.specs.Kept.{SamplesAsKept, kept_of, unshifted}
+use Rattle.edf_pace.specs.Kept.{SamplesAsKept, kept_of, unshifted}
 
 -- The headline. Both files conform to the profile, and say these headers and annotations (a file says one header, and one list of
 -- annotations); the export's channels are exactly the claimed ones, with the original's texts and calibrations; its samples are

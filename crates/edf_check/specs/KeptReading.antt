@@ -10,8 +10,8 @@ use Rattle.edf_stream.specs.NotesReading.{notes_of}
 use Rattle.edf_stream.specs.Samples.{SampleValue, IsSample}
 use Rattle.edf_stream.specs.Starts.{file_start}
 use Rattle.edf_check.specs.Courses.{Course}
-use Rattle.edf_check.specs.Instants.{later}
-use Rattle.edf_check.specs.Kept.{shift_ps, kept_of}
+use Rattle.edf_pace.specs.Instants.{later}
+use Rattle.edf_pace.specs.Kept.{shift_ps, kept_of}
 
 -- the start of a file, in picoseconds after 1970-01-01 00:00:00
 abbrev pub origin_of : List ℕ → ℤ

@@ -6,15 +6,15 @@ use Rattle.edf_fields.specs.Dates.{NamesDashedDay}
 use Rattle.edf_stream.specs.InstantOrder.{IsNotBefore, IsSecondOf}
 use Rattle.edf_header.specs.CalibrationLaws.{FitTogether}
 use Rattle.edf_stream.specs.Samples.{SampleValue, IsSample}
-use Rattle.edf_check.specs.Annotations.{SameNotes}
+use Rattle.edf_pace.specs.Annotations.{SameNotes}
 use Rattle.edf_verdict.specs.declared.verdict.Verdict.TheVariants.{Yes}
 use Rattle.edf_check.specs.Exports.{BothConform, SameSamples, IsExport}
-use Rattle.edf_check.specs.Instants.{later}
+use Rattle.edf_pace.specs.Instants.{later}
 use Rattle.edf_check.specs.Headline.{Headline}
-use Rattle.edf_check.specs.Kept.{IsKeptSample, SamplesAsKept, shift_ps}
+use Rattle.edf_pace.specs.Kept.{IsKeptSample, SamplesAsKept, shift_ps}
 use Rattle.edf_check.specs.KeptReading.{origin_of}
-use Rattle.edf_check.specs.Parts.{AllConform, AreTogether}
-use Rattle.edf_check.specs.PartsVerdicts.{IsPartsVerdict}
+use Rattle.edf_check.specs.parts.Parts.{AllConform, AreTogether}
+use Rattle.edf_check.specs.parts.PartsVerdicts.{IsPartsVerdict}
 use Rattle.edf_check.specs.SameFiles.{HoldTheSame}
 use Rattle.edf_check.specs.Verdicts.{IsVerdict}
 

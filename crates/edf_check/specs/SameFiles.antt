@@ -3,7 +3,7 @@ use Rattle.std.specs.Prelude.{◌≡◌, ℕ, List}
 use Rattle.edf_check.specs.Words.{IsPermutation, head_of, AreSameHeads, Conforms, notes_of}
 use Rattle.edf_check.specs.Courses.{Agree}
 use Rattle.edf_check.specs.KeptReading.{ValueAt}
-use Rattle.edf_check.specs.PartsVerdicts.{samples_in}
+use Rattle.edf_check.specs.parts.PartsVerdicts.{samples_in}
 
 -- both files conform; their headers say the same; their channels have the same values at all instants, and as many samples; and
 -- the annotations of the one are those of the other, in some order

@@ -1,7 +1,7 @@
 -- The verdict on an original and an export: the first difference in the order of `Difference`, or Yes.
 use Rattle.std.specs.Prelude.{◌≡◌, ℕ, List, None, Some}
 use Rattle.edf_check.specs.Words.{Terms, head_of, HeadsAgree, IsHeadVerdict, file_fault, notes_of, Verdict}
-use Rattle.edf_check.specs.Annotations.{IsFirstNote}
+use Rattle.edf_pace.specs.Annotations.{IsFirstNote}
 use Rattle.edf_check.specs.Courses.{IsFirstMismatch}
 use Rattle.edf_check.specs.Exports.{BothConform, SameSamples, IsExport}
 use Rattle.edf_check.specs.Headline.{AreCounts}

@@ -9,9 +9,9 @@ ghost use Rattle.edf_check.specs.Verdicts.{IsVerdict};
 use crate::check_parts::check_series;
 use edf_claim::claim::Claim;
 use edf_fields::source::Source;
-use edf_refusal::parts_stop::{PartSide, PartsStop};
-use edf_refusal::side::Side;
-use edf_refusal::stop::CheckStop;
+use edf_stop::parts_stop::{PartSide, PartsStop};
+use edf_stop::side::Side;
+use edf_stop::stop::CheckStop;
 use edf_verdict::verdict::Verdict;
 use std::alloc::Global;
 

@@ -4,20 +4,21 @@ ghost use Rattle.std.specs.Prelude.{◌≡◌, ◌<◌, ◌≤◌, ◌∷◌, ma
 ghost use Rattle.std.specs.List.{AllByRecursion};
 ghost use Rattle.edf_fields.specs.Sources.{Fails};
 ghost use Rattle.edf_check.specs.Checks.{AreRead};
-ghost use Rattle.edf_check.specs.PartsStops.{NoneFailed, PartsStops, StopsOfAll};
-ghost use Rattle.edf_check.specs.PartsVerdicts.{IsPartsVerdict};
-ghost use Rattle.edf_check.specs.walk.Together.{IsReadBy, IsVerdictOf};
+ghost use Rattle.edf_pace.specs.PartsStops.{NoneFailed, PartsStops, StopsOfAll};
+ghost use Rattle.edf_check.specs.parts.PartsVerdicts.{IsPartsVerdict};
+ghost use Rattle.edf_check.specs.parts.Together.{IsReadBy, IsVerdictOf};
 
-use crate::finding::{FaultOf, Finding};
+use crate::finding::Finding;
 use crate::parts::series::Exported;
 use crate::parts::together::{conclude_parts, walk_parts};
-use crate::walk::clock::Clock;
-use crate::walk::reading::open;
-use crate::walk::turn::Setting;
 use edf_claim::claim::Claim;
 use edf_fields::source::Source;
 use edf_heads::labels::in_order;
-use edf_refusal::parts_stop::{PartSide, PartsStop};
+use edf_pace::walk::clock::Clock;
+use edf_pace::walk::fault_of::FaultOf;
+use edf_pace::walk::reading::open;
+use edf_pace::walk::turn::Setting;
+use edf_stop::parts_stop::{PartSide, PartsStop};
 use edf_verdict::parts_verdict::PartsVerdict;
 use std::alloc::Global;
 

@@ -3,18 +3,11 @@
 ghost use Rattle.std.specs.Prelude.{◌≡◌};
 ghost use Rattle.edf_check.specs.Findings.{no_on, verdict_on};
 
-use crate::notes::note_difference::NoteDifference;
-use crate::samples::sample_difference::SampleDifference;
-use edf_fields::fault::Fault;
+use edf_pace::notes::note_difference::NoteDifference;
+use edf_pace::samples::sample_difference::SampleDifference;
+use edf_pace::walk::fault_of::FaultOf;
 use edf_verdict::parts_verdict::PartsVerdict;
 use edf_verdict::verdict::{Difference, Verdict};
-
-/// A fault of the original, or of the part of this number. That of the original goes before that of a part.
-#[derive(Clone, Copy)]
-pub(crate) enum FaultOf {
-    Original(Fault),
-    Part(u16, Fault),
-}
 
 /// What a check finds first. There are five kinds, of which an earlier one goes before those behind it.
 #[derive(Drop)]

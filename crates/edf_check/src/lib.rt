@@ -5,12 +5,8 @@
 pub mod check;
 pub mod check_parts;
 mod finding;
-pub mod first_difference;
 pub mod judge;
 pub mod laws;
-mod notes;
 mod parts;
 pub mod run;
 pub mod run_parts;
-mod samples;
-mod walk;

@@ -6,7 +6,7 @@ use edf_claim::stop::ClaimStop;
 use edf_fields::faulty_sink::FaultySink;
 use edf_fields::sink::SliceSink;
 use edf_fields::source::SliceSource;
-use edf_refusal::stop::RunStop;
+use edf_stop::stop::RunStop;
 use edf_test_files::record::{LANES, recorded, small_file};
 use edf_verdict::outcome::Outcome;
 use std::alloc::{AllocError, Global};

@@ -7,16 +7,10 @@ ghost use Rattle.edf_claim.specs.Reading.{is_label as is_label_text, distinct_te
 
 use crate::table::value_at;
 use crate::text_arrays::distinct_texts;
-use edf_fields::label::SignalLabel;
+use edf_fields::label::{ANNOTATIONS, LABEL_BYTES, SignalLabel};
 use edf_fields::printable::is_printable;
 use std::alloc::{AllocError, Global};
 use toml::Table;
-
-/// The most bytes that a label has (EDF, "Header record").
-const LABEL_BYTES: usize = 16;
-
-/// The label of an annotation signal (EDF+, "The 'EDF Annotations' signal").
-const ANNOTATIONS: &[u8] = b"EDF Annotations";
 
 /// Whether the text is the label of a channel, as a field can have it.
 fn is_label(text: &[u8]) -> bool

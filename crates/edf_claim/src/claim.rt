@@ -11,11 +11,15 @@ use crate::interval::Interval;
 use crate::note_texts::NoteTexts;
 use crate::text_arrays::is_one_of;
 use edf_fields::label::SignalLabel;
+use edf_fields::onset::SECOND_PS;
 use edf_fields::which::Which;
 use std::marker::Model;
 
 /// The most bytes that a claim's text may have.
 pub const MOST_BYTES: usize = 65_536;
+
+/// What stands in an export for the text of an annotation that a claim blanks.
+pub const BLANK: &str = "X";
 
 /// What an export keeps of its original, as a sleep centre claims it.
 #[derive(Debug, Drop)]
@@ -168,6 +172,6 @@ impl Claim {
         ensures value { result ≡ self.now.shift *ℤ pos 1000000000000 }
         ensures near { unsigned_abs result < 2 ^ 74 }
     {
-        i128::from(self.shift) * 1_000_000_000_000
+        i128::from(self.shift) * SECOND_PS
     }
 }

@@ -4,8 +4,9 @@ ghost use Rattle.std.specs.Prelude.{IfOk, IfSome};
 ghost use Rattle.edf_claim.specs.Claims.{SaysClaimText};
 
 use crate::draft::{Comments, Draft};
-use crate::draft_times::{SECOND, clock_time, is_behind_a_day, way_of};
+use crate::draft_times::{clock_time, is_behind_a_day, way_of};
 use crate::interval::Interval;
+use edf_fields::onset::SECOND_PS;
 use edf_fields::which::Which;
 use std::alloc::{AllocError, Global};
 
@@ -45,9 +46,9 @@ fn push_quoted(text: &mut Vec<u8>, alloc: Global, quoted: &[u8]) -> Result<(), A
 
 /// Puts a time of this many picoseconds as seconds with their fraction, without zeros at its end, behind a text.
 fn push_seconds(text: &mut Vec<u8>, alloc: Global, ps: i128) -> Result<(), AllocError> {
-    let whole = format!(in alloc; "\"{}", ps.div_euclid(SECOND))?;
+    let whole = format!(in alloc; "\"{}", ps.div_euclid(SECOND_PS))?;
     push(text, &whole)?;
-    let rest = ps.rem_euclid(SECOND);
+    let rest = ps.rem_euclid(SECOND_PS);
     if rest != 0 {
         let fraction = format!(in alloc; ".{rest:012}")?;
         push(text, fraction.trim_end_matches('0'))?;

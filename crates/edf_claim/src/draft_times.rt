@@ -1,9 +1,7 @@
 //! Times of a draft as people say them.
 
+use edf_fields::onset::SECOND_PS;
 use std::alloc::{AllocError, Global};
-
-/// How many picoseconds a second has.
-pub(crate) const SECOND: i128 = 1_000_000_000_000;
 
 /// How many seconds a day has, and an hour, and a minute.
 const DAY: i128 = 86_400;
@@ -23,7 +21,7 @@ fn of_day(alloc: Global, seconds: i128) -> Result<String, AllocError> {
 /// Puts the fraction of a second in so many picoseconds behind a text, with its dot and without zeros at its end; nothing where
 /// there is none.
 fn push_fraction(text: &mut String, alloc: Global, ps: i128) -> Result<(), AllocError> {
-    let rest = ps.rem_euclid(SECOND);
+    let rest = ps.rem_euclid(SECOND_PS);
     if rest == 0 {
         return Ok(());
     }
@@ -33,7 +31,7 @@ fn push_fraction(text: &mut String, alloc: Global, ps: i128) -> Result<(), Alloc
 
 /// Whether a time is a day or more behind the second at which a recording starts.
 pub(crate) fn is_behind_a_day(ps: i128) -> bool {
-    ps.div_euclid(SECOND) >= DAY
+    ps.div_euclid(SECOND_PS) >= DAY
 }
 
 /// A time of a recording by its own clock: so many picoseconds behind the second of the day at which it starts. It may say which
@@ -44,7 +42,7 @@ pub(crate) fn clock_time(
     ps: i128,
     says_day: bool,
 ) -> Result<String, AllocError> {
-    let seconds = ps.div_euclid(SECOND).saturating_add(i128::from(start));
+    let seconds = ps.div_euclid(SECOND_PS).saturating_add(i128::from(start));
     let mut text = of_day(alloc, seconds.rem_euclid(DAY))?;
     push_fraction(&mut text, alloc, ps)?;
     if says_day {

@@ -6,7 +6,8 @@ ghost use Rattle.toml.specs.View.{view, table_view, array_view};
 ghost use Rattle.edf_claim.specs.Reading.{span_at as span_at_key, interval_from as interval_from_bounds, interval_of, intervals_of, is_followed_by as is_followed_by_any, are_in_order as are_in_order_list, keep_of};
 
 use crate::interval::Interval;
-use crate::table::{has_interval_keys, text_at, value_at};
+use crate::keys::has_interval_keys;
+use crate::table::{text_at, value_at};
 use edf_fields::onset::span;
 use std::alloc::{AllocError, Global};
 use toml::Table;

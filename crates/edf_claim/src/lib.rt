@@ -13,6 +13,7 @@ mod draft_times;
 mod format;
 pub mod interval;
 mod keep;
+pub mod keys;
 pub mod laws;
 mod note_texts;
 mod prefixes;

@@ -1,15 +1,15 @@
 //! The receipts of small files, whose digests are those of `sha256sum`, and what is written where a read or a sink fails.
 
 use edf_claim::stop::ClaimStop;
-use edf_fields::digest_source::DigestSource;
 use edf_fields::faulty_source::FaultySource;
 use edf_fields::sink::{Sink, SliceSink};
 use edf_fields::source::SliceSource;
+use edf_receipt::digest_source::DigestSource;
 use edf_receipt::parts_receipt::receipt_parts_to;
 use edf_receipt::receipt::receipt_to;
-use edf_refusal::parts_stop::{PartSide, PartsRunStop};
-use edf_refusal::side::Side;
-use edf_refusal::stop::RunStop;
+use edf_stop::parts_stop::{PartSide, PartsRunStop};
+use edf_stop::side::Side;
+use edf_stop::stop::RunStop;
 use edf_vectors::line::Line;
 use edf_verdict::outcome::Outcome;
 use std::alloc::Global;

@@ -1,11 +1,11 @@
 //! The line and the status of each refusal, and how a stopped check or report is refused.
 
 use edf_claim::stop::ClaimStop;
-use edf_refusal::parts_stop::{PartSide, PartsRunStop};
 use edf_refusal::refusal::{Refusal, Role};
-use edf_refusal::side::Side;
 use edf_refusal::status::status;
-use edf_refusal::stop::{ReportStop, RunStop};
+use edf_stop::parts_stop::{PartSide, PartsRunStop};
+use edf_stop::side::Side;
+use edf_stop::stop::{ReportStop, RunStop};
 use edf_verdict::outcome::Outcome;
 use std::process::Abort;
 

@@ -4,13 +4,11 @@ use crate::grid::{Grid, ended_count};
 use crate::recorded::{Recorded, Remark};
 use crate::texts::lacking_times;
 use edf_claim::interval::Interval;
+use edf_fields::onset::SECOND_PS;
 use std::alloc::{AllocError, Global};
 
 /// The most intervals that a claim may have.
 const MOST_INTERVALS: usize = 1_000;
-
-/// How many picoseconds a second has.
-const SECOND_PS: i128 = 1_000_000_000_000;
 
 /// The times of an export as those of its original: both counted from the second at which their file starts.
 #[derive(Clone, Copy)]

@@ -11,6 +11,7 @@ ghost use Rattle.edf_stream.specs.StartsReading.{start_in};
 ghost use Rattle.edf_draft.specs.Times.{begin_of, end_of};
 
 use edf_claim::interval::Interval;
+use edf_fields::onset::SECOND_PS;
 use edf_fields::source::Source;
 use edf_header::stop::Stop;
 use edf_stream::annotations::Annotations;
@@ -80,7 +81,7 @@ fn absolute_ps(second: i64, at_ps: i128) -> i128
     ensures value { result ≡ (second *ℤ pos (10 ^ 12)) +ℤ at_ps }
     ensures near { unsigned_abs result < 2 ^ 80 }
 {
-    i128::from(second) * 1_000_000_000_000 + at_ps
+    i128::from(second) * SECOND_PS + at_ps
 }
 
 /// When a file begins and ends, where its first data record was seen to start there; a file without one begins with its

@@ -5,9 +5,7 @@ ghost use Rattle.edf_draft.specs.Days.{IsShift, LiesWithin};
 
 use crate::days::days_between;
 use crate::recorded::Recorded;
-
-/// How many picoseconds a second has.
-const SECOND_PS: i128 = 1_000_000_000_000;
+use edf_fields::onset::SECOND_PS;
 
 /// A shift in seconds, and whether the starts of two files tell it. Where they don't, it is the one by which the export
 /// begins with the original.

@@ -2,6 +2,7 @@
 
 use crate::keep::{Back, is_kept};
 use crate::recorded::Remark;
+use edf_claim::claim::BLANK;
 use edf_claim::interval::Interval;
 use std::alloc::{AllocError, Global};
 
@@ -67,9 +68,6 @@ pub(crate) struct Lacking {
     pub blanked: Texts,
 }
 
-/// The text of an annotation that was blanked.
-const BLANK: &[u8] = b"X";
-
 /// When an annotation begins, and its duration.
 type Span = (i128, Option<i128>);
 
@@ -83,7 +81,7 @@ fn blanks_of(
     let mut blanks = Vec::new(alloc);
     for remark in remarks {
         let at_ps = back.of(remark.onset);
-        if remark.text.as_slice() == BLANK && is_kept(keep, at_ps) {
+        if remark.text.as_slice() == BLANK.as_bytes() && is_kept(keep, at_ps) {
             blanks.push((at_ps, remark.duration))?;
         }
     }

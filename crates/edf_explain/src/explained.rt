@@ -7,7 +7,7 @@ use crate::explain::explain_to;
 use edf_check::judge::judge;
 use edf_fields::sink::{Sink, put_all};
 use edf_fields::source::Source;
-use edf_refusal::stop::RunStop;
+use edf_stop::stop::RunStop;
 use edf_trial::recordings::Recordings;
 use edf_verdict::outcome::Outcome;
 use std::alloc::Global;

@@ -1,16 +1,13 @@
 //! The annotations of both files, and which of them only one has.
 
 use crate::stand::Stand;
-use edf_claim::claim::Claim;
+use edf_claim::claim::{BLANK, Claim};
 use edf_stream::note::{NoteRef, TalNotes};
 use edf_stream::note_keeper::NoteKeeper;
 use edf_stream::notes::Note;
 use edf_stream::own_text::OwnText;
 use std::alloc::{AllocError, Global};
 use std::cmp::Ordering;
-
-/// The text of an annotation that is blanked.
-const BLANK: &str = "X";
 
 /// The annotations of both files. Onsets are picoseconds after the second at which the original starts.
 #[derive(Drop)]

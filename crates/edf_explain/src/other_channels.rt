@@ -1,13 +1,13 @@
 //! Other channels than the claimed ones, tried by a check.
 
 use crate::answers::{Answer, Asked, is_of_channels};
-use crate::refusal::nearest;
+use crate::nearest::nearest;
 use crate::text::{Piece, Text};
 use crate::words;
 use edf_claim::claim::Claim;
 use edf_header::header::Header;
 use edf_heads::channel_index::ChannelIndex;
-use edf_refusal::stop::RunStop;
+use edf_stop::stop::RunStop;
 use edf_trial::channels::with_channels;
 use edf_trial::recordings::Recordings;
 use std::alloc::{AllocError, Global};

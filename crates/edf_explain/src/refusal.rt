@@ -3,89 +3,22 @@
 use crate::amounts::amount_of;
 use crate::claim_lines::{Spotted, key_at, place_at, value_behind};
 use crate::looks::looks_like_a_recording;
+use crate::nearest::nearest;
+use crate::placed::say_at;
 use crate::refused_keep::say_keep;
 use crate::refused_texts::{say_anonymous, say_channels, say_texts};
 use crate::text::{Piece, Text};
 use crate::typographic::first_mark;
 use crate::words;
 use edf_claim::claim::Claim;
+use edf_claim::keys::{CLAIM_KEYS, MORE_KEYS};
 use edf_claim::stop::ClaimStop;
 use std::alloc::{AllocError, Global};
-use strsim::osa_distance;
 use toml::de::Error;
 use toml::{Table, Value};
 
-/// The keys that a claim can have.
-const KEYS: [&str; 8] = [
-    "format",
-    "channels",
-    "keep",
-    "anonymous",
-    "shift",
-    "remove",
-    "remove-prefix",
-    "blank",
-];
-
-/// How many of these a claim of format 1 can have.
-const KEYS_OF_FORMAT_1: usize = 6;
-
-/// How many letters of a word may be wrong, and it still is taken for a misspelt one.
-const MOST_WRONG: usize = 2;
-
 /// The most seconds by which a claim may move what it keeps, back or on.
 const MOST_SHIFT: i128 = 10_000_000_000;
-
-/// Puts a line of a claim in front of what is said of it.
-fn add_place(text: &mut Text, place: Spotted<'_>) -> Result<(), AllocError> {
-    let words = if place.column > 1 {
-        words::AT_COLUMN
-    } else {
-        words::AT_LINE
-    };
-    let pieces = [
-        Piece::Number(place.line as i128),
-        Piece::Number(place.column as i128),
-    ];
-    text.add(words, &pieces)?;
-    match place.shown() {
-        Some(content) => text.add(words::LINE_CONTENT, &[Piece::Plain(content)]),
-        None => Ok(()),
-    }
-}
-
-/// Says what was expected at a place of a claim, where the place is known.
-pub(crate) fn say_at(
-    text: &mut Text,
-    place: Option<Spotted<'_>>,
-    sentence: &str,
-    pieces: &[Piece<'_>],
-) -> Result<(), AllocError> {
-    if let Some(place) = place {
-        add_place(text, place)?;
-    }
-    text.say(sentence, pieces)
-}
-
-/// The one of some words that is nearest to another, where it is near enough to be meant.
-pub(crate) fn nearest<'a>(
-    alloc: Global,
-    word: &str,
-    known: &[&'a str],
-) -> Result<Option<&'a str>, AllocError> {
-    let mut best = None;
-    let mut least = MOST_WRONG;
-    for other in known {
-        if word.len() <= 40 {
-            let wrong = osa_distance(alloc, word, other)?;
-            if wrong <= least && (best.is_none() || wrong < least) {
-                least = wrong;
-                best = Some(*other);
-            }
-        }
-    }
-    Ok(best)
-}
 
 /// Whether the integer at `format` is this one.
 fn is_format(table: &Table, format: i64) -> bool {
@@ -110,13 +43,13 @@ fn say_format(text: &mut Text, claim_text: &[u8], table: &Table) -> Result<(), A
 fn say_key(text: &mut Text, alloc: Global, claim_text: &[u8], key: &str) -> Result<(), AllocError> {
     let place = key_at(claim_text, key);
     let quoted = Piece::Quoted(key.as_bytes());
-    if is_among(&KEYS, KEYS.len(), key) {
+    if stands_in(&MORE_KEYS, key) {
         return say_at(text, place, words::KEY_OF_FORMAT_2, &[quoted]);
     }
     if key == "from" || key == "to" {
         return say_at(text, place, words::KEY_OF_KEEP, &[quoted]);
     }
-    match nearest(alloc, key, &KEYS)? {
+    match nearest_key(alloc, key)? {
         Some(near) => say_at(
             text,
             place,
@@ -127,10 +60,18 @@ fn say_key(text: &mut Text, alloc: Global, claim_text: &[u8], key: &str) -> Resu
     }
 }
 
-/// Whether a word is one of the first few of some others.
-fn is_among(words: &[&str], count: usize, word: &str) -> bool {
-    for (place, other) in words.iter().enumerate() {
-        if place < count && other.as_bytes() == word.as_bytes() {
+/// The key of a claim that is spelled nearly so, where there is one.
+fn nearest_key(alloc: Global, key: &str) -> Result<Option<&'static str>, AllocError> {
+    match nearest(alloc, key, &CLAIM_KEYS)? {
+        Some(near) => Ok(Some(near)),
+        None => nearest(alloc, key, &MORE_KEYS),
+    }
+}
+
+/// Whether a word is one of some others.
+fn stands_in(words: &[&str], word: &str) -> bool {
+    for other in words {
+        if other.as_bytes() == word.as_bytes() {
             return true;
         }
     }
@@ -139,12 +80,7 @@ fn is_among(words: &[&str], count: usize, word: &str) -> bool {
 
 /// Whether a claim of this table may have the key.
 fn is_known(table: &Table, key: &str) -> bool {
-    let count = if is_format(table, 1) {
-        KEYS_OF_FORMAT_1
-    } else {
-        KEYS.len()
-    };
-    is_among(&KEYS, count, key)
+    stands_in(&CLAIM_KEYS, key) || (!is_format(table, 1) && stands_in(&MORE_KEYS, key))
 }
 
 /// Says which keys a claim doesn't have.

@@ -2,7 +2,7 @@
 
 use crate::amounts::clock_seconds;
 use crate::claim_lines::{Spotted, keep_at, key_at, key_from, value_behind};
-use crate::refusal::say_at;
+use crate::placed::say_at;
 use crate::text::{Piece, Text};
 use crate::typographic::first_mark;
 use crate::words;

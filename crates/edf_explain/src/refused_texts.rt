@@ -1,19 +1,15 @@
 //! Sentences on arrays of texts that a claim can't have.
 
 use crate::claim_lines::{Spotted, key_at, part_from};
-use crate::refusal::{nearest, say_at};
+use crate::nearest::nearest;
+use crate::placed::say_at;
 use crate::text::{Piece, Text};
 use crate::words;
+use edf_fields::label::{ANNOTATIONS, LABEL_BYTES};
 use edf_fields::which::{Which, which_of};
 use std::alloc::{AllocError, Global};
 use toml::value::Array;
 use toml::{Table, Value};
-
-/// The most bytes that a label has.
-const LABEL_BYTES: usize = 16;
-
-/// The label of signals that hold annotations.
-const ANNOTATIONS: &str = "EDF Annotations";
 
 /// An array of a claim, and where it stands.
 #[derive(Clone, Copy)]
@@ -119,7 +115,7 @@ impl<'a> Texts<'a> {
 
 /// Why a text is no label.
 fn label_fault(label: &str) -> Option<&'static str> {
-    if label == ANNOTATIONS {
+    if label.as_bytes() == ANNOTATIONS {
         return Some(words::LABEL_OF_ANNOTATIONS);
     }
     if !label.is_ascii() {

@@ -6,7 +6,7 @@ use crate::notes::{Notes, OnlyInOne};
 use crate::samples::Clocks;
 use crate::text::{Piece, Text};
 use crate::words;
-use edf_claim::claim::Claim;
+use edf_claim::claim::{BLANK, Claim};
 use edf_stream::notes::Note;
 use std::alloc::{AllocError, Global};
 
@@ -20,9 +20,6 @@ const LEAST_CUT_BYTES: usize = 37;
 
 /// To how many picoseconds some writers round times: 0.1 ms.
 const ROUNDED_PS: u128 = 100_000_000;
-
-/// The text of an annotation that is blanked.
-const BLANK: &str = "X";
 
 /// Says an annotation.
 fn say_note(text: &mut Text, note: &Note, clocks: Clocks) -> Result<(), AllocError> {

@@ -2,15 +2,13 @@
 
 use crate::shown::shown;
 use crate::words;
+pub(crate) use edf_fields::onset::SECOND_PS as SECOND;
 use edf_verdict::quote::push_quoted;
 use jiff::Timestamp;
 use jiff::tz::Offset;
 use std::alloc::{AllocError, Global};
 
-/// How many picoseconds a second has.
-pub(crate) const SECOND: i128 = 1_000_000_000_000;
-
-/// The same, where a sign stands apart.
+/// How many picoseconds a second has, where a sign stands apart.
 const SECOND_PS: u128 = 1_000_000_000_000;
 
 /// What stands in an open place of a sentence.

@@ -5,8 +5,6 @@
 #[cfg(test)]
 mod date;
 #[cfg(test)]
-mod digest;
-#[cfg(test)]
 mod distinct;
 #[cfg(test)]
 mod identification;

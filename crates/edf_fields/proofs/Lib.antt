@@ -2,7 +2,6 @@ pub mod BlockFacts
 pub mod BoolFacts
 pub mod DateFacts
 pub mod DigitFacts
-pub mod DigestFacts
 pub mod DistinctFacts
 pub mod DotFacts
 pub mod ForCallers

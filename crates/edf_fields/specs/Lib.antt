@@ -24,4 +24,3 @@ pub mod SubfieldNamesReading
 pub mod Subfields
 pub mod SubfieldsReading
 pub mod Tests
-pub mod Digests

@@ -4,6 +4,12 @@ ghost use Rattle.std.specs.Prelude.{◌≡◌, ◌≤◌, length};
 
 use std::marker::Model;
 
+/// The most bytes that a label has (EDF, "Header record").
+pub const LABEL_BYTES: usize = 16;
+
+/// The label of a signal that holds annotations (EDF+, "The 'EDF Annotations' signal").
+pub const ANNOTATIONS: &[u8] = b"EDF Annotations";
+
 /// The label of a signal: at most 16 bytes (EDF, "Header record"), with no memory besides. There are up to
 /// 9,999 signals in a file, and as many labels in a claim.
 #[derive(Debug, Drop)]

@@ -6,7 +6,6 @@
 
 pub mod cause;
 pub mod date;
-pub mod digest_source;
 pub mod distinct;
 pub mod fault;
 mod fault_text;

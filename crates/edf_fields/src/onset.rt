@@ -10,6 +10,9 @@ ghost use Rattle.edf_fields.specs.OnsetsReading.{AreDigitsBefore, onset_of, span
 
 use crate::number::{digits, split_dot};
 
+/// One second, in picoseconds.
+pub const SECOND_PS: i128 = 1_000_000_000_000;
+
 /// How many zeros stand in front.
 #[tactic(auto, using(crate::proofs::ZeroFacts::leading_zero, crate::proofs::ZeroFacts::leading_digit, crate::proofs::ZeroFacts::leading_end))]
 fn leading_zeros(bytes: &[u8]) -> usize

@@ -5,13 +5,10 @@ ghost use Rattle.edf_header.specs.Heads.{is_annotations};
 
 use crate::calibration::Calibration;
 use crate::details::{Details, TextsOf};
-use edf_fields::label::SignalLabel;
+use edf_fields::label::{ANNOTATIONS, SignalLabel};
 use std::alloc::{AllocError, Global};
 use std::marker::Model;
 use std::rc::Rc;
-
-/// The label of a signal that holds annotations (EDF+, "The 'EDF Annotations' signal").
-pub(crate) const ANNOTATIONS: &[u8] = b"EDF Annotations";
 
 /// One signal of a file: a channel, or a signal that holds annotations.
 ///

@@ -1,2 +1,3 @@
+pub mod DigestFacts
 pub mod LineFacts
 pub mod RunLineFacts

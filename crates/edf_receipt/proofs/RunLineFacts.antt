@@ -3,7 +3,7 @@ use Rattle.std.proofs.Common.{◌≡◌, ℕ, List, [], ◌∷◌, ◌++◌, len
 use Rattle.std.specs.List.{flat_map}
 use Rattle.edf_check.specs.Laws.{OneVerdict, OneVerdictOnParts}
 use Rattle.edf_check.specs.Runs.{IsPartsVerdictUnder, IsVerdictUnder, IsWritten}
-use Rattle.edf_check.specs.PartsVerdicts.{IsPartsVerdict}
+use Rattle.edf_check.specs.parts.PartsVerdicts.{IsPartsVerdict}
 use Rattle.edf_check.specs.Verdicts.{IsVerdict}
 use Rattle.edf_claim.specs.Claims.{SaysClaim, SaysClaimText, SaysOneClaim}
 use Rattle.edf_claim.specs.Terms.{Terms}

@@ -1,3 +1,4 @@
+pub mod Digests
 pub mod Receipts
 pub mod ReceiptRuns
 pub mod Laws

@@ -2,7 +2,7 @@
 use Rattle.std.specs.Prelude.{◌≡◌, ◌<◌, ◌-◌, ◌^◌, ℕ, List, [], ◌∷◌, Bool, true, IsTrue, length}
 use Rattle.std.specs.List.{AllByRecursion}
 use Rattle.edf_check.specs.Runs.{IsPartsVerdictUnder, IsPartWritten, IsVerdictUnder, IsWritten}
-use Rattle.edf_fields.specs.Digests.{digest_reads}
+use Rattle.edf_receipt.specs.Digests.{digest_reads}
 use Rattle.edf_fields.specs.Sources.{Reads}
 use Rattle.edf_receipt.specs.Receipts.{files_of, line_of, part_lines, receipt}
 use Rattle.edf_receipt.specs.declared.file_line.FileLine.{FileLine}

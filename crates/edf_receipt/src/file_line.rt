@@ -3,7 +3,7 @@
 ghost use Rattle.std.specs.Prelude.{◌≡◌, ◌++◌, Some, OnOk};
 ghost use Rattle.edf_receipt.specs.Receipts.{file_line, file_name, file_words};
 
-use edf_fields::digest_source::Digested;
+use crate::digest_source::Digested;
 use std::alloc::{AllocError, Global};
 use std::fmt;
 

@@ -2,18 +2,18 @@
 
 ghost use Rattle.std.specs.Prelude.{◌≡◌, ◌+◌, ◌<◌, ◌≤◌, ◌++◌, ◌∷◌, [], ℕ, List, length, map, IfOk, IfErr, OnOk, OnErr};
 ghost use Rattle.edf_check.specs.Checks.{CheckStops};
-ghost use Rattle.edf_check.specs.PartsStops.{PartsStops};
+ghost use Rattle.edf_pace.specs.PartsStops.{PartsStops};
 ghost use Rattle.edf_fields.specs.Sources.{Fails};
 ghost use Rattle.edf_receipt.specs.ReceiptRuns.{AreDigested, IsDigested};
 ghost use Rattle.edf_receipt.specs.Receipts.{files_of as all_files, line_of as line_naming, part_lines};
 ghost use Rattle.edf_receipt.specs.declared.file_line.ReceiptFile.TheVariants as names;
 
+use crate::digest_source::{DigestSource, digest_of};
 use crate::file_line::{FileLine, ReceiptFile};
-use edf_fields::digest_source::{DigestSource, digest_of};
 use edf_fields::source::{ReadFault, Source};
-use edf_refusal::parts_stop::{PartSide, PartsStop};
-use edf_refusal::side::Side;
-use edf_refusal::stop::CheckStop;
+use edf_stop::parts_stop::{PartSide, PartsStop};
+use edf_stop::side::Side;
+use edf_stop::stop::CheckStop;
 use std::alloc::Global;
 
 /// How many bytes are read at a time behind what the check has read.

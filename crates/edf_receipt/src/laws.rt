@@ -4,9 +4,9 @@ ghost use Rattle.std.specs.Prelude.{◌-◌, ◌<◌, ◌^◌, length, IsTrue};
 ghost use Rattle.edf_receipt.specs.Laws.{PartsRunIsLastLine, RunIsLastLine, TextTellsLine};
 ghost use Rattle.edf_receipt.specs.ReceiptRuns.{IsFresh};
 
+use crate::digest_source::DigestSource;
 use edf_check::laws::{there_is_one_verdict, there_is_one_verdict_on_parts};
 use edf_claim::laws::tables_say_one_claim;
-use edf_fields::digest_source::DigestSource;
 use edf_fields::source::Source;
 
 /// The text of a receipt of so many files determines the line of the verdict.

@@ -2,6 +2,7 @@
 //! of the verdict.
 #![tactic(auto)]
 
+pub mod digest_source;
 pub mod file_line;
 mod files;
 pub mod laws;

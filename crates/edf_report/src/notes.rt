@@ -11,12 +11,12 @@ ghost use Rattle.edf_stream.specs.Views.{note_view};
 ghost use Rattle.edf_report.specs.NotesKept.{AreLinesOf};
 ghost use Rattle.edf_report.specs.NotesTexts.{note_line, note_lines, body_text, notes_text};
 ghost use Rattle.edf_report.specs.Reports.{IsReported};
-ghost use Rattle.edf_refusal.specs.Stops.{ReportStops};
+ghost use Rattle.edf_stop.specs.Stops.{ReportStops};
 
 use crate::report::put_stop;
 use edf_fields::sink::{Sink, put_all};
 use edf_fields::source::Source;
-use edf_refusal::stop::ReportStop;
+use edf_stop::stop::ReportStop;
 use edf_stream::note::{NoteRef, TalNotes};
 use edf_stream::note_keeper::NoteKeeper;
 use edf_stream::reader::FileReader;

@@ -6,7 +6,7 @@ ghost use Rattle.edf_stream.specs.SamplesReading.{instant_on};
 ghost use Rattle.edf_stream.specs.Starts.{file_start};
 
 use crate::instant::Instant;
-use crate::start::SECOND;
+use edf_fields::onset::SECOND_PS;
 use edf_header::header::Header;
 
 /// So many seconds, in picoseconds.
@@ -15,7 +15,7 @@ fn in_picoseconds(seconds: i64) -> i128
     ensures value { result ≡ seconds *ℤ pos (10 ^ 12) }
     ensures small { unsigned_abs result < 2 ^ 39 * 10 ^ 12 }
 {
-    i128::from(seconds) * SECOND
+    i128::from(seconds) * SECOND_PS
 }
 
 /// The start of the file, in picoseconds after 1970-01-01 00:00:00 (civil time, without a time zone).

@@ -5,6 +5,7 @@ ghost use Rattle.edf_fields.specs.declared.fault.Place.TheVariants.{AtRecord};
 ghost use Rattle.edf_stream.specs.Faults.{start_fault};
 
 use edf_fields::fault::{Cause, Fault, Place};
+use edf_fields::onset::SECOND_PS;
 use edf_header::header::Header;
 use edf_header::kind::Kind;
 
@@ -52,9 +53,6 @@ impl Start {
     }
 }
 
-/// One second, in picoseconds.
-pub(crate) const SECOND: i128 = 1_000_000_000_000;
-
 /// Whether data record `k` may start there: the first one in the first second; each other one where the
 /// one before ends, or, in an interrupted file, there or later.
 #[tactic(auto, unfolding(crate::specs::Faults::start_fault))]
@@ -67,7 +65,7 @@ pub(crate) fn judge_start(kind: Kind, k: u32, before: Progress, start: Start) ->
     ensures later { OnOk result ((k ≡ 0 → before.ended_ps ≡ pos 0) → before.ended_ps ≤ℤ start.ps) }
 {
     let (passes, cause) = match (k, kind) {
-        (0, _) => ((0..SECOND).contains(&start.ps), Cause::BadFirstStart),
+        (0, _) => ((0..SECOND_PS).contains(&start.ps), Cause::BadFirstStart),
         (_, Kind::Contiguous) => (start.ps == before.ended_ps, Cause::NotContiguous),
         (_, Kind::Interrupted) => (before.ended_ps <= start.ps, Cause::Overlap),
     };

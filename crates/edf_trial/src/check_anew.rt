@@ -5,7 +5,7 @@ ghost use Rattle.edf_check.specs.Runs.{IsVerdictUnder};
 
 use crate::recordings::Recordings;
 use edf_check::judge::judge;
-use edf_refusal::stop::RunStop;
+use edf_stop::stop::RunStop;
 use edf_verdict::verdict::Verdict;
 use std::alloc::Global;
 

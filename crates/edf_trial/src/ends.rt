@@ -6,13 +6,10 @@ ghost use Rattle.edf_trial.specs.Changes.{IsClaimThatKeeps};
 use crate::changed::{put, table_of, text_of};
 use edf_claim::claim::Claim;
 use edf_claim::stop::ClaimStop;
-use edf_fields::onset::span;
+use edf_fields::onset::{SECOND_PS, span};
 use std::alloc::{AllocError, Global};
 use toml::value::Array;
 use toml::{Table, Value};
-
-/// How many picoseconds a second has.
-const SECOND_PS: i128 = 1_000_000_000_000;
 
 /// Whether an interval of a claim ends at a time, in picoseconds.
 fn ends_at(interval: &Table, at_ps: i128) -> bool {

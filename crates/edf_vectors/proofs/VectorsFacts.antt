@@ -9,14 +9,14 @@ use Rattle.edf_fields.specs.SliceSource.{reads_of}
 use Rattle.edf_fields.specs.Sources.{Fails}
 use Rattle.edf_fields.specs.PlainReads.{plain_reads}
 use Rattle.edf_claim.specs.declared.stop.ClaimStop.{ClaimStop}
-use Rattle.edf_refusal.specs.declared.parts_stop.PartSide.{PartSide}
-use Rattle.edf_refusal.specs.declared.parts_stop.PartSide.TheVariants as sides
-use Rattle.edf_refusal.specs.declared.parts_stop.PartsRunStop.{PartsRunStop}
-use Rattle.edf_refusal.specs.declared.parts_stop.PartsRunStop.TheVariants.{ReadFailed}
+use Rattle.edf_stop.specs.declared.parts_stop.PartSide.{PartSide}
+use Rattle.edf_stop.specs.declared.parts_stop.PartSide.TheVariants as sides
+use Rattle.edf_stop.specs.declared.parts_stop.PartsRunStop.{PartsRunStop}
+use Rattle.edf_stop.specs.declared.parts_stop.PartsRunStop.TheVariants.{ReadFailed}
 use Rattle.edf_verdict.specs.declared.outcome.Outcome.{Outcome}
 use Rattle.edf_verdict.specs.declared.outcome.Outcome.TheVariants as outcomes
 use Rattle.edf_check.specs.Runs.{PartsRunStops}
-use Rattle.edf_check.specs.PartsStops.{HasFailed}
+use Rattle.edf_pace.specs.PartsStops.{HasFailed}
 use Rattle.edf_vectors.specs.Vectors.{CheckedRow, checked_text, IsStored, row_text, AreRowsWritten, IsRowWritten}
 use Rattle.edf_rows.specs.Rows.{WorkedRow, row_of}
 use Rattle.edf_rows.specs.declared.rows.Row.{Row}

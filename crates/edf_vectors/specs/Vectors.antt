@@ -9,8 +9,8 @@ use Rattle.edf_verdict.specs.declared.verdict.Verdict.{Verdict}
 use Rattle.edf_verdict.specs.Lines.{verdict_line}
 use Rattle.edf_verdict.specs.PartsLines.{parts_verdict_line}
 use Rattle.edf_check.specs.Runs.{IsVerdictUnder, IsPartsVerdictUnder}
-use Rattle.edf_refusal.specs.declared.stop.ReportStop.{ReportStop}
-use Rattle.edf_refusal.specs.Stops.{ReportStops}
+use Rattle.edf_stop.specs.declared.stop.ReportStop.{ReportStop}
+use Rattle.edf_stop.specs.Stops.{ReportStops}
 use Rattle.edf_rows.specs.Rows.{WorkedRow, worked_rows}
 
 -- the line of the verdict on two files under the claim that a text says

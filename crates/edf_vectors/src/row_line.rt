@@ -10,11 +10,11 @@ use edf_check::run::run;
 use edf_check::run_parts::run_parts;
 use edf_fields::sink::Sink;
 use edf_fields::source::{SliceSource, Source};
-use edf_refusal::parts_stop::PartsRunStop;
-use edf_refusal::stop::RunStop;
 use edf_rows::build::bytes_of;
 use edf_rows::claims::claim_text;
 use edf_rows::rows::{Exports, Row};
+use edf_stop::parts_stop::PartsRunStop;
+use edf_stop::stop::RunStop;
 use std::alloc::{AllocError, Global};
 
 /// The line that a run writes on two files in memory.

@@ -8,8 +8,8 @@ ghost use Rattle.edfclaim.specs.Opening.{ClaimTextStops, OpeningStops};
 
 use crate::signs::{Signs, Watched};
 use edf_claim::claim::MOST_BYTES;
-use edf_fields::digest_source::DigestSource;
 use edf_fields::source::{ReadSource, Source, fill};
+use edf_receipt::digest_source::DigestSource;
 use edf_refusal::refusal::{Refusal, Role};
 use std::alloc::Global;
 use std::fs;

@@ -1,11 +1,11 @@
 //! What is found first in several exports of one original.
 
 ghost use Rattle.std.specs.Prelude.{◌≡◌, Some, None};
-ghost use Rattle.edf_check.specs.PartsFirst.{rank as rank_of};
-ghost use Rattle.edf_check.specs.PartsFound.{earlier_of, first_of, found_with as found_with_those};
+ghost use Rattle.edf_check.specs.parts.PartsFirst.{rank as rank_of};
+ghost use Rattle.edf_check.specs.parts.PartsFound.{earlier_of, first_of, found_with as found_with_those};
 
 use crate::parts::part::Course;
-use crate::samples::earliest::Found;
+use edf_pace::samples::earliest::Found;
 use edf_verdict::verdict::Verdict;
 
 /// The verdict on the header of a part.

@@ -2,26 +2,27 @@
 
 ghost use Rattle.std.specs.Prelude.{◌≡◌, ◌≤◌, ◌^◌, ◌≤ℤ◌, ◌<ℤ◌, ◌&&◌, ◌||◌, not, is_some, [], length, true, false, None, IfErr, OnOk, IfSome};
 ghost use Rattle.edf_stream.specs.Readers.{HasBegun, is_current};
-ghost use Rattle.edf_check.specs.PartsStops.{StopsOfTwo};
-ghost use Rattle.edf_check.specs.PartsVerdicts.{samples_in};
-ghost use Rattle.edf_check.specs.Premises.{IfFaulty, IfRead};
-ghost use Rattle.edf_check.specs.walk.Ends.{EndedBy, FaultyBy, IsFoundAmong, IsReady, MatchedBy, PartFaultBy, PartReadBy, PassedBy, PassesBehind, PassesOn, PassesPart, ThroughBy, at_part, at_turn, beside, goes_on, is_same as agrees, over};
-ghost use Rattle.edf_check.specs.walk.Readings.{HasGoneOn};
-ghost use Rattle.edf_check.specs.walk.Shown.{IfAtHand, IsAhead, IsGoing, StandsAt, begins_at};
+ghost use Rattle.edf_pace.specs.PartsStops.{StopsOfTwo};
+ghost use Rattle.edf_check.specs.parts.PartsVerdicts.{samples_in};
+ghost use Rattle.edf_pace.specs.Premises.{IfFaulty, IfRead};
+ghost use Rattle.edf_check.specs.parts.Ends.{EndedBy, IsReady, MatchedBy, PartFaultBy, PartReadBy, PassedBy, PassesBehind, PassesOn, PassesPart, ThroughBy, at_part, beside, goes_on, is_same as agrees, over};
+ghost use Rattle.edf_pace.specs.walk.Ends.{FaultyBy, IsFoundAmong, at_turn};
+ghost use Rattle.edf_pace.specs.walk.Readings.{HasGoneOn};
+ghost use Rattle.edf_pace.specs.walk.Shown.{IfAtHand, IsAhead, IsGoing, StandsAt, begins_at};
 
-use crate::finding::FaultOf;
-use crate::samples::earliest::Found;
-use crate::walk::gather::View;
-use crate::walk::layout::common_room;
-use crate::walk::lockstep::{Frame, end_both, export_fault, walk_on};
-use crate::walk::offset::Offset;
-use crate::walk::reading::{Reading, begin_ps_of, finish, go_on, open, start};
-use crate::walk::time::Time;
-use crate::walk::track::pairs_of;
-use crate::walk::turn::Turn;
 use edf_fields::source::Source;
 use edf_heads::head_difference::head_difference;
-use edf_refusal::parts_stop::{PartSide, PartsStop};
+use edf_pace::samples::earliest::Found;
+use edf_pace::time::Time;
+use edf_pace::walk::fault_of::FaultOf;
+use edf_pace::walk::gather::View;
+use edf_pace::walk::layout::common_room;
+use edf_pace::walk::lockstep::{Frame, end_both, export_fault, walk_on};
+use edf_pace::walk::offset::Offset;
+use edf_pace::walk::reading::{Reading, begin_ps_of, finish, go_on, open, start};
+use edf_pace::walk::track::pairs_of;
+use edf_pace::walk::turn::Turn;
+use edf_stop::parts_stop::{PartSide, PartsStop};
 use edf_stream::conform::Summary;
 use edf_stream::note_keeper::KeepsNone;
 use edf_stream::notes::Note;
@@ -186,11 +187,10 @@ fn compare<O: Source, E: Source>(
 {
     let view = View {
         alloc: turn.setting.alloc,
-        file: PartSide::Part(turn.part),
         moved: turn.setting.clock.export,
         claim: None,
     };
-    match start(export, e, view) {
+    match start(export, e, PartSide::Part(turn.part), view) {
         Ok(None) => {}
         Ok(Some(fault)) => {
             return match export_fault(&mut original.reader, o, turn.part, fault) {

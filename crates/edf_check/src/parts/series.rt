@@ -2,20 +2,21 @@
 
 ghost use Rattle.std.specs.Prelude.{◌≡◌, ◌+◌, ◌*◌, ◌<◌, ◌≤◌, ◌^◌, ◌++◌, ◌∷◌, map, length, IfErr, IfSome, OnOk};
 ghost use Rattle.edf_stream.specs.Views.{note_value};
-ghost use Rattle.edf_check.specs.PartsStops.{NoneFailed, StopsOfAll};
-ghost use Rattle.edf_check.specs.Premises.{IfFaulty, IfRead};
-ghost use Rattle.edf_check.specs.walk.Ends.{IsFoundAmong, IsReady};
-ghost use Rattle.edf_check.specs.walk.Together.{AreReadFrom, HaveFaultFrom, held_notes};
-ghost use Rattle.edf_check.specs.walk.Windows.{is_last as is_last_of};
-ghost use Rattle.edf_check.specs.walk.Shown.{IsAhead, IsGoing};
+ghost use Rattle.edf_pace.specs.PartsStops.{NoneFailed, StopsOfAll};
+ghost use Rattle.edf_pace.specs.Premises.{IfFaulty, IfRead};
+ghost use Rattle.edf_check.specs.parts.Ends.{IsReady};
+ghost use Rattle.edf_pace.specs.walk.Ends.{IsFoundAmong};
+ghost use Rattle.edf_check.specs.parts.Together.{AreReadFrom, HaveFaultFrom, held_notes};
+ghost use Rattle.edf_pace.specs.walk.Windows.{is_last as is_last_of};
+ghost use Rattle.edf_pace.specs.walk.Shown.{IsAhead, IsGoing};
 
-use crate::finding::FaultOf;
 use crate::parts::found::{PartsFound, found_with};
 use crate::parts::part::{PartRead, read_part};
-use crate::walk::reading::Reading;
-use crate::walk::turn::Turn;
 use edf_fields::source::Source;
-use edf_refusal::parts_stop::PartsStop;
+use edf_pace::walk::fault_of::FaultOf;
+use edf_pace::walk::reading::Reading;
+use edf_pace::walk::turn::Turn;
+use edf_stop::parts_stop::PartsStop;
 use edf_stream::notes::Note;
 use std::alloc::AllocError;
 

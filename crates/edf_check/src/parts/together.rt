@@ -3,24 +3,25 @@
 ghost use Rattle.std.specs.Prelude.{◌≡◌, ◌<◌, ◌∷◌, [], map, length, None, IfErr, IfOk, IfSome, OnOk};
 ghost use Rattle.edf_stream.specs.Readers.{HasBegun};
 ghost use Rattle.edf_stream.specs.Views.{note_value};
-ghost use Rattle.edf_check.specs.PartsStops.{NoneFailed, StopsOfAll};
-ghost use Rattle.edf_check.specs.Premises.{IfFaulty, IfRead};
-ghost use Rattle.edf_check.specs.walk.Readings.{IsSetting};
-ghost use Rattle.edf_check.specs.walk.Ends.{IsFoundAmong};
-ghost use Rattle.edf_check.specs.walk.Together.{AreGoneFrom, AreJudgedFrom, FollowsFrom, IsFirstFrom, verdict_by};
+ghost use Rattle.edf_pace.specs.PartsStops.{NoneFailed, StopsOfAll};
+ghost use Rattle.edf_pace.specs.Premises.{IfFaulty, IfRead};
+ghost use Rattle.edf_pace.specs.walk.Readings.{IsSetting};
+ghost use Rattle.edf_pace.specs.walk.Ends.{IsFoundAmong};
+ghost use Rattle.edf_check.specs.parts.Together.{AreGoneFrom, AreJudgedFrom, FollowsFrom, IsFirstFrom, verdict_by};
 
-use crate::finding::{FaultOf, Finding};
-use crate::notes::note_difference::note_difference;
+use crate::finding::Finding;
 use crate::parts::found::PartsFound;
 use crate::parts::series::{Exported, read_parts};
-use crate::samples::sample_difference::with_label;
-use crate::walk::gather::View;
-use crate::walk::reading::{Reading, start};
-use crate::walk::time::BEGINNING;
-use crate::walk::turn::{Setting, Turn};
 use edf_claim::claim::Claim;
 use edf_fields::source::Source;
-use edf_refusal::parts_stop::{PartSide, PartsStop};
+use edf_pace::notes::note_difference::note_difference;
+use edf_pace::samples::sample_difference::with_label;
+use edf_pace::time::BEGINNING;
+use edf_pace::walk::fault_of::FaultOf;
+use edf_pace::walk::gather::View;
+use edf_pace::walk::reading::{Reading, start};
+use edf_pace::walk::turn::{Setting, Turn};
+use edf_stop::parts_stop::{PartSide, PartsStop};
 use edf_stream::notes::Note;
 use edf_verdict::parts_verdict::PartsVerdict;
 use edf_verdict::verdict::Verdict;
@@ -53,11 +54,10 @@ pub(crate) fn walk_parts<O: Source, E: Source>(
 {
     let view = View {
         alloc: setting.alloc,
-        file: PartSide::Original,
         moved: setting.clock.original,
         claim: Some(setting.claim),
     };
-    match start(original, o, view) {
+    match start(original, o, PartSide::Original, view) {
         Ok(None) => {}
         Ok(Some(fault)) => return Ok(Err(FaultOf::Original(fault))),
         Err(stop) => return Err(stop),

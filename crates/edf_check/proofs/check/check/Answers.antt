@@ -1,5 +1,5 @@
 use Rattle.edf_check.proofs.HeadlineFacts.{yes_means}
-use Rattle.edf_check.proofs.PartsVerdictFacts.{one_part_verdict}
+use Rattle.edf_check.proofs.parts.PartsVerdictFacts.{one_part_verdict}
 use Rattle.edf_check.proofs.check.check.Goals as goal
 
 pub returns-in-Ok-clause-verdict : goal.returns-in-Ok-clause-verdict

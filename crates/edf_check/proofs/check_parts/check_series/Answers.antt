@@ -1,10 +1,10 @@
 use Rattle.std.proofs.Common.{◌∷◌, map, sym, subst}
 use Rattle.std.specs.List.{AllByRecursion}
 use Rattle.edf_check.specs.Checks.{AreRead}
-use Rattle.edf_check.specs.declared.finding.FaultOf.TheVariants as faults
-use Rattle.edf_check.specs.PartsVerdicts.{IsPartsVerdict}
-use Rattle.edf_check.proofs.LeftFacts.{read_all, read_fault}
-use Rattle.edf_check.proofs.TogetherFacts.{fault_verdict}
+use Rattle.edf_pace.specs.declared.walk.fault_of.FaultOf.TheVariants as faults
+use Rattle.edf_check.specs.parts.PartsVerdicts.{IsPartsVerdict}
+use Rattle.edf_check.proofs.parts.LeftFacts.{read_all, read_fault}
+use Rattle.edf_check.proofs.parts.TogetherFacts.{fault_verdict}
 use Rattle.edf_check.proofs.check_parts.check_series.Goals as goal
 
 pub returns-in-Ok-Err-clause-verdict : goal.returns-in-Ok-Err-clause-verdict

@@ -1,5 +1,5 @@
 use Rattle.edf_check.proofs.HeadlineFacts.{headline_exactly}
-use Rattle.edf_check.proofs.OnePartsVerdictFacts.{yes_exactly}
+use Rattle.edf_check.proofs.parts.OnePartsVerdictFacts.{yes_exactly}
 use Rattle.edf_check.proofs.laws.a_yes_is_given_exactly_for_an_export.Goals as goal
 
 pub returns-clause-yes : goal.returns-clause-yes

@@ -1,4 +1,4 @@
-use Rattle.edf_check.proofs.OnePartsVerdictFacts.{one_verdict}
+use Rattle.edf_check.proofs.parts.OnePartsVerdictFacts.{one_verdict}
 use Rattle.edf_check.proofs.laws.there_is_one_verdict.Goals as goal
 
 pub returns : goal.returns

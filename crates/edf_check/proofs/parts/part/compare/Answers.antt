@@ -1,13 +1,11 @@
 use Rattle.std.proofs.Common.{◌≡◌, ◌∙◌, true, false, None, map, refl, ap, arith, subst}
 use Rattle.std.proofs.lemmas.Int.{ints}
 use Rattle.edf_stream.specs.Views.{note_value}
-use Rattle.edf_check.specs.walk.Ends.{IsEnded, IsMatched, IsReadThrough, moved_export}
-use Rattle.edf_check.specs.walk.Readings.{beginning}
-use Rattle.edf_check.specs.walk.Shown.{last_end_by}
-use Rattle.edf_check.proofs.walk.LockstepFacts.{fault_after, fault_of_heads}
-use Rattle.edf_check.proofs.walk.OnwardFacts.{other_way}
-use Rattle.edf_check.proofs.walk.PartFacts.{begin_is}
-use Rattle.edf_check.proofs.walk.PassFacts.{at_later}
+use Rattle.edf_check.specs.parts.Ends.{IsEnded}
+use Rattle.edf_pace.specs.walk.Ends.{IsMatched, IsReadThrough, moved_export}
+use Rattle.edf_pace.specs.walk.Readings.{beginning}
+use Rattle.edf_pace.specs.walk.Shown.{last_end_by}
+use Rattle.edf_pace.proofs.ForCallers.{fault_after, fault_of_heads, other_way, begin_is, at_later}
 use Rattle.edf_check.proofs.parts.part.compare.Goals as goal
 
 pub returns-in-Ok-clause-fault : goal.returns-in-Ok-clause-fault

@@ -4,14 +4,13 @@ use Rattle.std.specs.Borrow.{Bor}
 use Rattle.std.specs.List.{All}
 use Rattle.edf_header.specs.Heads.{Head}
 use Rattle.edf_stream.specs.Views.{note_value}
-use Rattle.edf_check.specs.declared.samples.earliest.Found.{Found}
-use Rattle.edf_check.specs.declared.walk.track.Pair.{Pair}
-use Rattle.edf_check.specs.walk.Ends.{IsFoundAmong, IsMatched, IsReadThrough, moved_export, moved_original}
-use Rattle.edf_check.specs.walk.Pairs.{AreLaidAlike, ArePairs, places_of, places_in}
-use Rattle.edf_check.specs.walk.Shown.{last_end_by}
-use Rattle.edf_check.proofs.CompareFacts.{found-over, last-over, not-over, passes_moved, passes_on}
-use Rattle.edf_check.proofs.walk.LockstepFacts.{are_places, has_ended}
-use Rattle.edf_check.proofs.walk.OnwardFacts.{matched_behind, matched_end, matched_on}
+use Rattle.edf_pace.specs.declared.samples.earliest.Found.{Found}
+use Rattle.edf_pace.specs.declared.walk.track.Pair.{Pair}
+use Rattle.edf_pace.specs.walk.Ends.{IsMatched, IsFoundAmong, IsReadThrough, moved_export, moved_original}
+use Rattle.edf_pace.specs.walk.Pairs.{AreLaidAlike, ArePairs, places_of, places_in}
+use Rattle.edf_pace.specs.walk.Shown.{last_end_by}
+use Rattle.edf_check.proofs.parts.CompareFacts.{found-over, last-over, not-over, passes_moved, passes_on}
+use Rattle.edf_pace.proofs.ForCallers.{are_places, has_ended, matched_behind, matched_end, matched_on}
 use Rattle.edf_check.proofs.parts.part.compare_on.Goals as goal
 
 -- the pairs are those of the headers

@@ -1,13 +1,11 @@
 use Rattle.std.proofs.Common.{◌≡◌, ◌∙◌, None, refl, ap, arith, subst}
 use Rattle.std.proofs.lemmas.Int.{ints}
-use Rattle.edf_check.specs.walk.Ends.{IsReadThrough, moved_export}
-use Rattle.edf_check.specs.walk.Gathered.{gathered_in}
-use Rattle.edf_check.specs.walk.Readings.{beginning}
-use Rattle.edf_check.specs.walk.Shown.{last_end_by}
-use Rattle.edf_check.proofs.CompareFacts.{not-false, not-true}
-use Rattle.edf_check.proofs.walk.LockstepFacts.{fault_of_heads}
-use Rattle.edf_check.proofs.walk.PartFacts.{begin_is}
-use Rattle.edf_check.proofs.walk.PassFacts.{at_first, begins_with_one, there_next}
+use Rattle.edf_pace.specs.walk.Ends.{IsReadThrough, moved_export}
+use Rattle.edf_pace.specs.walk.Gathered.{gathered_in}
+use Rattle.edf_pace.specs.walk.Readings.{beginning}
+use Rattle.edf_pace.specs.walk.Shown.{last_end_by}
+use Rattle.edf_check.proofs.parts.CompareFacts.{not-false, not-true}
+use Rattle.edf_pace.proofs.ForCallers.{fault_of_heads, begin_is, at_first, begins_with_one, there_next}
 use Rattle.edf_check.proofs.parts.part.pass_over.Goals as goal
 
 pub returns-in-Ok-Some-go_on-clause-fault : goal.returns-in-Ok-Some-go_on-clause-fault

@@ -1,4 +1,4 @@
-use Rattle.edf_check.proofs.CompareFacts.{if_faulty, if_read}
+use Rattle.edf_check.proofs.parts.CompareFacts.{if_faulty, if_read}
 use Rattle.edf_check.proofs.parts.part.read_course.Goals as goal
 
 pub returns-else-turn-clause-through : goal.returns-else-turn-clause-through

@@ -1,8 +1,9 @@
 use Rattle.std.proofs.Common.{◌∙◌, ◌&&◌, Bool, not, is_some, sym, ap}
-use Rattle.edf_check.specs.PartsVerdicts.{samples_in}
-use Rattle.edf_check.specs.walk.Ends.{goes_on, moved_original}
-use Rattle.edf_check.proofs.CompareFacts.{and-left, and-turned, beside_less, compared-so, heads_match, matched_less, passed_less, passes_less}
-use Rattle.edf_check.proofs.walk.LockstepFacts.{fault_by, fault_by_header}
+use Rattle.edf_check.specs.parts.PartsVerdicts.{samples_in}
+use Rattle.edf_check.specs.parts.Ends.{goes_on}
+use Rattle.edf_pace.specs.walk.Ends.{moved_original}
+use Rattle.edf_check.proofs.parts.CompareFacts.{and-left, and-turned, beside_less, compared-so, heads_match, matched_less, passed_less, passes_less}
+use Rattle.edf_pace.proofs.ForCallers.{fault_by, fault_by_header}
 use Rattle.edf_check.proofs.parts.part.read_part.Goals as goal
 
 pub returns-in-Ok-clause-fault : goal.returns-in-Ok-clause-fault

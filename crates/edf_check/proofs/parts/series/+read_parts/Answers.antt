@@ -2,9 +2,9 @@ use Rattle.std.proofs.Common.{◌≡◌, ◌+◌, ◌∷◌, [], true, false, Li
 use Rattle.std.specs.List.{AllByRecursion}
 use Rattle.edf_stream.specs.Views.{note_value}
 use Rattle.edf_check.specs.declared.parts.found.PartsFound.{PartsFound}
-use Rattle.edf_check.specs.walk.Together.{AreRead, HaveFault}
-use Rattle.edf_check.specs.walk.Windows.{is_last}
-use Rattle.edf_check.proofs.SerialFacts.{fault_behind, fault_first, next_turn, read_more, read_none}
+use Rattle.edf_check.specs.parts.Together.{AreRead, HaveFault}
+use Rattle.edf_pace.specs.walk.Windows.{is_last}
+use Rattle.edf_check.proofs.parts.SerialFacts.{fault_behind, fault_first, next_turn, read_more, read_none}
 use Rattle.edf_check.proofs.parts.series.+read_parts.Goals as goal
 
 none-of : {X : Type 0} (xs : List X) → length xs ≡ 0 → xs ≡ []

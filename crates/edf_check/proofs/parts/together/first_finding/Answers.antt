@@ -1,13 +1,12 @@
-use Rattle.std.proofs.Common.{◌≡◌, ℤ, List, ℕ, Some, None, refl, sym, subst, map, length}
+use Rattle.std.proofs.Common.{ℤ, List, Some, None, refl, sym, subst, map}
 use Rattle.edf_stream.specs.Views.{note_value}
 use Rattle.edf_verdict.specs.declared.verdict.SampleMismatch.{SampleMismatch}
 use Rattle.edf_check.specs.Courses.{IsFirstMismatch}
 use Rattle.edf_check.specs.KeptReading.{KeptAt}
-use Rattle.edf_check.specs.Parts.{ExportedByOne}
-use Rattle.edf_check.specs.declared.parts.found.PartVerdict.{PartVerdict}
+use Rattle.edf_check.specs.parts.Parts.{ExportedByOne}
 use Rattle.edf_stream.specs.Notes.{NoteValue}
-use Rattle.edf_check.specs.notes.NoteOrder.{IsNoteDifference}
-use Rattle.edf_check.proofs.TogetherFacts.{found_as, nothing_found, of_head}
+use Rattle.edf_pace.specs.notes.NoteOrder.{IsNoteDifference}
+use Rattle.edf_check.proofs.parts.TogetherFacts.{found_as, nothing_found, of_head}
 use Rattle.edf_check.proofs.parts.together.first_finding.Goals as goal
 
 pub returns-in-Some : goal.returns-in-Some

@@ -1,7 +1,7 @@
 use Rattle.std.proofs.Common.{◌<◌, ◌∷◌, ◌∙◌, arith, length, map, refl, subst}
-use Rattle.edf_check.specs.walk.Together.{HaveFault}
-use Rattle.edf_check.proofs.TogetherFacts.{first_of_all, found_together}
-use Rattle.edf_check.proofs.walk.WalkFacts.{fault_is}
+use Rattle.edf_check.specs.parts.Together.{HaveFault}
+use Rattle.edf_check.proofs.parts.TogetherFacts.{first_of_all, found_together}
+use Rattle.edf_pace.proofs.ForCallers.{fault_is}
 use Rattle.edf_check.proofs.parts.together.walk_parts.Goals as goal
 
 pub returns-in-Ok-Some-clause-fault : goal.returns-in-Ok-Some-clause-fault

@@ -1,0 +1,9 @@
+pub mod CompareFacts
+pub mod FoundFacts
+pub mod PartsFacts
+pub mod PartsVerdictFacts
+pub mod OnePartsVerdictFacts
+pub mod SerialFacts
+pub mod TogetherFacts
+pub mod LeftFacts
+pub mod SeriesFacts

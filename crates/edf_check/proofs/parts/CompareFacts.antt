@@ -1,0 +1,131 @@
+-- A part that is read beside the original: what goes on behind it, and what it came to.
+use Rattle.std.proofs.Common.{◌≡◌, ◌↔◌, ℕ, ℤ, Bool, true, false, not, ◌&&◌, ◌||◌, is_some, List, Option, None, Some, Result, Ok, Err, IfSome, MatchOption, refl, ◌∙◌, subst}
+use Rattle.edf_claim.specs.Terms.{Terms}
+use Rattle.edf_fields.specs.Sources.{Reads}
+use Rattle.edf_header.specs.Heads.{Head}
+use Rattle.edf_heads.specs.HeadVerdicts.{HeadsAgree, IsHeadVerdict}
+use Rattle.edf_stream.specs.Notes.{NoteValue}
+use Rattle.edf_stream.specs.Readers.{Reader}
+use Rattle.edf_verdict.specs.declared.verdict.Verdict.{Verdict}
+use Rattle.edf_check.specs.declared.parts.part.Course.{Course}
+use Rattle.edf_pace.specs.declared.samples.earliest.Found.{Found}
+use Rattle.edf_pace.specs.declared.time.Time.{Time}
+use Rattle.edf_pace.specs.declared.walk.turn.Turn.{Turn}
+use Rattle.edf_pace.specs.Premises.{IfFaulty, IfRead}
+use Rattle.edf_check.specs.parts.Ends.{IsBeside, IsPassed, Passes}
+use Rattle.edf_pace.specs.walk.Ends.{IsMatched, moved_original}
+use Rattle.edf_pace.specs.walk.Readings.{GoesOn, Moves}
+use Rattle.edf_pace.proofs.ForCallers.{other_way}
+
+-- ---- what goes on behind a part
+
+-- nobody reads on at a time where nothing more is compared
+pub none_at : (P : Type 0) (flag : Bool) → flag ≡ false → flag ≡ true → P
+none_at P flag nay yea = absurd (other_way flag yea nay)
+
+-- the original has moved to the end of a part that is the same
+pub passes_moved : (turn : Turn) (old new : Reader) (x y : Bool) (f g : Reads) (left left' : List ℕ) (notes notes' : List NoteValue) (flag : Bool) (end : Time) → turn.is_compared ≡ true
+    → Moves old new x y f g left left' notes notes' (Some ((turn.setting).claim).now) (moved_original turn) (turn.from).ps end.ps → Passes turn old new x y left left' notes notes' flag end
+passes_moved turn old new x y f g left left' notes notes' flag end is m = record {
+  head = m.head;
+  going = m.going;
+  ahead = λ e. m.ahead;
+  honesty = m.honesty;
+  comes = λ h file b. (let at = m.comes h file (b.at is) in record { there = at.there; at = λ e. at });
+}
+
+-- it has gone on to its end, behind a part that is compared
+pub passes_on : (turn : Turn) (old mid new : Reader) (x y z : Bool) (f g : Reads) (left mid-left left' : List ℕ) (notes notes' : List NoteValue) (flag : Bool) (t : ℤ) (end : Time) → turn.is_compared ≡ true → flag ≡ false
+    → Moves old mid x y f g left mid-left notes notes' (Some ((turn.setting).claim).now) (moved_original turn) (turn.from).ps t → GoesOn mid new y z mid-left left' → Passes turn old new x z left left' notes notes' flag end
+passes_on turn old mid new x y z f g left mid-left left' notes notes' flag t end is nay m goes = record {
+  head = goes.head ∙ m.head;
+  going = goes.going;
+  ahead = λ e. none_at _ flag nay e;
+  honesty = λ h. goes.honesty (m.honesty h);
+  comes = λ h file b. record { there = goes.comes (m.honesty h) file (m.comes h file (b.at is)).there; at = λ e. none_at _ flag nay e };
+}
+
+-- a turn in which less is compared
+pub beside_less : (r : Reader) (left : List ℕ) (notes : List NoteValue) (file : List ℕ) (claim : Terms) (ps t : ℤ) (more less : Bool) → (less ≡ true → more ≡ true) → IsBeside more r left notes file claim ps t → IsBeside less r left notes file claim ps t
+beside_less r left notes file claim ps t more less is b = record { there = b.there; at = λ e. b.at (is e) }
+
+pub passes_less : (turn : Turn) (less : Bool) (old new : Reader) (x z : Bool) (left left' : List ℕ) (notes notes' : List NoteValue) (flag other : Bool) (end : Time) → (less ≡ true → turn.is_compared ≡ true) → flag ≡ other
+    → Passes (record turn { is_compared = less }) old new x z left left' notes notes' flag end → Passes turn old new x z left left' notes notes' other end
+passes_less turn less old new x z left left' notes notes' flag other end is same p =
+    let P : Bool → Type 0 = λ f. Passes turn old new x z left left' notes notes' f end in
+    subst P same (record {
+      head = p.head;
+      going = p.going;
+      ahead = p.ahead;
+      honesty = p.honesty;
+      comes = λ h file b. p.comes h file (beside_less old left notes file ((turn.setting).claim).now (moved_original turn) (turn.from).ps turn.is_compared less is b);
+    })
+
+pub passed_less : (turn : Turn) (less : Bool) (e : List ℕ) (g g' : Head) (left : List ℕ) (course : Course) → g ≡ g' → IsPassed (record turn { is_compared = less }) e g left course → IsPassed turn e g' left course
+passed_less turn less e g g' left course same p =
+    let P : Head → Type 0 = λ k. IsPassed turn e k left course in
+    subst P same (record { ended = record { through = (p.ended).through; end_is = (p.ended).end_is }; early = p.early; later = p.later })
+
+pub matched_less : (turn : Turn) (less : Bool) (o : List ℕ) (h : Head) (notes : List NoteValue) (e : List ℕ) (g g' : Head) (notes' : List NoteValue) (found : Option Found) → g ≡ g' → IsMatched (record turn { is_compared = less }) o h notes e g notes' found
+    → IsMatched turn o h notes e g' notes' found
+matched_less turn less o h notes e g g' notes' found same m =
+    let P : Head → Type 0 = λ k. IsMatched turn o h notes e k notes' found in
+    subst P same (record { first = m.first; gathered = m.gathered; kept = m.kept })
+
+-- the headers agree, or differ so
+pub heads_match : (heads : Option Verdict) (h h' g g' : Head) (claim : Terms) → h' ≡ h → g' ≡ g → ((heads ≡ None) ↔ HeadsAgree h' g' claim) → IfSome heads (IsHeadVerdict h' g' claim) → MatchOption heads (HeadsAgree h g claim) (IsHeadVerdict h g claim)
+heads_match None h h' g g' claim eh eg none least = let P : Head → Type 0 = λ x. HeadsAgree x g claim in let Q : Head → Type 0 = λ y. HeadsAgree h' y claim in subst P eh (subst Q eg (none.0 refl))
+heads_match (Some v) h h' g g' claim eh eg none least = let P : Head → Type 0 = λ x. IsHeadVerdict x g claim v in let Q : Head → Type 0 = λ y. IsHeadVerdict h' y claim v in subst P eh (subst Q eg least)
+
+-- ---- what is said of an answer
+
+pub if_read : {X F E : Type 0} (r : Result (Result X F) E) (P Q : X → Type 0) → ((x : X) → P x → Q x) → IfRead r P → IfRead r Q
+if_read (Ok (Ok x)) P Q f h = f x h
+if_read (Ok (Err e)) P Q f h = tt
+if_read (Err e) P Q f h = tt
+
+pub if_faulty : {X F E : Type 0} (r : Result (Result X F) E) (P Q : F → Type 0) → ((x : F) → P x → Q x) → IfFaulty r P → IfFaulty r Q
+if_faulty (Ok (Ok x)) P Q f h = tt
+if_faulty (Ok (Err e)) P Q f h = f e h
+if_faulty (Err e) P Q f h = tt
+
+-- ---- whether more is compared behind a part
+
+-- a difference was found, or no part follows
+pub found-over : (found : Option Found) (last : Bool) → (is_some found || last) ≡ true → last ≡ false → not (is_some found) ≡ false
+found-over None last over nay = absurd (other_way last over nay)
+found-over (Some f) last over nay = refl
+
+pub not-over : (found : Option Found) (last : Bool) → (is_some found || last) ≡ false → (found ≡ None) × (last ≡ false)
+not-over None last e = (refl, e)
+not-over (Some f) last e = absurd (let z : true ≡ false = e in cc)
+
+pub last-over : (found : Option Found) (last : Bool) → found ≡ None → (is_some found || last) ≡ true → last ≡ true
+last-over None last none e = e
+last-over (Some f) last none e = absurd (let z : Some f ≡ None = none in cc)
+
+-- a part whose header agrees is compared, where those before it don't differ
+pub compared-so : (p : Bool) (heads : Option Verdict) → p ≡ true → heads ≡ None → (p && not (is_some heads)) ≡ true
+compared-so p heads a b = rw (a, b) refl
+
+-- ---- tests
+
+pub and-left : (p q : Bool) → (p && q) ≡ true → p ≡ true
+and-left true q e = refl
+and-left false q e = e
+
+pub and-right : (p q : Bool) → (p && q) ≡ true → q ≡ true
+and-right true q e = e
+and-right false q e = absurd (let z : false ≡ true = e in cc)
+
+pub and-turned : (p q r : Bool) → ((p && q) && r) ≡ (p && (q && r))
+and-turned true q r = refl
+and-turned false q r = refl
+
+pub not-true : (b : Bool) → not b ≡ true → b ≡ false
+not-true true e = absurd (let z : false ≡ true = e in cc)
+not-true false e = refl
+
+pub not-false : (b : Bool) → not b ≡ false → b ≡ true
+not-false true e = refl
+not-false false e = absurd (let z : true ≡ false = e in cc)

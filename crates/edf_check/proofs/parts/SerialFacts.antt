@@ -1,0 +1,158 @@
+-- A part that was read, and those behind it.
+use Rattle.std.proofs.Common.{◌≡◌, ℕ, ◌+◌, ℤ, Bool, true, false, not, ◌&&◌, is_some, if◌then◌else◌, Bor, List, [], ◌∷◌, ◌++◌, map, Option, None, Some, refl, arith, sym, ap, ◌∙◌, subst, append_assoc}
+use Rattle.std.proofs.lemmas.List.{append-nil}
+use Rattle.std.specs.Option.{option_or}
+use Rattle.edf_claim.specs.Terms.{Terms}
+use Rattle.edf_header.specs.Heads.{Head}
+use Rattle.edf_header.specs.HeadsReading.{head_of}
+use Rattle.edf_stream.specs.Conforming.{Conforms}
+use Rattle.edf_stream.specs.Notes.{NoteValue}
+use Rattle.edf_stream.specs.Views.{note_value}
+use Rattle.edf_verdict.specs.declared.verdict.Verdict.{Verdict}
+use Rattle.edf_check.specs.declared.parts.found.PartVerdict.{PartVerdict}
+use Rattle.edf_check.specs.declared.parts.found.PartsFound.{PartsFound}
+use Rattle.edf_check.specs.declared.parts.part.PartRead.{PartRead}
+use Rattle.edf_check.specs.declared.parts.series.Exported.{Exported}
+use Rattle.edf_pace.specs.declared.samples.earliest.Found.{Found}
+use Rattle.edf_pace.specs.declared.walk.turn.Turn.{Turn}
+use Rattle.edf_pace.specs.declared.walk.fault_of.FaultOf.{FaultOf}
+use Rattle.edf_pace.specs.declared.walk.fault_of.FaultOf.TheVariants as faults
+use Rattle.edf_check.specs.parts.PartsFirst.{IsFirstFault}
+use Rattle.edf_check.specs.parts.PartsFound.{IsEarlyFound, first_of, found_with, nothing}
+use Rattle.edf_check.specs.parts.Ends.{IsPartRead, is_same}
+use Rattle.edf_pace.specs.walk.Ends.{IsFaultBy, moved_export, moved_original}
+use Rattle.edf_check.specs.parts.Together.{AreRead, HaveFault, gathered_of_all, serial_difference}
+use Rattle.edf_pace.specs.walk.Pairs.{places_in}
+use Rattle.edf_pace.specs.walk.Shown.{last_end_by}
+use Rattle.edf_pace.specs.walk.Windows.{sampled, span_difference, is_last}
+use Rattle.edf_check.proofs.parts.CompareFacts.{and-left, and-right, not-true}
+use Rattle.edf_check.proofs.parts.FoundFacts.{conform_more, early_more, fault_here, fault_later, faultless_part, heads_more}
+
+-- ---- nothing was found before
+
+none-first : (part : ℕ) (heads : Option Verdict) (later : Option PartVerdict) → first_of part heads later ≡ None → (heads ≡ None) × (later ≡ None)
+none-first part None later e = (refl, e)
+none-first part (Some v) later e = absurd (cc)
+
+none-early : (part : ℕ) (early : Bool) (later : Option ℕ) → (if early then Some part else later) ≡ None → (early ≡ false) × (later ≡ None)
+none-early part true later e = absurd (let z : Some part ≡ None = e in cc)
+none-early part false later e = (refl, e)
+
+none-found : (here later : Option Found) → option_or here later ≡ None → (here ≡ None) × (later ≡ None)
+none-found None later e = (refl, e)
+none-found (Some f) later e = absurd (let z : Some f ≡ None = e in cc)
+
+-- ---- the same
+
+not-some : {X : Type 0} (o : Option X) → not (is_some o) ≡ true → o ≡ None
+not-some None e = refl
+not-some (Some x) e = absurd (let z : false ≡ true = e in cc)
+
+pub same-parts : (heads : Option Verdict) (early : Bool) (found : Option Found) → (not (is_some heads) && (not early && not (is_some found))) ≡ true → (heads ≡ None) × (early ≡ false) × (found ≡ None)
+same-parts heads early found e =
+    let rest = and-right (not (is_some heads)) (not early && not (is_some found)) e in
+    (not-some heads (and-left (not (is_some heads)) _ e), not-true early (and-left (not early) _ rest), not-some found (and-right (not early) (not (is_some found)) rest))
+
+same-so : (compared : Bool) (heads : Option Verdict) (early : Bool) (found : Option Found) → compared ≡ true → heads ≡ None → early ≡ false → found ≡ None → (compared && (not (is_some heads) && (not early && not (is_some found)))) ≡ true
+same-so compared heads early found c h e f = rw (c, h, e, f) refl
+
+-- ---- parts that were read
+
+-- the turn behind a part
+abbrev pub next_turn : Turn → Bool → PartRead → Bool → Turn
+next_turn turn last part compared = record turn { part = turn.part + 1; from = (part.course).end; is_last = last; is_compared = compared }
+
+-- behind the last part there is none
+pub read_none : (turn : Turn) (last compared : Bool) (part : PartRead) (o : List ℕ) (h : Head) (left : List ℕ) (notes : List NoteValue) (e left' : List ℕ) (mid : Exported) → last ≡ true → compared ≡ (turn.is_compared && is_same part)
+    → IsPartRead (record turn { is_last = last }) o h left notes e left' part → AreRead (next_turn turn last part compared) o h left notes [] [] mid mid nothing
+read_none turn last compared part o h left notes e left' mid is goes p = record {
+  through = p.through is;
+  conform = λ j file there. absurd (let z : None ≡ Some file = there in cc);
+  gone = tt;
+  heads_are = λ j file there. absurd (let z : None ≡ Some file = there in cc);
+  early_is = tt;
+  first = λ c x y. refl;
+  same = λ c x y z.
+      let all = sym goes ∙ c in
+      let same = same-parts part.heads (part.course).is_early (part.course).found (and-right turn.is_compared (is_same part) all) in
+      ((p.matched (and-left turn.is_compared (is_same part) all) same.0 same.1).kept is same.2, sym (append-nil (map note_value (mid.notes).items)));
+  counted = omega arith;
+}
+
+-- a part, and those behind it
+pub read_more : (turn : Turn) (last compared : Bool) (part : PartRead) (o : List ℕ) (h : Head) (left mid-left : List ℕ) (notes mid-notes : List NoteValue) (e left' : List ℕ) (parts lefts : List (List ℕ)) (before mid behind : Exported) (rest : PartsFound)
+    → last ≡ is_last parts → compared ≡ (turn.is_compared && is_same part) → mid.samples ≡ before.samples + part.samples → map note_value (mid.notes).items ≡ map note_value (before.notes).items ++ map note_value (part.notes).items
+    → IsPartRead (record turn { is_last = last }) o h mid-left mid-notes e left' part → AreRead (next_turn turn last part compared) o h left notes parts lefts mid behind rest
+    → AreRead turn o h left notes (e ∷ parts) (left' ∷ lefts) before behind (found_with turn.part part.heads part.course rest)
+read_more turn last compared part o h left mid-left notes mid-notes e left' parts lefts before mid behind rest is goes samples added p r =
+    record {
+      through = r.through;
+      conform = conform_more e parts (((p.passed).ended).through).conforms r.conform;
+      gone = ((((p.passed).ended).through).gone, r.gone);
+      heads_are = heads_more h claim turn.part e parts part.heads rest.heads p.heads_are r.heads_are;
+      early_is = early_more b t turn.part e parts (part.course).is_early rest.early (p.passed).early (p.passed).later (subst E ((p.passed).ended).end_is r.early_is);
+      first = λ c heads early. first-so c (none-first turn.part part.heads rest.heads heads) (none-early turn.part (part.course).is_early rest.early early) (part.course).found refl;
+      same = λ c heads early none.
+          let x = none-first turn.part part.heads rest.heads heads in
+          let y = none-early turn.part (part.course).is_early rest.early early in
+          let z = none-found (part.course).found rest.found none in
+          let more = r.same (so c x.0 y.0 z.0) x.1 y.1 z.1 in (
+            more.0,
+            more.1 ∙ ap (λ ns. ns ++ gathered_of_all b parts) added ∙ append_assoc (map note_value (before.notes).items) (map note_value (part.notes).items) (gathered_of_all b parts)
+                ∙ ap (λ ns. map note_value (before.notes).items ++ (ns ++ gathered_of_all b parts)) ((p.matched c x.0 y.0).gathered z.0),
+          );
+      counted = (let more = r.counted in let here = p.samples_are in omega (arith, more, here, samples));
+    }
+  where
+    claim : Terms
+    claim = ((turn.setting).claim).now
+
+    a : ℤ
+    a = moved_original turn
+
+    b : ℤ
+    b = moved_export turn
+
+    t : ℤ
+    t = (turn.from).ps
+
+    v : ℤ
+    v = last_end_by e (head_of e) b
+
+    labels : List (Bor (List ℕ))
+    labels = ((turn.setting).labels).now
+
+    E : ℤ → Type 0
+    E u = IsEarlyFound b u (turn.part + 1) parts rest.early
+
+    so : turn.is_compared ≡ true → part.heads ≡ None → (part.course).is_early ≡ false → (part.course).found ≡ None → compared ≡ true
+    so c x y z = goes ∙ same-so turn.is_compared part.heads (part.course).is_early (part.course).found c x y z
+
+    span : Bool → Option Found
+    span l = span_difference l claim (sampled o h a) (sampled e (head_of e) b) (places_in h (head_of e) labels) t v
+
+    first-so : turn.is_compared ≡ true → (part.heads ≡ None) × (rest.heads ≡ None) → ((part.course).is_early ≡ false) × (rest.early ≡ None) → (found : Option Found) → (part.course).found ≡ found
+        → serial_difference claim o h a b labels t (e ∷ parts) ≡ option_or (part.course).found rest.found
+    first-so c x y found is-found =
+        let here : (part.course).found ≡ span (is_last parts) = (p.matched c x.0 y.0).first (r.through).conforms ∙ ap span is in
+        ap (λ f. option_or f (serial_difference claim o h a b labels v parts)) (sym here) ∙ behind-so found is-found
+      where
+        behind-so : (f : Option Found) → (part.course).found ≡ f → option_or (part.course).found (serial_difference claim o h a b labels v parts) ≡ option_or (part.course).found rest.found
+        behind-so None none =
+            let S : ℤ → Type 0 = λ u. serial_difference claim o h a b labels u parts ≡ rest.found in
+            ap (option_or (part.course).found) (subst S ((p.passed).ended).end_is (r.first (so c x.0 y.0 none) x.1 y.1))
+        behind-so (Some f) some = ap (λ z. option_or z (serial_difference claim o h a b labels v parts)) some ∙ ap (λ z. option_or z rest.found) (sym some)
+
+-- ---- faults
+
+-- a fault of the original, or else of the first part
+pub fault_first : (o : List ℕ) (h : Head) (left : List ℕ) (first : ℕ) (part : List ℕ) (parts : List (List ℕ)) (w : FaultOf) → IsFaultBy o h left part first w → HaveFault first o h left (part ∷ parts) w
+fault_first o h left first part parts (faults.Original fault) p = p
+fault_first o h left first part parts (faults.Part other fault) p =
+    let P : ℕ → Type 0 = λ k. IsFirstFault first (part ∷ parts) k fault in
+    (p.1, subst P (sym p.0) (fault_here first part parts fault p.2), p.3)
+
+-- or of those behind it
+pub fault_behind : (o : List ℕ) (h : Head) (left : List ℕ) (first : ℕ) (part : List ℕ) (parts : List (List ℕ)) (w : FaultOf) → Conforms part (head_of part) → HaveFault (first + 1) o h left parts w → HaveFault first o h left (part ∷ parts) w
+fault_behind o h left first part parts (faults.Original fault) c p = p
+fault_behind o h left first part parts (faults.Part other fault) c p = (p.0, fault_later first part parts other fault (faultless_part part c) p.1, p.2)

@@ -1,8 +1,0 @@
-pub mod FractionFacts
-pub mod FloorFacts
-pub mod DifferenceFacts
-pub mod EarliestFacts
-pub mod ColumnFacts
-pub mod StretchFacts
-pub mod FilterFacts
-pub mod CutFacts

@@ -1,6 +1,0 @@
-use Rattle.std.specs.List.{AllWithin}
-use Rattle.edf_check.specs.walk.Pairs.{AreLaidAlike}
-use Rattle.edf_check.proofs.walk.layout.common_room.Given as goal
-
-abbrev pub invariant-loop-pair : goal.invariant-loop-pair
-invariant-loop-pair l = AllWithin (AreLaidAlike l.original l.export l.room) l.pairs 0 l.pair-index

@@ -1,0 +1,6 @@
+pub mod Parts
+pub mod PartsFirst
+pub mod PartsFound
+pub mod PartsVerdicts
+pub mod Ends
+pub mod Together

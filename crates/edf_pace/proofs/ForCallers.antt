@@ -1,0 +1,21 @@
+-- What the crates above cite of this crate's proofs; they cite nothing else of it.
+pub use Rattle.edf_pace.proofs.notes.NoteFacts.{note-apart, note-total, one-note}
+pub use Rattle.edf_pace.proofs.notes.NoteOrderFacts.{Answer, AreInOrder, more-with, once, turn, unequal-exact}
+pub use Rattle.edf_pace.proofs.notes.RearrangedFacts.{notes_in_words}
+pub use Rattle.edf_pace.proofs.samples.CutFacts.{earlier_from}
+pub use Rattle.edf_pace.proofs.samples.DifferenceFacts.{Differ, HasValue, IsAscending, IsLeastDifference, Match, exact, match_not_differ, partner_at}
+pub use Rattle.edf_pace.proofs.samples.EarliestFacts.{AreInstants, IsEarliest, earliest-is-least}
+pub use Rattle.edf_pace.proofs.samples.FilterFacts.{by_test}
+pub use Rattle.edf_pace.proofs.samples.FloorFacts.{floor-same}
+pub use Rattle.edf_pace.proofs.samples.FractionFacts.{scaled, before-not_before, before_below, before_not, both_same, by_before, from_below, not_before-before, same_above, same_back, same_before, same_below, same_through}
+pub use Rattle.edf_pace.proofs.walk.ChannelFacts.{ascending, difference_at}
+pub use Rattle.edf_pace.proofs.walk.FileFacts.{fault_is}
+pub use Rattle.edf_pace.proofs.walk.LockstepFacts.{are_places, fault_after, fault_by, fault_by_header, fault_of_heads, has_ended}
+pub use Rattle.edf_pace.proofs.walk.OnwardFacts.{ends_behind, matched_behind, matched_end, matched_on, other_way, past_all}
+pub use Rattle.edf_pace.proofs.walk.PartFacts.{begin_is}
+pub use Rattle.edf_pace.proofs.walk.PassFacts.{at_first, at_later, begins_with_one, there_next}
+pub use Rattle.edf_pace.proofs.walk.PlaceFacts.{at-found, at-there, channel-bounds, channels-distinct, one-number}
+pub use Rattle.edf_pace.proofs.walk.RecordFacts.{before-past-all, from-first}
+pub use Rattle.edf_pace.proofs.walk.SpanFacts.{claim_within, span_is_whole, within-from, within-keeps, within-until}
+unfoldable pub use Rattle.edf_pace.proofs.walk.SplitFacts.{ArePlaces}
+unfoldable pub use Rattle.edf_pace.proofs.walk.SpanFacts.{whole_difference}

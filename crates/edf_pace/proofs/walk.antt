@@ -1,0 +1,15 @@
+pub mod FileFacts
+pub mod ChannelFacts
+pub mod TrackFacts
+pub mod ShownFacts
+pub mod LockstepFacts
+pub mod SplitFacts
+pub mod WindowFacts
+pub mod OnwardFacts
+pub mod PartFacts
+pub mod SpanFacts
+pub mod PassFacts
+pub mod KeeperFacts
+pub mod PlaceFacts
+pub mod LayoutFacts
+pub mod RecordFacts

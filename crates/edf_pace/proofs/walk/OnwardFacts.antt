@@ -1,0 +1,173 @@
+-- One step of a walk over two files from a time on, and where it ends.
+use Rattle.std.proofs.Common.{◌≡◌, ℕ, zero, suc, ◌<◌, ◌≤◌, ℤ, ◌+ℤ◌, ◌<ℤ◌, ◌≤ℤ◌, Bool, true, false, inl, inr, List, map, Option, None, Some, refl, sym, ap, ◌∙◌, arith, subst}
+use Rattle.std.proofs.lemmas.Bool.{cases_lt}
+use Rattle.std.proofs.lemmas.Int.{ints}
+use Rattle.std.specs.Option.{option_or}
+use Rattle.edf_claim.specs.Terms.{Terms}
+use Rattle.edf_header.specs.Heads.{Head}
+use Rattle.edf_stream.specs.declared.status.Status.{Status}
+use Rattle.edf_stream.specs.declared.status.Status.TheVariants.{Current}
+use Rattle.edf_stream.specs.Conforming.{Conforms}
+use Rattle.edf_stream.specs.Notes.{NoteValue}
+use Rattle.edf_stream.specs.Readers.{Reader, is_current}
+use Rattle.edf_stream.specs.Starts.{file_start}
+use Rattle.edf_stream.specs.StartsReading.{start_at, end_at, end_before}
+use Rattle.edf_stream.proofs.ForCallers.{starts-behind}
+use Rattle.edf_pace.specs.declared.samples.earliest.Found.{Found}
+use Rattle.edf_pace.specs.declared.walk.lockstep.ReadOn.{ReadOn}
+use Rattle.edf_pace.specs.declared.walk.track.Pair.{Pair}
+use Rattle.edf_pace.specs.declared.walk.turn.Turn.{Turn}
+use Rattle.edf_pace.specs.walk.Windows.{sampled, rest_difference, window_difference, span_difference}
+use Rattle.edf_pace.specs.walk.Pairs.{Places, places_of, ArePairs, places_in}
+use Rattle.edf_pace.specs.walk.Shown.{Shows, ArePast, Reaches, IsGoing, Covers, ends_at, begin_by, last_end_by}
+use Rattle.edf_pace.specs.walk.Readings.{IsAt}
+use Rattle.edf_pace.specs.walk.Ends.{IsMatched, IsWalked, moved_export, moved_original}
+use Rattle.edf_pace.proofs.walk.LockstepFacts.{HasEnded, are_places, covers_at, has_ended}
+use Rattle.edf_pace.proofs.walk.PassFacts.{current_is}
+use Rattle.edf_pace.proofs.walk.RecordFacts.{lasts}
+use Rattle.edf_pace.proofs.walk.SplitFacts.{ArePlaces, at_end}
+use Rattle.edf_pace.proofs.walk.WindowFacts.{window_parts, rest_parts}
+
+-- ---- where a file ends
+
+-- a data record ends where the last one of the first r does, or before
+ends_within : (file : List ℕ) (h : Head) (k r : ℕ) → Conforms file h → k < r → r ≤ h.records → end_at file h k ≤ℤ end_before file h r
+ends_within file h k zero c lt le = absurd (omega (arith, lt))
+ends_within file h k (suc r) c lt le =
+    elim (cases_lt k r) [
+      | inl less ↦
+          let next : end_at file h k ≤ℤ start_at file h r = starts-behind file h k r c less le in
+          let p = lasts file h c in
+          omega (arith, ints, next, p)
+      | inr few ↦ let same : k ≡ r = omega (arith, lt, few) in let P : ℕ → Type 0 = λ j. end_at file h k ≤ℤ end_at file h j in subst P same (let z : end_at file h k ≤ℤ end_at file h k = omega (arith, ints) in z)
+    ]
+
+-- a file ends behind its begin
+pub ends_behind : (file : List ℕ) (h : Head) (ps : ℤ) → Conforms file h → begin_by file h ps 0 ≤ℤ last_end_by file h ps
+ends_behind file h ps c =
+    let some = (c.header).standard.some_records in
+    let within : end_at file h 0 ≤ℤ end_before file h h.records = ends_within file h 0 h.records c (omega (arith, some)) (omega arith) in
+    let p = lasts file h c in
+    omega (arith, ints, within, p)
+
+-- where the last data record ends all are past
+pub past_all : (file : List ℕ) (h : Head) (ps t : ℤ) → Conforms file h → t ≡ last_end_by file h ps → ArePast file h ps h.records t
+past_all file h ps t c end k lt = let within = ends_within file h k h.records c lt (omega arith) in omega (arith, ints, within, end)
+
+last_past : (file : List ℕ) (h : Head) (ps u : ℤ) (k n : ℕ) → k < n → ArePast file h ps n u → ((file_start h +ℤ ps) +ℤ end_before file h n) ≤ℤ u
+last_past file h ps u k zero lt past = absurd (omega (arith, lt))
+last_past file h ps u k (suc n) lt past = past n (omega arith)
+
+pub shown_current : (r : Reader) (file : List ℕ) (ps t : ℤ) → is_current r.status ≡ true → Shows r.status r file ps t → Shows Current r file ps t
+shown_current r file ps t current shows = let P : Status → Type 0 = λ s. Shows s r file ps t in subst P (current_is r.status current) shows
+
+-- the data record at hand ends where its file does, or before
+pub within_file : (r : Reader) (left : List ℕ) (ns : List NoteValue) (file : List ℕ) (claim : Option Terms) (ps t : ℤ) → is_current r.status ≡ true → Conforms file r.head → IsAt r left ns file claim ps t → ends_at r ps ≤ℤ last_end_by file r.head ps
+within_file r left ns file claim ps t current c at =
+    let shown = shown_current r file ps t current at.shows in
+    let end = shown.4 in
+    let within = ends_within file r.head shown.0 (r.head).records c shown.2 (omega arith) in
+    omega (arith, ints, end, within)
+
+-- a reader whose data record ended at u or later, and that has none left at u, is at the end of its file
+pub ends_there : (first old new : Reader) (left left' : List ℕ) (ns ms : List NoteValue) (file : List ℕ) (claim : Option Terms) (ps t u : ℤ) → old.head ≡ first.head → new.head ≡ first.head → is_current old.status ≡ true → IsGoing new.status
+    → is_current new.status ≡ false → Reaches old ps u → IsAt old left ns file claim ps t → IsAt new left' ms file claim ps u → u ≡ last_end_by file first.head ps
+ends_there first old new left left' ns ms file claim ps t u ho hn current going none reaches before now =
+    let done = has_ended first new left' ms file claim ps u hn going none now in
+    let C : Head → Type 0 = λ h. Conforms file h in
+    let conforms : Conforms file old.head = subst C (sym ho) (done.through).conforms in
+    let within = within_file old left ns file claim ps t current conforms before in
+    let same : last_end_by file old.head ps ≡ last_end_by file first.head ps = ap (λ h. last_end_by file h ps) ho in
+    let shown = shown_current old file ps t current before.shows in
+    let some : shown.0 < (first.head).records = (let e : (old.head).records ≡ (first.head).records = ap (λ (h : Head). h.records) ho in let l = shown.2 in omega (arith, e, l)) in
+    let past = last_past file first.head ps u shown.0 (first.head).records some done.past in
+    let reached = reaches current in
+    omega (arith, ints, within, same, past, reached)
+
+-- ---- a step
+
+-- what is found from s on and before u, where nothing is found before t
+pub window_next : (claim : Terms) (pairs : List Pair) (fo fe ro re : Reader) (lo le : List ℕ) (ns ms : List NoteValue) (x y : List ℕ) (a b s t u end : ℤ) (now : Option Found)
+    → ro.head ≡ fo.head → re.head ≡ fe.head → Conforms x fo.head → Conforms y fe.head → ArePairs fo.head fe.head pairs → s ≤ℤ t → t <ℤ u → u ≤ℤ end → Reaches ro a end → Reaches re b end
+    → IsAt ro lo ns x (Some claim) a t → IsAt re le ms y None b t
+    → ((v w : List ℕ) → Covers ro v a t u → Covers re w b t u → now ≡ window_difference claim (sampled v ro.head a) (sampled w re.head b) (map places_of pairs) t u)
+    → window_difference claim (sampled x fo.head a) (sampled y fe.head b) (map places_of pairs) s t ≡ None
+    → window_difference claim (sampled x fo.head a) (sampled y fe.head b) (map places_of pairs) s u ≡ now
+window_next claim pairs fo fe ro re lo le ns ms x y a b s t u end now ho he co ce are from lt within oo ee ao ae value before =
+    let ps = map places_of pairs in
+    let found : now ≡ window_difference claim (sampled x fo.head a) (sampled y fe.head b) ps t u =
+    value x y (covers_at fo ro lo ns x (Some claim) a t u end ho co ao oo within) (covers_at fe re le ms y None b t u end he ce ae ee within)
+    ∙ ap (λ h. window_difference claim (sampled x h a) (sampled y re.head b) ps t u) ho
+    ∙ ap (λ h. window_difference claim (sampled x fo.head a) (sampled y h b) ps t u) he in
+    window_parts claim x y fo.head fe.head a b ps s t u co ce (are_places fo.head fe.head pairs are) from (omega (arith, ints, lt))
+    ∙ ap (λ z. option_or z (window_difference claim (sampled x fo.head a) (sampled y fe.head b) ps t u)) before
+    ∙ sym found
+
+-- ---- the end
+
+pub other_way : (b : Bool) → b ≡ true → b ≡ false → ⊥
+other_way b p q = let z : true ≡ false = sym p ∙ q in cc
+
+-- what was found is the first difference from the turn's time on, and no difference before a time that all of both is past
+module _ (turn : Turn) (x : List ℕ) (h : Head) (ns : List NoteValue) (y : List ℕ) (g : Head) (ms : List NoteValue) (w : ReadOn) (ps : List Places) (same : ps ≡ places_in h g ((turn.setting).labels).now)
+    (places : ArePlaces h g ps) (from : (turn.from).ps ≤ℤ (w.seen).ps) (is : IsWalked turn ps x h y g w) where
+  abbrev claim : Terms
+  claim = ((turn.setting).claim).now
+
+  abbrev a : ℤ
+  a = moved_original turn
+
+  abbrev b : ℤ
+  b = moved_export turn
+
+  abbrev s : ℤ
+  s = (turn.from).ps
+
+  abbrev v : ℤ
+  v = last_end_by y g b
+
+  abbrev Spans : Bool → List Places → Type 0
+  Spans last places' = w.found ≡ span_difference last claim (sampled x h a) (sampled y g b) places' s v
+
+  over : (last : Bool) → turn.is_last ≡ last → Spans last ps → Spans turn.is_last (places_in h g ((turn.setting).labels).now)
+  over last e p = let P : Bool → Type 0 = λ l. Spans l (places_in h g ((turn.setting).labels).now) in subst P (sym e) (subst (Spans last) same p)
+
+  pub matched_end : {lo le : List ℕ} → turn.is_last ≡ true → w.found ≡ None → (w.seen).ps ≡ (w.reached).ps → HasEnded lo ns x h (Some claim) a (w.reached).ps → HasEnded le ms y g None b (w.reached).ps → IsMatched turn x h ns y g ms w.found
+  matched_end last none at o e =
+      let t = (w.reached).ps in
+      let ce = (e.through).conforms in
+      let P : ℤ → Type 0 = λ u. window_difference claim (sampled x h a) (sampled y g b) ps s u ≡ w.found in
+      let rest : ℤ → Option Found = rest_difference claim (sampled x h a) (sampled y g b) ps in
+      record {
+        first = λ co. over true last
+            (none
+            ∙ at_end claim x y h g a b ps t None (rest s) co ce places o.past e.past
+            (rest_parts claim x y h g a b ps s t co ce places (let le : s ≤ℤ t = omega (arith, ints, from, at) in le) ∙ ap (λ z. option_or z (rest t)) (subst P at (is.first co ce) ∙ none)));
+        gathered = λ z. e.gathered;
+        kept = λ l z. o.gathered;
+      }
+
+  pub matched_on : {le : List ℕ} → turn.is_last ≡ false → w.found ≡ None → (w.seen).ps ≡ (w.reached).ps → HasEnded le ms y g None b (w.reached).ps → IsMatched turn x h ns y g ms w.found
+  matched_on last none at e =
+      let P : ℤ → Type 0 = λ u. window_difference claim (sampled x h a) (sampled y g b) ps s u ≡ w.found in
+      record {
+        first = λ co. over false last (sym (subst P (at ∙ is.ends none last) (is.first co (e.through).conforms)));
+        gathered = λ z. e.gathered;
+        kept = λ l z. absurd (other_way turn.is_last l last);
+      }
+
+  pub matched_behind : (found : Found) → w.found ≡ Some found → Conforms y g → IsMatched turn x h ns y g ms w.found
+  matched_behind found some ce = record {
+    first = λ co. by turn.is_last refl co;
+    gathered = λ z. absurd (let e : Some found ≡ None = sym some ∙ z in cc);
+    kept = λ l z. absurd (let e : Some found ≡ None = sym some ∙ z in cc);
+  }
+    where
+      by : (last : Bool) → turn.is_last ≡ last → Conforms x h → Spans turn.is_last (places_in h g ((turn.setting).labels).now)
+      by true last co = over true last
+          (some
+          ∙ sym (rest_parts claim x y h g a b ps s (w.seen).ps co ce places from ∙ ap (λ z. option_or z (rest_difference claim (sampled x h a) (sampled y g b) ps (w.seen).ps)) (is.first co ce ∙ some)))
+      by false last co = over false last
+          (some
+          ∙ sym (window_parts claim x y h g a b ps s (w.seen).ps v co ce places from (is.within last ce)
+          ∙ ap (λ z. option_or z (window_difference claim (sampled x h a) (sampled y g b) ps (w.seen).ps v)) (is.first co ce ∙ some)))

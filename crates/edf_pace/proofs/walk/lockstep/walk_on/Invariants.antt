@@ -1,0 +1,25 @@
+use Rattle.std.proofs.Common.{◌≡◌, ◌^◌, pos, ◌-ℤ◌, ◌≤ℤ◌, map, None, false, unsigned_abs}
+use Rattle.edf_stream.specs.Conforming.{Conforms}
+use Rattle.edf_stream.specs.Readers.{is_current}
+use Rattle.edf_pace.specs.Premises.{OfFile, OfFiles}
+use Rattle.edf_pace.specs.walk.Ends.{moved_export, moved_original}
+use Rattle.edf_pace.specs.walk.Pairs.{places_of}
+use Rattle.edf_pace.specs.walk.Readings.{ExportMoves, OriginalMoves, export_at, original_at}
+use Rattle.edf_pace.specs.walk.Shown.{last_end_by}
+use Rattle.edf_pace.specs.walk.Windows.{sampled, window_difference}
+use Rattle.edf_pace.proofs.walk.lockstep.walk_on.Given as goal
+
+abbrev pub invariant-loop-end : goal.invariant-loop-end
+invariant-loop-end g l = record {
+  original : OriginalMoves g.O.Source l.fn.original l.fn.o l.original l.o l.turn l.time;
+  export : ExportMoves g.E.Source l.fn.export l.fn.e l.export l.e l.turn l.time;
+  from : ((l.turn).from).ps ≤ℤ l.time.ps;
+  ended : (l.turn).is_last ≡ false → is_current (l.export.reader).status ≡ false
+      → OfFile (export_at g.E.Source l.fn.export l.fn.e (l.turn).setting (l.turn).from) (λ b. l.time.ps ≡ last_end_by b ((l.fn.export).reader).head (moved_export l.turn));
+  none : OfFiles (original_at g.O.Source l.fn.original l.fn.o (l.turn).setting (l.turn).from) (export_at g.E.Source l.fn.export l.fn.e (l.turn).setting (l.turn).from)
+      (λ a b. Conforms a ((l.fn.original).reader).head → Conforms b ((l.fn.export).reader).head
+      → window_difference (((l.turn).setting).claim).now (sampled a ((l.fn.original).reader).head (moved_original l.turn)) (sampled b ((l.fn.export).reader).head (moved_export l.turn)) (map places_of (l.frame.pairs).now) ((l.turn).from).ps l.time.ps ≡ None);
+}
+
+abbrev pub decreases-loop-end : goal.decreases-loop-end
+decreases-loop-end g l = unsigned_abs (pos (2 ^ 83) -ℤ l.time.ps)

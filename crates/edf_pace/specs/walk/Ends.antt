@@ -1,0 +1,106 @@
+-- How a walk over the data records of an original and a part ends. By `ps` a file is moved: its times, in picoseconds after 1970-01-01
+-- 00:00:00, then count from the second at which the original starts, before the shift. These are steps between the definitions and the code.
+use Rattle.std.specs.Prelude.{◌≡◌, ℕ, ℤ, ◌<◌, ◌≤ℤ◌, Bool, true, false, List, [], map, Option, None, Some}
+use Rattle.edf_pace.specs.Words.{Fault, Ghosts, Head, Conforms, body_fault, file_fault, NoteValue, notes_of, Reader, is_current, end_before, Found, Frame, Reading, Time, Window, Turn, FaultOf}
+use Rattle.edf_pace.specs.declared.walk.lockstep.ReadOn.{ReadOn}
+use Rattle.edf_pace.specs.declared.walk.fault_of.FaultOf.TheVariants.{Original as OfOriginal, Part as OfPart}
+use Rattle.edf_pace.specs.InstantOrder.{IsModest}
+use Rattle.edf_pace.specs.Premises.{Known, OfFile, OfFiles}
+use Rattle.edf_pace.specs.walk.Gathered.{gathered_of}
+use Rattle.edf_pace.specs.walk.Pairs.{Places, places_of, places_in}
+use Rattle.edf_pace.specs.walk.Readings.{export_at, going, original_at}
+use Rattle.edf_pace.specs.walk.Shown.{last_end_by}
+use Rattle.edf_pace.specs.walk.Windows.{sampled, window_difference, span_difference}
+
+-- what a fault of the part of this number comes to, behind that of the original
+abbrev pub first_fault_of : Option Fault → ℕ → Fault → FaultOf
+first_fault_of None part fault = OfPart part fault
+first_fault_of (Some first) part fault = OfOriginal first
+
+-- the first fault of the data records of the original, or else of the part of this number; then nothing is left of the original
+abbrev pub IsFaultOf : List ℕ → Head → List ℕ → List ℕ → Head → ℕ → FaultOf → Type 0
+IsFaultOf o h left e g part (OfOriginal fault) = body_fault o h ≡ Some fault
+IsFaultOf o h left e g part (OfPart other fault) = (other ≡ part) × (body_fault o h ≡ None) × (body_fault e g ≡ Some fault) × (left ≡ [])
+
+-- the same where the part's header may have the fault
+abbrev pub IsFaultBy : List ℕ → Head → List ℕ → List ℕ → ℕ → FaultOf → Type 0
+IsFaultBy o h left e part (OfOriginal fault) = body_fault o h ≡ Some fault
+IsFaultBy o h left e part (OfPart other fault) = (other ≡ part) × (body_fault o h ≡ None) × (file_fault e ≡ Some fault) × (left ≡ [])
+
+abbrev pub AreFaulty : Known → Known → List ℕ → ℕ → FaultOf → Type 0
+AreFaulty original export left part fault = OfFiles original export (λ o e. IsFaultOf o original.head left e export.head part fault)
+
+-- the data records of a file were read to the end, and the file conforms
+pub record IsReadThrough (file : List ℕ) (h : Head) (left : List ℕ) : Type 0 where
+  pub fault : body_fault file h ≡ None
+  pub conforms : Conforms file h
+  pub gone : left ≡ []
+
+-- a file was read to its end, where its last data record ends, or has this fault
+abbrev pub IsFinished : List ℕ → Head → List ℕ → ℤ → Option Fault → Type 0
+IsFinished file h left ended None = IsReadThrough file h left × (ended ≡ end_before file h h.records)
+IsFinished file h left ended (Some fault) = body_fault file h ≡ Some fault
+
+abbrev pub HasFinished : Known → List ℕ → ℤ → Option Fault → Type 0
+HasFinished known left ended found = OfFile known (λ file. IsFinished file known.head left ended found)
+
+-- both were read to their ends, and the part ends there
+abbrev pub AreThrough : Known → Known → List ℕ → List ℕ → Turn → Time → Type 0
+AreThrough original export left left' turn end = OfFiles original export
+    (λ o e. IsReadThrough o original.head left × IsReadThrough e export.head left' × (end.ps ≡ last_end_by e export.head ((turn.setting).clock.export).ps))
+
+-- by how much an original and a part are moved, and where the part begins to be compared
+abbrev pub moved_original : Turn → ℤ
+moved_original turn = ((turn.setting).clock.original).ps
+
+abbrev pub moved_export : Turn → ℤ
+moved_export turn = ((turn.setting).clock.export).ps
+
+-- the difference is near, and one of so many channels has it
+abbrev pub IsFoundAmong : ℕ → Found → Type 0
+IsFoundAmong channels found = IsModest found.difference.at × (found.channel < channels)
+
+-- what the part's fault comes to that is found, behind that of the original
+abbrev pub IsFirstFaultOf : Known → List ℕ → ℕ → Fault → FaultOf → Type 0
+IsFirstFaultOf original left part fault found =
+    OfFile original (λ o. (found ≡ first_fault_of (body_fault o original.head) part fault) × (body_fault o original.head ≡ None → left ≡ []))
+
+-- nothing is left of the part, nor, where none follows, of the original
+abbrev pub IsOver : Bool → Reader → Reader → Type 0
+IsOver is_last original export = (is_current export.status ≡ false) × (is_last ≡ true → is_current original.status ≡ false)
+
+-- two files were compared from the turn's time on: this is their first difference before the time that was seen. Where others follow, that is
+-- no later than the part's end, and where there is no difference, the part's end was reached
+pub record IsWalked (turn : Turn) (places : List Places) (o : List ℕ) (h : Head) (e : List ℕ) (g : Head) (walked : ReadOn) : Type 0 where
+  pub first : Conforms o h → Conforms e g
+      → window_difference ((turn.setting).claim).now (sampled o h (moved_original turn)) (sampled e g (moved_export turn)) places (turn.from).ps (walked.seen).ps ≡ walked.found
+  pub within : turn.is_last ≡ false → Conforms e g → (walked.seen).ps ≤ℤ last_end_by e g (moved_export turn)
+  pub ends : walked.found ≡ None → turn.is_last ≡ false → (walked.reached).ps ≡ last_end_by e g (moved_export turn)
+
+-- an original and a part
+pub record Both : Type 1 where
+  pub original : Known
+  pub export : Known
+
+-- both were read to the begin of the turn
+abbrev pub at_turn : {O E : Type 0} → Ghosts O → Ghosts E → Reading → O → Reading → E → Turn → Both
+at_turn o e r s r' s' turn = record { original = original_at o r s turn.setting turn.from; export = export_at e r' s' turn.setting turn.from }
+
+-- both were read to the begin of a window
+abbrev pub at_window : {O E : Type 0} → Ghosts O → Ghosts E → Reading → O → Reading → E → Turn → Window → Both
+at_window o e r s r' s' turn w = record { original = original_at o r s turn.setting w.from; export = going e r'.reader s' }
+
+abbrev pub FaultyBy : Both → List ℕ → ℕ → FaultOf → Type 0
+FaultyBy both left part fault = AreFaulty both.original both.export left part fault
+
+abbrev pub WalkedBy : Both → Frame → ReadOn → Type 0
+WalkedBy both frame walked = OfFiles both.original both.export
+    (λ o e. IsWalked frame.turn (map places_of (frame.pairs).now) o (both.original).head e (both.export).head walked)
+
+-- it was compared; where it doesn't differ its annotations were gathered, and behind the last part those that are kept of the original
+pub record IsMatched (turn : Turn) (o : List ℕ) (h : Head) (notes : List NoteValue) (e : List ℕ) (g : Head) (notes' : List NoteValue) (found : Option Found) : Type 0 where
+  pub first : Conforms o h
+      → found ≡ span_difference turn.is_last ((turn.setting).claim).now (sampled o h (moved_original turn)) (sampled e g (moved_export turn))
+      (places_in h g ((turn.setting).labels).now) (turn.from).ps (last_end_by e g (moved_export turn))
+  pub gathered : found ≡ None → notes' ≡ gathered_of None (moved_export turn) (notes_of e g)
+  pub kept : turn.is_last ≡ true → found ≡ None → notes ≡ gathered_of (Some ((turn.setting).claim).now) (moved_original turn) (notes_of o h)
