@@ -396,10 +396,11 @@ class Code:
         crate, *modules = path.split("::")
         own = self.file.relative_to(CRATES).parts[0]
         folder = CRATES / (own if crate == "crate" else crate) / "src"
-        home = folder.joinpath(*modules).with_suffix(".rt") if folder.is_dir() else path
         for name in names.strip("{ }").split(","):
             name, _, other = name.strip().partition(" as ")
             if name:
+                within = modules or handed_out(folder, name)
+                home = folder.joinpath(*within).with_suffix(".rt") if folder.is_dir() else path
                 self.names.add(other or name, Word(home, name))
 
     def take(self, item, front, lines):
@@ -467,6 +468,16 @@ def chunks(file, inner):
             found.append([line] if line else [])
             last = found[-1] or last
     return found
+
+
+def handed_out(folder, name):
+    """The modules in which a crate has what it hands out by this name (`pub use` in its lib.rt)."""
+    root = folder / "lib.rt"
+    text = root.read_text(encoding="utf-8") if root.exists() else ""
+    for path, names in re.findall(r"^pub use (\S+)::(\{[^}]*\}|\w+);", text, re.M):
+        if name in [it.strip() for it in names.strip("{ }").split(",")]:
+            return path.split("::")
+    return []
 
 
 def home_of(path):
@@ -745,7 +756,7 @@ def main():
     if sys.argv[1:] not in ([], ["--check"]):
         print(f"usage: {sys.argv[0]} [--check]", file=sys.stderr)
         return 2
-    definitions, faults = in_order(contract(CRATES / "edf_check" / "src" / "check.rt", "check", "headline"))
+    definitions, faults = in_order(contract(CRATES / "edf_check" / "src" / "of_one.rt", "check", "headline"))
     if not faults:
         page = as_page(definitions)
         faults = Page(page).faults

@@ -4,7 +4,7 @@ use byteorder::{ByteOrder, LittleEndian};
 use edf_check::run;
 use edf_fields::sink::SliceSink;
 use edf_fields::source::SliceSource;
-use edf_refusal::refusal::Refusal;
+use edf_refusal::Refusal;
 use edf_report::conform::conform_to;
 use edf_report::notes::notes_to;
 use edf_report::show::show_to;
@@ -87,7 +87,7 @@ impl Desk {
         let mut sink = SliceSink::new(&mut self.room);
         let mut first = SliceSource::new(original);
         let mut second = SliceSource::new(export);
-        let outcome = run::run(alloc, &mut first, &mut second, claim.as_bytes(), &mut sink)?;
+        let outcome = run(alloc, &mut first, &mut second, claim.as_bytes(), &mut sink)?;
         self.given = self.given.with(outcome, sink.written());
         Ok(())
     }

@@ -12,7 +12,7 @@ mod noise;
 mod workloads;
 
 use crate::workloads::{WORKLOADS, work};
-use edf_refusal::refusal::Refusal;
+use edf_refusal::Refusal;
 use std::process::ExitCode;
 use std::rt::Env;
 use std::{env, io};

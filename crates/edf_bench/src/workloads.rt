@@ -6,7 +6,7 @@ use crate::nights::{
     Cut, Event, Recorder, TEXTS, by_text, events_of, file_of, within, without_last,
 };
 use crate::noise::Noise;
-use edf_refusal::refusal::{Refusal, Role};
+use edf_refusal::{Refusal, Role};
 use std::alloc::{AllocError, Global};
 
 /// The names of the workloads.

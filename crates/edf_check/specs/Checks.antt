@@ -1,9 +1,9 @@
 -- What a check leaves.
 use Rattle.std.specs.Prelude.{◌≡◌, ℕ, List, []}
 use Rattle.edf_check.specs.Words.{Verdict}
-use Rattle.edf_stop.specs.declared.stop.CheckStop.{CheckStop}
-use Rattle.edf_stop.specs.declared.stop.CheckStop.TheVariants.{OutOfMemory, ReadFailed}
-use Rattle.edf_stop.specs.declared.side.Side.TheVariants as sides
+use Rattle.edf_stop.specs.declared.stops.CheckStop.{CheckStop}
+use Rattle.edf_stop.specs.declared.stops.CheckStop.TheVariants.{OutOfMemory, ReadFailed}
+use Rattle.edf_stop.specs.declared.sides.Side.TheVariants as sides
 use Rattle.edf_verdict.specs.declared.verdict.Difference.TheVariants.{OriginalFault, ExportFault}
 use Rattle.edf_verdict.specs.declared.verdict.Verdict.TheVariants.{No}
 

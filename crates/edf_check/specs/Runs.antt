@@ -2,19 +2,19 @@
 use Rattle.std.specs.Prelude.{◌≡◌, ◌≢◌, ℕ, List, ◌++◌, Bool, IsTrue, length}
 use Rattle.edf_check.specs.Words.{SaysClaimText, FirstClaimFault, Terms, ClaimStop, Fails, Reads, outcome_of, Outcome, Verdict, AllByRecursion, PartsVerdict}
 use Rattle.edf_fields.specs.Sinks.{HoldsPrefix}
-use Rattle.edf_stop.specs.declared.stop.RunStop.{RunStop}
-use Rattle.edf_stop.specs.declared.stop.RunStop.TheVariants.{OutOfMemory, ReadFailed, Claim, WriteFailed}
+use Rattle.edf_stop.specs.declared.stops.RunStop.{RunStop}
+use Rattle.edf_stop.specs.declared.stops.RunStop.TheVariants.{OutOfMemory, ReadFailed, Claim, WriteFailed}
 use Rattle.edf_verdict.specs.Lines.{verdict_line}
-use Rattle.edf_stop.specs.declared.parts_stop.PartsRunStop.{PartsRunStop}
-use Rattle.edf_stop.specs.declared.parts_stop.PartsRunStop.TheVariants.{OutOfMemory, ReadFailed, Claim, WriteFailed}
+use Rattle.edf_stop.specs.declared.parts_stops.PartsRunStop.{PartsRunStop}
+use Rattle.edf_stop.specs.declared.parts_stops.PartsRunStop.TheVariants.{OutOfMemory, ReadFailed, Claim, WriteFailed}
 use Rattle.edf_verdict.specs.PartsLines.{parts_verdict_line}
 use Rattle.edf_check.specs.Headline.{YesMeans}
 use Rattle.edf_check.specs.Verdicts.{IsVerdict}
 use Rattle.edf_pace.specs.PartsStops.{HasFailed}
 use Rattle.edf_check.specs.parts.PartsVerdicts.{IsPartsVerdict}
 use Rattle.edf_claim.specs.declared.stop.ClaimStop.TheVariants as claims
-use Rattle.edf_stop.specs.declared.side.Side.TheVariants as sides
-use Rattle.edf_stop.specs.declared.parts_stop.PartSide.TheVariants as part_sides
+use Rattle.edf_stop.specs.declared.sides.Side.TheVariants as sides
+use Rattle.edf_stop.specs.declared.parts_stops.PartSide.TheVariants as part_sides
 
 -- this is the verdict on two files under the claim that a text says
 pub record IsVerdictUnder (original export text : List ℕ) (verdict : Verdict) : Type 0 where

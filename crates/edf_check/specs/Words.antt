@@ -3,7 +3,7 @@ pub use Rattle.edf_pace.specs.Words.{Bor, option_or, Terms, Fails, Reads, Fault,
 pub use Rattle.edf_pace.specs.declared.walk.fault_of.FaultOf.{FaultOf}
 pub use Rattle.edf_pace.specs.declared.samples.earliest.Found.{Found}
 pub use Rattle.edf_pace.specs.declared.walk.reading.Reading.{Reading}
-pub use Rattle.edf_pace.specs.declared.time.Time.{Time}
+pub use Rattle.edf_pace.specs.declared.times.Time.{Time}
 pub use Rattle.edf_pace.specs.declared.walk.turn.Setting.{Setting}
 pub use Rattle.edf_pace.specs.declared.walk.turn.Turn.{Turn}
 pub use Rattle.std.specs.List.{AllByRecursion}

@@ -3,9 +3,7 @@
 ghost use Rattle.std.specs.Prelude.{◌≡◌};
 ghost use Rattle.edf_check.specs.Findings.{no_on, verdict_on};
 
-use edf_pace::notes::note_difference::NoteDifference;
-use edf_pace::samples::sample_difference::SampleDifference;
-use edf_pace::walk::fault_of::FaultOf;
+use edf_pace::{FaultOf, NoteDifference, SampleDifference};
 use edf_verdict::parts_verdict::PartsVerdict;
 use edf_verdict::verdict::{Difference, Verdict};
 

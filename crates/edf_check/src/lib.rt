@@ -2,11 +2,22 @@
 //! verdict, as it is defined, the check that gives it, and the run that writes its line.
 #![tactic(auto)]
 
-pub mod check;
-pub mod check_parts;
 mod finding;
-pub mod judge;
+mod judging;
 pub mod laws;
+mod of_one;
+mod of_several;
 mod parts;
-pub mod run;
-pub mod run_parts;
+mod running;
+mod running_parts;
+
+pub use edf_heads::head_difference::head_difference;
+pub use edf_pace::first_difference;
+pub use edf_verdict::outcome::Outcome;
+pub use edf_verdict::parts_verdict::PartsVerdict;
+pub use edf_verdict::verdict::{Difference, Verdict};
+pub use judging::{judge, judge_parts};
+pub use of_one::check;
+pub use of_several::check_parts;
+pub use running::run;
+pub use running_parts::run_parts;

@@ -2,7 +2,7 @@
 
 ghost use Rattle.std.specs.Prelude.{◌≤◌};
 
-use edf_pace::first_difference::first_difference;
+use edf_pace::first_difference;
 use std::process::Abort;
 
 /// Two slices that differ from a place on, which is found; where it is their end, none is.

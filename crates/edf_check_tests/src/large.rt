@@ -3,7 +3,7 @@
 
 ghost use Rattle.std.specs.Prelude.{[], false};
 
-use edf_check::run::run;
+use edf_check::run;
 use edf_fields::fault::Place::{AtField, AtSignal};
 use edf_fields::layout::{FixedField as Fixed, SignalField as Field};
 use edf_fields::sink::SliceSink;

@@ -1,11 +1,10 @@
 //! Runs and checks of several exports whose sources fail.
 
 use crate::night::ALL;
-use edf_check::check_parts::check_parts;
-use edf_check::run_parts::run_parts;
+use edf_check::{check_parts, run_parts};
 use edf_claim::claim::Claim;
 use edf_fields::sink::SliceSink;
-use edf_stop::parts_stop::{PartSide, PartsRunStop, PartsStop};
+use edf_stop::{PartSide, PartsRunStop, PartsStop};
 use edf_test_files::record::{LANES, recorded};
 use edf_test_files::tape::{Tape, tape_of};
 use edf_verdict::parts_verdict::PartsVerdict;

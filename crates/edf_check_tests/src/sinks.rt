@@ -1,12 +1,12 @@
 //! A run into a sink that is soon full or fails at one of its writes, and runs under a text that says no claim.
 
 use crate::night::{ALL, SIX_SECONDS, YES};
-use edf_check::run::run;
+use edf_check::run;
 use edf_claim::stop::ClaimStop;
 use edf_fields::faulty_sink::FaultySink;
 use edf_fields::sink::SliceSink;
 use edf_fields::source::SliceSource;
-use edf_stop::stop::RunStop;
+use edf_stop::RunStop;
 use edf_test_files::record::{LANES, recorded, small_file};
 use edf_verdict::outcome::Outcome;
 use std::alloc::{AllocError, Global};

@@ -1,12 +1,10 @@
 //! Runs and checks of sources that give single bytes, fail, or have no end.
 
 use crate::night::{ALL, SIX_SECONDS, YES};
-use edf_check::check::check;
-use edf_check::run::run;
+use edf_check::{check, run};
 use edf_claim::claim::Claim;
 use edf_fields::sink::SliceSink;
-use edf_stop::side::Side;
-use edf_stop::stop::{CheckStop, RunStop};
+use edf_stop::{CheckStop, RunStop, Side};
 use edf_test_files::record::{LANES, recorded, small_file};
 use edf_test_files::tape::{Tape, dripping, endless, tape_of};
 use std::alloc::Global;

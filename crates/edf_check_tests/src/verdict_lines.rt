@@ -2,7 +2,7 @@
 //! annotation is that of files which differ so; `tools/cases` has many more.
 
 use crate::headers::claim;
-use edf_check::check::check;
+use edf_check::check;
 use edf_fields::cause::TalCause;
 use edf_fields::fault::Place::{AtField, AtSignal};
 use edf_fields::fault::{Cause, Fault, Place};

@@ -2,7 +2,7 @@
 
 use edf_fields::faulty_source::FaultySource;
 use edf_fields::source::{ReadFault, SliceSource, Source, fill};
-use edf_receipt::digest_source::{DigestSource, Digested, digest_of};
+use edf_receipt::{DigestSource, Digested, digest_of};
 use std::process::Abort;
 
 /// Messages with their digests: the empty one, and those of one block and of two in the standard's examples.

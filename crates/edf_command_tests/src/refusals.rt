@@ -1,11 +1,8 @@
 //! The line and the status of each refusal, and how a stopped check or report is refused.
 
 use edf_claim::stop::ClaimStop;
-use edf_refusal::refusal::{Refusal, Role};
-use edf_refusal::status::status;
-use edf_stop::parts_stop::{PartSide, PartsRunStop};
-use edf_stop::side::Side;
-use edf_stop::stop::{ReportStop, RunStop};
+use edf_refusal::{Refusal, Role, status};
+use edf_stop::{PartSide, PartsRunStop, ReportStop, RunStop, Side};
 use edf_verdict::outcome::Outcome;
 use std::process::Abort;
 

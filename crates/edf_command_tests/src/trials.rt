@@ -2,7 +2,7 @@
 //! and with another end of an interval.
 
 use edf_claim::claim::Claim;
-use edf_stop::stop::RunStop;
+use edf_stop::RunStop;
 use edf_test_files::record::small_file;
 use edf_trial::better::is_better;
 use edf_trial::channels::with_channels;

@@ -1,11 +1,11 @@
 -- What is written of two files.
 use Rattle.std.proofs.Common.{◌≡◌, inl, inr, ℕ, ℤ, List, Bool, None, subst}
 use Rattle.edf_fields.specs.declared.fault.Fault.{Fault}
-use Rattle.edf_stop.specs.declared.side.Side.{Side}
-use Rattle.edf_stop.specs.declared.side.Side.TheVariants.{Original, Export}
-use Rattle.edf_stop.specs.declared.stop.CheckStop.{CheckStop}
-use Rattle.edf_stop.specs.declared.stop.CheckStop.TheVariants.{OutOfMemory, ReadFailed}
-use Rattle.edf_stop.specs.declared.stop.RunStop.TheVariants.{WriteFailed}
+use Rattle.edf_stop.specs.declared.sides.Side.{Side}
+use Rattle.edf_stop.specs.declared.sides.Side.TheVariants.{Original, Export}
+use Rattle.edf_stop.specs.declared.stops.CheckStop.{CheckStop}
+use Rattle.edf_stop.specs.declared.stops.CheckStop.TheVariants.{OutOfMemory, ReadFailed}
+use Rattle.edf_stop.specs.declared.stops.RunStop.TheVariants.{WriteFailed}
 use Rattle.edf_stop.specs.Stops.{stop_of_check}
 use Rattle.edf_stream.specs.Faults.{file_fault}
 use Rattle.edf_stream.proofs.ForCallers.{conforming_is_faultless}

@@ -4,12 +4,12 @@ use Rattle.edf_claim.specs.Claims.{SaysClaimText}
 use Rattle.edf_claim.specs.Terms.{Terms}
 use Rattle.edf_fields.specs.FaultTexts.{fault_text}
 use Rattle.edf_fields.specs.declared.fault.Fault.{Fault}
-use Rattle.edf_stop.specs.declared.side.Side.{Side}
-use Rattle.edf_stop.specs.declared.side.Side.TheVariants.{Original, Export}
-use Rattle.edf_stop.specs.declared.stop.CheckStop.{CheckStop}
-use Rattle.edf_stop.specs.declared.stop.CheckStop.TheVariants.{OutOfMemory, ReadFailed}
-use Rattle.edf_stop.specs.declared.stop.RunStop.{RunStop}
-use Rattle.edf_stop.specs.declared.stop.RunStop.TheVariants as runs
+use Rattle.edf_stop.specs.declared.sides.Side.{Side}
+use Rattle.edf_stop.specs.declared.sides.Side.TheVariants.{Original, Export}
+use Rattle.edf_stop.specs.declared.stops.CheckStop.{CheckStop}
+use Rattle.edf_stop.specs.declared.stops.CheckStop.TheVariants.{OutOfMemory, ReadFailed}
+use Rattle.edf_stop.specs.declared.stops.RunStop.{RunStop}
+use Rattle.edf_stop.specs.declared.stops.RunStop.TheVariants as runs
 use Rattle.edf_stream.specs.Conforming.{Conforms}
 use Rattle.edf_stream.specs.Faults.{file_fault}
 use Rattle.edf_verdict.specs.declared.outcome.Outcome.{Outcome}

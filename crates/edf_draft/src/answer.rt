@@ -3,7 +3,7 @@
 ghost use Rattle.std.specs.Prelude.{◌≡◌, List, ℕ, Some, IfOk, IfErr, OnOk, IsTrue};
 ghost use Rattle.edf_fields.specs.Sources.{Fails};
 ghost use Rattle.edf_stream.specs.Faults.{file_fault};
-ghost use Rattle.edf_stop.specs.declared.stop.CheckStop.TheVariants as check_stops;
+ghost use Rattle.edf_stop.specs.declared.stops.CheckStop.TheVariants as check_stops;
 ghost use Rattle.edf_draft.specs.Answers.{BothStop, IsAnswer, IsFaultAt, IsReadOf, SideStops, fault_text_of};
 
 use crate::drafted::draft_text;
@@ -11,8 +11,7 @@ use crate::recorded::{Recorded, read_through};
 use edf_fields::fault::Fault;
 use edf_fields::source::Source;
 use edf_header::stop::Stop;
-use edf_stop::side::Side;
-use edf_stop::stop::CheckStop;
+use edf_stop::{CheckStop, Side};
 use edf_trial::recordings::Recordings;
 use edf_verdict::outcome::Outcome;
 use std::alloc::{AllocError, Global};

@@ -2,14 +2,14 @@
 
 ghost use Rattle.std.specs.Prelude.{◌≡◌, ◌≢◌, IfOk, IfErr, OnOk, IsTrue};
 ghost use Rattle.edf_fields.specs.Sources.{Fails, Rises};
-ghost use Rattle.edf_stop.specs.declared.stop.RunStop.TheVariants as stops;
+ghost use Rattle.edf_stop.specs.declared.stops.RunStop.TheVariants as stops;
 ghost use Rattle.edf_draft.specs.Answers.{DraftStops};
 ghost use Rattle.edf_draft.specs.Written.{IsDraftWritten, IsPartWritten};
 
 use crate::answer::answer_of;
 use edf_fields::sink::{Sink, put_all};
 use edf_fields::source::Source;
-use edf_stop::stop::RunStop;
+use edf_stop::RunStop;
 use edf_trial::recordings::Recordings;
 use edf_verdict::outcome::Outcome;
 use std::alloc::Global;

@@ -4,7 +4,7 @@ ghost use Rattle.std.specs.Prelude.{IfOk, IfSome};
 ghost use Rattle.edf_claim.specs.Claims.{SaysClaimText};
 
 use edf_claim::draft::Draft;
-use edf_stop::stop::RunStop;
+use edf_stop::RunStop;
 use edf_trial::check_anew::check_anew;
 use edf_trial::recordings::Recordings;
 use edf_verdict::verdict::{Difference, Verdict};

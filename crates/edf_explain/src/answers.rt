@@ -1,6 +1,6 @@
 //! What the check answers under a claim that was changed.
 
-use edf_stop::stop::RunStop;
+use edf_stop::RunStop;
 use edf_trial::better::is_better;
 use edf_trial::check_anew::check_anew;
 use edf_trial::recordings::Recordings;

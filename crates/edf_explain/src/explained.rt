@@ -4,10 +4,10 @@ ghost use Rattle.std.specs.Prelude.{IfOk, IsTrue};
 ghost use Rattle.edf_explain.specs.Explained.{IsExplained};
 
 use crate::explain::explain_to;
-use edf_check::judge::judge;
+use edf_check::judge;
 use edf_fields::sink::{Sink, put_all};
 use edf_fields::source::Source;
-use edf_stop::stop::RunStop;
+use edf_stop::RunStop;
 use edf_trial::recordings::Recordings;
 use edf_verdict::outcome::Outcome;
 use std::alloc::Global;

@@ -4,7 +4,7 @@ use crate::looks::looks_like_a_claim;
 use crate::text::{Piece, Text};
 use crate::words;
 use edf_fields::fault::Fault;
-use edf_stop::side::Side;
+use edf_stop::Side;
 use std::alloc::{AllocError, Global};
 
 /// Whether the front of a file is that of a BDF file.

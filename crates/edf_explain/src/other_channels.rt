@@ -7,7 +7,7 @@ use crate::words;
 use edf_claim::claim::Claim;
 use edf_header::header::Header;
 use edf_heads::channel_index::ChannelIndex;
-use edf_stop::stop::RunStop;
+use edf_stop::RunStop;
 use edf_trial::channels::with_channels;
 use edf_trial::recordings::Recordings;
 use std::alloc::{AllocError, Global};

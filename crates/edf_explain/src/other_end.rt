@@ -6,7 +6,7 @@ use crate::remarks::is_at_end;
 use crate::text::{Piece, Text};
 use crate::words;
 use edf_claim::claim::Claim;
-use edf_stop::stop::RunStop;
+use edf_stop::RunStop;
 use edf_trial::ends::with_end;
 use edf_trial::recordings::Recordings;
 use edf_verdict::verdict::{Difference, Verdict};

@@ -4,7 +4,7 @@ use crate::answers::{Answer, Asked};
 use crate::starts::Starts;
 use crate::text::{Piece, Text};
 use crate::words;
-use edf_stop::stop::RunStop;
+use edf_stop::RunStop;
 use edf_trial::better::is_better;
 use edf_trial::check_anew::check_anew;
 use edf_trial::recordings::Recordings;

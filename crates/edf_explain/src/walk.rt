@@ -13,8 +13,7 @@ use edf_fields::fault::Fault;
 use edf_fields::source::Source;
 use edf_header::header::Header;
 use edf_heads::channel_index::{Channel, ChannelIndex};
-use edf_stop::side::Side;
-use edf_stop::stop::RunStop;
+use edf_stop::{RunStop, Side};
 use std::alloc::{AllocError, Global};
 
 /// The most times within a data record at which intervals of a claim begin or end, and one more.

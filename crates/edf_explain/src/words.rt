@@ -4,7 +4,7 @@ use edf_fields::cause::{FieldCause, TalCause};
 use edf_fields::fault::{Cause, Fault, Place};
 use edf_fields::layout::{FixedField, SignalField};
 use edf_fields::which::Which;
-use edf_stop::side::Side;
+use edf_stop::Side;
 
 /// A unit of time, for one and for more of them.
 #[derive(Clone, Copy)]

@@ -1,10 +1,10 @@
 -- Why a check stops: by what is told of the reads of its sources before and behind.
 use Rattle.std.specs.Prelude.{◌≡◌, ℕ, ◌+◌, ◌⊎◌, List, [], ◌∷◌, map}
 use Rattle.edf_pace.specs.Words.{Fails, Reads, Ghosts}
-use Rattle.edf_stop.specs.declared.parts_stop.PartSide.{PartSide}
-use Rattle.edf_stop.specs.declared.parts_stop.PartSide.TheVariants as sides
-use Rattle.edf_stop.specs.declared.parts_stop.PartsStop.{PartsStop}
-use Rattle.edf_stop.specs.declared.parts_stop.PartsStop.TheVariants.{OutOfMemory, ReadFailed}
+use Rattle.edf_stop.specs.declared.parts_stops.PartSide.{PartSide}
+use Rattle.edf_stop.specs.declared.parts_stops.PartSide.TheVariants as sides
+use Rattle.edf_stop.specs.declared.parts_stops.PartsStop.{PartsStop}
+use Rattle.edf_stop.specs.declared.parts_stops.PartsStop.TheVariants.{OutOfMemory, ReadFailed}
 
 -- a read of this part failed, where the first one has the number j: by what is told of the reads of all, before and behind
 abbrev pub HasFailed : ℕ → List Reads → List Reads → ℕ → Type 0

@@ -30,8 +30,8 @@ pub use Rattle.edf_pace.specs.declared.walk.clock.Clock.{Clock}
 pub use Rattle.edf_pace.specs.declared.walk.gather.View.{View}
 pub use Rattle.edf_pace.specs.declared.walk.lockstep.Frame.{Frame}
 pub use Rattle.edf_pace.specs.declared.walk.reading.Reading.{Reading}
-pub use Rattle.edf_pace.specs.declared.time.Time.{Time}
-pub use Rattle.edf_pace.specs.declared.time.Window.{Window}
+pub use Rattle.edf_pace.specs.declared.times.Time.{Time}
+pub use Rattle.edf_pace.specs.declared.times.Window.{Window}
 pub use Rattle.edf_pace.specs.declared.walk.track.Pair.{Pair}
 pub use Rattle.edf_pace.specs.declared.walk.track.Track.{Track}
 pub use Rattle.edf_pace.specs.declared.walk.turn.Setting.{Setting}

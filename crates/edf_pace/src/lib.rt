@@ -2,8 +2,23 @@
 //! compared as far as both have come.
 #![tactic(auto)]
 
-pub mod first_difference;
-pub mod notes;
-pub mod samples;
-pub mod time;
-pub mod walk;
+mod bytes;
+mod notes;
+mod samples;
+mod times;
+mod walk;
+
+pub use bytes::first_difference;
+pub use notes::note_difference::{NoteDifference, note_difference};
+pub use samples::earliest::Found;
+pub use samples::sample_difference::{SampleDifference, with_label};
+pub use times::{BEGINNING, Time, Window};
+pub use walk::clock::Clock;
+pub use walk::fault_of::FaultOf;
+pub use walk::gather::View;
+pub use walk::layout::common_room;
+pub use walk::lockstep::{Frame, ReadOn, end_both, export_fault, walk_on};
+pub use walk::offset::Offset;
+pub use walk::reading::{Reading, begin_ps_of, finish, go_on, open, start};
+pub use walk::track::pairs_of;
+pub use walk::turn::{Setting, Turn};

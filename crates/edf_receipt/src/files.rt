@@ -11,9 +11,7 @@ ghost use Rattle.edf_receipt.specs.declared.file_line.ReceiptFile.TheVariants as
 use crate::digest_source::{DigestSource, digest_of};
 use crate::file_line::{FileLine, ReceiptFile};
 use edf_fields::source::{ReadFault, Source};
-use edf_stop::parts_stop::{PartSide, PartsStop};
-use edf_stop::side::Side;
-use edf_stop::stop::CheckStop;
+use edf_stop::{CheckStop, PartSide, PartsStop, Side};
 use std::alloc::Global;
 
 /// How many bytes are read at a time behind what the check has read.

@@ -2,10 +2,14 @@
 //! of the verdict.
 #![tactic(auto)]
 
-pub mod digest_source;
-pub mod file_line;
+mod digest_source;
+mod file_line;
 mod files;
 pub mod laws;
-pub mod parts_receipt;
-pub mod receipt;
+mod parts_receipt;
+mod receipt;
 mod text;
+
+pub use digest_source::{DigestSource, Digested, digest_of};
+pub use parts_receipt::receipt_parts_to;
+pub use receipt::receipt_to;

@@ -6,15 +6,15 @@ ghost use Rattle.edf_claim.specs.Faults.{FirstClaimFault};
 ghost use Rattle.edf_check.specs.Runs.{PartsRunStops};
 ghost use Rattle.edf_fields.specs.Sources.{Fails, Rises};
 ghost use Rattle.edf_receipt.specs.ReceiptRuns.{AreFresh, IsFresh, IsFrontOfAPartsReceipt, IsPartOfPartsReceipt, IsPartsReceipt};
-ghost use Rattle.edf_stop.specs.declared.parts_stop.PartsRunStop.TheVariants as stops;
+ghost use Rattle.edf_stop.specs.declared.parts_stops.PartsRunStop.TheVariants as stops;
 
 use crate::digest_source::DigestSource;
 use crate::files::files_of_parts;
 use crate::text::receipt_text;
-use edf_check::judge::judge_parts;
+use edf_check::judge_parts;
 use edf_fields::sink::{Sink, put_all};
 use edf_fields::source::Source;
-use edf_stop::parts_stop::PartsRunStop;
+use edf_stop::PartsRunStop;
 use edf_verdict::outcome::Outcome;
 use std::alloc::Global;
 

@@ -6,15 +6,15 @@ ghost use Rattle.edf_claim.specs.Faults.{FirstClaimFault};
 ghost use Rattle.edf_check.specs.Runs.{RunStops};
 ghost use Rattle.edf_fields.specs.Sources.{Fails, Rises};
 ghost use Rattle.edf_receipt.specs.ReceiptRuns.{IsFresh, IsFrontOfAReceipt, IsPartOfReceipt, IsReceipt};
-ghost use Rattle.edf_stop.specs.declared.stop.RunStop.TheVariants as stops;
+ghost use Rattle.edf_stop.specs.declared.stops.RunStop.TheVariants as stops;
 
 use crate::digest_source::DigestSource;
 use crate::files::files_of;
 use crate::text::receipt_text;
-use edf_check::judge::judge;
+use edf_check::judge;
 use edf_fields::sink::{Sink, put_all};
 use edf_fields::source::Source;
-use edf_stop::stop::RunStop;
+use edf_stop::RunStop;
 use edf_verdict::outcome::Outcome;
 use std::alloc::Global;
 

@@ -1,19 +1,19 @@
 -- Why a command is refused, and the line that says so.
 use Rattle.std.specs.Prelude.{ℕ, List, ◌++◌, codes}
-use Rattle.edf_stop.specs.declared.parts_stop.PartSide.TheVariants as part_sides
-use Rattle.edf_stop.specs.declared.parts_stop.PartsRunStop.{PartsRunStop}
-use Rattle.edf_stop.specs.declared.parts_stop.PartsRunStop.TheVariants as parts_runs
-use Rattle.edf_stop.specs.declared.stop.RunStop.{RunStop}
-use Rattle.edf_stop.specs.declared.stop.RunStop.TheVariants as runs
-use Rattle.edf_stop.specs.declared.side.Side.TheVariants as sides
+use Rattle.edf_stop.specs.declared.parts_stops.PartSide.TheVariants as part_sides
+use Rattle.edf_stop.specs.declared.parts_stops.PartsRunStop.{PartsRunStop}
+use Rattle.edf_stop.specs.declared.parts_stops.PartsRunStop.TheVariants as parts_runs
+use Rattle.edf_stop.specs.declared.stops.RunStop.{RunStop}
+use Rattle.edf_stop.specs.declared.stops.RunStop.TheVariants as runs
+use Rattle.edf_stop.specs.declared.sides.Side.TheVariants as sides
 use Rattle.edf_claim.specs.declared.stop.ClaimStop.{ClaimStop}
 use Rattle.edf_claim.specs.declared.stop.ClaimStop.TheVariants as claims
-use Rattle.edf_refusal.specs.declared.refusal.Refusal.{Refusal}
-use Rattle.edf_refusal.specs.declared.refusal.Refusal.TheVariants as refusals
-use Rattle.edf_refusal.specs.declared.refusal.Role.{Role}
-use Rattle.edf_refusal.specs.declared.refusal.Role.TheVariants as roles
-use Rattle.edf_stop.specs.declared.stop.ReportStop.{ReportStop}
-use Rattle.edf_stop.specs.declared.stop.ReportStop.TheVariants as reports
+use Rattle.edf_refusal.specs.declared.refusals.Refusal.{Refusal}
+use Rattle.edf_refusal.specs.declared.refusals.Refusal.TheVariants as refusals
+use Rattle.edf_refusal.specs.declared.refusals.Role.{Role}
+use Rattle.edf_refusal.specs.declared.refusals.Role.TheVariants as roles
+use Rattle.edf_stop.specs.declared.stops.ReportStop.{ReportStop}
+use Rattle.edf_stop.specs.declared.stops.ReportStop.TheVariants as reports
 
 -- the word for a file
 abbrev pub role_word : Role → List ℕ

@@ -2,7 +2,7 @@
 use Rattle.std.specs.Prelude.{ℕ, Result, Ok, Err}
 use Rattle.edf_verdict.specs.declared.outcome.Outcome.{Outcome}
 use Rattle.edf_verdict.specs.declared.outcome.Outcome.TheVariants.{Yes, No}
-use Rattle.edf_refusal.specs.declared.refusal.Refusal.{Refusal}
+use Rattle.edf_refusal.specs.declared.refusals.Refusal.{Refusal}
 
 -- 0 for Yes, 1 for No, 2 for a refusal
 abbrev pub status_of : Result Outcome Refusal → ℕ

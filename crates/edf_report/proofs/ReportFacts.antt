@@ -16,7 +16,7 @@ use Rattle.edf_stream.specs.Summaries.{IsSummed}
 use Rattle.edf_header.specs.Channels.{channels_among}
 use Rattle.edf_verdict.specs.declared.outcome.Outcome.TheVariants as outcomes
 use Rattle.edf_report.specs.declared.report.Report.{Report}
-use Rattle.edf_stop.specs.declared.stop.ReportStop.{ReportStop}
+use Rattle.edf_stop.specs.declared.stops.ReportStop.{ReportStop}
 use Rattle.edf_report.specs.ConformTexts.{counts_line, file_counts, conform_text}
 use Rattle.edf_report.specs.Reports.{IsFaultReport, text_or_fault, outcome_of_fault}
 use Rattle.edf_report.specs.ShowTexts.{head_text, show_text}

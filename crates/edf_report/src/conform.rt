@@ -4,7 +4,7 @@ ghost use Rattle.std.specs.Prelude.{◌≡◌, ◌≢◌, IfOk, IfErr, OnOk, OnE
 ghost use Rattle.edf_fields.specs.Sinks.{HoldsPrefix};
 ghost use Rattle.edf_fields.specs.Sources.{Fails, Rises};
 ghost use Rattle.edf_stream.specs.Faults.{file_fault};
-ghost use Rattle.edf_stop.specs.declared.stop.ReportStop.TheVariants as stops;
+ghost use Rattle.edf_stop.specs.declared.stops.ReportStop.TheVariants as stops;
 ghost use Rattle.edf_report.specs.ConformTexts.{counts_line, conform_text};
 ghost use Rattle.edf_report.specs.Reports.{IsReported, outcome_of_fault};
 ghost use Rattle.edf_stop.specs.Stops.{ReportStops};
@@ -12,7 +12,7 @@ ghost use Rattle.edf_stop.specs.Stops.{ReportStops};
 use crate::report::Report;
 use edf_fields::sink::Sink;
 use edf_fields::source::Source;
-use edf_stop::stop::ReportStop;
+use edf_stop::ReportStop;
 use edf_stream::conform::{Summary, conform};
 use edf_verdict::outcome::Outcome;
 use std::alloc::{AllocError, Global};

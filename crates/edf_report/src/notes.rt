@@ -16,7 +16,7 @@ ghost use Rattle.edf_stop.specs.Stops.{ReportStops};
 use crate::report::put_stop;
 use edf_fields::sink::{Sink, put_all};
 use edf_fields::source::Source;
-use edf_stop::stop::ReportStop;
+use edf_stop::ReportStop;
 use edf_stream::note::{NoteRef, TalNotes};
 use edf_stream::note_keeper::NoteKeeper;
 use edf_stream::reader::FileReader;

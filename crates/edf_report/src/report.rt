@@ -4,14 +4,14 @@ ghost use Rattle.std.specs.Prelude.{◌≡◌, ◌≢◌, ◌++◌, IfOk, IfErr,
 ghost use Rattle.edf_fields.specs.Sinks.{HoldsPrefix};
 ghost use Rattle.edf_fields.specs.Sources.{Rises};
 ghost use Rattle.edf_header.specs.declared.stop.Stop.TheVariants as read_stops;
-ghost use Rattle.edf_stop.specs.declared.stop.ReportStop.TheVariants as stops;
+ghost use Rattle.edf_stop.specs.declared.stops.ReportStop.TheVariants as stops;
 ghost use Rattle.edf_stop.specs.Stops.{ReportStops};
 ghost use Rattle.edf_report.specs.Reports.{fault_line, stop_line, IsFault, IsFaultReport, IsStopWritten};
 
 use edf_fields::fault::Fault;
 use edf_fields::sink::{Sink, put_all};
 use edf_header::stop::Stop;
-use edf_stop::stop::ReportStop;
+use edf_stop::ReportStop;
 use edf_verdict::outcome::Outcome;
 use std::alloc::{AllocError, Global};
 

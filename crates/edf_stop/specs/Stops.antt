@@ -1,16 +1,16 @@
 -- Why a check, a run of it or a report stops before its end.
 use Rattle.edf_claim.specs.declared.stop.ClaimStop.{ClaimStop}
 use Rattle.edf_claim.specs.declared.stop.ClaimStop.TheVariants as claims
-use Rattle.edf_stop.specs.declared.stop.CheckStop.{CheckStop}
-use Rattle.edf_stop.specs.declared.stop.CheckStop.TheVariants as checks
-use Rattle.edf_stop.specs.declared.parts_stop.PartsRunStop.{PartsRunStop}
-use Rattle.edf_stop.specs.declared.parts_stop.PartsRunStop.TheVariants as parts_runs
-use Rattle.edf_stop.specs.declared.parts_stop.PartsStop.{PartsStop}
-use Rattle.edf_stop.specs.declared.parts_stop.PartsStop.TheVariants as parts
-use Rattle.edf_stop.specs.declared.stop.ReportStop.{ReportStop}
-use Rattle.edf_stop.specs.declared.stop.ReportStop.TheVariants as reports
-use Rattle.edf_stop.specs.declared.stop.RunStop.{RunStop}
-use Rattle.edf_stop.specs.declared.stop.RunStop.TheVariants.{OutOfMemory, ReadFailed, Claim}
+use Rattle.edf_stop.specs.declared.stops.CheckStop.{CheckStop}
+use Rattle.edf_stop.specs.declared.stops.CheckStop.TheVariants as checks
+use Rattle.edf_stop.specs.declared.parts_stops.PartsRunStop.{PartsRunStop}
+use Rattle.edf_stop.specs.declared.parts_stops.PartsRunStop.TheVariants as parts_runs
+use Rattle.edf_stop.specs.declared.parts_stops.PartsStop.{PartsStop}
+use Rattle.edf_stop.specs.declared.parts_stops.PartsStop.TheVariants as parts
+use Rattle.edf_stop.specs.declared.stops.ReportStop.{ReportStop}
+use Rattle.edf_stop.specs.declared.stops.ReportStop.TheVariants as reports
+use Rattle.edf_stop.specs.declared.stops.RunStop.{RunStop}
+use Rattle.edf_stop.specs.declared.stops.RunStop.TheVariants.{OutOfMemory, ReadFailed, Claim}
 
 -- how a run stops over a refused claim: by its cause, but for want of memory
 abbrev pub stop_of_claim : ClaimStop → RunStop

@@ -4,14 +4,14 @@ ghost use Rattle.std.specs.Prelude.{IfOk, IsTrue};
 ghost use Rattle.edf_check.specs.Runs.{IsVerdictUnder};
 
 use crate::recordings::Recordings;
-use edf_check::judge::judge;
-use edf_stop::stop::RunStop;
+use edf_check::judge;
+use edf_stop::RunStop;
 use edf_verdict::verdict::Verdict;
 use std::alloc::Global;
 
 /// Opens both recordings anew, and checks the export against the original under the claim that a text says.
 ///
-/// The verdict is that of `edf_check::check::check`. The error is that the text says no claim, want of memory, or a failed
+/// The verdict is that of `edf_check::check`. The error is that the text says no claim, want of memory, or a failed
 /// read.
 pub fn check_anew<R: Recordings>(
     alloc: Global,

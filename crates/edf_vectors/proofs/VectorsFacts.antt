@@ -9,10 +9,10 @@ use Rattle.edf_fields.specs.SliceSource.{reads_of}
 use Rattle.edf_fields.specs.Sources.{Fails}
 use Rattle.edf_fields.specs.PlainReads.{plain_reads}
 use Rattle.edf_claim.specs.declared.stop.ClaimStop.{ClaimStop}
-use Rattle.edf_stop.specs.declared.parts_stop.PartSide.{PartSide}
-use Rattle.edf_stop.specs.declared.parts_stop.PartSide.TheVariants as sides
-use Rattle.edf_stop.specs.declared.parts_stop.PartsRunStop.{PartsRunStop}
-use Rattle.edf_stop.specs.declared.parts_stop.PartsRunStop.TheVariants.{ReadFailed}
+use Rattle.edf_stop.specs.declared.parts_stops.PartSide.{PartSide}
+use Rattle.edf_stop.specs.declared.parts_stops.PartSide.TheVariants as sides
+use Rattle.edf_stop.specs.declared.parts_stops.PartsRunStop.{PartsRunStop}
+use Rattle.edf_stop.specs.declared.parts_stops.PartsRunStop.TheVariants.{ReadFailed}
 use Rattle.edf_verdict.specs.declared.outcome.Outcome.{Outcome}
 use Rattle.edf_verdict.specs.declared.outcome.Outcome.TheVariants as outcomes
 use Rattle.edf_check.specs.Runs.{PartsRunStops}

@@ -9,7 +9,7 @@ use Rattle.edf_verdict.specs.declared.verdict.Verdict.{Verdict}
 use Rattle.edf_verdict.specs.Lines.{verdict_line}
 use Rattle.edf_verdict.specs.PartsLines.{parts_verdict_line}
 use Rattle.edf_check.specs.Runs.{IsVerdictUnder, IsPartsVerdictUnder}
-use Rattle.edf_stop.specs.declared.stop.ReportStop.{ReportStop}
+use Rattle.edf_stop.specs.declared.stops.ReportStop.{ReportStop}
 use Rattle.edf_stop.specs.Stops.{ReportStops}
 use Rattle.edf_rows.specs.Rows.{WorkedRow, worked_rows}
 

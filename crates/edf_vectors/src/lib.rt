@@ -2,6 +2,9 @@
 //! compared with the one that is stored for it.
 #![tactic(auto)]
 
-pub mod line;
+mod line_sink;
 mod row_line;
-pub mod vectors;
+mod vectors;
+
+pub use line_sink::Line;
+pub use vectors::vectors_to;

@@ -5,16 +5,14 @@ ghost use Rattle.std.specs.List.{AllByRecursion};
 ghost use Rattle.edf_rows.specs.Rows.{are_several};
 ghost use Rattle.edf_vectors.specs.Vectors.{IsLine, IsLineOfRow, IsPartsLine};
 
-use crate::line::Line;
-use edf_check::run::run;
-use edf_check::run_parts::run_parts;
+use crate::line_sink::Line;
+use edf_check::{run, run_parts};
 use edf_fields::sink::Sink;
 use edf_fields::source::{SliceSource, Source};
 use edf_rows::build::bytes_of;
 use edf_rows::claims::claim_text;
 use edf_rows::rows::{Exports, Row};
-use edf_stop::parts_stop::PartsRunStop;
-use edf_stop::stop::RunStop;
+use edf_stop::{PartsRunStop, RunStop};
 use std::alloc::{AllocError, Global};
 
 /// The line that a run writes on two files in memory.

@@ -9,7 +9,7 @@ ghost use Rattle.edf_vectors.specs.Vectors.{row_text, RowStops, IsRowWritten, Ar
 use crate::row_line::line_of_row;
 use edf_fields::sink::{Sink, put_all};
 use edf_rows::rows::{Row, worked_rows};
-use edf_stop::stop::ReportStop;
+use edf_stop::ReportStop;
 use edf_verdict::outcome::Outcome;
 use std::alloc::{AllocError, Global};
 

@@ -1,9 +1,9 @@
 -- For what a command on files is refused, beside what is said where a call is made.
 use Rattle.std.specs.Prelude.{◌≡◌, ◌≢◌, ◌⊎◌, ℕ, ◌<◌}
-use Rattle.edf_refusal.specs.declared.refusal.Refusal.{Refusal}
-use Rattle.edf_refusal.specs.declared.refusal.Refusal.TheVariants as refusals
-use Rattle.edf_refusal.specs.declared.refusal.Role.{Role}
-use Rattle.edf_refusal.specs.declared.refusal.Role.TheVariants as roles
+use Rattle.edf_refusal.specs.declared.refusals.Refusal.{Refusal}
+use Rattle.edf_refusal.specs.declared.refusals.Refusal.TheVariants as refusals
+use Rattle.edf_refusal.specs.declared.refusals.Role.{Role}
+use Rattle.edf_refusal.specs.declared.refusals.Role.TheVariants as roles
 
 -- the file of this role can't be opened, or memory ran out
 abbrev pub OpeningStops : Role → Refusal → Type 0

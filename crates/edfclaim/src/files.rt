@@ -3,14 +3,14 @@
 ghost use Rattle.std.specs.Prelude.{◌≡◌, ◌≤◌, length, take, IfOk, IfErr, IsTrue};
 ghost use Rattle.edf_fields.specs.Sources.{Fails};
 ghost use Rattle.edf_refusal.specs.Refusals.{ClaimReadStops};
-ghost use Rattle.edf_refusal.specs.declared.refusal.Refusal.TheVariants as refusals;
+ghost use Rattle.edf_refusal.specs.declared.refusals.Refusal.TheVariants as refusals;
 ghost use Rattle.edfclaim.specs.Opening.{ClaimTextStops, OpeningStops};
 
 use crate::signs::{Signs, Watched};
 use edf_claim::claim::MOST_BYTES;
 use edf_fields::source::{ReadSource, Source, fill};
-use edf_receipt::digest_source::DigestSource;
-use edf_refusal::refusal::{Refusal, Role};
+use edf_receipt::DigestSource;
+use edf_refusal::{Refusal, Role};
 use std::alloc::Global;
 use std::fs;
 use std::io::{BufReader, ErrorKind, Read};

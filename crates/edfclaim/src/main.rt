@@ -1,8 +1,8 @@
 //! `edfclaim`: checks whether an exported sleep recording is the original night, cut as a claim says, and
 //! nothing else.
 //!
-//! The check is `edf_check::check::check`; what its Yes means is the first clause of its contract. That of several
-//! exports of one original is `edf_check::check_parts::check_parts`. The
+//! The check is `edf_check::check`; what its Yes means is the first clause of its contract. That of several
+//! exports of one original is `edf_check::check_parts`. The
 //! program reads its words (`edf_command_line`), does the job (`perform`), and ends with the status of its outcome
 //! (`status`). Why a job is refused is a `Refusal`, whose one line goes to standard error.
 #![tactic(auto)]
@@ -18,8 +18,7 @@ ghost use Rattle.edf_job.specs.Jobs.{HasExports};
 use clap::error::ErrorKind;
 use edf_command_line::command;
 use edf_job::job::Job;
-use edf_refusal::refusal::Refusal;
-use edf_refusal::status;
+use edf_refusal::{Refusal, status};
 use std::io::IsTerminal;
 use std::process::ExitCode;
 use std::rt::{Env, Files};
@@ -73,7 +72,7 @@ fn answer_job(
         refuse(rt, refusal.text());
         hint(rt, asked, refusal);
     }
-    status::status(&ended)
+    status(&ended)
 }
 
 /// Does what the words say, of which the first is the program's name, and gives the status.

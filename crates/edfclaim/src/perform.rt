@@ -2,7 +2,7 @@
 
 ghost use Rattle.std.specs.Prelude.{◌≡◌, ◌<◌, length, Err, IfErr};
 ghost use Rattle.edf_job.specs.Jobs.{HasExports};
-ghost use Rattle.edf_refusal.specs.declared.refusal.Refusal.TheVariants as refusals;
+ghost use Rattle.edf_refusal.specs.declared.refusals.Refusal.TheVariants as refusals;
 ghost use Rattle.edfclaim.specs.Opening.{CheckIsRefused, DraftIsRefused, PartsAreRefused, ReportIsRefused};
 
 use crate::files::{claim_text, digested_recordings, recording, recordings, watched};
@@ -14,14 +14,12 @@ use edf_draft::draft::draft_to;
 use edf_explain::explained::run_explained;
 use edf_fields::sink::{Sink, WriteSink};
 use edf_job::job::Job;
-use edf_receipt::digest_source::DigestSource;
-use edf_receipt::parts_receipt::receipt_parts_to;
-use edf_receipt::receipt::receipt_to;
-use edf_refusal::refusal::{Refusal, Role};
+use edf_receipt::{DigestSource, receipt_parts_to, receipt_to};
+use edf_refusal::{Refusal, Role};
 use edf_report::conform::conform_to;
 use edf_report::notes::notes_to;
 use edf_report::show::show_to;
-use edf_vectors::vectors::vectors_to;
+use edf_vectors::vectors_to;
 use edf_verdict::outcome::Outcome;
 use std::io;
 use std::rt::Files;
@@ -46,7 +44,7 @@ fn check<'a, R: Files + Eprint + Clock + AllocGlobal, K: Sink>(
     let text = claim_text(signs.rt(), claim)?;
     let mut first = watched(signs, original, Role::Original)?;
     let mut second = watched(signs, export, Role::Export)?;
-    Ok(run::run(signs.rt().alloc(), &mut first, &mut second, &text, sink)?)
+    Ok(run(signs.rt().alloc(), &mut first, &mut second, &text, sink)?)
 }
 
 /// Checks exports, in the order of time, against their one original under a claim.
@@ -70,7 +68,7 @@ fn check_parts<'a, R: Files + Eprint + Clock + AllocGlobal, K: Sink>(
     let text = claim_text(signs.rt(), claim)?;
     let mut first = watched(signs, original, Role::Original)?;
     let mut parts = recordings(signs, exports, Role::Export)?;
-    Ok(run_parts::run_parts(signs.rt().alloc(), &mut first, &mut parts, &text, sink)?)
+    Ok(run_parts(signs.rt().alloc(), &mut first, &mut parts, &text, sink)?)
 }
 
 /// The same as `check`, with a receipt for its answer.

@@ -5,7 +5,7 @@ ghost use Rattle.edf_check.specs.parts.PartsFirst.{rank as rank_of};
 ghost use Rattle.edf_check.specs.parts.PartsFound.{earlier_of, first_of, found_with as found_with_those};
 
 use crate::parts::part::Course;
-use edf_pace::samples::earliest::Found;
+use edf_pace::Found;
 use edf_verdict::verdict::Verdict;
 
 /// The verdict on the header of a part.

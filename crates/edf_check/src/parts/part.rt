@@ -12,17 +12,11 @@ ghost use Rattle.edf_pace.specs.walk.Shown.{IfAtHand, IsAhead, IsGoing, StandsAt
 
 use edf_fields::source::Source;
 use edf_heads::head_difference::head_difference;
-use edf_pace::samples::earliest::Found;
-use edf_pace::time::Time;
-use edf_pace::walk::fault_of::FaultOf;
-use edf_pace::walk::gather::View;
-use edf_pace::walk::layout::common_room;
-use edf_pace::walk::lockstep::{Frame, end_both, export_fault, walk_on};
-use edf_pace::walk::offset::Offset;
-use edf_pace::walk::reading::{Reading, begin_ps_of, finish, go_on, open, start};
-use edf_pace::walk::track::pairs_of;
-use edf_pace::walk::turn::Turn;
-use edf_stop::parts_stop::{PartSide, PartsStop};
+use edf_pace::{
+    FaultOf, Found, Frame, Offset, Reading, Time, Turn, View, begin_ps_of, common_room, end_both,
+    export_fault, finish, go_on, open, pairs_of, start, walk_on,
+};
+use edf_stop::{PartSide, PartsStop};
 use edf_stream::conform::Summary;
 use edf_stream::note_keeper::KeepsNone;
 use edf_stream::notes::Note;

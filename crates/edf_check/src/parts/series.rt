@@ -13,10 +13,8 @@ ghost use Rattle.edf_pace.specs.walk.Shown.{IsAhead, IsGoing};
 use crate::parts::found::{PartsFound, found_with};
 use crate::parts::part::{PartRead, read_part};
 use edf_fields::source::Source;
-use edf_pace::walk::fault_of::FaultOf;
-use edf_pace::walk::reading::Reading;
-use edf_pace::walk::turn::Turn;
-use edf_stop::parts_stop::PartsStop;
+use edf_pace::{FaultOf, Reading, Turn};
+use edf_stop::PartsStop;
 use edf_stream::notes::Note;
 use std::alloc::AllocError;
 

@@ -14,14 +14,10 @@ use crate::parts::found::PartsFound;
 use crate::parts::series::{Exported, read_parts};
 use edf_claim::claim::Claim;
 use edf_fields::source::Source;
-use edf_pace::notes::note_difference::note_difference;
-use edf_pace::samples::sample_difference::with_label;
-use edf_pace::time::BEGINNING;
-use edf_pace::walk::fault_of::FaultOf;
-use edf_pace::walk::gather::View;
-use edf_pace::walk::reading::{Reading, start};
-use edf_pace::walk::turn::{Setting, Turn};
-use edf_stop::parts_stop::{PartSide, PartsStop};
+use edf_pace::{
+    BEGINNING, FaultOf, Reading, Setting, Turn, View, note_difference, start, with_label,
+};
+use edf_stop::{PartSide, PartsStop};
 use edf_stream::notes::Note;
 use edf_verdict::parts_verdict::PartsVerdict;
 use edf_verdict::verdict::Verdict;

@@ -1,13 +1,13 @@
 //! The samples of a lane that stand between two times.
 
 ghost use Rattle.std.specs.Prelude.{◌≡◌, ◌≤◌, ◌<◌, ◌*◌, ◌^◌, length, unsigned_abs};
-ghost use Rattle.edf_pace.specs.declared.time.Window.{Window};
+ghost use Rattle.edf_pace.specs.declared.times.Window.{Window};
 ghost use Rattle.edf_pace.specs.walk.Windows.{IsPartBy, IsShareOf};
 ghost use Rattle.edf_pace.specs.samples.Stretches.{points_in, IsBounded, IsPart, stretch_points, since, until};
 
 use crate::samples::share::Share;
 use crate::samples::stretch::{Stretch, count_before};
-use crate::time::Window;
+use crate::times::Window;
 use edf_stream::grid::num_at;
 
 /// That of lanes without samples.

@@ -8,11 +8,11 @@ ghost use Rattle.edf_pace.specs.samples.Stretches.{AreAlikeBefore, IsBounded, Is
 ghost use Rattle.edf_pace.specs.InstantOrder.{IsModest};
 ghost use Rattle.edf_pace.specs.samples.Differences.{first_difference_of};
 
-use crate::first_difference::first_difference;
+use crate::bytes::first_difference;
 use crate::samples::difference::{PointDifference, difference_of_heads};
 use crate::samples::instants::product;
 use crate::samples::point::Point;
-use crate::time::Time;
+use crate::times::Time;
 use edf_stream::grid::{distance, num_at};
 use edf_stream::instant::Instant;
 use edf_stream::value::value_at;

@@ -6,8 +6,8 @@ ghost use Rattle.std.specs.Ordering.{int_eq};
 ghost use Rattle.edf_stream.specs.Readers.{is_current};
 ghost use Rattle.edf_pace.specs.walk.Pairs.{AreLaidAlike, AreLanesAlike, AreRecordsAlike, are_together as begin_together, IsTrack, ArePairs};
 
-use crate::first_difference::first_difference;
-use crate::time::Window;
+use crate::bytes::first_difference;
+use crate::times::Window;
 use crate::walk::clock::Clock;
 use crate::walk::offset::Offset;
 use crate::walk::reading::{begin_ps_of, end_ps_of};

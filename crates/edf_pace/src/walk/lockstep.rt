@@ -10,11 +10,11 @@ ghost use Rattle.edf_pace.specs.walk.Ends.{AreFaulty, AreThrough, FaultyBy, IsFi
 ghost use Rattle.edf_pace.specs.walk.Pairs.{AreAlikeIn, IsFrame};
 ghost use Rattle.edf_pace.specs.walk.Readings.{ExportIn, ExportMoves, HasGoneOn, OriginalIn, OriginalMoves, going};
 ghost use Rattle.edf_pace.specs.walk.Shown.{IsBehind, IsGoing, Reaches, StandsAt};
-ghost use Rattle.edf_stop.specs.declared.parts_stop.PartSide.TheVariants as sides;
+ghost use Rattle.edf_stop.specs.declared.parts_stops.PartSide.TheVariants as sides;
 ghost use Rattle.edf_pace.specs.walk.Windows.{IsDifferenceBy};
 
 use crate::samples::earliest::Found;
-use crate::time::{Time, Window};
+use crate::times::{Time, Window};
 use crate::walk::clock::Clock;
 use crate::walk::fault_of::FaultOf;
 use crate::walk::gather::View;
@@ -26,7 +26,7 @@ use crate::walk::window::{keeps_at, window_difference};
 use edf_claim::claim::Claim;
 use edf_fields::fault::Fault;
 use edf_fields::source::Source;
-use edf_stop::parts_stop::{PartSide, PartsStop};
+use edf_stop::{PartSide, PartsStop};
 use edf_stream::reader::FileReader;
 
 /// What an original and a part are compared by: the channels of each label in both, and how many bytes of a data record

@@ -10,14 +10,14 @@ ghost use Rattle.edf_pace.specs.walk.Readings.{HasCome, HasFirst, HasFollowed, H
 ghost use Rattle.edf_pace.specs.walk.Shown.{IfAtHand, IsAhead, IsBehind, IsEndOf, IsGoing, IsNear, OneMore, Reaches, begins_at, ends_at};
 ghost use Rattle.edf_pace.specs.walk.Ends.{HasFinished};
 
-use crate::time::{Time, Window};
+use crate::times::{Time, Window};
 use crate::walk::clock::{Clock, start_ps_of};
 use crate::walk::gather::{Delay, Gathering, View};
 use crate::walk::offset::Offset;
 use edf_fields::fault::Fault;
 use edf_fields::source::Source;
 use edf_header::stop::Stop;
-use edf_stop::parts_stop::{PartSide, PartsStop};
+use edf_stop::{PartSide, PartsStop};
 use edf_stream::grid::file_start_ps;
 use edf_stream::note_keeper::{KeepsNone, NoteKeeper};
 use edf_stream::notes::Note;

@@ -1,6 +1,6 @@
 //! By what files are compared, and whose turn it is.
 
-use crate::time::Time;
+use crate::times::Time;
 use crate::walk::clock::Clock;
 use edf_claim::claim::Claim;
 use std::alloc::Global;

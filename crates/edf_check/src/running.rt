@@ -4,13 +4,13 @@ ghost use Rattle.std.specs.Prelude.{◌≡◌, ◌≢◌, IfOk, IfErr, OnOk, IsT
 ghost use Rattle.edf_claim.specs.declared.stop.ClaimStop.TheVariants as claim_stops;
 ghost use Rattle.edf_claim.specs.Faults.{FirstClaimFault};
 ghost use Rattle.edf_fields.specs.Sources.{Fails, Rises};
-ghost use Rattle.edf_stop.specs.declared.stop.RunStop.TheVariants as stops;
+ghost use Rattle.edf_stop.specs.declared.stops.RunStop.TheVariants as stops;
 ghost use Rattle.edf_check.specs.Runs.{IsReport, IsPartOfReport, IsFrontOfALine, RunStops};
 
-use crate::judge::judge;
+use crate::judging::judge;
 use edf_fields::sink::{Sink, put_all};
 use edf_fields::source::Source;
-use edf_stop::stop::RunStop;
+use edf_stop::RunStop;
 use edf_verdict::outcome::Outcome;
 use std::alloc::Global;
 

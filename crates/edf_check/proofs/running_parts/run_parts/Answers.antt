@@ -3,7 +3,7 @@ use Rattle.std.proofs.lemmas.List.{length-map}
 use Rattle.std.proofs.lemmas.Result.{err_from_is_err_and}
 use Rattle.edf_fields.specs.Sinks.{HoldsPrefix}
 use Rattle.edf_verdict.specs.PartsLines.{parts_verdict_line}
-use Rattle.edf_check.proofs.run_parts.run_parts.Goals as goal
+use Rattle.edf_check.proofs.running_parts.run_parts.Goals as goal
 
 pub returns-in_err-put_all-clause-part : goal.returns-in_err-put_all-clause-part
 returns-in_err-put_all-clause-part g c =

@@ -1,8 +1,8 @@
 //! Why a check of several exports of one original, or a run of it, stops before its end.
 
 ghost use Rattle.std.specs.Prelude.{◌≡◌};
-ghost use Rattle.edf_stop.specs.declared.parts_stop.PartsRunStop.TheVariants as run_stops;
-ghost use Rattle.edf_stop.specs.declared.parts_stop.PartsStop.TheVariants as stops;
+ghost use Rattle.edf_stop.specs.declared.parts_stops.PartsRunStop.TheVariants as run_stops;
+ghost use Rattle.edf_stop.specs.declared.parts_stops.PartsStop.TheVariants as stops;
 ghost use Rattle.edf_stop.specs.Stops.{parts_stop_of_check};
 
 use edf_claim::stop::ClaimStop;

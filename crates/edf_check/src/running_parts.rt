@@ -5,13 +5,13 @@ ghost use Rattle.std.specs.List.{AllByRecursion};
 ghost use Rattle.edf_claim.specs.declared.stop.ClaimStop.TheVariants as claim_stops;
 ghost use Rattle.edf_claim.specs.Faults.{FirstClaimFault};
 ghost use Rattle.edf_fields.specs.Sources.{Fails, Rises};
-ghost use Rattle.edf_stop.specs.declared.parts_stop.PartsRunStop.TheVariants as stops;
+ghost use Rattle.edf_stop.specs.declared.parts_stops.PartsRunStop.TheVariants as stops;
 ghost use Rattle.edf_check.specs.Runs.{IsFrontOfAPartsLine, IsPartsReport, IsPartOfPartsReport, PartsRunStops};
 
-use crate::judge::judge_parts;
+use crate::judging::judge_parts;
 use edf_fields::sink::{Sink, put_all};
 use edf_fields::source::Source;
-use edf_stop::parts_stop::PartsRunStop;
+use edf_stop::PartsRunStop;
 use edf_verdict::outcome::Outcome;
 use std::alloc::Global;
 

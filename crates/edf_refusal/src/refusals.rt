@@ -1,14 +1,12 @@
 //! Why a command is refused, and the line that says so.
 
 ghost use Rattle.std.specs.Prelude.{◌≡◌};
-ghost use Rattle.edf_refusal.specs.declared.refusal.Refusal.TheVariants as refusals;
+ghost use Rattle.edf_refusal.specs.declared.refusals.Refusal.TheVariants as refusals;
 ghost use Rattle.edf_refusal.specs.Refusals.{claim_text, opening_text, reading_text, refusal_of_parts_run, refusal_of_report, refusal_of_run, refusal_text};
 
 use edf_claim::stop::ClaimStop;
 use edf_fields::sink::WriteFault;
-use edf_stop::parts_stop::{PartSide, PartsRunStop};
-use edf_stop::side::Side;
-use edf_stop::stop::{ReportStop, RunStop};
+use edf_stop::{PartSide, PartsRunStop, ReportStop, RunStop, Side};
 use std::alloc::{AllocError, AllocFailed};
 
 /// What a file is to the command that reads it.

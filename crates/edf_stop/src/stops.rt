@@ -1,12 +1,12 @@
 //! Why a check, a run of it or a report stops before its end.
 
 ghost use Rattle.std.specs.Prelude.{◌≡◌};
-ghost use Rattle.edf_stop.specs.declared.stop.CheckStop.TheVariants as check_stops;
-ghost use Rattle.edf_stop.specs.declared.stop.ReportStop.TheVariants as report_stops;
-ghost use Rattle.edf_stop.specs.declared.stop.RunStop.TheVariants as run_stops;
+ghost use Rattle.edf_stop.specs.declared.stops.CheckStop.TheVariants as check_stops;
+ghost use Rattle.edf_stop.specs.declared.stops.ReportStop.TheVariants as report_stops;
+ghost use Rattle.edf_stop.specs.declared.stops.RunStop.TheVariants as run_stops;
 ghost use Rattle.edf_stop.specs.Stops.{stop_of_check, stop_of_claim};
 
-use crate::side::Side;
+use crate::sides::Side;
 use edf_claim::stop::ClaimStop;
 use edf_fields::sink::WriteFault;
 use std::alloc::{AllocError, AllocFailed};

@@ -14,11 +14,8 @@ use crate::parts::together::{conclude_parts, walk_parts};
 use edf_claim::claim::Claim;
 use edf_fields::source::Source;
 use edf_heads::labels::in_order;
-use edf_pace::walk::clock::Clock;
-use edf_pace::walk::fault_of::FaultOf;
-use edf_pace::walk::reading::open;
-use edf_pace::walk::turn::Setting;
-use edf_stop::parts_stop::{PartSide, PartsStop};
+use edf_pace::{Clock, FaultOf, Setting, open};
+use edf_stop::{PartSide, PartsStop};
 use edf_verdict::parts_verdict::PartsVerdict;
 use std::alloc::Global;
 

@@ -5,7 +5,7 @@ use Rattle.edf_pace.specs.declared.walk.fault_of.FaultOf.TheVariants as faults
 use Rattle.edf_check.specs.parts.PartsVerdicts.{IsPartsVerdict}
 use Rattle.edf_check.proofs.parts.LeftFacts.{read_all, read_fault}
 use Rattle.edf_check.proofs.parts.TogetherFacts.{fault_verdict}
-use Rattle.edf_check.proofs.check_parts.check_series.Goals as goal
+use Rattle.edf_check.proofs.of_several.check_series.Goals as goal
 
 pub returns-in-Ok-Err-clause-verdict : goal.returns-in-Ok-Err-clause-verdict
 returns-in-Ok-Err-clause-verdict g c = λ ho he.

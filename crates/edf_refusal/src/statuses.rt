@@ -3,7 +3,7 @@
 ghost use Rattle.std.specs.Prelude.{◌≡◌};
 ghost use Rattle.edf_refusal.specs.Statuses.{status_of};
 
-use crate::refusal::Refusal;
+use crate::refusals::Refusal;
 use edf_verdict::outcome::Outcome;
 
 /// The status of a command: 0 for Yes, 1 for No, 2 for a refusal.

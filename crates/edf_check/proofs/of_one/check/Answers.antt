@@ -1,6 +1,6 @@
 use Rattle.edf_check.proofs.HeadlineFacts.{yes_means}
 use Rattle.edf_check.proofs.parts.PartsVerdictFacts.{one_part_verdict}
-use Rattle.edf_check.proofs.check.check.Goals as goal
+use Rattle.edf_check.proofs.of_one.check.Goals as goal
 
 pub returns-in-Ok-clause-verdict : goal.returns-in-Ok-clause-verdict
 returns-in-Ok-clause-verdict g c = λ first second.

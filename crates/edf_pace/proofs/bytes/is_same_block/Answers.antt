@@ -3,7 +3,7 @@ use Rattle.std.proofs.lemmas.Simd.{tops_compared, length-chunk, get_or-chunk, ma
 use Rattle.std.proofs.lemmas.Bool.Decides.{nat_tests}
 use Rattle.std.specs.Simd.Lanes.{mask_l, zip2, top, chunk}
 use Rattle.edf_fields.proofs.ForCallers.{same-lanes}
-use Rattle.edf_pace.proofs.first_difference.is_same_block.Goals as goal
+use Rattle.edf_pace.proofs.bytes.is_same_block.Goals as goal
 
 pub returns : goal.returns
 returns c = λ same k low high.

@@ -3,13 +3,12 @@
 ghost use Rattle.std.specs.Prelude.{◌≡◌, ◌<◌, ◌≤◌, map, length, IfOk, IfErr, OnOk};
 ghost use Rattle.edf_check.specs.Runs.{IsJudged, JudgeStops, IsPartsJudged, PartsJudgeStops};
 
-use crate::check::check;
-use crate::check_parts::check_parts;
+use crate::of_one::check;
+use crate::of_several::check_parts;
 use edf_claim::claim::Claim;
 use edf_claim::stop::ClaimStop;
 use edf_fields::source::Source;
-use edf_stop::parts_stop::PartsRunStop;
-use edf_stop::stop::RunStop;
+use edf_stop::{PartsRunStop, RunStop};
 use edf_verdict::parts_verdict::PartsVerdict;
 use edf_verdict::verdict::Verdict;
 use std::alloc::Global;

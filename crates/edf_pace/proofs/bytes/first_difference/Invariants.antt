@@ -1,5 +1,5 @@
 use Rattle.edf_pace.specs.samples.Stretches.{AreAlikeBefore}
-use Rattle.edf_pace.proofs.first_difference.first_difference.Given as goal
+use Rattle.edf_pace.proofs.bytes.first_difference.Given as goal
 
 abbrev pub invariant-loop-place : goal.invariant-loop-place
 invariant-loop-place l = AreAlikeBefore l.place l.a l.b

@@ -6,12 +6,10 @@ ghost use Rattle.edf_check.specs.Checks.{AreRead, CheckStops};
 ghost use Rattle.edf_check.specs.Headline.{YesMeans};
 ghost use Rattle.edf_check.specs.Verdicts.{IsVerdict};
 
-use crate::check_parts::check_series;
+use crate::of_several::check_series;
 use edf_claim::claim::Claim;
 use edf_fields::source::Source;
-use edf_stop::parts_stop::{PartSide, PartsStop};
-use edf_stop::side::Side;
-use edf_stop::stop::CheckStop;
+use edf_stop::{CheckStop, PartSide, PartsStop, Side};
 use edf_verdict::verdict::Verdict;
 use std::alloc::Global;
 
