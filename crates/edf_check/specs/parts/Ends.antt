@@ -1,5 +1,5 @@
--- How a walk over the data records of an original and a part ends. By `ps` a file is moved: its times, in picoseconds after 1970-01-01
--- 00:00:00, then count from the second at which the original starts, before the shift. These are steps between the definitions and the code.
+-- How a part is read to its end beside an original, compared or passed over, and what follows behind it. By `ps` a file is moved, as in the
+-- walk. These are steps between the definitions and the code.
 use Rattle.std.specs.Prelude.{◌≡◌, ℕ, ℤ, ◌≤ℤ◌, ◌<ℤ◌, Bool, true, false, not, ◌&&◌, IsTrue, is_some, List, map, None, Some, MatchOption}
 use Rattle.edf_check.specs.Words.{Terms, Ghosts, Head, head_of, HeadsAgree, IsHeadVerdict, NoteValue, Reader, note_value, Course, Reading, Time, Turn, FaultOf}
 use Rattle.edf_check.specs.declared.parts.part.PartRead.{PartRead}

@@ -152,7 +152,7 @@ pub fn end_both<O: Source, E: Source>(
     }
 }
 
-/// The first time behind `from` at which the claim begins or ceases to keep, or `to`, where that is
+/// The first time behind `from` at which an interval of the claim begins or ends, or `to`, where that is
 /// earlier.
 fn border(claim: &Claim, from: Time, to: Time) -> Time
     requires { from.ps <ℤ to.ps }
