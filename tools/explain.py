@@ -62,6 +62,7 @@ WORDS = {
     "a name in an annotation": ["a word of the patient's name", '"Haagse calls"'],
     "a time of a claim without quotation marks": ["line 4: from = 600", 'write from = "600"'],
     "a key of a claim that is misspelt": ["line 3: remvoe = ", "remove may be meant"],
+    "a key of format 2 that is misspelt": ["line 3: blanks = ", "blank may be meant"],
     "a name of a subfield that is misspelt": ['"brithdate"', "birthdate may be meant"],
     "single brackets": ["[[keep]]", "double brackets"],
     "a shift behind an interval": ["shift", "before the first [[keep]]"],
@@ -156,6 +157,8 @@ def mistakes():
     behind = '[[keep]]\nfrom = "0"\nto = "4"\n'
     yield "a time of a claim without quotation marks", 2, WHOLE, WHOLE, f'{front}[[keep]]\nfrom = 600\nto = "660"\n'
     yield "a key of a claim that is misspelt", 2, WHOLE, WHOLE, f'{front}remvoe = ["Apnea"]\n{behind}'
+    second = front.replace("format = 1", "format = 2")
+    yield "a key of format 2 that is misspelt", 2, WHOLE, WHOLE, f'{second}blanks = ["Apnea"]\n{behind}'
     yield "a name of a subfield that is misspelt", 2, WHOLE, WHOLE, f'{front}anonymous = ["name", "brithdate"]\n{behind}'
     yield "single brackets", 2, WHOLE, WHOLE, front + behind.replace("[[keep]]", "[keep]")
     yield "a shift behind an interval", 2, WHOLE, WHOLE, f"{front}{behind}shift = -86400\n"
