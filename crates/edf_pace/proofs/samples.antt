@@ -5,3 +5,4 @@ pub mod EarliestFacts
 pub mod StretchFacts
 pub mod FilterFacts
 pub mod CutFacts
+pub mod TallyFacts

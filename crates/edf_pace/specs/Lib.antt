@@ -4,6 +4,7 @@ pub mod InstantOrder
 pub mod Premises
 pub mod Kept
 pub mod Annotations
+pub mod Laws
 pub mod PartsStops
 pub mod samples
 pub mod notes

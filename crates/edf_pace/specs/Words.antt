@@ -28,7 +28,7 @@ pub use Rattle.edf_pace.specs.declared.samples.share.Share.{Share}
 pub use Rattle.edf_pace.specs.declared.walk.channel_place.ChannelPlace.{ChannelPlace}
 pub use Rattle.edf_pace.specs.declared.walk.clock.Clock.{Clock}
 pub use Rattle.edf_pace.specs.declared.walk.gather.View.{View}
-pub use Rattle.edf_pace.specs.declared.walk.lockstep.Frame.{Frame}
+pub use Rattle.edf_pace.specs.declared.walk.frame.Frame.{Frame}
 pub use Rattle.edf_pace.specs.declared.walk.reading.Reading.{Reading}
 pub use Rattle.edf_pace.specs.declared.times.Time.{Time}
 pub use Rattle.edf_pace.specs.declared.times.Window.{Window}

@@ -1,1 +1,2 @@
 pub mod NoteOrder
+pub mod NoteTallies

@@ -1,3 +1,4 @@
 pub mod Differences
 pub mod Columns
 pub mod Stretches
+pub mod Tallies

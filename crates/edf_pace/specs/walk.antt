@@ -4,4 +4,6 @@ pub mod Keepers
 pub mod Pairs
 pub mod Readings
 pub mod Windows
+pub mod Watching
+pub mod Counting
 pub mod Ends

@@ -3,6 +3,7 @@
 #![tactic(auto)]
 
 mod bytes;
+pub mod laws;
 mod notes;
 mod samples;
 mod times;
@@ -10,15 +11,23 @@ mod walk;
 
 pub use bytes::first_difference;
 pub use notes::note_difference::{NoteDifference, note_difference};
+pub use notes::note_tally::{NoteTally, count_notes};
+pub use notes::unequal::Unequal;
+pub use samples::difference::PointDifference;
 pub use samples::earliest::Found;
 pub use samples::sample_difference::{SampleDifference, with_label};
+pub use samples::tally::Tally;
 pub use times::{BEGINNING, Time, Window};
 pub use walk::clock::Clock;
+pub use walk::counts::Counts;
 pub use walk::fault_of::FaultOf;
+pub use walk::first_found::FirstFound;
+pub use walk::frame::Frame;
 pub use walk::gather::View;
 pub use walk::layout::common_room;
-pub use walk::lockstep::{Frame, ReadOn, end_both, export_fault, walk_on};
+pub use walk::lockstep::{ReadOn, end_both, export_fault, walk_on};
 pub use walk::offset::Offset;
 pub use walk::reading::{Reading, begin_ps_of, finish, go_on, open, start};
 pub use walk::track::pairs_of;
 pub use walk::turn::{Setting, Turn};
+pub use walk::watcher::{Watch, Watcher};

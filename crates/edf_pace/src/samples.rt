@@ -8,3 +8,4 @@ pub mod point;
 pub mod sample_difference;
 pub mod share;
 pub mod stretch;
+pub mod tally;

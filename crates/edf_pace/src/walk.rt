@@ -2,12 +2,17 @@
 
 pub mod channel_place;
 pub mod clock;
+pub mod counts;
 pub mod fault_of;
+pub mod first_found;
+pub mod frame;
 pub mod gather;
 pub mod layout;
 pub mod lockstep;
 pub mod offset;
 pub mod reading;
+pub mod shares;
 pub mod track;
 pub mod turn;
+pub mod watcher;
 pub mod window;

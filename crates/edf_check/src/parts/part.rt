@@ -13,8 +13,8 @@ ghost use Rattle.edf_pace.specs.walk.Shown.{IfAtHand, IsAhead, IsGoing, StandsAt
 use edf_fields::source::Source;
 use edf_heads::head_difference::head_difference;
 use edf_pace::{
-    FaultOf, Found, Frame, Offset, Reading, Time, Turn, View, begin_ps_of, common_room, end_both,
-    export_fault, finish, go_on, open, pairs_of, start, walk_on,
+    FaultOf, FirstFound, Found, Frame, Offset, Reading, Time, Turn, View, Watch, begin_ps_of,
+    common_room, end_both, export_fault, finish, go_on, open, pairs_of, start, walk_on,
 };
 use edf_stop::{PartSide, PartsStop};
 use edf_stream::conform::Summary;
@@ -127,12 +127,17 @@ fn compare_on<O: Source, E: Source>(
         pairs: &pairs,
         room,
     };
-    let read = match walk_on(original, o, export, e, frame) {
+    let mut watch = Watch {
+        frame,
+        watcher: FirstFound { found: None },
+    };
+    let read = match walk_on(original, o, export, e, &mut watch) {
         Ok(Ok(read)) => read,
         Ok(Err(fault)) => return Ok(Err(fault)),
         Err(stop) => return Err(stop),
     };
-    if !is_over(read.found, turn.is_last) {
+    let found = watch.watcher.found;
+    if !is_over(found, turn.is_last) {
         return Ok(Ok(Course {
             is_early: false,
             end: read.reached,
@@ -143,7 +148,7 @@ fn compare_on<O: Source, E: Source>(
         Ok(Ok(end)) => Ok(Ok(Course {
             is_early: false,
             end,
-            found: read.found,
+            found,
         })),
         Ok(Err(fault)) => Ok(Err(fault)),
         Err(stop) => Err(stop),

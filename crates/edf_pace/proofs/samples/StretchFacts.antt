@@ -60,7 +60,7 @@ behind_step s k lt =
     ap (λ bytes. stretch_points (s.num +ℤ pos k *ℤ s.step) s.step bytes) (drop-two k s.bytes.now lt)
     ∙ ap (λ z. p ∷ stretch_points z s.step (drop (2 * (k + 1)) s.bytes.now)) (one-on s.num s.step k ∙ ap (λ j. s.num +ℤ pos j *ℤ s.step) (sym e))
 
-behind-end : (s : Stretch) (k : ℕ) → length s.bytes.now ≤ 2 * k + 1 → points_behind s k ≡ []
+pub behind-end : (s : Stretch) (k : ℕ) → length s.bytes.now ≤ 2 * k + 1 → points_behind s k ≡ []
 unfolding points_behind
 behind-end s k le = drop-few k (s.num +ℤ pos k *ℤ s.step) s.step s.bytes.now le
 

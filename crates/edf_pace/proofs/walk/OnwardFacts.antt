@@ -1,5 +1,5 @@
 -- One step of a walk over two files from a time on, and where it ends.
-use Rattle.std.proofs.Common.{◌≡◌, ℕ, zero, suc, ◌<◌, ◌≤◌, ℤ, ◌+ℤ◌, ◌<ℤ◌, ◌≤ℤ◌, Bool, true, false, inl, inr, List, map, Option, None, Some, refl, sym, ap, ◌∙◌, arith, subst}
+use Rattle.std.proofs.Common.{◌≡◌, ℕ, zero, suc, ◌<◌, ◌≤◌, ℤ, ◌+ℤ◌, ◌<ℤ◌, ◌≤ℤ◌, Bool, true, false, inl, inr, List, map, Option, None, Some, is_some, refl, sym, ap, ◌∙◌, arith, subst}
 use Rattle.std.proofs.lemmas.Bool.{cases_lt}
 use Rattle.std.proofs.lemmas.Int.{ints}
 use Rattle.std.specs.Option.{option_or}
@@ -15,18 +15,20 @@ use Rattle.edf_stream.specs.StartsReading.{start_at, end_at, end_before}
 use Rattle.edf_stream.proofs.ForCallers.{starts-behind}
 use Rattle.edf_pace.specs.declared.samples.earliest.Found.{Found}
 use Rattle.edf_pace.specs.declared.walk.lockstep.ReadOn.{ReadOn}
-use Rattle.edf_pace.specs.declared.walk.track.Pair.{Pair}
+use Rattle.edf_pace.specs.declared.walk.frame.Frame.{Frame}
+use Rattle.edf_pace.specs.declared.times.Window.{Window}
 use Rattle.edf_pace.specs.declared.walk.turn.Turn.{Turn}
-use Rattle.edf_pace.specs.walk.Windows.{sampled, rest_difference, window_difference, span_difference}
-use Rattle.edf_pace.specs.walk.Pairs.{Places, places_of, ArePairs, places_in}
+use Rattle.edf_pace.specs.walk.Windows.{IsDifferenceBy, sampled, rest_difference, window_difference, span_difference}
+use Rattle.edf_pace.specs.walk.Pairs.{IsFrame, Places, places_of, places_in}
 use Rattle.edf_pace.specs.walk.Shown.{Shows, ArePast, Reaches, IsGoing, Covers, ends_at, begin_by, last_end_by}
 use Rattle.edf_pace.specs.walk.Readings.{IsAt}
-use Rattle.edf_pace.specs.walk.Ends.{IsMatched, IsWalked, moved_export, moved_original}
+use Rattle.edf_pace.specs.walk.Ends.{IsMatched, IsWalked}
+use Rattle.edf_pace.specs.walk.Watching.{HasSeen, TwoFiles, first_between, moved_export, moved_original, two_files}
 use Rattle.edf_pace.proofs.walk.LockstepFacts.{HasEnded, are_places, covers_at, has_ended}
 use Rattle.edf_pace.proofs.walk.PassFacts.{current_is}
 use Rattle.edf_pace.proofs.walk.RecordFacts.{lasts}
 use Rattle.edf_pace.proofs.walk.SplitFacts.{ArePlaces, at_end}
-use Rattle.edf_pace.proofs.walk.WindowFacts.{window_parts, rest_parts}
+use Rattle.edf_pace.proofs.walk.WindowFacts.{window_none, window_parts, rest_parts}
 
 -- ---- where a file ends
 
@@ -86,22 +88,36 @@ ends_there first old new left left' ns ms file claim ps t u ho hn current going 
 
 -- ---- a step
 
--- what is found from s on and before u, where nothing is found before t
-pub window_next : (claim : Terms) (pairs : List Pair) (fo fe ro re : Reader) (lo le : List ℕ) (ns ms : List NoteValue) (x y : List ℕ) (a b s t u end : ℤ) (now : Option Found)
-    → ro.head ≡ fo.head → re.head ≡ fe.head → Conforms x fo.head → Conforms y fe.head → ArePairs fo.head fe.head pairs → s ≤ℤ t → t <ℤ u → u ≤ℤ end → Reaches ro a end → Reaches re b end
-    → IsAt ro lo ns x (Some claim) a t → IsAt re le ms y None b t
-    → ((v w : List ℕ) → Covers ro v a t u → Covers re w b t u → now ≡ window_difference claim (sampled v ro.head a) (sampled w re.head b) (map places_of pairs) t u)
-    → window_difference claim (sampled x fo.head a) (sampled y fe.head b) (map places_of pairs) s t ≡ None
-    → window_difference claim (sampled x fo.head a) (sampled y fe.head b) (map places_of pairs) s u ≡ now
-window_next claim pairs fo fe ro re lo le ns ms x y a b s t u end now ho he co ce are from lt within oo ee ao ae value before =
-    let ps = map places_of pairs in
-    let found : now ≡ window_difference claim (sampled x fo.head a) (sampled y fe.head b) ps t u =
-    value x y (covers_at fo ro lo ns x (Some claim) a t u end ho co ao oo within) (covers_at fe re le ms y None b t u end he ce ae ee within)
-    ∙ ap (λ h. window_difference claim (sampled x h a) (sampled y re.head b) ps t u) ho
-    ∙ ap (λ h. window_difference claim (sampled x fo.head a) (sampled y h b) ps t u) he in
-    window_parts claim x y fo.head fe.head a b ps s t u co ce (are_places fo.head fe.head pairs are) from (omega (arith, ints, lt))
-    ∙ ap (λ z. option_or z (window_difference claim (sampled x fo.head a) (sampled y fe.head b) ps t u)) before
-    ∙ sym found
+-- who held what there is before t, holds what there is before u once it has seen what two readers show
+pub seen_next : (Held Holds : TwoFiles → ℤ → ℤ → Type 0) (frame : Frame) (fo fe ro re : Reader) (lo le : List ℕ) (ns ms : List NoteValue) (x y : List ℕ) (s t u end : ℤ)
+    → ro.head ≡ fo.head → re.head ≡ fe.head → Conforms x fo.head → Conforms y fe.head → s ≤ℤ t → t <ℤ u → u ≤ℤ end
+    → Reaches ro (moved_original frame.turn) end → Reaches re (moved_export frame.turn) end
+    → IsAt ro lo ns x (Some ((frame.turn).setting.claim).now) (moved_original frame.turn) t → IsAt re le ms y None (moved_export frame.turn) t
+    → HasSeen Held Holds frame ro re t u
+    → Held (two_files x fo.head y fe.head) s t → Holds (two_files x fo.head y fe.head) s u
+seen_next Held Holds frame fo fe ro re lo le ns ms x y s t u end ho he co ce from later within oo ee ao ae seen =
+    let a = moved_original frame.turn in
+    let b = moved_export frame.turn in
+    let P : Head → Type 0 = λ h. Held (two_files x h y re.head) s t → Holds (two_files x h y re.head) s u in
+    let Q : Head → Type 0 = λ g. Held (two_files x fo.head y g) s t → Holds (two_files x fo.head y g) s u in
+    subst Q he (subst P ho (seen x y (covers_at fo ro lo ns x (Some ((frame.turn).setting.claim).now) a t u end ho co ao oo within) (covers_at fe re le ms y None b t u end he ce ae ee within) s from))
+
+pub nothing_yet : (held : Option Found) → is_some held ≡ false → held ≡ None
+nothing_yet None p = refl
+nothing_yet (Some f) p = absurd (let z : true ≡ false = p in cc)
+
+-- the first difference between s and u, where there is none before t
+pub first_next : (frame : Frame) (r q : Reader) (w : Window) (x y : List ℕ) (s : ℤ) (held now : Option Found) → IsFrame r.head q.head frame → (w.from).ps ≤ℤ (w.to).ps → held ≡ None → IsDifferenceBy frame r q w now
+    → Covers r x (moved_original frame.turn) (w.from).ps (w.to).ps → Covers q y (moved_export frame.turn) (w.from).ps (w.to).ps → s ≤ℤ (w.from).ps
+    → held ≡ first_between frame (two_files x r.head y q.head) s (w.from).ps → now ≡ first_between frame (two_files x r.head y q.head) s (w.to).ps
+first_next frame r q w x y s held now is order none value cx cy from before =
+    let a = moved_original frame.turn in
+    let b = moved_export frame.turn in
+    let claim = ((frame.turn).setting.claim).now in
+    let ps = map places_of (frame.pairs).now in
+    value x y cx cy
+    ∙ ap (λ z. option_or z (window_difference claim (sampled x r.head a) (sampled y q.head b) ps (w.from).ps (w.to).ps)) (sym none ∙ before)
+    ∙ sym (window_parts claim x y r.head q.head a b ps s (w.from).ps (w.to).ps cx.conforms cy.conforms (are_places r.head q.head (frame.pairs).now is.0) from order)
 
 -- ---- the end
 
@@ -109,8 +125,15 @@ pub other_way : (b : Bool) → b ≡ true → b ≡ false → ⊥
 other_way b p q = let z : true ≡ false = sym p ∙ q in cc
 
 -- what was found is the first difference from the turn's time on, and no difference before a time that all of both is past
-module _ (turn : Turn) (x : List ℕ) (h : Head) (ns : List NoteValue) (y : List ℕ) (g : Head) (ms : List NoteValue) (w : ReadOn) (ps : List Places) (same : ps ≡ places_in h g ((turn.setting).labels).now)
-    (places : ArePlaces h g ps) (from : (turn.from).ps ≤ℤ (w.seen).ps) (is : IsWalked turn ps x h y g w) where
+module _ (frame : Frame) (x : List ℕ) (h : Head) (ns : List NoteValue) (y : List ℕ) (g : Head) (ms : List NoteValue) (w : ReadOn) (found : Option Found) (same : map places_of (frame.pairs).now ≡ places_in h g (((frame.turn).setting).labels).now)
+    (places : ArePlaces h g (map places_of (frame.pairs).now)) (from : ((frame.turn).from).ps ≤ℤ (w.seen).ps)
+    (is : IsWalked frame.turn (two_files x h y g) (λ files t u. None ≡ first_between frame files t u) (λ files t u. found ≡ first_between frame files t u) (is_some found) w) where
+  abbrev turn : Turn
+  turn = frame.turn
+
+  abbrev ps : List Places
+  ps = map places_of (frame.pairs).now
+
   abbrev claim : Terms
   claim = ((turn.setting).claim).now
 
@@ -127,47 +150,50 @@ module _ (turn : Turn) (x : List ℕ) (h : Head) (ns : List NoteValue) (y : List
   v = last_end_by y g b
 
   abbrev Spans : Bool → List Places → Type 0
-  Spans last places' = w.found ≡ span_difference last claim (sampled x h a) (sampled y g b) places' s v
+  Spans last places' = found ≡ span_difference last claim (sampled x h a) (sampled y g b) places' s v
+
+  seen : Conforms x h → Conforms y g → window_difference claim (sampled x h a) (sampled y g b) ps s (w.seen).ps ≡ found
+  seen co ce = sym (is.holds co ce (sym (window_none claim (sampled x h a) (sampled y g b) ps s)))
 
   over : (last : Bool) → turn.is_last ≡ last → Spans last ps → Spans turn.is_last (places_in h g ((turn.setting).labels).now)
   over last e p = let P : Bool → Type 0 = λ l. Spans l (places_in h g ((turn.setting).labels).now) in subst P (sym e) (subst (Spans last) same p)
 
-  pub matched_end : {lo le : List ℕ} → turn.is_last ≡ true → w.found ≡ None → (w.seen).ps ≡ (w.reached).ps → HasEnded lo ns x h (Some claim) a (w.reached).ps → HasEnded le ms y g None b (w.reached).ps → IsMatched turn x h ns y g ms w.found
+  pub matched_end : {lo le : List ℕ} → turn.is_last ≡ true → found ≡ None → (w.seen).ps ≡ (w.reached).ps → HasEnded lo ns x h (Some claim) a (w.reached).ps → HasEnded le ms y g None b (w.reached).ps → IsMatched turn x h ns y g ms found
   matched_end last none at o e =
       let t = (w.reached).ps in
       let ce = (e.through).conforms in
-      let P : ℤ → Type 0 = λ u. window_difference claim (sampled x h a) (sampled y g b) ps s u ≡ w.found in
+      let P : ℤ → Type 0 = λ u. window_difference claim (sampled x h a) (sampled y g b) ps s u ≡ found in
       let rest : ℤ → Option Found = rest_difference claim (sampled x h a) (sampled y g b) ps in
       record {
         first = λ co. over true last
             (none
             ∙ at_end claim x y h g a b ps t None (rest s) co ce places o.past e.past
-            (rest_parts claim x y h g a b ps s t co ce places (let le : s ≤ℤ t = omega (arith, ints, from, at) in le) ∙ ap (λ z. option_or z (rest t)) (subst P at (is.first co ce) ∙ none)));
+            (rest_parts claim x y h g a b ps s t co ce places (let le : s ≤ℤ t = omega (arith, ints, from, at) in le) ∙ ap (λ z. option_or z (rest t)) (subst P at (seen co ce) ∙ none)));
         gathered = λ z. e.gathered;
         kept = λ l z. o.gathered;
       }
 
-  pub matched_on : {le : List ℕ} → turn.is_last ≡ false → w.found ≡ None → (w.seen).ps ≡ (w.reached).ps → HasEnded le ms y g None b (w.reached).ps → IsMatched turn x h ns y g ms w.found
+  pub matched_on : {le : List ℕ} → turn.is_last ≡ false → found ≡ None → (w.seen).ps ≡ (w.reached).ps → HasEnded le ms y g None b (w.reached).ps → IsMatched turn x h ns y g ms found
   matched_on last none at e =
-      let P : ℤ → Type 0 = λ u. window_difference claim (sampled x h a) (sampled y g b) ps s u ≡ w.found in
+      let P : ℤ → Type 0 = λ u. window_difference claim (sampled x h a) (sampled y g b) ps s u ≡ found in
       record {
-        first = λ co. over false last (sym (subst P (at ∙ is.ends none last) (is.first co (e.through).conforms)));
+        first = λ co. over false last (sym (subst P (at ∙ is.ends (ap is_some none) last) (seen co (e.through).conforms)));
         gathered = λ z. e.gathered;
         kept = λ l z. absurd (other_way turn.is_last l last);
       }
 
-  pub matched_behind : (found : Found) → w.found ≡ Some found → Conforms y g → IsMatched turn x h ns y g ms w.found
-  matched_behind found some ce = record {
+  pub matched_behind : (first : Found) → found ≡ Some first → Conforms y g → IsMatched turn x h ns y g ms found
+  matched_behind first some ce = record {
     first = λ co. by turn.is_last refl co;
-    gathered = λ z. absurd (let e : Some found ≡ None = sym some ∙ z in cc);
-    kept = λ l z. absurd (let e : Some found ≡ None = sym some ∙ z in cc);
+    gathered = λ z. absurd (let e : Some first ≡ None = sym some ∙ z in cc);
+    kept = λ l z. absurd (let e : Some first ≡ None = sym some ∙ z in cc);
   }
     where
       by : (last : Bool) → turn.is_last ≡ last → Conforms x h → Spans turn.is_last (places_in h g ((turn.setting).labels).now)
       by true last co = over true last
           (some
-          ∙ sym (rest_parts claim x y h g a b ps s (w.seen).ps co ce places from ∙ ap (λ z. option_or z (rest_difference claim (sampled x h a) (sampled y g b) ps (w.seen).ps)) (is.first co ce ∙ some)))
+          ∙ sym (rest_parts claim x y h g a b ps s (w.seen).ps co ce places from ∙ ap (λ z. option_or z (rest_difference claim (sampled x h a) (sampled y g b) ps (w.seen).ps)) (seen co ce ∙ some)))
       by false last co = over false last
           (some
           ∙ sym (window_parts claim x y h g a b ps s (w.seen).ps v co ce places from (is.within last ce)
-          ∙ ap (λ z. option_or z (window_difference claim (sampled x h a) (sampled y g b) ps (w.seen).ps v)) (is.first co ce ∙ some)))
+          ∙ ap (λ z. option_or z (window_difference claim (sampled x h a) (sampled y g b) ps (w.seen).ps v)) (seen co ce ∙ some)))

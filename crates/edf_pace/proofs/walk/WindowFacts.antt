@@ -28,13 +28,13 @@ use Rattle.std.proofs.lemmas.Simd.{map-map}
 until_until : (n : ℕ) (u v : ℤ) (xs : List Point) → u ≤ℤ v → until n v (until n u xs) ≡ until n u xs
 until_until n u v xs l = filter_all (λ x. is_before (instant n x) (whole v)) (until n u xs) (λ x i. true-is_before (instant n x) (whole v) (later (instant n x) u v l (until-before n u xs x i)))
 
-window_split : (n : ℕ) (t u v : ℤ) (xs : List Point) → 0 < n → IsAscending xs → t ≤ℤ u → u ≤ℤ v → until n v (since n t xs) ≡ until n u (since n t xs) ++ until n v (since n u xs)
+pub window_split : (n : ℕ) (t u v : ℤ) (xs : List Point) → 0 < n → IsAscending xs → t ≤ℤ u → u ≤ℤ v → until n v (since n t xs) ≡ until n u (since n t xs) ++ until n v (since n u xs)
 window_split n t u v xs pn a l r =
     ap (until n v) (since_split n t u xs pn a l)
     ∙ filter-append (λ x. is_before (instant n x) (whole v)) (until n u (since n t xs)) (since n u xs)
     ∙ ap (λ ys. ys ++ until n v (since n u xs)) (until_until n u v (since n t xs) r)
 
-until-from : (n : ℕ) (u v : ℤ) (xs : List Point) → AreFrom n (until n v (since n u xs)) (whole u)
+pub until-from : (n : ℕ) (u v : ℤ) (xs : List Point) → AreFrom n (until n v (since n u xs)) (whole u)
 until-from n u v xs x i = since-from n u xs x (has-filtered (λ y. is_before (instant n y) (whole v)) (since n u xs) x i).0
 
 place_parts : (claim : Terms) (o e : Sampled) (p q : Option ChannelPlace) (t u v : ℤ) → AreSound claim o e p q → t ≤ℤ u → u ≤ℤ v → window_of claim o e t v p q ≡ option_or (window_of claim o e t u p q) (window_of claim o e u v p q)
@@ -94,7 +94,7 @@ rest_parts claim o e h g a b ps t u co ce places l = all_splits claim (sampled o
 
 -- ---- between a time and itself
 
-nothing_between : (n : ℕ) (t : ℤ) (xs : List Point) → until n t (since n t xs) ≡ []
+pub nothing_between : (n : ℕ) (t : ℤ) (xs : List Point) → until n t (since n t xs) ≡ []
 nothing_between n t xs = until_none n t (since n t xs) (since-from n t xs)
 
 place_none : (claim : Terms) (o e : Sampled) (p q : Option ChannelPlace) (t : ℤ) → window_of claim o e t t p q ≡ None

@@ -10,7 +10,9 @@ use Rattle.edf_pace.specs.walk.Gathered.{gathered_of}
 use Rattle.edf_pace.specs.walk.Pairs.{Places, places_of, places_in}
 use Rattle.edf_pace.specs.walk.Readings.{export_at, going, original_at}
 use Rattle.edf_pace.specs.walk.Shown.{last_end_by}
-use Rattle.edf_pace.specs.walk.Windows.{sampled, window_difference, span_difference}
+use Rattle.edf_pace.specs.walk.Watching.{TwoFiles, two_files}
+pub use Rattle.edf_pace.specs.walk.Watching.{moved_export, moved_original}
+use Rattle.edf_pace.specs.walk.Windows.{sampled, span_difference}
 
 -- what a fault of the part of this number comes to, behind that of the original
 abbrev pub first_fault_of : Option Fault → ℕ → Fault → FaultOf
@@ -49,13 +51,6 @@ abbrev pub AreThrough : Known → Known → List ℕ → List ℕ → Turn → T
 AreThrough original export left left' turn end = OfFiles original export
     (λ o e. IsReadThrough o original.head left × IsReadThrough e export.head left' × (end.ps ≡ last_end_by e export.head ((turn.setting).clock.export).ps))
 
--- by how much an original and a part are moved, and where the part begins to be compared
-abbrev pub moved_original : Turn → ℤ
-moved_original turn = ((turn.setting).clock.original).ps
-
-abbrev pub moved_export : Turn → ℤ
-moved_export turn = ((turn.setting).clock.export).ps
-
 -- the difference is near, and one of so many channels has it
 abbrev pub IsFoundAmong : ℕ → Found → Type 0
 IsFoundAmong channels found = IsModest found.difference.at × (found.channel < channels)
@@ -69,13 +64,14 @@ IsFirstFaultOf original left part fault found =
 abbrev pub IsOver : Bool → Reader → Reader → Type 0
 IsOver is_last original export = (is_current export.status ≡ false) × (is_last ≡ true → is_current original.status ≡ false)
 
--- two files were compared from the turn's time on: this is their first difference before the time that was seen. Where others follow, that is
--- no later than the part's end, and where there is no difference, the part's end was reached
-pub record IsWalked (turn : Turn) (places : List Places) (o : List ℕ) (h : Head) (e : List ℕ) (g : Head) (walked : ReadOn) : Type 0 where
-  pub first : Conforms o h → Conforms e g
-      → window_difference ((turn.setting).claim).now (sampled o h (moved_original turn)) (sampled e g (moved_export turn)) places (turn.from).ps (walked.seen).ps ≡ walked.found
-  pub within : turn.is_last ≡ false → Conforms e g → (walked.seen).ps ≤ℤ last_end_by e g (moved_export turn)
-  pub ends : walked.found ≡ None → turn.is_last ≡ false → (walked.reached).ps ≡ last_end_by e g (moved_export turn)
+-- two files were read from the turn's time on, and who held what there is before that time then holds what there is before the time that
+-- was seen. Where others follow, that is no later than the part's end, and where it hasn't seen enough, the part's end was reached
+pub record IsWalked (turn : Turn) (files : TwoFiles) (Held Holds : TwoFiles → ℤ → ℤ → Type 0) (enough : Bool) (walked : ReadOn) : Type 0 where
+  pub holds : Conforms files.original files.head → Conforms files.export files.export_head
+      → Held files (turn.from).ps (turn.from).ps → Holds files (turn.from).ps (walked.seen).ps
+  pub within : turn.is_last ≡ false → Conforms files.export files.export_head
+      → (walked.seen).ps ≤ℤ last_end_by files.export files.export_head (moved_export turn)
+  pub ends : enough ≡ false → turn.is_last ≡ false → (walked.reached).ps ≡ last_end_by files.export files.export_head (moved_export turn)
 
 -- an original and a part
 pub record Both : Type 1 where
@@ -93,9 +89,9 @@ at_window o e r s r' s' turn w = record { original = original_at o r s turn.sett
 abbrev pub FaultyBy : Both → List ℕ → ℕ → FaultOf → Type 0
 FaultyBy both left part fault = AreFaulty both.original both.export left part fault
 
-abbrev pub WalkedBy : Both → Frame → ReadOn → Type 0
-WalkedBy both frame walked = OfFiles both.original both.export
-    (λ o e. IsWalked frame.turn (map places_of (frame.pairs).now) o (both.original).head e (both.export).head walked)
+abbrev pub WalkedBy : Both → Turn → (TwoFiles → ℤ → ℤ → Type 0) → (TwoFiles → ℤ → ℤ → Type 0) → Bool → ReadOn → Type 0
+WalkedBy both turn Held Holds enough walked = OfFiles both.original both.export
+    (λ o e. IsWalked turn (two_files o (both.original).head e (both.export).head) Held Holds enough walked)
 
 -- it was compared; where it doesn't differ its annotations were gathered, and behind the last part those that are kept of the original
 pub record IsMatched (turn : Turn) (o : List ℕ) (h : Head) (notes : List NoteValue) (e : List ℕ) (g : Head) (notes' : List NoteValue) (found : Option Found) : Type 0 where

@@ -4,7 +4,7 @@ use Rattle.std.specs.Prelude.{◌≡◌, ℕ, ℤ, Bool, true, false, List, map,
 use Rattle.edf_pace.specs.Words.{keeps_instant, Terms, Head, Reader, PointDifference, Found, Point, Share, ChannelPlace, Clock, Frame, Window, Pair, is_current, file_start, start_in, Track}
 use Rattle.edf_claim.specs.KeepsReading.{IsUncut}
 use Rattle.edf_stream.specs.SamplesReading.{samples_of}
-use Rattle.edf_pace.specs.declared.walk.window.Shares.{Shares}
+use Rattle.edf_pace.specs.declared.walk.shares.Shares.{Shares}
 use Rattle.edf_pace.specs.samples.Columns.{Sampled, is_of, is_kept, points_of}
 use Rattle.edf_pace.specs.samples.Differences.{first_difference_of, earliest}
 use Rattle.edf_pace.specs.samples.Stretches.{since, until, stretch_points, front_count, whole}
@@ -24,6 +24,10 @@ first_at r ps n = (pos n *ℤ (file_start r.head +ℤ start_in r.head r.current)
 -- the same of the data record at hand, if the lane has any samples
 abbrev pub IsShareIn : Reader → ℤ → Window → Share → Type 0
 IsShareIn r ps w s = 0 < s.samples → IsShareOf (first_at r ps s.samples) r.head.duration w s
+
+-- the same of both files
+abbrev pub AreSharesIn : Reader → Reader → Clock → Window → Shares → Type 0
+AreSharesIn r s clock w shares = IsShareIn r (clock.original).ps w shares.original × IsShareIn s (clock.export).ps w shares.export
 
 -- where a data record is at hand, the share is one of lanes with as many samples as this channel's
 abbrev pub HasShare : Reader → Option Track → Share → Type 0

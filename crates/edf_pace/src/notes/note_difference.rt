@@ -35,7 +35,7 @@ fn sort_notes(notes: &mut Vec<Note>, from: usize)
 }
 
 /// Which of two annotations is before the other.
-fn order(x: &Note, y: &Note) -> Ordering
+pub(crate) fn order(x: &Note, y: &Note) -> Ordering
     ensures { result ≡ note_cmp (note_value x.now) (note_value y.now) }
 {
     x.cmp(y)

@@ -53,7 +53,7 @@ fn whole_samples(bytes: usize) -> usize
 }
 
 /// How many samples lie in these bytes.
-fn count_in(bytes: &[u8]) -> usize
+pub(crate) fn count_in(bytes: &[u8]) -> usize
     ensures within { 2 * result ≤ length bytes.now }
     ensures all { length bytes.now ≤ 2 * result + 1 }
 {
@@ -61,7 +61,7 @@ fn count_in(bytes: &[u8]) -> usize
 }
 
 /// The instant of the sample at a place.
-fn instant_at(stretch: Stretch, place: usize) -> Instant
+pub(crate) fn instant_at(stretch: Stretch, place: usize) -> Instant
     requires stretch { IsPart stretch }
     requires place { place ≤ 2 ^ 23 }
     ensures value { result ≡ record { num = stretch.entry.num +ℤ pos place *ℤ stretch.entry.step; den = stretch.entry.den } }
@@ -74,7 +74,7 @@ fn instant_at(stretch: Stretch, place: usize) -> Instant
 }
 
 /// The sample at a place.
-fn point_at(stretch: Stretch, place: usize) -> Point
+pub(crate) fn point_at(stretch: Stretch, place: usize) -> Point
     requires stretch { IsPart stretch }
     requires place { 2 * place + 1 < length stretch.bytes.now }
     ensures value { result ≡ record { num = stretch.entry.num +ℤ pos place *ℤ stretch.entry.step; value = digital_value stretch.entry.bytes.now place } }

@@ -1,51 +1,36 @@
 //! Two files read in step from a time on, a data record of each at a time, and compared as far as both have come.
 
-ghost use Rattle.std.specs.Prelude.{◌≡◌, ◌<◌, ℤ, ◌≤ℤ◌, ◌<ℤ◌, length, None, Some, IfOk, IfErr, OnOk, IfSome, IfNone, IsTrue, true, false};
-ghost use Rattle.edf_claim.specs.Keeps.{keeps_instant};
+ghost use Rattle.std.specs.Prelude.{◌≡◌, ◌≤ℤ◌, ◌<ℤ◌, IfOk, IfErr, OnOk, IfSome, IfNone, true, false};
 ghost use Rattle.edf_claim.specs.KeepsReading.{IsUncut};
 ghost use Rattle.edf_stream.specs.Readers.{is_current};
 ghost use Rattle.edf_pace.specs.Premises.{IfFaulty, IfFound, IfNothing, IfRead};
 ghost use Rattle.edf_pace.specs.PartsStops.{StopsOf, StopsOfTwo};
-ghost use Rattle.edf_pace.specs.walk.Ends.{AreFaulty, AreThrough, FaultyBy, IsFirstFaultOf, IsFoundAmong, IsOver, WalkedBy, at_turn, at_window};
-ghost use Rattle.edf_pace.specs.walk.Pairs.{AreAlikeIn, IsFrame};
+ghost use Rattle.edf_pace.specs.walk.Ends.{AreFaulty, AreThrough, FaultyBy, IsFirstFaultOf, IsOver, WalkedBy, at_turn, at_window, moved_export, moved_original};
+ghost use Rattle.edf_pace.specs.walk.Pairs.{IsFrame};
 ghost use Rattle.edf_pace.specs.walk.Readings.{ExportIn, ExportMoves, HasGoneOn, OriginalIn, OriginalMoves, going};
 ghost use Rattle.edf_pace.specs.walk.Shown.{IsBehind, IsGoing, Reaches, StandsAt};
 ghost use Rattle.edf_stop.specs.declared.parts_stops.PartSide.TheVariants as sides;
-ghost use Rattle.edf_pace.specs.walk.Windows.{IsDifferenceBy};
 
-use crate::samples::earliest::Found;
 use crate::times::{Time, Window};
 use crate::walk::clock::Clock;
 use crate::walk::fault_of::FaultOf;
 use crate::walk::gather::View;
-use crate::walk::layout::are_alike;
 use crate::walk::reading::{Reading, finish, last_end, lesser_end, pass};
-use crate::walk::track::Pair;
 use crate::walk::turn::Turn;
-use crate::walk::window::{keeps_at, window_difference};
+use crate::walk::watcher::{Watch, Watcher};
 use edf_claim::claim::Claim;
 use edf_fields::fault::Fault;
 use edf_fields::source::Source;
 use edf_stop::{PartSide, PartsStop};
 use edf_stream::reader::FileReader;
 
-/// What an original and a part are compared by: the channels of each label in both, and how many bytes of a data record
-/// reach to the end of these, where they have the same places in both files.
-#[derive(Clone, Copy)]
-pub struct Frame<'a> {
-    pub turn: Turn<'a>,
-    pub pairs: &'a [Pair],
-    pub room: Option<usize>,
-}
-
-/// How far an original and a part were compared, and the first difference that was found.
+/// How far an original and a part were compared.
 #[derive(Clone, Copy)]
 pub struct ReadOn {
     /// The time to which both were read.
     pub reached: Time,
-    /// The time before which they have this first difference, or none.
+    /// The time before which all was seen.
     pub seen: Time,
-    pub found: Option<Found>,
 }
 
 /// What a fault of a part comes to: the original is read to its end, and its fault goes before it.
@@ -68,55 +53,6 @@ pub fn export_fault<S: Source>(
         Ok(Some(first)) => Ok(FaultOf::Original(first)),
         Err(stop) => Err(stop),
     }
-}
-
-/// Whether the data records at hand show the same, all of which is kept. It may say no where one of them
-/// reaches beyond the two times.
-fn shows_the_same(
-    original: &FileReader,
-    export: &FileReader,
-    frame: Frame<'_>,
-    within: Window,
-) -> bool
-    ensures kept { IsTrue result → keeps_instant ((frame.entry.turn).setting.claim).now (within.from).ps 1 ≡ true }
-    ensures alike { IsTrue result → AreAlikeIn frame.entry original.now export.now }
-{
-    let setting = frame.turn.setting;
-    match frame.room {
-        Some(room) => {
-            keeps_at(setting.claim, within.from)
-                && are_alike(original, export, room, setting.clock, within)
-        }
-        None => false,
-    }
-}
-
-/// The earliest difference of the channels between two times. Where the data records at hand show the same,
-/// there is none.
-#[inline(always)]
-fn difference_in(
-    original: &FileReader,
-    export: &FileReader,
-    frame: Frame<'_>,
-    within: Window,
-) -> Option<Found>
-    requires frame { IsFrame original.now.head export.now.head frame }
-    requires uncut { IsUncut ((frame.turn).setting.claim).now.keep (within.from).ps (within.to).ps }
-    ensures value { IsDifferenceBy frame.entry original.now export.now within result }
-    ensures modest { IfSome result (IsFoundAmong (length (frame.entry.pairs).now)) }
-{
-    if shows_the_same(original, export, frame, within) {
-        return None;
-    }
-    let setting = frame.turn.setting;
-    window_difference(
-        original,
-        export,
-        frame.pairs,
-        setting.clock,
-        setting.claim,
-        within,
-    )
 }
 
 /// Reads an original and a part to their ends, and answers where the part ends; or their first fault: that of the
@@ -165,7 +101,14 @@ fn border(claim: &Claim, from: Time, to: Time) -> Time
     }
 }
 
-/// Reads on in both files, each where its data record at hand ends at a time or before.
+/// Whose turn it is, and between which times.
+#[derive(Clone, Copy)]
+struct Step<'a> {
+    turn: Turn<'a>,
+    within: Window,
+}
+
+/// Reads on in both files, each where its data record at hand ends with the step or before.
 ///
 /// The error is want of memory, or a failure of one of the sources.
 fn pass_both<O: Source, E: Source>(
@@ -173,20 +116,22 @@ fn pass_both<O: Source, E: Source>(
     o: &mut O,
     export: &mut Reading,
     e: &mut E,
-    turn: Turn<'_>,
-    within: Window,
+    step: Step<'_>,
 ) -> Result<Option<FaultOf>, PartsStop>
     requires original { IsGoing (original.old.reader).status }
     requires export { IsGoing (export.old.reader).status }
-    requires original_reaches { Reaches original.old.reader ((turn.setting).clock.original).ps (within.to).ps }
-    requires export_reaches { Reaches export.old.reader ((turn.setting).clock.export).ps (within.to).ps }
-    ensures original { IfNothing result (OriginalIn O.Source original.old o.old original.new o.new turn.entry within) }
-    ensures export { IfNothing result (ExportIn E.Source export.old e.old export.new e.new turn.entry within) }
+    requires original_reaches { Reaches original.old.reader (moved_original step.turn) (step.within.to).ps }
+    requires export_reaches { Reaches export.old.reader (moved_export step.turn) (step.within.to).ps }
+    ensures original { IfNothing result (OriginalIn O.Source original.old o.old original.new o.new
+        step.entry.turn step.entry.within) }
+    ensures export { IfNothing result (ExportIn E.Source export.old e.old export.new e.new
+        step.entry.turn step.entry.within) }
     ensures fault { IfFound result (FaultyBy (at_window O.Source E.Source original.old o.old
-        export.old e.old turn.entry within) (O.left o.new) turn.entry.part) }
+        export.old e.old step.entry.turn step.entry.within) (O.left o.new) (step.entry.turn).part) }
     ensures failures { OnOk result ((O.reads o.new ≡ O.reads o.old) × (E.reads e.new ≡ E.reads e.old)) }
-    ensures stop { IfErr result (StopsOfTwo O.Source o.old o.new E.Source turn.entry.part e.old e.new) }
+    ensures stop { IfErr result (StopsOfTwo O.Source o.old o.new E.Source (step.entry.turn).part e.old e.new) }
 {
+    let Step { turn, within } = step;
     let setting = turn.setting;
     match pass(
         original,
@@ -239,39 +184,44 @@ fn next_end(original: &FileReader, export: &FileReader, clock: Clock, is_last: b
     }
 }
 
-/// Compares an original and a part that both stand at the begin of its turn, to the first difference of the channels of
-/// the pairs. Where there is none, both are read to their ends or, where further parts follow, to the end of this one, and
-/// the annotations of what was read are gathered that count. Or it answers the first fault of the original, or else
-/// of the part.
+/// Reads on in an original and a part that both stand at the begin of its turn, until the watcher has seen enough. Where it
+/// never has, both are read to their ends or, where further parts follow, to the end of this one, and the annotations of
+/// what was read are gathered that count. Or it answers the first fault of the original, or else of the part.
 ///
 /// A data record of each is in memory at a time. The error is want of memory, or a failure of one of the
 /// sources.
-pub fn walk_on<O: Source, E: Source>(
+pub fn walk_on<O: Source, E: Source, W: Watcher>(
     original: &mut Reading,
     o: &mut O,
     export: &mut Reading,
     e: &mut E,
-    frame: Frame<'_>,
+    watch: &mut Watch<'_, W>,
 ) -> Result<Result<ReadOn, FaultOf>, PartsStop>
-    requires original { StandsAt original.old.reader (((frame.turn).setting.clock).original).ps (frame.turn.from).ps }
-    requires export { StandsAt export.old.reader (((frame.turn).setting.clock).export).ps (frame.turn.from).ps }
-    requires begins { frame.turn.is_last ≡ false → is_current (export.old.reader).status ≡ true }
-    requires frame { IsFrame (original.old.reader).head (export.old.reader).head frame }
-    ensures modest { IfRead result (λ r. IfSome r.found (IsFoundAmong (length (frame.entry.pairs).now))) }
+    requires original { StandsAt original.old.reader (moved_original (watch.old.frame).turn)
+        (((watch.old.frame).turn).from).ps }
+    requires export { StandsAt export.old.reader (moved_export (watch.old.frame).turn)
+        (((watch.old.frame).turn).from).ps }
+    requires begins { ((watch.old.frame).turn).is_last ≡ false → is_current (export.old.reader).status ≡ true }
+    requires frame { IsFrame (original.old.reader).head (export.old.reader).head watch.old.frame }
+    requires fits { W.fits watch.old.watcher watch.old.frame }
+    requires wants { W.has_enough watch.old.watcher ≡ false }
+    ensures fits { IfRead result (λ r. W.fits watch.new.watcher watch.old.frame) }
     ensures original { IfRead result (λ r. OriginalMoves O.Source original.old o.old original.new o.new
-        frame.entry.turn r.reached) }
+        (watch.old.frame).turn r.reached) }
     ensures export { IfRead result (λ r. ExportMoves E.Source export.old e.old export.new e.new
-        frame.entry.turn r.reached) }
-    ensures over { IfRead result (λ r. r.found ≡ None → ((r.seen).ps ≡ (r.reached).ps)
-        × IsOver (frame.entry.turn).is_last original.new.reader export.new.reader) }
-    ensures later { IfRead result (λ r. ((frame.entry.turn).from).ps ≤ℤ (r.seen).ps) }
-    ensures walked { IfRead result (WalkedBy (at_turn O.Source E.Source original.old o.old
-        export.old e.old frame.entry.turn) frame.entry) }
-    ensures fault { IfFaulty result (FaultyBy (at_turn O.Source E.Source original.old o.old
-        export.old e.old frame.entry.turn) (O.left o.new) (frame.entry.turn).part) }
+        (watch.old.frame).turn r.reached) }
+    ensures over { IfRead result (λ r. W.has_enough watch.new.watcher ≡ false → ((r.seen).ps ≡ (r.reached).ps)
+        × IsOver ((watch.old.frame).turn).is_last original.new.reader export.new.reader) }
+    ensures later { IfRead result (λ r. (((watch.old.frame).turn).from).ps ≤ℤ (r.seen).ps) }
+    ensures walked { IfRead result (WalkedBy (at_turn O.Source E.Source original.old o.old export.old e.old
+        (watch.old.frame).turn) (watch.old.frame).turn (W.holds watch.old.watcher watch.old.frame)
+        (W.holds watch.new.watcher watch.old.frame) (W.has_enough watch.new.watcher)) }
+    ensures fault { IfFaulty result (FaultyBy (at_turn O.Source E.Source original.old o.old export.old e.old
+        (watch.old.frame).turn) (O.left o.new) ((watch.old.frame).turn).part) }
     ensures failures { OnOk result ((O.reads o.new ≡ O.reads o.old) × (E.reads e.new ≡ E.reads e.old)) }
-    ensures stop { IfErr result (StopsOfTwo O.Source o.old o.new E.Source (frame.entry.turn).part e.old e.new) }
+    ensures stop { IfErr result (StopsOfTwo O.Source o.old o.new E.Source ((watch.old.frame).turn).part e.old e.new) }
 {
+    let frame = watch.frame;
     let turn = frame.turn;
     let clock = turn.setting.clock;
     let mut time = turn.from;
@@ -281,14 +231,16 @@ pub fn walk_on<O: Source, E: Source>(
             from: time,
             to: next,
         };
-        if let Some(found) = difference_in(&original.reader, &export.reader, frame, within) {
+        watch
+            .watcher
+            .see(&original.reader, &export.reader, frame, within);
+        if watch.watcher.has_enough() {
             return Ok(Ok(ReadOn {
                 reached: time,
                 seen: next,
-                found: Some(found),
             }));
         }
-        match pass_both(original, o, export, e, turn, within) {
+        match pass_both(original, o, export, e, Step { turn, within }) {
             Ok(None) => {}
             Ok(Some(fault)) => return Ok(Err(fault)),
             Err(stop) => return Err(stop),
@@ -298,6 +250,5 @@ pub fn walk_on<O: Source, E: Source>(
     Ok(Ok(ReadOn {
         reached: time,
         seen: time,
-        found: None,
     }))
 }

@@ -5,13 +5,18 @@ use Rattle.std.specs.List.{All}
 use Rattle.edf_header.specs.Heads.{Head}
 use Rattle.edf_stream.specs.Views.{note_value}
 use Rattle.edf_pace.specs.declared.samples.earliest.Found.{Found}
+use Rattle.edf_pace.specs.declared.walk.frame.Frame.{Frame}
 use Rattle.edf_pace.specs.declared.walk.track.Pair.{Pair}
+use Rattle.edf_pace.specs.declared.walk.turn.Turn.{Turn}
 use Rattle.edf_pace.specs.walk.Ends.{IsMatched, IsFoundAmong, IsReadThrough, moved_export, moved_original}
 use Rattle.edf_pace.specs.walk.Pairs.{AreLaidAlike, ArePairs, places_of, places_in}
 use Rattle.edf_pace.specs.walk.Shown.{last_end_by}
 use Rattle.edf_check.proofs.parts.CompareFacts.{found-over, last-over, not-over, passes_moved, passes_on}
 use Rattle.edf_pace.proofs.ForCallers.{are_places, has_ended, matched_behind, matched_end, matched_on}
 use Rattle.edf_check.proofs.parts.part.compare_on.Goals as goal
+
+abbrev framed : Turn → Bor (List Pair) → Option ℕ → Frame
+framed turn pairs room = record { turn = turn; pairs = pairs; room = room }
 
 -- the pairs are those of the headers
 paired : (h h' g g' : Head) (ps qs : List Pair) → h' ≡ h → g' ≡ g → qs ≡ ps → ArePairs h' g' ps → ArePairs h g qs
@@ -38,46 +43,49 @@ returns-then-not-is_over-clause-passes g c = λ last.
 pub returns-then-not-is_over-clause-ended : goal.returns-then-not-is_over-clause-ended
 returns-then-not-is_over-clause-ended g c = λ ho he a b ao ae.
     let read = c.in-Ok-Ok.read in
-    let none = not-over read.found c.args.turn.is_last (sym c.is_over.ensures ∙ c.if-not-is_over.true) in
-    let over = (rw c.in-Ok-Ok.field-0-is at c.in-Ok-Ok.ensures.over) none.0 in
+    let found = c.walk_on.new.watch.watcher.found in
+    let none = not-over found c.args.turn.is_last (sym c.is_over.ensures ∙ c.if-not-is_over.true) in
+    let over = (rw c.in-Ok-Ok.field-0-is at c.in-Ok-Ok.ensures.over) (ap is_some none.0) in
     let walked = (rw c.in-Ok-Ok.field-0-is at c.in-Ok-Ok.ensures.walked) ho he a b ao ae in
     let moved = rw c.in-Ok-Ok.field-0-is at c.in-Ok-Ok.ensures.export in
     let ended = has_ended c.args.export.now.reader c.walk_on.new.export.reader _ _ b None (moved_export c.args.turn) read.reached.ps moved.head moved.going (over.1).0 (moved.comes he b ae) in
-    record { through = ended.through; end_is = walked.ends none.0 none.1 }
+    record { through = ended.through; end_is = walked.ends (ap is_some none.0) none.1 }
 
 pub returns-then-not-is_over-clause-matched : goal.returns-then-not-is_over-clause-matched
 returns-then-not-is_over-clause-matched g c = λ compared early ho he a b ao ae.
     let turn = c.args.turn in
     let read = c.in-Ok-Ok.read in
+    let found = c.walk_on.new.watch.watcher.found in
     let h = (c.args.original.now.reader).head in
     let k = (c.args.export.now.reader).head in
-    let none = not-over read.found turn.is_last (sym c.is_over.ensures ∙ c.if-not-is_over.true) in
-    let over = (rw c.in-Ok-Ok.field-0-is at c.in-Ok-Ok.ensures.over) none.0 in
+    let none = not-over found turn.is_last (sym c.is_over.ensures ∙ c.if-not-is_over.true) in
+    let over = (rw c.in-Ok-Ok.field-0-is at c.in-Ok-Ok.ensures.over) (ap is_some none.0) in
     let later = rw c.in-Ok-Ok.field-0-is at c.in-Ok-Ok.ensures.later in
     let walked = (rw c.in-Ok-Ok.field-0-is at c.in-Ok-Ok.ensures.walked) ho he a b ao ae in
     let moved = rw c.in-Ok-Ok.field-0-is at c.in-Ok-Ok.ensures.export in
     let ended = has_ended c.args.export.now.reader c.walk_on.new.export.reader _ _ b None (moved_export turn) read.reached.ps moved.head moved.going (over.1).0 (moved.comes he b ae) in
     let M : Option Found → Type 0 = λ f. IsMatched turn a h (map note_value (c.walk_on.new.original.notes).items) b k (map note_value (c.walk_on.new.export.notes).items) f in
     subst M none.0
-    (matched_on turn a h (map note_value (c.walk_on.new.original.notes).items) b k (map note_value (c.walk_on.new.export.notes).items) read (map places_of c.deref-2.result.now)
+    (matched_on (framed c.args.turn c.deref-2.result c.common_room-room.result) a h (map note_value (c.walk_on.new.original.notes).items) b k (map note_value (c.walk_on.new.export.notes).items) read found
     (placed h c.header.result.now k c.header-2.result.now c.in_ok-pairs.pairs.items c.deref-2.result.now turn.setting.labels.now c.header.ensures c.header-2.ensures c.deref-2.ensures.value c.in_ok-pairs.ensures.places)
     (are_places h k c.deref-2.result.now (paired h c.header.result.now k c.header-2.result.now c.in_ok-pairs.pairs.items c.deref-2.result.now c.header.ensures c.header-2.ensures c.deref-2.ensures.value c.in_ok-pairs.ensures.pairs))
     later walked none.1 none.0 over.0 ended)
 
 pub returns-in-Ok-Ok-end_both-clause-modest : goal.returns-in-Ok-Ok-end_both-clause-modest
 returns-in-Ok-Ok-end_both-clause-modest g c =
-    let modest = rw c.in-Ok-Ok.field-0-is at c.in-Ok-Ok.ensures.modest in
+    let modest = rw c.in-Ok-Ok.field-0-is at c.in-Ok-Ok.ensures.fits in
     let ps = c.deref-2.result.now in
     let labels = c.args.turn.setting.labels.now in
     let long : length ps ≡ length labels = sym (length-map ps places_of) ∙ ap (λ qs. length (map places_of qs)) c.deref-2.ensures.value ∙ ap length c.in_ok-pairs.ensures.places ∙ length-map labels _ in
-    subst (λ n. IfSome c.in-Ok-Ok.read.found (IsFoundAmong n)) long modest
+    subst (λ n. IfSome c.walk_on.new.watch.watcher.found (IsFoundAmong n)) long modest
 
 pub returns-in-Ok-Ok-end_both-clause-passes : goal.returns-in-Ok-Ok-end_both-clause-passes
 returns-in-Ok-Ok-end_both-clause-passes g c = λ last.
     let read = c.in-Ok-Ok.read in
+    let found = c.walk_on.new.watch.watcher.found in
     let moved = rw c.in-Ok-Ok.field-0-is at c.in-Ok-Ok.ensures.original in
     let goes = rw c.in-Ok-Ok-end_both.field-0-is at c.in-Ok-Ok-end_both.ensures.goes in
-    passes_on c.args.turn _ _ _ _ _ _ _ _ _ _ _ _ _ (not (is_some read.found)) read.reached.ps c.in-Ok-Ok-end_both.end c.requires.compared (found-over read.found c.args.turn.is_last (sym c.is_over.ensures ∙ c.if-not-is_over.false) last) moved goes
+    passes_on c.args.turn _ _ _ _ _ _ _ _ _ _ _ _ _ (not (is_some found)) read.reached.ps c.in-Ok-Ok-end_both.end c.requires.compared (found-over found c.args.turn.is_last (sym c.is_over.ensures ∙ c.if-not-is_over.false) last) moved goes
 
 pub returns-in-Ok-Ok-end_both-clause-ended : goal.returns-in-Ok-Ok-end_both-clause-ended
 returns-in-Ok-Ok-end_both-clause-ended g c = λ ho he a b ao ae.
@@ -93,6 +101,7 @@ pub returns-in-Ok-Ok-end_both-clause-matched : goal.returns-in-Ok-Ok-end_both-cl
 returns-in-Ok-Ok-end_both-clause-matched g c = λ compared early ho he a b ao ae.
     let turn = c.args.turn in
     let read = c.in-Ok-Ok.read in
+    let found = c.walk_on.new.watch.watcher.found in
     let h = (c.args.original.now.reader).head in
     let k = (c.args.export.now.reader).head in
     let ns = map note_value (c.walk_on.new.original.notes).items in
@@ -106,14 +115,14 @@ returns-in-Ok-Ok-end_both-clause-matched g c = λ compared early ho he a b ao ae
     let same = placed h c.header.result.now k c.header-2.result.now c.in_ok-pairs.pairs.items c.deref-2.result.now turn.setting.labels.now c.header.ensures c.header-2.ensures c.deref-2.ensures.value c.in_ok-pairs.ensures.places in
     let places = are_places h k c.deref-2.result.now (paired h c.header.result.now k c.header-2.result.now c.in_ok-pairs.pairs.items c.deref-2.result.now c.header.ensures c.header-2.ensures c.deref-2.ensures.value c.in_ok-pairs.ensures.pairs) in
     let through : IsReadThrough b k (g.E.Source.left c.end_both.new.e) = subst (λ x. IsReadThrough b x (g.E.Source.left c.end_both.new.e)) e.head both.1 in
-    let by : (f : Option Found) → read.found ≡ f → IsMatched turn a h ns b k ms read.found = λ f.
-    elim f as (λ f. read.found ≡ f → IsMatched turn a h ns b k ms read.found) [
+    let by : (f : Option Found) → found ≡ f → IsMatched turn a h ns b k ms found = λ f.
+    elim f as (λ f. found ≡ f → IsMatched turn a h ns b k ms found) [
       | None ↦ λ none.
-          let last = last-over read.found turn.is_last none (sym c.is_over.ensures ∙ c.if-not-is_over.false) in
-          let there = over none in
-          matched_end turn a h ns b k ms read (map places_of c.deref-2.result.now) same places later walked last none there.0
+          let last = last-over found turn.is_last none (sym c.is_over.ensures ∙ c.if-not-is_over.false) in
+          let there = over (ap is_some none) in
+          matched_end (framed c.args.turn c.deref-2.result c.common_room-room.result) a h ns b k ms read found same places later walked last none there.0
           (has_ended c.args.original.now.reader c.walk_on.new.original.reader _ _ a (Some turn.setting.claim.now) (moved_original turn) read.reached.ps o.head o.going ((there.1).1 last) (o.comes ho a ao)) (has_ended c.args.export.now.reader c.walk_on.new.export.reader _ _ b None (moved_export turn) read.reached.ps e.head e.going (there.1).0 (e.comes he b ae))
-      | Some found ↦ λ some. matched_behind turn a h ns b k ms read (map places_of c.deref-2.result.now) same places later walked found some through.conforms
+      | Some first ↦ λ some. matched_behind (framed c.args.turn c.deref-2.result c.common_room-room.result) a h ns b k ms read found same places later walked first some through.conforms
     ]
     in
-    by read.found refl
+    by found refl

@@ -9,4 +9,4 @@ returns-in-Ok-clause-fault g c = λ ho he a b ato ate.
     let found = c.in-Ok.ensures.found (moved.honesty ho) a (moved.comes ho a ato).there in
     let left = g.O.Source.left c.export_fault.new.source in
     let g' = (c.args.export.now.reader).head in
-    fault_of_heads a left b _ _ g' g' c.args.turn.part c.in-Ok.found moved.head refl (fault_after a _ left b g' c.args.turn.part c.in-Ok-Some-pass.fault c.in-Ok.found (fault he b ate) found.0 found.1)
+    fault_of_heads a left b _ _ g' g' c.args.step.turn.part c.in-Ok.found moved.head refl (fault_after a _ left b g' c.args.step.turn.part c.in-Ok-Some-pass.fault c.in-Ok.found (fault he b ate) found.0 found.1)

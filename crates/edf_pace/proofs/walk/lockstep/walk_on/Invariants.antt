@@ -1,12 +1,10 @@
-use Rattle.std.proofs.Common.{◌≡◌, ◌^◌, pos, ◌-ℤ◌, ◌≤ℤ◌, map, None, false, unsigned_abs}
+use Rattle.std.proofs.Common.{◌≡◌, ◌^◌, pos, ◌-ℤ◌, ◌≤ℤ◌, false, unsigned_abs}
 use Rattle.edf_stream.specs.Conforming.{Conforms}
 use Rattle.edf_stream.specs.Readers.{is_current}
 use Rattle.edf_pace.specs.Premises.{OfFile, OfFiles}
-use Rattle.edf_pace.specs.walk.Ends.{moved_export, moved_original}
-use Rattle.edf_pace.specs.walk.Pairs.{places_of}
+use Rattle.edf_pace.specs.walk.Watching.{moved_export, two_files}
 use Rattle.edf_pace.specs.walk.Readings.{ExportMoves, OriginalMoves, export_at, original_at}
 use Rattle.edf_pace.specs.walk.Shown.{last_end_by}
-use Rattle.edf_pace.specs.walk.Windows.{sampled, window_difference}
 use Rattle.edf_pace.proofs.walk.lockstep.walk_on.Given as goal
 
 abbrev pub invariant-loop-end : goal.invariant-loop-end
@@ -16,9 +14,12 @@ invariant-loop-end g l = record {
   from : ((l.turn).from).ps ≤ℤ l.time.ps;
   ended : (l.turn).is_last ≡ false → is_current (l.export.reader).status ≡ false
       → OfFile (export_at g.E.Source l.fn.export l.fn.e (l.turn).setting (l.turn).from) (λ b. l.time.ps ≡ last_end_by b ((l.fn.export).reader).head (moved_export l.turn));
-  none : OfFiles (original_at g.O.Source l.fn.original l.fn.o (l.turn).setting (l.turn).from) (export_at g.E.Source l.fn.export l.fn.e (l.turn).setting (l.turn).from)
+  fits : g.W.Watcher.fits (l.watch).watcher (l.fn.watch).frame;
+  wants : g.W.Watcher.has_enough (l.watch).watcher ≡ false;
+  holds : OfFiles (original_at g.O.Source l.fn.original l.fn.o (l.turn).setting (l.turn).from) (export_at g.E.Source l.fn.export l.fn.e (l.turn).setting (l.turn).from)
       (λ a b. Conforms a ((l.fn.original).reader).head → Conforms b ((l.fn.export).reader).head
-      → window_difference (((l.turn).setting).claim).now (sampled a ((l.fn.original).reader).head (moved_original l.turn)) (sampled b ((l.fn.export).reader).head (moved_export l.turn)) (map places_of (l.frame.pairs).now) ((l.turn).from).ps l.time.ps ≡ None);
+      → g.W.Watcher.holds (l.fn.watch).watcher (l.fn.watch).frame (two_files a ((l.fn.original).reader).head b ((l.fn.export).reader).head) ((l.turn).from).ps ((l.turn).from).ps
+      → g.W.Watcher.holds (l.watch).watcher (l.fn.watch).frame (two_files a ((l.fn.original).reader).head b ((l.fn.export).reader).head) ((l.turn).from).ps l.time.ps);
 }
 
 abbrev pub decreases-loop-end : goal.decreases-loop-end

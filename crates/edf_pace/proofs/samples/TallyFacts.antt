@@ -1,0 +1,313 @@
+-- How tallies are joined, and the tally of what two lists differ in.
+use Rattle.std.proofs.Common.{◌≡◌, ℕ, zero, suc, ◌+◌, ◌-◌, ◌*◌, ◌^◌, ◌<◌, ◌≤◌, max, min, Bool, true, false, cond, not, ℤ, pos, ◌+ℤ◌, ◌*ℤ◌, ◌⊎◌, MatchOption, List, [], ◌∷◌, ◌++◌, map, filter, length, Option, Some, None, IfSome, inl, inr, refl, sym, ap, ◌∙◌, subst, arith, Fits, w64}
+use Rattle.std.proofs.lemmas.List.{map-append, append-nil}
+use Rattle.std.proofs.lemmas.List.Elements.{filter-append}
+use Rattle.std.specs.Int.{from_bool}
+use Rattle.std.specs.Option.{option_or}
+use Rattle.std.specs.Ordering.{int_eq}
+use Rattle.edf_stream.specs.declared.instant.Instant.{Instant}
+use Rattle.edf_verdict.specs.declared.verdict.SampleMismatch.{SampleMismatch}
+use Rattle.edf_verdict.specs.declared.verdict.SampleMismatch.TheVariants.{Missing, Extra, Value}
+use Rattle.edf_pace.specs.declared.samples.difference.PointDifference.{PointDifference}
+use Rattle.edf_pace.specs.declared.samples.point.Point.{Point}
+use Rattle.edf_pace.specs.declared.samples.tally.Tally.{Tally}
+use Rattle.edf_pace.specs.InstantOrder.{is_before}
+use Rattle.edf_pace.specs.samples.Differences.{instant, missing, extra, other, heads, first_difference_of}
+use Rattle.edf_pace.specs.samples.Tallies.{all_behind, differences_of, first_of, lacks_first, lacks_second, last_of, is_missing, is_extra, is_changed, added, counted, count_of, tally_of, joined}
+use Rattle.edf_stream.specs.Values.{digital_value}
+use Rattle.edf_pace.specs.declared.samples.stretch.Stretch.{Stretch}
+use Rattle.edf_pace.specs.samples.Stretches.{points_behind, points_in}
+use Rattle.edf_pace.proofs.samples.StretchFacts.{behind-end, behind_step, behind_zero}
+use Rattle.edf_pace.proofs.samples.DifferenceFacts.{AreBefore, AreFrom}
+use Rattle.edf_pace.proofs.samples.FilterFacts.{by_test}
+use Rattle.edf_pace.proofs.samples.FractionFacts.{before-not_before, before_below, true-is_before, false-is_before}
+
+-- ---- joined
+
+capped : (a b c m : ℕ) → min (min (a + min b m) (max a m) + min c m) (max (min (a + min b m) (max a m)) m) ≡ min (a + min (b + c) m) (max a m)
+capped a b c m = omega arith
+
+length-append : {X : Type 0} (xs ys : List X) → length (xs ++ ys) ≡ length xs + length ys
+length-append [] ys = omega arith
+length-append {X} (x ∷ xs) ys = let r = length-append xs ys in omega (arith, r)
+
+counted-joined : (is : SampleMismatch → Bool) (a : ℕ) (xs ys : List PointDifference) → added (added a (count_of is xs)) (count_of is ys) ≡ added a (count_of is (xs ++ ys))
+counted-joined is a xs ys =
+    let test : PointDifference → Bool = λ d. is d.mismatch in
+    capped a (length (filter test xs)) (length (filter test ys)) (2 ^ 64 - 1)
+    ∙ ap (λ k. added a (counted k)) (sym (ap length (filter-append test xs ys) ∙ length-append (filter test xs) (filter test ys)))
+
+or_or : {X : Type 0} (a b c : Option X) → option_or (option_or a b) c ≡ option_or a (option_or b c)
+or_or None b c = refl
+or_or (Some x) b c = refl
+
+first-append : (xs ys : List PointDifference) → first_of (xs ++ ys) ≡ option_or (first_of xs) (first_of ys)
+first-append [] ys = refl
+first-append (x ∷ xs) ys = refl
+
+last-append : (xs ys : List PointDifference) → last_of (xs ++ ys) ≡ option_or (last_of ys) (last_of xs)
+last-append [] [] = refl
+last-append [] (y ∷ ys) = none_behind (option_or (last_of ys) (Some y))
+  where
+    none_behind : (o : Option PointDifference) → o ≡ option_or o None
+    none_behind None = refl
+    none_behind (Some d) = refl
+last-append (x ∷ xs) ys = ap (λ o. option_or o (Some x)) (last-append xs ys) ∙ or_or (last_of ys) (last_of xs) (Some x)
+
+-- a tally with that of some, and then of others, is that with the tally of all
+pub joined_twice : (a : Tally) (xs ys : List PointDifference) → joined (joined a (tally_of xs)) (tally_of ys) ≡ joined a (tally_of (xs ++ ys))
+unfolding joined tally_of
+joined_twice a xs ys =
+    rw (
+      counted-joined is_missing a.missing xs ys,
+      counted-joined is_extra a.extra xs ys,
+      counted-joined is_changed a.changed xs ys,
+      first-append xs ys,
+      last-append xs ys,
+      or_or a.first (first_of xs) (first_of ys),
+      or_or (last_of ys) (last_of xs) a.last,
+    ) refl
+
+both-counted : (is : SampleMismatch → Bool) (xs ys : List PointDifference) → added (count_of is xs) (count_of is ys) ≡ count_of is (xs ++ ys)
+both-counted is xs ys =
+    let test : PointDifference → Bool = λ d. is d.mismatch in
+    capped-both (length (filter test xs)) (length (filter test ys)) (2 ^ 64 - 1)
+    ∙ ap counted (sym (ap length (filter-append test xs ys) ∙ length-append (filter test xs) (filter test ys)))
+  where
+    capped-both : (b c m : ℕ) → min (min b m + min c m) (max (min b m) m) ≡ min (b + c) m
+    capped-both b c m = omega arith
+
+-- the tally of some and of others is that of all
+pub tally_append : (xs ys : List PointDifference) → joined (tally_of xs) (tally_of ys) ≡ tally_of (xs ++ ys)
+unfolding joined tally_of
+tally_append xs ys =
+    rw (both-counted is_missing xs ys, both-counted is_extra xs ys, both-counted is_changed xs ys, first-append xs ys, last-append xs ys) refl
+
+pub joined_more : (a : Tally) (d : PointDifference) (ds : List PointDifference) → joined (joined a (tally_of (d ∷ []))) (tally_of ds) ≡ joined a (tally_of (d ∷ ds))
+joined_more a d ds = joined_twice a (d ∷ []) ds
+
+no_more : (a m : ℕ) → min (a + min 0 m) (max a m) ≡ a
+no_more a m = omega arith
+
+or_nothing : (o : Option PointDifference) → option_or o None ≡ o
+or_nothing None = refl
+or_nothing (Some d) = refl
+
+pub joined_none : (a : Tally) → joined a (tally_of []) ≡ a
+unfolding joined tally_of
+joined_none a = rw (no_more a.missing (2 ^ 64 - 1), no_more a.extra (2 ^ 64 - 1), no_more a.changed (2 ^ 64 - 1), or_nothing a.first) refl
+
+-- one difference more, of each kind
+tally_same : (a b : Tally) → a.missing ≡ b.missing → a.extra ≡ b.extra → a.changed ≡ b.changed → a.first ≡ b.first → a.last ≡ b.last → a ≡ b
+tally_same a b p q r f l =
+    let step : (m e c : ℕ) (first last : Option PointDifference) → a.missing ≡ m → a.extra ≡ e → a.changed ≡ c → a.first ≡ first → a.last ≡ last → a ≡ record { missing = m; extra = e; changed = c; first = first; last = last } =
+    λ m e c first last p q r f l. rw (← p, ← q, ← r, ← f, ← l) refl in
+    step b.missing b.extra b.changed b.first b.last p q r f l
+
+count_yes : (is : SampleMismatch → Bool) (d : PointDifference) → is d.mismatch ≡ true → count_of is (d ∷ []) ≡ 1
+count_yes is d e = rw e (omega arith)
+
+count_no : (is : SampleMismatch → Bool) (d : PointDifference) → is d.mismatch ≡ false → count_of is (d ∷ []) ≡ 0
+count_no is d e = rw e (omega arith)
+
+-- a counter of another kind stays
+stays : (is : SampleMismatch → Bool) (a : ℕ) (d : PointDifference) → is d.mismatch ≡ false → a ≡ added a (count_of is (d ∷ []))
+stays is a d e = sym (ap (added a) (count_no is d e) ∙ nothing a (2 ^ 64 - 1))
+  where
+    nothing : (a m : ℕ) → min (a + 0) (max a m) ≡ a
+    nothing a m = omega arith
+
+goes_up : (is : SampleMismatch → Bool) (a k : ℕ) (d : PointDifference) → Fits w64 a → k ≡ min (a + 1) (2 ^ 64 - 1) → is d.mismatch ≡ true → k ≡ added a (count_of is (d ∷ []))
+goes_up is a k d fits more e = more ∙ omega (arith, fits) ∙ ap (added a) (sym (count_yes is d e))
+
+pub one_missing : (a : Tally) (d : PointDifference) (k : ℕ) (first : Option PointDifference) → Fits w64 a.missing → d.mismatch ≡ Missing → k ≡ min (a.missing + 1) (2 ^ 64 - 1) → first ≡ option_or a.first (Some d)
+    → record { missing = k; extra = a.extra; changed = a.changed; first = first; last = Some d } ≡ joined a (tally_of (d ∷ []))
+unfolding joined tally_of
+one_missing a d k first fits kind more is =
+    tally_same (record { missing = k; extra = a.extra; changed = a.changed; first = first; last = Some d }) (joined a (tally_of (d ∷ [])))
+    (goes_up is_missing a.missing k d fits more (ap is_missing kind)) (stays is_extra a.extra d (ap is_extra kind)) (stays is_changed a.changed d (ap is_changed kind)) is refl
+
+pub one_extra : (a : Tally) (d : PointDifference) (k : ℕ) (first : Option PointDifference) → Fits w64 a.extra → d.mismatch ≡ Extra → k ≡ min (a.extra + 1) (2 ^ 64 - 1) → first ≡ option_or a.first (Some d)
+    → record { missing = a.missing; extra = k; changed = a.changed; first = first; last = Some d } ≡ joined a (tally_of (d ∷ []))
+unfolding joined tally_of
+one_extra a d k first fits kind more is =
+    tally_same (record { missing = a.missing; extra = k; changed = a.changed; first = first; last = Some d }) (joined a (tally_of (d ∷ [])))
+    (stays is_missing a.missing d (ap is_missing kind)) (goes_up is_extra a.extra k d fits more (ap is_extra kind)) (stays is_changed a.changed d (ap is_changed kind)) is refl
+
+pub one_changed : (a : Tally) (d : PointDifference) (v w : ℤ) (k : ℕ) (first : Option PointDifference) → Fits w64 a.changed → d.mismatch ≡ Value v w → k ≡ min (a.changed + 1) (2 ^ 64 - 1) → first ≡ option_or a.first (Some d)
+    → record { missing = a.missing; extra = a.extra; changed = k; first = first; last = Some d } ≡ joined a (tally_of (d ∷ []))
+unfolding joined tally_of
+one_changed a d v w k first fits kind more is =
+    tally_same (record { missing = a.missing; extra = a.extra; changed = k; first = first; last = Some d }) (joined a (tally_of (d ∷ [])))
+    (stays is_missing a.missing d (ap is_missing kind)) (stays is_extra a.extra d (ap is_extra kind)) (goes_up is_changed a.changed k d fits more (ap is_changed kind)) is refl
+
+-- ---- two lists
+
+-- where one has no more
+pub only-missing : (n : ℕ) (xs : List Point) (m : ℕ) → differences_of n xs m [] ≡ map (missing n) xs
+unfolding differences_of
+only-missing n [] m = refl
+only-missing n (x ∷ xs) m = refl
+
+-- behind the heads
+pub behind-missing : (n : ℕ) (x : Point) (xs : List Point) (m : ℕ) (y : Point) (ys : List Point) → is_before (instant n x) (instant m y) ≡ true → differences_of n (x ∷ xs) m (y ∷ ys) ≡ missing n x ∷ differences_of n xs m (y ∷ ys)
+unfolding differences_of
+behind-missing n x xs m y ys b = rw b refl
+
+pub behind-extra : (n : ℕ) (x : Point) (xs : List Point) (m : ℕ) (y : Point) (ys : List Point) → is_before (instant n x) (instant m y) ≡ false → is_before (instant m y) (instant n x) ≡ true → differences_of n (x ∷ xs) m (y ∷ ys) ≡ extra m y ∷ differences_of n (x ∷ xs) m ys
+unfolding differences_of
+behind-extra n x xs m y ys b c = rw (b, c) refl
+
+pub behind-same : (n : ℕ) (x : Point) (xs : List Point) (m : ℕ) (y : Point) (ys : List Point) → is_before (instant n x) (instant m y) ≡ false → is_before (instant m y) (instant n x) ≡ false → int_eq x.value y.value ≡ true → differences_of n (x ∷ xs) m (y ∷ ys) ≡ differences_of n xs m ys
+unfolding differences_of
+behind-same n x xs m y ys b c e = rw (b, c, e) refl
+
+pub behind-other : (n : ℕ) (x : Point) (xs : List Point) (m : ℕ) (y : Point) (ys : List Point) → is_before (instant n x) (instant m y) ≡ false → is_before (instant m y) (instant n x) ≡ false → int_eq x.value y.value ≡ false → differences_of n (x ∷ xs) m (y ∷ ys) ≡ other n x y ∷ differences_of n xs m ys
+unfolding differences_of
+behind-other n x xs m y ys b c e = rw (b, c, e) refl
+
+-- ---- the law: the first difference is the first of all
+
+pub first_is_first : (n : ℕ) (xs : List Point) (m : ℕ) (ys : List Point) → first_difference_of n xs m ys ≡ first_of (differences_of n xs m ys)
+unfolding differences_of
+first_is_first n [] m [] = refl
+first_is_first n [] m (y ∷ ys) = refl
+first_is_first n (x ∷ xs) m [] = refl
+first_is_first n (x ∷ xs) m (y ∷ ys) =
+    by_test (is_before (instant n x) (instant m y)) (λ b. option_or (cond b (Some (missing n x)) (cond (is_before (instant m y) (instant n x)) (Some (extra m y)) (cond (int_eq x.value y.value) None (Some (other n x y))))) (first_difference_of n xs m ys)
+    ≡ first_of (cond b (missing n x ∷ differences_of n xs m (y ∷ ys)) (cond (is_before (instant m y) (instant n x)) (extra m y ∷ differences_of n (x ∷ xs) m ys) (cond (int_eq x.value y.value) (differences_of n xs m ys) (other n x y ∷ differences_of n xs m ys)))))
+    (λ e. refl)
+    (λ e. by_test (is_before (instant m y) (instant n x)) (λ b. option_or (cond b (Some (extra m y)) (cond (int_eq x.value y.value) None (Some (other n x y)))) (first_difference_of n xs m ys)
+    ≡ first_of (cond b (extra m y ∷ differences_of n (x ∷ xs) m ys) (cond (int_eq x.value y.value) (differences_of n xs m ys) (other n x y ∷ differences_of n xs m ys))))
+    (λ f. refl)
+    (λ f. by_test (int_eq x.value y.value) (λ b. option_or (cond b None (Some (other n x y))) (first_difference_of n xs m ys) ≡ first_of (cond b (differences_of n xs m ys) (other n x y ∷ differences_of n xs m ys)))
+    (λ h. first_is_first n xs m ys) (λ h. refl)))
+
+-- ---- cut at an instant
+
+pub differences_split : (n m : ℕ) (xs xs' ys ys' : List Point) (t : Instant) → 0 < n → 0 < m → 0 < t.den → AreBefore n xs t → AreBefore m ys t → AreFrom n xs' t → AreFrom m ys' t
+    → differences_of n (xs ++ xs') m (ys ++ ys') ≡ differences_of n xs m ys ++ differences_of n xs' m ys'
+unfolding differences_of
+differences_split n m [] xs' [] ys' t pn pm pt bx by' fx fy = refl
+differences_split n m [] [] (y ∷ ys) ys' t pn pm pt bx by' fx fy = map-append (extra m) (y ∷ ys) ys'
+differences_split n m [] (x ∷ xs') (y ∷ ys) ys' t pn pm pt bx by' fx fy =
+    let b = before-not_before (instant m y) t (instant n x) pn (by' y (inl refl)) (fx x (inl refl)) in
+    behind-extra n x xs' m y (ys ++ ys') (false-is_before (instant n x) (instant m y) (before_below (instant m y) (instant n x) b)) (true-is_before (instant m y) (instant n x) b)
+    ∙ ap (λ ds. extra m y ∷ ds) (differences_split n m [] (x ∷ xs') ys ys' t pn pm pt bx (λ z h. by' z (inr h)) fx fy)
+differences_split n m (x ∷ xs) xs' [] [] t pn pm pt bx by' fx fy =
+    map-append (missing n) (x ∷ xs) xs' ∙ ap (λ ds. map (missing n) (x ∷ xs) ++ ds) (sym (only-missing n xs' m))
+differences_split n m (x ∷ xs) xs' [] (y ∷ ys') t pn pm pt bx by' fx fy =
+    behind-missing n x (xs ++ xs') m y ys' (true-is_before (instant n x) (instant m y) (before-not_before (instant n x) t (instant m y) pm (bx x (inl refl)) (fy y (inl refl))))
+    ∙ ap (λ ds. missing n x ∷ ds) (differences_split n m xs xs' [] (y ∷ ys') t pn pm pt (λ z h. bx z (inr h)) by' fx fy
+    ∙ ap (λ ds. ds ++ differences_of n xs' m (y ∷ ys')) (only-missing n xs m))
+differences_split n m (x ∷ xs) xs' (y ∷ ys) ys' t pn pm pt bx by' fx fy =
+    let rest = differences_of n xs' m ys' in
+    by_test (is_before (instant n x) (instant m y)) (λ b. cond b (missing n x ∷ differences_of n (xs ++ xs') m (y ∷ (ys ++ ys'))) (cond (is_before (instant m y) (instant n x)) (extra m y ∷ differences_of n (x ∷ (xs ++ xs')) m (ys ++ ys')) (cond (int_eq x.value y.value) (differences_of n (xs ++ xs') m (ys ++ ys')) (other n x y ∷ differences_of n (xs ++ xs') m (ys ++ ys'))))
+    ≡ cond b (missing n x ∷ differences_of n xs m (y ∷ ys)) (cond (is_before (instant m y) (instant n x)) (extra m y ∷ differences_of n (x ∷ xs) m ys) (cond (int_eq x.value y.value) (differences_of n xs m ys) (other n x y ∷ differences_of n xs m ys))) ++ rest)
+    (λ e. ap (λ ds. missing n x ∷ ds) (differences_split n m xs xs' (y ∷ ys) ys' t pn pm pt (λ z h. bx z (inr h)) by' fx fy))
+    (λ e. by_test (is_before (instant m y) (instant n x)) (λ b. cond b (extra m y ∷ differences_of n (x ∷ (xs ++ xs')) m (ys ++ ys')) (cond (int_eq x.value y.value) (differences_of n (xs ++ xs') m (ys ++ ys')) (other n x y ∷ differences_of n (xs ++ xs') m (ys ++ ys')))
+    ≡ cond b (extra m y ∷ differences_of n (x ∷ xs) m ys) (cond (int_eq x.value y.value) (differences_of n xs m ys) (other n x y ∷ differences_of n xs m ys)) ++ rest)
+    (λ f. ap (λ ds. extra m y ∷ ds) (differences_split n m (x ∷ xs) xs' ys ys' t pn pm pt bx (λ z h. by' z (inr h)) fx fy))
+    (λ f. let r = differences_split n m xs xs' ys ys' t pn pm pt (λ z h. bx z (inr h)) (λ z h. by' z (inr h)) fx fy in
+    by_test (int_eq x.value y.value) (λ b. cond b (differences_of n (xs ++ xs') m (ys ++ ys')) (other n x y ∷ differences_of n (xs ++ xs') m (ys ++ ys')) ≡ cond b (differences_of n xs m ys) (other n x y ∷ differences_of n xs m ys) ++ rest)
+    (λ h. r) (λ h. ap (λ ds. other n x y ∷ ds) r)))
+
+-- ---- stretches
+
+-- each of those from a place on is such a difference
+abbrev pub each_is : SampleMismatch → Stretch → ℕ → List PointDifference
+each_is mismatch x k = map (λ (p : Point). record { at = instant x.den p; mismatch = mismatch }) (points_behind x k)
+
+pub rest_step : (a b : Tally) (mismatch : SampleMismatch) (x : Stretch) (k : ℕ) (d : PointDifference) → 2 * k + 1 < length x.bytes.now
+    → d ≡ record { at = record { num = x.num +ℤ pos k *ℤ x.step; den = x.den }; mismatch = mismatch } → b ≡ joined a (tally_of (d ∷ []))
+    → joined b (tally_of (each_is mismatch x (k + 1))) ≡ joined a (tally_of (each_is mismatch x k))
+rest_step a b mismatch x k d lt is more =
+    ap (λ t. joined t (tally_of (each_is mismatch x (k + 1)))) more
+    ∙ joined_more a d (each_is mismatch x (k + 1))
+    ∙ ap (λ e. joined a (tally_of (e ∷ each_is mismatch x (k + 1)))) is
+    ∙ ap (λ ps. joined a (tally_of (map (λ (p : Point). record { at = instant x.den p; mismatch = mismatch }) ps))) (sym (behind_step x k lt))
+
+pub rest_end : (a : Tally) (mismatch : SampleMismatch) (x : Stretch) (k : ℕ) → length x.bytes.now ≤ 2 * k + 1 → joined a (tally_of (each_is mismatch x k)) ≡ a
+rest_end a mismatch x k le =
+    ap (λ ps. joined a (tally_of (map (λ (p : Point). record { at = instant x.den p; mismatch = mismatch }) ps))) (behind-end x k le) ∙ joined_none a
+
+-- the heads of two stretches, and what is behind
+pub both_step : (a b : Tally) (x y : Stretch) (i j : ℕ) (found : Option PointDifference) → 2 * i + 1 < length x.bytes.now → 2 * j + 1 < length y.bytes.now
+    → found ≡ heads x.den (record { num = x.num +ℤ pos i *ℤ x.step; value = digital_value x.bytes.now i }) y.den (record { num = y.num +ℤ pos j *ℤ y.step; value = digital_value y.bytes.now j })
+    → MatchOption found (b ≡ a) (λ d. b ≡ joined a (tally_of (d ∷ [])))
+    → joined b (tally_of (all_behind x (i + from_bool (not (lacks_first found))) y (j + from_bool (not (lacks_second found))))) ≡ joined a (tally_of (all_behind x i y j))
+unfolding differences_of
+both_step a b x y i j found lx ly is more =
+    let p : Point = record { num = x.num +ℤ pos i *ℤ x.step; value = digital_value x.bytes.now i } in
+    let q : Point = record { num = y.num +ℤ pos j *ℤ y.step; value = digital_value y.bytes.now j } in
+    go (is_before (instant x.den p) (instant y.den q)) refl (is_before (instant y.den q) (instant x.den p)) refl (int_eq p.value q.value) refl
+  where
+    p : Point
+    p = record { num = x.num +ℤ pos i *ℤ x.step; value = digital_value x.bytes.now i }
+
+    q : Point
+    q = record { num = y.num +ℤ pos j *ℤ y.step; value = digital_value y.bytes.now j }
+
+    px : points_behind x i ≡ p ∷ points_behind x (i + 1)
+    px = behind_step x i lx
+
+    py : points_behind y j ≡ q ∷ points_behind y (j + 1)
+    py = behind_step y j ly
+
+    Goal : Option PointDifference → Type 0
+    Goal o = MatchOption o (b ≡ a) (λ d. b ≡ joined a (tally_of (d ∷ []))) → joined b (tally_of (all_behind x (i + from_bool (not (lacks_first o))) y (j + from_bool (not (lacks_second o))))) ≡ joined a (tally_of (all_behind x i y j))
+
+    all : all_behind x i y j ≡ differences_of x.den (p ∷ points_behind x (i + 1)) y.den (q ∷ points_behind y (j + 1))
+    all = ap (λ ps. differences_of x.den ps y.den (points_behind y j)) px ∙ ap (λ qs. differences_of x.den (p ∷ points_behind x (i + 1)) y.den qs) py
+
+    counted_one : (d : PointDifference) (ds : List PointDifference) → b ≡ joined a (tally_of (d ∷ [])) → all_behind x i y j ≡ d ∷ ds → joined b (tally_of ds) ≡ joined a (tally_of (all_behind x i y j))
+    counted_one d ds one e = ap (λ t. joined t (tally_of ds)) one ∙ joined_more a d ds ∙ ap (λ es. joined a (tally_of es)) (sym e)
+
+    zero_on : (k : ℕ) → k + 0 ≡ k
+    zero_on k = omega arith
+
+    go : (t : Bool) → is_before (instant x.den p) (instant y.den q) ≡ t → (u : Bool) → is_before (instant y.den q) (instant x.den p) ≡ u → (v : Bool) → int_eq p.value q.value ≡ v
+        → joined b (tally_of (all_behind x (i + from_bool (not (lacks_first found))) y (j + from_bool (not (lacks_second found))))) ≡ joined a (tally_of (all_behind x i y j))
+    go true e u f v h =
+        let here : found ≡ Some (missing x.den p) = is ∙ rw e refl in
+        subst Goal (sym here) (λ one.
+        ap (λ k. joined b (tally_of (all_behind x (i + 1) y k))) (zero_on j)
+        ∙ counted_one (missing x.den p) (all_behind x (i + 1) y j) one
+        (all ∙ behind-missing x.den p (points_behind x (i + 1)) y.den q (points_behind y (j + 1)) e ∙ ap (λ qs. missing x.den p ∷ differences_of x.den (points_behind x (i + 1)) y.den qs) (sym py))) more
+    go false e true f v h =
+        let here : found ≡ Some (extra y.den q) = is ∙ rw (e, f) refl in
+        subst Goal (sym here) (λ one.
+        ap (λ k. joined b (tally_of (all_behind x k y (j + 1)))) (zero_on i)
+        ∙ counted_one (extra y.den q) (all_behind x i y (j + 1)) one
+        (all ∙ behind-extra x.den p (points_behind x (i + 1)) y.den q (points_behind y (j + 1)) e f ∙ ap (λ ps. extra y.den q ∷ differences_of x.den ps y.den (points_behind y (j + 1))) (sym px))) more
+    go false e false f true h =
+        let here : found ≡ None = is ∙ rw (e, f, h) refl in
+        subst Goal (sym here) (λ same.
+        ap (λ t. joined t (tally_of (all_behind x (i + 1) y (j + 1)))) same
+        ∙ ap (λ ds. joined a (tally_of ds)) (sym (all ∙ behind-same x.den p (points_behind x (i + 1)) y.den q (points_behind y (j + 1)) e f h))) more
+    go false e false f false h =
+        let here : found ≡ Some (other x.den p q) = is ∙ rw (e, f, h) refl in
+        subst Goal (sym here) (λ one.
+        counted_one (other x.den p q) (all_behind x (i + 1) y (j + 1)) one
+        (all ∙ behind-other x.den p (points_behind x (i + 1)) y.den q (points_behind y (j + 1)) e f h)) more
+
+-- where one of two stretches has no more, what is left of both is what is left of the one and then of the other
+pub ends_apart : (x y : Stretch) (i j : ℕ) → (length x.bytes.now ≤ 2 * i + 1) ⊎ (length y.bytes.now ≤ 2 * j + 1) → each_is Missing x i ++ each_is Extra y j ≡ all_behind x i y j
+unfolding differences_of
+ends_apart x y i j (inl e) =
+    ap (λ ps. map (missing x.den) ps ++ each_is Extra y j) (behind-end x i e) ∙ sym (ap (λ ps. differences_of x.den ps y.den (points_behind y j)) (behind-end x i e))
+ends_apart x y i j (inr e) =
+    ap (λ qs. each_is Missing x i ++ map (extra y.den) qs) (behind-end y j e) ∙ append-nil (each_is Missing x i)
+    ∙ sym (ap (λ qs. differences_of x.den (points_behind x i) y.den qs) (behind-end y j e) ∙ only-missing x.den (points_behind x i) y.den)
+
+-- both, counted one after the other
+pub both_counted : (a b c d : Tally) (x y : Stretch) (i j : ℕ) → (length x.bytes.now ≤ 2 * i + 1) ⊎ (length y.bytes.now ≤ 2 * j + 1)
+    → joined b (tally_of (all_behind x i y j)) ≡ joined a (tally_of (all_behind x 0 y 0)) → c ≡ joined b (tally_of (each_is Missing x i)) → d ≡ joined c (tally_of (each_is Extra y j))
+    → d ≡ joined a (tally_of (differences_of x.den (points_in x) y.den (points_in y)))
+both_counted a b c d x y i j over front first second =
+    second ∙ ap (λ t. joined t (tally_of (each_is Extra y j))) first
+    ∙ joined_twice b (each_is Missing x i) (each_is Extra y j)
+    ∙ ap (λ ds. joined b (tally_of ds)) (ends_apart x y i j over)
+    ∙ front
+    ∙ ap (λ ps. joined a (tally_of (differences_of x.den ps y.den (points_behind y 0)))) (behind_zero x)
+    ∙ ap (λ qs. joined a (tally_of (differences_of x.den (points_in x) y.den qs))) (behind_zero y)

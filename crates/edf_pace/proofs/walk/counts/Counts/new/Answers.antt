@@ -1,0 +1,19 @@
+use Rattle.std.proofs.Common.{◌≡◌, ◌∙◌, [], ◌∷◌, ◌++◌, ap, length, replicate, rules}
+use Rattle.edf_pace.specs.samples.Tallies.{tally_of}
+use Rattle.edf_pace.proofs.walk.CountFacts.{each_none, replicate-length, replicate-more}
+use Rattle.edf_pace.proofs.walk.counts.Counts.new.Goals as goal
+
+pub loop-preserved : goal.loop-preserved
+loop-preserved c =
+    c.in_ok-push.ensures.items ∙ ap (λ ts. ts ++ (c.none.result ∷ [])) c.loop.invariant ∙ ap (λ t. replicate c.loop.index (tally_of []) ++ (t ∷ [])) c.none.ensures
+    ∙ replicate-more c.loop.index (tally_of [])
+
+pub returns-clause-each : goal.returns-clause-each
+returns-clause-each c =
+    let ended : c.loop.index ≡ length c.args.frame.pairs.now = search rules in
+    ap length c.loop.invariant ∙ replicate-length c.loop.index (tally_of []) ∙ ended
+
+pub returns-clause-none : goal.returns-clause-none
+returns-clause-none c = λ files t.
+    let ended : c.loop.index ≡ length c.args.frame.pairs.now = search rules in
+    c.loop.invariant ∙ ap (λ k. replicate k (tally_of [])) ended ∙ each_none c.args.frame files t

@@ -1,0 +1,17 @@
+-- What the laws of this crate state.
+use Rattle.std.specs.Prelude.{◌≡◌, ℤ, List, map}
+use Rattle.edf_pace.specs.Words.{Frame, NoteValue}
+use Rattle.edf_pace.specs.declared.samples.tally.Tally.{Tally}
+use Rattle.edf_pace.specs.notes.NoteOrder.{first_unequal_of}
+use Rattle.edf_pace.specs.notes.NoteTallies.{first_note, unequals_of}
+use Rattle.edf_pace.specs.samples.Differences.{earliest}
+use Rattle.edf_pace.specs.walk.Counting.{counts_between}
+use Rattle.edf_pace.specs.walk.Watching.{TwoFiles, first_between}
+
+-- between two times the first difference of two files is the earliest of the first differences that are counted of each channel
+abbrev pub FirstIsCounted : Type 0
+FirstIsCounted = (frame : Frame) (files : TwoFiles) (t u : ℤ) → first_between frame files t u ≡ earliest 0 (map (λ (tally : Tally). tally.first) (counts_between frame files t u))
+
+-- of two lists of annotations in order the first difference is the first that is counted
+abbrev pub FirstNoteIsCounted : Type 0
+FirstNoteIsCounted = (kept exported : List NoteValue) → first_unequal_of kept exported ≡ first_note (unequals_of kept exported)

@@ -1,0 +1,88 @@
+-- All differences of two rising lists of samples, and how many there are of each kind.
+use Rattle.std.specs.Prelude.{ℕ, ◌+◌, ◌^◌, ◌-◌, max, min, List, [], ◌∷◌, map, length, filter, Bool, true, false, Option, Some, None, if◌then◌else◌}
+use Rattle.edf_pace.specs.Words.{option_or, int_eq, PointDifference, Point}
+use Rattle.edf_verdict.specs.declared.verdict.SampleMismatch.{SampleMismatch}
+use Rattle.edf_verdict.specs.declared.verdict.SampleMismatch.TheVariants.{Missing, Extra, Value}
+use Rattle.edf_pace.specs.declared.samples.tally.Tally.{Tally}
+use Rattle.edf_pace.specs.declared.samples.stretch.Stretch.{Stretch}
+use Rattle.edf_pace.specs.InstantOrder.{is_before}
+use Rattle.edf_pace.specs.samples.Differences.{instant, missing, extra, other}
+use Rattle.edf_pace.specs.samples.Stretches.{points_behind}
+
+-- all differences, read from the left
+unfoldable pub differences_of : ℕ → List Point → ℕ → List Point → List PointDifference
+differences_of n [] m ys = map (extra m) ys
+differences_of n (x ∷ xs) m [] = map (missing n) (x ∷ xs)
+differences_of n (x ∷ xs) m (y ∷ ys) =
+    if is_before (instant n x) (instant m y) then missing n x ∷ differences_of n xs m (y ∷ ys)
+    else (if is_before (instant m y) (instant n x) then extra m y ∷ differences_of n (x ∷ xs) m ys
+    else (if int_eq x.value y.value then differences_of n xs m ys else other n x y ∷ differences_of n xs m ys))
+
+-- those behind the first i samples of one stretch and the first j of another
+abbrev pub all_behind : Stretch → ℕ → Stretch → ℕ → List PointDifference
+all_behind x i y j = differences_of x.den (points_behind x i) y.den (points_behind y j)
+
+-- the first of them, and the last
+abbrev pub first_of : List PointDifference → Option PointDifference
+first_of [] = None
+first_of (d ∷ ds) = Some d
+
+abbrev pub last_of : List PointDifference → Option PointDifference
+last_of [] = None
+last_of (d ∷ ds) = option_or (last_of ds) (Some d)
+
+abbrev pub is_missing : SampleMismatch → Bool
+is_missing Missing = true
+is_missing Extra = false
+is_missing (Value v w) = false
+
+abbrev pub is_extra : SampleMismatch → Bool
+is_extra Missing = false
+is_extra Extra = true
+is_extra (Value v w) = false
+
+abbrev pub is_changed : SampleMismatch → Bool
+is_changed Missing = false
+is_changed Extra = false
+is_changed (Value v w) = true
+
+-- whether one of two samples has no partner, as their difference says
+abbrev pub lacks_second : Option PointDifference → Bool
+lacks_second None = false
+lacks_second (Some d) = is_missing d.mismatch
+
+abbrev pub lacks_first : Option PointDifference → Bool
+lacks_first None = false
+lacks_first (Some d) = is_extra d.mismatch
+
+-- as many as a counter holds
+abbrev pub counted : ℕ → ℕ
+counted k = min k (2 ^ 64 - 1)
+
+-- b more than a, as far as a counter goes
+abbrev pub added : ℕ → ℕ → ℕ
+added a b = min (a + b) (max a (2 ^ 64 - 1))
+
+-- how many there are of a kind
+abbrev pub count_of : (SampleMismatch → Bool) → List PointDifference → ℕ
+count_of is ds = counted (length (filter (λ d. is d.mismatch) ds))
+
+-- how many of each kind, the first and the last
+unfoldable pub tally_of : List PointDifference → Tally
+tally_of ds = record {
+  missing = count_of is_missing ds;
+  extra = count_of is_extra ds;
+  changed = count_of is_changed ds;
+  first = first_of ds;
+  last = last_of ds;
+}
+
+-- the tally of some, and then of others
+unfoldable pub joined : Tally → Tally → Tally
+joined a b = record {
+  missing = added a.missing b.missing;
+  extra = added a.extra b.extra;
+  changed = added a.changed b.changed;
+  first = option_or a.first b.first;
+  last = option_or b.last a.last;
+}

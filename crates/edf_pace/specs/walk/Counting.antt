@@ -1,0 +1,45 @@
+-- What a watcher counts that looks at each channel. These are steps between the definitions and the code.
+use Rattle.std.specs.Prelude.{◌≡◌, ℕ, ℤ, List, [], ◌∷◌, map, Option, None, Some}
+use Rattle.edf_pace.specs.Words.{keeps_instant, Terms, PointDifference, ChannelPlace, Clock, Frame, Pair, Reader, Window}
+use Rattle.edf_claim.specs.KeepsReading.{IsUncut}
+use Rattle.edf_pace.specs.declared.samples.tally.Tally.{Tally}
+use Rattle.edf_pace.specs.declared.walk.shares.Shares.{Shares}
+use Rattle.edf_pace.specs.samples.Columns.{Sampled}
+use Rattle.edf_pace.specs.samples.Stretches.{since, until}
+use Rattle.edf_pace.specs.samples.Tallies.{differences_of, joined, tally_of}
+use Rattle.edf_pace.specs.walk.Pairs.{Places, places_of}
+use Rattle.edf_pace.specs.walk.Shown.{Covers}
+use Rattle.edf_pace.specs.walk.Watching.{TwoFiles, moved_export, moved_original}
+use Rattle.edf_pace.specs.walk.Windows.{IsShareIn, kept_at, points_at, sampled}
+
+-- all differences of two channels, of the samples from t on and before u; none where one of them isn't there
+unfoldable pub differences_in : Terms → Sampled → Sampled → ℤ → ℤ → Option ChannelPlace → Option ChannelPlace → List PointDifference
+differences_in claim o e t u None q = []
+differences_in claim o e t u (Some p) None = []
+differences_in claim o e t u (Some p) (Some q) =
+    differences_of p.samples (until p.samples u (since p.samples t (kept_at claim o p))) q.samples (until q.samples u (since q.samples t (points_at e q)))
+
+-- the tally of each channel of a frame, from t on and before u
+abbrev pub counts_between : Frame → TwoFiles → ℤ → ℤ → List Tally
+counts_between frame files t u =
+    map (λ (pair : Pair). tally_of (differences_in ((frame.turn).setting.claim).now (sampled files.original files.head (moved_original frame.turn)) (sampled files.export files.export_head (moved_export frame.turn)) t u
+    (places_of pair).0 (places_of pair).1)) (frame.pairs).now
+
+-- the differences of a pair of channels were counted that two readers show in a window of which these are the shares
+abbrev pub IsPairCounted : Reader → Reader → Shares → Pair → Tally → Tally → Type 0
+IsPairCounted r s shares pair before after = (claim : Terms) (clock : Clock) (w : Window)
+    → IsShareIn r (clock.original).ps w shares.original → IsShareIn s (clock.export).ps w shares.export
+    → IsUncut claim.keep (w.from).ps (w.to).ps → shares.is_kept ≡ keeps_instant claim (w.from).ps 1
+    → (o e : List ℕ) → Covers r o (clock.original).ps (w.from).ps (w.to).ps → Covers s e (clock.export).ps (w.from).ps (w.to).ps
+    → after ≡ joined before (tally_of (differences_in claim (sampled o r.head (clock.original).ps) (sampled e s.head (clock.export).ps) (w.from).ps (w.to).ps (places_of pair).0 (places_of pair).1))
+
+-- the tally of each channel, joined with that of the differences between t and u
+abbrev pub joined_each : List Tally → List (List PointDifference) → List Tally
+joined_each [] ds = []
+joined_each (a ∷ more) [] = a ∷ more
+joined_each (a ∷ more) (d ∷ ds) = joined a (tally_of d) ∷ joined_each more ds
+
+-- the differences between t and u of each channel of a frame were counted that two readers show
+abbrev pub AreCounted : Reader → Reader → Frame → Window → List Tally → List Tally → Type 0
+AreCounted r s frame w before after = (o e : List ℕ) → Covers r o (moved_original frame.turn) (w.from).ps (w.to).ps → Covers s e (moved_export frame.turn) (w.from).ps (w.to).ps
+    → after ≡ joined_each before (map (λ (pair : Pair). differences_in ((frame.turn).setting.claim).now (sampled o r.head (moved_original frame.turn)) (sampled e s.head (moved_export frame.turn)) (w.from).ps (w.to).ps (places_of pair).0 (places_of pair).1) (frame.pairs).now)

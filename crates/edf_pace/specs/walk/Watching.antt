@@ -1,0 +1,34 @@
+-- What a watcher of two files that are read in step gets to see. These are steps between the definitions and the code.
+use Rattle.std.specs.Prelude.{ℕ, ℤ, ◌≤ℤ◌, List, map, Option}
+use Rattle.edf_pace.specs.Words.{Found, Frame, Head, Reader, Turn}
+use Rattle.edf_pace.specs.walk.Pairs.{places_of}
+use Rattle.edf_pace.specs.walk.Shown.{Covers}
+use Rattle.edf_pace.specs.walk.Windows.{sampled, window_difference}
+
+-- an original and an export, each with its header
+pub record TwoFiles : Type 0 where
+  pub original : List ℕ
+  pub head : Head
+  pub export : List ℕ
+  pub export_head : Head
+
+abbrev pub two_files : List ℕ → Head → List ℕ → Head → TwoFiles
+two_files o h e g = record { original = o; head = h; export = e; export_head = g }
+
+-- by how much an original and a part are moved
+abbrev pub moved_original : Turn → ℤ
+moved_original turn = ((turn.setting).clock.original).ps
+
+abbrev pub moved_export : Turn → ℤ
+moved_export turn = ((turn.setting).clock.export).ps
+
+-- who held what there is in two files before t, then holds what there is before u: in any two files of which two readers show all that
+-- stands from t on and before u
+abbrev pub HasSeen : (TwoFiles → ℤ → ℤ → Type 0) → (TwoFiles → ℤ → ℤ → Type 0) → Frame → Reader → Reader → ℤ → ℤ → Type 0
+HasSeen Held Holds frame r s t u = (o e : List ℕ) → Covers r o (moved_original frame.turn) t u → Covers s e (moved_export frame.turn) t u
+    → (from : ℤ) → from ≤ℤ t → Held (two_files o r.head e s.head) from t → Holds (two_files o r.head e s.head) from u
+
+-- the earliest difference of the channels of a frame, from t on and before u
+abbrev pub first_between : Frame → TwoFiles → ℤ → ℤ → Option Found
+first_between frame files t u =
+    window_difference ((frame.turn).setting.claim).now (sampled files.original files.head (moved_original frame.turn)) (sampled files.export files.export_head (moved_export frame.turn)) (map places_of (frame.pairs).now) t u

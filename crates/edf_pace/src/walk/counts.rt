@@ -1,0 +1,115 @@
+//! The watcher that counts: of each channel how many samples differ.
+
+ghost use Rattle.std.specs.Prelude.{◌≡◌, ℤ, IfOk, IfSome, false, length, true};
+ghost use Rattle.edf_claim.specs.KeepsReading.{IsUncut};
+ghost use Rattle.edf_pace.specs.walk.Counting.{AreCounted, IsPairCounted, counts_between};
+ghost use Rattle.edf_pace.specs.walk.Watching.{TwoFiles};
+ghost use Rattle.edf_pace.specs.walk.Pairs.{ArePairs, IsTrack};
+ghost use Rattle.edf_pace.specs.walk.Windows.{HasShare};
+
+use crate::samples::tally::{Tally, count_differences};
+use crate::times::Window;
+use crate::walk::frame::Frame;
+use crate::walk::shares::{Shares, Sight, keep_shares, no_shares};
+use crate::walk::track::Pair;
+use crate::walk::watcher::Watcher;
+use crate::walk::window::{kept_window, window};
+use edf_stream::reader::FileReader;
+use std::alloc::{AllocError, Global};
+
+/// Counts the differences of the channels of a label between two times; none where one of the files has no such channel.
+fn count_pair(
+    original: &FileReader,
+    export: &FileReader,
+    pair: Pair,
+    shares: &Shares,
+    tally: &mut Tally,
+)
+    requires original { IfSome pair.original (IsTrack original.now.head) }
+    requires export { IfSome pair.export (IsTrack export.now.head) }
+    requires original_share { shares.now.is_kept ≡ true → HasShare original.now pair.original shares.now.original }
+    requires export_share { HasShare export.now pair.export shares.now.export }
+    ensures { IsPairCounted original.now export.now shares.now pair tally.old tally.new }
+{
+    match (pair.original, pair.export) {
+        (Some(here), Some(there)) => count_differences(
+            kept_window(original, here, &shares.original, shares.is_kept),
+            window(export, there, &shares.export),
+            tally,
+        ),
+        (Some(_), None) => {}
+        (None, _) => {}
+    }
+}
+
+/// Counts the differences of the channels of a frame between two times.
+fn count_window(
+    original: &FileReader,
+    export: &FileReader,
+    frame: Frame<'_>,
+    within: Window,
+    tallies: &mut [Tally],
+)
+    requires pairs { ArePairs original.now.head export.now.head (frame.pairs).now }
+    requires uncut { IsUncut ((frame.turn).setting.claim).now.keep (within.from).ps (within.to).ps }
+    requires each { length tallies.old ≡ length (frame.pairs).now }
+    ensures each { length tallies.new ≡ length tallies.old }
+    ensures value { AreCounted original.now export.now frame.entry within tallies.old tallies.new }
+{
+    let sight = Sight {
+        clock: frame.turn.setting.clock,
+        within,
+    };
+    let mut shares = no_shares(frame.turn.setting.claim, within);
+    let mut i = frame.pairs.len();
+    while i > 0 {
+        i -= 1;
+        let pair = frame.pairs[i];
+        keep_shares(original, export, pair, sight, &mut shares);
+        count_pair(original, export, pair, &shares, &mut tallies[i]);
+    }
+}
+
+/// Counts the differences of each channel of a frame, to the end of what is compared.
+#[derive(Drop)]
+pub struct Counts {
+    pub tallies: Vec<Tally>,
+}
+
+impl Counts {
+    /// Nothing was seen yet of the channels of this frame.
+    ///
+    /// The error is want of memory.
+    pub fn new(alloc: Global, frame: Frame<'_>) -> Result<Counts, AllocError>
+        ensures each { IfOk result (λ w. length w.tallies.items ≡ length (frame.entry.pairs).now) }
+        ensures none { IfOk result (λ w. (files : TwoFiles) (t : ℤ) → w.tallies.items ≡ counts_between frame.entry files t t) }
+    {
+        let mut tallies = Vec::new(alloc);
+        for _ in frame.pairs {
+            tallies.push(Tally::none())?;
+        }
+        Ok(Counts { tallies })
+    }
+}
+
+impl Watcher for Counts {
+    ghost fits = { λ w frame. length w.tallies.items ≡ length (frame.pairs).now };
+
+    ghost has_enough = { λ w. false };
+
+    ghost holds = { λ w frame files t u. w.tallies.items ≡ counts_between frame files t u };
+
+    fn has_enough(&self) -> bool {
+        false
+    }
+
+    fn see(
+        &mut self,
+        original: &FileReader,
+        export: &FileReader,
+        frame: Frame<'_>,
+        within: Window,
+    ) {
+        count_window(original, export, frame, within, &mut self.tallies);
+    }
+}

@@ -1,0 +1,89 @@
+//! The watcher of a check: it keeps the first difference of the samples.
+
+ghost use Rattle.std.specs.Prelude.{◌≡◌, IfSome, IsTrue, is_some, length, true};
+ghost use Rattle.edf_claim.specs.Keeps.{keeps_instant};
+ghost use Rattle.edf_claim.specs.KeepsReading.{IsUncut};
+ghost use Rattle.edf_pace.specs.walk.Ends.{IsFoundAmong};
+ghost use Rattle.edf_pace.specs.walk.Pairs.{AreAlikeIn, IsFrame};
+ghost use Rattle.edf_pace.specs.walk.Windows.{IsDifferenceBy};
+
+use crate::samples::earliest::Found;
+use crate::times::Window;
+use crate::walk::frame::Frame;
+use crate::walk::layout::are_alike;
+use crate::walk::shares::keeps_at;
+use crate::walk::watcher::Watcher;
+use crate::walk::window::window_difference;
+use edf_stream::reader::FileReader;
+
+/// Whether the data records at hand show the same, all of which is kept. It may say no where one of them
+/// reaches beyond the two times.
+fn shows_the_same(
+    original: &FileReader,
+    export: &FileReader,
+    frame: Frame<'_>,
+    within: Window,
+) -> bool
+    ensures kept { IsTrue result → keeps_instant ((frame.entry.turn).setting.claim).now (within.from).ps 1 ≡ true }
+    ensures alike { IsTrue result → AreAlikeIn frame.entry original.now export.now }
+{
+    let setting = frame.turn.setting;
+    match frame.room {
+        Some(room) => {
+            keeps_at(setting.claim, within.from)
+                && are_alike(original, export, room, setting.clock, within)
+        }
+        None => false,
+    }
+}
+
+/// The earliest difference of the channels between two times. Where the data records at hand show the same,
+/// there is none.
+#[inline(always)]
+fn difference_in(
+    original: &FileReader,
+    export: &FileReader,
+    frame: Frame<'_>,
+    within: Window,
+) -> Option<Found>
+    requires frame { IsFrame original.now.head export.now.head frame }
+    requires uncut { IsUncut ((frame.turn).setting.claim).now.keep (within.from).ps (within.to).ps }
+    ensures value { IsDifferenceBy frame.entry original.now export.now within result }
+    ensures modest { IfSome result (IsFoundAmong (length (frame.entry.pairs).now)) }
+{
+    if shows_the_same(original, export, frame, within) {
+        return None;
+    }
+    window_difference(original, export, frame, within)
+}
+
+/// Keeps the earliest difference of the channels of a frame, of several at one instant that of the first label; then it
+/// has seen enough.
+#[derive(Clone, Copy)]
+pub struct FirstFound {
+    pub found: Option<Found>,
+}
+
+impl Watcher for FirstFound {
+    ghost use Rattle.edf_pace.specs.walk.Watching.{first_between};
+
+    ghost fits = { λ w frame. IfSome w.found (IsFoundAmong (length (frame.pairs).now)) };
+
+    ghost has_enough = { λ w. is_some w.found };
+
+    ghost holds = { λ w frame files t u. w.found ≡ first_between frame files t u };
+
+    fn has_enough(&self) -> bool {
+        self.found.is_some()
+    }
+
+    fn see(
+        &mut self,
+        original: &FileReader,
+        export: &FileReader,
+        frame: Frame<'_>,
+        within: Window,
+    ) {
+        self.found = difference_in(original, export, frame, within);
+    }
+}
