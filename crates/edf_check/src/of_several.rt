@@ -9,7 +9,7 @@ ghost use Rattle.edf_check.specs.parts.PartsVerdicts.{IsPartsVerdict};
 ghost use Rattle.edf_check.specs.parts.Together.{IsReadBy, IsVerdictOf};
 
 use crate::finding::Finding;
-use crate::parts::series::Exported;
+use crate::parts::series::{Exported, ReadSoFar};
 use crate::parts::together::{conclude_parts, walk_parts};
 use edf_claim::claim::Claim;
 use edf_fields::source::Source;
@@ -36,7 +36,7 @@ pub(crate) fn check_series<O: Source, E: Source>(
     ensures failures { OnOk result (NoneFailed O.Source original.old original.new E.Source part.old part.new others.old others.new) }
     ensures stop { IfErr result (StopsOfAll O.Source original.old original.new E.Source 0 (part.old ∷ others.old) (part.new ∷ others.new)) }
 {
-    let mut reading = match open(alloc, original, PartSide::Original) {
+    let reading = match open(alloc, original, PartSide::Original) {
         Ok(Ok(reading)) => reading,
         Ok(Err(fault)) => return Ok(Finding::Fault(FaultOf::Original(fault)).verdict()),
         Err(stop) => return Err(stop),
@@ -48,13 +48,21 @@ pub(crate) fn check_series<O: Source, E: Source>(
         claim,
         labels: &labels,
     };
-    let mut exported = Exported {
-        samples: 0,
-        notes: Vec::new(alloc),
+    let mut so_far = ReadSoFar {
+        original: reading,
+        exported: Exported {
+            samples: 0,
+            notes: Vec::new(alloc),
+        },
     };
-    match walk_parts(&mut reading, original, part, others, setting, &mut exported) {
+    match walk_parts(&mut so_far, original, part, others, setting) {
         Ok(Ok(found)) => {
-            let verdict = conclude_parts(setting, found, &mut reading.notes, &mut exported)?;
+            let verdict = conclude_parts(
+                setting,
+                found,
+                &mut so_far.original.notes,
+                &mut so_far.exported,
+            )?;
             Ok(verdict)
         }
         Ok(Err(fault)) => Ok(Finding::Fault(fault).verdict()),

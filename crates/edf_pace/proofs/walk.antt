@@ -5,7 +5,6 @@ pub mod ShownFacts
 pub mod LockstepFacts
 pub mod SplitFacts
 pub mod WindowFacts
-pub mod CountFacts
 pub mod OnwardFacts
 pub mod PartFacts
 pub mod SpanFacts

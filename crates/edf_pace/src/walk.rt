@@ -2,9 +2,7 @@
 
 pub mod channel_place;
 pub mod clock;
-pub mod counts;
 pub mod fault_of;
-pub mod first_found;
 pub mod frame;
 pub mod gather;
 pub mod layout;
@@ -14,5 +12,5 @@ pub mod reading;
 pub mod shares;
 pub mod track;
 pub mod turn;
-pub mod watcher;
+pub mod watchers;
 pub mod window;

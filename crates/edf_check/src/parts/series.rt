@@ -48,6 +48,13 @@ impl Exported {
     }
 }
 
+/// What was read so far: the original, and what the parts hold.
+#[derive(Drop)]
+pub(crate) struct ReadSoFar {
+    pub original: Reading,
+    pub exported: Exported,
+}
+
 /// Whether there are no parts more.
 fn are_none<E: Source>(parts: &[E]) -> bool
     ensures value { result ≡ is_last_of (map E.left parts.now) }
@@ -61,20 +68,19 @@ fn are_none<E: Source>(parts: &[E]) -> bool
 ///
 /// The error is want of memory, or a failure of one of the sources.
 pub(crate) fn read_parts<O: Source, E: Source>(
-    original: &mut Reading,
+    so_far: &mut ReadSoFar,
     o: &mut O,
     part: &mut E,
     others: &mut [E],
     turn: Turn<'_>,
-    exported: &mut Exported,
 ) -> Result<Result<PartsFound, FaultOf>, PartsStop>
-    requires original { IsReady turn original.old.reader }
+    requires original { IsReady turn (so_far.old.original).reader }
     requires few { turn.part + length others.old < 64 }
-    requires held { exported.old.samples ≤ turn.part * 2 ^ 50 }
+    requires held { (so_far.old.exported).samples ≤ turn.part * 2 ^ 50 }
     ensures modest { IfRead result (λ f. IfSome f.found (IsFoundAmong (length ((turn.entry.setting).labels).now))) }
-    ensures read { IfRead result (AreReadFrom O.Source E.Source turn.entry original.old o.old original.new o.new
-        part.old part.new others.old others.new exported.old exported.new) }
-    ensures fault { IfFaulty result (HaveFaultFrom O.Source E.Source turn.entry original.old o.old o.new (part.old ∷ others.old)) }
+    ensures read { IfRead result (AreReadFrom O.Source E.Source turn.entry so_far.old.original o.old
+        so_far.new.original o.new part.old part.new others.old others.new so_far.old.exported so_far.new.exported) }
+    ensures fault { IfFaulty result (HaveFaultFrom O.Source E.Source turn.entry so_far.old.original o.old o.new (part.old ∷ others.old)) }
     ensures failures { OnOk result (NoneFailed O.Source o.old o.new E.Source part.old part.new others.old others.new) }
     ensures stop { IfErr result (StopsOfAll O.Source o.old o.new E.Source turn.entry.part
         (part.old ∷ others.old) (part.new ∷ others.new)) }
@@ -83,7 +89,7 @@ pub(crate) fn read_parts<O: Source, E: Source>(
         is_last: are_none(others),
         ..turn
     };
-    let read = match read_part(original, o, part, turn) {
+    let read = match read_part(&mut so_far.original, o, part, turn) {
         Ok(Ok(read)) => read,
         Ok(Err(fault)) => return Ok(Err(fault)),
         Err(stop) => return Err(stop),
@@ -95,7 +101,7 @@ pub(crate) fn read_parts<O: Source, E: Source>(
         samples,
         notes,
     } = read;
-    exported.take(samples, notes)?;
+    so_far.exported.take(samples, notes)?;
     match others.split_first_mut() {
         None => {
             let nothing = PartsFound {
@@ -112,7 +118,7 @@ pub(crate) fn read_parts<O: Source, E: Source>(
                 is_compared,
                 ..turn
             };
-            match read_parts(original, o, next, behind, next_turn, exported) {
+            match read_parts(so_far, o, next, behind, next_turn) {
                 Ok(Ok(rest)) => Ok(Ok(found_with(turn.part, heads, course, rest))),
                 Ok(Err(fault)) => Ok(Err(fault)),
                 Err(stop) => Err(stop),

@@ -11,12 +11,10 @@ ghost use Rattle.edf_check.specs.parts.Together.{AreGoneFrom, AreJudgedFrom, Fol
 
 use crate::finding::Finding;
 use crate::parts::found::PartsFound;
-use crate::parts::series::{Exported, read_parts};
+use crate::parts::series::{Exported, ReadSoFar, read_parts};
 use edf_claim::claim::Claim;
 use edf_fields::source::Source;
-use edf_pace::{
-    BEGINNING, FaultOf, Reading, Setting, Turn, View, note_difference, start, with_label,
-};
+use edf_pace::{BEGINNING, FaultOf, Setting, Turn, View, note_difference, start, with_label};
 use edf_stop::{PartSide, PartsStop};
 use edf_stream::notes::Note;
 use edf_verdict::parts_verdict::PartsVerdict;
@@ -28,23 +26,22 @@ use std::alloc::AllocError;
 ///
 /// The error is want of memory, or a failure of one of the sources.
 pub(crate) fn walk_parts<O: Source, E: Source>(
-    original: &mut Reading,
+    so_far: &mut ReadSoFar,
     o: &mut O,
     part: &mut E,
     others: &mut [E],
     setting: Setting<'_>,
-    exported: &mut Exported,
 ) -> Result<Result<PartsFound, FaultOf>, PartsStop>
-    requires original { HasBegun original.old.reader × ((original.old.notes).items ≡ []) }
+    requires original { HasBegun (so_far.old.original).reader × ((so_far.old.original).notes.items ≡ []) }
     requires few { length others.old < 64 }
-    requires none { (exported.old.samples ≡ 0) × ((exported.old.notes).items ≡ []) }
-    requires setting { IsSetting (original.old.reader).head setting }
+    requires none { ((so_far.old.exported).samples ≡ 0) × ((so_far.old.exported).notes.items ≡ []) }
+    requires setting { IsSetting ((so_far.old.original).reader).head setting }
     ensures modest { IfRead result (λ f. IfSome f.found (IsFoundAmong (length (setting.entry.labels).now))) }
-    ensures judged { IfRead result (AreJudgedFrom O.Source E.Source setting.entry original.old o.old original.new
-        (part.old ∷ others.old) exported.new) }
-    ensures gone { IfRead result (λ f. AreGoneFrom O.Source E.Source original.old o.old o.new
+    ensures judged { IfRead result (AreJudgedFrom O.Source E.Source setting.entry so_far.old.original o.old
+        so_far.new.original (part.old ∷ others.old) so_far.new.exported) }
+    ensures gone { IfRead result (λ f. AreGoneFrom O.Source E.Source so_far.old.original o.old o.new
         (part.old ∷ others.old) (part.new ∷ others.new)) }
-    ensures fault { IfFaulty result (IsFirstFrom O.Source E.Source original.old o.old o.new (part.old ∷ others.old)) }
+    ensures fault { IfFaulty result (IsFirstFrom O.Source E.Source so_far.old.original o.old o.new (part.old ∷ others.old)) }
     ensures failures { OnOk result (NoneFailed O.Source o.old o.new E.Source part.old part.new others.old others.new) }
     ensures stop { IfErr result (StopsOfAll O.Source o.old o.new E.Source 0 (part.old ∷ others.old) (part.new ∷ others.new)) }
 {
@@ -53,7 +50,7 @@ pub(crate) fn walk_parts<O: Source, E: Source>(
         moved: setting.clock.original,
         claim: Some(setting.claim),
     };
-    match start(original, o, PartSide::Original, view) {
+    match start(&mut so_far.original, o, PartSide::Original, view) {
         Ok(None) => {}
         Ok(Some(fault)) => return Ok(Err(FaultOf::Original(fault))),
         Err(stop) => return Err(stop),
@@ -65,7 +62,7 @@ pub(crate) fn walk_parts<O: Source, E: Source>(
         is_last: others.is_empty(),
         is_compared: true,
     };
-    match read_parts(original, o, part, others, turn, exported) {
+    match read_parts(so_far, o, part, others, turn) {
         Ok(Ok(found)) => Ok(Ok(found)),
         Ok(Err(fault)) => Ok(Err(fault)),
         Err(stop) => Err(stop),

@@ -17,7 +17,7 @@ use crate::walk::fault_of::FaultOf;
 use crate::walk::gather::View;
 use crate::walk::reading::{Reading, finish, last_end, lesser_end, pass};
 use crate::walk::turn::Turn;
-use crate::walk::watcher::{Watch, Watcher};
+use crate::walk::watchers::watcher::{Watch, Watcher};
 use edf_claim::claim::Claim;
 use edf_fields::fault::Fault;
 use edf_fields::source::Source;

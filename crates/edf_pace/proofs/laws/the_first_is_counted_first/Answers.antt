@@ -1,4 +1,4 @@
-use Rattle.edf_pace.proofs.walk.CountFacts.{earliest_is_counted}
+use Rattle.edf_pace.proofs.walk.watchers.CountFacts.{earliest_is_counted}
 use Rattle.edf_pace.proofs.laws.the_first_is_counted_first.Goals as goal
 
 pub returns : goal.returns

@@ -14,13 +14,13 @@ none-of (x ∷ xs) e = absurd (omega (arith, e))
 pub returns-in-Ok-Err-clause-fault : goal.returns-in-Ok-Err-clause-fault
 returns-in-Ok-Err-clause-fault g t c = λ ho a bo he.
     let fault = (rw c.in-Ok-Err.field-0-is at c.in-Ok-Err.ensures.fault) ho a bo he.0 in
-    fault_first a (c.args.original.now.reader).head _ c.args.turn.part (g.E.Source.left c.args.part.now) (map g.E.Source.left c.args.others.now) c.in-Ok-Err.fault fault
+    fault_first a (c.args.so_far.now.original.reader).head _ c.args.turn.part (g.E.Source.left c.args.part.now) (map g.E.Source.left c.args.others.now) c.in-Ok-Err.fault fault
 
 pub returns-in-None-clause-read : goal.returns-in-None-clause-read
 returns-in-None-clause-read g t c = λ ho a bo he.
     let turn = c.args.turn in
     let read = c.in-Ok-Ok.read in
-    let h = (c.args.original.now.reader).head in
+    let h = (c.args.so_far.now.original.reader).head in
     let left = g.O.Source.left c.read_part.new.o in
     let notes = map note_value (c.read_part.new.original.notes).items in
     let e = g.E.Source.left c.args.part.now in
@@ -30,19 +30,19 @@ returns-in-None-clause-read g t c = λ ho a bo he.
     let L : List _ → Type 0 = λ all. c.are_none.result ≡ is_last (map g.E.Source.left all) in
     let last : c.are_none.result ≡ true = subst L none c.are_none.ensures.value in
     let rest = read_none turn c.are_none.result c.goes_on-is_compared.result read a h left notes e left' c.take.new.self last c.goes_on-is_compared.ensures part in
-    let F : List _ → Type 0 = λ all. AreRead turn a h left notes (e ∷ map g.E.Source.left all) (left' ∷ map g.E.Source.left all) c.args.exported.now c.take.new.self c.found_with.result in
-    let Q : PartsFound → Type 0 = λ f. AreRead turn a h left notes (e ∷ []) (left' ∷ []) c.args.exported.now c.take.new.self f in
+    let F : List _ → Type 0 = λ all. AreRead turn a h left notes (e ∷ map g.E.Source.left all) (left' ∷ map g.E.Source.left all) c.args.so_far.now.exported c.take.new.self c.found_with.result in
+    let Q : PartsFound → Type 0 = λ f. AreRead turn a h left notes (e ∷ []) (left' ∷ []) c.args.so_far.now.exported c.take.new.self f in
     subst F (sym none)
     (subst Q (sym c.found_with.ensures)
-    (read_more turn c.are_none.result c.goes_on-is_compared.result read a h left left notes notes e left' [] [] c.args.exported.now c.take.new.self c.take.new.self _ last c.goes_on-is_compared.ensures c.in_ok-take.ensures.samples c.in_ok-take.ensures.notes part rest))
+    (read_more turn c.are_none.result c.goes_on-is_compared.result read a h left left notes notes e left' [] [] c.args.so_far.now.exported c.take.new.self c.take.new.self _ last c.goes_on-is_compared.ensures c.in_ok-take.ensures.samples c.in_ok-take.ensures.notes part rest))
 
 pub returns-in-Ok-Ok-read_parts-clause-read : goal.returns-in-Ok-Ok-read_parts-clause-read
 returns-in-Ok-Ok-read_parts-clause-read g t c = λ ho a bo he.
     let turn = c.args.turn in
     let read = c.in-Ok-Ok.read in
-    let h = (c.args.original.now.reader).head in
+    let h = (c.args.so_far.now.original.reader).head in
     let left = g.O.Source.left c.read_parts.new.o in
-    let notes = map note_value (c.read_parts.new.original.notes).items in
+    let notes = map note_value (c.read_parts.new.so_far.original.notes).items in
     let e = g.E.Source.left c.args.part.now in
     let left' = g.E.Source.left c.read_part.new.e in
     let parts = g.E.Source.left c.in-Some.next.now ∷ map g.E.Source.left c.in-Some.behind.now in
@@ -55,12 +55,12 @@ returns-in-Ok-Ok-read_parts-clause-read g t c = λ ho a bo he.
     let passed = rw (sym c.goes_on-is_compared.ensures) at passes in
     let H : List _ → Type 0 = λ all. AllByRecursion IsTrue (map g.E.Source.is_honest all) in
     let behind = (rw c.in-Ok-Ok-read_parts.field-0-is at c.in-Ok-Ok-read_parts.ensures.read) (passed.honesty ho) a (passed.comes ho a bo) (subst H others he.1) in
-    let rest = subst (λ k. AreRead (next_turn turn c.are_none.result read c.goes_on-is_compared.result) a k left notes parts lefts c.take.new.self c.read_parts.new.exported c.in-Ok-Ok-read_parts.rest) passed.head behind in
-    let F : List _ → Type 0 = λ all. AreRead turn a h left notes (e ∷ map g.E.Source.left all) (left' ∷ lefts) c.args.exported.now c.read_parts.new.exported c.found_with-in-Ok-Ok-read_parts.result in
-    let Q : PartsFound → Type 0 = λ f. AreRead turn a h left notes (e ∷ parts) (left' ∷ lefts) c.args.exported.now c.read_parts.new.exported f in
+    let rest = subst (λ k. AreRead (next_turn turn c.are_none.result read c.goes_on-is_compared.result) a k left notes parts lefts c.take.new.self c.read_parts.new.so_far.exported c.in-Ok-Ok-read_parts.rest) passed.head behind in
+    let F : List _ → Type 0 = λ all. AreRead turn a h left notes (e ∷ map g.E.Source.left all) (left' ∷ lefts) c.args.so_far.now.exported c.read_parts.new.so_far.exported c.found_with-in-Ok-Ok-read_parts.result in
+    let Q : PartsFound → Type 0 = λ f. AreRead turn a h left notes (e ∷ parts) (left' ∷ lefts) c.args.so_far.now.exported c.read_parts.new.so_far.exported f in
     subst F (sym others)
     (subst Q (sym c.found_with-in-Ok-Ok-read_parts.ensures)
-    (read_more turn c.are_none.result c.goes_on-is_compared.result read a h left _ notes _ e left' parts lefts c.args.exported.now c.take.new.self c.read_parts.new.exported c.in-Ok-Ok-read_parts.rest last c.goes_on-is_compared.ensures c.in_ok-take.ensures.samples c.in_ok-take.ensures.notes part rest))
+    (read_more turn c.are_none.result c.goes_on-is_compared.result read a h left _ notes _ e left' parts lefts c.args.so_far.now.exported c.take.new.self c.read_parts.new.so_far.exported c.in-Ok-Ok-read_parts.rest last c.goes_on-is_compared.ensures c.in_ok-take.ensures.samples c.in_ok-take.ensures.notes part rest))
 
 pub returns-in-Ok-Err-read_parts-clause-fault : goal.returns-in-Ok-Err-read_parts-clause-fault
 returns-in-Ok-Err-read_parts-clause-fault g t c = λ ho a bo he.
@@ -75,8 +75,8 @@ returns-in-Ok-Err-read_parts-clause-fault g t c = λ ho a bo he.
     let passed = rw (sym c.goes_on-is_compared.ensures) at passes in
     let H : List _ → Type 0 = λ all. AllByRecursion IsTrue (map g.E.Source.is_honest all) in
     let fault = (rw c.in-Ok-Err-read_parts.field-0-is at c.in-Ok-Err-read_parts.ensures.fault) (passed.honesty ho) a (passed.comes ho a bo) (subst H others he.1) in
-    let F : List _ → Type 0 = λ all. HaveFault turn.part a (c.args.original.now.reader).head left (e ∷ map g.E.Source.left all) c.in-Ok-Err-read_parts.fault in
+    let F : List _ → Type 0 = λ all. HaveFault turn.part a (c.args.so_far.now.original.reader).head left (e ∷ map g.E.Source.left all) c.in-Ok-Err-read_parts.fault in
     let parts = g.E.Source.left c.in-Some.next.now ∷ map g.E.Source.left c.in-Some.behind.now in
     subst F (sym others)
-    (fault_behind a (c.args.original.now.reader).head left turn.part e parts c.in-Ok-Err-read_parts.fault (((part.passed).ended).through).conforms
+    (fault_behind a (c.args.so_far.now.original.reader).head left turn.part e parts c.in-Ok-Err-read_parts.fault (((part.passed).ended).through).conforms
     (subst (λ k. HaveFault (turn.part + 1) a k left parts c.in-Ok-Err-read_parts.fault) passed.head fault))

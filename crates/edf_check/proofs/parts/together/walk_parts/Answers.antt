@@ -7,7 +7,7 @@ use Rattle.edf_check.proofs.parts.together.walk_parts.Goals as goal
 pub returns-in-Ok-Some-clause-fault : goal.returns-in-Ok-Some-clause-fault
 returns-in-Ok-Some-clause-fault g c = λ ho a so he.
     let fault = rw c.in-Ok-Some.field-0-is at c.in-Ok-Some.ensures.fault in
-    (fault_is c.args.original.now.reader (g.O.Source.left c.args.o.now) a so ∙ fault ho a so, tt)
+    (fault_is c.args.so_far.now.original.reader (g.O.Source.left c.args.o.now) a so ∙ fault ho a so, tt)
 
 pub returns-in-Ok-Ok-clause-judged : goal.returns-in-Ok-Ok-clause-judged
 returns-in-Ok-Ok-clause-judged g c = λ ho a so he.
@@ -17,7 +17,7 @@ returns-in-Ok-Ok-clause-judged g c = λ ho a so he.
     let parts = g.E.Source.left c.args.part.now ∷ map g.E.Source.left c.args.others.now in
     let some : 0 < length parts = omega arith in
     let setting = c.requires.setting in
-    found_together _ a _ (c.args.original.now.reader).head _ _ parts _ c.args.exported.now _ _ read refl refl refl (follows.head ∙ (so.passed).head) (so.passed).head setting some c.requires.none.1 c.requires.none.0
+    found_together _ a _ (c.args.so_far.now.original.reader).head _ _ parts _ c.args.so_far.now.exported _ _ read refl refl refl (follows.head ∙ (so.passed).head) (so.passed).head setting some c.requires.none.1 c.requires.none.0
 
 pub returns-in-Ok-Ok-clause-gone : goal.returns-in-Ok-Ok-clause-gone
 returns-in-Ok-Ok-clause-gone g c = λ ho a so he.
@@ -32,7 +32,7 @@ returns-in-Ok-Err-clause-fault g c = λ ho a so he.
     let at = follows.comes ho a so in
     let left = g.O.Source.left c.read_parts.new.o in
     let parts = g.E.Source.left c.args.part.now ∷ map g.E.Source.left c.args.others.now in
-    let h = (c.args.original.now.reader).head in
+    let h = (c.args.so_far.now.original.reader).head in
     let fault = (rw c.in-Ok-Err.field-0-is at c.in-Ok-Err.ensures.fault) (follows.honesty ho) a (record { there = at.there; at = λ is. at }) he in
-    first_of_all a h left parts c.in-Ok-Err.fault (fault_is c.args.original.now.reader (g.O.Source.left c.args.o.now) a so)
+    first_of_all a h left parts c.in-Ok-Err.fault (fault_is c.args.so_far.now.original.reader (g.O.Source.left c.args.o.now) a so)
     (subst (λ k. HaveFault 0 a k left parts c.in-Ok-Err.fault) follows.head fault)

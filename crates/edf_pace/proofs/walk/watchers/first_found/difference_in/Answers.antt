@@ -2,7 +2,7 @@ use Rattle.std.proofs.Common.{ℕ, Option, IfSome, refl, subst}
 use Rattle.std.specs.List.{All}
 use Rattle.edf_pace.specs.walk.Pairs.{AreLaidAlike}
 use Rattle.edf_pace.proofs.walk.LayoutFacts.{none_different}
-use Rattle.edf_pace.proofs.walk.first_found.difference_in.Goals as goal
+use Rattle.edf_pace.proofs.walk.watchers.first_found.difference_in.Goals as goal
 
 pub returns-then-shows_the_same-clause-value : goal.returns-then-shows_the_same-clause-value
 returns-then-shows_the_same-clause-value c = λ o e ho he.

@@ -1,7 +1,7 @@
 use Rattle.edf_pace.specs.walk.Windows.{sampled}
 use Rattle.edf_pace.specs.samples.Stretches.{points_in}
-use Rattle.edf_pace.proofs.walk.CountFacts.{none_here, none_there, pair_counted}
-use Rattle.edf_pace.proofs.walk.counts.count_pair.Goals as goal
+use Rattle.edf_pace.proofs.walk.watchers.CountFacts.{none_here, none_there, pair_counted}
+use Rattle.edf_pace.proofs.walk.watchers.counts.count_pair.Goals as goal
 
 pub returns-in-Some-Some : goal.returns-in-Some-Some
 returns-in-Some-Some c = λ claim clock w so se uncut kept o e ho he.

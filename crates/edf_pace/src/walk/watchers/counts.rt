@@ -12,7 +12,7 @@ use crate::times::Window;
 use crate::walk::frame::Frame;
 use crate::walk::shares::{Shares, Sight, keep_shares, no_shares};
 use crate::walk::track::Pair;
-use crate::walk::watcher::Watcher;
+use crate::walk::watchers::watcher::Watcher;
 use crate::walk::window::{kept_window, window};
 use edf_stream::reader::FileReader;
 use std::alloc::{AllocError, Global};

@@ -6,7 +6,7 @@ use Rattle.edf_pace.specs.walk.Pairs.{places_of}
 use Rattle.edf_pace.specs.walk.Shown.{Covers}
 use Rattle.edf_pace.specs.walk.Watching.{moved_export, moved_original}
 use Rattle.edf_pace.specs.walk.Windows.{AreSharesIn, sampled}
-use Rattle.edf_pace.proofs.walk.counts.count_window.Given as goal
+use Rattle.edf_pace.proofs.walk.watchers.counts.count_window.Given as goal
 
 abbrev pub invariant-loop-i : goal.invariant-loop-i
 invariant-loop-i l = record {

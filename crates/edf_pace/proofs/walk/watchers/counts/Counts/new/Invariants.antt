@@ -1,6 +1,6 @@
 use Rattle.std.proofs.Common.{◌≡◌, [], replicate}
 use Rattle.edf_pace.specs.samples.Tallies.{tally_of}
-use Rattle.edf_pace.proofs.walk.counts.Counts.new.Given as goal
+use Rattle.edf_pace.proofs.walk.watchers.counts.Counts.new.Given as goal
 
 abbrev pub invariant-loop : goal.invariant-loop
 invariant-loop l = l.tallies.items ≡ replicate l.index (tally_of [])

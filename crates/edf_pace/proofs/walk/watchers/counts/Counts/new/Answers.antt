@@ -1,7 +1,7 @@
 use Rattle.std.proofs.Common.{◌≡◌, ◌∙◌, [], ◌∷◌, ◌++◌, ap, length, replicate, rules}
 use Rattle.edf_pace.specs.samples.Tallies.{tally_of}
-use Rattle.edf_pace.proofs.walk.CountFacts.{each_none, replicate-length, replicate-more}
-use Rattle.edf_pace.proofs.walk.counts.Counts.new.Goals as goal
+use Rattle.edf_pace.proofs.walk.watchers.CountFacts.{each_none, replicate-length, replicate-more}
+use Rattle.edf_pace.proofs.walk.watchers.counts.Counts.new.Goals as goal
 
 pub loop-preserved : goal.loop-preserved
 loop-preserved c =

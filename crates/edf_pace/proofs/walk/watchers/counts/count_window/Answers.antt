@@ -4,8 +4,8 @@ use Rattle.edf_pace.specs.walk.Counting.{differences_in, joined_each}
 use Rattle.edf_pace.specs.walk.Pairs.{places_of}
 use Rattle.edf_pace.specs.walk.Watching.{moved_export, moved_original}
 use Rattle.edf_pace.specs.walk.Windows.{sampled}
-use Rattle.edf_pace.proofs.walk.CountFacts.{all_left, count_step, none_left}
-use Rattle.edf_pace.proofs.walk.counts.count_window.Goals as goal
+use Rattle.edf_pace.proofs.walk.watchers.CountFacts.{all_left, count_step, none_left}
+use Rattle.edf_pace.proofs.walk.watchers.counts.count_window.Goals as goal
 
 none_yet : {n : ℕ} {P : Type 0} → n ≡ 0 → 0 < n → P
 none_yet e p = absurd (omega (arith, e, p))

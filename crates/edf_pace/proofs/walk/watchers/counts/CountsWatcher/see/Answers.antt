@@ -1,7 +1,7 @@
 use Rattle.std.proofs.Common.{◌≡◌, ◌∙◌, ap, length, rules, sym, subst}
 use Rattle.edf_pace.specs.walk.Counting.{AreCounted}
-use Rattle.edf_pace.proofs.walk.CountFacts.{counts_next, written_back}
-use Rattle.edf_pace.proofs.walk.counts.CountsWatcher.see.Goals as goal
+use Rattle.edf_pace.proofs.walk.watchers.CountFacts.{counts_next, written_back}
+use Rattle.edf_pace.proofs.walk.watchers.counts.CountsWatcher.see.Goals as goal
 
 pub returns-clause-holds : goal.returns-clause-holds
 returns-clause-holds c = λ o e ho he from before held.

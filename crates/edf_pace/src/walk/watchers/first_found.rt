@@ -12,7 +12,7 @@ use crate::times::Window;
 use crate::walk::frame::Frame;
 use crate::walk::layout::are_alike;
 use crate::walk::shares::keeps_at;
-use crate::walk::watcher::Watcher;
+use crate::walk::watchers::watcher::Watcher;
 use crate::walk::window::window_difference;
 use edf_stream::reader::FileReader;
 

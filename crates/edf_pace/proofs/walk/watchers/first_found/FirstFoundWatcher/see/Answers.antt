@@ -1,5 +1,5 @@
 use Rattle.edf_pace.proofs.walk.OnwardFacts.{first_next, nothing_yet}
-use Rattle.edf_pace.proofs.walk.first_found.FirstFoundWatcher.see.Goals as goal
+use Rattle.edf_pace.proofs.walk.watchers.first_found.FirstFoundWatcher.see.Goals as goal
 
 pub returns-clause-holds : goal.returns-clause-holds
 returns-clause-holds c = λ o e ho he t from held.
