@@ -11,7 +11,7 @@ use crate::signs::{Signs, Wiped};
 use edf_check::{run, run_parts};
 use edf_command_line::VERSION;
 use edf_draft::draft::draft_to;
-use edf_explain::explained::run_explained;
+use edf_explain::run_explained;
 use edf_fields::sink::{Sink, WriteSink};
 use edf_job::job::Job;
 use edf_receipt::{DigestSource, receipt_parts_to, receipt_to};
