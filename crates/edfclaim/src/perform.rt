@@ -10,7 +10,7 @@ use crate::files_again::FilesAgain;
 use crate::signs::{Signs, Wiped};
 use edf_check::{run, run_parts};
 use edf_command_line::VERSION;
-use edf_draft::draft::draft_to;
+use edf_draft::draft_to;
 use edf_explain::run_explained;
 use edf_fields::sink::{Sink, WriteSink};
 use edf_job::job::Job;

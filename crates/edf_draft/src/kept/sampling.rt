@@ -1,12 +1,13 @@
 //! Where samples of the original stand beside a time.
 
+use crate::kept::intervals::ended_count;
 use edf_claim::interval::Interval;
 use edf_header::header::Header;
 use std::alloc::{AllocError, Global};
 
 /// The channels of an original that an export has, by how often they are sampled.
 #[derive(Drop)]
-pub(crate) struct Grid {
+pub(crate) struct Sampling {
     /// The duration of a data record in picoseconds.
     duration_ps: i128,
     /// How many samples each of these channels has in a data record.
@@ -38,13 +39,13 @@ fn instant_before(place: i128, count: u32, duration_ps: i128) -> Option<i128> {
     instant_of(place.checked_sub(1)?, count, duration_ps)
 }
 
-impl Grid {
+impl Sampling {
     /// The channels of the original that have one of these labels.
     pub(crate) fn new(
         alloc: Global,
         original: &Header,
         labels: &[Vec<u8>],
-    ) -> Result<Grid, AllocError> {
+    ) -> Result<Sampling, AllocError> {
         let mut counts = Vec::new(alloc);
         for signal in original.signals() {
             let count = signal.samples();
@@ -55,7 +56,7 @@ impl Grid {
                 counts.push(count)?;
             }
         }
-        Ok(Grid {
+        Ok(Sampling {
             duration_ps: original.duration_ps(),
             counts,
         })
@@ -122,9 +123,4 @@ impl Grid {
             .rev()
             .find_map(|stretch| self.last_before(*stretch, at_ps))
     }
-}
-
-/// How many of some intervals end at a time or before; they stand in order.
-pub(crate) fn ended_count(intervals: &[Interval], at_ps: i128) -> usize {
-    intervals.partition_point(|interval| interval.to_ps <= at_ps)
 }

@@ -1,14 +1,15 @@
 //! The texts of annotations that an original has, and its export hasn't.
 
-use crate::keep::{Back, is_kept};
-use crate::recorded::Remark;
+use crate::kept::back::Back;
+use crate::kept::intervals::is_kept;
+use crate::recorded::RecordedNote;
 use edf_claim::claim::BLANK;
 use edf_claim::interval::Interval;
 use std::alloc::{AllocError, Global};
 
-/// Texts, and how often each of them stands in the original.
+/// CountedTexts, and how often each of them stands in the original.
 #[derive(Drop)]
-pub(crate) struct Texts {
+pub(crate) struct CountedTexts {
     pub texts: Vec<Vec<u8>>,
     pub counts: Vec<u64>,
 }
@@ -16,14 +17,14 @@ pub(crate) struct Texts {
 /// The texts of the annotations that begin in the intervals, in the order of their bytes.
 fn sorted_texts<'a>(
     alloc: Global,
-    remarks: &'a [Remark],
+    notes: &'a [RecordedNote],
     keep: &[Interval],
     back: Back,
 ) -> Result<Vec<&'a [u8]>, AllocError> {
     let mut texts: Vec<&'a [u8]> = Vec::new(alloc);
-    for remark in remarks {
-        if is_kept(keep, back.of(remark.onset)) {
-            texts.push(&remark.text)?;
+    for note in notes {
+        if is_kept(keep, back.of(note.onset)) {
+            texts.push(&note.text)?;
         }
     }
     texts.sort_unstable();
@@ -35,10 +36,10 @@ fn is_found(sorted: &[&[u8]], text: &[u8]) -> bool {
     sorted.binary_search(&text).is_ok()
 }
 
-impl Texts {
+impl CountedTexts {
     /// No texts.
-    fn none(alloc: Global) -> Texts {
-        Texts {
+    fn none(alloc: Global) -> CountedTexts {
+        CountedTexts {
             texts: Vec::new(alloc),
             counts: Vec::new(alloc),
         }
@@ -63,9 +64,9 @@ impl Texts {
 #[derive(Drop)]
 pub(crate) struct Lacking {
     /// Those that it has nothing for.
-    pub removed: Texts,
+    pub removed: CountedTexts,
     /// Those for each of which it has the text `X`, at its time and with its duration.
-    pub blanked: Texts,
+    pub blanked: CountedTexts,
 }
 
 /// When an annotation begins, and its duration.
@@ -74,15 +75,15 @@ type Span = (i128, Option<i128>);
 /// The spans of the annotations that begin in the intervals and say `X`, in order.
 fn blanks_of(
     alloc: Global,
-    remarks: &[Remark],
+    notes: &[RecordedNote],
     keep: &[Interval],
     back: Back,
 ) -> Result<Vec<Span>, AllocError> {
     let mut blanks = Vec::new(alloc);
-    for remark in remarks {
-        let at_ps = back.of(remark.onset);
-        if remark.text.as_slice() == BLANK.as_bytes() && is_kept(keep, at_ps) {
-            blanks.push((at_ps, remark.duration))?;
+    for note in notes {
+        let at_ps = back.of(note.onset);
+        if note.text.as_slice() == BLANK.as_bytes() && is_kept(keep, at_ps) {
+            blanks.push((at_ps, note.duration))?;
         }
     }
     blanks.sort_unstable();
@@ -108,8 +109,8 @@ fn takes(spans: &mut &[Span], span: Span) -> bool {
 /// The spans of an export's blanks that aren't those of annotations of the original that say `X` themselves, in order.
 fn made_blanks(
     alloc: Global,
-    original: &[Remark],
-    export: &[Remark],
+    original: &[RecordedNote],
+    export: &[RecordedNote],
     keep: &[Interval],
     back: Back,
 ) -> Result<Vec<Span>, AllocError> {
@@ -126,17 +127,17 @@ fn made_blanks(
 }
 
 /// The annotations that begin in the intervals and have none of these texts, by their spans and then their texts.
-fn lacking_remarks<'a>(
+fn lacking_notes<'a>(
     alloc: Global,
-    remarks: &'a [Remark],
+    notes: &'a [RecordedNote],
     keep: &[Interval],
     exported: &[&[u8]],
 ) -> Result<Vec<(Span, &'a [u8])>, AllocError> {
     let mut lacking: Vec<(Span, &'a [u8])> = Vec::new(alloc);
-    for remark in remarks {
-        let text = remark.text.as_slice();
-        if is_kept(keep, remark.onset) && !is_found(exported, text) {
-            lacking.push(((remark.onset, remark.duration), text))?;
+    for note in notes {
+        let text = note.text.as_slice();
+        if is_kept(keep, note.onset) && !is_found(exported, text) {
+            lacking.push(((note.onset, note.duration), text))?;
         }
     }
     lacking.sort_unstable();
@@ -174,18 +175,18 @@ fn texts_of<'a>(alloc: Global, lacking: &[(Span, &'a [u8])]) -> Result<Vec<&'a [
 /// The texts of annotations in the intervals that the original has, and the export hasn't.
 pub(crate) fn lacking_texts(
     alloc: Global,
-    original: &[Remark],
-    export: &[Remark],
+    original: &[RecordedNote],
+    export: &[RecordedNote],
     keep: &[Interval],
     back: Back,
 ) -> Result<Lacking, AllocError> {
     let exported = sorted_texts(alloc, export, keep, back)?;
-    let found = lacking_remarks(alloc, original, keep, &exported)?;
+    let found = lacking_notes(alloc, original, keep, &exported)?;
     let blanks = made_blanks(alloc, original, export, keep, back)?;
     let unblanked = unblanked_texts(alloc, &found, &blanks)?;
     let mut lacking = Lacking {
-        removed: Texts::none(alloc),
-        blanked: Texts::none(alloc),
+        removed: CountedTexts::none(alloc),
+        blanked: CountedTexts::none(alloc),
     };
     for text in &texts_of(alloc, &found)? {
         let texts = if is_found(&unblanked, text) {
@@ -201,22 +202,22 @@ pub(crate) fn lacking_texts(
 /// The times and texts of annotations, in order.
 fn times_and_texts<'a>(
     alloc: Global,
-    remarks: &'a [Remark],
+    notes: &'a [RecordedNote],
     back: Back,
 ) -> Result<Vec<(i128, &'a [u8])>, AllocError> {
     let mut found: Vec<(i128, &'a [u8])> = Vec::new(alloc);
-    for remark in remarks {
-        found.push((back.of(remark.onset), remark.text.as_slice()))?;
+    for note in notes {
+        found.push((back.of(note.onset), note.text.as_slice()))?;
     }
     found.sort_unstable();
     Ok(found)
 }
 
 /// All texts of annotations, in the order of their bytes.
-fn all_texts<'a>(alloc: Global, remarks: &'a [Remark]) -> Result<Vec<&'a [u8]>, AllocError> {
+fn all_texts<'a>(alloc: Global, notes: &'a [RecordedNote]) -> Result<Vec<&'a [u8]>, AllocError> {
     let mut texts: Vec<&'a [u8]> = Vec::new(alloc);
-    for remark in remarks {
-        texts.push(&remark.text)?;
+    for note in notes {
+        texts.push(&note.text)?;
     }
     texts.sort_unstable();
     Ok(texts)
@@ -225,17 +226,17 @@ fn all_texts<'a>(alloc: Global, remarks: &'a [Remark]) -> Result<Vec<&'a [u8]>, 
 /// The times of annotations of the original that the export lacks, though it has their texts elsewhere; in order.
 pub(crate) fn lacking_times(
     alloc: Global,
-    original: &[Remark],
-    export: &[Remark],
+    original: &[RecordedNote],
+    export: &[RecordedNote],
     back: Back,
 ) -> Result<Vec<i128>, AllocError> {
     let exported = times_and_texts(alloc, export, back)?;
     let texts = all_texts(alloc, export)?;
     let mut times = Vec::new(alloc);
-    for remark in original {
-        let text = remark.text.as_slice();
-        if is_found(&texts, text) && exported.binary_search(&(remark.onset, text)).is_err() {
-            times.push(remark.onset)?;
+    for note in original {
+        let text = note.text.as_slice();
+        if is_found(&texts, text) && exported.binary_search(&(note.onset, text)).is_err() {
+            times.push(note.onset)?;
         }
     }
     times.sort_unstable();

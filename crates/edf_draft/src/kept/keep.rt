@@ -1,72 +1,20 @@
 //! The intervals that an export keeps of its original.
 
-use crate::grid::{Grid, ended_count};
-use crate::recorded::{Recorded, Remark};
-use crate::texts::lacking_times;
+use crate::kept::back::{Back, moved_stretches, times_beside};
+use crate::kept::intervals::{ended_count, is_kept};
+use crate::kept::lacking::lacking_times;
+use crate::kept::sampling::Sampling;
+use crate::recorded::Recorded;
 use edf_claim::interval::Interval;
-use edf_fields::onset::SECOND_PS;
 use std::alloc::{AllocError, Global};
 
 /// The most intervals that a claim may have.
 const MOST_INTERVALS: usize = 1_000;
 
-/// The times of an export as those of its original: both counted from the second at which their file starts.
-#[derive(Clone, Copy)]
-pub(crate) struct Back {
-    /// How many picoseconds are added.
-    ps: i128,
-}
-
-impl Back {
-    /// Where the original starts at one second and the export at another, which was moved by so many seconds.
-    pub(crate) fn new(original_second: i64, export_second: i64, shift: i64) -> Back {
-        let seconds = i128::from(export_second)
-            .saturating_sub(i128::from(original_second))
-            .saturating_sub(i128::from(shift));
-        Back {
-            ps: seconds.saturating_mul(SECOND_PS),
-        }
-    }
-
-    /// Where times are those of the original.
-    pub(crate) fn none() -> Back {
-        Back { ps: 0 }
-    }
-
-    /// A time of the export.
-    pub(crate) fn of(self, at_ps: i128) -> i128 {
-        at_ps.saturating_add(self.ps)
-    }
-}
-
-/// The time of the export's data records in the original.
-pub(crate) fn moved_stretches(
-    alloc: Global,
-    export: &Recorded,
-    back: Back,
-) -> Result<Vec<Interval>, AllocError> {
-    let mut keep = Vec::with_capacity(alloc, export.stretches.len())?;
-    for stretch in &export.stretches {
-        keep.push(Interval {
-            from_ps: back.of(stretch.from_ps),
-            to_ps: back.of(stretch.to_ps),
-        })?;
-    }
-    Ok(keep)
-}
-
-/// Whether a time lies in one of the intervals.
-pub(crate) fn is_kept(keep: &[Interval], at_ps: i128) -> bool {
-    match keep.get(ended_count(keep, at_ps)) {
-        Some(interval) => interval.from_ps <= at_ps,
-        None => false,
-    }
-}
-
 /// What of an original an interval may reach over.
 #[derive(Clone, Copy)]
 struct Ground<'a> {
-    grid: &'a Grid,
+    sampling: &'a Sampling,
     /// The time of the original's data records.
     stretches: &'a [Interval],
     /// The times, in order, of annotations that no interval may have.
@@ -85,7 +33,7 @@ impl<'a> Ground<'a> {
 
     /// Whether an interval may go on from one time to another: no sample stands there, and no such annotation.
     fn is_free(self, from_ps: i128, to_ps: i128) -> bool {
-        let has_sample = match self.grid.next_sample(self.stretches, from_ps) {
+        let has_sample = match self.sampling.next_sample(self.stretches, from_ps) {
             Some(sample) => sample < to_ps,
             None => false,
         };
@@ -103,7 +51,7 @@ impl<'a> Ground<'a> {
 
     /// How far a time that a claim can say lies before an interval that may begin as early; none where it may not.
     fn way_back(self, behind: Interval, at_ps: i128) -> Option<i128> {
-        match self.grid.sample_before(self.stretches, behind.from_ps) {
+        match self.sampling.sample_before(self.stretches, behind.from_ps) {
             Some(sample) if at_ps <= sample => None,
             _ if at_ps < 0 || self.is_barred(at_ps, behind.from_ps) => None,
             _ => Some(behind.from_ps.saturating_sub(at_ps)),
@@ -165,23 +113,6 @@ fn joined(
     Ok(joined)
 }
 
-/// The times of annotations that the export has beside its data records, in those of the original.
-pub(crate) fn times_beside(
-    alloc: Global,
-    remarks: &[Remark],
-    keep: &[Interval],
-    back: Back,
-) -> Result<Vec<i128>, AllocError> {
-    let mut beside = Vec::new(alloc);
-    for remark in remarks {
-        let at_ps = back.of(remark.onset);
-        if !is_kept(keep, at_ps) {
-            beside.push(at_ps)?;
-        }
-    }
-    Ok(beside)
-}
-
 /// The intervals of the original that an export has, by its data records. They reach to annotations that the export has beside
 /// these, where no sample of the original stands between, and no annotation that the export lacks and that can't be removed, since
 /// the export has its text elsewhere. Where they are more than a claim may have, two are one if nothing such stands between.
@@ -189,17 +120,17 @@ pub(crate) fn kept_intervals(
     alloc: Global,
     original: &Recorded,
     export: &Recorded,
-    grid: &Grid,
+    sampling: &Sampling,
     back: Back,
 ) -> Result<Vec<Interval>, AllocError> {
     let mut keep = moved_stretches(alloc, export, back)?;
-    let beside = times_beside(alloc, &export.remarks, &keep, back)?;
+    let beside = times_beside(alloc, &export.notes, &keep, back)?;
     if beside.is_empty() && keep.len() <= MOST_INTERVALS {
         return Ok(keep);
     }
-    let barred = lacking_times(alloc, &original.remarks, &export.remarks, back)?;
+    let barred = lacking_times(alloc, &original.notes, &export.notes, back)?;
     let ground = Ground {
-        grid,
+        sampling,
         stretches: &original.stretches,
         barred: &barred,
     };

@@ -1,7 +1,8 @@
-//! What a person should know of two files before their draft is confirmed, each as a comment of TOML.
+//! What a person has to know of two files before their draft is confirmed, each as a comment of TOML.
 
+use crate::days::DAY_PS;
 use crate::hidden::hidden_subfields;
-use crate::keep::{Back, moved_stretches, times_beside};
+use crate::kept::back::{Back, moved_stretches, times_beside};
 use crate::recorded::{Recorded, Times};
 use crate::shift::{Shift, shift_of};
 use edf_fields::which::Which;
@@ -9,9 +10,6 @@ use edf_header::header::Header;
 use edf_heads::channel_index::ChannelIndex;
 use edf_verdict::quote::push_quoted;
 use std::alloc::{AllocError, Global};
-
-/// How many picoseconds a day has.
-const DAY_PS: i128 = 86_400_000_000_000_000;
 
 /// What stands in a draft where the starts of the two files don't tell a shift.
 const UNTOLD: &str = "
@@ -92,7 +90,7 @@ fn say_beside(
         shift.seconds,
     );
     let stretches = moved_stretches(alloc, export, back)?;
-    let beside = times_beside(alloc, &export.remarks, &stretches, back)?;
+    let beside = times_beside(alloc, &export.notes, &stretches, back)?;
     if beside.is_empty() {
         return Ok(());
     }
@@ -131,7 +129,7 @@ fn say_days(
 }
 
 /// What a person should know of two files, and of the shift that their draft has.
-pub(crate) fn remarks_of(
+pub(crate) fn doubts_of(
     alloc: Global,
     original: &Recorded,
     export: &Recorded,
