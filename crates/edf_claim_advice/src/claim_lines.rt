@@ -8,6 +8,17 @@ pub(crate) struct Spotted<'a> {
     pub(crate) content: &'a [u8],
 }
 
+impl<'a> Spotted<'a> {
+    /// The place at a column of a line, by the number of the line from 0 on.
+    fn new(number: usize, column: usize, line: &'a [u8]) -> Spotted<'a> {
+        Spotted {
+            line: number.saturating_add(1),
+            column,
+            content: line.trim_ascii(),
+        }
+    }
+}
+
 /// The front of a table of an interval.
 const KEEP: &[u8] = b"[[keep]]";
 
@@ -65,11 +76,7 @@ pub(crate) fn key_from<'a>(text: &'a [u8], key: &str, from: usize) -> Option<Spo
         let number = place.saturating_add(1);
         if number >= from && behind_key(line, key.as_bytes()).is_some() {
             let indent = line.len().saturating_sub(line.trim_ascii_start().len());
-            return Some(Spotted {
-                line: number,
-                column: indent.saturating_add(1),
-                content: line.trim_ascii(),
-            });
+            return Some(Spotted::new(place, indent.saturating_add(1), line));
         }
     }
     None
@@ -87,11 +94,7 @@ pub(crate) fn part_from<'a>(text: &'a [u8], part: &[u8], from: usize) -> Option<
         if number >= from
             && let Some(offset) = offset_of(line, part)
         {
-            return Some(Spotted {
-                line: number,
-                column: column_behind(line, offset),
-                content: line.trim_ascii(),
-            });
+            return Some(Spotted::new(place, column_behind(line, offset), line));
         }
     }
     None
@@ -134,11 +137,7 @@ fn listed_keep_at<'a>(text: &'a [u8], interval: usize) -> Option<Spotted<'a>> {
         if number >= first
             && let Some(offset) = brace_in(line, &mut left)
         {
-            return Some(Spotted {
-                line: number,
-                column: column_behind(line, offset),
-                content: line.trim_ascii(),
-            });
+            return Some(Spotted::new(place, column_behind(line, offset), line));
         }
     }
     None
@@ -159,11 +158,7 @@ fn headed_keep_at<'a>(text: &'a [u8], interval: usize) -> Option<Spotted<'a>> {
     for (place, line) in text.split(|byte: &u8| *byte == b'\n').enumerate() {
         if line.trim_ascii_start().starts_with(KEEP) {
             if before == interval {
-                return Some(Spotted {
-                    line: place.saturating_add(1),
-                    column: 1,
-                    content: line.trim_ascii(),
-                });
+                return Some(Spotted::new(place, 1, line));
             }
             before = before.saturating_add(1);
         }
@@ -181,11 +176,8 @@ pub(crate) fn place_at(text: &[u8], offset: usize) -> Spotted<'_> {
     };
     for (place, line) in text.split(|byte: &u8| *byte == b'\n').enumerate() {
         if start <= offset {
-            found = Spotted {
-                line: place.saturating_add(1),
-                column: column_behind(line, offset.saturating_sub(start)),
-                content: line.trim_ascii(),
-            };
+            let column = column_behind(line, offset.saturating_sub(start));
+            found = Spotted::new(place, column, line);
         }
         start = start.saturating_add(line.len()).saturating_add(1);
     }

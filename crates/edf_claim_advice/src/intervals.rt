@@ -15,14 +15,14 @@ use toml::{Table, Value};
 
 /// The table of an interval in a claim.
 #[derive(Clone, Copy)]
-struct Kept<'a> {
+struct IntervalTable<'a> {
     claim_text: &'a [u8],
     table: &'a Table,
     /// Which of the intervals it is, from 0 on.
     number: usize,
 }
 
-impl<'a> Kept<'a> {
+impl<'a> IntervalTable<'a> {
     /// Where the table begins.
     fn place(&self) -> Option<Spotted<'a>> {
         match keep_at(self.claim_text, self.number) {
@@ -172,7 +172,7 @@ fn say_intervals(text: &mut Text, claim_text: &[u8], array: &[Value]) -> Result<
     for (number, value) in array.iter().enumerate() {
         match value.as_table() {
             Some(table) => {
-                let kept = Kept {
+                let kept = IntervalTable {
                     claim_text,
                     table,
                     number,

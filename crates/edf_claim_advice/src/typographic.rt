@@ -2,13 +2,13 @@
 
 /// A mark: its name, its sign by number, and the plain one in its place.
 #[derive(Clone, Copy)]
-pub(crate) struct Mark {
+pub(crate) struct TypographicMark {
     pub(crate) name: &'static str,
     pub(crate) plain: &'static str,
 }
 
 /// The mark that a sign is.
-fn mark_of(sign: char) -> Option<Mark> {
+fn mark_of(sign: char) -> Option<TypographicMark> {
     let (name, plain) = match sign {
         '\u{201c}' => ("a left double quotation mark (U+201C)", "\""),
         '\u{201d}' => ("a right double quotation mark (U+201D)", "\""),
@@ -30,11 +30,11 @@ fn mark_of(sign: char) -> Option<Mark> {
         '\u{a0}' => ("a no-break space (U+00A0)", " "),
         _ => return None,
     };
-    Some(Mark { name, plain })
+    Some(TypographicMark { name, plain })
 }
 
 /// The first mark in a text.
-pub(crate) fn first_mark(text: &[u8]) -> Option<Mark> {
+pub(crate) fn first_mark(text: &[u8]) -> Option<TypographicMark> {
     let Ok(text) = std::str::from_utf8(text) else {
         return None;
     };

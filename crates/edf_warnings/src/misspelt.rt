@@ -11,12 +11,18 @@ use toml::value::Array;
 /// Of how many texts that no annotation has it is asked which annotation has one that looks alike.
 const MOST_ALIKE: usize = 20;
 
+/// The texts of the annotations that are kept.
+fn kept_texts(alloc: Global, notes: &Notes) -> Result<Vec<&str>, AllocError> {
+    let mut kept = Vec::new(alloc);
+    for note in &notes.kept {
+        kept.push(note.text.as_str())?;
+    }
+    Ok(kept)
+}
+
 /// The texts that the annotations in the kept intervals of the original have, each once, in the order of their bytes.
 fn texts_seen(alloc: Global, notes: &Notes) -> Result<Vec<&str>, AllocError> {
-    let mut seen = Vec::new(alloc);
-    for note in &notes.kept {
-        seen.push(note.text.as_str())?;
-    }
+    let mut seen = kept_texts(alloc, notes)?;
     for text in &notes.hidden {
         seen.push(text.as_str())?;
     }

@@ -105,18 +105,24 @@ impl<'a> Fitting<'a> {
         }
     }
 
-    /// The labels of the channels that both files have: the claimed ones in the claim's order, with the one that may be meant
-    /// in the place of each that is misspelt, and then the others.
-    fn labels(mut self) -> Result<Vec<Vec<u8>>, AllocError> {
-        for label in self.claim.channels() {
-            self.take_claimed(label.text())?;
-        }
+    /// Takes in the labels that both files have and the claim doesn't name.
+    fn take_unclaimed(&mut self) -> Result<(), AllocError> {
         for place in 0..self.unclaimed.len() {
             if let Some(label) = self.unclaimed.get(place) {
                 let label: &'a str = *label;
                 self.take_in(label.as_bytes())?;
             }
         }
+        Ok(())
+    }
+
+    /// The labels of the channels that both files have: the claimed ones in the claim's order, with the one that may be meant
+    /// in the place of each that is misspelt, and then the others.
+    fn labels(mut self) -> Result<Vec<Vec<u8>>, AllocError> {
+        for label in self.claim.channels() {
+            self.take_claimed(label.text())?;
+        }
+        self.take_unclaimed()?;
         Ok(self.labels)
     }
 }

@@ -51,18 +51,18 @@ impl Strides {
 
 /// A place in a run, and when the sample there is taken, in units that both runs share.
 #[derive(Clone, Copy)]
-struct Pace {
+struct TimedPlace {
     place: usize,
     to: usize,
     at: i128,
     step: i128,
 }
 
-impl Pace {
+impl TimedPlace {
     /// That of the first sample of a run beside another run.
-    fn new(run: SampleRun<'_>, other: SampleRun<'_>) -> Pace {
+    fn new(run: SampleRun<'_>, other: SampleRun<'_>) -> TimedPlace {
         let samples = i128::from(other.samples);
-        Pace {
+        TimedPlace {
             place: run.from,
             to: run.to,
             at: run.instant(run.from).num.saturating_mul(samples),
@@ -104,8 +104,8 @@ fn first_common(runs: BothRuns<'_>, strides: Strides) -> Option<(usize, usize)> 
     if original.from == 0 && export.from == 0 && original.start_ps == export.start_ps {
         return Some((0, 0));
     }
-    let mut old = Pace::new(runs.original, runs.export);
-    let mut new = Pace::new(runs.export, runs.original);
+    let mut old = TimedPlace::new(runs.original, runs.export);
+    let mut new = TimedPlace::new(runs.export, runs.original);
     old.pass_to(new.at);
     new.pass_to(old.at);
     for _ in 0..strides.original.saturating_add(strides.export) {
@@ -124,15 +124,15 @@ fn first_common(runs: BothRuns<'_>, strides: Strides) -> Option<(usize, usize)> 
 /// Samples of a run at whose times the other run has one: the place of the first of them, by how much the places rise, and
 /// how many there are.
 #[derive(Clone, Copy)]
-struct Common {
+struct CommonSamples {
     first: usize,
     stride: usize,
     count: usize,
 }
 
-impl Common {
+impl CommonSamples {
     /// None of them.
-    const NONE: Common = Common {
+    const NONE: CommonSamples = CommonSamples {
         first: 0,
         stride: 1,
         count: 0,
@@ -212,22 +212,25 @@ impl Common {
 }
 
 /// The samples of both runs that are taken at the same times.
-fn common_of(runs: BothRuns<'_>, strides: Strides) -> (Common, Common) {
+fn common_of(runs: BothRuns<'_>, strides: Strides) -> (CommonSamples, CommonSamples) {
     let Some((original, export)) = first_common(runs, strides) else {
-        return (Common::NONE, Common::NONE);
+        return (CommonSamples::NONE, CommonSamples::NONE);
     };
-    let old = Common {
+    let old = CommonSamples {
         first: original,
         stride: strides.original,
         count: 0,
     };
-    let new = Common {
+    let new = CommonSamples {
         first: export,
         stride: strides.export,
         count: 0,
     };
     let count = old.most(runs.original).min(new.most(runs.export));
-    (Common { count, ..old }, Common { count, ..new })
+    (
+        CommonSamples { count, ..old },
+        CommonSamples { count, ..new },
+    )
 }
 
 /// What was found of two runs.
@@ -244,7 +247,11 @@ pub(crate) struct Merged {
 }
 
 /// Where the values of samples differ that are taken at the same times, by their places in the original and in the export.
-fn changed_of(runs: BothRuns<'_>, old: Common, new: Common) -> Option<(Places, Places)> {
+fn changed_of(
+    runs: BothRuns<'_>,
+    old: CommonSamples,
+    new: CommonSamples,
+) -> Option<(Places, Places)> {
     let (olds, news) = (old.values(runs.original), new.values(runs.export));
     let numbers = numbers_changed(olds, news, old.count)?;
     Some((old.places(numbers), new.places(numbers)))

@@ -37,8 +37,8 @@ impl<'a> Stands<'a> {
     }
 
     /// The sample of a run at a place.
-    fn mark(self, run: SampleRun<'_>, place: usize) -> Mark {
-        Mark {
+    fn mark(self, run: SampleRun<'_>, place: usize) -> FoundSample {
+        FoundSample {
             start_ps: run.start_ps,
             duration_ps: run.duration_ps,
             samples: run.samples,
@@ -49,8 +49,8 @@ impl<'a> Stands<'a> {
     }
 
     /// The samples at a place of the original and one of the export.
-    fn mark_both(self, runs: BothRuns<'_>, original: usize, export: usize) -> Mark {
-        Mark {
+    fn mark_both(self, runs: BothRuns<'_>, original: usize, export: usize) -> FoundSample {
+        FoundSample {
             values: Some((runs.original.value(original), runs.export.value(export))),
             ..self.mark(runs.original, original)
         }
@@ -59,7 +59,7 @@ impl<'a> Stands<'a> {
 
 /// A sample that was found, of which its time isn't reckoned so far.
 #[derive(Clone, Copy)]
-struct Mark {
+struct FoundSample {
     /// The data record that it is of, and how many samples of its signal that has.
     start_ps: i128,
     duration_ps: i128,
@@ -69,7 +69,7 @@ struct Mark {
     values: Option<(i16, i16)>,
 }
 
-impl Mark {
+impl FoundSample {
     /// The sample.
     fn spot(self) -> Spot {
         let run = SampleRun {
@@ -93,8 +93,8 @@ impl Mark {
 #[derive(Clone, Copy)]
 pub struct Tally {
     pub count: u64,
-    first: Option<Mark>,
-    last: Option<Mark>,
+    first: Option<FoundSample>,
+    last: Option<FoundSample>,
 }
 
 impl Tally {
@@ -111,7 +111,7 @@ impl Tally {
     }
 
     /// Takes in so many samples behind those so far, of which this is the last.
-    fn take_in(&mut self, count: usize, last: Mark) {
+    fn take_in(&mut self, count: usize, last: FoundSample) {
         self.count = self.count.saturating_add(count as u64);
         self.last = Some(last);
     }
