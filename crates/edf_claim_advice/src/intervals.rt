@@ -62,12 +62,12 @@ impl<'a> IntervalTable<'a> {
     }
 
     /// Says a sentence on what stands at one of its keys.
-    fn say_of(
+    fn say_of<'p>(
         &self,
         text: &mut Text,
         sentence: &str,
-        key: &str,
-        said: Piece<'_>,
+        key: &'p str,
+        said: Piece<'p>,
     ) -> Result<(), AllocError> {
         let pieces = [
             Piece::Word(key),

@@ -57,7 +57,7 @@ impl<'a> TextList<'a> {
     }
 
     /// Says a sentence on a text of the array.
-    fn say(&self, text: &mut Text, sentence: &str, said: &str) -> Result<(), AllocError> {
+    fn say(&self, text: &mut Text, sentence: &str, said: &'a str) -> Result<(), AllocError> {
         let pieces = [
             Piece::Quoted(said.as_bytes()),
             Piece::Word(self.key),
@@ -97,7 +97,7 @@ impl<'a> TextList<'a> {
         let mut before = None;
         for said in &texts {
             if before == Some(*said) {
-                self.say(text, words::TEXT_TWICE, said)?;
+                self.say(text, words::TEXT_TWICE, *said)?;
             }
             before = Some(*said);
         }
