@@ -1,7 +1,7 @@
-"""Each sentence of crates/edf_explain/src/words.rt: a check of which it is said, with what stands in its open places,
-and a check of a near mistake of which it isn't said.
+"""Each sentence of an explanation, as the files of words of the crates in WORDS have it: a check of which it is said, with
+what stands in its open places, and a check of a near mistake of which it isn't said.
 
-What stands in the open places comes from how the files were made, and the sentence from words.rt, so whoever rewords one
+What stands in the open places comes from how the files were made, and the sentence from the crates, so whoever rewords one
 has no row to change; who adds one has to add its row here, since a sentence without a row fails.
 """
 
@@ -15,13 +15,18 @@ import night as example
 from cases.files import bytes_of, claim_of, field, lane, recording, signal, values
 from cases.night import BOTH, LANE_0, LANE_1, LANE_2, LANE_3, NIGHT, VALUES_0, VALUES_1, VALUES_2, VALUES_3, WARD
 
-WORDS = pathlib.Path(__file__).resolve().parent.parent / "crates" / "edf_explain" / "src" / "words.rt"
+CRATES = pathlib.Path(__file__).resolve().parent.parent / "crates"
+
+# The files that have the sentences.
+WORDS = [
+    *(CRATES / crate / "src" / "words.rt" for crate in ("edf_sentences", "edf_claim_advice", "edf_warnings")),
+    *sorted((CRATES / "edf_explain" / "src" / "words").glob("*.rt")),
+]
 
 # What has no row here: pieces of sentences that are punctuation; causes that no fault of a file has, since another one
 # comes before; and what other parts of tools/explain.py show, since files that are changed or missing are no pair of files.
 NO_ROW = {
-    "FULL_STOP", "LISTED", "NOTE_TEXT", "SECONDS_UNIT", "THE_LINE", "LINE_CONTENT", "NEXT_SUBFIELD", "NEXT_CHANNEL",
-    "NEXT_SHIFT", "spelled.Sex",
+    "FULL_STOP", "LISTED", "NOTE_TEXT", "SECONDS_UNIT", "THE_LINE", "LINE_CONTENT", "NEXT", "spelled.Sex",
     "NO_BYTES", "ONE_BYTE", "SOME_BYTES",
     "OTHER_RANGE", "FieldCause.NotPrintable", "READ_ANEW", "CANNOT_OPEN", "CANNOT_READ",
 }
@@ -61,7 +66,7 @@ OF_ROWS = {
     "WITH_SHIFT_YES": ("With shift = ", "With shift"),
     "WITH_SHIFT_NO": ("With shift = ", "With shift"),
     "NO_BETTER_SHIFT": ("Other shifts were tried, and with none of them the first samples are as claimed: ", "were tried"),
-    "SHIFT_BEYOND": ("as a shift is at most 10000000000 s either way.", "as a shift is at most"),
+    "SHIFT_BEYOND": (" s either way.", "as a shift is at most"),
     "CUT_ELSEWHERE": (". It looks like the export was cut elsewhere", "cut elsewhere"),
     "RECKONED_ANEW": ("With it all samples are as claimed. What follows is worked out with shift = ", "all samples are as claimed"),
     "RECKONED_AS_CLAIMED": ("What follows is worked out with shift = ", "What follows is worked out"),
@@ -79,12 +84,14 @@ ARM = re.compile(r'(\w+)::(\w+) => (?:\{\s*)?"((?:[^"\\]|\\.)*)"')
 def sentences():
     """The sentences by their names: those of constants, and those of an enumeration's cases as `Side.Export`, or as
     `spelled.Name` where the function is `spelled`."""
-    text = WORDS.read_text(encoding="utf-8")
-    found = {name: said for name, said in CONSTANT.findall(text)}
-    front, *parts = CALL.split(text)
-    for call, part in [("", front), *zip(parts[0::2], parts[1::2])]:
-        for kind, case, said in ARM.findall(part):
-            found[f"{'spelled' if call == 'spelled' else kind}.{case}"] = said
+    found = {}
+    for file in WORDS:
+        text = file.read_text(encoding="utf-8")
+        found |= dict(CONSTANT.findall(text))
+        front, *parts = CALL.split(text)
+        for call, part in [("", front), *zip(parts[0::2], parts[1::2])]:
+            for kind, case, said in ARM.findall(part):
+                found[f"{'spelled' if call == 'spelled' else kind}.{case}"] = said
     return {name: said.replace('\\"', '"').replace("\\\\", "\\") for name, said in found.items()}
 
 
@@ -375,7 +382,7 @@ GOOD = FRONT + BEHIND
 # Claims that are refused: the sentence, the claim, what stands in its open places, and a near claim of which it isn't said.
 REFUSED = [
     ("CLAIM_IS_A_RECORDING", WHOLE, [], b"1       "),
-    ("CLAIM_TOO_LONG", GOOD + "#" * 65536, [], GOOD + "channels = 1\n"),
+    ("CLAIM_TOO_LONG", GOOD + "#" * 65536, ["65536"], GOOD + "channels = 1\n"),
     ("NOT_UTF8", FRONT.encode() + b"# m\xfcde\n" + BEHIND.encode(), ["3", "4"], line("m\u00fcde = 1")),
     ("NOT_TOML_ADVICE", FRONT.replace("]", "", 1) + BEHIND, [], line("# nothing") + "x = 1\n"),
     ("FORMAT_MISSING", f"channels = {BOTH}\n{BEHIND}", [], GOOD.replace("= 1", "= 3", 1)),
@@ -385,8 +392,9 @@ REFUSED = [
     ("KEY_OF_FORMAT_2", line('blank = ["Apnea"]'), ['"blank"'], line('blanks = ["Apnea"]')),
     ("KEY_OF_KEEP", line('from = "0"'), ['"from"'], line('form = "0"')),
     ("KEY_MISSPELT", line('remvoe = ["Apnea"]'), ['"remvoe"', "remove"], line('patient = "X"')),
-    ("KEY_UNKNOWN", line('patient = "X"'), ['"patient"'], line('remvoe = ["Apnea"]')),
-    ("SHIFT_TOO_LARGE", line("shift = 10000000001"), [], line("shift = 1e10")),
+    ("KEY_UNKNOWN", line('patient = "X"'),
+     ['"patient"', "format, channels, keep, anonymous, shift and remove", "remove-prefix and blank"], line('remvoe = ["Apnea"]')),
+    ("SHIFT_TOO_LARGE", line("shift = 10000000001"), ["10000000000"], line("shift = 1e10")),
     ("SHIFT_NOT_WHOLE", line("shift = -86400.0"), [], line("shift = 10000000001")),
     ("SHIFT_QUOTED", line('shift = "-86400"'), [], line("shift = -86400.0")),
     ("SHIFT_OTHER", line("shift = true"), [], line('shift = "-86400"')),
@@ -400,14 +408,15 @@ REFUSED = [
     ("LABEL_OF_ANNOTATIONS", channels('["EDF Annotations"]'), ['"EDF Annotations"'], channels('["EDF Annotations "]')),
     ("LABEL_NOT_ASCII", channels('["Fl\u00f6w"]'), ['"Fl\u00f6w"'], channels('["Fl\\tow"]')),
     ("LABEL_WITH_CONTROL", channels('["Fl\\tow"]'), ['"Fl\\x09ow"'], channels('["Fl\u00f6w"]')),
-    ("LABEL_TOO_LONG", channels('["EEG Fpz-Cz-A1-A2x"]'), ['"EEG Fpz-Cz-A1-A2x"'], channels('["EEG Fpz-Cz-A1 "]')),
+    ("LABEL_TOO_LONG", channels('["EEG Fpz-Cz-A1-A2x"]'), ['"EEG Fpz-Cz-A1-A2x"', "channels", "16"],
+     channels('["EEG Fpz-Cz-A1 "]')),
     ("LABEL_WITH_SPACE", channels('["ECG "]'), ['"ECG "'], channels('["ECG", "ECG"]')),
     ("NAME_MISSPELT", line('anonymous = ["brithdate"]'), ['"brithdate"', "birthdate"], line('anonymous = ["hospital"]')),
     ("NAME_UNKNOWN", line('anonymous = ["hospital"]'), ['"hospital"'], line("shift = true")),
     ("NAMES", line('anonymous = ["hospital"]'), ["code, sex"], line("shift = true")),
-    ("KEEP_MISSING", FRONT, [], FRONT + BEHIND.replace("[[keep]]", "[keep]")),
+    ("KEEP_MISSING", FRONT, ["999999999"], FRONT + BEHIND.replace("[[keep]]", "[keep]")),
     ("KEEP_SINGLE", FRONT + BEHIND.replace("[[keep]]", "[keep]"), [], FRONT),
-    ("KEEP_TOO_MANY", FRONT + "".join(f'[[keep]]\nfrom = "{at}"\nto = "{at + 1}"\n' for at in range(1001)), ["1001"],
+    ("KEEP_TOO_MANY", FRONT + "".join(f'[[keep]]\nfrom = "{at}"\nto = "{at + 1}"\n' for at in range(1001)), ["1001", "1000"],
      kept('from = "0"')),
     ("KEEP_NO_TABLE", FRONT + 'keep = ["0", "4"]\n', [], FRONT + "keep = []\n"),
     ("KEEP_HAS_KEY_OF_CLAIM", GOOD + "shift = -86400\n", ["shift"], GOOD + 'till = "4"\n'),
@@ -426,7 +435,7 @@ REFUSED = [
     ("TIME_WITH_SIGN", kept('from = "-1"\nto = "4"'), ["from", "-1"], kept('from = "1-"\nto = "4"')),
     ("TIME_WITH_EXPONENT", kept('from = "0"\nto = "4e0"'), ["to", "4e0"], kept('from = "0"\nto = "4x0"')),
     ("TIME_WITH_BARE_DOT", kept('from = ".5"\nto = "4"'), ["from", ".5"], kept('from = "0"\nto = "4.x"')),
-    ("TIME_TOO_LONG", kept('from = "0"\nto = "1234567890"'), ["to", "1234567890"], kept('from = "0"\nto = "12345678.9.0"')),
+    ("TIME_TOO_LONG", kept('from = "0"\nto = "1234567890"'), ["to", "1234567890", "9", "12"], kept('from = "0"\nto = "12345678.9.0"')),
     ("TIME_WITH_MARK", kept('from = "0\u20134"\nto = "4"'), ["from", "an en dash (U+2013)"], kept('from = "0_4"\nto = "4"')),
     ("TIME_OTHER", kept('from = "0"\nto = "4 s"'), ["to", "4 s"], kept('from = "0"\nto = "4,5"')),
     ("AT_LINE", line("shift = true"), ["3"], FRONT),
@@ -530,6 +539,11 @@ SUBFIELDS = {
 }
 
 
+# What stands in the open places of what a fault means: nothing of the fault and the file, and then the most bytes of a data
+# record, and the most annotations.
+LIMITS = ["", "", "16777216", "1000000"]
+
+
 def rows():
     """The sentence, the check of which it is said, what stands in its open places, and the near one."""
     files = {name: triple for name, *triple in pairs()}
@@ -546,7 +560,7 @@ def rows():
     whole = "bytes-behind-the-end"
     for name, copy in FAULTY.items():
         near = "ends-in-a-record" if copy == whole else whole
-        yield name, (original, copies[copy][1], claim), [], (original, copies[near][1], claim)
+        yield name, (original, copies[copy][1], claim), LIMITS, (original, copies[near][1], claim)
     for copy in ("ends-in-a-record", whole):
         said, broken = copies[copy]
         yield "FAULT", (original, broken, claim), [said.replace(" at ", " at "), "export"], (original, export, claim)

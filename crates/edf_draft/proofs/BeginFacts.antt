@@ -6,10 +6,10 @@ use Rattle.edf_stream.specs.Records.{record_at}
 use Rattle.edf_stream.specs.Starts.{file_start}
 use Rattle.edf_stream.specs.StartsReading.{end_before, start_at, start_in}
 use Rattle.edf_draft.specs.Times.{begin_of, end_of}
-use Rattle.edf_draft.specs.declared.recorded.Start.{Start}
+use Rattle.edf_draft.specs.declared.recorded.RecordStart.{RecordStart}
 
 -- one data record more, and it is known where the first one starts
-pub first_known : (P : Type 0) (file : List ℕ) (h next : Head) (read : ℕ) (current : List ℕ) (seen : Option Start) (start : ℤ)
+pub first_known : (P : Type 0) (file : List ℕ) (h next : Head) (read : ℕ) (current : List ℕ) (seen : Option RecordStart) (start : ℤ)
     → next ≡ h → (P → current ≡ record_at file h read) → IfNone seen (read ≡ 0) → IfSome seen (λ s. P → s.ps ≡ start_at file h 0)
     → IfSome seen (λ s. start ≡ s.ps) → IfNone seen (start ≡ start_in next current) → P → start ≡ start_at file next 0
 first_known P file h next read current (Some s) start same is unseen known one other p = one ∙ known p ∙ ap (λ x. start_at file x 0) (sym same)
@@ -17,7 +17,7 @@ first_known P file h next read current None start same is unseen known one other
     other ∙ ap (start_in next) (is p ∙ ap (record_at file h) unseen) ∙ ap (λ x. start_in next (record_at file x 0)) (sym same)
 
 -- at the end of a file that conforms it is known
-pub begins_there : (P : Type 0) (file : List ℕ) (h next : Head) (read : ℕ) (seen : Option Start) (begin : ℤ)
+pub begins_there : (P : Type 0) (file : List ℕ) (h next : Head) (read : ℕ) (seen : Option RecordStart) (begin : ℤ)
     → next ≡ h → (P → Conforms file h × (read ≡ h.records)) → IfNone seen (read ≡ 0) → IfSome seen (λ s. P → s.ps ≡ start_at file h 0)
     → IfSome seen (λ s. begin ≡ file_start next +ℤ s.ps) → P → begin ≡ begin_of file next
 begins_there P file h next read (Some s) begin same whole unseen known is p =

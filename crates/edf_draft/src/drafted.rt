@@ -6,13 +6,14 @@ ghost use Rattle.edf_draft.specs.Answers.{IsTextOf};
 ghost use Rattle.edf_draft.specs.Drafts.{IsDraftFor};
 
 use crate::channels::{are_known, channel_labels};
-use crate::grid::Grid;
+use crate::doubts::doubts_of;
 use crate::hidden::{hidden_subfields, shown_subfields};
-use crate::keep::{Back, kept_intervals};
+use crate::kept::back::Back;
+use crate::kept::keep::kept_intervals;
+use crate::kept::lacking::{Lacking, lacking_texts};
+use crate::kept::sampling::Sampling;
 use crate::recorded::Recorded;
-use crate::remarks::remarks_of;
 use crate::shift::{Shift, shift_of};
-use crate::texts::{Lacking, lacking_texts};
 use crate::tried::tried_text;
 use edf_claim::draft::{Comments, Draft};
 use edf_fields::which::Which;
@@ -27,11 +28,11 @@ struct Drafted {
     blanked: Vec<u64>,
 }
 
-/// What a person is told of two files beside the lines of their draft: remarks, of each channel whether the original has it, and
+/// What a person is told of two files beside the lines of their draft: doubts, of each channel whether the original has it, and
 /// the subfields that the export shows.
 #[derive(Drop)]
 struct Told {
-    remarks: String,
+    doubts: String,
     are_known: Vec<bool>,
     shown: Vec<Which>,
 }
@@ -59,12 +60,12 @@ fn draft_of(
 {
     let channels = channel_labels(alloc, export.reader.header())?;
     let back = Back::new(original.start_second(), export.start_second(), shift);
-    let grid = Grid::new(alloc, original.reader.header(), &channels)?;
-    let keep = kept_intervals(alloc, original, export, &grid, back)?;
+    let sampling = Sampling::new(alloc, original.reader.header(), &channels)?;
+    let keep = kept_intervals(alloc, original, export, &sampling, back)?;
     let Lacking { removed, blanked } = lacking_texts(
         alloc,
-        &original.remarks,
-        &export.remarks,
+        &original.notes,
+        &export.notes,
         &keep,
         back,
     )?;
@@ -92,7 +93,7 @@ fn told_of(
     channels: &[Vec<u8>],
 ) -> Result<Told, AllocError> {
     Ok(Told {
-        remarks: remarks_of(alloc, original, export, shift)?,
+        doubts: doubts_of(alloc, original, export, shift)?,
         are_known: are_known(alloc, original.reader.header(), channels)?,
         shown: shown_subfields(alloc, export.reader.header())?,
     })
@@ -110,7 +111,7 @@ impl Drafted {
         ensures { IfOk result (λ text. IfSome text (λ t. SaysClaimText t.items self.now.draft)) }
     {
         let comments = Comments {
-            remarks: &told.remarks,
+            remarks: &told.doubts,
             are_known: &told.are_known,
             start,
             shown: &told.shown,

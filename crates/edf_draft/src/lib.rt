@@ -4,13 +4,13 @@
 mod answer;
 mod channels;
 mod days;
-pub mod draft;
+mod doubts;
+mod draft;
 mod drafted;
-mod grid;
 mod hidden;
-mod keep;
+mod kept;
 mod recorded;
-mod remarks;
 mod shift;
-mod texts;
 mod tried;
+
+pub use draft::draft_to;

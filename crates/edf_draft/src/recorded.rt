@@ -20,7 +20,7 @@ use std::alloc::{AllocError, Global};
 
 /// An annotation of a file.
 #[derive(Drop)]
-pub(crate) struct Remark {
+pub(crate) struct RecordedNote {
     /// In picoseconds after the second at which the file starts.
     pub onset: i128,
     /// In picoseconds; none where the annotation has none.
@@ -50,25 +50,25 @@ pub(crate) struct Recorded {
     /// interval.
     pub stretches: Vec<Interval>,
     /// Its annotations, in the order of the file.
-    pub remarks: Vec<Remark>,
+    pub notes: Vec<RecordedNote>,
 }
 
 /// Where a data record starts, in picoseconds after the second at which the file starts.
 #[derive(Clone, Copy)]
-struct Start {
+struct RecordStart {
     ps: i128,
     ghost near: { unsigned_abs ps < 2 ^ 72 },
 }
 
 /// Where the first data record starts: where it was seen to start, or else where the one at hand starts.
-fn first_start(seen: Option<Start>, reader: &FileReader) -> Start
+fn first_start(seen: Option<RecordStart>, reader: &FileReader) -> RecordStart
     requires { IsTrue (is_current reader.now.status) }
     ensures seen { IfSome seen (λ start. result.ps ≡ start.ps) }
     ensures first { IfNone seen (result.ps ≡ start_in reader.now.head reader.now.current) }
 {
     match seen {
         Some(start) => start,
-        None => Start {
+        None => RecordStart {
             ps: reader.start_ps(),
         },
     }
@@ -86,7 +86,7 @@ fn absolute_ps(second: i64, at_ps: i128) -> i128
 
 /// When a file begins and ends, where its first data record was seen to start there; a file without one begins with its
 /// second.
-fn times_of(reader: &FileReader, seen: Option<Start>) -> Times
+fn times_of(reader: &FileReader, seen: Option<RecordStart>) -> Times
     ensures begins { IfSome seen (λ start. result.begin_ps ≡ file_start reader.now.head +ℤ start.ps) }
     ensures ends { result.end_ps ≡ file_start reader.now.head +ℤ reader.now.ended }
 {
@@ -118,14 +118,14 @@ fn push_stretch(
 }
 
 /// Takes in the annotations of one more data record.
-fn push_remarks(
-    remarks: &mut Vec<Remark>,
+fn push_notes(
+    notes: &mut Vec<RecordedNote>,
     alloc: Global,
     annotations: Annotations<'_>,
 ) -> Result<(), AllocError> {
     for note in annotations {
         let text = Vec::from_slice(alloc, note.text.as_bytes())?;
-        remarks.push(Remark {
+        notes.push(RecordedNote {
             onset: note.onset,
             duration: note.duration,
             text,
@@ -150,21 +150,21 @@ pub(crate) fn read_through<S: Source>(alloc: Global, source: &mut S) -> Result<R
         Err(stop) => return Err(stop),
     };
     let mut stretches = Vec::new(alloc);
-    let mut remarks = Vec::new(alloc);
+    let mut notes = Vec::new(alloc);
     let mut begin = None;
     loop {
         match reader.next(source) {
             Ok(true) => {
                 begin = Some(first_start(begin, &reader));
                 push_stretch(&mut stretches, reader.start_ps(), reader.end_ps())?;
-                push_remarks(&mut remarks, alloc, reader.annotations())?;
+                push_notes(&mut notes, alloc, reader.annotations())?;
             }
             Ok(false) => {
                 return Ok(Recorded {
                     times: times_of(&reader, begin),
                     reader,
                     stretches,
-                    remarks,
+                    notes,
                 });
             }
             Err(stop) => return Err(stop),

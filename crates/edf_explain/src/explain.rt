@@ -3,50 +3,32 @@
 ghost use Rattle.std.specs.Prelude.{IsTrue};
 ghost use Rattle.edf_explain.specs.Appending.{Appended};
 
-use crate::answers::Asked;
+use crate::differences::annotations::say_annotations;
+use crate::differences::clocks::Clocks;
+use crate::differences::headers::say_heads;
+use crate::differences::samples::say_samples;
+use crate::differences::starts::say_starts;
 use crate::faults::say_fault;
 use crate::front_source::FrontSource;
-use crate::heads::say_heads;
-use crate::notes::OnlyInOne;
-use crate::other_channels::say_other_channels;
-use crate::other_end::say_other_end;
-use crate::remarks::say_remarks;
-use crate::samples::{Clocks, say_samples};
-use crate::stand::{Begun, Stand};
-use crate::text::{SECOND, Text};
-use crate::tries::Tries;
-use crate::walk::{Walk, start_of};
-use crate::warnings::{say_behind_no, say_warnings};
-use crate::words;
+use crate::heads::Heads;
+use crate::tried::answers::Asked;
+use crate::tried::other_channels::say_other_channels;
+use crate::tried::other_end::say_other_end;
+use crate::tried::shifts::TriedShifts;
+use crate::words::files::READ_ANEW;
 use edf_claim::claim::Claim;
 use edf_fields::fault::Fault;
+use edf_fields::onset::SECOND_PS;
 use edf_fields::sink::{Sink, put_all};
 use edf_fields::source::Source;
+use edf_findings::{Begun, OnlyInOne, Stand, Walk};
+use edf_sentences::Text;
 use edf_stop::{RunStop, Side};
 use edf_trial::recordings::Recordings;
 use edf_verdict::outcome::Outcome;
 use edf_verdict::verdict::{Difference, Verdict};
+use edf_warnings::{ReadTexts, say_behind_no, say_warnings};
 use std::alloc::{AllocError, Global};
-
-/// The clocks of both files.
-fn clocks_of(walk: &Walk<'_>) -> Clocks {
-    let export = start_of(walk.export_header());
-    Clocks {
-        original_ps: start_of(walk.original_header()),
-        export_ps: export.saturating_sub(walk.moved_ps()),
-    }
-}
-
-/// Says where the export starts, or that nothing is kept. Where one of the files lacks a claimed channel, it isn't known whether
-/// nothing is.
-fn say_starts(text: &mut Text, walk: &Walk<'_>, tries: &Tries) -> Result<(), AllocError> {
-    match walk.starts {
-        Some(starts) => starts.say(text, tries),
-        None if !walk.has_all_channels() => Ok(()),
-        None if walk.keeps_between => text.say(words::KEPT_BETWEEN, &[]),
-        None => text.say(words::NOTHING_KEPT, &[]),
-    }
-}
 
 /// Says how the export isn't as claimed, of two files without a fault. Where the check answers with a Yes with another shift,
 /// the samples and annotations that stand elsewhere aren't listed. Where no other shift was tried, something else is.
@@ -54,20 +36,25 @@ fn say_differences<R: Recordings>(
     text: &mut Text,
     asked: &Asked<'_, R>,
     walk: &Walk<'_>,
-    (shifts, apart): (&Tries, &OnlyInOne),
+    shifts: &TriedShifts,
+    only: &OnlyInOne,
 ) -> Result<(), RunStop> {
-    let clocks = clocks_of(walk);
-    let (claim, original, export) = (walk.claim(), walk.original_header(), walk.export_header());
-    say_heads(text, text.alloc(), original, export, claim)?;
-    say_other_channels(text, asked, claim, (original, export))?;
+    let clocks = Clocks::of(walk);
+    let heads = Heads {
+        original: walk.original_header(),
+        export: walk.export_header(),
+        claim: walk.claim(),
+    };
+    say_heads(text, heads)?;
+    say_other_channels(text, asked, heads)?;
     say_starts(text, walk, shifts)?;
     if shifts.has_yes() {
         return Ok(());
     }
-    say_samples(text, claim.channels(), &walk.tracks, clocks)?;
-    say_remarks(text, claim, &walk.notes, apart, clocks)?;
+    say_samples(text, heads.claim.channels(), walk.channels(), clocks)?;
+    say_annotations(text, heads.claim, walk.notes(), only, clocks)?;
     if shifts.are_none() {
-        say_other_end(text, asked, claim, (&walk.notes, apart))?;
+        say_other_end(text, asked, heads.claim, walk.notes(), only)?;
     }
     Ok(())
 }
@@ -78,14 +65,21 @@ fn say_behind<R: Recordings>(
     asked: &Asked<'_, R>,
     walk: &Walk<'_>,
 ) -> Result<(), AllocError> {
-    let alloc = text.alloc();
     if text.is_empty() == (asked.verdict.outcome() == Outcome::No) {
-        return text.say(words::READ_ANEW, &[]);
+        return text.say(READ_ANEW, &[]);
     }
-    if !text.is_empty() {
-        return say_behind_no(text, alloc, asked.claim_text, walk.shown());
+    let read = ReadTexts {
+        claim: walk.claim(),
+        claim_text: asked.claim_text,
+        original: walk.original_header(),
+        export: walk.export_header(),
+        notes: walk.notes(),
+    };
+    if text.is_empty() {
+        say_warnings(text, read)
+    } else {
+        say_behind_no(text, read)
     }
-    say_warnings(text, alloc, asked.claim_text, walk.shown())
 }
 
 /// Says what is to be said of two files without a fault that were read to their ends.
@@ -93,10 +87,10 @@ fn say_walked<R: Recordings>(
     text: &mut Text,
     asked: &Asked<'_, R>,
     walk: &mut Walk<'_>,
-    shifts: &Tries,
+    shifts: &TriedShifts,
 ) -> Result<(), RunStop> {
-    let apart = walk.notes.apart(text.alloc())?;
-    say_differences(text, asked, walk, (shifts, &apart))?;
+    let only = walk.only_in_one()?;
+    say_differences(text, asked, walk, shifts, &only)?;
     say_behind(text, asked, walk)?;
     Ok(())
 }
@@ -112,13 +106,12 @@ fn is_of_fault(verdict: &Verdict) -> bool {
 /// Says the fault of one of the files, where the check said one.
 fn say_fault_of<O: Source, E: Source>(
     text: &mut Text,
-    alloc: Global,
     (side, fault): (Side, Fault),
     verdict: &Verdict,
     sources: (&FrontSource<'_, O>, &FrontSource<'_, E>),
 ) -> Result<(), RunStop> {
     if !is_of_fault(verdict) {
-        text.say(words::READ_ANEW, &[])?;
+        text.say(READ_ANEW, &[])?;
         return Ok(());
     }
     let (original, export) = sources;
@@ -126,7 +119,7 @@ fn say_fault_of<O: Source, E: Source>(
         Side::Original => original.front(),
         Side::Export => export.front(),
     };
-    say_fault(text, alloc, side, &fault, front)?;
+    say_fault(text, side, &fault, front)?;
     Ok(())
 }
 
@@ -143,37 +136,37 @@ fn fault_of_export<O: Source>(
     }
 }
 
-/// A walk to the ends of two files of which the headers could be read, and the shifts that were tried.
-fn walked<'c, R: Recordings, O: Source, E: Source>(
+/// Walks to the ends of two files of which the headers could be read, and answers which shifts were tried.
+fn walk_through<R: Recordings, O: Source, E: Source>(
     alloc: Global,
     asked: &Asked<'_, R>,
-    mut walk: Walk<'c>,
+    walk: &mut Walk<'_>,
     original: &mut O,
     export: &mut E,
-) -> Result<(Walk<'c>, Tries), RunStop> {
+) -> Result<TriedShifts, RunStop> {
     walk.begin(original, export)?;
-    let tries = Tries::of_shifts(alloc, asked, walk.starts)?;
-    if let Some(seconds) = tries.for_samples() {
-        walk.move_back(i128::from(seconds).saturating_mul(SECOND));
+    let shifts = TriedShifts::of(alloc, asked, walk.starts())?;
+    if let Some(seconds) = shifts.for_samples() {
+        walk.move_back(i128::from(seconds).saturating_mul(SECOND_PS));
     }
-    walk.run(original, export)?;
-    Ok((walk, tries))
+    walk.read_to_ends(original, export)?;
+    Ok(shifts)
 }
 
 /// Says what is to be said of two files of which the headers could be read.
 fn say_both<R: Recordings, O: Source, E: Source>(
     text: &mut Text,
-    alloc: Global,
     asked: &Asked<'_, R>,
     (old, new): (Stand, Stand),
     sources: (&mut FrontSource<'_, O>, &mut FrontSource<'_, E>),
 ) -> Result<(), RunStop> {
+    let alloc = text.alloc();
     let claim = Claim::read(alloc, asked.claim_text)?;
     let (original, export) = sources;
-    let walk = Walk::new(alloc, &claim, old, new)?;
-    let (mut walk, shifts) = walked(alloc, asked, walk, original, export)?;
+    let mut walk = Walk::new(alloc, &claim, old, new)?;
+    let shifts = walk_through(alloc, asked, &mut walk, original, export)?;
     match walk.fault() {
-        Some(fault) => say_fault_of(text, alloc, fault, asked.verdict, (original, export)),
+        Some(fault) => say_fault_of(text, fault, asked.verdict, (original, export)),
         None => say_walked(text, asked, &mut walk, &shifts),
     }
 }
@@ -190,7 +183,7 @@ fn sentences<R: Recordings>(alloc: Global, asked: &Asked<'_, R>) -> Result<Text,
     let fault = match (old, new) {
         (Begun::Open(old), Begun::Open(new)) => {
             let sources = (&mut first, &mut second);
-            say_both(&mut text, alloc, asked, (old, new), sources)?;
+            say_both(&mut text, asked, (old, new), sources)?;
             return Ok(text);
         }
         (Begun::Faulty(fault), _) => (Side::Original, fault),
@@ -198,7 +191,7 @@ fn sentences<R: Recordings>(alloc: Global, asked: &Asked<'_, R>) -> Result<Text,
             fault_of_export(&mut old, &mut first, fault)?
         }
     };
-    say_fault_of(&mut text, alloc, fault, asked.verdict, (&first, &second))?;
+    say_fault_of(&mut text, fault, asked.verdict, (&first, &second))?;
     Ok(text)
 }
 

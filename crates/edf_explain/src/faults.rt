@@ -1,22 +1,17 @@
 //! A file that can't be judged: its fault, and what to do.
 
-use crate::looks::looks_like_a_claim;
-use crate::text::{Piece, Text};
-use crate::words;
+use crate::limits::{MOST_ANNOTATIONS, MOST_RECORD_BYTES};
+use crate::words::faults as words;
 use edf_fields::fault::Fault;
+use edf_sentences::{Piece, Text, begins_as_bdf, begins_as_edf, looks_like_a_claim};
 use edf_stop::Side;
-use std::alloc::{AllocError, Global};
-
-/// Whether the front of a file is that of a BDF file.
-fn is_bdf(front: &[u8]) -> bool {
-    front.starts_with(b"\xffBIOSEMI")
-}
+use std::alloc::AllocError;
 
 /// Whether the front of a file is that of one of the older EDF.
 fn is_plain_edf(front: &[u8]) -> bool {
     match front.get(192..236) {
         Some(reserved) => {
-            front.starts_with(b"0       ")
+            begins_as_edf(front)
                 && !reserved.starts_with(b"EDF+C")
                 && !reserved.starts_with(b"EDF+D")
         }
@@ -29,7 +24,7 @@ fn kind_of(front: &[u8]) -> Option<&'static str> {
     if front.is_empty() {
         return Some(words::EMPTY);
     }
-    if is_bdf(front) {
+    if begins_as_bdf(front) {
         return Some(words::BDF);
     }
     if is_plain_edf(front) {
@@ -41,13 +36,17 @@ fn kind_of(front: &[u8]) -> Option<&'static str> {
 /// Says the fault of a file, what it means, and one remedy. `front` is what stands in front of the file.
 pub(crate) fn say_fault(
     text: &mut Text,
-    alloc: Global,
     side: Side,
     fault: &Fault,
     front: &[u8],
 ) -> Result<(), AllocError> {
-    let said = fault.text(alloc)?;
-    let pieces = [Piece::Word(&said), Piece::Word(words::name(side))];
+    let said = fault.text(text.alloc())?;
+    let pieces = [
+        Piece::Word(&said),
+        Piece::Word(words::name(side)),
+        Piece::Number(MOST_RECORD_BYTES),
+        Piece::Number(MOST_ANNOTATIONS),
+    ];
     text.say(words::FAULT, &pieces)?;
     if looks_like_a_claim(front) {
         return text.say(words::LOOKS_LIKE_A_CLAIM, &pieces);

@@ -1,10 +1,8 @@
 //! A source that remembers the front of what it hands on.
 
 use edf_fields::source::{ReadFault, Source};
+use edf_sentences::FRONT;
 use std::alloc::Global;
-
-/// How many bytes are remembered.
-const FRONT: usize = 4_096;
 
 /// Puts bytes behind a front, where there is room and memory for them.
 fn remember(front: &mut Vec<u8>, bytes: &[u8]) {

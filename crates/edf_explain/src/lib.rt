@@ -1,44 +1,17 @@
-//! Plain sentences for whoever has to act on the answer of a check, or on the refusal of a claim.
+//! Plain sentences for whoever has to act on the answer of a check.
 #![tactic(auto)]
 
-mod alike;
-mod amounts;
-mod answers;
-mod blocks;
-mod claim_lines;
-mod exchanged;
-pub mod explain;
-pub mod explained;
+mod differences;
+mod explain;
+mod explained;
 mod faults;
-mod folded;
-mod found;
 mod front_source;
 mod heads;
-mod hidden;
-mod in_one_way;
-mod looks;
-mod merge;
-mod names;
-mod nearest;
-mod notes;
-pub mod opening;
-mod other_channels;
-mod other_end;
-mod placed;
-pub mod refusal;
-mod refused_keep;
-mod refused_texts;
-mod remarks;
-mod run;
-mod samples;
-mod shown;
-mod stand;
-mod starts;
-mod strided;
-mod text;
-mod track;
-mod tries;
-mod typographic;
-mod walk;
-mod warnings;
+mod limits;
+mod opening;
+mod tried;
 mod words;
+
+pub use explain::explain_to;
+pub use explained::run_explained;
+pub use opening::{explain_opening, explain_reading};

@@ -1,7 +1,7 @@
 //! Why a file can't be opened, or can't be read.
 
-use crate::text::{Piece, Text};
-use crate::words;
+use crate::words::files as words;
+use edf_sentences::{Piece, Text};
 use std::alloc::{AllocError, Global};
 use std::io;
 

@@ -1,8 +1,8 @@
 //! What stands on standard error behind the line of an `explain` that is refused.
 
 use crate::files::claim_text;
-use edf_explain::opening::{explain_opening, explain_reading};
-use edf_explain::refusal::explain_claim;
+use edf_claim_advice::explain_claim;
+use edf_explain::{explain_opening, explain_reading};
 use edf_job::job::Job;
 use edf_refusal::{Refusal, Role};
 use std::alloc::AllocError;

@@ -1,0 +1,8 @@
+//! How an export isn't as claimed.
+
+pub mod annotations;
+pub mod clocks;
+pub mod headers;
+pub mod likeness;
+pub mod samples;
+pub mod starts;

@@ -1,0 +1,120 @@
+//! Sentences on the annotations that aren't as claimed.
+
+use crate::differences::clocks::Clocks;
+use crate::differences::likeness::say_likeness;
+use crate::words::annotations as words;
+use edf_claim::claim::Claim;
+use edf_findings::{Notes, OneWay, OnlyInOne, one_way};
+use edf_sentences::{NOT_LISTED, Piece, Text};
+use edf_stream::notes::Note;
+use std::alloc::AllocError;
+
+/// The most annotations of a kind that are listed.
+const MOST_LISTED: usize = 20;
+
+/// Says an annotation.
+fn say_note(text: &mut Text, note: &Note, clocks: Clocks) -> Result<(), AllocError> {
+    text.add(words::LISTED, &[])?;
+    clocks.add(text, note.onset)?;
+    match note.duration {
+        Some(duration) => text.add(words::DURATION, &[Piece::Seconds(duration)])?,
+        None => text.add(words::NO_DURATION, &[])?,
+    }
+    let said = note.text.as_str().as_bytes();
+    text.say(words::NOTE_TEXT, &[Piece::Quoted(said)])
+}
+
+/// Says how many annotations there are of a kind.
+fn say_count(text: &mut Text, one: &str, more: &str, count: usize) -> Result<(), AllocError> {
+    match count {
+        0 => Ok(()),
+        1 => text.say(one, &[]),
+        _ => text.say(more, &[Piece::Number(count as i128)]),
+    }
+}
+
+/// Says how many annotations of a kind aren't listed.
+fn say_others(text: &mut Text, count: usize) -> Result<(), AllocError> {
+    match count.saturating_sub(MOST_LISTED) {
+        0 => Ok(()),
+        others => text.say(NOT_LISTED, &[Piece::Number(others as i128)]),
+    }
+}
+
+/// Says which annotations the export lacks.
+fn say_missing(
+    text: &mut Text,
+    notes: &Notes,
+    missing: &[usize],
+    clocks: Clocks,
+) -> Result<(), AllocError> {
+    say_count(
+        text,
+        words::NOTE_MISSING,
+        words::NOTES_MISSING,
+        missing.len(),
+    )?;
+    for place in missing.iter().take(MOST_LISTED) {
+        if let Some(note) = notes.kept.get(*place) {
+            say_note(text, note, clocks)?;
+        }
+    }
+    say_others(text, missing.len())
+}
+
+/// Says which annotations the export has that aren't kept.
+fn say_extra(
+    text: &mut Text,
+    claim: &Claim,
+    notes: &Notes,
+    only: &OnlyInOne,
+    clocks: Clocks,
+) -> Result<(), AllocError> {
+    say_count(
+        text,
+        words::NOTE_EXTRA,
+        words::NOTES_EXTRA,
+        only.extra.len(),
+    )?;
+    for place in only.extra.iter().take(MOST_LISTED) {
+        if let Some(note) = notes.exported.get(*place) {
+            say_note(text, note, clocks)?;
+            say_likeness(text, claim, note, &notes.kept, &only.missing)?;
+        }
+    }
+    say_others(text, only.extra.len())
+}
+
+/// Says in which one way all annotations differ that only one of the files has.
+fn say_one_way(text: &mut Text, only: &OnlyInOne, way: OneWay) -> Result<(), AllocError> {
+    let count = Piece::Number(only.missing.len() as i128);
+    match way {
+        OneWay::Moved(later) if later < 0 => {
+            text.say(words::NOTES_EARLIER, &[count, Piece::Length(later)])
+        }
+        OneWay::Moved(later) => text.say(words::NOTES_LATER, &[count, Piece::Length(later)]),
+        OneWay::WithoutDurations => text.say(words::NOTES_WITHOUT_DURATIONS, &[count]),
+    }
+}
+
+/// Says which annotations aren't as claimed.
+pub(crate) fn say_annotations(
+    text: &mut Text,
+    claim: &Claim,
+    notes: &Notes,
+    only: &OnlyInOne,
+    clocks: Clocks,
+) -> Result<(), AllocError> {
+    if let Some(way) = one_way(text.alloc(), notes, only)? {
+        return say_one_way(text, only, way);
+    }
+    say_missing(text, notes, &only.missing, clocks)?;
+    say_extra(text, claim, notes, only, clocks)?;
+    if !only.missing.is_empty() {
+        return text.say(words::NOTES_ADVICE, &[]);
+    }
+    if !only.extra.is_empty() {
+        return text.say(words::NOTES_ALL, &[]);
+    }
+    Ok(())
+}

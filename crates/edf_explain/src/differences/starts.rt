@@ -1,0 +1,79 @@
+//! Sentences on where an export starts.
+
+use crate::tried::shifts::TriedShifts;
+use crate::words::starts as words;
+use edf_fields::onset::SECOND_PS;
+use edf_findings::{MOST_SHIFT, Starts, Walk};
+use edf_sentences::{Piece, Text};
+use std::alloc::AllocError;
+
+/// Says by how much an export starts elsewhere.
+fn say_difference(text: &mut Text, starts: &Starts) -> Result<(), AllocError> {
+    let later = starts.later_ps();
+    let sentence = if later < 0 {
+        words::STARTS_EARLIER
+    } else {
+        words::STARTS_LATER
+    };
+    text.say(
+        sentence,
+        &[
+            Piece::Length(later),
+            Piece::Moment(starts.exported_ps),
+            Piece::Moment(starts.claimed_ps),
+        ],
+    )
+}
+
+/// Says what mistake it looks like.
+fn say_likeness(text: &mut Text, starts: &Starts) -> Result<(), AllocError> {
+    let back = starts.shift_ps.saturating_neg();
+    if starts.shift_ps == 0 {
+        return Ok(());
+    }
+    if starts.later_ps() == back {
+        return text.say(words::SHIFT_FORGOTTEN, &[]);
+    }
+    if starts.later_ps() == back.saturating_mul(2) {
+        return text.say(words::SHIFT_TURNED, &[]);
+    }
+    Ok(())
+}
+
+/// Says why no shift lets the export start as claimed, where none does.
+fn say_unfitting(text: &mut Text, starts: &Starts) -> Result<(), AllocError> {
+    if starts.can_fit() {
+        return Ok(());
+    }
+    if starts.fitting_ps().rem_euclid(SECOND_PS) == 0 {
+        text.say(words::SHIFT_BEYOND, &[Piece::Number(MOST_SHIFT)])
+    } else {
+        text.say(words::NO_SHIFT_FITS, &[])
+    }
+}
+
+/// Says where the export starts, if it doesn't start as claimed, and what other shifts would change.
+fn say_elsewhere(text: &mut Text, starts: &Starts, shifts: &TriedShifts) -> Result<(), AllocError> {
+    if starts.are_same() {
+        return Ok(());
+    }
+    say_difference(text, starts)?;
+    say_likeness(text, starts)?;
+    say_unfitting(text, starts)?;
+    shifts.say(text, starts)
+}
+
+/// Says where the export starts, or that nothing is kept. Where one of the files lacks a claimed channel, it isn't known whether
+/// nothing is.
+pub(crate) fn say_starts(
+    text: &mut Text,
+    walk: &Walk<'_>,
+    shifts: &TriedShifts,
+) -> Result<(), AllocError> {
+    match walk.starts() {
+        Some(starts) => say_elsewhere(text, &starts, shifts),
+        None if !walk.has_all_channels() => Ok(()),
+        None if walk.keeps_between() => text.say(words::KEPT_BETWEEN, &[]),
+        None => text.say(words::NOTHING_KEPT, &[]),
+    }
+}

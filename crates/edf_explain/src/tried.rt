@@ -1,0 +1,6 @@
+//! Changes of a claim, each tried by a check.
+
+pub mod answers;
+pub mod other_channels;
+pub mod other_end;
+pub mod shifts;

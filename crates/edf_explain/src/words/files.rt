@@ -1,0 +1,23 @@
+//! Files that can't be opened or read, or that stand in the places of others.
+
+// A file that can't be opened: its path, and why the system doesn't open it. And one that can't be read: its path.
+
+pub(crate) const CANNOT_OPEN: &str = "{0}: {1}";
+
+pub(crate) const CANNOT_READ: &str =
+    "{0}: the file was opened, and reading it failed. It is a folder, or the disk or the network has a fault: copy it to a local disk, and try again.";
+
+// Files in the places of others.
+
+pub(crate) const EXPORT_TWICE: &str =
+    "Both files say the same in their headers, and have X where the claim hides something: it looks like the export was typed as the original, too. The order is: the original, the export, the claim.";
+
+pub(crate) const ORIGINAL_TWICE: &str =
+    "Both files say the same in their headers, though the claim moves or hides something: it looks like the original was typed as the export, too, or nothing was moved or hidden in the export. The order is: the original, the export, the claim.";
+
+pub(crate) const EXCHANGED: &str =
+    "The original has X where the claim hides something, and the export doesn't: it looks like these two were exchanged. The order is: the original, the export, the claim.";
+
+/// Where the second reading finds something behind a Yes, or nothing behind a No.
+pub(crate) const READ_ANEW: &str =
+    "The second reading of the files doesn't find what the first line says: a file was changed between the two, or can't be read twice. The first line is the answer: don't use these sentences.";

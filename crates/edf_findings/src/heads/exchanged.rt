@@ -1,0 +1,111 @@
+//! Files that were typed in the places of others: one twice, or the original and the export exchanged.
+
+use edf_claim::claim::Claim;
+use edf_fields::which::Which;
+use edf_header::header::Header;
+use edf_header::signal::Signal;
+use edf_heads::subfields::{is_anonymous, is_unchanged};
+
+/// Whether two signals are the same in all that a header says of them.
+fn are_same_signals(one: &Signal, other: &Signal) -> bool {
+    one.label() == other.label()
+        && one.transducer() == other.transducer()
+        && one.prefilter() == other.prefilter()
+        && one.dimension() == other.dimension()
+        && one.samples() == other.samples()
+        && one.calibration().physical() == other.calibration().physical()
+        && one.calibration().digital() == other.calibration().digital()
+}
+
+/// Whether all subfields of two headers are the same.
+fn are_same_subfields(one: &Header, other: &Header) -> bool {
+    for which in Which::all() {
+        if !is_unchanged(one, other, *which) {
+            return false;
+        }
+    }
+    true
+}
+
+/// Whether two headers say the same.
+fn are_same(one: &Header, other: &Header) -> bool {
+    if one.start_second() != other.start_second()
+        || one.records() != other.records()
+        || one.duration_ps() != other.duration_ps()
+        || one.signals().len() != other.signals().len()
+    {
+        return false;
+    }
+    for (first, second) in one.signals().iter().zip(other.signals()) {
+        if !are_same_signals(first, second) {
+            return false;
+        }
+    }
+    are_same_subfields(one, other)
+}
+
+/// Whether a header has a subfield: of those behind the name and behind the equipment there may be none.
+pub fn has_subfield(header: &Header, which: Which) -> bool {
+    let mut extras = match which {
+        Which::PatientExtras => header.patient().extras(),
+        Which::RecordingExtras => header.recording().extras(),
+        _ => return true,
+    };
+    extras.next().is_some()
+}
+
+/// How many of the subfields that a claim hides are `X` in a header, and how many are shown. The date isn't counted, which many
+/// writers show.
+fn hidden_and_shown(claim: &Claim, header: &Header) -> (usize, usize) {
+    let mut hidden: usize = 0;
+    let mut shown: usize = 0;
+    for which in Which::all() {
+        if *which != Which::Date && claim.is_anonymous(*which) && has_subfield(header, *which) {
+            if is_anonymous(header, *which) {
+                hidden = hidden.saturating_add(1);
+            } else {
+                shown = shown.saturating_add(1);
+            }
+        }
+    }
+    (hidden, shown)
+}
+
+/// Whether a claim changes something of the header of this original.
+fn changes_header(claim: &Claim, original: &Header) -> bool {
+    let (_, shown) = hidden_and_shown(claim, original);
+    claim.shift_ps() != 0 || shown > 0
+}
+
+/// What it looks like where one file stands in the places of both, or each in the place of the other.
+#[derive(Clone, Copy)]
+pub enum Exchange {
+    /// The export was typed as the original, too.
+    ExportTwice,
+    /// The original was typed as the export, too, or nothing was changed in the export.
+    OriginalTwice,
+    /// Each was typed in the place of the other.
+    Swapped,
+}
+
+/// What it looks like where one file stands in the places of both, or each in the place of the other; none where it doesn't
+/// look so.
+pub fn exchange_of(claim: &Claim, original: &Header, export: &Header) -> Option<Exchange> {
+    let (hidden, in_original) = hidden_and_shown(claim, original);
+    let (_, in_export) = hidden_and_shown(claim, export);
+    let is_hidden = hidden > 0 && in_original == 0;
+    if !are_same(original, export) {
+        return if is_hidden && in_export > 0 {
+            Some(Exchange::Swapped)
+        } else {
+            None
+        };
+    }
+    if !changes_header(claim, original) {
+        None
+    } else if is_hidden {
+        Some(Exchange::ExportTwice)
+    } else {
+        Some(Exchange::OriginalTwice)
+    }
+}

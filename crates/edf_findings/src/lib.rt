@@ -1,0 +1,25 @@
+//! What an original and an export of it differ in, all of it and not the first difference alone: values, without any
+//! sentence.
+#![tactic(auto)]
+
+mod heads;
+mod limits;
+mod notes;
+mod record_time;
+mod samples;
+mod stand;
+mod starts;
+mod walk;
+
+pub use heads::cut_off::are_extremes_cut_off;
+pub use heads::exchanged::{Exchange, exchange_of, has_subfield};
+pub use limits::MOST_SHIFT;
+pub use notes::both::{Notes, OnlyInOne};
+pub use notes::ends::is_at_end;
+pub use notes::one_way::{OneWay, one_way};
+pub use samples::compared::ComparedChannel;
+pub use samples::kinds::SampleKinds;
+pub use samples::tally::{Spot, Tally};
+pub use stand::{Begun, Stand};
+pub use starts::Starts;
+pub use walk::{Walk, start_of};

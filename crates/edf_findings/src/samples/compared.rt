@@ -1,0 +1,154 @@
+//! A channel that both files have, and what was found of its samples.
+
+use crate::samples::blocks::numbers_of;
+use crate::samples::lane::Lanes;
+use crate::samples::places::Places;
+use crate::samples::sample_run::BothRuns;
+use crate::samples::side_by_side::{Strides, side_by_side};
+use crate::samples::tally::{Stands, Tally};
+
+/// A claimed channel that both files have, and which of its samples aren't as claimed.
+#[derive(Drop)]
+pub struct ComparedChannel {
+    /// Which of the labels of the claim it has.
+    pub place: usize,
+    /// Whether it has another number of samples a second in the export.
+    pub has_other_rate: bool,
+    strides: Strides,
+    pub(crate) lanes: Lanes,
+    /// How many samples of both were compared.
+    pub compared: u64,
+    /// Samples that are kept, and that the export lacks.
+    pub missing: Tally,
+    /// Samples of the export that aren't kept.
+    pub extra: Tally,
+    /// Samples that have another value in the export.
+    pub changed: Tally,
+}
+
+impl ComparedChannel {
+    /// Nothing was found of it so far.
+    pub(crate) fn new(place: usize, lanes: Lanes, strides: Strides) -> ComparedChannel {
+        ComparedChannel {
+            place,
+            has_other_rate: !strides.are_same(),
+            strides,
+            lanes,
+            compared: 0,
+            missing: Tally::NONE,
+            extra: Tally::NONE,
+            changed: Tally::NONE,
+        }
+    }
+
+    /// Whether nothing was found.
+    pub fn is_as_claimed(&self) -> bool {
+        self.missing.count == 0 && self.extra.count == 0 && self.changed.count == 0
+    }
+
+    /// Takes in that so many samples were compared.
+    fn count_compared(&mut self, count: usize) {
+        self.compared = self.compared.saturating_add(count as u64);
+    }
+
+    /// Takes in that so many data records were compared, with all of their samples.
+    pub(crate) fn count_records(&mut self, records: u64) {
+        let samples = u64::from(self.lanes.original.samples);
+        self.compared = self
+            .compared
+            .saturating_add(records.saturating_mul(samples));
+    }
+
+    /// The samples of both files up to a time that aren't done with. They are done with then.
+    fn take<'a>(&mut self, stands: Stands<'a>, end_ps: i128) -> BothRuns<'a> {
+        let (old, new) = stands.hands;
+        BothRuns {
+            original: stands.original.take(&mut self.lanes.original, old, end_ps),
+            export: stands.export.take(&mut self.lanes.export, new, end_ps),
+        }
+    }
+
+    /// Takes in the samples of both files up to a time, of which all those of the original are kept, or none.
+    pub(crate) fn compare(&mut self, stands: Stands<'_>, end_ps: i128, is_kept: bool) {
+        let runs = self.take(stands, end_ps);
+        if !is_kept || runs.original.is_empty() {
+            self.extra.add(runs.export, stands);
+        } else if !self.has_other_rate && runs.original.begins_with(&runs.export) {
+            self.compare_on_grid(runs, stands);
+        } else {
+            self.compare_apart(runs, stands);
+        }
+    }
+
+    /// Takes in all samples of data records that begin together and last as long, and are kept.
+    pub(crate) fn compare_whole(&mut self, stands: Stands<'_>, end_ps: i128) {
+        match (self.strides.original, self.strides.export) {
+            (1, 1) => {
+                let runs = self.take(stands, end_ps);
+                self.compare_each(runs, stands);
+            }
+            (2, 1) => {
+                let runs = self.take(stands, end_ps);
+                self.compare_halved(runs, stands);
+            }
+            _ => self.compare(stands, end_ps, true),
+        }
+    }
+
+    /// Takes in samples of two runs, each of which is taken at the time of the other's.
+    fn compare_each(&mut self, runs: BothRuns<'_>, stands: Stands<'_>) {
+        self.count_compared(runs.original.to);
+        if let Some(places) = runs.places() {
+            self.changed.add_changed(runs, places, places, stands);
+        }
+    }
+
+    /// Takes in samples of two runs, of which the original's has two for each of the export's.
+    fn compare_halved(&mut self, runs: BothRuns<'_>, stands: Stands<'_>) {
+        let (original, export) = (runs.original, runs.export);
+        self.count_compared(export.to);
+        let left_out = Places {
+            count: export.to,
+            first: 1,
+            last: original.to.saturating_sub(1),
+        };
+        self.missing.add_places(original, left_out, stands);
+        if let Some(numbers) = numbers_of::<2>(original.bytes, export.bytes, export.to) {
+            let places = numbers.doubled();
+            self.changed.add_changed(runs, places, numbers, stands);
+        }
+    }
+
+    /// Takes in samples of both files that are taken at the same times, as far as both go.
+    fn compare_on_grid(&mut self, runs: BothRuns<'_>, stands: Stands<'_>) {
+        let (original, export) = (runs.original, runs.export);
+        let count = original.len().min(export.len());
+        self.count_compared(count);
+        let together = BothRuns {
+            original: original.front(count),
+            export: export.front(count),
+        };
+        if let Some(places) = together.places() {
+            let old = places.behind(original.from);
+            let new = places.behind(export.from);
+            self.changed.add_changed(together, old, new, stands);
+        }
+        self.missing.add(original.rest(count), stands);
+        self.extra.add(export.rest(count), stands);
+    }
+
+    /// Takes in samples of both files that are taken at any times.
+    fn compare_apart(&mut self, runs: BothRuns<'_>, stands: Stands<'_>) {
+        let found = side_by_side(runs, self.strides);
+        self.count_compared(found.compared);
+        if let Some(places) = found.missing {
+            self.missing.add_places(runs.original, places, stands);
+        }
+        if let Some(places) = found.extra {
+            self.extra.add_places(runs.export, places, stands);
+        }
+        if let Some((old, new)) = found.changed {
+            self.changed.add_changed(runs, old, new, stands);
+        }
+    }
+}
