@@ -3,8 +3,8 @@
 use crate::grid::{Grid, ended_count};
 use crate::recorded::{Recorded, Remark};
 use crate::texts::lacking_times;
-use edf_claim::interval::Interval;
-use edf_fields::onset::SECOND_PS;
+use edf_claim::Interval;
+use edf_fields::SECOND_PS;
 use std::alloc::{AllocError, Global};
 
 /// The most intervals that a claim may have.

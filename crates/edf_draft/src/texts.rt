@@ -2,8 +2,7 @@
 
 use crate::keep::{Back, is_kept};
 use crate::recorded::Remark;
-use edf_claim::claim::BLANK;
-use edf_claim::interval::Interval;
+use edf_claim::{BLANK, Interval};
 use std::alloc::{AllocError, Global};
 
 /// Texts, and how often each of them stands in the original.

@@ -2,11 +2,10 @@
 
 use crate::text::Text;
 use crate::words;
-use edf_claim::claim::Claim;
-use edf_fields::which::Which;
-use edf_header::header::Header;
-use edf_header::signal::Signal;
-use edf_heads::subfields::{is_anonymous, is_unchanged};
+use edf_claim::Claim;
+use edf_fields::Which;
+use edf_header::{Header, Signal};
+use edf_heads::{is_anonymous, is_unchanged};
 use std::alloc::AllocError;
 
 /// Whether two signals are the same in all that a header says of them.

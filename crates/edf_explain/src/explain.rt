@@ -18,14 +18,11 @@ use crate::tries::Tries;
 use crate::walk::{Walk, start_of};
 use crate::warnings::{say_behind_no, say_warnings};
 use crate::words;
-use edf_claim::claim::Claim;
-use edf_fields::fault::Fault;
-use edf_fields::sink::{Sink, put_all};
-use edf_fields::source::Source;
+use edf_claim::Claim;
+use edf_fields::{Fault, Sink, Source, put_all};
 use edf_stop::{RunStop, Side};
-use edf_trial::recordings::Recordings;
-use edf_verdict::outcome::Outcome;
-use edf_verdict::verdict::{Difference, Verdict};
+use edf_trial::Recordings;
+use edf_verdict::{Difference, Outcome, Verdict};
 use std::alloc::{AllocError, Global};
 
 /// The clocks of both files.

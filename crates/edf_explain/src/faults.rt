@@ -3,7 +3,7 @@
 use crate::looks::looks_like_a_claim;
 use crate::text::{Piece, Text};
 use crate::words;
-use edf_fields::fault::Fault;
+use edf_fields::Fault;
 use edf_stop::Side;
 use std::alloc::{AllocError, Global};
 

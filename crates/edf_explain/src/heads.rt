@@ -3,15 +3,10 @@
 use crate::exchanged::{has_subfield, say_exchanged};
 use crate::text::{Piece, Text};
 use crate::words;
-use edf_claim::claim::Claim;
-use edf_fields::which::Which;
-use edf_header::calibration::Calibration;
-use edf_header::header::Header;
-use edf_header::signal::Signal;
-use edf_heads::blank::is_blank_header;
-use edf_heads::calibrations::has_other_calibration;
-use edf_heads::channel_index::ChannelIndex;
-use edf_heads::subfields::{is_anonymous, is_unchanged};
+use edf_claim::Claim;
+use edf_fields::Which;
+use edf_header::{Calibration, Header, Signal};
+use edf_heads::{ChannelIndex, has_other_calibration, is_anonymous, is_blank_header, is_unchanged};
 use std::alloc::{AllocError, Global};
 
 /// Both headers, and the claim.

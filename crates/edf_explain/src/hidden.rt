@@ -1,11 +1,9 @@
 //! What a claim hides, and whether a text has what is spelled alike.
 
 use crate::folded::{Marks, fold};
-use edf_claim::claim::Claim;
-use edf_fields::date::dashed_date;
-use edf_fields::subfields::Subfields;
-use edf_fields::which::Which;
-use edf_header::header::Header;
+use edf_claim::Claim;
+use edf_fields::{Subfields, Which, dashed_date};
+use edf_header::Header;
 use std::alloc::{AllocError, Global};
 
 /// From how many letters on a text is looked for within words, and as a word of its own.

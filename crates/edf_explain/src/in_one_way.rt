@@ -3,7 +3,7 @@
 use crate::notes::{Notes, OnlyInOne};
 use crate::text::{Piece, Text};
 use crate::words;
-use edf_stream::notes::Note;
+use edf_stream::Note;
 use std::alloc::{AllocError, Global};
 
 /// How few annotations are listed one by one, though they differ in one way.

@@ -4,11 +4,10 @@ use crate::hidden::Hidden;
 use crate::notes::Notes;
 use crate::text::{Piece, Text};
 use crate::words;
-use edf_claim::claim::Claim;
-use edf_fields::subfields::Subfields;
-use edf_fields::which::Which;
-use edf_header::header::Header;
-use edf_heads::subfields::is_anonymous;
+use edf_claim::Claim;
+use edf_fields::{Subfields, Which};
+use edf_header::Header;
+use edf_heads::is_anonymous;
 use std::alloc::{AllocError, Global};
 
 /// The most annotations that are listed.

@@ -5,11 +5,10 @@ use crate::notes::{Notes, OnlyInOne};
 use crate::remarks::is_at_end;
 use crate::text::{Piece, Text};
 use crate::words;
-use edf_claim::claim::Claim;
+use edf_claim::Claim;
 use edf_stop::RunStop;
-use edf_trial::ends::with_end;
-use edf_trial::recordings::Recordings;
-use edf_verdict::verdict::{Difference, Verdict};
+use edf_trial::{Recordings, with_end};
+use edf_verdict::{Difference, Verdict};
 use std::alloc::{AllocError, Global};
 
 /// The end of an interval, which a picosecond later would have a better answer.

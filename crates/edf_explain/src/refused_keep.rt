@@ -6,7 +6,7 @@ use crate::placed::say_at;
 use crate::text::{Piece, Text};
 use crate::typographic::first_mark;
 use crate::words;
-use edf_fields::onset::span;
+use edf_fields::span;
 use std::alloc::AllocError;
 use toml::{Table, Value};
 

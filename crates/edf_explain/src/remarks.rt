@@ -6,8 +6,8 @@ use crate::notes::{Notes, OnlyInOne};
 use crate::samples::Clocks;
 use crate::text::{Piece, Text};
 use crate::words;
-use edf_claim::claim::{BLANK, Claim};
-use edf_stream::notes::Note;
+use edf_claim::{BLANK, Claim};
+use edf_stream::Note;
 use std::alloc::{AllocError, Global};
 
 /// The most annotations of a kind that are listed.

@@ -1,6 +1,6 @@
 //! Samples of a signal that follow one another in a data record.
 
-use edf_stream::instant::Instant;
+use edf_stream::Instant;
 use std::cmp::Ordering;
 
 /// Samples of a signal in a data record, from one place to another. Sample `i` of `n` in a data record that starts at

@@ -4,7 +4,7 @@ use crate::found::{Found, Spot};
 use crate::text::{Piece, Text};
 use crate::track::Track;
 use crate::words;
-use edf_fields::label::SignalLabel;
+use edf_fields::SignalLabel;
 use std::alloc::AllocError;
 
 /// The clocks of both files: what is added to a time after the second at which the original starts, in picoseconds after

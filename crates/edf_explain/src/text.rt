@@ -2,8 +2,8 @@
 
 use crate::shown::shown;
 use crate::words;
-pub(crate) use edf_fields::onset::SECOND_PS as SECOND;
-use edf_verdict::quote::push_quoted;
+pub(crate) use edf_fields::SECOND_PS as SECOND;
+use edf_verdict::push_quoted;
 use jiff::Timestamp;
 use jiff::tz::Offset;
 use std::alloc::{AllocError, Global};

@@ -8,11 +8,10 @@ use crate::stand::{Lane, Stand, Stretch};
 use crate::starts::Starts;
 use crate::text::SECOND;
 use crate::track::Track;
-use edf_claim::claim::Claim;
-use edf_fields::fault::Fault;
-use edf_fields::source::Source;
-use edf_header::header::Header;
-use edf_heads::channel_index::{Channel, ChannelIndex};
+use edf_claim::Claim;
+use edf_fields::{Fault, Source};
+use edf_header::Header;
+use edf_heads::{Channel, ChannelIndex};
 use edf_stop::{RunStop, Side};
 use std::alloc::{AllocError, Global};
 

@@ -1,9 +1,6 @@
 //! The texts of all sentences. `{0}` stands for the first thing that is put into a sentence, `{1}` for the second.
 
-use edf_fields::cause::{FieldCause, TalCause};
-use edf_fields::fault::{Cause, Fault, Place};
-use edf_fields::layout::{FixedField, SignalField};
-use edf_fields::which::Which;
+use edf_fields::{Cause, Fault, FieldCause, FixedField, Place, SignalField, TalCause, Which};
 use edf_stop::Side;
 
 /// A unit of time, for one and for more of them.

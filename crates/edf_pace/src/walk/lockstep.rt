@@ -3,7 +3,7 @@
 ghost use Rattle.std.specs.Prelude.{◌≡◌, ◌<◌, ℤ, ◌≤ℤ◌, ◌<ℤ◌, length, None, Some, IfOk, IfErr, OnOk, IfSome, IfNone, IsTrue, true, false};
 ghost use Rattle.edf_claim.specs.Keeps.{keeps_instant};
 ghost use Rattle.edf_claim.specs.KeepsReading.{IsUncut};
-ghost use Rattle.edf_stream.specs.Readers.{is_current};
+ghost use Rattle.edf_stream.specs.records.Readers.{is_current};
 ghost use Rattle.edf_pace.specs.Premises.{IfFaulty, IfFound, IfNothing, IfRead};
 ghost use Rattle.edf_pace.specs.PartsStops.{StopsOf, StopsOfTwo};
 ghost use Rattle.edf_pace.specs.walk.Ends.{AreFaulty, AreThrough, FaultyBy, IsFirstFaultOf, IsFoundAmong, IsOver, WalkedBy, at_turn, at_window};
@@ -23,11 +23,10 @@ use crate::walk::reading::{Reading, finish, last_end, lesser_end, pass};
 use crate::walk::track::Pair;
 use crate::walk::turn::Turn;
 use crate::walk::window::{keeps_at, window_difference};
-use edf_claim::claim::Claim;
-use edf_fields::fault::Fault;
-use edf_fields::source::Source;
+use edf_claim::Claim;
+use edf_fields::{Fault, Source};
 use edf_stop::{PartSide, PartsStop};
-use edf_stream::reader::FileReader;
+use edf_stream::FileReader;
 
 /// What an original and a part are compared by: the channels of each label in both, and how many bytes of a data record
 /// reach to the end of these, where they have the same places in both files.

@@ -1,6 +1,6 @@
 use Rattle.std.proofs.Common.{◌≡◌, ◌^◌, pos, ◌-ℤ◌, ◌≤ℤ◌, map, None, false, unsigned_abs}
 use Rattle.edf_stream.specs.Conforming.{Conforms}
-use Rattle.edf_stream.specs.Readers.{is_current}
+use Rattle.edf_stream.specs.records.Readers.{is_current}
 use Rattle.edf_pace.specs.Premises.{OfFile, OfFiles}
 use Rattle.edf_pace.specs.walk.Ends.{moved_export, moved_original}
 use Rattle.edf_pace.specs.walk.Pairs.{places_of}
