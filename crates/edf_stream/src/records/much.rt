@@ -18,7 +18,7 @@ const ALL_BYTES: u64 = 0xFFFF_FFFF;
 const MOST_TEXTS: usize = 1_024;
 
 /// The most bytes of annotation lanes whose texts do.
-const MOST_BYTES: usize = 65_536;
+const MOST_LANE_BYTES: usize = 65_536;
 
 /// How many bytes lanes have, up to the most that fit.
 fn lane_bytes(places: &[LanePlace]) -> usize {
@@ -93,5 +93,5 @@ pub(crate) fn may_say_much(header: &Header, bytes: &[u8]) -> bool {
     }
     let places = header.annotation_places();
     let said = lane_bytes(places);
-    said > MOST_TEXTS && (said > MOST_BYTES || most_texts_of(places, bytes) > MOST_TEXTS)
+    said > MOST_TEXTS && (said > MOST_LANE_BYTES || most_texts_of(places, bytes) > MOST_TEXTS)
 }

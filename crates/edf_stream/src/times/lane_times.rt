@@ -97,7 +97,7 @@ fn scaled(ps: i128, den: u32) -> i128
 }
 
 impl LaneTimes {
-    /// The grid of a lane with `den` samples in a data record.
+    /// Where the samples of a lane stand that has `den` of them in a data record.
     pub(crate) fn new(time: RecordTime, den: u32) -> LaneTimes
         requires ps { unsigned_abs time.start_ps < 2 ^ 79 }
         requires den { den ≤ 2 ^ 23 }
