@@ -36,34 +36,32 @@ fn read_table(alloc: Global, text: &[u8]) -> Result<Table, ClaimStop>
     }
 }
 
-/// What the keys of a table say.
+/// What a table says of what is kept, and of what is made anonymous.
 #[derive(Drop)]
-struct KeyValues {
+struct KeyLists {
     channels: Vec<SignalLabel>,
     keep: Vec<Interval>,
     anonymous: Vec<Which>,
-    shift: i64,
-    texts: NoteTexts,
 }
 
-/// The claim of these values, which are those that the table says.
-fn claim_of(_table: &Table, said: KeyValues) -> Claim
+/// The claim of these parts, which are those that the table says.
+fn claim_of(_table: &Table, lists: KeyLists, shift: i64, texts: NoteTexts) -> Claim
     requires passed { claim_fault (table_view _table.now) ≡ None }
-    requires channels { channels_of (table_view _table.now) ≡ Some said.channels.items }
-    requires keep { keep_of (table_view _table.now) ≡ Some said.keep.items }
-    requires anonymous { anonymous_of (table_view _table.now) ≡ Some said.anonymous.items }
-    requires shift { shift_of (table_view _table.now) ≡ Some said.shift }
-    requires remove { remove_of (table_view _table.now) ≡ Some (map (λ t. t.items) said.texts.remove.items) }
-    requires remove_prefix { remove_prefix_of (table_view _table.now) ≡ Some (map (λ t. t.items) said.texts.remove_prefix.items) }
-    requires blank { blank_of (table_view _table.now) ≡ Some (map (λ t. t.items) said.texts.blank.items) }
+    requires channels { channels_of (table_view _table.now) ≡ Some lists.channels.items }
+    requires keep { keep_of (table_view _table.now) ≡ Some lists.keep.items }
+    requires anonymous { anonymous_of (table_view _table.now) ≡ Some lists.anonymous.items }
+    requires shift { shift_of (table_view _table.now) ≡ Some shift }
+    requires remove { remove_of (table_view _table.now) ≡ Some (map (λ t. t.items) texts.remove.items) }
+    requires remove_prefix { remove_prefix_of (table_view _table.now) ≡ Some (map (λ t. t.items) texts.remove_prefix.items) }
+    requires blank { blank_of (table_view _table.now) ≡ Some (map (λ t. t.items) texts.blank.items) }
     ensures { result ≡ terms_of (table_view _table.now) }
 {
     Claim {
-        channels: said.channels,
-        keep: said.keep,
-        anonymous: said.anonymous,
-        shift: said.shift,
-        texts: said.texts,
+        channels: lists.channels,
+        keep: lists.keep,
+        anonymous: lists.anonymous,
+        shift,
+        texts,
     }
 }
 
@@ -102,14 +100,12 @@ fn claim_in(alloc: Global, table: &Table) -> Result<Claim, ClaimStop>
         return Err(ClaimStop::BadBlank);
     };
     let texts = NoteTexts::new(alloc, remove, remove_prefix, blank)?;
-    let said = KeyValues {
+    let lists = KeyLists {
         channels,
         keep,
         anonymous,
-        shift,
-        texts,
     };
-    Ok(claim_of(table, said))
+    Ok(claim_of(table, lists, shift, texts))
 }
 
 impl Claim {
