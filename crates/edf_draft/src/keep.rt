@@ -3,12 +3,9 @@
 use crate::grid::{Grid, ended_count};
 use crate::recorded::{Recorded, Remark};
 use crate::texts::lacking_times;
-use edf_claim::Interval;
+use edf_claim::{Interval, MOST_INTERVALS};
 use edf_fields::SECOND_PS;
 use std::alloc::{AllocError, Global};
-
-/// The most intervals that a claim may have.
-const MOST_INTERVALS: usize = 1_000;
 
 /// The times of an export as those of its original: both counted from the second at which their file starts.
 #[derive(Clone, Copy)]

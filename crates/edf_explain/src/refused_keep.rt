@@ -6,12 +6,10 @@ use crate::placed::say_at;
 use crate::text::{Piece, Text};
 use crate::typographic::first_mark;
 use crate::words;
+use edf_claim::MOST_INTERVALS;
 use edf_fields::span;
 use std::alloc::AllocError;
 use toml::{Table, Value};
-
-/// The most intervals that a claim may have.
-const MOST_INTERVALS: usize = 1_000;
 
 /// The most digits in front of a dot, and behind it.
 const MOST_WHOLE: usize = 9;
