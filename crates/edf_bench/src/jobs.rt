@@ -2,13 +2,10 @@
 
 use byteorder::{ByteOrder, LittleEndian};
 use edf_check::run;
-use edf_fields::sink::SliceSink;
-use edf_fields::source::SliceSource;
+use edf_fields::{SliceSink, SliceSource};
 use edf_refusal::Refusal;
-use edf_report::conform::conform_to;
-use edf_report::notes::notes_to;
-use edf_report::show::show_to;
-use edf_verdict::outcome::Outcome;
+use edf_report::{conform_to, notes_to, show_to};
+use edf_verdict::Outcome;
 use std::alloc::Global;
 
 /// The digest of some bytes behind a digest.
@@ -27,7 +24,7 @@ fn digest(before: u64, bytes: &[u8]) -> u64 {
 
 /// A report on one file.
 #[derive(Clone, Copy)]
-pub enum Report {
+pub enum ReportKind {
     Conform,
     Show,
     Notes,
@@ -93,13 +90,18 @@ impl Desk {
     }
 
     /// Writes a report on a file.
-    pub fn report(&mut self, alloc: Global, file: &[u8], report: Report) -> Result<(), Refusal> {
+    pub fn report(
+        &mut self,
+        alloc: Global,
+        file: &[u8],
+        report: ReportKind,
+    ) -> Result<(), Refusal> {
         let mut sink = SliceSink::new(&mut self.room);
         let mut source = SliceSource::new(file);
         let outcome = match report {
-            Report::Conform => conform_to(alloc, &mut source, &mut sink)?,
-            Report::Show => show_to(alloc, &mut source, &mut sink)?,
-            Report::Notes => notes_to(alloc, &mut source, &mut sink)?,
+            ReportKind::Conform => conform_to(alloc, &mut source, &mut sink)?,
+            ReportKind::Show => show_to(alloc, &mut source, &mut sink)?,
+            ReportKind::Notes => notes_to(alloc, &mut source, &mut sink)?,
         };
         self.given = self.given.with(outcome, sink.written());
         Ok(())

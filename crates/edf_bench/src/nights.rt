@@ -233,14 +233,18 @@ fn push_event(
     file.push(0).map_err(|_| AllocError)
 }
 
-/// Puts the annotation lane of a data record behind the file.
-fn push_lane(
-    file: &mut Vec<u8>,
-    alloc: Global,
-    events: &[Event],
+/// A data record of a file that is cut like this: which annotations it holds, and how many seconds after the file it
+/// begins.
+#[derive(Clone, Copy)]
+struct CutRecord<'a> {
+    events: &'a [Event],
     cut: Cut,
     begin: u32,
-) -> Result<(), AllocError> {
+}
+
+/// Puts the annotation lane of a data record behind the file.
+fn push_lane(file: &mut Vec<u8>, alloc: Global, record: CutRecord<'_>) -> Result<(), AllocError> {
+    let CutRecord { events, cut, begin } = record;
     let end = file.len().saturating_add(cut.lane as usize);
     let onset = begin.to_string(alloc)?;
     file.push(b'+')?;
@@ -252,20 +256,19 @@ fn push_lane(
     file.resize(end, 0)
 }
 
-/// Puts a data record behind the file, which begins so many seconds after the file.
+/// Puts a data record behind the file.
 fn push_record(
     file: &mut Vec<u8>,
     alloc: Global,
     recorder: &Recorder,
-    events: &[Event],
-    cut: Cut,
-    begin: u32,
+    record: CutRecord<'_>,
 ) -> Result<(), AllocError> {
+    let CutRecord { cut, begin, .. } = record;
     let second = cut.first.saturating_add(begin);
     for (channel, rate) in recorder.rates.iter().enumerate() {
         file.extend_from_slice(recorder.samples(channel, *rate, second, cut.step))?;
     }
-    push_lane(file, alloc, events, cut, begin)
+    push_lane(file, alloc, record)
 }
 
 /// How many bytes a file has.
@@ -302,7 +305,12 @@ pub fn file_of(
         let due = (due / u64::from(records.max(1))) as usize;
         let here = events.get(done..due).unwrap_or(&[]);
         let begin = record.wrapping_mul(cut.step);
-        push_record(&mut file, alloc, recorder, here, cut, begin)?;
+        let cut_record = CutRecord {
+            events: here,
+            cut,
+            begin,
+        };
+        push_record(&mut file, alloc, recorder, cut_record)?;
         done = due;
     }
     Ok(file)

@@ -1,7 +1,7 @@
 //! The workloads: which nights there are, and which jobs are done on them.
 
 use crate::claims::claim_of;
-use crate::jobs::{Desk, Given, Report};
+use crate::jobs::{Desk, Given, ReportKind};
 use crate::nights::{
     Cut, Event, Recorder, TEXTS, by_text, events_of, file_of, within, without_last,
 };
@@ -59,8 +59,8 @@ fn copy(alloc: Global, noise: &mut Noise, seconds: u32) -> Result<Given, Refusal
     };
     let mut export = file_of(alloc, &recorder, &kept, hidden)?;
     let mut desk = Desk::new(alloc, 4096)?;
-    desk.report(alloc, &original, Report::Conform)?;
-    desk.report(alloc, &export, Report::Conform)?;
+    desk.report(alloc, &original, ReportKind::Conform)?;
+    desk.report(alloc, &export, ReportKind::Conform)?;
     for turn in 0..24u32 {
         let middle = millis(noise.below(seconds)).wrapping_add(turn);
         let claim = claim_of(
@@ -81,22 +81,29 @@ fn copy(alloc: Global, noise: &mut Noise, seconds: u32) -> Result<Given, Refusal
     Ok(desk.given)
 }
 
+/// An original, and an export of it that is cut like this.
+#[derive(Clone, Copy)]
+struct CutFiles<'a> {
+    original: &'a [u8],
+    export: &'a [u8],
+    cut: Cut,
+}
+
 /// Checks an export in data records of other lengths than its original's, under several claims.
 fn check_cut(
     alloc: Global,
     noise: &mut Noise,
     desk: &mut Desk,
-    original: &[u8],
-    export: &[u8],
-    cut: Cut,
+    files: CutFiles<'_>,
 ) -> Result<(), Refusal> {
+    let cut = files.cut;
     let end = millis(cut.first.wrapping_add(cut.seconds));
     for turn in 0..8u32 {
         let second = cut.first.wrapping_add(noise.below(cut.seconds));
         let middle = millis(second).wrapping_add(500).wrapping_add(turn);
         let bounds = [millis(cut.first), middle, end];
         let claim = claim_of(alloc, NIGHT.len(), KEPT, &bounds)?;
-        desk.check(alloc, original, export, &claim)?;
+        desk.check(alloc, files.original, files.export, &claim)?;
     }
     Ok(())
 }
@@ -120,7 +127,12 @@ fn recut(alloc: Global, noise: &mut Noise, seconds: u32) -> Result<Given, Refusa
         };
         let shown = within(alloc, &kept, margin, seconds.wrapping_sub(margin))?;
         let export = file_of(alloc, &recorder, &shown, cut)?;
-        check_cut(alloc, noise, &mut desk, &original, &export, cut)?;
+        let files = CutFiles {
+            original: &original,
+            export: &export,
+            cut,
+        };
+        check_cut(alloc, noise, &mut desk, files)?;
     }
     Ok(desk.given)
 }
@@ -139,7 +151,7 @@ fn weeks(alloc: Global, noise: &mut Noise, seconds: u32) -> Result<Given, Refusa
     };
     let export = file_of(alloc, &recorder, &kept, hidden)?;
     let mut desk = Desk::new(alloc, 4096)?;
-    desk.report(alloc, &original, Report::Conform)?;
+    desk.report(alloc, &original, ReportKind::Conform)?;
     for turn in 0..8u32 {
         let middle = millis(noise.below(seconds)).wrapping_add(turn);
         let claim = claim_of(alloc, 2, KEPT, &[0, middle.max(1), millis(seconds)])?;
@@ -194,7 +206,7 @@ fn notes(alloc: Global, noise: &mut Noise, count: u32) -> Result<Given, Refusal>
         (b'n', b'\t'),
         (b'l', b'r'),
     ] {
-        desk.report(alloc, &file, Report::Notes)?;
+        desk.report(alloc, &file, ReportKind::Notes)?;
         for byte in file.iter_mut().skip(768) {
             if *byte == old {
                 *byte = new;
@@ -226,7 +238,7 @@ fn segments(alloc: Global, noise: &mut Noise, channels: usize) -> Result<Given, 
     let kept = without_last(alloc, &events, KEPT)?;
     let original = file_of(alloc, &recorder, &events, cut)?;
     let mut desk = Desk::new(alloc, channels.saturating_mul(256))?;
-    desk.report(alloc, &original, Report::Show)?;
+    desk.report(alloc, &original, ReportKind::Show)?;
     for step in [1, 2, 3, 4] {
         let hidden = Cut {
             step,
@@ -257,7 +269,7 @@ fn check_beats(
         ..cut
     };
     let export = file_of(alloc, &recorder, &[], hidden)?;
-    desk.report(alloc, &original, Report::Conform)?;
+    desk.report(alloc, &original, ReportKind::Conform)?;
     for turn in 0..4u32 {
         let middle = millis(noise.below(cut.seconds)).wrapping_add(turn + 1);
         let bounds = [0, middle, millis(cut.seconds)];

@@ -9,9 +9,9 @@ use Rattle.edf_header.specs.Heads.{Head}
 use Rattle.edf_header.specs.HeadsReading.{head_of}
 use Rattle.edf_heads.specs.HeadVerdicts.{HeadsAgree}
 use Rattle.edf_stream.specs.Conforming.{Conforms}
-use Rattle.edf_stream.specs.Notes.{NoteValue, HasNotes, moved_by}
-use Rattle.edf_stream.specs.NotesReading.{notes_of}
-use Rattle.edf_stream.specs.Starts.{file_start}
+use Rattle.edf_stream.specs.annotation.Notes.{NoteValue, HasNotes, moved_by}
+use Rattle.edf_stream.specs.annotation.NotesReading.{notes_of}
+use Rattle.edf_stream.specs.times.Starts.{file_start}
 use Rattle.edf_stream.proofs.ForCallers.{head-is, notes_are_read}
 use Rattle.edf_verdict.specs.declared.verdict.Verdict.{Verdict}
 use Rattle.edf_verdict.specs.declared.verdict.Verdict.TheVariants.{Yes, No}

@@ -1,8 +1,8 @@
 -- Two courses that are cut at an instant: they agree where both their fronts and their backs do, and their first mismatch is that of
 -- the fronts, or else that of the backs.
 use Rattle.std.proofs.Common.{ℕ, ◌<◌, ℤ, List, ⊎_elim, ◌⊎◌}
-use Rattle.edf_stream.specs.declared.instant.Instant.{Instant}
-use Rattle.edf_stream.specs.InstantOrder.{IsNotBefore}
+use Rattle.edf_stream.specs.declared.times.instant.Instant.{Instant}
+use Rattle.edf_stream.specs.times.InstantOrder.{IsNotBefore}
 use Rattle.edf_verdict.specs.declared.verdict.SampleMismatch.{SampleMismatch}
 use Rattle.edf_verdict.specs.declared.verdict.SampleMismatch.TheVariants.{Missing, Extra, Value}
 use Rattle.edf_check.specs.Courses.{Course, Agree, DifferAt, IsFirstMismatch}

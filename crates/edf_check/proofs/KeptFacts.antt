@@ -5,11 +5,11 @@ use borrow.Author.Differences.{up, down}
 use Rattle.edf_claim.specs.Terms.{Terms}
 use Rattle.edf_claim.specs.Keeps.{KeepsInstant}
 use Rattle.edf_header.specs.HeadsReading.{head_of}
-use Rattle.edf_stream.specs.declared.instant.Instant.{Instant}
+use Rattle.edf_stream.specs.declared.times.instant.Instant.{Instant}
 use Rattle.edf_stream.specs.Conforming.{Conforms}
-use Rattle.edf_stream.specs.Instants.{IsSame}
-use Rattle.edf_stream.specs.InstantOrder.{IsNotBefore}
-use Rattle.edf_stream.specs.Samples.{SampleValue, IsSample}
+use Rattle.edf_stream.specs.times.Instants.{IsSame}
+use Rattle.edf_stream.specs.times.InstantOrder.{IsNotBefore}
+use Rattle.edf_stream.specs.samples.Samples.{SampleValue, IsSample}
 use Rattle.edf_stream.proofs.ForCallers.{one_at_an_instant}
 use Rattle.edf_pace.specs.InstantOrder.{IsBefore}
 use Rattle.edf_pace.specs.Instants.{later}

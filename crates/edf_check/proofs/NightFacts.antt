@@ -15,13 +15,13 @@ use Rattle.edf_fields.proofs.ForCallers.{and-true, both-true, has-map, map-has, 
 use Rattle.edf_header.specs.Heads.{SignalHead, Head, is_annotations}
 use Rattle.edf_header.specs.HeadsReading.{head_of}
 use Rattle.edf_header.specs.Sound.{IsSound}
-use Rattle.edf_stream.specs.declared.instant.Instant.{Instant}
-use Rattle.edf_stream.specs.declared.sample.Sample.{Sample}
+use Rattle.edf_stream.specs.declared.times.instant.Instant.{Instant}
+use Rattle.edf_stream.specs.declared.samples.sample.Sample.{Sample}
 use Rattle.edf_stream.specs.Conforming.{Conforms}
-use Rattle.edf_stream.specs.Instants.{IsSame}
-use Rattle.edf_stream.specs.Samples.{SampleValue}
-use Rattle.edf_stream.specs.SamplesReading.{samples_of, channel_label, labelled}
-use Rattle.edf_header.specs.Channels.{channels_among, channel_labels}
+use Rattle.edf_stream.specs.times.Instants.{IsSame}
+use Rattle.edf_stream.specs.samples.Samples.{SampleValue}
+use Rattle.edf_stream.specs.samples.SamplesReading.{samples_of, channel_label, labelled}
+use Rattle.edf_header.specs.signals.Channels.{channels_among, channel_labels}
 use Rattle.edf_stream.proofs.ForCallers.{sound-of, samples_are_listed, samples_are_of_channels, samples_rise}
 use Rattle.edf_pace.specs.declared.walk.channel_place.ChannelPlace.{ChannelPlace}
 use Rattle.edf_pace.specs.declared.samples.point.Point.{Point}

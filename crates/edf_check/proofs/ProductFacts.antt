@@ -4,19 +4,19 @@ use Rattle.std.proofs.lemmas.Int.{ints, unsigned_abs-mul}
 use Rattle.std.proofs.Math.Nat.{mul-le-mul}
 use Rattle.edf_claim.specs.Claims.{IsClaim, IsInterval}
 use Rattle.edf_claim.specs.Terms.{Terms}
-use Rattle.edf_claim.specs.declared.interval.Interval.{Interval}
+use Rattle.edf_claim.specs.declared.kept.interval.Interval.{Interval}
 use Rattle.edf_fields.specs.Lists.{Has}
 use Rattle.edf_fields.proofs.ForCallers.{at-has, get-index, get-within}
 use Rattle.edf_header.specs.Heads.{SignalHead}
 use Rattle.edf_header.specs.HeadsReading.{head_of}
-use Rattle.edf_header.specs.CalibrationLaws.{IsCalibration}
+use Rattle.edf_header.specs.signals.CalibrationLaws.{IsCalibration}
 use Rattle.edf_header.specs.Sound.{HasShortNumbers}
 use Rattle.edf_header.specs.Standard.{IsSoundSignal}
 use Rattle.edf_header.proofs.ForCallers.{calibrations_fit}
-use Rattle.edf_stream.specs.declared.instant.Instant.{Instant}
+use Rattle.edf_stream.specs.declared.times.instant.Instant.{Instant}
 use Rattle.edf_stream.specs.Conforming.{Conforms}
-use Rattle.edf_stream.specs.InstantOrder.{IsSmall}
-use Rattle.edf_stream.specs.Samples.{SampleValue, IsSample}
+use Rattle.edf_stream.specs.times.InstantOrder.{IsSmall}
+use Rattle.edf_stream.specs.samples.Samples.{SampleValue, IsSample}
 use Rattle.edf_stream.proofs.ForCallers.{instants_fit, sound-of}
 use Rattle.edf_pace.specs.Instants.{later}
 use Rattle.edf_pace.specs.Kept.{shift_ps}

@@ -9,16 +9,16 @@ use Rattle.std.proofs.lemmas.List.{length-map}
 use Rattle.std.proofs.lemmas.List.Sums.{sum_by-cons}
 use Rattle.edf_claim.specs.Terms.{Terms}
 use Rattle.edf_claim.specs.Keeps.{keeps_annotation}
-use Rattle.edf_header.specs.Channels.{channels_among, channel_labels}
+use Rattle.edf_header.specs.signals.Channels.{channels_among, channel_labels}
 use Rattle.edf_header.specs.Heads.{SignalHead, start_second}
 use Rattle.edf_header.specs.HeadsReading.{head_of}
-use Rattle.edf_stream.specs.declared.instant.Instant.{Instant}
+use Rattle.edf_stream.specs.declared.times.instant.Instant.{Instant}
 use Rattle.edf_stream.specs.Conforming.{Conforms}
-use Rattle.edf_stream.specs.InstantOrder.{IsNotBefore, IsSecondOf}
-use Rattle.edf_stream.specs.Instants.{IsSame}
-use Rattle.edf_stream.specs.Notes.{NoteValue, moved_by}
-use Rattle.edf_stream.specs.NotesReading.{notes_of}
-use Rattle.edf_stream.specs.Samples.{SampleValue, IsSample}
+use Rattle.edf_stream.specs.times.InstantOrder.{IsNotBefore, IsSecondOf}
+use Rattle.edf_stream.specs.times.Instants.{IsSame}
+use Rattle.edf_stream.specs.annotation.Notes.{NoteValue, moved_by}
+use Rattle.edf_stream.specs.annotation.NotesReading.{notes_of}
+use Rattle.edf_stream.specs.samples.Samples.{SampleValue, IsSample}
 use Rattle.edf_stream.proofs.ForCallers.{start_is_of_least}
 use Rattle.edf_verdict.specs.declared.verdict.Verdict.{Verdict}
 use Rattle.edf_verdict.specs.declared.verdict.Verdict.TheVariants.{Yes, No}

@@ -6,17 +6,17 @@ use Rattle.std.proofs.lemmas.Cmp.{upto}
 use Rattle.std.proofs.lemmas.List.Sorted.{IsPermutation-refl, IsPermutation-sym, IsPermutation-cons, IsPermutation-trans, IsPermutation-middle, sum_by-IsPermutation}
 use Rattle.edf_claim.specs.Claims.{IsClaim}
 use Rattle.edf_claim.specs.Terms.{Terms}
-use Rattle.edf_fields.specs.declared.fault.Fault.{Fault}
+use Rattle.edf_fields.specs.declared.faults.fault.Fault.{Fault}
 use Rattle.edf_fields.specs.Lists.{Has}
 use Rattle.edf_fields.proofs.ForCallers.{has-at, has-permutation}
-use Rattle.edf_header.specs.Channels.{channels_among}
+use Rattle.edf_header.specs.signals.Channels.{channels_among}
 use Rattle.edf_header.specs.Heads.{samples_together}
 use Rattle.edf_header.specs.HeadsReading.{head_of}
 use Rattle.edf_stream.specs.Conforming.{Conforms}
 use Rattle.edf_stream.specs.Faults.{file_fault}
-use Rattle.edf_stream.specs.Notes.{NoteValue}
-use Rattle.edf_stream.specs.NotesReading.{notes_of}
-use Rattle.edf_stream.specs.SamplesReading.{samples_of}
+use Rattle.edf_stream.specs.annotation.Notes.{NoteValue}
+use Rattle.edf_stream.specs.annotation.NotesReading.{notes_of}
+use Rattle.edf_stream.specs.samples.SamplesReading.{samples_of}
 use Rattle.edf_stream.proofs.ForCallers.{head-is, conforming_is_faultless}
 use Rattle.edf_verdict.specs.declared.verdict.AnnotationMismatch.{AnnotationMismatch}
 use Rattle.edf_verdict.specs.declared.verdict.SampleMismatch.{SampleMismatch}

@@ -4,10 +4,10 @@ use Rattle.std.proofs.lemmas.Int.{ints}
 use borrow.Author.Differences.{up, down}
 use Rattle.edf_claim.specs.Terms.{Terms}
 use Rattle.edf_header.specs.Heads.{Head, day_number, start_second}
-use Rattle.edf_stream.specs.declared.instant.Instant.{Instant}
-use Rattle.edf_stream.specs.InstantOrder.{IsNotBefore, IsSecondOf}
-use Rattle.edf_stream.specs.Instants.{IsSame}
-use Rattle.edf_stream.specs.Samples.{SampleValue, IsSample}
+use Rattle.edf_stream.specs.declared.times.instant.Instant.{Instant}
+use Rattle.edf_stream.specs.times.InstantOrder.{IsNotBefore, IsSecondOf}
+use Rattle.edf_stream.specs.times.Instants.{IsSame}
+use Rattle.edf_stream.specs.samples.Samples.{SampleValue, IsSample}
 use Rattle.edf_stream.proofs.ForCallers.{start_is_of_least, sound-of}
 use Rattle.edf_pace.specs.InstantOrder.{IsBefore}
 use Rattle.edf_pace.specs.Instants.{later}

@@ -4,8 +4,8 @@ use Rattle.std.proofs.lemmas.Int.{ints}
 use Rattle.edf_claim.specs.Terms.{Terms}
 use Rattle.edf_fields.specs.Lists.{Has}
 use Rattle.edf_header.specs.HeadsReading.{head_of}
-use Rattle.edf_stream.specs.declared.instant.Instant.{Instant}
-use Rattle.edf_stream.specs.Instants.{IsSame}
+use Rattle.edf_stream.specs.declared.times.instant.Instant.{Instant}
+use Rattle.edf_stream.specs.times.Instants.{IsSame}
 use Rattle.edf_pace.specs.Instants.{later}
 use Rattle.edf_check.specs.Exports.{SameSamples}
 use Rattle.edf_pace.specs.Kept.{shift_ps, SamplesAsKept}

@@ -1,7 +1,7 @@
 -- What two files say of the channels at instants, and where they differ. Nothing here knows data records.
 use Rattle.std.specs.Prelude.{◌≡◌, ◌≢◌, ◌↔◌, ℕ, ◌<◌, ℤ, List}
-use Rattle.edf_stream.specs.declared.instant.Instant.{Instant}
-use Rattle.edf_stream.specs.Instants.{IsSame}
+use Rattle.edf_stream.specs.declared.times.instant.Instant.{Instant}
+use Rattle.edf_stream.specs.times.Instants.{IsSame}
 use Rattle.edf_verdict.specs.declared.verdict.SampleMismatch.{SampleMismatch}
 use Rattle.edf_verdict.specs.declared.verdict.SampleMismatch.TheVariants.{Missing, Extra, Value}
 use Rattle.edf_pace.specs.InstantOrder.{IsBefore, floor_of}

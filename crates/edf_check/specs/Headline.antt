@@ -7,10 +7,10 @@ use Rattle.edf_heads.specs.Blank.{IsBlank}
 use Rattle.edf_heads.specs.Calibrations.{SameCalibrations}
 use Rattle.edf_heads.specs.Channels.{SameChannels}
 use Rattle.edf_heads.specs.Subfields.{SubfieldsAsClaimed}
-use Rattle.edf_heads.specs.Texts.{SameTexts}
+use Rattle.edf_heads.specs.ChannelTexts.{SameTexts}
 use Rattle.edf_stream.specs.Conforming.{Conforms}
-use Rattle.edf_stream.specs.Notes.{NoteValue, HasNotes}
-use Rattle.edf_header.specs.Channels.{channels_among}
+use Rattle.edf_stream.specs.annotation.Notes.{NoteValue, HasNotes}
+use Rattle.edf_header.specs.signals.Channels.{channels_among}
 use Rattle.edf_verdict.specs.declared.verdict.Verdict.{Verdict}
 use Rattle.edf_verdict.specs.declared.verdict.Verdict.TheVariants.{Yes, No}
 use Rattle.edf_pace.specs.Kept.{SamplesAsKept, kept_of, unshifted}

@@ -4,11 +4,11 @@ use Rattle.edf_claim.specs.Terms.{Terms}
 use Rattle.edf_claim.specs.Keeps.{KeepsInstant}
 use Rattle.edf_fields.specs.Lists.{Has}
 use Rattle.edf_header.specs.HeadsReading.{head_of}
-use Rattle.edf_stream.specs.Instants.{IsSame}
-use Rattle.edf_stream.specs.Notes.{NoteValue, moved_by}
-use Rattle.edf_stream.specs.NotesReading.{notes_of}
-use Rattle.edf_stream.specs.Samples.{SampleValue, IsSample}
-use Rattle.edf_stream.specs.Starts.{file_start}
+use Rattle.edf_stream.specs.times.Instants.{IsSame}
+use Rattle.edf_stream.specs.annotation.Notes.{NoteValue, moved_by}
+use Rattle.edf_stream.specs.annotation.NotesReading.{notes_of}
+use Rattle.edf_stream.specs.samples.Samples.{SampleValue, IsSample}
+use Rattle.edf_stream.specs.times.Starts.{file_start}
 use Rattle.edf_check.specs.Courses.{Course}
 use Rattle.edf_pace.specs.Instants.{later}
 use Rattle.edf_pace.specs.Kept.{shift_ps, kept_of}

@@ -1,11 +1,11 @@
 -- What follows from the definition of the verdict.
 use Rattle.std.specs.Prelude.{◌≡◌, ◌↔◌, ◌<◌, ◌^◌, ◌*ℤ◌, ℕ, pos, neg_ℤ, unsigned_abs, List, [], ◌∷◌, ℤ, ◌+ℤ◌, ◌<ℤ◌, ◌≤ℤ◌}
 use Rattle.edf_check.specs.Words.{IsPermutation, IsClaim, Terms, Has, SignalHead, Head, start_second, head_of, AreBlankAlike, NoteValue, PartsVerdict, Verdict}
-use Rattle.edf_claim.specs.declared.interval.Interval.{Interval}
-use Rattle.edf_fields.specs.Dates.{NamesDashedDay}
-use Rattle.edf_stream.specs.InstantOrder.{IsNotBefore, IsSecondOf}
-use Rattle.edf_header.specs.CalibrationLaws.{FitTogether}
-use Rattle.edf_stream.specs.Samples.{SampleValue, IsSample}
+use Rattle.edf_claim.specs.declared.kept.interval.Interval.{Interval}
+use Rattle.edf_fields.specs.texts.Dates.{NamesDashedDay}
+use Rattle.edf_stream.specs.times.InstantOrder.{IsNotBefore, IsSecondOf}
+use Rattle.edf_header.specs.signals.CalibrationLaws.{FitTogether}
+use Rattle.edf_stream.specs.samples.Samples.{SampleValue, IsSample}
 use Rattle.edf_pace.specs.Annotations.{SameNotes}
 use Rattle.edf_verdict.specs.declared.verdict.Verdict.TheVariants.{Yes}
 use Rattle.edf_check.specs.Exports.{BothConform, SameSamples, IsExport}

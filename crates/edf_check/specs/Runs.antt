@@ -1,7 +1,7 @@
 -- What a check under the claim of a text says, and what a run writes: of one export, and of several.
 use Rattle.std.specs.Prelude.{◌≡◌, ◌≢◌, ℕ, List, ◌++◌, Bool, IsTrue, length}
 use Rattle.edf_check.specs.Words.{SaysClaimText, FirstClaimFault, Terms, ClaimStop, Fails, Reads, outcome_of, Outcome, Verdict, AllByRecursion, PartsVerdict}
-use Rattle.edf_fields.specs.Sinks.{HoldsPrefix}
+use Rattle.edf_fields.specs.in_out.Sinks.{HoldsPrefix}
 use Rattle.edf_stop.specs.declared.stops.RunStop.{RunStop}
 use Rattle.edf_stop.specs.declared.stops.RunStop.TheVariants.{OutOfMemory, ReadFailed, Claim, WriteFailed}
 use Rattle.edf_verdict.specs.Lines.{verdict_line}

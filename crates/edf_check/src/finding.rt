@@ -4,8 +4,7 @@ ghost use Rattle.std.specs.Prelude.{◌≡◌};
 ghost use Rattle.edf_check.specs.Findings.{no_on, verdict_on};
 
 use edf_pace::{FaultOf, NoteDifference, SampleDifference};
-use edf_verdict::parts_verdict::PartsVerdict;
-use edf_verdict::verdict::{Difference, Verdict};
+use edf_verdict::{Difference, PartsVerdict, Verdict};
 
 /// What a check finds first. There are five kinds, of which an earlier one goes before those behind it.
 #[derive(Drop)]

@@ -5,12 +5,10 @@ ghost use Rattle.edf_check.specs.Runs.{IsJudged, JudgeStops, IsPartsJudged, Part
 
 use crate::of_one::check;
 use crate::of_several::check_parts;
-use edf_claim::claim::Claim;
-use edf_claim::stop::ClaimStop;
-use edf_fields::source::Source;
+use edf_claim::{Claim, ClaimStop};
+use edf_fields::Source;
 use edf_stop::{PartsRunStop, RunStop};
-use edf_verdict::parts_verdict::PartsVerdict;
-use edf_verdict::verdict::Verdict;
+use edf_verdict::{PartsVerdict, Verdict};
 use std::alloc::Global;
 
 /// Reads the claim that a text says, and checks the export against the original under it.

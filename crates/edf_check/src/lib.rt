@@ -11,11 +11,9 @@ mod parts;
 mod running;
 mod running_parts;
 
-pub use edf_heads::head_difference::head_difference;
+pub use edf_heads::head_difference;
 pub use edf_pace::first_difference;
-pub use edf_verdict::outcome::Outcome;
-pub use edf_verdict::parts_verdict::PartsVerdict;
-pub use edf_verdict::verdict::{Difference, Verdict};
+pub use edf_verdict::{Difference, Outcome, PartsVerdict, Verdict};
 pub use judging::{judge, judge_parts};
 pub use of_one::check;
 pub use of_several::check_parts;

@@ -1,16 +1,16 @@
 //! The check of an export against its original and a claim.
 
 ghost use Rattle.std.specs.Prelude.{◌≡◌, IfOk, IfErr, OnOk, IsTrue};
-ghost use Rattle.edf_fields.specs.Sources.{Fails};
+ghost use Rattle.edf_fields.specs.in_out.Sources.{Fails};
 ghost use Rattle.edf_check.specs.Checks.{AreRead, CheckStops};
 ghost use Rattle.edf_check.specs.Headline.{YesMeans};
 ghost use Rattle.edf_check.specs.Verdicts.{IsVerdict};
 
 use crate::of_several::check_series;
-use edf_claim::claim::Claim;
-use edf_fields::source::Source;
+use edf_claim::Claim;
+use edf_fields::Source;
 use edf_stop::{CheckStop, PartSide, PartsStop, Side};
-use edf_verdict::verdict::Verdict;
+use edf_verdict::Verdict;
 use std::alloc::Global;
 
 /// Checks whether the export is the original, cut and made anonymous as the claim says, and nothing else.

@@ -2,7 +2,7 @@
 
 ghost use Rattle.std.specs.Prelude.{◌≡◌, ◌<◌, ◌≤◌, ◌∷◌, map, length, IfOk, IfErr, OnOk, IsTrue};
 ghost use Rattle.std.specs.List.{AllByRecursion};
-ghost use Rattle.edf_fields.specs.Sources.{Fails};
+ghost use Rattle.edf_fields.specs.in_out.Sources.{Fails};
 ghost use Rattle.edf_check.specs.Checks.{AreRead};
 ghost use Rattle.edf_pace.specs.PartsStops.{NoneFailed, PartsStops, StopsOfAll};
 ghost use Rattle.edf_check.specs.parts.PartsVerdicts.{IsPartsVerdict};
@@ -11,12 +11,12 @@ ghost use Rattle.edf_check.specs.parts.Together.{IsReadBy, IsVerdictOf};
 use crate::finding::Finding;
 use crate::parts::series::{Exported, ReadSoFar};
 use crate::parts::together::{conclude_parts, walk_parts};
-use edf_claim::claim::Claim;
-use edf_fields::source::Source;
-use edf_heads::labels::in_order;
+use edf_claim::Claim;
+use edf_fields::Source;
+use edf_heads::in_order;
 use edf_pace::{Clock, FaultOf, Setting, open};
 use edf_stop::{PartSide, PartsStop};
-use edf_verdict::parts_verdict::PartsVerdict;
+use edf_verdict::PartsVerdict;
 use std::alloc::Global;
 
 /// Checks an export and those behind it.

@@ -4,15 +4,14 @@ ghost use Rattle.std.specs.Prelude.{◌≡◌, ◌≢◌, ◌<◌, ◌≤◌, ma
 ghost use Rattle.std.specs.List.{AllByRecursion};
 ghost use Rattle.edf_claim.specs.declared.stop.ClaimStop.TheVariants as claim_stops;
 ghost use Rattle.edf_claim.specs.Faults.{FirstClaimFault};
-ghost use Rattle.edf_fields.specs.Sources.{Fails, Rises};
+ghost use Rattle.edf_fields.specs.in_out.Sources.{Fails, Rises};
 ghost use Rattle.edf_stop.specs.declared.parts_stops.PartsRunStop.TheVariants as stops;
 ghost use Rattle.edf_check.specs.Runs.{IsFrontOfAPartsLine, IsPartsReport, IsPartOfPartsReport, PartsRunStops};
 
 use crate::judging::judge_parts;
-use edf_fields::sink::{Sink, put_all};
-use edf_fields::source::Source;
+use edf_fields::{Sink, Source, put_all};
 use edf_stop::PartsRunStop;
-use edf_verdict::outcome::Outcome;
+use edf_verdict::Outcome;
 use std::alloc::Global;
 
 /// Reads the claim that a text says, checks one to 64 exports, in the order of time, against the original, and writes the

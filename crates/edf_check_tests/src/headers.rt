@@ -1,14 +1,12 @@
 //! The headers of an original and an export, and what `head_difference` answers; `tools/cases` has many more.
 
-use edf_claim::claim::Claim;
-use edf_fields::fault::Place::{AtField, AtSignal};
-use edf_fields::layout::{FixedField as Fixed, SignalField as Field};
-use edf_fields::source::SliceSource;
-use edf_fields::which::Which;
-use edf_header::header::Header;
-use edf_heads::head_difference::head_difference;
-use edf_test_files::file::{Done, Edit, header_of, put};
-use edf_verdict::verdict::{Difference, FreeText, SubfieldMismatch, TextField, Verdict};
+use edf_claim::Claim;
+use edf_fields::Place::{AtField, AtSignal};
+use edf_fields::{FixedField as Fixed, SignalField as Field, SliceSource, Which};
+use edf_header::Header;
+use edf_heads::head_difference;
+use edf_test_files::{Done, Edit, header_of, put};
+use edf_verdict::{Difference, FreeText, SubfieldMismatch, TextField, Verdict};
 use std::alloc::{AllocError, Global};
 use std::process::Abort;
 

@@ -1,9 +1,8 @@
 //! Labels in the order of their bytes, and channels found by their labels.
 
 use crate::headers::read;
-use edf_fields::label::SignalLabel;
-use edf_heads::channel_index::ChannelIndex;
-use edf_heads::labels::in_order;
+use edf_fields::SignalLabel;
+use edf_heads::{ChannelIndex, in_order};
 use std::alloc::AllocError;
 use std::process::Abort;
 

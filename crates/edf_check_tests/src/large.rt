@@ -4,13 +4,12 @@
 ghost use Rattle.std.specs.Prelude.{[], false};
 
 use edf_check::run;
-use edf_fields::fault::Place::{AtField, AtSignal};
-use edf_fields::layout::{FixedField as Fixed, SignalField as Field};
-use edf_fields::sink::SliceSink;
-use edf_fields::source::{ReadFault, SliceSource, Source};
-use edf_test_files::file::Edit;
-use edf_test_files::record::{small_file, temp_header};
-use edf_verdict::outcome::Outcome;
+use edf_fields::Place::{AtField, AtSignal};
+use edf_fields::{
+    FixedField as Fixed, ReadFault, SignalField as Field, SliceSink, SliceSource, Source,
+};
+use edf_test_files::{Edit, small_file, temp_header};
+use edf_verdict::Outcome;
 use std::alloc::{AllocError, Global};
 use std::process::Abort;
 
@@ -24,7 +23,7 @@ struct Padded<'a> {
 }
 
 impl<'a> Source for Padded<'a> {
-    ghost use Rattle.edf_fields.specs.PlainReads.{plain_reads};
+    ghost use Rattle.edf_fields.specs.in_out.PlainReads.{plain_reads};
 
     ghost left = { λ _. [] };
 

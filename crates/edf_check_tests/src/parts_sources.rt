@@ -2,13 +2,11 @@
 
 use crate::night::ALL;
 use edf_check::{check_parts, run_parts};
-use edf_claim::claim::Claim;
-use edf_fields::sink::SliceSink;
+use edf_claim::Claim;
+use edf_fields::SliceSink;
 use edf_stop::{PartSide, PartsRunStop, PartsStop};
-use edf_test_files::record::{LANES, recorded};
-use edf_test_files::tape::{Tape, tape_of};
-use edf_verdict::parts_verdict::PartsVerdict;
-use edf_verdict::verdict::Verdict;
+use edf_test_files::{LANES, Tape, recorded, tape_of};
+use edf_verdict::{PartsVerdict, Verdict};
 use std::alloc::Global;
 use std::process::Abort;
 use std::test::Fail;

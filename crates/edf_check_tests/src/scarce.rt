@@ -4,22 +4,15 @@ ghost use Rattle.std.specs.Prelude.{◌<◌, ◌≤◌, length};
 
 use crate::headers::{Answer, answer_of, claim, read};
 use crate::night::{ALL, SIX_SECONDS};
-use crate::timed::Timed;
+use crate::timed::TimedSource;
 use edf_check::{check, run, run_parts};
-use edf_claim::claim::Claim;
-use edf_claim::stop::ClaimStop;
-use edf_fields::fault::Place;
-use edf_fields::layout::{FixedField, SignalField};
-use edf_fields::sink::SliceSink;
-use edf_fields::source::SliceSource;
-use edf_fields::which::Which;
-use edf_header::header::Header;
-use edf_heads::head_difference::head_difference;
+use edf_claim::{Claim, ClaimStop};
+use edf_fields::{FixedField, Place, SignalField, SliceSink, SliceSource, Which};
+use edf_header::Header;
+use edf_heads::head_difference;
 use edf_stop::{CheckStop, PartsRunStop, RunStop};
-use edf_test_files::file::edited;
-use edf_test_files::record::{LANES, push_lane, recorded, small_file};
-use edf_test_files::scarce::Scarce;
-use edf_verdict::verdict::Verdict;
+use edf_test_files::{LANES, Scarce, edited, push_lane, recorded, small_file};
+use edf_verdict::Verdict;
 use std::alloc::{AllocError, Global};
 use std::process::Abort;
 use std::test::Fail;
@@ -32,7 +25,7 @@ const REGION: usize = 40 << 10;
 
 /// Two headers and a claim.
 #[derive(Clone, Copy)]
-struct Pair<'a> {
+struct TwoHeaders<'a> {
     original: &'a Header,
     export: &'a Header,
     claim: &'a Claim,
@@ -54,7 +47,7 @@ struct Run<'a> {
 enum Call<'a> {
     Claiming,
     Refusing,
-    Comparing(Pair<'a>),
+    Comparing(TwoHeaders<'a>),
     Checking(&'a [u8], usize, &'a Claim),
     Running(Run<'a>),
     Alone(Run<'a>),
@@ -62,7 +55,7 @@ enum Call<'a> {
 }
 
 /// Whether the comparison answers the calibration of the second channel; or none where it wants memory.
-fn is_recalibrated(alloc: Global, pair: Pair) -> Option<bool> {
+fn is_recalibrated(alloc: Global, pair: TwoHeaders) -> Option<bool> {
     let found = head_difference(alloc, pair.original, pair.export, pair.claim).ok()?;
     Some(answer_of(&found) == Answer::Calibration(b"ECG"))
 }
@@ -70,8 +63,8 @@ fn is_recalibrated(alloc: Global, pair: Pair) -> Option<bool> {
 /// Whether the check of a file of so many seconds against itself, with this header, answers how many samples
 /// it has; or none where it wants memory.
 fn is_taken(alloc: Global, header: &[u8], seconds: usize, claim: &Claim) -> Option<bool> {
-    let mut original = Timed::new(header, seconds);
-    let mut export = Timed::new(header, seconds);
+    let mut original = TimedSource::new(header, seconds);
+    let mut export = TimedSource::new(header, seconds);
     match check(alloc, &mut original, &mut export, claim) {
         Ok(Verdict::Yes { samples, .. }) => Some(samples == 6u64.saturating_mul(seconds as u64)),
         Err(CheckStop::OutOfMemory) => None,
@@ -228,7 +221,7 @@ fn compares_headers_or_wants_memory(rt: HostRuntime) -> Result<(), AllocError> {
     let original = read(alloc, &rt, (&[0, 1, 2], &[]))?;
     let export = read(alloc, &rt, (&[0, 1, 2], &edits))?;
     let claim = claim(alloc, &rt, "[\"EEG Fpz-Cz\", \"ECG\"]", "")?;
-    let pair = Pair {
+    let pair = TwoHeaders {
         original: &original,
         export: &export,
         claim: &claim,

@@ -2,13 +2,11 @@
 
 use crate::night::{ALL, SIX_SECONDS, YES};
 use edf_check::run;
-use edf_claim::stop::ClaimStop;
-use edf_fields::faulty_sink::FaultySink;
-use edf_fields::sink::SliceSink;
-use edf_fields::source::SliceSource;
+use edf_claim::ClaimStop;
+use edf_fields::{FaultySink, SliceSink, SliceSource};
 use edf_stop::RunStop;
-use edf_test_files::record::{LANES, recorded, small_file};
-use edf_verdict::outcome::Outcome;
+use edf_test_files::{LANES, recorded, small_file};
+use edf_verdict::Outcome;
 use std::alloc::{AllocError, Global};
 use std::test::Fail;
 

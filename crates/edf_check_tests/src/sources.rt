@@ -2,11 +2,10 @@
 
 use crate::night::{ALL, SIX_SECONDS, YES};
 use edf_check::{check, run};
-use edf_claim::claim::Claim;
-use edf_fields::sink::SliceSink;
+use edf_claim::Claim;
+use edf_fields::SliceSink;
 use edf_stop::{CheckStop, RunStop, Side};
-use edf_test_files::record::{LANES, recorded, small_file};
-use edf_test_files::tape::{Tape, dripping, endless, tape_of};
+use edf_test_files::{LANES, Tape, dripping, endless, recorded, small_file, tape_of};
 use std::alloc::Global;
 use std::process::Abort;
 use std::test::Fail;

@@ -2,7 +2,7 @@
 
 ghost use Rattle.std.specs.Prelude.{[], false};
 
-use edf_fields::source::{ReadFault, Source};
+use edf_fields::{ReadFault, Source};
 
 /// How many bytes a data record has, and at which of them its lane begins.
 const RECORD: usize = 52;
@@ -12,16 +12,16 @@ const LANE: usize = 12;
 /// Gives a header, and behind it so many data records of 1 s, which hold zeros and keep the time. The proofs
 /// know nothing of it.
 #[derive(Drop)]
-pub struct Timed<'a> {
+pub struct TimedSource<'a> {
     header: &'a [u8],
     records: usize,
     given: usize,
 }
 
-impl<'a> Timed<'a> {
+impl<'a> TimedSource<'a> {
     /// That of a header with the signals of the reference file, and of less than 1000 data records.
-    pub fn new(header: &'a [u8], records: usize) -> Timed<'a> {
-        Timed {
+    pub fn new(header: &'a [u8], records: usize) -> TimedSource<'a> {
+        TimedSource {
             header,
             records,
             given: 0,
@@ -57,8 +57,8 @@ fn byte_of(record: usize, place: usize) -> u8 {
     }
 }
 
-impl<'a> Source for Timed<'a> {
-    ghost use Rattle.edf_fields.specs.PlainReads.{plain_reads};
+impl<'a> Source for TimedSource<'a> {
+    ghost use Rattle.edf_fields.specs.in_out.PlainReads.{plain_reads};
 
     ghost left = { λ _. [] };
 

@@ -3,19 +3,13 @@
 
 use crate::headers::claim;
 use edf_check::check;
-use edf_fields::cause::TalCause;
-use edf_fields::fault::Place::{AtField, AtSignal};
-use edf_fields::fault::{Cause, Fault, Place};
-use edf_fields::layout::{FixedField, SignalField};
-use edf_fields::source::SliceSource;
-use edf_fields::which::Which;
-use edf_test_files::file::{Done, Edit};
-use edf_test_files::record::recorded;
-use edf_verdict::label::Label;
-use edf_verdict::note_text::NoteText;
-use edf_verdict::outcome::Outcome;
-use edf_verdict::quote::push_quoted;
-use edf_verdict::verdict::{Difference, FreeText, SampleMismatch, SubfieldMismatch, Verdict};
+use edf_fields::Place::{AtField, AtSignal};
+use edf_fields::{Cause, Fault, FixedField, Place, SignalField, SliceSource, TalCause, Which};
+use edf_test_files::{Done, Edit, recorded};
+use edf_verdict::{
+    Difference, FreeText, Label, NoteText, Outcome, SampleMismatch, SubfieldMismatch, Verdict,
+    push_quoted,
+};
 use std::alloc::Global;
 use std::process::Abort;
 use std::test::Fail;

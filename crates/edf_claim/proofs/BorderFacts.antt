@@ -8,7 +8,7 @@ use Rattle.std.proofs.Math.Nat.{mul-le-mul_right, lt_of_mul-lt-mul_right}
 use borrow.Author.Differences.{up, down}
 use Rattle.edf_claim.specs.Claims.{IsInterval}
 use Rattle.edf_claim.specs.Terms.{Terms}
-use Rattle.edf_claim.specs.declared.interval.Interval.{Interval}
+use Rattle.edf_claim.specs.declared.kept.interval.Interval.{Interval}
 use Rattle.edf_claim.specs.Keeps.{is_within, keeps_instant}
 use Rattle.edf_claim.specs.KeepsReading.{AreKept, IsOutside, IsUncut, HasBorder}
 use Rattle.edf_claim.proofs.OrderFacts.{kept-tail, ends-before}

@@ -4,8 +4,8 @@ use Rattle.std.specs.List.{All, list_any}
 use Rattle.std.proofs.lemmas.Int.{ints}
 use Rattle.edf_claim.specs.Claims.{IsInterval}
 use Rattle.edf_claim.specs.Terms.{Terms}
-use Rattle.edf_claim.specs.declared.interval.Interval.{Interval}
-use Rattle.edf_fields.specs.declared.which.Which.{Which}
+use Rattle.edf_claim.specs.declared.kept.interval.Interval.{Interval}
+use Rattle.edf_fields.specs.declared.fields.which.Which.{Which}
 use Rattle.edf_claim.specs.Keeps.{IsWithin, KeepsInstant, is_within, keeps_instant, keeps_annotation, begins_with, removes}
 use Rattle.edf_claim.specs.KeepsReading.{KeepsAnnotation, BeginsWith, Removes, Blanks, blanks}
 use Rattle.edf_fields.specs.Lists.{Has, is_one_of}

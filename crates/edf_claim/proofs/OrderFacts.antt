@@ -9,7 +9,7 @@ use Rattle.std.proofs.lemmas.List.Folds.{list_any-append}
 use Rattle.edf_claim.specs.Claims.{IsInterval, IsFollowedBy, AreInOrder}
 use Rattle.edf_claim.specs.Keeps.{is_within}
 use Rattle.edf_claim.specs.KeepsReading.{AreKept}
-use Rattle.edf_claim.specs.declared.interval.Interval.{Interval}
+use Rattle.edf_claim.specs.declared.kept.interval.Interval.{Interval}
 
 -- a part of intervals in order
 order-drop : (k : ℕ) (is : List Interval) → AreInOrder is → AreInOrder (drop k is)

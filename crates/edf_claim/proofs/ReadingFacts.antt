@@ -7,20 +7,20 @@ use Rattle.std.proofs.lemmas.Int.{ints}
 use Rattle.std.proofs.lemmas.List.Elements.{All-nil, All-cons}
 use Rattle.std.proofs.lemmas.Slice.Eq.{bytes_eq-Decides}
 use Rattle.toml.specs.Data.{Data, string, integer, float, boolean, datetime, array, table, Items, no_items, item, Members, no_members, member, get_member, as_str, as_integer, as_array, as_table}
-use Rattle.edf_fields.specs.PrintableReading.{is_printable}
-use Rattle.edf_fields.specs.OnsetsReading.{span_of}
+use Rattle.edf_fields.specs.texts.PrintableReading.{is_printable}
+use Rattle.edf_fields.specs.texts.OnsetsReading.{span_of}
 use Rattle.edf_fields.proofs.ForCallers.{le_decided, span_of_some, span_small, and-true, not-true, one_of-has, distinct-tested, first-cons, unless-passed, printable_decided}
 use Rattle.edf_claim.specs.Claims.{text_items, HasOnlyKeys, claim_keys, more_claim_keys, interval_keys, IsLabel, SaysInterval, AreIntervals, IsFollowedBy, AreInOrder, IsInterval, IsClaim, SaysFormat, HasFormat, HasKeysOfFormat, SaysChannels, SaysKeep, SaysAnonymous, SaysShift, SaysRemove, SaysRemovePrefix, SaysBlank, SaysClaim}
-use Rattle.edf_fields.specs.SubfieldNames.{name_of}
+use Rattle.edf_fields.specs.fields.SubfieldNames.{name_of}
 use Rattle.edf_claim.specs.Terms.{Terms}
 use Rattle.edf_fields.specs.Lists.{Has, is_one_of}
 use Rattle.edf_fields.specs.Distinct.{AreDistinct, are_distinct}
 use Rattle.edf_claim.specs.Reading.{integer_of, text_at, keys_are, texts_of, distinct_texts, distinct_prefixes, option_is, is_format, has_format, has_keys_of_format, is_label, channels_of, span_at, interval_from, interval_of, intervals_of, is_followed_by, are_in_order, keep_of, whiches_of, or_default, anonymous_of, shift_within, shift_of, remove_of, remove_prefix_of, blank_of, claim_fault, terms_of}
-use Rattle.edf_fields.specs.SubfieldNamesReading.{named_in, all_subfields, which_of}
+use Rattle.edf_fields.specs.fields.SubfieldNamesReading.{named_in, all_subfields, which_of}
 use Rattle.edf_fields.specs.Tests.{unless}
-use Rattle.edf_claim.specs.declared.interval.Interval.{Interval}
+use Rattle.edf_claim.specs.declared.kept.interval.Interval.{Interval}
 use Rattle.edf_claim.specs.declared.stop.ClaimStop.TheVariants.{BadFormat, UnknownKey, BadChannels, BadKeep, BadAnonymous, BadShift, BadRemove, BadRemovePrefix, BadBlank}
-use Rattle.edf_fields.specs.declared.which.Which.{Which}
+use Rattle.edf_fields.specs.declared.fields.which.Which.{Which}
 use Rattle.edf_claim.proofs.FaultFacts.{AreParts}
 
 -- what options and tests say that gave something

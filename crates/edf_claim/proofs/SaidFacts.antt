@@ -5,20 +5,20 @@ use Rattle.std.specs.Str.{bytes_eq}
 use Rattle.std.proofs.lemmas.Bool.Decides.{nat_tests, Decides-int_eq}
 use Rattle.std.proofs.lemmas.Slice.Eq.{bytes_eq-Decides}
 use Rattle.toml.specs.Data.{Data, string, array, Items, Members, no_members, member, get_member, as_str, as_integer, as_array}
-use Rattle.edf_fields.specs.PrintableReading.{is_printable}
-use Rattle.edf_fields.specs.Onsets.{SpellsSpan}
-use Rattle.edf_fields.specs.OnsetsReading.{span_of}
+use Rattle.edf_fields.specs.texts.PrintableReading.{is_printable}
+use Rattle.edf_fields.specs.texts.Onsets.{SpellsSpan}
+use Rattle.edf_fields.specs.texts.OnsetsReading.{span_of}
 use Rattle.edf_fields.proofs.ForCallers.{le_decided, span_of_spelled, has-one_of, both-true, not-is, distinct-passes, le-passes, lt-passes, printable_decided, which-read, same-name}
 use Rattle.edf_claim.specs.Claims.{text_items, HasOnlyKeys, claim_keys, more_claim_keys, interval_keys, IsLabel, SaysInterval, AreIntervals, IsFollowedBy, AreInOrder, IsInterval, SaysFormat, HasFormat, HasKeysOfFormat, SaysChannels, SaysKeep, SaysAnonymous, SaysShift, SaysRemove, SaysRemovePrefix, SaysBlank, SaysClaim, SaysOneClaim}
-use Rattle.edf_fields.specs.SubfieldNames.{name_of}
+use Rattle.edf_fields.specs.fields.SubfieldNames.{name_of}
 use Rattle.edf_claim.specs.Terms.{Terms}
 use Rattle.edf_claim.specs.Faults.{FailsOr, FirstTableFault, ThereIs, SaysClaimOrFault, FaultIsFirst}
 use Rattle.edf_fields.specs.Lists.{Has, is_one_of}
 use Rattle.edf_fields.specs.Distinct.{AreDistinct, are_distinct}
 use Rattle.edf_claim.specs.Reading.{option_is, keys_are, texts_of, distinct_texts, distinct_prefixes, is_format, has_format, has_keys_of_format, is_label, channels_of, span_at, interval_from, interval_of, intervals_of, is_followed_by, are_in_order, keep_of, whiches_of, or_default, anonymous_of, shift_within, shift_of, remove_of, remove_prefix_of, blank_of, claim_fault, terms_of}
 use Rattle.edf_fields.specs.Tests.{first, unless}
-use Rattle.edf_claim.specs.declared.interval.Interval.{Interval}
-use Rattle.edf_fields.specs.declared.which.Which.{Which}
+use Rattle.edf_claim.specs.declared.kept.interval.Interval.{Interval}
+use Rattle.edf_fields.specs.declared.fields.which.Which.{Which}
 use Rattle.edf_claim.proofs.FaultFacts.{AreParts, all-passed}
 use Rattle.edf_claim.proofs.ReadingFacts.{is-some, keys-said, format-said, channels-said, keep-said, anonymous-said, shift-said, remove-said, remove-prefix-said, blank-said, terms-are, table-says}
 use Rattle.edf_claim.specs.declared.stop.ClaimStop.{ClaimStop}

@@ -1,15 +1,15 @@
 -- What a claim says: which channels, annotations and intervals of time an export keeps of its original, what it makes anonymous, and by how much it moves the rest (this project's profile).
 use Rattle.std.specs.Prelude.{◌≡◌, ◌≢◌, ℕ, ℤ, pos, neg_ℤ, ◌-◌, ◌≤ℤ◌, ◌<ℤ◌, ◌≤◌, ◌^◌, ◌⊎◌, List, [], ◌∷◌, length, map, slice_index, Some, None, codes, IsUtf8}
 use Rattle.std.specs.List.{All}
-use Rattle.edf_fields.specs.Onsets.{SpellsSpan}
+use Rattle.edf_fields.specs.texts.Onsets.{SpellsSpan}
 use Rattle.edf_fields.specs.Lists.{Has}
 use Rattle.edf_fields.specs.Distinct.{AreDistinct}
-use Rattle.edf_claim.specs.declared.interval.Interval.{Interval}
-use Rattle.edf_fields.specs.declared.which.Which.{Which}
-use Rattle.edf_fields.specs.SubfieldNames.{name_of}
+use Rattle.edf_claim.specs.declared.kept.interval.Interval.{Interval}
+use Rattle.edf_fields.specs.declared.fields.which.Which.{Which}
+use Rattle.edf_fields.specs.fields.SubfieldNames.{name_of}
 use Rattle.toml.specs.Data.{string, integer, array, table, Items, no_items, item, Members, no_members, member, get_member}
 use Rattle.toml.specs.Parse.{parse_document}
-use Rattle.edf_fields.specs.Printable.{IsPrintable}
+use Rattle.edf_fields.specs.texts.Printable.{IsPrintable}
 use Rattle.edf_claim.specs.Terms.{Terms}
 
 -- the array of these texts

@@ -9,7 +9,7 @@ use Rattle.std.specs.Ordering.{nat_cmp}
 use Rattle.edf_claim.specs.Claims.{IsInterval, AreInOrder}
 use Rattle.edf_claim.specs.Terms.{Terms}
 use Rattle.edf_fields.specs.Lists.{Has, is_one_of}
-use Rattle.edf_claim.specs.declared.interval.Interval.{Interval}
+use Rattle.edf_claim.specs.declared.kept.interval.Interval.{Interval}
 use Rattle.edf_claim.specs.Keeps.{KeepsInstant, begins_with}
 
 -- intervals as a claim keeps them, in order

@@ -3,17 +3,17 @@ use Rattle.std.specs.Prelude.{ℕ, ℤ, pos, neg_ℤ, ◌-◌, ◌^◌, ◌==◌
 use Rattle.std.specs.List.{list_all}
 use Rattle.std.specs.Ordering.{int_eq}
 use Rattle.std.specs.Str.{bytes_eq}
-use Rattle.edf_fields.specs.PrintableReading.{is_printable}
-use Rattle.edf_fields.specs.OnsetsReading.{span_of}
+use Rattle.edf_fields.specs.texts.PrintableReading.{is_printable}
+use Rattle.edf_fields.specs.texts.OnsetsReading.{span_of}
 use Rattle.edf_claim.specs.Claims.{claim_keys, more_claim_keys, interval_keys}
-use Rattle.edf_fields.specs.SubfieldNamesReading.{which_of}
+use Rattle.edf_fields.specs.fields.SubfieldNamesReading.{which_of}
 use Rattle.edf_claim.specs.Terms.{Terms}
 use Rattle.edf_fields.specs.Lists.{is_one_of}
 use Rattle.edf_fields.specs.Distinct.{are_distinct}
-use Rattle.edf_claim.specs.declared.interval.Interval.{Interval}
+use Rattle.edf_claim.specs.declared.kept.interval.Interval.{Interval}
 use Rattle.edf_claim.specs.declared.stop.ClaimStop.{ClaimStop}
 use Rattle.edf_claim.specs.declared.stop.ClaimStop.TheVariants.{BadFormat, UnknownKey, BadChannels, BadKeep, BadAnonymous, BadShift, BadRemove, BadRemovePrefix, BadBlank}
-use Rattle.edf_fields.specs.declared.which.Which.{Which}
+use Rattle.edf_fields.specs.declared.fields.which.Which.{Which}
 use Rattle.toml.specs.Data.{Data, Items, no_items, item, Members, no_members, member, get_member, as_str, as_integer, as_array, as_table}
 use Rattle.edf_fields.specs.Tests.{first, unless}
 

@@ -1,7 +1,7 @@
 -- What a claim says.
 use Rattle.std.specs.Prelude.{ℕ, ℤ, List}
-use Rattle.edf_claim.specs.declared.interval.Interval.{Interval}
-use Rattle.edf_fields.specs.declared.which.Which.{Which}
+use Rattle.edf_claim.specs.declared.kept.interval.Interval.{Interval}
+use Rattle.edf_fields.specs.declared.fields.which.Which.{Which}
 
 -- a claim: the labels of the channels, the intervals that are kept, what is made anonymous, the shift in seconds, the texts of annotations that are
 -- removed and those with which such a text begins, and the texts that are blanked

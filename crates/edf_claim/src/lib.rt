@@ -2,24 +2,16 @@
 //! original it keeps, what it makes anonymous, which texts it blanks, and by how much it moves the rest.
 #![tactic(auto)]
 
-mod anonymous;
-mod blank;
-pub mod borders;
-mod channels;
-pub mod claim;
-pub mod draft;
-mod draft_text;
-mod draft_times;
-mod format;
-pub mod interval;
-mod keep;
-pub mod keys;
+mod drafting;
+mod kept;
 pub mod laws;
-mod note_texts;
-mod prefixes;
-mod read;
-mod remove;
-mod shift;
-pub mod stop;
-mod table;
-mod text_arrays;
+mod reading;
+mod stop;
+
+pub use drafting::draft::{Comments, Draft};
+pub use kept::claim::{BLANK, Claim, MOST_CLAIM_BYTES};
+pub use kept::interval::Interval;
+pub use reading::keep::MOST_INTERVALS;
+pub use reading::keys::{CLAIM_KEYS, MORE_KEYS};
+pub use reading::shift::MOST_SHIFT_SECONDS;
+pub use stop::ClaimStop;

@@ -8,7 +8,7 @@ use crate::refused::Refused;
 use crate::times::{number_fault, say_clock, time_fault};
 use crate::typographic::first_mark;
 use crate::words;
-use edf_fields::onset::span;
+use edf_fields::span;
 use edf_sentences::{Piece, Text};
 use std::alloc::AllocError;
 use toml::{Table, Value};

@@ -4,7 +4,7 @@ use crate::claim_lines::key_at;
 use crate::placed::say_at;
 use crate::refused::Refused;
 use crate::words;
-use edf_claim::keys::{CLAIM_KEYS, MORE_KEYS};
+use edf_claim::{CLAIM_KEYS, MORE_KEYS};
 use edf_sentences::{Piece, Text, nearest};
 use std::alloc::{AllocError, Global};
 use toml::{Table, Value};

@@ -7,8 +7,7 @@ use crate::refused::Refused;
 use crate::shift::{say_amount, say_mark, say_shift};
 use crate::text_lists::{say_anonymous, say_channels, say_texts};
 use crate::words;
-use edf_claim::claim::{Claim, MOST_BYTES};
-use edf_claim::stop::ClaimStop;
+use edf_claim::{Claim, ClaimStop, MOST_CLAIM_BYTES};
 use edf_sentences::{Piece, Text, looks_like_a_recording};
 use std::alloc::{AllocError, Global};
 use toml::de::Error;
@@ -67,7 +66,7 @@ fn say_refusal(text: &mut Text, claim_text: &[u8], stop: ClaimStop) -> Result<()
         return text.say(words::CLAIM_IS_A_RECORDING, &[]);
     }
     if stop == ClaimStop::TooLong {
-        let most = Piece::Number(MOST_BYTES as i128);
+        let most = Piece::Number(MOST_CLAIM_BYTES as i128);
         return text.say(words::CLAIM_TOO_LONG, &[most]);
     }
     match toml::table_from_slice(text.alloc(), claim_text) {

@@ -12,8 +12,7 @@ ghost use Rattle.edf_job.specs.Jobs.{ArePlain, HasExports, SaysJob, SaysNoJob, b
 use crate::VERSION;
 use clap::error::ErrorKind;
 use clap::{Arg, Command, Error};
-use edf_job::job::Job;
-use edf_job::words::job_of;
+use edf_job::{Job, job_of};
 use std::alloc::{AllocError, Global};
 
 /// What the program is, in the help.

@@ -1,7 +1,8 @@
 //! The command line of `edfclaim`: its grammar, its help, its version, and the job that it asks for.
 #![tactic(auto)]
 
-pub mod command;
+mod command;
 
-/// The version of the program, as `edfclaim --version` and its manual page say it.
+pub use command::job;
+
 pub const VERSION: &str = "0.2.0";

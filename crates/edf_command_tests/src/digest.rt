@@ -1,7 +1,6 @@
 //! The digest of what a source handed on, beside the examples of FIPS 180-4.
 
-use edf_fields::faulty_source::FaultySource;
-use edf_fields::source::{ReadFault, SliceSource, Source, fill};
+use edf_fields::{FaultySource, ReadFault, SliceSource, Source, fill};
 use edf_receipt::{DigestSource, Digested, digest_of};
 use std::process::Abort;
 

@@ -1,13 +1,11 @@
 //! The receipts of small files, whose digests are those of `sha256sum`, and what is written where a read or a sink fails.
 
-use edf_claim::stop::ClaimStop;
-use edf_fields::faulty_source::FaultySource;
-use edf_fields::sink::{Sink, SliceSink};
-use edf_fields::source::SliceSource;
+use edf_claim::ClaimStop;
+use edf_fields::{FaultySource, Sink, SliceSink, SliceSource};
 use edf_receipt::{DigestSource, receipt_parts_to, receipt_to};
 use edf_stop::{PartSide, PartsRunStop, RunStop, Side};
 use edf_vectors::Line;
-use edf_verdict::outcome::Outcome;
+use edf_verdict::Outcome;
 use std::alloc::Global;
 use std::process::Abort;
 use std::test::Fail;

@@ -1,9 +1,9 @@
 //! The line and the status of each refusal, and how a stopped check or report is refused.
 
-use edf_claim::stop::ClaimStop;
+use edf_claim::ClaimStop;
 use edf_refusal::{Refusal, Role, status};
 use edf_stop::{PartSide, PartsRunStop, ReportStop, RunStop, Side};
-use edf_verdict::outcome::Outcome;
+use edf_verdict::Outcome;
 use std::process::Abort;
 
 /// Each refusal, and its line.

@@ -1,19 +1,15 @@
 //! The reports on one file: their texts, and what stands in a sink that is soon full, or where a read fails;
 //! `tools/cases` has more of their texts.
 
-use edf_fields::fault::Place::{AtField, AtSignal};
-use edf_fields::faulty_source::FaultySource;
-use edf_fields::layout::{FixedField as Fixed, SignalField as Field};
-use edf_fields::sink::{Sink, SliceSink};
-use edf_fields::source::{SliceSource, Source};
-use edf_report::conform::conform_to;
-use edf_report::notes::notes_to;
-use edf_report::show::show_to;
+use edf_fields::Place::{AtField, AtSignal};
+use edf_fields::{
+    FaultySource, FixedField as Fixed, SignalField as Field, Sink, SliceSink, SliceSource, Source,
+};
+use edf_report::{conform_to, notes_to, show_to};
 use edf_stop::ReportStop;
-use edf_test_files::file::Edit;
-use edf_test_files::record::{LANES, recorded};
+use edf_test_files::{Edit, LANES, recorded};
 use edf_vectors::Line;
-use edf_verdict::outcome::Outcome;
+use edf_verdict::Outcome;
 use std::alloc::Global;
 use std::process::Abort;
 use std::test::Fail;

@@ -4,16 +4,12 @@
 ghost use Rattle.std.specs.Prelude.{◌<◌, ◌≤◌, length};
 
 use edf_check::{run, run_parts};
-use edf_fields::faulty_source::FaultySource;
-use edf_fields::sink::SliceSink;
-use edf_fields::source::SliceSource;
-use edf_rows::build::bytes_of;
-use edf_rows::claims::claim_text;
-use edf_rows::rows::{Exports, Row, worked_rows};
+use edf_fields::{FaultySource, SliceSink, SliceSource};
+use edf_rows::{Exports, Row, bytes_of, claim_text, worked_rows};
 use edf_stop::ReportStop;
-use edf_test_files::scarce::Scarce;
+use edf_test_files::Scarce;
 use edf_vectors::{Line, vectors_to};
-use edf_verdict::outcome::Outcome;
+use edf_verdict::Outcome;
 use std::alloc::{AllocError, Global};
 use std::test::Fail;
 

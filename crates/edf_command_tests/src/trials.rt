@@ -1,16 +1,11 @@
 //! Tries: the check of two recordings that are opened anew, and the text of a claim with another shift, with other channels,
 //! and with another end of an interval.
 
-use edf_claim::claim::Claim;
+use edf_claim::Claim;
 use edf_stop::RunStop;
-use edf_test_files::record::small_file;
-use edf_trial::better::is_better;
-use edf_trial::channels::with_channels;
-use edf_trial::check_anew::check_anew;
-use edf_trial::ends::with_end;
-use edf_trial::recordings::SliceRecordings;
-use edf_trial::shifted::with_shift;
-use edf_verdict::verdict::Verdict;
+use edf_test_files::small_file;
+use edf_trial::{SliceRecordings, check_anew, is_better, with_channels, with_end, with_shift};
+use edf_verdict::Verdict;
 use std::test::Fail;
 
 /// A claim by which an export of the small file was moved a day on.

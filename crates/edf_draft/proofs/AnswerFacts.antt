@@ -1,6 +1,6 @@
 -- What is written of two files.
 use Rattle.std.proofs.Common.{◌≡◌, inl, inr, ℕ, ℤ, List, Bool, None, subst}
-use Rattle.edf_fields.specs.declared.fault.Fault.{Fault}
+use Rattle.edf_fields.specs.declared.faults.fault.Fault.{Fault}
 use Rattle.edf_stop.specs.declared.sides.Side.{Side}
 use Rattle.edf_stop.specs.declared.sides.Side.TheVariants.{Original, Export}
 use Rattle.edf_stop.specs.declared.stops.CheckStop.{CheckStop}

@@ -2,9 +2,9 @@
 use Rattle.std.proofs.Common.{◌≡◌, ◌+ℤ◌, ℕ, ℤ, List, Option, None, Some, IfSome, IfNone, ap, sym, ◌∙◌, arith}
 use Rattle.edf_header.specs.Heads.{Head}
 use Rattle.edf_stream.specs.Conforming.{Conforms}
-use Rattle.edf_stream.specs.Records.{record_at}
-use Rattle.edf_stream.specs.Starts.{file_start}
-use Rattle.edf_stream.specs.StartsReading.{end_before, start_at, start_in}
+use Rattle.edf_stream.specs.records.Records.{record_at}
+use Rattle.edf_stream.specs.times.Starts.{file_start}
+use Rattle.edf_stream.specs.times.StartsReading.{end_before, start_at, start_in}
 use Rattle.edf_draft.specs.Times.{begin_of, end_of}
 use Rattle.edf_draft.specs.declared.recorded.RecordStart.{RecordStart}
 

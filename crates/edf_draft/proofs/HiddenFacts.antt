@@ -1,9 +1,9 @@
 -- The subfields that an export hides, found one after the other.
 use Rattle.std.proofs.Common.{◌≡◌, ◌⊎◌, ◌↔◌, inl, inr, List, [], ◌∷◌, ◌++◌, refl, subst, sym}
 use Rattle.edf_fields.specs.Lists.{Has}
-use Rattle.edf_fields.specs.declared.which.Which.{Which}
-use Rattle.edf_fields.specs.declared.which.Which.TheVariants.{Code, Sex, Birthdate, Name, PatientExtras, Date, Administration, Technician, Equipment, RecordingExtras}
-use Rattle.edf_fields.specs.SubfieldNamesReading.{all_subfields}
+use Rattle.edf_fields.specs.declared.fields.which.Which.{Which}
+use Rattle.edf_fields.specs.declared.fields.which.Which.TheVariants.{Code, Sex, Birthdate, Name, PatientExtras, Date, Administration, Technician, Equipment, RecordingExtras}
+use Rattle.edf_fields.specs.fields.SubfieldNamesReading.{all_subfields}
 use Rattle.edf_header.specs.Heads.{Head}
 use Rattle.edf_draft.specs.Hidden.{AreLeft, IsHidden}
 

@@ -1,9 +1,9 @@
 -- What is said of the way in which reading a whole file stopped.
-use Rattle.edf_fields.specs.declared.fault.Fault.{Fault}
+use Rattle.edf_fields.specs.declared.faults.fault.Fault.{Fault}
 use Rattle.edf_header.specs.Stops.{Stops}
 use Rattle.edf_header.specs.declared.stop.Stop.{Stop}
 use Rattle.edf_header.specs.declared.stop.Stop.TheVariants as stops
-use Rattle.edf_stream.specs.Readers.{StopsReading}
+use Rattle.edf_stream.specs.records.Readers.{StopsReading}
 
 -- a stop at the header
 pub at_header : (P Q : Fault → Type 0) (failed sound : Type 0) (stop : Stop) → ((f : Fault) → P f → Q f) → Stops P failed sound stop → Stops Q failed sound stop

@@ -3,7 +3,7 @@ use Rattle.std.specs.Prelude.{◌≡◌, ℕ, Bool, List, [], ◌∷◌, ◌++�
 use Rattle.edf_claim.specs.Claims.{SaysClaimText}
 use Rattle.edf_claim.specs.Terms.{Terms}
 use Rattle.edf_fields.specs.FaultTexts.{fault_text}
-use Rattle.edf_fields.specs.declared.fault.Fault.{Fault}
+use Rattle.edf_fields.specs.declared.faults.fault.Fault.{Fault}
 use Rattle.edf_stop.specs.declared.sides.Side.{Side}
 use Rattle.edf_stop.specs.declared.sides.Side.TheVariants.{Original, Export}
 use Rattle.edf_stop.specs.declared.stops.CheckStop.{CheckStop}

@@ -3,8 +3,8 @@ use Rattle.std.specs.Prelude.{◌≡◌, ◌↔◌, ℕ, ℤ, List, [], Bool}
 use Rattle.edf_claim.specs.Claims.{SaysClaimText}
 use Rattle.edf_claim.specs.Terms.{Terms}
 use Rattle.edf_fields.specs.Lists.{Has}
-use Rattle.edf_fields.specs.declared.which.Which.{Which}
-use Rattle.edf_header.specs.Channels.{channel_labels}
+use Rattle.edf_fields.specs.declared.fields.which.Which.{Which}
+use Rattle.edf_header.specs.signals.Channels.{channel_labels}
 use Rattle.edf_header.specs.Heads.{Head}
 use Rattle.edf_stream.specs.Conforming.{Conforms}
 use Rattle.edf_draft.specs.Days.{IsShift}

@@ -1,7 +1,7 @@
 -- The subfields that an export hides (EDF+, "Additional specifications in EDF+": local patient identification, local recording identification).
 use Rattle.std.specs.Prelude.{◌↔◌, ◌⊎◌, List}
 use Rattle.edf_fields.specs.Lists.{Has}
-use Rattle.edf_fields.specs.declared.which.Which.{Which}
+use Rattle.edf_fields.specs.declared.fields.which.Which.{Which}
 use Rattle.edf_header.specs.Heads.{Head}
 use Rattle.edf_heads.specs.Comparisons.{IsAnonymous, IsUnchanged}
 

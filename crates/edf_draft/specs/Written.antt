@@ -1,6 +1,6 @@
 -- What a sink holds behind the draft of a claim.
 use Rattle.std.specs.Prelude.{◌≡◌, ℕ, List, ◌++◌}
-use Rattle.edf_fields.specs.Sinks.{HoldsPrefix}
+use Rattle.edf_fields.specs.in_out.Sinks.{HoldsPrefix}
 use Rattle.edf_verdict.specs.declared.outcome.Outcome.{Outcome}
 use Rattle.edf_draft.specs.Answers.{IsAnswer}
 

@@ -1,19 +1,18 @@
 //! What is written of two files: the draft of a claim, or the fault of one of them.
 
 ghost use Rattle.std.specs.Prelude.{◌≡◌, List, ℕ, Some, IfOk, IfErr, OnOk, IsTrue};
-ghost use Rattle.edf_fields.specs.Sources.{Fails};
+ghost use Rattle.edf_fields.specs.in_out.Sources.{Fails};
 ghost use Rattle.edf_stream.specs.Faults.{file_fault};
 ghost use Rattle.edf_stop.specs.declared.stops.CheckStop.TheVariants as check_stops;
 ghost use Rattle.edf_draft.specs.Answers.{BothStop, IsAnswer, IsFaultAt, IsReadOf, SideStops, fault_text_of};
 
 use crate::drafted::draft_text;
 use crate::recorded::{Recorded, read_through};
-use edf_fields::fault::Fault;
-use edf_fields::source::Source;
-use edf_header::stop::Stop;
+use edf_fields::{Fault, Source};
+use edf_header::Stop;
 use edf_stop::{CheckStop, Side};
-use edf_trial::recordings::Recordings;
-use edf_verdict::outcome::Outcome;
+use edf_trial::Recordings;
+use edf_verdict::Outcome;
 use std::alloc::{AllocError, Global};
 
 /// What is written where no claim says what the export is.

@@ -1,11 +1,10 @@
 //! The channels of an export.
 
 ghost use Rattle.std.specs.Prelude.{◌≡◌, [], ◌∷◌, ◌++◌, map, IfOk, OnOk};
-ghost use Rattle.edf_header.specs.Channels.{channel_labels as labels_of};
+ghost use Rattle.edf_header.specs.signals.Channels.{channel_labels as labels_of};
 
-use edf_header::header::Header;
-use edf_header::signal::Signal;
-use edf_heads::channel_index::ChannelIndex;
+use edf_header::{Header, Signal};
+use edf_heads::ChannelIndex;
 use std::alloc::{AllocError, Global};
 
 /// Takes in the label of a signal, where it is a channel.

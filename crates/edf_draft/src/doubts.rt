@@ -5,10 +5,10 @@ use crate::hidden::hidden_subfields;
 use crate::kept::back::{Back, moved_stretches, times_beside};
 use crate::recorded::{Recorded, Times};
 use crate::shift::{Shift, shift_of};
-use edf_fields::which::Which;
-use edf_header::header::Header;
-use edf_heads::channel_index::ChannelIndex;
-use edf_verdict::quote::push_quoted;
+use edf_fields::Which;
+use edf_header::Header;
+use edf_heads::ChannelIndex;
+use edf_verdict::push_quoted;
 use std::alloc::{AllocError, Global};
 
 /// What stands in a draft where the starts of the two files don't tell a shift.

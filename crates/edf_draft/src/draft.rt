@@ -1,17 +1,16 @@
 //! A claim drafted from two files.
 
 ghost use Rattle.std.specs.Prelude.{◌≡◌, ◌≢◌, IfOk, IfErr, OnOk, IsTrue};
-ghost use Rattle.edf_fields.specs.Sources.{Fails, Rises};
+ghost use Rattle.edf_fields.specs.in_out.Sources.{Fails, Rises};
 ghost use Rattle.edf_stop.specs.declared.stops.RunStop.TheVariants as stops;
 ghost use Rattle.edf_draft.specs.Answers.{DraftStops};
 ghost use Rattle.edf_draft.specs.Written.{IsDraftWritten, IsPartWritten};
 
 use crate::answer::answer_of;
-use edf_fields::sink::{Sink, put_all};
-use edf_fields::source::Source;
+use edf_fields::{Sink, Source, put_all};
 use edf_stop::RunStop;
-use edf_trial::recordings::Recordings;
-use edf_verdict::outcome::Outcome;
+use edf_trial::Recordings;
+use edf_verdict::Outcome;
 use std::alloc::Global;
 
 /// Drafts the claim by which one file would be the export of another, and writes it: TOML with a comment behind each line that

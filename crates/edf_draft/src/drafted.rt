@@ -15,9 +15,9 @@ use crate::kept::sampling::Sampling;
 use crate::recorded::Recorded;
 use crate::shift::{Shift, shift_of};
 use crate::tried::tried_text;
-use edf_claim::draft::{Comments, Draft};
-use edf_fields::which::Which;
-use edf_trial::recordings::Recordings;
+use edf_claim::{Comments, Draft};
+use edf_fields::Which;
+use edf_trial::Recordings;
 use std::alloc::{AllocError, Global};
 
 /// A draft, and how often each text stands that it removes, and that it blanks.

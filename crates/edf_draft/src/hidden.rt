@@ -2,12 +2,12 @@
 
 ghost use Rattle.std.specs.Prelude.{◌↔◌, List, ◌∷◌, IsTrue, IfOk, OnOk};
 ghost use Rattle.edf_fields.specs.Lists.{Has};
-ghost use Rattle.edf_fields.specs.declared.which.Which.{Which};
+ghost use Rattle.edf_fields.specs.declared.fields.which.Which.{Which};
 ghost use Rattle.edf_draft.specs.Hidden.{AreLeft, IsHidden};
 
-use edf_fields::which::Which;
-use edf_header::header::Header;
-use edf_heads::subfields::{is_anonymous, is_unchanged};
+use edf_fields::Which;
+use edf_header::Header;
+use edf_heads::{is_anonymous, is_unchanged};
 use std::alloc::{AllocError, Global};
 
 /// Whether this subfield is `X` in the export, and not as in the original.

@@ -1,21 +1,19 @@
 //! When a file was recorded, and its annotations.
 
 ghost use Rattle.std.specs.Prelude.{◌≡◌, ◌<◌, ◌^◌, ◌*ℤ◌, ◌+ℤ◌, pos, unsigned_abs, Some, IfSome, IfNone, IfOk, IfErr, OnOk, IsTrue};
-ghost use Rattle.edf_fields.specs.Sources.{Fails};
+ghost use Rattle.edf_fields.specs.in_out.Sources.{Fails};
 ghost use Rattle.edf_header.specs.Stops.{Stops};
 ghost use Rattle.edf_stream.specs.Conforming.{Conforms};
 ghost use Rattle.edf_stream.specs.Faults.{file_fault};
-ghost use Rattle.edf_stream.specs.Readers.{is_current};
-ghost use Rattle.edf_stream.specs.Starts.{file_start};
-ghost use Rattle.edf_stream.specs.StartsReading.{start_in};
+ghost use Rattle.edf_stream.specs.records.Readers.{is_current};
+ghost use Rattle.edf_stream.specs.times.Starts.{file_start};
+ghost use Rattle.edf_stream.specs.times.StartsReading.{start_in};
 ghost use Rattle.edf_draft.specs.Times.{begin_of, end_of};
 
-use edf_claim::interval::Interval;
-use edf_fields::onset::SECOND_PS;
-use edf_fields::source::Source;
-use edf_header::stop::Stop;
-use edf_stream::annotations::Annotations;
-use edf_stream::reader::FileReader;
+use edf_claim::Interval;
+use edf_fields::{SECOND_PS, Source};
+use edf_header::Stop;
+use edf_stream::{Annotations, FileReader};
 use std::alloc::{AllocError, Global};
 
 /// An annotation of a file.

@@ -5,7 +5,7 @@ ghost use Rattle.edf_draft.specs.Days.{IsShift, LiesWithin};
 
 use crate::days::days_between;
 use crate::recorded::Recorded;
-use edf_fields::onset::SECOND_PS;
+use edf_fields::SECOND_PS;
 
 /// A shift in seconds, and whether the starts of two files tell it. Where they don't, it is the one by which the export
 /// begins with the original.

@@ -3,11 +3,10 @@
 ghost use Rattle.std.specs.Prelude.{IfOk, IfSome};
 ghost use Rattle.edf_claim.specs.Claims.{SaysClaimText};
 
-use edf_claim::draft::Draft;
+use edf_claim::Draft;
 use edf_stop::RunStop;
-use edf_trial::check_anew::check_anew;
-use edf_trial::recordings::Recordings;
-use edf_verdict::verdict::{Difference, Verdict};
+use edf_trial::{Recordings, check_anew};
+use edf_verdict::{Difference, Verdict};
 use std::alloc::{AllocError, Global};
 
 /// What stands in front of a Yes.

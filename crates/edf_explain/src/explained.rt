@@ -5,11 +5,10 @@ ghost use Rattle.edf_explain.specs.Explained.{IsExplained};
 
 use crate::explain::explain_to;
 use edf_check::judge;
-use edf_fields::sink::{Sink, put_all};
-use edf_fields::source::Source;
+use edf_fields::{Sink, Source, put_all};
 use edf_stop::RunStop;
-use edf_trial::recordings::Recordings;
-use edf_verdict::outcome::Outcome;
+use edf_trial::Recordings;
+use edf_verdict::Outcome;
 use std::alloc::Global;
 
 /// Checks the export against the original as `run` does and writes its line; then reads both files once more, which are opened

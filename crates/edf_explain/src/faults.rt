@@ -2,7 +2,7 @@
 
 use crate::limits::{MOST_ANNOTATIONS, MOST_RECORD_BYTES};
 use crate::words::faults as words;
-use edf_fields::fault::Fault;
+use edf_fields::Fault;
 use edf_sentences::{Piece, Text, begins_as_bdf, begins_as_edf, looks_like_a_claim};
 use edf_stop::Side;
 use std::alloc::AllocError;

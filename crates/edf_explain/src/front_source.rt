@@ -1,6 +1,6 @@
 //! A source that remembers the front of what it hands on.
 
-use edf_fields::source::{ReadFault, Source};
+use edf_fields::{ReadFault, Source};
 use edf_sentences::FRONT;
 use std::alloc::Global;
 

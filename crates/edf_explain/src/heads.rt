@@ -1,7 +1,7 @@
 //! The headers of two files, and the claim on them.
 
-use edf_claim::claim::Claim;
-use edf_header::header::Header;
+use edf_claim::Claim;
+use edf_header::Header;
 
 /// Both headers, and the claim.
 #[derive(Clone, Copy)]

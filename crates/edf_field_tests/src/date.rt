@@ -1,6 +1,6 @@
 //! Texts of dates and times, and what they name.
 
-use edf_fields::date::{clock_time, dashed_date, dotted_date, dotted_day_month};
+use edf_fields::{clock_time, dashed_date, dotted_date, dotted_day_month};
 use jiff::civil::Date;
 
 /// Year, month and day.

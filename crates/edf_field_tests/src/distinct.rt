@@ -1,6 +1,6 @@
 //! Lists of texts, and whether one stands twice.
 
-use edf_fields::distinct::are_distinct;
+use edf_fields::are_distinct;
 use std::test::Fail;
 
 /// Texts, and whether none of them stands twice.

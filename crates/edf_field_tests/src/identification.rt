@@ -1,7 +1,6 @@
 //! Identification fields: what they say, and why they say nothing.
 
-use edf_fields::cause::FieldCause;
-use edf_fields::identification::{PatientId, RecordingId};
+use edf_fields::{FieldCause, PatientId, RecordingId};
 use std::test::Fail;
 
 fn cause_of_patient(field: &[u8]) -> Option<FieldCause> {

@@ -1,7 +1,7 @@
 //! What claims keep.
 
-use edf_claim::claim::Claim;
-use edf_fields::which::Which;
+use edf_claim::Claim;
+use edf_fields::Which;
 use std::test::Fail;
 
 const CLAIM: &str = "format = 1

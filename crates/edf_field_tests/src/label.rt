@@ -1,6 +1,6 @@
 //! Labels, and their bytes again.
 
-use edf_fields::label::SignalLabel;
+use edf_fields::SignalLabel;
 
 /// Labels of no byte, of some, and of as many as there may be.
 const LABELS: &[&[u8]] = &[b"", b"ECG", b"EDF Annotations", b"Saturation SpO2 "];

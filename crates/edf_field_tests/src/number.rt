@@ -1,6 +1,6 @@
 //! Fields of numbers, parts and texts.
 
-use edf_fields::number::{header_number, header_whole, part, text};
+use edf_fields::{bytes_at, header_number, header_whole, text};
 
 /// Fields, and the number that each spells.
 const HEADER_NUMBERS: &[(&str, Option<i64>)] = &[
@@ -55,6 +55,6 @@ fn reads_whole_numbers(rt: HostRuntime) {
 
 #[test]
 fn cuts_parts_and_texts(rt: HostRuntime) {
-    assert_eq!(rt; part(b"EDF+C   ", 3, 2), "+C".as_bytes());
+    assert_eq!(rt; bytes_at(b"EDF+C   ", 3, 2), "+C".as_bytes());
     assert_eq!(rt; text(b" EEG Fpz-Cz  "), " EEG Fpz-Cz".as_bytes());
 }

@@ -1,6 +1,6 @@
 //! Texts of onsets and durations.
 
-use edf_fields::onset::{onset, span};
+use edf_fields::{onset, span};
 
 /// Texts, and the onset that each spells.
 const ONSETS: &[(&str, Option<i128>)] = &[

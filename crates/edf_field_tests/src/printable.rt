@@ -1,6 +1,6 @@
 //! Bytes, and whether they are printable.
 
-use edf_fields::printable::is_printable;
+use edf_fields::is_printable;
 
 /// Bytes, and whether they are printable.
 const BYTES: &[(&[u8], bool)] = &[

@@ -1,7 +1,6 @@
 //! A claim, and a text for each refusal.
 
-use edf_claim::claim::Claim;
-use edf_claim::stop::ClaimStop;
+use edf_claim::{Claim, ClaimStop};
 use std::test::Fail;
 
 /// Texts, and why they are refused, or none; `tools/cases/claims.py` has many more.

@@ -1,7 +1,6 @@
 //! Sinks that are too small, slow or interrupted.
 
-use edf_fields::faulty_sink::FaultySink;
-use edf_fields::sink::{SliceSink, WriteFault, WriteSink, put_all};
+use edf_fields::{FaultySink, SliceSink, WriteFault, WriteSink, put_all};
 use std::io;
 use std::io::Write;
 use std::test::Fail;

@@ -2,8 +2,7 @@
 
 ghost use Rattle.std.specs.Prelude.{[], false, true};
 
-use edf_fields::faulty_source::FaultySource;
-use edf_fields::source::{ReadFault, ReadSource, SliceSource, Source, fill, skip_rest};
+use edf_fields::{FaultySource, ReadFault, ReadSource, SliceSource, Source, fill, skip_rest};
 use std::io;
 use std::io::Read;
 use std::test::Fail;
@@ -15,7 +14,7 @@ struct Drip<'a> {
 }
 
 impl<'a> Source for Drip<'a> {
-    ghost use Rattle.edf_fields.specs.PlainReads.{plain_reads};
+    ghost use Rattle.edf_fields.specs.in_out.PlainReads.{plain_reads};
 
     ghost left = { λ s. s.rest.now };
 
@@ -40,7 +39,7 @@ struct Breaks {
 }
 
 impl Source for Breaks {
-    ghost use Rattle.edf_fields.specs.PlainReads.{plain_reads};
+    ghost use Rattle.edf_fields.specs.in_out.PlainReads.{plain_reads};
 
     ghost left = { λ _. [] };
 

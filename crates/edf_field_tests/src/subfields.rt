@@ -1,6 +1,6 @@
 //! The additional subfields of a patient.
 
-use edf_fields::identification::PatientId;
+use edf_fields::PatientId;
 use std::test::Fail;
 
 #[test]

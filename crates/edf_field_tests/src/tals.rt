@@ -1,9 +1,7 @@
 //! Lanes by hand: their TALs or first fault, and where their data records start.
 
-use edf_fields::cause::TalCause;
-use edf_tal::start::{StartCause, record_start, start_by_first, time_alone, time_alone_apart};
-use edf_tal::tal::Tal;
-use edf_tal::tals::Tals;
+use edf_fields::TalCause;
+use edf_tal::{StartCause, Tal, Tals, record_start, start_by_first, time_alone, time_alone_apart};
 use std::alloc::{AllocError, Global};
 
 /// Puts a TAL behind the text: its onset, a stroke and its duration, a colon, each text and a stroke, a

@@ -2,7 +2,7 @@
 use Rattle.std.proofs.Common.{◌≡◌, ℕ, ◌+◌, ◌≤◌, List, ◌++◌, length, length-drop, take, drop, ◌-◌, ◌∙◌, sym, ap, subst, append_assoc, arith}
 use Rattle.std.proofs.Math.Seq.{take-append-add, take-add, take-length}
 use Rattle.std.proofs.lemmas.List.{length-append, length-take-le, take-append-le}
-use Rattle.edf_fields.specs.Sources.{Takes}
+use Rattle.edf_fields.specs.in_out.Sources.{Takes}
 
 -- what a read gave stands behind what was there
 pub take_behind : (xs ys zs : List ℕ) (a g : ℕ) → a ≤ length xs → g ≤ length ys → take (a + g) (take a xs ++ (ys ++ zs)) ≡ take a xs ++ take g ys

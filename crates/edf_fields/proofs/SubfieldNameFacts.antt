@@ -1,9 +1,9 @@
 -- The names of the subfields are distinct.
 use Rattle.std.proofs.Common.{◌≡◌, Some, refl, sym, ap, ◌∙◌}
-use Rattle.edf_fields.specs.declared.which.Which.{Which}
-use Rattle.edf_fields.specs.declared.which.Which.TheVariants.{Code, Sex, Birthdate, Name, PatientExtras, Date, Administration, Technician, Equipment, RecordingExtras}
-use Rattle.edf_fields.specs.SubfieldNames.{name_of}
-use Rattle.edf_fields.specs.SubfieldNamesReading.{all_subfields, which_of}
+use Rattle.edf_fields.specs.declared.fields.which.Which.{Which}
+use Rattle.edf_fields.specs.declared.fields.which.Which.TheVariants.{Code, Sex, Birthdate, Name, PatientExtras, Date, Administration, Technician, Equipment, RecordingExtras}
+use Rattle.edf_fields.specs.fields.SubfieldNames.{name_of}
+use Rattle.edf_fields.specs.fields.SubfieldNamesReading.{all_subfields, which_of}
 
 -- each name is that of its subfield
 pub which-read : (w : Which) → which_of (name_of w) ≡ Some w

@@ -1,16 +1,16 @@
 -- Faults in words.
 use Rattle.std.specs.Prelude.{ℕ, List, ◌++◌, codes}
 use Rattle.std.specs.Fmt.{decimal}
-use Rattle.edf_fields.specs.declared.cause.FieldCause.{FieldCause}
-use Rattle.edf_fields.specs.declared.cause.FieldCause.TheVariants as field
-use Rattle.edf_fields.specs.declared.cause.TalCause.{TalCause}
-use Rattle.edf_fields.specs.declared.cause.TalCause.TheVariants as tal
-use Rattle.edf_fields.specs.declared.fault.Fault.{Fault}
-use Rattle.edf_fields.specs.declared.fault.Place.{Place}
-use Rattle.edf_fields.specs.declared.fault.Place.TheVariants.{AtField, AtSignal, AtRecord, AtEnd}
-use Rattle.edf_fields.specs.declared.fault.Cause.{Cause}
-use Rattle.edf_fields.specs.declared.fault.Cause.TheVariants.{Truncated, NotPrintable, BadVersion, BadSubfields, BadStart, StartdateDiffers, BadHeaderSize, NotEdfPlus, BadNumber, BadRange, BadAnnotationSignal, NoAnnotationSignal, NoOrdinarySignal, DuplicateLabel, RecordTooLarge, BadTal, NoTimekeeping, BadFirstStart, NotContiguous, Overlap, TooManyAnnotations, TrailingBytes}
-use Rattle.edf_fields.specs.LayoutReading.{fixed_field_name, signal_field_name}
+use Rattle.edf_fields.specs.declared.faults.cause.FieldCause.{FieldCause}
+use Rattle.edf_fields.specs.declared.faults.cause.FieldCause.TheVariants as field
+use Rattle.edf_fields.specs.declared.faults.cause.TalCause.{TalCause}
+use Rattle.edf_fields.specs.declared.faults.cause.TalCause.TheVariants as tal
+use Rattle.edf_fields.specs.declared.faults.fault.Fault.{Fault}
+use Rattle.edf_fields.specs.declared.faults.fault.Place.{Place}
+use Rattle.edf_fields.specs.declared.faults.fault.Place.TheVariants.{AtField, AtSignal, AtRecord, AtEnd}
+use Rattle.edf_fields.specs.declared.faults.fault.Cause.{Cause}
+use Rattle.edf_fields.specs.declared.faults.fault.Cause.TheVariants.{Truncated, NotPrintable, BadVersion, BadSubfields, BadStart, StartdateDiffers, BadHeaderSize, NotEdfPlus, BadNumber, BadRange, BadAnnotationSignal, NoAnnotationSignal, NoOrdinarySignal, DuplicateLabel, RecordTooLarge, BadTal, NoTimekeeping, BadFirstStart, NotContiguous, Overlap, TooManyAnnotations, TrailingBytes}
+use Rattle.edf_fields.specs.fields.LayoutReading.{fixed_field_name, signal_field_name}
 
 -- the name of the cause for which an identification field is refused
 abbrev pub field_cause_name : FieldCause → List ℕ

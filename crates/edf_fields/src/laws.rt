@@ -1,9 +1,9 @@
 //! Laws of the definitions, each the contract of a function that does nothing.
-ghost use Rattle.edf_fields.specs.DatesReading.{NamesOneDottedDay, NamesOneDashedDay, NamesOneClockTime, DottedDayIsNamed, DayMonthIsNamed, DashedDayIsNamed, ClockTimeIsNamed};
-ghost use Rattle.edf_fields.specs.IdentificationsReading.{SaysOnePatient, SaysOneRecording, SaysPatientOrCause, SaysRecordingOrCause};
-ghost use Rattle.edf_fields.specs.NumbersReading.{SpellsOneHeaderNumber, SpellsOneWholeNumber, HeaderNumberIsSpelled, WholeNumberIsSpelled};
-ghost use Rattle.edf_fields.specs.OnsetsReading.{SpellsOneOnset, SpellsOneSpan, OnsetIsSpelled, SpanIsSpelled};
-ghost use Rattle.edf_fields.specs.SubfieldsReading.{HasOneListOfSubfields, FindsSubfields};
+ghost use Rattle.edf_fields.specs.texts.DatesReading.{NamesOneDottedDay, NamesOneDashedDay, NamesOneClockTime, DottedDayIsNamed, DayMonthIsNamed, DashedDayIsNamed, ClockTimeIsNamed};
+ghost use Rattle.edf_fields.specs.texts.IdentificationsReading.{SaysOnePatient, SaysOneRecording, SaysPatientOrCause, SaysRecordingOrCause};
+ghost use Rattle.edf_fields.specs.texts.NumbersReading.{SpellsOneHeaderNumber, SpellsOneWholeNumber, HeaderNumberIsSpelled, WholeNumberIsSpelled};
+ghost use Rattle.edf_fields.specs.texts.OnsetsReading.{SpellsOneOnset, SpellsOneSpan, OnsetIsSpelled, SpanIsSpelled};
+ghost use Rattle.edf_fields.specs.texts.SubfieldsReading.{HasOneListOfSubfields, FindsSubfields};
 
 /// A field spells at most one number, as a header number and as a whole number.
 pub fn fields_spell_one_number()
@@ -30,7 +30,7 @@ pub fn times_are_as_spelled()
 {}
 
 /// A text names at most one day, in each of the two forms, and at most one time of the day.
-#[tactic(auto, using(crate::proofs::DateFacts::one_dotted_day, crate::proofs::DateFacts::one_dashed_day, crate::proofs::DateFacts::one_clock_time))]
+#[tactic(auto, using(crate::proofs::texts::DateFacts::one_dotted_day, crate::proofs::texts::DateFacts::one_dashed_day, crate::proofs::texts::DateFacts::one_clock_time))]
 pub fn texts_name_one_day()
     ensures dotted { NamesOneDottedDay }
     ensures dashed { NamesOneDashedDay }
@@ -47,7 +47,7 @@ pub fn days_are_as_named()
 
 /// A text has at most one list of subfields, and one that neither begins nor ends with a space has
 /// the list that is found.
-#[tactic(auto, using(crate::proofs::SubfieldLawFacts::one_list, crate::proofs::SubfieldLawFacts::finds_subfields))]
+#[tactic(auto, using(crate::proofs::texts::SubfieldLawFacts::one_list, crate::proofs::texts::SubfieldLawFacts::finds_subfields))]
 pub fn texts_have_one_list_of_subfields()
     ensures one { HasOneListOfSubfields }
     ensures found { FindsSubfields }
@@ -55,7 +55,7 @@ pub fn texts_have_one_list_of_subfields()
 
 /// A field says at most one patient and at most one recording, and it says one exactly where no
 /// cause applies.
-#[tactic(auto, using(crate::proofs::IdentificationFacts::patient_or_cause, crate::proofs::IdentificationFacts::recording_or_cause))]
+#[tactic(auto, using(crate::proofs::texts::IdentificationFacts::patient_or_cause, crate::proofs::texts::IdentificationFacts::recording_or_cause))]
 pub fn fields_say_one_identification()
     ensures patient { SaysOnePatient }
     ensures recording { SaysOneRecording }

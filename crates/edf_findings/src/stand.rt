@@ -3,14 +3,10 @@
 use crate::record_time::{Hand, RecordTime};
 use crate::samples::lane::Lane;
 use crate::samples::sample_run::SampleRun;
-use edf_fields::fault::Fault;
-use edf_fields::source::Source;
-use edf_header::header::Header;
-use edf_header::stop::Stop;
+use edf_fields::{Fault, Source};
+use edf_header::{Header, Stop};
 use edf_stop::{RunStop, Side};
-use edf_stream::annotations::Annotations;
-use edf_stream::note_keeper::{KeepsNone, NoteKeeper};
-use edf_stream::reader::FileReader;
+use edf_stream::{Annotations, FileReader, KeepsNone, NoteKeeper};
 use std::alloc::Global;
 
 /// A file that is read, one data record at a time.

@@ -1,7 +1,7 @@
 //! Where an export starts, beside where it starts by its claim.
 
 use crate::limits::MOST_SHIFT;
-use edf_fields::onset::SECOND_PS;
+use edf_fields::SECOND_PS;
 use std::alloc::{AllocError, Global};
 
 /// How many picoseconds a day has.

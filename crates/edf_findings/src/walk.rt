@@ -9,11 +9,9 @@ use crate::samples::compared::ComparedChannel;
 use crate::samples::tally::Stands;
 use crate::stand::Stand;
 use crate::starts::Starts;
-use edf_claim::claim::Claim;
-use edf_fields::fault::Fault;
-use edf_fields::onset::SECOND_PS;
-use edf_fields::source::Source;
-use edf_header::header::Header;
+use edf_claim::Claim;
+use edf_fields::{Fault, SECOND_PS, Source};
+use edf_header::Header;
 use edf_stop::{RunStop, Side};
 use std::alloc::{AllocError, Global};
 

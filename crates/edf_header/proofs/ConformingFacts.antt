@@ -9,24 +9,24 @@ use Rattle.std.proofs.lemmas.Int.{ints}
 use Rattle.std.proofs.lemmas.List.{length-take, length-drop}
 use Rattle.std.proofs.lemmas.Slice.Eq.{bytes_eq-Decides}
 use Rattle.edf_fields.specs.Parts.{text_of}
-use Rattle.edf_fields.specs.Numbers.{SpellsWholeNumber}
-use Rattle.edf_fields.specs.NumbersReading.{whole_number_of}
-use Rattle.edf_fields.specs.Dates.{NamesDashedDay}
-use Rattle.edf_fields.specs.DatesReading.{clock_time_of}
-use Rattle.edf_fields.specs.Printable.{IsPrintable}
-use Rattle.edf_fields.specs.PrintableReading.{is_printable}
+use Rattle.edf_fields.specs.texts.Numbers.{SpellsWholeNumber}
+use Rattle.edf_fields.specs.texts.NumbersReading.{whole_number_of}
+use Rattle.edf_fields.specs.texts.Dates.{NamesDashedDay}
+use Rattle.edf_fields.specs.texts.DatesReading.{clock_time_of}
+use Rattle.edf_fields.specs.texts.Printable.{IsPrintable}
+use Rattle.edf_fields.specs.texts.PrintableReading.{is_printable}
 use Rattle.edf_fields.proofs.ForCallers.{le_decided, clock_time_read, patient_or_cause, recording_or_cause, whole_number_of-spelled, header_number_of-spelled, whole_number_of-some, first-none, first-cons, and-true, not-true, pass-cons, pass-append, not-is, printable_decided}
-use Rattle.edf_fields.specs.declared.fault.Place.{Place}
-use Rattle.edf_fields.specs.declared.fault.Place.TheVariants.{AtField, AtSignal}
-use Rattle.edf_fields.specs.declared.fault.Cause.TheVariants.{NotPrintable, Truncated, BadVersion, BadHeaderSize, NoAnnotationSignal, NoOrdinarySignal, DuplicateLabel, RecordTooLarge}
-use Rattle.edf_fields.specs.declared.layout.FixedField.{FixedField}
-use Rattle.edf_fields.specs.declared.layout.FixedField.TheVariants as fixed
-use Rattle.edf_fields.specs.declared.layout.SignalField.{SignalField}
-use Rattle.edf_fields.specs.declared.layout.SignalField.TheVariants as signal
-use Rattle.edf_header.specs.Channels.{IsChannel, HasDistinctChannels}
-use Rattle.edf_header.specs.ChannelsReading.{is_channel_of, label_at, is_repeated}
-use Rattle.edf_fields.specs.Layout.{fixed_part, fixed_field, columns_part, signal_field}
-use Rattle.edf_fields.specs.LayoutReading.{fixed_fields, columns, fixed_from, fixed_bytes, column_before, column_width}
+use Rattle.edf_fields.specs.declared.faults.fault.Place.{Place}
+use Rattle.edf_fields.specs.declared.faults.fault.Place.TheVariants.{AtField, AtSignal}
+use Rattle.edf_fields.specs.declared.faults.fault.Cause.TheVariants.{NotPrintable, Truncated, BadVersion, BadHeaderSize, NoAnnotationSignal, NoOrdinarySignal, DuplicateLabel, RecordTooLarge}
+use Rattle.edf_fields.specs.declared.fields.layout.FixedField.{FixedField}
+use Rattle.edf_fields.specs.declared.fields.layout.FixedField.TheVariants as fixed
+use Rattle.edf_fields.specs.declared.fields.layout.SignalField.{SignalField}
+use Rattle.edf_fields.specs.declared.fields.layout.SignalField.TheVariants as signal
+use Rattle.edf_header.specs.signals.Channels.{IsChannel, HasDistinctChannels}
+use Rattle.edf_header.specs.signals.ChannelsReading.{is_channel_of, label_at, is_repeated}
+use Rattle.edf_fields.specs.fields.Layout.{fixed_part, fixed_field, columns_part, signal_field}
+use Rattle.edf_fields.specs.fields.LayoutReading.{fixed_fields, columns, fixed_from, fixed_bytes, column_before, column_width}
 use Rattle.edf_header.specs.Heads.{SignalHead, Head, NamesStartdate, HasSignal, header_bytes, in_picoseconds, is_annotations, samples_together}
 use Rattle.edf_header.specs.HeadsReading.{count_of, line_of, recording_in, signals_of, signals_in, head_of}
 use Rattle.edf_header.specs.Faults.{truncated, fault_unless, not_printable, no_number, version_fault, patient_fault, recording_fault, startdate_fault, starttime_fault, header_bytes_fault, reserved_fault, records_fault, duration_fault, signals_fault, header_size_fault, text_fault, physical_fault, digital_fault, samples_fault, naming_faults, extreme_faults, sampling_faults, agreement_faults, signal_faults, no_annotation_signal, no_ordinary_signal, label_fault, labels_faults, record_too_large, joint_faults, fixed_missing, start_faults, extent_faults, fixed_tests, column_missing, columns_missing, signals_faults, columns_tests, header_fault}
@@ -36,12 +36,12 @@ use Rattle.edf_header.specs.ConformingLaws.{PassingIsConforming, ConformingIsSou
 use Rattle.edf_header.specs.Sound.{IsSound}
 use Rattle.edf_header.specs.Standard.{IsSoundSignal, HasAnnotationSignal, HasSomeChannel}
 use Rattle.edf_header.proofs.PassedFacts.{fault_unless-passed, number-passed}
-use Rattle.edf_header.proofs.StartdateFacts.{SayTheSame, startdate-read, same-passes}
+use Rattle.edf_header.proofs.fixed_part.StartdateFacts.{SayTheSame, startdate-read, same-passes}
 use Rattle.edf_header.proofs.PassingFacts.{fault_unless-true, version-passes, patient-passes, recording-passes, startdate-passes, starttime-passes, header_bytes-passes, reserved-passes, records-passes, duration-passes, signals-passes, header_size-passes, signals-pass-tests}
-use Rattle.edf_header.proofs.ColumnFacts.{there, column-whole}
-use Rattle.edf_header.proofs.ChannelFacts.{get-within}
+use Rattle.edf_header.proofs.in_columns.ColumnFacts.{there, column-whole}
+use Rattle.edf_header.proofs.signals.ChannelFacts.{get-within}
 use Rattle.edf_header.proofs.SaidFacts.{recording_is}
-use Rattle.edf_header.proofs.SignalFacts.{length-signals}
+use Rattle.edf_header.proofs.signals.SignalFacts.{length-signals}
 use Rattle.edf_header.proofs.HeadFacts.{FixedPasses, fixed-passes, signals-passed, head-read, has-head, sound-head}
 
 -- a member that passes a test, and one that fails it

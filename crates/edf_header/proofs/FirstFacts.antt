@@ -1,5 +1,5 @@
 -- The first fault of lists of tests.
-use Rattle.edf_fields.specs.declared.fault.Fault.{Fault}
+use Rattle.edf_fields.specs.declared.faults.fault.Fault.{Fault}
 use Rattle.edf_header.specs.declared.stop.Stop.{Stop}
 use Rattle.edf_header.specs.declared.stop.Stop.TheVariants as stops
 use Rattle.edf_header.specs.Stops.{Stops}

@@ -3,38 +3,38 @@ use Rattle.std.proofs.Common.{◌≡◌, ℕ, zero, suc, ℤ, pos, ◌+◌, ◌*
 use Rattle.std.specs.Str.{bytes_eq}
 use Rattle.std.proofs.lemmas.Slice.Eq.{bytes_eq-Decides}
 use Rattle.edf_fields.specs.Parts.{text_of, part}
-use Rattle.edf_fields.specs.Numbers.{SpellsWholeNumber, SpellsHeaderNumber}
-use Rattle.edf_fields.specs.NumbersReading.{whole_number_of, header_number_of}
-use Rattle.edf_fields.specs.Dates.{CivilDay, NamesClockTime}
-use Rattle.edf_fields.specs.DatesReading.{clock_time_of}
-use Rattle.edf_fields.specs.Identifications.{Patient, Recording}
-use Rattle.edf_fields.specs.IdentificationsReading.{patient_cause, recording_cause}
+use Rattle.edf_fields.specs.texts.Numbers.{SpellsWholeNumber, SpellsHeaderNumber}
+use Rattle.edf_fields.specs.texts.NumbersReading.{whole_number_of, header_number_of}
+use Rattle.edf_fields.specs.texts.Dates.{CivilDay, NamesClockTime}
+use Rattle.edf_fields.specs.texts.DatesReading.{clock_time_of}
+use Rattle.edf_fields.specs.texts.Identifications.{Patient, Recording}
+use Rattle.edf_fields.specs.texts.IdentificationsReading.{patient_cause, recording_cause}
 use Rattle.edf_fields.proofs.ForCallers.{clock_time_read, clock_time-some, whole_number_of-some, header_number_of-some, whole_number_of-spelled, header_number_of-spelled, header_number-below, first-none, first-cons}
-use Rattle.edf_fields.specs.declared.fault.Place.TheVariants.{AtField}
-use Rattle.edf_fields.specs.declared.fault.Cause.TheVariants.{NotEdfPlus, BadStart, BadSubfields}
-use Rattle.edf_fields.specs.declared.fault.Place.{Place}
-use Rattle.edf_fields.specs.declared.cause.FieldCause.{FieldCause}
+use Rattle.edf_fields.specs.declared.faults.fault.Place.TheVariants.{AtField}
+use Rattle.edf_fields.specs.declared.faults.fault.Cause.TheVariants.{NotEdfPlus, BadStart, BadSubfields}
+use Rattle.edf_fields.specs.declared.faults.fault.Place.{Place}
+use Rattle.edf_fields.specs.declared.faults.cause.FieldCause.{FieldCause}
 use Rattle.edf_header.specs.declared.kind.Kind.{Kind}
 use Rattle.edf_header.specs.declared.kind.Kind.TheVariants.{Contiguous, Interrupted}
-use Rattle.edf_fields.specs.declared.layout.FixedField.TheVariants as fixed
-use Rattle.edf_fields.specs.declared.layout.SignalField.TheVariants as signal
-use Rattle.edf_header.specs.Calibrations.{Line}
-use Rattle.edf_fields.specs.Layout.{fixed_part, fixed_field, columns_part, signal_field}
-use Rattle.edf_fields.specs.LayoutReading.{fixed_fields, columns}
+use Rattle.edf_fields.specs.declared.fields.layout.FixedField.TheVariants as fixed
+use Rattle.edf_fields.specs.declared.fields.layout.SignalField.TheVariants as signal
+use Rattle.edf_header.specs.signals.Calibrations.{Line}
+use Rattle.edf_fields.specs.fields.Layout.{fixed_part, fixed_field, columns_part, signal_field}
+use Rattle.edf_fields.specs.fields.LayoutReading.{fixed_fields, columns}
 use Rattle.edf_header.specs.Heads.{SignalHead, Head, HasSignal, HasHead, NamesStartdate, AreSideBySide, kind_word, in_picoseconds, day_number}
 use Rattle.edf_header.specs.HeadsReading.{HasOneHead, startdate_of, kind_of, count_of, first_day, recording_in, signals_of, line_of, signal_of, signals_from, signals_in, head_in, head_of}
 use Rattle.edf_header.specs.ConformingLaws.{PassingHasHead, PassingIsSound}
 use Rattle.edf_header.specs.Sound.{IsSound}
 use Rattle.std.proofs.lemmas.Int.{ints}
-use Rattle.edf_header.proofs.ChannelFacts.{joint-passed}
+use Rattle.edf_header.proofs.signals.ChannelFacts.{joint-passed}
 use Rattle.edf_header.specs.Faults.{fault, fault_unless, not_printable, not_named, not_read, not_positive, version_fault, patient_fault, recording_fault, startdate_fault, starttime_fault, header_bytes_fault, reserved_fault, records_fault, duration_fault, signals_fault, header_size_fault, fixed_missing, start_faults, extent_faults, fixed_tests, columns_missing, signal_faults, signals_faults, joint_faults, columns_tests, header_fault}
 use Rattle.edf_fields.specs.Tests.{first}
 use Rattle.edf_header.proofs.PassedFacts.{fault_unless-passed, named-passed, positive-passed}
 use Rattle.edf_header.proofs.SaidFacts.{patient_is, recording_is}
-use Rattle.edf_header.proofs.SignalFacts.{length-signals}
+use Rattle.edf_header.proofs.signals.SignalFacts.{length-signals}
 use Rattle.edf_header.proofs.SoundFacts.{Passes, signal-passes, side-by-side, signals-sound, signals-short, count-below}
 use Rattle.edf_header.proofs.KeptFacts.{patient-said, recording-said}
-use Rattle.edf_header.proofs.StartdateFacts.{startdate-named, startdate-said, startdate-read, same-day, near-day}
+use Rattle.edf_header.proofs.fixed_part.StartdateFacts.{startdate-named, startdate-said, startdate-read, same-day, near-day}
 
 -- the number that a field spells is what is read of it
 spelled : (field : List ℕ) (v : ℤ) → header_number_of field ≡ Some v → SpellsHeaderNumber field (unwrap_or (header_number_of field) (pos 0))

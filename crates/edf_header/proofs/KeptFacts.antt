@@ -2,15 +2,15 @@
 use Rattle.std.proofs.Common.{◌≡◌, ℕ, ℤ, ◌*◌, ◌≤◌, List, [], ◌∷◌, ◌++◌, length, None, unwrap_or, sym, ap, ◌∙◌, subst}
 use Rattle.std.specs.List.{All}
 use Rattle.edf_fields.specs.Parts.{text_of}
-use Rattle.edf_fields.specs.Dates.{NamesDashedDay, civil_day}
-use Rattle.edf_fields.specs.Identifications.{Patient, Recording, SaysPatient, SaysRecording}
-use Rattle.edf_fields.specs.IdentificationsReading.{patient_cause, recording_cause}
+use Rattle.edf_fields.specs.texts.Dates.{NamesDashedDay, civil_day}
+use Rattle.edf_fields.specs.texts.Identifications.{Patient, Recording, SaysPatient, SaysRecording}
+use Rattle.edf_fields.specs.texts.IdentificationsReading.{patient_cause, recording_cause}
 use Rattle.edf_fields.proofs.ForCallers.{patient_or_cause, recording_or_cause, first-none, first-cons}
-use Rattle.edf_header.specs.declared.fixed.Start.{Start}
-use Rattle.edf_header.specs.declared.fixed.Extent.{Extent}
-use Rattle.edf_fields.specs.declared.layout.FixedField.TheVariants as fixed
-use Rattle.edf_fields.specs.Layout.{fixed_field}
-use Rattle.edf_fields.specs.LayoutReading.{fixed_fields, columns}
+use Rattle.edf_header.specs.declared.fixed_part.fixed.RecordingStart.{RecordingStart}
+use Rattle.edf_header.specs.declared.fixed_part.fixed.Extent.{Extent}
+use Rattle.edf_fields.specs.declared.fields.layout.FixedField.TheVariants as fixed
+use Rattle.edf_fields.specs.fields.Layout.{fixed_field}
+use Rattle.edf_fields.specs.fields.LayoutReading.{fixed_fields, columns}
 use Rattle.edf_header.specs.Heads.{SignalHead, AreSideBySide, day_number, samples_together}
 use Rattle.edf_header.specs.HeadsReading.{first_day, patient_in, recording_in, signals_in}
 use Rattle.edf_header.specs.Judged.{SaysStart, SaysExtent}
@@ -19,11 +19,11 @@ use Rattle.edf_header.specs.Standard.{IsSoundSignal}
 use Rattle.edf_header.specs.Views.{IsKept}
 use Rattle.edf_header.specs.Faults.{version_fault, patient_fault, recording_fault, startdate_fault, starttime_fault, fixed_missing, start_faults, extent_faults, fixed_fault, columns_missing, signals_faults, joint_faults, columns_tests}
 use Rattle.edf_fields.specs.Tests.{first}
-use Rattle.edf_header.proofs.StartdateFacts.{startdate-named, same-day}
+use Rattle.edf_header.proofs.fixed_part.StartdateFacts.{startdate-named, same-day}
 use Rattle.edf_header.proofs.SaidFacts.{patient_is, recording_is}
-use Rattle.edf_header.proofs.SignalFacts.{length-signals}
+use Rattle.edf_header.proofs.signals.SignalFacts.{length-signals}
 use Rattle.edf_header.proofs.SoundFacts.{side-by-side, signals-sound, signals-short}
-use Rattle.edf_header.proofs.ChannelFacts.{joint-passed}
+use Rattle.edf_header.proofs.signals.ChannelFacts.{joint-passed}
 
 pub patient-said : (field : List ℕ) → patient_cause field ≡ None → SaysPatient field (patient_in field)
 patient-said field h =
@@ -51,7 +51,7 @@ startdate-of front h =
     let c2 = first-cons recording (startdate ∷ starttime ∷ []) c1.1 in
     (first-cons startdate (starttime ∷ []) c2.1).0
 
-pub kept : (front bytes : List ℕ) (start : Start) (extent : Extent) (signals : List SignalHead) (size : ℕ) → 256 ≤ length front
+pub kept : (front bytes : List ℕ) (start : RecordingStart) (extent : Extent) (signals : List SignalHead) (size : ℕ) → 256 ≤ length front
     → SaysStart front start → SaysExtent front extent → fixed_fault front ≡ None → first (columns_tests extent.signals bytes) ≡ None
     → signals ≡ signals_in extent.signals bytes → size ≡ 2 * samples_together signals → size ≤ 16777216
     → IsKept front start extent signals size

@@ -1,13 +1,13 @@
 -- What tests that passed say.
 use Rattle.std.proofs.Common.{◌≡◌, ℕ, ℤ, pos, negsuc, neg_ℤ, ◌≤◌, ◌≤ℤ◌, ◌&&◌, int_le, Bool, true, false, List, [], ◌∷◌, Option, Some, None, refl, arith}
 use Rattle.std.proofs.lemmas.Int.{ints}
-use Rattle.edf_fields.specs.NumbersReading.{whole_number_of, header_number_of}
-use Rattle.edf_fields.specs.declared.fault.Place.{Place}
-use Rattle.edf_fields.specs.declared.fault.Place.TheVariants.{AtSignal}
-use Rattle.edf_fields.specs.declared.fault.Cause.{Cause}
-use Rattle.edf_fields.specs.declared.fault.Cause.TheVariants.{BadNumber, BadRange}
-use Rattle.edf_fields.specs.declared.layout.SignalField.{SignalField}
-use Rattle.edf_fields.specs.declared.layout.SignalField.TheVariants as signal
+use Rattle.edf_fields.specs.texts.NumbersReading.{whole_number_of, header_number_of}
+use Rattle.edf_fields.specs.declared.faults.fault.Place.{Place}
+use Rattle.edf_fields.specs.declared.faults.fault.Place.TheVariants.{AtSignal}
+use Rattle.edf_fields.specs.declared.faults.fault.Cause.{Cause}
+use Rattle.edf_fields.specs.declared.faults.fault.Cause.TheVariants.{BadNumber, BadRange}
+use Rattle.edf_fields.specs.declared.fields.layout.SignalField.{SignalField}
+use Rattle.edf_fields.specs.declared.fields.layout.SignalField.TheVariants as signal
 use Rattle.edf_header.specs.Faults.{fault, fault_unless, not_printable, no_number, not_within, not_positive, not_named, physical_fault, digital_fault, samples_fault}
 use Rattle.edf_fields.proofs.ForCallers.{first-cons, and-true, le-tested}
 

@@ -7,30 +7,30 @@ use Rattle.std.proofs.lemmas.Bool.Decides.{Decides-int_eq}
 use Rattle.std.proofs.lemmas.Int.{ints}
 use Rattle.std.proofs.lemmas.Slice.Eq.{bytes_eq-Decides}
 use Rattle.edf_fields.specs.Parts.{text_of}
-use Rattle.edf_fields.specs.NumbersReading.{whole_number_of, header_number_of}
-use Rattle.edf_fields.specs.Dates.{CivilDay}
-use Rattle.edf_fields.specs.DatesReading.{dotted_day_of, day_month_of, dashed_day_of, clock_time_of}
-use Rattle.edf_fields.specs.IdentificationsReading.{patient_cause, recording_cause}
-use Rattle.edf_fields.specs.Printable.{IsPrintable}
-use Rattle.edf_fields.specs.PrintableReading.{is_printable}
+use Rattle.edf_fields.specs.texts.NumbersReading.{whole_number_of, header_number_of}
+use Rattle.edf_fields.specs.texts.Dates.{CivilDay}
+use Rattle.edf_fields.specs.texts.DatesReading.{dotted_day_of, day_month_of, dashed_day_of, clock_time_of}
+use Rattle.edf_fields.specs.texts.IdentificationsReading.{patient_cause, recording_cause}
+use Rattle.edf_fields.specs.texts.Printable.{IsPrintable}
+use Rattle.edf_fields.specs.texts.PrintableReading.{is_printable}
 use Rattle.edf_fields.proofs.ForCallers.{whole_number_of-spelled, header_number_of-spelled, pass-cons, pass-append, both-true, not-is, le-passes, lt-passes, printable_decided}
-use Rattle.edf_fields.specs.declared.fault.Place.{Place}
-use Rattle.edf_fields.specs.declared.fault.Place.TheVariants.{AtField, AtSignal}
-use Rattle.edf_fields.specs.declared.fault.Cause.{Cause}
-use Rattle.edf_fields.specs.declared.fault.Cause.TheVariants.{NotPrintable, BadVersion, BadStart, StartdateDiffers, BadHeaderSize, NotEdfPlus, BadRange, BadAnnotationSignal}
+use Rattle.edf_fields.specs.declared.faults.fault.Place.{Place}
+use Rattle.edf_fields.specs.declared.faults.fault.Place.TheVariants.{AtField, AtSignal}
+use Rattle.edf_fields.specs.declared.faults.fault.Cause.{Cause}
+use Rattle.edf_fields.specs.declared.faults.fault.Cause.TheVariants.{NotPrintable, BadVersion, BadStart, StartdateDiffers, BadHeaderSize, NotEdfPlus, BadRange, BadAnnotationSignal}
 use Rattle.edf_header.specs.declared.kind.Kind.{Kind}
 use Rattle.edf_header.specs.declared.kind.Kind.TheVariants.{Contiguous, Interrupted}
-use Rattle.edf_fields.specs.declared.layout.FixedField.TheVariants as fixed
-use Rattle.edf_fields.specs.declared.layout.SignalField.{SignalField}
-use Rattle.edf_fields.specs.declared.layout.SignalField.TheVariants as signal
-use Rattle.edf_header.specs.Calibrations.{Line}
-use Rattle.edf_fields.specs.Layout.{signal_field}
+use Rattle.edf_fields.specs.declared.fields.layout.FixedField.TheVariants as fixed
+use Rattle.edf_fields.specs.declared.fields.layout.SignalField.{SignalField}
+use Rattle.edf_fields.specs.declared.fields.layout.SignalField.TheVariants as signal
+use Rattle.edf_header.specs.signals.Calibrations.{Line}
+use Rattle.edf_fields.specs.fields.Layout.{signal_field}
 use Rattle.edf_header.specs.Heads.{SignalHead, HasSignal, kind_word, is_annotations}
 use Rattle.edf_header.specs.HeadsReading.{startdate_of, line_of, signal_of, signals_from}
 use Rattle.edf_header.specs.Faults.{fault_unless, not_printable, no_number, not_within, not_positive, not_named, not_read, is_same_start, start_tests, version_fault, patient_fault, recording_fault, startdate_fault, starttime_fault, header_bytes_fault, reserved_fault, records_fault, duration_fault, signals_fault, header_size_fault, text_fault, physical_fault, digital_fault, samples_fault, digital_order_fault, physical_differ_fault, annotation_fault, naming_faults, extreme_faults, sampling_faults, agreement_faults, signal_faults, signals_faults}
 use Rattle.edf_fields.specs.Tests.{first}
 use Rattle.edf_header.specs.Standard.{IsSoundSignal}
-use Rattle.edf_header.proofs.StartdateFacts.{SayTheSame}
+use Rattle.edf_header.proofs.fixed_part.StartdateFacts.{SayTheSame}
 
 pub fault_unless-true : (b : Bool) (place : Place) (cause : Cause) → b ≡ true → fault_unless b place cause ≡ None
 fault_unless-true true place cause h = refl

@@ -1,15 +1,15 @@
 -- From the bytes that were read to the whole file.
 use Rattle.std.proofs.Common.{◌≡◌, ℕ, ◌+◌, ◌*◌, List, take, drop, length, Some, None, sym, ap, ◌∙◌, arith, ℤ}
 use Rattle.std.proofs.lemmas.List.{drop-drop}
-use Rattle.edf_fields.specs.declared.fault.Fault.{Fault}
-use Rattle.edf_header.specs.declared.fixed.Start.{Start}
-use Rattle.edf_header.specs.declared.fixed.Extent.{Extent}
+use Rattle.edf_fields.specs.declared.faults.fault.Fault.{Fault}
+use Rattle.edf_header.specs.declared.fixed_part.fixed.RecordingStart.{RecordingStart}
+use Rattle.edf_header.specs.declared.fixed_part.fixed.Extent.{Extent}
 use Rattle.edf_header.specs.declared.kind.Kind.{Kind}
-use Rattle.edf_fields.specs.Identifications.{Patient, Recording}
-use Rattle.edf_fields.specs.Dates.{CivilDay}
+use Rattle.edf_fields.specs.texts.Identifications.{Patient, Recording}
+use Rattle.edf_fields.specs.texts.Dates.{CivilDay}
 use Rattle.edf_fields.specs.Parts.{text_of}
-use Rattle.edf_fields.specs.declared.layout.FixedField.TheVariants as fixed
-use Rattle.edf_fields.specs.Layout.{fixed_part, fixed_field, columns_part}
+use Rattle.edf_fields.specs.declared.fields.layout.FixedField.TheVariants as fixed
+use Rattle.edf_fields.specs.fields.Layout.{fixed_part, fixed_field, columns_part}
 use Rattle.edf_header.specs.Faults.{fixed_tests, fixed_fault, columns_tests, header_fault}
 use Rattle.edf_fields.specs.Tests.{first}
 use Rattle.edf_header.specs.Heads.{SignalHead, Head, header_bytes}
@@ -17,7 +17,7 @@ use Rattle.edf_header.specs.HeadsReading.{patient_in, recording_in, signals_of, 
 use Rattle.edf_header.specs.Judged.{SaysStart, SaysExtent}
 use Rattle.edf_header.specs.Views.{head_view}
 use Rattle.edf_fields.proofs.ForCallers.{first-passed, first-found}
-use Rattle.edf_header.proofs.SignalFacts.{length-signals}
+use Rattle.edf_header.proofs.signals.SignalFacts.{length-signals}
 
 pub front_found : (b front : List ℕ) (f : Fault) → front ≡ take 256 b → fixed_fault front ≡ Some f → header_fault b ≡ Some f
 unfolding fixed_fault header_fault
@@ -36,7 +36,7 @@ columns-left b front bytes n e count cols passed =
     ∙ ap (λ xs. first (columns_tests n xs)) (sym cols)
 
 -- what the code holds is what its bytes say
-pub view-is : (front bytes : List ℕ) (start : Start) (extent : Extent) (signals : List SignalHead)
+pub view-is : (front bytes : List ℕ) (start : RecordingStart) (extent : Extent) (signals : List SignalHead)
     → SaysStart front start → SaysExtent front extent → signals ≡ signals_in extent.signals bytes
     → head_view front start extent signals ≡ head_in front bytes
 view-is front bytes start extent signals s x e =

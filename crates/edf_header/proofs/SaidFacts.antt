@@ -1,8 +1,8 @@
 -- What an identification field says, as a function of its bytes.
 use Rattle.std.proofs.Common.{◌≡◌, ℕ, List, ◌∷◌, drop, sym, ap, codes}
 use Rattle.edf_fields.specs.Parts.{text_of}
-use Rattle.edf_fields.specs.Identifications.{Patient, Recording, SaysPatient, SaysRecording}
-use Rattle.edf_fields.specs.IdentificationsReading.{subfield}
+use Rattle.edf_fields.specs.texts.Identifications.{Patient, Recording, SaysPatient, SaysRecording}
+use Rattle.edf_fields.specs.texts.IdentificationsReading.{subfield}
 use Rattle.edf_fields.proofs.ForCallers.{joined_found}
 use Rattle.edf_header.specs.HeadsReading.{patient_in, recording_in}
 

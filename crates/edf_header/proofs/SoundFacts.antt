@@ -8,14 +8,14 @@ use Rattle.std.proofs.lemmas.List.{length-take}
 use Rattle.std.proofs.lemmas.List.Elements.{All-nil, All-cons}
 use Rattle.std.proofs.Math.Nat.{pow-le-pow_right}
 use Rattle.edf_fields.specs.Parts.{text_of, part}
-use Rattle.edf_fields.specs.NumbersReading.{whole_number_of, header_number_of}
+use Rattle.edf_fields.specs.texts.NumbersReading.{whole_number_of, header_number_of}
 use Rattle.edf_fields.proofs.ForCallers.{whole_number_of-some, header_number_of-some, whole_number-below, header_number-below, first-none, first-cons, and-true, not-true}
-use Rattle.edf_fields.specs.declared.layout.SignalField.TheVariants as signal
-use Rattle.edf_fields.specs.declared.fault.Place.TheVariants.{AtSignal}
-use Rattle.edf_fields.specs.declared.fault.Cause.TheVariants.{BadRange, BadAnnotationSignal}
-use Rattle.edf_header.specs.Calibrations.{Line}
-use Rattle.edf_fields.specs.Layout.{signal_field}
-use Rattle.edf_fields.specs.LayoutReading.{column_before}
+use Rattle.edf_fields.specs.declared.fields.layout.SignalField.TheVariants as signal
+use Rattle.edf_fields.specs.declared.faults.fault.Place.TheVariants.{AtSignal}
+use Rattle.edf_fields.specs.declared.faults.fault.Cause.TheVariants.{BadRange, BadAnnotationSignal}
+use Rattle.edf_header.specs.signals.Calibrations.{Line}
+use Rattle.edf_fields.specs.fields.Layout.{signal_field}
+use Rattle.edf_fields.specs.fields.LayoutReading.{column_before}
 use Rattle.edf_header.specs.Heads.{AreSideBySide, is_annotations}
 use Rattle.edf_header.specs.HeadsReading.{line_of, signal_of, signals_from}
 use Rattle.edf_header.specs.Faults.{text_fault, physical_fault, digital_fault, samples_fault, digital_order_fault, physical_differ_fault, annotation_fault, naming_faults, extreme_faults, sampling_faults, agreement_faults, signal_faults, signals_faults}

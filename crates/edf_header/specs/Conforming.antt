@@ -1,14 +1,14 @@
 -- When the header of a file is in order.
 use Rattle.std.specs.Prelude.{◌≡◌, ℕ, pos, ◌≤◌, ◌<◌, List, length, codes}
 use Rattle.edf_fields.specs.Parts.{text_of}
-use Rattle.edf_fields.specs.Numbers.{SpellsWholeNumber}
-use Rattle.edf_fields.specs.declared.layout.FixedField.{FixedField}
-use Rattle.edf_fields.specs.declared.layout.FixedField.TheVariants as fixed
-use Rattle.edf_fields.specs.declared.layout.SignalField.{SignalField}
-use Rattle.edf_fields.specs.Layout.{fixed_part, fixed_field, columns_part, signal_field}
+use Rattle.edf_fields.specs.texts.Numbers.{SpellsWholeNumber}
+use Rattle.edf_fields.specs.declared.fields.layout.FixedField.{FixedField}
+use Rattle.edf_fields.specs.declared.fields.layout.FixedField.TheVariants as fixed
+use Rattle.edf_fields.specs.declared.fields.layout.SignalField.{SignalField}
+use Rattle.edf_fields.specs.fields.Layout.{fixed_part, fixed_field, columns_part, signal_field}
 use Rattle.edf_header.specs.Heads.{Head, HasHead, header_bytes}
 use Rattle.edf_header.specs.Standard.{MeetsStandard}
-use Rattle.edf_fields.specs.Printable.{IsPrintable}
+use Rattle.edf_fields.specs.texts.Printable.{IsPrintable}
 
 -- the header of a file is in order: all of it is there, in printable ASCII; the version is 0; its size is that of its fixed part and its signals; its fields say a header, which meets the standard
 pub record HeaderConforms (file : List ℕ) (h : Head) : Type 0 where

@@ -3,27 +3,27 @@ use Rattle.std.specs.Prelude.{ℕ, zero, suc, ℤ, pos, neg_ℤ, ◌+◌, ◌*�
 use Rattle.std.specs.List.{list_any, list_all}
 use Rattle.std.specs.Ordering.{int_eq}
 use Rattle.std.specs.Str.{bytes_eq}
-use Rattle.edf_fields.specs.declared.cause.FieldCause.{FieldCause}
+use Rattle.edf_fields.specs.declared.faults.cause.FieldCause.{FieldCause}
 use Rattle.edf_fields.specs.Parts.{text_of}
-use Rattle.edf_fields.specs.NumbersReading.{whole_number_of, header_number_of}
-use Rattle.edf_fields.specs.Dates.{CivilDay}
-use Rattle.edf_fields.specs.DatesReading.{dotted_day_of, day_month_of, dashed_day_of, clock_time_of}
-use Rattle.edf_fields.specs.IdentificationsReading.{patient_cause, recording_cause}
-use Rattle.edf_fields.specs.PrintableReading.{is_printable}
+use Rattle.edf_fields.specs.texts.NumbersReading.{whole_number_of, header_number_of}
+use Rattle.edf_fields.specs.texts.Dates.{CivilDay}
+use Rattle.edf_fields.specs.texts.DatesReading.{dotted_day_of, day_month_of, dashed_day_of, clock_time_of}
+use Rattle.edf_fields.specs.texts.IdentificationsReading.{patient_cause, recording_cause}
+use Rattle.edf_fields.specs.texts.PrintableReading.{is_printable}
 use Rattle.edf_fields.specs.Tests.{first, unless}
-use Rattle.edf_fields.specs.declared.fault.Fault.{Fault}
-use Rattle.edf_fields.specs.declared.fault.Place.{Place}
-use Rattle.edf_fields.specs.declared.fault.Place.TheVariants.{AtField, AtSignal}
-use Rattle.edf_fields.specs.declared.fault.Cause.{Cause}
-use Rattle.edf_fields.specs.declared.fault.Cause.TheVariants.{Truncated, NotPrintable, BadVersion, BadSubfields, BadStart, StartdateDiffers, BadHeaderSize, NotEdfPlus, BadNumber, BadRange, BadAnnotationSignal, NoAnnotationSignal, NoOrdinarySignal, DuplicateLabel, RecordTooLarge}
-use Rattle.edf_fields.specs.declared.layout.FixedField.{FixedField}
-use Rattle.edf_fields.specs.declared.layout.FixedField.TheVariants as fixed
-use Rattle.edf_fields.specs.declared.layout.SignalField.{SignalField}
-use Rattle.edf_fields.specs.declared.layout.SignalField.TheVariants as signal
-use Rattle.edf_header.specs.Calibrations.{Line}
-use Rattle.edf_header.specs.ChannelsReading.{is_repeated}
-use Rattle.edf_fields.specs.Layout.{fixed_part, fixed_field, columns_part, signal_field}
-use Rattle.edf_fields.specs.LayoutReading.{fixed_fields, columns, fixed_from, fixed_bytes, column_before, column_width}
+use Rattle.edf_fields.specs.declared.faults.fault.Fault.{Fault}
+use Rattle.edf_fields.specs.declared.faults.fault.Place.{Place}
+use Rattle.edf_fields.specs.declared.faults.fault.Place.TheVariants.{AtField, AtSignal}
+use Rattle.edf_fields.specs.declared.faults.fault.Cause.{Cause}
+use Rattle.edf_fields.specs.declared.faults.fault.Cause.TheVariants.{Truncated, NotPrintable, BadVersion, BadSubfields, BadStart, StartdateDiffers, BadHeaderSize, NotEdfPlus, BadNumber, BadRange, BadAnnotationSignal, NoAnnotationSignal, NoOrdinarySignal, DuplicateLabel, RecordTooLarge}
+use Rattle.edf_fields.specs.declared.fields.layout.FixedField.{FixedField}
+use Rattle.edf_fields.specs.declared.fields.layout.FixedField.TheVariants as fixed
+use Rattle.edf_fields.specs.declared.fields.layout.SignalField.{SignalField}
+use Rattle.edf_fields.specs.declared.fields.layout.SignalField.TheVariants as signal
+use Rattle.edf_header.specs.signals.Calibrations.{Line}
+use Rattle.edf_header.specs.signals.ChannelsReading.{is_repeated}
+use Rattle.edf_fields.specs.fields.Layout.{fixed_part, fixed_field, columns_part, signal_field}
+use Rattle.edf_fields.specs.fields.LayoutReading.{fixed_fields, columns, fixed_from, fixed_bytes, column_before, column_width}
 use Rattle.edf_header.specs.Heads.{SignalHead, day_number, is_annotations, samples_together}
 use Rattle.edf_header.specs.HeadsReading.{startdate_of, recording_in, signals_of, line_of, signals_in}
 

@@ -1,13 +1,13 @@
 -- What the code holds of the two parts of a header, once their tests have passed.
 use Rattle.std.specs.Prelude.{◌≡◌, ℕ, ◌*◌, ◌≤◌, List, None, length}
 use Rattle.edf_fields.specs.Tests.{first}
-use Rattle.edf_header.specs.declared.fixed.Fixed.{Fixed}
-use Rattle.edf_header.specs.declared.judge_columns.Body.{Body}
+use Rattle.edf_header.specs.declared.fixed_part.fixed.Fixed.{Fixed}
+use Rattle.edf_header.specs.declared.in_columns.judge_columns.Body.{Body}
 use Rattle.edf_header.specs.Faults.{fixed_fault, columns_tests}
 use Rattle.edf_header.specs.Heads.{samples_together}
 use Rattle.edf_header.specs.HeadsReading.{signals_in}
 use Rattle.edf_header.specs.Judged.{SaysStart, SaysExtent}
-use Rattle.edf_header.specs.Lanes.{annotation_places}
+use Rattle.edf_header.specs.signals.Lanes.{annotation_places}
 use Rattle.edf_header.specs.Narrow.{WideColumns}
 
 -- of the fixed part

@@ -5,15 +5,15 @@ use Rattle.jiff.specs.Types.{Date}
 use Rattle.jiff.specs.Words.{epoch_day}
 use Rattle.jiff_core.specs.Calendar.{days_from_civil}
 use Rattle.edf_fields.specs.Parts.{text_of}
-use Rattle.edf_fields.specs.Numbers.{SpellsWholeNumber, SpellsHeaderNumber}
-use Rattle.edf_fields.specs.Dates.{CivilDay, civil_day, NamesDottedDay, NamesDayMonth, NamesDashedDay, NamesClockTime}
-use Rattle.edf_fields.specs.Identifications.{Patient, Recording, SaysPatient, SaysRecording}
+use Rattle.edf_fields.specs.texts.Numbers.{SpellsWholeNumber, SpellsHeaderNumber}
+use Rattle.edf_fields.specs.texts.Dates.{CivilDay, civil_day, NamesDottedDay, NamesDayMonth, NamesDashedDay, NamesClockTime}
+use Rattle.edf_fields.specs.texts.Identifications.{Patient, Recording, SaysPatient, SaysRecording}
 use Rattle.edf_header.specs.declared.kind.Kind.{Kind}
 use Rattle.edf_header.specs.declared.kind.Kind.TheVariants.{Contiguous, Interrupted}
-use Rattle.edf_fields.specs.declared.layout.FixedField.TheVariants as fixed
-use Rattle.edf_fields.specs.declared.layout.SignalField.TheVariants as signal
-use Rattle.edf_header.specs.Calibrations.{Line}
-use Rattle.edf_fields.specs.Layout.{fixed_part, fixed_field, columns_part, signal_field}
+use Rattle.edf_fields.specs.declared.fields.layout.FixedField.TheVariants as fixed
+use Rattle.edf_fields.specs.declared.fields.layout.SignalField.TheVariants as signal
+use Rattle.edf_header.specs.signals.Calibrations.{Line}
+use Rattle.edf_fields.specs.fields.Layout.{fixed_part, fixed_field, columns_part, signal_field}
 
 -- one signal: the texts of its fields, its calibration, how many samples it has in a data record, and how many bytes stand before them there
 pub record SignalHead : Type 0 where

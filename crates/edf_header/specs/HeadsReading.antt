@@ -2,18 +2,18 @@
 use Rattle.std.specs.Prelude.{◌≡◌, ℕ, zero, suc, ℤ, pos, negsuc, int_le, ◌+◌, ◌*◌, List, [], ◌∷◌, drop, take, Option, Some, None, unwrap_or, codes, if◌then◌else◌}
 use Rattle.std.specs.Str.{bytes_eq}
 use Rattle.edf_fields.specs.Parts.{text_of}
-use Rattle.edf_fields.specs.NumbersReading.{whole_number_of, header_number_of}
-use Rattle.edf_fields.specs.Dates.{CivilDay}
-use Rattle.edf_fields.specs.DatesReading.{dotted_day_of, day_month_of, dashed_day_of, clock_time_of}
-use Rattle.edf_fields.specs.SubfieldsReading.{subfields_of}
-use Rattle.edf_fields.specs.Identifications.{Patient, Recording}
-use Rattle.edf_fields.specs.IdentificationsReading.{subfield}
+use Rattle.edf_fields.specs.texts.NumbersReading.{whole_number_of, header_number_of}
+use Rattle.edf_fields.specs.texts.Dates.{CivilDay}
+use Rattle.edf_fields.specs.texts.DatesReading.{dotted_day_of, day_month_of, dashed_day_of, clock_time_of}
+use Rattle.edf_fields.specs.texts.SubfieldsReading.{subfields_of}
+use Rattle.edf_fields.specs.texts.Identifications.{Patient, Recording}
+use Rattle.edf_fields.specs.texts.IdentificationsReading.{subfield}
 use Rattle.edf_header.specs.declared.kind.Kind.{Kind}
 use Rattle.edf_header.specs.declared.kind.Kind.TheVariants.{Contiguous, Interrupted}
-use Rattle.edf_fields.specs.declared.layout.FixedField.TheVariants as fixed
-use Rattle.edf_fields.specs.declared.layout.SignalField.TheVariants as signal
-use Rattle.edf_header.specs.Calibrations.{Line}
-use Rattle.edf_fields.specs.Layout.{fixed_part, fixed_field, columns_part, signal_field}
+use Rattle.edf_fields.specs.declared.fields.layout.FixedField.TheVariants as fixed
+use Rattle.edf_fields.specs.declared.fields.layout.SignalField.TheVariants as signal
+use Rattle.edf_header.specs.signals.Calibrations.{Line}
+use Rattle.edf_fields.specs.fields.Layout.{fixed_part, fixed_field, columns_part, signal_field}
 use Rattle.edf_header.specs.Heads.{SignalHead, Head, in_picoseconds, HasHead}
 
 -- a number that counts something, or 0 where none is spelled, or one below 0

@@ -2,19 +2,19 @@
 use Rattle.std.specs.Prelude.{◌≡◌, ℕ, pos, ◌≤◌, ◌<◌, ◌≤ℤ◌, ◌^◌, List, None, unwrap_or, unsigned_abs}
 use Rattle.jiff.specs.Words.{epoch_day}
 use Rattle.edf_fields.specs.Parts.{text_of}
-use Rattle.edf_fields.specs.NumbersReading.{whole_number_of, header_number_of}
-use Rattle.edf_fields.specs.Dates.{civil_day}
-use Rattle.edf_fields.specs.DatesReading.{clock_time_of}
-use Rattle.edf_fields.specs.IdentificationsReading.{patient_cause, recording_cause}
-use Rattle.edf_header.specs.declared.fixed.Start.{Start}
-use Rattle.edf_header.specs.declared.fixed.Extent.{Extent}
-use Rattle.edf_fields.specs.declared.layout.FixedField.TheVariants as fixed
-use Rattle.edf_fields.specs.Layout.{fixed_field}
+use Rattle.edf_fields.specs.texts.NumbersReading.{whole_number_of, header_number_of}
+use Rattle.edf_fields.specs.texts.Dates.{civil_day}
+use Rattle.edf_fields.specs.texts.DatesReading.{clock_time_of}
+use Rattle.edf_fields.specs.texts.IdentificationsReading.{patient_cause, recording_cause}
+use Rattle.edf_header.specs.declared.fixed_part.fixed.RecordingStart.{RecordingStart}
+use Rattle.edf_header.specs.declared.fixed_part.fixed.Extent.{Extent}
+use Rattle.edf_fields.specs.declared.fields.layout.FixedField.TheVariants as fixed
+use Rattle.edf_fields.specs.fields.Layout.{fixed_field}
 use Rattle.edf_header.specs.Heads.{in_picoseconds}
 use Rattle.edf_header.specs.HeadsReading.{startdate_of, first_day, recording_in, kind_of, count_of, signals_of}
 
 -- the fields up to the starttime say this
-pub record SaysStart (front : List ℕ) (v : Start) : Type 0 where
+pub record SaysStart (front : List ℕ) (v : RecordingStart) : Type 0 where
   pub patient : patient_cause (fixed_field front fixed.Patient) ≡ None
   pub recording : recording_cause (fixed_field front fixed.Recording) ≡ None
   pub day : unwrap_or (startdate_of (text_of (fixed_field front fixed.Startdate)) (recording_in (fixed_field front fixed.Recording)).date) first_day ≡ civil_day v.date

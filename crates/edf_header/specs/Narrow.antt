@@ -2,9 +2,9 @@
 use Rattle.std.specs.Prelude.{◌≡◌, ℕ, zero, suc, ◌-◌, ◌*◌, ◌≤◌, List, [], ◌∷◌, ◌++◌, length, take, drop, replicate, max}
 use Rattle.std.specs.List.{list_all}
 use Rattle.edf_fields.specs.Parts.{text_of}
-use Rattle.edf_fields.specs.PrintableReading.{is_printable}
-use Rattle.edf_fields.specs.declared.layout.SignalField.{SignalField}
-use Rattle.edf_fields.specs.LayoutReading.{column_width}
+use Rattle.edf_fields.specs.texts.PrintableReading.{is_printable}
+use Rattle.edf_fields.specs.declared.fields.layout.SignalField.{SignalField}
+use Rattle.edf_fields.specs.fields.LayoutReading.{column_width}
 
 -- how long the longest text is, of m fields of w bytes each, one behind the other
 abbrev pub longest_text : ℕ → ℕ → List ℕ → ℕ

@@ -1,8 +1,8 @@
 -- What holds of every header that was read and passed its tests.
 use Rattle.std.specs.Prelude.{◌<◌, ◌^◌, length, unsigned_abs}
 use Rattle.std.specs.List.{All}
-use Rattle.edf_fields.specs.Identifications.{IsPatient, IsDateOrX}
-use Rattle.edf_header.specs.CalibrationLaws.{AreShort}
+use Rattle.edf_fields.specs.texts.Identifications.{IsPatient, IsDateOrX}
+use Rattle.edf_header.specs.signals.CalibrationLaws.{AreShort}
 use Rattle.edf_header.specs.Heads.{SignalHead, Head, day_number, AreSideBySide}
 use Rattle.edf_header.specs.Standard.{MeetsStandard}
 

@@ -1,9 +1,9 @@
 -- What the standard asks of a header that says something.
 use Rattle.std.specs.Prelude.{◌≡◌, ℕ, ℤ, pos, neg_ℤ, ◌≤◌, ◌≤ℤ◌, IsTrue, List, Some, slice_get}
 use Rattle.std.specs.List.{All}
-use Rattle.edf_fields.specs.Dates.{NamesDashedDay}
-use Rattle.edf_header.specs.Calibrations.{AreExtremes}
-use Rattle.edf_header.specs.Channels.{IsChannel, HasDistinctChannels}
+use Rattle.edf_fields.specs.texts.Dates.{NamesDashedDay}
+use Rattle.edf_header.specs.signals.Calibrations.{AreExtremes}
+use Rattle.edf_header.specs.signals.Channels.{IsChannel, HasDistinctChannels}
 use Rattle.edf_header.specs.Heads.{SignalHead, Head, day_number, is_annotations, record_bytes}
 
 -- what the standard asks of a signal: a number of samples, and extremes that give a line from digital to physical values;

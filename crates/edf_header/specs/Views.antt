@@ -1,24 +1,24 @@
 -- What the code's values say, in the words of the definitions.
 use Rattle.std.specs.Prelude.{◌≡◌, ◌≤◌, None, List, ℕ, length, drop}
 use Rattle.jiff.specs.Words.{epoch_day}
-use Rattle.edf_fields.specs.Dates.{civil_day}
+use Rattle.edf_fields.specs.texts.Dates.{civil_day}
 use Rattle.edf_fields.specs.Parts.{text_of}
-use Rattle.edf_fields.specs.IdentificationsReading.{patient_cause, recording_cause}
-use Rattle.edf_header.specs.declared.details.Details.{Details}
-use Rattle.edf_header.specs.declared.details.TextsOf.{TextsOf}
-use Rattle.edf_header.specs.declared.fixed.Start.{Start}
-use Rattle.edf_header.specs.declared.fixed.Extent.{Extent}
-use Rattle.edf_header.specs.declared.judge_signal.SignalFields.{SignalFields}
-use Rattle.edf_fields.specs.declared.layout.FixedField.TheVariants as fixed
-use Rattle.edf_fields.specs.declared.layout.SignalField.{SignalField}
-use Rattle.edf_header.specs.Calibrations.{Line}
-use Rattle.edf_fields.specs.Layout.{fixed_field, signal_field}
+use Rattle.edf_fields.specs.texts.IdentificationsReading.{patient_cause, recording_cause}
+use Rattle.edf_header.specs.declared.signals.details.Details.{Details}
+use Rattle.edf_header.specs.declared.signals.details.TextsOf.{TextsOf}
+use Rattle.edf_header.specs.declared.fixed_part.fixed.RecordingStart.{RecordingStart}
+use Rattle.edf_header.specs.declared.fixed_part.fixed.Extent.{Extent}
+use Rattle.edf_header.specs.declared.signals.judge_signal.SignalFields.{SignalFields}
+use Rattle.edf_fields.specs.declared.fields.layout.FixedField.TheVariants as fixed
+use Rattle.edf_fields.specs.declared.fields.layout.SignalField.{SignalField}
+use Rattle.edf_header.specs.signals.Calibrations.{Line}
+use Rattle.edf_fields.specs.fields.Layout.{fixed_field, signal_field}
 use Rattle.edf_header.specs.Heads.{SignalHead, Head, record_bytes}
 use Rattle.edf_header.specs.HeadsReading.{patient_in, recording_in}
 use Rattle.edf_header.specs.Sound.{IsSound}
 
 -- a header
-abbrev pub head_view : List ℕ → Start → Extent → List SignalHead → Head
+abbrev pub head_view : List ℕ → RecordingStart → Extent → List SignalHead → Head
 head_view front start extent signals = record {
   patient = patient_in (fixed_field front fixed.Patient);
   recording = recording_in (fixed_field front fixed.Recording);
@@ -32,7 +32,7 @@ head_view front start extent signals = record {
 }
 
 -- what the code keeps of a header that passed its tests: its fixed part, of which the identifications are read again, and the numbers that were read
-pub record IsKept (front : List ℕ) (start : Start) (extent : Extent) (signals : List SignalHead) (size : ℕ) : Type 0 where
+pub record IsKept (front : List ℕ) (start : RecordingStart) (extent : Extent) (signals : List SignalHead) (size : ℕ) : Type 0 where
   pub long : 256 ≤ length front
   pub patient : patient_cause (fixed_field front fixed.Patient) ≡ None
   pub recording : recording_cause (fixed_field front fixed.Recording) ≡ None

@@ -1,12 +1,10 @@
 //! What the fields of a header have in common: printable bytes and numbers.
 
 ghost use Rattle.std.specs.Prelude.{◌≡◌, ◌≤◌, ◌<◌, ◌^◌, ◌≤ℤ◌, ℤ, pos, neg_ℤ, None, Some, length, MatchResult, unsigned_abs};
-ghost use Rattle.edf_fields.specs.NumbersReading.{whole_number_of};
+ghost use Rattle.edf_fields.specs.texts.NumbersReading.{whole_number_of};
 ghost use Rattle.edf_header.specs.Faults.{not_printable, no_number, not_within, not_positive};
 
-use edf_fields::fault::{Cause, Fault, Place};
-use edf_fields::number::header_whole;
-use edf_fields::printable::is_printable;
+use edf_fields::{Cause, Fault, Place, header_whole, is_printable};
 
 /// A field whose bytes are printable ASCII.
 #[tactic(auto, unfolding(crate::specs::Faults::not_printable))]

@@ -1,20 +1,18 @@
 //! The header of a file.
 
 ghost use Rattle.std.specs.Prelude.{◌≡◌, ◌<◌, ◌≤◌, ◌≤ℤ◌, ◌^◌, ◌*ℤ◌, ◌+ℤ◌, pos, unsigned_abs};
-ghost use Rattle.edf_fields.specs.Dates.{civil_day};
-ghost use Rattle.edf_fields.specs.IdentificationsReading.{patient_of, recording_of};
+ghost use Rattle.edf_fields.specs.texts.Dates.{civil_day};
+ghost use Rattle.edf_fields.specs.texts.IdentificationsReading.{patient_of, recording_of};
 ghost use Rattle.edf_header.specs.Heads.{start_second, record_bytes};
-ghost use Rattle.edf_header.specs.Lanes.{annotation_places};
+ghost use Rattle.edf_header.specs.signals.Lanes.{annotation_places};
 ghost use Rattle.edf_header.specs.Sound.{IsSound};
 
-use crate::fixed::{Extent, Start};
-use crate::judge_columns::Body;
+use crate::fixed_part::fixed::{Extent, RecordingStart};
+use crate::in_columns::judge_columns::Body;
 use crate::kind::Kind;
-use crate::lane_place::LanePlace;
-use crate::signal::Signal;
-use edf_fields::identification::{PatientId, RecordingId};
-use edf_fields::layout::{FixedField, fixed_field};
-use edf_fields::number::text;
+use crate::signals::lane_place::LanePlace;
+use crate::signals::signal::Signal;
+use edf_fields::{FixedField, PatientId, RecordingId, fixed_field, text};
 use jiff::civil::Date;
 use std::marker::Model;
 
@@ -26,7 +24,7 @@ use std::marker::Model;
 #[derive(Drop)]
 pub struct Header {
     pub(crate) front: Vec<u8>,
-    pub(crate) start: Start,
+    pub(crate) start: RecordingStart,
     pub(crate) extent: Extent,
     pub(crate) body: Body,
 }
@@ -34,7 +32,7 @@ pub struct Header {
 impl Model for Header {
     ghost use Rattle.std.specs.Prelude.{◌≡◌};
     ghost use Rattle.edf_header.specs.Heads.{Head};
-    ghost use Rattle.edf_header.specs.Lanes.{annotation_places};
+    ghost use Rattle.edf_header.specs.signals.Lanes.{annotation_places};
     ghost use Rattle.edf_header.specs.Views.{head_view, IsKept};
 
     ghost Value = { Head };

@@ -1,19 +1,19 @@
 //! Laws of the definitions, each the contract of a function that does nothing.
 
-ghost use Rattle.edf_header.specs.CalibrationLaws.{SameLineIsEquivalence, SameLineIsSameValues, CalibrationsFit};
+ghost use Rattle.edf_header.specs.signals.CalibrationLaws.{SameLineIsEquivalence, SameLineIsSameValues, CalibrationsFit};
 ghost use Rattle.edf_header.specs.ConformingLaws.{PassingHasHead, PassingIsSound, PassingIsConforming, ConformingIsSound};
 ghost use Rattle.edf_header.specs.HeadsReading.{HasOneHead};
 
 /// Being the same line is an equivalence of calibrations: each is the same line as itself, of two
 /// that are the same line each is that of the other, and two are the same line where a third is that
 /// of both.
-#[tactic(auto, using(crate::proofs::CalibrationFacts::same_line_is_equivalence))]
+#[tactic(auto, using(crate::proofs::signals::CalibrationFacts::same_line_is_equivalence))]
 pub fn same_line_is_an_equivalence()
     ensures { SameLineIsEquivalence }
 {}
 
 /// Two are the same line exactly where each digital value has the same physical one.
-#[tactic(auto, using(crate::proofs::ValueFacts::same_line_is_same_values))]
+#[tactic(auto, using(crate::proofs::signals::ValueFacts::same_line_is_same_values))]
 pub fn same_line_is_same_values()
     ensures { SameLineIsSameValues }
 {}

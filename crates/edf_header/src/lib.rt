@@ -2,21 +2,21 @@
 //! nothing, and the line from digital to physical values.
 #![tactic(auto)]
 
-pub mod calibration;
-mod column;
-mod columns;
-mod details;
 mod field;
-mod fixed;
-pub mod header;
-mod judge_columns;
-mod judge_signal;
-pub mod kind;
-pub mod lane_place;
+mod fixed_part;
+mod header;
+mod in_columns;
+mod kind;
 pub mod laws;
 mod read;
-pub mod signal;
-mod signal_texts;
-mod startdate;
-pub mod stop;
-mod together;
+mod signals;
+mod stop;
+
+pub use edf_fields::{Cause, Fault, Place};
+pub use header::Header;
+pub use kind::Kind;
+pub use signals::calibration::Calibration;
+pub use signals::lane_place::LanePlace;
+pub use signals::signal::Signal;
+pub use signals::together::MOST_RECORD_SAMPLES;
+pub use stop::Stop;

@@ -1,29 +1,27 @@
 //! Reading a header from a source.
 
 ghost use Rattle.std.specs.Prelude.{◌≡◌, ◌+◌, ◌*◌, ◌/◌, ◌≤◌, ◌<◌, ◌^◌, length, take, drop, None, Some, IfOk, IfErr, OnOk, IsTrue};
-ghost use Rattle.edf_fields.specs.Sources.{Fails};
+ghost use Rattle.edf_fields.specs.in_out.Sources.{Fails};
 ghost use Rattle.edf_fields.specs.Tests.{first};
-ghost use Rattle.edf_fields.specs.declared.fault.Cause.TheVariants.{Truncated};
-ghost use Rattle.edf_fields.specs.declared.fault.Place.TheVariants.{AtSignal};
+ghost use Rattle.edf_fields.specs.declared.faults.fault.Cause.TheVariants.{Truncated};
+ghost use Rattle.edf_fields.specs.declared.faults.fault.Place.TheVariants.{AtSignal};
 ghost use Rattle.edf_header.specs.Conforming.{HeaderConforms};
 ghost use Rattle.edf_header.specs.Faults.{columns_missing, columns_tests, header_fault};
 ghost use Rattle.edf_header.specs.Heads.{HasHead, header_bytes};
 ghost use Rattle.edf_header.specs.HeadsReading.{head_of};
 ghost use Rattle.edf_header.specs.HeaderParts.{IsFixed, IsBody};
-ghost use Rattle.edf_fields.specs.LayoutReading.{columns as all_columns, next_before, AreAdjacent};
+ghost use Rattle.edf_fields.specs.fields.LayoutReading.{columns as all_columns, next_before, AreAdjacent};
 ghost use Rattle.edf_header.specs.Narrow.{all_bytes, AreColumns};
 ghost use Rattle.edf_header.specs.Sound.{IsSound};
 ghost use Rattle.edf_header.specs.Stops.{Stops};
 
-use crate::column::Column;
-use crate::columns::Columns;
-use crate::fixed::{Fixed, judge_fixed};
+use crate::fixed_part::fixed::{Fixed, judge_fixed};
 use crate::header::Header;
-use crate::judge_columns::{Body, judge_columns};
+use crate::in_columns::column::Column;
+use crate::in_columns::columns::Columns;
+use crate::in_columns::judge_columns::{Body, judge_columns};
 use crate::stop::Stop;
-use edf_fields::fault::{Cause, Fault, Place};
-use edf_fields::layout::SignalField;
-use edf_fields::source::{Source, fill};
+use edf_fields::{Cause, Fault, Place, SignalField, Source, fill};
 use std::alloc::Global;
 
 /// The next `count` bytes of a source, or all that there are.
@@ -100,7 +98,7 @@ const COLUMNS: [SignalField; 10] = [
 ];
 
 /// The columns of so many signals, or the first byte of them that is missing.
-#[tactic(auto, unfolding(edf_fields::specs::LayoutReading::columns))]
+#[tactic(auto, unfolding(edf_fields::specs::fields::LayoutReading::columns))]
 fn read_columns<S: Source>(alloc: Global, source: &mut S, signals: u16) -> Result<Columns, Stop>
     ensures honesty { OnOk result (IsTrue (S.is_honest source.old) → IsTrue (S.is_honest source.new)) }
     ensures failures { OnOk result (S.reads source.new ≡ S.reads source.old) }

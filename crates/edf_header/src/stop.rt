@@ -3,8 +3,7 @@
 ghost use Rattle.edf_header.specs.declared.stop.Stop.TheVariants as stops;
 ghost use Rattle.std.specs.Prelude.{◌≡◌};
 
-use edf_fields::fault::Fault;
-use edf_fields::source::ReadFault;
+use edf_fields::{Fault, ReadFault};
 use std::alloc::{AllocError, AllocFailed};
 
 /// Why reading a file stopped before its end.

@@ -9,19 +9,19 @@ use Rattle.std.proofs.lemmas.Bool.Decides.{Decides-and, Decides-eqb, Decides-int
 use Rattle.std.proofs.lemmas.Slice.Eq.{bytes_eq-Decides}
 use Rattle.edf_fields.specs.Lists.{Has}
 use Rattle.edf_fields.proofs.ForCallers.{and-true, both-true}
-use Rattle.edf_header.specs.Calibrations.{Line, SameLine, physical_span, digital_span, offset_times_span}
+use Rattle.edf_header.specs.signals.Calibrations.{Line, SameLine, physical_span, digital_span, offset_times_span}
 use Rattle.edf_header.specs.Heads.{SignalHead, Head, is_annotations}
 use Rattle.edf_header.specs.Sound.{IsSound}
 use Rattle.edf_claim.specs.Terms.{Terms}
 use Rattle.edf_heads.specs.Blank.{HasNoTexts, IsBlankHeader}
-use Rattle.edf_heads.specs.BlankDifference.{HasFreeText, IsFirstWithFreeText}
+use Rattle.edf_heads.specs.differences.BlankDifference.{HasFreeText, IsFirstWithFreeText}
 use Rattle.edf_heads.specs.Calibrations.{HaveSameCalibration, SameCalibrations}
 use Rattle.edf_heads.specs.Channels.{AreAlike}
-use Rattle.edf_heads.specs.ChannelDifferences.{AreUnlike, IsFirstUnlike}
+use Rattle.edf_heads.specs.differences.ChannelDifferences.{AreUnlike, IsFirstUnlike}
 use Rattle.edf_heads.specs.Comparisons.{channel_of, Claimed, Compared, claimed_of, claimed_view, IsComparison, text_difference_of, first_text_difference, is_same_line, has_other_calibration, of_both, has_text, HasNoFreeText, is_blank_signal, breaks, Breaks, Keep}
 use Rattle.edf_heads.specs.Firsts.{IsFirstWith}
-use Rattle.edf_heads.specs.Texts.{HaveSameText, HaveSameTexts, SameTexts}
-use Rattle.edf_heads.specs.TextDifference.{IsFirstText, IsTextDifference}
+use Rattle.edf_heads.specs.ChannelTexts.{HaveSameText, HaveSameTexts, SameTexts}
+use Rattle.edf_heads.specs.differences.TextDifference.{IsFirstText, IsTextDifference}
 use Rattle.edf_heads.specs.declared.channels.ClaimedChannel.{ClaimedChannel}
 use Rattle.edf_heads.specs.declared.rules.ChannelRule.{ChannelRule}
 use Rattle.edf_heads.specs.declared.rules.ChannelRule.TheVariants.{Known, Exported, Calibrated, Clean}

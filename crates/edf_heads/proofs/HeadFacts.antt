@@ -4,21 +4,21 @@ use Rattle.std.proofs.lemmas.List.Sorted.{IsPermutation-sym}
 use Rattle.edf_fields.specs.Lists.{Has, is_one_of}
 use Rattle.edf_fields.specs.Distinct.{AreDistinct}
 use Rattle.edf_fields.proofs.ForCallers.{one_of-has, has-one_of, at-has, has-permutation, has-map, map-has, has-filtered, filtered-has, not-true}
-use Rattle.edf_header.specs.Channels.{IsLabelled, HasDistinctChannels, is_ordinary, channels_among, channel_labels}
+use Rattle.edf_header.specs.signals.Channels.{IsLabelled, HasDistinctChannels, is_ordinary, channels_among, channel_labels}
 use Rattle.edf_header.specs.Heads.{SignalHead, Head, is_annotations}
 use Rattle.edf_header.specs.Sound.{IsSound}
 use Rattle.edf_claim.specs.Claims.{IsClaim}
 use Rattle.edf_claim.specs.Terms.{Terms}
 use Rattle.edf_heads.specs.Blank.{IsBlankHeader, IsBlank}
-use Rattle.edf_heads.specs.BlankDifference.{HasFreeText}
+use Rattle.edf_heads.specs.differences.BlankDifference.{HasFreeText}
 use Rattle.edf_heads.specs.Calibrations.{HaveSameCalibration}
 use Rattle.edf_heads.specs.Channels.{HasChannel, HasAll, SameChannels, AllAlike}
-use Rattle.edf_heads.specs.ChannelDifferences.{HasNoChannel, IsLeastExtra, AreUnlike, IsFirstUnlike}
+use Rattle.edf_heads.specs.differences.ChannelDifferences.{HasNoChannel, IsLeastExtra, AreUnlike, IsFirstUnlike}
 use Rattle.edf_heads.specs.Comparisons.{HasNoExtra, HasOnly, HasNoFreeText}
 use Rattle.edf_heads.specs.HeadVerdicts.{HeadsAgree, SignalsAgree, IsHeadVerdict}
 use Rattle.edf_heads.specs.Subfields.{IsAsClaimed, SubfieldsAsClaimed}
-use Rattle.edf_fields.specs.SubfieldNamesReading.{all_subfields}
-use Rattle.edf_heads.specs.Texts.{HaveSameTexts}
+use Rattle.edf_fields.specs.fields.SubfieldNamesReading.{all_subfields}
+use Rattle.edf_heads.specs.ChannelTexts.{HaveSameTexts}
 use Rattle.edf_verdict.specs.declared.verdict.Verdict.{Verdict}
 use Rattle.edf_verdict.specs.declared.verdict.Verdict.TheVariants.{No}
 use Rattle.edf_verdict.specs.declared.verdict.Difference.TheVariants as differences

@@ -1,7 +1,7 @@
 -- Two headers have one first difference at most.
 use Rattle.std.proofs.Common.{◌≡◌, ℕ, List, [], ◌∷◌, ◌⊎◌, inl, inr, refl, sym, ap, ◌∙◌, subst}
 use Rattle.edf_claim.specs.Terms.{Terms}
-use Rattle.edf_fields.specs.declared.which.Which.{Which}
+use Rattle.edf_fields.specs.declared.fields.which.Which.{Which}
 use Rattle.edf_header.specs.Heads.{Head}
 use Rattle.edf_verdict.specs.declared.verdict.Verdict.{Verdict}
 use Rattle.edf_verdict.specs.declared.verdict.Verdict.TheVariants.{No}
@@ -12,17 +12,17 @@ use Rattle.edf_verdict.specs.declared.verdict.TextField.TheVariants.{Transducer,
 use Rattle.edf_verdict.specs.declared.verdict.SubfieldMismatch.{SubfieldMismatch}
 use Rattle.edf_verdict.specs.declared.verdict.SubfieldMismatch.TheVariants.{NotX, Changed}
 use Rattle.edf_heads.specs.Blank.{IsBlankHeader}
-use Rattle.edf_heads.specs.BlankDifference.{HasFreeText, IsFirstWithFreeText}
+use Rattle.edf_heads.specs.differences.BlankDifference.{HasFreeText, IsFirstWithFreeText}
 use Rattle.edf_heads.specs.Calibrations.{SameCalibrations, HaveSameCalibration}
 use Rattle.edf_heads.specs.Channels.{HasAll, SameChannels}
-use Rattle.edf_heads.specs.ChannelDifferences.{HasNoChannel, IsLeastExtra, AreUnlike, IsFirstUnlike}
+use Rattle.edf_heads.specs.differences.ChannelDifferences.{HasNoChannel, IsLeastExtra, AreUnlike, IsFirstUnlike}
 use Rattle.edf_heads.specs.Firsts.{IsFirstWith}
 use Rattle.edf_heads.specs.HeadVerdicts.{SignalsAgree, IsHeadVerdict}
 use Rattle.edf_heads.specs.Subfields.{IsAsClaimed, SubfieldsAsClaimed}
-use Rattle.edf_fields.specs.SubfieldNamesReading.{all_subfields}
-use Rattle.edf_heads.specs.SubfieldDifference.{IsMismatch, IsSubfieldDifference}
-use Rattle.edf_heads.specs.Texts.{SameTexts, HaveSameText, HaveSameTexts}
-use Rattle.edf_heads.specs.TextDifference.{IsFirstText, IsTextDifference}
+use Rattle.edf_fields.specs.fields.SubfieldNamesReading.{all_subfields}
+use Rattle.edf_heads.specs.differences.SubfieldDifference.{IsMismatch, IsSubfieldDifference}
+use Rattle.edf_heads.specs.ChannelTexts.{SameTexts, HaveSameText, HaveSameTexts}
+use Rattle.edf_heads.specs.differences.TextDifference.{IsFirstText, IsTextDifference}
 use Rattle.edf_heads.proofs.ContentFacts.{alike-differ}
 use Rattle.edf_heads.proofs.LabelFacts.{one-label}
 use Rattle.edf_heads.proofs.HeadFacts.{unlike-alike, claimed-in, in-export}

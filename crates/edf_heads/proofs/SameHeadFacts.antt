@@ -4,14 +4,14 @@ use Rattle.std.specs.List.{All}
 use Rattle.std.proofs.lemmas.List.Elements.{All-head, All-tail}
 use Rattle.std.proofs.lemmas.List.Sorted.{IsPermutation-refl, IsPermutation-sym, IsPermutation-trans}
 use Rattle.edf_claim.specs.Terms.{Terms}
-use Rattle.edf_fields.specs.declared.which.Which.{Which}
-use Rattle.edf_fields.specs.declared.which.Which.TheVariants.{PatientExtras, Date, RecordingExtras}
-use Rattle.edf_fields.specs.Identifications.{Patient, Recording}
+use Rattle.edf_fields.specs.declared.fields.which.Which.{Which}
+use Rattle.edf_fields.specs.declared.fields.which.Which.TheVariants.{PatientExtras, Date, RecordingExtras}
+use Rattle.edf_fields.specs.texts.Identifications.{Patient, Recording}
 use Rattle.edf_fields.specs.Lists.{Has}
-use Rattle.edf_fields.specs.SubfieldNamesReading.{all_subfields}
+use Rattle.edf_fields.specs.fields.SubfieldNamesReading.{all_subfields}
 use Rattle.edf_fields.proofs.ForCallers.{has-permutation}
-use Rattle.edf_header.specs.Calibrations.{AreExtremes}
-use Rattle.edf_header.specs.Channels.{channel_labels}
+use Rattle.edf_header.specs.signals.Calibrations.{AreExtremes}
+use Rattle.edf_header.specs.signals.Channels.{channel_labels}
 use Rattle.edf_header.specs.Heads.{SignalHead, Head}
 use Rattle.edf_header.specs.Sound.{IsSound}
 use Rattle.edf_header.specs.Standard.{IsSoundSignal}
@@ -22,17 +22,17 @@ use Rattle.edf_verdict.specs.declared.verdict.Difference.TheVariants as differen
 use Rattle.edf_verdict.specs.declared.verdict.FreeText.TheVariants.{Header, Channel}
 use Rattle.edf_verdict.specs.declared.verdict.TextField.{TextField}
 use Rattle.edf_verdict.specs.declared.verdict.TextField.TheVariants.{Transducer, Prefilter}
-use Rattle.edf_heads.specs.BlankDifference.{HasFreeText}
+use Rattle.edf_heads.specs.differences.BlankDifference.{HasFreeText}
 use Rattle.edf_heads.specs.Calibrations.{HaveSameCalibration}
 use Rattle.edf_heads.specs.Channels.{IsChannelOf, HasChannel, HasAll, SameChannels, AreAlike, AllAlike}
-use Rattle.edf_heads.specs.ChannelDifferences.{HasNoChannel, IsExtra, AreUnlike, IsFirstUnlike}
+use Rattle.edf_heads.specs.differences.ChannelDifferences.{HasNoChannel, IsExtra, AreUnlike, IsFirstUnlike}
 use Rattle.edf_heads.specs.Comparisons.{IsAnonymous, IsUnchanged}
 use Rattle.edf_heads.specs.Firsts.{IsFirstWith}
 use Rattle.edf_heads.specs.HeadVerdicts.{HeadsAgree, SignalsAgree, IsHeadVerdict}
 use Rattle.edf_heads.specs.SameHeads.{AreSameChannels, AreSameRecordings, AreSameHeads, AreBlankAlike}
 use Rattle.edf_heads.specs.Subfields.{IsX, AreAllX, IsAsClaimed}
-use Rattle.edf_heads.specs.Texts.{HaveSameText, HaveSameTexts}
-use Rattle.edf_heads.specs.TextDifference.{IsFirstText}
+use Rattle.edf_heads.specs.ChannelTexts.{HaveSameText, HaveSameTexts}
+use Rattle.edf_heads.specs.differences.TextDifference.{IsFirstText}
 use Rattle.edf_heads.proofs.ChannelFacts.{one-channel}
 use Rattle.edf_heads.proofs.HeadFacts.{has-label, label-has}
 use Rattle.edf_heads.proofs.SubfieldFacts.{to-claimed, of-claimed}

@@ -6,13 +6,13 @@ use Rattle.std.proofs.lemmas.Bool.{cases_lt}
 use Rattle.std.proofs.lemmas.Slice.Eq.{bytes_eq-Decides}
 use Rattle.edf_claim.specs.Claims.{IsClaim}
 use Rattle.edf_claim.specs.Terms.{Terms}
-use Rattle.edf_fields.specs.declared.which.Which.{Which}
-use Rattle.edf_fields.specs.declared.which.Which.TheVariants.{PatientExtras, Date, RecordingExtras}
+use Rattle.edf_fields.specs.declared.fields.which.Which.{Which}
+use Rattle.edf_fields.specs.declared.fields.which.Which.TheVariants.{PatientExtras, Date, RecordingExtras}
 use Rattle.edf_fields.specs.Lists.{Has, is_one_of}
-use Rattle.edf_fields.specs.SubfieldNames.{name_of}
-use Rattle.edf_fields.specs.SubfieldNamesReading.{all_subfields}
+use Rattle.edf_fields.specs.fields.SubfieldNames.{name_of}
+use Rattle.edf_fields.specs.fields.SubfieldNamesReading.{all_subfields}
 use Rattle.edf_fields.proofs.ForCallers.{one_of-has, has-one_of, same-name}
-use Rattle.edf_header.specs.Channels.{channel_labels}
+use Rattle.edf_header.specs.signals.Channels.{channel_labels}
 use Rattle.edf_header.specs.Heads.{Head}
 use Rattle.edf_header.specs.Sound.{IsSound}
 use Rattle.edf_verdict.specs.declared.verdict.Verdict.{Verdict}
@@ -21,17 +21,17 @@ use Rattle.edf_verdict.specs.declared.verdict.Difference.TheVariants as differen
 use Rattle.edf_verdict.specs.declared.verdict.FreeText.TheVariants.{Header, Channel}
 use Rattle.edf_verdict.specs.declared.verdict.SubfieldMismatch.TheVariants.{NotX, Changed}
 use Rattle.edf_heads.specs.Blank.{IsBlankHeader}
-use Rattle.edf_heads.specs.BlankDifference.{IsFirstWithFreeText}
+use Rattle.edf_heads.specs.differences.BlankDifference.{IsFirstWithFreeText}
 use Rattle.edf_heads.specs.Calibrations.{HaveSameCalibration, SameCalibrations}
 use Rattle.edf_heads.specs.Channels.{HasAll, SameChannels}
-use Rattle.edf_heads.specs.ChannelDifferences.{HasNoChannel, AreUnlike, IsFirstUnlike}
+use Rattle.edf_heads.specs.differences.ChannelDifferences.{HasNoChannel, AreUnlike, IsFirstUnlike}
 use Rattle.edf_heads.specs.Comparisons.{channel_of, claimed_of, first_text_difference, has_other_calibration, of_both, has_text, HasNoFreeText, is_blank_signal, is_x, are_same, IsAnonymous, IsUnchanged}
 use Rattle.edf_heads.specs.Firsts.{IsFirstWith}
 use Rattle.edf_heads.specs.HeadVerdicts.{HeadsAgree, SignalsAgree, IsHeadVerdict}
 use Rattle.edf_heads.specs.Labels.{IsNotAbove}
 use Rattle.edf_heads.specs.Subfields.{AreAllX, IsAsClaimed, SubfieldsAsClaimed}
-use Rattle.edf_heads.specs.Texts.{HaveSameTexts, SameTexts}
-use Rattle.edf_heads.specs.TextDifference.{IsFirstText}
+use Rattle.edf_heads.specs.ChannelTexts.{HaveSameTexts, SameTexts}
+use Rattle.edf_heads.specs.differences.TextDifference.{IsFirstText}
 use Rattle.edf_heads.proofs.ComparisonFacts.{absent-first}
 use Rattle.edf_heads.proofs.ContentFacts.{texts-found, free-found, blank_decided, calibrations-found}
 use Rattle.edf_heads.proofs.HeadFacts.{has-label, label-has, has_only, same_channels, heads_agree}

@@ -9,12 +9,12 @@ use Rattle.edf_fields.specs.Lists.{Has}
 use Rattle.edf_fields.proofs.ForCallers.{and-true, both-true}
 use Rattle.edf_header.specs.Heads.{Head}
 use Rattle.edf_claim.specs.Terms.{Terms}
-use Rattle.edf_fields.specs.declared.which.Which.{Which}
-use Rattle.edf_fields.specs.declared.which.Which.TheVariants.{Code, Sex, Birthdate, Name, PatientExtras, Date, Administration, Technician, Equipment, RecordingExtras}
+use Rattle.edf_fields.specs.declared.fields.which.Which.{Which}
+use Rattle.edf_fields.specs.declared.fields.which.Which.TheVariants.{Code, Sex, Birthdate, Name, PatientExtras, Date, Administration, Technician, Equipment, RecordingExtras}
 use Rattle.edf_heads.specs.Comparisons.{is_x, are_same, IsAnonymous, IsUnchanged, IsFoundAmong}
 use Rattle.edf_heads.specs.Subfields.{IsX, AreAllX, ByClaim, IsAsClaimed, SubfieldsAsClaimed}
-use Rattle.edf_fields.specs.SubfieldNamesReading.{all_subfields}
-use Rattle.edf_heads.specs.SubfieldDifference.{IsMismatch, IsSubfieldDifference}
+use Rattle.edf_fields.specs.fields.SubfieldNamesReading.{all_subfields}
+use Rattle.edf_heads.specs.differences.SubfieldDifference.{IsMismatch, IsSubfieldDifference}
 use Rattle.edf_heads.specs.declared.subfields.SubfieldDifference.{SubfieldDifference}
 use Rattle.edf_verdict.specs.declared.verdict.SubfieldMismatch.{SubfieldMismatch}
 

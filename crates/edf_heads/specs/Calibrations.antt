@@ -1,6 +1,6 @@
 -- The calibrations of the channels (EDF, "Header record": physical dimension, digital and physical minimum and maximum).
 use Rattle.std.specs.Prelude.{◌≡◌}
-use Rattle.edf_header.specs.Calibrations.{SameLine}
+use Rattle.edf_header.specs.signals.Calibrations.{SameLine}
 use Rattle.edf_header.specs.Heads.{SignalHead, Head}
 use Rattle.edf_claim.specs.Terms.{Terms}
 use Rattle.edf_heads.specs.Channels.{AllAlike}

@@ -4,7 +4,7 @@ use Rattle.std.specs.Cmp.Lexicographic.{slice_cmp}
 use Rattle.std.specs.List.Sorted.{IsSorted, IsPermutation}
 use Rattle.std.specs.Ordering.{nat_cmp}
 use Rattle.edf_fields.specs.Lists.{Has}
-use Rattle.edf_header.specs.Channels.{is_ordinary, channels_among}
+use Rattle.edf_header.specs.signals.Channels.{is_ordinary, channels_among}
 use Rattle.edf_header.specs.Heads.{SignalHead, Head}
 use Rattle.edf_header.specs.Sound.{IsSound}
 use Rattle.edf_heads.specs.declared.channel_index.Channel.{Channel}

@@ -2,7 +2,7 @@
 use Rattle.std.specs.Prelude.{ℕ, List}
 use Rattle.std.specs.List.Sorted.{IsPermutation}
 use Rattle.edf_fields.specs.Lists.{Has}
-use Rattle.edf_header.specs.Channels.{IsLabelled, channel_labels}
+use Rattle.edf_header.specs.signals.Channels.{IsLabelled, channel_labels}
 use Rattle.edf_header.specs.Heads.{SignalHead, Head}
 use Rattle.edf_claim.specs.Terms.{Terms}
 

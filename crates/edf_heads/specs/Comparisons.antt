@@ -7,22 +7,22 @@ use Rattle.std.specs.Option.{option_or}
 use Rattle.std.specs.Ordering.{nat_cmp, int_eq}
 use Rattle.std.specs.Str.{bytes_eq}
 use Rattle.edf_fields.specs.Lists.{Has, is_one_of}
-use Rattle.edf_header.specs.Calibrations.{Line, physical_span, digital_span, offset_times_span}
-use Rattle.edf_header.specs.ChannelsReading.{is_channel_of}
-use Rattle.edf_header.specs.Channels.{channel_labels}
+use Rattle.edf_header.specs.signals.Calibrations.{Line, physical_span, digital_span, offset_times_span}
+use Rattle.edf_header.specs.signals.ChannelsReading.{is_channel_of}
+use Rattle.edf_header.specs.signals.Channels.{channel_labels}
 use Rattle.edf_header.specs.Heads.{SignalHead, Head, is_annotations}
 use Rattle.edf_header.specs.Sound.{IsSound}
 use Rattle.edf_claim.specs.Claims.{IsClaim}
 use Rattle.edf_claim.specs.Terms.{Terms}
-use Rattle.edf_fields.specs.declared.which.Which.{Which}
-use Rattle.edf_fields.specs.declared.which.Which.TheVariants.{Code, Sex, Birthdate, Name, PatientExtras, Date, Administration, Technician, Equipment, RecordingExtras}
-use Rattle.edf_heads.specs.BlankDifference.{HasFreeText}
+use Rattle.edf_fields.specs.declared.fields.which.Which.{Which}
+use Rattle.edf_fields.specs.declared.fields.which.Which.TheVariants.{Code, Sex, Birthdate, Name, PatientExtras, Date, Administration, Technician, Equipment, RecordingExtras}
+use Rattle.edf_heads.specs.differences.BlankDifference.{HasFreeText}
 use Rattle.edf_heads.specs.Calibrations.{HaveSameCalibration, SameCalibrations}
 use Rattle.edf_heads.specs.Channels.{HasAll}
-use Rattle.edf_heads.specs.ChannelDifferences.{HasNoChannel, IsExtra, AreUnlike}
+use Rattle.edf_heads.specs.differences.ChannelDifferences.{HasNoChannel, IsExtra, AreUnlike}
 use Rattle.edf_heads.specs.Firsts.{IsFirstWith}
 use Rattle.edf_heads.specs.Subfields.{IsX, AreAllX, IsAsClaimed}
-use Rattle.edf_heads.specs.SubfieldDifference.{IsMismatch}
+use Rattle.edf_heads.specs.differences.SubfieldDifference.{IsMismatch}
 use Rattle.edf_heads.specs.declared.channels.ClaimedChannel.{ClaimedChannel}
 use Rattle.edf_heads.specs.declared.rules.ChannelRule.{ChannelRule}
 use Rattle.edf_heads.specs.declared.rules.ChannelRule.TheVariants.{Known, Exported, Calibrated, Clean}

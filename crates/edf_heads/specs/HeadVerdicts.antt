@@ -3,14 +3,14 @@ use Rattle.edf_header.specs.Heads.{Head}
 use Rattle.edf_claim.specs.Terms.{Terms}
 use Rattle.edf_heads.specs.Firsts.{IsFirstWith}
 use Rattle.edf_heads.specs.Channels.{HasAll, SameChannels}
-use Rattle.edf_heads.specs.ChannelDifferences.{HasNoChannel, IsFirstUnlike, IsLeastExtra}
-use Rattle.edf_heads.specs.Texts.{SameTexts}
-use Rattle.edf_heads.specs.TextDifference.{IsTextDifference}
+use Rattle.edf_heads.specs.differences.ChannelDifferences.{HasNoChannel, IsFirstUnlike, IsLeastExtra}
+use Rattle.edf_heads.specs.ChannelTexts.{SameTexts}
+use Rattle.edf_heads.specs.differences.TextDifference.{IsTextDifference}
 use Rattle.edf_heads.specs.Calibrations.{HaveSameCalibration, SameCalibrations}
 use Rattle.edf_heads.specs.Subfields.{SubfieldsAsClaimed}
-use Rattle.edf_heads.specs.SubfieldDifference.{IsSubfieldDifference}
+use Rattle.edf_heads.specs.differences.SubfieldDifference.{IsSubfieldDifference}
 use Rattle.edf_heads.specs.Blank.{IsBlankHeader, IsBlank}
-use Rattle.edf_heads.specs.BlankDifference.{IsFirstWithFreeText}
+use Rattle.edf_heads.specs.differences.BlankDifference.{IsFirstWithFreeText}
 use Rattle.edf_verdict.specs.declared.verdict.Verdict.{Verdict}
 use Rattle.edf_verdict.specs.declared.verdict.Verdict.TheVariants.{No}
 use Rattle.edf_verdict.specs.declared.verdict.Difference.TheVariants.{UnknownChannel, MissingChannel, ExtraChannel, ChannelText, Calibration, Subfield, NotClean}

@@ -1,9 +1,9 @@
 -- Headers that say the same of a night, however a writer ordered its signals and cut its file (which of it a verdict looks at is this project's profile).
 use Rattle.std.specs.Prelude.{◌≡◌, ◌↔◌, ◌⊎◌, ℕ, List, []}
 use Rattle.std.specs.List.Sorted.{IsPermutation}
-use Rattle.edf_fields.specs.Identifications.{Recording}
-use Rattle.edf_header.specs.Calibrations.{SameLine}
-use Rattle.edf_header.specs.Channels.{channel_labels}
+use Rattle.edf_fields.specs.texts.Identifications.{Recording}
+use Rattle.edf_header.specs.signals.Calibrations.{SameLine}
+use Rattle.edf_header.specs.signals.Channels.{channel_labels}
 use Rattle.edf_header.specs.Heads.{SignalHead, Head}
 use Rattle.edf_heads.specs.Blank.{IsBlankHeader}
 use Rattle.edf_heads.specs.Channels.{IsChannelOf}

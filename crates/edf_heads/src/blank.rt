@@ -6,8 +6,7 @@ ghost use Rattle.edf_heads.specs.Blank.{IsBlankHeader};
 ghost use Rattle.edf_heads.specs.Comparisons.{is_blank_signal};
 
 use crate::comparison::Comparison;
-use edf_header::header::Header;
-use edf_header::signal::Signal;
+use edf_header::{Header, Signal};
 
 /// Whether the signal is a channel, or has no text but its label.
 fn is_blank_signal(signal: &Signal) -> bool

@@ -3,7 +3,7 @@
 ghost use Rattle.std.specs.Prelude.{◌≡◌};
 ghost use Rattle.edf_heads.specs.Comparisons.{has_other_calibration};
 
-use edf_header::signal::Signal;
+use edf_header::Signal;
 
 /// Whether two channels have another dimension, or another line from digital to physical values (EDF, "Header record":
 /// physical dimension, physical and digital extremes).

@@ -6,14 +6,13 @@ ghost use Rattle.std.specs.Cmp.Lexicographic.{slice_cmp};
 ghost use Rattle.std.specs.List.Sorted.{IsPermutation};
 ghost use Rattle.std.specs.Ordering.{nat_cmp};
 ghost use Rattle.edf_fields.specs.Lists.{Has};
-ghost use Rattle.edf_header.specs.Channels.{is_ordinary};
+ghost use Rattle.edf_header.specs.signals.Channels.{is_ordinary};
 ghost use Rattle.edf_header.specs.Sound.{IsSound};
-ghost use Rattle.edf_heads.specs.ChannelDifferences.{HasNoChannel};
+ghost use Rattle.edf_heads.specs.differences.ChannelDifferences.{HasNoChannel};
 ghost use Rattle.edf_heads.specs.ChannelIndexes.{AreAmong, AreByLabel, IsChannelAt};
 ghost use Rattle.edf_heads.specs.Comparisons.{channel_of};
 
-use edf_header::header::Header;
-use edf_header::signal::Signal;
+use edf_header::{Header, Signal};
 use std::alloc::{AllocError, Global};
 use std::cmp::Ordering;
 use std::marker::Model;

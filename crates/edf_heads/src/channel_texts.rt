@@ -2,13 +2,13 @@
 
 ghost use Rattle.std.specs.Prelude.{◌≡◌, map, option_map, MatchOption};
 ghost use Rattle.edf_heads.specs.Comparisons.{claimed_view, text_difference, text_difference_of, first_text_difference as first_text_difference_of};
-ghost use Rattle.edf_heads.specs.Texts.{SameTexts};
-ghost use Rattle.edf_heads.specs.TextDifference.{IsTextDifference};
+ghost use Rattle.edf_heads.specs.ChannelTexts.{SameTexts};
+ghost use Rattle.edf_heads.specs.differences.TextDifference.{IsTextDifference};
 
 use crate::channels::ClaimedChannel;
 use crate::comparison::Comparison;
-use edf_header::signal::Signal;
-use edf_verdict::verdict::TextField;
+use edf_header::Signal;
+use edf_verdict::TextField;
 
 /// A claimed label, and a text in which its channels differ.
 #[derive(Clone, Copy)]

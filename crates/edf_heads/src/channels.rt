@@ -5,13 +5,13 @@ ghost use Rattle.std.specs.Cmp.Lexicographic.{slice_cmp};
 ghost use Rattle.std.specs.List.Sorted.{IsSorted};
 ghost use Rattle.std.specs.Ordering.{nat_cmp};
 ghost use Rattle.edf_fields.specs.Lists.{is_one_of};
-ghost use Rattle.edf_heads.specs.ChannelDifferences.{IsLeastExtra};
+ghost use Rattle.edf_heads.specs.differences.ChannelDifferences.{IsLeastExtra};
 ghost use Rattle.edf_heads.specs.Comparisons.{claimed_of, claimed_view, AreSorted, HasNoExtra};
 
 use crate::channel_index::{Channel, ChannelIndex};
 use crate::labels::is_found;
-use edf_fields::label::SignalLabel;
-use edf_header::signal::Signal;
+use edf_fields::SignalLabel;
+use edf_header::Signal;
 use std::alloc::{AllocError, Global};
 
 /// A claimed label, and the channels of this label in the two headers, where there are such.

@@ -1,14 +1,14 @@
 //! Two headers and a claim, with the channels that are claimed.
 
 ghost use Rattle.std.specs.Prelude.{◌≡◌, IfOk, MatchOption};
-ghost use Rattle.edf_heads.specs.ChannelDifferences.{IsLeastExtra};
+ghost use Rattle.edf_heads.specs.differences.ChannelDifferences.{IsLeastExtra};
 ghost use Rattle.edf_heads.specs.Comparisons.{HasOnly};
 
 use crate::channel_index::ChannelIndex;
 use crate::channels::{ClaimedChannel, claimed_channels};
 use crate::labels::in_order;
-use edf_claim::claim::Claim;
-use edf_header::header::Header;
+use edf_claim::Claim;
+use edf_header::Header;
 use std::alloc::{AllocError, Global};
 use std::marker::Model;
 

@@ -7,7 +7,7 @@ ghost use Rattle.std.specs.Ordering.{nat_cmp};
 ghost use Rattle.edf_fields.specs.Lists.{Has, is_one_of};
 ghost use Rattle.edf_heads.specs.Comparisons.{AreSorted};
 
-use edf_fields::label::SignalLabel;
+use edf_fields::SignalLabel;
 use std::alloc::{AllocError, Global};
 use std::cmp::Ordering;
 

@@ -2,13 +2,21 @@
 //! calibrations, the subfields of the identifications, and no free text.
 #![tactic(auto)]
 
-pub mod blank;
-pub mod calibrations;
-pub mod channel_index;
-pub mod channel_texts;
+mod blank;
+mod calibrations;
+mod channel_index;
+mod channel_texts;
 mod channels;
 mod comparison;
-pub mod head_difference;
-pub mod labels;
+mod heads;
+mod labels;
 mod rules;
-pub mod subfields;
+mod subfields;
+
+pub use blank::is_blank_header;
+pub use calibrations::has_other_calibration;
+pub use channel_index::{Channel, ChannelIndex};
+pub use channel_texts::text_difference;
+pub use heads::head_difference;
+pub use labels::in_order;
+pub use subfields::{is_anonymous, is_unchanged};

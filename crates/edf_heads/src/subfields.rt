@@ -2,17 +2,16 @@
 
 ghost use Rattle.std.specs.Prelude.{◌≡◌, ◌↔◌, IsTrue, MatchOption};
 ghost use Rattle.std.specs.List.{list_all};
-ghost use Rattle.edf_fields.specs.SubfieldsReading.{subfields_left};
+ghost use Rattle.edf_fields.specs.texts.SubfieldsReading.{subfields_left};
 ghost use Rattle.edf_heads.specs.Comparisons.{is_x as is_x_text, are_same as are_same_texts, IsAnonymous, IsUnchanged, IsFoundAmong};
 ghost use Rattle.edf_heads.specs.Subfields.{IsAsClaimed, SubfieldsAsClaimed};
-ghost use Rattle.edf_heads.specs.SubfieldDifference.{IsMismatch, IsSubfieldDifference};
+ghost use Rattle.edf_heads.specs.differences.SubfieldDifference.{IsMismatch, IsSubfieldDifference};
 
 use crate::comparison::Comparison;
-use edf_claim::claim::Claim;
-use edf_fields::subfields::Subfields;
-use edf_fields::which::Which;
-use edf_header::header::Header;
-use edf_verdict::verdict::SubfieldMismatch;
+use edf_claim::Claim;
+use edf_fields::{NOT_TOLD, Subfields, Which};
+use edf_header::Header;
+use edf_verdict::SubfieldMismatch;
 
 /// A subfield that isn't as claimed, and how it isn't.
 #[derive(Clone, Copy)]
@@ -25,7 +24,7 @@ pub(crate) struct SubfieldDifference {
 fn is_x(text: &[u8]) -> bool
     ensures { result ≡ is_x_text text.now }
 {
-    matches!(text, b"X")
+    text == NOT_TOLD
 }
 
 /// Whether each of the subfields is `X`.
@@ -136,7 +135,7 @@ impl<'a> Comparison<'a> {
     }
 
     /// The first subfield that isn't as claimed, in their written order, and how it isn't.
-    #[tactic(auto, using(crate::proofs::SubfieldFacts::subfields_said), unfolding(edf_fields::specs::SubfieldNamesReading::all_subfields))]
+    #[tactic(auto, using(crate::proofs::SubfieldFacts::subfields_said), unfolding(edf_fields::specs::fields::SubfieldNamesReading::all_subfields))]
     pub(crate) fn subfield_difference(&self) -> Option<SubfieldDifference>
         ensures { MatchOption result
             (SubfieldsAsClaimed self.now.original self.now.export self.now.claim)

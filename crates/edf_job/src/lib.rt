@@ -1,5 +1,8 @@
 //! The jobs of `edfclaim`: its commands with their arguments, and which of them some words are.
 #![tactic(auto)]
 
-pub mod job;
-pub mod words;
+mod job;
+mod words;
+
+pub use job::Job;
+pub use words::job_of;

@@ -4,10 +4,10 @@ use Rattle.edf_claim.specs.Terms.{Terms}
 use Rattle.edf_claim.specs.Keeps.{KeepsInstant, keeps_annotation, kept_text}
 use Rattle.edf_fields.specs.Lists.{Has}
 use Rattle.edf_header.specs.Heads.{Head}
-use Rattle.edf_stream.specs.Instants.{IsSame}
-use Rattle.edf_stream.specs.Notes.{NoteValue, moved_by}
-use Rattle.edf_stream.specs.Samples.{SampleValue, IsSample}
-use Rattle.edf_stream.specs.Starts.{file_start}
+use Rattle.edf_stream.specs.times.Instants.{IsSame}
+use Rattle.edf_stream.specs.annotation.Notes.{NoteValue, moved_by}
+use Rattle.edf_stream.specs.samples.Samples.{SampleValue, IsSample}
+use Rattle.edf_stream.specs.times.Starts.{file_start}
 use Rattle.edf_pace.specs.Instants.{later}
 
 -- by how much a claim moves what it keeps, in picoseconds

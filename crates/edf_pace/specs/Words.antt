@@ -5,21 +5,21 @@ pub use Rattle.std.specs.Option.{option_map, option_or}
 pub use Rattle.std.specs.Ordering.{int_eq}
 pub use Rattle.edf_claim.specs.Keeps.{keeps_annotation, keeps_instant, kept_text}
 pub use Rattle.edf_claim.specs.Terms.{Terms}
-pub use Rattle.edf_fields.specs.Sources.{Fails, Reads}
-pub use Rattle.edf_fields.specs.declared.fault.Fault.{Fault}
-pub use Rattle.edf_fields.specs.declared.source.Source.{Ghosts}
-pub use Rattle.edf_header.specs.Channels.{channels_among}
+pub use Rattle.edf_fields.specs.in_out.Sources.{Fails, Reads}
+pub use Rattle.edf_fields.specs.declared.faults.fault.Fault.{Fault}
+pub use Rattle.edf_fields.specs.declared.in_out.source.Source.{Ghosts}
+pub use Rattle.edf_header.specs.signals.Channels.{channels_among}
 pub use Rattle.edf_header.specs.Heads.{Head, SignalHead}
 pub use Rattle.edf_stream.specs.Conforming.{Conforms}
 pub use Rattle.edf_stream.specs.Faults.{body_fault, file_fault}
-pub use Rattle.edf_stream.specs.Notes.{NoteValue, moved_by}
-pub use Rattle.edf_stream.specs.NotesReading.{moved_notes_before, moved_notes_in, notes_of}
-pub use Rattle.edf_stream.specs.Readers.{Comes, IsOpen, Reader, StandsIn, is_current}
-pub use Rattle.edf_stream.specs.Starts.{file_start}
-pub use Rattle.edf_stream.specs.StartsReading.{end_at, end_before, start_at, start_in}
+pub use Rattle.edf_stream.specs.annotation.Notes.{NoteValue, moved_by}
+pub use Rattle.edf_stream.specs.annotation.NotesReading.{moved_notes_before, moved_notes_in, notes_of}
+pub use Rattle.edf_stream.specs.records.Readers.{Comes, IsOpen, Reader, StandsIn, is_current}
+pub use Rattle.edf_stream.specs.times.Starts.{file_start}
+pub use Rattle.edf_stream.specs.times.StartsReading.{end_at, end_before, start_at, start_in}
 pub use Rattle.edf_stream.specs.Views.{note_value}
-pub use Rattle.edf_stream.specs.declared.instant.Instant.{Instant}
-pub use Rattle.edf_stream.specs.declared.notes.Note.{Note}
+pub use Rattle.edf_stream.specs.declared.times.instant.Instant.{Instant}
+pub use Rattle.edf_stream.specs.declared.annotation.notes.Note.{Note}
 pub use Rattle.edf_pace.specs.declared.walk.fault_of.FaultOf.{FaultOf}
 pub use Rattle.edf_pace.specs.declared.samples.difference.PointDifference.{PointDifference}
 pub use Rattle.edf_pace.specs.declared.samples.earliest.Found.{Found}

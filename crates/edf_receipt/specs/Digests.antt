@@ -4,7 +4,7 @@ use Rattle.sha2.specs.Hashers.{Holds256}
 use Rattle.sha2.specs.Sha256.{sha256}
 use Rattle.sha2.specs.declared.Sha256.{Sha256}
 use Rattle.edf_receipt.specs.declared.digest_source.Digested.{Digested}
-use Rattle.edf_fields.specs.Sources.{Reads}
+use Rattle.edf_fields.specs.in_out.Sources.{Reads}
 
 -- the hasher holds what is gone of the whole where this is left, and so many bytes are gone
 abbrev pub HasDigested : Sha256 → ℕ → List ℕ → List ℕ → Type 0

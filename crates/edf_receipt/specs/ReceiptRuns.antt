@@ -3,7 +3,7 @@ use Rattle.std.specs.Prelude.{◌≡◌, ◌<◌, ◌-◌, ◌^◌, ℕ, List, [
 use Rattle.std.specs.List.{AllByRecursion}
 use Rattle.edf_check.specs.Runs.{IsPartsVerdictUnder, IsPartWritten, IsVerdictUnder, IsWritten}
 use Rattle.edf_receipt.specs.Digests.{digest_reads}
-use Rattle.edf_fields.specs.Sources.{Reads}
+use Rattle.edf_fields.specs.in_out.Sources.{Reads}
 use Rattle.edf_receipt.specs.Receipts.{files_of, line_of, part_lines, receipt}
 use Rattle.edf_receipt.specs.declared.file_line.FileLine.{FileLine}
 use Rattle.edf_receipt.specs.declared.file_line.ReceiptFile.TheVariants.{Export}

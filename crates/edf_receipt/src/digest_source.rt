@@ -3,9 +3,9 @@
 ghost use Rattle.std.specs.Prelude.{◌≡◌, ◌&&◌, ◌<◌, ◌-◌, ◌^◌, ◌++◌, ℕ, List, length, min, nat_eq, IfOk, OnOk, OnErr, IsTrue, true};
 ghost use Rattle.sha2.specs.Sha256.{sha256};
 ghost use Rattle.edf_receipt.specs.Digests.{HasDigested, IsDigestOf, digest_reads};
-ghost use Rattle.edf_fields.specs.Sources.{Fails};
+ghost use Rattle.edf_fields.specs.in_out.Sources.{Fails};
 
-use edf_fields::source::{ReadFault, Source, skip_rest};
+use edf_fields::{ReadFault, Source, skip_rest};
 use sha2::{Digest, Sha256};
 use std::snapshot::Snapshot;
 

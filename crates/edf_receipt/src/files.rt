@@ -3,14 +3,14 @@
 ghost use Rattle.std.specs.Prelude.{◌≡◌, ◌+◌, ◌<◌, ◌≤◌, ◌++◌, ◌∷◌, [], ℕ, List, length, map, IfOk, IfErr, OnOk, OnErr};
 ghost use Rattle.edf_check.specs.Checks.{CheckStops};
 ghost use Rattle.edf_pace.specs.PartsStops.{PartsStops};
-ghost use Rattle.edf_fields.specs.Sources.{Fails};
+ghost use Rattle.edf_fields.specs.in_out.Sources.{Fails};
 ghost use Rattle.edf_receipt.specs.ReceiptRuns.{AreDigested, IsDigested};
 ghost use Rattle.edf_receipt.specs.Receipts.{files_of as all_files, line_of as line_naming, part_lines};
 ghost use Rattle.edf_receipt.specs.declared.file_line.ReceiptFile.TheVariants as names;
 
 use crate::digest_source::{DigestSource, digest_of};
 use crate::file_line::{FileLine, ReceiptFile};
-use edf_fields::source::{ReadFault, Source};
+use edf_fields::{ReadFault, Source};
 use edf_stop::{CheckStop, PartSide, PartsStop, Side};
 use std::alloc::Global;
 

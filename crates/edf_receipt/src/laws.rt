@@ -7,7 +7,7 @@ ghost use Rattle.edf_receipt.specs.ReceiptRuns.{IsFresh};
 use crate::digest_source::DigestSource;
 use edf_check::laws::{there_is_one_verdict, there_is_one_verdict_on_parts};
 use edf_claim::laws::tables_say_one_claim;
-use edf_fields::source::Source;
+use edf_fields::Source;
 
 /// The text of a receipt of so many files determines the line of the verdict.
 pub fn a_receipt_tells_its_line()

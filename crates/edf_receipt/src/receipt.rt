@@ -4,7 +4,7 @@ ghost use Rattle.std.specs.Prelude.{◌≡◌, ◌≢◌, IfOk, IfErr, OnOk, IsT
 ghost use Rattle.edf_claim.specs.declared.stop.ClaimStop.TheVariants as claim_stops;
 ghost use Rattle.edf_claim.specs.Faults.{FirstClaimFault};
 ghost use Rattle.edf_check.specs.Runs.{RunStops};
-ghost use Rattle.edf_fields.specs.Sources.{Fails, Rises};
+ghost use Rattle.edf_fields.specs.in_out.Sources.{Fails, Rises};
 ghost use Rattle.edf_receipt.specs.ReceiptRuns.{IsFresh, IsFrontOfAReceipt, IsPartOfReceipt, IsReceipt};
 ghost use Rattle.edf_stop.specs.declared.stops.RunStop.TheVariants as stops;
 
@@ -12,10 +12,9 @@ use crate::digest_source::DigestSource;
 use crate::files::files_of;
 use crate::text::receipt_text;
 use edf_check::judge;
-use edf_fields::sink::{Sink, put_all};
-use edf_fields::source::Source;
+use edf_fields::{Sink, Source, put_all};
 use edf_stop::RunStop;
-use edf_verdict::outcome::Outcome;
+use edf_verdict::Outcome;
 use std::alloc::Global;
 
 /// Reads the claim that a text says, checks the export against the original, and writes a receipt: the version of the

@@ -4,8 +4,8 @@ ghost use Rattle.std.specs.Prelude.{◌≡◌};
 ghost use Rattle.edf_refusal.specs.declared.refusals.Refusal.TheVariants as refusals;
 ghost use Rattle.edf_refusal.specs.Refusals.{claim_text, opening_text, reading_text, refusal_of_parts_run, refusal_of_report, refusal_of_run, refusal_text};
 
-use edf_claim::stop::ClaimStop;
-use edf_fields::sink::WriteFault;
+use edf_claim::ClaimStop;
+use edf_fields::WriteFault;
 use edf_stop::{PartSide, PartsRunStop, ReportStop, RunStop, Side};
 use std::alloc::{AllocError, AllocFailed};
 

@@ -4,7 +4,7 @@ ghost use Rattle.std.specs.Prelude.{◌≡◌};
 ghost use Rattle.edf_refusal.specs.Statuses.{status_of};
 
 use crate::refusals::Refusal;
-use edf_verdict::outcome::Outcome;
+use edf_verdict::Outcome;
 
 /// The status of a command: 0 for Yes, 1 for No, 2 for a refusal.
 pub fn status(ended: &Result<Outcome, Refusal>) -> u8

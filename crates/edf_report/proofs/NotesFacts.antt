@@ -2,20 +2,20 @@
 use Rattle.std.proofs.Common.{arith, ◌≡◌, ℕ, zero, suc, ◌+◌, ◌-◌, ◌≤◌, List, [], ◌∷◌, ◌++◌, Some, None, Result, Ok, Err, IfOk, OnErr, sym, ap, ◌∙◌, subst, append_assoc}
 use Rattle.std.proofs.lemmas.List.{append-nil}
 use Rattle.std.proofs.lemmas.Bool.Decides.{nat_tests}
-use Rattle.edf_fields.specs.Sinks.{HoldsPrefix}
+use Rattle.edf_fields.specs.in_out.Sinks.{HoldsPrefix}
 use Rattle.edf_fields.specs.Tests.{first}
-use Rattle.edf_fields.specs.declared.fault.Fault.{Fault}
+use Rattle.edf_fields.specs.declared.faults.fault.Fault.{Fault}
 use Rattle.edf_header.specs.declared.stop.Stop.{Stop}
 use Rattle.edf_header.specs.declared.stop.Stop.TheVariants as reads
 use Rattle.edf_header.specs.Faults.{header_fault}
 use Rattle.edf_header.specs.Heads.{Head}
 use Rattle.edf_header.specs.HeadsReading.{head_of}
 use Rattle.edf_header.specs.Stops.{Stops}
-use Rattle.edf_stream.specs.Notes.{NoteValue}
-use Rattle.edf_stream.specs.NotesReading.{notes_in}
-use Rattle.edf_stream.specs.Records.{record_at}
+use Rattle.edf_stream.specs.annotation.Notes.{NoteValue}
+use Rattle.edf_stream.specs.annotation.NotesReading.{notes_in}
+use Rattle.edf_stream.specs.records.Records.{record_at}
 use Rattle.edf_stream.specs.Faults.{body_fault, file_fault, records_before, records_before_place}
-use Rattle.edf_stream.specs.Readers.{HasPassed, StopsReading, StopsAt, place_behind}
+use Rattle.edf_stream.specs.records.Readers.{HasPassed, StopsReading, StopsAt, place_behind}
 use Rattle.edf_stream.proofs.ForCallers.{fault_is_of_body, passed_stand_before}
 use Rattle.edf_verdict.specs.declared.outcome.Outcome.{Outcome}
 use Rattle.edf_verdict.specs.declared.outcome.Outcome.TheVariants as outcomes

@@ -2,18 +2,18 @@
 use Rattle.std.proofs.Common.{arith, ◌≡◌, ℕ, ◌+◌, ◌*◌, ◌≤◌, List, ◌++◌, length, take, Option, Some, None, Result, Ok, Err, IfOk, refl, sym, ap, ◌∙◌, append_assoc, length-append}
 use Rattle.std.proofs.Math.Seq.{take-append-add}
 use Rattle.std.proofs.lemmas.List.{append-nil, take_at, take-append-le}
-use Rattle.edf_fields.specs.Sinks.{HoldsPrefix}
-use Rattle.edf_fields.specs.declared.fault.Fault.{Fault}
+use Rattle.edf_fields.specs.in_out.Sinks.{HoldsPrefix}
+use Rattle.edf_fields.specs.declared.faults.fault.Fault.{Fault}
 use Rattle.edf_header.specs.declared.stop.Stop.{Stop}
 use Rattle.edf_header.specs.declared.stop.Stop.TheVariants as reads
 use Rattle.edf_header.specs.Faults.{header_fault}
 use Rattle.edf_header.specs.Heads.{Head, samples_together}
 use Rattle.edf_header.specs.HeadsReading.{head_of}
 use Rattle.edf_header.specs.Stops.{Stops}
-use Rattle.edf_stream.specs.declared.conform.Summary.{Summary}
+use Rattle.edf_stream.specs.declared.whole.conform.Summary.{Summary}
 use Rattle.edf_stream.specs.Faults.{file_fault}
 use Rattle.edf_stream.specs.Summaries.{IsSummed}
-use Rattle.edf_header.specs.Channels.{channels_among}
+use Rattle.edf_header.specs.signals.Channels.{channels_among}
 use Rattle.edf_verdict.specs.declared.outcome.Outcome.TheVariants as outcomes
 use Rattle.edf_report.specs.declared.report.Report.{Report}
 use Rattle.edf_stop.specs.declared.stops.ReportStop.{ReportStop}

@@ -3,8 +3,8 @@ use Rattle.std.specs.Prelude.{ℕ, ◌*◌, List, [], ◌∷◌, ◌++◌, lengt
 use Rattle.std.specs.Fmt.{decimal}
 use Rattle.edf_header.specs.Heads.{Head, samples_together}
 use Rattle.edf_header.specs.HeadsReading.{head_of}
-use Rattle.edf_header.specs.Channels.{channels_among}
-use Rattle.edf_stream.specs.NotesReading.{notes_before}
+use Rattle.edf_header.specs.signals.Channels.{channels_among}
+use Rattle.edf_stream.specs.annotation.NotesReading.{notes_before}
 use Rattle.edf_stream.specs.Faults.{file_fault}
 use Rattle.edf_report.specs.Reports.{text_or_fault}
 

@@ -3,7 +3,7 @@ use Rattle.std.specs.Prelude.{◌≡◌, List, [], ◌++◌, IsTrue}
 use Rattle.std.proofs.Common.{sym, ap, ◌∙◌, append_assoc}
 use Rattle.std.proofs.lemmas.List.{append-nil}
 use Rattle.std.proofs.lemmas.Grind.{flat_map-append}
-use Rattle.edf_stream.specs.Notes.{NoteValue}
+use Rattle.edf_stream.specs.annotation.Notes.{NoteValue}
 use Rattle.edf_report.specs.NotesTexts.{note_line, note_lines}
 use Rattle.edf_report.specs.declared.notes.Lines.{Lines}
 

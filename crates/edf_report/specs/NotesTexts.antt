@@ -4,9 +4,9 @@ use Rattle.std.specs.List.{flat_map}
 use Rattle.edf_header.specs.Faults.{header_fault}
 use Rattle.edf_header.specs.Heads.{Head}
 use Rattle.edf_header.specs.HeadsReading.{head_of}
-use Rattle.edf_stream.specs.Notes.{NoteValue}
-use Rattle.edf_stream.specs.NotesReading.{notes_in}
-use Rattle.edf_stream.specs.Records.{record_at}
+use Rattle.edf_stream.specs.annotation.Notes.{NoteValue}
+use Rattle.edf_stream.specs.annotation.NotesReading.{notes_in}
+use Rattle.edf_stream.specs.records.Records.{record_at}
 use Rattle.edf_stream.specs.Faults.{body_fault, records_before}
 use Rattle.edf_verdict.specs.NoteTimes.{note_times}
 use Rattle.edf_verdict.specs.Quotes.{with_quoted}

@@ -2,13 +2,13 @@
 use Rattle.std.specs.Prelude.{◌≡◌, ℕ, ℤ, ◌/◌, ◌%◌, List, [], ◌∷◌, ◌++◌, drop, codes}
 use Rattle.std.specs.Fmt.{decimal, signed_decimal}
 use Rattle.std.specs.List.{flat_map}
-use Rattle.edf_fields.specs.Dates.{CivilDay}
-use Rattle.edf_fields.specs.Identifications.{Patient, Recording}
-use Rattle.edf_header.specs.Calibrations.{Line}
+use Rattle.edf_fields.specs.texts.Dates.{CivilDay}
+use Rattle.edf_fields.specs.texts.Identifications.{Patient, Recording}
+use Rattle.edf_header.specs.signals.Calibrations.{Line}
 use Rattle.edf_header.specs.Faults.{header_fault}
 use Rattle.edf_header.specs.Heads.{SignalHead, Head, header_bytes, kind_word}
 use Rattle.edf_header.specs.HeadsReading.{head_of}
-use Rattle.edf_header.specs.Channels.{channels_among}
+use Rattle.edf_header.specs.signals.Channels.{channels_among}
 use Rattle.edf_verdict.specs.declared.outcome.Outcome.{Outcome}
 use Rattle.edf_verdict.specs.declared.outcome.Outcome.TheVariants as outcomes
 use Rattle.edf_verdict.specs.Quotes.{with_quoted}

@@ -1,8 +1,8 @@
 //! Whether a file conforms to the profile, in one line.
 
 ghost use Rattle.std.specs.Prelude.{◌≡◌, ◌≢◌, IfOk, IfErr, OnOk, OnErr, IsTrue};
-ghost use Rattle.edf_fields.specs.Sinks.{HoldsPrefix};
-ghost use Rattle.edf_fields.specs.Sources.{Fails, Rises};
+ghost use Rattle.edf_fields.specs.in_out.Sinks.{HoldsPrefix};
+ghost use Rattle.edf_fields.specs.in_out.Sources.{Fails, Rises};
 ghost use Rattle.edf_stream.specs.Faults.{file_fault};
 ghost use Rattle.edf_stop.specs.declared.stops.ReportStop.TheVariants as stops;
 ghost use Rattle.edf_report.specs.ConformTexts.{counts_line, conform_text};
@@ -10,11 +10,10 @@ ghost use Rattle.edf_report.specs.Reports.{IsReported, outcome_of_fault};
 ghost use Rattle.edf_stop.specs.Stops.{ReportStops};
 
 use crate::report::Report;
-use edf_fields::sink::Sink;
-use edf_fields::source::Source;
+use edf_fields::{Sink, Source};
 use edf_stop::ReportStop;
-use edf_stream::conform::{Summary, conform};
-use edf_verdict::outcome::Outcome;
+use edf_stream::{Summary, conform};
+use edf_verdict::Outcome;
 use std::alloc::{AllocError, Global};
 
 /// The line of how much a file holds.

@@ -1,7 +1,11 @@
 //! The reports on one EDF+ file: whether it conforms, what its header says, and its annotations.
 #![tactic(auto)]
 
-pub mod conform;
-pub mod notes;
+mod conform;
+mod notes;
 mod report;
-pub mod show;
+mod show;
+
+pub use conform::conform_to;
+pub use notes::notes_to;
+pub use show::show_to;

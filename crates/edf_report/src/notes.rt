@@ -1,12 +1,12 @@
 //! The annotations of a file, line by line.
 
 ghost use Rattle.std.specs.Prelude.{◌≡◌, ℕ, List, [], ◌++◌, IfOk, IfErr, OnOk, OnErr, IsTrue};
-ghost use Rattle.edf_fields.specs.Sinks.{HoldsPrefix};
-ghost use Rattle.edf_fields.specs.Sources.{Fails, Rises};
+ghost use Rattle.edf_fields.specs.in_out.Sinks.{HoldsPrefix};
+ghost use Rattle.edf_fields.specs.in_out.Sources.{Fails, Rises};
 ghost use Rattle.edf_stream.specs.Faults.{body_fault, file_fault};
-ghost use Rattle.edf_stream.specs.Keeping.{tal_notes_left};
-ghost use Rattle.edf_stream.specs.Notes.{NoteValue};
-ghost use Rattle.edf_stream.specs.Readers.{HasBegun, StandsIn};
+ghost use Rattle.edf_stream.specs.annotation.Keeping.{tal_notes_left};
+ghost use Rattle.edf_stream.specs.annotation.Notes.{NoteValue};
+ghost use Rattle.edf_stream.specs.records.Readers.{HasBegun, StandsIn};
 ghost use Rattle.edf_stream.specs.Views.{note_view};
 ghost use Rattle.edf_report.specs.NotesKept.{AreLinesOf};
 ghost use Rattle.edf_report.specs.NotesTexts.{note_line, note_lines, body_text, notes_text};
@@ -14,15 +14,10 @@ ghost use Rattle.edf_report.specs.Reports.{IsReported};
 ghost use Rattle.edf_stop.specs.Stops.{ReportStops};
 
 use crate::report::put_stop;
-use edf_fields::sink::{Sink, put_all};
-use edf_fields::source::Source;
+use edf_fields::{Sink, Source, put_all};
 use edf_stop::ReportStop;
-use edf_stream::note::{NoteRef, TalNotes};
-use edf_stream::note_keeper::NoteKeeper;
-use edf_stream::reader::FileReader;
-use edf_verdict::note_times::NoteTimes;
-use edf_verdict::outcome::Outcome;
-use edf_verdict::quote::push_with_quoted;
+use edf_stream::{FileReader, NoteKeeper, NoteRef, TalNotes};
+use edf_verdict::{NoteTimes, Outcome, push_with_quoted};
 use std::alloc::{AllocError, Global};
 use std::fmt::Write;
 

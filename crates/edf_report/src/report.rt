@@ -1,18 +1,17 @@
 //! The text of a report on one file, and what is written of a file that can't be read.
 
 ghost use Rattle.std.specs.Prelude.{◌≡◌, ◌≢◌, ◌++◌, IfOk, IfErr, OnOk, OnErr, IsTrue};
-ghost use Rattle.edf_fields.specs.Sinks.{HoldsPrefix};
-ghost use Rattle.edf_fields.specs.Sources.{Rises};
+ghost use Rattle.edf_fields.specs.in_out.Sinks.{HoldsPrefix};
+ghost use Rattle.edf_fields.specs.in_out.Sources.{Rises};
 ghost use Rattle.edf_header.specs.declared.stop.Stop.TheVariants as read_stops;
 ghost use Rattle.edf_stop.specs.declared.stops.ReportStop.TheVariants as stops;
 ghost use Rattle.edf_stop.specs.Stops.{ReportStops};
 ghost use Rattle.edf_report.specs.Reports.{fault_line, stop_line, IsFault, IsFaultReport, IsStopWritten};
 
-use edf_fields::fault::Fault;
-use edf_fields::sink::{Sink, put_all};
-use edf_header::stop::Stop;
+use edf_fields::{Fault, Sink, put_all};
+use edf_header::Stop;
 use edf_stop::ReportStop;
-use edf_verdict::outcome::Outcome;
+use edf_verdict::Outcome;
 use std::alloc::{AllocError, Global};
 
 /// The text of a report and its outcome.

@@ -1,11 +1,11 @@
 //! What the header of a file says, line by line.
 
 ghost use Rattle.std.specs.Prelude.{◌≡◌, ◌≢◌, ◌++◌, IfOk, IfErr, OnOk, OnErr, IsTrue, Some, string_bytes};
-ghost use Rattle.edf_fields.specs.Dates.{civil_day};
-ghost use Rattle.edf_fields.specs.IdentificationsReading.{patient_of, recording_of};
-ghost use Rattle.edf_fields.specs.Sinks.{HoldsPrefix};
-ghost use Rattle.edf_fields.specs.Sources.{Fails, Rises};
-ghost use Rattle.edf_fields.specs.SubfieldsReading.{subfields_left};
+ghost use Rattle.edf_fields.specs.texts.Dates.{civil_day};
+ghost use Rattle.edf_fields.specs.texts.IdentificationsReading.{patient_of, recording_of};
+ghost use Rattle.edf_fields.specs.in_out.Sinks.{HoldsPrefix};
+ghost use Rattle.edf_fields.specs.in_out.Sources.{Fails, Rises};
+ghost use Rattle.edf_fields.specs.texts.SubfieldsReading.{subfields_left};
 ghost use Rattle.edf_header.specs.Faults.{header_fault};
 ghost use Rattle.edf_header.specs.Heads.{kind_word};
 ghost use Rattle.edf_stop.specs.declared.stops.ReportStop.TheVariants as stops;
@@ -14,16 +14,10 @@ ghost use Rattle.edf_stop.specs.Stops.{ReportStops};
 ghost use Rattle.edf_report.specs.ShowTexts.{word_line, two_digits, day_text, clock_text, start_text, duration_text, course_text, extras_text, patient_text, recording_text, numbers_text, texts_text, channel_line, channels_text, head_text, show_text, IsLeftBehind};
 
 use crate::report::Report;
-use edf_fields::identification::{PatientId, RecordingId};
-use edf_fields::sink::Sink;
-use edf_fields::source::Source;
-use edf_fields::subfields::Subfields;
-use edf_header::header::Header;
-use edf_header::kind::Kind;
-use edf_header::signal::Signal;
+use edf_fields::{PatientId, RecordingId, Sink, Source, Subfields};
+use edf_header::{Header, Kind, Signal};
 use edf_stop::ReportStop;
-use edf_verdict::outcome::Outcome;
-use edf_verdict::quote::push_with_quoted;
+use edf_verdict::{Outcome, push_with_quoted};
 use jiff::civil::Date;
 use std::alloc::{AllocError, Global};
 use std::fmt;
@@ -60,9 +54,9 @@ impl fmt::Display for Day {
 
 /// A time of the day in seconds, as hh:mm:ss.
 #[derive(Clone, Copy)]
-struct Clock(u32);
+struct ClockTime(u32);
 
-impl fmt::Display for Clock {
+impl fmt::Display for ClockTime {
     ghost output = { λ clock. Some (clock_text clock.0) };
 
     #[tactic(auto, unfolding(crate::specs::ShowTexts::clock_text))]
@@ -102,7 +96,7 @@ fn start_text(alloc: Global, header: &Header) -> Result<String, AllocError>
     ensures { IfOk result (λ text. string_bytes text ≡ start_text header.now) }
 {
     let day = Day(header.start_date());
-    let clock = Clock(header.start_clock());
+    let clock = ClockTime(header.start_clock());
     format!(in alloc; "{day} {clock}")
 }
 

@@ -1,8 +1,7 @@
 //! Building small EDF+ files in memory.
 
 use crate::files::{DataRecord, File, FileText, SignalText, text_of};
-use edf_fields::fault::Place;
-use edf_fields::layout::{FixedField, SignalField};
+use edf_fields::{FixedField, Place, SignalField};
 use std::alloc::{AllocError, Global};
 
 /// The columns of a header, and how many bytes of each signal stand in them.

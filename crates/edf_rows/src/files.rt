@@ -1,6 +1,6 @@
 //! The files of the worked rows, as texts and samples.
 
-use edf_fields::fault::Place;
+use edf_fields::Place;
 
 /// A file of the worked rows.
 #[derive(Clone, Copy)]

@@ -2,7 +2,11 @@
 //! stored for each.
 #![tactic(auto)]
 
-pub mod build;
-pub mod claims;
-pub mod files;
-pub mod rows;
+mod build;
+mod claims;
+mod files;
+mod rows;
+
+pub use build::bytes_of;
+pub use claims::claim_text;
+pub use rows::{Exports, Row, worked_rows};

@@ -6,8 +6,8 @@ ghost use Rattle.edf_rows.specs.Rows.{row_of, worked_rows};
 use crate::claims::Claimed;
 use crate::files::{Base, File};
 use crate::rows::Exports::{One, Several};
-use edf_fields::fault::Place::{AtField, AtSignal};
-use edf_fields::layout::{FixedField as Fixed, SignalField as Field};
+use edf_fields::Place::{AtField, AtSignal};
+use edf_fields::{FixedField as Fixed, SignalField as Field};
 
 /// The exports of a worked row.
 #[derive(Clone, Copy)]

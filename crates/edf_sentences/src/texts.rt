@@ -2,8 +2,8 @@
 
 use crate::shown::shown;
 use crate::words;
-use edf_fields::onset::SECOND_PS;
-use edf_verdict::quote::push_quoted;
+use edf_fields::SECOND_PS;
+use edf_verdict::push_quoted;
 use jiff::Timestamp;
 use jiff::tz::Offset;
 use std::alloc::{AllocError, Global};

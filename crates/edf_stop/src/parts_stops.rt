@@ -5,8 +5,8 @@ ghost use Rattle.edf_stop.specs.declared.parts_stops.PartsRunStop.TheVariants as
 ghost use Rattle.edf_stop.specs.declared.parts_stops.PartsStop.TheVariants as stops;
 ghost use Rattle.edf_stop.specs.Stops.{parts_stop_of_check};
 
-use edf_claim::stop::ClaimStop;
-use edf_fields::sink::WriteFault;
+use edf_claim::ClaimStop;
+use edf_fields::WriteFault;
 use std::alloc::{AllocError, AllocFailed};
 
 /// One of the files of a check of several exports.

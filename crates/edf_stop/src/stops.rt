@@ -7,8 +7,8 @@ ghost use Rattle.edf_stop.specs.declared.stops.RunStop.TheVariants as run_stops;
 ghost use Rattle.edf_stop.specs.Stops.{stop_of_check, stop_of_claim};
 
 use crate::sides::Side;
-use edf_claim::stop::ClaimStop;
-use edf_fields::sink::WriteFault;
+use edf_claim::ClaimStop;
+use edf_fields::WriteFault;
 use std::alloc::{AllocError, AllocFailed};
 
 /// Why a check stopped without a verdict.

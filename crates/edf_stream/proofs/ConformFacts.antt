@@ -2,23 +2,23 @@
 use Rattle.std.proofs.Common.{◌≡◌, ℕ, zero, suc, ℤ, pos, ◌+◌, ◌<◌, ◌≤◌, ◌^◌, nat_le, int_le, int_lt, true, List, [], ◌∷◌, length, drop, Option, Some, None, Result, Ok, Err, refl, sym, ap, ◌∙◌, subst, arith, length-drop}
 use Rattle.std.proofs.lemmas.Bool.Decides.{nat_tests, Decides-int_eq}
 use Rattle.std.specs.List.{All}
-use Rattle.edf_fields.specs.declared.cause.TalCause.{TalCause}
+use Rattle.edf_fields.specs.declared.faults.cause.TalCause.{TalCause}
 use Rattle.edf_fields.specs.Tests.{first}
 use Rattle.edf_fields.proofs.ForCallers.{first-cons, and-true, le-tested, lt-tested, unless-passed}
-use Rattle.edf_fields.specs.declared.fault.Place.TheVariants.{AtRecord}
+use Rattle.edf_fields.specs.declared.faults.fault.Place.TheVariants.{AtRecord}
 use Rattle.edf_header.specs.Faults.{truncated}
 use Rattle.edf_header.specs.declared.kind.Kind.{Kind}
 use Rattle.edf_header.specs.declared.kind.Kind.TheVariants.{Contiguous, Interrupted}
 use Rattle.edf_header.specs.Heads.{Head}
 use Rattle.edf_tal.specs.declared.start.StartCause.{StartCause}
-use Rattle.edf_stream.specs.Records.{record_place, record_at, annotation_lanes}
-use Rattle.edf_stream.specs.NotesReading.{notes_in, notes_before}
-use Rattle.edf_stream.specs.StartsReading.{said_start, or_zero, start_in, start_at, end_at, end_before}
+use Rattle.edf_stream.specs.records.Records.{record_place, record_at, annotation_lanes}
+use Rattle.edf_stream.specs.annotation.NotesReading.{notes_in, notes_before}
+use Rattle.edf_stream.specs.times.StartsReading.{said_start, or_zero, start_in, start_at, end_at, end_before}
 use Rattle.edf_stream.specs.Faults.{cause_of_lanes, lanes_fault, time_fault, may_start, start_fault, notes_fault, record_fault, records_tests}
 use Rattle.edf_stream.specs.Conforming.{FollowsOn, Conforms}
-use Rattle.edf_stream.specs.Readers.{HasPassed, StandsAt}
-use Rattle.edf_stream.proofs.ItemFacts.{IsLane, lanes-are}
-use Rattle.edf_stream.proofs.SaidFacts.{read-notes, record-says, together-count}
+use Rattle.edf_stream.specs.records.Readers.{HasPassed, StandsAt}
+use Rattle.edf_stream.proofs.annotation.ItemFacts.{IsLane, lanes-are}
+use Rattle.edf_stream.proofs.records.SaidFacts.{read-notes, record-says, together-count}
 
 -- what one data record says that passes its tests
 record Passes (file : List ℕ) (h : Head) (k : ℕ) : Type 0 where

@@ -4,8 +4,8 @@ use Rattle.std.proofs.Common.{◌≤ℤ◌, ◌≡◌, ℕ, zero, suc, ℤ, pos,
 use Rattle.std.proofs.lemmas.Bool.Decides.{nat_tests, Decides-int_eq}
 use Rattle.edf_fields.specs.Tests.{first}
 use Rattle.edf_fields.proofs.ForCallers.{first-cons, first-none, pass-cons, pass-append, alone, both-true, le-passes, lt-passes, unless-passed, unless-true}
-use Rattle.edf_fields.specs.declared.fault.Place.{Place}
-use Rattle.edf_fields.specs.declared.fault.Place.TheVariants.{AtRecord}
+use Rattle.edf_fields.specs.declared.faults.fault.Place.{Place}
+use Rattle.edf_fields.specs.declared.faults.fault.Place.TheVariants.{AtRecord}
 use Rattle.edf_header.specs.declared.kind.Kind.{Kind}
 use Rattle.edf_header.specs.declared.kind.Kind.TheVariants.{Contiguous, Interrupted}
 use Rattle.edf_header.specs.Conforming.{HeaderConforms}
@@ -13,17 +13,17 @@ use Rattle.edf_header.specs.Faults.{truncated, header_fault}
 use Rattle.edf_header.specs.Heads.{Head, record_bytes}
 use Rattle.edf_header.specs.HeadsReading.{head_of}
 use Rattle.edf_header.proofs.ForCallers.{passing-conforms, passing_is_conforming, one_head, passing_has_head}
-use Rattle.edf_stream.specs.Records.{record_place, record_at, annotation_lanes}
-use Rattle.edf_stream.specs.NotesReading.{notes_in, notes_before}
-use Rattle.edf_stream.specs.StartsReading.{said_start, start_in, start_at, end_at, end_before}
+use Rattle.edf_stream.specs.records.Records.{record_place, record_at, annotation_lanes}
+use Rattle.edf_stream.specs.annotation.NotesReading.{notes_in, notes_before}
+use Rattle.edf_stream.specs.times.StartsReading.{said_start, start_in, start_at, end_at, end_before}
 use Rattle.edf_stream.specs.Faults.{cause_of_lanes, lanes_fault, time_fault, may_start, start_fault, notes_fault, record_fault, records_tests, trailing_fault, body_fault, file_fault}
 use Rattle.edf_stream.specs.Conforming.{FollowsOn, Conforms}
 use Rattle.edf_stream.specs.Laws.{ConformingIsFaultless, RecordsFollowOn}
-use Rattle.edf_stream.proofs.ItemFacts.{lanes-none}
+use Rattle.edf_stream.proofs.annotation.ItemFacts.{lanes-none}
 use Rattle.edf_stream.proofs.ConformFacts.{conforms}
-use Rattle.edf_stream.proofs.ReadFacts.{starts_late, starts_early, follows-read, few-read, says-read}
-use Rattle.edf_stream.proofs.RecordFacts.{there, ended}
-use Rattle.edf_stream.proofs.SaidFacts.{lanes-said, start-said}
+use Rattle.edf_stream.proofs.records.ReadFacts.{starts_late, starts_early, follows-read, few-read, says-read}
+use Rattle.edf_stream.proofs.records.RecordFacts.{there, ended}
+use Rattle.edf_stream.proofs.records.SaidFacts.{lanes-said, start-said}
 
 -- the header of a file that conforms
 pub head-is : (file : List ℕ) (h : Head) → HeaderConforms file h → (header_fault file ≡ None) × (h ≡ head_of file)

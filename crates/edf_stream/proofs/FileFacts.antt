@@ -1,12 +1,12 @@
 -- From the faults of a file's parts to that of the file.
 use Rattle.std.proofs.Common.{◌≡◌, ℕ, List, [], ◌∷◌, Some, ap, ◌∙◌, sym}
 use Rattle.edf_fields.proofs.ForCallers.{first-passed, first-found, alone}
-use Rattle.edf_fields.specs.declared.fault.Fault.{Fault}
+use Rattle.edf_fields.specs.declared.faults.fault.Fault.{Fault}
 use Rattle.edf_header.specs.Faults.{header_fault}
 use Rattle.edf_header.specs.Heads.{Head}
 use Rattle.edf_header.specs.HeadsReading.{head_of}
 use Rattle.edf_stream.specs.Faults.{body_fault, file_fault}
-use Rattle.edf_stream.specs.Readers.{HasPassed}
+use Rattle.edf_stream.specs.records.Readers.{HasPassed}
 
 -- the fault of the header is that of the file
 pub header_first : (file : List ℕ) (f : Fault) → header_fault file ≡ Some f → file_fault file ≡ Some f

@@ -2,7 +2,7 @@
 use Rattle.std.proofs.Common.{◌≡◌, zero, suc, List, [], ◌∷◌, ◌++◌, sym, subst, arith}
 use Rattle.std.specs.List.{All}
 use Rattle.std.proofs.lemmas.List.Elements.{All-append}
-use Rattle.edf_stream.specs.declared.notes.Note.{Note}
+use Rattle.edf_stream.specs.declared.annotation.notes.Note.{Note}
 use Rattle.edf_stream.specs.Views.{IsNear}
 
 -- what holds of each member of a list, and of one more

@@ -1,12 +1,12 @@
 -- What is gathered of the data records that were read.
 use Rattle.std.proofs.Common.{◌≡◌, ℕ, suc, ◌+◌, List, ◌++◌, refl, sym, ap, ◌∙◌, arith}
 use Rattle.edf_header.specs.Heads.{Head}
-use Rattle.edf_stream.specs.Records.{record_at}
-use Rattle.edf_stream.specs.SamplesReading.{samples_in, samples_before, samples_of}
-use Rattle.edf_stream.specs.Notes.{NoteValue}
-use Rattle.edf_stream.specs.NotesReading.{moved_notes_in, moved_notes_before, notes_of}
-use Rattle.edf_stream.specs.declared.sample.Sample.{Sample}
-use Rattle.edf_stream.specs.Readers.{Reader}
+use Rattle.edf_stream.specs.records.Records.{record_at}
+use Rattle.edf_stream.specs.samples.SamplesReading.{samples_in, samples_before, samples_of}
+use Rattle.edf_stream.specs.annotation.Notes.{NoteValue}
+use Rattle.edf_stream.specs.annotation.NotesReading.{moved_notes_in, moved_notes_before, notes_of}
+use Rattle.edf_stream.specs.declared.samples.sample.Sample.{Sample}
+use Rattle.edf_stream.specs.records.Readers.{Reader}
 
 -- one data record more was gathered
 one-more : {X : Type 0} (before : Head → ℕ → List X) (here : Head → List ℕ → List X) (file : List ℕ) (old new : Reader) (found more : List X)

@@ -4,8 +4,8 @@ use Rattle.edf_header.specs.declared.kind.Kind.{Kind}
 use Rattle.edf_header.specs.declared.kind.Kind.TheVariants.{Contiguous, Interrupted}
 use Rattle.edf_header.specs.Conforming.{HeaderConforms}
 use Rattle.edf_header.specs.Heads.{Head}
-use Rattle.edf_stream.specs.Notes.{NoteValue, SayRecords, together}
-use Rattle.edf_stream.specs.Records.{record_place}
+use Rattle.edf_stream.specs.annotation.Notes.{NoteValue, SayRecords, together}
+use Rattle.edf_stream.specs.records.Records.{record_place}
 
 -- a data record starts where the one before it ends, or, in an interrupted file, there or later
 abbrev pub FollowsOn : Kind → ℤ → ℤ → Type 0

@@ -1,13 +1,13 @@
 -- The tests that the data records of a file have to pass, in their written order, and the first that fails.
 use Rattle.std.specs.Prelude.{ℕ, zero, suc, ℤ, pos, ◌+◌, ◌^◌, nat_le, int_le, int_lt, Bool, ◌&&◌, List, [], ◌∷◌, ◌++◌, length, map, Option, Some, None, Result, Ok, Err}
 use Rattle.std.specs.Ordering.{int_eq}
-use Rattle.edf_fields.specs.declared.cause.TalCause.{TalCause}
+use Rattle.edf_fields.specs.declared.faults.cause.TalCause.{TalCause}
 use Rattle.edf_fields.specs.Tests.{first}
-use Rattle.edf_fields.specs.declared.fault.Fault.{Fault}
-use Rattle.edf_fields.specs.declared.fault.Place.{Place}
-use Rattle.edf_fields.specs.declared.fault.Place.TheVariants.{AtField, AtSignal, AtRecord, AtEnd}
-use Rattle.edf_fields.specs.declared.fault.Cause.{Cause}
-use Rattle.edf_fields.specs.declared.fault.Cause.TheVariants.{BadTal, NoTimekeeping, BadFirstStart, NotContiguous, Overlap, TooManyAnnotations, TrailingBytes}
+use Rattle.edf_fields.specs.declared.faults.fault.Fault.{Fault}
+use Rattle.edf_fields.specs.declared.faults.fault.Place.{Place}
+use Rattle.edf_fields.specs.declared.faults.fault.Place.TheVariants.{AtField, AtSignal, AtRecord, AtEnd}
+use Rattle.edf_fields.specs.declared.faults.fault.Cause.{Cause}
+use Rattle.edf_fields.specs.declared.faults.fault.Cause.TheVariants.{BadTal, NoTimekeeping, BadFirstStart, NotContiguous, Overlap, TooManyAnnotations, TrailingBytes}
 use Rattle.edf_header.specs.declared.kind.Kind.{Kind}
 use Rattle.edf_header.specs.declared.kind.Kind.TheVariants.{Contiguous, Interrupted}
 use Rattle.edf_header.specs.Faults.{fault, fault_unless, truncated, header_fault}
@@ -15,9 +15,9 @@ use Rattle.edf_header.specs.Heads.{Head}
 use Rattle.edf_header.specs.HeadsReading.{head_of}
 use Rattle.edf_tal.specs.declared.start.StartCause.{StartCause}
 use Rattle.edf_tal.specs.Reading.{Item, items_of}
-use Rattle.edf_stream.specs.Records.{record_place, record_at, annotation_lanes}
-use Rattle.edf_stream.specs.NotesReading.{notes_in, notes_before}
-use Rattle.edf_stream.specs.StartsReading.{said_start, start_in, end_before}
+use Rattle.edf_stream.specs.records.Records.{record_place, record_at, annotation_lanes}
+use Rattle.edf_stream.specs.annotation.NotesReading.{notes_in, notes_before}
+use Rattle.edf_stream.specs.times.StartsReading.{said_start, start_in, end_before}
 
 -- the cause among the items of a lane; there is one at most, and it is the last item
 abbrev pub cause_of : List Item → Option TalCause

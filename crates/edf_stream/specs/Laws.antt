@@ -1,23 +1,23 @@
 -- What follows from the definitions.
 use Rattle.std.specs.Prelude.{◌≡◌, ◌↔◌, ℕ, suc, ℤ, pos, ◌*◌, ◌<◌, ◌≤ℤ◌, ◌*ℤ◌, ◌^◌, List, length, map, Some, None, slice_get, unsigned_abs}
-use Rattle.edf_fields.specs.declared.fault.Fault.{Fault}
+use Rattle.edf_fields.specs.declared.faults.fault.Fault.{Fault}
 use Rattle.edf_header.specs.Faults.{header_fault}
 use Rattle.edf_fields.specs.Lists.{Has}
 use Rattle.edf_header.specs.Heads.{SignalHead, Head, start_second, samples_together}
-use Rattle.edf_stream.specs.declared.sample.Sample.{Sample}
-use Rattle.edf_stream.specs.Records.{record_at}
-use Rattle.edf_stream.specs.Notes.{NoteValue, SaysRecord, HasNotes, moved_by}
-use Rattle.edf_stream.specs.NotesReading.{notes_in, notes_before, notes_of}
-use Rattle.edf_stream.specs.Starts.{file_start}
-use Rattle.edf_stream.specs.StartsReading.{start_at, end_at}
-use Rattle.edf_stream.specs.Instants.{IsSame}
-use Rattle.edf_stream.specs.InstantOrder.{IsNotBefore, IsSmall, IsSecondOf}
-use Rattle.edf_stream.specs.Samples.{SampleValue, IsSample}
-use Rattle.edf_stream.specs.SamplesReading.{samples_of, labelled, AreRising}
-use Rattle.edf_header.specs.Channels.{channels_among}
+use Rattle.edf_stream.specs.declared.samples.sample.Sample.{Sample}
+use Rattle.edf_stream.specs.records.Records.{record_at}
+use Rattle.edf_stream.specs.annotation.Notes.{NoteValue, SaysRecord, HasNotes, moved_by}
+use Rattle.edf_stream.specs.annotation.NotesReading.{notes_in, notes_before, notes_of}
+use Rattle.edf_stream.specs.times.Starts.{file_start}
+use Rattle.edf_stream.specs.times.StartsReading.{start_at, end_at}
+use Rattle.edf_stream.specs.times.Instants.{IsSame}
+use Rattle.edf_stream.specs.times.InstantOrder.{IsNotBefore, IsSmall, IsSecondOf}
+use Rattle.edf_stream.specs.samples.Samples.{SampleValue, IsSample}
+use Rattle.edf_stream.specs.samples.SamplesReading.{samples_of, labelled, AreRising}
+use Rattle.edf_header.specs.signals.Channels.{channels_among}
 use Rattle.edf_stream.specs.Faults.{body_fault, file_fault}
 use Rattle.edf_stream.specs.Conforming.{Conforms}
-use Rattle.edf_stream.specs.Readers.{Reader, StandsIn}
+use Rattle.edf_stream.specs.records.Readers.{Reader, StandsIn}
 
 -- a file conforms exactly where it has no first fault
 abbrev pub ConformingIsFaultless : Type 0

@@ -2,11 +2,11 @@
 use Rattle.std.specs.Prelude.{◌≡◌, ℕ, List, [], map, None}
 use Rattle.edf_header.specs.Heads.{Head}
 use Rattle.edf_header.specs.HeadsReading.{head_of}
-use Rattle.edf_stream.specs.declared.meaning.Meaning.{Meaning}
+use Rattle.edf_stream.specs.declared.whole.meaning.Meaning.{Meaning}
 use Rattle.edf_stream.specs.Conforming.{Conforms}
 use Rattle.edf_stream.specs.Faults.{body_fault, file_fault}
-use Rattle.edf_stream.specs.NotesReading.{notes_of}
-use Rattle.edf_stream.specs.SamplesReading.{samples_of}
+use Rattle.edf_stream.specs.annotation.NotesReading.{notes_of}
+use Rattle.edf_stream.specs.samples.SamplesReading.{samples_of}
 use Rattle.edf_stream.specs.Views.{note_value}
 
 -- the samples and the annotations of the file with this header

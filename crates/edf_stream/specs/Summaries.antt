@@ -1,10 +1,10 @@
 -- How much a file holds.
 use Rattle.std.specs.Prelude.{◌≡◌, ℕ, ◌*◌, List, [], length, None}
-use Rattle.edf_header.specs.Channels.{channels_among}
+use Rattle.edf_header.specs.signals.Channels.{channels_among}
 use Rattle.edf_header.specs.Heads.{Head, samples_together}
 use Rattle.edf_header.specs.HeadsReading.{head_of}
-use Rattle.edf_stream.specs.declared.conform.Summary.{Summary}
-use Rattle.edf_stream.specs.NotesReading.{notes_before}
+use Rattle.edf_stream.specs.declared.whole.conform.Summary.{Summary}
+use Rattle.edf_stream.specs.annotation.NotesReading.{notes_before}
 use Rattle.edf_stream.specs.Faults.{file_fault}
 use Rattle.edf_stream.specs.Conforming.{Conforms}
 

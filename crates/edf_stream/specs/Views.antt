@@ -1,25 +1,25 @@
 -- What the code's values say, in the words of the definitions.
 use Rattle.std.specs.Prelude.{◌≡◌, ℕ, ℤ, pos, ◌≤◌, ◌<◌, ◌+ℤ◌, ◌^◌, ◌*◌, ◌-◌, min, MatchResult, IsTrue, unsigned_abs, List, [], ◌++◌, map, length, Option, Some, None, Result, Ok}
-use Rattle.edf_fields.specs.declared.cause.TalCause.{TalCause}
+use Rattle.edf_fields.specs.declared.faults.cause.TalCause.{TalCause}
 use Rattle.edf_fields.specs.Parts.{part}
-use Rattle.edf_header.specs.declared.lane_place.LanePlace.{LanePlace}
+use Rattle.edf_header.specs.declared.signals.lane_place.LanePlace.{LanePlace}
 use Rattle.edf_header.specs.Heads.{Head, record_bytes}
 use Rattle.edf_header.specs.Sound.{IsSound}
 use Rattle.edf_tal.specs.declared.start.StartCause.{StartCause}
 use Rattle.edf_header.specs.declared.stop.Stop.TheVariants as stops
-use Rattle.edf_stream.specs.declared.status.Status.{Status}
-use Rattle.edf_stream.specs.declared.status.Status.TheVariants.{Begun, Current, Ended, Stopped}
-use Rattle.edf_stream.specs.Readers.{is_current}
-use Rattle.edf_stream.specs.StartsReading.{start_by_lanes, start_in}
+use Rattle.edf_stream.specs.declared.records.status.Status.{Status}
+use Rattle.edf_stream.specs.declared.records.status.Status.TheVariants.{Begun, Current, Ended, Stopped}
+use Rattle.edf_stream.specs.records.Readers.{is_current}
+use Rattle.edf_stream.specs.times.StartsReading.{start_by_lanes, start_in}
 use Rattle.edf_tal.specs.Views.{items_left, texts_left}
-use Rattle.edf_stream.specs.declared.lanes.Said.{Said}
-use Rattle.edf_stream.specs.declared.annotations.LaneNotes.{LaneNotes}
-use Rattle.edf_stream.specs.declared.annotations.Annotations.{Annotations}
-use Rattle.edf_stream.specs.declared.note.NoteRef.{NoteRef}
-use Rattle.edf_stream.specs.declared.notes.Note.{Note}
-use Rattle.edf_stream.specs.declared.note.TalNotes.{TalNotes}
-use Rattle.edf_stream.specs.Notes.{NoteValue}
-use Rattle.edf_stream.specs.NotesReading.{notes_of_items, notes_of_lanes}
+use Rattle.edf_stream.specs.declared.records.lanes.Said.{Said}
+use Rattle.edf_stream.specs.declared.annotation.annotations.LaneNotes.{LaneNotes}
+use Rattle.edf_stream.specs.declared.annotation.annotations.Annotations.{Annotations}
+use Rattle.edf_stream.specs.declared.annotation.note.NoteRef.{NoteRef}
+use Rattle.edf_stream.specs.declared.annotation.notes.Note.{Note}
+use Rattle.edf_stream.specs.declared.annotation.note.TalNotes.{TalNotes}
+use Rattle.edf_stream.specs.annotation.Notes.{NoteValue}
+use Rattle.edf_stream.specs.annotation.NotesReading.{notes_of_items, notes_of_lanes}
 use Rattle.edf_stream.specs.Faults.{cause_of_lanes}
 
 -- the start that lanes say, with these lanes behind them

@@ -2,23 +2,24 @@
 //! has in it, its annotations; and whether the file conforms to the profile.
 #![tactic(auto)]
 
-pub mod annotations;
-pub mod conform;
-mod current;
-pub mod grid;
-pub mod instant;
-mod lanes;
+mod annotation;
 pub mod laws;
-pub mod meaning;
-mod much;
-pub mod note;
-pub mod note_keeper;
-pub mod notes;
-pub mod own_text;
-mod read_record;
-pub mod reader;
-mod record;
-pub mod sample;
-mod start;
-pub mod status;
-pub mod value;
+mod records;
+mod samples;
+mod times;
+mod whole;
+
+pub use annotation::annotations::Annotations;
+pub use annotation::note::{NoteRef, TalNotes};
+pub use annotation::note_keeper::{KeepsNone, NoteKeeper};
+pub use annotation::notes::Note;
+pub use annotation::own_text::OwnText;
+pub use records::reader::FileReader;
+pub use records::record::MOST_NOTES;
+pub use records::status::Status;
+pub use samples::sample::Sample;
+pub use samples::value::value_at;
+pub use times::instant::Instant;
+pub use times::lane_times::{distance, file_start_ps, num_at};
+pub use whole::conform::{Summary, conform};
+pub use whole::meaning::{Meaning, whole_file, whole_meaning};

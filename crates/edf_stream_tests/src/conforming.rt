@@ -1,12 +1,10 @@
 //! What `conform` answers to files with one change; `tools/cases` has many more.
 
-use edf_fields::fault::Place::{AtField, AtSignal};
-use edf_fields::layout::{FixedField as Fixed, SignalField as Field};
-use edf_fields::source::SliceSource;
-use edf_header::stop::Stop;
-use edf_stream::conform::conform;
-use edf_test_files::file::{Done, Edit};
-use edf_test_files::record::{LANES, recorded, small_file};
+use edf_fields::Place::{AtField, AtSignal};
+use edf_fields::{FixedField as Fixed, SignalField as Field, SliceSource};
+use edf_header::Stop;
+use edf_stream::conform;
+use edf_test_files::{Done, Edit, LANES, recorded, small_file};
 use std::alloc::{AllocError, Global};
 use std::process::Abort;
 

@@ -1,15 +1,11 @@
 //! The header of the reference file and of some others, value by value.
 
-use edf_fields::fault::Place::{AtField, AtSignal};
-use edf_fields::fault::{Cause, Fault};
-use edf_fields::identification::{PatientId, RecordingId};
-use edf_fields::layout::{FixedField as Fixed, SignalField as Field};
-use edf_fields::source::SliceSource;
-use edf_header::header::Header;
-use edf_header::kind::Kind;
-use edf_header::signal::Signal;
-use edf_header::stop::Stop;
-use edf_test_files::file::{Edit, edited};
+use edf_fields::Place::{AtField, AtSignal};
+use edf_fields::{
+    Cause, Fault, FixedField as Fixed, PatientId, RecordingId, SignalField as Field, SliceSource,
+};
+use edf_header::{Header, Kind, Signal, Stop};
+use edf_test_files::{Edit, edited};
 use std::alloc::Global;
 use std::process::Abort;
 use std::test::Fail;

@@ -1,10 +1,9 @@
 //! Which extremes say the same line from digital to physical values.
 
-use edf_fields::fault::Place::AtSignal;
-use edf_fields::layout::SignalField as Field;
-use edf_fields::source::SliceSource;
-use edf_header::header::Header;
-use edf_test_files::file::{edited, put};
+use edf_fields::Place::AtSignal;
+use edf_fields::{SignalField as Field, SliceSource};
+use edf_header::Header;
+use edf_test_files::{edited, put};
 use std::alloc::Global;
 use std::test::Fail;
 

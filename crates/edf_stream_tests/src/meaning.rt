@@ -3,18 +3,13 @@
 
 use crate::conforming::ROWS;
 use crate::samples::{OF_EXCHANGED, OF_GAP, OF_LED, OF_PAIR, OF_REFERENCE, OF_THIRDS, Row};
-use edf_fields::fault::Place::{AtField, AtSignal};
-use edf_fields::layout::{FixedField as Fixed, SignalField as Field};
-use edf_fields::source::SliceSource;
-use edf_header::stop::Stop;
-use edf_stream::meaning::{Meaning, whole_meaning};
-use edf_stream::notes::Note;
-use edf_stream::own_text::OwnText;
-use edf_stream::reader::FileReader;
-use edf_stream::sample::Sample;
-use edf_test_files::file::{Done, Edit, header_of, is_reference, put};
-use edf_test_files::record::{LANES, push_lane, recorded, timed};
-use edf_test_files::tape::tape_of;
+use edf_fields::Place::{AtField, AtSignal};
+use edf_fields::{FixedField as Fixed, SignalField as Field, SliceSource};
+use edf_header::Stop;
+use edf_stream::{FileReader, Meaning, Note, OwnText, Sample, whole_meaning};
+use edf_test_files::{
+    Done, Edit, LANES, header_of, is_reference, push_lane, put, recorded, tape_of, timed,
+};
 use std::alloc::{AllocError, Global};
 use std::cmp::Ordering;
 use std::process::Abort;

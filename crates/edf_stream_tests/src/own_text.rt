@@ -1,6 +1,6 @@
 //! The texts of annotations that stand by themselves.
 
-use edf_stream::own_text::OwnText;
+use edf_stream::OwnText;
 use std::alloc::AllocError;
 
 /// Texts in their order: of no byte, of 5, twice of 16, and of 17.

@@ -1,13 +1,9 @@
 //! A reader of a given file, data record by data record, and what it answers after an end or a stop.
 
-use edf_fields::fault::{Cause, Fault, Place};
-use edf_fields::source::SliceSource;
-use edf_header::stop::Stop;
-use edf_stream::note::{NoteRef, TalNotes};
-use edf_stream::note_keeper::NoteKeeper;
-use edf_stream::reader::FileReader;
-use edf_test_files::record::{LANES, recorded, small_file, twofold};
-use edf_test_files::tape::{Tape, tape_of};
+use edf_fields::{Cause, Fault, Place, SliceSource};
+use edf_header::Stop;
+use edf_stream::{FileReader, NoteKeeper, NoteRef, TalNotes};
+use edf_test_files::{LANES, Tape, recorded, small_file, tape_of, twofold};
 use std::alloc::{AllocError, Global};
 use std::process::Abort;
 use std::test::Fail;

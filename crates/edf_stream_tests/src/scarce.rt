@@ -1,18 +1,10 @@
 //! Calls under ever more memory: each refused growth is answered, until there is enough.
 
 use crate::meaning::is_that_of_reference;
-use edf_fields::cause::FieldCause;
-use edf_fields::fault::{Cause, Fault, Place};
-use edf_fields::layout::{FixedField, SignalField};
-use edf_fields::source::SliceSource;
-use edf_header::header::Header;
-use edf_header::stop::Stop;
-use edf_stream::conform::conform;
-use edf_stream::meaning::whole_meaning;
-use edf_stream::reader::FileReader;
-use edf_test_files::file::{Edit, edited, is_reference};
-use edf_test_files::record::{LANES, recorded, timed};
-use edf_test_files::scarce::Scarce;
+use edf_fields::{Cause, Fault, FieldCause, FixedField, Place, SignalField, SliceSource};
+use edf_header::{Header, Stop};
+use edf_stream::{FileReader, conform, whole_meaning};
+use edf_test_files::{Edit, LANES, Scarce, edited, is_reference, recorded, timed};
 use std::alloc::{AllocError, Global};
 
 /// The most steps.

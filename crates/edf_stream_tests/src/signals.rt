@@ -1,17 +1,15 @@
 //! Signals that say what the one before says, and signals that differ from it in one thing.
 
-use edf_fields::fault::Place::{AtField, AtSignal};
-use edf_fields::layout::{FixedField as Fixed, SignalField as Field};
-use edf_fields::source::SliceSource;
-use edf_header::header::Header;
-use edf_header::signal::Signal;
-use edf_test_files::file::{header_of, put};
+use edf_fields::Place::{AtField, AtSignal};
+use edf_fields::{FixedField as Fixed, SignalField as Field, SliceSource};
+use edf_header::{Header, Signal};
+use edf_test_files::{header_of, put};
 use std::alloc::Global;
 use std::process::Abort;
 use std::test::Fail;
 
 /// Transducer, dimension, prefilter and reserved text.
-type Texts = [&'static str; 4];
+type SignalTexts = [&'static str; 4];
 
 /// The physical and the digital extremes, as they are spelled.
 type Spelled = [&'static str; 4];
@@ -21,10 +19,10 @@ type Extremes = (i64, i64, i16, i16);
 
 const CUP: &str = "cup";
 
-const TEXTS: Texts = [CUP, "uV", "HP:1Hz", ""];
+const TEXTS: SignalTexts = [CUP, "uV", "HP:1Hz", ""];
 
 /// Texts that fill their fields.
-const FULL: Texts = [
+const FULL: SignalTexts = [
     "AgAgCl cup electrode, left mastoid, AgAgCl cup electrode, left mastoid, AgAgCl 1",
     "uV x 100",
     "HP:0.1Hz LP:75Hz N:50Hz, HP:0.1Hz LP:75Hz N:50Hz, HP:0.1Hz LP:75Hz N:50Hz, HP:02",
@@ -53,7 +51,7 @@ const MOST_EXTREMES: Extremes = (-1_000_000_000, 1_000_000_000, -2048, 2048);
 
 /// Labels and what the signals say: each but `the same` and the last one, whose texts fill their fields, differs
 /// in one thing from the one before, or in where one text ends and the next begins.
-const ROWS: &[(&str, Texts, Spelled, Extremes)] = &[
+const ROWS: &[(&str, SignalTexts, Spelled, Extremes)] = &[
     ("the first", TEXTS, SPELLED, EXTREMES),
     ("the same", TEXTS, SPELLED, EXTREMES),
     (
@@ -131,7 +129,7 @@ fn header(alloc: Global) -> Result<Header, Fail> {
 }
 
 /// Whether the signal has this label and these texts.
-fn says(signal: &Signal, label: &str, texts: Texts) -> bool {
+fn says(signal: &Signal, label: &str, texts: SignalTexts) -> bool {
     let [transducer, dimension, prefilter, reserved] = texts;
     signal.label() == label.as_bytes()
         && signal.transducer() == transducer.as_bytes()
@@ -141,7 +139,13 @@ fn says(signal: &Signal, label: &str, texts: Texts) -> bool {
 }
 
 /// Asserts the texts and the extremes of a signal.
-fn assert_signal(rt: &impl Abort, signal: &Signal, label: &str, texts: Texts, want: Extremes) {
+fn assert_signal(
+    rt: &impl Abort,
+    signal: &Signal,
+    label: &str,
+    texts: SignalTexts,
+    want: Extremes,
+) {
     let (low, high) = signal.calibration().physical();
     let (least, most) = signal.calibration().digital();
     assert!(rt; says(signal, label, texts), "{label}");

@@ -1,11 +1,9 @@
 //! Large data records and many signals.
 
-use edf_fields::fault::Place::{self, AtField, AtSignal};
-use edf_fields::layout::{FixedField as Fixed, SignalField as Field};
-use edf_fields::source::SliceSource;
-use edf_header::header::Header;
-use edf_header::stop::Stop;
-use edf_test_files::file::{Done, header_of, put};
+use edf_fields::Place::{self, AtField, AtSignal};
+use edf_fields::{FixedField as Fixed, SignalField as Field, SliceSource};
+use edf_header::{Header, Stop};
+use edf_test_files::{Done, header_of, put};
 use std::alloc::{AllocError, Global};
 use std::process::Abort;
 use std::test::Fail;

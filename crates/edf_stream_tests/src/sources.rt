@@ -1,9 +1,7 @@
 //! Reads of headers from sources that give single bytes, fail, or have no end.
 
-use edf_header::header::Header;
-use edf_header::stop::Stop;
-use edf_test_files::file::{edited, is_reference};
-use edf_test_files::tape::endless;
+use edf_header::{Header, Stop};
+use edf_test_files::{edited, endless, is_reference};
 use std::alloc::AllocError;
 use std::test::Fail;
 

@@ -1,8 +1,7 @@
 //! Each cause and each place of a fault in words.
 
-use edf_fields::cause::{FieldCause, TalCause};
-use edf_fields::fault::{Cause, Fault, Place};
-use edf_test_files::file::{COLUMNS, Done, FIXED};
+use edf_fields::{Cause, Fault, FieldCause, Place, TalCause};
+use edf_test_files::{COLUMNS, Done, FIXED};
 use std::alloc::{AllocError, Global};
 use std::process::Abort;
 

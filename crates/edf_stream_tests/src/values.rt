@@ -1,8 +1,7 @@
 //! The values of bytes: two of them, the low one first, in two's complement; and where samples at even distances
 //! stand. EDF (1992), "Data record".
 
-use edf_stream::grid::{distance, num_at};
-use edf_stream::value::value_at;
+use edf_stream::{distance, num_at, value_at};
 
 /// Bytes of a lane, a place in it, and the value there.
 const VALUES: &[(&[u8], usize, i16)] = &[

@@ -5,7 +5,7 @@ use Rattle.std.specs.List.{position_or_len}
 use Rattle.std.proofs.lemmas.Bool.{cases_Bool}
 use Rattle.std.proofs.lemmas.Bool.Decides.{nat_tests}
 use Rattle.std.proofs.lemmas.Str.{IsUtf8-nil}
-use Rattle.edf_fields.specs.OnsetsReading.{onset_of}
+use Rattle.edf_fields.specs.texts.OnsetsReading.{onset_of}
 use Rattle.edf_fields.proofs.ForCallers.{onset_of_spelled, onset_of_some}
 use Rattle.edf_tal.specs.Tals.{SpellsTal, are_zeros}
 use Rattle.edf_tal.specs.Timekeeping.{IsTimeAlone, time_tal}

@@ -7,11 +7,11 @@ use Rattle.std.specs.Str.{is_utf8}
 use Rattle.std.proofs.lemmas.Bool.{cases_Bool, cases_lt}
 use Rattle.std.proofs.lemmas.List.Splits.{length-slice_split}
 use Rattle.std.proofs.lemmas.Str.{IsUtf8-from_is_utf8, is_utf8-from_IsUtf8}
-use Rattle.edf_fields.specs.Onsets.{SpellsSpan}
-use Rattle.edf_fields.specs.OnsetsReading.{onset_of, span_of}
+use Rattle.edf_fields.specs.texts.Onsets.{SpellsSpan}
+use Rattle.edf_fields.specs.texts.OnsetsReading.{onset_of, span_of}
 use Rattle.edf_fields.proofs.ForCallers.{onset_of_spelled, onset_of_some, onset_of_none, span_of_spelled, span_of_none}
-use Rattle.edf_fields.specs.declared.cause.TalCause.{TalCause}
-use Rattle.edf_fields.specs.declared.cause.TalCause.TheVariants.{BadOnset, BadDuration, NoEnd, NotUtf8, ControlByte, NotZeroFilled}
+use Rattle.edf_fields.specs.declared.faults.cause.TalCause.{TalCause}
+use Rattle.edf_fields.specs.declared.faults.cause.TalCause.TheVariants.{BadOnset, BadDuration, NoEnd, NotUtf8, ControlByte, NotZeroFilled}
 use Rattle.edf_tal.specs.Tals.{TalValue, AreTexts, is_control, ended, are_zeros}
 use Rattle.edf_tal.specs.Reading.{Item, until, behind, pieces, closed, texts_of, duration_of, judge_text, judge_texts, IsClosed, onto, tal_of, tal_of_parts, items_of, ◌then◌}
 use Rattle.edf_tal.specs.Faults.{Lacks, BeginsWith, SpellsHead, FirstBadText, HasFault, FaultAfter}

@@ -5,10 +5,10 @@ use Rattle.std.specs.List.{position_or_len}
 use Rattle.std.specs.Option.{ok_or}
 use Rattle.std.proofs.lemmas.Bool.{cases_Bool, cases_lt}
 use Rattle.std.proofs.lemmas.List.Sums.{split_at_first, passes_at_first}
-use Rattle.edf_fields.specs.declared.cause.TalCause.{TalCause}
-use Rattle.edf_fields.specs.declared.cause.TalCause.TheVariants.{BadOnset, BadDuration, NoEnd, NotZeroFilled}
-use Rattle.edf_fields.specs.Onsets.{SpellsOnset}
-use Rattle.edf_fields.specs.OnsetsReading.{onset_of, span_of}
+use Rattle.edf_fields.specs.declared.faults.cause.TalCause.{TalCause}
+use Rattle.edf_fields.specs.declared.faults.cause.TalCause.TheVariants.{BadOnset, BadDuration, NoEnd, NotZeroFilled}
+use Rattle.edf_fields.specs.texts.Onsets.{SpellsOnset}
+use Rattle.edf_fields.specs.texts.OnsetsReading.{onset_of, span_of}
 use Rattle.edf_fields.proofs.ForCallers.{onset_of_some, span_of_some}
 use Rattle.edf_tal.specs.Tals.{TalValue, SpellsTal, SpellsDuration, AreTexts, IsLaneOf, are_zeros}
 use Rattle.edf_tal.specs.Reading.{until, behind, Item, texts_of, duration_of, judge_texts, IsClosed, onto, tal_of, tal_of_parts, items_of, ◌then◌}

@@ -6,10 +6,10 @@ use Rattle.std.specs.Option.{ok_or}
 use Rattle.std.proofs.lemmas.Bool.{cases_Bool, false_from_ne_true}
 use Rattle.std.proofs.lemmas.List.Splits.{length-slice_split}
 use Rattle.std.proofs.Math.Seq.{take-append_seam, get_or-append_seam}
-use Rattle.edf_fields.specs.declared.cause.TalCause.{TalCause}
-use Rattle.edf_fields.specs.declared.cause.TalCause.TheVariants.{BadDuration, NoEnd, NotZeroFilled}
-use Rattle.edf_fields.specs.Onsets.{SpellsOnset, SpellsSpan}
-use Rattle.edf_fields.specs.OnsetsReading.{onset_of, span_of}
+use Rattle.edf_fields.specs.declared.faults.cause.TalCause.{TalCause}
+use Rattle.edf_fields.specs.declared.faults.cause.TalCause.TheVariants.{BadDuration, NoEnd, NotZeroFilled}
+use Rattle.edf_fields.specs.texts.Onsets.{SpellsOnset, SpellsSpan}
+use Rattle.edf_fields.specs.texts.OnsetsReading.{onset_of, span_of}
 use Rattle.edf_fields.proofs.ForCallers.{onset_of_spelled, span_of_spelled, onset_bytes_from, span_bytes_from}
 use Rattle.edf_tal.specs.Tals.{TalValue, SpellsTal, SpellsDuration, AreTexts, IsLaneOf, is_control, ended, are_zeros}
 use Rattle.edf_tal.specs.Faults.{Lacks}

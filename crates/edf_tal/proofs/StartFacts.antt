@@ -1,7 +1,7 @@
 -- A lane's list or its fault, and where its data record starts.
 use Rattle.std.proofs.Common.{◌≡◌, ◌≢◌, ◌==◌, false, cond, slice_index, ◌↔◌, ◌⊎◌, ℕ, zero, suc, ℤ, ◌<◌, List, [], ◌∷◌, ◌++◌, map, length, refl, sym, ◌∙◌, ap, arith, inl, inr, Result, Ok, Err, ◌^◌, unsigned_abs, subst}
 use Rattle.std.proofs.lemmas.List.{length-append}
-use Rattle.edf_fields.specs.declared.cause.TalCause.{TalCause}
+use Rattle.edf_fields.specs.declared.faults.cause.TalCause.{TalCause}
 use Rattle.edf_fields.proofs.ForCallers.{onset_small}
 use Rattle.edf_tal.specs.Tals.{TalValue, SpellsTal}
 use Rattle.edf_tal.specs.Timekeeping.{StartsAt, BeginsSilent, KeepsNoTime}

@@ -11,8 +11,8 @@ use Rattle.std.proofs.lemmas.Grind.{common_steps}
 use Rattle.std.specs.Str.{IsUtf8, is_utf8}
 use Rattle.std.specs.Prelude.{Ok, Err, Option, Some, None, MatchOption}
 use Rattle.std.specs.Borrow.{Bor}
-use Rattle.edf_fields.specs.declared.cause.TalCause.{TalCause}
-use Rattle.edf_fields.specs.declared.cause.TalCause.TheVariants.{NotUtf8, ControlByte}
+use Rattle.edf_fields.specs.declared.faults.cause.TalCause.{TalCause}
+use Rattle.edf_fields.specs.declared.faults.cause.TalCause.TheVariants.{NotUtf8, ControlByte}
 use Rattle.edf_tal.specs.Tals.{is_control}
 use Rattle.edf_tal.specs.Reading.{until, behind, pieces, closed, texts_of, judge_texts, judge_text, is_foreign}
 

@@ -1,9 +1,9 @@
 -- Why a lane is no list of TALs: the first cause, in words.
 use Rattle.std.specs.Prelude.{◌≡◌, ◌≢◌, ℕ, ◌<◌, ◌==◌, true, false, ℤ, List, [], ◌∷◌, ◌++◌, ◌⊎◌, length, Option, IsUtf8}
 use Rattle.std.specs.List.{list_any, position_or_len}
-use Rattle.edf_fields.specs.Onsets.{SpellsOnset, SpellsSpan}
-use Rattle.edf_fields.specs.declared.cause.TalCause.{TalCause}
-use Rattle.edf_fields.specs.declared.cause.TalCause.TheVariants.{BadOnset, BadDuration, NoEnd, NotUtf8, ControlByte, NotZeroFilled}
+use Rattle.edf_fields.specs.texts.Onsets.{SpellsOnset, SpellsSpan}
+use Rattle.edf_fields.specs.declared.faults.cause.TalCause.{TalCause}
+use Rattle.edf_fields.specs.declared.faults.cause.TalCause.TheVariants.{BadOnset, BadDuration, NoEnd, NotUtf8, ControlByte, NotZeroFilled}
 use Rattle.edf_tal.specs.Tals.{TalValue, SpellsTal, SpellsDuration, AreTexts, IsLaneOf, is_control, ended, are_zeros}
 use Rattle.edf_tal.specs.Reading.{until, behind, IsClosed}
 

@@ -3,9 +3,9 @@ use Rattle.std.specs.Prelude.{◌≡◌, ℕ, ◌-◌, ◌<◌, Bool, true, fals
 use Rattle.std.specs.List.{slice_split, before_first, after_first, position_or_len, list_any, list_all}
 use Rattle.std.specs.Option.{ok_or}
 use Rattle.std.specs.Str.{is_utf8}
-use Rattle.edf_fields.specs.OnsetsReading.{onset_of, span_of}
-use Rattle.edf_fields.specs.declared.cause.TalCause.{TalCause}
-use Rattle.edf_fields.specs.declared.cause.TalCause.TheVariants.{BadOnset, BadDuration, NoEnd, NotUtf8, ControlByte, NotZeroFilled}
+use Rattle.edf_fields.specs.texts.OnsetsReading.{onset_of, span_of}
+use Rattle.edf_fields.specs.declared.faults.cause.TalCause.{TalCause}
+use Rattle.edf_fields.specs.declared.faults.cause.TalCause.TheVariants.{BadOnset, BadDuration, NoEnd, NotUtf8, ControlByte, NotZeroFilled}
 use Rattle.edf_tal.specs.Tals.{TalValue, is_control, are_zeros}
 
 -- what stands before the first byte c

@@ -2,7 +2,7 @@
 -- (TALs) in an 'EDF Annotations' signal".
 use Rattle.std.specs.Prelude.{◌≡◌, ℕ, Bool, true, false, not, ◌&&◌, ◌||◌, ◌==◌, nat_lt, ℤ, List, [], ◌∷◌, ◌++◌, Option, Some, None, IsUtf8}
 use Rattle.std.specs.List.{list_any, list_all, flat_map}
-use Rattle.edf_fields.specs.Onsets.{SpellsOnset, SpellsSpan}
+use Rattle.edf_fields.specs.texts.Onsets.{SpellsOnset, SpellsSpan}
 
 -- a TAL: its onset and, where there is one, its duration, in picoseconds, and its texts
 pub record TalValue : Type 0 where

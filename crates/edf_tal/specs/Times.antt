@@ -1,8 +1,8 @@
 -- What stands before the first byte 20 of a TAL and says no times.
 use Rattle.std.specs.Prelude.{◌≡◌, ℕ, ℤ, List, None, Some, Err, ◌⊎◌}
-use Rattle.edf_fields.specs.OnsetsReading.{onset_of}
-use Rattle.edf_fields.specs.declared.cause.TalCause.{TalCause}
-use Rattle.edf_fields.specs.declared.cause.TalCause.TheVariants.{BadOnset}
+use Rattle.edf_fields.specs.texts.OnsetsReading.{onset_of}
+use Rattle.edf_fields.specs.declared.faults.cause.TalCause.{TalCause}
+use Rattle.edf_fields.specs.declared.faults.cause.TalCause.TheVariants.{BadOnset}
 use Rattle.edf_tal.specs.Reading.{until, duration_of}
 
 -- no onset stands there, or no duration behind an onset; and the cause

@@ -1,11 +1,11 @@
 -- What the code's values say, in the words of the definitions.
 use Rattle.std.specs.Prelude.{ℕ, ℤ, List, [], ◌∷◌, Option, Some, None, Result, Ok, Err}
-use Rattle.edf_fields.specs.declared.cause.TalCause.{TalCause}
+use Rattle.edf_fields.specs.declared.faults.cause.TalCause.{TalCause}
 use Rattle.edf_tal.specs.Tals.{TalValue}
 use Rattle.edf_tal.specs.Reading.{Item, texts_of, items_of}
 use Rattle.edf_tal.specs.declared.tal.Tal.{Tal}
 use Rattle.edf_tal.specs.declared.tals.Tals.{Tals}
-use Rattle.edf_tal.specs.declared.tal_texts.Texts.{Texts}
+use Rattle.edf_tal.specs.declared.tal_texts.TalTexts.{TalTexts}
 use Rattle.edf_tal.specs.declared.start.StartCause.{StartCause}
 use Rattle.edf_tal.specs.declared.start.StartCause.TheVariants as start
 
@@ -23,7 +23,7 @@ abbrev pub items_left : Tals → List Item
 items_left tals = items_of tals.rest.now
 
 -- the texts that are still to come
-abbrev pub texts_left : Texts → List (List ℕ)
+abbrev pub texts_left : TalTexts → List (List ℕ)
 texts_left texts = texts_of texts.rest.now
 
 -- the onset of a TAL whose first text is empty. EDF+ (2003), "Time keeping of data records"

@@ -6,11 +6,11 @@ ghost use Rattle.edf_tal.specs.Tals.{is_control};
 ghost use Rattle.edf_tal.specs.Reading.{texts_of, judge_text, judge_texts, is_foreign, IsClosed};
 
 use crate::separator::cut;
-use crate::tal_texts::Texts;
-use edf_fields::cause::TalCause;
+use crate::tal_texts::TalTexts;
+use edf_fields::TalCause;
 
 /// The byte that ends a text.
-pub(crate) const END: u8 = 20;
+pub const TEXT_END: u8 = 20;
 
 /// Whether a byte is a control byte other than 9, 10 and 13.
 fn is_control(byte: u8) -> bool
@@ -30,7 +30,8 @@ fn has_control(bytes: &[u8]) -> bool
 fn has_foreign(body: &[u8]) -> bool
     ensures { result ≡ list_any is_foreign body.now }
 {
-    body.iter().any(|byte| is_control(*byte) && *byte != END)
+    body.iter()
+        .any(|byte| is_control(*byte) && *byte != TEXT_END)
 }
 
 /// The first text, and what stands behind it.
@@ -38,7 +39,7 @@ fn first_text(body: &[u8]) -> Option<(&[u8], &[u8])>
     ensures { MatchOption result (texts_of body.now ≡ []) (λ x.
         (texts_of body.now ≡ x.0.now ∷ texts_of x.1.now) × (length x.1.now < length body.now)) }
 {
-    cut(body, END)
+    cut(body, TEXT_END)
 }
 
 /// Whether the bytes are a text of the profile.
@@ -76,7 +77,7 @@ fn judge_one_by_one(body: &[u8]) -> Result<(), TalCause>
 fn judge_utf8(body: &str) -> Result<(), TalCause>
     ensures { result ≡ judge_texts (texts_of body.now) }
 {
-    for text in (Texts { rest: body }) {
+    for text in (TalTexts { rest: body }) {
         if has_control(text.as_bytes()) {
             return Err(TalCause::ControlByte);
         }

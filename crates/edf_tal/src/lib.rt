@@ -7,8 +7,14 @@ mod annotation_text;
 pub mod laws;
 mod piece;
 mod separator;
-pub mod start;
-pub mod tal;
-pub mod tal_texts;
-pub mod tals;
+mod start;
+mod tal;
+mod tal_texts;
+mod tals;
 mod zeros;
+
+pub use annotation_text::TEXT_END;
+pub use start::{StartCause, record_start, start_by_first, time_alone, time_alone_apart};
+pub use tal::Tal;
+pub use tal_texts::TalTexts;
+pub use tals::Tals;

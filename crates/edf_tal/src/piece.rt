@@ -1,29 +1,28 @@
 //! Reading a TAL from a piece of a lane, which a byte 0 follows.
 
 ghost use Rattle.std.specs.Prelude.{◌≡◌, ◌<◌, ◌^◌, ◌≤ℤ◌, pos, length, unsigned_abs, Ok, Some, IfSome, IfOk, MatchResult};
-ghost use Rattle.edf_fields.specs.OnsetsReading.{onset_of};
+ghost use Rattle.edf_fields.specs.texts.OnsetsReading.{onset_of};
 ghost use Rattle.edf_tal.specs.Reading.{until, duration_of, tal_of_parts, tal_of, IsClosed};
 ghost use Rattle.edf_tal.specs.Times.{SaysNoTimes};
 ghost use Rattle.edf_tal.specs.Views.{item_view};
 
-use crate::annotation_text::{END, checked};
+use crate::annotation_text::{TEXT_END, checked};
 use crate::separator::cut;
 use crate::tal::Tal;
-use edf_fields::cause::TalCause;
-use edf_fields::onset::{onset, span};
+use edf_fields::{TalCause, onset, span};
 
 /// The byte between an onset and a duration.
 const DURATION: u8 = 21;
 
 /// The onset of a TAL, and its duration, where it has one.
 #[derive(Clone, Copy)]
-struct Times {
+struct TalTimes {
     onset: i128,
     duration: Option<i128>,
 }
 
 /// The times in what stands before the first byte 20: first the onset is read, then the duration.
-fn times_in(head: &[u8]) -> Result<Times, TalCause>
+fn times_in(head: &[u8]) -> Result<TalTimes, TalCause>
     ensures said { MatchResult result
         (λ times. (onset_of (until 21 head.now) ≡ Some times.onset) × (duration_of head.now ≡ Ok times.duration))
         (λ cause. SaysNoTimes head.now cause) }
@@ -33,7 +32,7 @@ fn times_in(head: &[u8]) -> Result<Times, TalCause>
 {
     let Some((front, text)) = cut(head, DURATION) else {
         return match onset(head) {
-            Some(onset) => Ok(Times {
+            Some(onset) => Ok(TalTimes {
                 onset,
                 duration: None,
             }),
@@ -44,7 +43,7 @@ fn times_in(head: &[u8]) -> Result<Times, TalCause>
         return Err(TalCause::BadOnset);
     };
     match span(text) {
-        Some(duration) => Ok(Times {
+        Some(duration) => Ok(TalTimes {
             onset: begin,
             duration: Some(duration),
         }),
@@ -78,10 +77,10 @@ pub(crate) fn read_tal(piece: &[u8]) -> Result<Tal<'_>, TalCause>
     requires { 0 < length piece.now }
     ensures { item_view result ≡ tal_of piece.now }
 {
-    if piece[piece.len() - 1] != END {
+    if piece[piece.len() - 1] != TEXT_END {
         return Err(TalCause::NoEnd);
     }
-    match cut(piece, END) {
+    match cut(piece, TEXT_END) {
         Some((head, body)) => read_parts(head, body),
         None => Err(TalCause::NoEnd),
     }

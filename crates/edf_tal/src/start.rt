@@ -2,20 +2,19 @@
 
 ghost use Rattle.std.specs.Prelude.{◌≡◌, ◌↔◌, ◌<◌, ◌^◌, ℤ, List, [], ◌∷◌, Ok, Err, unsigned_abs, IfOk, IfSome, MatchOption};
 ghost use Rattle.std.specs.Option.{option_map};
-ghost use Rattle.edf_fields.specs.declared.cause.TalCause.{TalCause};
+ghost use Rattle.edf_fields.specs.declared.faults.cause.TalCause.{TalCause};
 ghost use Rattle.edf_tal.specs.Faults.{HasFault};
 ghost use Rattle.edf_tal.specs.Reading.{Item, items_of, ends_alone, time_alone_of};
 ghost use Rattle.edf_tal.specs.Timekeeping.{StartsAt, KeepsNoTime, IsTimeAlone, time_tal};
 ghost use Rattle.edf_tal.specs.Views.{tal_view, item_view, kept_time, first_of, start_by, start_of};
 ghost use Rattle.edf_tal.specs.declared.start.StartCause.TheVariants as start;
 
-use crate::annotation_text::END;
+use crate::annotation_text::TEXT_END;
 use crate::separator::{cut, cut_near};
 use crate::tal::Tal;
 use crate::tals::Tals;
 use crate::zeros::are_zeros;
-use edf_fields::cause::TalCause;
-use edf_fields::onset::onset;
+use edf_fields::{TalCause, onset};
 
 /// Why a lane doesn't say where its data record starts (EDF+, "Time keeping of data records").
 #[derive(Clone, Copy, Debug, PartialEq, Eq)]
@@ -33,7 +32,7 @@ fn kept_time(tal: &Tal<'_>) -> Result<i128, StartCause>
     ensures small { IfOk result (λ v. unsigned_abs v < 10 ^ 21) }
 {
     let texts = tal.body.as_bytes();
-    if !texts.is_empty() && texts[0] == END {
+    if !texts.is_empty() && texts[0] == TEXT_END {
         return Ok(tal.onset());
     }
     Err(StartCause::NoTimekeeping)
@@ -94,7 +93,7 @@ pub fn record_start(lane: &[u8]) -> Result<i128, StartCause>
 fn ends_alone(texts: &[u8]) -> bool
     ensures { result ≡ ends_alone texts.now }
 {
-    texts.len() > 1 && texts[0] == END && are_zeros(&texts[1..])
+    texts.len() > 1 && texts[0] == TEXT_END && are_zeros(&texts[1..])
 }
 
 /// The onset of a lane that holds the TAL that keeps the time and nothing else.
@@ -104,7 +103,7 @@ fn time_alone_in(lane: &[u8]) -> Option<i128>
     ensures value { result ≡ time_alone_of lane.now }
     ensures small { IfSome result (λ v. unsigned_abs v < 10 ^ 21) }
 {
-    match cut_near(lane, END) {
+    match cut_near(lane, TEXT_END) {
         Some((head, texts)) if ends_alone(texts) => onset(head),
         _ => None,
     }
@@ -131,7 +130,7 @@ fn time_alone_by_bytes(lane: &[u8]) -> Option<i128>
     ensures value { result ≡ time_alone_of lane.now }
     ensures small { IfSome result (λ v. unsigned_abs v < 10 ^ 21) }
 {
-    match cut(lane, END) {
+    match cut(lane, TEXT_END) {
         Some((head, texts)) if ends_alone(texts) => onset(head),
         _ => None,
     }

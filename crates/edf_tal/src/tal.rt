@@ -4,8 +4,8 @@ ghost use Rattle.std.specs.Prelude.{◌≡◌, ◌<◌, ◌^◌, ◌≤ℤ◌, p
 ghost use Rattle.std.proofs.Props.{props};
 ghost use Rattle.edf_tal.specs.Reading.{texts_of};
 
-use crate::annotation_text::END;
-use crate::tal_texts::Texts;
+use crate::annotation_text::TEXT_END;
+use crate::tal_texts::TalTexts;
 
 /// A time-stamped annotation list: an onset, maybe a duration, and texts (EDF+, "Time-stamped Annotations
 /// Lists (TALs) in an 'EDF Annotations' signal").
@@ -26,7 +26,7 @@ fn count_ends(body: &[u8]) -> usize
 {
     let mut count = 0;
     for byte in body {
-        if *byte == END {
+        if *byte == TEXT_END {
             count += 1;
         }
     }
@@ -56,10 +56,10 @@ impl<'a> Tal<'a> {
     }
 
     /// The texts, in order.
-    pub fn texts(&self) -> Texts<'a>
+    pub fn texts(&self) -> TalTexts<'a>
         ensures { texts_left result ≡ (tal_view self.now).texts }
     {
-        Texts { rest: self.body }
+        TalTexts { rest: self.body }
     }
 
     /// How many texts there are.

@@ -17,11 +17,11 @@ fn first_text_of(body: &str) -> Option<(&str, &str)>
 /// The texts of a TAL, in order: each a slice of the lane, UTF-8 without control bytes (EDF+,
 /// "Time-stamped Annotations Lists (TALs) in an 'EDF Annotations' signal").
 #[derive(Clone, Debug, Drop)]
-pub struct Texts<'a> {
+pub struct TalTexts<'a> {
     pub(crate) rest: &'a str,
 }
 
-impl<'a> Iterator for Texts<'a> {
+impl<'a> Iterator for TalTexts<'a> {
     ghost use Rattle.std.specs.Iterator.{YieldsFirstRef, item_count};
     ghost use Rattle.edf_tal.specs.Views.{texts_left};
 

@@ -1,7 +1,7 @@
 //! The TALs of a lane.
 
 ghost use Rattle.std.specs.Prelude.{◌≡◌, ◌↔◌, List, map, ◌++◌, [], ◌∷◌, Ok, Err, MatchOption};
-ghost use Rattle.edf_fields.specs.declared.cause.TalCause.{TalCause};
+ghost use Rattle.edf_fields.specs.declared.faults.cause.TalCause.{TalCause};
 ghost use Rattle.edf_tal.specs.Tals.{TalValue, IsLaneOf};
 ghost use Rattle.edf_tal.specs.Reading.{items_of};
 ghost use Rattle.edf_tal.specs.Faults.{FaultAfter};
@@ -11,7 +11,7 @@ use crate::piece::read_tal;
 use crate::separator::cut_far;
 use crate::tal::Tal;
 use crate::zeros::are_zeros;
-use edf_fields::cause::TalCause;
+use edf_fields::TalCause;
 
 /// The first item of a lane, and the lane behind it; behind a fault nothing is left.
 #[tactic(auto, using(crate::proofs::LaneFacts::nothing_there, crate::proofs::LaneFacts::zeros_alone, crate::proofs::LaneFacts::zeros_and_others, crate::proofs::LaneFacts::without_end, crate::proofs::LaneFacts::tal_read, crate::proofs::LaneFacts::tal_refused))]

@@ -1,8 +1,7 @@
 //! A header in memory, and other texts in its fields.
 
-use edf_fields::fault::Place;
-use edf_fields::layout::{FixedField, SignalField};
-use edf_header::header::Header;
+use edf_fields::{FixedField, Place, SignalField};
+use edf_header::Header;
 use std::alloc::{AllocError, Global};
 
 /// The fields of the fixed part: the name, how many bytes it has, and its text in the reference file.
@@ -25,7 +24,7 @@ const RECORDING: &str = "Startdate 02-MAR-2002 PSG-1234/2002 NN Telemetry03";
 
 /// The columns: the name, how many bytes of a signal it has, and the texts of the reference file's three
 /// signals.
-pub const COLUMNS: &[(SignalField, &str, usize, Texts)] = &[
+pub const COLUMNS: &[(SignalField, &str, usize, FieldTexts)] = &[
     (SignalField::Label, "label", 16, LABELS),
     (SignalField::Transducer, "transducer", 80, TRANSDUCERS),
     (SignalField::Dimension, "dimension", 8, ["uV", "mV", ""]),
@@ -38,21 +37,21 @@ pub const COLUMNS: &[(SignalField, &str, usize, Texts)] = &[
     (SignalField::Reserved, "reserved", 32, ["", "", ""]),
 ];
 
-type Texts = [&'static str; 3];
+type FieldTexts = [&'static str; 3];
 
-const LABELS: Texts = ["EEG Fpz-Cz", "ECG", "EDF Annotations"];
+const LABELS: FieldTexts = ["EEG Fpz-Cz", "ECG", "EDF Annotations"];
 
-const TRANSDUCERS: Texts = ["AgAgCl electrode", "AgAgCl electrode", ""];
+const TRANSDUCERS: FieldTexts = ["AgAgCl electrode", "AgAgCl electrode", ""];
 
-const LOWEST: Texts = ["-100", "-10", "-1"];
+const LOWEST: FieldTexts = ["-100", "-10", "-1"];
 
-const HIGHEST: Texts = ["100", "10", "1"];
+const HIGHEST: FieldTexts = ["100", "10", "1"];
 
-const LEAST: Texts = ["-2048", "-2048", "-32768"];
+const LEAST: FieldTexts = ["-2048", "-2048", "-32768"];
 
-const MOST: Texts = ["2047", "2047", "32767"];
+const MOST: FieldTexts = ["2047", "2047", "32767"];
 
-const PREFILTERS: Texts = ["HP:0.1Hz LP:75Hz", "HP:0.1Hz LP:75Hz", ""];
+const PREFILTERS: FieldTexts = ["HP:0.1Hz LP:75Hz", "HP:0.1Hz LP:75Hz", ""];
 
 /// Where a field begins in a header of so many signals, and how many bytes it has.
 fn extent(place: Place, signals: usize) -> (usize, usize) {

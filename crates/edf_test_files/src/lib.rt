@@ -3,7 +3,12 @@
 //! what these functions make is judged by the tests.
 #![tactic(auto)]
 
-pub mod file;
-pub mod record;
-pub mod scarce;
-pub mod tape;
+mod file;
+mod record;
+mod scarce;
+mod tape;
+
+pub use file::{COLUMNS, Done, Edit, FIXED, edited, header_of, is_reference, put};
+pub use record::{LANES, push_lane, recorded, small_file, temp_header, timed, twofold};
+pub use scarce::Scarce;
+pub use tape::{Tape, dripping, endless, tape_of};

@@ -1,8 +1,8 @@
 //! Whole files in memory: a header, and data records with these lanes.
 
 use crate::file::{Edit, edited, header_of, put};
-use edf_fields::fault::Place::{AtField, AtSignal};
-use edf_fields::layout::{FixedField as Fixed, SignalField as Field};
+use edf_fields::Place::{AtField, AtSignal};
+use edf_fields::{FixedField as Fixed, SignalField as Field};
 use std::alloc::{AllocError, Global};
 
 /// What stands in the annotation lane of each data record of the reference file.

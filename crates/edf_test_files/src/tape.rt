@@ -2,7 +2,7 @@
 
 ghost use Rattle.std.specs.Prelude.{[], false};
 
-use edf_fields::source::{ReadFault, Source};
+use edf_fields::{ReadFault, Source};
 
 /// Gives its bytes, so many a read at the most, and fails once so many reads are done; an endless one gives
 /// zeros behind its bytes. It counts its reads. No list holds what is left, so the proofs know nothing of it.
@@ -53,7 +53,7 @@ pub fn endless(rest: &[u8], most: usize, passes: u32) -> Tape<'_> {
 }
 
 impl<'a> Source for Tape<'a> {
-    ghost use Rattle.edf_fields.specs.PlainReads.{plain_reads};
+    ghost use Rattle.edf_fields.specs.in_out.PlainReads.{plain_reads};
 
     ghost left = { λ _. [] };
 

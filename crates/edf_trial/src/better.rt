@@ -3,7 +3,7 @@
 ghost use Rattle.std.specs.Prelude.{◌≡◌};
 ghost use Rattle.edf_trial.specs.Better.{instant_of, is_behind as is_behind_of, is_better as is_better_of};
 
-use edf_verdict::verdict::{Difference, Verdict};
+use edf_verdict::{Difference, Verdict};
 
 /// The instant of a difference, in picoseconds after the second at which the original starts; 0 where it has none.
 fn instant(difference: &Difference) -> i128

@@ -4,9 +4,8 @@ ghost use Rattle.std.specs.Prelude.{IfOk, IfSome, IsTrue};
 ghost use Rattle.edf_trial.specs.Changes.{IsClaimThatKeeps};
 
 use crate::changed::{put, table_of, text_of};
-use edf_claim::claim::Claim;
-use edf_claim::stop::ClaimStop;
-use edf_fields::onset::{SECOND_PS, span};
+use edf_claim::{Claim, ClaimStop};
+use edf_fields::{SECOND_PS, span};
 use std::alloc::{AllocError, Global};
 use toml::value::Array;
 use toml::{Table, Value};

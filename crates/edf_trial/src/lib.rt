@@ -1,10 +1,17 @@
 //! Tries: a check that is run anew under a claim that was changed, so that a remedy is named only where it was tried.
 #![tactic(auto)]
 
-pub mod better;
+mod anew;
+mod better;
 mod changed;
-pub mod channels;
-pub mod check_anew;
-pub mod ends;
-pub mod recordings;
-pub mod shifted;
+mod channels;
+mod ends;
+mod recordings;
+mod shifted;
+
+pub use anew::check_anew;
+pub use better::is_better;
+pub use channels::with_channels;
+pub use ends::with_end;
+pub use recordings::{Recordings, SliceRecordings};
+pub use shifted::with_shift;

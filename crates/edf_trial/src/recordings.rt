@@ -2,7 +2,7 @@
 
 ghost use Rattle.std.specs.Prelude.{◌≡◌, ℕ, List, Bool, true, IfOk, IsTrue};
 
-use edf_fields::source::{SliceSource, Source};
+use edf_fields::{SliceSource, Source};
 use edf_stop::CheckStop;
 
 /// An original and its export, each of which is opened anew for every reading.

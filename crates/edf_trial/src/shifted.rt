@@ -4,8 +4,7 @@ ghost use Rattle.std.specs.Prelude.{IfOk, IfSome, IsTrue};
 ghost use Rattle.edf_trial.specs.Changes.{IsClaimOfShift};
 
 use crate::changed::{put, table_of, text_of};
-use edf_claim::claim::Claim;
-use edf_claim::stop::ClaimStop;
+use edf_claim::{Claim, ClaimStop};
 use std::alloc::{AllocError, Global};
 use toml::Value;
 

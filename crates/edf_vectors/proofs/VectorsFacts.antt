@@ -4,10 +4,10 @@ use Rattle.std.specs.List.{flat_map}
 use Rattle.std.proofs.lemmas.List.{map-append, append-nil, map_more}
 use Rattle.std.proofs.lemmas.List.Concat.{flat_map-append}
 use Rattle.std.proofs.lemmas.List.Elements.{All-push, All-pop}
-use Rattle.edf_fields.specs.declared.source.SliceSource.{SliceSource}
-use Rattle.edf_fields.specs.SliceSource.{reads_of}
-use Rattle.edf_fields.specs.Sources.{Fails}
-use Rattle.edf_fields.specs.PlainReads.{plain_reads}
+use Rattle.edf_fields.specs.declared.in_out.source.SliceSource.{SliceSource}
+use Rattle.edf_fields.specs.in_out.SliceSource.{reads_of}
+use Rattle.edf_fields.specs.in_out.Sources.{Fails}
+use Rattle.edf_fields.specs.in_out.PlainReads.{plain_reads}
 use Rattle.edf_claim.specs.declared.stop.ClaimStop.{ClaimStop}
 use Rattle.edf_stop.specs.declared.parts_stops.PartSide.{PartSide}
 use Rattle.edf_stop.specs.declared.parts_stops.PartSide.TheVariants as sides

@@ -2,7 +2,7 @@
 
 ghost use Rattle.std.specs.Prelude.{◌≡◌, []};
 
-use edf_fields::sink::{Sink, WriteFault};
+use edf_fields::{Sink, WriteFault};
 use std::alloc::Global;
 
 /// A sink that keeps its bytes in memory. It is honest, and a write fails only for want of memory.

@@ -7,11 +7,8 @@ ghost use Rattle.edf_vectors.specs.Vectors.{IsLine, IsLineOfRow, IsPartsLine};
 
 use crate::line_sink::Line;
 use edf_check::{run, run_parts};
-use edf_fields::sink::Sink;
-use edf_fields::source::{SliceSource, Source};
-use edf_rows::build::bytes_of;
-use edf_rows::claims::claim_text;
-use edf_rows::rows::{Exports, Row};
+use edf_fields::{Sink, SliceSource, Source};
+use edf_rows::{Exports, Row, bytes_of, claim_text};
 use edf_stop::{PartsRunStop, RunStop};
 use std::alloc::{AllocError, Global};
 

@@ -2,15 +2,15 @@
 //! stored for them.
 
 ghost use Rattle.std.specs.Prelude.{◌≡◌, ◌++◌, map, IfOk, IfErr, OnOk, IsTrue};
-ghost use Rattle.edf_fields.specs.Sources.{Rises};
+ghost use Rattle.edf_fields.specs.in_out.Sources.{Rises};
 ghost use Rattle.edf_rows.specs.Rows.{row_of};
 ghost use Rattle.edf_vectors.specs.Vectors.{row_text, RowStops, IsRowWritten, AreAllRowsWritten};
 
 use crate::row_line::line_of_row;
-use edf_fields::sink::{Sink, put_all};
-use edf_rows::rows::{Row, worked_rows};
+use edf_fields::{Sink, put_all};
+use edf_rows::{Row, worked_rows};
 use edf_stop::ReportStop;
-use edf_verdict::outcome::Outcome;
+use edf_verdict::Outcome;
 use std::alloc::{AllocError, Global};
 
 /// The text that a row writes: its number, a space, and the line.

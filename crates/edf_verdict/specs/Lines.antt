@@ -1,8 +1,8 @@
 -- The line of text of a verdict.
 use Rattle.std.specs.Prelude.{ℕ, ℤ, List, [], ◌∷◌, ◌++◌, Option, codes}
 use Rattle.std.specs.Fmt.{decimal, signed_decimal}
-use Rattle.edf_fields.specs.SubfieldNames.{name_of}
-use Rattle.edf_fields.specs.declared.which.Which.{Which}
+use Rattle.edf_fields.specs.fields.SubfieldNames.{name_of}
+use Rattle.edf_fields.specs.declared.fields.which.Which.{Which}
 use Rattle.edf_fields.specs.FaultTexts.{fault_text}
 use Rattle.edf_verdict.specs.declared.verdict.AnnotationMismatch.{AnnotationMismatch}
 use Rattle.edf_verdict.specs.declared.verdict.AnnotationMismatch.TheVariants as notes

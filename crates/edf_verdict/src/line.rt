@@ -12,8 +12,7 @@ use crate::quote::push_with_quoted;
 use crate::verdict::{
     AnnotationMismatch, Difference, FreeText, SampleMismatch, SubfieldMismatch, TextField, Verdict,
 };
-use edf_fields::fault::Fault;
-use edf_fields::which::Which;
+use edf_fields::{Fault, Which};
 use std::alloc::{AllocError, Global};
 use std::fmt;
 
@@ -66,12 +65,12 @@ impl fmt::Display for AnnotationMismatch {
 
 /// The instant at which samples differ, in picoseconds, and how they do.
 #[derive(Clone, Copy)]
-struct Moment {
+struct SampleWords {
     at_ps: i128,
     mismatch: SampleMismatch,
 }
 
-impl fmt::Display for Moment {
+impl fmt::Display for SampleWords {
     ghost output = { λ moment. Some (moment_text moment.at_ps moment.mismatch) };
 
     #[tactic(auto, unfolding(crate::specs::Lines::moment_text))]
@@ -166,7 +165,7 @@ fn push_sample(
     line: &mut Vec<u8>,
     alloc: Global,
     label: &Label,
-    moment: Moment,
+    moment: SampleWords,
 ) -> Result<(), AllocError>
     ensures { OnOk result (line.new.items ≡ line.old.items ++ sample_text label.now moment.at_ps moment.mismatch) }
 {
@@ -187,16 +186,23 @@ fn push_note(
     push_with_quoted(line, &words, text.as_str().as_bytes())
 }
 
+/// How much was compared.
+#[derive(Clone, Copy)]
+pub(crate) struct Counts {
+    pub channels: u64,
+    pub samples: u64,
+    pub annotations: u64,
+}
+
 /// Puts what was compared behind the line.
-fn push_counts(
-    line: &mut Vec<u8>,
-    alloc: Global,
-    channels: u64,
-    samples: u64,
-    annotations: u64,
-) -> Result<(), AllocError>
-    ensures { OnOk result (line.new.items ≡ line.old.items ++ counts_text channels samples annotations) }
+fn push_counts(line: &mut Vec<u8>, alloc: Global, counts: Counts) -> Result<(), AllocError>
+    ensures { OnOk result (line.new.items ≡ line.old.items ++ counts_text counts.channels counts.samples counts.annotations) }
 {
+    let Counts {
+        channels,
+        samples,
+        annotations,
+    } = counts;
     let words = format!(in alloc;
         "YES channels {channels} samples {samples} annotations {annotations}"
     )?;
@@ -235,7 +241,7 @@ impl Difference {
                 at_ps,
                 mismatch,
             } => {
-                let moment = Moment {
+                let moment = SampleWords {
                     at_ps: *at_ps,
                     mismatch: *mismatch,
                 };
@@ -278,7 +284,14 @@ impl Verdict {
                 channels,
                 samples,
                 annotations,
-            } => push_counts(line, alloc, *channels, *samples, *annotations),
+            } => {
+                let counts = Counts {
+                    channels: *channels,
+                    samples: *samples,
+                    annotations: *annotations,
+                };
+                push_counts(line, alloc, counts)
+            }
             Verdict::No(difference) => difference.push(line, alloc),
         }
     }

@@ -3,7 +3,7 @@
 ghost use Rattle.std.specs.Prelude.{◌≡◌, ◌++◌, IfOk, OnOk};
 ghost use Rattle.edf_verdict.specs.PartsLines.{is_of_part, part_words, parts_counts_text, part_difference_text, parts_verdict_text, parts_verdict_line};
 
-use crate::line::push_no;
+use crate::line::{Counts, push_no};
 use crate::parts_verdict::PartsVerdict;
 use crate::verdict::{Difference, Verdict};
 use std::alloc::{AllocError, Global};
@@ -19,16 +19,19 @@ fn push_part(line: &mut Vec<u8>, alloc: Global, part: u16) -> Result<(), AllocEr
 
 /// Puts what was compared behind the line.
 #[tactic(auto, unfolding(crate::specs::PartsLines::parts_counts_text))]
-fn push_counts(
+fn push_parts_counts(
     line: &mut Vec<u8>,
     alloc: Global,
     parts: u16,
-    channels: u64,
-    samples: u64,
-    annotations: u64,
+    counts: Counts,
 ) -> Result<(), AllocError>
-    ensures { OnOk result (line.new.items ≡ line.old.items ++ parts_counts_text parts channels samples annotations) }
+    ensures { OnOk result (line.new.items ≡ line.old.items ++ parts_counts_text parts counts.channels counts.samples counts.annotations) }
 {
+    let Counts {
+        channels,
+        samples,
+        annotations,
+    } = counts;
     let words = format!(in alloc;
         "YES parts {parts} channels {channels} samples {samples} annotations {annotations}"
     )?;
@@ -71,7 +74,14 @@ impl PartsVerdict {
                 channels,
                 samples,
                 annotations,
-            } => push_counts(line, alloc, parts, *channels, *samples, *annotations),
+            } => {
+                let counts = Counts {
+                    channels: *channels,
+                    samples: *samples,
+                    annotations: *annotations,
+                };
+                push_parts_counts(line, alloc, parts, counts)
+            }
             Verdict::No(difference) => difference.push_of_part(line, alloc, self.part),
         }
     }

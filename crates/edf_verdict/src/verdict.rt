@@ -2,8 +2,7 @@
 
 use crate::label::Label;
 use crate::note_text::NoteText;
-use edf_fields::fault::Fault;
-use edf_fields::which::Which;
+use edf_fields::{Fault, Which};
 
 /// What a check says.
 #[derive(Debug, Drop, PartialEq, Eq)]

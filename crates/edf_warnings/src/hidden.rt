@@ -2,11 +2,9 @@
 
 use crate::folded::{Marks, fold};
 use crate::needle::{INITIALS, Needle, has_initials, is_between_words, is_particle};
-use edf_claim::claim::Claim;
-use edf_fields::date::dashed_date;
-use edf_fields::subfields::Subfields;
-use edf_fields::which::Which;
-use edf_header::header::Header;
+use edf_claim::Claim;
+use edf_fields::{Subfields, Which, dashed_date};
+use edf_header::Header;
 use std::alloc::{AllocError, Global};
 
 /// What is looked for in texts: what a claim hides of an original, and the patient's name.

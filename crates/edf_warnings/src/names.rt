@@ -3,12 +3,11 @@
 use crate::hidden::Hidden;
 use crate::read_texts::ReadTexts;
 use crate::words;
-use edf_claim::claim::Claim;
-use edf_fields::subfields::Subfields;
-use edf_fields::which::Which;
+use edf_claim::Claim;
+use edf_fields::{Subfields, Which};
 use edf_findings::Notes;
-use edf_header::header::Header;
-use edf_heads::subfields::is_anonymous;
+use edf_header::Header;
+use edf_heads::is_anonymous;
 use edf_sentences::{NOT_LISTED, Piece, Text};
 use std::alloc::AllocError;
 

@@ -1,6 +1,6 @@
 //! A text that is looked for in others.
 
-use edf_fields::which::Which;
+use edf_fields::Which;
 use std::alloc::{AllocError, Global};
 
 /// From how many letters on a text is looked for within words, and as a word of its own.

@@ -1,8 +1,8 @@
 //! Whose texts are read.
 
-use edf_claim::claim::Claim;
+use edf_claim::Claim;
 use edf_findings::Notes;
-use edf_header::header::Header;
+use edf_header::Header;
 
 /// Two recordings and a claim, whose texts are read: the claim as it was read and as it stands, the headers, and the annotations.
 #[derive(Clone, Copy)]

@@ -4,9 +4,9 @@ use crate::misspelt::say_misspelt;
 use crate::names::say_names;
 use crate::read_texts::ReadTexts;
 use crate::words;
-use edf_fields::which::Which;
-use edf_header::header::Header;
-use edf_heads::subfields::is_anonymous;
+use edf_fields::Which;
+use edf_header::Header;
+use edf_heads::is_anonymous;
 use edf_sentences::{FULL_STOP, NEXT, Piece, Text};
 use std::alloc::AllocError;
 

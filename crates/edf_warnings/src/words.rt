@@ -1,7 +1,7 @@
 //! The texts of the sentences on what to read before an export goes out. `{0}` stands for the first thing that is put into a
 //! sentence, `{1}` for the second.
 
-use edf_fields::which::Which;
+use edf_fields::Which;
 
 // Behind a No.
 

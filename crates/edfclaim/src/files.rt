@@ -1,14 +1,14 @@
 //! The files that a command reads.
 
 ghost use Rattle.std.specs.Prelude.{◌≡◌, ◌≤◌, length, take, IfOk, IfErr, IsTrue};
-ghost use Rattle.edf_fields.specs.Sources.{Fails};
+ghost use Rattle.edf_fields.specs.in_out.Sources.{Fails};
 ghost use Rattle.edf_refusal.specs.Refusals.{ClaimReadStops};
 ghost use Rattle.edf_refusal.specs.declared.refusals.Refusal.TheVariants as refusals;
 ghost use Rattle.edfclaim.specs.Opening.{ClaimTextStops, OpeningStops};
 
 use crate::signs::{Signs, Watched};
-use edf_claim::claim::MOST_BYTES;
-use edf_fields::source::{ReadSource, Source, fill};
+use edf_claim::MOST_CLAIM_BYTES;
+use edf_fields::{ReadSource, Source, fill};
 use edf_receipt::DigestSource;
 use edf_refusal::{Refusal, Role};
 use std::alloc::Global;
@@ -26,7 +26,7 @@ const READ_AHEAD_OF_SEVERAL: usize = 16_384;
 
 /// How many bytes of a claim are read at most: one more than a claim may have, so that a longer one is
 /// seen to be too long.
-const CLAIM_BYTES: usize = MOST_BYTES + 1;
+const CLAIM_BYTES: usize = MOST_CLAIM_BYTES + 1;
 
 /// Opens a file to be read.
 ///

@@ -4,10 +4,10 @@ ghost use Rattle.std.specs.Prelude.{[], false};
 
 use crate::files::watched;
 use crate::signs::{Signs, Watched};
-use edf_fields::source::ReadSource;
+use edf_fields::ReadSource;
 use edf_refusal::{Refusal, Role};
 use edf_stop::{CheckStop, Side};
-use edf_trial::recordings::Recordings;
+use edf_trial::Recordings;
 use std::io::BufReader;
 use std::rt::Files;
 use std::time::Clock;

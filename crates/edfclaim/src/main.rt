@@ -16,8 +16,8 @@ mod signs;
 ghost use Rattle.edf_job.specs.Jobs.{HasExports};
 
 use clap::error::ErrorKind;
-use edf_command_line::command;
-use edf_job::job::Job;
+use edf_command_line::job;
+use edf_job::Job;
 use edf_refusal::{Refusal, status};
 use std::io::IsTerminal;
 use std::process::ExitCode;
@@ -81,7 +81,7 @@ fn answer(
     words: &[&str],
     is_terminal: bool,
 ) -> u8 {
-    match command::job(rt.alloc(), words) {
+    match job(rt.alloc(), words) {
         Ok(Some(asked)) => answer_job(rt, asked, is_terminal),
         Ok(None) => refuse(rt, "edfclaim: not a command"),
         Err(fault) => answer_fault(rt, &fault),

@@ -1,7 +1,6 @@
 //! Signs of life: on a terminal, a line that says how much of the files is read.
 
-use edf_fields::sink::{Sink, WriteFault};
-use edf_fields::source::{ReadFault, Source};
+use edf_fields::{ReadFault, Sink, Source, WriteFault};
 use std::cell::Cell;
 use std::fmt;
 use std::fmt::{Display, Formatter};

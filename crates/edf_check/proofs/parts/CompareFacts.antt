@@ -1,11 +1,11 @@
 -- A part that is read beside the original: what goes on behind it, and what it came to.
 use Rattle.std.proofs.Common.{◌≡◌, ◌↔◌, ℕ, ℤ, Bool, true, false, not, ◌&&◌, ◌||◌, is_some, List, Option, None, Some, Result, Ok, Err, IfSome, MatchOption, refl, ◌∙◌, subst}
 use Rattle.edf_claim.specs.Terms.{Terms}
-use Rattle.edf_fields.specs.Sources.{Reads}
+use Rattle.edf_fields.specs.in_out.Sources.{Reads}
 use Rattle.edf_header.specs.Heads.{Head}
 use Rattle.edf_heads.specs.HeadVerdicts.{HeadsAgree, IsHeadVerdict}
-use Rattle.edf_stream.specs.Notes.{NoteValue}
-use Rattle.edf_stream.specs.Readers.{Reader}
+use Rattle.edf_stream.specs.annotation.Notes.{NoteValue}
+use Rattle.edf_stream.specs.records.Readers.{Reader}
 use Rattle.edf_verdict.specs.declared.verdict.Verdict.{Verdict}
 use Rattle.edf_check.specs.declared.parts.part.Course.{Course}
 use Rattle.edf_pace.specs.declared.samples.earliest.Found.{Found}

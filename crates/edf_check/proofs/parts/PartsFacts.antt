@@ -3,7 +3,7 @@ use Rattle.std.proofs.Common.{◌≡◌, ℕ, zero, suc, List, [], ◌∷◌, No
 use Rattle.std.proofs.lemmas.List.{append-nil}
 use Rattle.edf_header.specs.HeadsReading.{head_of}
 use Rattle.edf_heads.specs.HeadVerdicts.{HeadsAgree}
-use Rattle.edf_stream.specs.Notes.{NoteValue}
+use Rattle.edf_stream.specs.annotation.Notes.{NoteValue}
 use Rattle.edf_pace.specs.Annotations.{SameNotes}
 use Rattle.edf_check.specs.KeptReading.{kept_notes, exported_notes}
 use Rattle.edf_check.specs.Laws.{OnePart}

@@ -3,15 +3,15 @@ use Rattle.std.proofs.Common.{◌≡◌, ◌↔◌, ◌+◌, ℕ, zero, suc, neg
 use Rattle.std.proofs.lemmas.List.{append-nil, length-map}
 use Rattle.std.proofs.lemmas.List.Sorted.{length_permutation}
 use Rattle.edf_claim.specs.Terms.{Terms}
-use Rattle.edf_fields.specs.declared.fault.Fault.{Fault}
+use Rattle.edf_fields.specs.declared.faults.fault.Fault.{Fault}
 use Rattle.edf_fields.specs.Lists.{Has}
-use Rattle.edf_header.specs.Channels.{channel_labels, channels_among}
+use Rattle.edf_header.specs.signals.Channels.{channel_labels, channels_among}
 use Rattle.edf_header.specs.HeadsReading.{head_of}
 use Rattle.edf_heads.specs.HeadVerdicts.{HeadsAgree, IsHeadVerdict}
 use Rattle.edf_stream.specs.Conforming.{Conforms}
 use Rattle.edf_stream.specs.Faults.{file_fault}
-use Rattle.edf_stream.specs.Notes.{NoteValue, moved_by}
-use Rattle.edf_stream.specs.NotesReading.{notes_of}
+use Rattle.edf_stream.specs.annotation.Notes.{NoteValue, moved_by}
+use Rattle.edf_stream.specs.annotation.NotesReading.{notes_of}
 use Rattle.edf_verdict.specs.declared.verdict.Verdict.{Verdict}
 use Rattle.edf_verdict.specs.declared.verdict.Verdict.TheVariants.{Yes, No}
 use Rattle.edf_verdict.specs.declared.verdict.Difference.TheVariants as differences

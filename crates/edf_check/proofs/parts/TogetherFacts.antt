@@ -9,11 +9,11 @@ use Rattle.edf_heads.specs.Comparisons.{AreSorted}
 use Rattle.edf_heads.specs.HeadVerdicts.{HeadsAgree}
 use Rattle.edf_stream.specs.Conforming.{Conforms}
 use Rattle.edf_stream.specs.Faults.{body_fault, file_fault}
-use Rattle.edf_stream.specs.Notes.{NoteValue}
-use Rattle.edf_stream.specs.NotesReading.{notes_of}
-use Rattle.edf_stream.specs.Starts.{file_start}
+use Rattle.edf_stream.specs.annotation.Notes.{NoteValue}
+use Rattle.edf_stream.specs.annotation.NotesReading.{notes_of}
+use Rattle.edf_stream.specs.times.Starts.{file_start}
 use Rattle.edf_stream.specs.Views.{note_value}
-use Rattle.edf_stream.specs.declared.notes.Note.{Note}
+use Rattle.edf_stream.specs.declared.annotation.notes.Note.{Note}
 use Rattle.edf_pace.specs.Annotations.{SameNotes}
 use Rattle.std.proofs.lemmas.List.{length-map}
 use Rattle.edf_stream.proofs.ForCallers.{sound-of, starts_late}

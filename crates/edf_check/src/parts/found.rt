@@ -6,7 +6,7 @@ ghost use Rattle.edf_check.specs.parts.PartsFound.{earlier_of, first_of, found_w
 
 use crate::parts::part::Course;
 use edf_pace::Found;
-use edf_verdict::verdict::Verdict;
+use edf_verdict::Verdict;
 
 /// The verdict on the header of a part.
 #[derive(Drop)]

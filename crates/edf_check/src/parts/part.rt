@@ -1,7 +1,7 @@
 //! One of several exports, read to its end beside the original.
 
 ghost use Rattle.std.specs.Prelude.{◌≡◌, ◌≤◌, ◌^◌, ◌≤ℤ◌, ◌<ℤ◌, ◌&&◌, ◌||◌, not, is_some, [], length, true, false, None, IfErr, OnOk, IfSome};
-ghost use Rattle.edf_stream.specs.Readers.{HasBegun, is_current};
+ghost use Rattle.edf_stream.specs.records.Readers.{HasBegun, is_current};
 ghost use Rattle.edf_pace.specs.PartsStops.{StopsOfTwo};
 ghost use Rattle.edf_check.specs.parts.PartsVerdicts.{samples_in};
 ghost use Rattle.edf_pace.specs.Premises.{IfFaulty, IfRead};
@@ -10,18 +10,15 @@ ghost use Rattle.edf_pace.specs.walk.Ends.{FaultyBy, IsFoundAmong, at_turn};
 ghost use Rattle.edf_pace.specs.walk.Readings.{HasGoneOn};
 ghost use Rattle.edf_pace.specs.walk.Shown.{IfAtHand, IsAhead, IsGoing, StandsAt, begins_at};
 
-use edf_fields::source::Source;
-use edf_heads::head_difference::head_difference;
+use edf_fields::Source;
+use edf_heads::head_difference;
 use edf_pace::{
     FaultOf, FirstFound, Found, Frame, Offset, Reading, Time, Turn, View, Watch, begin_ps_of,
     common_room, end_both, export_fault, finish, go_on, open, pairs_of, start, walk_on,
 };
 use edf_stop::{PartSide, PartsStop};
-use edf_stream::conform::Summary;
-use edf_stream::note_keeper::KeepsNone;
-use edf_stream::notes::Note;
-use edf_stream::reader::FileReader;
-use edf_verdict::verdict::Verdict;
+use edf_stream::{FileReader, KeepsNone, Note, Summary};
+use edf_verdict::Verdict;
 
 /// When the data records of a part begin and end, and what they differ in.
 #[derive(Clone, Copy)]

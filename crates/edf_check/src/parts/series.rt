@@ -12,10 +12,10 @@ ghost use Rattle.edf_pace.specs.walk.Shown.{IsAhead, IsGoing};
 
 use crate::parts::found::{PartsFound, found_with};
 use crate::parts::part::{PartRead, read_part};
-use edf_fields::source::Source;
+use edf_fields::Source;
 use edf_pace::{FaultOf, Reading, Turn};
 use edf_stop::PartsStop;
-use edf_stream::notes::Note;
+use edf_stream::Note;
 use std::alloc::AllocError;
 
 /// What the parts hold together that were read so far.

@@ -1,7 +1,7 @@
 //! An original and several exports, from the start of the original to the verdict on all of them together.
 
 ghost use Rattle.std.specs.Prelude.{◌≡◌, ◌<◌, ◌∷◌, [], map, length, None, IfErr, IfOk, IfSome, OnOk};
-ghost use Rattle.edf_stream.specs.Readers.{HasBegun};
+ghost use Rattle.edf_stream.specs.records.Readers.{HasBegun};
 ghost use Rattle.edf_stream.specs.Views.{note_value};
 ghost use Rattle.edf_pace.specs.PartsStops.{NoneFailed, StopsOfAll};
 ghost use Rattle.edf_pace.specs.Premises.{IfFaulty, IfRead};
@@ -12,13 +12,12 @@ ghost use Rattle.edf_check.specs.parts.Together.{AreGoneFrom, AreJudgedFrom, Fol
 use crate::finding::Finding;
 use crate::parts::found::PartsFound;
 use crate::parts::series::{Exported, ReadSoFar, read_parts};
-use edf_claim::claim::Claim;
-use edf_fields::source::Source;
+use edf_claim::Claim;
+use edf_fields::Source;
 use edf_pace::{BEGINNING, FaultOf, Setting, Turn, View, note_difference, start, with_label};
 use edf_stop::{PartSide, PartsStop};
-use edf_stream::notes::Note;
-use edf_verdict::parts_verdict::PartsVerdict;
-use edf_verdict::verdict::Verdict;
+use edf_stream::Note;
+use edf_verdict::{PartsVerdict, Verdict};
 use std::alloc::AllocError;
 
 /// Reads the first data record of the original, of which the header was read, and then it and the exports to their ends, and

@@ -2,8 +2,8 @@
 
 use crate::kept::intervals::is_kept;
 use crate::recorded::{Recorded, RecordedNote};
-use edf_claim::interval::Interval;
-use edf_fields::onset::SECOND_PS;
+use edf_claim::Interval;
+use edf_fields::SECOND_PS;
 use std::alloc::{AllocError, Global};
 
 /// The times of an export as those of its original: both counted from the second at which their file starts.

@@ -1,6 +1,6 @@
 //! Intervals of time, in their order.
 
-use edf_claim::interval::Interval;
+use edf_claim::Interval;
 
 /// How many of some intervals end at a time or before; they stand in order.
 pub(crate) fn ended_count(intervals: &[Interval], at_ps: i128) -> usize {

@@ -3,8 +3,7 @@
 use crate::kept::back::Back;
 use crate::kept::intervals::is_kept;
 use crate::recorded::RecordedNote;
-use edf_claim::claim::BLANK;
-use edf_claim::interval::Interval;
+use edf_claim::{BLANK, Interval};
 use std::alloc::{AllocError, Global};
 
 /// CountedTexts, and how often each of them stands in the original.

@@ -1,8 +1,8 @@
 //! Where samples of the original stand beside a time.
 
 use crate::kept::intervals::ended_count;
-use edf_claim::interval::Interval;
-use edf_header::header::Header;
+use edf_claim::Interval;
+use edf_header::Header;
 use std::alloc::{AllocError, Global};
 
 /// The channels of an original that an export has, by how often they are sampled.

@@ -3,10 +3,10 @@
 use crate::differences::clocks::Clocks;
 use crate::differences::likeness::say_likeness;
 use crate::words::annotations as words;
-use edf_claim::claim::Claim;
+use edf_claim::Claim;
 use edf_findings::{Notes, OneWay, OnlyInOne, one_way};
 use edf_sentences::{NOT_LISTED, Piece, Text};
-use edf_stream::notes::Note;
+use edf_stream::Note;
 use std::alloc::AllocError;
 
 /// The most annotations of a kind that are listed.

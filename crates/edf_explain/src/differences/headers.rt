@@ -3,15 +3,11 @@
 use crate::heads::Heads;
 use crate::words::files::{EXCHANGED, EXPORT_TWICE, ORIGINAL_TWICE};
 use crate::words::headers as words;
-use edf_claim::claim::Claim;
-use edf_fields::which::Which;
+use edf_claim::Claim;
+use edf_fields::Which;
 use edf_findings::{Exchange, are_extremes_cut_off, exchange_of, has_subfield};
-use edf_header::header::Header;
-use edf_header::signal::Signal;
-use edf_heads::blank::is_blank_header;
-use edf_heads::calibrations::has_other_calibration;
-use edf_heads::channel_index::ChannelIndex;
-use edf_heads::subfields::{is_anonymous, is_unchanged};
+use edf_header::{Header, Signal};
+use edf_heads::{ChannelIndex, has_other_calibration, is_anonymous, is_blank_header, is_unchanged};
 use edf_sentences::{Piece, Text};
 use std::alloc::AllocError;
 

@@ -1,10 +1,10 @@
 //! What an annotation of an export looks like that isn't kept.
 
 use crate::words::annotations as words;
-use edf_claim::claim::{BLANK, Claim};
+use edf_claim::{BLANK, Claim};
 use edf_findings::is_at_end;
 use edf_sentences::{Piece, Text, look_alike, other_bytes};
-use edf_stream::notes::Note;
+use edf_stream::Note;
 use std::alloc::{AllocError, Global};
 
 /// To how many bytes some writers cut texts, at the most and, where a sign of several bytes would be cut, at the least.

@@ -2,7 +2,7 @@
 
 use crate::differences::clocks::Clocks;
 use crate::words::samples as words;
-use edf_fields::label::SignalLabel;
+use edf_fields::SignalLabel;
 use edf_findings::{ComparedChannel, SampleKinds, Spot, Tally};
 use edf_sentences::{FULL_STOP, Piece, Text};
 use std::alloc::AllocError;

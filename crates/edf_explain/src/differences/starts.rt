@@ -2,7 +2,7 @@
 
 use crate::tried::shifts::TriedShifts;
 use crate::words::starts as words;
-use edf_fields::onset::SECOND_PS;
+use edf_fields::SECOND_PS;
 use edf_findings::{MOST_SHIFT, Starts, Walk};
 use edf_sentences::{Piece, Text};
 use std::alloc::AllocError;

@@ -1,10 +1,8 @@
 //! What the check answers under a claim that was changed.
 
 use edf_stop::RunStop;
-use edf_trial::better::is_better;
-use edf_trial::check_anew::check_anew;
-use edf_trial::recordings::Recordings;
-use edf_verdict::verdict::{Difference, Verdict};
+use edf_trial::{Recordings, check_anew, is_better};
+use edf_verdict::{Difference, Verdict};
 use std::alloc::Global;
 
 /// What was asked: two recordings, the text of a claim, and what the check answers.

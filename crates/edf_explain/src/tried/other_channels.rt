@@ -3,13 +3,12 @@
 use crate::heads::Heads;
 use crate::tried::answers::{Asked, TriedAnswer, is_of_channels};
 use crate::words::tried as words;
-use edf_claim::claim::Claim;
-use edf_header::header::Header;
-use edf_heads::channel_index::ChannelIndex;
+use edf_claim::Claim;
+use edf_header::Header;
+use edf_heads::ChannelIndex;
 use edf_sentences::{NEXT, Piece, Text, nearest};
 use edf_stop::RunStop;
-use edf_trial::channels::with_channels;
-use edf_trial::recordings::Recordings;
+use edf_trial::{Recordings, with_channels};
 use std::alloc::{AllocError, Global};
 
 /// Channels with which the check answers better than with the claimed ones.

@@ -2,13 +2,12 @@
 
 use crate::tried::answers::{Asked, TriedAnswer};
 use crate::words::tried as words;
-use edf_claim::claim::Claim;
+use edf_claim::Claim;
 use edf_findings::{Notes, OnlyInOne, is_at_end};
 use edf_sentences::{Piece, Text};
 use edf_stop::RunStop;
-use edf_trial::ends::with_end;
-use edf_trial::recordings::Recordings;
-use edf_verdict::verdict::{Difference, Verdict};
+use edf_trial::{Recordings, with_end};
+use edf_verdict::{Difference, Verdict};
 use std::alloc::{AllocError, Global};
 
 /// The end of an interval, which a picosecond later would have a better answer.

@@ -5,11 +5,8 @@ use crate::words::tried as words;
 use edf_findings::Starts;
 use edf_sentences::{FULL_STOP, NEXT, Piece, Text};
 use edf_stop::RunStop;
-use edf_trial::better::is_better;
-use edf_trial::check_anew::check_anew;
-use edf_trial::recordings::Recordings;
-use edf_trial::shifted::with_shift;
-use edf_verdict::verdict::{Difference, Verdict};
+use edf_trial::{Recordings, check_anew, is_better, with_shift};
+use edf_verdict::{Difference, Verdict};
 use std::alloc::{AllocError, Global};
 
 /// A shift that was tried, and what the check answers with it.

@@ -1,8 +1,6 @@
 //! A file that can't be judged. The fault is the first thing, the file the second; then the limits that a file may break.
 
-use edf_fields::cause::{FieldCause, TalCause};
-use edf_fields::fault::{Cause, Fault, Place};
-use edf_fields::layout::{FixedField, SignalField};
+use edf_fields::{Cause, Fault, FieldCause, FixedField, Place, SignalField, TalCause};
 use edf_stop::Side;
 
 /// The fault, and the file.

@@ -1,7 +1,7 @@
 //! Headers: channels, of which the label is the first thing, and subfields, of which the name is the first thing and the
 //! meaning the second.
 
-use edf_fields::which::Which;
+use edf_fields::Which;
 
 pub(crate) const UNKNOWN_CHANNEL: &str =
     "The claim names channel {0}, but the original doesn't have it: it may be misspelt. Compare the claim with what edfclaim show prints of the original. Small and capital letters and spaces count.";

@@ -1,6 +1,6 @@
 //! Numbers of a header of which the last digits were cut off.
 
-use edf_header::calibration::Calibration;
+use edf_header::Calibration;
 
 /// The most digits in front of the dot that are gone through.
 const MOST_WHOLE: usize = 12;

@@ -1,10 +1,9 @@
 //! Files that were typed in the places of others: one twice, or the original and the export exchanged.
 
-use edf_claim::claim::Claim;
-use edf_fields::which::Which;
-use edf_header::header::Header;
-use edf_header::signal::Signal;
-use edf_heads::subfields::{is_anonymous, is_unchanged};
+use edf_claim::Claim;
+use edf_fields::Which;
+use edf_header::{Header, Signal};
+use edf_heads::{is_anonymous, is_unchanged};
 
 /// Whether two signals are the same in all that a header says of them.
 fn are_same_signals(one: &Signal, other: &Signal) -> bool {

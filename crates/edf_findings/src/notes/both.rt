@@ -1,10 +1,8 @@
 //! The annotations of both files, and which of them only one has.
 
 use crate::stand::Stand;
-use edf_claim::claim::{BLANK, Claim};
-use edf_stream::note::NoteRef;
-use edf_stream::notes::Note;
-use edf_stream::own_text::OwnText;
+use edf_claim::{BLANK, Claim};
+use edf_stream::{Note, NoteRef, OwnText};
 use std::alloc::{AllocError, Global};
 use std::cmp::Ordering;
 

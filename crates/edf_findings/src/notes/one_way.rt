@@ -1,7 +1,7 @@
 //! Annotations that all differ in one way.
 
 use crate::notes::both::{Notes, OnlyInOne};
-use edf_stream::notes::Note;
+use edf_stream::Note;
 use std::alloc::{AllocError, Global};
 
 /// How few annotations are listed one by one, though they differ in one way.

@@ -1,9 +1,8 @@
 //! A keeper of the annotations of a data record.
 
 use crate::notes::both::Notes;
-use edf_claim::claim::Claim;
-use edf_stream::note::{NoteRef, TalNotes};
-use edf_stream::note_keeper::NoteKeeper;
+use edf_claim::Claim;
+use edf_stream::{NoteKeeper, NoteRef, TalNotes};
 use std::alloc::{AllocError, Global};
 
 /// Whose annotations are taken in.

@@ -5,9 +5,9 @@ use crate::samples::lane::Lanes;
 use crate::samples::side_by_side::Strides;
 use crate::samples::tally::Stands;
 use crate::stand::Stand;
-use edf_claim::claim::Claim;
-use edf_header::header::Header;
-use edf_heads::channel_index::ChannelIndex;
+use edf_claim::Claim;
+use edf_header::Header;
+use edf_heads::ChannelIndex;
 use std::alloc::{AllocError, Global};
 
 /// The claimed channels that both files have.

@@ -1,7 +1,7 @@
 //! The signal that a channel is in a file, and in both.
 
-use edf_header::header::Header;
-use edf_heads::channel_index::Channel;
+use edf_header::Header;
+use edf_heads::Channel;
 
 /// A signal of a file, and how many samples of the data record at hand are done with.
 #[derive(Clone, Copy)]

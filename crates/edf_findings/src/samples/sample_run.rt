@@ -2,7 +2,7 @@
 
 use crate::samples::blocks::numbers_of;
 use crate::samples::places::Places;
-use edf_stream::instant::Instant;
+use edf_stream::Instant;
 use std::cmp::Ordering;
 
 /// Samples of a signal in a data record, from one place to another. Sample `i` of `n` in a data record that starts at

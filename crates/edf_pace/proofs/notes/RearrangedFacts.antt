@@ -6,7 +6,7 @@ use Rattle.std.specs.Cmp.{tied_itself}
 use Rattle.std.specs.List.Sorted.{IsPermutation}
 use Rattle.std.specs.Ordering.{is_eq}
 use Rattle.edf_fields.specs.Lists.{Has}
-use Rattle.edf_stream.specs.Notes.{NoteValue}
+use Rattle.edf_stream.specs.annotation.Notes.{NoteValue}
 use Rattle.edf_pace.specs.Annotations.{note_cmp, times, SameNotes}
 use Rattle.edf_heads.proofs.ForCallers.{parted}
 use Rattle.edf_pace.proofs.notes.NoteFacts.{note-total, note-exact}

@@ -4,13 +4,13 @@ use Rattle.std.proofs.lemmas.Bool.Decides.{Decides-int_eq}
 use Rattle.std.proofs.lemmas.Bool.{false≢true}
 use Rattle.std.specs.Option.{option_or}
 use Rattle.std.specs.Ordering.{int_eq}
-use Rattle.edf_stream.specs.declared.instant.Instant.{Instant}
+use Rattle.edf_stream.specs.declared.times.instant.Instant.{Instant}
 use Rattle.edf_pace.specs.declared.samples.point.Point.{Point}
 use Rattle.edf_verdict.specs.declared.verdict.SampleMismatch.{SampleMismatch}
 use Rattle.edf_verdict.specs.declared.verdict.SampleMismatch.TheVariants.{Missing, Extra, Value}
 use Rattle.edf_pace.specs.declared.samples.difference.PointDifference.{PointDifference}
-use Rattle.edf_stream.specs.Instants.{IsSame}
-use Rattle.edf_stream.specs.InstantOrder.{IsNotBefore}
+use Rattle.edf_stream.specs.times.Instants.{IsSame}
+use Rattle.edf_stream.specs.times.InstantOrder.{IsNotBefore}
 use Rattle.edf_pace.specs.InstantOrder.{IsBefore, is_before}
 use Rattle.edf_fields.specs.Lists.{Has}
 use Rattle.edf_pace.specs.samples.Differences.{instant, first_difference_of, missing, extra, other, heads}

@@ -4,8 +4,8 @@ use Rattle.std.proofs.Math.Seq.{drop-cons}
 use Rattle.std.specs.Option.{option_map}
 use Rattle.edf_pace.specs.declared.samples.difference.PointDifference.{PointDifference}
 use Rattle.edf_pace.specs.declared.samples.earliest.Found.{Found}
-use Rattle.edf_stream.specs.Instants.{IsSame}
-use Rattle.edf_stream.specs.InstantOrder.{IsNotBefore}
+use Rattle.edf_stream.specs.times.Instants.{IsSame}
+use Rattle.edf_stream.specs.times.InstantOrder.{IsNotBefore}
 use Rattle.edf_pace.specs.InstantOrder.{IsBefore, is_before}
 use Rattle.edf_fields.specs.Lists.{Has}
 use Rattle.edf_pace.specs.samples.Differences.{found, earlier, earliest}

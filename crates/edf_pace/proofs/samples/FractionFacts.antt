@@ -3,9 +3,9 @@ use Rattle.std.proofs.Common.{◌+ℤ◌, zero, suc, ◌≡◌, true, false, ℕ
 use Rattle.std.proofs.lemmas.Int.{ints, by_lt_z}
 use Rattle.std.proofs.Math.Nat.{lt_of_mul-lt-mul_right, mul-lt-mul_of_pos_right, mul-le-mul_right}
 use borrow.Author.Differences.{up, down, true_is_lt, false_is_lt}
-use Rattle.edf_stream.specs.declared.instant.Instant.{Instant}
-use Rattle.edf_stream.specs.Instants.{IsSame}
-use Rattle.edf_stream.specs.InstantOrder.{IsNotBefore}
+use Rattle.edf_stream.specs.declared.times.instant.Instant.{Instant}
+use Rattle.edf_stream.specs.times.Instants.{IsSame}
+use Rattle.edf_stream.specs.times.InstantOrder.{IsNotBefore}
 use Rattle.edf_pace.specs.InstantOrder.{IsBefore, is_before}
 
 pub self_above : (t : Instant) → IsNotBefore t t

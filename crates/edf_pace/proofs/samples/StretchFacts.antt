@@ -7,8 +7,8 @@ use Rattle.std.proofs.lemmas.List.{get_or-take}
 use Rattle.std.proofs.Math.Nat.{lt_of_mul-lt-mul_right}
 use Rattle.edf_fields.proofs.ForCallers.{and-true}
 use Rattle.edf_fields.specs.Lists.{Has}
-use Rattle.edf_stream.specs.Values.{digital, digital_value}
-use Rattle.edf_stream.specs.declared.instant.Instant.{Instant}
+use Rattle.edf_stream.specs.samples.Values.{digital, digital_value}
+use Rattle.edf_stream.specs.declared.times.instant.Instant.{Instant}
 use Rattle.edf_pace.specs.declared.samples.point.Point.{Point}
 use Rattle.edf_pace.specs.declared.samples.stretch.Stretch.{Stretch}
 use Rattle.edf_verdict.specs.declared.verdict.SampleMismatch.TheVariants.{Missing, Extra}

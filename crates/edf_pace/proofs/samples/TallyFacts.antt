@@ -5,7 +5,7 @@ use Rattle.std.proofs.lemmas.List.Elements.{filter-append}
 use Rattle.std.specs.Int.{from_bool}
 use Rattle.std.specs.Option.{option_or}
 use Rattle.std.specs.Ordering.{int_eq}
-use Rattle.edf_stream.specs.declared.instant.Instant.{Instant}
+use Rattle.edf_stream.specs.declared.times.instant.Instant.{Instant}
 use Rattle.edf_verdict.specs.declared.verdict.SampleMismatch.{SampleMismatch}
 use Rattle.edf_verdict.specs.declared.verdict.SampleMismatch.TheVariants.{Missing, Extra, Value}
 use Rattle.edf_pace.specs.declared.samples.difference.PointDifference.{PointDifference}
@@ -14,7 +14,7 @@ use Rattle.edf_pace.specs.declared.samples.tally.Tally.{Tally}
 use Rattle.edf_pace.specs.InstantOrder.{is_before}
 use Rattle.edf_pace.specs.samples.Differences.{instant, missing, extra, other, heads, first_difference_of}
 use Rattle.edf_pace.specs.samples.Tallies.{all_behind, differences_of, first_of, lacks_first, lacks_second, last_of, is_missing, is_extra, is_changed, added, counted, count_of, tally_of, joined}
-use Rattle.edf_stream.specs.Values.{digital_value}
+use Rattle.edf_stream.specs.samples.Values.{digital_value}
 use Rattle.edf_pace.specs.declared.samples.stretch.Stretch.{Stretch}
 use Rattle.edf_pace.specs.samples.Stretches.{points_behind, points_in}
 use Rattle.edf_pace.proofs.samples.StretchFacts.{behind-end, behind_step, behind_zero}

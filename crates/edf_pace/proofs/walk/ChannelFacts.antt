@@ -4,8 +4,8 @@ use Rattle.std.proofs.lemmas.Int.{ints}
 use Rattle.edf_claim.specs.Terms.{Terms}
 use Rattle.edf_fields.specs.Lists.{Has}
 use Rattle.edf_fields.proofs.ForCallers.{map-has, has-filtered}
-use Rattle.edf_stream.specs.declared.sample.Sample.{Sample}
-use Rattle.edf_stream.specs.SamplesReading.{AreRising}
+use Rattle.edf_stream.specs.declared.samples.sample.Sample.{Sample}
+use Rattle.edf_stream.specs.samples.SamplesReading.{AreRising}
 use Rattle.edf_pace.specs.declared.walk.channel_place.ChannelPlace.{ChannelPlace}
 use Rattle.edf_pace.specs.declared.samples.point.Point.{Point}
 use Rattle.edf_pace.specs.samples.Columns.{Sampled, point_of, is_of, is_kept, points_of}

@@ -1,9 +1,9 @@
 -- The first fault of a file that is read.
 use Rattle.std.proofs.Common.{◌≡◌, ℕ, List, Some, Result, Ok, Err, IfOk}
-use Rattle.edf_fields.specs.declared.fault.Fault.{Fault}
+use Rattle.edf_fields.specs.declared.faults.fault.Fault.{Fault}
 use Rattle.edf_header.specs.Faults.{header_fault}
 use Rattle.edf_stream.specs.Faults.{body_fault, file_fault}
-use Rattle.edf_stream.specs.Readers.{Reader, StandsIn}
+use Rattle.edf_stream.specs.records.Readers.{Reader, StandsIn}
 use Rattle.edf_stream.proofs.ForCallers.{fault_is_of_body, header_first}
 
 -- a file in which a reader stands has the first fault of its data records

@@ -2,11 +2,11 @@
 use Rattle.std.proofs.Common.{◌≡◌, ℤ, ◌+ℤ◌, Bool, true, false, List, ◌++◌, map, Option, None, Some, IfNone, IsTrue, refl, sym, ap, ◌∙◌}
 use Rattle.std.proofs.lemmas.List.{append-nil}
 use Rattle.edf_claim.specs.Terms.{Terms}
-use Rattle.edf_fields.specs.declared.fault.Fault.{Fault}
-use Rattle.edf_stream.specs.Notes.{NoteValue}
-use Rattle.edf_stream.specs.NotesReading.{notes_in}
-use Rattle.edf_stream.specs.Readers.{Reader, is_current}
-use Rattle.edf_stream.specs.Starts.{file_start}
+use Rattle.edf_fields.specs.declared.faults.fault.Fault.{Fault}
+use Rattle.edf_stream.specs.annotation.Notes.{NoteValue}
+use Rattle.edf_stream.specs.annotation.NotesReading.{notes_in}
+use Rattle.edf_stream.specs.records.Readers.{Reader, is_current}
+use Rattle.edf_stream.specs.times.Starts.{file_start}
 use Rattle.edf_stream.specs.Views.{note_value}
 use Rattle.edf_pace.specs.declared.walk.gather.Gathering.{Gathering}
 use Rattle.edf_pace.specs.walk.Gathered.{gathered_of, gathered_in}

@@ -13,11 +13,11 @@ use Rattle.edf_claim.specs.KeepsReading.{IsUncut}
 use Rattle.edf_fields.specs.Parts.{part}
 use Rattle.edf_fields.proofs.ForCallers.{and-true, get-index}
 use Rattle.edf_header.specs.Heads.{SignalHead, Head}
-use Rattle.edf_stream.specs.Readers.{Reader}
-use Rattle.edf_stream.specs.Records.{lane_of}
-use Rattle.edf_stream.specs.RecordsReading.{lane_in}
-use Rattle.edf_stream.specs.Starts.{file_start}
-use Rattle.edf_stream.specs.StartsReading.{start_in}
+use Rattle.edf_stream.specs.records.Readers.{Reader}
+use Rattle.edf_stream.specs.records.Records.{lane_of}
+use Rattle.edf_stream.specs.records.RecordsReading.{lane_in}
+use Rattle.edf_stream.specs.times.Starts.{file_start}
+use Rattle.edf_stream.specs.times.StartsReading.{start_in}
 use Rattle.edf_pace.specs.declared.samples.difference.PointDifference.{PointDifference}
 use Rattle.edf_pace.specs.declared.samples.point.Point.{Point}
 use Rattle.edf_pace.specs.declared.walk.track.Pair.{Pair}

@@ -5,13 +5,13 @@ use Rattle.std.proofs.lemmas.Int.{ints}
 use Rattle.std.specs.Option.{option_or}
 use Rattle.edf_claim.specs.Terms.{Terms}
 use Rattle.edf_header.specs.Heads.{Head}
-use Rattle.edf_stream.specs.declared.status.Status.{Status}
-use Rattle.edf_stream.specs.declared.status.Status.TheVariants.{Current}
+use Rattle.edf_stream.specs.declared.records.status.Status.{Status}
+use Rattle.edf_stream.specs.declared.records.status.Status.TheVariants.{Current}
 use Rattle.edf_stream.specs.Conforming.{Conforms}
-use Rattle.edf_stream.specs.Notes.{NoteValue}
-use Rattle.edf_stream.specs.Readers.{Reader, is_current}
-use Rattle.edf_stream.specs.Starts.{file_start}
-use Rattle.edf_stream.specs.StartsReading.{start_at, end_at, end_before}
+use Rattle.edf_stream.specs.annotation.Notes.{NoteValue}
+use Rattle.edf_stream.specs.records.Readers.{Reader, is_current}
+use Rattle.edf_stream.specs.times.Starts.{file_start}
+use Rattle.edf_stream.specs.times.StartsReading.{start_at, end_at, end_before}
 use Rattle.edf_stream.proofs.ForCallers.{starts-behind}
 use Rattle.edf_pace.specs.declared.samples.earliest.Found.{Found}
 use Rattle.edf_pace.specs.declared.walk.lockstep.ReadOn.{ReadOn}

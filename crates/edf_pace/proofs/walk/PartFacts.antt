@@ -1,11 +1,11 @@
 -- Where a part begins.
 use Rattle.std.proofs.Common.{◌≡◌, ℕ, ℤ, ◌+ℤ◌, true, List, Option, ap, ◌∙◌, arith}
 use Rattle.edf_claim.specs.Terms.{Terms}
-use Rattle.edf_stream.specs.Notes.{NoteValue}
-use Rattle.edf_stream.specs.Readers.{Reader, is_current}
-use Rattle.edf_stream.specs.Records.{record_at}
-use Rattle.edf_stream.specs.Starts.{file_start}
-use Rattle.edf_stream.specs.StartsReading.{start_in}
+use Rattle.edf_stream.specs.annotation.Notes.{NoteValue}
+use Rattle.edf_stream.specs.records.Readers.{Reader, is_current}
+use Rattle.edf_stream.specs.records.Records.{record_at}
+use Rattle.edf_stream.specs.times.Starts.{file_start}
+use Rattle.edf_stream.specs.times.StartsReading.{start_in}
 use Rattle.edf_pace.specs.walk.Readings.{IsAt}
 use Rattle.edf_pace.specs.walk.Shown.{begin_by}
 use Rattle.edf_pace.proofs.walk.OnwardFacts.{shown_current}

@@ -1,5 +1,5 @@
 -- A reader that goes on.
-use Rattle.edf_fields.specs.Sources.{Reads}
+use Rattle.edf_fields.specs.in_out.Sources.{Reads}
 use Rattle.std.proofs.Common.{inl, inr, ◌≡◌, ℕ, suc, ◌+◌, ◌≤◌, ℤ, ◌+ℤ◌, ◌≤ℤ◌, ◌<ℤ◌, Bool, true, false, cond, List, [], ◌∷◌, ◌++◌, map, Option, Some, None, Ok, refl, sym, ap, ◌∙◌, arith, subst}
 use Rattle.std.proofs.lemmas.Int.{ints}
 use Rattle.std.proofs.lemmas.Bool.{cases_lt}
@@ -7,18 +7,18 @@ use Rattle.std.proofs.lemmas.List.{append-nil, map-append}
 use Rattle.edf_claim.specs.Keeps.{keeps_annotation, kept_text}
 use Rattle.edf_claim.specs.Terms.{Terms}
 use Rattle.edf_header.specs.Heads.{Head}
-use Rattle.edf_stream.specs.declared.status.Status.{Status}
-use Rattle.edf_stream.specs.declared.status.Status.TheVariants.{Begun, Current, Ended, Stopped}
+use Rattle.edf_stream.specs.declared.records.status.Status.{Status}
+use Rattle.edf_stream.specs.declared.records.status.Status.TheVariants.{Begun, Current, Ended, Stopped}
 use Rattle.edf_stream.specs.Conforming.{Conforms}
 use Rattle.edf_stream.specs.Faults.{body_fault}
-use Rattle.edf_stream.specs.Notes.{NoteValue, moved_by}
-use Rattle.edf_stream.specs.NotesReading.{notes_in, moved_notes_in, moved_notes_before}
-use Rattle.edf_stream.specs.Readers.{Reader, IsOpen, is_current, status_after, StandsIn, Comes}
-use Rattle.edf_stream.specs.Records.{record_at}
-use Rattle.edf_stream.specs.Starts.{file_start}
-use Rattle.edf_stream.specs.StartsReading.{end_before}
+use Rattle.edf_stream.specs.annotation.Notes.{NoteValue, moved_by}
+use Rattle.edf_stream.specs.annotation.NotesReading.{notes_in, moved_notes_in, moved_notes_before}
+use Rattle.edf_stream.specs.records.Readers.{Reader, IsOpen, is_current, status_after, StandsIn, Comes}
+use Rattle.edf_stream.specs.records.Records.{record_at}
+use Rattle.edf_stream.specs.times.Starts.{file_start}
+use Rattle.edf_stream.specs.times.StartsReading.{end_before}
 use Rattle.edf_stream.specs.Views.{note_value}
-use Rattle.edf_stream.specs.declared.notes.Note.{Note}
+use Rattle.edf_stream.specs.declared.annotation.notes.Note.{Note}
 use Rattle.edf_pace.specs.walk.Shown.{ArePast, end_by, ends_at, Shows, IsGoing, IsAhead}
 use Rattle.edf_pace.specs.walk.Gathered.{as_kept, counted_text, counted_of, gathered_of, gathered_in}
 use Rattle.edf_pace.specs.walk.Keepers.{counted_parts, gathered_nil}

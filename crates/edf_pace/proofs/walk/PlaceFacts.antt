@@ -8,7 +8,7 @@ use Rattle.edf_fields.proofs.ForCallers.{has-at, at-has, has-filtered, has-map, 
 use Rattle.edf_header.specs.Heads.{SignalHead, Head, is_annotations, samples_together}
 use Rattle.edf_header.specs.Sound.{IsSound}
 use Rattle.edf_header.specs.Standard.{IsSoundSignal}
-use Rattle.edf_header.specs.Channels.{channels_among}
+use Rattle.edf_header.specs.signals.Channels.{channels_among}
 use Rattle.edf_pace.specs.declared.walk.channel_place.ChannelPlace.{ChannelPlace}
 use Rattle.edf_pace.specs.samples.Columns.{place_from, channel_at}
 use Rattle.edf_heads.proofs.ForCallers.{labels-distinct}

@@ -11,15 +11,15 @@ use Rattle.edf_claim.specs.Keeps.{keeps_instant}
 use Rattle.edf_fields.specs.Lists.{Has}
 use Rattle.edf_fields.proofs.ForCallers.{has-append, has-filtered}
 use Rattle.edf_header.specs.Heads.{SignalHead, Head}
-use Rattle.edf_stream.specs.declared.sample.Sample.{Sample}
+use Rattle.edf_stream.specs.declared.samples.sample.Sample.{Sample}
 use Rattle.edf_stream.specs.Conforming.{Conforms}
-use Rattle.edf_stream.specs.InstantOrder.{IsNotBefore}
-use Rattle.edf_stream.specs.Records.{record_at, lane_of}
-use Rattle.edf_stream.specs.SamplesReading.{lane_samples, samples_by, samples_in, samples_before, samples_of}
-use Rattle.edf_stream.specs.Starts.{file_start}
-use Rattle.edf_stream.specs.StartsReading.{start_in, start_at, end_at}
-use Rattle.edf_header.specs.Channels.{channels_among}
-use Rattle.edf_stream.specs.Values.{digital}
+use Rattle.edf_stream.specs.times.InstantOrder.{IsNotBefore}
+use Rattle.edf_stream.specs.records.Records.{record_at, lane_of}
+use Rattle.edf_stream.specs.samples.SamplesReading.{lane_samples, samples_by, samples_in, samples_before, samples_of}
+use Rattle.edf_stream.specs.times.Starts.{file_start}
+use Rattle.edf_stream.specs.times.StartsReading.{start_in, start_at, end_at}
+use Rattle.edf_header.specs.signals.Channels.{channels_among}
+use Rattle.edf_stream.specs.samples.Values.{digital}
 use Rattle.edf_stream.proofs.ForCallers.{samples_are_of_channels, samples_rise, starts-behind, starts_late}
 use Rattle.edf_pace.specs.declared.walk.channel_place.ChannelPlace.{ChannelPlace}
 use Rattle.edf_pace.specs.declared.samples.point.Point.{Point}

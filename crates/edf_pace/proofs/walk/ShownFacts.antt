@@ -7,11 +7,11 @@ use Rattle.edf_claim.specs.KeepsReading.{IsUncut}
 use Rattle.edf_claim.proofs.ForCallers.{kept-alike}
 use Rattle.edf_fields.specs.Lists.{Has}
 use Rattle.edf_fields.proofs.ForCallers.{has-filtered}
-use Rattle.edf_stream.specs.declared.status.Status.{Status}
-use Rattle.edf_stream.specs.declared.status.Status.TheVariants.{Begun, Current, Ended, Stopped}
+use Rattle.edf_stream.specs.declared.records.status.Status.{Status}
+use Rattle.edf_stream.specs.declared.records.status.Status.TheVariants.{Begun, Current, Ended, Stopped}
 use Rattle.edf_stream.specs.Conforming.{Conforms}
-use Rattle.edf_stream.specs.Readers.{Reader, is_current}
-use Rattle.edf_stream.specs.StartsReading.{end_at}
+use Rattle.edf_stream.specs.records.Readers.{Reader, is_current}
+use Rattle.edf_stream.specs.times.StartsReading.{end_at}
 use Rattle.edf_pace.specs.declared.walk.channel_place.ChannelPlace.{ChannelPlace}
 use Rattle.edf_pace.specs.declared.samples.earliest.Found.{Found}
 use Rattle.edf_pace.specs.declared.samples.point.Point.{Point}
@@ -23,7 +23,7 @@ use Rattle.edf_pace.specs.samples.Differences.{instant, first_difference_of, fou
 use Rattle.edf_pace.specs.InstantOrder.{IsModest, is_before}
 use Rattle.edf_pace.specs.walk.Windows.{sampled, points_at, kept_at, window_of, window_difference, first_at}
 use Rattle.edf_pace.specs.walk.Pairs.{Places, places_of, IsPlaceIn}
-use Rattle.edf_stream.specs.Records.{lane_of}
+use Rattle.edf_stream.specs.records.Records.{lane_of}
 use Rattle.edf_pace.specs.samples.Stretches.{stretch_points, whole, since, until}
 use Rattle.edf_pace.specs.walk.Shown.{Shows, ends_at, Covers}
 use Rattle.edf_pace.proofs.samples.CutFacts.{until-before, since-from}

@@ -4,9 +4,9 @@ use Rattle.std.specs.Option.{option_or}
 use Rattle.edf_claim.specs.Terms.{Terms}
 use Rattle.edf_claim.specs.Keeps.{keeps_instant}
 use Rattle.edf_header.specs.Heads.{Head}
-use Rattle.edf_stream.specs.declared.instant.Instant.{Instant}
+use Rattle.edf_stream.specs.declared.times.instant.Instant.{Instant}
 use Rattle.edf_stream.specs.Conforming.{Conforms}
-use Rattle.edf_stream.specs.InstantOrder.{IsNotBefore}
+use Rattle.edf_stream.specs.times.InstantOrder.{IsNotBefore}
 use Rattle.edf_pace.specs.declared.walk.channel_place.ChannelPlace.{ChannelPlace}
 use Rattle.edf_pace.specs.declared.samples.difference.PointDifference.{PointDifference}
 use Rattle.edf_pace.specs.declared.samples.earliest.Found.{Found}

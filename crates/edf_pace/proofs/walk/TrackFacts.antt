@@ -4,12 +4,12 @@ use Rattle.std.specs.Option.{option_map_or}
 use Rattle.edf_fields.proofs.ForCallers.{has-at, get-within, has-filtered, not-true}
 use Rattle.edf_header.specs.Heads.{SignalHead, Head, is_annotations}
 use Rattle.edf_header.specs.Sound.{IsSound}
-use Rattle.edf_header.specs.Channels.{is_ordinary, channels_among}
-use Rattle.edf_heads.specs.ChannelDifferences.{HasNoChannel}
+use Rattle.edf_header.specs.signals.Channels.{is_ordinary, channels_among}
+use Rattle.edf_heads.specs.differences.ChannelDifferences.{HasNoChannel}
 use Rattle.edf_heads.specs.ChannelIndexes.{IsChannelAt}
 use Rattle.edf_heads.specs.declared.channel_index.Channel.{Channel}
-use Rattle.edf_stream.specs.Records.{lane_of, samples_at}
-use Rattle.edf_stream.specs.RecordsReading.{lane_bytes, lane_in}
+use Rattle.edf_stream.specs.records.Records.{lane_of, samples_at}
+use Rattle.edf_stream.specs.records.RecordsReading.{lane_bytes, lane_in}
 use Rattle.edf_pace.specs.declared.walk.channel_place.ChannelPlace.{ChannelPlace}
 use Rattle.edf_pace.specs.declared.walk.track.Track.{Track}
 use Rattle.edf_pace.specs.samples.Columns.{channel_at}

@@ -6,7 +6,7 @@ use Rattle.edf_claim.specs.Terms.{Terms}
 use Rattle.edf_fields.proofs.ForCallers.{has-filtered}
 use Rattle.edf_header.specs.Heads.{Head}
 use Rattle.edf_stream.specs.Conforming.{Conforms}
-use Rattle.edf_stream.specs.InstantOrder.{IsNotBefore}
+use Rattle.edf_stream.specs.times.InstantOrder.{IsNotBefore}
 use Rattle.edf_pace.specs.declared.walk.channel_place.ChannelPlace.{ChannelPlace}
 use Rattle.edf_pace.specs.declared.samples.difference.PointDifference.{PointDifference}
 use Rattle.edf_pace.specs.declared.samples.point.Point.{Point}

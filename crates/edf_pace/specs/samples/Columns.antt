@@ -2,7 +2,7 @@
 use Rattle.std.specs.Prelude.{ℕ, ◌+◌, ◌==◌, ℤ, Bool, ◌&&◌, if◌then◌else◌, List, [], ◌∷◌, map, filter, Option, Some, None}
 use Rattle.edf_pace.specs.Words.{keeps_instant, Terms, channels_among, SignalHead, Head, Point, ChannelPlace}
 use Rattle.std.specs.Str.{bytes_eq}
-use Rattle.edf_stream.specs.declared.sample.Sample.{Sample}
+use Rattle.edf_stream.specs.declared.samples.sample.Sample.{Sample}
 use Rattle.edf_pace.specs.Instants.{later}
 
 -- the first of these channels, the first of which has number k, that has the label

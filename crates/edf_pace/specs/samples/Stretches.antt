@@ -2,7 +2,7 @@
 -- EDF (1992), "Data record".
 use Rattle.std.specs.Prelude.{ℕ, suc, ◌+◌, ◌*◌, ◌<◌, ◌≤◌, ◌^◌, ℤ, pos, ◌+ℤ◌, ◌*ℤ◌, ◌<ℤ◌, unsigned_abs, List, [], ◌∷◌, Option, length, drop, Bool, ◌&&◌, if◌then◌else◌, ◌≡◌, ◌≢◌, slice_index, not, filter}
 use Rattle.edf_pace.specs.Words.{int_eq, Instant, PointDifference, Point}
-use Rattle.edf_stream.specs.Values.{digital}
+use Rattle.edf_stream.specs.samples.Values.{digital}
 use Rattle.edf_pace.specs.declared.samples.stretch.Stretch.{Stretch}
 use Rattle.edf_pace.specs.samples.Differences.{first_difference_of, instant}
 use Rattle.edf_pace.specs.InstantOrder.{is_before}

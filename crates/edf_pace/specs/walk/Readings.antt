@@ -2,7 +2,7 @@
 -- starts, before the shift. These are steps between the definitions and the code.
 use Rattle.std.specs.Prelude.{◌≡◌, ◌^◌, neg_ℤ, pos, ℕ, ℤ, IsTrue, Bool, true, List, [], ◌++◌, map, Option, None, Some, ◌+ℤ◌}
 use Rattle.edf_pace.specs.Words.{Terms, Reads, Ghosts, Conforms, body_fault, NoteValue, moved_notes_before, Comes, Reader, IsOpen, StandsIn, is_current, end_before, note_value, View, Reading, Time, Window, Setting, Turn, Head, file_start, Clock}
-use Rattle.edf_stream.specs.declared.status.Status.TheVariants.{Ended}
+use Rattle.edf_stream.specs.declared.records.status.Status.TheVariants.{Ended}
 use Rattle.edf_heads.specs.Comparisons.{AreSorted}
 use Rattle.edf_pace.specs.declared.walk.offset.Offset.{Offset}
 use Rattle.edf_pace.specs.Premises.{Known, OfFile}

@@ -2,9 +2,9 @@
 -- These are steps between the definitions and the code.
 use Rattle.std.specs.Prelude.{ℕ, ℤ, ◌≡◌, suc, ◌+◌, ◌+ℤ◌, ◌*◌, ◌^◌, unsigned_abs, ◌<◌, ◌≤◌, ◌<ℤ◌, ◌≤ℤ◌, true, List}
 use Rattle.edf_pace.specs.Words.{Head, Conforms, Reader, is_current, file_start, start_in, start_at, end_at, end_before}
-use Rattle.edf_stream.specs.declared.status.Status.{Status}
-use Rattle.edf_stream.specs.declared.status.Status.TheVariants.{Begun, Current, Ended, Stopped}
-use Rattle.edf_stream.specs.Records.{record_at}
+use Rattle.edf_stream.specs.declared.records.status.Status.{Status}
+use Rattle.edf_stream.specs.declared.records.status.Status.TheVariants.{Begun, Current, Ended, Stopped}
+use Rattle.edf_stream.specs.records.Records.{record_at}
 
 -- where a data record of a file begins, moved
 abbrev pub begin_by : List ℕ → Head → ℤ → ℕ → ℤ

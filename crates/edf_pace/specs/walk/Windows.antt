@@ -3,7 +3,7 @@
 use Rattle.std.specs.Prelude.{◌≡◌, ℕ, ℤ, Bool, true, false, List, map, Option, None, Some, [], ◌∷◌, IfSome, ◌<◌, pos, ◌+ℤ◌, ◌*ℤ◌, ◌<ℤ◌, ◌*◌, length, max}
 use Rattle.edf_pace.specs.Words.{keeps_instant, Terms, Head, Reader, PointDifference, Found, Point, Share, ChannelPlace, Clock, Frame, Window, Pair, is_current, file_start, start_in, Track}
 use Rattle.edf_claim.specs.KeepsReading.{IsUncut}
-use Rattle.edf_stream.specs.SamplesReading.{samples_of}
+use Rattle.edf_stream.specs.samples.SamplesReading.{samples_of}
 use Rattle.edf_pace.specs.declared.walk.shares.Shares.{Shares}
 use Rattle.edf_pace.specs.samples.Columns.{Sampled, is_of, is_kept, points_of}
 use Rattle.edf_pace.specs.samples.Differences.{first_difference_of, earliest}

@@ -7,9 +7,8 @@ ghost use Rattle.edf_pace.specs.Annotations.{note_cmp};
 ghost use Rattle.edf_pace.specs.notes.NoteOrder.{IsFirstUnequal, IsNoteDifference, note_mismatch, unequal_view};
 
 use crate::notes::unequal::Unequal;
-use edf_stream::notes::Note;
-use edf_verdict::note_text::NoteText;
-use edf_verdict::verdict::AnnotationMismatch;
+use edf_stream::Note;
+use edf_verdict::{AnnotationMismatch, NoteText};
 use std::alloc::{AllocError, Global};
 use std::cmp::Ordering;
 

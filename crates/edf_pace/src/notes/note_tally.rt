@@ -7,8 +7,8 @@ ghost use Rattle.edf_stream.specs.Views.{note_value};
 
 use crate::notes::note_difference::order;
 use crate::notes::unequal::Unequal;
-use edf_stream::notes::Note;
-use edf_verdict::verdict::AnnotationMismatch;
+use edf_stream::Note;
+use edf_verdict::AnnotationMismatch;
 use std::cmp::Ordering;
 
 /// How many annotations stand more often among the kept ones than in an export, and how many less often, each as often as

@@ -1,7 +1,7 @@
 //! An annotation that two lists don't have equally often.
 
-use edf_stream::notes::Note;
-use edf_verdict::verdict::AnnotationMismatch;
+use edf_stream::Note;
+use edf_verdict::AnnotationMismatch;
 
 /// An annotation that two lists don't have equally often, borrowed from one of them.
 #[derive(Clone, Copy)]

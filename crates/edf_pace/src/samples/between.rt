@@ -8,7 +8,7 @@ ghost use Rattle.edf_pace.specs.samples.Stretches.{points_in, IsBounded, IsPart,
 use crate::samples::share::Share;
 use crate::samples::stretch::{Stretch, count_before};
 use crate::times::Window;
-use edf_stream::grid::num_at;
+use edf_stream::num_at;
 
 /// That of lanes without samples.
 pub(crate) fn share_of_none() -> Share

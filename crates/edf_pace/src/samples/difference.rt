@@ -6,8 +6,8 @@ ghost use Rattle.edf_pace.specs.InstantOrder.{IsModest};
 
 use crate::samples::instants::is_before;
 use crate::samples::point::Point;
-use edf_stream::instant::Instant;
-use edf_verdict::verdict::SampleMismatch;
+use edf_stream::Instant;
+use edf_verdict::SampleMismatch;
 
 /// A difference and the instant where it stands.
 #[derive(Clone, Copy)]

@@ -1,11 +1,11 @@
 //! Instants compared and moved, exactly.
 
 ghost use Rattle.std.specs.Prelude.{◌≡◌, ◌<◌, ◌≤◌, ◌^◌, ◌*ℤ◌, pos, unsigned_abs};
-ghost use Rattle.edf_stream.specs.InstantOrder.{IsSmall};
+ghost use Rattle.edf_stream.specs.times.InstantOrder.{IsSmall};
 ghost use Rattle.edf_pace.specs.Instants.{later as later_instant};
 ghost use Rattle.edf_pace.specs.InstantOrder.{IsModest, floor_of, is_before as is_before_instant};
 
-use edf_stream::instant::Instant;
+use edf_stream::Instant;
 
 /// The product of a numerator and the other instant's denominator.
 pub(crate) fn product(num: i128, den: u32) -> i128

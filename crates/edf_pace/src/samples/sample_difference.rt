@@ -5,8 +5,7 @@ ghost use Rattle.edf_pace.specs.InstantOrder.{floor_of};
 
 use crate::samples::earliest::Found;
 use crate::samples::instants::floor;
-use edf_verdict::label::Label;
-use edf_verdict::verdict::SampleMismatch;
+use edf_verdict::{Label, SampleMismatch};
 use std::alloc::{AllocError, Global};
 
 /// The first difference between the kept samples of an original and those of an export.

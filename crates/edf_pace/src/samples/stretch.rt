@@ -3,7 +3,7 @@
 
 ghost use Rattle.std.specs.Prelude.{◌≡◌, ◌<◌, ◌≤◌, ◌+◌, ◌-◌, ◌*◌, ◌^◌, pos, ◌+ℤ◌, ◌-ℤ◌, ◌*ℤ◌, length, min, [], IfSome, unsigned_abs};
 ghost use Rattle.std.specs.Ordering.{int_eq};
-ghost use Rattle.edf_stream.specs.Values.{digital_value};
+ghost use Rattle.edf_stream.specs.samples.Values.{digital_value};
 ghost use Rattle.edf_pace.specs.samples.Stretches.{AreAlikeBefore, IsBounded, IsPart, are_on_one_grid, difference_from, difference_of_both, front_count, points_in, points_behind, whole};
 ghost use Rattle.edf_pace.specs.InstantOrder.{IsModest};
 ghost use Rattle.edf_pace.specs.samples.Differences.{first_difference_of};
@@ -13,10 +13,8 @@ use crate::samples::difference::{PointDifference, difference_of_heads};
 use crate::samples::instants::product;
 use crate::samples::point::Point;
 use crate::times::Time;
-use edf_stream::grid::{distance, num_at};
-use edf_stream::instant::Instant;
-use edf_stream::value::value_at;
-use edf_verdict::verdict::SampleMismatch;
+use edf_stream::{Instant, distance, num_at, value_at};
+use edf_verdict::SampleMismatch;
 
 /// Samples of a channel at even distances: the first stands at the instant `num / den` picoseconds, each
 /// further one `step / den` picoseconds behind the one before it. Each takes two of the bytes.

@@ -7,7 +7,7 @@ ghost use Rattle.edf_pace.specs.samples.Tallies.{all_behind, differences_of, joi
 
 use crate::samples::difference::{PointDifference, difference_of_heads};
 use crate::samples::stretch::{Stretch, count_in, instant_at, point_at};
-use edf_verdict::verdict::SampleMismatch;
+use edf_verdict::SampleMismatch;
 
 /// How many differences of a channel there are of each kind, and the first and the last of all. Each counter stays at the
 /// largest value that it holds.

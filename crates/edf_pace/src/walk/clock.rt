@@ -1,13 +1,13 @@
 //! From which second two files count.
 
 ghost use Rattle.std.specs.Prelude.{◌≡◌, ◌<◌, ◌^◌, neg_ℤ, ◌+ℤ◌, unsigned_abs};
-ghost use Rattle.edf_stream.specs.Starts.{file_start};
+ghost use Rattle.edf_stream.specs.times.Starts.{file_start};
 ghost use Rattle.edf_pace.specs.Kept.{shift_ps};
 
 use crate::walk::offset::Offset;
-use edf_claim::claim::Claim;
-use edf_header::header::Header;
-use edf_stream::grid::file_start_ps;
+use edf_claim::Claim;
+use edf_header::Header;
+use edf_stream::file_start_ps;
 
 /// By how much an original and an export are moved, so that both count from the second at which
 /// the original starts, before the shift.

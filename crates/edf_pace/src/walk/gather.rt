@@ -1,18 +1,13 @@
 //! The annotations of a file, as they are compared.
 
 ghost use Rattle.std.specs.Prelude.{◌≡◌, ◌<◌, ◌^◌, [], ◌∷◌, unsigned_abs, true, Option, option_map, IfOk, OnOk};
-ghost use Rattle.edf_stream.specs.Keeping.{tal_notes_left};
+ghost use Rattle.edf_stream.specs.annotation.Keeping.{tal_notes_left};
 ghost use Rattle.edf_stream.specs.Views.{note_view, note_value};
 ghost use Rattle.edf_pace.specs.walk.Gathered.{AreAdded, counted_text};
 
 use crate::walk::offset::Offset;
-use edf_claim::claim::{BLANK, Claim};
-use edf_stream::grid::file_start_ps;
-use edf_stream::note::{NoteRef, TalNotes};
-use edf_stream::note_keeper::NoteKeeper;
-use edf_stream::notes::Note;
-use edf_stream::own_text::OwnText;
-use edf_stream::reader::FileReader;
+use edf_claim::{BLANK, Claim};
+use edf_stream::{FileReader, Note, NoteKeeper, NoteRef, OwnText, TalNotes, file_start_ps};
 use std::alloc::{AllocError, Global};
 
 /// How a file is looked at: by how much it is moved, and which claim chooses from its annotations and blanks their texts;

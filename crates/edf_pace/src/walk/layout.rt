@@ -3,7 +3,7 @@
 ghost use Rattle.std.specs.Prelude.{◌≡◌, ◌<◌, ◌+◌, ◌*◌, IfSome, IsTrue, take};
 ghost use Rattle.std.specs.List.{All};
 ghost use Rattle.std.specs.Ordering.{int_eq};
-ghost use Rattle.edf_stream.specs.Readers.{is_current};
+ghost use Rattle.edf_stream.specs.records.Readers.{is_current};
 ghost use Rattle.edf_pace.specs.walk.Pairs.{AreLaidAlike, AreLanesAlike, AreRecordsAlike, are_together as begin_together, IsTrack, ArePairs};
 
 use crate::bytes::first_difference;
@@ -12,9 +12,8 @@ use crate::walk::clock::Clock;
 use crate::walk::offset::Offset;
 use crate::walk::reading::{begin_ps_of, end_ps_of};
 use crate::walk::track::{Pair, Track};
-use edf_header::header::Header;
-use edf_header::signal::Signal;
-use edf_stream::reader::FileReader;
+use edf_header::{Header, Signal};
+use edf_stream::FileReader;
 
 /// Where the lane of a signal ends in a data record.
 fn lane_end(signal: &Signal) -> Option<usize>

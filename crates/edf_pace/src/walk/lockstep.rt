@@ -2,7 +2,7 @@
 
 ghost use Rattle.std.specs.Prelude.{◌≡◌, ◌≤ℤ◌, ◌<ℤ◌, IfOk, IfErr, OnOk, IfSome, IfNone, true, false};
 ghost use Rattle.edf_claim.specs.KeepsReading.{IsUncut};
-ghost use Rattle.edf_stream.specs.Readers.{is_current};
+ghost use Rattle.edf_stream.specs.records.Readers.{is_current};
 ghost use Rattle.edf_pace.specs.Premises.{IfFaulty, IfFound, IfNothing, IfRead};
 ghost use Rattle.edf_pace.specs.PartsStops.{StopsOf, StopsOfTwo};
 ghost use Rattle.edf_pace.specs.walk.Ends.{AreFaulty, AreThrough, FaultyBy, IsFirstFaultOf, IsOver, WalkedBy, at_turn, at_window, moved_export, moved_original};
@@ -18,11 +18,10 @@ use crate::walk::gather::View;
 use crate::walk::reading::{Reading, finish, last_end, lesser_end, pass};
 use crate::walk::turn::Turn;
 use crate::walk::watchers::watcher::{Watch, Watcher};
-use edf_claim::claim::Claim;
-use edf_fields::fault::Fault;
-use edf_fields::source::Source;
+use edf_claim::Claim;
+use edf_fields::{Fault, Source};
 use edf_stop::{PartSide, PartsStop};
-use edf_stream::reader::FileReader;
+use edf_stream::FileReader;
 
 /// How far an original and a part were compared.
 #[derive(Clone, Copy)]

@@ -2,8 +2,8 @@
 
 ghost use Rattle.std.specs.Prelude.{◌≡◌, ◌<◌, ◌≤◌, ◌+◌, ◌^◌, ℤ, ◌≤ℤ◌, ◌<ℤ◌, ◌+ℤ◌, ◌⊎◌, true, false, [], None, Some, IfErr, OnOk, IfSome, IfNone, IsTrue, IfOk, MatchOption, unsigned_abs};
 ghost use Rattle.edf_stream.specs.Faults.{file_fault};
-ghost use Rattle.edf_stream.specs.NotesReading.{notes_in};
-ghost use Rattle.edf_stream.specs.Readers.{HasBegun, IsOpen, is_current, StandsIn};
+ghost use Rattle.edf_stream.specs.annotation.NotesReading.{notes_in};
+ghost use Rattle.edf_stream.specs.records.Readers.{HasBegun, IsOpen, is_current, StandsIn};
 ghost use Rattle.edf_pace.specs.Premises.{HasFault, IfFaulty, IfFound, IfNothing, IfRead};
 ghost use Rattle.edf_pace.specs.PartsStops.{StopsOf};
 ghost use Rattle.edf_pace.specs.walk.Readings.{HasCome, HasFirst, HasFollowed, HasGathered, HasGoneOn, HasMovedAs, going, standing};
@@ -14,14 +14,10 @@ use crate::times::{Time, Window};
 use crate::walk::clock::{Clock, start_ps_of};
 use crate::walk::gather::{Delay, Gathering, View};
 use crate::walk::offset::Offset;
-use edf_fields::fault::Fault;
-use edf_fields::source::Source;
-use edf_header::stop::Stop;
+use edf_fields::{Fault, Source};
+use edf_header::Stop;
 use edf_stop::{PartSide, PartsStop};
-use edf_stream::grid::file_start_ps;
-use edf_stream::note_keeper::{KeepsNone, NoteKeeper};
-use edf_stream::notes::Note;
-use edf_stream::reader::FileReader;
+use edf_stream::{FileReader, KeepsNone, Note, NoteKeeper, file_start_ps};
 use std::alloc::Global;
 use std::mem;
 

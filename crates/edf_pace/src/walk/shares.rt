@@ -2,10 +2,10 @@
 
 ghost use Rattle.std.specs.Prelude.{◌≡◌, ◌<◌, ◌≤◌, ◌+ℤ◌, ◌*ℤ◌, ◌^◌, ◌*◌, pos, true, length, IsTrue, Some, IfSome, unsigned_abs};
 ghost use Rattle.edf_claim.specs.Keeps.{keeps_instant};
-ghost use Rattle.edf_stream.specs.Readers.{is_current};
-ghost use Rattle.edf_stream.specs.Records.{lane_of};
-ghost use Rattle.edf_stream.specs.Starts.{file_start};
-ghost use Rattle.edf_stream.specs.StartsReading.{start_in};
+ghost use Rattle.edf_stream.specs.records.Readers.{is_current};
+ghost use Rattle.edf_stream.specs.records.Records.{lane_of};
+ghost use Rattle.edf_stream.specs.times.Starts.{file_start};
+ghost use Rattle.edf_stream.specs.times.StartsReading.{start_in};
 ghost use Rattle.edf_pace.specs.samples.Stretches.{IsBounded};
 ghost use Rattle.edf_pace.specs.walk.Windows.{AreSharesIn, HasShare, IsShareIn, first_at};
 ghost use Rattle.edf_pace.specs.walk.Pairs.{IsTrack};
@@ -18,9 +18,8 @@ use crate::times::{Time, Window};
 use crate::walk::clock::Clock;
 use crate::walk::offset::Offset;
 use crate::walk::track::{Pair, Track};
-use edf_claim::claim::Claim;
-use edf_stream::grid::file_start_ps;
-use edf_stream::reader::FileReader;
+use edf_claim::Claim;
+use edf_stream::{FileReader, file_start_ps};
 
 /// A number of picoseconds in units of 1 / `den` picoseconds.
 fn scaled(ps: i128, den: u32) -> i128

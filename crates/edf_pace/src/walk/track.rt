@@ -5,8 +5,8 @@ ghost use Rattle.edf_pace.specs.samples.Columns.{channel_at as channel_in};
 ghost use Rattle.edf_pace.specs.walk.Pairs.{places_in, ArePairs, IsTrack, places_of};
 
 use crate::walk::channel_place::ChannelPlace;
-use edf_header::header::Header;
-use edf_heads::channel_index::{Channel, ChannelIndex};
+use edf_header::Header;
+use edf_heads::{Channel, ChannelIndex};
 use std::alloc::{AllocError, Global};
 use std::mem::size_of;
 

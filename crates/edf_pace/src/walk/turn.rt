@@ -2,7 +2,7 @@
 
 use crate::times::Time;
 use crate::walk::clock::Clock;
-use edf_claim::claim::Claim;
+use edf_claim::Claim;
 use std::alloc::Global;
 
 /// What is the same for all exports: where memory is taken, how far files are moved, the claim, and its labels in the

@@ -2,7 +2,7 @@
 
 ghost use Rattle.std.specs.Prelude.{◌≡◌, ◌<◌, length, true, IfSome};
 ghost use Rattle.edf_claim.specs.KeepsReading.{IsUncut};
-ghost use Rattle.edf_stream.specs.Readers.{is_current};
+ghost use Rattle.edf_stream.specs.records.Readers.{is_current};
 ghost use Rattle.edf_pace.specs.InstantOrder.{IsModest};
 ghost use Rattle.edf_pace.specs.samples.Stretches.{points_in, IsPart};
 ghost use Rattle.edf_pace.specs.walk.Windows.{AreKeptOf, AreShown, IsDifferenceBy, IsPairIn, HasShare};
@@ -17,7 +17,7 @@ use crate::times::Window;
 use crate::walk::frame::Frame;
 use crate::walk::shares::{Shares, Sight, keep_shares, lane_at, no_shares};
 use crate::walk::track::{Pair, Track};
-use edf_stream::reader::FileReader;
+use edf_stream::FileReader;
 
 /// The samples of a channel between two times: those of its share.
 pub(crate) fn window<'a>(reader: &'a FileReader, track: Track, share: &Share) -> Stretch<'a>

@@ -1,6 +1,6 @@
 use Rattle.std.proofs.Common.{◌∙◌, subst}
 use Rattle.std.proofs.lemmas.Result.{err_from_is_err_and}
-use Rattle.edf_fields.specs.Sinks.{HoldsPrefix}
+use Rattle.edf_fields.specs.in_out.Sinks.{HoldsPrefix}
 use Rattle.edf_check.proofs.running.run.Goals as goal
 
 pub returns-in_err-put_all-clause-part : goal.returns-in_err-put_all-clause-part

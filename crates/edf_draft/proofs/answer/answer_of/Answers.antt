@@ -1,6 +1,6 @@
 use Rattle.std.proofs.Common.{◌≡◌, Some, IfOk, IfErr, IsTrue, subst, sym}
 use Rattle.std.proofs.lemmas.Result.{IfOk-weaker, IfErr-weaker}
-use Rattle.edf_fields.specs.Sources.{Fails}
+use Rattle.edf_fields.specs.in_out.Sources.{Fails}
 use Rattle.edf_stream.specs.Faults.{file_fault}
 use Rattle.edf_draft.specs.Answers.{BothStop, IsReadOf}
 use Rattle.edf_draft.proofs.AnswerFacts.{faultless}

@@ -1,6 +1,6 @@
 -- The labels so far, and those of the signals that are left, are those of all.
 use Rattle.std.proofs.Common.{◌≡◌, ◌++◌, map, drop}
-use Rattle.edf_header.specs.Channels.{channel_labels as labels_of}
+use Rattle.edf_header.specs.signals.Channels.{channel_labels as labels_of}
 use Rattle.edf_draft.proofs.channels.channel_labels.Given as goal
 
 abbrev pub invariant-loop-signal : goal.invariant-loop-signal

@@ -1,9 +1,9 @@
 use Rattle.std.proofs.Common.{◌≡◌, List, ℕ, IsTrue, Some, Ok, subst, sym, ap, ◌∙◌}
-use Rattle.edf_fields.specs.Sources.{Fails}
+use Rattle.edf_fields.specs.in_out.Sources.{Fails}
 use Rattle.edf_header.specs.Faults.{header_fault}
 use Rattle.edf_stream.specs.Conforming.{Conforms}
 use Rattle.edf_stream.specs.Faults.{body_fault, file_fault}
-use Rattle.edf_stream.specs.Readers.{IsOpen, status_after, StandsIn, Comes}
+use Rattle.edf_stream.specs.records.Readers.{IsOpen, status_after, StandsIn, Comes}
 use Rattle.edf_stream.proofs.ForCallers.{fault_is_of_body, header_first}
 use Rattle.edf_draft.proofs.BeginFacts.{begins_there, ends_there, first_known}
 use Rattle.edf_draft.proofs.StopFacts.{at_header, at_record}

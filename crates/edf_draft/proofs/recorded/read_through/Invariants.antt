@@ -1,7 +1,7 @@
 -- So far no data record had a fault, and where the first one starts is known.
 use Rattle.std.proofs.Common.{◌≡◌, ◌-◌, IsTrue, IfSome, IfNone}
-use Rattle.edf_stream.specs.Readers.{IsOpen, StandsIn}
-use Rattle.edf_stream.specs.StartsReading.{start_at}
+use Rattle.edf_stream.specs.records.Readers.{IsOpen, StandsIn}
+use Rattle.edf_stream.specs.times.StartsReading.{start_at}
 use Rattle.edf_draft.proofs.recorded.read_through.Given as goal
 
 abbrev pub invariant-loop-reader : goal.invariant-loop-reader

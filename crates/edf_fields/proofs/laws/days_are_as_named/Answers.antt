@@ -1,4 +1,4 @@
-use Rattle.edf_fields.proofs.DateFacts.{dotted_day_is_named, day_month_is_named, dashed_day_is_named, clock_time_is_named}
+use Rattle.edf_fields.proofs.texts.DateFacts.{dotted_day_is_named, day_month_is_named, dashed_day_is_named, clock_time_is_named}
 use Rattle.edf_fields.proofs.laws.days_are_as_named.Goals as goal
 
 pub returns-clause-dotted : goal.returns-clause-dotted

@@ -1,4 +1,4 @@
-use Rattle.edf_fields.proofs.IdentificationFacts.{one_patient, one_recording}
+use Rattle.edf_fields.proofs.texts.IdentificationFacts.{one_patient, one_recording}
 use Rattle.edf_fields.proofs.laws.fields_say_one_identification.Goals as goal
 
 pub returns-clause-patient : goal.returns-clause-patient

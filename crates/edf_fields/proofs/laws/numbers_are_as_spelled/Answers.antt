@@ -1,4 +1,4 @@
-use Rattle.edf_fields.proofs.NumberFacts.{header_number_is_spelled, whole_number_is_spelled}
+use Rattle.edf_fields.proofs.texts.NumberFacts.{header_number_is_spelled, whole_number_is_spelled}
 use Rattle.edf_fields.proofs.laws.numbers_are_as_spelled.Goals as goal
 
 pub returns-clause-header : goal.returns-clause-header

@@ -1,4 +1,4 @@
-use Rattle.edf_header.proofs.CalibrationFitFacts.{calibrations_fit}
+use Rattle.edf_header.proofs.signals.CalibrationFitFacts.{calibrations_fit}
 use Rattle.edf_header.proofs.laws.calibrations_fit.Goals as goal
 
 pub returns : goal.returns

@@ -1,11 +1,11 @@
 use Rattle.std.proofs.Common.{◌≡◌, ◌*◌, length, take, Some, IsTrue}
 use Rattle.std.proofs.lemmas.Result.{err_from_is_err_and}
-use Rattle.edf_fields.specs.Sources.{Fails}
+use Rattle.edf_fields.specs.in_out.Sources.{Fails}
 use Rattle.edf_fields.specs.Tests.{first}
 use Rattle.edf_header.specs.Faults.{columns_missing, columns_tests}
-use Rattle.edf_fields.specs.LayoutReading.{columns}
+use Rattle.edf_fields.specs.fields.LayoutReading.{columns}
 use Rattle.edf_header.proofs.FirstFacts.{stops-weaker}
-use Rattle.edf_header.proofs.TogetherFacts.{column_found}
+use Rattle.edf_header.proofs.signals.TogetherFacts.{column_found}
 use Rattle.edf_header.proofs.read.read_body.Goals as goal
 
 pub returns-in_err-columns-clause-stop : goal.returns-in_err-columns-clause-stop

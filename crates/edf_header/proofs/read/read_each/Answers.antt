@@ -1,6 +1,6 @@
 use Rattle.std.proofs.Common.{◌≡◌, ℕ, Some, ◌∙◌, ◌+◌, ◌/◌, List, ap, sym, subst, arith, IsTrue, length, refl}
 use Rattle.edf_header.specs.Narrow.{WideColumn}
-use Rattle.edf_header.proofs.ReadColumnsFacts.{HasRead, read-next, read-short}
+use Rattle.edf_header.proofs.in_columns.ReadColumnsFacts.{HasRead, read-next, read-short}
 use Rattle.edf_header.proofs.read.read_each.Goals as goal
 
 pub returns-then-len-width-clause-stop : goal.returns-then-len-width-clause-stop

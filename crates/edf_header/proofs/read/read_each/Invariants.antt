@@ -1,5 +1,5 @@
 use Rattle.std.proofs.Common.{◌≡◌, IsTrue}
-use Rattle.edf_header.proofs.ReadColumnsFacts.{HasRead}
+use Rattle.edf_header.proofs.in_columns.ReadColumnsFacts.{HasRead}
 use Rattle.edf_header.proofs.read.read_each.Given as goal
 
 abbrev pub invariant-loop-field : goal.invariant-loop-field

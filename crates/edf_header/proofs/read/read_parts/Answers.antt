@@ -1,6 +1,6 @@
 use Rattle.std.proofs.Common.{◌≡◌, ◌∙◌, ◌*◌, refl, sym, take, drop, Some, IsTrue}
 use Rattle.std.proofs.lemmas.Result.{err_from_is_err_and}
-use Rattle.edf_fields.specs.Sources.{Fails}
+use Rattle.edf_fields.specs.in_out.Sources.{Fails}
 use Rattle.edf_fields.specs.Tests.{first}
 use Rattle.edf_header.specs.Faults.{columns_tests, header_fault}
 use Rattle.edf_header.proofs.FirstFacts.{stops-weaker}

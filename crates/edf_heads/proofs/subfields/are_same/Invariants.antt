@@ -1,5 +1,5 @@
 use Rattle.std.proofs.Common.{◌≡◌}
-use Rattle.edf_fields.specs.SubfieldsReading.{subfields_left}
+use Rattle.edf_fields.specs.texts.SubfieldsReading.{subfields_left}
 use Rattle.edf_heads.specs.Comparisons.{are_same}
 use Rattle.edf_heads.proofs.subfields.are_same.Given as goal
 

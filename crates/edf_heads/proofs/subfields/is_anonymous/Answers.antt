@@ -1,7 +1,7 @@
 use Rattle.std.proofs.Common.{◌∙◌, ◌↔◌, IsTrue, ap, sym, subst}
 use Rattle.std.specs.List.{list_all}
-use Rattle.edf_fields.specs.Identifications.{Patient, Recording}
-use Rattle.edf_fields.specs.declared.which.Which.{Which}
+use Rattle.edf_fields.specs.texts.Identifications.{Patient, Recording}
+use Rattle.edf_fields.specs.declared.fields.which.Which.{Which}
 use Rattle.edf_heads.specs.Comparisons.{is_x, IsAnonymous}
 use Rattle.edf_heads.proofs.SubfieldFacts.{all_x_tested}
 use Rattle.edf_heads.proofs.subfields.is_anonymous.Goals as goal

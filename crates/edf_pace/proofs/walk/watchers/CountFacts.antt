@@ -16,7 +16,7 @@ use Rattle.edf_pace.specs.samples.Stretches.{since, until, whole}
 use Rattle.edf_pace.specs.samples.Tallies.{differences_of, first_of, joined, tally_of}
 use Rattle.edf_pace.specs.declared.times.Window.{Window}
 use Rattle.edf_pace.specs.declared.walk.frame.Frame.{Frame}
-use Rattle.edf_stream.specs.Readers.{Reader}
+use Rattle.edf_stream.specs.records.Readers.{Reader}
 use Rattle.edf_pace.specs.walk.Counting.{AreCounted, counts_between, differences_in, joined_each}
 use Rattle.edf_pace.specs.walk.Shown.{Covers}
 use Rattle.edf_pace.specs.walk.Watching.{TwoFiles, first_between, moved_export, moved_original, two_files}

@@ -14,7 +14,7 @@ use crate::walk::shares::{Shares, Sight, keep_shares, no_shares};
 use crate::walk::track::Pair;
 use crate::walk::watchers::watcher::Watcher;
 use crate::walk::window::{kept_window, window};
-use edf_stream::reader::FileReader;
+use edf_stream::FileReader;
 use std::alloc::{AllocError, Global};
 
 /// Counts the differences of the channels of a label between two times; none where one of the files has no such channel.

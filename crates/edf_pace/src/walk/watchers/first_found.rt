@@ -14,7 +14,7 @@ use crate::walk::layout::are_alike;
 use crate::walk::shares::keeps_at;
 use crate::walk::watchers::watcher::Watcher;
 use crate::walk::window::window_difference;
-use edf_stream::reader::FileReader;
+use edf_stream::FileReader;
 
 /// Whether the data records at hand show the same, all of which is kept. It may say no where one of them
 /// reaches beyond the two times.

@@ -8,7 +8,7 @@ ghost use Rattle.edf_pace.specs.walk.Watching.{HasSeen, TwoFiles};
 
 use crate::times::Window;
 use crate::walk::frame::Frame;
-use edf_stream::reader::FileReader;
+use edf_stream::FileReader;
 
 /// Looks at what an original and a part show between two times, and then from the later one to the next, while both are
 /// read in step.

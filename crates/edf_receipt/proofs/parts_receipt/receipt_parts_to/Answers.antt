@@ -2,8 +2,8 @@ use Rattle.std.proofs.Common.{◌≡◌, ◌++◌, ◌∙◌, ℕ, List, ap, len
 use Rattle.std.proofs.lemmas.List.{length-map}
 use Rattle.std.proofs.lemmas.Result.{err_from_is_err_and}
 use Rattle.edf_check.specs.Runs.{IsPartsVerdictUnder}
-use Rattle.edf_fields.specs.Sinks.{HoldsPrefix}
-use Rattle.edf_fields.specs.Sources.{Reads}
+use Rattle.edf_fields.specs.in_out.Sinks.{HoldsPrefix}
+use Rattle.edf_fields.specs.in_out.Sources.{Reads}
 use Rattle.edf_receipt.specs.ReceiptRuns.{AreDigested, IsPartOfPartsReceipt, IsPartsReceipt}
 use Rattle.edf_receipt.specs.Receipts.{files_of, part_lines, receipt}
 use Rattle.edf_receipt.specs.declared.file_line.FileLine.{FileLine}

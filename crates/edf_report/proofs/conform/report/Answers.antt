@@ -1,5 +1,5 @@
 use Rattle.std.proofs.Common.{IsTrue, ◌≡◌}
-use Rattle.edf_fields.specs.Sources.{Fails}
+use Rattle.edf_fields.specs.in_out.Sources.{Fails}
 use Rattle.edf_header.specs.HeadsReading.{head_of}
 use Rattle.edf_stream.specs.Faults.{file_fault}
 use Rattle.edf_report.specs.ConformTexts.{file_counts, conform_text}

@@ -1,9 +1,9 @@
 use Rattle.std.proofs.Common.{◌≡◌, ℕ, List, IsTrue, subst, sym}
-use Rattle.edf_fields.specs.Sources.{Fails}
-use Rattle.edf_fields.specs.Sinks.{HoldsPrefix}
+use Rattle.edf_fields.specs.in_out.Sources.{Fails}
+use Rattle.edf_fields.specs.in_out.Sinks.{HoldsPrefix}
 use Rattle.edf_verdict.specs.declared.outcome.Outcome.{Outcome}
 use Rattle.edf_stream.specs.Faults.{body_fault, file_fault}
-use Rattle.edf_stream.specs.Readers.{StandsIn}
+use Rattle.edf_stream.specs.records.Readers.{StandsIn}
 use Rattle.edf_report.specs.NotesTexts.{body_text, notes_text}
 use Rattle.edf_report.specs.Reports.{IsReported, IsStopWritten, stop_line}
 use Rattle.edf_report.proofs.NotesFacts.{is_body, file_reported, header_reported, header_part, if-ok, on-err}

@@ -1,5 +1,5 @@
 use Rattle.std.proofs.Common.{◌≡◌, ◌++◌}
-use Rattle.edf_stream.specs.Keeping.{tal_notes_left}
+use Rattle.edf_stream.specs.annotation.Keeping.{tal_notes_left}
 use Rattle.edf_report.specs.NotesTexts.{note_lines}
 use Rattle.edf_report.proofs.notes.push_lines.Given as goal
 

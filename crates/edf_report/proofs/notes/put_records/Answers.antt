@@ -1,12 +1,12 @@
 use Rattle.std.proofs.Common.{◌≡◌, ℕ, List, Ok, Some, IsTrue, subst, sym, refl, ap, ◌∙◌}
-use Rattle.edf_fields.specs.Sources.{Fails}
-use Rattle.edf_fields.specs.Sinks.{HoldsPrefix}
+use Rattle.edf_fields.specs.in_out.Sources.{Fails}
+use Rattle.edf_fields.specs.in_out.Sinks.{HoldsPrefix}
 use Rattle.edf_header.specs.Heads.{Head}
 use Rattle.edf_verdict.specs.declared.outcome.Outcome.{Outcome}
 use Rattle.edf_stream.specs.Faults.{body_fault}
-use Rattle.edf_stream.specs.NotesReading.{notes_in}
-use Rattle.edf_stream.specs.Records.{record_at}
-use Rattle.edf_stream.specs.Readers.{IsOpen, StandsIn, HasPassed, Comes, StopsAt, place_behind, status_after}
+use Rattle.edf_stream.specs.annotation.NotesReading.{notes_in}
+use Rattle.edf_stream.specs.records.Records.{record_at}
+use Rattle.edf_stream.specs.records.Readers.{IsOpen, StandsIn, HasPassed, Comes, StopsAt, place_behind, status_after}
 use Rattle.edf_report.specs.NotesTexts.{body_text}
 use Rattle.edf_report.specs.Reports.{IsReported, IsStopWritten, stop_line}
 use Rattle.edf_report.proofs.NotesFacts.{lines-made, written_more, record_part, ended, stop_reported, stop_part, if-ok, on-err, said-on-err}

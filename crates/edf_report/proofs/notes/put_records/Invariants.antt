@@ -1,5 +1,5 @@
 use Rattle.std.proofs.Common.{◌≡◌, ◌++◌, ◌-◌, ℕ, List, IsTrue}
-use Rattle.edf_stream.specs.Readers.{IsOpen, StandsIn}
+use Rattle.edf_stream.specs.records.Readers.{IsOpen, StandsIn}
 use Rattle.edf_report.specs.NotesTexts.{note_lines_before}
 use Rattle.edf_report.proofs.notes.put_records.Given as goal
 

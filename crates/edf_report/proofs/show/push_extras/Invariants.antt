@@ -1,5 +1,5 @@
 use Rattle.std.proofs.Common.{◌≡◌, ◌++◌}
-use Rattle.edf_fields.specs.SubfieldsReading.{subfields_left}
+use Rattle.edf_fields.specs.texts.SubfieldsReading.{subfields_left}
 use Rattle.edf_report.specs.ShowTexts.{extras_text}
 use Rattle.edf_report.proofs.show.push_extras.Given as goal
 

@@ -1,4 +1,4 @@
-use Rattle.edf_stream.proofs.ReadFacts.{notes_are_said, notes_are_read}
+use Rattle.edf_stream.proofs.records.ReadFacts.{notes_are_said, notes_are_read}
 use Rattle.edf_stream.proofs.laws.annotations_are_said.Goals as goal
 
 pub returns-clause-said : goal.returns-clause-said

@@ -1,4 +1,4 @@
-use Rattle.edf_stream.proofs.SampleLawFacts.{samples_are_of_channels}
+use Rattle.edf_stream.proofs.samples.SampleLawFacts.{samples_are_of_channels}
 use Rattle.edf_stream.proofs.laws.samples_are_of_channels.Goals as goal
 
 pub returns : goal.returns

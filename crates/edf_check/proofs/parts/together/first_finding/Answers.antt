@@ -4,7 +4,7 @@ use Rattle.edf_verdict.specs.declared.verdict.SampleMismatch.{SampleMismatch}
 use Rattle.edf_check.specs.Courses.{IsFirstMismatch}
 use Rattle.edf_check.specs.KeptReading.{KeptAt}
 use Rattle.edf_check.specs.parts.Parts.{ExportedByOne}
-use Rattle.edf_stream.specs.Notes.{NoteValue}
+use Rattle.edf_stream.specs.annotation.Notes.{NoteValue}
 use Rattle.edf_pace.specs.notes.NoteOrder.{IsNoteDifference}
 use Rattle.edf_check.proofs.parts.TogetherFacts.{found_as, nothing_found, of_head}
 use Rattle.edf_check.proofs.parts.together.first_finding.Goals as goal

@@ -1,7 +1,7 @@
 use Rattle.std.proofs.Common.{◌∙◌, ap}
-use Rattle.edf_fields.specs.IdentificationsReading.{patient_of}
-use Rattle.edf_fields.specs.declared.layout.FixedField.TheVariants as fixed
-use Rattle.edf_fields.specs.Layout.{fixed_field}
+use Rattle.edf_fields.specs.texts.IdentificationsReading.{patient_of}
+use Rattle.edf_fields.specs.declared.fields.layout.FixedField.TheVariants as fixed
+use Rattle.edf_fields.specs.fields.Layout.{fixed_field}
 use Rattle.edf_header.specs.HeadsReading.{patient_in}
 use Rattle.edf_header.proofs.SaidFacts.{patient_is}
 use Rattle.edf_header.proofs.header.Header.patient.Goals as goal

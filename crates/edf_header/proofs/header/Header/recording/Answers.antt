@@ -1,7 +1,7 @@
 use Rattle.std.proofs.Common.{◌∙◌, ap}
-use Rattle.edf_fields.specs.IdentificationsReading.{recording_of}
-use Rattle.edf_fields.specs.declared.layout.FixedField.TheVariants as fixed
-use Rattle.edf_fields.specs.Layout.{fixed_field}
+use Rattle.edf_fields.specs.texts.IdentificationsReading.{recording_of}
+use Rattle.edf_fields.specs.declared.fields.layout.FixedField.TheVariants as fixed
+use Rattle.edf_fields.specs.fields.Layout.{fixed_field}
 use Rattle.edf_header.specs.HeadsReading.{recording_in}
 use Rattle.edf_header.proofs.SaidFacts.{recording_is}
 use Rattle.edf_header.proofs.header.Header.recording.Goals as goal

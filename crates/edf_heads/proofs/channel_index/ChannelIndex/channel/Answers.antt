@@ -1,7 +1,7 @@
 use Rattle.std.proofs.Common.{◌≡◌, List, subst, option_map, IfSome, MatchOption}
 use Rattle.edf_header.specs.Heads.{Head}
 use Rattle.edf_header.specs.Sound.{IsSound}
-use Rattle.edf_heads.specs.ChannelDifferences.{HasNoChannel}
+use Rattle.edf_heads.specs.differences.ChannelDifferences.{HasNoChannel}
 use Rattle.edf_heads.specs.ChannelIndexes.{IsChannelAt}
 use Rattle.edf_heads.specs.Comparisons.{channel_of}
 use Rattle.edf_heads.specs.declared.channel_index.Channel.{Channel}

@@ -1,6 +1,6 @@
 use Rattle.std.proofs.Common.{subst, MatchOption}
 use Rattle.edf_header.specs.Heads.{Head}
-use Rattle.edf_heads.specs.ChannelDifferences.{IsLeastExtra}
+use Rattle.edf_heads.specs.differences.ChannelDifferences.{IsLeastExtra}
 use Rattle.edf_heads.specs.Comparisons.{HasNoExtra}
 use Rattle.edf_heads.proofs.ComparisonFacts.{extra_said}
 use Rattle.edf_heads.proofs.channel_index.ChannelIndex.least_extra.Goals as goal

@@ -1,5 +1,5 @@
 use Rattle.std.proofs.Common.{ℕ, List, Bor, sym, subst, MatchOption}
-use Rattle.edf_heads.specs.ChannelDifferences.{IsLeastExtra}
+use Rattle.edf_heads.specs.differences.ChannelDifferences.{IsLeastExtra}
 use Rattle.edf_heads.specs.Comparisons.{Compared, AreSorted, HasOnly}
 use Rattle.edf_heads.proofs.HeadFacts.{only_said}
 use Rattle.edf_heads.proofs.comparison.Comparison.extra_channel.Goals as goal

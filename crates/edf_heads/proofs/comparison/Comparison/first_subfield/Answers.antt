@@ -1,5 +1,5 @@
 use Rattle.std.proofs.Common.{Some, None, refl}
-use Rattle.edf_fields.specs.declared.which.Which.TheVariants.{Code}
+use Rattle.edf_fields.specs.declared.fields.which.Which.TheVariants.{Code}
 use Rattle.edf_heads.proofs.SubfieldFacts.{found_here, found_none}
 use Rattle.edf_heads.proofs.comparison.Comparison.first_subfield.Goals as goal
 

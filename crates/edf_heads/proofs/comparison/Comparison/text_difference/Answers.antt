@@ -1,6 +1,6 @@
 use Rattle.std.proofs.Common.{subst, MatchOption}
-use Rattle.edf_heads.specs.Texts.{SameTexts}
-use Rattle.edf_heads.specs.TextDifference.{IsTextDifference}
+use Rattle.edf_heads.specs.ChannelTexts.{SameTexts}
+use Rattle.edf_heads.specs.differences.TextDifference.{IsTextDifference}
 use Rattle.edf_heads.specs.Comparisons.{Compared}
 use Rattle.edf_heads.proofs.ContentFacts.{texts_said}
 use Rattle.edf_heads.proofs.comparison.Comparison.text_difference.Goals as goal

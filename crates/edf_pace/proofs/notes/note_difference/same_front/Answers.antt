@@ -1,5 +1,5 @@
 use Rattle.std.proofs.Common.{◌≡◌, ◌<◌, length, get_or, Equal, sym, ap, ◌∙◌, arith}
-use Rattle.edf_stream.specs.declared.notes.Note.{Note}
+use Rattle.edf_stream.specs.declared.annotation.notes.Note.{Note}
 use Rattle.edf_stream.specs.Views.{note_value}
 use Rattle.edf_pace.specs.Annotations.{note_cmp}
 use Rattle.edf_pace.proofs.notes.NoteOrderFacts.{same-more, not-apart}

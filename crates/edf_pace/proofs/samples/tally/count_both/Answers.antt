@@ -1,6 +1,6 @@
 use Rattle.std.proofs.Common.{◌≡◌, ◌+◌, ◌*◌, ◌<◌, ◌≤◌, pos, ◌+ℤ◌, ◌*ℤ◌, not, Bool, true, false, MatchOption, Option, Some, None, [], ◌∷◌, length, arith, ap, refl, subst, sym, ◌∙◌}
 use Rattle.std.specs.Int.{from_bool}
-use Rattle.edf_stream.specs.Values.{digital_value}
+use Rattle.edf_stream.specs.samples.Values.{digital_value}
 use Rattle.edf_pace.specs.declared.samples.difference.PointDifference.{PointDifference}
 use Rattle.edf_pace.specs.samples.Differences.{heads}
 use Rattle.edf_pace.specs.samples.Tallies.{all_behind, joined, lacks_first, lacks_second, tally_of}

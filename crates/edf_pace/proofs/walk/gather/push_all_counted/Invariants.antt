@@ -1,5 +1,5 @@
 use Rattle.std.proofs.Common.{◌≡◌, ◌++◌, map, option_map}
-use Rattle.edf_stream.specs.Keeping.{tal_notes_left}
+use Rattle.edf_stream.specs.annotation.Keeping.{tal_notes_left}
 use Rattle.edf_stream.specs.Views.{note_value}
 use Rattle.edf_pace.specs.walk.Gathered.{gathered_of}
 use Rattle.edf_pace.proofs.walk.gather.push_all_counted.Given as goal

@@ -1,5 +1,5 @@
 use Rattle.std.proofs.Common.{◌∙◌, ◌+ℤ◌, refl, ap}
-use Rattle.edf_stream.specs.Starts.{file_start}
+use Rattle.edf_stream.specs.times.Starts.{file_start}
 use Rattle.edf_pace.proofs.walk.lockstep.end_both.Goals as goal
 
 pub returns-in-Ok-None-finish-clause-through : goal.returns-in-Ok-None-finish-clause-through

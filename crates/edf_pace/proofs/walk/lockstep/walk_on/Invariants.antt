@@ -1,6 +1,6 @@
 use Rattle.std.proofs.Common.{◌≡◌, ◌^◌, pos, ◌-ℤ◌, ◌≤ℤ◌, false, unsigned_abs}
 use Rattle.edf_stream.specs.Conforming.{Conforms}
-use Rattle.edf_stream.specs.Readers.{is_current}
+use Rattle.edf_stream.specs.records.Readers.{is_current}
 use Rattle.edf_pace.specs.Premises.{OfFile, OfFiles}
 use Rattle.edf_pace.specs.walk.Watching.{moved_export, two_files}
 use Rattle.edf_pace.specs.walk.Readings.{ExportMoves, OriginalMoves, export_at, original_at}

@@ -1,5 +1,5 @@
 use Rattle.std.proofs.Common.{◌≡◌, ◌+◌, ◌-◌, if◌then◌else◌}
-use Rattle.edf_stream.specs.Readers.{is_current}
+use Rattle.edf_stream.specs.records.Readers.{is_current}
 use Rattle.edf_pace.specs.walk.Readings.{HasGoneOn}
 use Rattle.edf_pace.proofs.walk.reading.finish.Given as goal
 

@@ -1,7 +1,7 @@
 use Rattle.std.proofs.Common.{◌≡◌, ◌∙◌, ◌++◌, ◌+ℤ◌, sym, ap, map, arith}
 use Rattle.std.specs.Option.{option_map}
 use Rattle.std.proofs.lemmas.Int.{ints}
-use Rattle.edf_stream.specs.Starts.{file_start}
+use Rattle.edf_stream.specs.times.Starts.{file_start}
 use Rattle.edf_stream.specs.Views.{note_value}
 use Rattle.edf_pace.specs.declared.walk.gather.Delay.{Delay}
 use Rattle.edf_pace.specs.walk.Gathered.{claim_of, gathered_in}

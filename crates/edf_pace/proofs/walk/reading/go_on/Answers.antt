@@ -1,5 +1,5 @@
 use Rattle.std.proofs.Common.{Bool, sym, subst, ap, ◌∙◌}
-use Rattle.edf_stream.specs.Readers.{Comes, status_after}
+use Rattle.edf_stream.specs.records.Readers.{Comes, status_after}
 use Rattle.edf_pace.proofs.walk.PassFacts.{answered_current}
 use Rattle.edf_pace.proofs.walk.reading.go_on.Goals as goal
 

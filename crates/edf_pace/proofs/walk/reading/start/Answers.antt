@@ -2,7 +2,7 @@ use Rattle.std.proofs.Common.{◌≡◌, ◌^◌, neg_ℤ, pos, true, ◌∙◌,
 use Rattle.std.proofs.lemmas.Int.{ints}
 use Rattle.edf_pace.specs.walk.Gathered.{claim_of, gathered_in}
 use Rattle.edf_pace.proofs.walk.PassFacts.{at_first, begins_with_one}
-use Rattle.edf_stream.specs.Readers.{is_current}
+use Rattle.edf_stream.specs.records.Readers.{is_current}
 use Rattle.edf_stream.specs.Views.{note_value}
 use Rattle.edf_pace.proofs.walk.reading.start.Goals as goal
 

@@ -5,7 +5,7 @@ use mir.Syntax.{w128}
 use Rattle.edf_header.specs.Heads.{Head}
 use Rattle.edf_pace.specs.samples.Stretches.{stretch_points, since, until}
 use Rattle.edf_pace.specs.walk.Windows.{first_at, IsShareOf}
-use Rattle.edf_stream.specs.Readers.{is_current}
+use Rattle.edf_stream.specs.records.Readers.{is_current}
 use Rattle.edf_pace.proofs.walk.ShownFacts.{covers_current, covers_nothing, shown_by}
 use Rattle.edf_pace.proofs.walk.window.window.Goals as goal
 

@@ -5,7 +5,7 @@ use Rattle.std.proofs.lemmas.List.{append_cancel_right}
 use Rattle.sha2.specs.Hashers.{Holds256}
 use Rattle.sha2.specs.Sha256.{sha256}
 use Rattle.sha2.specs.declared.Sha256.{Sha256}
-use Rattle.edf_fields.specs.Sources.{Reads}
+use Rattle.edf_fields.specs.in_out.Sources.{Reads}
 use Rattle.edf_receipt.proofs.digest_source.DigestSource.digested.Goals as goal
 
 pub returns-clause-digest : goal.returns-clause-digest

@@ -1,7 +1,7 @@
 use Rattle.std.proofs.Common.{◌≡◌, ◌-◌, ◌^◌, ◌≤◌, ◌<◌, ◌++◌, length, sym, ap, ◌∙◌, append-nil, arith}
 use Rattle.std.proofs.Math.Logic.{∥∥₁_elim}
 use Rattle.std.proofs.Props.{props}
-use Rattle.edf_fields.specs.Sources.{Reads}
+use Rattle.edf_fields.specs.in_out.Sources.{Reads}
 use Rattle.edf_receipt.proofs.DigestFacts.{left_short, locked}
 use Rattle.edf_receipt.proofs.digest_source.DigestSource.finish.Goals as goal
 

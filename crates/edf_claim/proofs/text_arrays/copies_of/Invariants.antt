@@ -1,5 +1,0 @@
-use Rattle.std.proofs.Common.{◌≡◌, map, take}
-use Rattle.edf_claim.proofs.text_arrays.copies_of.Given as goal
-
-abbrev pub invariant-loop-text : goal.invariant-loop-text
-invariant-loop-text l = map (λ t. t.items) l.copies.items ≡ map (λ t. t.now) (take l.text-index l.texts)

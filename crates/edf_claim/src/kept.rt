@@ -1,0 +1,7 @@
+//! What a claim says, and what it keeps.
+
+pub mod borders;
+pub mod claim;
+pub mod interval;
+pub mod note_texts;
+pub mod prefixes;

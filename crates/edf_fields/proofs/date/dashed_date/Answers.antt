@@ -1,5 +1,0 @@
-use Rattle.edf_fields.proofs.DateFacts.{dashed_day_read}
-use Rattle.edf_fields.proofs.date.dashed_date.Goals as goal
-
-pub returns-clause-day : goal.returns-clause-day
-returns-clause-day c = search dashed_day_read

@@ -1,0 +1,13 @@
+pub mod DateFacts
+pub mod DigitFacts
+pub mod DotFacts
+pub mod FrontFacts
+pub mod IdentificationFacts
+pub mod NumberFacts
+pub mod OnsetByteFacts
+pub mod OnsetFacts
+pub mod PrintableFacts
+pub mod SubfieldFacts
+pub mod SubfieldLawFacts
+pub mod ValueFacts
+pub mod ZeroFacts

@@ -1,0 +1,4 @@
+pub mod Layout
+pub mod LayoutReading
+pub mod SubfieldNames
+pub mod SubfieldNamesReading

@@ -1,0 +1,5 @@
+pub mod Sources
+pub mod Sinks
+pub mod SliceSource
+pub mod SliceSink
+pub mod PlainReads

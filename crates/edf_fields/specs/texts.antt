@@ -1,0 +1,12 @@
+pub mod Numbers
+pub mod NumbersReading
+pub mod Onsets
+pub mod OnsetsReading
+pub mod Dates
+pub mod DatesReading
+pub mod Printable
+pub mod PrintableReading
+pub mod Subfields
+pub mod SubfieldsReading
+pub mod Identifications
+pub mod IdentificationsReading

@@ -1,0 +1,48 @@
+-- Onsets and durations, as they are read.
+use Rattle.std.specs.Prelude.{◌≡◌, ◌<◌, ◌≤◌, slice_index, ℕ, ℤ, Bool, not, Option, Some, None, nat_le, nat_lt, ◌&&◌, ◌||◌, pos, List, length, drop, if◌then◌else◌, ◌↔◌}
+use Rattle.std.specs.List.{list_all}
+use Rattle.edf_fields.specs.texts.Numbers.{before_dot, behind_dot, has_minus, signed}
+use Rattle.edf_fields.specs.texts.NumbersReading.{is_digit}
+use Rattle.edf_fields.specs.texts.Onsets.{without_leading_zeros, without_trailing_zeros, has_dot, has_sign, time_of, SpellsOnset, SpellsSpan}
+
+-- the first n bytes are digits
+abbrev pub AreDigitsBefore : ℕ → List ℕ → Type 0
+AreDigitsBefore n u = (k : ℕ) → k < n → (48 ≤ slice_index u k) × (slice_index u k ≤ 57)
+
+-- `AreSeconds` as a test
+abbrev pub are_seconds : List ℕ → Bool
+are_seconds w = list_all is_digit w && (nat_lt 0 (length w) && nat_le (length (without_leading_zeros w)) 9)
+
+-- `IsFraction` as a test
+abbrev pub is_fraction : List ℕ → Bool
+is_fraction f = list_all is_digit f && nat_le (length (without_trailing_zeros f)) 12
+
+-- `IsTime` as a test
+abbrev pub is_time : List ℕ → Bool
+is_time u =
+    are_seconds (before_dot u)
+    && (is_fraction (behind_dot u) && (not (has_dot u) || nat_lt 0 (length (behind_dot u))))
+
+-- the onset that a text spells by `SpellsOnset`, or none
+unfoldable pub onset_of : List ℕ → Option ℤ
+onset_of t = if has_sign t && is_time (drop 1 t) then Some (signed (has_minus t) (time_of (drop 1 t))) else None
+
+-- the duration that a text spells by `SpellsSpan`, or none
+unfoldable pub span_of : List ℕ → Option ℤ
+span_of t = if is_time t then Some (pos (time_of t)) else None
+
+-- a text spells at most one onset
+abbrev pub SpellsOneOnset : Type 0
+SpellsOneOnset = (t : List ℕ) (v w : ℤ) → SpellsOnset t v → SpellsOnset t w → v ≡ w
+
+-- a text spells at most one duration
+abbrev pub SpellsOneSpan : Type 0
+SpellsOneSpan = (t : List ℕ) (v w : ℤ) → SpellsSpan t v → SpellsSpan t w → v ≡ w
+
+-- the onset that is read of a text is the one that it spells
+abbrev pub OnsetIsSpelled : Type 0
+OnsetIsSpelled = (t : List ℕ) (v : ℤ) → (onset_of t ≡ Some v) ↔ SpellsOnset t v
+
+-- the duration that is read of a text is the one that it spells
+abbrev pub SpanIsSpelled : Type 0
+SpanIsSpelled = (t : List ℕ) (v : ℤ) → (span_of t ≡ Some v) ↔ SpellsSpan t v

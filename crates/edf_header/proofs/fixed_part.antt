@@ -1,0 +1,2 @@
+pub mod FixedFacts
+pub mod StartdateFacts

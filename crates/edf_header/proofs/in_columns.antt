@@ -1,0 +1,5 @@
+pub mod ColumnFacts
+pub mod NarrowFacts
+pub mod ReadColumnsFacts
+pub mod WideFacts
+pub mod TextSameFacts

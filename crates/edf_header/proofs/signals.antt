@@ -1,0 +1,9 @@
+pub mod CalibrationFacts
+pub mod CalibrationFitFacts
+pub mod ProductFacts
+pub mod ValueFacts
+pub mod RepeatFacts
+pub mod SignalFacts
+pub mod TextFacts
+pub mod TogetherFacts
+pub mod ChannelFacts

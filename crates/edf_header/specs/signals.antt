@@ -1,0 +1,7 @@
+pub mod Calibrations
+pub mod CalibrationLaws
+pub mod Channels
+pub mod ChannelsReading
+pub mod Extremes
+pub mod Lanes
+pub mod PackedTexts

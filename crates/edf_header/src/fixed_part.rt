@@ -1,0 +1,4 @@
+//! The fixed part of a header.
+
+pub mod fixed;
+pub mod startdate;

@@ -1,0 +1,5 @@
+pub mod BlankDifference
+pub mod ChannelDifferences
+pub mod SubfieldDifference
+pub mod TextDifference
+pub mod HeadDifferences

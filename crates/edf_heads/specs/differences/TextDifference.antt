@@ -1,0 +1,20 @@
+-- The first text that differs.
+use Rattle.std.specs.Prelude.{ℕ, List}
+use Rattle.edf_header.specs.Heads.{Head}
+use Rattle.edf_claim.specs.Terms.{Terms}
+use Rattle.edf_heads.specs.Channels.{AreAlike}
+use Rattle.edf_heads.specs.differences.ChannelDifferences.{AreUnlike, IsFirstUnlike}
+use Rattle.edf_verdict.specs.declared.verdict.TextField.{TextField}
+use Rattle.edf_verdict.specs.declared.verdict.TextField.TheVariants.{Transducer, Prefilter}
+use Rattle.edf_heads.specs.ChannelTexts.{HaveSameText, HaveSameTexts}
+
+-- this is the first text in which the channels of the label differ: the transducer comes before the prefilter
+abbrev pub IsFirstText : Head → Head → List ℕ → TextField → Type 0
+IsFirstText original export label Transducer = AreUnlike (HaveSameText Transducer) original export label
+IsFirstText original export label Prefilter =
+    AreAlike (HaveSameText Transducer) original export label × AreUnlike (HaveSameText Prefilter) original export label
+
+-- the first claimed channel that hasn't the original's texts in the export, and its first such text
+pub record IsTextDifference (original export : Head) (claim : Terms) (label : List ℕ) (field : TextField) : Type 0 where
+  pub channel : IsFirstUnlike HaveSameTexts original export claim label
+  pub text : IsFirstText original export label field

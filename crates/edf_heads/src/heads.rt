@@ -1,0 +1,166 @@
+//! The first difference of two headers.
+
+ghost use Rattle.std.specs.Prelude.{◌≡◌, ◌↔◌, None, IfOk, IfSome, MatchOption};
+ghost use Rattle.edf_heads.specs.Channels.{SameChannels};
+ghost use Rattle.edf_heads.specs.differences.HeadDifferences.{difference_of, IsHeadDifference};
+ghost use Rattle.edf_heads.specs.HeadVerdicts.{HeadsAgree, SignalsAgree, IsHeadVerdict};
+
+use crate::channel_texts::TextDifference;
+use crate::comparison::Comparison;
+use crate::rules::ChannelRule;
+use crate::subfields::SubfieldDifference;
+use edf_claim::Claim;
+use edf_fields::Which;
+use edf_header::Header;
+use edf_verdict::{Difference, FreeText, Label, SubfieldMismatch, TextField, Verdict};
+use std::alloc::{AllocError, Global};
+
+/// A difference of two headers; its label is borrowed.
+#[derive(Clone, Copy)]
+enum HeadDifference<'a> {
+    /// A claimed channel isn't in the original.
+    UnknownChannel(&'a [u8]),
+    /// A claimed channel isn't in the export.
+    MissingChannel(&'a [u8]),
+    /// A channel of the export isn't claimed.
+    ExtraChannel(&'a [u8]),
+    /// A text of a channel isn't the original's.
+    ChannelText(&'a [u8], TextField),
+    /// The calibration of a channel isn't the original's.
+    Calibration(&'a [u8]),
+    /// A subfield isn't as claimed.
+    Subfield(Which, SubfieldMismatch),
+    /// The export has free text in its header.
+    FreeTextInHeader,
+    /// The export has free text in a channel.
+    FreeTextInChannel(&'a [u8]),
+}
+
+impl<'a> HeadDifference<'a> {
+    /// The difference, with a label of its own.
+    ///
+    /// The error is want of memory.
+    fn difference(self, alloc: Global) -> Result<Difference, AllocError>
+        ensures { IfOk result (λ difference. difference ≡ difference_of self.entry) }
+    {
+        Ok(match self {
+            HeadDifference::UnknownChannel(label) => {
+                Difference::UnknownChannel(Label::new(alloc, label)?)
+            }
+            HeadDifference::MissingChannel(label) => {
+                Difference::MissingChannel(Label::new(alloc, label)?)
+            }
+            HeadDifference::ExtraChannel(label) => {
+                Difference::ExtraChannel(Label::new(alloc, label)?)
+            }
+            HeadDifference::ChannelText(label, field) => {
+                Difference::ChannelText(Label::new(alloc, label)?, field)
+            }
+            HeadDifference::Calibration(label) => {
+                Difference::Calibration(Label::new(alloc, label)?)
+            }
+            HeadDifference::Subfield(which, mismatch) => Difference::Subfield(which, mismatch),
+            HeadDifference::FreeTextInHeader => Difference::NotClean(FreeText::Header),
+            HeadDifference::FreeTextInChannel(label) => {
+                Difference::NotClean(FreeText::Channel(Label::new(alloc, label)?))
+            }
+        })
+    }
+}
+
+impl<'a> Comparison<'a> {
+    /// The first difference in which channels the headers have.
+    #[tactic(auto, using(crate::proofs::HeadFacts::same_channels))]
+    fn channel_difference(&self) -> Option<HeadDifference<'a>>
+        ensures { MatchOption result
+            (SameChannels self.now.original self.now.export self.now.claim)
+            (IsHeadDifference self.now.original self.now.export self.now.claim) }
+    {
+        if let Some(label) = self.first_breaking(ChannelRule::Known) {
+            return Some(HeadDifference::UnknownChannel(label));
+        }
+        if let Some(label) = self.first_breaking(ChannelRule::Exported) {
+            return Some(HeadDifference::MissingChannel(label));
+        }
+        if let Some(label) = self.extra_channel() {
+            return Some(HeadDifference::ExtraChannel(label));
+        }
+        None
+    }
+
+    /// The first difference in what the headers say of their channels, where they have the same ones.
+    fn content_difference(&self) -> Option<HeadDifference<'a>>
+        ensures { SameChannels self.now.original self.now.export self.now.claim →
+            MatchOption result
+            (SignalsAgree self.now.original self.now.export self.now.claim)
+            (IsHeadDifference self.now.original self.now.export self.now.claim) }
+    {
+        if let Some(TextDifference { label, field }) = self.text_difference() {
+            return Some(HeadDifference::ChannelText(label, field));
+        }
+        if let Some(label) = self.first_breaking(ChannelRule::Calibrated) {
+            return Some(HeadDifference::Calibration(label));
+        }
+        None
+    }
+
+    /// The first difference in the subfields, and the first free text of the export, where the headers
+    /// agree on the channels.
+    fn remaining_difference(&self) -> Option<HeadDifference<'a>>
+        ensures { SignalsAgree self.now.original self.now.export self.now.claim →
+            MatchOption result
+            (HeadsAgree self.now.original self.now.export self.now.claim)
+            (IsHeadDifference self.now.original self.now.export self.now.claim) }
+    {
+        if let Some(SubfieldDifference { which, mismatch }) = self.subfield_difference() {
+            return Some(HeadDifference::Subfield(which, mismatch));
+        }
+        if !self.is_header_blank() {
+            return Some(HeadDifference::FreeTextInHeader);
+        }
+        if let Some(label) = self.first_breaking(ChannelRule::Clean) {
+            return Some(HeadDifference::FreeTextInChannel(label));
+        }
+        None
+    }
+
+    /// The first difference of the headers.
+    fn difference(&self) -> Option<HeadDifference<'a>>
+        ensures { MatchOption result
+            (HeadsAgree self.now.original self.now.export self.now.claim)
+            (IsHeadDifference self.now.original self.now.export self.now.claim) }
+    {
+        if let Some(difference) = self.channel_difference() {
+            return Some(difference);
+        }
+        if let Some(difference) = self.content_difference() {
+            return Some(difference);
+        }
+        self.remaining_difference()
+    }
+}
+
+/// The first difference of the headers of an original and its export by a claim, in the order of the
+/// variants of `Difference`, or none where the export's header is what the claim says of the original's:
+/// the same channels, with their texts and calibrations, each subfield `X` or the original's as claimed (of
+/// a date that isn't claimed only whether it is `X`), and no free text (EDF, "Header record"; EDF+,
+/// "Additional specifications in EDF+"; which of it an export keeps is this project's profile).
+///
+/// What needs the samples or the annotations isn't compared. The time grows as the count of channels and
+/// labels times its logarithm. The error is want of memory.
+#[tactic(auto, using(crate::proofs::HeadFacts::agree_or_differ))]
+pub fn head_difference(
+    alloc: Global,
+    original: &Header,
+    export: &Header,
+    claim: &Claim,
+) -> Result<Option<Verdict>, AllocError>
+    ensures none { IfOk result (λ found. (found ≡ None) ↔ HeadsAgree original.now export.now claim.now) }
+    ensures least { IfOk result (λ found. IfSome found (IsHeadVerdict original.now export.now claim.now)) }
+{
+    let comparison = Comparison::new(alloc, original, export, claim)?;
+    match comparison.difference() {
+        Some(first) => Ok(Some(Verdict::No(first.difference(alloc)?))),
+        None => Ok(None),
+    }
+}

@@ -1,0 +1,3 @@
+pub mod NoteFacts
+pub mod KeepFacts
+pub mod ItemFacts

@@ -1,6 +1,0 @@
-use Rattle.std.proofs.Common.{◌≡◌, ◌≤◌, ◌+◌, length, drop}
-use Rattle.edf_header.specs.Channels.{channels_among}
-use Rattle.edf_stream.proofs.conform.channel_count.Given as goal
-
-abbrev pub invariant-loop-signal : goal.invariant-loop-signal
-invariant-loop-signal l = (l.count + length (channels_among (drop l.signal-index l.signals)) ≡ length (channels_among l.signals)) × (l.count ≤ l.signal-index)

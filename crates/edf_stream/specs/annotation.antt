@@ -1,0 +1,4 @@
+pub mod Notes
+pub mod NotesReading
+pub mod Keeping
+pub mod OwnTexts

@@ -1,0 +1,59 @@
+-- Where data records start, and the annotations of a file. EDF+ (2003), "Time-stamped Annotations Lists (TALs) in an
+-- 'EDF Annotations' signal" and "Time keeping of data records".
+use Rattle.std.specs.Prelude.{◌≡◌, ℕ, zero, suc, ◌<◌, ℤ, ◌+ℤ◌, List, [], ◌++◌, ◌∷◌, map, Option}
+use Rattle.std.specs.List.{flat_map}
+use Rattle.edf_header.specs.Heads.{Head}
+use Rattle.edf_tal.specs.Tals.{TalValue, IsLaneOf}
+use Rattle.edf_stream.specs.records.Records.{annotation_lanes, record_at}
+
+-- an annotation: its onset and, where it has one, its duration, in picoseconds, and its text
+pub record NoteValue : Type 0 where
+  pub onset : ℤ
+  pub duration : Option ℤ
+  pub text : List ℕ
+
+-- what a TAL says: each of its texts, at its onset and with its duration
+abbrev pub notes_of_tal : TalValue → List NoteValue
+notes_of_tal tal = map (λ text. record { onset = tal.onset; duration = tal.duration; text = text }) tal.texts
+
+-- there are as many lanes as lists of TALs, and each lane spells the list at its place
+abbrev pub AreLanesOf : List (List ℕ) → List (List TalValue) → Type 0
+AreLanesOf [] [] = Unit {0}
+AreLanesOf [] (tals ∷ talss) = ⊥
+AreLanesOf (lane ∷ lanes) [] = ⊥
+AreLanesOf (lane ∷ lanes) (tals ∷ talss) = IsLaneOf lane tals × AreLanesOf lanes talss
+
+-- what the TALs of several lanes say, lane by lane
+abbrev pub notes_of_tals : List (List TalValue) → List NoteValue
+notes_of_tals talss = flat_map (λ tals. flat_map notes_of_tal tals) talss
+
+-- the data record of these bytes says that it starts there, and these annotations: its annotation lanes are lanes of TALs; the
+-- first TAL has the start as its onset, and its first text is empty; and the annotations are the other texts of that TAL, then
+-- those of all other TALs
+pub record SaysRecord (h : Head) (bytes : List ℕ) (start : ℤ) (notes : List NoteValue) : Type 0 where
+  pub duration : Option ℤ
+  pub texts : List (List ℕ)
+  pub tals : List TalValue
+  pub talss : List (List TalValue)
+  pub lanes : AreLanesOf (annotation_lanes h.signals bytes) ((record { onset = start; duration = duration; texts = [] ∷ texts } ∷ tals) ∷ talss)
+  pub notes_are : notes ≡ notes_of_tal (record { onset = start; duration = duration; texts = texts }) ++ notes_of_tals (tals ∷ talss)
+
+-- each data record of the file says that it starts there, in picoseconds after the start of the file, and these annotations
+abbrev pub SayRecords : List ℕ → Head → (ℕ → ℤ) → (ℕ → List NoteValue) → Type 0
+SayRecords file h starts notes = (k : ℕ) → k < h.records → SaysRecord h (record_at file h k) (starts k) (notes k)
+
+-- the annotations of the first k data records, one behind the other
+abbrev pub together : (ℕ → List NoteValue) → ℕ → List NoteValue
+together notes zero = []
+together notes (suc k) = together notes k ++ notes k
+
+-- these are the annotations of the file, data record by data record, with onsets that count from its start
+pub record HasNotes (file : List ℕ) (h : Head) (all : List NoteValue) : Type 0 where
+  pub starts : ℕ → ℤ
+  pub notes : ℕ → List NoteValue
+  pub say : SayRecords file h starts notes
+  pub all_are : all ≡ together notes h.records
+
+-- an annotation with its onset later by so many picoseconds
+abbrev pub moved_by : ℤ → NoteValue → NoteValue
+moved_by ps note = record { onset = ps +ℤ note.onset; duration = note.duration; text = note.text }

@@ -1,0 +1,4 @@
+pub mod Records
+pub mod RecordsReading
+pub mod Readers
+pub mod Steps

@@ -1,0 +1,4 @@
+pub mod Instants
+pub mod InstantOrder
+pub mod Starts
+pub mod StartsReading

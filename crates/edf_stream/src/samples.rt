@@ -1,0 +1,4 @@
+//! The samples of channels.
+
+pub mod sample;
+pub mod value;

@@ -1,0 +1,4 @@
+//! What is said of a whole file.
+
+pub mod conform;
+pub mod meaning;
