@@ -11,8 +11,7 @@ pub use Rattle.edf_pace.proofs.samples.FractionFacts.{scaled, before-not_before,
 pub use Rattle.edf_pace.proofs.walk.ChannelFacts.{ascending, difference_at}
 pub use Rattle.edf_pace.proofs.walk.FileFacts.{fault_is}
 pub use Rattle.edf_pace.proofs.walk.LockstepFacts.{are_places, fault_after, fault_by, fault_by_header, fault_of_heads, has_ended}
-pub use Rattle.edf_pace.proofs.walk.OnwardFacts.{ends_behind, matched_behind, matched_end, matched_on, other_way, past_all}
-pub use Rattle.edf_pace.proofs.walk.PartFacts.{begin_is}
+pub use Rattle.edf_pace.proofs.walk.OnwardFacts.{begin_is, ends_behind, matched_behind, matched_end, matched_on, other_way, past_all}
 pub use Rattle.edf_pace.proofs.walk.PassFacts.{at_first, at_later, begins_with_one, there_next}
 pub use Rattle.edf_pace.proofs.walk.PlaceFacts.{at-found, at-there, channel-bounds, channels-distinct, one-number}
 pub use Rattle.edf_pace.proofs.walk.RecordFacts.{before-past-all, from-first}

@@ -6,7 +6,6 @@ pub mod LockstepFacts
 pub mod SplitFacts
 pub mod WindowFacts
 pub mod OnwardFacts
-pub mod PartFacts
 pub mod SpanFacts
 pub mod PassFacts
 pub mod KeeperFacts

@@ -13,7 +13,7 @@ use Rattle.edf_pace.specs.declared.samples.point.Point.{Point}
 use Rattle.edf_pace.specs.declared.samples.tally.Tally.{Tally}
 use Rattle.edf_pace.specs.InstantOrder.{is_before}
 use Rattle.edf_pace.specs.samples.Differences.{instant, missing, extra, other, heads, first_difference_of}
-use Rattle.edf_pace.specs.samples.Tallies.{all_behind, differences_of, first_of, lacks_first, lacks_second, last_of, is_missing, is_extra, is_changed, added, counted, count_of, tally_of, joined}
+use Rattle.edf_pace.specs.samples.Tallies.{all_behind, differences_of, each_is, first_of, lacks_first, lacks_second, last_of, is_missing, is_extra, is_changed, added, counted, count_of, tally_of, joined}
 use Rattle.edf_stream.specs.samples.Values.{digital_value}
 use Rattle.edf_pace.specs.declared.samples.stretch.Stretch.{Stretch}
 use Rattle.edf_pace.specs.samples.Stretches.{points_behind, points_in}
@@ -213,10 +213,6 @@ differences_split n m (x ∷ xs) xs' (y ∷ ys) ys' t pn pm pt bx by' fx fy =
     (λ h. r) (λ h. ap (λ ds. other n x y ∷ ds) r)))
 
 -- ---- stretches
-
--- each of those from a place on is such a difference
-abbrev pub each_is : SampleMismatch → Stretch → ℕ → List PointDifference
-each_is mismatch x k = map (λ (p : Point). record { at = instant x.den p; mismatch = mismatch }) (points_behind x k)
 
 pub rest_step : (a b : Tally) (mismatch : SampleMismatch) (x : Stretch) (k : ℕ) (d : PointDifference) → 2 * k + 1 < length x.bytes.now
     → d ≡ record { at = record { num = x.num +ℤ pos k *ℤ x.step; den = x.den }; mismatch = mismatch } → b ≡ joined a (tally_of (d ∷ []))

@@ -10,8 +10,9 @@ use Rattle.edf_stream.specs.declared.records.status.Status.TheVariants.{Current}
 use Rattle.edf_stream.specs.Conforming.{Conforms}
 use Rattle.edf_stream.specs.annotation.Notes.{NoteValue}
 use Rattle.edf_stream.specs.records.Readers.{Reader, is_current}
+use Rattle.edf_stream.specs.records.Records.{record_at}
 use Rattle.edf_stream.specs.times.Starts.{file_start}
-use Rattle.edf_stream.specs.times.StartsReading.{start_at, end_at, end_before}
+use Rattle.edf_stream.specs.times.StartsReading.{start_at, end_at, end_before, start_in}
 use Rattle.edf_stream.proofs.ForCallers.{starts-behind}
 use Rattle.edf_pace.specs.declared.samples.earliest.Found.{Found}
 use Rattle.edf_pace.specs.declared.walk.lockstep.ReadOn.{ReadOn}
@@ -70,6 +71,15 @@ within_file r left ns file claim ps t current c at =
     let end = shown.4 in
     let within = ends_within file r.head shown.0 (r.head).records c shown.2 (omega arith) in
     omega (arith, ints, end, within)
+
+-- the first data record at hand begins where its file does
+pub begin_is : (first now : Reader) (left : List ℕ) (ns : List NoteValue) (file : List ℕ) (claim : Option Terms) (ps t : ℤ) → now.head ≡ first.head → is_current now.status ≡ true → now.read ≡ 1 → IsAt now left ns file claim ps t
+    → (file_start now.head +ℤ ps) +ℤ start_in now.head now.current ≡ begin_by file first.head ps 0
+begin_is first now left ns file claim ps t head current read at =
+    let shown = shown_current now file ps t current at.shows in
+    let one = shown.1 in
+    let zero : shown.0 ≡ 0 = omega (arith, one, read) in
+    ap (λ bytes. (file_start now.head +ℤ ps) +ℤ start_in now.head bytes) (shown.3 ∙ ap (record_at file now.head) zero) ∙ ap (λ h. begin_by file h ps 0) head
 
 -- a reader whose data record ended at u or later, and that has none left at u, is at the end of its file
 pub ends_there : (first old new : Reader) (left left' : List ℕ) (ns ms : List NoteValue) (file : List ℕ) (claim : Option Terms) (ps t u : ℤ) → old.head ≡ first.head → new.head ≡ first.head → is_current old.status ≡ true → IsGoing new.status

@@ -63,3 +63,11 @@ pub record AreCountedTo (kept exported : List Note) (tally : NoteTally) (i j : �
   pub ds : List NoteMismatch
   pub counted : IsNoteTally tally ds
   pub rest : ds ++ unequals_of (map note_value (drop i kept)) (map note_value (drop j exported)) ≡ unequals_of (map note_value kept) (map note_value exported)
+
+-- whatever one tally counted, the other counted, and this annotation as such a mismatch
+abbrev pub CountsMore : NoteTally → AnnotationMismatch → Note → NoteTally → Type 0
+CountsMore before mismatch note after = (ds : List NoteMismatch) → IsNoteTally before ds → IsNoteTally after (ds ++ (record { mismatch = mismatch; note = note_value note } ∷ []))
+
+-- and these annotations
+abbrev pub CountsEach : NoteTally → AnnotationMismatch → List Note → NoteTally → Type 0
+CountsEach before mismatch notes after = (ds : List NoteMismatch) → IsNoteTally before ds → IsNoteTally after (ds ++ each_note mismatch notes)

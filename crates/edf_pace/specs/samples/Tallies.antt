@@ -7,7 +7,7 @@ use Rattle.edf_pace.specs.declared.samples.tally.Tally.{Tally}
 use Rattle.edf_pace.specs.declared.samples.stretch.Stretch.{Stretch}
 use Rattle.edf_pace.specs.InstantOrder.{is_before}
 use Rattle.edf_pace.specs.samples.Differences.{instant, missing, extra, other}
-use Rattle.edf_pace.specs.samples.Stretches.{points_behind}
+use Rattle.edf_pace.specs.samples.Stretches.{points_behind, points_in}
 
 -- all differences, read from the left
 unfoldable pub differences_of : ℕ → List Point → ℕ → List Point → List PointDifference
@@ -21,6 +21,14 @@ differences_of n (x ∷ xs) m (y ∷ ys) =
 -- those behind the first i samples of one stretch and the first j of another
 abbrev pub all_behind : Stretch → ℕ → Stretch → ℕ → List PointDifference
 all_behind x i y j = differences_of x.den (points_behind x i) y.den (points_behind y j)
+
+-- all of two stretches
+abbrev pub all_of : Stretch → Stretch → List PointDifference
+all_of x y = differences_of x.den (points_in x) y.den (points_in y)
+
+-- each sample of a stretch from a place on is such a mismatch
+abbrev pub each_is : SampleMismatch → Stretch → ℕ → List PointDifference
+each_is mismatch x k = map (λ (p : Point). record { at = instant x.den p; mismatch = mismatch }) (points_behind x k)
 
 -- the first of them, and the last
 abbrev pub first_of : List PointDifference → Option PointDifference
@@ -86,3 +94,7 @@ joined a b = record {
   first = option_or a.first b.first;
   last = option_or b.last a.last;
 }
+
+-- a tally, and that of what is behind the first i samples of one stretch and the first j of another
+abbrev pub with_rest : Tally → Stretch → ℕ → Stretch → ℕ → Tally
+with_rest tally x i y j = joined tally (tally_of (all_behind x i y j))

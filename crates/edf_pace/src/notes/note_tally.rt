@@ -1,8 +1,7 @@
 //! How many annotations don't stand equally often in two lists.
 
-ghost use Rattle.std.specs.Prelude.{◌≡◌, ◌≤◌, ◌⊎◌, ◌++◌, List, [], ◌∷◌, length, map};
-ghost use Rattle.edf_pace.specs.notes.NoteOrder.{NoteMismatch};
-ghost use Rattle.edf_pace.specs.notes.NoteTallies.{AreCountedTo, IsNoteTally, each_note, unequals_of};
+ghost use Rattle.std.specs.Prelude.{◌≡◌, ◌≤◌, ◌⊎◌, [], length, map};
+ghost use Rattle.edf_pace.specs.notes.NoteTallies.{AreCountedTo, CountsEach, CountsMore, IsNoteTally, unequals_of};
 ghost use Rattle.edf_stream.specs.Views.{note_value};
 
 use crate::notes::note_difference::order;
@@ -36,8 +35,7 @@ impl<'a> NoteTally<'a> {
 
     /// The same and one annotation more, which is behind the others.
     fn with(self, mismatch: AnnotationMismatch, note: &'a Note) -> NoteTally<'a>
-        ensures { (ds : List NoteMismatch) → IsNoteTally self.entry ds
-            → IsNoteTally result (ds ++ (record { mismatch = mismatch; note = note_value note.entry.now } ∷ [])) }
+        ensures { CountsMore self.entry mismatch note.entry.now result }
     {
         let last = Some(Unequal { mismatch, note });
         let first = self.first.or(last);
@@ -64,8 +62,7 @@ fn count_rest<'a>(
     mismatch: AnnotationMismatch,
     before: NoteTally<'a>,
 ) -> NoteTally<'a>
-    ensures { (ds : List NoteMismatch) → IsNoteTally before.entry ds → IsNoteTally result
-        (ds ++ each_note mismatch notes.entry.now) }
+    ensures { CountsEach before.entry mismatch notes.entry.now result }
 {
     let mut tally = before;
     for note in notes {

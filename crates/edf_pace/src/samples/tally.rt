@@ -1,9 +1,8 @@
 //! How many samples of a channel differ.
 
-ghost use Rattle.std.specs.Prelude.{◌≡◌, ◌≤◌, ◌+◌, ◌*◌, ◌⊎◌, [], ◌∷◌, map, length};
-ghost use Rattle.edf_pace.specs.samples.Differences.{instant};
-ghost use Rattle.edf_pace.specs.samples.Stretches.{IsPart, points_behind, points_in};
-ghost use Rattle.edf_pace.specs.samples.Tallies.{all_behind, differences_of, joined, lacks_first, lacks_second, tally_of};
+ghost use Rattle.std.specs.Prelude.{◌≡◌, ◌≤◌, ◌+◌, ◌*◌, ◌⊎◌, [], ◌∷◌, length};
+ghost use Rattle.edf_pace.specs.samples.Stretches.{IsPart};
+ghost use Rattle.edf_pace.specs.samples.Tallies.{all_of, each_is, joined, lacks_first, lacks_second, tally_of, with_rest};
 
 use crate::samples::difference::{PointDifference, difference_of_heads};
 use crate::samples::stretch::{Stretch, count_in, instant_at, point_at};
@@ -68,8 +67,7 @@ impl Tally {
 fn count_rest(x: Stretch, from: usize, mismatch: SampleMismatch, tally: &mut Tally)
     requires x { IsPart x }
     requires from { 2 * from ≤ length x.bytes.now }
-    ensures { tally.new ≡ joined tally.old (tally_of (map (λ p. record { at = instant x.entry.den p; mismatch = mismatch })
-        (points_behind x.entry from))) }
+    ensures { tally.new ≡ joined tally.old (tally_of (each_is mismatch x.entry from)) }
 {
     for i in from..count_in(x.bytes) {
         *tally = tally.with(PointDifference {
@@ -113,8 +111,7 @@ fn count_both(x: Stretch, y: Stretch, tally: &mut Tally) -> (usize, usize)
     ensures x_within { 2 * result.0 ≤ length x.entry.bytes.now }
     ensures y_within { 2 * result.1 ≤ length y.entry.bytes.now }
     ensures over { (length x.entry.bytes.now ≤ 2 * result.0 + 1) ⊎ (length y.entry.bytes.now ≤ 2 * result.1 + 1) }
-    ensures value { joined tally.new (tally_of (all_behind x.entry result.0 y.entry result.1))
-        ≡ joined tally.old (tally_of (all_behind x.entry 0 y.entry 0)) }
+    ensures value { with_rest tally.new x.entry result.0 y.entry result.1 ≡ with_rest tally.old x.entry 0 y.entry 0 }
 {
     let x_count = count_in(x.bytes);
     let y_count = count_in(y.bytes);
@@ -136,8 +133,7 @@ fn count_both(x: Stretch, y: Stretch, tally: &mut Tally) -> (usize, usize)
 pub(crate) fn count_differences(x: Stretch, y: Stretch, tally: &mut Tally)
     requires x { IsPart x }
     requires y { IsPart y }
-    ensures { tally.new ≡ joined tally.old (tally_of (differences_of x.entry.den (points_in x.entry)
-        y.entry.den (points_in y.entry))) }
+    ensures { tally.new ≡ joined tally.old (tally_of (all_of x.entry y.entry)) }
 {
     let (i, j) = count_both(x, y, tally);
     count_rest(x, i, SampleMismatch::Missing, tally);

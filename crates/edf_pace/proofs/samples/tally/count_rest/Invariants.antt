@@ -1,6 +1,5 @@
 use Rattle.std.proofs.Common.{◌≡◌}
-use Rattle.edf_pace.specs.samples.Tallies.{joined, tally_of}
-use Rattle.edf_pace.proofs.samples.TallyFacts.{each_is}
+use Rattle.edf_pace.specs.samples.Tallies.{each_is, joined, tally_of}
 use Rattle.edf_pace.proofs.samples.tally.count_rest.Given as goal
 
 abbrev pub invariant-loop-i : goal.invariant-loop-i
