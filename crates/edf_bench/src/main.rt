@@ -52,7 +52,7 @@ fn answer_all(rt: &(impl Print + AllocGlobal), seed: u64) -> io::Result<bool> {
 }
 
 /// Does what the words say. The answer says whether it was done.
-fn run(rt: &(impl Env + Print + AllocGlobal)) -> io::Result<bool> {
+fn measure(rt: &(impl Env + Print + AllocGlobal)) -> io::Result<bool> {
     let words = words_of(rt)?;
     let (Some(name), Some(number)) = (words.get(1), words.get(2)) else {
         println!(rt; "a workload and a number are wanted")?;
@@ -70,7 +70,7 @@ fn run(rt: &(impl Env + Print + AllocGlobal)) -> io::Result<bool> {
 }
 
 fn main(rt: HostRuntime) -> ExitCode {
-    match run(&rt) {
+    match measure(&rt) {
         Ok(true) => ExitCode::from(0),
         _ => ExitCode::from(2),
     }

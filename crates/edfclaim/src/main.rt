@@ -95,7 +95,7 @@ fn words_of(rt: &(impl Env + AllocGlobal)) -> io::Result<Vec<String>> {
 }
 
 /// Does what the command line says, and gives the status.
-fn run(rt: &(impl Env + Files + Print + Eprint + Clock + AllocGlobal), is_terminal: bool) -> u8 {
+fn answer_words(rt: &(impl Env + Files + Print + Eprint + Clock + AllocGlobal), is_terminal: bool) -> u8 {
     let words = match words_of(rt) {
         Ok(words) => words,
         Err(fault) if fault.kind() == io::ErrorKind::OutOfMemory => {
@@ -115,5 +115,5 @@ fn run(rt: &(impl Env + Files + Print + Eprint + Clock + AllocGlobal), is_termin
 
 fn main(rt: HostRuntime) -> ExitCode {
     let is_terminal = rt.stderr().is_terminal();
-    ExitCode::from(run(&rt, is_terminal))
+    ExitCode::from(answer_words(&rt, is_terminal))
 }

@@ -198,7 +198,7 @@ fn notes<R: Files + AllocGlobal, K: Sink>(
 }
 
 /// Does a job, and writes its text to the sink.
-fn report<'a, R: Files + Eprint + Clock + AllocGlobal, K: Sink>(
+fn write_job<'a, R: Files + Eprint + Clock + AllocGlobal, K: Sink>(
     signs: &'a Signs<'a, R>,
     job: Job<'_>,
     sink: &mut K,
@@ -250,7 +250,7 @@ pub fn perform<R: Files + Print + Eprint + Clock + AllocGlobal>(
 {
     let signs = Signs::new(rt, is_terminal);
     let mut sink = Wiped::new(WriteSink::new(io::writer(rt)), &signs);
-    let ended = report(&signs, job, &mut sink);
+    let ended = write_job(&signs, job, &mut sink);
     signs.wipe();
     let outcome = ended?;
     sink.inner.flush()?;
