@@ -539,9 +539,8 @@ SUBFIELDS = {
 }
 
 
-# What stands in the open places of what a fault means: nothing of the fault and the file, and then the most bytes of a data
-# record, and the most annotations.
-LIMITS = ["", "", "16777216", "1000000"]
+# How much there may be of what a fault says there is too much of.
+LIMITS = {"RECORD_TOO_LARGE": ["16777216"], "TOO_MANY_ANNOTATIONS": ["1000000"]}
 
 
 def rows():
@@ -560,7 +559,7 @@ def rows():
     whole = "bytes-behind-the-end"
     for name, copy in FAULTY.items():
         near = "ends-in-a-record" if copy == whole else whole
-        yield name, (original, copies[copy][1], claim), LIMITS, (original, copies[near][1], claim)
+        yield name, (original, copies[copy][1], claim), LIMITS.get(name, []), (original, copies[near][1], claim)
     for copy in ("ends-in-a-record", whole):
         said, broken = copies[copy]
         yield "FAULT", (original, broken, claim), [said.replace(" at ", " at "), "export"], (original, export, claim)

@@ -2,12 +2,13 @@
 
 use crate::claim_lines::{Spotted, keep_at, key_at, key_from, value_behind};
 use crate::keys::is_in_front;
-use crate::limits::{MOST_INTERVALS, MOST_PLACES, MOST_SECONDS, MOST_WHOLE};
+use crate::limits::{MOST_PLACES, MOST_SECONDS, MOST_WHOLE};
 use crate::placed::say_at;
 use crate::refused::Refused;
 use crate::times::{number_fault, say_clock, time_fault};
 use crate::typographic::first_mark;
 use crate::words;
+use edf_claim::MOST_INTERVALS;
 use edf_fields::span;
 use edf_sentences::{Piece, Text};
 use std::alloc::AllocError;

@@ -2,7 +2,7 @@
 
 use crate::limits::{MOST_ANNOTATIONS, MOST_RECORD_BYTES};
 use crate::words::faults as words;
-use edf_fields::Fault;
+use edf_fields::{Cause, Fault};
 use edf_sentences::{Piece, Text, begins_as_bdf, begins_as_edf, looks_like_a_claim};
 use edf_stop::Side;
 use std::alloc::AllocError;
@@ -33,6 +33,20 @@ fn kind_of(front: &[u8]) -> Option<&'static str> {
     None
 }
 
+/// How much a file may have of what a fault says there is too much of.
+fn limit_of(fault: &Fault) -> i128 {
+    match fault.cause {
+        Cause::RecordTooLarge => MOST_RECORD_BYTES,
+        _ => MOST_ANNOTATIONS,
+    }
+}
+
+/// Says what a fault means.
+fn say_meaning(text: &mut Text, fault: &Fault) -> Result<(), AllocError> {
+    let most = Piece::Number(limit_of(fault));
+    text.say(words::meaning_of(fault), &[most])
+}
+
 /// Says the fault of a file, what it means, and one remedy. `front` is what stands in front of the file.
 pub(crate) fn say_fault(
     text: &mut Text,
@@ -41,12 +55,7 @@ pub(crate) fn say_fault(
     front: &[u8],
 ) -> Result<(), AllocError> {
     let said = fault.text(text.alloc())?;
-    let pieces = [
-        Piece::Word(&said),
-        Piece::Word(words::name(side)),
-        Piece::Number(MOST_RECORD_BYTES),
-        Piece::Number(MOST_ANNOTATIONS),
-    ];
+    let pieces = [Piece::Word(&said), Piece::Word(words::name(side))];
     text.say(words::FAULT, &pieces)?;
     if looks_like_a_claim(front) {
         return text.say(words::LOOKS_LIKE_A_CLAIM, &pieces);
@@ -54,7 +63,7 @@ pub(crate) fn say_fault(
     if let Some(kind) = kind_of(front) {
         return text.say(kind, &[]);
     }
-    text.say(words::meaning_of(fault), &pieces)?;
+    say_meaning(text, fault)?;
     if words::says_remedy(fault) {
         return Ok(());
     }

@@ -1,6 +1,5 @@
 //! The walk through both files: which samples and annotations the export has, and which are kept.
 
-use crate::limits::MOST_INTERVALS;
 use crate::notes::both::{Notes, OnlyInOne};
 use crate::notes::taker::{NoteTaker, Whose};
 use crate::record_time::RecordTime;
@@ -9,14 +8,14 @@ use crate::samples::compared::ComparedChannel;
 use crate::samples::tally::Stands;
 use crate::stand::Stand;
 use crate::starts::Starts;
-use edf_claim::Claim;
+use edf_claim::{Claim, MOST_INTERVALS};
 use edf_fields::{Fault, SECOND_PS, Source};
 use edf_header::Header;
 use edf_stop::{RunStop, Side};
 use std::alloc::{AllocError, Global};
 
 /// The most times within a data record at which intervals of a claim begin or end, and one more.
-const MOST_BORDERS: u32 = 2 * MOST_INTERVALS + 1;
+const MOST_BORDERS: u32 = 2 * MOST_INTERVALS as u32 + 1;
 
 /// The second at which a file starts, in picoseconds after 1970-01-01 00:00:00.
 pub fn start_of(header: &Header) -> i128 {

@@ -1,4 +1,5 @@
-//! A file that can't be judged. The fault is the first thing, the file the second; then the limits that a file may break.
+//! A file that can't be judged, and what its fault means. Where there is too much of something, as much as there may be is the
+//! first thing.
 
 use edf_fields::{Cause, Fault, FieldCause, FixedField, Place, SignalField, TalCause};
 use edf_stop::Side;
@@ -132,7 +133,7 @@ const DUPLICATE_LABEL: &str =
     "Two channels have the same label, so the label doesn't tell them apart: give one of them another label.";
 
 const RECORD_TOO_LARGE: &str =
-    "A data record has more than {2} bytes: export with shorter data records.";
+    "A data record has more than {0} bytes: export with shorter data records.";
 
 const NO_TIMEKEEPING: &str = "The data record doesn't say when it starts, as EDF+ asks.";
 
@@ -146,7 +147,7 @@ const OVERLAP: &str =
     "This data record starts before the one before it ends: the pieces may not be in the order of time.";
 
 const TOO_MANY_ANNOTATIONS: &str =
-    "There are more than {3} annotations. A marker for each sample belongs in a channel.";
+    "There are more than {0} annotations. A marker for each sample belongs in a channel.";
 
 const TRAILING_BYTES: &str =
     "Something follows the last data record. It isn't read, and could be anything: the header gives fewer data records than there are, or something was appended.";
