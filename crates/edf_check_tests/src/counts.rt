@@ -43,7 +43,14 @@ fn assert_odd(rt: &impl Abort, found: Option<Unequal<'_>>, want: Odd<'_>) {
 /// What is kept, what the export has, how many are missing and how many extra, the first and the last.
 const CASES: &[(Texts, Texts, u64, u64, Odd, Odd)] = &[
     (&[], &[], 0, 0, None, None),
-    (&[(1, "a"), (2, "b")], &[(1, "a"), (2, "b")], 0, 0, None, None),
+    (
+        &[(1, "a"), (2, "b")],
+        &[(1, "a"), (2, "b")],
+        0,
+        0,
+        None,
+        None,
+    ),
     (
         &[(1, "a"), (2, "b"), (2, "b")],
         &[(2, "b"), (3, "c")],

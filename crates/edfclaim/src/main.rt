@@ -95,7 +95,10 @@ fn words_of(rt: &(impl Env + AllocGlobal)) -> io::Result<Vec<String>> {
 }
 
 /// Does what the command line says, and gives the status.
-fn answer_words(rt: &(impl Env + Files + Print + Eprint + Clock + AllocGlobal), is_terminal: bool) -> u8 {
+fn answer_words(
+    rt: &(impl Env + Files + Print + Eprint + Clock + AllocGlobal),
+    is_terminal: bool,
+) -> u8 {
     let words = match words_of(rt) {
         Ok(words) => words,
         Err(fault) if fault.kind() == io::ErrorKind::OutOfMemory => {

@@ -1,11 +1,11 @@
 //! The intervals that an export keeps of its original.
 
-use edf_claim::{Interval, MOST_INTERVALS};
 use crate::kept::back::{Back, moved_stretches, times_beside};
 use crate::kept::intervals::{ended_count, is_kept};
 use crate::kept::lacking::lacking_times;
 use crate::kept::sampling::Sampling;
 use crate::recorded::Recorded;
+use edf_claim::{Interval, MOST_INTERVALS};
 use std::alloc::{AllocError, Global};
 
 /// What of an original an interval may reach over.

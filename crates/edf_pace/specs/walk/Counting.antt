@@ -7,7 +7,7 @@ use Rattle.edf_pace.specs.declared.walk.shares.Shares.{Shares}
 use Rattle.edf_pace.specs.samples.Columns.{Sampled}
 use Rattle.edf_pace.specs.samples.Stretches.{since, until}
 use Rattle.edf_pace.specs.samples.Tallies.{differences_of, joined, tally_of}
-use Rattle.edf_pace.specs.walk.Pairs.{Places, places_of}
+use Rattle.edf_pace.specs.walk.Pairs.{places_of}
 use Rattle.edf_pace.specs.walk.Shown.{Covers}
 use Rattle.edf_pace.specs.walk.Watching.{TwoFiles, moved_export, moved_original}
 use Rattle.edf_pace.specs.walk.Windows.{IsShareIn, kept_at, points_at, sampled}

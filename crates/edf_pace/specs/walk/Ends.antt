@@ -1,13 +1,13 @@
 -- How a walk over the data records of an original and a part ends. By `ps` a file is moved: its times, in picoseconds after 1970-01-01
 -- 00:00:00, then count from the second at which the original starts, before the shift. These are steps between the definitions and the code.
-use Rattle.std.specs.Prelude.{◌≡◌, ℕ, ℤ, ◌<◌, ◌≤ℤ◌, Bool, true, false, List, [], map, Option, None, Some}
-use Rattle.edf_pace.specs.Words.{Fault, Ghosts, Head, Conforms, body_fault, file_fault, NoteValue, notes_of, Reader, is_current, end_before, Found, Frame, Reading, Time, Window, Turn, FaultOf}
+use Rattle.std.specs.Prelude.{◌≡◌, ℕ, ℤ, ◌<◌, ◌≤ℤ◌, Bool, true, false, List, [], Option, None, Some}
+use Rattle.edf_pace.specs.Words.{Fault, Ghosts, Head, Conforms, body_fault, file_fault, NoteValue, notes_of, Reader, is_current, end_before, Found, Reading, Time, Window, Turn, FaultOf}
 use Rattle.edf_pace.specs.declared.walk.lockstep.ReadOn.{ReadOn}
 use Rattle.edf_pace.specs.declared.walk.fault_of.FaultOf.TheVariants.{Original as OfOriginal, Part as OfPart}
 use Rattle.edf_pace.specs.InstantOrder.{IsModest}
 use Rattle.edf_pace.specs.Premises.{Known, OfFile, OfFiles}
 use Rattle.edf_pace.specs.walk.Gathered.{gathered_of}
-use Rattle.edf_pace.specs.walk.Pairs.{Places, places_of, places_in}
+use Rattle.edf_pace.specs.walk.Pairs.{places_in}
 use Rattle.edf_pace.specs.walk.Readings.{export_at, going, original_at}
 use Rattle.edf_pace.specs.walk.Shown.{last_end_by}
 use Rattle.edf_pace.specs.walk.Watching.{TwoFiles, two_files}

@@ -1,8 +1,6 @@
 -- What a watcher counts window by window is what it counts at once; and the first of what it counts is what a check finds.
-use Rattle.std.proofs.Common.{◌≡◌, ℕ, zero, suc, ◌+◌, ◌<◌, ◌≤◌, ℤ, ◌≤ℤ◌, List, [], ◌∷◌, ◌++◌, map, take, drop, get_or, replicate, set, length, Option, Some, None, option_map, refl, sym, ap, ◌∙◌, subst, arith, lit<}
+use Rattle.std.proofs.Common.{◌≡◌, ℕ, zero, suc, ◌+◌, ◌<◌, ℤ, ◌≤ℤ◌, List, [], ◌∷◌, ◌++◌, map, take, drop, get_or, replicate, set, length, Option, Some, None, option_map, refl, sym, ap, ◌∙◌, arith, lit<}
 use Rattle.edf_claim.specs.Terms.{Terms}
-use Rattle.edf_header.specs.Heads.{Head}
-use Rattle.edf_stream.specs.Conforming.{Conforms}
 use Rattle.edf_pace.specs.declared.samples.difference.PointDifference.{PointDifference}
 use Rattle.edf_pace.specs.declared.samples.tally.Tally.{Tally}
 use Rattle.edf_pace.specs.declared.walk.channel_place.ChannelPlace.{ChannelPlace}
@@ -11,7 +9,7 @@ use Rattle.edf_pace.specs.declared.walk.track.Pair.{Pair}
 use Rattle.edf_pace.specs.declared.walk.track.Track.{Track}
 use Rattle.std.proofs.lemmas.List.{append-nil}
 use Rattle.edf_pace.specs.samples.Columns.{Sampled}
-use Rattle.edf_pace.specs.samples.Differences.{earliest, first_difference_of}
+use Rattle.edf_pace.specs.samples.Differences.{earliest}
 use Rattle.edf_pace.specs.samples.Stretches.{since, until, whole}
 use Rattle.edf_pace.specs.samples.Tallies.{differences_of, first_of, joined, tally_of}
 use Rattle.edf_pace.specs.declared.times.Window.{Window}
@@ -22,10 +20,10 @@ use Rattle.edf_pace.specs.walk.Shown.{Covers}
 use Rattle.edf_pace.specs.walk.Watching.{TwoFiles, first_between, moved_export, moved_original, two_files}
 use Rattle.edf_pace.specs.walk.Pairs.{IsFrame, Places, places_of}
 use Rattle.edf_pace.specs.walk.Windows.{kept_at, points_at, sampled, window_of, window_difference}
-use Rattle.edf_pace.proofs.samples.CutFacts.{since-from, until-before, until_none}
+use Rattle.edf_pace.proofs.samples.CutFacts.{until-before}
 use Rattle.edf_pace.proofs.samples.TallyFacts.{differences_split, first_is_first, joined_none, tally_append}
 use Rattle.edf_pace.proofs.walk.LockstepFacts.{are_places}
-use Rattle.edf_pace.proofs.walk.SplitFacts.{AreSound, AllSound, all_sound, ArePlaces}
+use Rattle.edf_pace.proofs.walk.SplitFacts.{AreSound, AllSound, all_sound}
 use Rattle.edf_pace.proofs.walk.WindowFacts.{nothing_between, until-from, window_split}
 
 -- ---- the first of what is counted

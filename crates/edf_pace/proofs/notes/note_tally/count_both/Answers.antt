@@ -1,11 +1,11 @@
-use Rattle.std.proofs.Common.{◌≡◌, ℕ, Bool, true, false, ◌+◌, ◌<◌, ◌≤◌, ◌∙◌, arith, ap, get_or, length, suc, subst, sym, ◌++◌, ◌∷◌, [], List}
+use Rattle.std.proofs.Common.{◌≡◌, Bool, true, false, ◌+◌, ◌≤◌, ◌∙◌, arith, ap, get_or, suc, subst, sym, ◌++◌, ◌∷◌, [], List}
 use Rattle.std.specs.Int.{from_bool}
 use Rattle.std.specs.Ordering.{is_le, is_ge}
 use Rattle.edf_stream.specs.Views.{note_value}
 use Rattle.edf_pace.specs.declared.notes.note_tally.NoteTally.{NoteTally}
 use Rattle.edf_pace.specs.Annotations.{note_cmp}
 use Rattle.edf_pace.specs.notes.NoteOrder.{NoteMismatch}
-use Rattle.edf_pace.specs.notes.NoteTallies.{AreCountedTo, IsNoteTally, extra_note, missing_note}
+use Rattle.edf_pace.specs.notes.NoteTallies.{IsNoteTally, extra_note, missing_note}
 use Rattle.edf_pace.proofs.notes.NoteTallyFacts.{step_less, step_equal, step_greater, stands_at}
 use Rattle.edf_pace.proofs.notes.note_tally.count_both.Goals.{in-Less, in-Equal, in-Greater}
 use Rattle.edf_pace.proofs.notes.note_tally.count_both.Goals as goal

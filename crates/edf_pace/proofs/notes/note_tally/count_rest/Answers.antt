@@ -1,4 +1,4 @@
-use Rattle.std.proofs.Common.{◌≡◌, ◌++◌, ◌∷◌, [], ap, arith, length, subst, take}
+use Rattle.std.proofs.Common.{◌≡◌, ◌++◌, ◌∷◌, [], arith, length, subst, take}
 use Rattle.edf_stream.specs.Views.{note_value}
 use Rattle.edf_pace.specs.notes.NoteTallies.{IsNoteTally, each_note}
 use Rattle.edf_pace.proofs.notes.NoteTallyFacts.{each_begin, each_end, each_more}

@@ -1,4 +1,4 @@
-use Rattle.std.proofs.Common.{List, ◌++◌, map, take}
+use Rattle.std.proofs.Common.{List, ◌++◌, take}
 use Rattle.edf_pace.specs.notes.NoteOrder.{NoteMismatch}
 use Rattle.edf_pace.specs.notes.NoteTallies.{IsNoteTally, each_note}
 use Rattle.edf_pace.proofs.notes.note_tally.count_rest.Given as goal

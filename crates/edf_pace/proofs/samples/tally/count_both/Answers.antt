@@ -1,4 +1,4 @@
-use Rattle.std.proofs.Common.{◌≡◌, ◌+◌, ◌*◌, ◌<◌, ◌≤◌, pos, ◌+ℤ◌, ◌*ℤ◌, not, Bool, true, false, MatchOption, Option, Some, None, [], ◌∷◌, length, arith, ap, refl, subst, sym, ◌∙◌}
+use Rattle.std.proofs.Common.{◌≡◌, ◌+◌, ◌*◌, ◌<◌, ◌≤◌, pos, ◌+ℤ◌, ◌*ℤ◌, not, Bool, true, false, MatchOption, Option, [], ◌∷◌, length, arith, ap, subst, sym, ◌∙◌}
 use Rattle.std.specs.Int.{from_bool}
 use Rattle.edf_stream.specs.samples.Values.{digital_value}
 use Rattle.edf_pace.specs.declared.samples.difference.PointDifference.{PointDifference}

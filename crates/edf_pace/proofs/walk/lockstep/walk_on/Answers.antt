@@ -1,9 +1,9 @@
-use Rattle.std.proofs.Common.{◌≡◌, None, Some, arith, map, ◌∙◌, ap, sym, subst}
+use Rattle.std.proofs.Common.{◌≡◌, None, arith, map, ◌∙◌, ap, sym, subst}
 use Rattle.std.proofs.lemmas.Int.{ints}
 use Rattle.edf_header.specs.Heads.{Head}
 use Rattle.edf_stream.specs.Conforming.{Conforms}
 use Rattle.edf_stream.specs.Views.{note_value}
-use Rattle.edf_pace.specs.walk.Ends.{moved_export, moved_original}
+use Rattle.edf_pace.specs.walk.Ends.{moved_export}
 use Rattle.edf_pace.specs.walk.Pairs.{IsFrame}
 use Rattle.edf_pace.specs.walk.Shown.{last_end_by}
 use Rattle.edf_pace.proofs.walk.LockstepFacts.{fault_of_heads}

@@ -1,6 +1,6 @@
-use Rattle.std.proofs.Common.{◌≡◌, ℕ, suc, ◌-◌, ◌<◌, ◌≤◌, ◌∙◌, ap, map, length, take, drop, [], arith, refl, rules, sym}
+use Rattle.std.proofs.Common.{◌≡◌, ℕ, suc, ◌-◌, ◌<◌, ◌∙◌, length, arith, refl, rules, sym}
 use Rattle.edf_pace.specs.declared.walk.track.Pair.{Pair}
-use Rattle.edf_pace.specs.walk.Counting.{differences_in, joined_each}
+use Rattle.edf_pace.specs.walk.Counting.{differences_in}
 use Rattle.edf_pace.specs.walk.Pairs.{places_of}
 use Rattle.edf_pace.specs.walk.Watching.{moved_export, moved_original}
 use Rattle.edf_pace.specs.walk.Windows.{sampled}

@@ -1,4 +1,4 @@
-use Rattle.std.proofs.Common.{◌≡◌, ◌∙◌, ap, length, rules, sym, subst}
+use Rattle.std.proofs.Common.{◌≡◌, ◌∙◌, ap, length, rules, subst}
 use Rattle.edf_pace.specs.walk.Counting.{AreCounted}
 use Rattle.edf_pace.proofs.walk.watchers.CountFacts.{counts_next, written_back}
 use Rattle.edf_pace.proofs.walk.watchers.counts.CountsWatcher.see.Goals as goal
