@@ -1,9 +1,11 @@
 -- What is written of two files: the draft of a claim, or the fault of one of them; and why nothing is.
-use Rattle.std.specs.Prelude.{◌≡◌, ℕ, Bool, List, [], ◌∷◌, ◌++◌, ◌⊎◌, None, Some, codes}
+use Rattle.std.specs.Prelude.{◌≡◌, ℕ, Bool, IsTrue, List, [], ◌∷◌, ◌++◌, ◌⊎◌, None, Some, codes}
 use Rattle.edf_claim.specs.Claims.{SaysClaimText}
 use Rattle.edf_claim.specs.Terms.{Terms}
 use Rattle.edf_fields.specs.FaultTexts.{fault_text}
 use Rattle.edf_fields.specs.declared.faults.fault.Fault.{Fault}
+use Rattle.edf_fields.specs.declared.in_out.source.Source.{Ghosts}
+use Rattle.edf_fields.specs.in_out.Sources.{Fails}
 use Rattle.edf_stop.specs.declared.sides.Side.{Side}
 use Rattle.edf_stop.specs.declared.sides.Side.TheVariants.{Original, Export}
 use Rattle.edf_stop.specs.declared.stops.CheckStop.{CheckStop}
@@ -72,3 +74,22 @@ DraftStops original export written none (runs.ReadFailed Original) = original
 DraftStops original export written none (runs.ReadFailed Export) = export
 DraftStops original export written none (runs.Claim cause) = ⊥
 DraftStops original export written none runs.WriteFailed = written
+
+-- ---- the same of sources, before and behind
+
+-- where the source is honest, this holds of the file that it has left
+abbrev pub OfSource : {S : Type 0} → Ghosts S → S → (List ℕ → Type 0) → Type 0
+OfSource source s Holds = IsTrue (source.is_honest s) → Holds (source.left s)
+
+-- what is written of what two honest sources have left
+abbrev pub IsAnswerBy : {O E : Type 0} → Ghosts O → O → Ghosts E → E → List ℕ → Outcome → Type 0
+IsAnswerBy original o export e text outcome = IsTrue (original.is_honest o) → IsTrue (export.is_honest e) → IsAnswer (original.left o) (export.left e) text outcome
+
+-- why a side isn't read to its end
+abbrev pub StopsSide : {S : Type 0} → Ghosts S → Side → S → S → CheckStop → Type 0
+StopsSide source side s s' stop = SideStops side (Fails (source.reads s) (source.reads s')) (source.reads s' ≡ source.reads s) stop
+
+-- why neither is
+abbrev pub StopsBoth : {O E : Type 0} → Ghosts O → O → O → Ghosts E → E → E → CheckStop → Type 0
+StopsBoth original o o' export e e' stop =
+    BothStop (Fails (original.reads o) (original.reads o')) (Fails (export.reads e) (export.reads e')) ((original.reads o' ≡ original.reads o) × (export.reads e' ≡ export.reads e)) stop

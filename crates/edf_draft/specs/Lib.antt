@@ -4,3 +4,4 @@ pub mod Times
 pub mod Drafts
 pub mod Answers
 pub mod Written
+pub mod Readings

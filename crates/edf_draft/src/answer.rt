@@ -1,10 +1,9 @@
 //! What is written of two files: the draft of a claim, or the fault of one of them.
 
 ghost use Rattle.std.specs.Prelude.{◌≡◌, List, ℕ, Some, IfOk, IfErr, OnOk, IsTrue};
-ghost use Rattle.edf_fields.specs.in_out.Sources.{Fails};
 ghost use Rattle.edf_stream.specs.Faults.{file_fault};
 ghost use Rattle.edf_stop.specs.declared.stops.CheckStop.TheVariants as check_stops;
-ghost use Rattle.edf_draft.specs.Answers.{BothStop, IsAnswer, IsFaultAt, IsReadOf, SideStops, fault_text_of};
+ghost use Rattle.edf_draft.specs.Answers.{IsAnswer, IsAnswerBy, IsFaultAt, IsReadOf, OfSource, StopsBoth, StopsSide, fault_text_of};
 
 use crate::drafted::draft_text;
 use crate::recorded::{Recorded, read_through};
@@ -86,9 +85,9 @@ fn read_side<S: Source>(
     side: Side,
 ) -> Result<Result<Recorded, Fault>, CheckStop>
     ensures failures { OnOk result (S.reads source.new ≡ S.reads source.old) }
-    ensures read { IfOk result (λ read. IfOk read (λ recorded. IsTrue (S.is_honest source.old) → IsReadOf (S.left source.old) recorded)) }
+    ensures read { IfOk result (λ read. IfOk read (λ recorded. OfSource S.Source source.old (λ file. IsReadOf file recorded))) }
     ensures fault { IfOk result (λ read. IfErr read (λ fault. IsTrue (S.is_honest source.old) → file_fault (S.left source.old) ≡ Some fault)) }
-    ensures stop { IfErr result (SideStops side (Fails (S.reads source.old) (S.reads source.new)) (S.reads source.new ≡ S.reads source.old)) }
+    ensures stop { IfErr result (StopsSide S.Source side source.old source.new) }
 {
     match read_through(alloc, source) {
         Ok(recorded) => Ok(Ok(recorded)),
@@ -108,11 +107,9 @@ pub(crate) fn answer_of<O: Source, E: Source, R: Recordings>(
     export: &mut E,
     again: &R,
 ) -> Result<Answer, CheckStop>
-    ensures answer { IfOk result (λ a. IsTrue (O.is_honest original.old) → IsTrue (E.is_honest export.old) →
-        IsAnswer (O.left original.old) (E.left export.old) a.text.items a.outcome) }
+    ensures answer { IfOk result (λ a. IsAnswerBy O.Source original.old E.Source export.old a.text.items a.outcome) }
     ensures failures { OnOk result ((O.reads original.new ≡ O.reads original.old) × (E.reads export.new ≡ E.reads export.old)) }
-    ensures stop { IfErr result (BothStop (Fails (O.reads original.old) (O.reads original.new)) (Fails (E.reads export.old) (E.reads export.new))
-        ((O.reads original.new ≡ O.reads original.old) × (E.reads export.new ≡ E.reads export.old))) }
+    ensures stop { IfErr result (StopsBoth O.Source original.old original.new E.Source export.old export.new) }
 {
     let first = match read_side(alloc, original, Side::Original)? {
         Ok(recorded) => recorded,

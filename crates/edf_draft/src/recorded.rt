@@ -1,13 +1,11 @@
 //! When a file was recorded, and its annotations.
 
 ghost use Rattle.std.specs.Prelude.{◌≡◌, ◌<◌, ◌^◌, ◌*ℤ◌, ◌+ℤ◌, pos, unsigned_abs, Some, IfSome, IfNone, IfOk, IfErr, OnOk, IsTrue};
-ghost use Rattle.edf_fields.specs.in_out.Sources.{Fails};
-ghost use Rattle.edf_header.specs.Stops.{Stops};
 ghost use Rattle.edf_stream.specs.Conforming.{Conforms};
-ghost use Rattle.edf_stream.specs.Faults.{file_fault};
 ghost use Rattle.edf_stream.specs.records.Readers.{is_current};
 ghost use Rattle.edf_stream.specs.times.Starts.{file_start};
 ghost use Rattle.edf_stream.specs.times.StartsReading.{start_in};
+ghost use Rattle.edf_draft.specs.Readings.{StopsReading};
 ghost use Rattle.edf_draft.specs.Times.{begin_of, end_of};
 
 use edf_claim::Interval;
@@ -140,8 +138,7 @@ pub(crate) fn read_through<S: Source>(alloc: Global, source: &mut S) -> Result<R
     ensures conforms { IfOk result (λ recorded. IsTrue (S.is_honest source.old) → Conforms (S.left source.old) (recorded.reader).head) }
     ensures begins { IfOk result (λ recorded. IsTrue (S.is_honest source.old) → (recorded.times).begin_ps ≡ begin_of (S.left source.old) (recorded.reader).head) }
     ensures ends { IfOk result (λ recorded. IsTrue (S.is_honest source.old) → (recorded.times).end_ps ≡ end_of (S.left source.old) (recorded.reader).head) }
-    ensures stop { IfErr result (Stops (λ f. IsTrue (S.is_honest source.old) → file_fault (S.left source.old) ≡ Some f)
-        (Fails (S.reads source.old) (S.reads source.new)) (S.reads source.new ≡ S.reads source.old)) }
+    ensures stop { IfErr result (StopsReading S.Source source.old source.new) }
 {
     let mut reader = match FileReader::begin(alloc, source) {
         Ok(reader) => reader,

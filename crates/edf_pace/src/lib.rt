@@ -1,5 +1,5 @@
 //! Two EDF+ files in step: an original and an export of it, read from a time on, a data record of each at a time, and
-//! compared as far as both have come.
+//! shown to a watcher as far as both have come; and what they differ in there.
 #![tactic(auto)]
 
 mod bytes;

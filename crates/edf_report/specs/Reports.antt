@@ -1,6 +1,11 @@
 -- What a report on one file writes.
-use Rattle.std.specs.Prelude.{◌≡◌, ℕ, List, [], ◌∷◌, ◌++◌, Option, None, Some, codes}
+use Rattle.std.specs.Prelude.{◌≡◌, ℕ, IsTrue, List, [], ◌∷◌, ◌++◌, Option, None, Some, codes}
 use Rattle.edf_fields.specs.declared.faults.fault.Fault.{Fault}
+use Rattle.edf_fields.specs.declared.in_out.sink.Sink.{Ghosts as SinkGhosts}
+use Rattle.edf_fields.specs.declared.in_out.source.Source.{Ghosts}
+use Rattle.edf_fields.specs.in_out.Sources.{Fails, Rises}
+use Rattle.edf_stop.specs.Stops.{ReportStops}
+use Rattle.edf_stop.specs.declared.stops.ReportStop.{ReportStop}
 use Rattle.edf_header.specs.declared.stop.Stop.{Stop}
 use Rattle.edf_header.specs.declared.stop.Stop.TheVariants as reads
 use Rattle.edf_fields.specs.FaultTexts.{fault_text}
@@ -48,3 +53,17 @@ abbrev pub IsStopWritten : Stop → List ℕ → List ℕ → Outcome → Type 0
 IsStopWritten reads.OutOfMemory old new outcome = ⊥
 IsStopWritten reads.ReadFailed old new outcome = ⊥
 IsStopWritten (reads.Fault fault) old new outcome = (new ≡ old ++ fault_line fault) × (outcome ≡ outcomes.No)
+
+-- ---- the same of a source and a sink, before and behind
+
+-- this is the text of what an honest source has left, and the outcome is that of its fault
+abbrev pub IsReportBy : {S : Type 0} → Ghosts S → S → (List ℕ → List ℕ) → (List ℕ → Option Fault) → List ℕ → Outcome → Type 0
+IsReportBy source s text_of fault_of text outcome = IsTrue (source.is_honest s) → (text ≡ text_of (source.left s)) × (outcome ≡ outcome_of_fault (fault_of (source.left s)))
+
+-- why nothing is reported: a read of the source failed, or memory ran out
+abbrev pub StopsReading : {S : Type 0} → Ghosts S → S → S → ReportStop → Type 0
+StopsReading source s s' stop = ReportStops (Fails (source.reads s) (source.reads s')) ⊥ (source.reads s' ≡ source.reads s) stop
+
+-- or a write to the sink failed
+abbrev pub StopsReport : {S K : Type 0} → Ghosts S → S → S → SinkGhosts K → K → K → ReportStop → Type 0
+StopsReport source s s' sink k k' stop = ReportStops (Fails (source.reads s) (source.reads s')) (Rises (sink.failures k) (sink.failures k')) (source.reads s' ≡ source.reads s) stop

@@ -6,7 +6,7 @@ ghost use Rattle.edf_fields.specs.in_out.Sources.{Fails, Rises};
 ghost use Rattle.edf_stream.specs.Faults.{file_fault};
 ghost use Rattle.edf_stop.specs.declared.stops.ReportStop.TheVariants as stops;
 ghost use Rattle.edf_report.specs.ConformTexts.{counts_line, conform_text};
-ghost use Rattle.edf_report.specs.Reports.{IsReported, outcome_of_fault};
+ghost use Rattle.edf_report.specs.Reports.{IsReportBy, IsReported, StopsReading};
 ghost use Rattle.edf_stop.specs.Stops.{ReportStops};
 
 use crate::report::Report;
@@ -30,11 +30,9 @@ fn counts_line(alloc: Global, summary: &Summary) -> Result<Vec<u8>, AllocError>
 
 /// The line of a file, and `Yes` where it conforms.
 fn report<S: Source>(alloc: Global, source: &mut S) -> Result<Report, ReportStop>
-    ensures report { IfOk result (λ report. IsTrue (S.is_honest source.old) →
-        (report.text.items ≡ conform_text (S.left source.old)) × (report.outcome ≡ outcome_of_fault (file_fault (S.left source.old)))) }
+    ensures report { IfOk result (λ report. IsReportBy S.Source source.old conform_text file_fault report.text.items report.outcome) }
     ensures failures { OnOk result (S.reads source.new ≡ S.reads source.old) }
-    ensures stop { IfErr result (ReportStops (Fails (S.reads source.old) (S.reads source.new)) ⊥
-        (S.reads source.new ≡ S.reads source.old)) }
+    ensures stop { IfErr result (StopsReading S.Source source.old source.new) }
 {
     match conform(alloc, source) {
         Ok(summary) => Ok(Report {

@@ -10,7 +10,7 @@ ghost use Rattle.edf_stream.specs.records.Readers.{HasBegun, StandsIn};
 ghost use Rattle.edf_stream.specs.Views.{note_view};
 ghost use Rattle.edf_report.specs.NotesKept.{AreLinesOf};
 ghost use Rattle.edf_report.specs.NotesTexts.{note_line, note_lines, body_text, notes_text};
-ghost use Rattle.edf_report.specs.Reports.{IsReported};
+ghost use Rattle.edf_report.specs.Reports.{IsReported, StopsReport};
 ghost use Rattle.edf_stop.specs.Stops.{ReportStops};
 
 use crate::report::put_stop;
@@ -133,8 +133,7 @@ fn put_records<S: Source, K: Sink>(
     ensures reads { OnOk result (S.reads source.new ≡ S.reads source.old) }
     ensures failures { OnOk result (K.failures sink.new ≡ K.failures sink.old) }
     ensures honesty { IsTrue (K.is_honest sink.old) → IsTrue (K.is_honest sink.new) }
-    ensures stop { IfErr result (ReportStops (Fails (S.reads source.old) (S.reads source.new)) (Rises (K.failures sink.old) (K.failures sink.new))
-        (S.reads source.new ≡ S.reads source.old)) }
+    ensures stop { IfErr result (StopsReport S.Source source.old source.new K.Sink sink.old sink.new) }
 {
     let mut lines = Lines {
         text: Vec::new(alloc),

@@ -9,7 +9,7 @@ ghost use Rattle.edf_fields.specs.texts.SubfieldsReading.{subfields_left};
 ghost use Rattle.edf_header.specs.Faults.{header_fault};
 ghost use Rattle.edf_header.specs.Heads.{kind_word};
 ghost use Rattle.edf_stop.specs.declared.stops.ReportStop.TheVariants as stops;
-ghost use Rattle.edf_report.specs.Reports.{IsReported, outcome_of_fault};
+ghost use Rattle.edf_report.specs.Reports.{IsReportBy, IsReported, StopsReading};
 ghost use Rattle.edf_stop.specs.Stops.{ReportStops};
 ghost use Rattle.edf_report.specs.ShowTexts.{word_line, two_digits, day_text, clock_text, start_text, duration_text, course_text, extras_text, patient_text, recording_text, numbers_text, texts_text, channel_line, channels_text, head_text, show_text, IsLeftBehind};
 
@@ -219,12 +219,10 @@ fn header_text(alloc: Global, header: &Header) -> Result<Vec<u8>, AllocError>
 
 /// The lines of the header of a file, or that of its fault.
 fn report<S: Source>(alloc: Global, source: &mut S) -> Result<Report, ReportStop>
-    ensures report { IfOk result (λ report. IsTrue (S.is_honest source.old) →
-        (report.text.items ≡ show_text (S.left source.old)) × (report.outcome ≡ outcome_of_fault (header_fault (S.left source.old)))) }
+    ensures report { IfOk result (λ report. IsReportBy S.Source source.old show_text header_fault report.text.items report.outcome) }
     ensures behind { IfOk result (λ report. IsTrue (S.is_honest source.old) → IsLeftBehind (S.left source.old) (S.left source.new) report.outcome) }
     ensures failures { OnOk result (S.reads source.new ≡ S.reads source.old) }
-    ensures stop { IfErr result (ReportStops (Fails (S.reads source.old) (S.reads source.new)) ⊥
-        (S.reads source.new ≡ S.reads source.old)) }
+    ensures stop { IfErr result (StopsReading S.Source source.old source.new) }
 {
     match Header::read(alloc, source) {
         Ok(header) => Ok(Report {

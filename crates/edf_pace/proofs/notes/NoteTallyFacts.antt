@@ -2,6 +2,7 @@
 use Rattle.std.proofs.Common.{◌≡◌, ℕ, zero, suc, ◌+◌, ◌-◌, ◌^◌, ◌<◌, min, Bool, true, false, List, [], ◌∷◌, ◌++◌, drop, get_or, take, map, filter, length, option_map, Option, Some, None, inl, inr, ◌⊎◌, refl, sym, ap, ◌∙◌, subst, arith, append_assoc, Ordering, Less, Equal, Greater}
 use Rattle.std.proofs.lemmas.List.{append-nil}
 use Rattle.std.proofs.lemmas.List.Elements.{filter-append}
+use Rattle.std.specs.Borrow.{Bor}
 use Rattle.std.specs.Option.{option_or}
 use Rattle.edf_stream.specs.declared.annotation.notes.Note.{Note}
 use Rattle.edf_stream.specs.annotation.Notes.{NoteValue}
@@ -12,7 +13,7 @@ use Rattle.edf_pace.specs.declared.notes.note_tally.NoteTally.{NoteTally}
 use Rattle.edf_pace.specs.declared.notes.unequal.Unequal.{Unequal}
 use Rattle.edf_pace.specs.Annotations.{note_cmp}
 use Rattle.edf_pace.specs.notes.NoteOrder.{NoteMismatch, by_order, first_unequal_of, unequal_view}
-use Rattle.edf_pace.specs.notes.NoteTallies.{AreCountedTo, IsNoteTally, by_cmp, each_note, extra_note, first_note, is_extra, is_missing, last_note, missing_note, unequals_of}
+use Rattle.edf_pace.specs.notes.NoteTallies.{AreCountedTo, CountsMore, IsNoteTally, by_cmp, each_note, extra_note, first_note, is_extra, is_missing, last_note, missing_note, unequals_of}
 use Rattle.edf_pace.specs.samples.Tallies.{counted}
 
 -- ---- one more
@@ -57,10 +58,11 @@ last_more : (ds : List NoteMismatch) (d : NoteMismatch) → Some d ≡ last_note
 last_more [] d = refl
 last_more (x ∷ ds) d = ap (λ o. option_or o (Some x)) (last_more ds d)
 
-pub more_missing : (t : NoteTally) (ds : List NoteMismatch) (k : ℕ) (u : Unequal) (first : Option Unequal) → IsNoteTally t ds → u.mismatch ≡ Missing → k ≡ min (t.missing + 1) (2 ^ 64 - 1) → first ≡ option_or t.first (Some u)
-    → IsNoteTally (record { missing = k; extra = t.extra; first = first; last = Some u }) (ds ++ (unequal_view u ∷ []))
+more_missing : (t : NoteTally) (ds : List NoteMismatch) (k : ℕ) (m : AnnotationMismatch) (n : Bor Note) (first : Option Unequal) → IsNoteTally t ds → m ≡ Missing → k ≡ min (t.missing + 1) (2 ^ 64 - 1) → first ≡ option_or t.first (Some (record { mismatch = m; note = n }))
+    → IsNoteTally (record { missing = k; extra = t.extra; first = first; last = Some (record { mismatch = m; note = n }) }) (ds ++ (record { mismatch = m; note = note_value n.now } ∷ []))
 unfolding number
-more_missing t ds k u first is kind more e =
+more_missing t ds k m n first is kind more e =
+    let u : Unequal = record { mismatch = m; note = n } in
     let d = unequal_view u in
     record {
       missing = up is_missing ds d t.missing k is.missing more (ap is_missing kind);
@@ -69,10 +71,11 @@ more_missing t ds k u first is kind more e =
       last = last_more ds d;
     }
 
-pub more_extra : (t : NoteTally) (ds : List NoteMismatch) (k : ℕ) (u : Unequal) (first : Option Unequal) → IsNoteTally t ds → u.mismatch ≡ Extra → k ≡ min (t.extra + 1) (2 ^ 64 - 1) → first ≡ option_or t.first (Some u)
-    → IsNoteTally (record { missing = t.missing; extra = k; first = first; last = Some u }) (ds ++ (unequal_view u ∷ []))
+more_extra : (t : NoteTally) (ds : List NoteMismatch) (k : ℕ) (m : AnnotationMismatch) (n : Bor Note) (first : Option Unequal) → IsNoteTally t ds → m ≡ Extra → k ≡ min (t.extra + 1) (2 ^ 64 - 1) → first ≡ option_or t.first (Some (record { mismatch = m; note = n }))
+    → IsNoteTally (record { missing = t.missing; extra = k; first = first; last = Some (record { mismatch = m; note = n }) }) (ds ++ (record { mismatch = m; note = note_value n.now } ∷ []))
 unfolding number
-more_extra t ds k u first is kind more e =
+more_extra t ds k m n first is kind more e =
+    let u : Unequal = record { mismatch = m; note = n } in
     let d = unequal_view u in
     record {
       missing = same is_missing ds d t.missing is.missing (ap is_missing kind);
@@ -80,6 +83,14 @@ more_extra t ds k u first is kind more e =
       first = first_more ds d t.first u first is.first refl e;
       last = last_more ds d;
     }
+
+pub counts_missing : (t : NoteTally) (k : ℕ) (m : AnnotationMismatch) (n : Bor Note) (first : Option Unequal) → m ≡ Missing → k ≡ min (t.missing + 1) (2 ^ 64 - 1) → first ≡ option_or t.first (Some (record { mismatch = m; note = n }))
+    → CountsMore t m n.now (record { missing = k; extra = t.extra; first = first; last = Some (record { mismatch = m; note = n }) })
+counts_missing t k m n first kind more e = λ ds is. more_missing t ds k m n first is kind more e
+
+pub counts_extra : (t : NoteTally) (k : ℕ) (m : AnnotationMismatch) (n : Bor Note) (first : Option Unequal) → m ≡ Extra → k ≡ min (t.extra + 1) (2 ^ 64 - 1) → first ≡ option_or t.first (Some (record { mismatch = m; note = n }))
+    → CountsMore t m n.now (record { missing = t.missing; extra = k; first = first; last = Some (record { mismatch = m; note = n }) })
+counts_extra t k m n first kind more e = λ ds is. more_extra t ds k m n first is kind more e
 
 -- ---- the law
 

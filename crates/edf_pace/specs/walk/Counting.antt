@@ -1,4 +1,4 @@
--- What a watcher counts that looks at each channel. These are steps between the definitions and the code.
+-- What a watcher counts that looks at each channel.
 use Rattle.std.specs.Prelude.{◌≡◌, ℕ, ℤ, List, [], ◌∷◌, map, Option, None, Some}
 use Rattle.edf_pace.specs.Words.{keeps_instant, Terms, PointDifference, ChannelPlace, Clock, Frame, Pair, Reader, Window}
 use Rattle.edf_claim.specs.KeepsReading.{IsUncut}

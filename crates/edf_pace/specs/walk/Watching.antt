@@ -1,4 +1,4 @@
--- What a watcher of two files that are read in step gets to see. These are steps between the definitions and the code.
+-- What a watcher of two files that are read in step gets to see.
 use Rattle.std.specs.Prelude.{ℕ, ℤ, ◌≤ℤ◌, List, map, Option}
 use Rattle.edf_pace.specs.Words.{Found, Frame, Head, Reader, Turn}
 use Rattle.edf_pace.specs.walk.Pairs.{places_of}

@@ -10,8 +10,9 @@ use edf_stream::Note;
 use edf_verdict::AnnotationMismatch;
 use std::cmp::Ordering;
 
-/// How many annotations stand more often among the kept ones than in an export, and how many less often, each as often as
-/// it does; and the first and the last of them. Each counter stays at the largest value that it holds.
+/// How many annotations of two lists in order stand in one of them alone: one that stands three times among the kept ones and
+/// once in the export is missing twice. And the first and the last of them. Each counter stays at the largest value that it
+/// holds.
 #[derive(Clone, Copy)]
 pub struct NoteTally<'a> {
     pub missing: u64,

@@ -35,6 +35,7 @@ impl Tally {
     }
 
     /// The same and one difference more, which is behind the others.
+    #[tactic(auto, using(crate::proofs::samples::TallyFacts::one_missing, crate::proofs::samples::TallyFacts::one_extra, crate::proofs::samples::TallyFacts::one_changed))]
     fn with(self, difference: PointDifference) -> Tally
         ensures { result ≡ joined self (tally_of (difference ∷ [])) }
     {

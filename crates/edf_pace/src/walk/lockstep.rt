@@ -1,4 +1,4 @@
-//! Two files read in step from a time on, a data record of each at a time, and compared as far as both have come.
+//! Two files read in step from a time on, a data record of each at a time, and shown to a watcher as far as both have come.
 
 ghost use Rattle.std.specs.Prelude.{◌≡◌, ◌≤ℤ◌, ◌<ℤ◌, IfOk, IfErr, OnOk, IfSome, IfNone, true, false};
 ghost use Rattle.edf_claim.specs.KeepsReading.{IsUncut};
@@ -23,7 +23,7 @@ use edf_fields::{Fault, Source};
 use edf_stop::{PartSide, PartsStop};
 use edf_stream::FileReader;
 
-/// How far an original and a part were compared.
+/// How far an original and a part were read, and seen.
 #[derive(Clone, Copy)]
 pub struct ReadOn {
     /// The time to which both were read.

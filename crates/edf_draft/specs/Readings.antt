@@ -1,0 +1,11 @@
+-- Why a file isn't read to its end.
+use Rattle.std.specs.Prelude.{◌≡◌, IsTrue, Some}
+use Rattle.edf_fields.specs.declared.in_out.source.Source.{Ghosts}
+use Rattle.edf_fields.specs.in_out.Sources.{Fails}
+use Rattle.edf_header.specs.Stops.{Stops}
+use Rattle.edf_header.specs.declared.stop.Stop.{Stop}
+use Rattle.edf_stream.specs.Faults.{file_fault}
+
+-- why no more of a source is read: a fault of its file, a failed read, or want of memory
+abbrev pub StopsReading : {S : Type 0} → Ghosts S → S → S → Stop → Type 0
+StopsReading source s s' stop = Stops (λ f. IsTrue (source.is_honest s) → file_fault (source.left s) ≡ Some f) (Fails (source.reads s) (source.reads s')) (source.reads s' ≡ source.reads s) stop
