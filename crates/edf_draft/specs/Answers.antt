@@ -77,10 +77,6 @@ DraftStops original export written none runs.WriteFailed = written
 
 -- ---- the same of sources, before and behind
 
--- where the source is honest, this holds of the file that it has left
-abbrev pub OfSource : {S : Type 0} → Ghosts S → S → (List ℕ → Type 0) → Type 0
-OfSource source s Holds = IsTrue (source.is_honest s) → Holds (source.left s)
-
 -- what is written of what two honest sources have left
 abbrev pub IsAnswerBy : {O E : Type 0} → Ghosts O → O → Ghosts E → E → List ℕ → Outcome → Type 0
 IsAnswerBy original o export e text outcome = IsTrue (original.is_honest o) → IsTrue (export.is_honest e) → IsAnswer (original.left o) (export.left e) text outcome

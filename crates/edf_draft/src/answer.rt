@@ -3,7 +3,8 @@
 ghost use Rattle.std.specs.Prelude.{◌≡◌, List, ℕ, Some, IfOk, IfErr, OnOk, IsTrue};
 ghost use Rattle.edf_stream.specs.Faults.{file_fault};
 ghost use Rattle.edf_stop.specs.declared.stops.CheckStop.TheVariants as check_stops;
-ghost use Rattle.edf_draft.specs.Answers.{IsAnswer, IsAnswerBy, IsFaultAt, IsReadOf, OfSource, StopsBoth, StopsSide, fault_text_of};
+ghost use Rattle.edf_draft.specs.Answers.{IsAnswer, IsAnswerBy, IsFaultAt, IsReadOf, StopsBoth, StopsSide, fault_text_of};
+ghost use Rattle.edf_draft.specs.Readings.{OfSource};
 
 use crate::drafted::draft_text;
 use crate::recorded::{Recorded, read_through};
@@ -86,7 +87,7 @@ fn read_side<S: Source>(
 ) -> Result<Result<Recorded, Fault>, CheckStop>
     ensures failures { OnOk result (S.reads source.new ≡ S.reads source.old) }
     ensures read { IfOk result (λ read. IfOk read (λ recorded. OfSource S.Source source.old (λ file. IsReadOf file recorded))) }
-    ensures fault { IfOk result (λ read. IfErr read (λ fault. IsTrue (S.is_honest source.old) → file_fault (S.left source.old) ≡ Some fault)) }
+    ensures fault { IfOk result (λ read. IfErr read (λ fault. OfSource S.Source source.old (λ file. file_fault file ≡ Some fault))) }
     ensures stop { IfErr result (StopsSide S.Source side source.old source.new) }
 {
     match read_through(alloc, source) {

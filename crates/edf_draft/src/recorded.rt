@@ -5,7 +5,7 @@ ghost use Rattle.edf_stream.specs.Conforming.{Conforms};
 ghost use Rattle.edf_stream.specs.records.Readers.{is_current};
 ghost use Rattle.edf_stream.specs.times.Starts.{file_start};
 ghost use Rattle.edf_stream.specs.times.StartsReading.{start_in};
-ghost use Rattle.edf_draft.specs.Readings.{StopsReading};
+ghost use Rattle.edf_draft.specs.Readings.{OfSource, StopsReading};
 ghost use Rattle.edf_draft.specs.Times.{begin_of, end_of};
 
 use edf_claim::Interval;
@@ -135,9 +135,9 @@ fn push_notes(
 /// The error is the file's first fault, a failed read, or want of memory.
 pub(crate) fn read_through<S: Source>(alloc: Global, source: &mut S) -> Result<Recorded, Stop>
     ensures failures { OnOk result (S.reads source.new ≡ S.reads source.old) }
-    ensures conforms { IfOk result (λ recorded. IsTrue (S.is_honest source.old) → Conforms (S.left source.old) (recorded.reader).head) }
-    ensures begins { IfOk result (λ recorded. IsTrue (S.is_honest source.old) → (recorded.times).begin_ps ≡ begin_of (S.left source.old) (recorded.reader).head) }
-    ensures ends { IfOk result (λ recorded. IsTrue (S.is_honest source.old) → (recorded.times).end_ps ≡ end_of (S.left source.old) (recorded.reader).head) }
+    ensures conforms { IfOk result (λ r. OfSource S.Source source.old (λ file. Conforms file (r.reader).head)) }
+    ensures begins { IfOk result (λ r. OfSource S.Source source.old (λ file. (r.times).begin_ps ≡ begin_of file (r.reader).head)) }
+    ensures ends { IfOk result (λ r. OfSource S.Source source.old (λ file. (r.times).end_ps ≡ end_of file (r.reader).head)) }
     ensures stop { IfErr result (StopsReading S.Source source.old source.new) }
 {
     let mut reader = match FileReader::begin(alloc, source) {

@@ -3,6 +3,7 @@ use Rattle.std.specs.Prelude.{◌≡◌, ℕ, IsTrue, List, [], ◌∷◌, ◌++
 use Rattle.edf_fields.specs.declared.faults.fault.Fault.{Fault}
 use Rattle.edf_fields.specs.declared.in_out.sink.Sink.{Ghosts as SinkGhosts}
 use Rattle.edf_fields.specs.declared.in_out.source.Source.{Ghosts}
+use Rattle.edf_fields.specs.in_out.Sinks.{HoldsPrefix}
 use Rattle.edf_fields.specs.in_out.Sources.{Fails, Rises}
 use Rattle.edf_stop.specs.Stops.{ReportStops}
 use Rattle.edf_stop.specs.declared.stops.ReportStop.{ReportStop}
@@ -59,6 +60,10 @@ IsStopWritten (reads.Fault fault) old new outcome = (new ≡ old ++ fault_line f
 -- this is the text of what an honest source has left, and the outcome is that of its fault
 abbrev pub IsReportBy : {S : Type 0} → Ghosts S → S → (List ℕ → List ℕ) → (List ℕ → Option Fault) → List ℕ → Outcome → Type 0
 IsReportBy source s text_of fault_of text outcome = IsTrue (source.is_honest s) → (text ≡ text_of (source.left s)) × (outcome ≡ outcome_of_fault (fault_of (source.left s)))
+
+-- an honest sink holds what it held, and behind it a beginning of this text
+abbrev pub HoldsPart : {K : Type 0} → SinkGhosts K → K → K → List ℕ → Type 0
+HoldsPart sink k k' text = IsTrue (sink.is_honest k) → HoldsPrefix (sink.held k) (sink.held k') text
 
 -- why nothing is reported: a read of the source failed, or memory ran out
 abbrev pub StopsReading : {S : Type 0} → Ghosts S → S → S → ReportStop → Type 0

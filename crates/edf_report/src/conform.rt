@@ -30,7 +30,7 @@ fn counts_line(alloc: Global, summary: &Summary) -> Result<Vec<u8>, AllocError>
 
 /// The line of a file, and `Yes` where it conforms.
 fn report<S: Source>(alloc: Global, source: &mut S) -> Result<Report, ReportStop>
-    ensures report { IfOk result (λ report. IsReportBy S.Source source.old conform_text file_fault report.text.items report.outcome) }
+    ensures report { IfOk result (λ r. IsReportBy S.Source source.old conform_text file_fault r.text.items r.outcome) }
     ensures failures { OnOk result (S.reads source.new ≡ S.reads source.old) }
     ensures stop { IfErr result (StopsReading S.Source source.old source.new) }
 {

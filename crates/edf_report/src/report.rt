@@ -1,12 +1,11 @@
 //! The text of a report on one file, and what is written of a file that can't be read.
 
 ghost use Rattle.std.specs.Prelude.{◌≡◌, ◌≢◌, ◌++◌, IfOk, IfErr, OnOk, OnErr, IsTrue};
-ghost use Rattle.edf_fields.specs.in_out.Sinks.{HoldsPrefix};
 ghost use Rattle.edf_fields.specs.in_out.Sources.{Rises};
 ghost use Rattle.edf_header.specs.declared.stop.Stop.TheVariants as read_stops;
 ghost use Rattle.edf_stop.specs.declared.stops.ReportStop.TheVariants as stops;
 ghost use Rattle.edf_stop.specs.Stops.{ReportStops};
-ghost use Rattle.edf_report.specs.Reports.{fault_line, stop_line, IsFault, IsFaultReport, IsStopWritten};
+ghost use Rattle.edf_report.specs.Reports.{fault_line, stop_line, HoldsPart, IsFault, IsFaultReport, IsStopWritten};
 
 use edf_fields::{Fault, Sink, put_all};
 use edf_header::Stop;
@@ -54,7 +53,7 @@ impl Report {
             K.held sink.new ≡ K.held sink.old ++ self.now.text.items)) }
         ensures failures { OnOk result (K.failures sink.new ≡ K.failures sink.old) }
         ensures honesty { IsTrue (K.is_honest sink.old) → IsTrue (K.is_honest sink.new) }
-        ensures part { OnErr result (IsTrue (K.is_honest sink.old) → HoldsPrefix (K.held sink.old) (K.held sink.new) self.now.text.items) }
+        ensures part { OnErr result (HoldsPart K.Sink sink.old sink.new self.now.text.items) }
         ensures stop { IfErr result (λ stop. (stop ≡ stops.WriteFailed) × Rises (K.failures sink.old) (K.failures sink.new)) }
     {
         put_all(sink, &self.text)?;
@@ -73,7 +72,7 @@ pub(crate) fn put_stop<K: Sink>(
     ensures written { IfOk result (λ outcome. IsTrue (K.is_honest sink.old) → IsStopWritten stop (K.held sink.old) (K.held sink.new) outcome) }
     ensures failures { OnOk result (K.failures sink.new ≡ K.failures sink.old) }
     ensures honesty { IsTrue (K.is_honest sink.old) → IsTrue (K.is_honest sink.new) }
-    ensures part { OnErr result (IsTrue (K.is_honest sink.old) → HoldsPrefix (K.held sink.old) (K.held sink.new) (stop_line stop)) }
+    ensures part { OnErr result (HoldsPart K.Sink sink.old sink.new (stop_line stop)) }
     ensures stop { IfErr result (ReportStops (stop ≡ read_stops.ReadFailed) (Rises (K.failures sink.old) (K.failures sink.new))
         (stop ≢ read_stops.ReadFailed)) }
 {

@@ -219,7 +219,7 @@ fn header_text(alloc: Global, header: &Header) -> Result<Vec<u8>, AllocError>
 
 /// The lines of the header of a file, or that of its fault.
 fn report<S: Source>(alloc: Global, source: &mut S) -> Result<Report, ReportStop>
-    ensures report { IfOk result (λ report. IsReportBy S.Source source.old show_text header_fault report.text.items report.outcome) }
+    ensures report { IfOk result (λ r. IsReportBy S.Source source.old show_text header_fault r.text.items r.outcome) }
     ensures behind { IfOk result (λ report. IsTrue (S.is_honest source.old) → IsLeftBehind (S.left source.old) (S.left source.new) report.outcome) }
     ensures failures { OnOk result (S.reads source.new ≡ S.reads source.old) }
     ensures stop { IfErr result (StopsReading S.Source source.old source.new) }
