@@ -22,17 +22,20 @@ PROGRAM = "edfclaim"
 
 COUNT, SIGNED = "(?:0|[1-9][0-9]*)", "(?:0|-?[1-9][0-9]*)"
 QUOTED = r'"((?:[^\x00-\x1f"\\\x7f]|\\x(?:[01][0-9a-f]|22|5c|7f))*)"'
-CAUSE = r"""(?:Truncated|NotPrintable|BadVersion|BadStart|StartdateDiffers|BadHeaderSize|NotEdfPlus|BadNumber|BadRange
-|BadAnnotationSignal|NoAnnotationSignal|NoOrdinarySignal|DuplicateLabel|RecordTooLarge|NoTimekeeping|BadFirstStart
-|NotContiguous|Overlap|TooManyAnnotations|TrailingBytes
-|BadSubfields\((?:LeadingSpace|TooFewSubfields|BadSex|BadDate|NoStartdateWord)\)
-|BadTal\((?:BadOnset|BadDuration|NoEnd|NotUtf8|ControlByte|NotZeroFilled)\))""".replace("\n", "")
+# names: by tools/gate/tables.py
+CAUSE = "(?:Truncated|TrailingBytes|NotPrintable|BadVersion|BadSubfields\\(LeadingSpace\\)|" \
+    "BadSubfields\\(TooFewSubfields\\)|BadSubfields\\(BadSex\\)|BadSubfields\\(BadDate\\)|" \
+    "BadSubfields\\(NoStartdateWord\\)|BadStart|StartdateDiffers|NotEdfPlus|BadHeaderSize|BadNumber|BadRange|" \
+    "NoAnnotationSignal|NoOrdinarySignal|RecordTooLarge|BadAnnotationSignal|DuplicateLabel|BadTal\\(BadOnset\\)|" \
+    "BadTal\\(BadDuration\\)|BadTal\\(NoEnd\\)|BadTal\\(NotUtf8\\)|BadTal\\(ControlByte\\)|BadTal\\(NotZeroFilled\\)|" \
+    "NoTimekeeping|BadFirstStart|NotContiguous|Overlap|TooManyAnnotations)"
+SUBFIELD = "(?:code|sex|birthdate|name|patient-extras|date|administration|technician|equipment|recording-extras)"
+# end of names
 FIELD = "(?:version|patient|recording|startdate|starttime|header-bytes|reserved|records|duration|signals)"
 OF_SIGNAL = """(?:label|transducer|dimension|physical-minimum|physical-maximum|digital-minimum|digital-maximum|prefilter
 |samples|reserved)""".replace("\n", "")
 PLACE = f"(?:header field {FIELD}|signal {COUNT} field {OF_SIGNAL}|record {COUNT}|end)"
 FAULT = f"(?P<cause>{CAUSE}) at (?P<place>{PLACE})"
-SUBFIELD = "(?:code|sex|birthdate|name|patient-extras|date|administration|technician|equipment|recording-extras)"
 COUNTS = f"channels (?P<channels>{COUNT}) samples (?P<samples>{COUNT}) annotations (?P<annotations>{COUNT})"
 LABEL, TEXT = QUOTED.replace('"(', '"(?P<label>', 1), QUOTED.replace('"(', '"(?P<text>', 1)
 VALUES = f"original (?P<original>{SIGNED}) export (?P<export>{SIGNED})"
@@ -41,6 +44,7 @@ DAY, WORD = "[0-9]{2}-(?:JAN|FEB|MAR|APR|MAY|JUN|JUL|AUG|SEP|OCT|NOV|DEC)-[0-9]{
 NOTE = f"(?P<at_ps>{SIGNED}) ps duration {DURATION} text {TEXT}"
 
 # The number of each line, its kind, its words, and whether check-parts says in it which export it is about.
+# lines: by tools/gate/tables.py
 LINES = [
     (1, "original fault", f"original fault: {FAULT}", False),
     (2, "export fault", f"export fault: {FAULT}", True),
@@ -55,6 +59,7 @@ LINES = [
     (11, "annotation", f"annotation (?P<how>missing|extra) at {NOTE}", False),
     (12, "starts early", "starts early", True),
 ]
+# end of lines
 # The words in front of the lines of show, up to the channels: what stands behind each, and how often the line may stand.
 HEADER = [
     ("kind", r"EDF\+[CD]", "once"), ("start", "[0-9]{4}-[0-9]{2}-[0-9]{2} [0-9]{2}:[0-9]{2}:[0-9]{2}", "once"),

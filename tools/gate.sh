@@ -1,7 +1,7 @@
 #!/usr/bin/env bash
 # The whole gate. First `rt ci`: all proofs, tests, must-fail edits and runs; what it passed earlier on this machine
-# isn't proved again as long as nothing changes that it stands on. Then the scripts: the table of wrong bodies, what the
-# crates cite of one another's proofs, whether the document of the headline is whole, what is linked in with its
+# isn't proved again as long as nothing changes that it stands on. Then the scripts: the tables of pages and
+# of wrong bodies, what the crates cite of one another's proofs, whether the document of the headline is whole, what is linked in with its
 # licences, and the program that was built, on command lines and files that it refuses, on the example night and the
 # lines of docs/START.md, its receipts beside sha256sum, on the tables of cases and of claims, its drafts of claims, its
 # explanations of checks, and with each growth of memory, each read and each write failing in turn; then what stands
@@ -80,6 +80,7 @@ counted() {
 }
 
 counted tools/wrong_bodies.py --check
+counted tools/gate/tables.py --check "$program"
 counted tools/imports.sh
 counted tools/headline.py --check
 counted tools/third_party.py --check
@@ -93,7 +94,7 @@ counted tools/claims.py "$program"
 counted tools/drafts.py "$program"
 counted tools/explain.py "$program"
 counted tools/signs.py "$program"
-counted tools/completions.sh --check "$program"
+counted tools/completions.sh
 counted tools/packages.sh "$program"
 counted tools/scripts.py "$program"
 counted tools/look.sh "$program"

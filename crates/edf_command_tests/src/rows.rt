@@ -14,6 +14,7 @@ use std::alloc::{AllocError, Global};
 use std::test::Fail;
 
 /// The rows, a line each.
+// rows: by tools/gate/tables.py
 const TEXT: &str = concat!(
     "1 YES channels 1 samples 2 annotations 0\n",
     "2 YES channels 2 samples 24 annotations 3\n",
@@ -75,6 +76,7 @@ const TEXT: &str = concat!(
     "68 NO 2 part 1 export fault: Truncated at record 1\n",
     "69 NO 8 part 1 subfield sex changed\n",
 );
+// end of rows
 
 #[test]
 fn writes_the_rows(rt: HostRuntime) -> Result<(), Fail> {

@@ -17,6 +17,7 @@ abbrev pub several : ℕ → List ℕ → WorkedRow
 several number stored = record { number = number; of_several = true; stored = stored }
 
 -- the rows, in the order in which they are written
+-- rows: by tools/gate/tables.py
 unfoldable pub worked_rows : List WorkedRow
 worked_rows =
     one 1 (codes "YES channels 1 samples 2 annotations 0\n")
@@ -79,6 +80,8 @@ worked_rows =
     ∷ several 68 (codes "NO 2 part 1 export fault: Truncated at record 1\n")
     ∷ several 69 (codes "NO 8 part 1 subfield sex changed\n")
     ∷ []
+
+-- end of rows
 
 -- whether they are several, which are checked together
 abbrev pub are_several : Exports → Bool

@@ -5,6 +5,7 @@ ghost use Rattle.edf_rows.specs.Rows.{row_of, worked_rows};
 
 use crate::claims::Claimed;
 use crate::files::{Base, File};
+use crate::lines;
 use crate::rows::Exports::{One, Several};
 use edf_fields::Place::{AtField, AtSignal};
 use edf_fields::{FixedField as Fixed, SignalField as Field};
@@ -231,42 +232,42 @@ const ROWS: &[Row] = &[
         original: SMALL,
         exports: One(SMALL),
         claim: Claimed::Temp,
-        stored: "YES channels 1 samples 2 annotations 0\n",
+        stored: lines::ROW_1,
     },
     Row {
         number: 2,
         original: NIGHT,
         exports: One(NIGHT),
         claim: Claimed::All,
-        stored: "YES channels 2 samples 24 annotations 3\n",
+        stored: lines::ROW_2,
     },
     Row {
         number: 3,
         original: NIGHT,
         exports: One(EXCHANGED),
         claim: Claimed::All,
-        stored: "YES channels 2 samples 24 annotations 3\n",
+        stored: lines::ROW_3,
     },
     Row {
         number: 4,
         original: NIGHT,
         exports: One(EXCERPT),
         claim: Claimed::Excerpt,
-        stored: "YES channels 2 samples 12 annotations 1\n",
+        stored: lines::ROW_4,
     },
     Row {
         number: 5,
         original: NIGHT,
         exports: One(LONG_EXCERPT),
         claim: Claimed::Excerpt,
-        stored: "NO 10 sample \"ECG\" at 3000000000000 ps extra\n",
+        stored: lines::ROW_5,
     },
     Row {
         number: 6,
         original: NIGHT,
         exports: One(GAP),
         claim: Claimed::Gap,
-        stored: "YES channels 2 samples 12 annotations 2\n",
+        stored: lines::ROW_6,
     },
     Row {
         number: 7,
@@ -276,7 +277,7 @@ const ROWS: &[Row] = &[
             ..GAP
         }),
         claim: Claimed::Gap,
-        stored: "NO 2 export fault: NotContiguous at record 1\n",
+        stored: lines::ROW_7,
     },
     Row {
         number: 8,
@@ -286,7 +287,7 @@ const ROWS: &[Row] = &[
             ..NIGHT
         }),
         claim: Claimed::All,
-        stored: "NO 10 sample \"EEG Fpz-Cz\" at 750000000000 ps original 30 export 31\n",
+        stored: lines::ROW_8,
     },
     Row {
         number: 9,
@@ -296,28 +297,28 @@ const ROWS: &[Row] = &[
             ..NIGHT
         }),
         claim: Claimed::All,
-        stored: "NO 10 sample \"ECG\" at 2500000000000 ps original 105 export 104\n",
+        stored: lines::ROW_9,
     },
     Row {
         number: 10,
         original: PAIRS,
         exports: One(TRIPLES),
         claim: Claimed::Temp,
-        stored: "YES channels 1 samples 6 annotations 0\n",
+        stored: lines::ROW_10,
     },
     Row {
         number: 11,
         original: PAIRS,
         exports: One(SPARSE),
         claim: Claimed::Temp,
-        stored: "NO 10 sample \"Temp\" at 1000000000000 ps missing\n",
+        stored: lines::ROW_11,
     },
     Row {
         number: 12,
         original: THIRDS,
         exports: One(SPREAD),
         claim: Claimed::Temp,
-        stored: "NO 10 sample \"Temp\" at 333333333333 ps extra\n",
+        stored: lines::ROW_12,
     },
     Row {
         number: 13,
@@ -327,7 +328,7 @@ const ROWS: &[Row] = &[
             ..THIRDS
         }),
         claim: Claimed::Temp,
-        stored: "NO 10 sample \"Temp\" at 333333333333 ps original 2 export 9\n",
+        stored: lines::ROW_13,
     },
     Row {
         number: 14,
@@ -340,7 +341,7 @@ const ROWS: &[Row] = &[
             ..NIGHT
         }),
         claim: Claimed::All,
-        stored: "YES channels 2 samples 24 annotations 3\n",
+        stored: lines::ROW_14,
     },
     Row {
         number: 15,
@@ -353,7 +354,7 @@ const ROWS: &[Row] = &[
             ..NIGHT
         }),
         claim: Claimed::All,
-        stored: "YES channels 2 samples 24 annotations 3\n",
+        stored: lines::ROW_15,
     },
     Row {
         number: 16,
@@ -363,7 +364,7 @@ const ROWS: &[Row] = &[
             ..NIGHT
         }),
         claim: Claimed::All,
-        stored: "NO 7 calibration \"EEG Fpz-Cz\"\n",
+        stored: lines::ROW_16,
     },
     Row {
         number: 17,
@@ -376,14 +377,14 @@ const ROWS: &[Row] = &[
             ..NIGHT
         }),
         claim: Claimed::All,
-        stored: "NO 7 calibration \"EEG Fpz-Cz\"\n",
+        stored: lines::ROW_17,
     },
     Row {
         number: 18,
         original: NIGHT,
         exports: One(NIGHT),
         claim: Claimed::NoName,
-        stored: "NO 8 subfield name not X\n",
+        stored: lines::ROW_18,
     },
     Row {
         number: 19,
@@ -396,42 +397,42 @@ const ROWS: &[Row] = &[
             ..NIGHT
         }),
         claim: Claimed::All,
-        stored: "NO 8 subfield sex changed\n",
+        stored: lines::ROW_19,
     },
     Row {
         number: 20,
         original: WARD,
         exports: One(NIGHT),
         claim: Claimed::NoPatientExtras,
-        stored: "YES channels 2 samples 24 annotations 3\n",
+        stored: lines::ROW_20,
     },
     Row {
         number: 21,
         original: WARD,
         exports: One(WARD),
         claim: Claimed::NoPatientExtras,
-        stored: "NO 8 subfield patient-extras not X\n",
+        stored: lines::ROW_21,
     },
     Row {
         number: 22,
         original: WARD,
         exports: One(NIGHT),
         claim: Claimed::All,
-        stored: "NO 8 subfield patient-extras changed\n",
+        stored: lines::ROW_22,
     },
     Row {
         number: 23,
         original: NIGHT,
         exports: One(DATELESS),
         claim: Claimed::NoDate,
-        stored: "YES channels 2 samples 24 annotations 3\n",
+        stored: lines::ROW_23,
     },
     Row {
         number: 24,
         original: NIGHT,
         exports: One(DATELESS),
         claim: Claimed::All,
-        stored: "NO 8 subfield date changed\n",
+        stored: lines::ROW_24,
     },
     Row {
         number: 25,
@@ -444,28 +445,28 @@ const ROWS: &[Row] = &[
             ..EXCERPT
         }),
         claim: Claimed::Excerpt,
-        stored: "NO 2 export fault: StartdateDiffers at header field startdate\n",
+        stored: lines::ROW_25,
     },
     Row {
         number: 26,
         original: NIGHT,
         exports: One(MOVED),
         claim: Claimed::All,
-        stored: "YES channels 2 samples 24 annotations 3\n",
+        stored: lines::ROW_26,
     },
     Row {
         number: 27,
         original: TWICE,
         exports: One(NIGHT),
         claim: Claimed::All,
-        stored: "NO 11 annotation missing at 1500000000000 ps duration 1000000000000 ps text \"Apnea\"\n",
+        stored: lines::ROW_27,
     },
     Row {
         number: 28,
         original: NIGHT,
         exports: One(NIGHT),
         claim: Claimed::NoLights,
-        stored: "NO 11 annotation extra at 500000000000 ps duration none text \"Lights off\"\n",
+        stored: lines::ROW_28,
     },
     Row {
         number: 29,
@@ -475,7 +476,7 @@ const ROWS: &[Row] = &[
             ..NIGHT
         }),
         claim: Claimed::All,
-        stored: "NO 2 export fault: Truncated at record 3\n",
+        stored: lines::ROW_29,
     },
     Row {
         number: 30,
@@ -485,7 +486,7 @@ const ROWS: &[Row] = &[
             ..NIGHT
         }),
         claim: Claimed::All,
-        stored: "NO 2 export fault: TrailingBytes at end\n",
+        stored: lines::ROW_30,
     },
     Row {
         number: 31,
@@ -495,7 +496,7 @@ const ROWS: &[Row] = &[
         },
         exports: One(NIGHT),
         claim: Claimed::All,
-        stored: "NO 1 original fault: Truncated at header field version\n",
+        stored: lines::ROW_31,
     },
     Row {
         number: 32,
@@ -505,14 +506,14 @@ const ROWS: &[Row] = &[
             ..NIGHT
         }),
         claim: Claimed::All,
-        stored: "NO 2 export fault: Truncated at signal 2 field label\n",
+        stored: lines::ROW_32,
     },
     Row {
         number: 33,
         original: NIGHT,
         exports: One(BAD_TEXT),
         claim: Claimed::All,
-        stored: "NO 2 export fault: BadTal(NotUtf8) at record 3\n",
+        stored: lines::ROW_33,
     },
     Row {
         number: 34,
@@ -522,7 +523,7 @@ const ROWS: &[Row] = &[
         },
         exports: One(BAD_TEXT),
         claim: Claimed::All,
-        stored: "NO 1 original fault: BadRange at header field records\n",
+        stored: lines::ROW_34,
     },
     Row {
         number: 35,
@@ -532,7 +533,7 @@ const ROWS: &[Row] = &[
             ..NIGHT
         }),
         claim: Claimed::All,
-        stored: "NO 9 not clean header\n",
+        stored: lines::ROW_35,
     },
     Row {
         number: 36,
@@ -542,7 +543,7 @@ const ROWS: &[Row] = &[
             ..NIGHT
         }),
         claim: Claimed::All,
-        stored: "NO 9 not clean \"ECG\"\n",
+        stored: lines::ROW_36,
     },
     Row {
         number: 37,
@@ -555,21 +556,21 @@ const ROWS: &[Row] = &[
         },
         exports: One(NIGHT),
         claim: Claimed::All,
-        stored: "YES channels 2 samples 24 annotations 3\n",
+        stored: lines::ROW_37,
     },
     Row {
         number: 38,
         original: NIGHT,
         exports: One(NIGHT),
         claim: Claimed::Ecg,
-        stored: "NO 5 extra channel \"EEG Fpz-Cz\"\n",
+        stored: lines::ROW_38,
     },
     Row {
         number: 39,
         original: NIGHT,
         exports: One(ONE_CHANNEL),
         claim: Claimed::All,
-        stored: "NO 4 missing channel \"ECG\"\n",
+        stored: lines::ROW_39,
     },
     Row {
         number: 40,
@@ -579,14 +580,14 @@ const ROWS: &[Row] = &[
             ..NIGHT
         }),
         claim: Claimed::All,
-        stored: "NO 6 channel text \"ECG\" prefilter\n",
+        stored: lines::ROW_40,
     },
     Row {
         number: 41,
         original: NIGHT,
         exports: One(NIGHT),
         claim: Claimed::Unknown,
-        stored: "NO 3 unknown channel \"EMG\"\n",
+        stored: lines::ROW_41,
     },
     Row {
         number: 42,
@@ -596,112 +597,112 @@ const ROWS: &[Row] = &[
             ..NIGHT
         }),
         claim: Claimed::All,
-        stored: "NO 2 export fault: BadStart at header field startdate\n",
+        stored: lines::ROW_42,
     },
     Row {
         number: 53,
         original: NIGHT,
         exports: One(NIGHT),
         claim: Claimed::BlankApnea,
-        stored: "NO 11 annotation extra at 1500000000000 ps duration 1000000000000 ps text \"Apnea\"\n",
+        stored: lines::ROW_53,
     },
     Row {
         number: 54,
         original: NIGHT,
         exports: One(BLANKED),
         claim: Claimed::BlankApnea,
-        stored: "YES channels 2 samples 24 annotations 3\n",
+        stored: lines::ROW_54,
     },
     Row {
         number: 55,
         original: NIGHT,
         exports: One(NIGHT),
         claim: Claimed::NoLightsByBegin,
-        stored: "NO 11 annotation extra at 500000000000 ps duration none text \"Lights off\"\n",
+        stored: lines::ROW_55,
     },
     Row {
         number: 56,
         original: NIGHT,
         exports: One(LIT),
         claim: Claimed::NoLightsByBegin,
-        stored: "YES channels 2 samples 24 annotations 2\n",
+        stored: lines::ROW_56,
     },
     Row {
         number: 57,
         original: NIGHT,
         exports: One(WITHOUT_APNEA),
         claim: Claimed::NoApnea,
-        stored: "YES channels 2 samples 24 annotations 1\n",
+        stored: lines::ROW_57,
     },
     Row {
         number: 58,
         original: LATE,
         exports: One(LATE),
         claim: Claimed::All,
-        stored: "YES channels 2 samples 24 annotations 3\n",
+        stored: lines::ROW_58,
     },
     Row {
         number: 59,
         original: NIGHT,
         exports: One(LATE),
         claim: Claimed::Late,
-        stored: "YES channels 2 samples 24 annotations 3\n",
+        stored: lines::ROW_59,
     },
     Row {
         number: 60,
         original: NIGHT,
         exports: One(LATE_AND_DATELESS),
         claim: Claimed::LateAndDateless,
-        stored: "NO 2 export fault: BadStart at header field startdate\n",
+        stored: lines::ROW_60,
     },
     Row {
         number: 61,
         original: LATE,
         exports: One(LATE_WITH_TWO_DAYS),
         claim: Claimed::All,
-        stored: "NO 2 export fault: StartdateDiffers at header field startdate\n",
+        stored: lines::ROW_61,
     },
     Row {
         number: 62,
         original: LATE,
         exports: One(LATE_IN_DIGITS),
         claim: Claimed::All,
-        stored: "NO 2 export fault: StartdateDiffers at header field startdate\n",
+        stored: lines::ROW_62,
     },
     Row {
         number: 63,
         original: NIGHT,
         exports: Several(NIGHT, None),
         claim: Claimed::All,
-        stored: "YES parts 1 channels 2 samples 24 annotations 3\n",
+        stored: lines::ROW_63,
     },
     Row {
         number: 64,
         original: NIGHT,
         exports: Several(FIRST_HALF, Some(SECOND_HALF)),
         claim: Claimed::All,
-        stored: "YES parts 2 channels 2 samples 24 annotations 3\n",
+        stored: lines::ROW_64,
     },
     Row {
         number: 65,
         original: NIGHT,
         exports: Several(SECOND_HALF, Some(FIRST_HALF)),
         claim: Claimed::All,
-        stored: "NO 12 part 1 starts early\n",
+        stored: lines::ROW_65,
     },
     Row {
         number: 66,
         original: NIGHT,
         exports: Several(FIRST_HALF, Some(FIRST_HALF)),
         claim: Claimed::All,
-        stored: "NO 12 part 1 starts early\n",
+        stored: lines::ROW_66,
     },
     Row {
         number: 67,
         original: NIGHT,
         exports: Several(FIRST_HALF, None),
         claim: Claimed::All,
-        stored: "NO 10 sample \"ECG\" at 2000000000000 ps missing\n",
+        stored: lines::ROW_67,
     },
     Row {
         number: 68,
@@ -714,7 +715,7 @@ const ROWS: &[Row] = &[
             }),
         ),
         claim: Claimed::All,
-        stored: "NO 2 part 1 export fault: Truncated at record 1\n",
+        stored: lines::ROW_68,
     },
     Row {
         number: 69,
@@ -730,7 +731,7 @@ const ROWS: &[Row] = &[
             }),
         ),
         claim: Claimed::All,
-        stored: "NO 8 part 1 subfield sex changed\n",
+        stored: lines::ROW_69,
     },
 ];
 
