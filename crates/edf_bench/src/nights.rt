@@ -1,6 +1,8 @@
 //! Nights in memory: contiguous EDF+ files, each with as many channels, data records and annotations as is said.
 
 use crate::noise::{Noise, bytes_of};
+use edf_fields::{FixedField, Place, SignalField};
+use edf_rows::{HeaderTexts, push_header};
 use std::alloc::{AllocError, Global};
 
 /// Where the samples of a channel are taken from: so many bytes, and behind them those from the front again.
@@ -86,38 +88,6 @@ pub struct Cut {
     pub is_anonymous: bool,
 }
 
-/// Puts a text behind the file, filled with spaces.
-fn push_field(file: &mut Vec<u8>, text: &str, width: usize) -> Result<(), AllocError> {
-    let end = file.len().saturating_add(width);
-    file.extend_from_slice(text.as_bytes())?;
-    file.resize(end, b' ')
-}
-
-/// Puts a number behind the file, filled with spaces.
-fn push_number(
-    file: &mut Vec<u8>,
-    alloc: Global,
-    number: u64,
-    width: usize,
-) -> Result<(), AllocError> {
-    let text = number.to_string(alloc)?;
-    push_field(file, &text, width)
-}
-
-/// Puts the same text for each channel behind the file, and another one for the annotation signal.
-fn push_column(
-    file: &mut Vec<u8>,
-    channels: usize,
-    text: &str,
-    last: &str,
-    width: usize,
-) -> Result<(), AllocError> {
-    for _ in 0..channels {
-        push_field(file, text, width)?;
-    }
-    push_field(file, last, width)
-}
-
 /// The name of a channel.
 pub fn label_of(alloc: Global, channel: usize) -> Result<String, AllocError> {
     format!(in alloc; "C{channel}")
@@ -133,76 +103,114 @@ fn clock_of(alloc: Global, seconds: u32) -> Result<String, AllocError> {
     format!(in alloc; "{hours}.{tens}{minutes}.{rest}{ones}")
 }
 
-/// Puts the fixed part of the header behind the file.
-fn push_fixed(
-    file: &mut Vec<u8>,
-    alloc: Global,
-    channels: usize,
-    cut: Cut,
-) -> Result<(), AllocError> {
-    let signals = (channels as u64).wrapping_add(1);
-    let patient = if cut.is_anonymous {
-        "X F X X"
-    } else {
-        "MCH-0234567 F 02-MAY-1951 Haagse_Harry"
-    };
-    push_field(file, "0", 8)?;
-    push_field(file, patient, 80)?;
-    push_field(
-        file,
-        "Startdate 02-MAR-2002 PSG-1234/2002 NN Telemetry03",
-        80,
-    )?;
-    push_field(file, "02.03.02", 8)?;
-    push_field(file, &clock_of(alloc, cut.first)?, 8)?;
-    push_number(file, alloc, signals.wrapping_add(1).wrapping_mul(256), 8)?;
-    push_field(file, "EDF+C", 44)?;
-    push_number(file, alloc, u64::from(cut.seconds / cut.step.max(1)), 8)?;
-    push_number(file, alloc, u64::from(cut.step), 8)?;
-    push_number(file, alloc, signals, 4)
+/// The texts of a night's header that are numbers or follow from them: those of the fixed part, and for each channel,
+/// and behind them for the annotation signal, its label and its samples in a data record.
+#[derive(Drop)]
+struct NightTexts {
+    is_anonymous: bool,
+    starttime: String,
+    header_bytes: String,
+    records: String,
+    duration: String,
+    count: String,
+    labels: Vec<String>,
+    samples: Vec<String>,
 }
 
-/// Puts the labels behind the file.
-fn push_labels(file: &mut Vec<u8>, alloc: Global, channels: usize) -> Result<(), AllocError> {
-    for channel in 0..channels {
-        push_field(file, &label_of(alloc, channel)?, 16)?;
+impl NightTexts {
+    /// Those of the file of a recorder, cut like this.
+    fn new(alloc: Global, recorder: &Recorder, cut: Cut) -> Result<NightTexts, AllocError> {
+        let signals = (recorder.channels() as u64).wrapping_add(1);
+        Ok(NightTexts {
+            is_anonymous: cut.is_anonymous,
+            starttime: clock_of(alloc, cut.first)?,
+            header_bytes: signals.wrapping_add(1).wrapping_mul(256).to_string(alloc)?,
+            records: u64::from(cut.seconds / cut.step.max(1)).to_string(alloc)?,
+            duration: u64::from(cut.step).to_string(alloc)?,
+            count: signals.to_string(alloc)?,
+            labels: labels_of(alloc, recorder.channels())?,
+            samples: samples_of(alloc, recorder, cut)?,
+        })
     }
-    push_field(file, "EDF Annotations", 16)
+
+    /// The text of a field of the fixed part.
+    fn fixed(&self, field: FixedField) -> &str {
+        match field {
+            FixedField::Version => "0",
+            FixedField::Patient if self.is_anonymous => "X F X X",
+            FixedField::Patient => "MCH-0234567 F 02-MAY-1951 Haagse_Harry",
+            FixedField::Recording => "Startdate 02-MAR-2002 PSG-1234/2002 NN Telemetry03",
+            FixedField::Startdate => "02.03.02",
+            FixedField::Starttime => &self.starttime,
+            FixedField::HeaderBytes => &self.header_bytes,
+            FixedField::Reserved => "EDF+C",
+            FixedField::Records => &self.records,
+            FixedField::Duration => &self.duration,
+            FixedField::Signals => &self.count,
+        }
+    }
+
+    /// The text of a signal's field.
+    fn of_signal(&self, signal: usize, field: SignalField) -> &str {
+        let is_channel = signal.saturating_add(1) < self.labels.len();
+        match field {
+            SignalField::Label => text_at(&self.labels, signal),
+            SignalField::Samples => text_at(&self.samples, signal),
+            SignalField::Transducer if is_channel => "AgAgCl electrode",
+            SignalField::Dimension if is_channel => "uV",
+            SignalField::PhysicalMinimum if is_channel => "-3276.8",
+            SignalField::PhysicalMinimum => "-1",
+            SignalField::PhysicalMaximum if is_channel => "3276.7",
+            SignalField::PhysicalMaximum => "1",
+            SignalField::DigitalMinimum => "-32768",
+            SignalField::DigitalMaximum => "32767",
+            SignalField::Prefilter if is_channel => "HP:0.1Hz LP:75Hz",
+            _ => "",
+        }
+    }
 }
 
-/// Puts how many samples each signal has in a data record behind the file.
-fn push_samples(
-    file: &mut Vec<u8>,
-    alloc: Global,
-    recorder: &Recorder,
-    cut: Cut,
-) -> Result<(), AllocError> {
+impl HeaderTexts for NightTexts {
+    fn signals(&self) -> u16 {
+        u16::try_from(self.labels.len()).unwrap_or(u16::MAX)
+    }
+
+    fn text(&self, place: Place) -> &str {
+        match place {
+            Place::AtField(field) => self.fixed(field),
+            Place::AtSignal(signal, field) => self.of_signal(usize::from(signal), field),
+            Place::AtRecord(_) | Place::AtEnd => "",
+        }
+    }
+}
+
+/// One of some texts, by its place.
+fn text_at(texts: &[String], place: usize) -> &str {
+    match texts.get(place) {
+        Some(text) => text,
+        None => "",
+    }
+}
+
+/// The labels of so many channels, and behind them that of annotation signals.
+fn labels_of(alloc: Global, channels: usize) -> Result<Vec<String>, AllocError> {
+    let mut labels = Vec::with_capacity(alloc, channels.saturating_add(1))?;
+    for channel in 0..channels {
+        labels.push(label_of(alloc, channel)?)?;
+    }
+    labels.push(format!(in alloc; "EDF Annotations")?)?;
+    Ok(labels)
+}
+
+/// How many samples each signal has in a data record.
+fn samples_of(alloc: Global, recorder: &Recorder, cut: Cut) -> Result<Vec<String>, AllocError> {
+    let mut texts = Vec::with_capacity(alloc, recorder.channels().saturating_add(1))?;
     for rate in &recorder.rates {
         let samples = u64::from(*rate).wrapping_mul(u64::from(cut.step));
-        push_number(file, alloc, samples, 8)?;
+        texts.push(samples.to_string(alloc)?)?;
     }
-    push_number(file, alloc, u64::from(cut.lane / 2), 8)
-}
-
-/// Puts the header behind the file.
-fn push_header(
-    file: &mut Vec<u8>,
-    alloc: Global,
-    recorder: &Recorder,
-    cut: Cut,
-) -> Result<(), AllocError> {
-    let channels = recorder.channels();
-    push_fixed(file, alloc, channels, cut)?;
-    push_labels(file, alloc, channels)?;
-    push_column(file, channels, "AgAgCl electrode", "", 80)?;
-    push_column(file, channels, "uV", "", 8)?;
-    push_column(file, channels, "-3276.8", "-1", 8)?;
-    push_column(file, channels, "3276.7", "1", 8)?;
-    push_column(file, channels, "-32768", "-32768", 8)?;
-    push_column(file, channels, "32767", "32767", 8)?;
-    push_column(file, channels, "HP:0.1Hz LP:75Hz", "", 80)?;
-    push_samples(file, alloc, recorder, cut)?;
-    push_column(file, channels, "", "", 32)
+    texts.push(u64::from(cut.lane / 2).to_string(alloc)?)?;
+    Ok(texts)
 }
 
 /// Puts an annotation behind the file, in a file that begins with this second of the night.
@@ -295,7 +303,7 @@ pub fn file_of(
     cut: Cut,
 ) -> Result<Vec<u8>, AllocError> {
     let mut file = Vec::with_capacity(alloc, size_of(recorder, cut))?;
-    push_header(&mut file, alloc, recorder, cut)?;
+    push_header(&mut file, &NightTexts::new(alloc, recorder, cut)?)?;
     let records = cut.seconds / cut.step.max(1);
     let mut done = 0usize;
     for record in 0..records {

@@ -12,7 +12,7 @@ use Rattle.edf_command_line.proofs.ExportFacts.{check, check_passes, draft, draf
 use Rattle.edf_command_line.proofs.PartsFacts.{both_true, leaf_passes, parts, receipt_parts, second_passes}
 use Rattle.edf_command_line.proofs.PlainFacts.{IsPlain, tail_plain}
 use Rattle.edf_command_line.specs.Commands.{program_app}
-use Rattle.edf_job.specs.Jobs.{ArePlain}
+use Rattle.edf_command_line.specs.Jobs.{ArePlain}
 
 -- behind a subcommand's name each word goes to the subcommand
 stopped_walk : (rules : List Rule) (names : Names) (w : Walk) (name : Text) (seen words : List Text)

@@ -7,9 +7,9 @@ use Rattle.clap.proofs.OnLiterals.{clap_on_literals}
 use Rattle.edf_command_line.specs.Commands.{program_app}
 use Rattle.edf_command_line.proofs.EnterFacts.{name_of, takes_draft, takes_explain, takes_export, takes_parts}
 use Rattle.edf_command_line.proofs.PlainFacts.{IsPlain, first_is}
-use Rattle.edf_job.specs.Jobs.{ArePlain, SaysJob}
-use Rattle.edf_job.specs.declared.job.Job.{Job}
-use Rattle.edf_job.specs.declared.job.Job.TheVariants.{Check, CheckParts, Receipt, ReceiptParts, Draft, Explain, Conform, Show, Notes, Vectors}
+use Rattle.edf_command_line.specs.Jobs.{ArePlain, SaysJob}
+use Rattle.edf_command_line.specs.declared.jobs.Job.{Job}
+use Rattle.edf_command_line.specs.declared.jobs.Job.TheVariants.{Check, CheckParts, Receipt, ReceiptParts, Draft, Explain, Conform, Show, Notes, Vectors}
 
 takes_vectors : (w : List ℕ) → takes program_app (w ∷ codes "vectors" ∷ []) ≡ true
 unfolding clap_on_literals

@@ -11,7 +11,7 @@ use Rattle.clap.specs.Takes.{default_passes, is_valid, level_passes, settle_pass
 use Rattle.clap.proofs.OnLiterals.{clap_on_literals}
 use Rattle.edf_command_line.proofs.PlainFacts.{IsPlain, first_is, tail_plain}
 use Rattle.edf_command_line.specs.Commands.{needed, parts_app, program_app}
-use Rattle.edf_job.specs.Jobs.{ArePlain}
+use Rattle.edf_command_line.specs.Jobs.{ArePlain}
 
 -- the first of both as it is built
 abbrev pub parts : Shape

@@ -6,8 +6,8 @@ use Rattle.std.specs.Bool.{Decides}
 use Rattle.std.specs.Borrow.{Bor}
 use Rattle.std.specs.List.{Contains, IsAnyAnswer}
 use Rattle.std.specs.Str.{bytes_eq}
-use Rattle.edf_job.specs.Jobs.{IsOfExport, IsOfParts, SaysNoExport, SaysNoFile, SaysNoParts, SaysNoJob, SaysNoOther}
-use Rattle.edf_job.specs.declared.job.Job.{Job}
+use Rattle.edf_command_line.specs.Jobs.{IsOfExport, IsOfParts, SaysNoExport, SaysNoFile, SaysNoParts, SaysNoJob, SaysNoOther}
+use Rattle.edf_command_line.specs.declared.jobs.Job.{Job}
 
 abbrev no_word : Bor (List ℕ)
 no_word = record { ref_ptr = (0, 0); now = [] }

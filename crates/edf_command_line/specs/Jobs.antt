@@ -2,8 +2,8 @@
 use Rattle.std.specs.Prelude.{◌≡◌, ◌≢◌, ◌⊎◌, ℕ, ◌<◌, List, [], ◌∷◌, length, map, drop, slice_index, slice_index_or, codes}
 use Rattle.std.specs.Borrow.{Bor}
 use Rattle.std.specs.List.{Contains}
-use Rattle.edf_job.specs.declared.job.Job.{Job}
-use Rattle.edf_job.specs.declared.job.Job.TheVariants.{Check, CheckParts, Receipt, ReceiptParts, Draft, Explain, Conform, Show, Notes, Vectors}
+use Rattle.edf_command_line.specs.declared.jobs.Job.{Job}
+use Rattle.edf_command_line.specs.declared.jobs.Job.TheVariants.{Check, CheckParts, Receipt, ReceiptParts, Draft, Explain, Conform, Show, Notes, Vectors}
 
 -- the words behind the first, which is the program's name
 abbrev pub behind_first : List (Bor (List ℕ)) → List (List ℕ)

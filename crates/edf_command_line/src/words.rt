@@ -2,9 +2,9 @@
 
 ghost use Rattle.std.specs.Prelude.{map, IfSome, IfNone};
 ghost use Rattle.std.specs.Bool.{Decides};
-ghost use Rattle.edf_job.specs.Jobs.{HasExports, HaveEscape, SaysJob, SaysNoExport, SaysNoFile, SaysNoJob, SaysNoOther, SaysNoParts, behind_first};
+ghost use Rattle.edf_command_line.specs.Jobs.{HasExports, HaveEscape, SaysJob, SaysNoExport, SaysNoFile, SaysNoJob, SaysNoOther, SaysNoParts, behind_first};
 
-use crate::job::Job;
+use crate::jobs::Job;
 
 /// Whether `--` stands among some words.
 fn have_escape(words: &[&str]) -> bool

@@ -1,22 +1,25 @@
 //! Building small EDF+ files in memory.
 
 use crate::files::{DataRecord, File, FileText, SignalText, text_of};
+use crate::header::{HeaderTexts, push_header, push_padded};
 use edf_fields::{FixedField, Place, SignalField};
 use std::alloc::{AllocError, Global};
 
-/// The columns of a header, and how many bytes of each signal stand in them.
-const COLUMNS: [(SignalField, usize); 10] = [
-    (SignalField::Label, 16),
-    (SignalField::Transducer, 80),
-    (SignalField::Dimension, 8),
-    (SignalField::PhysicalMinimum, 8),
-    (SignalField::PhysicalMaximum, 8),
-    (SignalField::DigitalMinimum, 8),
-    (SignalField::DigitalMaximum, 8),
-    (SignalField::Prefilter, 80),
-    (SignalField::Samples, 8),
-    (SignalField::Reserved, 32),
-];
+/// The text of a field of the fixed part.
+fn fixed_text(text: &FileText, field: FixedField) -> &'static str {
+    match field {
+        FixedField::Version => "0",
+        FixedField::Patient => text.patient,
+        FixedField::Recording => text.recording,
+        FixedField::Startdate => text.startdate,
+        FixedField::Starttime => text.starttime,
+        FixedField::HeaderBytes => text.header_bytes,
+        FixedField::Reserved => text.reserved,
+        FixedField::Records => text.records,
+        FixedField::Duration => text.duration,
+        FixedField::Signals => text.count,
+    }
+}
 
 /// The text of a signal's field.
 fn signal_text(signal: &SignalText, field: SignalField) -> &'static str {
@@ -34,75 +37,40 @@ fn signal_text(signal: &SignalText, field: SignalField) -> &'static str {
     }
 }
 
-/// The text that stands at a place: the one that these changes put there, or else `text`.
-fn text_at(changes: &[(Place, &'static str)], place: Place, text: &'static str) -> &'static str {
-    for (changed, other) in changes {
-        if *changed == place {
-            return other;
+/// The texts of a file's header, some of which are changed.
+#[derive(Clone, Copy)]
+struct Changed<'a> {
+    text: &'a FileText,
+    changes: &'static [(Place, &'static str)],
+}
+
+impl Changed<'_> {
+    /// The text that a field has where it isn't changed.
+    fn unchanged(&self, place: Place) -> &'static str {
+        match place {
+            Place::AtField(field) => fixed_text(self.text, field),
+            Place::AtSignal(signal, field) => match self.text.signals.get(usize::from(signal)) {
+                Some(signal) => signal_text(signal, field),
+                None => "",
+            },
+            Place::AtRecord(_) | Place::AtEnd => "",
         }
     }
-    text
 }
 
-/// Puts the text behind the file, and copies of `fill` up to `width` bytes in all.
-fn push_padded(file: &mut Vec<u8>, text: &[u8], fill: u8, width: usize) -> Result<(), AllocError> {
-    file.extend_from_slice(text)?;
-    for _ in text.len()..width {
-        file.push(fill)?;
+impl HeaderTexts for Changed<'_> {
+    fn signals(&self) -> u16 {
+        u16::try_from(self.text.signals.len()).unwrap_or(u16::MAX)
     }
-    Ok(())
-}
 
-/// Puts the fixed part of a header behind the file.
-fn push_fixed(
-    file: &mut Vec<u8>,
-    text: &FileText,
-    changes: &[(Place, &'static str)],
-) -> Result<(), AllocError> {
-    for (field, text, width) in [
-        (FixedField::Version, "0", 8usize),
-        (FixedField::Patient, text.patient, 80),
-        (FixedField::Recording, text.recording, 80),
-        (FixedField::Startdate, text.startdate, 8),
-        (FixedField::Starttime, text.starttime, 8),
-        (FixedField::HeaderBytes, text.header_bytes, 8),
-        (FixedField::Reserved, text.reserved, 44),
-        (FixedField::Records, text.records, 8),
-        (FixedField::Duration, text.duration, 8),
-        (FixedField::Signals, text.count, 4),
-    ] {
-        let text = text_at(changes, Place::AtField(field), text);
-        push_padded(file, text.as_bytes(), b' ', width)?;
+    fn text(&self, place: Place) -> &str {
+        for (changed, other) in self.changes {
+            if *changed == place {
+                return other;
+            }
+        }
+        self.unchanged(place)
     }
-    Ok(())
-}
-
-/// Puts a column of the header behind the file.
-fn push_column(
-    file: &mut Vec<u8>,
-    signals: &[SignalText],
-    changes: &[(Place, &'static str)],
-    (field, width): (SignalField, usize),
-) -> Result<(), AllocError> {
-    for (number, signal) in (0..=u16::MAX).zip(signals) {
-        let place = Place::AtSignal(number, field);
-        let text = text_at(changes, place, signal_text(signal, field));
-        push_padded(file, text.as_bytes(), b' ', width)?;
-    }
-    Ok(())
-}
-
-/// Puts a header behind the file.
-fn push_header(
-    file: &mut Vec<u8>,
-    text: &FileText,
-    changes: &[(Place, &'static str)],
-) -> Result<(), AllocError> {
-    push_fixed(file, text, changes)?;
-    for column in COLUMNS {
-        push_column(file, text.signals, changes, column)?;
-    }
-    Ok(())
 }
 
 /// Puts samples behind the file, two bytes each, the low one first.
@@ -146,7 +114,11 @@ fn put_all_over(file: &mut [u8], changes: &[(usize, &'static [u8])]) {
 pub fn bytes_of(alloc: Global, file: &File) -> Result<Vec<u8>, AllocError> {
     let text = text_of(file.base);
     let mut bytes = Vec::new(alloc);
-    push_header(&mut bytes, &text, file.texts)?;
+    let texts = Changed {
+        text: &text,
+        changes: file.texts,
+    };
+    push_header(&mut bytes, &texts)?;
     push_records(&mut bytes, text.contents, text.lane_bytes)?;
     put_all_over(&mut bytes, file.bytes);
     if let Some(length) = file.length {

@@ -83,12 +83,12 @@ fn names_each_cause_in_brackets(rt: HostRuntime) -> Result<(), AllocError> {
 #[test]
 fn names_each_place(rt: HostRuntime) -> Result<(), AllocError> {
     let cause = Cause::NotPrintable;
-    for (field, name, _, _) in FIXED {
+    for (field, name, _) in FIXED {
         let place = Place::AtField(*field);
         let want = format!(in rt.alloc(); "NotPrintable at header field {name}")?;
         assert_text(&rt, rt.alloc(), Fault { place, cause }, want.as_str())?;
     }
-    for (field, name, _, _) in COLUMNS {
+    for (field, name, _) in COLUMNS {
         let place = Place::AtSignal(65_535, *field);
         let want = format!(in rt.alloc(); "NotPrintable at signal 65535 field {name}")?;
         assert_text(&rt, rt.alloc(), Fault { place, cause }, want.as_str())?;

@@ -2,39 +2,39 @@
 
 use edf_fields::{FixedField, Place, SignalField};
 use edf_header::Header;
+use edf_rows::{HeaderTexts, push_header};
 use std::alloc::{AllocError, Global};
 
-/// The fields of the fixed part: the name, how many bytes it has, and its text in the reference file.
-pub const FIXED: &[(FixedField, &str, usize, &str)] = &[
-    (FixedField::Version, "version", 8, "0"),
-    (FixedField::Patient, "patient", 80, PATIENT),
-    (FixedField::Recording, "recording", 80, RECORDING),
-    (FixedField::Startdate, "startdate", 8, "02.03.02"),
-    (FixedField::Starttime, "starttime", 8, "22.00.00"),
-    (FixedField::HeaderBytes, "header-bytes", 8, "1024"),
-    (FixedField::Reserved, "reserved", 44, "EDF+C"),
-    (FixedField::Records, "records", 8, "4"),
-    (FixedField::Duration, "duration", 8, "1"),
-    (FixedField::Signals, "signals", 4, "3"),
+/// The fields of the fixed part: the name, and its text in the reference file.
+pub const FIXED: &[(FixedField, &str, &str)] = &[
+    (FixedField::Version, "version", "0"),
+    (FixedField::Patient, "patient", PATIENT),
+    (FixedField::Recording, "recording", RECORDING),
+    (FixedField::Startdate, "startdate", "02.03.02"),
+    (FixedField::Starttime, "starttime", "22.00.00"),
+    (FixedField::HeaderBytes, "header-bytes", "1024"),
+    (FixedField::Reserved, "reserved", "EDF+C"),
+    (FixedField::Records, "records", "4"),
+    (FixedField::Duration, "duration", "1"),
+    (FixedField::Signals, "signals", "3"),
 ];
 
 const PATIENT: &str = "MCH-0234567 F 02-MAY-1951 Haagse_Harry";
 
 const RECORDING: &str = "Startdate 02-MAR-2002 PSG-1234/2002 NN Telemetry03";
 
-/// The columns: the name, how many bytes of a signal it has, and the texts of the reference file's three
-/// signals.
-pub const COLUMNS: &[(SignalField, &str, usize, FieldTexts)] = &[
-    (SignalField::Label, "label", 16, LABELS),
-    (SignalField::Transducer, "transducer", 80, TRANSDUCERS),
-    (SignalField::Dimension, "dimension", 8, ["uV", "mV", ""]),
-    (SignalField::PhysicalMinimum, "physical-minimum", 8, LOWEST),
-    (SignalField::PhysicalMaximum, "physical-maximum", 8, HIGHEST),
-    (SignalField::DigitalMinimum, "digital-minimum", 8, LEAST),
-    (SignalField::DigitalMaximum, "digital-maximum", 8, MOST),
-    (SignalField::Prefilter, "prefilter", 80, PREFILTERS),
-    (SignalField::Samples, "samples", 8, ["4", "2", "20"]),
-    (SignalField::Reserved, "reserved", 32, ["", "", ""]),
+/// The columns: the name, and the texts of the reference file's three signals.
+pub const COLUMNS: &[(SignalField, &str, FieldTexts)] = &[
+    (SignalField::Label, "label", LABELS),
+    (SignalField::Transducer, "transducer", TRANSDUCERS),
+    (SignalField::Dimension, "dimension", ["uV", "mV", ""]),
+    (SignalField::PhysicalMinimum, "physical-minimum", LOWEST),
+    (SignalField::PhysicalMaximum, "physical-maximum", HIGHEST),
+    (SignalField::DigitalMinimum, "digital-minimum", LEAST),
+    (SignalField::DigitalMaximum, "digital-maximum", MOST),
+    (SignalField::Prefilter, "prefilter", PREFILTERS),
+    (SignalField::Samples, "samples", ["4", "2", "20"]),
+    (SignalField::Reserved, "reserved", ["", "", ""]),
 ];
 
 type FieldTexts = [&'static str; 3];
@@ -53,26 +53,32 @@ const MOST: FieldTexts = ["2047", "2047", "32767"];
 
 const PREFILTERS: FieldTexts = ["HP:0.1Hz LP:75Hz", "HP:0.1Hz LP:75Hz", ""];
 
-/// Where a field begins in a header of so many signals, and how many bytes it has.
+/// How many bytes of a signal stand in the columns in front of this one.
+fn bytes_before(field: SignalField) -> usize {
+    let mut count = 0usize;
+    for before in edf_rows::COLUMNS {
+        if before == field {
+            return count;
+        }
+        count = count.saturating_add(before.width());
+    }
+    count
+}
+
+/// Where a field begins in a header of so many signals, and how many bytes it has; none of a field that isn't there.
 fn extent(place: Place, signals: usize) -> (usize, usize) {
-    let mut from = 0usize;
-    for (field, _, width, _) in FIXED {
-        if place == Place::AtField(*field) {
-            return (from, *width);
+    match place {
+        Place::AtField(field) => field.extent(),
+        Place::AtSignal(signal, field) if usize::from(signal) < signals => {
+            let columns = bytes_before(field).saturating_mul(signals);
+            let within = field.width().saturating_mul(usize::from(signal));
+            (
+                columns.saturating_add(within).saturating_add(256),
+                field.width(),
+            )
         }
-        from = from.saturating_add(*width);
+        _ => (0, 0),
     }
-    for (field, _, width, _) in COLUMNS {
-        let count = match place {
-            Place::AtSignal(signal, wanted) if wanted == *field => usize::from(signal),
-            _ => signals,
-        };
-        from = from.saturating_add(width.saturating_mul(count));
-        if count < signals {
-            return (from, *width);
-        }
-    }
-    (from, 0)
 }
 
 /// What an assertion over files answers: its own error is want of memory.
@@ -91,19 +97,53 @@ pub fn put(file: &mut [u8], place: Place, text: &str) {
     }
 }
 
-/// The fixed part of the reference file, and behind it these of its signals, by their numbers.
-pub fn header_of(alloc: Global, signals: &[usize]) -> Result<Vec<u8>, AllocError> {
-    let size = signals.len().saturating_add(1).saturating_mul(256);
-    let mut file = vec![in alloc; b' '; size]?;
-    for (field, _, _, text) in FIXED {
-        put(&mut file, Place::AtField(*field), text);
-    }
-    for (field, _, _, texts) in COLUMNS {
-        for (place, signal) in (0..=u16::MAX).zip(signals) {
-            let text = texts.get(*signal).copied().unwrap_or("");
-            put(&mut file, Place::AtSignal(place, *field), text);
+/// The header of a file with the fixed part of the reference file, and these of its signals, by their numbers.
+#[derive(Clone, Copy)]
+struct Reference<'a> {
+    signals: &'a [usize],
+}
+
+/// The text of a field of the fixed part of the reference file.
+fn fixed_text(field: FixedField) -> &'static str {
+    for (fixed, _, text) in FIXED {
+        if *fixed == field {
+            return text;
         }
     }
+    ""
+}
+
+/// The text of a signal's field in the reference file.
+fn signal_text(field: SignalField, signal: usize) -> &'static str {
+    for (column, _, texts) in COLUMNS {
+        if *column == field {
+            return texts.get(signal).copied().unwrap_or("");
+        }
+    }
+    ""
+}
+
+impl HeaderTexts for Reference<'_> {
+    fn signals(&self) -> u16 {
+        u16::try_from(self.signals.len()).unwrap_or(u16::MAX)
+    }
+
+    fn text(&self, place: Place) -> &str {
+        match place {
+            Place::AtField(field) => fixed_text(field),
+            Place::AtSignal(signal, field) => match self.signals.get(usize::from(signal)) {
+                Some(number) => signal_text(field, *number),
+                None => "",
+            },
+            Place::AtRecord(_) | Place::AtEnd => "",
+        }
+    }
+}
+
+/// The fixed part of the reference file, and behind it these of its signals, by their numbers.
+pub fn header_of(alloc: Global, signals: &[usize]) -> Result<Vec<u8>, AllocError> {
+    let mut file = Vec::new(alloc);
+    push_header(&mut file, &Reference { signals })?;
     Ok(file)
 }
 

@@ -3,6 +3,7 @@
 use crate::file::{Edit, edited, header_of, put};
 use edf_fields::Place::{AtField, AtSignal};
 use edf_fields::{FixedField as Fixed, SignalField as Field};
+use edf_rows::push_padded;
 use std::alloc::{AllocError, Global};
 
 /// What stands in the annotation lane of each data record of the reference file.
@@ -55,12 +56,9 @@ fn push_sample(file: &mut Vec<u8>, value: u16) -> Result<(), AllocError> {
     Ok(())
 }
 
-/// Puts a lane behind the file, filled with zeros to so many bytes.
+/// Puts a lane behind the file, filled with zeros to so many bytes, or cut to them.
 pub fn push_lane(file: &mut Vec<u8>, lane: &[u8], size: usize) -> Result<(), AllocError> {
-    for byte in 0..size {
-        file.push(lane.get(byte).copied().unwrap_or(0))?;
-    }
-    Ok(())
+    push_padded(file, lane.get(..size).unwrap_or(lane), 0, size)
 }
 
 /// The reference file with other texts in some of its fields, and these lanes: data record `k` has the

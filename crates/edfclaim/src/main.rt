@@ -13,11 +13,10 @@ mod hints;
 mod perform;
 mod signs;
 
-ghost use Rattle.edf_job.specs.Jobs.{HasExports};
+ghost use Rattle.edf_command_line.specs.Jobs.{HasExports};
 
 use clap::error::ErrorKind;
-use edf_command_line::job;
-use edf_job::Job;
+use edf_command_line::{Job, job};
 use edf_refusal::{Refusal, status};
 use std::io::IsTerminal;
 use std::process::ExitCode;

@@ -1,7 +1,7 @@
 //! The commands, on files and standard output.
 
 ghost use Rattle.std.specs.Prelude.{◌≡◌, ◌<◌, length, Err, IfErr};
-ghost use Rattle.edf_job.specs.Jobs.{HasExports};
+ghost use Rattle.edf_command_line.specs.Jobs.{HasExports};
 ghost use Rattle.edf_refusal.specs.declared.refusals.Refusal.TheVariants as refusals;
 ghost use Rattle.edfclaim.specs.Opening.{CheckIsRefused, DraftIsRefused, PartsAreRefused, ReportIsRefused};
 
@@ -9,11 +9,10 @@ use crate::files::{claim_text, digested_recordings, recording, recordings, watch
 use crate::files_again::FilesAgain;
 use crate::signs::{Signs, Wiped};
 use edf_check::{run, run_parts};
-use edf_command_line::VERSION;
+use edf_command_line::{Job, VERSION};
 use edf_draft::draft_to;
 use edf_explain::run_explained;
 use edf_fields::{Sink, WriteSink};
-use edf_job::Job;
 use edf_receipt::{DigestSource, receipt_parts_to, receipt_to};
 use edf_refusal::{Refusal, Role};
 use edf_report::{conform_to, notes_to, show_to};
