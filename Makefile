@@ -3,7 +3,7 @@
 
 PREFIX = /usr/local
 PROGRAM = crates/edfclaim/out/edfclaim
-PAGES = START.md CLAIM.md READING-THE-ANSWER.md PROFILE.md MANY-NIGHTS.md SCRIPTS.md LOOK.md
+PAGES = START.md CLAIM.md READING-THE-ANSWER.md PROFILE.md SCRIPTS.md
 
 # Shows a Yes and a No of the example night, without proofs where no proved program stands there: a minute or so.
 run:

@@ -1,5 +1,5 @@
 #!/usr/bin/env python3
-"""Writes the table of wrong bodies into docs/TESTED.md: what each must-fail edit turns, by crate.
+"""Writes the table of wrong bodies into docs/AUDIT.md: what each must-fail edit turns, by crate.
 
 usage: tools/wrong_bodies.py            writes the table between its two marks
        tools/wrong_bodies.py --check    says whether it is the one that stands there, and writes nothing
@@ -13,7 +13,7 @@ import sys
 
 sys.dont_write_bytecode = True
 TOP = pathlib.Path(__file__).resolve().parent.parent
-PAGE = TOP / "docs" / "TESTED.md"
+PAGE = TOP / "docs" / "AUDIT.md"
 MARKS = ("<!-- the table of wrong bodies, by tools/wrong_bodies.py -->\n", "<!-- the end of the table -->\n")
 WORD = "# promise: "
 
@@ -59,10 +59,10 @@ def main():
     front, begin, rest = page.partition(MARKS[0])
     _, end, behind = rest.partition(MARKS[1])
     if not begin or not end:
-        faults.append("docs/TESTED.md: the marks of the table aren't there")
+        faults.append("docs/AUDIT.md: the marks of the table aren't there")
     elif sys.argv[1:] == ["--check"]:
         if page != front + begin + table + "\n" + end + behind:
-            faults.append("docs/TESTED.md: its table isn't that of the edits: run tools/wrong_bodies.py")
+            faults.append("docs/AUDIT.md: its table isn't that of the edits: run tools/wrong_bodies.py")
     else:
         PAGE.write_text(front + begin + table + "\n" + end + behind, encoding="utf-8")
     for fault in faults:
