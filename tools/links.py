@@ -1,12 +1,13 @@
 #!/usr/bin/env python3
-"""Looks whether the links of pages lead to files that are there.
+"""Looks whether the links of pages lead to files that are there, and to headings of these.
 
 usage: tools/links.py                            the pages of the sources, which git knows
        tools/links.py ROOT                       all pages below a folder, whose links mustn't lead out of it
        tools/links.py --pack PAGES NAME=FILE..   mends the links of packed pages
 
 A page is a file whose name ends in .md, and a link is one of Markdown, or an attribute href or src. Links to the
-network and into the same page aren't looked at, nor what stands in a block of code or between backquotes.
+network aren't looked at, nor what stands in a block of code or between backquotes. What stands behind a `#` has to be a
+heading of the page, as Markdown is shown on the usual sites: in small letters, spaces as `-`, without other signs.
 
 With --pack a link to a file of the sources that isn't packed becomes its words, with `(in the sources)` behind them;
 a link to NAME leads to FILE, where that is packed elsewhere. The last line of a look is 'N passed, M failed', of
@@ -23,7 +24,8 @@ import urllib.parse
 TOP = pathlib.Path(__file__).resolve().parent.parent
 LINK = re.compile(r"(?P<image>!?)\[(?P<words>(?:[^\[\]]|\[[^\[\]]*\])*)\]\((?P<target>[^()\s]+)(?P<title>\s+\"[^\"]*\")?\)|(?:href|src)=\"(?P<attribute>[^\"]+)\"")
 CODE = re.compile(r"^(?P<fence>```+|~~~+).*?^(?P=fence)[ \t]*$|(?P<ticks>`+)(?!`)[^\n]+?(?<!`)(?P=ticks)(?!`)", re.M | re.S)
-FAR = re.compile(r"[a-z][a-z0-9+.-]*:|//|#")
+FAR = re.compile(r"[a-z][a-z0-9+.-]*:|//")
+HEADING = re.compile(r"^#{1,6} +(.*?) *$", re.M)
 
 
 def links_of(text):
@@ -35,7 +37,35 @@ def links_of(text):
 
 def file_of(page, target):
     """The file that a link of a page leads to."""
+    if target.startswith("#"):
+        return page
     return pathlib.Path(os.path.normpath(page.parent / urllib.parse.unquote(target.partition("#")[0])))
+
+
+def hidden_code(text):
+    """A text without its blocks of code, line by line as long as it was."""
+    return re.sub(r"^(```+|~~~+).*?^\1[ \t]*$", lambda code: re.sub(r"[^\n]", "~", code[0]), text, flags=re.M | re.S)
+
+
+def headings(page):
+    """What leads to the headings of a page; of several of one text the later ones have a number."""
+    found = {}
+    for heading in HEADING.findall(hidden_code(page.read_text(encoding="utf-8"))):
+        words = re.sub(r"\[([^\]]*)\]\([^)]*\)", r"\1", heading).lower()
+        slug = re.sub(r"[^\w\- ]", "", words).replace(" ", "-")
+        found[slug] = found.get(slug, -1) + 1
+    return {slug + (f"-{number}" if number else "") for slug, most in found.items() for number in range(most + 1)}
+
+
+def fault(root, page, target):
+    """Why a link of a page leads nowhere, or none."""
+    file = file_of(page, target)
+    if not (file.is_relative_to(root) and file.exists()):
+        return "no file"
+    heading = urllib.parse.unquote(target.partition("#")[2])
+    if heading and file.suffix == ".md" and heading not in headings(file):
+        return "no heading"
+    return None
 
 
 def look(root, pages):
@@ -45,12 +75,12 @@ def look(root, pages):
         text = page.read_text(encoding="utf-8")
         for link in links_of(text):
             target = link["target"] or link["attribute"]
-            file = file_of(page, target)
-            if file.is_relative_to(root) and file.exists():
+            why = fault(root, page, target)
+            if why is None:
                 passed += 1
             else:
                 failed += 1
-                print(f"{page.relative_to(root)}:{text.count(chr(10), 0, link.start()) + 1}: no file: {target}")
+                print(f"{page.relative_to(root)}:{text.count(chr(10), 0, link.start()) + 1}: {why}: {target}")
     print(f"{passed} passed, {failed} failed")
     return failed == 0
 
