@@ -11,6 +11,8 @@ import subprocess
 import tables_written
 from tables_written import lines, plain_rows, rows
 
+# A case of the definition of commands: the command's name, and its words.
+SAYS_JOB = r'^SaysJob words .*=\s*\(?words ≡ codes "([^"]*)" ∷ (.*?)\[?\]?\)?(?: ×.*)?$'
 CRATES = pathlib.Path(__file__).resolve().parent.parent.parent / "crates"
 
 
@@ -78,7 +80,8 @@ def of_lines():
         wanted = texts.get(no["number"])
         begin = (wanted or "?").split(" header")[0].strip().removesuffix(' "')
         said = [no["words"]] + [row["line"].split(" ", 2)[2] for row in no.get("exact", [])]
-        found += [f"lines.toml, number {no['number']}: {text!r} isn't {begin!r}" for text in said if not text.startswith(begin)]
+        other = [text for text in said if not text.startswith(begin)]
+        found += [f"lines.toml, number {no['number']}: {text!r} isn't {begin!r}" for text in other]
     return found
 
 
@@ -117,16 +120,16 @@ def of_keys():
 
 def of_commands():
     """The commands with their words, and what the help says of each."""
-    path, found = next(CRATES.glob("*/specs/Jobs.antt")), []
     said = {row["name"]: row for row in rows("commands")}
-    jobs = re.findall(r'^SaysJob words .*=\s*\(?words ≡ codes "([^"]*)" ∷ (.*?)\[?\]?\)?(?: ×.*)?$', path.read_text(encoding="utf-8"), re.M)
-    found += differing("commands.tsv", sorted(said), sorted(name for name, _ in jobs))
+    jobs = re.findall(SAYS_JOB, source("edf_command_line/specs/Jobs.antt"), re.MULTILINE)
+    found = differing("commands.tsv", sorted(said), sorted(name for name, _ in jobs))
+    spelled = {"PATH": "FILE", "EXPORTS": "EXPORT..."}
     for name, rest in jobs:
-        words = [word.upper().replace("EXPORTS", "EXPORT...") for word in re.findall(r"([a-z]+)\.now", rest.replace("w.now", ""))]
-        words = ["FILE" if word == "PATH" else word for word in words]
+        words = [word.upper() for word in re.findall(r"([a-z]+)\.now", rest.replace("w.now", ""))]
+        words = [spelled.get(word, word) for word in words]
         if name in said and said[name]["words"].split() != words:
             found.append(f"commands.tsv, {name}: the definition has {' '.join(words)}")
-    abouts = re.findall(r'name: "([^"]*)",\s*about: "([^"]*)"', next(CRATES.glob("*/src/command.rt")).read_text(encoding="utf-8"))
+    abouts = re.findall(r'name: "([^"]*)",\s*about: "([^"]*)"', source("edf_command_line/src/command.rt"))
     return found + [f"commands.tsv, {name}: the help says {about!r}" for name, about in abouts
                     if name in said and said[name]["about"] != about]
 
@@ -141,6 +144,14 @@ def of_limits():
         if f"{number:,}" != row["most"]:
             found.append(f"limits.tsv, {row['name']}: {row['most']} isn't {number:,}")
     return found
+
+
+def of_no_draft():
+    """The limits that the comment says by which no claim can be drafted."""
+    text = re.search(r'^none_text = codes "(.*)"$', source("edf_draft/specs/Answers.antt"), re.MULTILINE)[1]
+    most = {row["name"]: row["most"] for row in plain_rows("limits")}
+    wanted = [most[name] for name in ("claim-intervals", "claim-bytes", "second-digits", "shift-seconds")]
+    return differing("the comment of a draft", re.findall(r"\d[\d,]*", text), wanted)
 
 
 def helped(program, *words):
@@ -174,7 +185,7 @@ def comparisons(program):
     """Each comparison: what it is about, and what differs."""
     told = {
         "causes": of_causes, "lines": of_lines, "parts": of_parts, "refusals": of_refusals, "subfields": of_subfields,
-        "keys": of_keys, "commands": of_commands, "limits": of_limits,
+        "keys": of_keys, "commands": of_commands, "limits": of_limits, "no draft": of_no_draft,
     }
     found = [(name, compare()) for name, compare in told.items()]
     return found + ([("help", of_help(program)), ("options", of_options(program))] if program else [])

@@ -11,7 +11,10 @@ NARROW = 120
 WHOLE = ""
 # A call of the module for Python that is no command.
 PARSED = [
-    {"call": "`parse(line)`, `parse(line, CHECK_PARTS)`, `parse(line, CONFORM)`", "gives": "the `Verdict` in a line that was kept"}
+    {
+        "call": "`parse(line)`, `parse(line, CHECK_PARTS)`, `parse(line, CONFORM)`",
+        "gives": "the `Verdict` in a line that was kept",
+    }
 ]
 
 
@@ -51,8 +54,8 @@ def lines():
 
 def markdown(heads, body):
     """The lines of a table of Markdown."""
-    rule = "|" + "---|" * len(heads)
-    return [f"| {' | '.join(heads)} |", rule] + ["|" + "".join(f" {cell} |" if cell else " |" for cell in row) for row in body]
+    lines_of_rows = ["|" + "".join(f" {cell} |" if cell else " |" for cell in row) for row in body]
+    return [f"| {' | '.join(heads)} |", "|" + "---|" * len(heads), *lines_of_rows]
 
 
 def columns(table, **heads):
@@ -82,11 +85,13 @@ def reading():
         for group in ("end", "header", "signal", "record")
     }
     of_checks = sorted(said["no"], key=lambda no: no["number"])
+    of_parts = [row for no in said["no"] for row in no.get("parts", [])]
+    drafted = [row for row in as_code("keys", "key") if row["drafted"]]
     return groups | {
         "statuses": columns(rows("statuses"), status="status", says="what it says", where="where the line is printed"),
         "lines-yes": columns(said["yes"]["check"], **FOR_CENTRES),
         "lines-no": columns([row for no in of_checks for row in no.get("check", [])], **FOR_CENTRES),
-        "lines-parts": columns(said["yes"]["parts"] + [row for no in said["no"] for row in no.get("parts", [])], **FOR_CENTRES),
+        "lines-parts": columns(said["yes"]["parts"] + of_parts, **FOR_CENTRES),
         "lines-receipt": columns(said["receipt"], line="line", means="what it means", compares="who can compare it"),
         "lines-draft": columns(
             said["draft"], line="line", means="what it means", status="status", does="what the centre does"
@@ -96,7 +101,7 @@ def reading():
         "lines-notes": columns(said["notes"], line="line", means="what it means"),
         "subfields": columns(as_code("subfields", "name"), name="NAME", holds="what it is"),
         "fields": columns(rows("fields"), names="NAME", holds="what the field holds"),
-        "keys-drafted": columns([row for row in as_code("keys", "key") if row["drafted"]], key="key", drafted="what is drafted"),
+        "keys-drafted": columns(drafted, key="key", drafted="what is drafted"),
         "refusals": columns(
             rows("refusals"), line="line", means="what it means", does="what to do", seen="to see it, in the night"
         ),
