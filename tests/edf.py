@@ -53,6 +53,11 @@ def extent(place, signals):
     raise ValueError(f"no such field: {place}")
 
 
+def header_size(signals):
+    """How many bytes the header of so many signals has."""
+    return 256 * (signals + 1)
+
+
 def filled(text, width):
     """The bytes of a field: the text with spaces behind it, or as much of it as there is room for."""
     data = text if isinstance(text, bytes) else text.encode("latin1")
@@ -68,7 +73,7 @@ def put(file, signals, place, text):
 def header(fixed, signals):
     """A header, from the texts of the fixed part and those of each signal, by the names of their fields. How long it is
     and how many signals it has stands in it where nothing else is said."""
-    said = {"version": "0", "header-bytes": str(256 * (len(signals) + 1)), "signals": str(len(signals)), **fixed}
+    said = {"version": "0", "header-bytes": str(header_size(len(signals))), "signals": str(len(signals)), **fixed}
     parts = [filled(said[name], width) for name, width in FIXED]
     parts += [filled(each[name], width) for name, width in COLUMNS for each in signals]
     return b"".join(parts)

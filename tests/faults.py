@@ -12,8 +12,10 @@ import sys
 from tests import edf, night
 
 SIGNALS = 4
+HEADER = edf.header_size(SIGNALS)
 LANE = 96
-RECORD = 2 * 5 * (100 + 50 + 1) + LANE
+SAMPLES = 2 * 5 * (100 + 50 + 1)
+RECORD = SAMPLES + LANE
 
 
 def put(file, at, part):
@@ -49,14 +51,14 @@ def both(*changes):
 
 def lane(number, text):
     """The file with another annotation lane in a data record: text, then zeros."""
-    at = 256 * (SIGNALS + 1) + (number + 1) * RECORD - LANE
-    return lambda file: put(file, at, text.encode("latin1").ljust(LANE, b"\0"))
+    at = HEADER + (number + 1) * RECORD - LANE
+    return lambda file: put(file, at, edf.lane(LANE, text.encode("latin1")))
 
 
 def many_annotations(file):
     """One data record with 1,000,001 annotations, all empty."""
     file = both(fixed("records", "1"), field(3, "samples", "500003"))(file)
-    return file[:-18 * RECORD] + bytes(RECORD - LANE) + b"+0" + b"\x14" * 1_000_003 + b"\0"
+    return file[:-18 * RECORD] + bytes(SAMPLES) + b"+0" + b"\x14" * 1_000_003 + b"\0"
 
 
 def shortened(count):

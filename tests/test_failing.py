@@ -18,7 +18,7 @@ import shutil
 import typing
 import unittest
 
-from tests import faults, night
+from tests import edf, faults, night
 from tests.harness import NIGHT, TOP, ProgramCase, each, run
 
 COMPILER = shlex.split(os.environ.get("CC") or "cc")
@@ -107,10 +107,10 @@ class Failing(ProgramCase):
         claim = (NIGHT / "cut.toml").read_text(encoding="utf-8")
         cls.file("unmoved.toml", re.sub("^shift = .*", "shift = 0", claim, flags=re.M))
         change = faults.both(faults.fixed("records", "1"), faults.field(3, "samples", "1500"))
-        front = change(night.files()["cut.edf"])[:1280] + bytes(faults.RECORD - faults.LANE)
+        front = change(night.files()["cut.edf"])[:faults.HEADER] + bytes(faults.SAMPLES)
         for name, count in (("bad", 40), ("bare", 0)):
             texts = b"".join(b"+0\x14" + b"a" * 60 + b"\x14\0" for _ in range(count))
-            cls.file(f"{name}.edf", front + (b"+0\x14\x14\0" + texts + b"+").ljust(3000, b"\0"))
+            cls.file(f"{name}.edf", front + edf.lane(3000, b"+0\x14\x14\0" + texts + b"+"))
         cls.texts, cls.counts, cls.stops = {}, {}, {}
 
     def words_of(self, command):

@@ -279,17 +279,17 @@ def many_annotations():
     """An export with 3,000,000 annotations in one data record."""
     change = faults.both(faults.fixed("records", "1"), faults.field(3, "samples", "7500000"))
     file = change(night.files()["cut.edf"])
-    return file[:1280] + bytes(faults.RECORD - faults.LANE) + b"+0\x14\x14\0" * 3_000_000
+    return file[:faults.HEADER] + bytes(faults.SAMPLES) + b"+0\x14\x14\0" * 3_000_000
 
 
 def twice_as_many_as_fit():
     """An export with the samples of the original, with 1,000,000 annotations in its first data record, and as many in its
     second one: these aren't kept."""
     change = faults.both(faults.fixed("records", "2"), faults.field(3, "samples", "2500003"))
-    whole, size = night.files()["cut.edf"], faults.RECORD - faults.LANE
+    whole, begin = night.files()["cut.edf"], faults.HEADER
     lanes = [edf.tal(f"+{at}", "") + b"+0\x14\x14\0" * 1_000_000 + b"\0" for at in (0, 5)]
-    records = [whole[at:at + size] + lane for at, lane in zip((1280, 1280 + faults.RECORD), lanes)]
-    return change(whole)[:1280] + b"".join(records)
+    records = [whole[at:at + faults.SAMPLES] + lane for at, lane in zip((begin, begin + faults.RECORD), lanes)]
+    return change(whole)[:begin] + b"".join(records)
 
 
 def temperatures(seconds, notes, lane):
@@ -311,7 +311,9 @@ class Memory(ProgramCase):
         small = temperatures(3400, notes, 1200)
         cls.bare = cls.file("bare.edf", temperatures(3400, [], 64))
         cls.small = cls.file("small.edf", small)
-        cls.bad = cls.file("bad.edf", faults.put(small, 768 + 583 * 1202 - 1, b"+"))
+        # a data record has a sample of two bytes, and its lane
+        end = edf.header_size(2) + 583 * (2 + 1200)
+        cls.bad = cls.file("bad.edf", faults.put(small, end - 1, b"+"))
         cls.claim = cls.file("small.toml", 'format = 1\nchannels = ["Temp rectal"]\n[[keep]]\nfrom = "0"\nto = "3400"\n')
 
     def run_in(self, memory, *words):

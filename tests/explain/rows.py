@@ -5,6 +5,7 @@ and words that don't. Beside each row in which a sentence is printed stands one 
 All words follow from how the files are made.
 """
 
+from tests import edf
 from tests.cases.small_night import BOTH, NIGHT, VALUES_0, VALUES_1
 from tests.edf import field, lane, signal, values
 from tests.recordings import bytes_of, claim_of, recording
@@ -146,7 +147,8 @@ def of_names():
                                  ("Ward7", [], ["has something spelled like"])):
         original, _ = named("Lights off", f"SLZ-004711 F 17-OCT-1951 Haagse_Johanna {extra}")
         _, export = named("Lights off")
-        export = export[:8] + f"X F X X {extra}".encode().ljust(80) + export[88:]
+        export = bytearray(export)
+        edf.put(export, 3, field("patient"), f"X F X X {extra}")
         yield f"the subfield {extra} that isn't hidden", 0, original, export, claim, there, absent
     for which, recorded, hidden, text, found in (
             ("date", RECORDED, "Startdate X PSG-0310/2019 KV Recorder7", "02.03.2002", "the day of the recording"),

@@ -188,7 +188,7 @@ def fixed_fields(count):
         "recording": b"Startdate " + date + b" PSG-1234/2002 NN Telemetry03",
         "startdate": startdate,
         "starttime": b"%02d.%02d.%02d" % (choose.randint(0, 23), choose.randint(0, 59), choose.randint(0, 59)),
-        "header-bytes": b"%d" % (256 * (count + 1)),
+        "header-bytes": b"%d" % edf.header_size(count),
         "reserved": one_of(b"EDF+C", b"EDF+D", b"EDF+C abc ", b"EDF+Dx"),
         "records": one_of(b"1", b"4", b"+7", b"99999999"),
         "duration": one_of(b"1", b"30", b"0.5", b".0000001", b"99999999", b"1."),
@@ -255,7 +255,7 @@ def sound_header():
             found = signals(file, said["signals"])
         except Refused:
             continue
-        return bytearray(file[:256 * (len(found) + 1)]), said, found
+        return bytearray(file[:edf.header_size(len(found))]), said, found
 
 
 def spelled(start):
