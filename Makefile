@@ -7,16 +7,16 @@ PAGES = START.md CLAIM.md READING-THE-ANSWER.md PROFILE.md SCRIPTS.md
 
 # Shows a Yes and a No of the example night, without proofs where no proved program stands there: a minute or so.
 run:
-	@tools/first.sh
+	@tools/gate/first.sh
 
 # Proves the crates, and leaves the program at crates/edfclaim/out/edfclaim.
 build:
-	@tools/prove.py build
+	@tools/gate/prove.py build
 
 # Installs the program with its manual pages, the users' pages, the licences, and what helps those who script. Where it
 # stands there, and is that of the sources as they are, it is installed as it stands.
 install:
-	@tools/prove.py current || tools/prove.py build
+	@tools/gate/prove.py current || tools/gate/prove.py build
 	install -d "$(DESTDIR)$(PREFIX)/bin" "$(DESTDIR)$(PREFIX)/share/man/man1" "$(DESTDIR)$(PREFIX)/share/doc/edfclaim"
 	install -m 755 $(PROGRAM) "$(DESTDIR)$(PREFIX)/bin/edfclaim"
 	for name in edfclaim edfclaim-look; do install -m 644 "docs/$$name.1" "$(DESTDIR)$(PREFIX)/share/man/man1/$$name.1" || exit 1; done
@@ -29,32 +29,32 @@ install:
 
 # Packs the program, in the folder out: as a Debian package, and as a tarball with its digest.
 deb dist:
-	@tools/prove.py current || tools/prove.py build
-	@tools/package.sh $@ $(PROGRAM) out
+	@tools/gate/prove.py current || tools/gate/prove.py build
+	@tools/release/package.sh $@ $(PROGRAM) out
 
 # All proofs and no more, over what earlier runs kept: for the daily loop.
 check:
-	@tools/prove.py check
+	@tools/gate/prove.py check
 
 # The whole gate: all proofs, tests, must-fail edits and runs; then the scripts over the built program. What it
 # passed earlier on this machine isn't proved again as long as nothing changes that it stands on.
 test:
-	@tools/gate.sh
+	@tools/gate/gate.sh
 
 # What a Yes means, for an auditor: the contract of the check and each definition that it stands on, in order of
 # need, as out/headline.txt and as a page, out/headline.html.
 headline:
-	@tools/headline.py
+	@tools/gate/headline.py
 
 # The readers and the check against a second reading of the rules, on random cases; no part of the gate.
 oracle:
-	@tools/oracle.sh
+	@tests/oracle/oracle.sh
 
 # How fast lanes of annotations and whole files are read; no part of the gate.
 speed:
-	@tools/speed.sh
+	@tools/speed/speed.sh
 
 # How fast the built program is on nights of 8 and of 80 hours, and on nights that are large in one respect; no
 # part of the gate.
 bench: build
-	@tools/bench.sh $(PROGRAM)
+	@tools/speed/bench.sh $(PROGRAM)

@@ -185,13 +185,13 @@ def manual():
 # ---- in the completions and in the module for Python
 
 
-def completions():
-    """The commands with their words, in extras/edfclaim.bash-completion."""
-    names = " ".join(row["name"] for row in rows("commands"))
-    words = [f"    {row['name']}) echo \"{row['words']}\" ;;" for row in rows("commands")]
-    heads = ["# The words that a command takes, or nothing where there is no such command.", "_edfclaim_words() {", "    case $1 in"]
-    ends = ["    help) echo COMMAND ;;", "    esac", "}"]
-    return {"commands": [f"_edfclaim_commands='{names} help'", ""] + heads + words + ends}
+def completions(commands):
+    """Commands with their words, in extras/edfclaim.bash-completion."""
+    names = " ".join(row["name"] for row in commands)
+    words = [f"    {row['name']}) echo \"{row['words']}\" ;;" for row in commands]
+    about = "# The words that a command takes, or nothing where there is no such command."
+    heads = [f"_edfclaim_commands='{names} help'", "", about, "_edfclaim_words() {", "    case $1 in"]
+    return {"commands": heads + words + ["    help) echo COMMAND ;;", "    esac", "}"]}
 
 
 def causes():
@@ -247,7 +247,8 @@ def row_lines():
 def row_definition():
     """The worked rows, in the definition of what is written of them."""
     ends = ["    "] + ["    ∷ "] * (len(rows("rows")) - 1)
-    body = [f"{end}{row['of']} {row['row']} (codes {quoted(row['line'])[:-1]}\\n\")" for end, row in zip(ends, rows("rows"))]
+    lines_of_rows = [f"{row['of']} {row['row']} (codes {quoted(row['line'])[:-1]}\\n\")" for row in rows("rows")]
+    body = [end + line for end, line in zip(ends, lines_of_rows)]
     return ["unfoldable pub worked_rows : List WorkedRow", "worked_rows =", *body, "    ∷ []", ""]
 
 
@@ -259,11 +260,11 @@ def row_text():
 
 def worked():
     """The worked rows, in the page that says of which files they are."""
-    one = [row for row in rows("rows") if row["of"] == "one"]
-    several = [row for row in rows("rows") if row["of"] == "several"]
+    one = [row for row in as_code("rows", "line") if row["of"] == "one"]
+    several = [row for row in as_code("rows", "line") if row["of"] == "several"]
     heads = {"row": "row", "original": "original", "exports": "export", "claim": "the claim", "line": "line"}
-    as_lines = [[row | {"line": f"`{row['line']}`"} for row in table] for table in (one, several)]
-    return {"rows-one": columns(as_lines[0], **heads), "rows-several": columns(as_lines[1], row="row", exports="exports", line="line")}
+    together = {"row": "row", "exports": "exports", "line": "line"}
+    return {"rows-one": columns(one, **heads), "rows-several": columns(several, **together)}
 
 
 def pages():
@@ -274,7 +275,7 @@ def pages():
         "docs/PROFILE.md": profile() | worked(),
         "docs/SCRIPTS.md": scripts(),
         "docs/edfclaim.1": manual(),
-        "extras/edfclaim.bash-completion": completions(),
+        "extras/edfclaim.bash-completion": completions(rows("commands")),
         "extras/edfclaim.py": module(),
         "crates/edf_rows/src/lines.rt": {WHOLE: row_lines()},
         "crates/edf_rows/specs/Rows.antt": {"rows": row_definition()},

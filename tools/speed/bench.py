@@ -22,7 +22,10 @@ import statistics
 import sys
 import time
 
-from night import Night, remarks, short, stages, write
+sys.dont_write_bytecode = True
+sys.path.insert(0, str(pathlib.Path(__file__).resolve().parent.parent.parent))
+
+from tests.long_nights import Night, remarks, short, stages, write  # noqa: E402
 
 RUNS = 5
 # of a table of receipts, as a digest takes long

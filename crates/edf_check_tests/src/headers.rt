@@ -1,4 +1,4 @@
-//! The headers of an original and an export, and what `head_difference` answers; `tools/cases` has many more.
+//! The headers of an original and an export, and what `head_difference` answers; `tests/cases` has many more.
 
 use edf_claim::Claim;
 use edf_fields::Place::{AtField, AtSignal};

@@ -1,5 +1,5 @@
 //! The line of each kind of verdict, and of texts with odd characters. A verdict that names a sample or an
-//! annotation is that of files which differ so; `tools/cases` has many more.
+//! annotation is that of files which differ so; `tests/cases` has many more.
 
 use crate::headers::claim;
 use edf_check::check;

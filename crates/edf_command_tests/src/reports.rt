@@ -1,5 +1,5 @@
 //! The reports on one file: their texts, and what stands in a sink that is soon full, or where a read fails;
-//! `tools/cases` has more of their texts.
+//! `tests/cases` has more of their texts.
 
 use edf_fields::Place::{AtField, AtSignal};
 use edf_fields::{

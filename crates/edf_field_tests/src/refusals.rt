@@ -3,7 +3,7 @@
 use edf_claim::{Claim, ClaimStop};
 use std::test::Fail;
 
-/// Texts, and why they are refused, or none; `tools/cases/claims.py` has many more.
+/// Texts, and why they are refused, or none; `tests/cases/claim_texts.py` has many more.
 const TEXTS: &[(&str, Option<ClaimStop>)] = &[
     (
         "format = 1\nchannels = ['ECG',]\nkeep = [{from = '0', to = '4'}]\n",

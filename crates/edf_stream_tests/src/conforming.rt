@@ -1,4 +1,4 @@
-//! What `conform` answers to files with one change; `tools/cases` has many more.
+//! What `conform` answers to files with one change; `tests/cases` has many more.
 
 use edf_fields::Place::{AtField, AtSignal};
 use edf_fields::{FixedField as Fixed, SignalField as Field, SliceSource};

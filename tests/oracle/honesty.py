@@ -1,0 +1,374 @@
+"""Looks whether what `explain` says of random wrong exports is so: numbers, and remedies.
+
+usage: python3 -m tests.oracle.honesty PROGRAM [COUNT [SEED]]
+
+It makes COUNT nights with a claim and an export that is wrong in one to three ways (2,000 where none is said; SEED is a
+number, 1 if none is said, and the same number makes the same files): moved by another time, cut elsewhere, with other values,
+with channels that stand still, that are lost, or that the claim misspells or leaves out, with annotations that are lost, added,
+moved, said otherwise, or that begin at the end of an interval. PROGRAM runs `check` and `explain` on each. Then what the sentences state is recounted from how the files were made (made.py): where the export starts
+and is claimed to; of each channel how many samples are missing, too many and changed, the first and the last of them, when
+they stand by both clocks, in which data records, and their values; how many annotations are missing and too many. And each
+shift, list of channels and end of an interval that a sentence names is put into the claim, `check` is run again, and its line is compared with what was said: one that
+is said to be better has to be, and one that isn't has not to be.
+
+What disagrees is said, of twenty exports at the most. The last line counts the exports that passed and failed.
+"""
+
+import collections
+import datetime
+import os
+import random
+import re
+import subprocess
+import sys
+import tempfile
+
+from tests.edf import seconds
+from tests.made import KINDS, PS, START, Claimed, Made, apart, notes_apart
+
+choose = random.Random()
+TEXTS = ["Apnea", "Lights off", "Arousal", "Position left", "Movement"]
+
+DAY = 86_400
+AT = r"at (\S+) s \((\S+ \S+) in the original, (\S+ \S+) in the export\)"
+SPOT = re.compile(rf"^  (It|The first|The last) is {AT}(?:, data record (\d+) of the original)?"
+                  r"(?:, data record (\d+) of the export)?(?:: (-?\d+) in the original, (-?\d+) in the export)?\.$")
+COUNTS = {
+    "missing": re.compile(r'^Channel "(.*)": (\d+) samples? that the claim keeps (?:is|are) missing in the export\.$'),
+    "extra": re.compile(r'^Channel "(.*)": (\d+) samples? of the export (?:is one|are ones) that the claim doesn\'t keep'),
+    "changed": re.compile(r'^Channel "(.*)": (\d+) samples? (?:has|have) another value in the export\.$'),
+}
+STARTS = re.compile(r"^The export starts (.*) (earlier|later) than claimed: its first samples are at (\S+ \S+), "
+                    r"and by the claim they should be at (\S+ \S+)\.$")
+WITH = re.compile(r"^With shift = (-?\d+) (?:the answer would be (YES .*)\. Export again|the first difference would be (NO .*)\.$)")
+CHANNELS = re.compile(r'^With channels = \["(.*)"\] (?:the answer would be (YES .*)\. Export again|the first difference would be (NO .*)\.$)')
+END = re.compile(r'^With to = "(\d+)\.0{11}1" in place of "(\d+)" (?:the answer would be (YES .*)\. Export again'
+                 r"|the first difference would be (NO .*)\.$)")
+TRIED = re.compile(r"^Other shifts were tried, and with none of them the first samples are as claimed: ([-0-9, ]*)\.")
+RECKONED = re.compile(r"What follows is worked out with shift = (-?\d+)")
+NOTES = {
+    "lacks": re.compile(r"^The export lacks (\d+) annotations? that the claim keeps:$"),
+    "has": re.compile(r"^The export has (\d+) annotations? that the claim doesn't keep:$"),
+}
+ONE_WAY = re.compile(r"^All (\d+) annotations that differ (?:are only moved: the export has each of them with its text and its duration, "
+                     r"(.*) (later|earlier) than the claim keeps it|(only lack their durations))")
+LENGTH = re.compile(r"(\d+(?:\.\d+)?) (days?|hours?|minutes?|s)\b")
+UNITS = {"day": DAY * PS, "hour": 3600 * PS, "minute": 60 * PS}
+
+
+def clock(ps, moved=0):
+    """A time after the start of the original as a sentence says it, moved by so many seconds."""
+    whole, rest = divmod(ps, PS)
+    day = START + datetime.timedelta(seconds=whole + moved)
+    return f"{day:%Y-%m-%d %H:%M:%S}" + (seconds(rest)[1:] if rest else "")
+
+
+def length(said):
+    """A length of time in picoseconds, by its words."""
+    return sum(round(float(number) * PS) if unit == "s" else int(number) * UNITS[unit.rstrip("s")]
+               for number, unit in LENGTH.findall(said))
+
+
+def begins_behind(line, first):
+    """Whether the first difference is behind the first sample that is kept, if it is one of samples."""
+    return not line.startswith("NO 10 ") or rank(line)[1] > first
+
+
+def rank(line):
+    """How far a check came, by its line: a Yes is the farthest, then the number, and under the same number the instant."""
+    if line.startswith("YES "):
+        return 99, 0
+    number = int(line.split()[1])
+    at = re.search(r" at (-?\d+) ps", line)
+    return number, int(at[1]) if at else 0
+
+
+# ---- how the files are made
+
+
+def night():
+    """A night of some channels and annotations; some of its channels stand still for a while."""
+    length = choose.randint(12, 60)
+    labels = choose.sample(sorted(KINDS), choose.randint(1, len(KINDS)))
+    channels = {}
+    for label in labels:
+        count = length * KINDS[label][1]
+        channel = [choose.randint(-2000, 2000) for _ in range(count)]
+        if choose.random() < 0.4:
+            still = choose.randint(1, count)
+            channel[:still] = [channel[0]] * still
+        channels[label] = channel
+    notes = [(choose.randrange(length * 4) * PS // 4, choose.choice([None, PS, 30 * PS]), choose.choice(TEXTS))
+             for _ in range(choose.randint(0, 5))]
+    return Made([(0, length)], channels, notes, 0, choose.choice([0, 0, 0, PS // 2])), length
+
+
+def intervals(length):
+    ends = sorted(choose.sample(range(length + 1), choose.choice([2, 2, 4])))
+    return list(zip(ends[::2], ends[1::2]))
+
+
+def shift():
+    return choose.choice([0, -DAY, -100 * DAY, DAY, 3600, -choose.randint(1, 10**6), 7 * DAY])
+
+
+def honest(original, keep, moved):
+    """What a claim keeps, moved; where the night starts inside a second, the intervals are of its data records."""
+    kept = [note for note in original.notes if any(first * PS <= note[0] < last * PS for first, last in keep)]
+    return original.but(stretches=keep, notes=kept, shift=moved)
+
+
+def moved_otherwise(export, claim):
+    other = [0, -claim.shift, claim.shift + choose.choice([-1, 1, 20, -20, 3600, -3600, DAY, -DAY, 7 * DAY])]
+    export.shift = choose.choice(other)
+
+
+def cut_otherwise(export, claim, length):
+    number = choose.randrange(len(export.stretches))
+    first, last = export.stretches[number]
+    least = export.stretches[number - 1][1] + 1 if number else 0
+    most = export.stretches[number + 1][0] - 1 if number + 1 < len(export.stretches) else length
+    first = min(max(first + choose.choice([-3, -1, 0, 1, 2]), least), most - 1)
+    last = max(min(last + choose.choice([-3, -1, 0, 1, 2]), most), first + 1)
+    export.stretches[number] = first, last
+
+
+def values_otherwise(export):
+    label = choose.choice(sorted(export.channels))
+    channel = export.channels[label]
+    for _ in range(choose.choice([1, 1, 3, len(channel)])):
+        channel[choose.randrange(len(channel))] = choose.randint(-2000, 2000)
+
+
+def notes_otherwise(export):
+    notes = list(export.notes)
+    way = choose.randrange(4)
+    if way == 0 or not notes:
+        notes.append((export.begin() * PS + choose.randrange(12) * PS // 4, None, choose.choice(TEXTS)))
+    elif way == 1:
+        notes.pop(choose.randrange(len(notes)))
+    else:
+        number = choose.randrange(len(notes))
+        onset, duration, text = notes[number]
+        notes[number] = (onset, duration, text + "s") if way == 2 else (onset + PS // 4, duration, text)
+    export.notes = notes
+
+
+def channels_otherwise(export, claim):
+    way = choose.randrange(3)
+    if way == 0 and len(export.channels) > 1:
+        del export.channels[choose.choice(sorted(export.channels))]
+    elif way == 1 and len(claim.labels) > 1:
+        claim.labels.remove(choose.choice(claim.labels))
+    else:
+        number = choose.randrange(len(claim.labels))
+        claim.labels[number] = claim.labels[number][:-1] + "q"
+
+
+def note_at_end(original, export, claim):
+    note = choose.choice(claim.keep)[1] * PS, None, choose.choice(TEXTS)
+    for made in (original, export):
+        made.notes = [*made.notes, note]
+
+
+def case():
+    """An original, an export that is wrong, and the claim."""
+    original, length = night()
+    keep, moved = intervals(length), shift()
+    claim = Claimed(sorted(original.channels), keep, moved, choose.sample(TEXTS, choose.choice([0, 0, 1])))
+    if original.fraction:
+        # data records begin inside a second, and the intervals, too, end there by whole seconds: all or a front is kept
+        keep = [(0, length)]
+        claim.keep = [(0, length + 1)]
+    export = honest(original, keep, moved)
+    export.notes = [note for note in export.notes if note[2] not in claim.remove]
+    ways = [lambda: moved_otherwise(export, claim), lambda: cut_otherwise(export, claim, length), lambda: values_otherwise(export),
+            lambda: notes_otherwise(export), lambda: channels_otherwise(export, claim), lambda: note_at_end(original, export, claim)]
+    for way in choose.sample(ways, choose.choice([1, 1, 2, 3])):
+        way()
+    return original, export, claim
+
+
+# ---- what is said, and what is so
+
+
+class Said:
+    """The sentences of an explanation, taken apart."""
+
+    def __init__(self, text):
+        self.lines = text.splitlines()
+        self.counts, self.notes, self.named, self.starts, self.tried, self.reckoned = {}, {}, [], None, [], None
+        self.channels, self.ends, self.one_way = [], [], None
+        for number, line in enumerate(self.lines):
+            for kind, pattern in COUNTS.items():
+                if found := pattern.match(line):
+                    spots = [SPOT.match(spot) for spot in self.lines[number + 1:number + 3]]
+                    self.counts[found[1], kind] = int(found[2]), [spot for spot in spots if spot]
+            for kind, pattern in NOTES.items():
+                if found := pattern.match(line):
+                    self.notes[kind] = int(found[1])
+            if found := ONE_WAY.match(line):
+                self.notes = {"lacks": int(found[1]), "has": int(found[1])}
+                self.one_way = length(found[2]) * (-1 if found[3] == "earlier" else 1) if found[2] else None
+            if found := STARTS.match(line):
+                self.starts = found[2], found[3], found[4]
+            if found := WITH.match(line):
+                self.named.append((int(found[1]), found[2] or found[3]))
+            if found := CHANNELS.match(line):
+                self.channels.append((found[1].split('", "'), found[2] or found[3]))
+            if found := END.match(line):
+                self.ends.append((int(found[1]), int(found[2]), found[3] or found[4]))
+            if found := TRIED.match(line):
+                self.tried = [int(part) for part in found[1].split(", ")]
+            if found := RECKONED.search(line):
+                self.reckoned = int(found[1])
+
+    def has_yes(self):
+        return any(line.startswith("YES ") for _, line in self.named)
+
+
+def common(original, export, claim):
+    """The claimed labels that both files have."""
+    return [label for label in claim.labels if label in original.channels and label in export.channels]
+
+
+def wrong_starts(said, original, export, claim):
+    """What is wrong with where the export starts."""
+    kept = [at for label in common(original, export, claim) for at in original.samples(label) if claim.keeps(at)]
+    if not kept:
+        return None
+    claimed = clock(min(kept), claim.shift)
+    exported = clock(export.begin() * PS + export.fraction, export.shift)
+    later = (export.begin() + export.shift - claim.shift) * PS + export.fraction - min(kept)
+    want = ("earlier" if later < 0 else "later", exported, claimed) if later else None
+    return None if said.starts == want else f"it starts {want}; said: {said.starts}"
+
+
+def wrong_spot(spot, which, want, shift):
+    """What is wrong with a sample that is named: the first or the last one."""
+    at, old, new, old_record, new_record = want
+    numbers = [None if part is None else str(part) for part in (old_record, new_record)]
+    shown = [None, None] if old is None or new is None else [str(old), str(new)]
+    have = [which, seconds(at), clock(at), clock(at, shift), *numbers, *shown]
+    # of a sample of the export before what is kept the data record of the original isn't said
+    also = [*have[:4], None, *have[5:]]
+    is_so = spot and (list(spot.groups()) == have or old is None and list(spot.groups()) == also)
+    return None if is_so else f"it is {have}; said: {spot and spot.groups()}"
+
+
+def wrong_samples(said, original, export, claim, shift):
+    """What is wrong with the samples that are counted, and the first and the last of them."""
+    for label in common(original, export, claim):
+        for kind, found in apart(original, export, claim, label, shift).items():
+            count, spots = said.counts.pop((label, kind), (0, []))
+            if count != len(found):
+                return f"{len(found)} samples of {label} are {kind}; said: {count}"
+            names = ["It"] if count == 1 else ["The first", "The last"] if count else []
+            for name, spot, want in zip(names, spots + [None, None], [found[0], found[-1]] if found else []):
+                if wrong := wrong_spot(spot, name, want, shift):
+                    return f"{kind} sample of {label}: {wrong}"
+    return f"said of samples that aren't: {said.counts}" if said.counts else None
+
+
+def wrong_notes(said, original, export, claim, shift):
+    """What is wrong with how many annotations are missing and too many."""
+    missing, extra = notes_apart(original, export, claim, shift)
+    want = {kind: found.total() for kind, found in (("lacks", missing), ("has", extra)) if found}
+    if said.one_way is not None:
+        later = collections.Counter((onset + said.one_way, *rest) for onset, *rest in missing.elements())
+        if later != extra:
+            return f"the annotations aren't moved by {said.one_way}: {missing} {extra}"
+    return None if said.notes == want else f"of annotations it {want}; said: {said.notes}"
+
+
+class Honesty:
+    """The program in a folder of its own, and how many explanations passed and failed."""
+
+    def __init__(self, program, work):
+        self.program, self.work, self.seen = program, work, collections.Counter()
+
+    def path(self, name, content):
+        path = os.path.join(self.work, name)
+        with open(path, "wb") as file:
+            file.write(content)
+        return path
+
+    def run(self, command, *files):
+        how = {"stdin": subprocess.DEVNULL, "stdout": subprocess.PIPE, "stderr": subprocess.STDOUT, "close_fds": False}
+        ran = subprocess.run([self.program, command, *files], **how)
+        return ran.returncode, ran.stdout.decode(errors="replace")
+
+    def wrong_remedies(self, said, claim, files, line, first):
+        """What is wrong with the changes of the claim that are named, each tried by a check. A shift with which the first sample
+        that is kept isn't as claimed is no better one."""
+        tries = [(f"shift = {number}", claim.text(number), want) for number, want in said.named]
+        tries += [(f"shift = {number}", claim.text(number), None) for number in said.tried]
+        tries += [(f"channels = {labels}", claim.text(labels=labels), want) for labels, want in said.channels]
+        for later, end, want in said.ends:
+            if later != end or end not in [last for _, last in claim.keep]:
+                return f"no interval ends at {end}; said: {later}"
+            tries.append((f"an end a picosecond after {end}", claim.text(end=end * PS), want))
+        for name, text, want in tries:
+            _, given = self.run("check", *files, self.path("tried.toml", text.encode()))
+            given = given.rstrip("\n")
+            if want is not None and given != want:
+                return f"with {name} the answer is {given}; said: {want}"
+            is_better = rank(given) > rank(line) and (not name.startswith("shift") or begins_behind(given, first))
+            if is_better != (want is not None):
+                return f"with {name} the answer is {given}, and {line} without; is it said to be better: {want is not None}"
+        return None
+
+    def wrong(self, original, export, claim):
+        """What is wrong with an explanation, or none."""
+        files = self.path("original.edf", original.bytes()), self.path("export.edf", export.bytes())
+        text = self.path("claim.toml", claim.text().encode())
+        status, line = self.run("check", *files, text)
+        if status not in (0, 1):
+            return f"the check has status {status}: {line}"
+        ended, whole = self.run("explain", *files, text)
+        if ended != status or not whole.startswith(line) or whole == line:
+            return f"the explanation has status {ended}; the check: {line}"
+        said, line = Said(whole[len(line):]), line.rstrip("\n")
+        self.seen[line.split()[0] + line.split()[1] * (status == 1)] += 1
+        self.seen["a shift that makes a Yes"] += said.has_yes()
+        self.seen["a shift that is better"] += bool(said.named) and not said.has_yes()
+        self.seen["shifts that aren't better"] += bool(said.tried)
+        self.seen["other channels"] += bool(said.channels)
+        self.seen["another end"] += bool(said.ends)
+        self.seen["reckoned with another shift"] += said.reckoned not in (None, claim.shift)
+        if status == 1 and (wrong := wrong_starts(said, original, export, claim)):
+            return wrong
+        kept = [at for label in common(original, export, claim) for at in original.samples(label) if claim.keeps(at)]
+        if wrong := self.wrong_remedies(said, claim, files, line, min(kept, default=0)):
+            return wrong
+        if said.has_yes():
+            return f"samples or annotations are listed: {said.counts} {said.notes}" if said.counts or said.notes else None
+        shift = claim.shift if said.reckoned is None else said.reckoned
+        return wrong_samples(said, original, export, claim, shift) or wrong_notes(said, original, export, claim, shift)
+
+
+def main():
+    if len(sys.argv) not in (2, 3, 4) or not os.access(sys.argv[1], os.X_OK):
+        print("usage: python3 -m tests.oracle.honesty PROGRAM [COUNT [SEED]]", file=sys.stderr)
+        return 2
+    count = int(sys.argv[2]) if len(sys.argv) > 2 else 2000
+    choose.seed(int(sys.argv[3]) if len(sys.argv) > 3 else 1)
+    failed = 0
+    shared = "/dev/shm" if os.access("/dev/shm", os.W_OK) else None
+    with tempfile.TemporaryDirectory(dir=shared) as work:
+        honesty = Honesty(os.path.abspath(sys.argv[1]), work)
+        for number in range(count):
+            made = case()
+            wrong = honesty.wrong(*made)
+            if wrong:
+                failed += 1
+                if failed <= 20:
+                    print(f"export {number}: {wrong}")
+    for name, times in sorted(honesty.seen.items()):
+        print(f"{times} with {name}")
+    print(f"{count - failed} passed, {failed} failed")
+    return 1 if failed or not count else 0
+
+
+if __name__ == "__main__":
+    sys.exit(main())

@@ -1,0 +1,776 @@
+#!/usr/bin/env python3
+"""Writes one document for an auditor: what a Yes of the check means, with each word that it stands on.
+
+usage: tools/gate/headline.py           writes out/headline.txt and out/headline.html
+       tools/gate/headline.py --check   looks whether they can be written, and writes nothing
+
+The document begins with the contract of the call `check`, with its clause `headline` alone. Then comes each
+definition that the contract stands on, once, as its file has it and with its comment, behind the first that
+needs it. Of a type of the code that is its item, and its value to contracts where it has one (`impl Model`);
+bodies of functions are no part of it. At the end stand what the files say of themselves, and the words of the
+toolchain.
+
+A word that is defined nowhere is printed, and so is one that stands beside those of the headline in a file of
+definitions and isn't needed; nothing is written then, and the status is 1. The last line of the output
+counts the definitions, and their lines without and with comments. Empty lines never count.
+"""
+
+import functools
+import html
+import html.parser
+import itertools
+import pathlib
+import re
+import sys
+import textwrap
+import typing
+
+sys.dont_write_bytecode = True
+TOP = pathlib.Path(__file__).resolve().parent.parent.parent
+CRATES = TOP / "crates"
+OUT = TOP / "out"
+WIDTH = 120
+
+# signs and words that the language of definitions has without a `use`
+SIGNS = set(": = . , ; _ → × λ ⊥ ¬ ( ) { } Type Unit tt record where let in".split())
+# kinds of values that the code has without a `use`
+KINDS = re.compile(r"[iu](?:8|16|32|64|128|size)|bool|char|str|Option|Result|String|Vec")
+
+TOKEN = re.compile(r'--.*|"(?:[^"\\]|\\.)*"|\[\]|λ|[(){}\[\];,.]|[^\s(){}\[\];,."]+')
+NAME = re.compile(r"[^\W\d][\w'-]*")
+DEFINES = re.compile(r"(?:abbrev |unfoldable )?(?:pub )?(?:record (?P<record>\S+)|(?P<word>\S+) :(?=\s))")
+FIELD = re.compile(r"^  (?:pub )?(\S+) :(?=\s)", re.M)
+USE = re.compile(r"^(?:ghost )?use (Rattle[\w.]+?)(?:\.\{([^}]*)\}| as (\w+));?$")
+
+CODE_TOKEN = re.compile(r"'\w+|\w+")
+ITEM = re.compile(r"(?:pub(?:\([^)]*\))? )?(struct|enum|trait|fn) (\w+)")
+MODEL = re.compile(r"impl(?:<[^>]*>)? Model for (\w+)")
+CLAUSE = re.compile(r"    (?:ensures|requires)\b *(\w*)")
+COLON = re.compile(r"\b(\w+):(?!:)")
+VARIANT = re.compile(r"^    ([A-Z]\w*)", re.M)
+GHOST = re.compile(r"^ *(?:(?:ensures|requires)\b *\w*|ghost \w+(?::| =)) *(?=\{)", re.M)
+
+TITLE = "What a Yes means"
+HEADLINE = "Headline"
+ABOUT = [
+    "edfclaim checks an export of a night against its original and a claim: that the export is the original, cut"
+    " and made anonymous as the claim says, and nothing else. The call `check` answers this. If it answers Yes, and"
+    " each of its two sources gives the bytes of its file, then the statement `Headline` holds of the two files and"
+    " the claim, and the counts of the Yes are the export's. This is proved of the code.",
+    "It says this of a Yes alone: what a No says is another clause of `check`, `verdict`. A source over bytes in memory"
+    " gives them, and this is proved; that a file on a disk gives its bytes is assumed. How the text of a claim becomes"
+    " the claim, and that the line of this verdict is printed, are clauses of `run`. The profile is the definition"
+    " `Conforms`: which EDF+ files are judged at all. A channel is a signal whose label isn't `EDF Annotations`; the"
+    " lane of a signal are its bytes in a data record; a TAL is a time-stamped annotations list (EDF+ 2003).",
+    "Here stands all of this project that has to be read to know what is proved: first the contract of `check`,"
+    " then each definition that it stands on, once. A definition comes behind the first that needs it, so it is"
+    " plain why it comes; of the statement `Headline` all parts come first. Each has a number. All is copied from the"
+    " files that are named. The prose above a definition is its comment: it says in words what the definition says"
+    " exactly, and the definition is what counts. Of a type that the code declares its parts count, and the value that"
+    " it is to contracts (`impl Model`); how the code works is no part of it.",
+    "Behind the definitions stands what their files say of themselves, such as from when times count, and at last"
+    " the words that no file of this project defines: those of the toolchain's library.",
+]
+NOTATION = [
+    ("f x y", "the function f of x and y; a word with a capital is a statement, or a kind of values"),
+    ("A → B", "between statements: from A follows B; between kinds of values: the functions from A to B"),
+    ("A × B, A ⊎ B", "A and B; A or B"),
+    ("(x : T) → A", "for each x of the kind T, A holds"),
+    ("(x : T) × A", "there is an x of the kind T for which A holds"),
+    ("a ≡ b, a ≢ b", "a and b are equal; they aren't"),
+    ("⊥, Unit {0}", "never; always. So A → ⊥ says that A doesn't hold"),
+    ("A ↔ B", "each follows from the other"),
+    ("Type 0", "the kind of all statements; f : A → Type 0 says something of each A"),
+    ("ℕ, ℤ", "the whole numbers from 0 on; those with a sign. pos n is the number n of ℤ, negsuc n is -(n + 1)"),
+    ("+ℤ, -ℤ, *ℤ, <ℤ, ≤ℤ", "what +, -, *, < and ≤ are on ℕ, on ℤ. No number has a bound. On ℕ, a - b is never below 0"),
+    ("[], x ∷ xs, xs ++ ys", "the empty list; x before the list xs; one list behind the other"),
+    ("zero, suc n", "0 and n + 1"),
+    ("take n xs, drop n xs", "the first n of xs; what stands behind them"),
+    ("slice_get xs i", "Some x, or None where there is none at i; slice_index xs i is that number, or 0"),
+    ("map, filter, flat_map", "f of each; those that pass the test; the lists that f gives, one behind the other"),
+    ("All P xs, IsPermutation", "P holds of each of xs; one list is the other, perhaps in another order"),
+    ("list_all p, list_any p", "whether all pass the test p; whether one does"),
+    ("before_first, after_first", "what stands before the first that passes, or all; what stands behind it, or nothing"),
+    ("Some x, None, Ok x, Err e", "a value, or none; what a call gives, or why it gives nothing"),
+    ('codes "EDF+C"', "the bytes of a text"),
+    ("λ x. e", "the function that gives e for x"),
+    ("record R .. where ..", "a kind of values that have these fields, or a statement: all of its fields hold, and a"
+     " field that is a value says that there is one"),
+    ("record { a = x }, r.a", "the value with this field; its field a. p.0 and p.1 are the two parts of a pair"),
+    ("fixed.Version, Yes n", "a value of a type that the code declares, here with its part n"),
+    ("let x = e in ..", "x stands for e in what follows"),
+    ("several lines", "of one word: one for each form of its arguments, of which the first that fits counts; _ fits all"),
+    ("abbrev, unfoldable, pub", "how other files may use the word; they change nothing of what it says"),
+    ("{X : Type 0}", "an argument that isn't written where the word is used"),
+    ("◌+◌", "the name of the word +; each ◌ is the place of an argument"),
+    ("x.old, x.new, x.now", "in a contract: what x stood for as the call began; as it ended; what it stands for"),
+    ("result, v.items", "in a contract: what the call answers; the list in a Vec"),
+    ("IfOk r P, IsTrue b", "in a contract: if the call answered Ok x, then P x; the test b gives true"),
+    ("u8 .. usize, i16 .. i128", "whole numbers of the code; a contract takes the first for those of ℕ, the others for ℤ"),
+]
+STYLE = """
+:root { color-scheme: light dark; --ink: #1c1c1c; --paper: #fdfdfb; --dim: #5f6368; --line: #d8d8d2; --link: #0b57a4; }
+@media (prefers-color-scheme: dark) {
+  :root { --ink: #e4e4e0; --paper: #17181a; --dim: #9aa0a6; --line: #3a3c40; --link: #8ab8f0; }
+}
+body { max-width: 120ch; margin: 2em auto; padding: 0 1em; color: var(--ink); background: var(--paper);
+  font: 16px/1.5 system-ui, sans-serif; }
+a { color: var(--link); text-decoration: none; }
+a:hover { text-decoration: underline; }
+a.toolchain { color: inherit; }
+pre, code { font-family: ui-monospace, monospace; font-size: 14px; }
+pre { overflow-x: auto; padding: .6em; border: 1px solid var(--line); }
+section { border-top: 1px solid var(--line); }
+section:target h2 { text-decoration: underline; }
+h2 { font-size: 1.1em; margin-bottom: .3em; }
+h2 small, .users { color: var(--dim); font-size: .85em; font-weight: normal; }
+.comment { white-space: pre-line; margin: .3em 0; }
+nav { columns: 30ch; font-size: .85em; }
+nav div { white-space: nowrap; overflow: hidden; text-overflow: ellipsis; }
+td { padding: .1em 1.5em .1em 0; vertical-align: top; }
+"""
+
+
+class Word(typing.NamedTuple):
+    """A word by the file of the project that defines it, or by where the toolchain has it."""
+
+    home: pathlib.Path | str
+    name: str
+
+    def is_toolchain(self):
+        return isinstance(self.home, str)
+
+    def is_code(self):
+        return not self.is_toolchain() and self.home.suffix == ".rt"
+
+
+class Names:
+    """The words that stand for something in a file, each by its first part."""
+
+    def __init__(self):
+        self.words, self.groups = {}, set()
+
+    def add(self, name, word):
+        """Takes a word; one with ◌ has several parts, of which the first one finds it."""
+        parts = [part for part in name.split("◌") if part]
+        self.words[parts[0]] = (word, parts[1:])
+
+    def find(self, part):
+        return self.words.get(part, (None, []))
+
+    def use(self, lines):
+        """Takes the words of a `use` of definitions, or of a `ghost use`, and answers whether it is one."""
+        of = USE.match(" ".join(line.strip() for line in lines))
+        if not of:
+            return False
+        home, declared = home_of(of[1])
+        if of[3]:
+            self.groups.add(of[3])
+            self.add(of[3], Word(home, declared or of[3]))
+        for name in (of[2] or "").split(","):
+            name, _, other = name.strip().partition(" as ")
+            if name:
+                self.add(other or name, Word(home, declared or name))
+        return True
+
+
+class Definition:
+    """What a file says of a word: its comment and its lines, and which words of them stand where."""
+
+    def __init__(self, word, comment, lines):
+        self.word, self.comment, self.lines = word, comment, lines
+        self.marks, self.unknown = [], []
+        self.number, self.depth, self.users = 0, 0, []
+
+    @property
+    def text(self):
+        return "\n".join(self.lines)
+
+    def mark(self, begin, end, word):
+        """Says that what stands here is this word; the definition's own word isn't said."""
+        if word != self.word:
+            self.marks.append((begin, end, word))
+
+    def needs(self):
+        """The words in the order in which they stand here, those of definitions before those of code."""
+        words = dict.fromkeys(word for _, _, word in self.marks)
+        return sorted(words, key=Word.is_code)
+
+    def counts(self):
+        """How many lines it has without comments, and with them."""
+        lines = [line.strip() for line in self.lines if line.strip()]
+        said = [line for line in lines if not line.startswith(("--", "//"))]
+        return len(said), len(self.comment) + len(lines)
+
+
+class Reader:
+    """Goes over the words of definitions from the left. What is bound in brackets is bound up to their end."""
+
+    def __init__(self, definition, names, bound):
+        self.definition, self.names, self.own = definition, names, bound
+        self.begin()
+
+    def begin(self):
+        """Forgets what was bound."""
+        self.bound, self.waiting, self.behind = [set(self.own)], [[]], []
+
+    def tokens(self, begin, end):
+        found = [(it.group(), *it.span()) for it in TOKEN.finditer(self.definition.text, begin, end)]
+        return [it for it in found if not it[0].startswith("--")]
+
+    def read(self, tokens):
+        at = 0
+        while at < len(tokens):
+            at = self.step(tokens, at)
+
+    def step(self, tokens, at):
+        """Reads the word at this place, and answers the place of the next one to be read."""
+        token, begin, end = tokens[at]
+        if token in ("(", "{"):
+            return self.enter(tokens, at + 1)
+        if token in (")", "}"):
+            self.leave()
+        elif token in ("λ", "let"):
+            names = leading_names(tokens, at + 1)
+            self.bound[-1].update(names)
+            return at + 1 + len(names)
+        elif token == "." and is_field(tokens, at):
+            return at + 2
+        elif token in SIGNS or token[0] in '"0123456789' or self.is_bound(token):
+            pass
+        elif token in self.names.groups and is_field(tokens, at + 1):
+            return self.take_variant(tokens, at)
+        elif [it[0] for it in tokens[at + 1:at + 2]] != ["="]:
+            self.refer(token, begin, end)
+        return at + 1
+
+    def enter(self, tokens, at):
+        """Goes into brackets. Where they begin with `x y :` these are bound behind them."""
+        names = leading_names(tokens, at)
+        if [it[0] for it in tokens[at + len(names):at + len(names) + 1]] != [":"]:
+            names = []
+        self.bound.append(set())
+        self.waiting.append([])
+        self.behind.append(names)
+        return at + len(names)
+
+    def leave(self):
+        self.bound.pop()
+        self.waiting.pop()
+        self.bound[-1].update(self.behind.pop())
+
+    def is_bound(self, token):
+        return any(token in names for names in self.bound)
+
+    def take_variant(self, tokens, at):
+        """Reads `group.Variant`, which is a word of the type that has the variant."""
+        self.definition.mark(tokens[at][1], tokens[at + 2][2], self.names.find(tokens[at][0])[0])
+        return at + 3
+
+    def refer(self, token, begin, end):
+        """Reads a word, or a further part of one that has several."""
+        waiting = self.waiting[-1]
+        if waiting and token == waiting[-1][1][0]:
+            word, parts = waiting.pop()
+            parts = parts[1:]
+        else:
+            word, parts = self.names.find(token)
+        if parts:
+            waiting.append((word, parts))
+        if word is None:
+            self.definition.unknown.append(token)
+        else:
+            self.definition.mark(begin, end, word)
+
+    def read_patterns(self, tokens):
+        """Reads the arguments of an equation: a word that makes values is meant, any other name is bound."""
+        own = self.definition.word.name.split("◌")
+        at = 0
+        while at < len(tokens):
+            token, begin, end = tokens[at]
+            word, _ = self.names.find(token)
+            if token in self.names.groups and is_field(tokens, at + 1):
+                at = self.take_variant(tokens, at)
+                continue
+            if token in own or token in SIGNS or token[0] in '"0123456789':
+                pass
+            elif word and token not in self.names.groups and (word.is_toolchain() or word.is_code()):
+                self.definition.mark(begin, end, word)
+            elif NAME.fullmatch(token):
+                self.bound[-1].add(token)
+            else:
+                self.definition.unknown.append(token)
+            at += 1
+
+
+class Spec:
+    """A file of definitions."""
+
+    def __init__(self, file):
+        self.names, self.definitions, self.odd = Names(), {}, []
+        comment, infix, last = [], [], None
+        for lines in chunks(file, " "):
+            first = lines[0] if lines else ""
+            of = DEFINES.match(first)
+            if not lines:
+                comment = []
+            elif self.names.use(lines):
+                comment = []
+            elif first.startswith("infix"):
+                infix = lines
+            elif first.startswith("--"):
+                comment += lines
+            elif of:
+                last = Definition(Word(file, of["record"] or of["word"]), comment, infix + lines)
+                self.names.add(last.word.name, last.word)
+                self.definitions[last.word.name] = last
+                comment, infix = [], []
+            elif last:
+                last.lines += comment + lines
+                comment = []
+            else:
+                self.odd.append(first)
+
+    def read(self, definition):
+        """Finds the words of a definition: of its kind, of its fields, and of its equations one by one."""
+        reader, text = Reader(definition, self.names, set()), definition.text
+        starts = [it.start() for it in re.finditer(r"^(?=\S)", text, re.M)]
+        for begin, end in zip(starts, starts[1:] + [len(text)]):
+            reader.begin()
+            of = DEFINES.match(text, begin, end)
+            if of and of["record"]:
+                fields = list(FIELD.finditer(text, begin, end))
+                ends = [it.start() for it in fields] + [end]
+                reader.read(reader.tokens(of.end(), ends[0]))
+                for field, behind in zip(fields, ends[1:]):
+                    reader.read(reader.tokens(field.end(), behind))
+                    reader.bound[0].add(field[1])
+            elif of:
+                reader.read(reader.tokens(of.end(), end))
+            elif not text.startswith(("--", "infix"), begin):
+                tokens = reader.tokens(begin, end)
+                signs = [it[0] for it in tokens]
+                at = signs.index("=") if "=" in signs else len(signs)
+                reader.read_patterns(tokens[:at])
+                reader.read(tokens[at:])
+
+
+def without_ghosts(lines):
+    """The lines of a type without its ghost fields, each of which goes on up to the next field or the end."""
+    kept, inside = [], False
+    for line in lines:
+        if line[:5].strip() or line[:4].strip() or not line.strip():
+            inside = line.startswith("    ghost ")
+        if not inside:
+            kept.append(line)
+    return kept
+
+
+class Code:
+    """A file of code: those of its items that are something to contracts."""
+
+    def __init__(self, file):
+        self.names, self.ghosts, self.definitions, self.odd = Names(), Names(), {}, []
+        self.file, models, front = file, [], []
+        for lines in chunks(file, " {})"):
+            first = lines[0] if lines else ""
+            if first.startswith(("///", "#[")):
+                front += lines
+                continue
+            if first.startswith("use "):
+                self.use(" ".join(line.strip() for line in lines))
+            elif first.startswith("ghost use ") and not self.ghosts.use(lines):
+                self.odd.append(first)
+            elif ITEM.match(first):
+                self.take(ITEM.match(first), front, lines)
+            elif MODEL.match(first):
+                models.append((MODEL.match(first)[1], lines))
+            front = []
+        for name, lines in models:
+            if name in self.definitions:
+                self.take_model(self.definitions[name], lines)
+
+    def use(self, line):
+        """Takes the words of a `use` line of code."""
+        path, _, names = line[len("use "):].rstrip(";").rpartition("::")
+        crate, *modules = path.split("::")
+        own = self.file.relative_to(CRATES).parts[0]
+        folder = CRATES / (own if crate == "crate" else crate) / "src"
+        for name in names.strip("{ }").split(","):
+            name, _, other = name.strip().partition(" as ")
+            if name:
+                within = modules or handed_out(folder, name)
+                home = folder.joinpath(*within).with_suffix(".rt") if folder.is_dir() else path
+                self.names.add(other or name, Word(home, name))
+
+    def take(self, item, front, lines):
+        """Takes an item: all of a type or a trait; of a function what stands before its body."""
+        kind, name = item.groups()
+        if kind == "fn":
+            lines = lines[:lines.index("{")] if "{" in lines else lines[:1]
+        comment = [line for line in front if line.startswith("///")]
+        lines = [line for line in lines if not line.lstrip().startswith("#[")]
+        if kind == "struct":
+            # what holds of each value is proved where one is made, and no statement needs it
+            lines = without_ghosts(lines)
+        self.definitions[name] = Definition(Word(self.file, name), comment, lines)
+        self.names.add(name, Word(self.file, name))
+
+    def take_model(self, definition, lines):
+        """Takes what a type is to contracts: its kind of value, and the value of each of its values."""
+        kept, inside = [], False
+        for line in lines:
+            self.ghosts.use([line])
+            if line.startswith("    ghost "):
+                inside = line.startswith(("    ghost Value ", "    ghost view "))
+            if inside and line.startswith("    ") and line.strip():
+                kept.append(line)
+        definition.lines += ["", lines[0], *kept, "}"]
+
+    def read(self, definition):
+        """Finds the words of an item, and those of its clauses among the words that these may use."""
+        code, kind = blanked(definition.text, r"//.*"), ITEM.match(definition.text)[1]
+        ghosts = [(*it.span(), closing(code, it.end())) for it in GHOST.finditer(code)]
+        # an argument, a ghost of a trait, and a type that stands for any have a colon behind them
+        bound = {"Self", "self", "result"}
+        for front, begin, end in ghosts:
+            bound |= set(COLON.findall(code, front, begin))
+            code = code[:front] + " " * (end - front) + code[end:]
+        if kind in ("fn", "trait"):
+            bound |= set(COLON.findall(code))
+        variants = [it.start(1) for it in VARIANT.finditer(code)] if kind == "enum" else []
+        for it in CODE_TOKEN.finditer(code):
+            if it.start() not in variants and it.group() not in bound:
+                self.read_word(definition, it)
+        for _, begin, end in ghosts:
+            reader = Reader(definition, self.ghosts, bound)
+            reader.read(reader.tokens(begin, end))
+        definition.marks.sort()
+
+    def read_word(self, definition, it):
+        """Finds a word of the code: a type, or a kind of values that the code has without a `use`."""
+        word, _ = self.names.find(it.group())
+        if not word and KINDS.fullmatch(it.group()):
+            word = Word("the language of the code", it.group())
+        if word and (word.is_toolchain() or word.name[0].isupper()):
+            definition.mark(*it.span(), word)
+        elif it.group()[0].isupper():
+            definition.unknown.append(it.group())
+
+
+def chunks(file, inner):
+    """The parts of a file, each with the lines behind it that begin so; an empty one for an empty line."""
+    found, last = [], None
+    for line in file.read_text(encoding="utf-8").splitlines():
+        if line and line[0] in inner and last:
+            last.append(line)
+        else:
+            found.append([line] if line else [])
+            last = found[-1] or last
+    return found
+
+
+def handed_out(folder, name):
+    """The modules in which a crate has what it hands out by this name (`pub use` in its lib.rt)."""
+    root = folder / "lib.rt"
+    text = root.read_text(encoding="utf-8") if root.exists() else ""
+    for path, names in re.findall(r"^pub use (\S+)::(\{[^}]*\}|\w+);", text, re.M):
+        if name in [it.strip() for it in names.strip("{ }").split(",")]:
+            return path.split("::")
+    return []
+
+
+def home_of(path):
+    """The file that the path of a `use` names, and the type where it is one of code; or the path, of the toolchain."""
+    _, crate, *rest = path.split(".")
+    if not (CRATES / crate).is_dir():
+        return path, None
+    if rest[:2] != ["specs", "declared"]:
+        return CRATES.joinpath(crate, *rest).with_suffix(".antt"), None
+    *modules, declared = [it for it in rest[2:] if it != "TheVariants"]
+    return CRATES.joinpath(crate, "src", *modules).with_suffix(".rt"), declared
+
+
+def leading_names(tokens, at):
+    """The names that stand here one behind the other, up to anything else."""
+    names = []
+    for token, _, _ in tokens[at:]:
+        if token in SIGNS - {"_"} or not NAME.fullmatch(token):
+            break
+        names.append(token)
+    return names
+
+
+def is_field(tokens, at):
+    """Whether a dot stands here without a space before it or behind it."""
+    if not 0 < at < len(tokens) - 1 or tokens[at][0] != ".":
+        return False
+    return tokens[at - 1][2] == tokens[at][1] and tokens[at][2] == tokens[at + 1][1]
+
+
+def blanked(text, pattern):
+    """The text with blanks where this stands."""
+    return re.sub(pattern, lambda it: " " * len(it.group()), text)
+
+
+def closing(text, at):
+    """The place behind the bracket that closes the one here."""
+    depth = 0
+    for it in re.finditer(r"[{}]", text[at:]):
+        depth += 1 if it.group() == "{" else -1
+        if depth == 0:
+            return at + it.end()
+    return len(text)
+
+
+@functools.cache
+def opened(file):
+    return Code(file) if file.suffix == ".rt" else Spec(file)
+
+
+@functools.cache
+def define(word):
+    """The definition of a word, with the words that it needs; none where its file has none."""
+    definition = opened(word.home).definitions.get(word.name) if word.home.is_file() else None
+    if definition:
+        opened(word.home).read(definition)
+    return definition
+
+
+def contract(file, name, clause):
+    """The contract of a call, with one of its clauses."""
+    whole = opened(file).definitions[name]
+    lines, keeps = [], True
+    for line in whole.lines:
+        of = CLAUSE.match(line)
+        keeps = of[1] == clause if of else keeps
+        if keeps:
+            lines.append(line)
+    one = Definition(whole.word, whole.comment, lines)
+    opened(file).read(one)
+    return one
+
+
+def in_order(first):
+    """The definition and all that it needs, each behind the first that needs it, and what is wrong with them."""
+    found, faults = {first.word: first}, []
+    first.number = 1
+
+    def go_on(definition):
+        later = []
+        place = f"{definition.word.home.relative_to(TOP)}: {definition.word.name}"
+        faults.extend(f"{place}: `{token}` is defined nowhere" for token in definition.unknown)
+        for word in definition.needs():
+            if word.is_toolchain():
+                continue
+            needed = found.get(word) or define(word)
+            if not needed:
+                faults.append(f"{place}: `{word.name}` isn't in {word.home.relative_to(TOP)}")
+                continue
+            needed.users.append(definition)
+            if word not in found:
+                found[word] = needed
+                needed.number, needed.depth = len(found), definition.depth + 1
+                # of the headline all parts come first, and then what each of them needs
+                later.append(needed)
+                if definition.word.name != HEADLINE:
+                    go_on(later.pop())
+        for needed in later:
+            go_on(needed)
+
+    go_on(first)
+    for file in {word.home for word in found}:
+        faults += [f"{file.relative_to(TOP)}: a line that isn't understood: {line}" for line in opened(file).odd]
+        if file.suffix == ".antt":
+            # what the headline needs stands in files that hold nothing else
+            others = [name for name, one in opened(file).definitions.items() if one.word not in found]
+            faults += [f"{file.relative_to(TOP)}: `{name}` isn't needed by the headline" for name in others]
+    for one in found.values():
+        one.users.sort(key=lambda user: user.number)
+        if one is not first and not (one.users and one.users[0].number < one.number):
+            faults.append(f"{one.word.name}: no definition before it uses it")
+    return list(found.values()), faults
+
+
+def toolchain(definitions):
+    """The words of the toolchain that are used, by where it has them."""
+    found = {}
+    for word in sorted({word for one in definitions for word in one.needs() if word.is_toolchain()}):
+        found.setdefault(word.home, []).append(word)
+    return found
+
+
+def files(definitions):
+    """The files, each with those of the definitions that it has."""
+    found = {}
+    for one in definitions:
+        found.setdefault(one.word.home, []).append(one)
+    return dict(sorted(found.items()))
+
+
+def heading(file):
+    """What a file says of itself."""
+    lines = file.read_text(encoding="utf-8").splitlines()
+    return list(itertools.takewhile(lambda line: line.startswith(("--", "//!")), lines))
+
+
+def prose(comment):
+    """A comment without its marks, line by line."""
+    return [re.sub(r"^(?:--|//[/!]) ?", "", line) for line in comment]
+
+
+def fitted(lines, room):
+    """The lines as they are; where one is too long for the room, all of them cut to about one length."""
+    longest = max(map(len, lines), default=0)
+    width = room if longest <= room else longest // -(-longest // room) + 8
+    return [it for line in lines for it in textwrap.wrap(line, width, break_on_hyphens=False) or [""]]
+
+
+def listed(front, those, indent):
+    """A line that lists words, cut to the width; none where there are none."""
+    if not those:
+        return []
+    # a number and its word stay side by side
+    text = f"{indent}{front}: {', '.join(it.replace(' ', chr(160)) for it in those)}"
+    lines = textwrap.wrap(text, WIDTH, subsequent_indent=indent + "    ", break_on_hyphens=False)
+    return [line.replace(chr(160), " ") for line in lines]
+
+
+def as_text(definitions):
+    """The document as a text."""
+    said = {one.word: f"{one.number} {one.word.name}" for one in definitions}
+    lines = [TITLE, "=" * len(TITLE), ""]
+    for paragraph in ABOUT:
+        lines += [*textwrap.wrap(paragraph, WIDTH, break_on_hyphens=False), ""]
+    for written, says in NOTATION:
+        first, *more = textwrap.wrap(says, WIDTH - 28)
+        lines += [f"  {written:<25} {first}", *(28 * " " + line for line in more)]
+    for one in definitions:
+        lines += ["", "", f"{one.number}. {one.word.name}  ({one.word.home.relative_to(TOP)})", ""]
+        lines += ["    " + line for line in fitted(prose(one.comment), WIDTH - 4)]
+        lines += [""] * bool(one.comment) + one.lines + [""]
+        lines += listed("used by", [said[user.word] for user in one.users], "    ")
+        lines += listed("uses", [said[word] for word in one.needs() if word in said], "    ")
+    lines += ["", "", "What the files say of themselves", ""]
+    for file, those in files(definitions).items():
+        lines += listed(file.relative_to(TOP), [said[one.word] for one in those], "")
+        lines += ["    " + line for line in fitted(prose(heading(file)), WIDTH - 4)]
+    lines += ["", "", "Words of the toolchain", ""]
+    for home, words in toolchain(definitions).items():
+        lines += listed(home, [word.name for word in words], "")
+    return "\n".join(line.rstrip() for line in lines) + "\n"
+
+
+def marked(lines):
+    """Lines for the page, with what stands between two backticks as code."""
+    return re.sub(r"`([^`]*)`", r"<code>\1</code>", html.escape("\n".join(lines)))
+
+
+def linked(one, anchors):
+    """The lines of a definition for the page, each word with a link to its definition."""
+    text, at, page = one.text, 0, ""
+    for begin, end, word in one.marks:
+        page += html.escape(text[at:begin])
+        kind = ' class="toolchain"' if word.is_toolchain() else ""
+        page += f'<a{kind} href="#{anchors[word]}">{html.escape(text[begin:end])}</a>'
+        at = end
+    return page + html.escape(text[at:])
+
+
+def link(one, anchors):
+    """A definition's number and word, with a link to it."""
+    return f'<a href="#{anchors[one.word]}">{one.number} {html.escape(one.word.name)}</a>'
+
+
+def section(one, anchors):
+    """A definition on the page."""
+    file = f'<a href="#{anchors[one.word.home]}">{one.word.home.relative_to(TOP)}</a>'
+    page = f'<section id="{anchors[one.word]}">\n'
+    page += f"<h2>{one.number}. <code>{html.escape(one.word.name)}</code> <small>{file}</small></h2>\n"
+    if one.comment:
+        page += f'<p class="comment">{marked(prose(one.comment))}</p>\n'
+    page += f"<pre><code>{linked(one, anchors)}</code></pre>\n"
+    if one.users:
+        page += f'<p class="users">used by: {", ".join(link(user, anchors) for user in one.users)}</p>\n'
+    return page + "</section>\n"
+
+
+def page_front(definitions, anchors):
+    """The page up to its first definition."""
+    page = f'<!DOCTYPE html>\n<html lang="en">\n<head>\n<meta charset="utf-8">\n<title>{TITLE}</title>\n'
+    page += f"<style>{STYLE}</style>\n</head>\n<body>\n<h1>{TITLE}</h1>\n"
+    page += "".join(f"<p>{marked([paragraph])}</p>\n" for paragraph in ABOUT) + "<table>\n"
+    for written, says in NOTATION:
+        page += f"<tr><td><code>{html.escape(written)}</code></td><td>{html.escape(says)}</td></tr>\n"
+    page += "</table>\n<h2>Contents</h2>\n<nav>\n"
+    for one in definitions:
+        page += f'<div style="padding-left: {one.depth}ch">{link(one, anchors)}</div>\n'
+    page += '<div><a href="#files">What the files say of themselves</a></div>\n'
+    return page + '<div><a href="#toolchain">Words of the toolchain</a></div>\n</nav>\n'
+
+
+def as_page(definitions):
+    """The document as a page."""
+    homes, library = files(definitions), toolchain(definitions)
+    anchors = {one.word: f"d{one.number}" for one in definitions}
+    anchors |= {file: f"f{k}" for k, file in enumerate(homes, 1)}
+    anchors |= {word: f"t{k}" for k, word in enumerate(itertools.chain(*library.values()), 1)}
+    page = page_front(definitions, anchors) + "".join(section(one, anchors) for one in definitions)
+    page += '<section id="files">\n<h2>What the files say of themselves</h2>\n'
+    for file, those in homes.items():
+        page += f'<p id="{anchors[file]}"><code>{file.relative_to(TOP)}</code>'
+        page += f' <span class="users">{", ".join(link(one, anchors) for one in those)}</span></p>\n'
+        page += f'<p class="comment">{marked(prose(heading(file)))}</p>\n'
+    page += '</section>\n<section id="toolchain">\n<h2>Words of the toolchain</h2>\n'
+    for home, words in library.items():
+        those = ", ".join(f'<code id="{anchors[word]}">{html.escape(word.name)}</code>' for word in words)
+        page += f"<p>{html.escape(home)}: {those}</p>\n"
+    return page + "</section>\n</body>\n</html>\n"
+
+
+class Page(html.parser.HTMLParser):
+    """Reads a page: whether each tag is closed by its own end, and whether each link leads to a place on it."""
+
+    def __init__(self, page):
+        super().__init__()
+        self.open, self.faults, self.places, self.links = [], [], [], []
+        self.feed(page)
+        self.close()
+        self.faults += [f"the page: `{tag}` stays open" for tag in self.open]
+        self.faults += [f"the page: {link} leads nowhere" for link in self.links if link[1:] not in self.places]
+        if len(set(self.places)) != len(self.places):
+            self.faults.append("the page: a place has the name of another")
+
+    def handle_starttag(self, tag, attrs):
+        if tag != "meta":
+            self.open.append(tag)
+        self.places += [value for key, value in attrs if key == "id"]
+        self.links += [value for key, value in attrs if key == "href"]
+
+    def handle_endtag(self, tag):
+        if not self.open or self.open.pop() != tag:
+            self.faults.append(f"the page: `{tag}` is closed and wasn't open")
+
+
+def main():
+    if sys.argv[1:] not in ([], ["--check"]):
+        print(f"usage: {sys.argv[0]} [--check]", file=sys.stderr)
+        return 2
+    definitions, faults = in_order(contract(CRATES / "edf_check" / "src" / "of_one.rt", "check", "headline"))
+    if not faults:
+        page = as_page(definitions)
+        faults = Page(page).faults
+    for fault in faults:
+        print(fault)
+    if not faults and sys.argv[1:] == []:
+        OUT.mkdir(exist_ok=True)
+        (OUT / "headline.txt").write_text(as_text(definitions), encoding="utf-8")
+        (OUT / "headline.html").write_text(page, encoding="utf-8")
+    said = sum(one.counts()[0] for one in definitions)
+    written = sum(one.counts()[1] for one in definitions)
+    print(f"{len(definitions)} definitions, {said} lines, {written} with comments, of {len(files(definitions))} files")
+    return 1 if faults else 0
+
+
+if __name__ == "__main__":
+    sys.exit(main())
