@@ -258,21 +258,12 @@ def row_text():
     return ["const TEXT: &str = concat!(", *body, ");"]
 
 
-def worked():
-    """The worked rows, in the page that says of which files they are."""
-    one = [row for row in as_code("rows", "line") if row["of"] == "one"]
-    several = [row for row in as_code("rows", "line") if row["of"] == "several"]
-    heads = {"row": "row", "original": "original", "exports": "export", "claim": "the claim", "line": "line"}
-    together = {"row": "row", "exports": "exports", "line": "line"}
-    return {"rows-one": columns(one, **heads), "rows-several": columns(several, **together)}
-
-
 def pages():
     """Each file that has tables, with its tables by their names."""
     return {
         "docs/READING-THE-ANSWER.md": reading(),
         "docs/CLAIM.md": claim(),
-        "docs/PROFILE.md": profile() | worked(),
+        "docs/PROFILE.md": profile(),
         "docs/SCRIPTS.md": scripts(),
         "docs/edfclaim.1": manual(),
         "extras/edfclaim.bash-completion": completions(rows("commands")),
