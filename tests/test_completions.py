@@ -9,6 +9,7 @@ from tests.harness import TOP, Case, each
 sys.path.insert(0, str(TOP / "tools" / "gate"))
 
 import tables  # noqa: E402
+import tables_read  # noqa: E402
 import tables_written  # noqa: E402
 
 STORED = TOP / "extras" / "edfclaim.bash-completion"
@@ -74,8 +75,8 @@ class OneMoreCommand(CompletionCase):
     @classmethod
     def setUpClass(cls):
         super().setUpClass()
-        commands = [*tables_written.rows("commands"), {"name": "added", "words": "ORIGINAL CLAIM"}]
-        text = tables.with_tables(STORED.read_text(encoding="utf-8"), tables_written.completions(commands))
+        commands = [*tables_read.rows("commands"), {"name": "added", "words": "ORIGINAL CLAIM"}]
+        text = tables.with_tables(STORED, STORED.read_text(encoding="utf-8"), tables_written.completions(commands))
         cls.completions = cls.file("more.bash", text)
 
     @each([("command", ["add"], ["added"]), ("second_word", ["added", "x", ""], ["claim.toml", "folder"])])

@@ -11,7 +11,7 @@ from tests.harness import TOP, Case, ProgramCase, each, slug
 
 sys.path.insert(0, str(TOP / "tools" / "gate"))
 
-import tables_written  # noqa: E402
+import tables_read  # noqa: E402
 
 # A word of a line that stands for what differs from line to line, and what a line goes on with.
 STANDS_FOR = re.compile(r"\b(?:[A-Z]|NAME|FAULT|HEX)\b|\\\.\\\.")
@@ -68,7 +68,7 @@ def pieces(row):
 
 def lines_of_checks():
     """Each row of a check's line that says where it is seen."""
-    said = tables_written.lines()
+    said = tables_read.lines()
     both = [row for no in [said["yes"], *said["no"]] for kind in ("check", "parts") for row in no.get(kind, [])]
     return both + said["conform"]
 
@@ -89,7 +89,7 @@ class Seen(ProgramCase):
         whole = night.files()["cut.edf"]
         for name, _, change in faults.FAULTS:
             (cls.night / f"{name}.edf").write_bytes(change(whole))
-        cls.lines = {int(row["row"]): row["line"] for row in tables_written.rows("rows")}
+        cls.lines = {int(row["row"]): row["line"] for row in tables_read.rows("rows")}
 
     def seen(self, row):
         """The lines that are seen where a row says so."""
@@ -109,11 +109,11 @@ class Seen(ProgramCase):
     def line(self, row):
         self.assert_seen(row["line"], self.seen(row))
 
-    @each(named(tables_written.rows("causes"), "fault"))
+    @each(named(tables_read.rows("causes"), "fault"))
     def fault(self, row):
         self.assert_seen(row["fault"], (re.sub("^.*?(?:FAULT |fault: )", "", line) for line in self.seen(row)))
 
-    @each(named(tables_written.rows("refusals"), "line"))
+    @each(named(tables_read.rows("refusals"), "line"))
     def refusal(self, row):
         for line in self.seen(row):
             front = spans(row["line"])[0].split("claim")
@@ -125,6 +125,8 @@ class WorkedRows(Case):
 
     def test_their_lines(self):
         """The table of the worked rows and those of tests/cases have the same lines, each as often."""
-        wanted = [(row["of"], row["line"]) for row in tables_written.rows("rows")]
-        found = [("several" if row.command == "check-parts" else "one", row.line.rstrip("\n")) for row in rows_of("rows")]
-        self.assertEqual(collections.Counter(found), collections.Counter(wanted))
+        stored = collections.Counter((row["of"], row["line"]) for row in tables_read.rows("rows"))
+        tried = collections.Counter(("several" if row.command == "check-parts" else "one", row.line.rstrip("\n"))
+                                    for row in rows_of("rows"))
+        self.assertEqual(list((stored - tried).elements()), [], "these stand in docs/tables/rows.tsv alone")
+        self.assertEqual(list((tried - stored).elements()), [], "these stand in tests/cases/rows.py alone")

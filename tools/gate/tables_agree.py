@@ -9,7 +9,7 @@ import re
 import subprocess
 
 import tables_written
-from tables_written import lines, plain_rows, rows
+from tables_read import lines, plain_rows, rows
 
 # A case of the definition of commands: the command's name, and its words.
 SAYS_JOB = r'^SaysJob words .*=\s*\(?words ≡ codes "([^"]*)" ∷ (.*?)\[?\]?\)?(?: ×.*)?$'
@@ -71,18 +71,51 @@ def first_words(path, body):
 
 
 def of_lines():
-    """The lines of a NO: the numbers of the definition, and the words behind the number."""
+    """The lines of a NO: the numbers of the definition, the words behind the number, and the kind, which they begin with."""
     path = "edf_verdict/specs/Lines.antt"
     numbers = {case: int(body) for case, body in cases("edf_verdict/specs/Numbers.antt", "number_of").items()}
     found = differing("lines.toml", sorted(no["number"] for no in lines()["no"]), sorted(numbers.values()))
     texts = {numbers[case]: first_words(path, body) for case, body in cases(path, "what_text").items()}
     for no in lines()["no"]:
-        wanted = texts.get(no["number"])
-        begin = (wanted or "?").split(" header")[0].strip().removesuffix(' "')
-        said = [no["words"]] + [row["line"].split(" ", 2)[2] for row in no.get("exact", [])]
+        begin = (texts.get(no["number"]) or "?").split(" header")[0].strip().removesuffix(' "')
+        table = [row for kind in ("exact", "check", "parts") for row in no.get(kind, [])]
+        said = [no["words"], *[line_words(row, no["number"]) for row in table]]
         other = [text for text in said if not text.startswith(begin)]
+        other += [no["kind"]] if no["kind"] != begin.rstrip(":") else []
         found += [f"lines.toml, number {no['number']}: {text!r} isn't {begin!r}" for text in other]
     return found
+
+
+def line_words(row, number):
+    """What stands in a row's first line behind NO, this number and the words on an export of several."""
+    found = re.match(rf"`NO {number} (?:part J )?(.*)", row["line"])
+    return found[1] if found else row["line"]
+
+
+def of_counts():
+    """The lines of a YES and of a recording that conforms: their words, without the counts."""
+    one = ("edf_verdict/specs/Lines.antt", "counts_text")
+    places = [
+        (lines()["yes"]["exact"], *one),
+        (lines()["yes"]["check"], *one),
+        (lines()["yes"]["parts"], "edf_verdict/specs/PartsLines.antt", "parts_counts_text"),
+        (lines()["conform"], "edf_report/specs/ConformTexts.antt", "counts_line"),
+    ]
+    found = []
+    for table, path, name in places:
+        body = re.search(rf"^{name} [^=]*=(.*?)(?:\n\n|\Z)", source(path), re.MULTILINE | re.DOTALL)[1]
+        wanted = "".join(re.findall(r'codes "([^"]*)"', body)).split()
+        said = [word for word in table[0]["line"].strip("`").split() if len(word) > 1]
+        found += differing(f"lines.toml, {table[0]['line']}", said, wanted)
+    return found
+
+
+def of_calls():
+    """The calls of the module for Python."""
+    text = (CRATES.parent / "extras" / "edfclaim.py").read_text(encoding="utf-8")
+    calls = [row["call"] for row in rows("commands") if row["call"]]
+    return [f"commands.tsv, {call}: extras/edfclaim.py has no such call" for call in calls
+            if f"\ndef {call.removesuffix(')')}, program=None):" not in text]
 
 
 def of_parts():
@@ -100,8 +133,25 @@ def of_refusals():
     names = [first_text(body) for case, body in cases(path, "stop_word").items() if case != "OutOfMemory"]
     found = differing("refused.tsv", [row["name"] for row in rows("refused")], names)
     said = " ".join(row["line"] for row in rows("refusals"))
-    texts = re.findall(r'codes "(edfclaim: [^"]*)"', source(path))
-    return found + [f"refusals.tsv lacks {text!r}" for text in texts if text.strip() not in said]
+    both = source(path) + source("edfclaim/src/main.rt")
+    texts = [text.strip() for text in re.findall(r'(?:codes|refuse\(rt,) "(edfclaim: [^"]*)"', both)]
+    alone = [line for line in re.findall(r"`(edfclaim: [^`]*)`", said) if not line.startswith(tuple(texts))]
+    return (found + [f"refusals.tsv lacks {text!r}" for text in texts if text not in said]
+            + [f"refusals.tsv has {line!r} alone" for line in alone])
+
+
+def of_statuses():
+    """The statuses of the program."""
+    wanted = re.findall(r"^status_of .* = (\d+)$", source("edf_refusal/specs/Statuses.antt"), re.MULTILINE)
+    return differing("statuses.tsv", [row["status"] for row in rows("statuses")], wanted)
+
+
+def of_fields():
+    """The fields of a header, by the names that a place has for them."""
+    path = "edf_fields/specs/fields/LayoutReading.antt"
+    wanted = [first_text(body) for name in ("fixed_field_name", "signal_field_name") for body in cases(path, name).values()]
+    said = re.findall(r"`([^`]*)`", " ".join(row["names"] for row in rows("fields")))
+    return differing("fields.tsv", sorted(said), sorted(wanted))
 
 
 def of_subfields():
@@ -138,7 +188,7 @@ def of_limits():
     """The limits: each stands in the file that has it, as the table says, with this number."""
     found = []
     for row in plain_rows("limits"):
-        if row["stands"] not in (CRATES.parent / row["file"]).read_text(encoding="utf-8"):
+        if not re.search(rf"{re.escape(row['stands'])}(?![\d_])", (CRATES.parent / row["file"]).read_text(encoding="utf-8")):
             found.append(f"limits.tsv, {row['name']}: {row['file']} has no {row['stands']!r}")
         number = int(re.search(r"([\d_]+)$", row["stands"])[1].replace("_", "")) * int(row["times"])
         if f"{number:,}" != row["most"]:
@@ -184,8 +234,9 @@ def of_help(program):
 def comparisons(program):
     """Each comparison: what it is about, and what differs."""
     told = {
-        "causes": of_causes, "lines": of_lines, "parts": of_parts, "refusals": of_refusals, "subfields": of_subfields,
-        "keys": of_keys, "commands": of_commands, "limits": of_limits, "no draft": of_no_draft,
+        "causes": of_causes, "fields": of_fields, "lines": of_lines, "parts": of_parts, "counts": of_counts,
+        "statuses": of_statuses, "refusals": of_refusals, "subfields": of_subfields, "keys": of_keys,
+        "commands": of_commands, "calls": of_calls, "limits": of_limits, "no draft": of_no_draft,
     }
     found = [(name, compare()) for name, compare in told.items()]
     return found + ([("help", of_help(program)), ("options", of_options(program))] if program else [])

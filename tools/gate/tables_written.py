@@ -1,11 +1,9 @@
 """What tools/gate/tables.py writes: the tables of docs/tables, in the form of each page that has them."""
 
-import functools
-import pathlib
 import re
-import tomllib
 
-TABLES = pathlib.Path(__file__).resolve().parent.parent.parent / "docs" / "tables"
+from tables_read import lines, parts_of, rows
+
 NARROW = 120
 # The table of a file that is written whole.
 WHOLE = ""
@@ -16,37 +14,6 @@ PARSED = [
         "gives": "the `Verdict` in a line that was kept",
     }
 ]
-
-
-class BadTable(Exception):
-    """A table that can't be read."""
-
-
-def plain_rows(name):
-    """The rows of a table of docs/tables as they stand there, each a dictionary by the words of its first line."""
-    head, *body = [line.split("\t") for line in (TABLES / f"{name}.tsv").read_text(encoding="utf-8").splitlines()]
-    for number, row in enumerate(body, start=2):
-        if len(row) != len(head):
-            raise BadTable(f"docs/tables/{name}.tsv, line {number}: {len(row)} cells, and not {len(head)}")
-    return [dict(zip(head, row)) for row in body]
-
-
-def with_limits(text):
-    """A text with the number of each limit where it has `{limit.NAME}`."""
-    most = {row["name"]: row["most"] for row in plain_rows("limits")}
-    return re.sub(r"\{limit\.([a-z-]+)\}", lambda found: most[found[1]], text)
-
-
-@functools.cache
-def rows(name):
-    """The rows of a table of docs/tables, with the numbers of limits."""
-    return [{column: with_limits(cell) for column, cell in row.items()} for row in plain_rows(name)]
-
-
-@functools.cache
-def lines():
-    """The lines that the program prints, by docs/tables/lines.toml."""
-    return tomllib.loads(with_limits((TABLES / "lines.toml").read_text(encoding="utf-8")))
 
 
 # ---- in Markdown
@@ -70,7 +37,7 @@ def as_code(name, column):
 
 def limits(of):
     """What a file or a claim has at the most."""
-    return columns([row for row in rows("limits") if row["of"] == of], what="what is counted", most="the most")
+    return columns(parts_of("limits", "of", ("file", "claim"))[of], what="what is counted", most="the most")
 
 
 FOR_CENTRES = {"line": "line", "means": "what it means", "does": "what the centre does", "seen": "seen"}
@@ -81,8 +48,8 @@ def reading():
     said = lines()
     faults = {"means": "what it means", "does": "what the centre does", "seen": "seen"}
     groups = {
-        f"causes-{group}": columns([row for row in rows("causes") if row["group"] == group], fault="fault", **faults)
-        for group in ("end", "header", "signal", "record")
+        f"causes-{group}": columns(table, fault="fault", **faults)
+        for group, table in parts_of("causes", "group", ("end", "header", "signal", "record")).items()
     }
     of_checks = sorted(said["no"], key=lambda no: no["number"])
     of_parts = [row for no in said["no"] for row in no.get("parts", [])]
