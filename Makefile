@@ -26,6 +26,7 @@ install:
 	install -m 644 extras/edfclaim.bash-completion "$(DESTDIR)$(PREFIX)/share/bash-completion/completions/edfclaim"
 	install -m 644 LICENSE-MIT LICENSE-APACHE THIRD-PARTY.md "$(DESTDIR)$(PREFIX)/share/doc/edfclaim"
 	for page in $(PAGES); do install -m 644 "docs/$$page" "$(DESTDIR)$(PREFIX)/share/doc/edfclaim/$$page" || exit 1; done
+	install -D -m 644 docs/tables/rows.tsv "$(DESTDIR)$(PREFIX)/share/doc/edfclaim/tables/rows.tsv"
 
 # Packs the program, in the folder out: as a Debian package, and as a tarball with its digest.
 deb dist:

@@ -1,17 +1,21 @@
 #!/usr/bin/env python3
-"""Looks whether the links of pages lead to files that are there, and to headings of these.
+"""Looks whether the links of pages lead to files that are there, and to headings of these, and whether the scripts and the
+files of the language that they name are there.
 
 usage: tools/gate/links.py                            the pages of the sources, which git knows
-       tools/gate/links.py ROOT                       all pages below a folder, whose links mustn't lead out of it
+       tools/gate/links.py ROOT                       the links of all pages below a folder, which mustn't lead out of it
        tools/gate/links.py --pack PAGES NAME=FILE..   mends the links of packed pages
 
 A page is a file whose name ends in .md, and a link is one of Markdown, or an attribute href or src. Links to the
 network aren't looked at, nor what stands in a block of code or between backquotes. What stands behind a `#` has to be a
 heading of the page, as Markdown is shown on the usual sites: in small letters, spaces as `-`, without other signs.
 
+A file that is named stands between backquotes, by its name or with folders in front, and has an ending such as `.py` or
+`.rt`.
+
 With --pack a link to a file of the sources that isn't packed becomes its words, with `(in the sources)` behind them;
 a link to NAME leads to FILE, where that is packed elsewhere. The last line of a look is 'N passed, M failed', of
-links.
+links and names.
 """
 
 import os
@@ -25,6 +29,7 @@ TOP = pathlib.Path(__file__).resolve().parent.parent.parent
 LINK = re.compile(r"(?P<image>!?)\[(?P<words>(?:[^\[\]]|\[[^\[\]]*\])*)\]\((?P<target>[^()\s]+)(?P<title>\s+\"[^\"]*\")?\)|(?:href|src)=\"(?P<attribute>[^\"]+)\"")
 CODE = re.compile(r"^(?P<fence>```+|~~~+).*?^(?P=fence)[ \t]*$|(?P<ticks>`+)(?!`)[^\n]+?(?<!`)(?P=ticks)(?!`)", re.M | re.S)
 FAR = re.compile(r"[a-z][a-z0-9+.-]*:|//")
+NAMED = re.compile(r"`([\w-][\w./-]*\.(?:py|sh|rt|antt|edit))`")
 HEADING = re.compile(r"^#{1,6} +(.*?) *$", re.M)
 
 
@@ -68,19 +73,27 @@ def fault(root, page, target):
     return None
 
 
-def look(root, pages):
-    """Looks at all links. Returns whether each leads to a file below the root."""
+def found_in(root, page, files):
+    """Each link of a page, and each file that it names where the files are known: the place, the words, and the fault."""
+    text = page.read_text(encoding="utf-8")
+    for link in links_of(text):
+        target = link["target"] or link["attribute"]
+        yield text.count("\n", 0, link.start()) + 1, target, fault(root, page, target)
+    for name in NAMED.finditer(hidden_code(text)) if files else ():
+        known = any(f"/{file}".endswith(f"/{name[1]}") for file in files)
+        yield text.count("\n", 0, name.start()) + 1, name[1], None if known else "no file"
+
+
+def look(root, pages, files):
+    """Looks at all links and names. Returns whether each leads to a file below the root."""
     passed = failed = 0
     for page in pages:
-        text = page.read_text(encoding="utf-8")
-        for link in links_of(text):
-            target = link["target"] or link["attribute"]
-            why = fault(root, page, target)
+        for line, words, why in found_in(root, page, files):
             if why is None:
                 passed += 1
             else:
                 failed += 1
-                print(f"{page.relative_to(root)}:{text.count(chr(10), 0, link.start()) + 1}: {why}: {target}")
+                print(f"{page.relative_to(root)}:{line}: {why}: {words}")
     print(f"{passed} passed, {failed} failed")
     return failed == 0
 
@@ -117,12 +130,10 @@ def main():
         return 2
     if words:
         root = pathlib.Path(words[0]).resolve()
-        pages = sorted(root.rglob("*.md"))
-    else:
-        root = TOP
-        listed = subprocess.run(["git", "ls-files", "-z", "*.md"], cwd=TOP, capture_output=True, text=True, check=True).stdout
-        pages = [root / name for name in listed.split("\0") if name and (root / name).is_file()]
-    return 0 if look(root, pages) else 1
+        return 0 if look(root, sorted(root.rglob("*.md")), []) else 1
+    listed = subprocess.run(["git", "ls-files", "-z"], cwd=TOP, capture_output=True, text=True, check=True).stdout
+    files = [name for name in listed.split("\0") if name and (TOP / name).is_file()]
+    return 0 if look(TOP, [TOP / name for name in files if name.endswith(".md")], files) else 1
 
 
 sys.exit(main())
