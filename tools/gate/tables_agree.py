@@ -196,6 +196,13 @@ def of_limits():
     return found
 
 
+def of_advice():
+    """The digits of a time, by which advice on a claim that is refused goes."""
+    said = re.findall(r"MOST_(?:WHOLE|PLACES): usize = (\d+);", source("edf_claim_advice/src/limits.rt"))
+    most = {row["name"]: row["most"] for row in plain_rows("limits")}
+    return differing("edf_claim_advice/src/limits.rt", said, [most[name] for name in ("second-digits", "fraction-digits")])
+
+
 def of_no_draft():
     """The limits that the comment says by which no claim can be drafted."""
     text = re.search(r'^none_text = codes "(.*)"$', source("edf_draft/specs/Answers.antt"), re.MULTILINE)[1]
@@ -236,7 +243,8 @@ def comparisons(program):
     told = {
         "causes": of_causes, "fields": of_fields, "lines": of_lines, "parts": of_parts, "counts": of_counts,
         "statuses": of_statuses, "refusals": of_refusals, "subfields": of_subfields, "keys": of_keys,
-        "commands": of_commands, "calls": of_calls, "limits": of_limits, "no draft": of_no_draft,
+        "commands": of_commands, "calls": of_calls, "limits": of_limits, "advice": of_advice,
+        "no draft": of_no_draft,
     }
     found = [(name, compare()) for name, compare in told.items()]
     return found + ([("help", of_help(program)), ("options", of_options(program))] if program else [])
