@@ -110,6 +110,23 @@ def of_counts():
     return found
 
 
+def of_show():
+    """The words with which the lines of `show` begin, in their order."""
+    texts = source("edf_report/specs/ShowTexts.antt")
+    words = re.findall(r'(?:word_line|extras_text|with_quoted) \(codes "([a-z-]+ ?)"\)', texts)
+    said = [text.split()[0] for row in lines()["show"] for text in re.findall(r"`([^`]+)`", row["line"])]
+    return differing("lines.toml, [[show]]", list(dict.fromkeys(said)), [word.strip() for word in words])
+
+
+def of_comments():
+    """The comments of a draft: each begins so in the code that writes it."""
+    files = [*(CRATES / "edf_draft" / "src").rglob("*.rt"), CRATES / "edf_claim" / "src" / "drafting" / "draft_text.rt"]
+    code = "".join(path.read_text(encoding="utf-8") for path in files)
+    said = [re.split(r"\.\.|(?<=answers: )", text)[0].strip("# ")
+            for row in lines()["draft"] for text in re.findall(r"`(# [^`]*)`", row["line"])]
+    return [f"lines.toml, [[draft]]: no draft says {text!r}" for text in said if text not in code]
+
+
 def of_calls():
     """The calls of the module for Python."""
     text = (CRATES.parent / "extras" / "edfclaim.py").read_text(encoding="utf-8")
@@ -242,6 +259,7 @@ def comparisons(program):
     """Each comparison: what it is about, and what differs."""
     told = {
         "causes": of_causes, "fields": of_fields, "lines": of_lines, "parts": of_parts, "counts": of_counts,
+        "show": of_show, "comments": of_comments,
         "statuses": of_statuses, "refusals": of_refusals, "subfields": of_subfields, "keys": of_keys,
         "commands": of_commands, "calls": of_calls, "limits": of_limits, "advice": of_advice,
         "no draft": of_no_draft,
