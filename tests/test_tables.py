@@ -94,8 +94,11 @@ class Seen(ProgramCase):
     def seen(self, row):
         """The lines that are seen where a row says so."""
         for piece in pieces(row):
-            yield from (self.lines[number] for number in numbers(piece))
-            for words in commands(piece):
+            rows, typed = list(numbers(piece)), commands(piece)
+            self.assertTrue(rows or typed, f"{piece!r} is no place where a line is seen")
+            self.assertLessEqual(set(rows), set(self.lines), f"{piece!r}: there is no such row")
+            yield from (self.lines[number] for number in rows)
+            for words in typed:
                 ran = self.run_program(*words, cwd=self.night)
                 yield (ran.out or ran.err).decode().splitlines()[0]
 

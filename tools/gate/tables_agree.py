@@ -201,6 +201,19 @@ def of_commands():
                     if name in said and said[name]["about"] != about]
 
 
+def of_manual():
+    """The commands that the manual page describes, with their words; and whether READING-THE-ANSWER knows each."""
+    docs = CRATES.parent / "docs"
+    text = (docs / "edfclaim.1").read_text(encoding="utf-8").partition(".SH COMMANDS\n")[2].partition("\n.SH ")[0]
+    heads = re.findall(r"^\.TP\n\.BI? (.*)$", re.sub(r'\\(-)|"', r"\1", text), re.MULTILINE)
+    said = [" ".join(head.split()) for head in heads]
+    wanted = [f"{row['name']} {row['words'].replace('...', ' ...')}".strip() for row in rows("commands")]
+    found = differing("docs/edfclaim.1, COMMANDS,", sorted(said), sorted(wanted))
+    pages = (docs / "READING-THE-ANSWER.md").read_text(encoding="utf-8")
+    return found + [f"docs/READING-THE-ANSWER.md has no `edfclaim {row['name']}`" for row in rows("commands")
+                    if not re.search(rf"`edfclaim {row['name']}\b(?!-)", pages)]
+
+
 def of_limits():
     """The limits: each stands in the file that has it, as the table says, with this number."""
     found = []
@@ -259,10 +272,9 @@ def comparisons(program):
     """Each comparison: what it is about, and what differs."""
     told = {
         "causes": of_causes, "fields": of_fields, "lines": of_lines, "parts": of_parts, "counts": of_counts,
-        "show": of_show, "comments": of_comments,
-        "statuses": of_statuses, "refusals": of_refusals, "subfields": of_subfields, "keys": of_keys,
-        "commands": of_commands, "calls": of_calls, "limits": of_limits, "advice": of_advice,
-        "no draft": of_no_draft,
+        "show": of_show, "comments": of_comments, "statuses": of_statuses, "refusals": of_refusals,
+        "subfields": of_subfields, "keys": of_keys, "commands": of_commands, "manual": of_manual, "calls": of_calls,
+        "limits": of_limits, "advice": of_advice, "no draft": of_no_draft,
     }
     found = [(name, compare()) for name, compare in told.items()]
     return found + ([("help", of_help(program)), ("options", of_options(program))] if program else [])
