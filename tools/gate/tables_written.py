@@ -100,7 +100,7 @@ def scripts():
     said = [("yes", lines()["yes"]["fields"])] + [(no["kind"], no["fields"]) for no in lines()["no"]]
     for kind, fields in said + [(kind, lines()[kind]["fields"]) for kind in ("conforms", "fault")]:
         by_fields.setdefault(fields, []).append(f"`{kind}`")
-    calls = [row for row in as_code("commands", "call") if row["words"]]
+    calls = [row | {"call": f"`{row['call']}`"} for row in rows("commands") if row["call"]]
     return {
         "calls": columns(calls + PARSED, call="call", gives="what it gives"),
         "kinds": markdown(["kind", "fields"], [[", ".join(kinds), fields] for fields, kinds in by_fields.items()]),
