@@ -1,5 +1,5 @@
 # Shows, proves, builds and tests. All that is needed is the Rattle toolchain (`rt`).
-.PHONY: run build install deb dist check test headline oracle speed bench
+.PHONY: run build install deb dist check test tables headline oracle speed bench
 
 PREFIX = /usr/local
 PROGRAM = crates/edfclaim/out/edfclaim
@@ -41,6 +41,11 @@ check:
 # passed earlier on this machine isn't proved again as long as nothing changes that it stands on.
 test:
 	@tools/gate/gate.sh
+
+# Writes the tables of docs/tables into the pages and files that have them, and that of the wrong bodies anew.
+tables:
+	@tools/gate/wrong_bodies.py
+	@tools/gate/tables.py
 
 # What a Yes means, for an auditor: the contract of the check and each definition that it stands on, in order of
 # need, as out/headline.txt and as a page, out/headline.html.
