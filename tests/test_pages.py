@@ -1,11 +1,12 @@
-"""The blocks of the pages, run as they stand: lines that are typed, with what is shown behind them; claims; and scripts, with
-what the block behind each says that it prints.
+"""The blocks of the pages, run as they stand: lines that are typed, with what is shown behind them; claims; and scripts,
+with what the block behind each says that it prints.
 
-The pages are README.md and those of docs. What is typed stands behind `$ `, or begins with edfclaim and a command. A block is
-typed where one of its lines calls edfclaim; of docs/START.md all are, which is the path of an officer. The lines of a page are typed one after the other in one shell, in a copy of the example
-night. A status has to be 0, or 1 where the page shows a NO or a FAULT. Where the page shows nothing behind a line, what it
-prints isn't compared. A claim has to be one, and where the page checks with it further down, the check has the line that
-is shown there. A block that can't be run has a comment in front of it, `<!-- not run: WHY -->`.
+The pages are README.md and those of docs. What is typed stands behind `$ `, or begins with edfclaim and a command. A block
+is typed where one of its lines calls edfclaim; of docs/START.md all are, which is the path of an officer. The lines of a page
+are typed one after the other in one shell, in a copy of the example night. A status has to be 0, or 1 where the page shows
+a NO or a FAULT. Where the page shows nothing behind a line, what it prints isn't compared. A claim has to be one, and where
+the page checks with it further down, the check has the line that is shown there. A block that can't be run has a comment in
+front of it, `<!-- not run: WHY -->`.
 """
 
 import os
