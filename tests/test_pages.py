@@ -1,11 +1,12 @@
-"""The blocks of the pages, run as they stand: lines that are typed behind `$ `, with what is shown behind them; claims; and
-the scripts of docs/SCRIPTS.md, with what the block behind each says that it prints.
+"""The blocks of the pages, run as they stand: lines that are typed, with what is shown behind them; claims; and scripts,
+with what the block behind each says that it prints.
 
-The pages are README.md and those of docs. A block is typed where one of its lines calls edfclaim; of docs/START.md all are,
-which is the path of an officer. The lines of a page are typed one after the other in one shell, in a copy of the example
-night. A status has to be 0, or 1 where the page shows a NO or a FAULT. Where the page shows nothing behind a line, what it
-prints isn't compared. A claim has to be one, and where the page checks with it further down, the check has the line that
-is shown there. A block that can't be run has a comment in front of it, `<!-- not run: WHY -->`.
+The pages are README.md and those of docs. What is typed stands behind `$ `, or begins with edfclaim and a command. A block
+is typed where one of its lines calls edfclaim; of docs/START.md all are, which is the path of an officer. The lines of a page
+are typed one after the other in one shell, in a copy of the example night. A status has to be 0, or 1 where the page shows
+a NO or a FAULT. Where the page shows nothing behind a line, what it prints isn't compared. A claim has to be one, and where
+the page checks with it further down, the check has the line that is shown there. A block that can't be run has a comment in
+front of it, `<!-- not run: WHY -->`.
 """
 
 import os
@@ -22,6 +23,7 @@ PAGES = ["README.md", *sorted(f"docs/{path.name}" for path in (TOP / "docs").glo
 WHOLE = ["docs/START.md"]
 BLOCK = re.compile(r"^(?P<comment><!-- not run: .*? -->\n+)?```(?P<language>\w*)\n(?P<text>.*?)^```$", re.M | re.S)
 CALL = re.compile(r"(^|[\s(|;])edfclaim ")
+LINE = re.compile(r"^(?:\$ |(?=edfclaim [a-z-]))", re.M)
 
 # Lines that aren't typed: only root installs a package, the shell is in the folder of the night already, and a key is
 # needed to sign.
@@ -50,6 +52,11 @@ class Typed(typing.NamedTuple):
         return 1 if re.match("(NO|FAULT) ", self.shown) else 0
 
 
+def name_of(page):
+    """The page in the names of tests."""
+    return slug(page.removeprefix("docs/").removesuffix(".md"))
+
+
 def text_of(page):
     return (TOP / page).read_text(encoding="utf-8")
 
@@ -63,7 +70,7 @@ def blocks(page):
 
 def typed_in(block):
     """The lines that are typed in a block, each with what is shown behind it."""
-    for part in re.split(r"^\$ ", block.text, flags=re.M)[1:]:
+    for part in LINE.split(block.text)[1:]:
         line, _, shown_behind = part.partition("\n")
         yield line, shown_behind
 
@@ -76,7 +83,7 @@ def typed_on(page):
         if page in WHOLE or any(CALL.search(line) for line, _ in lines):
             for line, shown_behind in lines:
                 if not line.startswith(NOT_TYPED):
-                    name = slug(f"{page.removeprefix('docs/').removesuffix('.md')} {line}")
+                    name = slug(f"{name_of(page)} {line}")
                     names.append(name)
                     again = f"_{names.count(name)}" if names.count(name) > 1 else ""
                     found.append(Typed(name + again, line, shown_behind))
@@ -106,7 +113,7 @@ class Lines(ProgramCase):
 
     def type_page(self, page):
         """Types a page: of each line its status, and what it printed."""
-        room = self.room / slug(page)
+        room = self.room / name_of(page)
         night = shutil.copytree(NIGHT, room / "night")
         for number, typed in enumerate(TYPED[page]):
             (room / f"{number:03}.typed").write_text(typed.line, encoding="utf-8")
@@ -138,7 +145,7 @@ def claims():
             section = text_of(page)[block.end:].partition("\n## ")[0]
             section = re.split("^format = ", section, maxsplit=1, flags=re.M)[0]
             check = re.search(r"^\$ edfclaim check (\S+) (\S+) \S+\n((?:YES|NO) .*\n)", section, re.M)
-            yield slug(f"{page.removeprefix('docs/').removesuffix('.md')} {number + 1}"), block, check
+            yield f"{name_of(page)}_{number + 1}", block, check
 
 
 class Claims(ProgramCase):
@@ -154,33 +161,36 @@ class Claims(ProgramCase):
 
 
 def scripts():
-    """The scripts of docs/SCRIPTS.md: a name, the language, the text, and what the block behind it says that it prints."""
-    found = [block for block in blocks("docs/SCRIPTS.md")]
-    counts = dict.fromkeys(LANGUAGES, 0)
-    for block, behind in zip(found, [*found[1:], None]):
-        if block.language in LANGUAGES:
-            counts[block.language] += 1
-            is_shown = behind and not behind.language and behind.begin == block.end + 2
-            yield f"{block.language}_{counts[block.language]}", block.language, block.text, behind.text if is_shown else ""
+    """The scripts of the pages: a name, the block, and what the block behind it says that it prints."""
+    for page in PAGES:
+        found = list(blocks(page))
+        counts = dict.fromkeys(LANGUAGES, 0)
+        for block, behind in zip(found, [*found[1:], None]):
+            if block.language in LANGUAGES:
+                counts[block.language] += 1
+                is_shown = behind and not behind.language and behind.begin == block.end + 2
+                yield f"{name_of(page)}_{block.language}_{counts[block.language]}", block, behind.text if is_shown else ""
 
 
 class Scripts(ProgramCase):
-    """The scripts, with the program as `edfclaim` on the path. What one of them writes stays for the next ones."""
+    """The scripts, with the program as `edfclaim` on the path, in a copy of the night for each page."""
 
     @classmethod
     def setUpClass(cls):
         super().setUpClass()
-        cls.night = cls.copy_of_night()
         (cls.room / "bin").mkdir()
         (cls.room / "bin" / "edfclaim").symlink_to(cls.program)
 
     @each(scripts())
-    def script(self, language, text, wanted):
-        if not shutil.which(LANGUAGES[language][0]):
-            raise unittest.SkipTest(f"no {LANGUAGES[language][0]}")
+    def script(self, block, wanted):
+        words, night = LANGUAGES[block.language], self.room / name_of(block.page)
+        if not shutil.which(words[0]):
+            raise unittest.SkipTest(f"no {words[0]}")
+        if not night.exists():
+            shutil.copytree(NIGHT, night)
         here = {**os.environ, "PATH": f"{self.room / 'bin'}:{os.environ['PATH']}", "PYTHONPATH": str(TOP / "extras")}
         here |= {"LC_ALL": "C.UTF-8", "PYTHONDONTWRITEBYTECODE": "1"}
-        ran = run(*LANGUAGES[language], self.file("block", text), cwd=self.night, env=here)
+        ran = run(*words, self.file("block", block.text), cwd=night, env=here)
         self.assertEqual((ran.status, ran.out.decode()), (0, wanted), f"what the block prints, and what is shown; {ran}")
 
 
@@ -200,5 +210,5 @@ class Officer(ProgramCase):
         script = TOP / "tools" / "release" / "officer.sh"
         ended = subprocess.run([script, self.program], capture_output=True, text=True, check=False, stdin=subprocess.DEVNULL)
         said = ended.stdout + ended.stderr
-        count = len([line for line in TYPED["docs/START.md"]])
+        count = len(TYPED["docs/START.md"])
         self.assertTrue(ended.returncode == 0 and said.endswith(f"{count} passed, 0 failed\n"), f"{count} lines; {said}")

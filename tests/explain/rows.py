@@ -141,6 +141,10 @@ def of_names():
         [],
         ["has something spelled like"],
     )
+
+
+def of_other_names():
+    """Names in subfields that the export shows, in more annotations than are listed, and none where nobody is named."""
     shown = [name for name in HIDDEN if name != "patient-extras"]
     claim = claim_of(BOTH, anonymous(shown), ALL)
     for extra, there, absent in (("Haagse7", ["The subfield patient-extras of the export has something spelled like"], []),
@@ -576,7 +580,12 @@ def of_channels():
     yield "a sensor, and all channels", 1, WHOLE, edited(NIGHT, (signal(1, "transducer"), "Cup")), ALL_OF_IT, [], [tried]
 
 
+TABLES = [
+    of_names, of_other_names, of_files, of_scales, of_extra_notes, of_samples, of_rates, of_letters, of_places, of_alike,
+    of_one_way, of_claims, of_misspelt, of_channels, of_hidden_letters, of_removed_texts, of_ends, of_numbers,
+]
+
+
 def rows():
-    for table in (of_names, of_files, of_scales, of_extra_notes, of_samples, of_rates, of_letters, of_places, of_alike,
-                  of_one_way, of_claims, of_misspelt, of_channels, of_hidden_letters, of_removed_texts, of_ends, of_numbers):
+    for table in TABLES:
         yield from table()

@@ -230,15 +230,18 @@ def until_three_with(onset, more=b""):
     return edited((field("records"), "3"), parts=[VALUES_0, LANE_0, VALUES_1, LANE_1, VALUES_2, lane(40, text)])
 
 
-def pairs():
-    """The checks by their names: the original, the export and the claim."""
+def of_whole_files():
+    """Those that are no mistake of one part of a file."""
     yield "a copy", WHOLE, WHOLE, EVERYTHING
     yield "behind the calendar", LAST_DAY, LAST_DAY, claim_of(BOTH, "shift = 10000000000", ALL)
     yield "one value", WHOLE, ONE_VALUE, EVERYTHING
     yield "two values", WHOLE, TWO_VALUES, EVERYTHING
     yield "the claim for the export", WHOLE, EVERYTHING.encode(), EVERYTHING
     yield "a letter for the export", WHOLE, b"To whom it may concern: the night is attached.\n", EVERYTHING
-    # channels
+
+
+def of_channels():
+    """Those on channels, and on texts of theirs and of the header."""
     flow = edited((signal(1, "label"), "Flow"))
     yield "a channel that the original lacks", WHOLE, flow, claim_of('["EEG Fpz-Cz", "Flow"]', "", ALL)
     yield "a channel that the export lacks", WHOLE, flow, EVERYTHING
@@ -254,7 +257,10 @@ def pairs():
     yield "an extreme a tenth less", WIDE, NARROWER, EVERYTHING
     yield "a text of a channel", WHOLE, edited((signal(1, "reserved"), "Haagse")), EVERYTHING
     yield "a text of the header", WHOLE, edited((field("reserved"), "EDF+C Haagse")), EVERYTHING
-    # subfields
+
+
+def of_subfields():
+    """Those on subfields."""
     for which, claim in HIDING.items():
         shown = {"patient-extras": bytes_of(WARD),
                  "recording-extras": recorded("Startdate 02-MAR-2002 PSG-1234/2002 NN Telemetry03 Room5")}
@@ -267,13 +273,19 @@ def pairs():
     yield "extras left out", ward, WHOLE, EVERYTHING
     yield "extras hidden, not claimed", ward, patient("MCH-0234567 F 02-MAY-1951 Haagse_Harry X"), EVERYTHING
     yield "date hidden, not claimed", WHOLE, recorded("Startdate X PSG-1234/2002 NN Telemetry03"), EVERYTHING
-    # starts
+
+
+def of_starts():
+    """Those on starts and shifts."""
     yield "an hour early", WHOLE, at_start("01-MAR-2002", "01.03.02", "21.00.00"), A_DAY_BACK
     yield "not moved", WHOLE, WHOLE, A_DAY_BACK
     yield "moved the other way", WHOLE, at_start("03-MAR-2002", "03.03.02"), A_DAY_BACK
     yield "a fraction left out", QUARTER, SILENT, EVERYTHING
     yield "nothing kept", WHOLE, WHOLE, claim_of(BOTH, "", [("100", "200")])
-    # samples
+
+
+def of_samples():
+    """Those on samples."""
     ecg = '["ECG"]'
     yield "half a second less", WHOLE, halves(7), claim_of(ecg, "", ALL)
     yield "half a second more", WHOLE, halves(8), claim_of(ecg, "", [("0", "3.5")])
@@ -281,7 +293,10 @@ def pairs():
     yield "a second less", WHOLE, THREE_SECONDS, EVERYTHING
     yield "a second more", WHOLE, WHOLE, UNTIL_THREE
     yield "another rate", WHOLE, FASTER, EVERYTHING
-    # annotations
+
+
+def of_notes():
+    """Those on annotations that are missing, extra or moved."""
     yield "an annotation less", WHOLE, UNLIT, EVERYTHING
     yield "two annotations less", WHOLE, QUIET, EVERYTHING
     yield "an annotation more", UNLIT, WHOLE, EVERYTHING
@@ -298,6 +313,10 @@ def pairs():
         [], [tal("0.5", "Lights off")], [tal("2.75", "Snoring")]))
     yield "an annotation twice", once, twice, EVERYTHING
     yield "an annotation moved", with_notes([tal("0.5", "Lights off"), tal("2.5", "Snoring")]), moved, EVERYTHING
+
+
+def of_note_texts():
+    """Those on texts, times and durations of annotations."""
     removed = claim_of(BOTH, 'remove = ["Lights off"]', ALL)
     yield "a removed text that is there", WHOLE, WHOLE, removed
     yield "a text removed", WHOLE, UNLIT, removed
@@ -315,7 +334,10 @@ def pairs():
     yield "another duration", WHOLE, longer, EVERYTHING
     other = with_lanes(LANE_0, b"+1\x14\x14\0" + tal("1.5", "Apnoea", 1), LANE_2, LANE_3)
     yield "another text", WHOLE, other, EVERYTHING
-    # behind a Yes
+
+
+def of_yes():
+    """Those that are a Yes."""
     yield "a misspelt text", WHOLE, WHOLE, claim_of(BOTH, 'remove = ["Lights of"]', ALL)
     yield "a misspelt begin", WHOLE, WHOLE, claim_of(BOTH, 'remove-prefix = ["Ligths"]', ALL, 2)
     yield "a begin removed", WHOLE, UNLIT, claim_of(BOTH, 'remove-prefix = ["Lights"]', ALL, 2)
@@ -323,6 +345,12 @@ def pairs():
     plain = [(signal(number, column), "") for number in (0, 1) for column in ("transducer", "prefilter")]
     nobody = edited(*everybody, *plain)
     yield "nothing to read", nobody, nobody, EVERYTHING
+
+
+def pairs():
+    """The checks by their names: the original, the export and the claim."""
+    for table in (of_whole_files, of_channels, of_subfields, of_starts, of_samples, of_notes, of_note_texts, of_yes):
+        yield from table()
 
 
 # Broken copies of the example night's export, by their names in tests/faults.py, and what is said of each.

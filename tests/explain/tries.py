@@ -101,6 +101,10 @@ def with_no():
                f"samples are as claimed: {-DAY - 3}, 0, {DAY}. It looks like the export was cut elsewhere",
            ],
            ["With shift", *LIKELY])
+
+
+def beside_a_shift():
+    """Rows in which no shift is the remedy: parts of a second, shifts beyond the limit, and what else differs."""
     late = NIGHT.but(fraction=PS // 2)
     yield ("a part of a second that is left out", 1, late, late.but(fraction=0, shift=-DAY), Claimed(BOTH, [(0, 200)], -DAY),
            [
@@ -139,6 +143,6 @@ def with_no():
 
 def rows():
     """The rows, with the bytes of their files."""
-    for make in with_yes, with_no:
+    for make in with_yes, with_no, beside_a_shift:
         for name, status, original, export, claim, words, absent in make():
             yield name, status, original.bytes(), export.bytes(), claim.text(), words, absent
