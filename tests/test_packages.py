@@ -259,8 +259,8 @@ class PlainPackage(DebianPackage):
         said("diff", "-r", self.room / "by-debhelper", self.top)
 
 
-# A page with two links that lead to a file, one to what is packed elsewhere, two that lead nowhere, and what is no link;
-# and the same where its links are mended.
+# A page with two links that lead to a file, one to what is packed elsewhere, two that lead to no file and one to no heading,
+# and what is no link; and the same where its links are mended.
 PAGE = """[one](docs/there.md#part) and [**two**](docs) but [gone](docs/gone.md), [`module`](extras/module.py),
 ![no picture](no.png)
 `[code](gone.md)` [far](https://example.org/gone.md) [part](#here)
@@ -277,13 +277,13 @@ class Tools(ProgramCase):
     def setUp(self):
         self.folder = self.room / "pages"
         (self.folder / "docs").mkdir(parents=True, exist_ok=True)
-        (self.folder / "docs" / "there.md").touch()
+        (self.folder / "docs" / "there.md").write_text("# Part\n", encoding="utf-8")
         (self.folder / "README.md").write_text(PAGE, encoding="utf-8")
         self.module = self.file("module.py", "")
 
     def test_links_of_a_page(self):
         ran = run(LINKS, self.folder)
-        self.assertEqual((ran.status, ran.out.splitlines()[-1]), (1, b"2 passed, 3 failed"), str(ran))
+        self.assertEqual((ran.status, ran.out.splitlines()[-1]), (1, b"2 passed, 4 failed"), str(ran))
 
     def test_links_that_are_mended(self):
         said(LINKS, "--pack", self.folder, f"extras/module.py={self.module}")
