@@ -13,7 +13,6 @@ its work for the next one, and goes crate by crate.
 """
 
 import hashlib
-import os
 import pathlib
 import re
 import shutil
