@@ -141,7 +141,7 @@ class NightsCase(ProgramCase):
             cls.link(f"export-{at}.edf", f"{export}.edf")
             cls.link(f"claim-{at}.toml", f"{claim}.toml")
             (cls.nights / "wanted" / f"n{at}.txt").write_bytes(row.encode() + cls.receipts[at % len(KINDS)])
-        # the last two have a claim that isn't one, for now, or no file
+        # of the last two one has a claim that is refused, and one has no export
         cls.link(f"claim-{NIGHTS - 1}.toml", "refused.toml")
         (cls.nights / "night" / f"export-{NIGHTS - 2}.edf").unlink()
 
