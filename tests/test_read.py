@@ -82,18 +82,20 @@ NOTES = [
         ['2002-03-02 22:00:00.5 (0.5 s), 2 times, first in data record 0: "Lights off"\n', APNEA, LAST],
     ),
     (
-        "equal_ones_in_several", [*LANES[:2], *(edf.tal(f"+{at}", "") + edf.tal("+1.5", "Apnea", duration=1) for at in (2, 3))], 4,
+        "equal_ones_in_several",
+        [*LANES[:2], *(edf.tal(f"+{at}", "") + edf.tal("+1.5", "Apnea", duration=1) for at in (2, 3))], 4,
         [OFF, '2002-03-02 22:00:01.5 (1.5 s), for 1 s, 3 times, first in data record 1: "Apnea"\n'],
     ),
     (
         "another_duration_and_another_text",
-        [*LANES[:2], edf.tal("+2", "") + edf.tal("+1.5", "Apnea"), edf.tal("+3", "") + edf.tal("+1.5", "apnea", duration=1)], 4,
+        [*LANES[:2], edf.tal("+2", "") + edf.tal("+1.5", "Apnea"),
+         edf.tal("+3", "") + edf.tal("+1.5", "apnea", duration=1)], 4,
         [OFF, '2002-03-02 22:00:01.5 (1.5 s), data record 2: "Apnea"\n', APNEA,
          '2002-03-02 22:00:01.5 (1.5 s), for 1 s, data record 3: "apnea"\n'],
     ),
     (
         "two_texts_of_one_list", [*LANES[:2], edf.tal("+2", "", "b", "a"), LANES[3]], 5,
-        [OFF, APNEA, '2002-03-02 22:00:02 (2 s), data record 2: "a"\n', '2002-03-02 22:00:02 (2 s), data record 2: "b"\n', LAST],
+        [OFF, APNEA, *(f'2002-03-02 22:00:02 (2 s), data record 2: "{text}"\n' for text in "ab"), LAST],
     ),
 ]
 
@@ -101,8 +103,10 @@ NOTES = [
 FIELDS = [
     ("no_start_date", [(field("recording"), "Startdate X PSG X T3")],
      ["date: X", "administration: PSG", "technician: X", "equipment: T3"]),
-    ("additional_subfields", [(field("patient"), "X X X X Ward7 Bed2")], ["name: X", "patient-extra: Ward7", "patient-extra: Bed2"]),
-    ("recording_extra", [(field("recording"), "Startdate X X X X a b")], ["equipment: X", "recording-extra: a", "recording-extra: b"]),
+    ("additional_subfields", [(field("patient"), "X X X X Ward7 Bed2")],
+     ["name: X", "patient-extra: Ward7", "patient-extra: Bed2"]),
+    ("recording_extra", [(field("recording"), "Startdate X X X X a b")],
+     ["equipment: X", "recording-extra: a", "recording-extra: b"]),
     (
         "fractions", [(signal(0, "physical-minimum"), "-0.05"), (signal(0, "physical-maximum"), "3276.75")],
         ['channel "EEG Fpz-Cz": samples in a data record: 4; -2048 to 2047 stand for -0.05 to 3276.75 "uV"'],
@@ -137,9 +141,9 @@ def of_night():
     administration, technician, equipment = night.RECORDING
     end = night.START + datetime.timedelta(seconds=night.SECONDS)
     yield from ["kind: EDF+C, without gaps", f"start: {night.START}", f"end: {end}, 150 s after the start"]
-    yield from ["data records: 150, of 1 s each", "", f"code: {code}", f"sex: {sex}", f"birthdate: {birthdate}", f"name: {name}"]
-    yield from [f"patient-extra: {ward}", "date: 17-MAR-2019", f"administration: {administration}", f"technician: {technician}"]
-    yield from [f"equipment: {equipment}", ""]
+    yield from ["data records: 150, of 1 s each", "", f"code: {code}", f"sex: {sex}", f"birthdate: {birthdate}"]
+    yield from [f"name: {name}", f"patient-extra: {ward}", "date: 17-MAR-2019", f"administration: {administration}"]
+    yield from [f"technician: {technician}", f"equipment: {equipment}", ""]
     for label, (sensor, unit, low, high, prefilter, rate) in night.CHANNELS.items():
         yield f'channel "{label}": samples in a data record: {rate}; -2048 to 2047 stand for {low} to {high} "{unit}"'
         yield f'  transducer "{sensor}", prefilter "{prefilter}"'

@@ -11,3 +11,4 @@ pub mod TableFacts
 pub mod TextFacts
 pub mod DraftFacts
 pub mod AnyLengthFacts
+pub mod SpellingFacts

@@ -4,6 +4,7 @@ use Rattle.std.specs.Fmt.{decimal}
 use Rattle.edf_claim.specs.Claims.{SaysClaimAtAnyLength, SaysClaimText}
 use Rattle.edf_claim.specs.Terms.{Terms}
 use Rattle.edf_claim.specs.declared.stop.ClaimStop.{ClaimStop}
+use Rattle.edf_claim_text.specs.PlainTexts.{plain_text}
 use Rattle.edf_fields.specs.in_out.Sinks.{HoldsPrefix}
 use Rattle.edf_stop.specs.declared.stops.RunStop.{RunStop}
 use Rattle.edf_stop.specs.declared.stops.RunStop.TheVariants.{OutOfMemory, ReadFailed, Claim, WriteFailed}
@@ -23,11 +24,14 @@ abbrev pub IsSaidWith : Outcome → Terms → List ℕ → Type 0
 IsSaidWith Yes claim text = SaysClaimAtAnyLength text claim
 IsSaidWith No claim text = ¬ SaysClaimAtAnyLength text claim
 
--- what is printed of a claim: a text that says it, with Yes; and behind it, where it is longer than a claim may be, by how much
+-- what is printed of a claim: its plainest form, and behind it, where that is longer than a claim may be, by how much
+abbrev pub printed_text : Terms → List ℕ
+printed_text claim = plain_text claim ++ length_comment (length (plain_text claim))
+
+-- it is what is printed of the claim; with Yes its plainest form says the claim, and with No it doesn't
 pub record IsPrinted (claim : Terms) (text : List ℕ) (outcome : Outcome) : Type 0 where
-  pub plain : List ℕ
-  pub said : IsSaidWith outcome claim plain
-  pub behind : text ≡ plain ++ length_comment (length plain)
+  pub said : IsSaidWith outcome claim (plain_text claim)
+  pub is : text ≡ printed_text claim
 
 -- behind what was held stands what is printed of the claim that a text says, and nothing else
 pub record IsClaimWritten (claim_text old new : List ℕ) (outcome : Outcome) : Type 0 where

@@ -77,7 +77,7 @@ fn push_texts(
 ) -> Result<(), AllocError> {
     for (said, count) in texts.iter().zip(counts) {
         push(text, "  ")?;
-        push_said_text(text, alloc, said)?;
+        push_said_text(text, said)?;
         let stands = format!(in alloc; ", # confirm; how often it stands: {count}\n")?;
         push(text, &stands)?;
     }
@@ -98,7 +98,7 @@ impl Draft {
         )?;
         for (label, is_known) in self.channels.iter().zip(are_known) {
             push(text, "  ")?;
-            push_said_text(text, alloc, label)?;
+            push_said_text(text, label)?;
             let behind = if *is_known {
                 ", # confirm\n"
             } else {
