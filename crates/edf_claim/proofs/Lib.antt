@@ -10,3 +10,4 @@ pub mod SortedFacts
 pub mod TableFacts
 pub mod TextFacts
 pub mod DraftFacts
+pub mod AnyLengthFacts
