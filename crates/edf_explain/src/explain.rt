@@ -51,10 +51,10 @@ pub(crate) fn looker_for(alloc: Global, claim_text: &[u8]) -> Looker {
 /// What was seen of two files under their claim, and what their samples and annotations are reckoned by: the same, or what
 /// was seen of them under the shift with which all samples are as claimed.
 #[derive(Clone, Copy)]
-struct Both<'a, 'c> {
+struct Both<'a, 'b, 'c, 'd> {
     claimed: &'a Seen<'c>,
-    reckoned: &'a Seen<'c>,
-    only: &'a OnlyInOne,
+    reckoned: &'b Seen<'d>,
+    only: &'b OnlyInOne,
 }
 
 /// Says how the export isn't as claimed. Where the check answers with a Yes with another shift, the samples and annotations that
@@ -62,7 +62,7 @@ struct Both<'a, 'c> {
 fn say_differences<R: Recordings>(
     text: &mut Text,
     asked: &Asked<'_, R>,
-    both: Both<'_, '_>,
+    both: Both<'_, '_, '_, '_>,
     shifts: &TriedShifts,
 ) -> Result<(), RunStop> {
     let heads = Heads {
@@ -95,7 +95,7 @@ fn say_differences<R: Recordings>(
 fn say_behind<R: Recordings>(
     text: &mut Text,
     asked: &Asked<'_, R>,
-    both: Both<'_, '_>,
+    both: Both<'_, '_, '_, '_>,
 ) -> Result<(), AllocError> {
     let read = ReadTexts {
         claim: both.claimed.claim(),
@@ -114,7 +114,7 @@ fn say_behind<R: Recordings>(
 fn say_both<R: Recordings>(
     text: &mut Text,
     asked: &Asked<'_, R>,
-    both: Both<'_, '_>,
+    both: Both<'_, '_, '_, '_>,
     shifts: &TriedShifts,
 ) -> Result<(), RunStop> {
     say_differences(text, asked, both, shifts)?;
@@ -155,7 +155,7 @@ fn say_reckoned<R: Recordings>(
     };
     let only = seen.only_in_one(alloc)?;
     let both = Both {
-        claimed,
+        claimed: &*claimed,
         reckoned: &seen,
         only: &only,
     };
