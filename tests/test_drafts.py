@@ -221,6 +221,21 @@ class Comments(DraftCase):
             'remove = [\n  "Apnea", # confirm; how often it stands: 1\n]',
         ], ["blank = ["])
 
+    def test_text_that_was_removed_beside_one_that_was_blanked(self):
+        """One `X` stands where both texts were, and another where only one of them was."""
+        both = NIGHT.but(notes=[(at * PS, None, text) for at, text in ((10, "Apnea"), (10, "Arousal"), (20, "Arousal"))])
+        self.assert_says(both, both.but(notes=[(10 * PS, None, "X"), (20 * PS, None, "X")]), [
+            f"{YES}YES channels 2 samples 600 annotations 2\n", 'remove = [\n  "Apnea", # confirm; how often it stands: 1\n]',
+            'blank = [\n  "Arousal", # confirm; how often it stands: 2\n]',
+        ], REMARKS)
+
+    def test_x_that_was_removed(self):
+        own = NIGHT.but(notes=[(10 * PS, None, "X"), (20 * PS, None, "Apnea")])
+        self.assert_says(own, own.but(notes=[(20 * PS, None, "X")]), [
+            f"{YES}YES channels 2 samples 600 annotations 1\n", 'remove = [\n  "X", # confirm; how often it stands: 1\n]',
+            'blank = [\n  "Apnea", # confirm; how often it stands: 1\n]',
+        ], REMARKS)
+
     def test_channel_more(self):
         more = NIGHT.but(channels={**NIGHT.channels, "Temp": [place % 50 for place in range(100)]})
         self.assert_says(NIGHT, more, [
