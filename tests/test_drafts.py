@@ -140,6 +140,12 @@ class Comments(DraftCase):
             f'{NO}NO 10 sample "ECG" at 550000000000000 ps original 1100 export 7. ', BY_SAMPLES, "\nshift = -300 # confirm: ",
         ])
 
+    def test_days_that_the_samples_tell_as_well(self):
+        """The days stay, though the check with them is a No: of another annotation."""
+        late = self.QUARTER.cut(300, 600).but(notes=[(400 * PS, None, "Apnea")])
+        self.assert_says(self.QUARTER, late, [f'{NO}NO 11 annotation extra at 400000000000000 ps text "Apnea"', "\nshift = 0 # "],
+                         REMARKS)
+
     def test_changed_from_the_first_sample_on(self):
         """Nothing is found by the samples: the days stay, by which the export is taken for another part."""
         late = self.QUARTER.cut(300, 600, -300).changed("ECG", 600, 7)
