@@ -140,6 +140,12 @@ class Comments(DraftCase):
             f'{NO}NO 10 sample "ECG" at 550000000000000 ps original 1100 export 7. ', BY_SAMPLES, "\nshift = -300 # confirm: ",
         ])
 
+    def test_days_that_the_samples_tell_as_well(self):
+        """The days stay, though the check with them is a No: of another annotation."""
+        late = self.QUARTER.cut(300, 600).but(notes=[(400 * PS, None, "Apnea")])
+        self.assert_says(self.QUARTER, late, [f'{NO}NO 11 annotation extra at 400000000000000 ps text "Apnea"', "\nshift = 0 # "],
+                         REMARKS)
+
     def test_changed_from_the_first_sample_on(self):
         """Nothing is found by the samples: the days stay, by which the export is taken for another part."""
         late = self.QUARTER.cut(300, 600, -300).changed("ECG", 600, 7)
@@ -220,6 +226,21 @@ class Comments(DraftCase):
             f"{YES}YES channels 2 samples 600 annotations 2\n", "format = 1\n",
             'remove = [\n  "Apnea", # confirm; how often it stands: 1\n]',
         ], ["blank = ["])
+
+    def test_text_that_was_removed_beside_one_that_was_blanked(self):
+        """One `X` stands where both texts were, and another where only one of them was."""
+        both = NIGHT.but(notes=[(at * PS, None, text) for at, text in ((10, "Apnea"), (10, "Arousal"), (20, "Arousal"))])
+        self.assert_says(both, both.but(notes=[(10 * PS, None, "X"), (20 * PS, None, "X")]), [
+            f"{YES}YES channels 2 samples 600 annotations 2\n", 'remove = [\n  "Apnea", # confirm; how often it stands: 1\n]',
+            'blank = [\n  "Arousal", # confirm; how often it stands: 2\n]',
+        ], REMARKS)
+
+    def test_x_that_was_removed(self):
+        own = NIGHT.but(notes=[(10 * PS, None, "X"), (20 * PS, None, "Apnea")])
+        self.assert_says(own, own.but(notes=[(20 * PS, None, "X")]), [
+            f"{YES}YES channels 2 samples 600 annotations 1\n", 'remove = [\n  "X", # confirm; how often it stands: 1\n]',
+            'blank = [\n  "Apnea", # confirm; how often it stands: 1\n]',
+        ], REMARKS)
 
     def test_channel_more(self):
         more = NIGHT.but(channels={**NIGHT.channels, "Temp": [place % 50 for place in range(100)]})

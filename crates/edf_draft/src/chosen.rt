@@ -59,23 +59,42 @@ fn better_of(best: Option<Tried>, tried: Tried) -> Tried
     }
 }
 
-/// The draft with the shift by which samples of the export are samples of the original; of several that one with which the
-/// check gets furthest. None where there is no such shift.
+/// The shifts by which samples of the export are samples of the original, and the one with which a draft was tried before.
+#[derive(Drop)]
+struct Fits {
+    shifts: Vec<i64>,
+    tried: Option<i64>,
+}
+
+impl Fits {
+    /// Whether the one that was tried before is one of them.
+    fn have_tried(&self) -> bool {
+        match self.tried {
+            Some(shift) => self.shifts.contains(&shift),
+            None => false,
+        }
+    }
+}
+
+/// The draft with a shift by which samples of the export are samples of the original, and which wasn't tried before; of several
+/// that one with which the check gets furthest. None where there is no such shift.
 fn draft_by_samples<R: Recordings>(
     alloc: Global,
     original: &Recorded,
     export: &Recorded,
+    fits: &Fits,
     again: &R,
 ) -> Result<Option<Tried>, AllocError>
     ensures { IfOk result (λ best. IfSome best (λ tried. (shift : ℤ) × IsTriedDraft
         (anew (R.are_honest again.now) (R.original again.now) (R.export again.now))
         ((original.now).reader).head ((export.now).reader).head shift tried)) }
 {
-    let fits = fitting_shifts(alloc, original, export, again)?;
     let mut best = None;
-    for shift in &fits {
-        let moved = Moved::by_samples(*shift, &fits);
-        if let Some(tried) = draft_tried(alloc, original, export, moved, again)? {
+    for shift in &fits.shifts {
+        let moved = Moved::by_samples(*shift, &fits.shifts);
+        if fits.tried != Some(*shift)
+            && let Some(tried) = draft_tried(alloc, original, export, moved, again)?
+        {
             best = Some(better_of(best, tried));
         }
         if is_yes(&best) {
@@ -111,7 +130,7 @@ fn chosen(by_days: Option<Tried>, by_samples: Option<Tried>) -> Option<Tried>
 }
 
 /// The draft with the shift that the starts of the two files tell; or, where the check with that isn't a Yes, maybe one by the
-/// samples.
+/// samples: where these tell the same shift, too, only one with which it is a Yes.
 #[tactic(auto, using(crate::proofs::ChoiceFacts::days_given, crate::proofs::ChoiceFacts::chosen_given))]
 fn draft_of_told<R: Recordings>(
     alloc: Global,
@@ -128,7 +147,14 @@ fn draft_of_told<R: Recordings>(
     if is_yes(&told) {
         return Ok(told);
     }
-    let by_samples = draft_by_samples(alloc, original, export, again)?;
+    let fits = Fits {
+        shifts: fitting_shifts(alloc, original, export, again)?,
+        tried: Some(shift.seconds),
+    };
+    let by_samples = draft_by_samples(alloc, original, export, &fits, again)?;
+    if fits.have_tried() && !is_yes(&by_samples) {
+        return Ok(told);
+    }
     Ok(chosen(told, by_samples))
 }
 
@@ -145,7 +171,11 @@ fn draft_of_guess<R: Recordings>(
         (anew (R.are_honest again.now) (R.original again.now) (R.export again.now))
         ((original.now).reader).head ((export.now).reader).head shift.seconds)) }
 {
-    let by_samples = draft_by_samples(alloc, original, export, again)?;
+    let fits = Fits {
+        shifts: fitting_shifts(alloc, original, export, again)?,
+        tried: None,
+    };
+    let by_samples = draft_by_samples(alloc, original, export, &fits, again)?;
     if is_yes(&by_samples) {
         return Ok(chosen(None, by_samples));
     }

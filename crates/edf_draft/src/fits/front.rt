@@ -9,7 +9,7 @@ use std::alloc::{AllocError, Global};
 /// How many samples that aren't as the one before are enough, and how many bytes of a channel. A data record is always taken whole.
 const ENOUGH_CHANGES: usize = 64;
 
-const ENOUGH_BYTES: usize = 16_384;
+const ENOUGH_BYTES: usize = 4_096;
 
 /// The first samples of a channel that both files have.
 #[derive(Drop)]

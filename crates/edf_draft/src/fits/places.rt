@@ -6,6 +6,10 @@ use edf_stream::FileReader;
 use std::alloc::{AllocError, Global};
 use std::mem;
 
+/// How many places are looked into at the most at a time, and how many are found. Where there are so many, channels stand still,
+/// and no place is told.
+const MOST_PLACES: usize = 1_024;
+
 /// Whether samples stand at a place, as far as data records were read.
 #[derive(Clone, Copy)]
 enum Stand {
@@ -131,9 +135,9 @@ impl Places {
     /// Takes in a time, if the samples of the front that the data record has stand there.
     fn take(&mut self, record: RecordAt<'_>, front: &Front, at_ps: i128) -> Result<(), AllocError> {
         match record.has_front(front, at_ps) {
-            Stand::No => {}
-            Stand::SoFar => self.open.push(at_ps)?,
-            Stand::All => self.found.push(at_ps)?,
+            Stand::SoFar if self.open.len() < MOST_PLACES => self.open.push(at_ps)?,
+            Stand::All if self.found.len() < MOST_PLACES => self.found.push(at_ps)?,
+            _ => {}
         }
         Ok(())
     }
@@ -220,7 +224,10 @@ pub(crate) fn places_of<S: Source>(
     };
     let mut ended_ps = None;
     for _ in 0..reader.header().records() {
-        if reader.next(source).is_err() || !reader.has_current() {
+        if MOST_PLACES <= places.found.len()
+            || reader.next(source).is_err()
+            || !reader.has_current()
+        {
             break;
         }
         let record = RecordAt {
