@@ -10,45 +10,53 @@ use Rattle.edf_stop.specs.Stops.{stop_of_check}
 use Rattle.edf_stream.specs.Faults.{file_fault}
 use Rattle.edf_stream.proofs.ForCallers.{conforming_is_faultless}
 use Rattle.edf_verdict.specs.declared.outcome.Outcome.TheVariants.{No}
-use Rattle.edf_draft.specs.Answers.{IsAnswer, IsFaultAt, IsReadOf, IsTextOf, fault_text_of, none_text}
+use Rattle.edf_draft.specs.Answers.{IsAnswer, IsFaultAt, IsReadOf, IsShiftBetween, IsTextOf, fault_text_of, none_text}
 use Rattle.edf_draft.specs.Days.{IsShift}
-use Rattle.edf_draft.specs.Drafts.{IsDraftText}
+use Rattle.edf_draft.specs.Drafts.{IsDraftText, IsShiftOf}
+use Rattle.edf_draft.specs.FirstLines.{Anew}
 use Rattle.edf_draft.specs.Times.{begin_of, end_of}
 use Rattle.edf_draft.specs.declared.recorded.Recorded.{Recorded}
+use Rattle.edf_draft.proofs.ChoiceFacts.{moved_weaker}
 
 -- a file that was read to its end has no fault
 pub faultless : (file : List ℕ) (recorded : Recorded) → IsReadOf file recorded → file_fault file ≡ None
 faultless file recorded read = (conforming_is_faultless file).1 ((recorded.reader).head, read.conforms)
 
-pub fault_answers : (original export text : List ℕ) (side : Side) (fault : Fault) → text ≡ fault_text_of side fault → IsFaultAt side fault original export
-    → IsAnswer original export text No
-fault_answers original export text Original fault is at = inl (fault, at, is)
-fault_answers original export text Export fault is at = inr (inl (fault, at.0, at.1, is))
+pub fault_answers : (again : Anew) (original export text : List ℕ) (side : Side) (fault : Fault) → text ≡ fault_text_of side fault
+    → IsFaultAt side fault original export → IsAnswer again original export text No
+fault_answers again original export text Original fault is at = inl (fault, at, is)
+fault_answers again original export text Export fault is at = inr (inl (fault, at.0, at.1, is))
 
-pub none_answers : (original export text : List ℕ) (o e : Recorded) → text ≡ none_text → IsReadOf original o → IsReadOf export e → IsAnswer original export text No
-none_answers original export text o e is first second = inr (inr (faultless original o first, faultless export e second, is))
+pub none_answers : (again : Anew) (original export text : List ℕ) (o e : Recorded) → text ≡ none_text → IsReadOf original o → IsReadOf export e
+    → IsAnswer again original export text No
+none_answers again original export text o e is first second = inr (inr (faultless original o first, faultless export e second, is))
 
 moved_there : (a b c d p q r s : ℤ) (told : Bool) (shift : ℤ) → a ≡ p → b ≡ q → c ≡ r → d ≡ s → IsShift a b c d told shift → IsShift p q r s told shift
 moved_there a b c d p q r s told shift first second third fourth moved =
     subst (λ x. IsShift x q r s told shift) first (subst (λ x. IsShift a x r s told shift) second
     (subst (λ x. IsShift a b x s told shift) third (subst (λ x. IsShift a b c x told shift) fourth moved)))
 
-pub draft_answers : (original export text : List ℕ) (o e : Recorded) → IsReadOf original o → IsReadOf export e → IsTextOf o e text
-    → IsDraftText original export text
-draft_answers original export text o e first second is = record {
+shift_there : (original export : List ℕ) (o e : Recorded) → IsReadOf original o → IsReadOf export e → (shift : ℤ) → IsShiftBetween o e shift
+    → IsShiftOf original (o.reader).head export (e.reader).head shift
+shift_there original export o e first second shift is = (
+  is.0,
+  moved_there (o.times).begin_ps (o.times).end_ps (e.times).begin_ps (e.times).end_ps
+      (begin_of original (o.reader).head) (end_of original (o.reader).head) (begin_of export (e.reader).head) (end_of export (e.reader).head)
+      is.0 shift first.begins first.ends second.begins second.ends is.1,
+)
+
+pub draft_answers : (again : Anew) (original export text : List ℕ) (o e : Recorded) → IsReadOf original o → IsReadOf export e → IsTextOf again o e text
+    → IsDraftText again original export text
+draft_answers again original export text o e first second is = record {
   o = (o.reader).head;
   e = (e.reader).head;
-  claim = is.1;
+  claim = is.claim;
   original_conforms = first.conforms;
   export_conforms = second.conforms;
-  says = is.2;
-  drafts = is.3;
-  moved = (
-    is.0,
-    moved_there (o.times).begin_ps (o.times).end_ps (e.times).begin_ps (e.times).end_ps
-        (begin_of original (o.reader).head) (end_of original (o.reader).head) (begin_of export (e.reader).head) (end_of export (e.reader).head)
-        is.0 (is.1).shift first.begins first.ends second.begins second.ends is.4,
-  );
+  says = is.says;
+  drafts = is.drafts;
+  moved = moved_weaker again (o.reader).head (e.reader).head (IsShiftBetween o e) (IsShiftOf original (o.reader).head export (e.reader).head)
+      text (is.claim).shift (shift_there original export o e first second) is.moved;
 }
 
 -- a stop of the reading is no failed write

@@ -2,4 +2,6 @@ pub mod StopFacts
 pub mod DayFacts
 pub mod HiddenFacts
 pub mod BeginFacts
+pub mod FirstLineFacts
+pub mod ChoiceFacts
 pub mod AnswerFacts

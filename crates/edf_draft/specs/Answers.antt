@@ -1,5 +1,5 @@
 -- What is written of two files: the draft of a claim, or the fault of one of them; and why nothing is.
-use Rattle.std.specs.Prelude.{◌≡◌, ℕ, Bool, IsTrue, List, [], ◌∷◌, ◌++◌, ◌⊎◌, None, Some, codes}
+use Rattle.std.specs.Prelude.{◌≡◌, ℕ, ℤ, Bool, IsTrue, List, [], ◌∷◌, ◌++◌, ◌⊎◌, None, Some, codes}
 use Rattle.edf_claim.specs.Claims.{SaysClaimText}
 use Rattle.edf_claim.specs.Terms.{Terms}
 use Rattle.edf_fields.specs.FaultTexts.{fault_text}
@@ -17,7 +17,8 @@ use Rattle.edf_stream.specs.Faults.{file_fault}
 use Rattle.edf_verdict.specs.declared.outcome.Outcome.{Outcome}
 use Rattle.edf_verdict.specs.declared.outcome.Outcome.TheVariants.{Yes, No}
 use Rattle.edf_draft.specs.Days.{IsShift}
-use Rattle.edf_draft.specs.Drafts.{IsDraftFor, IsDraftText}
+use Rattle.edf_draft.specs.Drafts.{IsDraftFor, IsDraftText, IsMoved}
+use Rattle.edf_draft.specs.FirstLines.{Anew}
 use Rattle.edf_draft.specs.Times.{begin_of, end_of}
 use Rattle.edf_draft.specs.declared.recorded.Recorded.{Recorded}
 
@@ -26,11 +27,17 @@ abbrev pub fault_text_of : Side → Fault → List ℕ
 fault_text_of Original fault = codes "# the original\nFAULT " ++ (fault_text fault ++ (10 ∷ []))
 fault_text_of Export fault = codes "# the export\nFAULT " ++ (fault_text fault ++ (10 ∷ []))
 
--- a text says just what is drafted of two files that were read, of which the shift is told by when they begin and end, or isn't
-abbrev pub IsTextOf : Recorded → Recorded → List ℕ → Type 0
-IsTextOf o e text =
-    (told : Bool) × (claim : Terms) × SaysClaimText text claim × IsDraftFor (o.reader).head (e.reader).head claim.shift claim
-    × IsShift (o.times).begin_ps (o.times).end_ps (e.times).begin_ps (e.times).end_ps told claim.shift
+-- the shift is the one that the times of two files tell that were read
+abbrev pub IsShiftBetween : Recorded → Recorded → ℤ → Type 0
+IsShiftBetween o e shift =
+    (told : Bool) × IsShift (o.times).begin_ps (o.times).end_ps (e.times).begin_ps (e.times).end_ps told shift
+
+-- a text says just what is drafted of two files that were read
+pub record IsTextOf (again : Anew) (o e : Recorded) (text : List ℕ) : Type 0 where
+  pub claim : Terms
+  pub says : SaysClaimText text claim
+  pub drafts : IsDraftFor (o.reader).head (e.reader).head claim.shift claim
+  pub moved : IsMoved again (o.reader).head (e.reader).head (IsShiftBetween o e) text claim.shift
 
 -- the first fault of the file of this side, and where it is the export's, the original has none
 abbrev pub IsFaultAt : Side → Fault → List ℕ → List ℕ → Type 0
@@ -49,9 +56,9 @@ none_text = codes "# no draft: the export needs more than a claim can say (1,000
 
 -- what is written of two files, with the outcome: the draft of a claim and Yes; the fault of the original, or else of the export, and No; or,
 -- of two files that conform, No and that comment, where no claim says it
-abbrev pub IsAnswer : List ℕ → List ℕ → List ℕ → Outcome → Type 0
-IsAnswer original export text Yes = IsDraftText original export text
-IsAnswer original export text No =
+abbrev pub IsAnswer : Anew → List ℕ → List ℕ → List ℕ → Outcome → Type 0
+IsAnswer again original export text Yes = IsDraftText again original export text
+IsAnswer again original export text No =
     ((fault : Fault) × (file_fault original ≡ Some fault) × (text ≡ fault_text_of Original fault))
     ⊎ ((fault : Fault) × (file_fault original ≡ None) × (file_fault export ≡ Some fault) × (text ≡ fault_text_of Export fault))
     ⊎ ((file_fault original ≡ None) × (file_fault export ≡ None) × (text ≡ none_text))
@@ -78,8 +85,8 @@ DraftStops original export written none runs.WriteFailed = written
 -- ---- the same of sources, before and behind
 
 -- what is written of what two honest sources have left
-abbrev pub IsAnswerBy : {O E : Type 0} → Ghosts O → O → Ghosts E → E → List ℕ → Outcome → Type 0
-IsAnswerBy original o export e text outcome = IsTrue (original.is_honest o) → IsTrue (export.is_honest e) → IsAnswer (original.left o) (export.left e) text outcome
+abbrev pub IsAnswerBy : {O E : Type 0} → Anew → Ghosts O → O → Ghosts E → E → List ℕ → Outcome → Type 0
+IsAnswerBy again original o export e text outcome = IsTrue (original.is_honest o) → IsTrue (export.is_honest e) → IsAnswer again (original.left o) (export.left e) text outcome
 
 -- why a side isn't read to its end
 abbrev pub StopsSide : {S : Type 0} → Ghosts S → Side → S → S → CheckStop → Type 0

@@ -1,6 +1,10 @@
+pub mod Better
+pub mod Choices
 pub mod Days
+pub mod FirstLines
 pub mod Hidden
 pub mod Times
+pub mod Tries
 pub mod Drafts
 pub mod Answers
 pub mod Written

@@ -4,9 +4,10 @@ ghost use Rattle.std.specs.Prelude.{◌≡◌, List, ℕ, Some, IfOk, IfErr, OnO
 ghost use Rattle.edf_stream.specs.Faults.{file_fault};
 ghost use Rattle.edf_stop.specs.declared.stops.CheckStop.TheVariants as check_stops;
 ghost use Rattle.edf_draft.specs.Answers.{IsAnswer, IsAnswerBy, IsFaultAt, IsReadOf, StopsBoth, StopsSide, fault_text_of};
+ghost use Rattle.edf_draft.specs.FirstLines.{IsTrueOfYes, anew, Anew};
 ghost use Rattle.edf_draft.specs.Readings.{OfSource};
 
-use crate::drafted::draft_text;
+use crate::chosen::draft_text;
 use crate::recorded::{Recorded, read_through};
 use edf_fields::{Fault, Source};
 use edf_header::Stop;
@@ -43,9 +44,11 @@ fn fault_lines(alloc: Global, side: Side, fault: &Fault) -> Result<Vec<u8>, Allo
 
 impl Answer {
     /// That of a fault.
-    #[tactic(auto, using(crate::proofs::AnswerFacts::fault_answers))]
+    #[tactic(auto, using(crate::proofs::AnswerFacts::fault_answers, crate::proofs::FirstLineFacts::fault_is_true))]
     fn of_fault(alloc: Global, side: Side, fault: &Fault) -> Result<Answer, CheckStop>
-        ensures answer { IfOk result (λ a. (original export : List ℕ) → IsFaultAt side fault.now original export → IsAnswer original export a.text.items a.outcome) }
+        ensures answer { IfOk result (λ a. (again : Anew) (original export : List ℕ) → IsFaultAt side fault.now original export →
+            IsAnswer again original export a.text.items a.outcome) }
+        ensures first { IfOk result (λ a. (again : Anew) → IsTrueOfYes again a.text.items) }
         ensures stop { IfErr result (λ stop. stop ≡ check_stops.OutOfMemory) }
     {
         Ok(Answer {
@@ -61,7 +64,9 @@ impl Answer {
         export: &Recorded,
         again: &R,
     ) -> Result<Answer, CheckStop>
-        ensures answer { IfOk result (λ a. (o e : List ℕ) → IsReadOf o original.now → IsReadOf e export.now → IsAnswer o e a.text.items a.outcome) }
+        ensures answer { IfOk result (λ a. (o e : List ℕ) → IsReadOf o original.now → IsReadOf e export.now → IsAnswer
+            (anew (R.are_honest again.now) (R.original again.now) (R.export again.now)) o e a.text.items a.outcome) }
+        ensures first { IfOk result (λ a. IsTrueOfYes (anew (R.are_honest again.now) (R.original again.now) (R.export again.now)) a.text.items) }
         ensures stop { IfErr result (λ stop. stop ≡ check_stops.OutOfMemory) }
     {
         match draft_text(alloc, original, export, again)? {
@@ -108,7 +113,9 @@ pub(crate) fn answer_of<O: Source, E: Source, R: Recordings>(
     export: &mut E,
     again: &R,
 ) -> Result<Answer, CheckStop>
-    ensures answer { IfOk result (λ a. IsAnswerBy O.Source original.old E.Source export.old a.text.items a.outcome) }
+    ensures answer { IfOk result (λ a. IsAnswerBy (anew (R.are_honest again.now) (R.original again.now) (R.export again.now))
+        O.Source original.old E.Source export.old a.text.items a.outcome) }
+    ensures first { IfOk result (λ a. IsTrueOfYes (anew (R.are_honest again.now) (R.original again.now) (R.export again.now)) a.text.items) }
     ensures failures { OnOk result ((O.reads original.new ≡ O.reads original.old) × (E.reads export.new ≡ E.reads export.old)) }
     ensures stop { IfErr result (StopsBoth O.Source original.old original.new E.Source export.old export.new) }
 {

@@ -4,7 +4,7 @@ use crate::days::DAY_PS;
 use crate::hidden::hidden_subfields;
 use crate::kept::back::{Back, moved_stretches, times_beside};
 use crate::recorded::{Recorded, Times};
-use crate::shift::{Shift, shift_of};
+use crate::shift::{Moved, shift_of};
 use edf_fields::Which;
 use edf_header::Header;
 use edf_heads::ChannelIndex;
@@ -15,6 +15,12 @@ use std::alloc::{AllocError, Global};
 const UNTOLD: &str = "
 # NOT TOLD by the starts: no shift by whole days puts the export into the time of the original. The shift below lets
 # both begin together, which is a guess, and the intervals follow from it. Set both right before anything else.
+";
+
+/// What stands in a draft whose shift was found by the samples.
+const BY_SAMPLES: &str = "
+# TOLD BY THE SAMPLES: with the shift below, samples of the export are samples of the original. The starts alone tell
+# another shift, or none.
 ";
 
 /// What stands in a draft by which nothing is moved.
@@ -56,9 +62,9 @@ fn look_swapped(
     alloc: Global,
     original: &Recorded,
     export: &Recorded,
-    shift: Shift,
+    moved: Moved<'_>,
 ) -> Result<bool, AllocError> {
-    if !shift.is_told && shift_of(export, original).is_told {
+    if !moved.is_told && shift_of(export, original).is_told {
         return Ok(true);
     }
     let (old, new) = (original.reader.header(), export.reader.header());
@@ -82,12 +88,12 @@ fn say_beside(
     alloc: Global,
     original: &Recorded,
     export: &Recorded,
-    shift: Shift,
+    moved: Moved<'_>,
 ) -> Result<(), AllocError> {
     let back = Back::new(
         original.start_second(),
         export.start_second(),
-        shift.seconds,
+        moved.seconds,
     );
     let stretches = moved_stretches(alloc, export, back)?;
     let beside = times_beside(alloc, &export.notes, &stretches, back)?;
@@ -128,26 +134,42 @@ fn say_days(
     Ok(())
 }
 
+/// Says that the samples tell the shift, and which other shifts they tell as well.
+fn say_fits(text: &mut String, alloc: Global, moved: Moved<'_>) -> Result<(), AllocError> {
+    text.push_str(BY_SAMPLES)?;
+    for shift in moved.fits {
+        if *shift != moved.seconds {
+            let line = format!(in alloc;
+                "# ANOTHER SHIFT FITS AS WELL: the same samples are also samples of the original with shift = {shift}.\n"
+            )?;
+            text.push_str(&line)?;
+        }
+    }
+    Ok(())
+}
+
 /// What a person should know of two files, and of the shift that their draft has.
 pub(crate) fn doubts_of(
     alloc: Global,
     original: &Recorded,
     export: &Recorded,
-    shift: Shift,
+    moved: Moved<'_>,
 ) -> Result<String, AllocError> {
     let mut text = String::new(alloc);
-    if look_swapped(alloc, original, export, shift)? {
+    if look_swapped(alloc, original, export, moved)? {
         text.push_str(SWAPPED)?;
     }
-    if shift.is_told {
+    if !moved.is_told {
+        text.push_str(UNTOLD)?;
+    } else if moved.fits.is_empty() {
         say_days(&mut text, alloc, original, export)?;
     } else {
-        text.push_str(UNTOLD)?;
+        say_fits(&mut text, alloc, moved)?;
     }
-    if shift.seconds == 0 {
+    if moved.seconds == 0 {
         text.push_str(NOT_MOVED)?;
     }
-    say_beside(&mut text, alloc, original, export, shift)?;
+    say_beside(&mut text, alloc, original, export, moved)?;
     say_channels(
         &mut text,
         alloc,

@@ -2,8 +2,9 @@
 
 ghost use Rattle.std.specs.Prelude.{IfOk, IfSome};
 ghost use Rattle.edf_claim.specs.Claims.{SaysClaimText};
-ghost use Rattle.edf_draft.specs.Answers.{IsTextOf};
 ghost use Rattle.edf_draft.specs.Drafts.{IsDraftFor};
+ghost use Rattle.edf_draft.specs.FirstLines.{anew};
+ghost use Rattle.edf_draft.specs.Tries.{IsTriedAs, IsTriedDraft};
 
 use crate::channels::{are_known, channel_labels};
 use crate::doubts::doubts_of;
@@ -13,8 +14,8 @@ use crate::kept::keep::kept_intervals;
 use crate::kept::lacking::{Lacking, lacking_texts};
 use crate::kept::sampling::Sampling;
 use crate::recorded::Recorded;
-use crate::shift::{Shift, shift_of};
-use crate::tried::tried_text;
+use crate::shift::Moved;
+use crate::tried::Tried;
 use edf_claim::{Comments, Draft};
 use edf_fields::Which;
 use edf_trial::Recordings;
@@ -89,11 +90,11 @@ fn told_of(
     alloc: Global,
     original: &Recorded,
     export: &Recorded,
-    shift: Shift,
+    moved: Moved<'_>,
     channels: &[Vec<u8>],
 ) -> Result<Told, AllocError> {
     Ok(Told {
-        doubts: doubts_of(alloc, original, export, shift)?,
+        doubts: doubts_of(alloc, original, export, moved)?,
         are_known: are_known(alloc, original.reader.header(), channels)?,
         shown: shown_subfields(alloc, export.reader.header())?,
     })
@@ -128,33 +129,36 @@ impl Drafted {
         start: Option<u32>,
         told: &Told,
         again: &R,
-    ) -> Result<Option<Vec<u8>>, AllocError>
-        ensures { IfOk result (λ text. IfSome text (λ t. SaysClaimText t.items self.now.draft)) }
+    ) -> Result<Option<Tried>, AllocError>
+        ensures { IfOk result (λ tried. IfSome tried (IsTriedAs
+            (anew (R.are_honest again.now) (R.original again.now) (R.export again.now)) self.now.draft)) }
     {
         match self.text(alloc, start, told)? {
-            Some(text) => tried_text(alloc, &self.draft, &text, again),
+            Some(text) => Tried::new(alloc, &self.draft, &text, again),
             None => Ok(None),
         }
     }
 }
 
-/// The text of a draft of a claim by which one recording is the export of another, with what the check answers with it in its
-/// first line; none where no claim says it, as where it needs more than 1,000 intervals or 65,536 bytes. Where it would be too
-/// long with times by the clock, it has none.
-pub(crate) fn draft_text<R: Recordings>(
+/// The draft of a claim by which one recording is the export of another, which was moved by so much, with what the check answers
+/// with it in its first line; none where no claim says it, as where it needs more than 1,000 intervals or 65,536 bytes. Where it
+/// would be too long with times by the clock, it has none.
+pub(crate) fn draft_tried<R: Recordings>(
     alloc: Global,
     original: &Recorded,
     export: &Recorded,
+    moved: Moved<'_>,
     again: &R,
-) -> Result<Option<Vec<u8>>, AllocError>
-    ensures { IfOk result (λ text. IfSome text (λ t. IsTextOf original.now export.now t.items)) }
+) -> Result<Option<Tried>, AllocError>
+    ensures { IfOk result (λ tried. IfSome tried (IsTriedDraft
+        (anew (R.are_honest again.now) (R.original again.now) (R.export again.now))
+        ((original.now).reader).head ((export.now).reader).head moved.entry.seconds)) }
 {
-    let shift = shift_of(original, export);
-    let drafted = draft_of(alloc, original, export, shift.seconds)?;
-    let told = told_of(alloc, original, export, shift, &drafted.draft.channels)?;
+    let drafted = draft_of(alloc, original, export, moved.seconds)?;
+    let told = told_of(alloc, original, export, moved, &drafted.draft.channels)?;
     let start = Some(original.start_of_day());
     match drafted.tried(alloc, start, &told, again)? {
-        Some(text) => Ok(Some(text)),
+        Some(tried) => Ok(Some(tried)),
         None => drafted.tried(alloc, None, &told, again),
     }
 }

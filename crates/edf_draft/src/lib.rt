@@ -3,10 +3,12 @@
 
 mod answer;
 mod channels;
+mod chosen;
 mod days;
 mod doubts;
 mod draft;
 mod drafted;
+mod fits;
 mod hidden;
 mod kept;
 mod recorded;

@@ -15,6 +15,38 @@ pub(crate) struct Shift {
     pub is_told: bool,
 }
 
+/// The shift of a draft in seconds, and what tells it.
+#[derive(Clone, Copy)]
+pub(crate) struct Moved<'a> {
+    pub seconds: i64,
+    /// Whether the starts of the two files tell it, or their samples do.
+    pub is_told: bool,
+    /// The shifts by which samples of the export are samples of the original, where these tell it, and not the starts.
+    pub fits: &'a [i64],
+}
+
+impl<'a> Moved<'a> {
+    /// By a shift that the starts tell, or don't.
+    pub(crate) fn by_days(shift: Shift) -> Moved<'a>
+        ensures { result.seconds ≡ shift.seconds }
+    {
+        Moved {
+            seconds: shift.seconds,
+            is_told: shift.is_told,
+            fits: &[],
+        }
+    }
+
+    /// By one of the shifts that the samples tell.
+    pub(crate) fn by_samples(seconds: i64, fits: &'a [i64]) -> Moved<'a> {
+        Moved {
+            seconds,
+            is_told: true,
+            fits,
+        }
+    }
+}
+
 /// The shift by which one time becomes a later one, in whole seconds, rounded down; 0 where it is too large for a number.
 fn guessed_shift(begin: i128, from: i128) -> Shift
     requires begin { unsigned_abs begin < 2 ^ 80 }

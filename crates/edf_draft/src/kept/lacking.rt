@@ -1,6 +1,7 @@
 //! The texts of annotations that an original has, and its export hasn't.
 
 use crate::kept::back::Back;
+use crate::kept::blanked::{Lacked, Span, blanked_texts, is_found, spans_left};
 use crate::kept::intervals::is_kept;
 use crate::recorded::RecordedNote;
 use edf_claim::{BLANK, Interval};
@@ -30,11 +31,6 @@ fn sorted_texts<'a>(
     Ok(texts)
 }
 
-/// Whether a text is one of these, which stand in the order of their bytes.
-fn is_found(sorted: &[&[u8]], text: &[u8]) -> bool {
-    sorted.binary_search(&text).is_ok()
-}
-
 impl CountedTexts {
     /// No texts.
     fn none(alloc: Global) -> CountedTexts {
@@ -48,7 +44,7 @@ impl CountedTexts {
     fn take_in(&mut self, alloc: Global, text: &[u8]) -> Result<(), AllocError> {
         match (self.texts.last(), self.counts.last_mut()) {
             (Some(last), Some(count)) if last.as_slice() == text => {
-                *count = count.saturating_add(1);
+                *count = count.checked_add(1).unwrap_or(*count);
             }
             _ => {
                 self.texts.push(Vec::from_slice(alloc, text)?)?;
@@ -68,9 +64,6 @@ pub(crate) struct Lacking {
     pub blanked: CountedTexts,
 }
 
-/// When an annotation begins, and its duration.
-type Span = (i128, Option<i128>);
-
 /// The spans of the annotations that begin in the intervals and say `X`, in order.
 fn blanks_of(
     alloc: Global,
@@ -89,40 +82,19 @@ fn blanks_of(
     Ok(blanks)
 }
 
-/// Passes over the spans in front that are before another one; answers whether that one comes next, and passes over it, too.
-fn takes(spans: &mut &[Span], span: Span) -> bool {
-    let before = spans.partition_point(|other| *other < span);
-    let rest = spans.get(before..).unwrap_or(&[]);
-    match rest {
-        [first, behind @ ..] if *first == span => {
-            *spans = behind;
-            true
-        }
-        _ => {
-            *spans = rest;
-            false
-        }
-    }
-}
-
-/// The spans of an export's blanks that aren't those of annotations of the original that say `X` themselves, in order.
+/// The blanks of an export, in order, that aren't those of annotations of the original that say `X` themselves. None where one
+/// of these isn't there: then `X` was removed, and all of them were made.
 fn made_blanks(
     alloc: Global,
-    original: &[RecordedNote],
-    export: &[RecordedNote],
-    keep: &[Interval],
-    back: Back,
-) -> Result<Vec<Span>, AllocError> {
-    let own = blanks_of(alloc, original, keep, Back::none())?;
-    let blanks = blanks_of(alloc, export, keep, back)?;
-    let mut left = own.as_slice();
-    let mut made = Vec::new(alloc);
-    for blank in &blanks {
-        if !takes(&mut left, *blank) {
-            made.push(*blank)?;
-        }
+    own: &[Span],
+    blanks: &[Span],
+) -> Result<Option<Vec<Span>>, AllocError> {
+    let missing = spans_left(alloc, own, blanks)?;
+    if missing.is_empty() {
+        Ok(Some(spans_left(alloc, blanks, own)?))
+    } else {
+        Ok(None)
     }
-    Ok(made)
 }
 
 /// The annotations that begin in the intervals and have none of these texts, by their spans and then their texts.
@@ -131,8 +103,8 @@ fn lacking_notes<'a>(
     notes: &'a [RecordedNote],
     keep: &[Interval],
     exported: &[&[u8]],
-) -> Result<Vec<(Span, &'a [u8])>, AllocError> {
-    let mut lacking: Vec<(Span, &'a [u8])> = Vec::new(alloc);
+) -> Result<Vec<Lacked<'a>>, AllocError> {
+    let mut lacking: Vec<Lacked<'a>> = Vec::new(alloc);
     for note in notes {
         let text = note.text.as_slice();
         if is_kept(keep, note.onset) && !is_found(exported, text) {
@@ -143,32 +115,47 @@ fn lacking_notes<'a>(
     Ok(lacking)
 }
 
-/// The texts of annotations, which stand in order, for which none of these blanks is left, each blank standing for one; in the
-/// order of their bytes.
-fn unblanked_texts<'a>(
-    alloc: Global,
-    lacking: &[(Span, &'a [u8])],
-    blanks: &[Span],
-) -> Result<Vec<&'a [u8]>, AllocError> {
-    let mut left = blanks;
-    let mut texts: Vec<&'a [u8]> = Vec::new(alloc);
-    for (span, text) in lacking {
-        if !takes(&mut left, *span) {
-            texts.push(*text)?;
-        }
-    }
-    texts.sort_unstable();
-    Ok(texts)
-}
-
 /// The texts of annotations, in the order of their bytes.
-fn texts_of<'a>(alloc: Global, lacking: &[(Span, &'a [u8])]) -> Result<Vec<&'a [u8]>, AllocError> {
+fn texts_of<'a>(alloc: Global, lacking: &[Lacked<'a>]) -> Result<Vec<&'a [u8]>, AllocError> {
     let mut texts: Vec<&'a [u8]> = Vec::new(alloc);
     for (_, text) in lacking {
         texts.push(*text)?;
     }
     texts.sort_unstable();
     Ok(texts)
+}
+
+/// The texts of annotations, but for `X`.
+fn without_x<'a>(alloc: Global, texts: &[&'a [u8]]) -> Result<Vec<&'a [u8]>, AllocError> {
+    let mut others: Vec<&'a [u8]> = Vec::new(alloc);
+    for text in texts {
+        if *text != BLANK.as_bytes() {
+            others.push(*text)?;
+        }
+    }
+    Ok(others)
+}
+
+/// The texts of some annotations, those that were blanked apart from the others, which were removed.
+fn lacking_of(
+    alloc: Global,
+    lacked: &[Lacked<'_>],
+    blanks: &[Span],
+) -> Result<Lacking, AllocError> {
+    let blanked = blanked_texts(alloc, lacked, blanks)?;
+    let mut lacking = Lacking {
+        removed: CountedTexts::none(alloc),
+        blanked: CountedTexts::none(alloc),
+    };
+    for text in &texts_of(alloc, lacked)? {
+        let texts = if is_found(&blanked, text) {
+            &mut lacking.blanked
+        } else {
+            &mut lacking.removed
+        };
+        texts.take_in(alloc, text)?;
+    }
+    Ok(lacking)
 }
 
 /// The texts of annotations in the intervals that the original has, and the export hasn't.
@@ -180,22 +167,19 @@ pub(crate) fn lacking_texts(
     back: Back,
 ) -> Result<Lacking, AllocError> {
     let exported = sorted_texts(alloc, export, keep, back)?;
-    let found = lacking_notes(alloc, original, keep, &exported)?;
-    let blanks = made_blanks(alloc, original, export, keep, back)?;
-    let unblanked = unblanked_texts(alloc, &found, &blanks)?;
-    let mut lacking = Lacking {
-        removed: CountedTexts::none(alloc),
-        blanked: CountedTexts::none(alloc),
-    };
-    for text in &texts_of(alloc, &found)? {
-        let texts = if is_found(&unblanked, text) {
-            &mut lacking.removed
-        } else {
-            &mut lacking.blanked
-        };
-        texts.take_in(alloc, text)?;
+    let own = blanks_of(alloc, original, keep, Back::none())?;
+    let blanks = blanks_of(alloc, export, keep, back)?;
+    match made_blanks(alloc, &own, &blanks)? {
+        Some(made) => {
+            let lacked = lacking_notes(alloc, original, keep, &exported)?;
+            lacking_of(alloc, &lacked, &made)
+        }
+        None => {
+            let others = without_x(alloc, &exported)?;
+            let lacked = lacking_notes(alloc, original, keep, &others)?;
+            lacking_of(alloc, &lacked, &blanks)
+        }
     }
-    Ok(lacking)
 }
 
 /// The times and texts of annotations, in order.

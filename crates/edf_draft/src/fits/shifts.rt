@@ -1,0 +1,93 @@
+//! The shifts by which the first samples of an export are samples of its original.
+
+use crate::fits::front::{Front, front_of};
+use crate::fits::places::places_of;
+use crate::kept::back::Back;
+use crate::recorded::Recorded;
+use edf_claim::Interval;
+use edf_fields::SECOND_PS;
+use edf_stop::CheckStop;
+use edf_trial::Recordings;
+use std::alloc::{AllocError, Global};
+
+/// How many shifts are tried at the most.
+const MOST_TRIES: usize = 3;
+
+/// The shift in seconds by which a front that begins at one time of the original begins where it does in the export.
+fn shift_at(original: &Recorded, export: &Recorded, front: &Front, at_ps: i128) -> Option<i64> {
+    let moved_ps = front.start_ps.checked_sub(at_ps)?;
+    let moved = i64::try_from(moved_ps.checked_div_euclid(SECOND_PS)?).ok()?;
+    export
+        .start_second()
+        .checked_sub(original.start_second())?
+        .checked_add(moved)
+}
+
+/// Whether an interval lies in one of others, which are in order.
+fn lies_in(interval: Interval, others: &[Interval]) -> bool {
+    let before = others.partition_point(|other| other.to_ps < interval.to_ps);
+    match others.get(before) {
+        Some(other) => other.from_ps <= interval.from_ps,
+        None => false,
+    }
+}
+
+/// Whether the time of the export's data records lies in that of the original's with a shift.
+fn has_room(original: &Recorded, export: &Recorded, shift: i64) -> bool {
+    let back = Back::new(original.start_second(), export.start_second(), shift);
+    for stretch in &export.stretches {
+        let moved = Interval {
+            from_ps: back.of(stretch.from_ps),
+            to_ps: back.of(stretch.to_ps),
+        };
+        if !lies_in(moved, &original.stretches) {
+            return false;
+        }
+    }
+    true
+}
+
+/// The shifts by which a front that stands at these times of the original is the export's, and by which the original has data
+/// records wherever the export has some.
+fn shifts_at(
+    alloc: Global,
+    original: &Recorded,
+    export: &Recorded,
+    front: &Front,
+    places: &[i128],
+) -> Result<Vec<i64>, AllocError> {
+    let mut shifts = Vec::new(alloc);
+    for at_ps in places {
+        if let Some(shift) = shift_at(original, export, front, *at_ps)
+            && shifts.len() < MOST_TRIES
+            && has_room(original, export, shift)
+        {
+            shifts.push(shift)?;
+        }
+    }
+    Ok(shifts)
+}
+
+/// The whole seconds of shift by which the first samples of an export, of all its channels, are samples of its original, three
+/// at the most; none where a file can't be read once more.
+pub(crate) fn fitting_shifts<R: Recordings>(
+    alloc: Global,
+    original: &Recorded,
+    export: &Recorded,
+    again: &R,
+) -> Result<Vec<i64>, AllocError> {
+    let front = match again.open_export() {
+        Ok(mut source) => front_of(alloc, &mut source, original.reader.header())?,
+        Err(CheckStop::OutOfMemory) => return Err(AllocError),
+        Err(_) => None,
+    };
+    let Some(front) = front else {
+        return Ok(Vec::new(alloc));
+    };
+    let places = match again.open_original() {
+        Ok(mut source) => places_of(alloc, &mut source, &front)?,
+        Err(CheckStop::OutOfMemory) => return Err(AllocError),
+        Err(_) => Vec::new(alloc),
+    };
+    shifts_at(alloc, original, export, &front, &places)
+}
