@@ -143,7 +143,7 @@ class Comments(DraftCase):
     def test_days_that_the_samples_tell_as_well(self):
         """The days stay, though the check with them is a No: of another annotation."""
         late = self.QUARTER.cut(300, 600).but(notes=[(400 * PS, None, "Apnea")])
-        self.assert_says(self.QUARTER, late, [f'{NO}NO 11 annotation extra at 400000000000000 ps text "Apnea"', "\nshift = 0 # "],
+        self.assert_says(self.QUARTER, late, [f'{NO}NO 11 annotation extra at 400000000000000 ps duration none text "Apnea"', "\nshift = 0 # "],
                          REMARKS)
 
     def test_changed_from_the_first_sample_on(self):
