@@ -73,6 +73,14 @@ EXTREMES = f"physical (?P<low>{SIGNED}) (?P<high>{SIGNED}) digital (?P<least>{SI
 CHANNEL = f"channel {LABEL} samples (?P<samples>{COUNT}) {EXTREMES}"
 CHANNEL += "".join(f" {name} {QUOTED.replace('(', f'(?P<{name}>', 1)}" for name in ("dimension", "transducer", "prefilter"))
 
+# The lines of a claim that is printed: a time in seconds, an interval, the shift, and the comment behind a text that is too
+# long for a claim.
+SECONDS = r"(0|[1-9][0-9]{0,8})(?:\.([0-9]{0,11}[1-9]))?"
+INTERVAL = rf'\{{ from = "{SECONDS}", to = "{SECONDS}" \}}'
+SAID_TEXT = r'"((?:[^\x00-\x1f"\\\x7f]|\\["\\]|\\u00(?:[01][0-9a-f]|7f))*)"'
+SHIFT = f"shift = ({SIGNED})"
+TOO_LONG = r"# too long for a claim; bytes that are too many: ([1-9][0-9]*)"
+
 # What stands in front of the answer of the check with a draft, in its first line: with a Yes, and with a No.
 WITH_DRAFT = "# With this draft the check answers: "
 NOT_A_YES = "# NOT A YES: with this draft the check answers: "
@@ -188,6 +196,22 @@ class Note:
     onset_ps: int
     duration_ps: int | None
     text: str
+
+
+@dataclasses.dataclass(frozen=True)
+class Claim:
+    """A claim as it is understood."""
+
+    text: str  # its plainest form, with its line ends; a claim that says the same, but where it is too long
+    format: int  # 1, or 2 where format 1 can't say it
+    channels: list  # labels
+    intervals: list  # of each interval its begin and its end, in picoseconds after the start of the original
+    anonymous: list  # the names of subfields
+    shift: int  # in seconds
+    remove: list  # texts
+    remove_prefix: list
+    blank: list
+    excess: int  # by how many bytes the text is longer than a claim may be
 
 
 def plain(quoted):
@@ -413,3 +437,77 @@ def notes(file, program=None):
         verdict, before = answer(status, lines, CONFORM)
         raise Faulty(verdict, map(read_note, before))
     return [read_note(line) for line in lines]
+
+
+def said_text(quoted):
+    """A label or a text that stands in a claim between quotation marks."""
+    return re.sub(r"\\(?:u(....)|(.))", lambda found: chr(int(found[1], 16)) if found[1] else found[2], quoted)
+
+
+def picoseconds(whole, fraction):
+    """Seconds and the digits of their fraction, as whole picoseconds."""
+    return int(whole + (fraction or "").ljust(12, "0"))
+
+
+def read_items(lines, key, form):
+    """What stands in an array of a claim, whose items have this form, by the groups of the form. The lines, which are an
+    iterator, go on behind it."""
+    if next(lines, "") != f"{key} = [":
+        raise BadLine(f"no {key}")
+    found = []
+    for line in lines:
+        if line == "]":
+            return found
+        item = re.fullmatch(f"  {form}", line)
+        if not item:
+            raise BadLine(line)
+        found.append(item.groups())
+    raise BadLine(f"no end of {key}")
+
+
+def read_texts(lines, key):
+    """The texts in an array of a claim."""
+    return [said_text(text) for text, in read_items(lines, key, f"{SAID_TEXT},")]
+
+
+def read_keep(lines):
+    """The intervals of a claim. Where its lines say them in picoseconds, too, these are the same times."""
+    found = []
+    for *seconds, low, high in read_items(lines, "keep", rf"{INTERVAL},(?: # ({COUNT}) ps to ({COUNT}) ps)?"):
+        interval = picoseconds(*seconds[:2]), picoseconds(*seconds[2:])
+        if low is not None and interval != (int(low), int(high)):
+            raise BadLine(f"{interval} isn't {low} ps to {high} ps")
+        found.append(interval)
+    return found
+
+
+def read_one(lines, form):
+    """What stands in one line of this form."""
+    line = next(lines, "")
+    found = re.fullmatch(form, line)
+    if not found:
+        raise BadLine(line)
+    return int(found[1])
+
+
+def read_claim(lines):
+    """The claim in these lines."""
+    text, rest = "".join(f"{line}\n" for line in lines), iter(lines)
+    said = {"format": read_one(rest, "format = ([12])"), "channels": read_texts(rest, "channels")}
+    said.update(intervals=read_keep(rest), anonymous=read_texts(rest, "anonymous"), shift=read_one(rest, SHIFT))
+    said["remove"] = read_texts(rest, "remove")
+    for name, key in (("remove_prefix", "remove-prefix"), ("blank", "blank")):
+        said[name] = read_texts(rest, key) if said["format"] == 2 else []
+    behind = list(rest)
+    said["excess"] = read_one(iter(behind[:1]), TOO_LONG) if behind else 0
+    if behind[1:]:
+        raise BadLine(behind[1])
+    return Claim(text, **said)
+
+
+def claim(file, program=None):
+    """A claim as it is understood."""
+    status, lines = run("claim", file, program=program)
+    if status:
+        raise BadLine(f"status {status} with {lines[0] if lines else 'nothing'}")
+    return read_claim(lines)

@@ -36,6 +36,8 @@ LINES = [
     ("claim_of_check_parts", ["check-parts", "x", ""], ["claim.toml", "folder"]),
     ("later_export_of_check_parts", ["check-parts", "x", "x", "x", "x", "p"], ["part.EDF"]),
     ("help", ["help", "rec"], ["receipt", "receipt-parts"]),
+    ("claim_of_claim", ["claim", ""], ["claim.toml", "folder"]),
+    ("file_of_read", ["read", ""], ["a night.edf", "folder", "part.EDF"]),
     ("vectors", ["vectors", ""], []),
     ("no_command", ["other", ""], []),
 ]

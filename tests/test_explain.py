@@ -103,28 +103,33 @@ class Rows(ExplainCase):
 
 
 class Pipes(ExplainCase):
-    """What is read from a pipe isn't there at the second reading: a sentence says so, and no other."""
+    """Both files are read once, so what comes through a pipe is explained, too; but nothing can be tried of it."""
 
-    def explained(self, *words):
-        ran = self.run_program("explain", *words, input=mistakes.WHOLE)
-        lines = ran.out.decode().splitlines()
-        self.assertTrue(ran.status == 0 and lines[0].startswith("YES ") and not ran.err, str(ran))
-        return lines
+    def explained(self, status, content, *words):
+        ran = self.run_program("explain", *words, input=content)
+        self.assertTrue(ran.status == status and not ran.err, str(ran))
+        return ran.out.decode()
 
     def test_export(self):
-        original, _, claim = self.paths(mistakes.WHOLE, mistakes.WHOLE, ALL_OF_IT)
-        lines = self.explained(original, "/dev/stdin", claim)
-        self.assertTrue(len(lines) == 2 and "don't use these sentences" in lines[1], lines)
+        original, export, claim = self.paths(mistakes.WHOLE, mistakes.WHOLE, ALL_OF_IT)
+        said = self.explained(0, mistakes.WHOLE, original, "/dev/stdin", claim)
+        self.assertEqual(said, self.run_program("explain", original, export, claim).out.decode())
 
     def test_original(self):
-        _, export, claim = self.paths(mistakes.WHOLE, mistakes.WHOLE, ALL_OF_IT)
-        lines = self.explained("/dev/stdin", export, claim)
-        self.assertTrue(len(lines) == 2 and "second reading" in lines[1], lines)
+        original, export, claim = self.paths(mistakes.WHOLE, mistakes.WHOLE, ALL_OF_IT)
+        said = self.explained(0, mistakes.WHOLE, "/dev/stdin", export, claim)
+        self.assertEqual(said, self.run_program("explain", original, export, claim).out.decode())
 
-    def test_no_pipe(self):
-        original, _, claim = self.paths(mistakes.WHOLE, mistakes.WHOLE, ALL_OF_IT)
-        lines = self.explained(original, original, claim)
-        self.assertFalse(len(lines) == 2 and "don't use these sentences" in lines[1], lines)
+    def test_no_shift_is_tried(self):
+        """An export that starts elsewhere than claimed: other shifts are tried of files, and not of a pipe."""
+        tried = "Other shifts were tried"
+        shifted = claim_of(BOTH, "shift = 30", mistakes.ALL)
+        original, export, claim = self.paths(mistakes.WHOLE, mistakes.WHOLE, shifted)
+        words = "With shift = 0 the answer would be YES"
+        self.assertIn(words, self.run_program("explain", original, export, claim).out.decode())
+        said = self.explained(1, mistakes.WHOLE, original, "/dev/stdin", claim)
+        self.assertNotIn(words, said)
+        self.assertNotIn(tried, said)
 
 
 class Sentences(ExplainCase):

@@ -23,7 +23,7 @@ from tests import made, night
 from tests.cases.verdict_lines import FIRST, HALF, LATE, ONE
 from tests.edf import field, lane
 from tests.edf import values as values_of
-from tests.harness import ANSWERS, TOP, ProgramCase, each, slug
+from tests.harness import ANSWERS, TOP, ProgramCase, each, program, slug
 from tests.harness import run as run_command
 from tests.recordings import LANES, bytes_of, claim_of, cut, recorded, recording, temp_file
 
@@ -69,11 +69,11 @@ class Picture:
     the words of each axis; the names of the rows, the bars, the bars in outlines, the ticks, the texts and the borders of
     the timeline; and the page's remarks."""
 
-    def __init__(self, files, line):
+    def __init__(self, files, line, asked=None):
         import matplotlib.pyplot as pyplot
 
         found, close = [], pyplot.close
-        night_of = look.Night(files, edfclaim.parse(line))
+        night_of = look.Night(files, edfclaim.parse(line), lambda path: look.Claim(path, asked or program(), edfclaim))
         try:
             pyplot.close = found.append
             look.picture_of(night_of, "png")
@@ -117,43 +117,28 @@ def lanes_with(number, text):
     return [*LANES[:number], text, *LANES[number + 1:]]
 
 
-def reads_escapes():
-    """Whether Python's reader of TOML knows the spellings of TOML 1.1; that of 3.11 doesn't."""
-    import tomllib
-
-    try:
-        return tomllib.loads('escape = "\\x22"') == {"escape": '"'}
-    except tomllib.TOMLDecodeError:
-        return False
-
-
-# Other spellings of the night's claim: what is put in a place of it, and whether the script reads it. The program takes
-# each of them.
+# Other spellings of the night's claim: what is put in a place of it. The program takes each of them.
 REMARK = '"Mrs. Haagse asks for water"'
 KEEP = '[[keep]]\nfrom = "30"\nto = "120"\n'
 SPELLINGS = [
-    ("byte_order_mark", "# One and", "\ufeff# One and", True),
-    ("cr_lf", "\n", "\r\n", True),
-    ("one_line", KEEP, 'keep = [{from = "30", to = "120"}]\n', True),
-    ("table_over_lines", KEEP, 'keep = [{\n    from = "30",\n    to = "120"\n}]\n', reads_escapes()),
-    ("comma_at_the_end", KEEP, 'keep = [{from = "30", to = "120",}]\n', reads_escapes()),
-    ("escape_of_1_1", REMARK, REMARK.replace("M", "\\x4d"), reads_escapes()),
-    ("escape_of_1_0", REMARK, REMARK.replace("M", "\\u004d"), True),
-    ("quotation_mark_by_an_escape_of_1_1", REMARK, f'{REMARK}, "\\x22"', reads_escapes()),
-    ("quotation_mark_by_an_escape_of_1_0", REMARK, f'{REMARK}, "\\u0022"', True),
-    ("control_sign_by_an_escape_of_1_1", REMARK, f'{REMARK}, "\\e"', reads_escapes()),
-    ("control_sign_by_an_escape_of_1_0", REMARK, f'{REMARK}, "\\u001b"', True),
-    ("text_over_lines", REMARK, f"{REMARK}, '''\na\nb'''", True),
-    # Python makes one byte of the end of this line, and the program doesn't
-    ("text_over_lines_with_cr_lf", REMARK, f"{REMARK}, '''a\r\nb'''", False),
-    ("text_with_cr_lf_by_escapes", REMARK, f'{REMARK}, "a\\r\\nb"\r\n', True),
+    ("byte_order_mark", "# One and", "\ufeff# One and"),
+    ("cr_lf", "\n", "\r\n"),
+    ("one_line", KEEP, 'keep = [{from = "30", to = "120"}]\n'),
+    ("table_over_lines", KEEP, 'keep = [{\n    from = "30",\n    to = "120"\n}]\n'),
+    ("comma_at_the_end", KEEP, 'keep = [{from = "30", to = "120",}]\n'),
+    ("escape_of_1_1", REMARK, REMARK.replace("M", "\\x4d")),
+    ("escape_of_1_0", REMARK, REMARK.replace("M", "\\u004d")),
+    ("quotation_mark_by_an_escape_of_1_1", REMARK, f'{REMARK}, "\\x22"'),
+    ("quotation_mark_by_an_escape_of_1_0", REMARK, f'{REMARK}, "\\u0022"'),
+    ("control_sign_by_an_escape_of_1_1", REMARK, f'{REMARK}, "\\e"'),
+    ("control_sign_by_an_escape_of_1_0", REMARK, f'{REMARK}, "\\u001b"'),
+    ("text_over_lines", REMARK, f"{REMARK}, '''\na\nb'''"),
+    ("text_over_lines_with_cr_lf", REMARK, f"{REMARK}, '''a\r\nb'''"),
+    ("text_with_cr_lf_by_escapes", REMARK, f'{REMARK}, "a\\r\\nb"\r\n'),
 ]
 
-# What the page says of a claim that Python doesn't read.
-NOT_READ = [
-    "The claim isn&#x27;t drawn: ", "No export and no channel is drawn", "write \\u00 in the place of \\x", "[[keep]]",
-    "in one line, with \\r\\n in the place of each end",
-]
+# What the page says where the program doesn't print the claim.
+NOT_READ = ["The claim isn&#x27;t drawn: ", "unrecognized subcommand", "No export and no channel is drawn"]
 
 
 BOTH = '["EEG Fpz-Cz", "ECG"]'
@@ -457,31 +442,42 @@ class Pictures(LookCase):
 
 
 class Claims(LookCase):
-    """Claims in other spellings: all is drawn as of the plain one, or nothing is drawn that hangs on the claim."""
+    """Claims in other spellings, of which all is drawn as of the plain one; and a program that doesn't print claims."""
 
     LINE = 'NO 10 sample "EEG C4-M1" at 75500000000000 ps original -49 export -48'
+    NAMES = ("kept", "removed", "of the original", "of the export")
 
     @each(SPELLINGS)
-    def spelling(self, old, new, reads):
+    def spelling(self, old, new):
         text, files = night.CUT.replace(old, new), ["original.edf", "changed-value.edf", "spelled.toml"]
         self.assertNotEqual(text, night.CUT)
         pathlib.Path("spelled.toml").write_bytes(text.encode())
         self.assert_line(self.LINE, *files)
         page, picture = page_of(), Picture(files, self.LINE)
-        names = ("kept", "removed", "of the original", "of the export")
-        found = [picture.times(f"annotation {name}") for name in names]
+        found = [picture.times(f"annotation {name}") for name in self.NAMES]
+        drawn = not any(row.endswith(" (not drawn)") for row in picture.rows)
+        kept = [30, 57.25, 60, 90, 104.5]
+        self.assertEqual((found, drawn, len(picture.lines)), ([kept, [72.5], [], kept], True, 2))
+        self.assertIn("there the original has -49 and the export has -48", picture.words[0])
+        self.assertNotIn('<p class="left-out">', page)
+        self.assertEqual(picture.times("the first difference"), [75.5, 75.5])
+
+    def test_program_that_prints_no_claim(self):
+        """Nothing is drawn that hangs on the claim."""
+        refuses = "echo \"error: unrecognized subcommand 'claim'\" >&2; exit 2"
+        body = f'#!/bin/sh\nif [ "$1" = claim ]; then {refuses}; fi\nexec "{self.program}" "$@"\n'
+        pathlib.Path("stand-in").write_text(body, encoding="utf-8")
+        os.chmod("stand-in", 0o755)
+        files = ["original.edf", "changed-value.edf", "cut.toml"]
+        self.assertEqual(run("./stand-in", *files), (1, f"{self.LINE}\n", ""))
+        page, picture = page_of(), Picture(files, self.LINE, asked="./stand-in")
+        found = [picture.times(f"annotation {name}") for name in self.NAMES]
         rows = [row.endswith(" (not drawn)") for row in picture.rows]
-        if reads:
-            kept = [30, 57.25, 60, 90, 104.5]
-            self.assertEqual((found, any(rows), len(picture.lines)), ([kept, [72.5], [], kept], False, 2))
-            self.assertIn("there the original has -49 and the export has -48", picture.words[0])
-            self.assertNotIn('<p class="left-out">', page)
-        else:
-            onsets = [at / 1000 for at, _, _ in night.NOTES]
-            self.assertEqual((found, rows), ([[], [], onsets, []], [False, True, True, False, True]))
-            self.assertEqual(picture.words, ["clock of the original, and seconds after its start"])
-            self.assertEqual((len(picture.lines), len(picture.bars[0]), sum(picture.bars[1:], [])), (1, 1, []))
-            self.assertEqual([words for words in NOT_READ if words not in page], [], "words that lack on the page")
+        onsets = [at / 1000 for at, _, _ in night.NOTES]
+        self.assertEqual((found, rows), ([[], [], onsets, []], [False, True, True, False, True]))
+        self.assertEqual(picture.words, ["clock of the original, and seconds after its start"])
+        self.assertEqual((len(picture.lines), len(picture.bars[0]), sum(picture.bars[1:], [])), (1, 1, []))
+        self.assertEqual([words for words in NOT_READ if words not in page], [], "words that lack on the page")
         self.assertEqual(picture.times("the first difference"), [75.5, 75.5])
 
     # A claim that removes a text of two lines, the line, and what is drawn of the annotation: an end of a line has one
@@ -493,7 +489,7 @@ class Claims(LookCase):
             "of_two_bytes",
             "remove = ['''a\r\nb''']\r\n",
             "YES channels 2 samples 24 annotations 3",
-            "annotation of the original",
+            "annotation removed",
         ),
         ("by_an_escape", 'remove = ["a\\r\\nb"]\r\n', "YES channels 2 samples 24 annotations 3", "annotation removed"),
     ]

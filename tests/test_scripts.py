@@ -541,6 +541,11 @@ YES, NO = "YES channels 1 samples 1 annotations 1", "NO 8 subfield name not X"
 WITH, NOT = "# With this draft the check answers:", "# NOT A YES: with this draft the check answers:"
 HEAD = "kind EDF+C"
 
+# What prints a claim, and the comment of one that is too long.
+CLAIM = """printf 'format = 1\\nchannels = [\\n  "ECG",\\n]\\nkeep = [\\n  { from = "0", to = "4" }, # 0 ps to 4000000000000 ps\\n]\\n'
+printf 'anonymous = [\\n]\\nshift = -5\\nremove = [\\n]\\n'"""
+TOO_LONG = "echo '# too long for a claim; bytes that are too many: 7'"
+
 # What a program says to another command, with which status, and what the module raises of that.
 STRANGE_REPORTS = [
     ("yes_that_is_a_no", "draft", f"echo '{WITH} {NO}.'", edfclaim.BadLine),
@@ -586,10 +591,24 @@ STRANGE_REPORTS = [
     ("empty_line", "notes", "echo; exit 0", edfclaim.BadLine),
     ("annotation_without_its_end", "notes", "printf '0 ps duration none text \"a\"'", edfclaim.BadLine),
     ("nothing_with_status_2", "notes", "exit 2", edfclaim.NoAnswer),
+    ("nothing", "claim", "exit 0", edfclaim.BadLine),
+    ("status_1", "claim", f"{CLAIM}; exit 1", edfclaim.BadLine),
+    ("status_2", "claim", f"{CLAIM}; exit 2", edfclaim.NoAnswer),
+    ("two_formats", "claim", f"echo 'format = 1'; {CLAIM}", edfclaim.BadLine),
+    ("another_format", "claim", CLAIM.replace("format = 1", "format = 3"), edfclaim.BadLine),
+    ("no_channels", "claim", CLAIM.replace("channels", "labels"), edfclaim.BadLine),
+    ("label_without_quotes", "claim", CLAIM.replace('"ECG"', "ECG"), edfclaim.BadLine),
+    ("other_picoseconds", "claim", CLAIM.replace("4000000000000", "4000000000001"), edfclaim.BadLine),
+    ("time_with_a_zero", "claim", CLAIM.replace('"4"', '"4.0"'), edfclaim.BadLine),
+    ("shift_with_a_dot", "claim", CLAIM.replace("= -5", "= -5.0"), edfclaim.BadLine),
+    ("escape_that_is_not_written", "claim", CLAIM.replace('"ECG"', '"\\\\t"'), edfclaim.BadLine),
+    ("no_end", "claim", CLAIM[:-len("]\\n'")] + "'", edfclaim.BadLine),
+    ("keys_of_format_2", "claim", f"{CLAIM}; printf 'blank = [\n]\n'", edfclaim.BadLine),
+    ("line_behind_the_comment", "claim", f"{CLAIM}; {TOO_LONG}; {TOO_LONG}", edfclaim.BadLine),
 ]
 
 # The words of each call.
-WORDS = {"draft": ["a", "b"], "explain": ["a", "b", "c"], "show": ["a"], "notes": ["a"]}
+WORDS = {"draft": ["a", "b"], "explain": ["a", "b", "c"], "show": ["a"], "notes": ["a"], "claim": ["a"]}
 
 
 class Strange(Case):
@@ -615,6 +634,10 @@ class Strange(Case):
         said = edfclaim.draft("a", "b", program=self.stand_in("echo '# NOT TRIED: a file'\necho 'format = 1'"))
         self.assertEqual((bool(said), said.verdict, said.text), (True, None, "# NOT TRIED: a file\nformat = 1\n"))
         self.assertEqual(said.first, "# NOT TRIED: a file")
+
+    def test_claim(self):
+        said = edfclaim.claim("a", program=self.stand_in(f"{CLAIM}; {TOO_LONG}"))
+        self.assertEqual((said.channels, said.intervals, said.shift, said.excess), (["ECG"], [(0, 4 * 10**12)], -5, 7))
 
     def test_sentences(self):
         script = f"echo '{NO}'\necho '  A  sentence '\necho\nexit 1"

@@ -37,6 +37,8 @@ NO_COMMAND = {
     "dashes_before_the_files_of_a_draft": ["draft", "--", "original.edf", "cut.edf"],
     "dashes_before_the_claim_of_explain": ["explain", "original.edf", "cut.edf", "--", "cut.toml"],
     "dashes_before_the_files_of_explain": ["explain", "--", "original.edf", "cut.edf", "cut.toml"],
+    "dashes_before_a_claim": ["claim", "--", "cut.toml"],
+    "dashes_before_the_file_of_read": ["read", "--", "cut.edf"],
 }
 
 # Words that `clap` doesn't take.
@@ -74,6 +76,13 @@ FAULTS = {
     "explain_of_four_files": ["explain", "original.edf", "cut.edf", "cut.toml", "cut.toml"],
     "explains": ["explains"],
     "explain_of_a_name_with_a_dash": ["explain", "original.edf", "-cut.edf", "cut.toml"],
+    "claim_of_no_file": ["claim"],
+    "claim_of_two_files": ["claim", "cut.toml", "cut.toml"],
+    "claims": ["claims"],
+    "claim_of_a_name_with_a_dash": ["claim", "-cut.toml"],
+    "read_of_no_file": ["read"],
+    "read_of_two_files": ["read", "original.edf", "cut.edf"],
+    "read_of_a_name_with_a_dash": ["read", "-night.edf"],
     "dashes_before_a_command": ["--", "vectors"],
     "show_of_a_name_with_a_dash": ["show", "-night.edf"],
     "show_of_two_files": ["show", "original.edf", "cut.edf"],
@@ -81,7 +90,7 @@ FAULTS = {
 
 HELPS = [
     "--help", "-h", "help", "help check", "check --help", "check-parts --help", "receipt --help", "receipt-parts --help",
-    "draft --help", "explain --help", "--version", "-V",
+    "draft --help", "explain --help", "claim --help", "read --help", "--version", "-V",
 ]
 
 # What can't be opened or read, and the words. The claim comes first, then the original, then the export, and all of them
@@ -111,6 +120,8 @@ FILES = [
     ("cannot open file", "conform none.edf"),
     ("cannot open file", "show none.edf"),
     ("cannot open file", "notes none.edf"),
+    ("cannot open file", "read none.edf"),
+    ("cannot open claim", "claim none.toml"),
     ("reading claim failed", "check original.edf cut.edf ."),
     ("reading original failed", "check . cut.edf cut.toml"),
     ("reading export failed", "check original.edf . cut.toml"),
@@ -137,6 +148,9 @@ FILES = [
     ("reading file failed", "conform ."),
     ("reading file failed", "show ."),
     ("reading file failed", "notes ."),
+    ("reading file failed", "read ."),
+    ("reading claim failed", "claim ."),
+    ("claim refused: BadKeep", "claim refused.toml"),
 ]
 
 # The same where a file may not be read, which is called CLOSED here.
@@ -152,12 +166,14 @@ CLOSED = [
     ("file", "conform CLOSED"),
     ("file", "show CLOSED"),
     ("file", "notes CLOSED"),
+    ("file", "read CLOSED"),
+    ("claim", "claim CLOSED"),
 ]
 
 COMMANDS = [
     "check original.edf cut.edf cut.toml", "check-parts original.edf cut.toml cut.edf",
     "receipt original.edf cut.edf cut.toml", "receipt-parts original.edf cut.toml cut.edf", "draft original.edf cut.edf", "explain original.edf cut.edf cut.toml",
-    "conform cut.edf", "show cut.edf", "notes cut.edf", "vectors",
+    "conform cut.edf", "show cut.edf", "notes cut.edf", "read cut.edf", "claim cut.toml", "vectors",
 ]
 
 

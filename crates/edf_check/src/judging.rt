@@ -3,13 +3,46 @@
 ghost use Rattle.std.specs.Prelude.{◌≡◌, ◌<◌, ◌≤◌, map, length, IfOk, IfErr, OnOk};
 ghost use Rattle.edf_check.specs.Runs.{IsJudged, JudgeStops, IsPartsJudged, PartsJudgeStops};
 
-use crate::of_one::check;
-use crate::of_several::check_parts;
+use crate::of_one::check_beside;
+use crate::of_several::{Asked, check_parts};
 use edf_claim::{Claim, ClaimStop};
 use edf_fields::Source;
+use edf_pace::{Nobody, Onlooker};
 use edf_stop::{PartsRunStop, RunStop};
 use edf_verdict::{PartsVerdict, Verdict};
 use std::alloc::Global;
+
+/// Reads the claim that a text says, and checks the export against the original under it. Somebody looks on while the samples
+/// are compared, which changes no answer.
+///
+/// The error is the first fault of the text, want of memory, or a failure of one of the sources.
+pub fn judge_beside<O: Source, E: Source, L: Onlooker>(
+    alloc: Global,
+    original: &mut O,
+    export: &mut E,
+    claim_text: &[u8],
+    onlooker: &mut L,
+) -> Result<Verdict, RunStop>
+    ensures under { IfOk result (IsJudged (O.is_honest original.old) (O.left original.old)
+        (E.is_honest export.old) (E.left export.old) claim_text.now) }
+    ensures failures { OnOk result ((O.reads original.new ≡ O.reads original.old)
+        × (E.reads export.new ≡ E.reads export.old)) }
+    ensures stop { IfErr result (JudgeStops claim_text.now (O.reads original.old) (O.reads original.new)
+        (E.reads export.old) (E.reads export.new)) }
+{
+    match Claim::read(alloc, claim_text) {
+        Ok(claim) => {
+            let asked = Asked {
+                alloc,
+                claim: &claim,
+                onlooker,
+            };
+            Ok(check_beside(original, export, asked)?)
+        }
+        Err(cause) if cause != ClaimStop::OutOfMemory => Err(RunStop::Claim(cause)),
+        Err(_) => Err(RunStop::OutOfMemory),
+    }
+}
 
 /// Reads the claim that a text says, and checks the export against the original under it.
 ///
@@ -27,11 +60,7 @@ pub fn judge<O: Source, E: Source>(
     ensures stop { IfErr result (JudgeStops claim_text.now (O.reads original.old) (O.reads original.new)
         (E.reads export.old) (E.reads export.new)) }
 {
-    match Claim::read(alloc, claim_text) {
-        Ok(claim) => Ok(check(alloc, original, export, &claim)?),
-        Err(cause) if cause != ClaimStop::OutOfMemory => Err(RunStop::Claim(cause)),
-        Err(_) => Err(RunStop::OutOfMemory),
-    }
+    judge_beside(alloc, original, export, claim_text, &mut Nobody)
 }
 
 /// Reads the claim that a text says, and checks one to 64 exports, in the order of time, against the original under it.

@@ -6,12 +6,43 @@ ghost use Rattle.edf_check.specs.Checks.{AreRead, CheckStops};
 ghost use Rattle.edf_check.specs.Headline.{YesMeans};
 ghost use Rattle.edf_check.specs.Verdicts.{IsVerdict};
 
-use crate::of_several::check_series;
+use crate::of_several::{Asked, check_series};
 use edf_claim::Claim;
 use edf_fields::Source;
+use edf_pace::{Nobody, Onlooker};
 use edf_stop::{CheckStop, PartSide, PartsStop, Side};
 use edf_verdict::Verdict;
 use std::alloc::Global;
+
+/// The check of `check`, and somebody looks on while the samples are compared.
+///
+/// The error is want of memory, or a failure of one of the sources.
+pub(crate) fn check_beside<O: Source, E: Source, L: Onlooker>(
+    original: &mut O,
+    export: &mut E,
+    asked: Asked<'_, '_, L>,
+) -> Result<Verdict, CheckStop>
+    ensures headline { IfOk result (λ verdict. IsTrue (O.is_honest original.old) → IsTrue (E.is_honest export.old) →
+        YesMeans (O.left original.old) (E.left export.old) (asked.entry.claim).now verdict) }
+    ensures verdict { IfOk result (λ verdict. IsTrue (O.is_honest original.old) → IsTrue (E.is_honest export.old) →
+        IsVerdict (O.left original.old) (E.left export.old) (asked.entry.claim).now verdict) }
+    ensures read { IfOk result (λ verdict. IsTrue (O.is_honest original.old) → IsTrue (E.is_honest export.old) →
+        AreRead verdict (O.left original.new) (E.left export.new)) }
+    ensures failures { OnOk result ((O.reads original.new ≡ O.reads original.old) × (E.reads export.new ≡ E.reads export.old)) }
+    ensures stop { IfErr result (CheckStops
+        (Fails (O.reads original.old) (O.reads original.new))
+        (Fails (E.reads export.old) (E.reads export.new))
+        ((O.reads original.new ≡ O.reads original.old) × (E.reads export.new ≡ E.reads export.old))) }
+{
+    match check_series(original, export, &mut [], asked) {
+        Ok(on_parts) => Ok(on_parts.verdict),
+        Err(PartsStop::OutOfMemory) => Err(CheckStop::OutOfMemory),
+        Err(PartsStop::ReadFailed(PartSide::Original)) => {
+            Err(CheckStop::ReadFailed(Side::Original))
+        }
+        Err(PartsStop::ReadFailed(PartSide::Part(_))) => Err(CheckStop::ReadFailed(Side::Export)),
+    }
+}
 
 /// Checks whether the export is the original, cut and made anonymous as the claim says, and nothing else.
 ///
@@ -37,12 +68,13 @@ pub fn check<O: Source, E: Source>(
         (Fails (E.reads export.old) (E.reads export.new))
         ((O.reads original.new ≡ O.reads original.old) × (E.reads export.new ≡ E.reads export.old))) }
 {
-    match check_series(alloc, original, export, &mut [], claim) {
-        Ok(on_parts) => Ok(on_parts.verdict),
-        Err(PartsStop::OutOfMemory) => Err(CheckStop::OutOfMemory),
-        Err(PartsStop::ReadFailed(PartSide::Original)) => {
-            Err(CheckStop::ReadFailed(Side::Original))
-        }
-        Err(PartsStop::ReadFailed(PartSide::Part(_))) => Err(CheckStop::ReadFailed(Side::Export)),
+    let asked = Asked {
+        alloc,
+        claim,
+        onlooker: &mut Nobody,
+    };
+    match check_beside(original, export, asked) {
+        Ok(verdict) => Ok(verdict),
+        Err(stop) => Err(stop),
     }
 }

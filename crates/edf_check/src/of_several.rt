@@ -10,32 +10,44 @@ ghost use Rattle.edf_check.specs.parts.Together.{IsReadBy, IsVerdictOf};
 
 use crate::finding::Finding;
 use crate::parts::series::{Exported, ReadSoFar};
-use crate::parts::together::{conclude_parts, walk_parts};
+use crate::parts::together::{Stage, conclude_parts, walk_parts};
 use edf_claim::Claim;
 use edf_fields::Source;
 use edf_heads::in_order;
-use edf_pace::{Clock, FaultOf, Setting, open};
+use edf_pace::{Clock, FaultOf, Nobody, Onlooker, Setting, open};
 use edf_stop::{PartSide, PartsStop};
 use edf_verdict::PartsVerdict;
 use std::alloc::Global;
 
+/// Under which claim is checked, with memory of `alloc`, and who looks on.
+#[derive(Drop)]
+pub(crate) struct Asked<'a, 'b, L> {
+    pub alloc: Global,
+    pub claim: &'a Claim,
+    pub onlooker: &'b mut L,
+}
+
 /// Checks an export and those behind it.
 ///
 /// The error is want of memory, or a failure of one of the sources.
-pub(crate) fn check_series<O: Source, E: Source>(
-    alloc: Global,
+pub(crate) fn check_series<O: Source, E: Source, L: Onlooker>(
     original: &mut O,
     part: &mut E,
     others: &mut [E],
-    claim: &Claim,
+    asked: Asked<'_, '_, L>,
 ) -> Result<PartsVerdict, PartsStop>
     requires few { length others.old < 64 }
-    ensures verdict { IfOk result (IsVerdictOf O.Source E.Source original.old (part.old ∷ others.old) claim.now) }
+    ensures verdict { IfOk result (IsVerdictOf O.Source E.Source original.old (part.old ∷ others.old) (asked.entry.claim).now) }
     ensures read { IfOk result (IsReadBy O.Source E.Source original.old original.new
         (part.old ∷ others.old) (part.new ∷ others.new)) }
     ensures failures { OnOk result (NoneFailed O.Source original.old original.new E.Source part.old part.new others.old others.new) }
     ensures stop { IfErr result (StopsOfAll O.Source original.old original.new E.Source 0 (part.old ∷ others.old) (part.new ∷ others.new)) }
 {
+    let Asked {
+        alloc,
+        claim,
+        onlooker,
+    } = asked;
     let reading = match open(alloc, original, PartSide::Original) {
         Ok(Ok(reading)) => reading,
         Ok(Err(fault)) => return Ok(Finding::Fault(FaultOf::Original(fault)).verdict()),
@@ -55,7 +67,11 @@ pub(crate) fn check_series<O: Source, E: Source>(
             notes: Vec::new(alloc),
         },
     };
-    match walk_parts(&mut so_far, original, part, others, setting) {
+    let stage = Stage {
+        setting,
+        onlooker: &mut *onlooker,
+    };
+    match walk_parts(&mut so_far, original, part, others, stage) {
         Ok(Ok(found)) => {
             let verdict = conclude_parts(
                 setting,
@@ -63,6 +79,7 @@ pub(crate) fn check_series<O: Source, E: Source>(
                 &mut so_far.original.notes,
                 &mut so_far.exported,
             )?;
+            onlooker.take_original(so_far.original, so_far.exported.notes);
             Ok(verdict)
         }
         Ok(Err(fault)) => Ok(Finding::Fault(fault).verdict()),
@@ -97,9 +114,16 @@ pub fn check_parts<O: Source, E: Source>(
 {
     match parts.split_first_mut() {
         None => unreachable!(),
-        Some((part, others)) => match check_series(alloc, original, part, others, claim) {
-            Ok(verdict) => Ok(verdict),
-            Err(stop) => Err(stop),
-        },
+        Some((part, others)) => {
+            let asked = Asked {
+                alloc,
+                claim,
+                onlooker: &mut Nobody,
+            };
+            match check_series(original, part, others, asked) {
+                Ok(verdict) => Ok(verdict),
+                Err(stop) => Err(stop),
+            }
+        }
     }
 }

@@ -10,3 +10,5 @@ pub mod SortedFacts
 pub mod TableFacts
 pub mod TextFacts
 pub mod DraftFacts
+pub mod AnyLengthFacts
+pub mod SpellingFacts

@@ -165,6 +165,13 @@ pub record SaysClaimText (text : List ℕ) (c : Terms) : Type 0 where
   pub parsed : parse_document text ≡ Some entries
   pub says : SaysClaim entries c
 
+-- the text is TOML that says this claim, however long it is
+pub record SaysClaimAtAnyLength (text : List ℕ) (c : Terms) : Type 0 where
+  pub utf8 : IsUtf8 text
+  pub entries : Members
+  pub parsed : parse_document text ≡ Some entries
+  pub says : SaysClaim entries c
+
 -- a table says at most one claim
 abbrev pub SaysOneClaim : Type 0
 SaysOneClaim = (entries : Members) (c d : Terms) → SaysClaim entries c → SaysClaim entries d → c ≡ d

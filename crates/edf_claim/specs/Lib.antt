@@ -4,3 +4,4 @@ pub mod Faults
 pub mod Keeps
 pub mod KeepsReading
 pub mod Reading
+pub mod Spellings

@@ -3,3 +3,4 @@
 pub mod draft;
 pub mod draft_text;
 pub mod draft_times;
+pub mod spelling;

@@ -4,4 +4,5 @@ pub mod borders;
 pub mod claim;
 pub mod interval;
 pub mod note_texts;
+pub mod parts;
 pub mod prefixes;

@@ -9,6 +9,7 @@ mod reading;
 mod stop;
 
 pub use drafting::draft::{Comments, Draft};
+pub use drafting::spelling::{push_said_interval, push_said_text};
 pub use kept::claim::{BLANK, Claim, MOST_CLAIM_BYTES};
 pub use kept::interval::Interval;
 pub use reading::keep::MOST_INTERVALS;

@@ -9,7 +9,7 @@ use Rattle.edf_command_line.proofs.EnterFacts.{name_of, takes_draft, takes_expla
 use Rattle.edf_command_line.proofs.PlainFacts.{IsPlain, first_is}
 use Rattle.edf_command_line.specs.Jobs.{ArePlain, SaysJob}
 use Rattle.edf_command_line.specs.declared.jobs.Job.{Job}
-use Rattle.edf_command_line.specs.declared.jobs.Job.TheVariants.{Check, CheckParts, Receipt, ReceiptParts, Draft, Explain, Conform, Show, Notes, Vectors}
+use Rattle.edf_command_line.specs.declared.jobs.Job.TheVariants.{Check, CheckParts, Receipt, ReceiptParts, Draft, Explain, Conform, Show, Notes, Read, Claim, Vectors}
 
 takes_vectors : (w : List ℕ) → takes program_app (w ∷ codes "vectors" ∷ []) ≡ true
 unfolding clap_on_literals
@@ -27,6 +27,14 @@ takes_notes : (w xs : List ℕ) (a : ℕ) → nat_eq a 45 ≡ false → takes pr
 unfolding clap_on_literals
 takes_notes w xs a p = simp p
 
+takes_read : (w xs : List ℕ) (a : ℕ) → nat_eq a 45 ≡ false → takes program_app (w ∷ codes "read" ∷ (a ∷ xs) ∷ []) ≡ true
+unfolding clap_on_literals
+takes_read w xs a p = simp p
+
+takes_claim : (w xs : List ℕ) (a : ℕ) → nat_eq a 45 ≡ false → takes program_app (w ∷ codes "claim" ∷ (a ∷ xs) ∷ []) ≡ true
+unfolding clap_on_literals
+takes_claim w xs a p = simp p
+
 conform_plain : (w x : List ℕ) → IsPlain x → takes program_app (w ∷ codes "conform" ∷ x ∷ []) ≡ true
 conform_plain w (a ∷ xs) p = takes_conform w xs a (first_is a p.1)
 conform_plain w [] p = absurd (omega arith)
@@ -38,6 +46,14 @@ show_plain w [] p = absurd (omega arith)
 notes_plain : (w x : List ℕ) → IsPlain x → takes program_app (w ∷ codes "notes" ∷ x ∷ []) ≡ true
 notes_plain w (a ∷ xs) p = takes_notes w xs a (first_is a p.1)
 notes_plain w [] p = absurd (omega arith)
+
+read_plain : (w x : List ℕ) → IsPlain x → takes program_app (w ∷ codes "read" ∷ x ∷ []) ≡ true
+read_plain w (a ∷ xs) p = takes_read w xs a (first_is a p.1)
+read_plain w [] p = absurd (omega arith)
+
+claim_plain : (w x : List ℕ) → IsPlain x → takes program_app (w ∷ codes "claim" ∷ x ∷ []) ≡ true
+claim_plain w (a ∷ xs) p = takes_claim w xs a (first_is a p.1)
+claim_plain w [] p = absurd (omega arith)
 
 -- the words of a command over one export, and of one over several
 export_taken : (receipt : Bool) (w : List ℕ) (ws : List (List ℕ)) (x y z : List ℕ) → ArePlain ws → ws ≡ name_of false receipt ∷ x ∷ y ∷ z ∷ []
@@ -80,6 +96,12 @@ job_taken w ws (Show f) small plain says =
 job_taken w ws (Notes f) small plain says =
     let each : ArePlain (codes "notes" ∷ f.now ∷ []) = subst ArePlain says plain in
     subst (λ (r : List (List ℕ)). takes program_app (w ∷ r) ≡ true) (sym says) (notes_plain w f.now (each 1 (omega arith)))
+job_taken w ws (Read f) small plain says =
+    let each : ArePlain (codes "read" ∷ f.now ∷ []) = subst ArePlain says plain in
+    subst (λ (r : List (List ℕ)). takes program_app (w ∷ r) ≡ true) (sym says) (read_plain w f.now (each 1 (omega arith)))
+job_taken w ws (Claim f) small plain says =
+    let each : ArePlain (codes "claim" ∷ f.now ∷ []) = subst ArePlain says plain in
+    subst (λ (r : List (List ℕ)). takes program_app (w ∷ r) ≡ true) (sym says) (claim_plain w f.now (each 1 (omega arith)))
 job_taken w ws Vectors small plain says = subst (λ (r : List (List ℕ)). takes program_app (w ∷ r) ≡ true) (sym says) (takes_vectors w)
 
 no_words : (j : Job) → SaysJob [] j → ⊥
@@ -92,6 +114,8 @@ no_words (Explain o e c) says = cc
 no_words (Conform f) says = cc
 no_words (Show f) says = cc
 no_words (Notes f) says = cc
+no_words (Read f) says = cc
+no_words (Claim f) says = cc
 no_words Vectors says = cc
 
 -- a line that says a job is taken

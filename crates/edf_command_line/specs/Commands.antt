@@ -28,6 +28,10 @@ pair_app name = with_rule (with_rule (new_app name) (needed (codes "ORIGINAL")))
 abbrev pub file_app : Text → App
 file_app name = with_rule (new_app name) (needed (codes "FILE"))
 
+-- a command of a claim alone
+abbrev pub claim_app : Text → App
+claim_app name = with_rule (new_app name) (needed (codes "CLAIM"))
+
 -- the program with its version, and without a command
 abbrev pub bare_app : App
 bare_app = record { top = record (new_shape (codes "edfclaim")) { has_version = true }; subs = [] }
@@ -48,6 +52,10 @@ receipt_app = with_both checking_app (codes "receipt") (codes "receipt-parts")
 abbrev pub explain_app : App
 explain_app = with_subcommand (with_subcommand receipt_app (pair_app (codes "draft")).top) (export_app (codes "explain")).top
 
+-- the same with the reports on one recording
+abbrev pub reporting_app : App
+reporting_app = with_subcommand (with_subcommand (with_subcommand (with_subcommand explain_app
+    (file_app (codes "conform")).top) (file_app (codes "show")).top) (file_app (codes "notes")).top) (file_app (codes "read")).top
+
 abbrev pub program_app : App
-program_app = with_subcommand (with_subcommand (with_subcommand (with_subcommand explain_app
-    (file_app (codes "conform")).top) (file_app (codes "show")).top) (file_app (codes "notes")).top) (new_app (codes "vectors")).top
+program_app = with_subcommand (with_subcommand reporting_app (claim_app (codes "claim")).top) (new_app (codes "vectors")).top

@@ -6,7 +6,7 @@ ghost use Rattle.std.specs.Prelude.{◌≡◌, ◌≢◌, codes, false, IfOk, If
 ghost use Rattle.clap.specs.Simple.{app_of, new_app, with_rule, with_subcommand};
 ghost use Rattle.clap.specs.Values.{kind_of};
 ghost use Rattle.clap.specs.declared.builder.command.Command.TheViews.{out-Command as fields_of};
-ghost use Rattle.edf_command_line.specs.Commands.{needed, needed_some, bare_app, checking_app, explain_app, export_app, file_app, pair_app, parts_app, program_app, receipt_app, with_both};
+ghost use Rattle.edf_command_line.specs.Commands.{needed, needed_some, bare_app, checking_app, claim_app, explain_app, export_app, file_app, pair_app, parts_app, program_app, receipt_app, reporting_app, with_both};
 ghost use Rattle.edf_command_line.specs.Jobs.{ArePlain, HasExports, SaysJob, SaysNoJob, behind_first};
 
 use crate::VERSION;
@@ -121,6 +121,20 @@ fn file_command<'a>(alloc: Global, named: Named<'a>) -> Result<Command<'a>, Allo
     needing(alloc, named, "FILE", "The recording")
 }
 
+/// The command `claim CLAIM`.
+fn claim_command<'a>(alloc: Global) -> Result<Command<'a>, AllocError>
+    ensures shape { IfOk result (λ c. app_of c ≡ claim_app (codes "claim")) }
+    ensures local { IfOk result (λ c. (fields_of c).has_globals ≡ false) }
+{
+    let claim = Named {
+        name: "claim",
+        about: "Prints a claim as it is understood, in its plainest form",
+        place: 4,
+    };
+    let named = named_command(alloc, claim);
+    needing(alloc, named, "CLAIM", "The claim, a TOML document")
+}
+
 /// The program with one more command of the form `NAME FILE`.
 fn with_report<'a>(
     alloc: Global,
@@ -229,9 +243,9 @@ fn explain_program<'a>(alloc: Global) -> Result<Command<'a>, AllocError>
     drafting.subcommand(explaining)
 }
 
-/// The program with all of its commands.
-fn program<'a>(alloc: Global) -> Result<Command<'a>, AllocError>
-    ensures { IfOk result (λ c. app_of c ≡ program_app) }
+/// The program with all of its commands but those on a claim alone and on no file.
+fn reporting_program<'a>(alloc: Global) -> Result<Command<'a>, AllocError>
+    ensures { IfOk result (λ c. app_of c ≡ reporting_app) }
 {
     let first = explain_program(alloc)?;
     let conform = Named {
@@ -249,10 +263,25 @@ fn program<'a>(alloc: Global) -> Result<Command<'a>, AllocError>
         about: "Lists the annotations of a recording",
         place: 3,
     };
+    let read = Named {
+        name: "read",
+        about: "Prints what a recording's header says, and its annotations, for reading",
+        place: 3,
+    };
     let second = with_report(alloc, first, conform)?;
     let third = with_report(alloc, second, show)?;
     let fourth = with_report(alloc, third, notes)?;
-    fourth.subcommand(vectors_command(alloc))
+    with_report(alloc, fourth, read)
+}
+
+/// The program with all of its commands.
+fn program<'a>(alloc: Global) -> Result<Command<'a>, AllocError>
+    ensures { IfOk result (λ c. app_of c ≡ program_app) }
+{
+    let reporting = reporting_program(alloc)?;
+    let claim = claim_command(alloc)?;
+    let claiming = reporting.subcommand(claim)?;
+    claiming.subcommand(vectors_command(alloc))
 }
 
 /// Reads the program's words, of which the first is the program's name: `None` where `clap` takes a

@@ -44,6 +44,10 @@ pub enum Job<'a> {
     Show(&'a str),
     /// Lists the annotations of a file.
     Notes(&'a str),
+    /// Prints what the header of a file says and its annotations, for reading.
+    Read(&'a str),
+    /// Prints a claim as it is understood.
+    Claim(&'a str),
     /// Runs the worked rows.
     Vectors,
 }

@@ -9,48 +9,84 @@ use crate::differences::headers::say_heads;
 use crate::differences::samples::say_samples;
 use crate::differences::starts::say_starts;
 use crate::faults::say_fault;
-use crate::front_source::FrontSource;
 use crate::heads::Heads;
 use crate::tried::answers::Asked;
 use crate::tried::other_channels::say_other_channels;
 use crate::tried::other_end::say_other_end;
 use crate::tried::shifts::TriedShifts;
 use crate::words::files::READ_ANEW;
+use edf_check::judge_beside;
 use edf_claim::Claim;
-use edf_fields::{Fault, SECOND_PS, Sink, Source, put_all};
-use edf_findings::{Begun, OnlyInOne, Stand, Walk};
+use edf_fields::{Fault, Sink, put_all};
+use edf_findings::{Looker, OnlyInOne, Seen};
 use edf_sentences::Text;
 use edf_stop::{RunStop, Side};
-use edf_trial::Recordings;
+use edf_trial::{Recordings, with_shift};
 use edf_verdict::{Difference, Outcome, Verdict};
-use edf_warnings::{ReadTexts, say_behind_no, say_warnings};
+use edf_warnings::{ReadTexts, asks_for_texts, say_behind_no, say_warnings};
 use std::alloc::{AllocError, Global};
 
-/// Says how the export isn't as claimed, of two files without a fault. Where the check answers with a Yes with another shift,
-/// the samples and annotations that stand elsewhere aren't listed. Where no other shift was tried, something else is.
+/// What stands in front of each file.
+#[derive(Clone, Copy)]
+pub(crate) struct Fronts<'a> {
+    pub(crate) original: &'a [u8],
+    pub(crate) export: &'a [u8],
+}
+
+impl<'a> Fronts<'a> {
+    /// That of the file of one side.
+    fn of(self, side: Side) -> &'a [u8] {
+        match side {
+            Side::Original => self.original,
+            Side::Export => self.export,
+        }
+    }
+}
+
+/// Who looks on while a check is run under the claim of a text.
+pub(crate) fn looker_for(alloc: Global, claim_text: &[u8]) -> Looker {
+    Looker::new(alloc, asks_for_texts(alloc, claim_text))
+}
+
+/// What was seen of two files under their claim, and what their samples and annotations are reckoned by: the same, or what
+/// was seen of them under the shift with which all samples are as claimed.
+#[derive(Clone, Copy)]
+struct Both<'a, 'b, 'c, 'd> {
+    claimed: &'a Seen<'c>,
+    reckoned: &'b Seen<'d>,
+    only: &'b OnlyInOne,
+}
+
+/// Says how the export isn't as claimed. Where the check answers with a Yes with another shift, the samples and annotations that
+/// stand elsewhere aren't listed. Where no other shift was tried, something else is.
 fn say_differences<R: Recordings>(
     text: &mut Text,
     asked: &Asked<'_, R>,
-    walk: &Walk<'_>,
+    both: Both<'_, '_, '_, '_>,
     shifts: &TriedShifts,
-    only: &OnlyInOne,
 ) -> Result<(), RunStop> {
-    let clocks = Clocks::of(walk);
     let heads = Heads {
-        original: walk.original_header(),
-        export: walk.export_header(),
-        claim: walk.claim(),
+        original: both.claimed.original_header(),
+        export: both.claimed.export_header(),
+        claim: both.claimed.claim(),
     };
     say_heads(text, heads)?;
     say_other_channels(text, asked, heads)?;
-    say_starts(text, walk, shifts)?;
+    say_starts(text, both.claimed, shifts)?;
     if shifts.has_yes() {
         return Ok(());
     }
-    say_samples(text, heads.claim.channels(), walk.channels(), clocks)?;
-    say_annotations(text, heads.claim, walk.notes(), only, clocks)?;
+    let clocks = Clocks::of(both.reckoned);
+    let notes = both.reckoned.notes();
+    say_samples(
+        text,
+        heads.claim.channels(),
+        both.reckoned.channels(),
+        clocks,
+    )?;
+    say_annotations(text, heads.claim, notes, both.only, clocks)?;
     if shifts.are_none() {
-        say_other_end(text, asked, heads.claim, walk.notes(), only)?;
+        say_other_end(text, asked, heads.claim, notes, both.only)?;
     }
     Ok(())
 }
@@ -59,135 +95,118 @@ fn say_differences<R: Recordings>(
 fn say_behind<R: Recordings>(
     text: &mut Text,
     asked: &Asked<'_, R>,
-    walk: &Walk<'_>,
+    both: Both<'_, '_, '_, '_>,
 ) -> Result<(), AllocError> {
-    if text.is_empty() == (asked.verdict.outcome() == Outcome::No) {
-        return text.say(READ_ANEW, &[]);
-    }
     let read = ReadTexts {
-        claim: walk.claim(),
+        claim: both.claimed.claim(),
         claim_text: asked.claim_text,
-        original: walk.original_header(),
-        export: walk.export_header(),
-        notes: walk.notes(),
+        original: both.claimed.original_header(),
+        export: both.claimed.export_header(),
+        notes: both.reckoned.notes(),
     };
-    if text.is_empty() {
-        say_warnings(text, read)
-    } else {
-        say_behind_no(text, read)
+    match asked.verdict.outcome() {
+        Outcome::Yes => say_warnings(text, read),
+        Outcome::No => say_behind_no(text, read),
     }
 }
 
-/// Says what is to be said of two files without a fault that were read to their ends.
-fn say_walked<R: Recordings>(
+/// Says what is to be said of two files without a fault.
+fn say_both<R: Recordings>(
     text: &mut Text,
     asked: &Asked<'_, R>,
-    walk: &mut Walk<'_>,
+    both: Both<'_, '_, '_, '_>,
     shifts: &TriedShifts,
 ) -> Result<(), RunStop> {
-    let only = walk.only_in_one()?;
-    say_differences(text, asked, walk, shifts, &only)?;
-    say_behind(text, asked, walk)?;
+    say_differences(text, asked, both, shifts)?;
+    say_behind(text, asked, both)?;
     Ok(())
 }
 
-/// Whether a verdict is that a file has a fault.
-fn is_of_fault(verdict: &Verdict) -> bool {
-    matches!(
-        verdict,
-        Verdict::No(Difference::OriginalFault(_) | Difference::ExportFault(_))
-    )
-}
-
-/// Says the fault of one of the files, where the check said one.
-fn say_fault_of<O: Source, E: Source>(
-    text: &mut Text,
-    (side, fault): (Side, Fault),
-    verdict: &Verdict,
-    sources: (&FrontSource<'_, O>, &FrontSource<'_, E>),
-) -> Result<(), RunStop> {
-    if !is_of_fault(verdict) {
-        text.say(READ_ANEW, &[])?;
-        return Ok(());
-    }
-    let (original, export) = sources;
-    let front = match side {
-        Side::Original => original.front(),
-        Side::Export => export.front(),
-    };
-    say_fault(text, side, &fault, front)?;
-    Ok(())
-}
-
-/// The fault of an export, unless the original has one, which is looked for by reading it to its end.
-fn fault_of_export<O: Source>(
-    original: &mut Stand,
-    source: &mut O,
-    fault: Fault,
-) -> Result<(Side, Fault), RunStop> {
-    original.read_on(source)?;
-    match original.fault() {
-        Some(first) => Ok((Side::Original, first)),
-        None => Ok((Side::Export, fault)),
-    }
-}
-
-/// Walks to the ends of two files of which the headers could be read, and answers which shifts were tried.
-fn walk_through<R: Recordings, O: Source, E: Source>(
+/// What is seen of both files under another claim, of which this is the text; none where one has a fault now.
+fn seen_anew<'c, R: Recordings>(
     alloc: Global,
     asked: &Asked<'_, R>,
-    walk: &mut Walk<'_>,
-    original: &mut O,
-    export: &mut E,
-) -> Result<TriedShifts, RunStop> {
-    walk.begin(original, export)?;
-    let shifts = TriedShifts::of(alloc, asked, walk.starts())?;
-    if let Some(seconds) = shifts.for_samples() {
-        walk.move_back(i128::from(seconds).saturating_mul(SECOND_PS));
-    }
-    walk.read_to_ends(original, export)?;
-    Ok(shifts)
+    claim_text: &[u8],
+    claim: &'c Claim,
+) -> Result<Option<Seen<'c>>, RunStop> {
+    let mut original = asked.recordings.open_original()?;
+    let mut export = asked.recordings.open_export()?;
+    let mut looker = looker_for(alloc, claim_text);
+    judge_beside(alloc, &mut original, &mut export, claim_text, &mut looker)?;
+    Ok(looker.seen(claim)?)
 }
 
-/// Says what is to be said of two files of which the headers could be read.
-fn say_both<R: Recordings, O: Source, E: Source>(
+/// The same where samples and annotations are reckoned by another shift, in seconds.
+fn say_reckoned<R: Recordings>(
     text: &mut Text,
     asked: &Asked<'_, R>,
-    (old, new): (Stand, Stand),
-    sources: (&mut FrontSource<'_, O>, &mut FrontSource<'_, E>),
+    claimed: &Seen<'_>,
+    shifts: &TriedShifts,
+    seconds: i64,
 ) -> Result<(), RunStop> {
     let alloc = text.alloc();
-    let claim = Claim::read(alloc, asked.claim_text)?;
-    let (original, export) = sources;
-    let mut walk = Walk::new(alloc, &claim, old, new)?;
-    let shifts = walk_through(alloc, asked, &mut walk, original, export)?;
-    match walk.fault() {
-        Some(fault) => say_fault_of(text, fault, asked.verdict, (original, export)),
-        None => say_walked(text, asked, &mut walk, &shifts),
+    let Some(claim_text) = with_shift(alloc, asked.claim_text, seconds)? else {
+        return Ok(());
+    };
+    let claim = Claim::read(alloc, &claim_text)?;
+    let Some(mut seen) = seen_anew(alloc, asked, &claim_text, &claim)? else {
+        text.say(READ_ANEW, &[])?;
+        return Ok(());
+    };
+    let only = seen.only_in_one(alloc)?;
+    let both = Both {
+        claimed: &*claimed,
+        reckoned: &seen,
+        only: &only,
+    };
+    say_both(text, asked, both, shifts)
+}
+
+/// Says what is to be said of what was seen of two files.
+fn say_seen<R: Recordings>(
+    text: &mut Text,
+    asked: &Asked<'_, R>,
+    mut seen: Seen<'_>,
+) -> Result<(), RunStop> {
+    let alloc = text.alloc();
+    let shifts = TriedShifts::of(alloc, asked, seen.starts())?;
+    if let Some(seconds) = shifts.for_samples() {
+        return say_reckoned(text, asked, &seen, &shifts, seconds);
+    }
+    let only = seen.only_in_one(alloc)?;
+    let both = Both {
+        claimed: &seen,
+        reckoned: &seen,
+        only: &only,
+    };
+    say_both(text, asked, both, &shifts)
+}
+
+/// The fault that a verdict says, and of which file.
+fn fault_in(verdict: &Verdict) -> Option<(Side, Fault)> {
+    match verdict {
+        Verdict::No(Difference::OriginalFault(fault)) => Some((Side::Original, *fault)),
+        Verdict::No(Difference::ExportFault(fault)) => Some((Side::Export, *fault)),
+        _ => None,
     }
 }
 
 /// The sentences on two files and a claim.
-fn sentences<R: Recordings>(alloc: Global, asked: &Asked<'_, R>) -> Result<Text, RunStop> {
+fn sentences<R: Recordings>(
+    alloc: Global,
+    asked: &Asked<'_, R>,
+    looker: Looker,
+    fronts: Fronts<'_>,
+) -> Result<Text, RunStop> {
     let mut text = Text::new(alloc);
-    let mut original = asked.recordings.open_original()?;
-    let mut export = asked.recordings.open_export()?;
-    let mut first = FrontSource::new(alloc, &mut original);
-    let mut second = FrontSource::new(alloc, &mut export);
-    let old = Stand::begin(alloc, &mut first, Side::Original)?;
-    let new = Stand::begin(alloc, &mut second, Side::Export)?;
-    let fault = match (old, new) {
-        (Begun::Open(old), Begun::Open(new)) => {
-            let sources = (&mut first, &mut second);
-            say_both(&mut text, asked, (old, new), sources)?;
-            return Ok(text);
-        }
-        (Begun::Faulty(fault), _) => (Side::Original, fault),
-        (Begun::Open(mut old), Begun::Faulty(fault)) => {
-            fault_of_export(&mut old, &mut first, fault)?
-        }
-    };
-    say_fault_of(&mut text, fault, asked.verdict, (&first, &second))?;
+    if let Some((side, fault)) = fault_in(asked.verdict) {
+        say_fault(&mut text, side, &fault, fronts.of(side))?;
+        return Ok(text);
+    }
+    let claim = Claim::read(alloc, asked.claim_text)?;
+    if let Some(seen) = looker.seen(&claim)? {
+        say_seen(&mut text, asked, seen)?;
+    }
     Ok(text)
 }
 
@@ -195,26 +214,21 @@ fn sentences<R: Recordings>(alloc: Global, asked: &Asked<'_, R>) -> Result<Text,
 /// makes them, and what to do; where there is none, what to read before the export goes out. A remedy is named only where the
 /// check was run with it, and then with what it answers.
 ///
-/// The verdict is that of the check. Where the files don't say the same any more, a sentence says so. Both recordings are
-/// opened once for the sentences, and once for each of at most three tries: of other shifts, of the channels that both files have, or
-/// of the end of an interval. The sentences are made before the first of them
-/// is written, so that nothing is written where a file fails or memory runs out. What the sink held stays in front of them.
-pub fn explain_to<R: Recordings, K: Sink>(
+/// The verdict is that of the check, and `looker` looked on. Both recordings are opened anew for each of at most three tries: of
+/// other shifts, of the channels that both files have, or of the end of an interval; and once more where all samples are as
+/// claimed with another shift. The sentences are made before the first of them is written, so that nothing is written where
+/// a file fails or memory runs out. What the sink held stays in front of them.
+pub(crate) fn explain_to<R: Recordings, K: Sink>(
     alloc: Global,
-    recordings: &R,
-    claim_text: &[u8],
-    verdict: &Verdict,
+    asked: &Asked<'_, R>,
+    looker: Looker,
+    fronts: Fronts<'_>,
     sink: &mut K,
 ) -> Result<(), RunStop>
     ensures appended { IsTrue (K.is_honest sink.old) → Appended (K.held sink.old) (K.held sink.new) }
     ensures honesty { IsTrue (K.is_honest sink.old) → IsTrue (K.is_honest sink.new) }
 {
-    let asked = Asked {
-        recordings,
-        claim_text,
-        verdict,
-    };
-    let text = sentences(alloc, &asked)?;
+    let text = sentences(alloc, asked, looker, fronts)?;
     put_all(sink, text.bytes())?;
     Ok(())
 }

@@ -3,16 +3,18 @@
 ghost use Rattle.std.specs.Prelude.{IfOk, IsTrue};
 ghost use Rattle.edf_explain.specs.Explained.{IsExplained};
 
-use crate::explain::explain_to;
-use edf_check::judge;
+use crate::explain::{Fronts, explain_to, looker_for};
+use crate::front_source::FrontSource;
+use crate::tried::answers::Asked;
+use edf_check::judge_beside;
 use edf_fields::{Sink, Source, put_all};
 use edf_stop::RunStop;
 use edf_trial::Recordings;
 use edf_verdict::Outcome;
 use std::alloc::Global;
 
-/// Checks the export against the original as `run` does and writes its line; then reads both files once more, which are opened
-/// anew, and writes sentences for whoever has to act on it.
+/// Checks the export against the original as `run` does and writes its line; then writes sentences for whoever has to act on it.
+/// Both files are read once, and opened anew for what is tried.
 ///
 /// The line and the outcome are what `run` promises. Of the sentences nothing is promised but that they stand behind it, nor of
 /// what was written where there is an error: it is that of `run`, or one of a later reading.
@@ -28,9 +30,21 @@ pub fn run_explained<O: Source, E: Source, K: Sink, R: Recordings>(
         IsExplained (O.left original.old) (E.left export.old) claim_text.now (K.held sink.old) (K.held sink.new) outcome) }
     ensures honesty { IsTrue (K.is_honest sink.old) → IsTrue (K.is_honest sink.new) }
 {
-    let verdict = judge(alloc, original, export, claim_text)?;
+    let mut first = FrontSource::new(alloc, original);
+    let mut second = FrontSource::new(alloc, export);
+    let mut looker = looker_for(alloc, claim_text);
+    let verdict = judge_beside(alloc, &mut first, &mut second, claim_text, &mut looker)?;
     let line = verdict.line(alloc)?;
     put_all(sink, &line)?;
-    explain_to(alloc, again, claim_text, &verdict, sink)?;
+    let asked = Asked {
+        recordings: again,
+        claim_text,
+        verdict: &verdict,
+    };
+    let fronts = Fronts {
+        original: first.front(),
+        export: second.front(),
+    };
+    explain_to(alloc, &asked, looker, fronts, sink)?;
     Ok(verdict.outcome())
 }

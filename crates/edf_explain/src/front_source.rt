@@ -1,5 +1,7 @@
 //! A source that remembers the front of what it hands on.
 
+ghost use Rattle.std.specs.Prelude.{◌≡◌};
+
 use edf_fields::{ReadFault, Source};
 use edf_sentences::FRONT;
 use std::alloc::Global;
@@ -24,7 +26,10 @@ pub(crate) struct FrontSource<'a, S: Source> {
 
 impl<'a, S: Source> FrontSource<'a, S> {
     /// A source that gives what the other one gives.
-    pub(crate) fn new(alloc: Global, source: &'a mut S) -> FrontSource<'a, S> {
+    pub(crate) fn new(alloc: Global, source: &'a mut S) -> FrontSource<'a, S>
+        ensures left { ⟦<FrontSource<'a, S> as Source>⟧.left result ≡ S.left source.old }
+        ensures honest { ⟦<FrontSource<'a, S> as Source>⟧.is_honest result ≡ S.is_honest source.old }
+    {
         FrontSource {
             source,
             front: Vec::new(alloc),

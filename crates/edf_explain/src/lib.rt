@@ -12,6 +12,5 @@ mod opening;
 mod tried;
 mod words;
 
-pub use explain::explain_to;
 pub use explained::run_explained;
 pub use opening::{explain_opening, explain_reading};

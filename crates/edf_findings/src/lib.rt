@@ -2,24 +2,27 @@
 //! sentence.
 #![tactic(auto)]
 
+mod clock;
 mod heads;
 mod limits;
+mod looker;
 mod notes;
 mod record_time;
 mod samples;
+mod seen;
 mod stand;
 mod starts;
-mod walk;
 
+pub use clock::start_of;
 pub use heads::cut_off::are_extremes_cut_off;
 pub use heads::exchanged::{Exchange, exchange_of, has_subfield};
 pub use limits::MOST_SHIFT;
+pub use looker::Looker;
 pub use notes::both::{Notes, OnlyInOne};
 pub use notes::ends::is_at_end;
 pub use notes::one_way::{OneWay, one_way};
 pub use samples::compared::ComparedChannel;
 pub use samples::kinds::SampleKinds;
 pub use samples::tally::{Spot, Tally};
-pub use stand::{Begun, Stand};
+pub use seen::Seen;
 pub use starts::Starts;
-pub use walk::{Walk, start_of};

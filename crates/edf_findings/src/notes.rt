@@ -3,4 +3,3 @@
 pub mod both;
 pub mod ends;
 pub mod one_way;
-pub mod taker;

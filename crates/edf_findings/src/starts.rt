@@ -1,7 +1,9 @@
 //! Where an export starts, beside where it starts by its claim.
 
+use crate::clock::start_of;
 use crate::limits::MOST_SHIFT;
 use edf_fields::SECOND_PS;
+use edf_header::Header;
 use std::alloc::{AllocError, Global};
 
 /// How many picoseconds a day has.
@@ -32,6 +34,24 @@ pub struct Starts {
 }
 
 impl Starts {
+    /// Those of an original and an export with these headers: the first sample that is kept is taken so late after the second at
+    /// which the original starts, and the first data record of the export starts so late after that of the export.
+    pub(crate) fn of(
+        (original, export): (&Header, &Header),
+        shift_ps: i128,
+        first_ps: i128,
+        begin_ps: i128,
+    ) -> Starts {
+        Starts {
+            claimed_ps: start_of(original)
+                .saturating_add(first_ps)
+                .saturating_add(shift_ps),
+            exported_ps: start_of(export).saturating_add(begin_ps),
+            first_ps,
+            shift_ps,
+        }
+    }
+
     /// By how much the export starts later than claimed.
     pub fn later_ps(&self) -> i128 {
         self.exported_ps.saturating_sub(self.claimed_ps)

@@ -30,4 +30,5 @@ pub use walk::track::pairs_of;
 pub use walk::turn::{Setting, Turn};
 pub use walk::watchers::counts::Counts;
 pub use walk::watchers::first_found::FirstFound;
+pub use walk::watchers::onlooker::{Nobody, Onlooker};
 pub use walk::watchers::watcher::{Watch, Watcher};

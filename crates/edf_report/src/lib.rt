@@ -8,4 +8,5 @@ mod show;
 
 pub use conform::conform_to;
 pub use notes::notes_to;
+pub use report::Report;
 pub use show::show_to;

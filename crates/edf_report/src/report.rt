@@ -15,9 +15,11 @@ use std::alloc::{AllocError, Global};
 
 /// The text of a report and its outcome.
 #[derive(Drop)]
-pub(crate) struct Report {
-    pub(crate) text: Vec<u8>,
-    pub(crate) outcome: Outcome,
+pub struct Report {
+    /// All that is written.
+    pub text: Vec<u8>,
+    /// `Yes` where the file has no fault.
+    pub outcome: Outcome,
 }
 
 /// The line of a fault.
@@ -32,8 +34,10 @@ fn fault_line(alloc: Global, fault: &Fault) -> Result<Vec<u8>, AllocError>
 }
 
 impl Report {
-    /// What stopped the reading of a file: a fault is reported, and all else stops the report, too.
-    pub(crate) fn of_stop(alloc: Global, stop: Stop) -> Result<Report, ReportStop>
+    /// What stopped the reading of a file: a fault is reported, by its line and `No`, and all else stops the report, too.
+    ///
+    /// The error is want of memory, or the failed read that stopped it.
+    pub fn of_stop(alloc: Global, stop: Stop) -> Result<Report, ReportStop>
         ensures report { IfOk result (λ report. IsFaultReport stop report.text.items report.outcome) }
         ensures stop { IfErr result (ReportStops (stop ≡ read_stops.ReadFailed) ⊥ (stop ≢ read_stops.ReadFailed)) }
     {
@@ -47,8 +51,10 @@ impl Report {
         }
     }
 
-    /// Writes the report: its outcome, or that the sink failed.
-    pub(crate) fn put<K: Sink>(&self, sink: &mut K) -> Result<Outcome, ReportStop>
+    /// Writes the report, and gives its outcome.
+    ///
+    /// The error is that the sink failed; a front of the text was written then.
+    pub fn put<K: Sink>(&self, sink: &mut K) -> Result<Outcome, ReportStop>
         ensures written { IfOk result (λ outcome. (outcome ≡ self.now.outcome) × (IsTrue (K.is_honest sink.old) →
             K.held sink.new ≡ K.held sink.old ++ self.now.text.items)) }
         ensures failures { OnOk result (K.failures sink.new ≡ K.failures sink.old) }

@@ -11,5 +11,6 @@ mod read_texts;
 mod warnings;
 mod words;
 
+pub use misspelt::asks_for_texts;
 pub use read_texts::ReadTexts;
 pub use warnings::{say_behind_no, say_warnings};

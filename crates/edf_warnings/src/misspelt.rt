@@ -38,6 +38,14 @@ fn names_texts(table: &Table) -> bool {
         || texts_at(table, "blank").is_some()
 }
 
+/// Whether the text of a claim removes or blanks texts, so that it is asked whether annotations have them.
+pub fn asks_for_texts(alloc: Global, claim_text: &[u8]) -> bool {
+    match toml::table_from_slice(alloc, claim_text) {
+        Ok(table) => names_texts(&table),
+        Err(_) => false,
+    }
+}
+
 /// Says which text that was seen looks like one of a claim, and which bytes are others.
 fn say_alike(text: &mut Text, seen: &[&str], said: &str) -> Result<(), AllocError> {
     for other in seen {

@@ -27,6 +27,15 @@ ReportIsRefused (refusals.Claim cause) = ⊥
 ReportIsRefused refusals.Writing = Unit {0}
 ReportIsRefused refusals.TooManyExports = ⊥
 
+-- the claim can't be opened, a read of it failed, or it is refused; or memory ran out, or a write failed
+abbrev pub ClaimIsRefused : Refusal → Type 0
+ClaimIsRefused refusals.Memory = Unit {0}
+ClaimIsRefused (refusals.CannotOpen role) = role ≡ roles.Claim
+ClaimIsRefused (refusals.Reading role) = role ≡ roles.Claim
+ClaimIsRefused (refusals.Claim cause) = Unit {0}
+ClaimIsRefused refusals.Writing = Unit {0}
+ClaimIsRefused refusals.TooManyExports = ⊥
+
 -- of the three files of a check one can't be opened, or a read of it failed; or the claim is refused, memory ran out, or a write failed
 abbrev pub CheckIsRefused : Refusal → Type 0
 CheckIsRefused refusals.Memory = Unit {0}

@@ -3,16 +3,18 @@
 ghost use Rattle.std.specs.Prelude.{◌≡◌, ◌<◌, length, Err, IfErr};
 ghost use Rattle.edf_command_line.specs.Jobs.{HasExports};
 ghost use Rattle.edf_refusal.specs.declared.refusals.Refusal.TheVariants as refusals;
-ghost use Rattle.edfclaim.specs.Opening.{CheckIsRefused, DraftIsRefused, PartsAreRefused, ReportIsRefused};
+ghost use Rattle.edfclaim.specs.Opening.{CheckIsRefused, ClaimIsRefused, DraftIsRefused, PartsAreRefused, ReportIsRefused};
 
 use crate::files::{claim_text, digested_recordings, recording, recordings, watched};
 use crate::files_again::FilesAgain;
 use crate::signs::{Signs, Wiped};
 use edf_check::{run, run_parts};
+use edf_claim_text::claim_to;
 use edf_command_line::{Job, VERSION};
 use edf_draft::draft_to;
 use edf_explain::run_explained;
 use edf_fields::{Sink, WriteSink};
+use edf_read::read_to;
 use edf_receipt::{DigestSource, receipt_parts_to, receipt_to};
 use edf_refusal::{Refusal, Role};
 use edf_report::{conform_to, notes_to, show_to};
@@ -196,6 +198,30 @@ fn notes<R: Files + AllocGlobal, K: Sink>(
     Ok(notes_to(rt.alloc(), &mut source, sink)?)
 }
 
+/// Prints what the header of a file says, and its annotations, for reading.
+fn read<'a, R: Files + Eprint + Clock + AllocGlobal, K: Sink>(
+    signs: &'a Signs<'a, R>,
+    path: &str,
+    sink: &mut K,
+) -> Result<Outcome, Refusal>
+    ensures stop { IfErr result ReportIsRefused }
+{
+    let mut source = watched(signs, path, Role::File)?;
+    Ok(read_to(signs.rt().alloc(), &mut source, sink)?)
+}
+
+/// Prints a claim as it is understood.
+fn claim<R: Files + AllocGlobal, K: Sink>(
+    rt: &R,
+    path: &str,
+    sink: &mut K,
+) -> Result<Outcome, Refusal>
+    ensures stop { IfErr result ClaimIsRefused }
+{
+    let text = claim_text(rt, path)?;
+    Ok(claim_to(rt.alloc(), &text, sink)?)
+}
+
 /// Does a job, and writes its text to the sink.
 fn write_job<'a, R: Files + Eprint + Clock + AllocGlobal, K: Sink>(
     signs: &'a Signs<'a, R>,
@@ -234,6 +260,8 @@ fn write_job<'a, R: Files + Eprint + Clock + AllocGlobal, K: Sink>(
         Job::Conform(path) => conform(signs, path, sink),
         Job::Show(path) => show(signs.rt(), path, sink),
         Job::Notes(path) => notes(signs.rt(), path, sink),
+        Job::Read(path) => read(signs, path, sink),
+        Job::Claim(path) => claim(signs.rt(), path, sink),
         Job::Vectors => Ok(vectors_to(signs.rt().alloc(), sink)?),
     }
 }

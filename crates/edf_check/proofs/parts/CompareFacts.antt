@@ -1,5 +1,5 @@
 -- A part that is read beside the original: what goes on behind it, and what it came to.
-use Rattle.std.proofs.Common.{◌≡◌, ◌↔◌, ℕ, ℤ, Bool, true, false, not, ◌&&◌, ◌||◌, is_some, List, Option, None, Some, Result, Ok, Err, IfSome, MatchOption, refl, ◌∙◌, subst}
+use Rattle.std.proofs.Common.{◌≡◌, ◌↔◌, ℕ, ℤ, Bool, true, false, not, ◌&&◌, ◌||◌, is_some, List, Option, None, Some, Result, Ok, Err, IfSome, MatchOption, refl, ◌∙◌, ap, subst}
 use Rattle.edf_claim.specs.Terms.{Terms}
 use Rattle.edf_fields.specs.in_out.Sources.{Reads}
 use Rattle.edf_header.specs.Heads.{Head}
@@ -13,7 +13,9 @@ use Rattle.edf_pace.specs.declared.times.Time.{Time}
 use Rattle.edf_pace.specs.declared.walk.turn.Turn.{Turn}
 use Rattle.edf_pace.specs.Premises.{IfFaulty, IfRead}
 use Rattle.edf_check.specs.parts.Ends.{IsBeside, IsPassed, Passes}
-use Rattle.edf_pace.specs.walk.Ends.{IsMatched, moved_original}
+use Rattle.edf_pace.specs.declared.walk.lockstep.ReadOn.{ReadOn}
+use Rattle.edf_pace.specs.walk.Ends.{IsMatched, IsWalked, moved_original}
+use Rattle.edf_pace.specs.walk.Watching.{TwoFiles}
 use Rattle.edf_pace.specs.walk.Readings.{GoesOn, Moves}
 use Rattle.edf_pace.proofs.ForCallers.{other_way}
 
@@ -49,17 +51,17 @@ passes_on turn old mid new x y z f g left mid-left left' notes notes' flag t end
 pub beside_less : (r : Reader) (left : List ℕ) (notes : List NoteValue) (file : List ℕ) (claim : Terms) (ps t : ℤ) (more less : Bool) → (less ≡ true → more ≡ true) → IsBeside more r left notes file claim ps t → IsBeside less r left notes file claim ps t
 beside_less r left notes file claim ps t more less is b = record { there = b.there; at = λ e. b.at (is e) }
 
-pub passes_less : (turn : Turn) (less : Bool) (old new : Reader) (x z : Bool) (left left' : List ℕ) (notes notes' : List NoteValue) (flag other : Bool) (end : Time) → (less ≡ true → turn.is_compared ≡ true) → flag ≡ other
+pub passes_less : (turn : Turn) (less : Bool) (old new : Reader) (x z : Bool) (left left' : List ℕ) (notes notes' : List NoteValue) (flag other : Bool) (end : Time) → (less ≡ true → turn.is_compared ≡ true) → (other ≡ true → flag ≡ true)
     → Passes (record turn { is_compared = less }) old new x z left left' notes notes' flag end → Passes turn old new x z left left' notes notes' other end
-passes_less turn less old new x z left left' notes notes' flag other end is same p =
-    let P : Bool → Type 0 = λ f. Passes turn old new x z left left' notes notes' f end in
-    subst P same (record {
-      head = p.head;
-      going = p.going;
-      ahead = p.ahead;
-      honesty = p.honesty;
-      comes = λ h file b. p.comes h file (beside_less old left notes file ((turn.setting).claim).now (moved_original turn) (turn.from).ps turn.is_compared less is b);
-    })
+passes_less turn less old new x z left left' notes notes' flag other end is so p = record {
+  head = p.head;
+  going = p.going;
+  ahead = λ e. p.ahead (so e);
+  honesty = p.honesty;
+  comes = λ h file b.
+      beside_less new left' notes' file ((turn.setting).claim).now (moved_original turn) end.ps flag other so
+      (p.comes h file (beside_less old left notes file ((turn.setting).claim).now (moved_original turn) (turn.from).ps turn.is_compared less is b));
+}
 
 pub passed_less : (turn : Turn) (less : Bool) (e : List ℕ) (g g' : Head) (left : List ℕ) (course : Course) → g ≡ g' → IsPassed (record turn { is_compared = less }) e g left course → IsPassed turn e g' left course
 passed_less turn less e g g' left course same p =
@@ -105,8 +107,20 @@ last-over None last none e = e
 last-over (Some f) last none e = absurd (let z : Some f ≡ None = none in cc)
 
 -- a part whose header agrees is compared, where those before it don't differ
-pub compared-so : (p : Bool) (heads : Option Verdict) → p ≡ true → heads ≡ None → (p && not (is_some heads)) ≡ true
-compared-so p heads a b = rw (a, b) refl
+pub compared-so : (p looks : Bool) (heads : Option Verdict) → p ≡ true → heads ≡ None → (p && (not (is_some heads) || looks)) ≡ true
+compared-so p looks heads a b = rw (a, b) refl
+
+-- where the next part is compared, this one was
+pub goes-so : (p h looks goes r : Bool) → r ≡ (p && (h || looks)) → (p && (h && goes)) ≡ true → (r && goes) ≡ true
+goes-so true true looks goes r is e = rw is e
+goes-so true false looks goes r is e = absurd (let z : false ≡ true = e in cc)
+goes-so false h looks goes r is e = absurd (let z : false ≡ true = e in cc)
+
+-- ---- who looks on
+
+-- who has seen enough where nobody looks on, may look further where somebody does
+pub is_alone : (turn : Turn) (files : TwoFiles) (Held Holds : TwoFiles → ℤ → ℤ → Type 0) (some quiet : Bool) (walked : ReadOn) → IsWalked turn files Held Holds (some && quiet) walked → IsWalked turn files Held Holds some walked
+is_alone turn files Held Holds some quiet walked is = record { holds = is.holds; within = is.within; ends = λ e. is.ends (ap (λ z. z && quiet) e) }
 
 -- ---- tests
 

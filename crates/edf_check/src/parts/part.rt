@@ -13,12 +13,20 @@ ghost use Rattle.edf_pace.specs.walk.Shown.{IfAtHand, IsAhead, IsGoing, StandsAt
 use edf_fields::Source;
 use edf_heads::head_difference;
 use edf_pace::{
-    FaultOf, FirstFound, Found, Frame, Offset, Reading, Time, Turn, View, Watch, begin_ps_of,
-    common_room, end_both, export_fault, finish, go_on, open, pairs_of, start, walk_on,
+    FaultOf, FirstFound, Found, Frame, Offset, Onlooker, Reading, Time, Turn, View, Watch,
+    begin_ps_of, common_room, end_both, export_fault, finish, go_on, open, pairs_of, start,
+    walk_on,
 };
 use edf_stop::{PartSide, PartsStop};
 use edf_stream::{FileReader, KeepsNone, Note, Summary};
 use edf_verdict::Verdict;
+
+/// Whose turn it is, and who looks on.
+#[derive(Drop)]
+pub(crate) struct Shown<'a, 'b, L> {
+    pub turn: Turn<'a>,
+    pub onlooker: &'b mut L,
+}
 
 /// When the data records of a part begin and end, and what they differ in.
 #[derive(Clone, Copy)]
@@ -85,32 +93,33 @@ fn is_over(found: Option<Found>, is_last: bool) -> bool
 /// original, too, where no further part follows, or where the samples differ.
 ///
 /// The error is want of memory, or a failure of one of the sources.
-fn compare_on<O: Source, E: Source>(
+fn compare_on<O: Source, E: Source, L: Onlooker>(
     original: &mut Reading,
     o: &mut O,
     export: &mut Reading,
     e: &mut E,
-    turn: Turn<'_>,
+    shown: Shown<'_, '_, L>,
 ) -> Result<Result<Course, FaultOf>, PartsStop>
-    requires compared { turn.is_compared ≡ true }
-    requires original { StandsAt original.old.reader ((turn.setting).clock.original).ps (turn.from).ps }
-    requires export { StandsAt export.old.reader ((turn.setting).clock.export).ps (turn.from).ps }
+    requires compared { (shown.turn).is_compared ≡ true }
+    requires original { StandsAt original.old.reader (((shown.turn).setting).clock.original).ps ((shown.turn).from).ps }
+    requires export { StandsAt export.old.reader (((shown.turn).setting).clock.export).ps ((shown.turn).from).ps }
     requires at_hand { is_current (export.old.reader).status ≡ true }
-    ensures modest { IfRead result (λ c. IfSome c.found (IsFoundAmong (length ((turn.entry.setting).labels).now))) }
+    ensures modest { IfRead result (λ c. IfSome c.found (IsFoundAmong (length (((shown.entry.turn).setting).labels).now))) }
     ensures head { IfRead result (λ c. (export.new.reader).head ≡ (export.old.reader).head) }
     ensures later { IfRead result (λ c. c.is_early ≡ false) }
-    ensures passes { IfRead result (PassesBehind O.Source original.old o.old original.new o.new turn.entry) }
-    ensures through { IfRead result (λ c. turn.entry.is_last ≡ true →
-        ThroughBy (at_turn O.Source E.Source original.old o.old export.old e.old turn.entry) (O.left o.new)) }
-    ensures ended { IfRead result (EndedBy (at_turn O.Source E.Source original.old o.old export.old e.old turn.entry)
-        turn.entry (E.left e.new)) }
-    ensures matched { IfRead result (MatchedBy (at_turn O.Source E.Source original.old o.old export.old e.old turn.entry)
-        turn.entry original.new export.new) }
-    ensures fault { IfFaulty result (FaultyBy (at_turn O.Source E.Source original.old o.old export.old e.old turn.entry)
-        (O.left o.new) turn.entry.part) }
+    ensures passes { IfRead result (PassesBehind O.Source original.old o.old original.new o.new (shown.entry.turn)) }
+    ensures through { IfRead result (λ c. (shown.entry.turn).is_last ≡ true →
+        ThroughBy (at_turn O.Source E.Source original.old o.old export.old e.old (shown.entry.turn)) (O.left o.new)) }
+    ensures ended { IfRead result (EndedBy (at_turn O.Source E.Source original.old o.old export.old e.old (shown.entry.turn))
+        (shown.entry.turn) (E.left e.new)) }
+    ensures matched { IfRead result (MatchedBy (at_turn O.Source E.Source original.old o.old export.old e.old (shown.entry.turn))
+        (shown.entry.turn) original.new export.new) }
+    ensures fault { IfFaulty result (FaultyBy (at_turn O.Source E.Source original.old o.old export.old e.old (shown.entry.turn))
+        (O.left o.new) (shown.entry.turn).part) }
     ensures failures { OnOk result ((O.reads o.new ≡ O.reads o.old) × (E.reads e.new ≡ E.reads e.old)) }
-    ensures stop { IfErr result (StopsOfTwo O.Source o.old o.new E.Source turn.entry.part e.old e.new) }
+    ensures stop { IfErr result (StopsOfTwo O.Source o.old o.new E.Source (shown.entry.turn).part e.old e.new) }
 {
+    let Shown { turn, onlooker } = shown;
     let (alloc, labels) = (turn.setting.alloc, turn.setting.labels);
     let pairs = pairs_of(
         alloc,
@@ -126,7 +135,10 @@ fn compare_on<O: Source, E: Source>(
     };
     let mut watch = Watch {
         frame,
-        watcher: FirstFound { found: None },
+        watcher: FirstFound {
+            found: None,
+            onlooker,
+        },
     };
     let read = match walk_on(original, o, export, e, &mut watch) {
         Ok(Ok(read)) => read,
@@ -157,30 +169,31 @@ fn compare_on<O: Source, E: Source>(
 /// further part follows, or where the part isn't the same.
 ///
 /// The error is want of memory, or a failure of one of the sources.
-fn compare<O: Source, E: Source>(
+fn compare<O: Source, E: Source, L: Onlooker>(
     original: &mut Reading,
     o: &mut O,
     export: &mut Reading,
     e: &mut E,
-    turn: Turn<'_>,
+    shown: Shown<'_, '_, L>,
 ) -> Result<Result<Course, FaultOf>, PartsStop>
-    requires compared { turn.is_compared ≡ true }
-    requires original { StandsAt original.old.reader ((turn.setting).clock.original).ps (turn.from).ps }
+    requires compared { (shown.turn).is_compared ≡ true }
+    requires original { StandsAt original.old.reader (((shown.turn).setting).clock.original).ps ((shown.turn).from).ps }
     requires export { HasBegun export.old.reader × ((export.old.notes).items ≡ []) }
-    ensures modest { IfRead result (λ c. IfSome c.found (IsFoundAmong (length ((turn.entry.setting).labels).now))) }
+    ensures modest { IfRead result (λ c. IfSome c.found (IsFoundAmong (length (((shown.entry.turn).setting).labels).now))) }
     ensures head { IfRead result (λ c. (export.new.reader).head ≡ (export.old.reader).head) }
-    ensures passes { IfRead result (PassesBehind O.Source original.old o.old original.new o.new turn.entry) }
-    ensures through { IfRead result (λ c. turn.entry.is_last ≡ true →
-        ThroughBy (at_part O.Source E.Source original.old o.old export.old e.old turn.entry) (O.left o.new)) }
-    ensures passed { IfRead result (PassedBy (at_part O.Source E.Source original.old o.old export.old e.old turn.entry)
-        turn.entry (E.left e.new)) }
-    ensures matched { IfRead result (MatchedBy (at_part O.Source E.Source original.old o.old export.old e.old turn.entry)
-        turn.entry original.new export.new) }
-    ensures fault { IfFaulty result (FaultyBy (at_part O.Source E.Source original.old o.old export.old e.old turn.entry)
-        (O.left o.new) turn.entry.part) }
+    ensures passes { IfRead result (PassesBehind O.Source original.old o.old original.new o.new (shown.entry.turn)) }
+    ensures through { IfRead result (λ c. (shown.entry.turn).is_last ≡ true →
+        ThroughBy (at_part O.Source E.Source original.old o.old export.old e.old (shown.entry.turn)) (O.left o.new)) }
+    ensures passed { IfRead result (PassedBy (at_part O.Source E.Source original.old o.old export.old e.old (shown.entry.turn))
+        (shown.entry.turn) (E.left e.new)) }
+    ensures matched { IfRead result (MatchedBy (at_part O.Source E.Source original.old o.old export.old e.old (shown.entry.turn))
+        (shown.entry.turn) original.new export.new) }
+    ensures fault { IfFaulty result (FaultyBy (at_part O.Source E.Source original.old o.old export.old e.old (shown.entry.turn))
+        (O.left o.new) (shown.entry.turn).part) }
     ensures failures { OnOk result ((O.reads o.new ≡ O.reads o.old) × (E.reads e.new ≡ E.reads e.old)) }
-    ensures stop { IfErr result (StopsOfTwo O.Source o.old o.new E.Source turn.entry.part e.old e.new) }
+    ensures stop { IfErr result (StopsOfTwo O.Source o.old o.new E.Source (shown.entry.turn).part e.old e.new) }
 {
+    let turn = shown.turn;
     let view = View {
         alloc: turn.setting.alloc,
         moved: turn.setting.clock.export,
@@ -197,7 +210,7 @@ fn compare<O: Source, E: Source>(
         Err(stop) => return Err(stop),
     }
     if begins_from(&export.reader, turn.setting.clock.export, turn.from) {
-        return match compare_on(original, o, export, e, turn) {
+        return match compare_on(original, o, export, e, shown) {
             Ok(Ok(course)) => Ok(Ok(course)),
             Ok(Err(fault)) => Ok(Err(fault)),
             Err(stop) => Err(stop),
@@ -261,52 +274,53 @@ fn pass_over<O: Source, E: Source>(
 /// Reads a part, of which the header was read, as far as its turn says beside the original.
 ///
 /// The error is want of memory, or a failure of one of the sources.
-fn read_course<O: Source, E: Source>(
+fn read_course<O: Source, E: Source, L: Onlooker>(
     original: &mut Reading,
     o: &mut O,
     export: &mut Reading,
     e: &mut E,
-    turn: Turn<'_>,
+    shown: Shown<'_, '_, L>,
 ) -> Result<Result<Course, FaultOf>, PartsStop>
-    requires original { IsReady turn original.old.reader }
+    requires original { IsReady shown.turn original.old.reader }
     requires export { HasBegun export.old.reader × ((export.old.notes).items ≡ []) }
-    ensures modest { IfRead result (λ c. IfSome c.found (IsFoundAmong (length ((turn.entry.setting).labels).now))) }
+    ensures modest { IfRead result (λ c. IfSome c.found (IsFoundAmong (length (((shown.entry.turn).setting).labels).now))) }
     ensures head { IfRead result (λ c. (export.new.reader).head ≡ (export.old.reader).head) }
-    ensures passes { IfRead result (PassesOn O.Source original.old o.old original.new o.new turn.entry) }
-    ensures through { IfRead result (λ c. turn.entry.is_last ≡ true →
-        ThroughBy (at_part O.Source E.Source original.old o.old export.old e.old turn.entry) (O.left o.new)) }
-    ensures passed { IfRead result (PassedBy (at_part O.Source E.Source original.old o.old export.old e.old turn.entry)
-        turn.entry (E.left e.new)) }
-    ensures matched { IfRead result (MatchedBy (at_part O.Source E.Source original.old o.old export.old e.old turn.entry)
-        turn.entry original.new export.new) }
-    ensures fault { IfFaulty result (FaultyBy (at_part O.Source E.Source original.old o.old export.old e.old turn.entry)
-        (O.left o.new) turn.entry.part) }
+    ensures passes { IfRead result (PassesOn O.Source original.old o.old original.new o.new (shown.entry.turn)) }
+    ensures through { IfRead result (λ c. (shown.entry.turn).is_last ≡ true →
+        ThroughBy (at_part O.Source E.Source original.old o.old export.old e.old (shown.entry.turn)) (O.left o.new)) }
+    ensures passed { IfRead result (PassedBy (at_part O.Source E.Source original.old o.old export.old e.old (shown.entry.turn))
+        (shown.entry.turn) (E.left e.new)) }
+    ensures matched { IfRead result (MatchedBy (at_part O.Source E.Source original.old o.old export.old e.old (shown.entry.turn))
+        (shown.entry.turn) original.new export.new) }
+    ensures fault { IfFaulty result (FaultyBy (at_part O.Source E.Source original.old o.old export.old e.old (shown.entry.turn))
+        (O.left o.new) (shown.entry.turn).part) }
     ensures failures { OnOk result ((O.reads o.new ≡ O.reads o.old) × (E.reads e.new ≡ E.reads e.old)) }
-    ensures stop { IfErr result (StopsOfTwo O.Source o.old o.new E.Source turn.entry.part e.old e.new) }
+    ensures stop { IfErr result (StopsOfTwo O.Source o.old o.new E.Source (shown.entry.turn).part e.old e.new) }
 {
-    if turn.is_compared {
-        compare(original, o, export, e, turn)
+    if shown.turn.is_compared {
+        compare(original, o, export, e, shown)
     } else {
-        pass_over(&mut original.reader, o, &mut export.reader, e, turn)
+        pass_over(&mut original.reader, o, &mut export.reader, e, shown.turn)
     }
 }
 
-/// Whether the samples of a part with this verdict on its header are compared.
-fn is_compared(turn: Turn<'_>, heads: &Option<Verdict>) -> bool
-    ensures { result ≡ (turn.entry.is_compared && not (is_some heads.now)) }
+/// Whether the samples of a part with this verdict on its header are compared: where that differs, only for who looks on.
+fn is_compared(turn: Turn<'_>, heads: &Option<Verdict>, looks: bool) -> bool
+    ensures { result ≡ (turn.entry.is_compared && (not (is_some heads.now) || looks)) }
 {
-    turn.is_compared && heads.is_none()
+    turn.is_compared && (heads.is_none() || looks)
 }
 
 /// Opens a part and reads it to its end beside the original, which stands at the part's turn where the part is compared; or
 /// finds the first fault of the original, or else of the part.
 ///
 /// The error is want of memory, or a failure of one of the sources.
-pub(crate) fn read_part<O: Source, E: Source>(
+pub(crate) fn read_part<O: Source, E: Source, L: Onlooker>(
     original: &mut Reading,
     o: &mut O,
     e: &mut E,
     turn: Turn<'_>,
+    onlooker: &mut L,
 ) -> Result<Result<PartRead, FaultOf>, PartsStop>
     requires original { IsReady turn original.old.reader }
     ensures modest { IfRead result (λ p. IfSome (p.course).found (IsFoundAmong (length ((turn.entry.setting).labels).now))) }
@@ -331,16 +345,24 @@ pub(crate) fn read_part<O: Source, E: Source>(
     let (here, there) = (original.reader.header(), export.reader.header());
     let heads = head_difference(setting.alloc, here, there, setting.claim)?;
     let turn = Turn {
-        is_compared: is_compared(turn, &heads),
+        is_compared: is_compared(turn, &heads, onlooker.looks()),
         ..turn
     };
-    match read_course(original, o, &mut export, e, turn) {
-        Ok(Ok(course)) => Ok(Ok(PartRead {
-            heads,
-            course,
-            samples: samples_of(&export),
-            notes: export.notes,
-        })),
+    let shown = Shown {
+        turn,
+        onlooker: &mut *onlooker,
+    };
+    match read_course(original, o, &mut export, e, shown) {
+        Ok(Ok(course)) => {
+            let samples = samples_of(&export);
+            onlooker.take_export(export.reader);
+            Ok(Ok(PartRead {
+                heads,
+                course,
+                samples,
+                notes: export.notes,
+            }))
+        }
         Ok(Err(fault)) => Ok(Err(fault)),
         Err(stop) => Err(stop),
     }

@@ -11,9 +11,9 @@ ghost use Rattle.edf_pace.specs.walk.Windows.{is_last as is_last_of};
 ghost use Rattle.edf_pace.specs.walk.Shown.{IsAhead, IsGoing};
 
 use crate::parts::found::{PartsFound, found_with};
-use crate::parts::part::{PartRead, read_part};
+use crate::parts::part::{PartRead, Shown, read_part};
 use edf_fields::Source;
-use edf_pace::{FaultOf, Reading, Turn};
+use edf_pace::{FaultOf, Onlooker, Reading, Turn};
 use edf_stop::PartsStop;
 use edf_stream::Note;
 use std::alloc::AllocError;
@@ -67,29 +67,30 @@ fn are_none<E: Source>(parts: &[E]) -> bool
 /// Where they are the same, their annotations stand behind those that were there.
 ///
 /// The error is want of memory, or a failure of one of the sources.
-pub(crate) fn read_parts<O: Source, E: Source>(
+pub(crate) fn read_parts<O: Source, E: Source, L: Onlooker>(
     so_far: &mut ReadSoFar,
     o: &mut O,
     part: &mut E,
     others: &mut [E],
-    turn: Turn<'_>,
+    shown: Shown<'_, '_, L>,
 ) -> Result<Result<PartsFound, FaultOf>, PartsStop>
-    requires original { IsReady turn (so_far.old.original).reader }
-    requires few { turn.part + length others.old < 64 }
-    requires held { (so_far.old.exported).samples ≤ turn.part * 2 ^ 50 }
-    ensures modest { IfRead result (λ f. IfSome f.found (IsFoundAmong (length ((turn.entry.setting).labels).now))) }
-    ensures read { IfRead result (AreReadFrom O.Source E.Source turn.entry so_far.old.original o.old
+    requires original { IsReady shown.turn (so_far.old.original).reader }
+    requires few { (shown.turn).part + length others.old < 64 }
+    requires held { (so_far.old.exported).samples ≤ (shown.turn).part * 2 ^ 50 }
+    ensures modest { IfRead result (λ f. IfSome f.found (IsFoundAmong (length (((shown.entry.turn).setting).labels).now))) }
+    ensures read { IfRead result (AreReadFrom O.Source E.Source (shown.entry.turn) so_far.old.original o.old
         so_far.new.original o.new part.old part.new others.old others.new so_far.old.exported so_far.new.exported) }
-    ensures fault { IfFaulty result (HaveFaultFrom O.Source E.Source turn.entry so_far.old.original o.old o.new (part.old ∷ others.old)) }
+    ensures fault { IfFaulty result (HaveFaultFrom O.Source E.Source (shown.entry.turn) so_far.old.original o.old o.new (part.old ∷ others.old)) }
     ensures failures { OnOk result (NoneFailed O.Source o.old o.new E.Source part.old part.new others.old others.new) }
-    ensures stop { IfErr result (StopsOfAll O.Source o.old o.new E.Source turn.entry.part
+    ensures stop { IfErr result (StopsOfAll O.Source o.old o.new E.Source (shown.entry.turn).part
         (part.old ∷ others.old) (part.new ∷ others.new)) }
 {
+    let Shown { turn, onlooker } = shown;
     let turn = Turn {
         is_last: are_none(others),
         ..turn
     };
-    let read = match read_part(&mut so_far.original, o, part, turn) {
+    let read = match read_part(&mut so_far.original, o, part, turn, &mut *onlooker) {
         Ok(Ok(read)) => read,
         Ok(Err(fault)) => return Ok(Err(fault)),
         Err(stop) => return Err(stop),
@@ -109,7 +110,7 @@ pub(crate) fn read_parts<O: Source, E: Source>(
                 early: None,
                 found: None,
             };
-            Ok(Ok(found_with(turn.part, heads, course, nothing)))
+            return Ok(Ok(found_with(turn.part, heads, course, nothing)));
         }
         Some((next, behind)) => {
             let next_turn = Turn {
@@ -118,10 +119,14 @@ pub(crate) fn read_parts<O: Source, E: Source>(
                 is_compared,
                 ..turn
             };
-            match read_parts(so_far, o, next, behind, next_turn) {
-                Ok(Ok(rest)) => Ok(Ok(found_with(turn.part, heads, course, rest))),
-                Ok(Err(fault)) => Ok(Err(fault)),
-                Err(stop) => Err(stop),
+            let next_shown = Shown {
+                turn: next_turn,
+                onlooker: &mut *onlooker,
+            };
+            match read_parts(so_far, o, next, behind, next_shown) {
+                Ok(Ok(rest)) => return Ok(Ok(found_with(turn.part, heads, course, rest))),
+                Ok(Err(fault)) => return Ok(Err(fault)),
+                Err(stop) => return Err(stop),
             }
         }
     }

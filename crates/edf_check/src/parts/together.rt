@@ -11,32 +11,42 @@ ghost use Rattle.edf_check.specs.parts.Together.{AreGoneFrom, AreJudgedFrom, Fol
 
 use crate::finding::Finding;
 use crate::parts::found::PartsFound;
+use crate::parts::part::Shown;
 use crate::parts::series::{Exported, ReadSoFar, read_parts};
 use edf_claim::Claim;
 use edf_fields::Source;
-use edf_pace::{BEGINNING, FaultOf, Setting, Turn, View, note_difference, start, with_label};
+use edf_pace::{
+    BEGINNING, FaultOf, Onlooker, Setting, Turn, View, note_difference, start, with_label,
+};
 use edf_stop::{PartSide, PartsStop};
 use edf_stream::Note;
 use edf_verdict::{PartsVerdict, Verdict};
 use std::alloc::AllocError;
 
+/// What is the same for all exports, and who looks on.
+#[derive(Drop)]
+pub(crate) struct Stage<'a, 'b, L> {
+    pub setting: Setting<'a>,
+    pub onlooker: &'b mut L,
+}
+
 /// Reads the first data record of the original, of which the header was read, and then it and the exports to their ends, and
 /// answers what is found; or the first fault of the original, or else of the first export that has one.
 ///
 /// The error is want of memory, or a failure of one of the sources.
-pub(crate) fn walk_parts<O: Source, E: Source>(
+pub(crate) fn walk_parts<O: Source, E: Source, L: Onlooker>(
     so_far: &mut ReadSoFar,
     o: &mut O,
     part: &mut E,
     others: &mut [E],
-    setting: Setting<'_>,
+    stage: Stage<'_, '_, L>,
 ) -> Result<Result<PartsFound, FaultOf>, PartsStop>
     requires original { HasBegun (so_far.old.original).reader × ((so_far.old.original).notes.items ≡ []) }
     requires few { length others.old < 64 }
     requires none { ((so_far.old.exported).samples ≡ 0) × ((so_far.old.exported).notes.items ≡ []) }
-    requires setting { IsSetting ((so_far.old.original).reader).head setting }
-    ensures modest { IfRead result (λ f. IfSome f.found (IsFoundAmong (length (setting.entry.labels).now))) }
-    ensures judged { IfRead result (AreJudgedFrom O.Source E.Source setting.entry so_far.old.original o.old
+    requires setting { IsSetting ((so_far.old.original).reader).head stage.setting }
+    ensures modest { IfRead result (λ f. IfSome f.found (IsFoundAmong (length ((stage.entry.setting).labels).now))) }
+    ensures judged { IfRead result (AreJudgedFrom O.Source E.Source (stage.entry.setting) so_far.old.original o.old
         so_far.new.original (part.old ∷ others.old) so_far.new.exported) }
     ensures gone { IfRead result (λ f. AreGoneFrom O.Source E.Source so_far.old.original o.old o.new
         (part.old ∷ others.old) (part.new ∷ others.new)) }
@@ -44,6 +54,7 @@ pub(crate) fn walk_parts<O: Source, E: Source>(
     ensures failures { OnOk result (NoneFailed O.Source o.old o.new E.Source part.old part.new others.old others.new) }
     ensures stop { IfErr result (StopsOfAll O.Source o.old o.new E.Source 0 (part.old ∷ others.old) (part.new ∷ others.new)) }
 {
+    let Stage { setting, onlooker } = stage;
     let view = View {
         alloc: setting.alloc,
         moved: setting.clock.original,
@@ -61,10 +72,14 @@ pub(crate) fn walk_parts<O: Source, E: Source>(
         is_last: others.is_empty(),
         is_compared: true,
     };
-    match read_parts(so_far, o, part, others, turn) {
-        Ok(Ok(found)) => Ok(Ok(found)),
-        Ok(Err(fault)) => Ok(Err(fault)),
-        Err(stop) => Err(stop),
+    let shown = Shown {
+        turn,
+        onlooker: &mut *onlooker,
+    };
+    match read_parts(so_far, o, part, others, shown) {
+        Ok(Ok(found)) => return Ok(Ok(found)),
+        Ok(Err(fault)) => return Ok(Err(fault)),
+        Err(stop) => return Err(stop),
     }
 }
 

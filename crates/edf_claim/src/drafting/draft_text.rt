@@ -5,8 +5,9 @@ ghost use Rattle.edf_claim.specs.Claims.{SaysClaimText};
 
 use crate::drafting::draft::{Comments, Draft};
 use crate::drafting::draft_times::{clock_time, is_behind_a_day, way_of};
+use crate::drafting::spelling::{push_said_interval, push_said_text};
 use crate::kept::interval::Interval;
-use edf_fields::{SECOND_PS, Which};
+use edf_fields::Which;
 use std::alloc::{AllocError, Global};
 
 /// What stands at the head of a draft.
@@ -23,37 +24,6 @@ blank = [
 /// Puts a text behind another.
 fn push(text: &mut Vec<u8>, more: &str) -> Result<(), AllocError> {
     text.extend_from_slice(more.as_bytes())
-}
-
-/// Puts a text between quotation marks, as TOML has it, behind another.
-fn push_quoted(text: &mut Vec<u8>, alloc: Global, quoted: &[u8]) -> Result<(), AllocError> {
-    text.push(b'"')?;
-    for byte in quoted {
-        match *byte {
-            b'"' => push(text, "\\\"")?,
-            b'\\' => push(text, "\\\\")?,
-            control if control < 32 || control == 127 => {
-                let escaped = format!(in alloc; "\\u{control:04x}")?;
-                push(text, &escaped)?;
-            }
-            plain => text.push(plain)?,
-        }
-    }
-    text.push(b'"')?;
-    Ok(())
-}
-
-/// Puts a time of this many picoseconds as seconds with their fraction, without zeros at its end, behind a text.
-fn push_seconds(text: &mut Vec<u8>, alloc: Global, ps: i128) -> Result<(), AllocError> {
-    let whole = format!(in alloc; "\"{}", ps.div_euclid(SECOND_PS))?;
-    push(text, &whole)?;
-    let rest = ps.rem_euclid(SECOND_PS);
-    if rest != 0 {
-        let fraction = format!(in alloc; ".{rest:012}")?;
-        push(text, fraction.trim_end_matches('0'))?;
-    }
-    text.push(b'"')?;
-    Ok(())
 }
 
 /// Puts the times of an interval behind a text, by the clock of an original that starts at a second of the day. Both say their days
@@ -78,11 +48,9 @@ fn push_interval(
     interval: Interval,
     start: Option<u32>,
 ) -> Result<(), AllocError> {
-    push(text, "  { from = ")?;
-    push_seconds(text, alloc, interval.from_ps)?;
-    push(text, ", to = ")?;
-    push_seconds(text, alloc, interval.to_ps)?;
-    push(text, " }, # confirm")?;
+    push(text, "  ")?;
+    push_said_interval(text, alloc, interval)?;
+    push(text, ", # confirm")?;
     if let Some(start) = start {
         push_clock(text, alloc, interval, start)?;
     }
@@ -109,7 +77,7 @@ fn push_texts(
 ) -> Result<(), AllocError> {
     for (said, count) in texts.iter().zip(counts) {
         push(text, "  ")?;
-        push_quoted(text, alloc, said)?;
+        push_said_text(text, said)?;
         let stands = format!(in alloc; ", # confirm; how often it stands: {count}\n")?;
         push(text, &stands)?;
     }
@@ -130,7 +98,7 @@ impl Draft {
         )?;
         for (label, is_known) in self.channels.iter().zip(are_known) {
             push(text, "  ")?;
-            push_quoted(text, alloc, label)?;
+            push_said_text(text, label)?;
             let behind = if *is_known {
                 ", # confirm\n"
             } else {

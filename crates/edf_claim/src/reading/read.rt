@@ -1,10 +1,11 @@
 //! Reading a claim from its text.
 
 ghost use Rattle.std.specs.Prelude.{◌≡◌, ◌≢◌, map, IfOk, IfErr, OnOk, None, Some, IsUtf8};
+ghost use Rattle.edf_claim.specs.Terms.{Terms};
 ghost use Rattle.toml.specs.Parse.{parse_document};
 ghost use Rattle.toml.specs.View.{table_view};
 ghost use Rattle.edf_claim.specs.declared.stop.ClaimStop.TheVariants as stops;
-ghost use Rattle.edf_claim.specs.Claims.{IsClaim, SaysClaimText};
+ghost use Rattle.edf_claim.specs.Claims.{IsClaim, SaysClaimAtAnyLength, SaysClaimText};
 ghost use Rattle.edf_claim.specs.Faults.{FirstClaimFault};
 ghost use Rattle.edf_claim.specs.Reading.{claim_fault, terms_of, channels_of, keep_of, anonymous_of, shift_of, remove_of, remove_prefix_of, blank_of};
 
@@ -122,5 +123,16 @@ impl Claim {
         }
         let table = read_table(alloc, text)?;
         claim_in(alloc, &table)
+    }
+
+    /// The claim that a text says, however long it is: TOML with the keys of docs/CLAIM.md.
+    ///
+    /// A text that is no longer than a claim may be is one that `read` takes, or that it refuses for the same cause.
+    pub fn read_at_any_length(alloc: Global, text: &[u8]) -> Result<Claim, ClaimStop>
+        ensures says { IfOk result (SaysClaimAtAnyLength text.now) }
+        ensures none { IfErr result (λ e. e ≢ stops.OutOfMemory → (c : Terms) → ¬ SaysClaimAtAnyLength text.now c) }
+    {
+        let said = read_table(alloc, text)?;
+        claim_in(alloc, &said)
     }
 }

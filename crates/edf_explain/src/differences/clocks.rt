@@ -1,7 +1,7 @@
 //! The clocks of both files.
 
 use crate::words::samples::AT;
-use edf_findings::{Walk, start_of};
+use edf_findings::{Seen, start_of};
 use edf_sentences::{Piece, Text};
 use std::alloc::AllocError;
 
@@ -14,12 +14,12 @@ pub(crate) struct Clocks {
 }
 
 impl Clocks {
-    /// Those of the files of a walk.
-    pub(crate) fn of(walk: &Walk<'_>) -> Clocks {
-        let export_ps = start_of(walk.export_header());
+    /// Those of two files.
+    pub(crate) fn of(seen: &Seen<'_>) -> Clocks {
+        let export_ps = start_of(seen.export_header());
         Clocks {
-            original_ps: start_of(walk.original_header()),
-            export_ps: export_ps.saturating_sub(walk.moved_ps()),
+            original_ps: start_of(seen.original_header()),
+            export_ps: export_ps.saturating_sub(seen.moved_ps()),
         }
     }
 

@@ -3,7 +3,7 @@
 use crate::tried::shifts::TriedShifts;
 use crate::words::starts as words;
 use edf_fields::SECOND_PS;
-use edf_findings::{MOST_SHIFT, Starts, Walk};
+use edf_findings::{MOST_SHIFT, Seen, Starts};
 use edf_sentences::{Piece, Text};
 use std::alloc::AllocError;
 
@@ -67,13 +67,13 @@ fn say_elsewhere(text: &mut Text, starts: &Starts, shifts: &TriedShifts) -> Resu
 /// nothing is.
 pub(crate) fn say_starts(
     text: &mut Text,
-    walk: &Walk<'_>,
+    seen: &Seen<'_>,
     shifts: &TriedShifts,
 ) -> Result<(), AllocError> {
-    match walk.starts() {
+    match seen.starts() {
         Some(starts) => say_elsewhere(text, &starts, shifts),
-        None if !walk.has_all_channels() => Ok(()),
-        None if walk.keeps_between() => text.say(words::KEPT_BETWEEN, &[]),
+        None if !seen.has_all_channels() => Ok(()),
+        None if seen.keeps_between() => text.say(words::KEPT_BETWEEN, &[]),
         None => text.say(words::NOTHING_KEPT, &[]),
     }
 }

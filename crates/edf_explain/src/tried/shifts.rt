@@ -39,7 +39,8 @@ impl TriedShifts {
         Ok(())
     }
 
-    /// Tries a shift. One with which the first samples that are kept aren't as claimed is no better one.
+    /// Tries a shift. One with which the first samples that are kept aren't as claimed is no better one. Where a file has a fault
+    /// now, it can't be read once more, as a pipe, and nothing was tried.
     fn try_shift<R: Recordings>(
         &mut self,
         alloc: Global,
@@ -51,6 +52,9 @@ impl TriedShifts {
             return Ok(());
         };
         let verdict = check_anew(alloc, asked.recordings, &claim_text)?;
+        if is_of_fault(&verdict) {
+            return Ok(());
+        }
         self.remember(seconds)?;
         let best = match &self.best {
             Some(best) => &best.answer.verdict,
@@ -98,11 +102,11 @@ impl TriedShifts {
         }
     }
 
-    /// The shift in seconds with which all samples are as claimed.
+    /// The shift in seconds with which all samples are as claimed, and annotations aren't.
     pub(crate) fn for_samples(&self) -> Option<i64> {
         let best = self.best.as_ref()?;
         match &best.answer.verdict {
-            Verdict::Yes { .. } | Verdict::No(Difference::Annotation { .. }) => Some(best.seconds),
+            Verdict::No(Difference::Annotation { .. }) => Some(best.seconds),
             _ => None,
         }
     }
@@ -144,6 +148,14 @@ impl TriedShifts {
         };
         text.say(behind, &[])
     }
+}
+
+/// Whether a verdict is that a file has a fault.
+fn is_of_fault(verdict: &Verdict) -> bool {
+    matches!(
+        verdict,
+        Verdict::No(Difference::OriginalFault(_) | Difference::ExportFault(_))
+    )
 }
 
 /// Whether the first difference is behind the first sample that is kept, if it is one of samples.

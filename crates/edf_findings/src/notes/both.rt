@@ -1,8 +1,7 @@
 //! The annotations of both files, and which of them only one has.
 
-use crate::stand::Stand;
-use edf_claim::{BLANK, Claim};
-use edf_stream::{Note, NoteRef, OwnText};
+use edf_claim::Claim;
+use edf_stream::{Annotations, Note, OwnText};
 use std::alloc::{AllocError, Global};
 use std::cmp::Ordering;
 
@@ -24,20 +23,6 @@ pub struct OnlyInOne {
     pub missing: Vec<usize>,
     /// The places among those of the export.
     pub extra: Vec<usize>,
-}
-
-/// An annotation with this text, moved by so much.
-fn note_of(
-    alloc: Global,
-    note: &NoteRef<'_>,
-    moved_ps: i128,
-    text: &str,
-) -> Result<Note, AllocError> {
-    Ok(Note {
-        onset: note.onset.saturating_add(moved_ps),
-        duration: note.duration,
-        text: OwnText::new(alloc, text)?,
-    })
 }
 
 /// How the first of two annotations stand to one another: the one that is there comes before one that isn't.
@@ -87,47 +72,19 @@ impl Notes {
         }
     }
 
-    /// Takes in an annotation of the original.
-    pub(crate) fn take_kept(
+    /// Takes in the texts of those annotations in the kept intervals that the claim removes or blanks.
+    pub(crate) fn take_hidden(
         &mut self,
         alloc: Global,
         claim: &Claim,
-        note: &NoteRef<'_>,
+        annotations: Annotations<'_>,
     ) -> Result<(), AllocError> {
-        if !claim.keeps_instant(note.onset, 1) {
-            return Ok(());
-        }
-        let is_kept = claim.keeps_annotation(note.onset, note.text);
-        let is_blanked = claim.blanks(note.text);
-        if !is_kept || is_blanked {
-            self.hidden.push(OwnText::new(alloc, note.text)?)?;
-        }
-        if is_kept {
-            let text = if is_blanked { BLANK } else { note.text };
-            self.kept.push(note_of(alloc, note, 0, text)?)?;
-        }
-        Ok(())
-    }
-
-    /// Takes in an annotation of the export, whose times are moved by so much.
-    pub(crate) fn take_exported(
-        &mut self,
-        alloc: Global,
-        moved_ps: i128,
-        note: &NoteRef<'_>,
-    ) -> Result<(), AllocError> {
-        let exported = note_of(alloc, note, moved_ps, note.text)?;
-        self.exported.push(exported)?;
-        Ok(())
-    }
-
-    /// Takes in the annotations of the data record of the export that is at hand.
-    pub(crate) fn take_export(&mut self, alloc: Global, stand: &Stand) -> Result<(), AllocError> {
-        let Some(annotations) = stand.annotations() else {
-            return Ok(());
-        };
         for note in annotations {
-            self.take_exported(alloc, stand.moved_ps(), &note)?;
+            if claim.keeps_instant(note.onset, 1)
+                && (!claim.keeps_annotation(note.onset, note.text) || claim.blanks(note.text))
+            {
+                self.hidden.push(OwnText::new(alloc, note.text)?)?;
+            }
         }
         Ok(())
     }

@@ -105,7 +105,7 @@ impl Channels {
     /// When the first sample from a time on and before another is taken in the original, rounded down.
     pub(crate) fn first_between(
         &self,
-        original: &Stand,
+        original: Stand<'_>,
         from_ps: i128,
         to_ps: i128,
     ) -> Option<i128> {

@@ -21,14 +21,14 @@ pub struct Spot {
 /// The data records at hand of both files.
 #[derive(Clone, Copy)]
 pub(crate) struct Stands<'a> {
-    pub(crate) original: &'a Stand,
-    pub(crate) export: &'a Stand,
+    pub(crate) original: Stand<'a>,
+    pub(crate) export: Stand<'a>,
     pub(crate) hands: (Hand, Hand),
 }
 
 impl<'a> Stands<'a> {
     /// Those of two files.
-    pub(crate) fn new(original: &'a Stand, export: &'a Stand) -> Stands<'a> {
+    pub(crate) fn new(original: Stand<'a>, export: Stand<'a>) -> Stands<'a> {
         Stands {
             original,
             export,

@@ -129,6 +129,19 @@ first_next frame r q w x y s held now is order none value cx cy from before =
     ∙ ap (λ z. option_or z (window_difference claim (sampled x r.head a) (sampled y q.head b) ps (w.from).ps (w.to).ps)) (sym none ∙ before)
     ∙ sym (window_parts claim x y r.head q.head a b ps s (w.from).ps (w.to).ps cx.conforms cy.conforms (are_places r.head q.head (frame.pairs).now is.0) from order)
 
+-- what was found before t stays the first difference
+pub first_stays : (frame : Frame) (r q : Reader) (w : Window) (x y : List ℕ) (s : ℤ) (held : Option Found) (f : Found) → IsFrame r.head q.head frame → (w.from).ps ≤ℤ (w.to).ps → held ≡ Some f
+    → Covers r x (moved_original frame.turn) (w.from).ps (w.to).ps → Covers q y (moved_export frame.turn) (w.from).ps (w.to).ps → s ≤ℤ (w.from).ps
+    → held ≡ first_between frame (two_files x r.head y q.head) s (w.from).ps → held ≡ first_between frame (two_files x r.head y q.head) s (w.to).ps
+first_stays frame r q w x y s held f is order some cx cy from before =
+    let a = moved_original frame.turn in
+    let b = moved_export frame.turn in
+    let claim = ((frame.turn).setting.claim).now in
+    let ps = map places_of (frame.pairs).now in
+    some
+    ∙ ap (λ z. option_or z (window_difference claim (sampled x r.head a) (sampled y q.head b) ps (w.from).ps (w.to).ps)) (sym some ∙ before)
+    ∙ sym (window_parts claim x y r.head q.head a b ps s (w.from).ps (w.to).ps cx.conforms cy.conforms (are_places r.head q.head (frame.pairs).now is.0) from order)
+
 -- ---- the end
 
 pub other_way : (b : Bool) → b ≡ true → b ≡ false → ⊥

@@ -2,4 +2,5 @@
 
 pub mod counts;
 pub mod first_found;
+pub mod onlooker;
 pub mod watcher;

@@ -12,7 +12,7 @@ returns-in-Ok-Err-clause-verdict g c = λ ho he.
     let fault = rw c.in-Ok-Err.field-0-is at c.in-Ok-Err.ensures.fault in
     let o = g.O.Source.left c.args.original.now in
     let parts = g.E.Source.left c.args.part.now ∷ map g.E.Source.left c.args.others.now in
-    subst (IsPartsVerdict o parts c.args.claim.now) (sym c.verdict.ensures) (fault_verdict o parts c.args.claim.now (faults.Original c.in-Ok-Err.fault) (fault ho))
+    subst (IsPartsVerdict o parts c.args.asked.claim.now) (sym c.verdict.ensures) (fault_verdict o parts c.args.asked.claim.now (faults.Original c.in-Ok-Err.fault) (fault ho))
 
 pub returns-in-Ok-Err-clause-read : goal.returns-in-Ok-Err-clause-read
 returns-in-Ok-Err-clause-read g c = λ ho he.
@@ -42,7 +42,7 @@ returns-in-Ok-Err-walk_parts-clause-verdict g c = λ ho he.
     let o = g.O.Source.left c.args.original.now in
     let fault = (rw c.in-Ok-Err-walk_parts.field-0-is at c.in-Ok-Err-walk_parts.ensures.fault) (honesty ho) o (stands ho) he in
     let parts = g.E.Source.left c.args.part.now ∷ map g.E.Source.left c.args.others.now in
-    subst (IsPartsVerdict o parts c.args.claim.now) (sym c.verdict-in-Ok-Err-walk_parts.ensures) (fault_verdict o parts c.args.claim.now c.in-Ok-Err-walk_parts.fault fault.0)
+    subst (IsPartsVerdict o parts c.args.asked.claim.now) (sym c.verdict-in-Ok-Err-walk_parts.ensures) (fault_verdict o parts c.args.asked.claim.now c.in-Ok-Err-walk_parts.fault fault.0)
 
 pub returns-in-Ok-Err-walk_parts-clause-read : goal.returns-in-Ok-Err-walk_parts-clause-read
 returns-in-Ok-Err-walk_parts-clause-read g c = λ ho he.

@@ -1,10 +1,11 @@
-//! The watcher of a check: it keeps the first difference of the samples.
+//! The watcher of a check: it keeps the first difference of the samples, and lets somebody look on.
 
-ghost use Rattle.std.specs.Prelude.{◌≡◌, IfSome, IsTrue, is_some, length, true};
+ghost use Rattle.std.specs.Prelude.{◌≡◌, ◌&&◌, IfSome, IsTrue, is_some, length, not, true};
 ghost use Rattle.edf_claim.specs.Keeps.{keeps_instant};
 ghost use Rattle.edf_claim.specs.KeepsReading.{IsUncut};
 ghost use Rattle.edf_pace.specs.walk.Ends.{IsFoundAmong};
 ghost use Rattle.edf_pace.specs.walk.Pairs.{AreAlikeIn, IsFrame};
+ghost use Rattle.edf_pace.specs.walk.Watching.{HasSeen, first_between};
 ghost use Rattle.edf_pace.specs.walk.Windows.{IsDifferenceBy};
 
 use crate::samples::earliest::Found;
@@ -12,6 +13,7 @@ use crate::times::Window;
 use crate::walk::frame::Frame;
 use crate::walk::layout::are_alike;
 use crate::walk::shares::keeps_at;
+use crate::walk::watchers::onlooker::Onlooker;
 use crate::walk::watchers::watcher::Watcher;
 use crate::walk::window::window_difference;
 use edf_stream::FileReader;
@@ -58,23 +60,43 @@ fn difference_in(
 }
 
 /// Keeps the earliest difference of the channels of a frame, of several at one instant that of the first label; then it
-/// has seen enough.
-#[derive(Clone, Copy)]
-pub struct FirstFound {
+/// has seen enough, but for an onlooker that looks on.
+#[derive(Drop)]
+pub struct FirstFound<'a, L> {
     pub found: Option<Found>,
+    pub onlooker: &'a mut L,
 }
 
-impl Watcher for FirstFound {
+impl<'a, L: Onlooker> FirstFound<'a, L> {
+    /// Finds the first difference, where there was none so far.
+    #[inline(always)]
+    fn find(&mut self, original: &FileReader, export: &FileReader, frame: Frame<'_>, within: Window)
+        requires fits { IfSome self.old.found (IsFoundAmong (length (frame.pairs).now)) }
+        requires frame { IsFrame original.now.head export.now.head frame }
+        requires uncut { IsUncut ((frame.turn).setting.claim).now.keep (within.from).ps (within.to).ps }
+        ensures fits { IfSome self.new.found (IsFoundAmong (length (frame.entry.pairs).now)) }
+        ensures same { self.new.onlooker ≡ self.old.onlooker }
+        ensures holds { HasSeen (λ files t u. self.old.found ≡ first_between frame.entry files t u)
+            (λ files t u. self.new.found ≡ first_between frame.entry files t u) frame.entry
+            original.now export.now (within.from).ps (within.to).ps }
+    {
+        if self.found.is_none() {
+            self.found = difference_in(original, export, frame, within);
+        }
+    }
+}
+
+impl<'a, L: Onlooker> Watcher for FirstFound<'a, L> {
     ghost use Rattle.edf_pace.specs.walk.Watching.{first_between};
 
     ghost fits = { λ w frame. IfSome w.found (IsFoundAmong (length (frame.pairs).now)) };
 
-    ghost has_enough = { λ w. is_some w.found };
+    ghost has_enough = { λ w. is_some w.found && not (L.looks w.onlooker.now) };
 
     ghost holds = { λ w frame files t u. w.found ≡ first_between frame files t u };
 
     fn has_enough(&self) -> bool {
-        self.found.is_some()
+        self.found.is_some() && !self.onlooker.looks()
     }
 
     fn see(
@@ -84,6 +106,9 @@ impl Watcher for FirstFound {
         frame: Frame<'_>,
         within: Window,
     ) {
-        self.found = difference_in(original, export, frame, within);
+        self.find(original, export, frame, within);
+        if self.onlooker.looks() {
+            self.onlooker.look(original, export, frame, within);
+        }
     }
 }

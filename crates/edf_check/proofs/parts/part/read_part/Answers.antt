@@ -2,7 +2,7 @@ use Rattle.std.proofs.Common.{◌∙◌, ◌&&◌, Bool, not, is_some, sym, ap}
 use Rattle.edf_check.specs.parts.PartsVerdicts.{samples_in}
 use Rattle.edf_check.specs.parts.Ends.{goes_on}
 use Rattle.edf_pace.specs.walk.Ends.{moved_original}
-use Rattle.edf_check.proofs.parts.CompareFacts.{and-left, and-turned, beside_less, compared-so, heads_match, matched_less, passed_less, passes_less}
+use Rattle.edf_check.proofs.parts.CompareFacts.{and-left, beside_less, compared-so, goes-so, heads_match, matched_less, passed_less, passes_less}
 use Rattle.edf_pace.proofs.ForCallers.{fault_by, fault_by_header}
 use Rattle.edf_check.proofs.parts.part.read_part.Goals as goal
 
@@ -19,7 +19,7 @@ returns-in-Ok-Ok-read_course-clause-passes g c = λ last.
     let heads = c.in_ok-heads.heads in
     let passes = rw c.in-Ok-Ok-read_course.field-0-is at c.in-Ok-Ok-read_course.ensures.passes in
     passes_less turn c.is_compared.result _ _ _ _ _ _ _ _ (c.is_compared.result && goes_on course) (turn.is_compared && (not (is_some heads) && goes_on course)) course.end
-    (λ e. and-left turn.is_compared (not (is_some heads)) (sym c.is_compared.ensures ∙ e)) (ap (λ (z : Bool). z && goes_on course) c.is_compared.ensures ∙ and-turned turn.is_compared (not (is_some heads)) (goes_on course)) (passes last)
+    (λ e. and-left turn.is_compared _ (sym c.is_compared.ensures ∙ e)) (λ e. goes-so turn.is_compared (not (is_some heads)) _ (goes_on course) c.is_compared.result c.is_compared.ensures e) (passes last)
 
 pub returns-in-Ok-Ok-read_course-clause-read : goal.returns-in-Ok-Ok-read_course-clause-read
 returns-in-Ok-Ok-read_course-clause-read g c = λ ho a bo he.
@@ -35,13 +35,13 @@ returns-in-Ok-Ok-read_course-clause-read g c = λ ho a bo he.
     let through = rw c.in-Ok-Ok-read_course.field-0-is at c.in-Ok-Ok-read_course.ensures.through in
     let same = rw c.in-Ok-Ok-read_course.field-0-is at c.in-Ok-Ok-read_course.ensures.head in
     let is = (stands.passed).head in
-    let less = beside_less c.args.original.now.reader _ _ a (turn.setting.claim).now (moved_original turn) (turn.from).ps turn.is_compared c.is_compared.result (λ z. and-left turn.is_compared (not (is_some heads)) (sym c.is_compared.ensures ∙ z)) bo in
+    let less = beside_less c.args.original.now.reader _ _ a (turn.setting.claim).now (moved_original turn) (turn.from).ps turn.is_compared c.is_compared.result (λ z. and-left turn.is_compared _ (sym c.is_compared.ensures ∙ z)) bo in
     record {
       heads_are = heads_match heads h c.header-here.result.now _ c.header-there.result.now (turn.setting.claim).now c.header-here.ensures (c.header-there.ensures ∙ is) c.in_ok-heads.ensures.none c.in_ok-heads.ensures.least;
       passed = passed_less turn c.is_compared.result e _ _ _ course is (passed ho honest a e less stands);
-      matched = λ compared none early. matched_less turn c.is_compared.result a h _ e _ _ _ course.found is (matched (c.is_compared.ensures ∙ compared-so turn.is_compared heads compared none) early ho honest a e less stands);
+      matched = λ compared none early. matched_less turn c.is_compared.result a h _ e _ _ _ course.found is (matched (c.is_compared.ensures ∙ compared-so turn.is_compared _ heads compared none) early ho honest a e less stands);
       through = λ last. through last ho honest a e less stands;
-      samples_are = c.samples_of.ensures.value ∙ ap samples_in (same ∙ is);
+      samples_are = c.samples_of-samples.ensures.value ∙ ap samples_in (same ∙ is);
     }
 
 pub returns-in-Ok-Err-read_course-clause-fault : goal.returns-in-Ok-Err-read_course-clause-fault
@@ -51,10 +51,10 @@ returns-in-Ok-Err-read_course-clause-fault g c = λ ho a bo he.
     let stands = (rw c.in-Ok-Ok.field-0-is at c.in-Ok-Ok.ensures.stands) he in
     let honest = (rw c.in-Ok-Ok.field-0-is at c.in-Ok-Ok.ensures.honesty) he in
     let fault = rw c.in-Ok-Err-read_course.field-0-is at c.in-Ok-Err-read_course.ensures.fault in
-    let less = beside_less c.args.original.now.reader _ _ a (turn.setting.claim).now (moved_original turn) (turn.from).ps turn.is_compared c.is_compared.result (λ z. and-left turn.is_compared (not (is_some heads)) (sym c.is_compared.ensures ∙ z)) bo in
+    let less = beside_less c.args.original.now.reader _ _ a (turn.setting.claim).now (moved_original turn) (turn.from).ps turn.is_compared c.is_compared.result (λ z. and-left turn.is_compared _ (sym c.is_compared.ensures ∙ z)) bo in
     fault_by a (c.args.original.now.reader).head _ c.in-Ok-Ok.reading.reader _ (g.E.Source.left c.args.e.now) turn.part c.in-Ok-Err-read_course.fault stands (fault ho honest a (g.E.Source.left c.args.e.now) less stands)
 
 pub read_course-requires-clause-original : goal.read_course-requires-clause-original
 read_course-requires-clause-original g c =
     let turn = c.args.turn in
-    ((c.requires.original).0, λ e. (c.requires.original).1 (and-left turn.is_compared (not (is_some c.in_ok-heads.heads)) (sym c.is_compared.ensures ∙ e)))
+    ((c.requires.original).0, λ e. (c.requires.original).1 (and-left turn.is_compared _ (sym c.is_compared.ensures ∙ e)))

@@ -14,11 +14,11 @@ none-of (x ∷ xs) e = absurd (omega (arith, e))
 pub returns-in-Ok-Err-clause-fault : goal.returns-in-Ok-Err-clause-fault
 returns-in-Ok-Err-clause-fault g t c = λ ho a bo he.
     let fault = (rw c.in-Ok-Err.field-0-is at c.in-Ok-Err.ensures.fault) ho a bo he.0 in
-    fault_first a (c.args.so_far.now.original.reader).head _ c.args.turn.part (g.E.Source.left c.args.part.now) (map g.E.Source.left c.args.others.now) c.in-Ok-Err.fault fault
+    fault_first a (c.args.so_far.now.original.reader).head _ c.args.shown.turn.part (g.E.Source.left c.args.part.now) (map g.E.Source.left c.args.others.now) c.in-Ok-Err.fault fault
 
 pub returns-in-None-clause-read : goal.returns-in-None-clause-read
 returns-in-None-clause-read g t c = λ ho a bo he.
-    let turn = c.args.turn in
+    let turn = c.args.shown.turn in
     let read = c.in-Ok-Ok.read in
     let h = (c.args.so_far.now.original.reader).head in
     let left = g.O.Source.left c.read_part.new.o in
@@ -38,7 +38,7 @@ returns-in-None-clause-read g t c = λ ho a bo he.
 
 pub returns-in-Ok-Ok-read_parts-clause-read : goal.returns-in-Ok-Ok-read_parts-clause-read
 returns-in-Ok-Ok-read_parts-clause-read g t c = λ ho a bo he.
-    let turn = c.args.turn in
+    let turn = c.args.shown.turn in
     let read = c.in-Ok-Ok.read in
     let h = (c.args.so_far.now.original.reader).head in
     let left = g.O.Source.left c.read_parts.new.o in
@@ -64,7 +64,7 @@ returns-in-Ok-Ok-read_parts-clause-read g t c = λ ho a bo he.
 
 pub returns-in-Ok-Err-read_parts-clause-fault : goal.returns-in-Ok-Err-read_parts-clause-fault
 returns-in-Ok-Err-read_parts-clause-fault g t c = λ ho a bo he.
-    let turn = c.args.turn in
+    let turn = c.args.shown.turn in
     let left = g.O.Source.left c.read_parts.new.o in
     let e = g.E.Source.left c.args.part.now in
     let part = (rw c.in-Ok-Ok.field-0-is at c.in-Ok-Ok.ensures.read) ho a bo he.0 in

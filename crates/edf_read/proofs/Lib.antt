@@ -1,0 +1,2 @@
+pub mod ReadFacts
+pub mod StopFacts

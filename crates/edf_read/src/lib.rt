@@ -1,0 +1,10 @@
+//! What the header of a recording says and its annotations, for a person to read.
+#![tactic(auto)]
+
+mod head;
+mod notes;
+mod read;
+mod recorded;
+mod words;
+
+pub use read::read_to;
