@@ -2,10 +2,10 @@
 
 Of each small file of tests/cases of which a check says Yes, and of 600 random nights with honest exports, of which 300 were
 moved by any number of seconds, the draft has status 0, and the check under the draft writes the line of the check under the
-claim. The first line of a draft is that of the check with it: also where that is a No, as of an export with a changed sample,
-of swapped files, or of a channel that the original lacks. Of a file that doesn't conform its fault is written as `conform`
-writes it. A shift that the samples tell and one that nothing tells are marked, 1,000 intervals are drafted, and where a claim
-can't say what the export is, a comment says so.
+claim. The first line of a draft is that of the check with it: also where that is a No, as of an export with a changed
+sample, of swapped files, or of a channel that the original lacks. Of a file that doesn't conform its fault is written as
+`conform` writes it. A shift that the samples tell and one that nothing tells are marked, 1,000 intervals are drafted, and
+where a claim can't say what the export is, a comment says so.
 """
 
 from tests import night
@@ -118,7 +118,8 @@ class Comments(DraftCase):
 
     def test_moved_with_a_flat_front(self):
         flat = Made([(0, 300)], {"EEG Fpz-Cz": [7] * 800 + list(range(400)), "ECG": [3] * 600})
-        self.assert_says(flat, flat.cut(150, 250, -77), [f"{YES}YES channels 2 samples 600 annotations 0\n", BY_SAMPLES], [ANOTHER])
+        line = f"{YES}YES channels 2 samples 600 annotations 0\n"
+        self.assert_says(flat, flat.cut(150, 250, -77), [line, BY_SAMPLES], [ANOTHER])
 
     def test_moved_with_a_gap(self):
         kept = self.QUARTER.but(stretches=[(20, 21), (40, 100)], shift=59)
@@ -126,7 +127,7 @@ class Comments(DraftCase):
         self.assert_says(self.QUARTER, kept, [f"{YES}YES channels 2 samples 366 annotations 0\n", intervals], [ANOTHER])
 
     def test_moved_and_repeated(self):
-        """The channels repeat themselves every ten seconds: three of the shifts that fit are tried, and the first one is a Yes."""
+        """The channels repeat themselves every ten seconds: of the shifts that fit the first one is a Yes."""
         again = Made([(0, 60)], {"EEG Fpz-Cz": list(range(40)) * 6, "ECG": list(range(20)) * 6})
         self.assert_says(again, again.cut(30, 40, -5), [
             f"{YES}YES channels 2 samples 60 annotations 0\n", BY_SAMPLES, "\nshift = 25 # confirm: 00:00:25 forward\n",
@@ -137,14 +138,15 @@ class Comments(DraftCase):
         """The change stands behind the samples that are looked for, so the shift is found, and the check is a No."""
         late = self.QUARTER.cut(300, 600, -300).changed("ECG", 1100, 7)
         self.assert_says(self.QUARTER, late, [
-            f'{NO}NO 10 sample "ECG" at 550000000000000 ps original 1100 export 7. ', BY_SAMPLES, "\nshift = -300 # confirm: ",
+            f'{NO}NO 10 sample "ECG" at 550000000000000 ps original 1100 export 7. ', BY_SAMPLES,
+            "\nshift = -300 # confirm: ",
         ])
 
     def test_days_that_the_samples_tell_as_well(self):
         """The days stay, though the check with them is a No: of another annotation."""
         late = self.QUARTER.cut(300, 600).but(notes=[(400 * PS, None, "Apnea")])
-        self.assert_says(self.QUARTER, late, [f'{NO}NO 11 annotation extra at 400000000000000 ps text "Apnea"', "\nshift = 0 # "],
-                         REMARKS)
+        line = f'{NO}NO 11 annotation extra at 400000000000000 ps duration none text "Apnea"'
+        self.assert_says(self.QUARTER, late, [line, "\nshift = 0 # "], REMARKS)
 
     def test_changed_from_the_first_sample_on(self):
         """Nothing is found by the samples: the days stay, by which the export is taken for another part."""
@@ -231,14 +233,16 @@ class Comments(DraftCase):
         """One `X` stands where both texts were, and another where only one of them was."""
         both = NIGHT.but(notes=[(at * PS, None, text) for at, text in ((10, "Apnea"), (10, "Arousal"), (20, "Arousal"))])
         self.assert_says(both, both.but(notes=[(10 * PS, None, "X"), (20 * PS, None, "X")]), [
-            f"{YES}YES channels 2 samples 600 annotations 2\n", 'remove = [\n  "Apnea", # confirm; how often it stands: 1\n]',
+            f"{YES}YES channels 2 samples 600 annotations 2\n",
+            'remove = [\n  "Apnea", # confirm; how often it stands: 1\n]',
             'blank = [\n  "Arousal", # confirm; how often it stands: 2\n]',
         ], REMARKS)
 
     def test_x_that_was_removed(self):
         own = NIGHT.but(notes=[(10 * PS, None, "X"), (20 * PS, None, "Apnea")])
         self.assert_says(own, own.but(notes=[(20 * PS, None, "X")]), [
-            f"{YES}YES channels 2 samples 600 annotations 1\n", 'remove = [\n  "X", # confirm; how often it stands: 1\n]',
+            f"{YES}YES channels 2 samples 600 annotations 1\n",
+            'remove = [\n  "X", # confirm; how often it stands: 1\n]',
             'blank = [\n  "Apnea", # confirm; how often it stands: 1\n]',
         ], REMARKS)
 

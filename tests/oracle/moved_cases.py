@@ -3,14 +3,14 @@
 usage: python3 -m tests.oracle.moved_cases SEED COUNT
 
 Prints a case a line: the original, the export and the text of the claim, in hexadecimal (draft_rules.py). `honest` gives
-an original, an export that is just what a claim of format 1 or 2 says, and that claim: of channels of which some stand still,
-of one or more intervals that begin and end anywhere, of a shift by any number of seconds, of hidden subfields, and of texts
-that are removed, by how they begin, too, and blanked.
+an original, an export that is just what a claim of format 1 or 2 says, and that claim: of channels of which some stand
+still, of one or more intervals that begin and end anywhere, of a shift by any number of seconds, of hidden subfields, and of
+texts that are removed, by how they begin, too, and blanked.
 
 What two files can't tell is made as well, and isn't drafted: where all samples of the export stand still, each part of the
 night with the same values fits; where an annotation stands between the claim's end of an interval and the end of the data
-record there and its text is kept elsewhere, the data records don't say that it was left out; and of two texts at one time of
-which one was blanked and one removed, either may have been.
+record there, and its text is kept elsewhere, the data records don't say that it was left out; and of two texts at one time
+of which one was blanked and one removed, either may have been, also where one of them is `X` itself.
 """
 
 import datetime

@@ -2,12 +2,12 @@
 
 usage: python3 -m tests.oracle.moved_drafts PROGRAM [COUNT [SEED]]
 
-It makes COUNT nights, each with an export that was moved by any number of seconds (moved_cases.py; 10,000 where none is said;
-SEED is a number, 1 if none is said, and the same number makes the same files), and PROGRAM drafts the claim of each. A draft
-is told where its first line is that of a Yes with the counts of the claim itself, and the second reading of the rules gives
-that line under the draft, too. A few can't be told (moved_cases.py): they are counted, and have to be fewer than one in 100.
-Nothing else passes: a draft whose first line is a Yes that the second reading doesn't give, or isn't one where it is, and
-one of another status than 0.
+It makes COUNT nights, each with an export that was moved by any number of seconds (moved_cases.py; 10,000 where none is
+said; SEED is a number, 1 if none is said, and the same number makes the same files), and PROGRAM drafts the claim of each. A
+draft is told where its first line is that of a Yes with the counts of the claim itself, and the second reading of the rules
+gives that line under the draft, too. A few can't be told (moved_cases.py): they are counted, and have to be fewer than one
+in 100. What fails is a draft whose first line is a Yes that the second reading doesn't give, or isn't one where that gives a
+Yes, and one of another status than 0.
 
 What isn't as it should be is said, at most twenty times. The last line counts the exports that passed and failed.
 """
