@@ -9,6 +9,7 @@ import sys
 from tests import night
 from tests.cases import claim_texts
 from tests.harness import NIGHT, TOP, ProgramCase, each
+from tests.oracle import cases
 from tests.reading import rules
 
 sys.path.insert(0, str(TOP / "extras"))
@@ -148,6 +149,22 @@ class Printed(ProgramCase):
     def of_the_night(self, name):
         claim = (NIGHT / name).read_bytes()
         self.assert_says(self.printed_of(claim), rules.claim(claim))
+
+    def test_random_claims(self):
+        """Of 900 random documents each is refused by the cause that the second reading names, or printed as what it says."""
+        cases.choose.seed(20)
+        taken = 0
+        for _ in range(900):
+            document = cases.claim()
+            try:
+                wanted = rules.claim(document)
+            except rules.Refused as cause:
+                ran = self.run_program("claim", self.file("claim.toml", document))
+                self.assert_refused(ran, f"edfclaim: claim refused: {cause}")
+            else:
+                taken += 1
+                self.assert_says(self.printed_of(document), wanted)
+        self.assertGreater(taken, 100)
 
     # A thousand intervals, and whether their times in picoseconds have room in the text.
     @each([("with_picoseconds", 500, 100, True), ("a_thousand_without_picoseconds", 1000, 10_000, False)])
