@@ -44,8 +44,10 @@ impl<'a> Fronts<'a> {
 }
 
 /// Who looks on while a check is run under the claim of a text.
-pub(crate) fn looker_for(alloc: Global, claim_text: &[u8]) -> Looker {
-    Looker::new(alloc, asks_for_texts(alloc, claim_text))
+///
+/// The error is want of memory.
+pub(crate) fn looker_for(alloc: Global, claim_text: &[u8]) -> Result<Looker, AllocError> {
+    Ok(Looker::new(alloc, asks_for_texts(alloc, claim_text)?))
 }
 
 /// What was seen of two files under their claim, and what their samples and annotations are reckoned by: the same, or what
@@ -131,7 +133,7 @@ fn seen_anew<'c, R: Recordings>(
 ) -> Result<Option<Seen<'c>>, RunStop> {
     let mut original = asked.recordings.open_original()?;
     let mut export = asked.recordings.open_export()?;
-    let mut looker = looker_for(alloc, claim_text);
+    let mut looker = looker_for(alloc, claim_text)?;
     judge_beside(alloc, &mut original, &mut export, claim_text, &mut looker)?;
     Ok(looker.seen(claim)?)
 }

@@ -32,7 +32,7 @@ pub fn run_explained<O: Source, E: Source, K: Sink, R: Recordings>(
 {
     let mut first = FrontSource::new(alloc, original);
     let mut second = FrontSource::new(alloc, export);
-    let mut looker = looker_for(alloc, claim_text);
+    let mut looker = looker_for(alloc, claim_text)?;
     let verdict = judge_beside(alloc, &mut first, &mut second, claim_text, &mut looker)?;
     let line = verdict.line(alloc)?;
     put_all(sink, &line)?;

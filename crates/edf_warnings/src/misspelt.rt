@@ -39,10 +39,13 @@ fn names_texts(table: &Table) -> bool {
 }
 
 /// Whether the text of a claim removes or blanks texts, so that it is asked whether annotations have them.
-pub fn asks_for_texts(alloc: Global, claim_text: &[u8]) -> bool {
+///
+/// The error is want of memory.
+pub fn asks_for_texts(alloc: Global, claim_text: &[u8]) -> Result<bool, AllocError> {
     match toml::table_from_slice(alloc, claim_text) {
-        Ok(table) => names_texts(&table),
-        Err(_) => false,
+        Ok(table) => Ok(names_texts(&table)),
+        Err(fault) if fault.is_memory() => Err(AllocError),
+        Err(_) => Ok(false),
     }
 }
 
@@ -123,8 +126,10 @@ fn say_begins_unseen(
 
 /// Says which texts of a claim may be misspelt.
 pub(crate) fn say_misspelt(text: &mut Text, read: ReadTexts<'_>) -> Result<(), AllocError> {
-    let Ok(table) = toml::table_from_slice(text.alloc(), read.claim_text) else {
-        return Ok(());
+    let table = match toml::table_from_slice(text.alloc(), read.claim_text) {
+        Ok(table) => table,
+        Err(fault) if fault.is_memory() => return Err(AllocError),
+        Err(_) => return Ok(()),
     };
     if !names_texts(&table) {
         return Ok(());
