@@ -18,6 +18,6 @@ pub(crate) const ORIGINAL_TWICE: &str =
 pub(crate) const EXCHANGED: &str =
     "The original has X where the claim hides something, and the export doesn't: it looks like these two were exchanged. The order is: the original, the export, the claim.";
 
-/// Where the second reading finds something behind a Yes, or nothing behind a No.
+/// Where a file has a fault when it is read once more, under the shift by which all else is worked out.
 pub(crate) const READ_ANEW: &str =
     "The second reading of the files doesn't find what the first line says: a file was changed between the two, or can't be read twice. The first line is the answer: don't use these sentences.";
