@@ -1,0 +1,82 @@
+#!/usr/bin/env python3
+"""How long an explanation takes beside the check of the same files.
+
+usage: explained.py PROGRAM FOLDER [SECONDS [TURNS]]
+
+It writes to FOLDER a night of 22 channels, of 8 hours where no SECONDS are said, and exports of it: a copy; one with another
+value in its middle; one in which all channels have half as many samples, and one twice as many; and one in which each value is
+another one. PROGRAM checks and explains each by turns, nine times where no TURNS are said. A line for each says the medians of the
+processor's time, and how many times that of the check the explanation takes. Each claim keeps all, so no shift and no interval is
+tried. The last line is the largest of these numbers.
+"""
+
+import dataclasses
+import os
+import pathlib
+import resource
+import statistics
+import subprocess
+import sys
+
+sys.dont_write_bytecode = True
+sys.path.insert(0, str(pathlib.Path(__file__).resolve().parent.parent.parent))
+
+from tests.long_nights import Night, write  # noqa: E402
+
+EIGHT_HOURS = 28800
+
+
+def changed(path, other, whole):
+    """A copy of a night with other values: one in its middle, or each."""
+    content = bytearray(pathlib.Path(path).read_bytes())
+    header = 256 * int(content[252:256]) + 256
+    record = (len(content) - header) // int(content[236:244])
+    lane = 128
+    if whole:
+        turned = bytes(range(256)).translate(bytes((b + 1) % 256 for b in range(256)))
+        for start in range(header, len(content), record):
+            content[start : start + record - lane] = content[start : start + record - lane].translate(turned)
+    else:
+        middle = header + record * ((len(content) - header) // record // 2)
+        content[middle] ^= 1
+    pathlib.Path(other).write_bytes(content)
+
+
+def work(*words):
+    """The processor's time of a command."""
+    before = resource.getrusage(resource.RUSAGE_CHILDREN)
+    subprocess.run(words, stdout=subprocess.DEVNULL, stderr=subprocess.DEVNULL, check=False)
+    after = resource.getrusage(resource.RUSAGE_CHILDREN)
+    return after.ru_utime - before.ru_utime + after.ru_stime - before.ru_stime
+
+
+def main():
+    program, folder = sys.argv[1], pathlib.Path(sys.argv[2])
+    seconds = int(sys.argv[3]) if len(sys.argv) > 3 else EIGHT_HOURS
+    turns = int(sys.argv[4]) if len(sys.argv) > 4 else 9
+    night = Night(seconds)
+    path = folder / "night.edf"
+    write(path, night)
+    exports = {"a copy": path}
+    for name, rate in (("half as many samples", night.rate // 2), ("twice as many samples", night.rate * 2)):
+        exports[name] = folder / f"rate-{rate}.edf"
+        write(exports[name], dataclasses.replace(night, rate=rate))
+    for name, whole in (("one other value", False), ("all other values", True)):
+        exports[name] = folder / f"changed-{whole}.edf"
+        changed(path, exports[name], whole)
+    claim = folder / "claim.toml"
+    labels = ", ".join(f'"{label}"' for label in night.labels())
+    claim.write_text(f'format = 1\nchannels = [{labels}]\n[[keep]]\nfrom = "0"\nto = "999999999"\n', encoding="utf-8")
+    os.sync()
+    largest = 0.0
+    for name, export in exports.items():
+        files = [str(path), str(export), str(claim)]
+        runs = [(work(program, "check", *files), work(program, "explain", *files)) for _ in range(turns)]
+        check, explain = (statistics.median(column) for column in zip(*runs))
+        largest = max(largest, explain / check)
+        print(f"{name}: check {check:.3f} s, explain {explain:.3f} s, {explain / check:.2f} times", flush=True)
+    print(f"{largest:.2f}")
+
+
+if __name__ == "__main__":
+    main()
