@@ -337,6 +337,12 @@ def explain(original, export, claim, program=None):
     return Explanation(answer(status, lines[:1], CHECK)[0], lines[1:])
 
 
+def explain_parts(original, claim, exports, program=None):
+    """The verdict on exports that go out together, as that of check-parts, and the sentences behind it."""
+    status, lines = run("explain-parts", original, claim, *exports, program=program)
+    return Explanation(answer(status, lines[:1], CHECK_PARTS)[0], lines[1:])
+
+
 def read_first(line):
     """What the check answers with a draft by its first line, or none where it wasn't tried."""
     if line.startswith("# NOT TRIED: "):

@@ -33,6 +33,8 @@ NO_COMMAND = {
     "dashes_before_all_parts_of_a_receipt": [
         "receipt-parts", "original.edf", "cut.toml", "--", "cut-part-1.edf", "cut-part-2.edf"],
     "dashes_before_the_files_of_receipt_parts": ["receipt-parts", "--", "original.edf", "cut.toml", "cut.edf"],
+    "dashes_before_the_last_part_of_an_explanation": ["explain-parts", *PARTS, "--", "cut-part-2.edf"],
+    "dashes_before_the_files_of_explain_parts": ["explain-parts", "--", "original.edf", "cut.toml", "cut.edf"],
     "dashes_before_the_export_of_a_draft": ["draft", "original.edf", "--", "cut.edf"],
     "dashes_before_the_files_of_a_draft": ["draft", "--", "original.edf", "cut.edf"],
     "dashes_before_the_claim_of_explain": ["explain", "original.edf", "cut.edf", "--", "cut.toml"],

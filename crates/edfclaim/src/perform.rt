@@ -5,14 +5,16 @@ ghost use Rattle.edf_command_line.specs.Jobs.{HasExports};
 ghost use Rattle.edf_refusal.specs.declared.refusals.Refusal.TheVariants as refusals;
 ghost use Rattle.edfclaim.specs.Opening.{CheckIsRefused, ClaimIsRefused, DraftIsRefused, PartsAreRefused, ReportIsRefused};
 
-use crate::files::{claim_text, digested_recordings, recording, recordings, watched};
+use crate::files::{
+    claim_text, digested_recordings, fronted_recordings, recording, recordings, watched,
+};
 use crate::files_again::FilesAgain;
 use crate::signs::{Signs, Wiped};
 use edf_check::{run, run_parts};
 use edf_claim_text::claim_to;
 use edf_command_line::{Job, VERSION};
 use edf_draft::draft_to;
-use edf_explain::run_explained;
+use edf_explain::{FrontSource, run_explained, run_explained_parts};
 use edf_fields::{Sink, WriteSink};
 use edf_read::read_to;
 use edf_receipt::{DigestSource, receipt_parts_to, receipt_to};
@@ -162,6 +164,28 @@ fn explain<'a, R: Files + Eprint + Clock + AllocGlobal, K: Sink>(
     )?)
 }
 
+/// The same as `check_parts`, with sentences behind its line.
+fn explain_parts<'a, R: Files + Eprint + Clock + AllocGlobal, K: Sink>(
+    signs: &'a Signs<'a, R>,
+    original: &str,
+    claim: &str,
+    exports: &[&str],
+    sink: &mut K,
+) -> Result<Outcome, Refusal>
+    requires { 0 < length exports.now }
+    ensures many { 64 < length exports.now → result ≡ Err refusals.TooManyExports }
+    ensures stop { IfErr result (PartsAreRefused (length exports.now)) }
+{
+    if exports.len() > MOST_EXPORTS {
+        return Err(Refusal::TooManyExports);
+    }
+    let alloc = signs.rt().alloc();
+    let text = claim_text(signs.rt(), claim)?;
+    let mut first = FrontSource::new(alloc, watched(signs, original, Role::Original)?);
+    let mut parts = fronted_recordings(signs, exports, Role::Export)?;
+    Ok(run_explained_parts(alloc, &mut first, &mut parts, &text, sink)?)
+}
+
 /// Says whether a file conforms.
 fn conform<'a, R: Files + Eprint + Clock + AllocGlobal, K: Sink>(
     signs: &'a Signs<'a, R>,
@@ -257,6 +281,11 @@ fn write_job<'a, R: Files + Eprint + Clock + AllocGlobal, K: Sink>(
             export,
             claim,
         } => explain(signs, original, export, claim, sink),
+        Job::ExplainParts {
+            original,
+            claim,
+            exports,
+        } => explain_parts(signs, original, claim, exports, sink),
         Job::Conform(path) => conform(signs, path, sink),
         Job::Show(path) => show(signs.rt(), path, sink),
         Job::Notes(path) => notes(signs.rt(), path, sink),
