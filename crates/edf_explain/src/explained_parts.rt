@@ -6,7 +6,7 @@ ghost use Rattle.edf_explain.specs.Explained.{ArePartsExplained};
 
 use crate::explain::looker_for;
 use crate::front_source::FrontSource;
-use crate::parts::{PartsAsked, fault_in, sentences_on_parts};
+use crate::parts::{PartsAsked, explain_parts_to, fault_in};
 use edf_check::judge_parts_beside;
 use edf_fields::{Sink, Source, put_all};
 use edf_stop::{PartsRunStop, Side};
@@ -64,7 +64,6 @@ pub fn run_explained_parts<O: Source + Drop, E: Source + Drop, K: Sink>(
         verdict: &verdict,
         front: &front,
     };
-    let text = sentences_on_parts(alloc, asked, looker)?;
-    put_all(sink, text.bytes())?;
+    explain_parts_to(alloc, asked, looker, sink)?;
     Ok(verdict.verdict.outcome())
 }

@@ -1,5 +1,8 @@
 //! Sentences behind the line of a check of several exports, for whoever has to act on it.
 
+ghost use Rattle.std.specs.Prelude.{IsTrue};
+ghost use Rattle.edf_explain.specs.Appending.{Appended};
+
 use crate::differences::annotations::say_annotations;
 use crate::differences::clocks::Clocks;
 use crate::differences::headers::say_heads;
@@ -9,7 +12,7 @@ use crate::faults::say_fault;
 use crate::heads::Heads;
 use crate::words::parts as words;
 use edf_claim::{Claim, ClaimStop};
-use edf_fields::Fault;
+use edf_fields::{Fault, Sink, put_all};
 use edf_findings::{Looker, OnlyInOne, Seen, SeenPart};
 use edf_sentences::{Piece, Text};
 use edf_stop::{PartsRunStop, Side};
@@ -156,7 +159,7 @@ fn claim_of(alloc: Global, text: &[u8]) -> Result<Claim, PartsRunStop> {
 }
 
 /// The sentences on an original, its exports and a claim: of each export all that differs, and of the annotations of all together.
-pub(crate) fn sentences_on_parts(
+fn sentences_on_parts(
     alloc: Global,
     asked: PartsAsked<'_>,
     looker: Looker,
@@ -171,4 +174,22 @@ pub(crate) fn sentences_on_parts(
         say_seen(&mut text, asked, seen)?;
     }
     Ok(text)
+}
+
+/// Writes sentences for whoever has to act on the line of a check of several exports.
+///
+/// The verdict is that of the check, and `looker` looked on. The sentences are made before the first of them is written. What the
+/// sink held stays in front of them.
+pub(crate) fn explain_parts_to<K: Sink>(
+    alloc: Global,
+    asked: PartsAsked<'_>,
+    looker: Looker,
+    sink: &mut K,
+) -> Result<(), PartsRunStop>
+    ensures appended { IsTrue (K.is_honest sink.old) → Appended (K.held sink.old) (K.held sink.new) }
+    ensures honesty { IsTrue (K.is_honest sink.old) → IsTrue (K.is_honest sink.new) }
+{
+    let text = sentences_on_parts(alloc, asked, looker)?;
+    put_all(sink, text.bytes())?;
+    Ok(())
 }
