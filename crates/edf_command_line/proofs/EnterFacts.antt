@@ -9,8 +9,10 @@ use Rattle.clap.specs.Simple.{App, Shape, built, entered, names_of}
 use Rattle.clap.specs.Takes.{default_passes, entered_passes, is_valid, level_passes, settle_passes, takes, walk_passes}
 use Rattle.clap.proofs.OnLiterals.{clap_on_literals}
 use Rattle.edf_command_line.proofs.ExportFacts.{check, check_passes, draft, draft_passes, explain, explain_passes, receipt, receipt_passes}
-use Rattle.edf_command_line.proofs.PartsFacts.{both_true, leaf_passes, parts, receipt_parts, second_passes}
+use Rattle.edf_command_line.proofs.LastFacts.{both_true}
+use Rattle.edf_command_line.proofs.PartsFacts.{leaf_passes, parts, receipt_parts, second_passes}
 use Rattle.edf_command_line.proofs.PlainFacts.{IsPlain, tail_plain}
+use Rattle.edf_command_line.proofs.SeriesFacts.{series, series_passes}
 use Rattle.edf_command_line.specs.Commands.{program_app}
 use Rattle.edf_command_line.specs.Jobs.{ArePlain}
 
@@ -130,6 +132,36 @@ takes_draft w x y p q =
     ap₂ all_ends (passes_to_draft rest) (walk_to_draft rest)
     ∙ both_true (entered_passes top (Some (codes "draft", rest))) (top_ends (record (walk_from nothing_held) { stopped = Some (codes "draft", rest) }))
     (enters_draft rest (draft_passes x y p q)) (whole_at_draft rest)
+
+-- of the draft for several exports
+walk_to_series : (rest : List Text) → walk top.top.rules (names_of top) nothing_held (codes "draft-parts" ∷ rest)
+    ≡ record (walk_from nothing_held) { stopped = Some (codes "draft-parts", rest) }
+unfolding clap_on_literals
+walk_to_series rest = stopped_walk top.top.rules (names_of top) (walk_from nothing_held) (codes "draft-parts") [] rest
+
+passes_to_series : (rest : List Text) → walk_passes top.top (names_of top) (walk_from nothing_held) (codes "draft-parts" ∷ rest) ≡ true
+unfolding clap_on_literals
+passes_to_series rest = stopped_passes top.top (names_of top) (walk_from nothing_held) (codes "draft-parts") [] rest
+
+whole_at_series : (rest : List Text) → top_ends (record (walk_from nothing_held) { stopped = Some (codes "draft-parts", rest) }) ≡ true
+unfolding clap_on_literals
+whole_at_series rest = refl
+
+enters_series : (rest : List Text) → level_passes series [] nothing_held rest false ≡ true → entered_passes top (Some (codes "draft-parts", rest)) ≡ true
+unfolding clap_on_literals
+enters_series rest h = h
+
+pub takes_series : (w x : Text) (last : List Text) → 0 < length last → ArePlain (codes "draft-parts" ∷ x ∷ last) → length last ≤ usize_max
+    → takes program_app (w ∷ codes "draft-parts" ∷ x ∷ last) ≡ true
+takes_series w x [] some plain small = absurd (omega arith)
+takes_series w x (y ∷ rest) some plain small =
+    let last : ArePlain (y ∷ rest) = tail_plain x (y ∷ rest) (tail_plain (codes "draft-parts") (x ∷ y ∷ rest) plain) in
+    let passed : level_passes series [] nothing_held (x ∷ y ∷ rest) false ≡ true =
+    series_passes x y rest (plain 1 (omega arith)) (plain 2 (omega arith)) (tail_plain y rest last) small in
+    ap₂ all_ends (passes_to_series (x ∷ y ∷ rest)) (walk_to_series (x ∷ y ∷ rest))
+    ∙ both_true (entered_passes top (Some (codes "draft-parts", x ∷ y ∷ rest)))
+    (top_ends (record (walk_from nothing_held) { stopped = Some (codes "draft-parts", x ∷ y ∷ rest) }))
+    (enters_series (x ∷ y ∷ rest) passed) (whole_at_series (x ∷ y ∷ rest))
 
 -- and of a check that explains itself
 walk_to_explain : (rest : List Text) → walk top.top.rules (names_of top) nothing_held (codes "explain" ∷ rest)

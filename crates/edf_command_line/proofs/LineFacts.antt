@@ -5,11 +5,11 @@ use Rattle.clap.specs.Lexer.{usize_max}
 use Rattle.clap.specs.Takes.{takes}
 use Rattle.clap.proofs.OnLiterals.{clap_on_literals}
 use Rattle.edf_command_line.specs.Commands.{program_app}
-use Rattle.edf_command_line.proofs.EnterFacts.{name_of, takes_draft, takes_explain, takes_export, takes_parts}
+use Rattle.edf_command_line.proofs.EnterFacts.{name_of, takes_draft, takes_explain, takes_export, takes_parts, takes_series}
 use Rattle.edf_command_line.proofs.PlainFacts.{IsPlain, first_is}
 use Rattle.edf_command_line.specs.Jobs.{ArePlain, SaysJob}
 use Rattle.edf_command_line.specs.declared.jobs.Job.{Job}
-use Rattle.edf_command_line.specs.declared.jobs.Job.TheVariants.{Check, CheckParts, Receipt, ReceiptParts, Draft, Explain, Conform, Show, Notes, Read, Claim, Vectors}
+use Rattle.edf_command_line.specs.declared.jobs.Job.TheVariants.{Check, CheckParts, Receipt, ReceiptParts, Draft, DraftParts, Explain, Conform, Show, Notes, Read, Claim, Vectors}
 
 takes_vectors : (w : List ℕ) → takes program_app (w ∷ codes "vectors" ∷ []) ≡ true
 unfolding clap_on_literals
@@ -70,6 +70,13 @@ parts_taken receipt w ws x y last small plain some says =
     let long : length ws ≡ length (name_of true receipt ∷ x ∷ y ∷ last) = ap (λ (r : List (List ℕ)). length r) says in
     subst (λ (r : List (List ℕ)). takes program_app (w ∷ r) ≡ true) (sym says) (takes_parts receipt w x y last some each (omega arith))
 
+series_taken : (w : List ℕ) (ws : List (List ℕ)) (x : List ℕ) (last : List (List ℕ)) → length ws ≤ usize_max → ArePlain ws → 0 < length last
+    → ws ≡ codes "draft-parts" ∷ x ∷ last → takes program_app (w ∷ ws) ≡ true
+series_taken w ws x last small plain some says =
+    let each : ArePlain (codes "draft-parts" ∷ x ∷ last) = subst ArePlain says plain in
+    let long : length ws ≡ length (codes "draft-parts" ∷ x ∷ last) = ap (λ (r : List (List ℕ)). length r) says in
+    subst (λ (r : List (List ℕ)). takes program_app (w ∷ r) ≡ true) (sym says) (takes_series w x last some each (omega arith))
+
 -- the words behind the first are a job's, which is taken
 job_taken : (w : List ℕ) (ws : List (List ℕ)) (j : Job) → length ws ≤ usize_max → ArePlain ws → SaysJob ws j → takes program_app (w ∷ ws) ≡ true
 job_taken w ws (Check o e c) small plain says = export_taken false w ws o.now e.now c.now plain says
@@ -83,6 +90,9 @@ job_taken w ws (ReceiptParts o c es) small plain says =
 job_taken w ws (Draft o e) small plain says =
     let each : ArePlain (codes "draft" ∷ o.now ∷ e.now ∷ []) = subst ArePlain says plain in
     subst (λ (r : List (List ℕ)). takes program_app (w ∷ r) ≡ true) (sym says) (takes_draft w o.now e.now (each 1 (omega arith)) (each 2 (omega arith)))
+job_taken w ws (DraftParts o es) small plain says =
+    let as_many : length (map (λ t. t.now) es.now) ≡ length es.now = length-map es.now (λ t. t.now) in
+    series_taken w ws o.now (map (λ t. t.now) es.now) small plain (omega (arith, as_many, says.1)) says.0
 job_taken w ws (Explain o e c) small plain says =
     let each : ArePlain (codes "explain" ∷ o.now ∷ e.now ∷ c.now ∷ []) = subst ArePlain says plain in
     subst (λ (r : List (List ℕ)). takes program_app (w ∷ r) ≡ true) (sym says)
@@ -110,6 +120,7 @@ no_words (CheckParts o c es) says = cc
 no_words (Receipt o e c) says = cc
 no_words (ReceiptParts o c es) says = cc
 no_words (Draft o e) says = cc
+no_words (DraftParts o es) says = cc
 no_words (Explain o e c) says = cc
 no_words (Conform f) says = cc
 no_words (Show f) says = cc

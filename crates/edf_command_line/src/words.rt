@@ -2,7 +2,7 @@
 
 ghost use Rattle.std.specs.Prelude.{map, IfSome, IfNone};
 ghost use Rattle.std.specs.Bool.{Decides};
-ghost use Rattle.edf_command_line.specs.Jobs.{HasExports, HaveEscape, SaysJob, SaysNoExport, SaysNoFile, SaysNoJob, SaysNoOther, SaysNoParts, behind_first};
+ghost use Rattle.edf_command_line.specs.Jobs.{HasExports, HaveEscape, SaysJob, SaysNoCheckOfParts, SaysNoExport, SaysNoFile, SaysNoJob, SaysNoOther, SaysNoParts, SaysNoWordsOnParts, behind_first};
 
 use crate::jobs::Job;
 
@@ -13,10 +13,10 @@ fn have_escape(words: &[&str]) -> bool
     words.contains(&"--")
 }
 
-/// The command over several exports that the words behind the first one are, or none where they aren't one.
-fn parts_job<'a>(words: &'a [&'a str]) -> Option<Job<'a>>
+/// The check of several exports that the words behind the first one are, or none where they aren't one.
+fn parts_check<'a>(words: &'a [&'a str]) -> Option<Job<'a>>
     ensures some { IfSome result (SaysJob (behind_first words.entry.now)) }
-    ensures none { IfNone result (SaysNoParts (behind_first words.entry.now)) }
+    ensures none { IfNone result (SaysNoCheckOfParts (behind_first words.entry.now)) }
 {
     match words {
         [_, "check-parts", original, claim, _, ..] if !have_escape(&words[1..]) => {
@@ -34,6 +34,33 @@ fn parts_job<'a>(words: &'a [&'a str]) -> Option<Job<'a>>
             })
         }
         _ => None,
+    }
+}
+
+/// The command that says more of several exports, which the words behind the first one are, or none where they aren't one.
+fn parts_words<'a>(words: &'a [&'a str]) -> Option<Job<'a>>
+    ensures some { IfSome result (SaysJob (behind_first words.entry.now)) }
+    ensures none { IfNone result (SaysNoWordsOnParts (behind_first words.entry.now)) }
+{
+    match words {
+        [_, "draft-parts", original, _, ..] if !have_escape(&words[1..]) => {
+            Some(Job::DraftParts {
+                original,
+                exports: &words[3..],
+            })
+        }
+        _ => None,
+    }
+}
+
+/// The command over several exports that the words behind the first one are, or none where they aren't one.
+fn parts_job<'a>(words: &'a [&'a str]) -> Option<Job<'a>>
+    ensures some { IfSome result (SaysJob (behind_first words.entry.now)) }
+    ensures none { IfNone result (SaysNoParts (behind_first words.entry.now)) }
+{
+    match parts_check(words) {
+        Some(job) => Some(job),
+        None => parts_words(words),
     }
 }
 

@@ -68,6 +68,23 @@ const WORDS: &[(&[&str], Option<Job<'static>>)] = &[
     (&["edfclaim", "draft", "o"], None),
     (&["edfclaim", "draft", "o", "e", "c"], None),
     (
+        &["edfclaim", "draft-parts", "night.edf", "a", "b"],
+        Some(Job::DraftParts {
+            original: "night.edf",
+            exports: &["a", "b"],
+        }),
+    ),
+    (
+        &["edfclaim", "draft-parts", "o", "a"],
+        Some(Job::DraftParts {
+            original: "o",
+            exports: &["a"],
+        }),
+    ),
+    (&["edfclaim", "draft-parts", "o"], None),
+    (&["edfclaim", "draft-parts", "o", "a", "--", "b"], None),
+    (&["edfclaim", "draft-parts", "--", "o", "a"], None),
+    (
         &[
             "edfclaim",
             "explain",
