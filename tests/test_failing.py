@@ -60,6 +60,9 @@ COMMANDS = {
     # behind a fault of the original the export is read for its digest: here one that the check doesn't read
     "receipt_of_an_empty_original": Command(1, 0, "receipt ROOM/original.edf cut.edf cut.toml"),
     "draft": Command(0, 0, "draft original.edf cut.edf", (NIGHT / "draft.toml").read_text(encoding="utf-8")),
+    "draft_parts": Command(
+        0, 0, "draft-parts original.edf cut-part-1.edf cut-part-2.edf",
+        (NIGHT / "draft.toml").read_text(encoding="utf-8").replace("YES ", "YES parts 2 ", 1)),
     # its line is written before its sentences are made: where these fail, it stands there
     "explain": Command(0, MOST, "explain original.edf cut.edf cut.toml"),
     # with a shift that is tried
@@ -86,7 +89,7 @@ def role_of(command, name):
     """The role of a file by its name, for a command."""
     if command in ("conform", "show", "notes", "read"):
         return "file"
-    if name.endswith(".toml") and command != "draft":
+    if name.endswith(".toml") and command not in ("draft", "draft-parts"):
         return "claim"
     return "original" if name == "original.edf" else "export"
 

@@ -82,7 +82,14 @@ const WORDS: &[(&[&str], Option<Job<'static>>)] = &[
         }),
     ),
     (
-        &["edfclaim", "explain-parts", "night.edf", "claim.toml", "a", "b"],
+        &[
+            "edfclaim",
+            "explain-parts",
+            "night.edf",
+            "claim.toml",
+            "a",
+            "b",
+        ],
         Some(Job::ExplainParts {
             original: "night.edf",
             claim: "claim.toml",
