@@ -97,7 +97,6 @@ impl<'a, R: Recordings> Trial for OneExport<'a, R> {
         }
     }
 
-    #[tactic(auto, using(crate::proofs::SaidFacts::said_of_one))]
     fn said_of(&self, alloc: Global, text: &[u8]) -> Result<Option<Said>, AllocError> {
         match check_anew(alloc, self.again, text) {
             Ok(verdict) => {
@@ -149,7 +148,6 @@ impl<'a, R: PartsRecordings> Trial for SeveralExports<'a, R> {
         }
     }
 
-    #[tactic(auto, using(crate::proofs::SaidFacts::said_of_several))]
     fn said_of(&self, alloc: Global, text: &[u8]) -> Result<Option<Said>, AllocError> {
         match check_parts_anew(alloc, self.again, text) {
             Ok(answer) => {
