@@ -12,6 +12,7 @@ from tests.cases import rows_of
 from tests.cases.parts import FIRST, JUST_EARLY, KEPT_TIME, SECOND, SECONDS, changed, second
 from tests.cases.small_night import BOTH, LANE_0, LANE_1, NIGHT, VALUES_0, VALUES_1
 from tests.edf import field, lane, signal, values
+from tests.explain import sentences
 from tests.harness import ProgramCase, each
 from tests.recordings import bytes_of, claim_of, recording
 
@@ -149,6 +150,14 @@ class Rows(ExplainPartsCase):
         self.assertEqual(given, status, text)
         self.assertEqual([word for word in there if word not in text], [], f"words that lack: {text}")
         self.assertEqual([word for word in absent if word in text], [], f"words that are said: {text}")
+
+    def test_each_sentence_is_said_and_isn_t(self):
+        """Of each sentence on several exports there is a row of which it is said, and one of which it isn't."""
+        texts = [self.explained(bytes_of(NIGHT), ALL_OF_IT, [bytes_of(export) for export in row[1]])[0] for row in ROWS]
+        for name, said in sentences.sentences([sentences.OF_PARTS]).items():
+            # but the name of a part, which each row with an answer on parts has
+            kinds = {bool(sentences.pattern(said).search(text)) for text in texts}
+            self.assertEqual(kinds, {True} if name == "PART" else {True, False}, name)
 
     def test_name_in_the_second_header(self):
         """The claim hides the name, and the second half has it in a text of a channel."""

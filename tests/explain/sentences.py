@@ -21,10 +21,11 @@ CRATES = TOP / "crates"
 # The subfields by their variants: `PatientExtras` of `patient-extras`.
 VARIANTS = {"".join(word.capitalize() for word in which.split("-")): which for which in rules.SUBFIELDS}
 
-# The files that have the sentences.
+# The files that have the sentences; those on several exports have their rows in tests/test_explain_parts.py.
+OF_PARTS = CRATES / "edf_explain" / "src" / "words" / "parts.rt"
 WORDS = [
     *(CRATES / crate / "src" / "words.rt" for crate in ("edf_sentences", "edf_claim_advice", "edf_warnings")),
-    *sorted((CRATES / "edf_explain" / "src" / "words").glob("*.rt")),
+    *sorted(set((CRATES / "edf_explain" / "src" / "words").glob("*.rt")) - {OF_PARTS}),
 ]
 
 # What has no row here: pieces of sentences that are punctuation; causes that no fault of a file has, since another one
@@ -90,11 +91,11 @@ CALL = re.compile(r"^pub\(crate\) fn (\w+)", re.M)
 ARM = re.compile(r'(\w+)::(\w+) => (?:\{\s*)?"((?:[^"\\]|\\.)*)"')
 
 
-def sentences():
-    """The sentences by their names: those of constants, and those of an enumeration's cases as `Side.Export`, or as
+def sentences(files=tuple(WORDS)):
+    """The sentences of some files by their names: those of constants, and those of an enumeration's cases as `Side.Export`, or as
     `spelled.Name` where the function is `spelled`."""
     found = {}
-    for file in WORDS:
+    for file in files:
         text = file.read_text(encoding="utf-8")
         found |= dict(CONSTANT.findall(text))
         front, *parts = CALL.split(text)
