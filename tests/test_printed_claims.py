@@ -17,7 +17,6 @@ import edfclaim  # noqa: E402
 
 PS = 10**12
 MOST = 65_536
-SUBFIELDS = "code sex birthdate name patient-extras date administration technician equipment recording-extras".split()
 
 
 def items(key, texts):
@@ -41,8 +40,8 @@ SPELLINGS = [
     ("defaults", HEAD + BEHIND, printed(KEPT)),
     (
         "each_key_of_format_1",
-        f'format = 1\nchannels = ["ECG", "EEG Fpz-Cz"]\nanonymous = {SUBFIELDS}\nshift = -86400\nremove = ["b", "a"]\n{BEHIND}',
-        printed(KEPT, ("ECG", "EEG Fpz-Cz"), SUBFIELDS, -86400, ("b", "a")),
+        f'format = 1\nchannels = ["ECG", "EEG Fpz-Cz"]\nanonymous = {rules.SUBFIELDS}\nshift = -86400\nremove = ["b", "a"]\n{BEHIND}',
+        printed(KEPT, ("ECG", "EEG Fpz-Cz"), rules.SUBFIELDS, -86400, ("b", "a")),
     ),
     (
         "each_key_of_format_2",

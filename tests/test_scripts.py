@@ -18,12 +18,12 @@ from tests import edf, faults
 from tests import night as example
 from tests.cases import BY_RULES, all_rows
 from tests.harness import ANSWERS, NIGHT, TOP, Case, ProgramCase, each, run, slug
+from tests.reading.rules import SUBFIELDS
 from tests.recordings import LANES, recorded
 
 sys.path.insert(0, str(TOP / "extras"))
 import edfclaim  # noqa: E402
 
-SUBFIELDS = "code sex birthdate name patient-extras date administration technician equipment recording-extras".split()
 KINDS = {"check": edfclaim.CHECK, "check-parts": edfclaim.CHECK_PARTS, "conform": edfclaim.CONFORM, "show": edfclaim.CONFORM}
 
 

@@ -13,9 +13,13 @@ from tests.cases.small_night import BOTH, LANE_0, LANE_1, LANE_2, LANE_3, NIGHT,
 from tests.edf import field, lane, signal, values
 from tests.explain import rows as explain_rows, tries as explain_tries
 from tests.harness import TOP
+from tests.reading import rules
 from tests.recordings import bytes_of, claim_of, recording
 
 CRATES = TOP / "crates"
+
+# The subfields by their variants: `PatientExtras` of `patient-extras`.
+VARIANTS = {"".join(word.capitalize() for word in which.split("-")): which for which in rules.SUBFIELDS}
 
 # The files that have the sentences.
 WORDS = [
@@ -79,8 +83,7 @@ OF_ROWS = {
 }
 
 # Parts of sentences, each of which stands in the words that a row of tests/explain/rows.py wants.
-PARTS = {f"spelled.{which}" for which in ("Code", "Birthdate", "Name", "PatientExtras", "Date", "Administration", "Technician",
-                                          "Equipment", "RecordingExtras")}
+PARTS = {f"spelled.{variant}" for variant in VARIANTS if variant != "Sex"}
 
 CONSTANT = re.compile(r'const (\w+): &str =\s*"((?:[^"\\]|\\.)*)";')
 CALL = re.compile(r"^pub\(crate\) fn (\w+)", re.M)
@@ -199,10 +202,7 @@ def recorded(text):
 
 UNLIT = with_lanes(b"+0\x14\x14\0", LANE_1, LANE_2, LANE_3)
 QUIET = with_lanes(b"+0\x14\x14\0", b"+1\x14\x14\0", LANE_2, LANE_3)
-HIDING = {which: claim_of(BOTH, f'anonymous = ["{which}"]', ALL) for which in (
-    "code", "sex", "birthdate", "name", "patient-extras", "date", "administration", "technician", "equipment",
-    "recording-extras",
-)}
+HIDING = {which: claim_of(BOTH, f'anonymous = ["{which}"]', ALL) for which in rules.SUBFIELDS}
 NAMELESS = patient("MCH-0234567 F 02-MAY-1951 X")
 LONG = "The patient is awake and asks whether it is time to get up"
 ONE_VALUE = with_values([0, 10, 20, 30, 100, 101], [40, 50, 60, 70, 112, 103], [80, 90, 100, 110, 104, 105],
@@ -581,11 +581,7 @@ ANSWERED = [
 ]
 
 # Subfields by the names of their sentences.
-SUBFIELDS = {
-    "Which.Code": "code", "Which.Sex": "sex", "Which.Birthdate": "birthdate", "Which.Name": "name",
-    "Which.PatientExtras": "patient-extras", "Which.Date": "date", "Which.Administration": "administration",
-    "Which.Technician": "technician", "Which.Equipment": "equipment", "Which.RecordingExtras": "recording-extras",
-}
+SUBFIELDS = {f"Which.{variant}": which for variant, which in VARIANTS.items()}
 
 
 # How much there may be of what a fault says there is too much of.
