@@ -51,13 +51,12 @@ def reading():
         f"causes-{group}": columns(table, fault="fault", **faults)
         for group, table in parts_of("causes", "group", ("end", "header", "signal", "record")).items()
     }
-    of_checks = sorted(said["no"], key=lambda no: no["number"])
     of_parts = [row for no in said["no"] for row in no.get("parts", [])]
     drafted = [row for row in as_code("keys", "key") if row["drafted"]]
     return groups | {
         "statuses": columns(rows("statuses"), status="status", says="what it says", where="where the line is printed"),
         "lines-yes": columns(said["yes"]["check"], **FOR_CENTRES),
-        "lines-no": columns([row for no in of_checks for row in no.get("check", [])], **FOR_CENTRES),
+        "lines-no": columns([row for no in said["no"] for row in no.get("check", [])], **FOR_CENTRES),
         "lines-parts": columns(said["yes"]["parts"] + of_parts, **FOR_CENTRES),
         "lines-receipt": columns(said["receipt"], line="line", means="what it means", compares="who can compare it"),
         "lines-draft": columns(
@@ -86,8 +85,7 @@ def claim():
 
 def profile():
     """The tables of docs/PROFILE.md: exactly when a line is the answer, and the limits."""
-    of_checks = sorted(lines()["no"], key=lambda no: no["number"])
-    exact = [row for no in of_checks for row in no.get("exact", [])] + lines()["yes"]["exact"]
+    exact = [row for no in lines()["no"] for row in no.get("exact", [])] + lines()["yes"]["exact"]
     return {
         "lines-exact": columns(exact, line="line", says="says"),
         "limits-file": limits("file"),
@@ -135,7 +133,7 @@ def synopsis():
 
 def manual():
     """The tables of docs/edfclaim.1."""
-    numbers = sorted((no["number"], no["brief"]) for no in lines()["no"])
+    numbers = [(no["number"], no["brief"]) for no in lines()["no"]]
     refused = ", ".join(row["name"] for row in as_code("refused", "name"))
     refusals = [(row["line"], row["means"]) for row in rows("refusals") if row["line"].startswith("`edfclaim: ")]
     return {
