@@ -73,7 +73,7 @@ def first_words(path, body):
 def of_lines():
     """The lines of a NO: the numbers of the definition, the words behind the number, and the kind, which they begin with."""
     path = "edf_verdict/specs/Lines.antt"
-    numbers = {case: int(body) for case, body in cases("edf_verdict/specs/Numbers.antt", "number_of").items()}
+    numbers = {case: int(body) for case, body in cases(path, "number_of").items()}
     found = differing("lines.toml", sorted(no["number"] for no in lines()["no"]), sorted(numbers.values()))
     texts = {numbers[case]: first_words(path, body) for case, body in cases(path, "what_text").items()}
     for no in lines()["no"]:
@@ -139,7 +139,7 @@ def of_parts():
     """Of which lines check-parts says the export that they are about."""
     body = cases("edf_verdict/specs/PartsLines.antt", "is_of_part")
     whole = {case for case, truth in body.items() if truth == "false"}
-    numbers = {case: int(text) for case, text in cases("edf_verdict/specs/Numbers.antt", "number_of").items()}
+    numbers = {case: int(text) for case, text in cases("edf_verdict/specs/Lines.antt", "number_of").items()}
     wanted = sorted(number for case, number in numbers.items() if case not in whole)
     return differing("lines.toml, of_part", sorted(no["number"] for no in lines()["no"] if no["of_part"]), wanted)
 

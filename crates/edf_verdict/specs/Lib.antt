@@ -1,6 +1,5 @@
 pub mod Outcomes
 pub mod Quotes
 pub mod NoteTimes
-pub mod Numbers
 pub mod Lines
 pub mod PartsLines

@@ -1,4 +1,4 @@
--- The line of text of a verdict.
+-- The line of text of a verdict, and the number of a difference in it.
 use Rattle.std.specs.Prelude.{ℕ, ℤ, List, [], ◌∷◌, ◌++◌, Option, codes}
 use Rattle.std.specs.Fmt.{decimal, signed_decimal}
 use Rattle.edf_fields.specs.fields.SubfieldNames.{name_of}
@@ -19,8 +19,22 @@ use Rattle.edf_verdict.specs.declared.verdict.TextField.TheVariants.{Transducer,
 use Rattle.edf_verdict.specs.declared.verdict.Verdict.{Verdict}
 use Rattle.edf_verdict.specs.declared.verdict.Verdict.TheVariants.{Yes, No}
 use Rattle.edf_verdict.specs.NoteTimes.{note_times}
-use Rattle.edf_verdict.specs.Numbers.{number_of}
 use Rattle.edf_verdict.specs.Quotes.{with_quoted}
+
+-- which of the kinds of differences it is
+abbrev pub number_of : Difference → ℕ
+number_of (OriginalFault fault) = 1
+number_of (ExportFault fault) = 2
+number_of (UnknownChannel label) = 3
+number_of (MissingChannel label) = 4
+number_of (ExtraChannel label) = 5
+number_of (ChannelText label field) = 6
+number_of (Calibration label) = 7
+number_of (Subfield which mismatch) = 8
+number_of (NotClean text) = 9
+number_of (Sample label at_ps mismatch) = 10
+number_of (Annotation mismatch onset duration text) = 11
+number_of PartOrder = 12
 
 -- which text of a channel
 abbrev pub field_text : TextField → List ℕ

@@ -6,8 +6,7 @@ use Rattle.edf_verdict.specs.declared.verdict.Difference.{Difference}
 use Rattle.edf_verdict.specs.declared.verdict.Difference.TheVariants.{OriginalFault, UnknownChannel, Sample, Annotation}
 use Rattle.edf_verdict.specs.declared.verdict.Verdict.{Verdict}
 use Rattle.edf_verdict.specs.declared.verdict.Verdict.TheVariants.{Yes, No}
-use Rattle.edf_verdict.specs.Lines.{no_text, what_text}
-use Rattle.edf_verdict.specs.Numbers.{number_of}
+use Rattle.edf_verdict.specs.Lines.{number_of, no_text, what_text}
 
 -- the difference is said of one of the exports, and not of the original, of the claim, or of all exports together
 abbrev pub is_of_part : Difference → Bool

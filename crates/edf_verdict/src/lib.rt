@@ -5,7 +5,6 @@ mod label;
 mod line;
 mod note_text;
 mod note_times;
-mod number;
 mod outcome;
 mod parts_line;
 mod parts_verdict;

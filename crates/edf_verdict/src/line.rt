@@ -1,9 +1,9 @@
-//! The line of text of a verdict.
+//! The line of text of a verdict, and the number of a difference in it.
 
-ghost use Rattle.std.specs.Prelude.{◌≡◌, ◌++◌, Some, IfOk, OnOk};
+ghost use Rattle.std.specs.Prelude.{◌≡◌, ◌≤◌, ◌++◌, Some, IfOk, OnOk};
 ghost use Rattle.edf_fields.specs.FaultTexts.{fault_text};
 ghost use Rattle.edf_verdict.specs.Quotes.{with_quoted};
-ghost use Rattle.edf_verdict.specs.Lines.{field_text, channel_text, subfield_mismatch_text, subfield_text, not_clean_text, sample_mismatch_text, moment_text, sample_text, note_mismatch_text, note_words, counts_text, what_text, no_text, difference_text, verdict_text, verdict_line};
+ghost use Rattle.edf_verdict.specs.Lines.{number_of, field_text, channel_text, subfield_mismatch_text, subfield_text, not_clean_text, sample_mismatch_text, moment_text, sample_text, note_mismatch_text, note_words, counts_text, what_text, no_text, difference_text, verdict_text, verdict_line};
 
 use crate::label::Label;
 use crate::note_text::NoteText;
@@ -219,6 +219,27 @@ pub(crate) fn push_no(line: &mut Vec<u8>, alloc: Global, number: u8) -> Result<(
 }
 
 impl Difference {
+    /// Its number in the line of a No: which of the kinds of differences it is, from 1 to 12.
+    pub fn number(&self) -> u8
+        ensures value { result ≡ number_of self.now }
+        ensures small { result ≤ 12 }
+    {
+        match self {
+            Difference::OriginalFault(_) => 1,
+            Difference::ExportFault(_) => 2,
+            Difference::UnknownChannel(_) => 3,
+            Difference::MissingChannel(_) => 4,
+            Difference::ExtraChannel(_) => 5,
+            Difference::ChannelText(_, _) => 6,
+            Difference::Calibration(_) => 7,
+            Difference::Subfield(_, _) => 8,
+            Difference::NotClean(_) => 9,
+            Difference::Sample { .. } => 10,
+            Difference::Annotation { .. } => 11,
+            Difference::PartOrder => 12,
+        }
+    }
+
     /// Puts the kind of the difference and what it is about behind the line.
     pub(crate) fn push_what(&self, line: &mut Vec<u8>, alloc: Global) -> Result<(), AllocError>
         ensures { OnOk result (line.new.items ≡ line.old.items ++ what_text self.now) }

@@ -2,7 +2,7 @@
 use Rattle.std.specs.Prelude.{◌≡◌, ℕ, ◌+◌, ◌<◌, ◌≤◌, ◌⊎◌, List, None, Some, slice_get}
 use Rattle.edf_check.specs.Words.{Terms, Fault, Head, head_of, IsHeadVerdict, file_fault, Verdict}
 use Rattle.edf_verdict.specs.declared.verdict.Verdict.TheVariants.{Yes, No}
-use Rattle.edf_verdict.specs.Numbers.{number_of}
+use Rattle.edf_verdict.specs.Lines.{number_of}
 
 -- the part of this number is the file
 pub record IsPart (first : ℕ) (parts : List (List ℕ)) (part at : ℕ) (file : List ℕ) : Type 0 where
