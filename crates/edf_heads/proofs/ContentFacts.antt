@@ -18,18 +18,15 @@ use Rattle.edf_heads.specs.differences.BlankDifference.{HasFreeText, IsFirstWith
 use Rattle.edf_heads.specs.Calibrations.{HaveSameCalibration, SameCalibrations}
 use Rattle.edf_heads.specs.Channels.{AreAlike}
 use Rattle.edf_heads.specs.differences.ChannelDifferences.{AreUnlike, IsFirstUnlike}
-use Rattle.edf_heads.specs.Comparisons.{channel_of, Claimed, Compared, claimed_of, claimed_view, IsComparison, text_difference_of, first_text_difference, is_same_line, has_other_calibration, of_both, has_text, HasNoFreeText, is_blank_signal, breaks, Breaks, Keep}
+use Rattle.edf_heads.specs.Comparisons.{channel_of, claimed_of, claimed_view, IsComparison, text_difference_of, first_text_difference, is_same_line, has_other_calibration, of_both, has_text, HasNoFreeText, is_blank_signal}
 use Rattle.edf_heads.specs.Firsts.{IsFirstWith}
 use Rattle.edf_heads.specs.ChannelTexts.{HaveSameText, HaveSameTexts, SameTexts}
 use Rattle.edf_heads.specs.differences.TextDifference.{IsFirstText, IsTextDifference}
 use Rattle.edf_heads.specs.declared.channels.ClaimedChannel.{ClaimedChannel}
-use Rattle.edf_heads.specs.declared.rules.ChannelRule.{ChannelRule}
-use Rattle.edf_heads.specs.declared.rules.ChannelRule.TheVariants.{Known, Exported, Calibrated, Clean}
 use Rattle.edf_heads.specs.declared.channel_texts.TextDifference.{TextDifference}
 use Rattle.edf_verdict.specs.declared.verdict.TextField.{TextField}
 use Rattle.edf_verdict.specs.declared.verdict.TextField.TheVariants.{Transducer, Prefilter}
 use Rattle.edf_heads.proofs.ChannelFacts.{one-channel, channel-some, channel-none, channel-is}
-use Rattle.edf_heads.proofs.ComparisonFacts.{absent-first, find-claimed, said-of}
 use Rattle.edf_heads.proofs.ListFacts.{first-found}
 
 -- ---- the two channels of a label
@@ -50,7 +47,7 @@ not-left Alike o e l none u v c d = absurd (channel-none o l none (u, c))
 not-right : (Alike : SignalHead → SignalHead → Type 0) (o e : Head) (l : List ℕ) → channel_of l e.signals ≡ None → AreAlike Alike o e l
 not-right Alike o e l none u v c d = absurd (channel-none e l none (v, d))
 
-differ-tested : (Alike : SignalHead → SignalHead → Type 0) (test : SignalHead → SignalHead → Bool) (o e : Head) (l : List ℕ) → ((x y : SignalHead) → test x y ≡ true → Alike x y → ⊥)
+pub differ-tested : (Alike : SignalHead → SignalHead → Type 0) (test : SignalHead → SignalHead → Bool) (o e : Head) (l : List ℕ) → ((x y : SignalHead) → test x y ≡ true → Alike x y → ⊥)
     → of_both test (channel_of l o.signals) (channel_of l e.signals) ≡ true → AreUnlike Alike o e l
 differ-tested Alike test o e l unlike t = tested-case (channel_of l o.signals) (channel_of l e.signals) refl refl t
   where
@@ -59,7 +56,7 @@ differ-tested Alike test o e l unlike t = tested-case (channel_of l o.signals) (
     tested-case (Some x) None there here t = absurd (let f : false ≡ true = t in cc)
     tested-case (Some x) (Some y) there here t = both-differ Alike o e l x y there here (unlike x y t)
 
-alike-tested : (Alike : SignalHead → SignalHead → Type 0) (test : SignalHead → SignalHead → Bool) (o e : Head) (l : List ℕ) → IsSound o → IsSound e → ((x y : SignalHead) → test x y ≡ false → Alike x y)
+pub alike-tested : (Alike : SignalHead → SignalHead → Type 0) (test : SignalHead → SignalHead → Bool) (o e : Head) (l : List ℕ) → IsSound o → IsSound e → ((x y : SignalHead) → test x y ≡ false → Alike x y)
     → of_both test (channel_of l o.signals) (channel_of l e.signals) ≡ false → AreAlike Alike o e l
 alike-tested Alike test o e l so se alike f = tested-case (channel_of l o.signals) (channel_of l e.signals) refl refl f
   where
@@ -129,7 +126,7 @@ texts_said o e claim claimed labels seen r is all found =
 
 -- ---- free text
 
-untrue : (b : Bool) → not b ≡ false → b ≡ true
+pub untrue : (b : Bool) → not b ≡ false → b ≡ true
 untrue true e = refl
 untrue false e = absurd (let f : true ≡ false = e in cc)
 
@@ -233,20 +230,3 @@ calibrations-found o e claim so se =
     (λ l there t. differ-tested HaveSameCalibration has_other_calibration o e l other-calibration t)
     (λ l there f. alike-tested HaveSameCalibration has_other_calibration o e l so se same-calibration f)
     (λ l a d. alike-differ HaveSameCalibration o e l a d)
-
--- ---- the first channel that breaks a rule
-
-rule-found : (rule : ChannelRule) (c : Compared) → IsSound c.original → IsSound c.export
-    → MatchOption (find (λ l. breaks rule (claimed_of c.original.signals c.export.signals l)) c.claim.channels) (Keep rule c) (IsFirstWith (Breaks rule c) c.claim.channels)
-rule-found Known c so se = absent-first c.original c.claim.channels
-rule-found Exported c so se = absent-first c.export c.claim.channels
-rule-found Calibrated c so se = calibrations-found c.original c.export c.claim so se
-rule-found Clean c so se = free-found c.export c.claim se
-
-pub rule_said : (rule : ChannelRule) (c : Compared) (claimed : List ClaimedChannel) (labels : List (Bor (List ℕ))) (seen : List ClaimedChannel) (r : Option (Bor (List ℕ))) → IsComparison c.original c.export c.claim claimed labels → seen ≡ claimed
-    → option_map (λ label. label.now) r ≡ option_map (λ (x : Claimed). x.label) (find (breaks rule) (map claimed_view seen))
-    → MatchOption r (Keep rule c) (λ label. IsFirstWith (Breaks rule c) c.claim.channels label.now)
-rule_said rule c claimed labels seen r is all found =
-    said-of (Keep rule c) (IsFirstWith (Breaks rule c) c.claim.channels) r (find (λ l. breaks rule (claimed_of c.original.signals c.export.signals l)) c.claim.channels)
-    (found ∙ ap (λ cs. option_map (λ (x : Claimed). x.label) (find (breaks rule) cs)) (ap (map claimed_view) all ∙ is.claimed_are) ∙ find-claimed c.original.signals c.export.signals (breaks rule) c.claim.channels)
-    (rule-found rule c is.original_sound is.export_sound)

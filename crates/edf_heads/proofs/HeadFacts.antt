@@ -1,5 +1,5 @@
--- The headers as a whole: they agree, or differ.
-use Rattle.std.proofs.Common.{◌≡◌, ◌≢◌, ◌↔◌, ℕ, suc, Bool, true, false, not, cond, List, [], ◌∷◌, map, Bor, Option, Some, None, MatchOption, refl, sym, ap, ◌∙◌, subst, arith}
+-- The labels of the channels of a header, its free text, and channels that are alike in two headers.
+use Rattle.std.proofs.Common.{◌≡◌, ◌≢◌, ℕ, suc, Bool, true, false, not, cond, List, [], ◌∷◌, map, Bor, Option, Some, None, MatchOption, refl, sym, ap, ◌∙◌, subst, arith}
 use Rattle.std.proofs.lemmas.List.Sorted.{IsPermutation-sym}
 use Rattle.edf_fields.specs.Lists.{Has, is_one_of}
 use Rattle.edf_fields.specs.Distinct.{AreDistinct}
@@ -10,19 +10,9 @@ use Rattle.edf_header.specs.Sound.{IsSound}
 use Rattle.edf_claim.specs.Claims.{IsClaim}
 use Rattle.edf_claim.specs.Terms.{Terms}
 use Rattle.edf_heads.specs.Blank.{IsBlankHeader, IsBlank}
-use Rattle.edf_heads.specs.differences.BlankDifference.{HasFreeText}
-use Rattle.edf_heads.specs.Calibrations.{HaveSameCalibration}
 use Rattle.edf_heads.specs.Channels.{HasChannel, HasAll, SameChannels, AllAlike}
-use Rattle.edf_heads.specs.differences.ChannelDifferences.{HasNoChannel, IsLeastExtra, AreUnlike, IsFirstUnlike}
+use Rattle.edf_heads.specs.differences.ChannelDifferences.{IsLeastExtra, AreUnlike, IsFirstUnlike}
 use Rattle.edf_heads.specs.Comparisons.{HasNoExtra, HasOnly, HasNoFreeText}
-use Rattle.edf_heads.specs.HeadVerdicts.{HeadsAgree, SignalsAgree, IsHeadVerdict}
-use Rattle.edf_heads.specs.Subfields.{IsAsClaimed, SubfieldsAsClaimed}
-use Rattle.edf_fields.specs.fields.SubfieldNamesReading.{all_subfields}
-use Rattle.edf_heads.specs.ChannelTexts.{HaveSameTexts}
-use Rattle.edf_verdict.specs.declared.verdict.Verdict.{Verdict}
-use Rattle.edf_verdict.specs.declared.verdict.Verdict.TheVariants.{No}
-use Rattle.edf_verdict.specs.declared.verdict.Difference.TheVariants as differences
-use Rattle.edf_verdict.specs.declared.verdict.FreeText.TheVariants.{Header, Channel}
 use Rattle.edf_heads.proofs.ContentFacts.{alike-differ}
 use Rattle.edf_heads.proofs.ListFacts.{first-has, same-members}
 
@@ -95,50 +85,15 @@ empty-unless : (xs : List ℕ) → (xs ≢ [] → ⊥) → xs ≡ []
 empty-unless [] h = refl
 empty-unless (x ∷ xs) h = absurd (h (λ e. let f : x ∷ xs ≡ [] = e in cc))
 
-is_blank : (o e : Head) (claim : Terms) → SameChannels o e claim → IsBlankHeader e → HasNoFreeText e claim → IsBlank e
+pub is_blank : (o e : Head) (claim : Terms) → SameChannels o e claim → IsBlankHeader e → HasNoFreeText e claim → IsBlank e
 is_blank o e claim same blank none = record {
   header = blank;
   channels = λ l x c. empty-unless x.reserved (λ text. none l (claimed-in o e claim same l (x, c)) (x, c, text));
 }
 
-pub heads_agree : (o e : Head) (claim : Terms) → SignalsAgree o e claim → SubfieldsAsClaimed o e claim → IsBlankHeader e → HasNoFreeText e claim → HeadsAgree o e claim
-heads_agree o e claim agree subfields blank none = record {
-  channels = agree.channels;
-  texts = agree.texts;
-  calibrations = agree.calibrations;
-  subfields = subfields;
-  blank = is_blank o e claim agree.channels blank none;
-}
-
--- ---- no verdict applies where the headers agree
+-- ---- channels that are alike
 
 pub unlike-alike : (Alike : SignalHead → SignalHead → Type 0) (o e : Head) (claim : Terms) (l : List ℕ) → AllAlike Alike o e claim → IsFirstUnlike Alike o e claim l → ⊥
 unlike-alike Alike o e claim l all first =
     let r = first-has (AreUnlike Alike o e) claim.channels l first in
     alike-differ Alike o e l (all l r.0) r.1
-
-pub agree-apart : (o e : Head) (claim : Terms) (v : Verdict) → IsHeadVerdict o e claim v → HeadsAgree o e claim → ⊥
-agree-apart o e claim (No (differences.UnknownChannel label)) v h =
-    let r = first-has (HasNoChannel o) claim.channels label v in
-    r.1 (h.channels.in_original label r.0)
-agree-apart o e claim (No (differences.MissingChannel label)) v h =
-    let r = first-has (HasNoChannel e) claim.channels label v.1 in
-    r.1 (in-export o e claim h.channels label r.0)
-agree-apart o e claim (No (differences.ExtraChannel label)) v h =
-    let x = (v.2).extra in
-    x.unclaimed (claimed-in o e claim h.channels label x.there)
-agree-apart o e claim (No (differences.ChannelText label field)) v h = unlike-alike HaveSameTexts o e claim label h.texts (v.1).channel
-agree-apart o e claim (No (differences.Calibration label)) v h = unlike-alike HaveSameCalibration o e claim label h.calibrations v.2
-agree-apart o e claim (No (differences.Subfield which mismatch)) v h =
-    let r = first-has (λ w. IsAsClaimed o e claim w → ⊥) all_subfields which (v.1).subfield in
-    r.1 (h.subfields which)
-agree-apart o e claim (No (differences.NotClean Header)) v h = v.2 h.blank.header
-agree-apart o e claim (No (differences.NotClean (Channel label))) v h =
-    let r = first-has (HasFreeText e) claim.channels label v.3 in
-    (r.1).2 (h.blank.channels label (r.1).0 (r.1).1)
-agree-apart o e claim w v h = v
-
--- none is answered exactly where the headers agree
-pub agree_or_differ : (o e : Head) (claim : Terms) (found : Option Verdict) → MatchOption found (HeadsAgree o e claim) (IsHeadVerdict o e claim) → (found ≡ None) ↔ HeadsAgree o e claim
-agree_or_differ o e claim None h = (λ q. h, λ q. refl)
-agree_or_differ o e claim (Some v) h = (λ q. absurd (let f : Some v ≡ None = q in cc), λ agree. absurd (agree-apart o e claim v h agree))

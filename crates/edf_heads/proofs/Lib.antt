@@ -9,4 +9,5 @@ pub mod SubfieldFacts
 pub mod OneHeadFacts
 pub mod SomeHeadFacts
 pub mod SameHeadFacts
+pub mod KindFacts
 pub mod ForCallers

@@ -1,4 +1,4 @@
--- Headers that say the same agree, or differ first, in the same way under every claim.
+-- What holds of headers holds of headers that say the same.
 use Rattle.std.proofs.Common.{◌≡◌, ◌↔◌, ℕ, List, [], ◌∷◌, inl, inr, ⊎_elim, refl, sym, ◌∙◌, subst}
 use Rattle.std.specs.List.{All}
 use Rattle.std.proofs.lemmas.List.Elements.{All-head, All-tail}
@@ -8,7 +8,6 @@ use Rattle.edf_fields.specs.declared.fields.which.Which.{Which}
 use Rattle.edf_fields.specs.declared.fields.which.Which.TheVariants.{PatientExtras, Date, RecordingExtras}
 use Rattle.edf_fields.specs.texts.Identifications.{Patient, Recording}
 use Rattle.edf_fields.specs.Lists.{Has}
-use Rattle.edf_fields.specs.fields.SubfieldNamesReading.{all_subfields}
 use Rattle.edf_fields.proofs.ForCallers.{has-permutation}
 use Rattle.edf_header.specs.signals.Calibrations.{AreExtremes}
 use Rattle.edf_header.specs.signals.Channels.{channel_labels}
@@ -16,10 +15,6 @@ use Rattle.edf_header.specs.Heads.{SignalHead, Head}
 use Rattle.edf_header.specs.Sound.{IsSound}
 use Rattle.edf_header.specs.Standard.{IsSoundSignal}
 use Rattle.edf_header.proofs.ForCallers.{same_line_is_equivalence}
-use Rattle.edf_verdict.specs.declared.verdict.Verdict.{Verdict}
-use Rattle.edf_verdict.specs.declared.verdict.Verdict.TheVariants.{No}
-use Rattle.edf_verdict.specs.declared.verdict.Difference.TheVariants as differences
-use Rattle.edf_verdict.specs.declared.verdict.FreeText.TheVariants.{Header, Channel}
 use Rattle.edf_verdict.specs.declared.verdict.TextField.{TextField}
 use Rattle.edf_verdict.specs.declared.verdict.TextField.TheVariants.{Transducer, Prefilter}
 use Rattle.edf_heads.specs.differences.BlankDifference.{HasFreeText}
@@ -28,7 +23,6 @@ use Rattle.edf_heads.specs.Channels.{IsChannelOf, HasChannel, HasAll, SameChanne
 use Rattle.edf_heads.specs.differences.ChannelDifferences.{HasNoChannel, IsExtra, AreUnlike, IsFirstUnlike}
 use Rattle.edf_heads.specs.Comparisons.{IsAnonymous, IsUnchanged}
 use Rattle.edf_heads.specs.Firsts.{IsFirstWith}
-use Rattle.edf_heads.specs.HeadVerdicts.{HeadsAgree, SignalsAgree, IsHeadVerdict}
 use Rattle.edf_heads.specs.SameHeads.{AreSameChannels, AreSameRecordings, AreSameHeads, AreBlankAlike}
 use Rattle.edf_heads.specs.Subfields.{IsX, AreAllX, IsAsClaimed}
 use Rattle.edf_heads.specs.ChannelTexts.{HaveSameText, HaveSameTexts}
@@ -82,7 +76,7 @@ blank-alike-self h sound = record {
 
 -- ---- channels
 
-there : (h g : Head) → AreSameHeads h g → (l : List ℕ) → HasChannel h l → HasChannel g l
+pub there : (h g : Head) → AreSameHeads h g → (l : List ℕ) → HasChannel h l → HasChannel g l
 there h g s l c = label-has g l (has-permutation (channel_labels h.signals) (channel_labels g.signals) l s.channels (has-label h l c))
 
 sound-channel : (h : Head) (l : List ℕ) (x : SignalHead) → IsSound h → IsChannelOf h l x → AreExtremes x.calibration
@@ -104,7 +98,7 @@ pub record AreSamePairs (o e o' e' : Head) : Type 0 where
   pub other_original_sound : IsSound o'
   pub other_export_sound : IsSound e'
 
-pairs-back : (o e o' e' : Head) → AreSamePairs o e o' e' → AreSamePairs o' e' o e
+pub pairs-back : (o e o' e' : Head) → AreSamePairs o e o' e' → AreSamePairs o' e' o e
 pairs-back o e o' e' s = record {
   original = same-heads-back o o' s.original;
   export = same-heads-back e e' s.export;
@@ -114,23 +108,23 @@ pairs-back o e o' e' s = record {
   other_export_sound = s.export_sound;
 }
 
-first-carried : {X : Type 0} (P Q : X → Type 0) → ((x : X) → P x → Q x) → ((x : X) → Q x → P x) → (xs : List X) (x : X) → IsFirstWith P xs x → IsFirstWith Q xs x
+pub first-carried : {X : Type 0} (P Q : X → Type 0) → ((x : X) → P x → Q x) → ((x : X) → Q x → P x) → (xs : List X) (x : X) → IsFirstWith P xs x → IsFirstWith Q xs x
 first-carried P Q there back [] x h = h
 first-carried P Q there back (y ∷ ys) x (inl h) = inl (h.0, there y h.1)
 first-carried P Q there back (y ∷ ys) x (inr h) = inr ((λ q. h.0 (back y q)), first-carried P Q there back ys x h.1)
 
 -- what holds of a channel of the one and one of the other holds of those in their places
-abbrev Carries : (SignalHead → SignalHead → Type 0) → Type 0
+abbrev pub Carries : (SignalHead → SignalHead → Type 0) → Type 0
 Carries Alike = (x y x' y' : SignalHead) → AreExtremes x.calibration → AreExtremes y.calibration → AreSameChannels x x' → AreSameChannels y y' → Alike x y → Alike x' y'
 
 text-carried : (field : TextField) → Carries (HaveSameText field)
 text-carried Transducer x y x' y' ex ey s r h = sym s.transducer ∙ h ∙ r.transducer
 text-carried Prefilter x y x' y' ex ey s r h = sym s.prefilter ∙ h ∙ r.prefilter
 
-texts-carried : Carries HaveSameTexts
+pub texts-carried : Carries HaveSameTexts
 texts-carried x y x' y' ex ey s r h = (text-carried Transducer x y x' y' ex ey s r h.0, text-carried Prefilter x y x' y' ex ey s r h.1)
 
-calibration-carried : Carries HaveSameCalibration
+pub calibration-carried : Carries HaveSameCalibration
 calibration-carried x y x' y' ex ey s r h =
     let through = same_line_is_equivalence.2 in
     record {
@@ -160,35 +154,28 @@ unlike-carried Alike carries o e o' e' s l u =
           (same-line-back x c.0 (s.original.alike l x c.0 u.2 c.1)) (same-line-back y d.0 (s.export.alike l y d.0 u.3 d.1)) h),
     )
 
-first-unlike-carried : (Alike : SignalHead → SignalHead → Type 0) → Carries Alike → (o e o' e' : Head) → AreSamePairs o e o' e' → (c : Terms) (l : List ℕ) → IsFirstUnlike Alike o e c l → IsFirstUnlike Alike o' e' c l
+pub first-unlike-carried : (Alike : SignalHead → SignalHead → Type 0) → Carries Alike → (o e o' e' : Head) → AreSamePairs o e o' e' → (c : Terms) (l : List ℕ) → IsFirstUnlike Alike o e c l → IsFirstUnlike Alike o' e' c l
 first-unlike-carried Alike carries o e o' e' s c l h =
     first-carried (AreUnlike Alike o e) (AreUnlike Alike o' e') (unlike-carried Alike carries o e o' e' s) (unlike-carried Alike carries o' e' o e (pairs-back o e o' e' s)) c.channels l h
 
-all-alike-carried : (Alike : SignalHead → SignalHead → Type 0) → Carries Alike → (o e o' e' : Head) → AreSamePairs o e o' e' → (c : Terms) → AllAlike Alike o e c → AllAlike Alike o' e' c
+pub all-alike-carried : (Alike : SignalHead → SignalHead → Type 0) → Carries Alike → (o e o' e' : Head) → AreSamePairs o e o' e' → (c : Terms) → AllAlike Alike o e c → AllAlike Alike o' e' c
 all-alike-carried Alike carries o e o' e' s c all l i = alike-carried Alike carries o e o' e' s l (all l i)
 
-all-there : (h g : Head) → AreSameHeads h g → (ls : List (List ℕ)) → HasAll h ls → HasAll g ls
+pub all-there : (h g : Head) → AreSameHeads h g → (ls : List (List ℕ)) → HasAll h ls → HasAll g ls
 all-there h g s ls all l i = there h g s l (all l i)
 
-same-channels-carried : (o e o' e' : Head) → AreSamePairs o e o' e' → (c : Terms) → SameChannels o e c → SameChannels o' e' c
+pub same-channels-carried : (o e o' e' : Head) → AreSamePairs o e o' e' → (c : Terms) → SameChannels o e c → SameChannels o' e' c
 same-channels-carried o e o' e' s c h = record {
   in_original = all-there o o' s.original c.channels h.in_original;
   in_export = IsPermutation-trans c.channels (channel_labels e.signals) (channel_labels e'.signals) h.in_export s.export.channels;
 }
 
-first-nowhere-carried : (h g : Head) → AreSameHeads h g → (ls : List (List ℕ)) (l : List ℕ) → IsFirstWith (HasNoChannel h) ls l → IsFirstWith (HasNoChannel g) ls l
+pub first-nowhere-carried : (h g : Head) → AreSameHeads h g → (ls : List (List ℕ)) (l : List ℕ) → IsFirstWith (HasNoChannel h) ls l → IsFirstWith (HasNoChannel g) ls l
 first-nowhere-carried h g s ls l first =
     first-carried (HasNoChannel h) (HasNoChannel g) (λ m none c. none (there g h (same-heads-back h g s) m c)) (λ m none c. none (there h g s m c)) ls l first
 
-extra-carried : (h g : Head) → AreSameHeads h g → (ls : List (List ℕ)) (l : List ℕ) → IsExtra h ls l → IsExtra g ls l
+pub extra-carried : (h g : Head) → AreSameHeads h g → (ls : List (List ℕ)) (l : List ℕ) → IsExtra h ls l → IsExtra g ls l
 extra-carried h g s ls l x = record { there = there h g s l x.there; unclaimed = x.unclaimed }
-
-signals-carried : (o e o' e' : Head) → AreSamePairs o e o' e' → (c : Terms) → SignalsAgree o e c → SignalsAgree o' e' c
-signals-carried o e o' e' s c h = record {
-  channels = same-channels-carried o e o' e' s c h.channels;
-  texts = all-alike-carried HaveSameTexts texts-carried o e o' e' s c h.texts;
-  calibrations = all-alike-carried HaveSameCalibration calibration-carried o e o' e' s c h.calibrations;
-}
 
 -- ---- subfields
 
@@ -208,83 +195,23 @@ unchanged-carried o e o' e' s r Date h = (
 )
 unchanged-carried o e o' e' s r w h = cc
 
-claimed-carried : (o e o' e' : Head) → AreSamePairs o e o' e' → (c : Terms) (w : Which) → IsAsClaimed o e c w → IsAsClaimed o' e' c w
+pub claimed-carried : (o e o' e' : Head) → AreSamePairs o e o' e' → (c : Terms) (w : Which) → IsAsClaimed o e c w → IsAsClaimed o' e' c w
 claimed-carried o e o' e' s c w h =
     let by = of-claimed o e c w h in
     to-claimed o' e' c w (record { claimed = λ i. anonymous-carried e e' s.export w (by.claimed i); unclaimed = λ n. unchanged-carried o e o' e' s.original s.export w (by.unclaimed n) })
 
 -- ---- free text
 
-free-carried : (h g : Head) → AreSameHeads h g → AreBlankAlike h g → (l : List ℕ) → HasFreeText h l → HasFreeText g l
+pub free-carried : (h g : Head) → AreSameHeads h g → AreBlankAlike h g → (l : List ℕ) → HasFreeText h l → HasFreeText g l
 free-carried h g s b l f =
     let c = there h g s l (f.0, f.1) in
     (c.0, c.1, λ e. f.2 ((b.channels l f.0 c.0 f.1 c.1).1 e))
 
--- ---- the headers as a whole
+-- ---- the first text that differs
 
-pub agree_carried : (o e o' e' : Head) → AreSamePairs o e o' e' → AreBlankAlike e e' → (c : Terms) → HeadsAgree o e c → HeadsAgree o' e' c
-agree_carried o e o' e' s b c h =
-    let signals = signals-carried o e o' e' s c (record { channels = h.channels; texts = h.texts; calibrations = h.calibrations }) in
-    record {
-      channels = signals.channels;
-      texts = signals.texts;
-      calibrations = signals.calibrations;
-      subfields = λ w. claimed-carried o e o' e' s c w (h.subfields w);
-      blank = record {
-        header = b.header.0 h.blank.header;
-        channels = λ l y' cy'.
-            let d = there e' e (same-heads-back e e' s.export) l (y', cy') in
-            (b.channels l d.0 y' d.1 cy').0 (h.blank.channels l d.0 d.1);
-      };
-    }
-
-text-first-carried : (o e o' e' : Head) → AreSamePairs o e o' e' → (l : List ℕ) (field : TextField) → IsFirstText o e l field → IsFirstText o' e' l field
+pub text-first-carried : (o e o' e' : Head) → AreSamePairs o e o' e' → (l : List ℕ) (field : TextField) → IsFirstText o e l field → IsFirstText o' e' l field
 text-first-carried o e o' e' s l Transducer h = unlike-carried (HaveSameText Transducer) (text-carried Transducer) o e o' e' s l h
 text-first-carried o e o' e' s l Prefilter h = (
   alike-carried (HaveSameText Transducer) (text-carried Transducer) o e o' e' s l h.0,
   unlike-carried (HaveSameText Prefilter) (text-carried Prefilter) o e o' e' s l h.1,
 )
-
-pub head_verdict_carried : (o e o' e' : Head) → AreSamePairs o e o' e' → AreBlankAlike e e' → (c : Terms) (v : Verdict) → IsHeadVerdict o e c v → IsHeadVerdict o' e' c v
-head_verdict_carried o e o' e' s b c (No (differences.UnknownChannel l)) h = first-nowhere-carried o o' s.original c.channels l h
-head_verdict_carried o e o' e' s b c (No (differences.MissingChannel l)) h = (all-there o o' s.original c.channels h.0, first-nowhere-carried e e' s.export c.channels l h.1)
-head_verdict_carried o e o' e' s b c (No (differences.ExtraChannel l)) h = (
-  all-there o o' s.original c.channels h.0,
-  all-there e e' s.export c.channels h.1,
-  record {
-    extra = extra-carried e e' s.export c.channels l (h.2).extra;
-    least = λ m x. (h.2).least m (extra-carried e' e (same-heads-back e e' s.export) c.channels m x);
-  },
-)
-head_verdict_carried o e o' e' s b c (No (differences.ChannelText l field)) h = (
-  same-channels-carried o e o' e' s c h.0,
-  record {
-    channel = first-unlike-carried HaveSameTexts texts-carried o e o' e' s c l (h.1).channel;
-    text = text-first-carried o e o' e' s l field (h.1).text;
-  },
-)
-head_verdict_carried o e o' e' s b c (No (differences.Calibration l)) h = (
-  same-channels-carried o e o' e' s c h.0,
-  all-alike-carried HaveSameTexts texts-carried o e o' e' s c h.1,
-  first-unlike-carried HaveSameCalibration calibration-carried o e o' e' s c l h.2,
-)
-head_verdict_carried o e o' e' s b c (No (differences.Subfield w mismatch)) h = (
-  signals-carried o e o' e' s c h.0,
-  record {
-    subfield = first-carried (λ v. IsAsClaimed o e c v → ⊥) (λ v. IsAsClaimed o' e' c v → ⊥)
-        (λ v n i. n (claimed-carried o' e' o e (pairs-back o e o' e' s) c v i)) (λ v n i. n (claimed-carried o e o' e' s c v i)) all_subfields w (h.1).subfield;
-    mismatch_is = (h.1).mismatch_is;
-  },
-)
-head_verdict_carried o e o' e' s b c (No (differences.NotClean Header)) h = (
-  signals-carried o e o' e' s c h.0,
-  λ w. claimed-carried o e o' e' s c w (h.1 w),
-  λ blank. h.2 (b.header.1 blank),
-)
-head_verdict_carried o e o' e' s b c (No (differences.NotClean (Channel l))) h = (
-  signals-carried o e o' e' s c h.0,
-  λ w. claimed-carried o e o' e' s c w (h.1 w),
-  b.header.0 h.2,
-  first-carried (HasFreeText e) (HasFreeText e') (free-carried e e' s.export b) (free-carried e' e (same-heads-back e e' s.export) (blank-alike-back e e' b)) c.channels l h.3,
-)
-head_verdict_carried o e o' e' s b c v h = absurd h

@@ -1,4 +1,4 @@
--- What a comparison of two headers holds: the channels of each claimed label, found once. These are steps between the definitions and the code.
+-- What a comparison of two headers holds: the channels of each claimed label, found once; and a difference as the code holds it. These are steps between the definitions and the code.
 use Rattle.std.specs.Prelude.{◌≡◌, ◌↔◌, ℕ, ◌==◌, Bool, true, false, not, ◌&&◌, ◌||◌, List, [], ◌∷◌, length, map, find, Option, None, Some, option_map, is_none, MatchOption, ◌*ℤ◌, codes, if◌then◌else◌}
 use Rattle.std.specs.Borrow.{Bor}
 use Rattle.std.specs.Cmp.Lexicographic.{slice_cmp}
@@ -23,10 +23,17 @@ use Rattle.edf_heads.specs.differences.ChannelDifferences.{HasNoChannel, IsExtra
 use Rattle.edf_heads.specs.Firsts.{IsFirstWith}
 use Rattle.edf_heads.specs.Subfields.{IsX, AreAllX, IsAsClaimed}
 use Rattle.edf_heads.specs.differences.SubfieldDifference.{IsMismatch}
+use Rattle.edf_heads.specs.HeadVerdicts.{IsHeadVerdict}
 use Rattle.edf_heads.specs.declared.channels.ClaimedChannel.{ClaimedChannel}
+use Rattle.edf_heads.specs.declared.heads.HeadDifference.{HeadDifference}
+use Rattle.edf_heads.specs.declared.heads.HeadDifference.TheVariants as heads
 use Rattle.edf_heads.specs.declared.rules.ChannelRule.{ChannelRule}
 use Rattle.edf_heads.specs.declared.rules.ChannelRule.TheVariants.{Known, Exported, Calibrated, Clean}
 use Rattle.edf_heads.specs.declared.subfields.SubfieldDifference.{SubfieldDifference}
+use Rattle.edf_verdict.specs.declared.verdict.Difference.{Difference}
+use Rattle.edf_verdict.specs.declared.verdict.Difference.TheVariants.{UnknownChannel, MissingChannel, ExtraChannel, ChannelText, Calibration, Subfield, NotClean}
+use Rattle.edf_verdict.specs.declared.verdict.FreeText.TheVariants.{Header, Channel}
+use Rattle.edf_verdict.specs.declared.verdict.Verdict.TheVariants.{No}
 use Rattle.edf_verdict.specs.declared.verdict.TextField.{TextField}
 use Rattle.edf_verdict.specs.declared.verdict.TextField.TheVariants.{Transducer, Prefilter}
 
@@ -186,3 +193,18 @@ abbrev pub IsFoundAmong : Head → Head → Terms → List Which → Option Subf
 IsFoundAmong original export claim whiches found =
     MatchOption found ((which : Which) → Has whiches which → IsAsClaimed original export claim which)
     (λ d. IsFirstWith (λ w. IsAsClaimed original export claim w → ⊥) whiches d.which × IsMismatch claim d.which d.mismatch)
+
+-- the difference that the code's value is, in which a label is borrowed
+abbrev pub difference_of : HeadDifference → Difference
+difference_of (heads.UnknownChannel label) = UnknownChannel label.now
+difference_of (heads.MissingChannel label) = MissingChannel label.now
+difference_of (heads.ExtraChannel label) = ExtraChannel label.now
+difference_of (heads.ChannelText label field) = ChannelText label.now field
+difference_of (heads.Calibration label) = Calibration label.now
+difference_of (heads.Subfield which mismatch) = Subfield which mismatch
+difference_of heads.FreeTextInHeader = NotClean Header
+difference_of (heads.FreeTextInChannel label) = NotClean (Channel label.now)
+
+-- it is the first difference of the headers
+abbrev pub IsHeadDifference : Head → Head → Terms → HeadDifference → Type 0
+IsHeadDifference original export claim difference = IsHeadVerdict original export claim (No (difference_of difference))

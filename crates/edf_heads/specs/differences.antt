@@ -2,4 +2,3 @@ pub mod BlankDifference
 pub mod ChannelDifferences
 pub mod SubfieldDifference
 pub mod TextDifference
-pub mod HeadDifferences

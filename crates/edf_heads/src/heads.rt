@@ -2,7 +2,7 @@
 
 ghost use Rattle.std.specs.Prelude.{◌≡◌, ◌↔◌, None, IfOk, IfSome, MatchOption};
 ghost use Rattle.edf_heads.specs.Channels.{SameChannels};
-ghost use Rattle.edf_heads.specs.differences.HeadDifferences.{difference_of, IsHeadDifference};
+ghost use Rattle.edf_heads.specs.Comparisons.{difference_of, IsHeadDifference};
 ghost use Rattle.edf_heads.specs.HeadVerdicts.{HeadsAgree, SignalsAgree, IsHeadVerdict};
 
 use crate::channel_texts::TextDifference;
@@ -148,7 +148,7 @@ impl<'a> Comparison<'a> {
 ///
 /// What needs the samples or the annotations isn't compared. The time grows as the count of channels and
 /// labels times its logarithm. The error is want of memory.
-#[tactic(auto, using(crate::proofs::HeadFacts::agree_or_differ))]
+#[tactic(auto, using(crate::proofs::KindFacts::none_or_differ))]
 pub fn head_difference(
     alloc: Global,
     original: &Header,

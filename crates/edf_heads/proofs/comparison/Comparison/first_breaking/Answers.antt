@@ -1,7 +1,7 @@
 use Rattle.std.proofs.Common.{subst, MatchOption}
 use Rattle.edf_heads.specs.Comparisons.{Compared, Breaks, Keep}
 use Rattle.edf_heads.specs.Firsts.{IsFirstWith}
-use Rattle.edf_heads.proofs.ContentFacts.{rule_said}
+use Rattle.edf_heads.proofs.KindFacts.{rule_said}
 use Rattle.edf_heads.proofs.comparison.Comparison.first_breaking.Goals as goal
 
 pub returns : goal.returns

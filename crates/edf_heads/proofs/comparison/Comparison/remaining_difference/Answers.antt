@@ -1,5 +1,5 @@
 use Rattle.std.proofs.Common.{refl}
-use Rattle.edf_heads.proofs.HeadFacts.{heads_agree}
+use Rattle.edf_heads.proofs.KindFacts.{heads_agree}
 use Rattle.edf_heads.proofs.comparison.Comparison.remaining_difference.Goals as goal
 
 pub returns : goal.returns

@@ -1,0 +1,282 @@
+-- The kinds of differences of two headers, in their order. A rule more of two headers is a kind more: here stand its rows, and in
+-- no other file of proofs. Two headers agree or have one first difference, and headers that say the same have the same one.
+use Rattle.std.proofs.Common.{◌≡◌, ◌↔◌, ℕ, Bor, option_map, ap, ◌∙◌, List, map, Option, Some, None, MatchOption, refl, ◌⊎◌, inl, inr, ◌&&◌, ◌==◌, length, find, is_none, ⊎_elim}
+use Rattle.edf_fields.specs.Lists.{Has, is_one_of}
+use Rattle.edf_fields.proofs.ForCallers.{one_of-has, has-one_of}
+use Rattle.edf_header.specs.signals.Channels.{channel_labels}
+use Rattle.edf_header.specs.Heads.{Head}
+use Rattle.edf_header.specs.Sound.{IsSound}
+use Rattle.edf_claim.specs.Claims.{IsClaim}
+use Rattle.edf_claim.specs.Terms.{Terms}
+use Rattle.edf_heads.specs.Blank.{IsBlankHeader}
+use Rattle.edf_heads.specs.differences.BlankDifference.{HasFreeText, IsFirstWithFreeText}
+use Rattle.edf_heads.specs.Calibrations.{HaveSameCalibration, SameCalibrations}
+use Rattle.edf_heads.specs.Channels.{HasAll, SameChannels}
+use Rattle.edf_heads.specs.differences.ChannelDifferences.{HasNoChannel, IsLeastExtra, AreUnlike, IsFirstUnlike}
+use Rattle.edf_heads.specs.Comparisons.{Claimed, Compared, claimed_view, IsComparison, breaks, Breaks, Keep, HasNoFreeText, channel_of, claimed_of, first_text_difference, has_other_calibration, of_both, has_text, is_blank_signal}
+use Rattle.edf_heads.specs.HeadVerdicts.{HeadsAgree, SignalsAgree, IsHeadVerdict}
+use Rattle.edf_heads.specs.Subfields.{IsAsClaimed, SubfieldsAsClaimed}
+use Rattle.edf_fields.specs.fields.SubfieldNamesReading.{all_subfields}
+use Rattle.edf_heads.specs.ChannelTexts.{HaveSameTexts, SameTexts}
+use Rattle.edf_verdict.specs.declared.verdict.Verdict.{Verdict}
+use Rattle.edf_verdict.specs.declared.verdict.Verdict.TheVariants.{No}
+use Rattle.edf_verdict.specs.declared.verdict.FreeText.TheVariants.{Header, Channel}
+use Rattle.edf_heads.proofs.ContentFacts.{texts-found, free-found, blank_decided, calibrations-found}
+use Rattle.edf_heads.proofs.ListFacts.{first-has}
+use Rattle.edf_fields.specs.declared.fields.which.Which.{Which}
+use Rattle.edf_verdict.specs.declared.verdict.TextField.{TextField}
+use Rattle.edf_verdict.specs.declared.verdict.SubfieldMismatch.{SubfieldMismatch}
+use Rattle.edf_verdict.specs.declared.verdict.SubfieldMismatch.TheVariants.{NotX, Changed}
+use Rattle.edf_heads.specs.Firsts.{IsFirstWith}
+use Rattle.edf_heads.specs.differences.SubfieldDifference.{IsSubfieldDifference}
+use Rattle.edf_heads.specs.differences.TextDifference.{IsFirstText, IsTextDifference}
+use Rattle.edf_heads.proofs.LabelFacts.{one-label}
+use Rattle.std.specs.List.{list_all}
+use Rattle.edf_heads.specs.declared.channels.ClaimedChannel.{ClaimedChannel}
+use Rattle.edf_heads.specs.declared.rules.ChannelRule.{ChannelRule}
+use Rattle.edf_heads.specs.declared.rules.ChannelRule.TheVariants.{Known, Exported, Calibrated, Clean}
+use Rattle.edf_heads.proofs.ComparisonFacts.{absent-first, find-claimed, said-of}
+use Rattle.edf_heads.proofs.SubfieldFacts.{has-all}
+use Rattle.edf_heads.specs.SameHeads.{AreBlankAlike}
+use Rattle.edf_verdict.specs.declared.verdict.Difference.TheVariants as differences
+use Rattle.edf_heads.proofs.HeadFacts.{has-label, label-has, has_only, same_channels, in-export, claimed-in, is_blank, unlike-alike}
+use Rattle.edf_heads.proofs.OneHeadFacts.{one-of-first, One, Made, Else, one-made, either-one, one-text, one-subfield, first-apart}
+use Rattle.edf_heads.proofs.SomeHeadFacts.{Decided, tested, found-or-not, all-or-first, LeastOrNone, least-or-none, has-which, is-as-claimed}
+use Rattle.edf_heads.proofs.SameHeadFacts.{same-heads-back, blank-alike-back, there, AreSamePairs, pairs-back, first-carried, texts-carried, calibration-carried, first-unlike-carried, all-alike-carried, all-there, same-channels-carried, first-nowhere-carried, extra-carried, claimed-carried, free-carried, text-first-carried}
+
+-- ---- the first channel that breaks a rule
+
+rule-found : (rule : ChannelRule) (c : Compared) → IsSound c.original → IsSound c.export
+    → MatchOption (find (λ l. breaks rule (claimed_of c.original.signals c.export.signals l)) c.claim.channels) (Keep rule c) (IsFirstWith (Breaks rule c) c.claim.channels)
+rule-found Known c so se = absent-first c.original c.claim.channels
+rule-found Exported c so se = absent-first c.export c.claim.channels
+rule-found Calibrated c so se = calibrations-found c.original c.export c.claim so se
+rule-found Clean c so se = free-found c.export c.claim se
+
+pub rule_said : (rule : ChannelRule) (c : Compared) (claimed : List ClaimedChannel) (labels : List (Bor (List ℕ))) (seen : List ClaimedChannel) (r : Option (Bor (List ℕ))) → IsComparison c.original c.export c.claim claimed labels → seen ≡ claimed
+    → option_map (λ label. label.now) r ≡ option_map (λ (x : Claimed). x.label) (find (breaks rule) (map claimed_view seen))
+    → MatchOption r (Keep rule c) (λ label. IsFirstWith (Breaks rule c) c.claim.channels label.now)
+rule_said rule c claimed labels seen r is all found =
+    said-of (Keep rule c) (IsFirstWith (Breaks rule c) c.claim.channels) r (find (λ l. breaks rule (claimed_of c.original.signals c.export.signals l)) c.claim.channels)
+    (found ∙ ap (λ cs. option_map (λ (x : Claimed). x.label) (find (breaks rule) cs)) (ap (map claimed_view) all ∙ is.claimed_are) ∙ find-claimed c.original.signals c.export.signals (breaks rule) c.claim.channels)
+    (rule-found rule c is.original_sound is.export_sound)
+
+-- ---- the headers agree
+
+pub heads_agree : (o e : Head) (claim : Terms) → SignalsAgree o e claim → SubfieldsAsClaimed o e claim → IsBlankHeader e → HasNoFreeText e claim → HeadsAgree o e claim
+heads_agree o e claim agree subfields blank none = record {
+  channels = agree.channels;
+  texts = agree.texts;
+  calibrations = agree.calibrations;
+  subfields = subfields;
+  blank = is_blank o e claim agree.channels blank none;
+}
+
+-- ---- the kinds of differences of two headers
+
+abbrev FromSubfield : Head → Head → Terms → Verdict → Type 0
+FromSubfield o e c =
+    Else (Made (λ (d : Which × SubfieldMismatch). No (differences.Subfield d.0 d.1)) (λ d. IsSubfieldDifference o e c d.0 d.1)) (SubfieldsAsClaimed o e c)
+    (Else (Made (λ (u : Unit {0}). No (differences.NotClean Header)) (λ u. IsBlankHeader e → ⊥)) (IsBlankHeader e)
+    (Made (λ l. No (differences.NotClean (Channel l))) (IsFirstWithFreeText e c)))
+
+abbrev FromText : Head → Head → Terms → Verdict → Type 0
+FromText o e c =
+    Else (Made (λ (d : List ℕ × TextField). No (differences.ChannelText d.0 d.1)) (λ d. IsTextDifference o e c d.0 d.1)) (SameTexts o e c)
+    (Else (Made (λ l. No (differences.Calibration l)) (IsFirstUnlike HaveSameCalibration o e c)) (SameCalibrations o e c) (FromSubfield o e c))
+
+abbrev FromUnknown : Head → Head → Terms → Verdict → Type 0
+FromUnknown o e c =
+    Else (Made (λ l. No (differences.UnknownChannel l)) (IsFirstWith (HasNoChannel o) c.channels)) (HasAll o c.channels)
+    (Else (Made (λ l. No (differences.MissingChannel l)) (IsFirstWith (HasNoChannel e) c.channels)) (HasAll e c.channels)
+    (Else (Made (λ l. No (differences.ExtraChannel l)) (IsLeastExtra e c.channels)) (SameChannels o e c) (FromText o e c)))
+
+-- each verdict is of its kind, and those before it don't apply
+from-text : (o e : Head) (c : Terms) (v : Verdict) → SameChannels o e c → FromText o e c v → FromUnknown o e c v
+from-text o e c v same kind = inr (same.in_original, inr (in-export o e c same, inr (same, kind)))
+
+from-subfield : (o e : Head) (c : Terms) (v : Verdict) → SignalsAgree o e c → FromSubfield o e c v → FromUnknown o e c v
+from-subfield o e c v agree kind = from-text o e c v agree.channels (inr (agree.texts, inr (agree.calibrations, kind)))
+
+kind-of : (o e : Head) (c : Terms) (v : Verdict) → IsHeadVerdict o e c v → FromUnknown o e c v
+kind-of o e c (No (differences.UnknownChannel l)) h = inl (l, refl, h)
+kind-of o e c (No (differences.MissingChannel l)) h = inr (h.0, inl (l, refl, h.1))
+kind-of o e c (No (differences.ExtraChannel l)) h = inr (h.0, inr (h.1, inl (l, refl, h.2)))
+kind-of o e c (No (differences.ChannelText l field)) h = from-text o e c _ h.0 (inl ((l, field), refl, h.1))
+kind-of o e c (No (differences.Calibration l)) h = from-text o e c _ h.0 (inr (h.1, inl (l, refl, h.2)))
+kind-of o e c (No (differences.Subfield which mismatch)) h = from-subfield o e c _ h.0 (inl ((which, mismatch), refl, h.1))
+kind-of o e c (No (differences.NotClean Header)) h = from-subfield o e c _ h.0 (inr (h.1, inl (tt, refl, h.2)))
+kind-of o e c (No (differences.NotClean (Channel l))) h = from-subfield o e c _ h.0 (inr (h.1, inr (h.2, (l, refl, h.3))))
+kind-of o e c v h = absurd h
+
+-- ---- no verdict applies where the headers agree
+
+pub agree-apart : (o e : Head) (claim : Terms) (v : Verdict) → IsHeadVerdict o e claim v → HeadsAgree o e claim → ⊥
+agree-apart o e claim (No (differences.UnknownChannel label)) v h =
+    let r = first-has (HasNoChannel o) claim.channels label v in
+    r.1 (h.channels.in_original label r.0)
+agree-apart o e claim (No (differences.MissingChannel label)) v h =
+    let r = first-has (HasNoChannel e) claim.channels label v.1 in
+    r.1 (in-export o e claim h.channels label r.0)
+agree-apart o e claim (No (differences.ExtraChannel label)) v h =
+    let x = (v.2).extra in
+    x.unclaimed (claimed-in o e claim h.channels label x.there)
+agree-apart o e claim (No (differences.ChannelText label field)) v h = unlike-alike HaveSameTexts o e claim label h.texts (v.1).channel
+agree-apart o e claim (No (differences.Calibration label)) v h = unlike-alike HaveSameCalibration o e claim label h.calibrations v.2
+agree-apart o e claim (No (differences.Subfield which mismatch)) v h =
+    let r = first-has (λ w. IsAsClaimed o e claim w → ⊥) all_subfields which (v.1).subfield in
+    r.1 (h.subfields which)
+agree-apart o e claim (No (differences.NotClean Header)) v h = v.2 h.blank.header
+agree-apart o e claim (No (differences.NotClean (Channel label))) v h =
+    let r = first-has (HasFreeText e) claim.channels label v.3 in
+    (r.1).2 (h.blank.channels label (r.1).0 (r.1).1)
+agree-apart o e claim w v h = v
+
+-- none is answered exactly where the headers agree
+pub none_or_differ : (o e : Head) (claim : Terms) (found : Option Verdict) → MatchOption found (HeadsAgree o e claim) (IsHeadVerdict o e claim) → (found ≡ None) ↔ HeadsAgree o e claim
+none_or_differ o e claim None h = (λ q. h, λ q. refl)
+none_or_differ o e claim (Some v) h = (λ q. absurd (let f : Some v ≡ None = q in cc), λ agree. absurd (agree-apart o e claim v h agree))
+
+-- ---- two headers have one first difference at most
+
+one-from-text : (o e : Head) (c : Terms) → One (FromText o e c)
+one-from-text o e c =
+    either-one (one-made (one-text o e c)) (λ v x all. unlike-alike HaveSameTexts o e c (x.0).0 all (x.2).channel)
+    (λ texts. either-one (one-made (one-of-first (AreUnlike HaveSameCalibration o e) c.channels)) (λ v x all. unlike-alike HaveSameCalibration o e c x.0 all x.2)
+    (λ calibrations. either-one (one-made (one-subfield o e c)) (λ v x all. let r = first-has (λ w. IsAsClaimed o e c w → ⊥) all_subfields (x.0).0 (x.2).subfield in r.1 (all (x.0).0))
+    (λ subfields. either-one (one-made (λ u v p q. refl)) (λ v x. x.2)
+    (λ blank. one-made (one-of-first (HasFreeText e) c.channels)))))
+
+one-from-unknown : (o e : Head) (c : Terms) → One (FromUnknown o e c)
+one-from-unknown o e c =
+    either-one (one-made (one-of-first (HasNoChannel o) c.channels)) (λ v x. first-apart o c.channels x.0 x.2)
+    (λ there. either-one (one-made (one-of-first (HasNoChannel e) c.channels)) (λ v x. first-apart e c.channels x.0 x.2)
+    (λ here. either-one (one-made (λ l m a b. one-label l m (a.least m b.extra) (b.least l a.extra)))
+    (λ v x same. let a = (x.2).extra in a.unclaimed (claimed-in o e c same x.0 a.there))
+    (λ same. one-from-text o e c)))
+
+pub one_head_verdict : (o e : Head) (c : Terms) (v w : Verdict) → IsHeadVerdict o e c v → IsHeadVerdict o e c w → v ≡ w
+one_head_verdict o e c v w p q = one-from-unknown o e c v w (kind-of o e c v p) (kind-of o e c w q)
+
+-- ---- two sound headers agree, or have a first difference: from the last kind to the first
+
+abbrev pub AgreeOrDiffer : Head → Head → Terms → Type 0
+AgreeOrDiffer o e c = HeadsAgree o e c ⊎ ((v : Verdict) × IsHeadVerdict o e c v)
+
+some-free : (o e : Head) (c : Terms) → IsSound e → SignalsAgree o e c → SubfieldsAsClaimed o e c → IsBlankHeader e → AgreeOrDiffer o e c
+some-free o e c se agree subfields blank =
+    ⊎_elim (λ none. inl (heads_agree o e c agree subfields blank none)) (λ r. inr (No (differences.NotClean (Channel r.0)), (agree, subfields, blank, r.1)))
+    (found-or-not (HasNoFreeText e c) (IsFirstWithFreeText e c) (find (λ l. has_text (channel_of l e.signals)) c.channels) (free-found e c se))
+
+some-header : (o e : Head) (c : Terms) → IsSound e → SignalsAgree o e c → SubfieldsAsClaimed o e c → AgreeOrDiffer o e c
+some-header o e c se agree subfields =
+    let b = (length e.free == 0) && list_all is_blank_signal e.signals in
+    let said = blank_decided e b refl in
+    ⊎_elim (λ blank. some-free o e c se agree subfields blank) (λ text. inr (No (differences.NotClean Header), (agree, subfields, text))) (tested b said.0 said.1)
+
+some-subfield : (o e : Head) (c : Terms) → IsSound e → SignalsAgree o e c → AgreeOrDiffer o e c
+some-subfield o e c se agree = ⊎_elim (λ all. some-header o e c se agree (λ w. all w (has-all w))) (λ r. side r.0 r.1 (has-which c.anonymous r.0)) (all-or-first (IsAsClaimed o e c) (is-as-claimed o e c) all_subfields)
+  where
+    side : (w : Which) → IsFirstWith (λ w. IsAsClaimed o e c w → ⊥) all_subfields w → Decided (Has c.anonymous w) → AgreeOrDiffer o e c
+    side w first (inl there) = inr (No (differences.Subfield w NotX), (agree, record { subfield = first; mismatch_is = there }))
+    side w first (inr out) = inr (No (differences.Subfield w Changed), (agree, record { subfield = first; mismatch_is = out }))
+
+some-calibration : (o e : Head) (c : Terms) → IsSound o → IsSound e → SameChannels o e c → SameTexts o e c → AgreeOrDiffer o e c
+some-calibration o e c so se same texts =
+    ⊎_elim (λ all. some-subfield o e c se (record { channels = same; texts = texts; calibrations = all })) (λ r. inr (No (differences.Calibration r.0), (same, texts, r.1)))
+    (found-or-not (SameCalibrations o e c) (IsFirstUnlike HaveSameCalibration o e c) (find (λ l. of_both has_other_calibration (channel_of l o.signals) (channel_of l e.signals)) c.channels) (calibrations-found o e c so se))
+
+some-text : (o e : Head) (c : Terms) → IsSound o → IsSound e → SameChannels o e c → AgreeOrDiffer o e c
+some-text o e c so se same =
+    ⊎_elim (λ all. some-calibration o e c so se same all) (λ r. inr (No (differences.ChannelText (r.0).0 (r.0).1), (same, record { channel = (r.1).0; text = (r.1).1 })))
+    (found-or-not (SameTexts o e c) (λ d. IsFirstWith (AreUnlike HaveSameTexts o e) c.channels d.0 × IsFirstText o e d.0 d.1) (first_text_difference (map (claimed_of o.signals e.signals) c.channels)) (texts-found o e so se c.channels))
+
+some-extra : (o e : Head) (c : Terms) → IsSound o → IsSound e → IsClaim c → HasAll o c.channels → HasAll e c.channels → AgreeOrDiffer o e c
+some-extra o e c so se is there here =
+    cases (least-or-none (λ l. Has c.channels l → ⊥)
+    (λ l. ⊎_elim (λ h. inr (λ out. out h)) inl (tested (is_one_of c.channels l) (one_of-has c.channels l) (has-one_of c.channels l))) (channel_labels e.signals))
+  where
+    cases : LeastOrNone (λ l. Has c.channels l → ⊥) (channel_labels e.signals) → AgreeOrDiffer o e c
+    cases (inl none) = some-text o e c so se (same_channels o e c there here (has_only e c se is (λ l x. none l (has-label e l x.there) x.unclaimed)))
+    cases (inr r) = inr (
+      No (differences.ExtraChannel r.0),
+      (there, here, record { extra = record { there = label-has e r.0 r.1; unclaimed = r.2 }; least = λ m x. r.3 m (has-label e m x.there) x.unclaimed }),
+    )
+
+all-channels : (h : Head) (ls : List (List ℕ)) → HasAll h ls ⊎ ((l : List ℕ) × IsFirstWith (HasNoChannel h) ls l)
+all-channels h ls = found-or-not (HasAll h ls) (IsFirstWith (HasNoChannel h) ls) (find (λ l. is_none (channel_of l h.signals)) ls) (absent-first h ls)
+
+pub agree_or_differ : (o e : Head) (c : Terms) → IsSound o → IsSound e → IsClaim c → AgreeOrDiffer o e c
+agree_or_differ o e c so se is =
+    ⊎_elim
+    (λ there. ⊎_elim (λ here. some-extra o e c so se is there here) (λ r. inr (No (differences.MissingChannel r.0), (there, r.1))) (all-channels e c.channels))
+    (λ r. inr (No (differences.UnknownChannel r.0), r.1)) (all-channels o c.channels)
+
+-- ---- headers that say the same agree, or differ first, in the same way
+
+signals-carried : (o e o' e' : Head) → AreSamePairs o e o' e' → (c : Terms) → SignalsAgree o e c → SignalsAgree o' e' c
+signals-carried o e o' e' s c h = record {
+  channels = same-channels-carried o e o' e' s c h.channels;
+  texts = all-alike-carried HaveSameTexts texts-carried o e o' e' s c h.texts;
+  calibrations = all-alike-carried HaveSameCalibration calibration-carried o e o' e' s c h.calibrations;
+}
+
+pub agree_carried : (o e o' e' : Head) → AreSamePairs o e o' e' → AreBlankAlike e e' → (c : Terms) → HeadsAgree o e c → HeadsAgree o' e' c
+agree_carried o e o' e' s b c h =
+    let signals = signals-carried o e o' e' s c (record { channels = h.channels; texts = h.texts; calibrations = h.calibrations }) in
+    record {
+      channels = signals.channels;
+      texts = signals.texts;
+      calibrations = signals.calibrations;
+      subfields = λ w. claimed-carried o e o' e' s c w (h.subfields w);
+      blank = record {
+        header = b.header.0 h.blank.header;
+        channels = λ l y' cy'.
+            let d = there e' e (same-heads-back e e' s.export) l (y', cy') in
+            (b.channels l d.0 y' d.1 cy').0 (h.blank.channels l d.0 d.1);
+      };
+    }
+
+pub head_verdict_carried : (o e o' e' : Head) → AreSamePairs o e o' e' → AreBlankAlike e e' → (c : Terms) (v : Verdict) → IsHeadVerdict o e c v → IsHeadVerdict o' e' c v
+head_verdict_carried o e o' e' s b c (No (differences.UnknownChannel l)) h = first-nowhere-carried o o' s.original c.channels l h
+head_verdict_carried o e o' e' s b c (No (differences.MissingChannel l)) h = (all-there o o' s.original c.channels h.0, first-nowhere-carried e e' s.export c.channels l h.1)
+head_verdict_carried o e o' e' s b c (No (differences.ExtraChannel l)) h = (
+  all-there o o' s.original c.channels h.0,
+  all-there e e' s.export c.channels h.1,
+  record {
+    extra = extra-carried e e' s.export c.channels l (h.2).extra;
+    least = λ m x. (h.2).least m (extra-carried e' e (same-heads-back e e' s.export) c.channels m x);
+  },
+)
+head_verdict_carried o e o' e' s b c (No (differences.ChannelText l field)) h = (
+  same-channels-carried o e o' e' s c h.0,
+  record {
+    channel = first-unlike-carried HaveSameTexts texts-carried o e o' e' s c l (h.1).channel;
+    text = text-first-carried o e o' e' s l field (h.1).text;
+  },
+)
+head_verdict_carried o e o' e' s b c (No (differences.Calibration l)) h = (
+  same-channels-carried o e o' e' s c h.0,
+  all-alike-carried HaveSameTexts texts-carried o e o' e' s c h.1,
+  first-unlike-carried HaveSameCalibration calibration-carried o e o' e' s c l h.2,
+)
+head_verdict_carried o e o' e' s b c (No (differences.Subfield w mismatch)) h = (
+  signals-carried o e o' e' s c h.0,
+  record {
+    subfield = first-carried (λ v. IsAsClaimed o e c v → ⊥) (λ v. IsAsClaimed o' e' c v → ⊥)
+        (λ v n i. n (claimed-carried o' e' o e (pairs-back o e o' e' s) c v i)) (λ v n i. n (claimed-carried o e o' e' s c v i)) all_subfields w (h.1).subfield;
+    mismatch_is = (h.1).mismatch_is;
+  },
+)
+head_verdict_carried o e o' e' s b c (No (differences.NotClean Header)) h = (
+  signals-carried o e o' e' s c h.0,
+  λ w. claimed-carried o e o' e' s c w (h.1 w),
+  λ blank. h.2 (b.header.1 blank),
+)
+head_verdict_carried o e o' e' s b c (No (differences.NotClean (Channel l))) h = (
+  signals-carried o e o' e' s c h.0,
+  λ w. claimed-carried o e o' e' s c w (h.1 w),
+  b.header.0 h.2,
+  first-carried (HasFreeText e) (HasFreeText e') (free-carried e e' s.export b) (free-carried e' e (same-heads-back e e' s.export) (blank-alike-back e e' b)) c.channels l h.3,
+)
+head_verdict_carried o e o' e' s b c v h = absurd h
