@@ -2,27 +2,14 @@
 use Rattle.std.proofs.Common.{◌≡◌, ◌⊎◌, ◌↔◌, inl, inr, List, [], ◌∷◌, ◌++◌, refl, subst, sym}
 use Rattle.edf_fields.specs.Lists.{Has}
 use Rattle.edf_fields.specs.declared.fields.which.Which.{Which}
-use Rattle.edf_fields.specs.declared.fields.which.Which.TheVariants.{Code, Sex, Birthdate, Name, PatientExtras, Date, Administration, Technician, Equipment, RecordingExtras}
 use Rattle.edf_fields.specs.fields.SubfieldNamesReading.{all_subfields}
 use Rattle.edf_header.specs.Heads.{Head}
+use Rattle.edf_heads.proofs.ForCallers.{has-all}
 use Rattle.edf_draft.specs.Hidden.{AreLeft, IsHidden}
-
-every : (which : Which) → Has all_subfields which
-unfolding all_subfields
-every Code = inl refl
-every Sex = inr (inl refl)
-every Birthdate = inr (inr (inl refl))
-every Name = inr (inr (inr (inl refl)))
-every PatientExtras = inr (inr (inr (inr (inl refl))))
-every Date = inr (inr (inr (inr (inr (inl refl)))))
-every Administration = inr (inr (inr (inr (inr (inr (inl refl))))))
-every Technician = inr (inr (inr (inr (inr (inr (inr (inl refl)))))))
-every Equipment = inr (inr (inr (inr (inr (inr (inr (inr (inl refl))))))))
-every RecordingExtras = inr (inr (inr (inr (inr (inr (inr (inr (inr (inl refl)))))))))
 
 -- at first none was found, and all are left
 pub all_left : (o e : Head) → AreLeft o e [] all_subfields
-all_left o e which = (side, λ h. inr (every which, h)) where
+all_left o e which = (side, λ h. inr (has-all which, h)) where
   side : (Has [] which ⊎ (Has all_subfields which × IsHidden o e which)) → IsHidden o e which
   side (inl x) = absurd x
   side (inr p) = p.1

@@ -1,19 +1,20 @@
 -- The subfields of two headers, in words.
-use Rattle.std.proofs.Common.{◌≡◌, ◌↔◌, ℕ, Bool, true, false, IsTrue, List, [], ◌∷◌, drop, length, ◌<◌, ◌≤◌, ◌+◌, get_or, Option, Some, None, MatchOption, inl, inr, ⊎_elim, refl, sym, ap, ◌∙◌, subst, add-one}
+use Rattle.std.proofs.Common.{◌≡◌, ◌↔◌, ℕ, Bool, true, false, cond, IsTrue, List, [], ◌∷◌, drop, length, ◌<◌, ◌≤◌, ◌+◌, get_or, Option, Some, None, MatchOption, inl, inr, ⊎_elim, refl, sym, ap, ◌∙◌, subst, add-one}
 use Rattle.std.specs.List.{list_all}
 use Rattle.std.specs.Str.{bytes_eq}
 use Rattle.std.proofs.Math.Seq.{drop-cons}
 use Rattle.std.proofs.lemmas.List.{drop_all}
 use Rattle.std.proofs.lemmas.Slice.Eq.{bytes_eq-Decides}
 use Rattle.edf_fields.specs.Lists.{Has}
-use Rattle.edf_fields.proofs.ForCallers.{and-true, both-true}
+use Rattle.edf_fields.proofs.ForCallers.{and-true, both-true, which-read}
 use Rattle.edf_header.specs.Heads.{Head}
 use Rattle.edf_claim.specs.Terms.{Terms}
 use Rattle.edf_fields.specs.declared.fields.which.Which.{Which}
-use Rattle.edf_fields.specs.declared.fields.which.Which.TheVariants.{Code, Sex, Birthdate, Name, PatientExtras, Date, Administration, Technician, Equipment, RecordingExtras}
+use Rattle.edf_fields.specs.declared.fields.which.Which.TheVariants.{Code}
 use Rattle.edf_heads.specs.Comparisons.{is_x, are_same, IsAnonymous, IsUnchanged, IsFoundAmong}
 use Rattle.edf_heads.specs.Subfields.{IsX, AreAllX, ByClaim, IsAsClaimed, SubfieldsAsClaimed}
-use Rattle.edf_fields.specs.fields.SubfieldNamesReading.{all_subfields}
+use Rattle.edf_fields.specs.fields.SubfieldNames.{name_of}
+use Rattle.edf_fields.specs.fields.SubfieldNamesReading.{all_subfields, named_in, which_of}
 use Rattle.edf_heads.specs.differences.SubfieldDifference.{IsMismatch, IsSubfieldDifference}
 use Rattle.edf_heads.specs.declared.subfields.SubfieldDifference.{SubfieldDifference}
 use Rattle.edf_verdict.specs.declared.verdict.SubfieldMismatch.{SubfieldMismatch}
@@ -101,19 +102,19 @@ found_later o e claim ws i d w r lt here same rest =
 pub found_none : (o e : Head) (claim : Terms) (ws : List Which) (i : ℕ) → length ws ≤ i → IsFoundAmong o e claim (drop i ws) None
 found_none o e claim ws i le = subst (λ (xs : List Which). IsFoundAmong o e claim xs None) (sym (drop_all i ws le)) (λ w h. absurd h)
 
--- every subfield is one of them
+-- a subfield that is found by its name among some is one of them
+named-has : (ws : List Which) (name : List ℕ) (w : Which) → named_in ws name ≡ Some w → Has ws w
+named-has [] name w e = absurd (let i : None ≡ Some w = e in cc)
+named-has (v ∷ ws) name w e = named-case (bytes_eq (name_of v) name) (named-has ws name w) e
+  where
+    named-case : (b : Bool) → (named_in ws name ≡ Some w → Has ws w) → cond b (Some v) (named_in ws name) ≡ Some w → Has (v ∷ ws) w
+    named-case true more i = inl (let f : Some v ≡ Some w = i in cc)
+    named-case false more i = inr (more i)
+
+-- every subfield is one of all
 pub has-all : (w : Which) → Has all_subfields w
-unfolding all_subfields
-has-all Code = inl refl
-has-all Sex = inr (inl refl)
-has-all Birthdate = inr (inr (inl refl))
-has-all Name = inr (inr (inr (inl refl)))
-has-all PatientExtras = inr (inr (inr (inr (inl refl))))
-has-all Date = inr (inr (inr (inr (inr (inl refl)))))
-has-all Administration = inr (inr (inr (inr (inr (inr (inl refl))))))
-has-all Technician = inr (inr (inr (inr (inr (inr (inr (inl refl)))))))
-has-all Equipment = inr (inr (inr (inr (inr (inr (inr (inr (inl refl))))))))
-has-all RecordingExtras = inr (inr (inr (inr (inr (inr (inr (inr (inr (inl refl)))))))))
+unfolding which_of
+has-all w = named-has all_subfields (name_of w) w (which-read w)
 
 pub subfields_said : (o e : Head) (claim : Terms) (r : Option SubfieldDifference) → IsFoundAmong o e claim all_subfields r
     → MatchOption r (SubfieldsAsClaimed o e claim) (λ d. IsSubfieldDifference o e claim d.which d.mismatch)
