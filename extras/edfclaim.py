@@ -337,19 +337,25 @@ def explain(original, export, claim, program=None):
     return Explanation(answer(status, lines[:1], CHECK)[0], lines[1:])
 
 
-def read_first(line):
+def explain_parts(original, claim, exports, program=None):
+    """The verdict on exports that go out together, as that of check-parts, and the sentences behind it."""
+    status, lines = run("explain-parts", original, claim, *exports, program=program)
+    return Explanation(answer(status, lines[:1], CHECK_PARTS)[0], lines[1:])
+
+
+def read_first(line, forms):
     """What the check answers with a draft by its first line, or none where it wasn't tried."""
     if line.startswith("# NOT TRIED: "):
         return None
     if line.startswith(WITH_DRAFT):
-        verdict = parse(line[len(WITH_DRAFT):])
+        verdict = parse(line[len(WITH_DRAFT):], forms)
         if verdict.yes:
             return verdict
     # behind a No stands a dot, and behind that one maybe more
     end = len(line)
     while line.startswith(NOT_A_YES) and (end := line.rfind(".", 0, end)) > 0:
         try:
-            verdict = parse(line[len(NOT_A_YES):end])
+            verdict = parse(line[len(NOT_A_YES):end], forms)
         except BadLine:
             continue
         if not verdict.yes:
@@ -360,14 +366,25 @@ def read_first(line):
 def draft(original, export, program=None):
     """The claim by which this export would be the export of this original, for a person to confirm line by line; or why
     there is none."""
-    status, lines = run("draft", original, export, program=program)
+    return read_draft(*run("draft", original, export, program=program), CHECK)
+
+
+def draft_parts(original, exports, program=None):
+    """The claim by which these exports, in the order of time, would together be the export of this original; or why there is
+    none. Of a fault of one of them the first line says which one it is."""
+    return read_draft(*run("draft-parts", original, *exports, program=program), CHECK_PARTS)
+
+
+def read_draft(status, lines, forms):
+    """The draft in these lines, whose first line has an answer of one of these forms."""
     text, first = "".join(f"{line}\n" for line in lines), lines[0] if lines else ""
     if status == 0:
-        return Draft(status, "draft", text, read_first(first))
-    if first.startswith("# no draft") and len(lines) == 1:
+        return Draft(status, "draft", text, read_first(first, forms))
+    if first.startswith("# no draft: ") and all(line.startswith("# part ") for line in lines[1:]):
         return Draft(status, "no draft", text, None)
-    if first in FAULT_OF and len(lines) == 2:
-        return Draft(status, FAULT_OF[first], text, answer(status, lines[1:], CONFORM)[0])
+    fault_of = FAULT_OF.get(first) or ("export fault" if re.fullmatch(f"# part {COUNT}", first) else None)
+    if fault_of and len(lines) == 2:
+        return Draft(status, fault_of, text, answer(status, lines[1:], CONFORM)[0])
     raise BadLine(f"status {status} with {first}")
 
 

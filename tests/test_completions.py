@@ -35,6 +35,8 @@ LINES = [
     ("option_of_check", ["check", "--"], ["--help"]),
     ("claim_of_check_parts", ["check-parts", "x", ""], ["claim.toml", "folder"]),
     ("later_export_of_check_parts", ["check-parts", "x", "x", "x", "x", "p"], ["part.EDF"]),
+    ("original_of_draft_parts", ["draft-parts", "p"], ["part.EDF"]),
+    ("later_export_of_draft_parts", ["draft-parts", "x", "x", "x", "a"], ["a night.edf"]),
     ("help", ["help", "rec"], ["receipt", "receipt-parts"]),
     ("claim_of_claim", ["claim", ""], ["claim.toml", "folder"]),
     ("file_of_read", ["read", ""], ["a night.edf", "folder", "part.EDF"]),

@@ -120,6 +120,14 @@ class Pipes(ExplainCase):
         said = self.explained(0, mistakes.WHOLE, "/dev/stdin", export, claim)
         self.assertEqual(said, self.run_program("explain", original, export, claim).out.decode())
 
+    def test_export_behind_a_broken_original(self):
+        """The original breaks off in its header, so nothing of the export was read before: it is judged, too."""
+        original, _, claim = self.paths(mistakes.WHOLE[:300], b"", ALL_OF_IT)
+        for content, is_said in ((mistakes.WHOLE, False), (mistakes.WHOLE[:-1], True)):
+            said = self.explained(1, content, original, "/dev/stdin", claim)
+            self.assertIn("The original can't be judged", said)
+            self.assertEqual("The export can't be judged" in said, is_said, said)
+
     def test_no_shift_is_tried(self):
         """An export that starts elsewhere than claimed: other shifts are tried of files, and not of a pipe."""
         tried = "Other shifts were tried"

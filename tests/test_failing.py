@@ -60,10 +60,14 @@ COMMANDS = {
     # behind a fault of the original the export is read for its digest: here one that the check doesn't read
     "receipt_of_an_empty_original": Command(1, 0, "receipt ROOM/original.edf cut.edf cut.toml"),
     "draft": Command(0, 0, "draft original.edf cut.edf", (NIGHT / "draft.toml").read_text(encoding="utf-8")),
+    "draft_parts": Command(
+        0, 0, "draft-parts original.edf cut-part-1.edf cut-part-2.edf",
+        (NIGHT / "draft.toml").read_text(encoding="utf-8").replace("YES ", "YES parts 2 ", 1)),
     # its line is written before its sentences are made: where these fail, it stands there
     "explain": Command(0, MOST, "explain original.edf cut.edf cut.toml"),
     # with a shift that is tried
     "explain_of_another_shift": Command(1, MOST, "explain original.edf cut.edf ROOM/unmoved.toml"),
+    "explain_parts": Command(0, MOST, "explain-parts original.edf cut.toml cut-part-1.edf cut-part-2.edf"),
     "conform": Command(0, 0, "conform original.edf", "CONFORMS records 150 channels 5 samples 52650 annotations 10\n"),
     "show": Command(0, 0, "show original.edf"),
     "notes": Command(0, MOST, "notes original.edf"),
@@ -85,7 +89,7 @@ def role_of(command, name):
     """The role of a file by its name, for a command."""
     if command in ("conform", "show", "notes", "read"):
         return "file"
-    if name.endswith(".toml") and command != "draft":
+    if name.endswith(".toml") and command not in ("draft", "draft-parts"):
         return "claim"
     return "original" if name == "original.edf" else "export"
 
@@ -160,7 +164,7 @@ class Failing(ProgramCase):
         told.write_bytes(b"")
         ran = self.run_with(words, **{what: at, "TOLD": told, "ONE_BYTE": single})
         line = LINES.get(what) or f"edfclaim: reading {role_of(words[0], told.read_text(encoding='utf-8'))} failed"
-        err = ran.err.partition(b"\n")[0] + b"\n" if words[0] == "explain" and ran.err else ran.err
+        err = ran.err.partition(b"\n")[0] + b"\n" if words[0] in ("explain", "explain-parts") and ran.err else ran.err
         limit = MOST if what == "WRITE_AT" else command.limit
         if ran.status == command.status and ran.out == text and not err:
             return "whole"

@@ -518,6 +518,29 @@ class Drafts(ModuleCase):
     def test_no_file(self):
         self.assertRaises(edfclaim.NoAnswer, self.call, "draft", "original.edf", "none.edf")
 
+    HALVES = ["cut-part-1.edf", "cut-part-2.edf"]
+
+    def test_parts(self):
+        one = self.call("draft_parts", "original.edf", self.HALVES)
+        line = "YES parts 2 channels 3 samples 13590 annotations 5"
+        self.assertEqual((one.status, one.kind, bool(one), one.verdict.line), (0, "draft", True, line))
+        pathlib.Path("drafted.toml").write_text(one.text, encoding="utf-8", newline="\n")
+        self.assertEqual(self.call("check_parts", "original.edf", "drafted.toml", self.HALVES), one.verdict)
+
+    def test_parts_in_another_order(self):
+        none = self.call("draft_parts", "original.edf", self.HALVES[::-1])
+        self.assertEqual((none.status, none.kind, bool(none), none.verdict), (1, "no draft", False, None))
+
+    def test_parts_that_overlap(self):
+        none = self.call("draft_parts", "original.edf", ["cut-part-1.edf", "overlapping-part-2.edf"])
+        self.assertEqual((none.status, none.kind, none.verdict), (1, "no draft", None))
+
+    def test_broken_part(self):
+        pathlib.Path("broken.edf").write_bytes(pathlib.Path("cut-part-2.edf").read_bytes()[:-1])
+        said = self.call("draft_parts", "original.edf", ["cut-part-1.edf", "broken.edf"])
+        self.assertEqual((said.status, said.kind, said.verdict.line), (1, "export fault", "FAULT Truncated at record 8"))
+        self.assertEqual(said.first, "# part 1")
+
 
 # What a program says, with which status, and what the module raises of its check.
 STRANGE = [

@@ -33,8 +33,13 @@ NO_COMMAND = {
     "dashes_before_all_parts_of_a_receipt": [
         "receipt-parts", "original.edf", "cut.toml", "--", "cut-part-1.edf", "cut-part-2.edf"],
     "dashes_before_the_files_of_receipt_parts": ["receipt-parts", "--", "original.edf", "cut.toml", "cut.edf"],
+    "dashes_before_the_last_part_of_an_explanation": ["explain-parts", *PARTS, "--", "cut-part-2.edf"],
+    "dashes_before_the_files_of_explain_parts": ["explain-parts", "--", "original.edf", "cut.toml", "cut.edf"],
     "dashes_before_the_export_of_a_draft": ["draft", "original.edf", "--", "cut.edf"],
     "dashes_before_the_files_of_a_draft": ["draft", "--", "original.edf", "cut.edf"],
+    "dashes_before_the_last_export_of_draft_parts": ["draft-parts", "original.edf", "cut-part-1.edf", "--", "cut-part-2.edf"],
+    "dashes_before_the_exports_of_draft_parts": ["draft-parts", "original.edf", "--", "cut-part-1.edf", "cut-part-2.edf"],
+    "dashes_before_the_files_of_draft_parts": ["draft-parts", "--", "original.edf", "cut.edf"],
     "dashes_before_the_claim_of_explain": ["explain", "original.edf", "cut.edf", "--", "cut.toml"],
     "dashes_before_the_files_of_explain": ["explain", "--", "original.edf", "cut.edf", "cut.toml"],
     "dashes_before_a_claim": ["claim", "--", "cut.toml"],
@@ -57,6 +62,8 @@ FAULTS = {
     "check_parts_of_one_file": ["check-parts", "original.edf"],
     "check_parts_of_no_export": ["check-parts", "original.edf", "cut.toml"],
     "check_parts_of_a_name_with_a_dash": ["check-parts", "original.edf", "cut.toml", "cut.edf", "-cut.edf"],
+    "draft_parts_of_no_export": ["draft-parts", "original.edf"],
+    "draft_parts_of_a_name_with_a_dash": ["draft-parts", "original.edf", "cut.edf", "-cut.edf"],
     "receipt_of_no_file": ["receipt"],
     "receipt_of_two_files": ["receipt", "original.edf", "cut.edf"],
     "receipt_of_four_files": ["receipt", "original.edf", "cut.edf", "cut.toml", "cut.toml"],
@@ -126,6 +133,10 @@ FILES = [
     ("reading original failed", "check . cut.edf cut.toml"),
     ("reading export failed", "check original.edf . cut.toml"),
     ("claim refused: BadKeep", "check . . refused.toml"),
+    ("cannot open original", "draft-parts none.edf none.edf cut.edf"),
+    ("cannot open export", "draft-parts original.edf cut-part-1.edf none.edf"),
+    ("reading original failed", "draft-parts . cut.edf"),
+    ("reading export failed", "draft-parts original.edf cut-part-1.edf ."),
     ("reading claim failed", "check-parts original.edf . cut.edf"),
     ("reading original failed", "check-parts . cut.toml cut.edf"),
     ("reading export failed", "check-parts original.edf cut.toml . cut.edf"),
@@ -214,6 +225,9 @@ class Files(ProgramCase):
     def sixty_five_exports_before_a_file_is_opened(self, command):
         ran = self.run_program(command, "none.edf", "none.toml", *["cut.edf"] * 65)
         self.assert_refused(ran, "edfclaim: too many exports")
+
+    def test_sixty_five_exports_of_a_draft(self):
+        self.assert_refused(self.run_program("draft-parts", "none.edf", *["cut.edf"] * 65), "edfclaim: too many exports")
 
     def test_pipe(self):
         ran = self.run_program("conform", "/dev/stdin", input=(NIGHT / "original.edf").read_bytes())

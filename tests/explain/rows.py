@@ -193,6 +193,7 @@ def of_files():
     older = edited(NIGHT, (field("reserved"), ""), (field("patient"), "Haagse"))
     behind_space = edited(NIGHT, (field("patient"), " X F X X"))
     doubled = edited(NIGHT, (signal(1, "label"), "EEG Fpz-Cz"))
+    cut_short = WHOLE[:-2]
     table = [
         ("an empty file", b"", ["The file is empty", AGAIN], ["broken off", SOFTWARE, ANEW]),
         ("a file that ends a byte early", WHOLE[:-1], ["looks like a copy that was broken off", AGAIN],
@@ -218,8 +219,10 @@ def of_files():
         ("two channels of one label", doubled, ["give one of them another label"], [SOFTWARE, ANEW]),
     ]
     for name, data, there, absent in table:
-        yield f"{name} as export", 1, WHOLE, data, ALL_OF_IT, ["The export can't be judged", *there], absent
-        yield f"{name} as original", 1, data, WHOLE, ALL_OF_IT, ["The original can't be judged", *there], absent
+        of_original, of_export = "The original can't be judged", "The export can't be judged"
+        yield f"{name} as export", 1, WHOLE, data, ALL_OF_IT, [of_export, *there], [*absent, of_original]
+        yield f"{name} as original", 1, data, WHOLE, ALL_OF_IT, [of_original, *there], [*absent, of_export]
+        yield f"{name} as export of a broken original", 1, cut_short, data, ALL_OF_IT, [of_original, of_export, *there], []
     looks = "It looks like a fault of the software that made the export: export again"
     yield "a patient behind a space in the export", 1, WHOLE, behind_space, ALL_OF_IT, [looks], [
         "older, plain EDF",

@@ -4,7 +4,7 @@ ghost use Rattle.std.specs.Prelude.{◌≡◌, ◌<◌, ◌≤◌, map, length, 
 ghost use Rattle.edf_check.specs.Runs.{IsJudged, JudgeStops, IsPartsJudged, PartsJudgeStops};
 
 use crate::of_one::check_beside;
-use crate::of_several::{Asked, check_parts};
+use crate::of_several::{Asked, check_parts_beside};
 use edf_claim::{Claim, ClaimStop};
 use edf_fields::Source;
 use edf_pace::{Nobody, Onlooker};
@@ -63,6 +63,41 @@ pub fn judge<O: Source, E: Source>(
     judge_beside(alloc, original, export, claim_text, &mut Nobody)
 }
 
+/// Reads the claim that a text says, and checks one to 64 exports, in the order of time, against the original under it. Somebody
+/// looks on while the samples are compared, which changes no answer.
+///
+/// The error is the first fault of the text, want of memory, or a failure of one of the sources.
+pub fn judge_parts_beside<O: Source, E: Source, L: Onlooker>(
+    alloc: Global,
+    original: &mut O,
+    parts: &mut [E],
+    claim_text: &[u8],
+    onlooker: &mut L,
+) -> Result<PartsVerdict, PartsRunStop>
+    requires some { 0 < length parts.old }
+    requires few { length parts.old ≤ 64 }
+    ensures under { IfOk result (IsPartsJudged (O.is_honest original.old) (O.left original.old)
+        (map E.is_honest parts.old) (map E.left parts.old) claim_text.now) }
+    ensures failures { OnOk result ((O.reads original.new ≡ O.reads original.old)
+        × (map E.reads parts.new ≡ map E.reads parts.old)) }
+    ensures size { length parts.new ≡ length parts.old }
+    ensures stop { IfErr result (PartsJudgeStops claim_text.now (O.reads original.old) (O.reads original.new)
+        (map E.reads parts.old) (map E.reads parts.new)) }
+{
+    match Claim::read(alloc, claim_text) {
+        Ok(claim) => {
+            let asked = Asked {
+                alloc,
+                claim: &claim,
+                onlooker,
+            };
+            Ok(check_parts_beside(original, parts, asked)?)
+        }
+        Err(cause) if cause != ClaimStop::OutOfMemory => Err(PartsRunStop::Claim(cause)),
+        Err(_) => Err(PartsRunStop::OutOfMemory),
+    }
+}
+
 /// Reads the claim that a text says, and checks one to 64 exports, in the order of time, against the original under it.
 ///
 /// The error is the first fault of the text, want of memory, or a failure of one of the sources.
@@ -82,9 +117,5 @@ pub fn judge_parts<O: Source, E: Source>(
     ensures stop { IfErr result (PartsJudgeStops claim_text.now (O.reads original.old) (O.reads original.new)
         (map E.reads parts.old) (map E.reads parts.new)) }
 {
-    match Claim::read(alloc, claim_text) {
-        Ok(claim) => Ok(check_parts(alloc, original, parts, &claim)?),
-        Err(cause) if cause != ClaimStop::OutOfMemory => Err(PartsRunStop::Claim(cause)),
-        Err(_) => Err(PartsRunStop::OutOfMemory),
-    }
+    judge_parts_beside(alloc, original, parts, claim_text, &mut Nobody)
 }

@@ -14,7 +14,7 @@ mod running_parts;
 pub use edf_heads::head_difference;
 pub use edf_pace::{Onlooker, first_difference};
 pub use edf_verdict::{Difference, Outcome, PartsVerdict, Verdict};
-pub use judging::{judge, judge_beside, judge_parts};
+pub use judging::{judge, judge_beside, judge_parts, judge_parts_beside};
 pub use of_one::check;
 pub use of_several::check_parts;
 pub use running::run;

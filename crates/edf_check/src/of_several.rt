@@ -87,6 +87,33 @@ pub(crate) fn check_series<O: Source, E: Source, L: Onlooker>(
     }
 }
 
+/// The check of `check_parts`, and somebody looks on while the samples are compared.
+///
+/// The error is want of memory, or a failure of one of the sources.
+pub(crate) fn check_parts_beside<O: Source, E: Source, L: Onlooker>(
+    original: &mut O,
+    parts: &mut [E],
+    asked: Asked<'_, '_, L>,
+) -> Result<PartsVerdict, PartsStop>
+    requires some { 0 < length parts.old }
+    requires few { length parts.old ≤ 64 }
+    ensures verdict { IfOk result (λ verdict. IsTrue (O.is_honest original.old) → AllByRecursion IsTrue (map E.is_honest parts.old) →
+        IsPartsVerdict (O.left original.old) (map E.left parts.old) (asked.entry.claim).now verdict) }
+    ensures read { IfOk result (λ verdict. IsTrue (O.is_honest original.old) → AllByRecursion IsTrue (map E.is_honest parts.old) →
+        AllByRecursion (AreRead verdict.verdict (O.left original.new)) (map E.left parts.new)) }
+    ensures failures { OnOk result ((O.reads original.new ≡ O.reads original.old) × (map E.reads parts.new ≡ map E.reads parts.old)) }
+    ensures stop { IfErr result (PartsStops (Fails (O.reads original.old) (O.reads original.new))
+        ((O.reads original.new ≡ O.reads original.old) × (map E.reads parts.new ≡ map E.reads parts.old)) 0 (map E.reads parts.old) (map E.reads parts.new)) }
+{
+    match parts.split_first_mut() {
+        None => unreachable!(),
+        Some((part, others)) => match check_series(original, part, others, asked) {
+            Ok(verdict) => Ok(verdict),
+            Err(stop) => Err(stop),
+        },
+    }
+}
+
 /// Checks whether one to 64 exports, in the order of time, are together the original, cut and made anonymous as the claim
 /// says, and nothing else.
 ///
@@ -112,18 +139,13 @@ pub fn check_parts<O: Source, E: Source>(
     ensures stop { IfErr result (PartsStops (Fails (O.reads original.old) (O.reads original.new))
         ((O.reads original.new ≡ O.reads original.old) × (map E.reads parts.new ≡ map E.reads parts.old)) 0 (map E.reads parts.old) (map E.reads parts.new)) }
 {
-    match parts.split_first_mut() {
-        None => unreachable!(),
-        Some((part, others)) => {
-            let asked = Asked {
-                alloc,
-                claim,
-                onlooker: &mut Nobody,
-            };
-            match check_series(original, part, others, asked) {
-                Ok(verdict) => Ok(verdict),
-                Err(stop) => Err(stop),
-            }
-        }
+    let asked = Asked {
+        alloc,
+        claim,
+        onlooker: &mut Nobody,
+    };
+    match check_parts_beside(original, parts, asked) {
+        Ok(verdict) => Ok(verdict),
+        Err(stop) => Err(stop),
     }
 }

@@ -1,18 +1,16 @@
--- A command whose arguments are taken is a line that `clap` takes.
+-- A command whose arguments are taken, as it is built alone, is a line that `clap` takes.
 use Rattle.std.proofs.Common.{◌≡◌, ◌≤◌, ◌<◌, ◌&&◌, Bool, List, [], ◌∷◌, ◌++◌, codes, true, false, refl, is_some, length, Some, ap, ap₂, sym, ◌∙◌, arith, append_assoc}
 use Rattle.std.proofs.lemmas.List.{append-nil}
 use Rattle.std.specs.Prelude.{fold}
 use Rattle.std.specs.List.{list_all}
 use Rattle.clap.specs.Lexer.{usize_max}
 use Rattle.clap.specs.Walk.{Names, Rule, Text, Walk, finished, nothing_held, walk, walk_from, walked}
-use Rattle.clap.specs.Simple.{App, Shape, built, entered, names_of}
+use Rattle.clap.specs.Simple.{App, Shape, built, entered, names_of, new_app}
 use Rattle.clap.specs.Takes.{default_passes, entered_passes, is_valid, level_passes, settle_passes, takes, walk_passes}
 use Rattle.clap.proofs.OnLiterals.{clap_on_literals}
-use Rattle.edf_command_line.proofs.ExportFacts.{check, check_passes, draft, draft_passes, explain, explain_passes, receipt, receipt_passes}
-use Rattle.edf_command_line.proofs.PartsFacts.{both_true, leaf_passes, parts, receipt_parts, second_passes}
-use Rattle.edf_command_line.proofs.PlainFacts.{IsPlain, tail_plain}
-use Rattle.edf_command_line.specs.Commands.{program_app}
-use Rattle.edf_command_line.specs.Jobs.{ArePlain}
+use Rattle.edf_command_line.proofs.ExportFacts.{alone}
+use Rattle.edf_command_line.proofs.LastFacts.{both_true}
+use Rattle.edf_command_line.specs.Commands.{claim_app, export_app, file_app, pair_app, parts_app, program_app, series_app}
 
 -- behind a subcommand's name each word goes to the subcommand
 stopped_walk : (rules : List Rule) (names : Names) (w : Walk) (name : Text) (seen words : List Text)
@@ -28,38 +26,13 @@ unfolding walked walk_passes
 stopped_passes s names w name seen [] = refl
 stopped_passes s names w name seen (x ∷ xs) = stopped_passes s names w name (seen ++ x ∷ []) xs
 
--- a command by its name: over several exports, and with a receipt, where these are true
-abbrev pub name_of : Bool → Bool → Text
-name_of false false = codes "check"
-name_of true false = codes "check-parts"
-name_of false true = codes "receipt"
-name_of true true = codes "receipt-parts"
-
-abbrev shape_of : Bool → Bool → Shape
-shape_of false false = check
-shape_of true false = parts
-shape_of false true = receipt
-shape_of true true = receipt_parts
-
 -- the program as it is built
 abbrev top : App
 top = built program_app
 
--- the walk over the program's words, up to the subcommand and past it
-top_walk : (several receipt : Bool) (rest : List Text) → walk top.top.rules (names_of top) nothing_held (name_of several receipt ∷ rest)
-    ≡ record (walk_from nothing_held) { stopped = Some (name_of several receipt, rest) }
-unfolding clap_on_literals
-top_walk false false rest = stopped_walk top.top.rules (names_of top) (walk_from nothing_held) (codes "check") [] rest
-top_walk true false rest = stopped_walk top.top.rules (names_of top) (walk_from nothing_held) (codes "check-parts") [] rest
-top_walk false true rest = stopped_walk top.top.rules (names_of top) (walk_from nothing_held) (codes "receipt") [] rest
-top_walk true true rest = stopped_walk top.top.rules (names_of top) (walk_from nothing_held) (codes "receipt-parts") [] rest
-
-top_passes : (several receipt : Bool) (rest : List Text) → walk_passes top.top (names_of top) (walk_from nothing_held) (name_of several receipt ∷ rest) ≡ true
-unfolding clap_on_literals
-top_passes false false rest = stopped_passes top.top (names_of top) (walk_from nothing_held) (codes "check") [] rest
-top_passes true false rest = stopped_passes top.top (names_of top) (walk_from nothing_held) (codes "check-parts") [] rest
-top_passes false true rest = stopped_passes top.top (names_of top) (walk_from nothing_held) (codes "receipt") [] rest
-top_passes true true rest = stopped_passes top.top (names_of top) (walk_from nothing_held) (codes "receipt-parts") [] rest
+-- the walk over its words, behind the name of a subcommand and the words that follow
+abbrev at : Text → List Text → Walk
+at name rest = record (walk_from nothing_held) { stopped = Some (name, rest) }
 
 abbrev top_ends : Walk → Bool
 top_ends w = settle_passes top.top.rules top.top.args_override_self w.held
@@ -68,90 +41,79 @@ top_ends w = settle_passes top.top.rules top.top.args_override_self w.held
 abbrev all_ends : Bool → Walk → Bool
 all_ends passes w = entered_passes top w.stopped && (passes && top_ends w)
 
-top_whole : (several receipt : Bool) (rest : List Text) → top_ends (record (walk_from nothing_held) { stopped = Some (name_of several receipt, rest) }) ≡ true
+-- the name is that of a subcommand, which is built as this app is
+pub record Enters (name : Text) (app : App) : Type 0 where
+  pub walks : (rest : List Text) → walk top.top.rules (names_of top) nothing_held (name ∷ rest) ≡ at name rest
+  pub passes : (rest : List Text) → walk_passes top.top (names_of top) (walk_from nothing_held) (name ∷ rest) ≡ true
+  pub whole : (rest : List Text) → top_ends (at name rest) ≡ true
+  pub finds : (rest : List Text) → level_passes (alone app) [] nothing_held rest false ≡ true → entered_passes top (Some (name, rest)) ≡ true
+
+-- a subcommand that takes the words behind its name
+pub takes_by : (name : Text) (app : App) → Enters name app → (w : Text) (rest : List Text) → level_passes (alone app) [] nothing_held rest false ≡ true
+    → takes program_app (w ∷ name ∷ rest) ≡ true
+takes_by name app enters w rest h =
+    ap₂ all_ends (enters.passes rest) (enters.walks rest)
+    ∙ both_true (entered_passes top (Some (name, rest))) (top_ends (at name rest)) (enters.finds rest h) (enters.whole rest)
+
+walks_to : (name : Text) (rest : List Text) → fold (walked top.top.rules (names_of top)) (at name []) rest ≡ at name rest
+walks_to name rest = stopped_walk top.top.rules (names_of top) (walk_from nothing_held) name [] rest
+
+passes_to : (name : Text) (rest : List Text) → walk_passes top.top (names_of top) (at name []) rest ≡ true
+passes_to name rest = stopped_passes top.top (names_of top) (walk_from nothing_held) name [] rest
+
+-- each command
+pub enters_check : Enters (codes "check") (export_app (codes "check"))
 unfolding clap_on_literals
-top_whole false false rest = refl
-top_whole true false rest = refl
-top_whole false true rest = refl
-top_whole true true rest = refl
+enters_check = record { walks = walks_to (codes "check"); passes = passes_to (codes "check"); whole = λ rest. refl; finds = λ rest h. h }
 
-enters : (several receipt : Bool) (rest : List Text) → level_passes (shape_of several receipt) [] nothing_held rest false ≡ true
-    → entered_passes top (Some (name_of several receipt, rest)) ≡ true
+pub enters_check_parts : Enters (codes "check-parts") (parts_app (codes "check-parts"))
 unfolding clap_on_literals
-enters false false rest h = h
-enters true false rest h = h
-enters false true rest h = h
-enters true true rest h = h
+enters_check_parts = record { walks = walks_to (codes "check-parts"); passes = passes_to (codes "check-parts"); whole = λ rest. refl; finds = λ rest h. h }
 
-takes_command : (several receipt : Bool) (w : Text) (rest : List Text) → level_passes (shape_of several receipt) [] nothing_held rest false ≡ true
-    → takes program_app (w ∷ name_of several receipt ∷ rest) ≡ true
-takes_command several receipt w rest h =
-    ap₂ all_ends (top_passes several receipt rest) (top_walk several receipt rest)
-    ∙ both_true (entered_passes top (Some (name_of several receipt, rest))) (top_ends (record (walk_from nothing_held) { stopped = Some (name_of several receipt, rest) }))
-    (enters several receipt rest h) (top_whole several receipt rest)
-
--- the commands over one export
-pub takes_export : (receipt : Bool) (w x y z : Text) → IsPlain x → IsPlain y → IsPlain z → takes program_app (w ∷ name_of false receipt ∷ x ∷ y ∷ z ∷ []) ≡ true
-takes_export false w x y z p q r = takes_command false false w (x ∷ y ∷ z ∷ []) (check_passes x y z p q r)
-takes_export true w x y z p q r = takes_command false true w (x ∷ y ∷ z ∷ []) (receipt_passes x y z p q r)
-
--- those over several
-pub takes_parts : (receipt : Bool) (w x y : Text) (last : List Text) → 0 < length last → ArePlain (name_of true receipt ∷ x ∷ y ∷ last) → length last ≤ usize_max
-    → takes program_app (w ∷ name_of true receipt ∷ x ∷ y ∷ last) ≡ true
-takes_parts receipt w x y [] some plain small = absurd (omega arith)
-takes_parts false w x y (z ∷ rest) some plain small =
-    let last : ArePlain (z ∷ rest) = tail_plain y (z ∷ rest) (tail_plain x (y ∷ z ∷ rest) (tail_plain (codes "check-parts") (x ∷ y ∷ z ∷ rest) plain)) in
-    takes_command true false w (x ∷ y ∷ z ∷ rest) (leaf_passes x y z rest (plain 1 (omega arith)) (plain 2 (omega arith)) (plain 3 (omega arith)) (tail_plain z rest last) small)
-takes_parts true w x y (z ∷ rest) some plain small =
-    let last : ArePlain (z ∷ rest) = tail_plain y (z ∷ rest) (tail_plain x (y ∷ z ∷ rest) (tail_plain (codes "receipt-parts") (x ∷ y ∷ z ∷ rest) plain)) in
-    takes_command true true w (x ∷ y ∷ z ∷ rest) (second_passes x y z rest (plain 1 (omega arith)) (plain 2 (omega arith)) (plain 3 (omega arith)) (tail_plain z rest last) small)
-
--- the same of the draft of a claim
-walk_to_draft : (rest : List Text) → walk top.top.rules (names_of top) nothing_held (codes "draft" ∷ rest)
-    ≡ record (walk_from nothing_held) { stopped = Some (codes "draft", rest) }
+pub enters_receipt : Enters (codes "receipt") (export_app (codes "receipt"))
 unfolding clap_on_literals
-walk_to_draft rest = stopped_walk top.top.rules (names_of top) (walk_from nothing_held) (codes "draft") [] rest
+enters_receipt = record { walks = walks_to (codes "receipt"); passes = passes_to (codes "receipt"); whole = λ rest. refl; finds = λ rest h. h }
 
-passes_to_draft : (rest : List Text) → walk_passes top.top (names_of top) (walk_from nothing_held) (codes "draft" ∷ rest) ≡ true
+pub enters_receipt_parts : Enters (codes "receipt-parts") (parts_app (codes "receipt-parts"))
 unfolding clap_on_literals
-passes_to_draft rest = stopped_passes top.top (names_of top) (walk_from nothing_held) (codes "draft") [] rest
+enters_receipt_parts = record { walks = walks_to (codes "receipt-parts"); passes = passes_to (codes "receipt-parts"); whole = λ rest. refl; finds = λ rest h. h }
 
-whole_at_draft : (rest : List Text) → top_ends (record (walk_from nothing_held) { stopped = Some (codes "draft", rest) }) ≡ true
+pub enters_draft : Enters (codes "draft") (pair_app (codes "draft"))
 unfolding clap_on_literals
-whole_at_draft rest = refl
+enters_draft = record { walks = walks_to (codes "draft"); passes = passes_to (codes "draft"); whole = λ rest. refl; finds = λ rest h. h }
 
-enters_draft : (rest : List Text) → level_passes draft [] nothing_held rest false ≡ true → entered_passes top (Some (codes "draft", rest)) ≡ true
+pub enters_draft_parts : Enters (codes "draft-parts") (series_app (codes "draft-parts"))
 unfolding clap_on_literals
-enters_draft rest h = h
+enters_draft_parts = record { walks = walks_to (codes "draft-parts"); passes = passes_to (codes "draft-parts"); whole = λ rest. refl; finds = λ rest h. h }
 
-pub takes_draft : (w x y : Text) → IsPlain x → IsPlain y → takes program_app (w ∷ codes "draft" ∷ x ∷ y ∷ []) ≡ true
-takes_draft w x y p q =
-    let rest : List Text = x ∷ y ∷ [] in
-    ap₂ all_ends (passes_to_draft rest) (walk_to_draft rest)
-    ∙ both_true (entered_passes top (Some (codes "draft", rest))) (top_ends (record (walk_from nothing_held) { stopped = Some (codes "draft", rest) }))
-    (enters_draft rest (draft_passes x y p q)) (whole_at_draft rest)
-
--- and of a check that explains itself
-walk_to_explain : (rest : List Text) → walk top.top.rules (names_of top) nothing_held (codes "explain" ∷ rest)
-    ≡ record (walk_from nothing_held) { stopped = Some (codes "explain", rest) }
+pub enters_explain : Enters (codes "explain") (export_app (codes "explain"))
 unfolding clap_on_literals
-walk_to_explain rest = stopped_walk top.top.rules (names_of top) (walk_from nothing_held) (codes "explain") [] rest
+enters_explain = record { walks = walks_to (codes "explain"); passes = passes_to (codes "explain"); whole = λ rest. refl; finds = λ rest h. h }
 
-passes_to_explain : (rest : List Text) → walk_passes top.top (names_of top) (walk_from nothing_held) (codes "explain" ∷ rest) ≡ true
+pub enters_explain_parts : Enters (codes "explain-parts") (parts_app (codes "explain-parts"))
 unfolding clap_on_literals
-passes_to_explain rest = stopped_passes top.top (names_of top) (walk_from nothing_held) (codes "explain") [] rest
+enters_explain_parts = record { walks = walks_to (codes "explain-parts"); passes = passes_to (codes "explain-parts"); whole = λ rest. refl; finds = λ rest h. h }
 
-whole_at_explain : (rest : List Text) → top_ends (record (walk_from nothing_held) { stopped = Some (codes "explain", rest) }) ≡ true
+pub enters_conform : Enters (codes "conform") (file_app (codes "conform"))
 unfolding clap_on_literals
-whole_at_explain rest = refl
+enters_conform = record { walks = walks_to (codes "conform"); passes = passes_to (codes "conform"); whole = λ rest. refl; finds = λ rest h. h }
 
-enters_explain : (rest : List Text) → level_passes explain [] nothing_held rest false ≡ true → entered_passes top (Some (codes "explain", rest)) ≡ true
+pub enters_show : Enters (codes "show") (file_app (codes "show"))
 unfolding clap_on_literals
-enters_explain rest h = h
+enters_show = record { walks = walks_to (codes "show"); passes = passes_to (codes "show"); whole = λ rest. refl; finds = λ rest h. h }
 
-pub takes_explain : (w x y z : Text) → IsPlain x → IsPlain y → IsPlain z → takes program_app (w ∷ codes "explain" ∷ x ∷ y ∷ z ∷ []) ≡ true
-takes_explain w x y z p q r =
-    let rest : List Text = x ∷ y ∷ z ∷ [] in
-    ap₂ all_ends (passes_to_explain rest) (walk_to_explain rest)
-    ∙ both_true (entered_passes top (Some (codes "explain", rest))) (top_ends (record (walk_from nothing_held) { stopped = Some (codes "explain", rest) }))
-    (enters_explain rest (explain_passes x y z p q r)) (whole_at_explain rest)
+pub enters_notes : Enters (codes "notes") (file_app (codes "notes"))
+unfolding clap_on_literals
+enters_notes = record { walks = walks_to (codes "notes"); passes = passes_to (codes "notes"); whole = λ rest. refl; finds = λ rest h. h }
+
+pub enters_read : Enters (codes "read") (file_app (codes "read"))
+unfolding clap_on_literals
+enters_read = record { walks = walks_to (codes "read"); passes = passes_to (codes "read"); whole = λ rest. refl; finds = λ rest h. h }
+
+pub enters_claim : Enters (codes "claim") (claim_app (codes "claim"))
+unfolding clap_on_literals
+enters_claim = record { walks = walks_to (codes "claim"); passes = passes_to (codes "claim"); whole = λ rest. refl; finds = λ rest h. h }
+
+pub enters_vectors : Enters (codes "vectors") (new_app (codes "vectors"))
+unfolding clap_on_literals
+enters_vectors = record { walks = walks_to (codes "vectors"); passes = passes_to (codes "vectors"); whole = λ rest. refl; finds = λ rest h. h }

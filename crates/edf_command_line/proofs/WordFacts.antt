@@ -6,8 +6,9 @@ use Rattle.std.specs.Bool.{Decides}
 use Rattle.std.specs.Borrow.{Bor}
 use Rattle.std.specs.List.{Contains, IsAnyAnswer}
 use Rattle.std.specs.Str.{bytes_eq}
-use Rattle.edf_command_line.specs.Jobs.{IsOfExport, IsOfParts, SaysNoExport, SaysNoFile, SaysNoParts, SaysNoJob, SaysNoOther}
+use Rattle.edf_command_line.specs.Jobs.{IsCheckOfParts, IsOfExport, IsOfParts, IsDraftOfParts, SaysNoCheckOfParts, SaysNoExport, SaysNoFile, SaysNoParts, SaysNoJob, SaysNoOther, SaysNoDraftOfParts}
 use Rattle.edf_command_line.specs.declared.jobs.Job.{Job}
+use Rattle.edf_command_line.specs.declared.jobs.Job.TheVariants.{Check, CheckParts, Receipt, ReceiptParts, Draft, DraftParts, Explain, ExplainParts, Conform, Show, Notes, Read, Claim, Vectors}
 
 abbrev no_word : Bor (List ℕ)
 no_word = record { ref_ptr = (0, 0); now = [] }
@@ -34,6 +35,34 @@ contains_text ws t false none = (
       sym (none at.0 no_word (omega arith) within)
       ∙ (bytes_eq-Decides (get_or ws at.0 no_word).now t).1 (sym (text_at ws at.0 t within) ∙ at.2)),
 )
+
+-- a command over several exports is a check of them, or the draft of a claim for them
+kind_of_parts : (j : Job) → IsOfParts j → IsCheckOfParts j ⊎ IsDraftOfParts j
+kind_of_parts (CheckParts o c es) is = inl tt
+kind_of_parts (ReceiptParts o c es) is = inl tt
+kind_of_parts (DraftParts o es) is = inr tt
+kind_of_parts (ExplainParts o c es) is = inl tt
+kind_of_parts (Check o e c) is = absurd is
+kind_of_parts (Receipt o e c) is = absurd is
+kind_of_parts (Draft o e) is = absurd is
+kind_of_parts (Explain o e c) is = absurd is
+kind_of_parts (Conform f) is = absurd is
+kind_of_parts (Show f) is = absurd is
+kind_of_parts (Notes f) is = absurd is
+kind_of_parts (Read f) is = absurd is
+kind_of_parts (Claim f) is = absurd is
+kind_of_parts Vectors is = absurd is
+
+neither : (a b c : Type 0) → a ⊎ b → (a → c) → (b → c) → c
+neither a b c (inl x) f g = f x
+neither a b c (inr y) f g = g y
+
+-- the words are none over several exports where they are neither
+pub no_parts : (words : List (List ℕ)) (found : Option Job) → SaysNoCheckOfParts words → IfNone found (SaysNoDraftOfParts words)
+    → IfNone found (SaysNoParts words)
+no_parts words None no_check no_words = λ j is says.
+    neither (IsCheckOfParts j) (IsDraftOfParts j) ⊥ (kind_of_parts j is) (λ check. no_check j check says) (λ more. no_words j more says)
+no_parts words (Some job) no_check no_words = no_words
 
 -- the words are no command where they are neither one over several exports nor one of the others
 pub no_job : (words : List (List ℕ)) (found : Option Job) → SaysNoParts words → IfNone found (SaysNoOther words) → IfNone found (SaysNoJob words)

@@ -24,6 +24,10 @@ parts_app name = with_rule (with_rule (with_rule (new_app name) (needed (codes "
 abbrev pub pair_app : Text → App
 pair_app name = with_rule (with_rule (new_app name) (needed (codes "ORIGINAL"))) (needed (codes "EXPORT"))
 
+-- a command over an original and several exports
+abbrev pub series_app : Text → App
+series_app name = with_rule (with_rule (new_app name) (needed (codes "ORIGINAL"))) (needed_some (codes "EXPORT"))
+
 -- a command of one file
 abbrev pub file_app : Text → App
 file_app name = with_rule (new_app name) (needed (codes "FILE"))
@@ -48,9 +52,13 @@ checking_app = with_both bare_app (codes "check") (codes "check-parts")
 abbrev pub receipt_app : App
 receipt_app = with_both checking_app (codes "receipt") (codes "receipt-parts")
 
--- the same with the draft of a claim, and a check that explains itself
+-- the same with the drafts of a claim
+abbrev pub draft_app : App
+draft_app = with_subcommand (with_subcommand receipt_app (pair_app (codes "draft")).top) (series_app (codes "draft-parts")).top
+
+-- the same with the checks that explain themselves
 abbrev pub explain_app : App
-explain_app = with_subcommand (with_subcommand receipt_app (pair_app (codes "draft")).top) (export_app (codes "explain")).top
+explain_app = with_both draft_app (codes "explain") (codes "explain-parts")
 
 -- the same with the reports on one recording
 abbrev pub reporting_app : App

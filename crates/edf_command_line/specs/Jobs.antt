@@ -3,7 +3,7 @@ use Rattle.std.specs.Prelude.{◌≡◌, ◌≢◌, ◌⊎◌, ℕ, ◌<◌, Lis
 use Rattle.std.specs.Borrow.{Bor}
 use Rattle.std.specs.List.{Contains}
 use Rattle.edf_command_line.specs.declared.jobs.Job.{Job}
-use Rattle.edf_command_line.specs.declared.jobs.Job.TheVariants.{Check, CheckParts, Receipt, ReceiptParts, Draft, Explain, Conform, Show, Notes, Read, Claim, Vectors}
+use Rattle.edf_command_line.specs.declared.jobs.Job.TheVariants.{Check, CheckParts, Receipt, ReceiptParts, Draft, DraftParts, Explain, ExplainParts, Conform, Show, Notes, Read, Claim, Vectors}
 
 -- the words behind the first, which is the program's name
 abbrev pub behind_first : List (Bor (List ℕ)) → List (List ℕ)
@@ -22,7 +22,11 @@ SaysJob words (Receipt original export claim) = words ≡ codes "receipt" ∷ or
 SaysJob words (ReceiptParts original claim exports) =
     (words ≡ codes "receipt-parts" ∷ original.now ∷ claim.now ∷ map (λ w. w.now) exports.now) × (0 < length exports.now) × ¬ HaveEscape words
 SaysJob words (Draft original export) = words ≡ codes "draft" ∷ original.now ∷ export.now ∷ []
+SaysJob words (DraftParts original exports) =
+    (words ≡ codes "draft-parts" ∷ original.now ∷ map (λ w. w.now) exports.now) × (0 < length exports.now) × ¬ HaveEscape words
 SaysJob words (Explain original export claim) = words ≡ codes "explain" ∷ original.now ∷ export.now ∷ claim.now ∷ []
+SaysJob words (ExplainParts original claim exports) =
+    (words ≡ codes "explain-parts" ∷ original.now ∷ claim.now ∷ map (λ w. w.now) exports.now) × (0 < length exports.now) × ¬ HaveEscape words
 SaysJob words (Conform path) = words ≡ codes "conform" ∷ path.now ∷ []
 SaysJob words (Show path) = words ≡ codes "show" ∷ path.now ∷ []
 SaysJob words (Notes path) = words ≡ codes "notes" ∷ path.now ∷ []
@@ -34,6 +38,8 @@ SaysJob words Vectors = words ≡ codes "vectors" ∷ []
 abbrev pub HasExports : Job → Type 0
 HasExports (CheckParts original claim exports) = 0 < length exports.now
 HasExports (ReceiptParts original claim exports) = 0 < length exports.now
+HasExports (DraftParts original exports) = 0 < length exports.now
+HasExports (ExplainParts original claim exports) = 0 < length exports.now
 HasExports job = Unit {0}
 
 -- the words are no command with its arguments
@@ -44,6 +50,8 @@ SaysNoJob words = (j : Job) → ¬ SaysJob words j
 abbrev pub IsOfParts : Job → Type 0
 IsOfParts (CheckParts original claim exports) = Unit {0}
 IsOfParts (ReceiptParts original claim exports) = Unit {0}
+IsOfParts (DraftParts original exports) = Unit {0}
+IsOfParts (ExplainParts original claim exports) = Unit {0}
 IsOfParts job = ⊥
 
 -- the job is one over an original and one export
@@ -53,6 +61,26 @@ IsOfExport (Receipt original export claim) = Unit {0}
 IsOfExport (Draft original export) = Unit {0}
 IsOfExport (Explain original export claim) = Unit {0}
 IsOfExport job = ⊥
+
+-- the job is a check of several exports, also with a receipt or with sentences
+abbrev pub IsCheckOfParts : Job → Type 0
+IsCheckOfParts (CheckParts original claim exports) = Unit {0}
+IsCheckOfParts (ReceiptParts original claim exports) = Unit {0}
+IsCheckOfParts (ExplainParts original claim exports) = Unit {0}
+IsCheckOfParts job = ⊥
+
+-- the job is the draft of a claim for several exports
+abbrev pub IsDraftOfParts : Job → Type 0
+IsDraftOfParts (DraftParts original exports) = Unit {0}
+IsDraftOfParts job = ⊥
+
+-- the words aren't such a check of several exports
+abbrev pub SaysNoCheckOfParts : List (List ℕ) → Type 0
+SaysNoCheckOfParts words = (j : Job) → IsCheckOfParts j → ¬ SaysJob words j
+
+-- the words aren't such a draft
+abbrev pub SaysNoDraftOfParts : List (List ℕ) → Type 0
+SaysNoDraftOfParts words = (j : Job) → IsDraftOfParts j → ¬ SaysJob words j
 
 -- the words aren't such a command over several exports
 abbrev pub SaysNoParts : List (List ℕ) → Type 0

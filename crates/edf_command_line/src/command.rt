@@ -6,7 +6,7 @@ ghost use Rattle.std.specs.Prelude.{◌≡◌, ◌≢◌, codes, false, IfOk, If
 ghost use Rattle.clap.specs.Simple.{app_of, new_app, with_rule, with_subcommand};
 ghost use Rattle.clap.specs.Values.{kind_of};
 ghost use Rattle.clap.specs.declared.builder.command.Command.TheViews.{out-Command as fields_of};
-ghost use Rattle.edf_command_line.specs.Commands.{needed, needed_some, bare_app, checking_app, claim_app, explain_app, export_app, file_app, pair_app, parts_app, program_app, receipt_app, reporting_app, with_both};
+ghost use Rattle.edf_command_line.specs.Commands.{needed, needed_some, bare_app, checking_app, claim_app, draft_app, explain_app, export_app, file_app, pair_app, parts_app, program_app, receipt_app, reporting_app, series_app, with_both};
 ghost use Rattle.edf_command_line.specs.Jobs.{ArePlain, HasExports, SaysJob, SaysNoJob, behind_first};
 
 use crate::VERSION;
@@ -28,6 +28,9 @@ Status: 0 for Yes, 1 for No, and 2 for no answer, with a line on standard error 
 
 Pages: START.md is the one to begin with. They stand in /usr/share/doc/edfclaim where the package is
 installed, and in the folder docs of the sources. `man edfclaim` has all of the commands.";
+
+/// What several exports are, in the help.
+const EXPORTS: &str = "The recordings that are handed out, in the order of time";
 
 /// A command's name, what it does in a line of the help, and its place among the commands there.
 #[derive(Clone, Copy)]
@@ -94,12 +97,7 @@ fn parts_command<'a>(alloc: Global, named: Named<'a>) -> Result<Command<'a>, All
     let named = named_command(alloc, named);
     let one = needing(alloc, named, "ORIGINAL", "The recording that is kept")?;
     let two = needing(alloc, one, "CLAIM", "The claim, a TOML document")?;
-    needing_some(
-        alloc,
-        two,
-        "EXPORT",
-        "The recordings that are handed out, in the order of time",
-    )
+    needing_some(alloc, two, "EXPORT", EXPORTS)
 }
 
 /// The command `NAME ORIGINAL EXPORT`.
@@ -110,6 +108,16 @@ fn pair_command<'a>(alloc: Global, named: Named<'a>) -> Result<Command<'a>, Allo
     let named = named_command(alloc, named);
     let one = needing(alloc, named, "ORIGINAL", "The recording that is kept")?;
     needing(alloc, one, "EXPORT", "The recording that is handed out")
+}
+
+/// The command `NAME ORIGINAL EXPORT..`.
+fn series_command<'a>(alloc: Global, named: Named<'a>) -> Result<Command<'a>, AllocError>
+    ensures shape { IfOk result (λ c. app_of c ≡ series_app named.entry.name.now) }
+    ensures local { IfOk result (λ c. (fields_of c).has_globals ≡ false) }
+{
+    let named = named_command(alloc, named);
+    let one = needing(alloc, named, "ORIGINAL", "The recording that is kept")?;
+    needing_some(alloc, one, "EXPORT", EXPORTS)
 }
 
 /// The command `NAME FILE`.
@@ -155,7 +163,7 @@ fn vectors_command<'a>(alloc: Global) -> Command<'a>
     let vectors = Named {
         name: "vectors",
         about: "Runs the worked examples that are built in, and looks whether each gives its stored line",
-        place: 10,
+        place: 12,
     };
     named_command(alloc, vectors)
 }
@@ -198,7 +206,7 @@ fn checking_program<'a>(alloc: Global) -> Result<Command<'a>, AllocError>
     let parts = Named {
         name: "check-parts",
         about: "Checks an export that goes out in several files, all of them together",
-        place: 8,
+        place: 9,
     };
     with_both(alloc, bare_program(alloc), check, parts)
 }
@@ -216,15 +224,14 @@ fn receipt_program<'a>(alloc: Global) -> Result<Command<'a>, AllocError>
     let parts = Named {
         name: "receipt-parts",
         about: "Writes such a receipt of an export that goes out in several files",
-        place: 9,
+        place: 11,
     };
     with_both(alloc, checking, receipt, parts)
 }
 
-/// The program with its checks, their receipts, the draft of a claim and a check that explains itself, and without another
-/// command.
-fn explain_program<'a>(alloc: Global) -> Result<Command<'a>, AllocError>
-    ensures { IfOk result (λ c. app_of c ≡ explain_app) }
+/// The program with its checks, their receipts and the drafts of a claim, and without another command.
+fn draft_program<'a>(alloc: Global) -> Result<Command<'a>, AllocError>
+    ensures { IfOk result (λ c. app_of c ≡ draft_app) }
 {
     let receipts = receipt_program(alloc)?;
     let draft = Named {
@@ -234,13 +241,32 @@ fn explain_program<'a>(alloc: Global) -> Result<Command<'a>, AllocError>
     };
     let pair = pair_command(alloc, draft)?;
     let drafting = receipts.subcommand(pair)?;
+    let parts = Named {
+        name: "draft-parts",
+        about: "Drafts the claim by which several files together would be the export of the original",
+        place: 8,
+    };
+    let series = series_command(alloc, parts)?;
+    drafting.subcommand(series)
+}
+
+/// The program with its checks, their receipts, the drafts of a claim and the checks that explain themselves, and without another
+/// command.
+fn explain_program<'a>(alloc: Global) -> Result<Command<'a>, AllocError>
+    ensures { IfOk result (λ c. app_of c ≡ explain_app) }
+{
+    let drafting = draft_program(alloc)?;
     let explain = Named {
         name: "explain",
         about: "Checks as check does, and explains the answer in plain sentences",
         place: 6,
     };
-    let explaining = export_command(alloc, explain)?;
-    drafting.subcommand(explaining)
+    let parts = Named {
+        name: "explain-parts",
+        about: "Explains the answer on an export that goes out in several files",
+        place: 10,
+    };
+    with_both(alloc, drafting, explain, parts)
 }
 
 /// The program with all of its commands but those on a claim alone and on no file.

@@ -32,11 +32,22 @@ pub enum Job<'a> {
         original: &'a str,
         export: &'a str,
     },
+    /// Drafts the claim by which several recordings, in the order of time, are together the export of another.
+    DraftParts {
+        original: &'a str,
+        exports: &'a [&'a str],
+    },
     /// The same as `Check`, with sentences behind its answer.
     Explain {
         original: &'a str,
         export: &'a str,
         claim: &'a str,
+    },
+    /// The same as `CheckParts`, with sentences behind its answer.
+    ExplainParts {
+        original: &'a str,
+        claim: &'a str,
+        exports: &'a [&'a str],
     },
     /// Says whether a file conforms.
     Conform(&'a str),

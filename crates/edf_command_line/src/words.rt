@@ -2,7 +2,7 @@
 
 ghost use Rattle.std.specs.Prelude.{map, IfSome, IfNone};
 ghost use Rattle.std.specs.Bool.{Decides};
-ghost use Rattle.edf_command_line.specs.Jobs.{HasExports, HaveEscape, SaysJob, SaysNoExport, SaysNoFile, SaysNoJob, SaysNoOther, SaysNoParts, behind_first};
+ghost use Rattle.edf_command_line.specs.Jobs.{HasExports, HaveEscape, SaysJob, SaysNoCheckOfParts, SaysNoExport, SaysNoFile, SaysNoJob, SaysNoOther, SaysNoParts, SaysNoDraftOfParts, behind_first};
 
 use crate::jobs::Job;
 
@@ -13,10 +13,10 @@ fn have_escape(words: &[&str]) -> bool
     words.contains(&"--")
 }
 
-/// The command over several exports that the words behind the first one are, or none where they aren't one.
-fn parts_job<'a>(words: &'a [&'a str]) -> Option<Job<'a>>
+/// The check of several exports that the words behind the first one are, or none where they aren't one.
+fn parts_check<'a>(words: &'a [&'a str]) -> Option<Job<'a>>
     ensures some { IfSome result (SaysJob (behind_first words.entry.now)) }
-    ensures none { IfNone result (SaysNoParts (behind_first words.entry.now)) }
+    ensures none { IfNone result (SaysNoCheckOfParts (behind_first words.entry.now)) }
 {
     match words {
         [_, "check-parts", original, claim, _, ..] if !have_escape(&words[1..]) => {
@@ -33,7 +33,41 @@ fn parts_job<'a>(words: &'a [&'a str]) -> Option<Job<'a>>
                 exports: &words[4..],
             })
         }
+        [_, "explain-parts", original, claim, _, ..] if !have_escape(&words[1..]) => {
+            Some(Job::ExplainParts {
+                original,
+                claim,
+                exports: &words[4..],
+            })
+        }
         _ => None,
+    }
+}
+
+/// The draft of a claim for several exports that the words behind the first one are, or none where they aren't one.
+fn parts_draft<'a>(words: &'a [&'a str]) -> Option<Job<'a>>
+    ensures some { IfSome result (SaysJob (behind_first words.entry.now)) }
+    ensures none { IfNone result (SaysNoDraftOfParts (behind_first words.entry.now)) }
+{
+    match words {
+        [_, "draft-parts", original, _, ..] if !have_escape(&words[1..]) => {
+            Some(Job::DraftParts {
+                original,
+                exports: &words[3..],
+            })
+        }
+        _ => None,
+    }
+}
+
+/// The command over several exports that the words behind the first one are, or none where they aren't one.
+fn parts_job<'a>(words: &'a [&'a str]) -> Option<Job<'a>>
+    ensures some { IfSome result (SaysJob (behind_first words.entry.now)) }
+    ensures none { IfNone result (SaysNoParts (behind_first words.entry.now)) }
+{
+    match parts_check(words) {
+        Some(job) => Some(job),
+        None => parts_draft(words),
     }
 }
 

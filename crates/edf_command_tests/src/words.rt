@@ -68,6 +68,40 @@ const WORDS: &[(&[&str], Option<Job<'static>>)] = &[
     (&["edfclaim", "draft", "o"], None),
     (&["edfclaim", "draft", "o", "e", "c"], None),
     (
+        &["edfclaim", "draft-parts", "night.edf", "a", "b"],
+        Some(Job::DraftParts {
+            original: "night.edf",
+            exports: &["a", "b"],
+        }),
+    ),
+    (
+        &["edfclaim", "draft-parts", "o", "a"],
+        Some(Job::DraftParts {
+            original: "o",
+            exports: &["a"],
+        }),
+    ),
+    (
+        &[
+            "edfclaim",
+            "explain-parts",
+            "night.edf",
+            "claim.toml",
+            "a",
+            "b",
+        ],
+        Some(Job::ExplainParts {
+            original: "night.edf",
+            claim: "claim.toml",
+            exports: &["a", "b"],
+        }),
+    ),
+    (&["edfclaim", "explain-parts", "o", "c"], None),
+    (&["edfclaim", "explain-parts", "o", "c", "--", "a"], None),
+    (&["edfclaim", "draft-parts", "o"], None),
+    (&["edfclaim", "draft-parts", "o", "a", "--", "b"], None),
+    (&["edfclaim", "draft-parts", "--", "o", "a"], None),
+    (
         &[
             "edfclaim",
             "explain",

@@ -1,5 +1,5 @@
 -- What is written of two files.
-use Rattle.std.proofs.Common.{◌≡◌, inl, inr, ℕ, ℤ, List, Bool, None, subst}
+use Rattle.std.proofs.Common.{◌≡◌, inl, inr, ℕ, ℤ, List, [], ◌∷◌, Bool, None, ap, subst, sym, ◌∙◌}
 use Rattle.edf_fields.specs.declared.faults.fault.Fault.{Fault}
 use Rattle.edf_stop.specs.declared.sides.Side.{Side}
 use Rattle.edf_stop.specs.declared.sides.Side.TheVariants.{Original, Export}
@@ -9,12 +9,15 @@ use Rattle.edf_stop.specs.declared.stops.RunStop.TheVariants.{WriteFailed}
 use Rattle.edf_stop.specs.Stops.{stop_of_check}
 use Rattle.edf_stream.specs.Faults.{file_fault}
 use Rattle.edf_stream.proofs.ForCallers.{conforming_is_faultless}
+use Rattle.edf_verdict.specs.declared.outcome.Outcome.{Outcome}
 use Rattle.edf_verdict.specs.declared.outcome.Outcome.TheVariants.{No}
-use Rattle.edf_draft.specs.Answers.{IsAnswer, IsFaultAt, IsReadOf, IsShiftBetween, IsTextOf, fault_text_of, none_text}
+use Rattle.edf_draft.specs.Answers.{IsAnswer, IsFaultAt, IsOneReadOf, IsReadOf, IsShiftBetween, IsTextOf, fault_text_of, none_text}
 use Rattle.edf_draft.specs.Days.{IsShift}
-use Rattle.edf_draft.specs.Drafts.{IsDraftText, IsShiftOf}
-use Rattle.edf_draft.specs.FirstLines.{Anew}
+use Rattle.edf_draft.specs.Drafts.{IsDraftFor, IsDraftText, IsMoved, IsShiftOf}
+use Rattle.edf_draft.specs.Exported.{heads_of}
+use Rattle.edf_draft.specs.FirstLines.{Anew, IsTrueOfYes}
 use Rattle.edf_draft.specs.Times.{begin_of, end_of}
+use Rattle.edf_draft.specs.declared.exported.Exported.{Exported}
 use Rattle.edf_draft.specs.declared.recorded.Recorded.{Recorded}
 use Rattle.edf_draft.proofs.ChoiceFacts.{moved_weaker}
 
@@ -27,37 +30,50 @@ pub fault_answers : (again : Anew) (original export text : List ℕ) (side : Sid
 fault_answers again original export text Original fault is at = inl (fault, at, is)
 fault_answers again original export text Export fault is at = inr (inl (fault, at.0, at.1, is))
 
-pub none_answers : (again : Anew) (original export text : List ℕ) (o e : Recorded) → text ≡ none_text → IsReadOf original o → IsReadOf export e
+pub none_answers : (again : Anew) (original export text : List ℕ) (o : Recorded) (e : Exported) → text ≡ none_text → IsReadOf original o → IsOneReadOf export e
     → IsAnswer again original export text No
-none_answers again original export text o e is first second = inr (inr (faultless original o first, faultless export e second, is))
+none_answers again original export text o e is first second = inr (inr (faultless original o first, faultless export e.together second.read, is))
 
 moved_there : (a b c d p q r s : ℤ) (told : Bool) (shift : ℤ) → a ≡ p → b ≡ q → c ≡ r → d ≡ s → IsShift a b c d told shift → IsShift p q r s told shift
 moved_there a b c d p q r s told shift first second third fourth moved =
     subst (λ x. IsShift x q r s told shift) first (subst (λ x. IsShift a x r s told shift) second
     (subst (λ x. IsShift a b x s told shift) third (subst (λ x. IsShift a b c x told shift) fourth moved)))
 
-shift_there : (original export : List ℕ) (o e : Recorded) → IsReadOf original o → IsReadOf export e → (shift : ℤ) → IsShiftBetween o e shift
-    → IsShiftOf original (o.reader).head export (e.reader).head shift
+shift_there : (original export : List ℕ) (o : Recorded) (e : Exported) → IsReadOf original o → IsReadOf export e.together → (shift : ℤ) → IsShiftBetween o e shift
+    → IsShiftOf original (o.reader).head export ((e.together).reader).head shift
 shift_there original export o e first second shift is = (
   is.0,
-  moved_there (o.times).begin_ps (o.times).end_ps (e.times).begin_ps (e.times).end_ps
-      (begin_of original (o.reader).head) (end_of original (o.reader).head) (begin_of export (e.reader).head) (end_of export (e.reader).head)
+  moved_there (o.times).begin_ps (o.times).end_ps ((e.together).times).begin_ps ((e.together).times).end_ps
+      (begin_of original (o.reader).head) (end_of original (o.reader).head) (begin_of export ((e.together).reader).head) (end_of export ((e.together).reader).head)
       is.0 shift first.begins first.ends second.begins second.ends is.1,
 )
 
-pub draft_answers : (again : Anew) (original export text : List ℕ) (o e : Recorded) → IsReadOf original o → IsReadOf export e → IsTextOf again o e text
+pub draft_answers : (again : Anew) (original export text : List ℕ) (o : Recorded) (e : Exported) → IsReadOf original o → IsOneReadOf export e → IsTextOf again o e text
     → IsDraftText again original export text
 draft_answers again original export text o e first second is = record {
   o = (o.reader).head;
-  e = (e.reader).head;
+  e = ((e.together).reader).head;
   claim = is.claim;
   original_conforms = first.conforms;
-  export_conforms = second.conforms;
+  export_conforms = (second.read).conforms;
   says = is.says;
-  drafts = is.drafts;
-  moved = moved_weaker again (o.reader).head (e.reader).head (IsShiftBetween o e) (IsShiftOf original (o.reader).head export (e.reader).head)
-      text (is.claim).shift (shift_there original export o e first second) is.moved;
+  drafts = subst (λ h. IsDraftFor (o.reader).head h (is.claim).shift is.claim) second.alone is.drafts;
+  moved = subst (λ h. IsMoved again (o.reader).head h (IsShiftOf original (o.reader).head export ((e.together).reader).head) text (is.claim).shift) second.alone
+      (moved_weaker again (o.reader).head (heads_of e) (IsShiftBetween o e) (IsShiftOf original (o.reader).head export ((e.together).reader).head)
+      text (is.claim).shift (shift_there original export o e first second.read) is.moved);
 }
+
+-- what is written of an original and exports that conform, where there is one export
+pub one_answers : (files again : Anew) (original export : Recorded) (x : Exported) (text : List ℕ) (outcome : Outcome) → files ≡ again
+    → x.together ≡ export → heads_of x ≡ (export.reader).head ∷ []
+    → ((o e : List ℕ) → IsReadOf o original → IsOneReadOf e x → IsAnswer files o e text outcome)
+    → (o e : List ℕ) → IsReadOf o original → IsReadOf e export → IsAnswer again o e text outcome
+one_answers files again original export x text outcome same is alone answers o e first second =
+    subst (λ f. IsAnswer f o e text outcome) same (answers o e first
+    (record { alone = alone ∙ ap (λ (r : Recorded). (r.reader).head ∷ []) (sym is); read = subst (IsReadOf e) (sym is) second }))
+
+pub one_is_true : (files again : Anew) (text : List ℕ) → files ≡ again → IsTrueOfYes files text → IsTrueOfYes again text
+one_is_true files again text same is = subst (λ f. IsTrueOfYes f text) same is
 
 -- a stop of the reading is no failed write
 pub none_written : (A : Type 0) (stop : CheckStop) → stop_of_check stop ≡ WriteFailed → A

@@ -1,23 +1,45 @@
 -- The subfields that an export hides, found one after the other.
-use Rattle.std.proofs.Common.{◌≡◌, ◌⊎◌, ◌↔◌, inl, inr, List, [], ◌∷◌, ◌++◌, refl, subst, sym}
+use Rattle.std.proofs.Common.{◌≡◌, ◌⊎◌, ◌↔◌, inl, inr, Bool, false, IsTrue, List, [], ◌∷◌, ◌++◌, map, refl, subst, sym}
 use Rattle.edf_fields.specs.Lists.{Has}
 use Rattle.edf_fields.specs.declared.fields.which.Which.{Which}
 use Rattle.edf_fields.specs.fields.SubfieldNamesReading.{all_subfields}
 use Rattle.edf_header.specs.Heads.{Head}
 use Rattle.edf_heads.proofs.ForCallers.{has-all}
-use Rattle.edf_draft.specs.Hidden.{AreLeft, IsHidden}
+use Rattle.edf_stream.specs.records.Readers.{Reader}
+use Rattle.edf_draft.specs.Hidden.{AreLeft, IsHidden, IsHiddenInAll}
+
+-- a subfield that the one export there is hides is hidden in all
+pub alone_hidden : (o e : Head) (others : List Reader) (which : Which) (r : Bool) → others ≡ [] → IsTrue r ↔ IsHidden o e which
+    → IsTrue r ↔ IsHiddenInAll o (e ∷ map (λ x. x.head) others) which
+alone_hidden o e [] which r none is = is
+alone_hidden o e (x ∷ xs) which r none is = absurd cc
+
+-- where the first export hides it, it is hidden in all if it is in those behind it
+pub more_hidden : (o e : Head) (others rest : List Reader) (next : Reader) (which : Which) (a b : Bool) → others ≡ next ∷ rest → IsTrue a
+    → IsTrue a ↔ IsHidden o e which → IsTrue b ↔ IsHiddenInAll o (next.head ∷ map (λ x. x.head) rest) which
+    → IsTrue b ↔ IsHiddenInAll o (e ∷ map (λ x. x.head) others) which
+more_hidden o e others rest next which a b same so first behind =
+    subst (λ all. IsTrue b ↔ IsHiddenInAll o (e ∷ map (λ x. x.head) all) which) (sym same)
+    ((λ h. (first.0 so, behind.0 h)), λ h. behind.1 h.1)
+
+-- and it isn't where the first one shows it
+pub not_hidden : (o e : Head) (others rest : List Reader) (next : Reader) (which : Which) (a : Bool) → others ≡ next ∷ rest → (IsTrue a → ⊥)
+    → IsTrue a ↔ IsHidden o e which → IsTrue false ↔ IsHiddenInAll o (e ∷ map (λ x. x.head) others) which
+not_hidden o e others rest next which a same never first =
+    subst (λ all. IsTrue false ↔ IsHiddenInAll o (e ∷ map (λ x. x.head) all) which) (sym same)
+    ((λ h. absurd cc), λ h. absurd (never (first.1 h.0)))
 
 -- at first none was found, and all are left
-pub all_left : (o e : Head) → AreLeft o e [] all_subfields
+pub all_left : (o : Head) (e : List Head) → AreLeft o e [] all_subfields
 all_left o e which = (side, λ h. inr (has-all which, h)) where
-  side : (Has [] which ⊎ (Has all_subfields which × IsHidden o e which)) → IsHidden o e which
+  side : (Has [] which ⊎ (Has all_subfields which × IsHiddenInAll o e which)) → IsHiddenInAll o e which
   side (inl x) = absurd x
   side (inr p) = p.1
 
 -- in the end none is left
-pub none_left : (o e : Head) (found : List Which) → AreLeft o e found [] → (which : Which) → Has found which ↔ IsHidden o e which
+pub none_left : (o : Head) (e : List Head) (found : List Which) → AreLeft o e found [] → (which : Which) → Has found which ↔ IsHiddenInAll o e which
 none_left o e found left which = ((λ h. (left which).0 (inl h)), λ h. side ((left which).1 h)) where
-  side : (Has found which ⊎ (Has [] which × IsHidden o e which)) → Has found which
+  side : (Has found which ⊎ (Has [] which × IsHiddenInAll o e which)) → Has found which
   side (inl x) = x
   side (inr p) = absurd p.0
 
@@ -40,29 +62,29 @@ has_either (y ∷ ys) x which (inr h) = side (has_either ys x which h) where
   side (inr b) = inr b
 
 -- the next one is hidden
-pub one_found : (o e : Head) (found rest : List Which) (x : Which) → IsHidden o e x → AreLeft o e found (x ∷ rest) → AreLeft o e (found ++ x ∷ []) rest
+pub one_found : (o : Head) (e : List Head) (found rest : List Which) (x : Which) → IsHiddenInAll o e x → AreLeft o e found (x ∷ rest) → AreLeft o e (found ++ x ∷ []) rest
 one_found o e found rest x is left which = (to, λ h. back h ((left which).1 h)) where
-  found_one : Has found which ⊎ (x ≡ which) → IsHidden o e which
+  found_one : Has found which ⊎ (x ≡ which) → IsHiddenInAll o e which
   found_one (inl h) = (left which).0 (inl h)
-  found_one (inr p) = subst (IsHidden o e) p is
+  found_one (inr p) = subst (IsHiddenInAll o e) p is
 
-  to : (Has (found ++ x ∷ []) which ⊎ (Has rest which × IsHidden o e which)) → IsHidden o e which
+  to : (Has (found ++ x ∷ []) which ⊎ (Has rest which × IsHiddenInAll o e which)) → IsHiddenInAll o e which
   to (inl h) = found_one (has_either found x which h)
   to (inr p) = p.1
 
-  back : IsHidden o e which → (Has found which ⊎ (Has (x ∷ rest) which × IsHidden o e which)) → Has (found ++ x ∷ []) which ⊎ (Has rest which × IsHidden o e which)
+  back : IsHiddenInAll o e which → (Has found which ⊎ (Has (x ∷ rest) which × IsHiddenInAll o e which)) → Has (found ++ x ∷ []) which ⊎ (Has rest which × IsHiddenInAll o e which)
   back h (inl a) = inl (has_front found x which a)
   back h (inr (inl p, q)) = inl (has_last found x which p)
   back h (inr (inr b, q)) = inr (b, h)
 
 -- it isn't
-pub none_found : (o e : Head) (found rest : List Which) (x : Which) → (IsHidden o e x → ⊥) → AreLeft o e found (x ∷ rest) → AreLeft o e found rest
+pub none_found : (o : Head) (e : List Head) (found rest : List Which) (x : Which) → (IsHiddenInAll o e x → ⊥) → AreLeft o e found (x ∷ rest) → AreLeft o e found rest
 none_found o e found rest x is left which = (to, λ h. back h ((left which).1 h)) where
-  to : (Has found which ⊎ (Has rest which × IsHidden o e which)) → IsHidden o e which
+  to : (Has found which ⊎ (Has rest which × IsHiddenInAll o e which)) → IsHiddenInAll o e which
   to (inl h) = (left which).0 (inl h)
   to (inr p) = p.1
 
-  back : IsHidden o e which → (Has found which ⊎ (Has (x ∷ rest) which × IsHidden o e which)) → Has found which ⊎ (Has rest which × IsHidden o e which)
+  back : IsHiddenInAll o e which → (Has found which ⊎ (Has (x ∷ rest) which × IsHiddenInAll o e which)) → Has found which ⊎ (Has rest which × IsHiddenInAll o e which)
   back h (inl a) = inl a
-  back h (inr (inl p, q)) = absurd (is (subst (IsHidden o e) (sym p) h))
+  back h (inr (inl p, q)) = absurd (is (subst (IsHiddenInAll o e) (sym p) h))
   back h (inr (inr b, q)) = inr (b, h)

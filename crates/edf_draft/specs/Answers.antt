@@ -20,6 +20,8 @@ use Rattle.edf_draft.specs.Days.{IsShift}
 use Rattle.edf_draft.specs.Drafts.{IsDraftFor, IsDraftText, IsMoved}
 use Rattle.edf_draft.specs.FirstLines.{Anew}
 use Rattle.edf_draft.specs.Times.{begin_of, end_of}
+use Rattle.edf_draft.specs.Exported.{heads_of}
+use Rattle.edf_draft.specs.declared.exported.Exported.{Exported}
 use Rattle.edf_draft.specs.declared.recorded.Recorded.{Recorded}
 
 -- a comment says which file it is, and then comes the line of its fault
@@ -27,17 +29,17 @@ abbrev pub fault_text_of : Side → Fault → List ℕ
 fault_text_of Original fault = codes "# the original\nFAULT " ++ (fault_text fault ++ (10 ∷ []))
 fault_text_of Export fault = codes "# the export\nFAULT " ++ (fault_text fault ++ (10 ∷ []))
 
--- the shift is the one that the times of two files tell that were read
-abbrev pub IsShiftBetween : Recorded → Recorded → ℤ → Type 0
+-- the shift is the one that the times of the files tell that were read
+abbrev pub IsShiftBetween : Recorded → Exported → ℤ → Type 0
 IsShiftBetween o e shift =
-    (told : Bool) × IsShift (o.times).begin_ps (o.times).end_ps (e.times).begin_ps (e.times).end_ps told shift
+    (told : Bool) × IsShift (o.times).begin_ps (o.times).end_ps ((e.together).times).begin_ps ((e.together).times).end_ps told shift
 
--- a text says just what is drafted of two files that were read
-pub record IsTextOf (again : Anew) (o e : Recorded) (text : List ℕ) : Type 0 where
+-- a text says just what is drafted of the files that were read
+pub record IsTextOf (again : Anew) (o : Recorded) (e : Exported) (text : List ℕ) : Type 0 where
   pub claim : Terms
   pub says : SaysClaimText text claim
-  pub drafts : IsDraftFor (o.reader).head (e.reader).head claim.shift claim
-  pub moved : IsMoved again (o.reader).head (e.reader).head (IsShiftBetween o e) text claim.shift
+  pub drafts : IsDraftFor (o.reader).head (heads_of e) claim.shift claim
+  pub moved : IsMoved again (o.reader).head (heads_of e) (IsShiftBetween o e) text claim.shift
 
 -- the first fault of the file of this side, and where it is the export's, the original has none
 abbrev pub IsFaultAt : Side → Fault → List ℕ → List ℕ → Type 0
@@ -49,6 +51,11 @@ pub record IsReadOf (file : List ℕ) (recorded : Recorded) : Type 0 where
   pub conforms : Conforms file (recorded.reader).head
   pub begins : (recorded.times).begin_ps ≡ begin_of file (recorded.reader).head
   pub ends : (recorded.times).end_ps ≡ end_of file (recorded.reader).head
+
+-- the same of a single export
+pub record IsOneReadOf (file : List ℕ) (exported : Exported) : Type 0 where
+  pub alone : heads_of exported ≡ ((exported.together).reader).head ∷ []
+  pub read : IsReadOf file exported.together
 
 -- a comment says that no claim says what the export is
 abbrev pub none_text : List ℕ

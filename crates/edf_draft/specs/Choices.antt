@@ -1,5 +1,5 @@
 -- Which of two drafts is given.
-use Rattle.std.specs.Prelude.{◌≡◌, ◌⊎◌, ℤ, IsTrue, Option, Some, None, IfSome}
+use Rattle.std.specs.Prelude.{◌≡◌, ◌⊎◌, ℤ, IsTrue, List, Option, Some, None, IfSome}
 use Rattle.edf_header.specs.Heads.{Head}
 use Rattle.edf_verdict.specs.declared.verdict.Verdict.{Verdict}
 use Rattle.edf_draft.specs.Better.{is_taken}
@@ -21,7 +21,7 @@ abbrev pub IsChosen : Option Tried → Option Tried → Tried → Type 0
 IsChosen days samples tried = (days ≡ Some tried) ⊎ ((samples ≡ Some tried) × IsTrue (is_taken (verdict_with days) tried.verdict))
 
 -- of a draft whose shift is told by days, and of one by another shift, where there are such, the one that is given
-pub record IsGiven (again : Anew) (o e : Head) (shift : ℤ) (tried : Tried) : Type 0 where
+pub record IsGiven (again : Anew) (o : Head) (e : List Head) (shift : ℤ) (tried : Tried) : Type 0 where
   pub days : Option Tried
   pub samples : Option Tried
   pub by_days : IfSome days (IsTriedDraft again o e shift)

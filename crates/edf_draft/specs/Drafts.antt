@@ -1,5 +1,5 @@
 -- What a draft of a claim says of two files.
-use Rattle.std.specs.Prelude.{◌≡◌, ◌↔◌, ◌⊎◌, ℕ, ℤ, IsTrue, List, [], Bool, Option, Some, IfSome}
+use Rattle.std.specs.Prelude.{◌≡◌, ◌↔◌, ◌⊎◌, ℕ, ℤ, IsTrue, List, [], ◌∷◌, Bool, Option, Some, IfSome}
 use Rattle.edf_claim.specs.Claims.{SaysClaimText}
 use Rattle.edf_claim.specs.Terms.{Terms}
 use Rattle.edf_fields.specs.Lists.{Has}
@@ -11,14 +11,19 @@ use Rattle.edf_verdict.specs.declared.verdict.Verdict.{Verdict}
 use Rattle.edf_draft.specs.Better.{is_taken}
 use Rattle.edf_draft.specs.Days.{IsShift}
 use Rattle.edf_draft.specs.FirstLines.{Anew, IsTried}
-use Rattle.edf_draft.specs.Hidden.{IsHidden}
+use Rattle.edf_draft.specs.Hidden.{IsHiddenInAll}
 use Rattle.edf_draft.specs.Times.{begin_of, end_of}
 
--- a claim of this shift has the channels of the export, in its order; what is anonymous in it are the subfields that the export hides;
--- and it removes no texts by how they begin
-pub record IsDraftFor (original export : Head) (shift : ℤ) (claim : Terms) : Type 0 where
-  pub channels : claim.channels ≡ channel_labels export.signals
-  pub anonymous : (which : Which) → Has claim.anonymous which ↔ IsHidden original export which
+-- the labels of the channels of the first of several exports, in its order
+abbrev pub first_labels : List Head → List (List ℕ)
+first_labels [] = []
+first_labels (export ∷ others) = channel_labels export.signals
+
+-- a claim of this shift has the channels of the first export, in its order; what is anonymous in it are the subfields that all exports
+-- hide; and it removes no texts by how they begin
+pub record IsDraftFor (original : Head) (exports : List Head) (shift : ℤ) (claim : Terms) : Type 0 where
+  pub channels : claim.channels ≡ first_labels exports
+  pub anonymous : (which : Which) → Has claim.anonymous which ↔ IsHiddenInAll original exports which
   pub moved : claim.shift ≡ shift
   pub no_prefix : claim.remove_prefix ≡ []
 
@@ -28,8 +33,8 @@ abbrev pub IsShiftOf : List ℕ → Head → List ℕ → Head → ℤ → Type 
 IsShiftOf original o export e shift =
     (told : Bool) × IsShift (begin_of original o) (end_of original o) (begin_of export e) (end_of export e) told shift
 
--- the verdict with a draft of two headers whose shift is told by days
-pub record IsVerdictByDays (again : Anew) (o e : Head) (ByDays : ℤ → Type 0) (verdict : Verdict) : Type 0 where
+-- the verdict with a draft of an original and exports, by their headers, whose shift is told by days
+pub record IsVerdictByDays (again : Anew) (o : Head) (e : List Head) (ByDays : ℤ → Type 0) (verdict : Verdict) : Type 0 where
   pub text : List ℕ
   pub claim : Terms
   pub says : SaysClaimText text claim
@@ -38,7 +43,7 @@ pub record IsVerdictByDays (again : Anew) (o e : Head) (ByDays : ℤ → Type 0)
   pub said : IsTried again text verdict
 
 -- the verdict with a draft is a Yes, or that with the draft by days, which was tried, isn't better
-pub record IsNoWorse (again : Anew) (o e : Head) (ByDays : ℤ → Type 0) (text : List ℕ) : Type 0 where
+pub record IsNoWorse (again : Anew) (o : Head) (e : List Head) (ByDays : ℤ → Type 0) (text : List ℕ) : Type 0 where
   pub by_days : Option Verdict
   pub days : IfSome by_days (IsVerdictByDays again o e ByDays)
   pub verdict : Verdict
@@ -46,7 +51,7 @@ pub record IsNoWorse (again : Anew) (o e : Head) (ByDays : ℤ → Type 0) (text
   pub taken : IsTrue (is_taken by_days (Some verdict))
 
 -- the shift of a draft is told by days; or the draft is no worse than that
-abbrev pub IsMoved : Anew → Head → Head → (ℤ → Type 0) → List ℕ → ℤ → Type 0
+abbrev pub IsMoved : Anew → Head → List Head → (ℤ → Type 0) → List ℕ → ℤ → Type 0
 IsMoved again o e ByDays text shift = ByDays shift ⊎ IsNoWorse again o e ByDays text
 
 -- two files conform, and the text is a claim that says just what is drafted of them
@@ -57,5 +62,5 @@ pub record IsDraftText (again : Anew) (original export text : List ℕ) : Type 0
   pub original_conforms : Conforms original o
   pub export_conforms : Conforms export e
   pub says : SaysClaimText text claim
-  pub drafts : IsDraftFor o e claim.shift claim
-  pub moved : IsMoved again o e (IsShiftOf original o export e) text claim.shift
+  pub drafts : IsDraftFor o (e ∷ []) claim.shift claim
+  pub moved : IsMoved again o (e ∷ []) (IsShiftOf original o export e) text claim.shift

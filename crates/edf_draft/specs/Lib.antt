@@ -1,6 +1,7 @@
 pub mod Better
 pub mod Choices
 pub mod Days
+pub mod Exported
 pub mod FirstLines
 pub mod Hidden
 pub mod Times

@@ -1,5 +1,5 @@
 -- What is known of a draft that was tried.
-use Rattle.std.specs.Prelude.{ℤ, IfSome}
+use Rattle.std.specs.Prelude.{ℤ, List, IfSome}
 use Rattle.edf_claim.specs.Claims.{SaysClaimText}
 use Rattle.edf_claim.specs.Terms.{Terms}
 use Rattle.edf_header.specs.Heads.{Head}
@@ -13,8 +13,8 @@ pub record IsTriedAs (again : Anew) (claim : Terms) (tried : Tried) : Type 0 whe
   pub first : IsTrueOfYes again tried.text.items
   pub said : IfSome tried.verdict (IsTried again tried.text.items)
 
--- the claim is drafted of two headers, and of this shift
-pub record IsTriedDraft (again : Anew) (o e : Head) (shift : ℤ) (tried : Tried) : Type 0 where
+-- the claim is drafted of the headers of an original and of exports, and of this shift
+pub record IsTriedDraft (again : Anew) (o : Head) (e : List Head) (shift : ℤ) (tried : Tried) : Type 0 where
   pub claim : Terms
   pub tries : IsTriedAs again claim tried
   pub drafts : IsDraftFor o e shift claim

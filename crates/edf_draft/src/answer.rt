@@ -3,12 +3,14 @@
 ghost use Rattle.std.specs.Prelude.{◌≡◌, List, ℕ, Some, IfOk, IfErr, OnOk, IsTrue};
 ghost use Rattle.edf_stream.specs.Faults.{file_fault};
 ghost use Rattle.edf_stop.specs.declared.stops.CheckStop.TheVariants as check_stops;
-ghost use Rattle.edf_draft.specs.Answers.{IsAnswer, IsAnswerBy, IsFaultAt, IsReadOf, StopsBoth, StopsSide, fault_text_of};
+ghost use Rattle.edf_draft.specs.Answers.{IsAnswer, IsAnswerBy, IsFaultAt, IsOneReadOf, IsReadOf, StopsBoth, StopsSide, fault_text_of};
 ghost use Rattle.edf_draft.specs.FirstLines.{IsTrueOfYes, anew, Anew};
 ghost use Rattle.edf_draft.specs.Readings.{OfSource};
 
 use crate::chosen::draft_text;
+use crate::exported::Exported;
 use crate::recorded::{Recorded, read_through};
+use crate::trial::{OneExport, Trial};
 use edf_fields::{Fault, Source};
 use edf_header::Stop;
 use edf_stop::{CheckStop, Side};
@@ -45,11 +47,10 @@ fn fault_lines(alloc: Global, side: Side, fault: &Fault) -> Result<Vec<u8>, Allo
 impl Answer {
     /// That of a fault.
     #[tactic(auto, using(crate::proofs::AnswerFacts::fault_answers, crate::proofs::FirstLineFacts::fault_is_true))]
-    fn of_fault(alloc: Global, side: Side, fault: &Fault) -> Result<Answer, CheckStop>
+    pub(crate) fn of_fault(alloc: Global, side: Side, fault: &Fault) -> Result<Answer, AllocError>
         ensures answer { IfOk result (λ a. (again : Anew) (original export : List ℕ) → IsFaultAt side fault.now original export →
             IsAnswer again original export a.text.items a.outcome) }
         ensures first { IfOk result (λ a. (again : Anew) → IsTrueOfYes again a.text.items) }
-        ensures stop { IfErr result (λ stop. stop ≡ check_stops.OutOfMemory) }
     {
         Ok(Answer {
             text: fault_lines(alloc, side, fault)?,
@@ -57,19 +58,18 @@ impl Answer {
         })
     }
 
-    /// That of two files that conform.
-    fn of_draft<R: Recordings>(
+    /// That of files that conform.
+    pub(crate) fn of_draft<T: Trial>(
         alloc: Global,
         original: &Recorded,
-        export: &Recorded,
-        again: &R,
-    ) -> Result<Answer, CheckStop>
-        ensures answer { IfOk result (λ a. (o e : List ℕ) → IsReadOf o original.now → IsReadOf e export.now → IsAnswer
-            (anew (R.are_honest again.now) (R.original again.now) (R.export again.now)) o e a.text.items a.outcome) }
-        ensures first { IfOk result (λ a. IsTrueOfYes (anew (R.are_honest again.now) (R.original again.now) (R.export again.now)) a.text.items) }
-        ensures stop { IfErr result (λ stop. stop ≡ check_stops.OutOfMemory) }
+        export: &Exported,
+        trial: &T,
+    ) -> Result<Answer, AllocError>
+        ensures answer { IfOk result (λ a. (o e : List ℕ) → IsReadOf o original.now → IsOneReadOf e export.now →
+            IsAnswer (T.files trial.now) o e a.text.items a.outcome) }
+        ensures first { IfOk result (λ a. IsTrueOfYes (T.files trial.now) a.text.items) }
     {
-        match draft_text(alloc, original, export, again)? {
+        match draft_text(alloc, original, export, trial)? {
             Some(text) => Ok(Answer {
                 text,
                 outcome: Outcome::Yes,
@@ -103,6 +103,40 @@ fn read_side<S: Source>(
     }
 }
 
+/// What is written of a fault.
+///
+/// The error is want of memory.
+fn fault_answer(alloc: Global, side: Side, fault: &Fault) -> Result<Answer, CheckStop>
+    ensures answer { IfOk result (λ a. (again : Anew) (original export : List ℕ) → IsFaultAt side fault.now original export →
+        IsAnswer again original export a.text.items a.outcome) }
+    ensures first { IfOk result (λ a. (again : Anew) → IsTrueOfYes again a.text.items) }
+    ensures stop { IfErr result (λ stop. stop ≡ check_stops.OutOfMemory) }
+{
+    Ok(Answer::of_fault(alloc, side, fault)?)
+}
+
+/// What is written of an original and one export that conform.
+///
+/// The error is want of memory.
+#[tactic(auto, using(crate::proofs::AnswerFacts::one_answers, crate::proofs::AnswerFacts::one_is_true))]
+fn draft_answer<R: Recordings>(
+    alloc: Global,
+    original: &Recorded,
+    export: Recorded,
+    again: &R,
+) -> Result<Answer, CheckStop>
+    ensures answer { IfOk result (λ a. (o e : List ℕ) → IsReadOf o original.now → IsReadOf e export → IsAnswer
+        (anew (R.are_honest again.now) (R.original again.now) (R.export again.now)) o e a.text.items a.outcome) }
+    ensures first { IfOk result (λ a. IsTrueOfYes
+        (anew (R.are_honest again.now) (R.original again.now) (R.export again.now)) a.text.items) }
+    ensures stop { IfErr result (λ stop. stop ≡ check_stops.OutOfMemory) }
+{
+    let exported = Exported::of_one(alloc, export);
+    let trial = OneExport::new(again);
+    let answer = Answer::of_draft(alloc, original, &exported, &trial)?;
+    Ok(answer)
+}
+
 /// Reads two files to their ends, the original first: the draft of a claim, or the first fault of the original, or else of
 /// the export. The draft is tried on the same files, which are opened anew.
 ///
@@ -121,11 +155,11 @@ pub(crate) fn answer_of<O: Source, E: Source, R: Recordings>(
 {
     let first = match read_side(alloc, original, Side::Original)? {
         Ok(recorded) => recorded,
-        Err(fault) => return Answer::of_fault(alloc, Side::Original, &fault),
+        Err(fault) => return fault_answer(alloc, Side::Original, &fault),
     };
     let second = match read_side(alloc, export, Side::Export)? {
         Ok(recorded) => recorded,
-        Err(fault) => return Answer::of_fault(alloc, Side::Export, &fault),
+        Err(fault) => return fault_answer(alloc, Side::Export, &fault),
     };
-    Answer::of_draft(alloc, &first, &second, again)
+    draft_answer(alloc, &first, second, again)
 }

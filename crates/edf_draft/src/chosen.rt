@@ -4,15 +4,18 @@ ghost use Rattle.std.specs.Prelude.{◌≡◌, ℤ, IfOk, IfSome};
 ghost use Rattle.edf_draft.specs.Answers.{IsTextOf};
 ghost use Rattle.edf_draft.specs.Choices.{IsChosen, IsGiven, IsOneOf, verdict_with};
 ghost use Rattle.edf_draft.specs.Better.{is_taken as is_taken_of};
-ghost use Rattle.edf_draft.specs.FirstLines.{IsTrueOfYes, anew};
+ghost use Rattle.edf_draft.specs.Exported.{heads_of};
+ghost use Rattle.edf_draft.specs.FirstLines.{IsTrueOfYes};
 ghost use Rattle.edf_draft.specs.Tries.{IsTriedDraft};
 
 use crate::drafted::draft_tried;
+use crate::exported::Exported;
 use crate::fits::shifts::fitting_shifts;
 use crate::recorded::Recorded;
 use crate::shift::{Moved, Shift, shift_of};
+use crate::trial::Trial;
 use crate::tried::Tried;
-use edf_trial::{Recordings, is_better};
+use edf_trial::is_better;
 use edf_verdict::Verdict;
 use std::alloc::{AllocError, Global};
 
@@ -78,22 +81,22 @@ impl Fits {
 
 /// The draft with a shift by which samples of the export are samples of the original, and which wasn't tried before; of several
 /// that one with which the check gets furthest. None where there is no such shift.
-fn draft_by_samples<R: Recordings>(
+fn draft_by_samples<T: Trial>(
     alloc: Global,
     original: &Recorded,
-    export: &Recorded,
+    export: &Exported,
     fits: &Fits,
-    again: &R,
+    trial: &T,
 ) -> Result<Option<Tried>, AllocError>
     ensures { IfOk result (λ best. IfSome best (λ tried. (shift : ℤ) × IsTriedDraft
-        (anew (R.are_honest again.now) (R.original again.now) (R.export again.now))
-        ((original.now).reader).head ((export.now).reader).head shift tried)) }
+        (T.files trial.now)
+        ((original.now).reader).head (heads_of export.now) shift tried)) }
 {
     let mut best = None;
     for shift in &fits.shifts {
         let moved = Moved::by_samples(*shift, &fits.shifts);
         if fits.tried != Some(*shift)
-            && let Some(tried) = draft_tried(alloc, original, export, moved, again)?
+            && let Some(tried) = draft_tried(alloc, original, export, moved, trial)?
         {
             best = Some(better_of(best, tried));
         }
@@ -132,26 +135,26 @@ fn chosen(by_days: Option<Tried>, by_samples: Option<Tried>) -> Option<Tried>
 /// The draft with the shift that the starts of the two files tell; or, where the check with that isn't a Yes, maybe one by the
 /// samples: where these tell the same shift, too, only one with which it is a Yes.
 #[tactic(auto, using(crate::proofs::ChoiceFacts::days_given, crate::proofs::ChoiceFacts::chosen_given))]
-fn draft_of_told<R: Recordings>(
+fn draft_of_told<T: Trial>(
     alloc: Global,
     original: &Recorded,
-    export: &Recorded,
+    export: &Exported,
     shift: Shift,
-    again: &R,
+    trial: &T,
 ) -> Result<Option<Tried>, AllocError>
     ensures { IfOk result (λ tried. IfSome tried (IsGiven
-        (anew (R.are_honest again.now) (R.original again.now) (R.export again.now))
-        ((original.now).reader).head ((export.now).reader).head shift.seconds)) }
+        (T.files trial.now)
+        ((original.now).reader).head (heads_of export.now) shift.seconds)) }
 {
-    let told = draft_tried(alloc, original, export, Moved::by_days(shift), again)?;
+    let told = draft_tried(alloc, original, export, Moved::by_days(shift), trial)?;
     if is_yes(&told) {
         return Ok(told);
     }
     let fits = Fits {
-        shifts: fitting_shifts(alloc, original, export, again)?,
+        shifts: fitting_shifts(alloc, original, &export.together, trial)?,
         tried: Some(shift.seconds),
     };
-    let by_samples = draft_by_samples(alloc, original, export, &fits, again)?;
+    let by_samples = draft_by_samples(alloc, original, export, &fits, trial)?;
     if fits.have_tried() && !is_yes(&by_samples) {
         return Ok(told);
     }
@@ -160,45 +163,45 @@ fn draft_of_told<R: Recordings>(
 
 /// The draft by the samples; or, where the check with that isn't a Yes, maybe the one with a shift that is guessed.
 #[tactic(auto, using(crate::proofs::ChoiceFacts::samples_given, crate::proofs::ChoiceFacts::chosen_given))]
-fn draft_of_guess<R: Recordings>(
+fn draft_of_guess<T: Trial>(
     alloc: Global,
     original: &Recorded,
-    export: &Recorded,
+    export: &Exported,
     shift: Shift,
-    again: &R,
+    trial: &T,
 ) -> Result<Option<Tried>, AllocError>
     ensures { IfOk result (λ tried. IfSome tried (IsGiven
-        (anew (R.are_honest again.now) (R.original again.now) (R.export again.now))
-        ((original.now).reader).head ((export.now).reader).head shift.seconds)) }
+        (T.files trial.now)
+        ((original.now).reader).head (heads_of export.now) shift.seconds)) }
 {
     let fits = Fits {
-        shifts: fitting_shifts(alloc, original, export, again)?,
+        shifts: fitting_shifts(alloc, original, &export.together, trial)?,
         tried: None,
     };
-    let by_samples = draft_by_samples(alloc, original, export, &fits, again)?;
+    let by_samples = draft_by_samples(alloc, original, export, &fits, trial)?;
     if is_yes(&by_samples) {
         return Ok(chosen(None, by_samples));
     }
-    let guess = draft_tried(alloc, original, export, Moved::by_days(shift), again)?;
+    let guess = draft_tried(alloc, original, export, Moved::by_days(shift), trial)?;
     Ok(chosen(guess, by_samples))
 }
 
 /// The draft that is given of two files whose starts tell this shift, or don't.
-fn draft_given<R: Recordings>(
+fn draft_given<T: Trial>(
     alloc: Global,
     original: &Recorded,
-    export: &Recorded,
+    export: &Exported,
     shift: Shift,
-    again: &R,
+    trial: &T,
 ) -> Result<Option<Tried>, AllocError>
     ensures { IfOk result (λ tried. IfSome tried (IsGiven
-        (anew (R.are_honest again.now) (R.original again.now) (R.export again.now))
-        ((original.now).reader).head ((export.now).reader).head shift.seconds)) }
+        (T.files trial.now)
+        ((original.now).reader).head (heads_of export.now) shift.seconds)) }
 {
     if shift.is_told {
-        draft_of_told(alloc, original, export, shift, again)
+        draft_of_told(alloc, original, export, shift, trial)
     } else {
-        draft_of_guess(alloc, original, export, shift, again)
+        draft_of_guess(alloc, original, export, shift, trial)
     }
 }
 
@@ -207,19 +210,19 @@ fn draft_given<R: Recordings>(
 ///
 /// Its shift is the number of days that the starts of the two files tell, or else one by which samples of the export are samples of
 /// the original, where the check with the first isn't a Yes, and no better than with the second.
-pub(crate) fn draft_text<R: Recordings>(
+pub(crate) fn draft_text<T: Trial>(
     alloc: Global,
     original: &Recorded,
-    export: &Recorded,
-    again: &R,
+    export: &Exported,
+    trial: &T,
 ) -> Result<Option<Vec<u8>>, AllocError>
     ensures text { IfOk result (λ text. IfSome text (λ t. IsTextOf
-        (anew (R.are_honest again.now) (R.original again.now) (R.export again.now)) original.now export.now t.items)) }
+        (T.files trial.now) original.now export.now t.items)) }
     ensures first { IfOk result (λ text. IfSome text (λ t. IsTrueOfYes
-        (anew (R.are_honest again.now) (R.original again.now) (R.export again.now)) t.items)) }
+        (T.files trial.now) t.items)) }
 {
-    let shift = shift_of(original, export);
-    let given = draft_given(alloc, original, export, shift, again)?;
+    let shift = shift_of(original, &export.together);
+    let given = draft_given(alloc, original, export, shift, trial)?;
     match given {
         Some(tried) => Ok(Some(tried.into_text())),
         None => Ok(None),

@@ -1,6 +1,7 @@
-//! What a person has to know of two files before their draft is confirmed, each as a comment of TOML.
+//! What a person has to know of the files before their draft is confirmed, each as a comment of TOML.
 
 use crate::days::DAY_PS;
+use crate::exported::Exported;
 use crate::hidden::hidden_subfields;
 use crate::kept::back::{Back, moved_stretches, times_beside};
 use crate::recorded::{Recorded, Times};
@@ -33,6 +34,11 @@ const SWAPPED: &str = "
 # It looks like the two files were swapped. The order is: the original, the export.
 ";
 
+/// The same where there are several exports.
+const SWAPPED_PARTS: &str = "
+# It looks like another file was typed in place of the original. The order is: the original, the exports.
+";
+
 /// Says which channels the original lacks.
 fn say_channels(
     text: &mut String,
@@ -56,20 +62,20 @@ fn say_channels(
     Ok(())
 }
 
-/// Whether it looks like the two files were swapped: the original lies in the time of the export and not the other way round, or
+/// Whether it looks like files were swapped: the original lies in the time of the export and not the other way round, or
 /// the export shows what the original hides, and hides nothing.
 fn look_swapped(
     alloc: Global,
     original: &Recorded,
-    export: &Recorded,
+    export: &Exported,
     moved: Moved<'_>,
 ) -> Result<bool, AllocError> {
-    if !moved.is_told && shift_of(export, original).is_told {
+    if !moved.is_told && shift_of(&export.together, original).is_told {
         return Ok(true);
     }
-    let (old, new) = (original.reader.header(), export.reader.header());
-    let hidden = hidden_subfields(alloc, old, new)?;
-    let shown = hidden_subfields(alloc, new, old)?;
+    let (old, new) = (original.reader.header(), export.together.reader.header());
+    let hidden = hidden_subfields(alloc, old, new, &export.others)?;
+    let shown = hidden_subfields(alloc, new, old, &[])?;
     Ok(hidden.is_empty() && shown.iter().any(|which| tells_order(*which)))
 }
 
@@ -87,16 +93,16 @@ fn say_beside(
     text: &mut String,
     alloc: Global,
     original: &Recorded,
-    export: &Recorded,
+    export: &Exported,
     moved: Moved<'_>,
 ) -> Result<(), AllocError> {
     let back = Back::new(
         original.start_second(),
-        export.start_second(),
+        export.together.start_second(),
         moved.seconds,
     );
-    let stretches = moved_stretches(alloc, export, back)?;
-    let beside = times_beside(alloc, &export.notes, &stretches, back)?;
+    let stretches = moved_stretches(alloc, &export.together, back)?;
+    let beside = times_beside(alloc, &export.together.notes, &stretches, back)?;
     if beside.is_empty() {
         return Ok(());
     }
@@ -122,9 +128,9 @@ fn say_days(
     text: &mut String,
     alloc: Global,
     original: &Recorded,
-    export: &Recorded,
+    export: &Exported,
 ) -> Result<(), AllocError> {
-    let (least, greatest) = fitting_days(original.times, export.times);
+    let (least, greatest) = fitting_days(original.times, export.together.times);
     if least < greatest {
         let line = format!(in alloc;
             "\n# OTHER DAYS FIT AS WELL: with a shift by {least} to {greatest} whole days the export lies in the time of the original.\n"
@@ -152,12 +158,16 @@ fn say_fits(text: &mut String, alloc: Global, moved: Moved<'_>) -> Result<(), Al
 pub(crate) fn doubts_of(
     alloc: Global,
     original: &Recorded,
-    export: &Recorded,
+    export: &Exported,
     moved: Moved<'_>,
 ) -> Result<String, AllocError> {
     let mut text = String::new(alloc);
     if look_swapped(alloc, original, export, moved)? {
-        text.push_str(SWAPPED)?;
+        text.push_str(if export.others.is_empty() {
+            SWAPPED
+        } else {
+            SWAPPED_PARTS
+        })?;
     }
     if !moved.is_told {
         text.push_str(UNTOLD)?;
@@ -174,7 +184,7 @@ pub(crate) fn doubts_of(
         &mut text,
         alloc,
         original.reader.header(),
-        export.reader.header(),
+        export.together.reader.header(),
     )?;
     Ok(text)
 }

@@ -3,11 +3,12 @@
 ghost use Rattle.std.specs.Prelude.{IfOk, IfSome};
 ghost use Rattle.edf_claim.specs.Claims.{SaysClaimText};
 ghost use Rattle.edf_draft.specs.Drafts.{IsDraftFor};
-ghost use Rattle.edf_draft.specs.FirstLines.{anew};
+ghost use Rattle.edf_draft.specs.Exported.{heads_of};
 ghost use Rattle.edf_draft.specs.Tries.{IsTriedAs, IsTriedDraft};
 
 use crate::channels::{are_known, channel_labels};
 use crate::doubts::doubts_of;
+use crate::exported::Exported;
 use crate::hidden::{hidden_subfields, shown_subfields};
 use crate::kept::back::Back;
 use crate::kept::keep::kept_intervals;
@@ -15,10 +16,10 @@ use crate::kept::lacking::{Lacking, lacking_texts};
 use crate::kept::sampling::Sampling;
 use crate::recorded::Recorded;
 use crate::shift::Moved;
+use crate::trial::Trial;
 use crate::tried::Tried;
 use edf_claim::{Comments, Draft};
 use edf_fields::Which;
-use edf_trial::Recordings;
 use std::alloc::{AllocError, Global};
 
 /// A draft, and how often each text stands that it removes, and that it blanks.
@@ -54,23 +55,29 @@ impl Recorded {
 fn draft_of(
     alloc: Global,
     original: &Recorded,
-    export: &Recorded,
+    export: &Exported,
     shift: i64,
 ) -> Result<Drafted, AllocError>
-    ensures { IfOk result (λ d. IsDraftFor ((original.now).reader).head ((export.now).reader).head shift d.draft) }
+    ensures { IfOk result (λ d. IsDraftFor ((original.now).reader).head (heads_of export.now) shift d.draft) }
 {
-    let channels = channel_labels(alloc, export.reader.header())?;
-    let back = Back::new(original.start_second(), export.start_second(), shift);
+    let Exported { together, others } = export;
+    let channels = channel_labels(alloc, together.reader.header())?;
+    let back = Back::new(original.start_second(), together.start_second(), shift);
     let sampling = Sampling::new(alloc, original.reader.header(), &channels)?;
-    let keep = kept_intervals(alloc, original, export, &sampling, back)?;
+    let keep = kept_intervals(alloc, original, together, &sampling, back)?;
     let Lacking { removed, blanked } = lacking_texts(
         alloc,
         &original.notes,
-        &export.notes,
+        &together.notes,
         &keep,
         back,
     )?;
-    let anonymous = hidden_subfields(alloc, original.reader.header(), export.reader.header())?;
+    let anonymous = hidden_subfields(
+        alloc,
+        original.reader.header(),
+        together.reader.header(),
+        others,
+    )?;
     Ok(Drafted {
         draft: Draft {
             channels,
@@ -89,14 +96,14 @@ fn draft_of(
 fn told_of(
     alloc: Global,
     original: &Recorded,
-    export: &Recorded,
+    export: &Exported,
     moved: Moved<'_>,
     channels: &[Vec<u8>],
 ) -> Result<Told, AllocError> {
     Ok(Told {
         doubts: doubts_of(alloc, original, export, moved)?,
         are_known: are_known(alloc, original.reader.header(), channels)?,
-        shown: shown_subfields(alloc, export.reader.header())?,
+        shown: shown_subfields(alloc, export)?,
     })
 }
 
@@ -123,18 +130,18 @@ impl Drafted {
     }
 
     /// The same, with what the check answers with it in its first line.
-    fn tried<R: Recordings>(
+    fn tried<T: Trial>(
         &self,
         alloc: Global,
         start: Option<u32>,
         told: &Told,
-        again: &R,
+        trial: &T,
     ) -> Result<Option<Tried>, AllocError>
         ensures { IfOk result (λ tried. IfSome tried (IsTriedAs
-            (anew (R.are_honest again.now) (R.original again.now) (R.export again.now)) self.now.draft)) }
+            (T.files trial.now) self.now.draft)) }
     {
         match self.text(alloc, start, told)? {
-            Some(text) => Tried::new(alloc, &self.draft, &text, again),
+            Some(text) => Tried::new(alloc, &self.draft, &text, trial),
             None => Ok(None),
         }
     }
@@ -143,22 +150,22 @@ impl Drafted {
 /// The draft of a claim by which one recording is the export of another, which was moved by so much, with what the check answers
 /// with it in its first line; none where no claim says it, as where it needs more than 1,000 intervals or 65,536 bytes. Where it
 /// would be too long with times by the clock, it has none.
-pub(crate) fn draft_tried<R: Recordings>(
+pub(crate) fn draft_tried<T: Trial>(
     alloc: Global,
     original: &Recorded,
-    export: &Recorded,
+    export: &Exported,
     moved: Moved<'_>,
-    again: &R,
+    trial: &T,
 ) -> Result<Option<Tried>, AllocError>
     ensures { IfOk result (λ tried. IfSome tried (IsTriedDraft
-        (anew (R.are_honest again.now) (R.original again.now) (R.export again.now))
-        ((original.now).reader).head ((export.now).reader).head moved.entry.seconds)) }
+        (T.files trial.now)
+        ((original.now).reader).head (heads_of export.now) moved.entry.seconds)) }
 {
     let drafted = draft_of(alloc, original, export, moved.seconds)?;
     let told = told_of(alloc, original, export, moved, &drafted.draft.channels)?;
     let start = Some(original.start_of_day());
-    match drafted.tried(alloc, start, &told, again)? {
+    match drafted.tried(alloc, start, &told, trial)? {
         Some(tried) => Ok(Some(tried)),
-        None => drafted.tried(alloc, None, &told, again),
+        None => drafted.tried(alloc, None, &told, trial),
     }
 }

@@ -35,6 +35,16 @@ pub(crate) struct Times {
     ghost end_near: { unsigned_abs end_ps < 2 ^ 80 },
 }
 
+impl Times {
+    /// The time from its begin to the end of another.
+    pub(crate) fn up_to(self, last: Times) -> Times {
+        Times {
+            begin_ps: self.begin_ps,
+            end_ps: last.end_ps,
+        }
+    }
+}
+
 /// A file that conforms, without its samples.
 #[derive(Drop)]
 pub(crate) struct Recorded {
@@ -98,7 +108,7 @@ fn times_of(reader: &FileReader, seen: Option<RecordStart>) -> Times
 }
 
 /// Takes in the time of one more data record.
-fn push_stretch(
+pub(crate) fn push_stretch(
     stretches: &mut Vec<Interval>,
     from_ps: i128,
     to_ps: i128,

@@ -2,13 +2,12 @@
 
 ghost use Rattle.std.specs.Prelude.{◌≡◌, ◌∷◌, [], ◌++◌, IfOk, IfSome};
 ghost use Rattle.edf_claim.specs.Claims.{SaysClaimText};
-ghost use Rattle.edf_draft.specs.FirstLines.{HasNotInFront, IsFirstLine, IsTried, anew, yes_front};
+ghost use Rattle.edf_draft.specs.FirstLines.{HasNotInFront, IsFirstLineOf, verdict_said, yes_front};
 ghost use Rattle.edf_draft.specs.Tries.{IsTriedAs};
 
+use crate::trial::{Said, Trial};
 use edf_claim::Draft;
 use edf_claim::laws::tables_say_one_claim;
-use edf_stop::RunStop;
-use edf_trial::{Recordings, check_anew};
 use edf_verdict::{Difference, Verdict};
 use std::alloc::{AllocError, Global};
 
@@ -30,36 +29,6 @@ const NOT_TRIED: &str =
 pub(crate) struct Tried {
     pub text: Vec<u8>,
     pub verdict: Option<Verdict>,
-}
-
-/// Whether a verdict is that a file has a fault. Both were read without one before.
-fn is_of_fault(verdict: &Verdict) -> bool {
-    matches!(
-        verdict,
-        Verdict::No(Difference::OriginalFault(_) | Difference::ExportFault(_))
-    )
-}
-
-/// What the check answers with a draft; none where it couldn't be run.
-///
-/// The error is want of memory.
-fn verdict_anew<R: Recordings>(
-    alloc: Global,
-    again: &R,
-    text: &[u8],
-) -> Result<Option<Verdict>, AllocError>
-    ensures { IfOk result (λ verdict. IfSome verdict (IsTried
-        (anew (R.are_honest again.now) (R.original again.now) (R.export again.now)) text.now)) }
-{
-    match check_anew(alloc, again, text) {
-        Ok(verdict) => Ok(if is_of_fault(&verdict) {
-            None
-        } else {
-            Some(verdict)
-        }),
-        Err(RunStop::OutOfMemory) => Err(AllocError),
-        Err(_) => Ok(None),
-    }
 }
 
 /// A line of four parts.
@@ -103,48 +72,55 @@ fn untried_line(alloc: Global) -> Result<Vec<u8>, AllocError>
 }
 
 /// The first line of a draft.
-fn first_line(alloc: Global, verdict: &Option<Verdict>) -> Result<Vec<u8>, AllocError>
-    ensures { IfOk result (λ line. IsFirstLine verdict.now line.items) }
+fn first_line(alloc: Global, said: &Option<Said>) -> Result<Vec<u8>, AllocError>
+    ensures { IfOk result (λ line. IsFirstLineOf said.now line.items) }
 {
-    match verdict {
-        Some(said) => {
-            let line = said.line(alloc)?;
-            match said {
-                Verdict::Yes { .. } => yes_line(alloc, &line),
-                Verdict::No(difference) => no_line(alloc, difference, &line),
-            }
-        }
+    match said {
+        Some(said) => match &said.verdict {
+            Verdict::Yes { .. } => yes_line(alloc, &said.line),
+            Verdict::No(difference) => no_line(alloc, difference, &said.line),
+        },
         None => untried_line(alloc),
+    }
+}
+
+/// The verdict of what was said.
+fn verdict_of(said: Option<Said>) -> Option<Verdict>
+    ensures { result ≡ verdict_said said }
+{
+    match said {
+        Some(said) => Some(said.verdict),
+        None => None,
     }
 }
 
 impl Tried {
     /// Tries a draft of this text: the text is given with what the check answers with it in its first line; none where it is
     /// longer than a claim may be then.
-    pub(crate) fn new<R: Recordings>(
+    pub(crate) fn new<T: Trial>(
         alloc: Global,
         draft: &Draft,
         text: &[u8],
-        again: &R,
+        trial: &T,
     ) -> Result<Option<Tried>, AllocError>
         requires { SaysClaimText text.now draft.now }
-        ensures { IfOk result (λ tried. IfSome tried (IsTriedAs
-            (anew (R.are_honest again.now) (R.original again.now) (R.export again.now)) draft.now)) }
+        ensures { IfOk result (λ tried. IfSome tried (IsTriedAs (T.files trial.now) draft.now)) }
     {
         // so the text and the text with a line in front say the same
         tables_say_one_claim();
-        let verdict = verdict_anew(alloc, again, text)?;
-        let mut whole = first_line(alloc, &verdict)?;
+        let said = trial.said_of(alloc, text)?;
+        let mut whole = first_line(alloc, &said)?;
         whole.extend_from_slice(text)?;
         if draft.is_said_by(alloc, &whole)? {
             Ok(Some(Tried {
                 text: whole,
-                verdict,
+                verdict: verdict_of(said),
             }))
         } else {
             Ok(None)
         }
     }
+
     /// Its text.
     pub(crate) fn into_text(self) -> Vec<u8>
         ensures { result.items ≡ self.text.items }

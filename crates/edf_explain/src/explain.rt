@@ -8,7 +8,7 @@ use crate::differences::clocks::Clocks;
 use crate::differences::headers::say_heads;
 use crate::differences::samples::say_samples;
 use crate::differences::starts::say_starts;
-use crate::faults::say_fault;
+use crate::faults::{say_fault, say_fault_of_export};
 use crate::heads::Heads;
 use crate::tried::answers::Asked;
 use crate::tried::other_channels::say_other_channels;
@@ -78,7 +78,7 @@ fn say_differences<R: Recordings>(
     if shifts.has_yes() {
         return Ok(());
     }
-    let clocks = Clocks::of(both.reckoned);
+    let clocks = Clocks::of(heads.original, both.reckoned.first());
     let notes = both.reckoned.notes();
     say_samples(
         text,
@@ -104,6 +104,7 @@ fn say_behind<R: Recordings>(
         claim_text: asked.claim_text,
         original: both.claimed.original_header(),
         export: both.claimed.export_header(),
+        others: both.claimed.others(),
         notes: both.reckoned.notes(),
     };
     match asked.verdict.outcome() {
@@ -203,6 +204,9 @@ fn sentences<R: Recordings>(
     let mut text = Text::new(alloc);
     if let Some((side, fault)) = fault_in(asked.verdict) {
         say_fault(&mut text, side, &fault, fronts.of(side))?;
+        if side == Side::Original {
+            say_fault_of_export(&mut text, asked.recordings, fronts.export)?;
+        }
         return Ok(text);
     }
     let claim = Claim::read(alloc, asked.claim_text)?;

@@ -5,6 +5,7 @@ ghost use Rattle.edf_explain.specs.Explained.{IsExplained};
 
 use crate::explain::{Fronts, explain_to, looker_for};
 use crate::front_source::FrontSource;
+use crate::lent::Lent;
 use crate::tried::answers::Asked;
 use edf_check::judge_beside;
 use edf_fields::{Sink, Source, put_all};
@@ -30,8 +31,8 @@ pub fn run_explained<O: Source, E: Source, K: Sink, R: Recordings>(
         IsExplained (O.left original.old) (E.left export.old) claim_text.now (K.held sink.old) (K.held sink.new) outcome) }
     ensures honesty { IsTrue (K.is_honest sink.old) → IsTrue (K.is_honest sink.new) }
 {
-    let mut first = FrontSource::new(alloc, original);
-    let mut second = FrontSource::new(alloc, export);
+    let mut first = FrontSource::new(alloc, Lent::new(original));
+    let mut second = FrontSource::new(alloc, Lent::new(export));
     let mut looker = looker_for(alloc, claim_text)?;
     let verdict = judge_beside(alloc, &mut first, &mut second, claim_text, &mut looker)?;
     let line = verdict.line(alloc)?;

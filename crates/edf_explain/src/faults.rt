@@ -1,11 +1,15 @@
 //! A file that can't be judged: its fault, and what to do.
 
+use crate::front_source::FrontSource;
 use crate::limits::{MOST_ANNOTATIONS, MOST_RECORD_BYTES};
 use crate::words::faults as words;
-use edf_fields::{Cause, Fault};
+use edf_fields::{Cause, Fault, Source};
+use edf_header::Stop;
 use edf_sentences::{Piece, Text, begins_as_bdf, begins_as_edf, looks_like_a_claim};
-use edf_stop::Side;
-use std::alloc::AllocError;
+use edf_stop::{CheckStop, RunStop, Side};
+use edf_stream::conform;
+use edf_trial::Recordings;
+use std::alloc::{AllocError, Global};
 
 /// Whether the front of a file is that of one of the older EDF.
 fn is_plain_edf(front: &[u8]) -> bool {
@@ -68,4 +72,35 @@ pub(crate) fn say_fault(
         return Ok(());
     }
     text.say(words::remedy(side), &[])
+}
+
+/// The first fault of an export; none where it conforms.
+///
+/// The error is want of memory, or a failure of the source.
+fn fault_of_export<S: Source>(alloc: Global, source: &mut S) -> Result<Option<Fault>, CheckStop> {
+    match conform(alloc, source) {
+        Ok(_) => Ok(None),
+        Err(Stop::Fault(fault)) => Ok(Some(fault)),
+        Err(Stop::OutOfMemory) => Err(CheckStop::OutOfMemory),
+        Err(Stop::ReadFailed) => Err(CheckStop::ReadFailed(Side::Export)),
+    }
+}
+
+/// Says the first fault of the export, where it has one, behind that of the original: a check doesn't read the export on then, so
+/// it is opened anew. `seen` is what stood in front of it in the check; where something else does now, it can't be read once
+/// more, as a pipe, and nothing is said.
+pub(crate) fn say_fault_of_export<R: Recordings>(
+    text: &mut Text,
+    recordings: &R,
+    seen: &[u8],
+) -> Result<(), RunStop> {
+    let alloc = text.alloc();
+    let mut source = FrontSource::new(alloc, recordings.open_export()?);
+    let found = fault_of_export(alloc, &mut source)?;
+    if let Some(fault) = found
+        && source.front().starts_with(seen)
+    {
+        say_fault(text, Side::Export, &fault, source.front())?;
+    }
+    Ok(())
 }

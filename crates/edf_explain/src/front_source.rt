@@ -19,16 +19,17 @@ fn remember(front: &mut Vec<u8>, bytes: &[u8]) {
 ///
 /// It is honest where the other one is.
 #[derive(Drop)]
-pub(crate) struct FrontSource<'a, S: Source> {
-    source: &'a mut S,
+pub struct FrontSource<S: Source + Drop> {
+    source: S,
     front: Vec<u8>,
 }
 
-impl<'a, S: Source> FrontSource<'a, S> {
+impl<S: Source + Drop> FrontSource<S> {
     /// A source that gives what the other one gives.
-    pub(crate) fn new(alloc: Global, source: &'a mut S) -> FrontSource<'a, S>
-        ensures left { ⟦<FrontSource<'a, S> as Source>⟧.left result ≡ S.left source.old }
-        ensures honest { ⟦<FrontSource<'a, S> as Source>⟧.is_honest result ≡ S.is_honest source.old }
+    pub fn new(alloc: Global, source: S) -> FrontSource<S>
+        ensures left { ⟦<FrontSource<S> as Source>⟧.left result ≡ S.left source }
+        ensures reads { ⟦<FrontSource<S> as Source>⟧.reads result ≡ S.reads source }
+        ensures honest { ⟦<FrontSource<S> as Source>⟧.is_honest result ≡ S.is_honest source }
     {
         FrontSource {
             source,
@@ -37,17 +38,17 @@ impl<'a, S: Source> FrontSource<'a, S> {
     }
 
     /// The front of what was handed on.
-    pub(crate) fn front(&self) -> &[u8] {
+    pub fn front(&self) -> &[u8] {
         &self.front
     }
 }
 
-impl<'a, S: Source> Source for FrontSource<'a, S> {
-    ghost left = { λ s. S.left s.source.now };
+impl<S: Source + Drop> Source for FrontSource<S> {
+    ghost left = { λ s. S.left s.source };
 
-    ghost reads = { λ s. S.reads s.source.now };
+    ghost reads = { λ s. S.reads s.source };
 
-    ghost is_honest = { λ s. S.is_honest s.source.now };
+    ghost is_honest = { λ s. S.is_honest s.source };
 
     fn read(&mut self, buf: &mut [u8]) -> Result<usize, ReadFault> {
         match self.source.read(buf) {

@@ -4,13 +4,18 @@
 mod differences;
 mod explain;
 mod explained;
+mod explained_parts;
 mod faults;
 mod front_source;
 mod heads;
+mod lent;
 mod limits;
 mod opening;
+mod parts;
 mod tried;
 mod words;
 
 pub use explained::run_explained;
+pub use explained_parts::run_explained_parts;
+pub use front_source::FrontSource;
 pub use opening::{explain_opening, explain_reading};

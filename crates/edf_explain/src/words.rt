@@ -4,6 +4,7 @@ pub mod annotations;
 pub mod faults;
 pub mod files;
 pub mod headers;
+pub mod parts;
 pub mod samples;
 pub mod starts;
 pub mod tried;

@@ -1,6 +1,7 @@
-//! What an original and an export differ in that were read to their ends.
+//! What an original and its exports differ in that were read to their ends.
 
 use crate::notes::both::{Notes, OnlyInOne};
+use crate::part::SeenPart;
 use crate::samples::compared::ComparedChannel;
 use crate::starts::Starts;
 use edf_claim::Claim;
@@ -8,43 +9,71 @@ use edf_header::Header;
 use edf_stream::FileReader;
 use std::alloc::{AllocError, Global};
 
-/// What was seen of an original and an export, and what they differ in.
+/// What was seen of an original and its exports, one at least, and what they differ in.
 #[derive(Drop)]
 pub struct Seen<'a> {
-    pub(crate) claim: &'a Claim,
-    pub(crate) original: FileReader,
-    pub(crate) export: FileReader,
-    pub(crate) channels: Vec<ComparedChannel>,
-    pub(crate) notes: Notes,
-    pub(crate) starts: Option<Starts>,
-    pub(crate) keeps_between: bool,
-    pub(crate) moved_ps: i128,
+    claim: &'a Claim,
+    original: FileReader,
+    first: SeenPart,
+    /// The exports behind the first one.
+    others: Vec<SeenPart>,
+    notes: Notes,
 }
 
 impl<'a> Seen<'a> {
-    /// The claimed channels that both files have, and which of their samples aren't as claimed.
-    pub fn channels(&self) -> &[ComparedChannel] {
-        &self.channels
+    /// That of these files; none where there is no export.
+    pub(crate) fn of(
+        claim: &'a Claim,
+        original: FileReader,
+        mut parts: Vec<SeenPart>,
+        notes: Notes,
+    ) -> Option<Seen<'a>> {
+        if parts.is_empty() {
+            return None;
+        }
+        let first = parts.remove(0);
+        Some(Seen {
+            claim,
+            original,
+            first,
+            others: parts,
+            notes,
+        })
     }
 
-    /// The annotations of both files.
+    /// The first export.
+    pub fn first(&self) -> &SeenPart {
+        &self.first
+    }
+
+    /// The exports behind the first one, in their order.
+    pub fn others(&self) -> &[SeenPart] {
+        &self.others
+    }
+
+    /// The claimed channels that the original and the first export have, and which of their samples aren't as claimed.
+    pub fn channels(&self) -> &[ComparedChannel] {
+        self.first.channels()
+    }
+
+    /// The annotations of all files.
     pub fn notes(&self) -> &Notes {
         &self.notes
     }
 
-    /// The annotations that only one of the files has. All are put in order before.
+    /// The annotations that only the original or only the exports have. All are put in order before.
     pub fn only_in_one(&mut self, alloc: Global) -> Result<OnlyInOne, AllocError> {
         self.notes.only_in_one(alloc)
     }
 
-    /// Where the export starts; none where the original has no sample that is kept.
+    /// Where the first export starts; none where the original has no sample that is kept.
     pub fn starts(&self) -> Option<Starts> {
-        self.starts
+        self.first.starts()
     }
 
-    /// Whether an interval was found that has no sample in a data record of the original in which it lies.
+    /// Whether an interval was found that has no sample in a data record of the original in which it lies, beside the first export.
     pub fn keeps_between(&self) -> bool {
-        self.keeps_between
+        self.first.keeps_between()
     }
 
     /// The claim.
@@ -52,9 +81,9 @@ impl<'a> Seen<'a> {
         self.claim
     }
 
-    /// Whether both files have all channels of the claim.
+    /// Whether the original and the first export have all channels of the claim.
     pub fn has_all_channels(&self) -> bool {
-        self.channels.len() == self.claim.channels().len()
+        self.first.has_all_channels(self.claim)
     }
 
     /// The header of the original.
@@ -62,13 +91,13 @@ impl<'a> Seen<'a> {
         self.original.header()
     }
 
-    /// The header of the export.
+    /// The header of the first export.
     pub fn export_header(&self) -> &Header {
-        self.export.header()
+        self.first.header()
     }
 
-    /// By how much the times of the export are moved.
+    /// By how much the times of the first export are moved.
     pub fn moved_ps(&self) -> i128 {
-        self.moved_ps
+        self.first.moved_ps()
     }
 }

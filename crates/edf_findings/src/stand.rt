@@ -7,6 +7,7 @@ use crate::clock::start_of;
 use crate::record_time::{Hand, RecordTime};
 use crate::samples::lane::Lane;
 use crate::samples::sample_run::SampleRun;
+use edf_header::Header;
 use edf_pace::Offset;
 use edf_stream::FileReader;
 
@@ -71,6 +72,11 @@ impl<'a> Stand<'a> {
         })
     }
 
+    /// The header of the file.
+    pub(crate) fn header(self) -> &'a Header {
+        self.reader.header()
+    }
+
     /// What the times of the file are moved by.
     pub(crate) fn moved_ps(self) -> i128 {
         self.moved_ps
@@ -93,7 +99,7 @@ impl<'a> Stand<'a> {
     }
 
     /// The bytes of a signal in the data record at hand.
-    fn bytes(self, signal: usize) -> &'a [u8] {
+    pub(crate) fn bytes(self, signal: usize) -> &'a [u8] {
         if self.reader.has_current() && signal < self.reader.header().signals().len() {
             self.reader.run(signal)
         } else {

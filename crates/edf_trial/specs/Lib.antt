@@ -1,2 +1,3 @@
 pub mod Better
 pub mod Changes
+pub mod Parts

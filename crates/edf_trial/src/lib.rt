@@ -6,6 +6,8 @@ mod better;
 mod changed;
 mod channels;
 mod ends;
+mod parts_anew;
+mod parts_recordings;
 mod recordings;
 mod shifted;
 
@@ -13,5 +15,7 @@ pub use anew::check_anew;
 pub use better::is_better;
 pub use channels::with_channels;
 pub use ends::with_end;
+pub use parts_anew::{PartsAnswer, check_parts_anew};
+pub use parts_recordings::PartsRecordings;
 pub use recordings::{Recordings, SliceRecordings};
 pub use shifted::with_shift;

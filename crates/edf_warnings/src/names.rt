@@ -5,7 +5,7 @@ use crate::read_texts::ReadTexts;
 use crate::words;
 use edf_claim::Claim;
 use edf_fields::{Subfields, Which};
-use edf_findings::Notes;
+use edf_findings::{Notes, have_same_texts};
 use edf_header::Header;
 use edf_heads::is_anonymous;
 use edf_sentences::{NOT_LISTED, Piece, Text};
@@ -129,6 +129,12 @@ impl<'a> Search<'a> {
         }
         Ok(())
     }
+
+    /// The same of the texts of a header.
+    fn say_header(&mut self, claim: &Claim, export: &Header) -> Result<(), AllocError> {
+        self.say_channels(export)?;
+        self.say_subfields(claim, export)
+    }
 }
 
 /// Says where an export has what is spelled like something that its claim hides, or like the patient's name; and, where
@@ -148,8 +154,12 @@ pub(crate) fn say_names(
         found: 0,
     };
     search.say_notes(read.notes)?;
-    search.say_channels(read.export)?;
-    search.say_subfields(read.claim, read.export)?;
+    search.say_header(read.claim, read.export)?;
+    for part in read.others {
+        if !have_same_texts(part.header(), read.export) {
+            search.say_header(read.claim, part.header())?;
+        }
+    }
     if is_as_claimed || search.found > 0 {
         search.text.say(words::SPELLED_ALIKE, &[])?;
     }

@@ -1,15 +1,19 @@
 //! Whose texts are read.
 
 use edf_claim::Claim;
-use edf_findings::Notes;
+use edf_findings::{Notes, SeenPart};
 use edf_header::Header;
 
-/// Two recordings and a claim, whose texts are read: the claim as it was read and as it stands, the headers, and the annotations.
+/// An original, its exports and a claim, whose texts are read: the claim as it was read and as it stands, the headers, and the
+/// annotations.
 #[derive(Clone, Copy)]
 pub struct ReadTexts<'a> {
     pub claim: &'a Claim,
     pub claim_text: &'a [u8],
     pub original: &'a Header,
+    /// That of the first export, or of the only one.
     pub export: &'a Header,
+    /// The exports behind it.
+    pub others: &'a [SeenPart],
     pub notes: &'a Notes,
 }

@@ -54,6 +54,11 @@ DraftIsRefused (refusals.Claim cause) = ⊥
 DraftIsRefused refusals.Writing = Unit {0}
 DraftIsRefused refusals.TooManyExports = ⊥
 
+-- a draft for so many exports is refused as one for a single export is, or there are more than 64 of them
+abbrev pub PartsDraftIsRefused : ℕ → Refusal → Type 0
+PartsDraftIsRefused exports refusals.TooManyExports = 64 < exports
+PartsDraftIsRefused exports refusal = DraftIsRefused refusal
+
 -- a check of so many exports is refused as one of a single export is, or there are more than 64 of them
 abbrev pub PartsAreRefused : ℕ → Refusal → Type 0
 PartsAreRefused exports refusals.TooManyExports = 64 < exports

@@ -8,6 +8,7 @@ ghost use Rattle.edfclaim.specs.Opening.{ClaimTextStops, OpeningStops};
 
 use crate::signs::{Signs, Watched};
 use edf_claim::MOST_CLAIM_BYTES;
+use edf_explain::FrontSource;
 use edf_fields::{ReadSource, Source, fill};
 use edf_receipt::DigestSource;
 use edf_refusal::{Refusal, Role};
@@ -135,6 +136,26 @@ pub fn digested_recordings<'a, R: Files + Eprint + Clock + AllocGlobal>(
     for path in paths {
         let source = watched_ahead(signs, path, role, READ_AHEAD_OF_SEVERAL)?;
         sources.push(DigestSource::new(source))?;
+    }
+    Ok(sources)
+}
+
+/// The same as `recordings`, by sources that remember the front of what they give.
+///
+/// The error is `CannotOpen`, or want of memory.
+pub fn fronted_recordings<'a, R: Files + Eprint + Clock + AllocGlobal>(
+    signs: &'a Signs<'a, R>,
+    paths: &[&str],
+    role: Role,
+) -> Result<Vec<FrontSource<Watched<'a, R, ReadSource<BufReader<R::File>>>>>, Refusal>
+    ensures each { IfOk result (λ sources. length sources.items ≡ length paths.now) }
+    ensures stop { IfErr result (OpeningStops role) }
+{
+    let alloc = signs.rt().alloc();
+    let mut sources = Vec::with_capacity(alloc, paths.len())?;
+    for path in paths {
+        let source = watched_ahead(signs, path, role, READ_AHEAD_OF_SEVERAL)?;
+        sources.push(FrontSource::new(alloc, source))?;
     }
     Ok(sources)
 }

@@ -1,4 +1,4 @@
-//! What stands on standard error behind the line of an `explain` that is refused.
+//! What stands on standard error behind the line of an `explain` or an `explain-parts` that is refused.
 
 use crate::files::claim_text;
 use edf_claim_advice::explain_claim;
@@ -25,18 +25,33 @@ fn opening_hints<R: Files + AllocGlobal>(rt: &R, path: &str) -> Result<Vec<u8>, 
     }
 }
 
-/// The path of a file of `explain`; none where it is another command.
+/// The path of a file of `explain` or `explain-parts`; none where it is another command, or one of several exports.
 fn path_of<'a>(job: Job<'a>, role: Role) -> Option<&'a str> {
     match (job, role) {
-        (Job::Explain { claim, .. }, Role::Claim) => Some(claim),
-        (Job::Explain { original, .. }, Role::Original) => Some(original),
+        (Job::Explain { claim, .. } | Job::ExplainParts { claim, .. }, Role::Claim) => Some(claim),
+        (Job::Explain { original, .. } | Job::ExplainParts { original, .. }, Role::Original) => {
+            Some(original)
+        }
         (Job::Explain { export, .. }, Role::Export) => Some(export),
         _ => None,
     }
 }
 
-/// The sentences behind the line of a refusal: of `explain` alone, where the claim is refused, or a file can't be opened or
-/// read.
+/// The first of several exports that can't be opened now, and why; nothing where each can.
+fn opening_hints_of_parts<R: Files + AllocGlobal>(
+    rt: &R,
+    exports: &[&str],
+) -> Result<Vec<u8>, AllocError> {
+    for path in exports {
+        if let Err(fault) = fs::open(rt, path) {
+            return explain_opening(rt.alloc(), path, &fault);
+        }
+    }
+    Ok(Vec::new(rt.alloc()))
+}
+
+/// The sentences behind the line of a refusal: of `explain` and `explain-parts` alone, where the claim is refused, or a file can't
+/// be opened or read. Which of several exports can't be read isn't known.
 pub fn hints<R: Files + AllocGlobal>(
     rt: &R,
     job: Job<'_>,
@@ -51,6 +66,10 @@ pub fn hints<R: Files + AllocGlobal>(
         (Some(path), Refusal::Claim(_)) => claim_hints(rt, path),
         (Some(path), Refusal::CannotOpen(_)) => opening_hints(rt, path),
         (Some(path), Refusal::Reading(_)) => explain_reading(rt.alloc(), path),
+        (None, Refusal::CannotOpen(Role::Export)) => match job {
+            Job::ExplainParts { exports, .. } => opening_hints_of_parts(rt, exports),
+            _ => Ok(Vec::new(rt.alloc())),
+        },
         _ => Ok(Vec::new(rt.alloc())),
     }
 }

@@ -3,16 +3,18 @@
 ghost use Rattle.std.specs.Prelude.{◌≡◌, ◌<◌, length, Err, IfErr};
 ghost use Rattle.edf_command_line.specs.Jobs.{HasExports};
 ghost use Rattle.edf_refusal.specs.declared.refusals.Refusal.TheVariants as refusals;
-ghost use Rattle.edfclaim.specs.Opening.{CheckIsRefused, ClaimIsRefused, DraftIsRefused, PartsAreRefused, ReportIsRefused};
+ghost use Rattle.edfclaim.specs.Opening.{CheckIsRefused, ClaimIsRefused, DraftIsRefused, PartsAreRefused, PartsDraftIsRefused, ReportIsRefused};
 
-use crate::files::{claim_text, digested_recordings, recording, recordings, watched};
-use crate::files_again::FilesAgain;
+use crate::files::{
+    claim_text, digested_recordings, fronted_recordings, recording, recordings, watched,
+};
+use crate::files_again::{FilesAgain, PartsAgain};
 use crate::signs::{Signs, Wiped};
 use edf_check::{run, run_parts};
 use edf_claim_text::claim_to;
 use edf_command_line::{Job, VERSION};
-use edf_draft::draft_to;
-use edf_explain::run_explained;
+use edf_draft::{draft_parts_to, draft_to};
+use edf_explain::{FrontSource, run_explained, run_explained_parts};
 use edf_fields::{Sink, WriteSink};
 use edf_read::read_to;
 use edf_receipt::{DigestSource, receipt_parts_to, receipt_to};
@@ -138,6 +140,30 @@ fn draft<'a, R: Files + Eprint + Clock + AllocGlobal, K: Sink>(
     Ok(draft_to(signs.rt().alloc(), &mut first, &mut second, &again, sink)?)
 }
 
+/// Drafts the claim by which recordings, in the order of time, are together the export of another.
+///
+/// More than 64 exports are refused before a file is opened. Else the original is opened first, then the exports in their
+/// order. The draft is tried on all, which are opened anew for that.
+#[tactic(auto, using(crate::proofs::RefusalFacts::draft_parts_refused))]
+fn draft_parts<'a, R: Files + Eprint + Clock + AllocGlobal, K: Sink>(
+    signs: &'a Signs<'a, R>,
+    original: &str,
+    exports: &[&str],
+    sink: &mut K,
+) -> Result<Outcome, Refusal>
+    requires { 0 < length exports.now }
+    ensures many { 64 < length exports.now → result ≡ Err refusals.TooManyExports }
+    ensures stop { IfErr result (PartsDraftIsRefused (length exports.now)) }
+{
+    if exports.len() > MOST_EXPORTS {
+        return Err(Refusal::TooManyExports);
+    }
+    let mut first = watched(signs, original, Role::Original)?;
+    let mut parts = recordings(signs, exports, Role::Export)?;
+    let again = PartsAgain::new(signs, original, exports);
+    Ok(draft_parts_to(signs.rt().alloc(), &mut first, &mut parts, &again, sink)?)
+}
+
 /// The same as `check`, with sentences behind its line, for which both recordings are opened anew.
 fn explain<'a, R: Files + Eprint + Clock + AllocGlobal, K: Sink>(
     signs: &'a Signs<'a, R>,
@@ -160,6 +186,28 @@ fn explain<'a, R: Files + Eprint + Clock + AllocGlobal, K: Sink>(
         &text,
         sink,
     )?)
+}
+
+/// The same as `check_parts`, with sentences behind its line.
+fn explain_parts<'a, R: Files + Eprint + Clock + AllocGlobal, K: Sink>(
+    signs: &'a Signs<'a, R>,
+    original: &str,
+    claim: &str,
+    exports: &[&str],
+    sink: &mut K,
+) -> Result<Outcome, Refusal>
+    requires { 0 < length exports.now }
+    ensures many { 64 < length exports.now → result ≡ Err refusals.TooManyExports }
+    ensures stop { IfErr result (PartsAreRefused (length exports.now)) }
+{
+    if exports.len() > MOST_EXPORTS {
+        return Err(Refusal::TooManyExports);
+    }
+    let alloc = signs.rt().alloc();
+    let text = claim_text(signs.rt(), claim)?;
+    let mut first = FrontSource::new(alloc, watched(signs, original, Role::Original)?);
+    let mut parts = fronted_recordings(signs, exports, Role::Export)?;
+    Ok(run_explained_parts(alloc, &mut first, &mut parts, &text, sink)?)
 }
 
 /// Says whether a file conforms.
@@ -252,11 +300,17 @@ fn write_job<'a, R: Files + Eprint + Clock + AllocGlobal, K: Sink>(
             exports,
         } => receipt_parts(signs, original, claim, exports, sink),
         Job::Draft { original, export } => draft(signs, original, export, sink),
+        Job::DraftParts { original, exports } => draft_parts(signs, original, exports, sink),
         Job::Explain {
             original,
             export,
             claim,
         } => explain(signs, original, export, claim, sink),
+        Job::ExplainParts {
+            original,
+            claim,
+            exports,
+        } => explain_parts(signs, original, claim, exports, sink),
         Job::Conform(path) => conform(signs, path, sink),
         Job::Show(path) => show(signs.rt(), path, sink),
         Job::Notes(path) => notes(signs.rt(), path, sink),

@@ -93,28 +93,18 @@ if_faulty (Err e) P Q f h = tt
 
 -- ---- whether more is compared behind a part
 
--- a difference was found, or no part follows
-pub found-over : (found : Option Found) (last : Bool) → (is_some found || last) ≡ true → last ≡ false → not (is_some found) ≡ false
-found-over None last over nay = absurd (other_way last over nay)
-found-over (Some f) last over nay = refl
+-- neither a difference ends the walk, nor is the part the last one
+pub not-over : (p last : Bool) → (p || last) ≡ false → (p ≡ false) × (last ≡ false)
+not-over true last e = absurd (let z : true ≡ false = e in cc)
+not-over false last e = (refl, e)
 
-pub not-over : (found : Option Found) (last : Bool) → (is_some found || last) ≡ false → (found ≡ None) × (last ≡ false)
-not-over None last e = (refl, e)
-not-over (Some f) last e = absurd (let z : true ≡ false = e in cc)
-
-pub last-over : (found : Option Found) (last : Bool) → found ≡ None → (is_some found || last) ≡ true → last ≡ true
-last-over None last none e = e
-last-over (Some f) last none e = absurd (let z : Some f ≡ None = none in cc)
+pub last-over : (found : Option Found) (quiet last : Bool) → found ≡ None → ((is_some found && quiet) || last) ≡ true → last ≡ true
+last-over None quiet last none e = e
+last-over (Some f) quiet last none e = absurd (let z : Some f ≡ None = none in cc)
 
 -- a part whose header agrees is compared, where those before it don't differ
 pub compared-so : (p looks : Bool) (heads : Option Verdict) → p ≡ true → heads ≡ None → (p && (not (is_some heads) || looks)) ≡ true
 compared-so p looks heads a b = rw (a, b) refl
-
--- where the next part is compared, this one was
-pub goes-so : (p h looks goes r : Bool) → r ≡ (p && (h || looks)) → (p && (h && goes)) ≡ true → (r && goes) ≡ true
-goes-so true true looks goes r is e = rw is e
-goes-so true false looks goes r is e = absurd (let z : false ≡ true = e in cc)
-goes-so false h looks goes r is e = absurd (let z : false ≡ true = e in cc)
 
 -- ---- who looks on
 

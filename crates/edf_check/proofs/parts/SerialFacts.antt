@@ -63,9 +63,9 @@ abbrev pub next_turn : Turn → Bool → PartRead → Bool → Turn
 next_turn turn last part compared = record turn { part = turn.part + 1; from = (part.course).end; is_last = last; is_compared = compared }
 
 -- behind the last part there is none
-pub read_none : (turn : Turn) (last compared : Bool) (part : PartRead) (o : List ℕ) (h : Head) (left : List ℕ) (notes : List NoteValue) (e left' : List ℕ) (mid : Exported) → last ≡ true → compared ≡ (turn.is_compared && is_same part)
-    → IsPartRead (record turn { is_last = last }) o h left notes e left' part → AreRead (next_turn turn last part compared) o h left notes [] [] mid mid nothing
-read_none turn last compared part o h left notes e left' mid is goes p = record {
+pub read_none : (turn : Turn) (last : Bool) (part : PartRead) (o : List ℕ) (h : Head) (left : List ℕ) (notes : List NoteValue) (e left' : List ℕ) (mid : Exported) → last ≡ true
+    → IsPartRead (record turn { is_last = last }) o h left notes e left' part → AreRead (next_turn turn last part (turn.is_compared && is_same part)) o h left notes [] [] mid mid nothing
+read_none turn last part o h left notes e left' mid is p = record {
   through = p.through is;
   conform = λ j file there. absurd (let z : None ≡ Some file = there in cc);
   gone = tt;
@@ -73,15 +73,14 @@ read_none turn last compared part o h left notes e left' mid is goes p = record 
   early_is = tt;
   first = λ c x y. refl;
   same = λ c x y z.
-      let all = sym goes ∙ c in
-      let same = same-parts part.heads (part.course).is_early (part.course).found (and-right turn.is_compared (is_same part) all) in
-      ((p.matched (and-left turn.is_compared (is_same part) all) same.0 same.1).kept is same.2, sym (append-nil (map note_value (mid.notes).items)));
+      let same = same-parts part.heads (part.course).is_early (part.course).found (and-right turn.is_compared (is_same part) c) in
+      ((p.matched (and-left turn.is_compared (is_same part) c) same.0 same.1).kept is same.2, sym (append-nil (map note_value (mid.notes).items)));
   counted = omega arith;
 }
 
 -- a part, and those behind it
 pub read_more : (turn : Turn) (last compared : Bool) (part : PartRead) (o : List ℕ) (h : Head) (left mid-left : List ℕ) (notes mid-notes : List NoteValue) (e left' : List ℕ) (parts lefts : List (List ℕ)) (before mid behind : Exported) (rest : PartsFound)
-    → last ≡ is_last parts → compared ≡ (turn.is_compared && is_same part) → mid.samples ≡ before.samples + part.samples → map note_value (mid.notes).items ≡ map note_value (before.notes).items ++ map note_value (part.notes).items
+    → last ≡ is_last parts → ((turn.is_compared && is_same part) ≡ true → compared ≡ true) → mid.samples ≡ before.samples + part.samples → map note_value (mid.notes).items ≡ map note_value (before.notes).items ++ map note_value (part.notes).items
     → IsPartRead (record turn { is_last = last }) o h mid-left mid-notes e left' part → AreRead (next_turn turn last part compared) o h left notes parts lefts mid behind rest
     → AreRead turn o h left notes (e ∷ parts) (left' ∷ lefts) before behind (found_with turn.part part.heads part.course rest)
 read_more turn last compared part o h left mid-left notes mid-notes e left' parts lefts before mid behind rest is goes samples added p r =
@@ -126,7 +125,7 @@ read_more turn last compared part o h left mid-left notes mid-notes e left' part
     E u = IsEarlyFound b u (turn.part + 1) parts rest.early
 
     so : turn.is_compared ≡ true → part.heads ≡ None → (part.course).is_early ≡ false → (part.course).found ≡ None → compared ≡ true
-    so c x y z = goes ∙ same-so turn.is_compared part.heads (part.course).is_early (part.course).found c x y z
+    so c x y z = goes (same-so turn.is_compared part.heads (part.course).is_early (part.course).found c x y z)
 
     span : Bool → Option Found
     span l = span_difference l claim (sampled o h a) (sampled e (head_of e) b) (places_in h (head_of e) labels) t v

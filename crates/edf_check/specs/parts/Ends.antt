@@ -74,12 +74,9 @@ PartFaultBy original export turn r s s' e fault = OfFile (beside original r s tu
 abbrev pub IsReady : Turn → Reader → Type 0
 IsReady turn r = IsGoing r.status × (turn.is_compared ≡ true → IsAhead r (moved_original turn) (turn.from).ps)
 
--- the samples of a part, and a part, don't differ from the original's
-abbrev pub goes_on : Course → Bool
-goes_on course = not course.is_early && not (is_some course.found)
-
+-- a part is the same as the original, as far as its header and its samples show it
 abbrev pub is_same : PartRead → Bool
-is_same part = not (is_some part.heads) && goes_on part.course
+is_same part = not (is_some part.heads) && (not (part.course).is_early && not (is_some (part.course).found))
 
 -- whatever file it went through before the part, it still does behind it, at the part's end where the next one is compared
 pub record Passes (turn : Turn) (old new : Reader) (honest honest' : Bool) (left left' : List ℕ) (notes notes' : List NoteValue) (compared : Bool) (end : Time) : Type 0 where
@@ -94,12 +91,16 @@ abbrev pub HasPassed : {S : Type 0} → Ghosts S → Reading → S → Reading �
 HasPassed source r s r' s' turn compared end =
     Passes turn r.reader r'.reader (source.is_honest s) (source.is_honest s') (source.left s) (source.left s') (map note_value (r.notes).items) (map note_value (r'.notes).items) compared end
 
--- behind what was read of a part that isn't the last, where the next one is compared if this one was and doesn't differ
+-- behind what was read of a part that isn't the last
 abbrev pub PassesBehind : {S : Type 0} → Ghosts S → Reading → S → Reading → S → Turn → Course → Type 0
-PassesBehind source r s r' s' turn course = turn.is_last ≡ false → HasPassed source r s r' s' turn (goes_on course) course.end
-
-abbrev pub PassesOn : {S : Type 0} → Ghosts S → Reading → S → Reading → S → Turn → Course → Type 0
-PassesOn source r s r' s' turn course = turn.is_last ≡ false → HasPassed source r s r' s' turn (turn.is_compared && goes_on course) course.end
+PassesBehind source r s r' s' turn course = turn.is_last ≡ false → HasPassed source r s r' s' turn course.is_beside course.end
 
 abbrev pub PassesPart : {S : Type 0} → Ghosts S → Reading → S → Reading → S → Turn → PartRead → Type 0
-PassesPart source r s r' s' turn part = turn.is_last ≡ false → HasPassed source r s r' s' turn (turn.is_compared && is_same part) (part.course).end
+PassesPart source r s r' s' turn part = PassesBehind source r s r' s' turn part.course
+
+-- the next part is compared where a part was and doesn't differ
+abbrev pub Stays : Turn → Course → Type 0
+Stays turn course = turn.is_last ≡ false → turn.is_compared ≡ true → course.is_early ≡ false → course.found ≡ None → course.is_beside ≡ true
+
+abbrev pub PartStays : Turn → PartRead → Type 0
+PartStays turn part = turn.is_last ≡ false → turn.is_compared ≡ true → is_same part ≡ true → (part.course).is_beside ≡ true

@@ -5,7 +5,7 @@ ghost use Rattle.edf_stream.specs.records.Readers.{HasBegun, is_current};
 ghost use Rattle.edf_pace.specs.PartsStops.{StopsOfTwo};
 ghost use Rattle.edf_check.specs.parts.PartsVerdicts.{samples_in};
 ghost use Rattle.edf_pace.specs.Premises.{IfFaulty, IfRead};
-ghost use Rattle.edf_check.specs.parts.Ends.{EndedBy, IsReady, MatchedBy, PartFaultBy, PartReadBy, PassedBy, PassesBehind, PassesOn, PassesPart, ThroughBy, at_part, beside, goes_on, is_same as agrees, over};
+ghost use Rattle.edf_check.specs.parts.Ends.{EndedBy, IsReady, MatchedBy, PartFaultBy, PartReadBy, PartStays, PassedBy, PassesBehind, PassesPart, Stays, ThroughBy, at_part, beside, over};
 ghost use Rattle.edf_pace.specs.walk.Ends.{FaultyBy, IsFoundAmong, at_turn};
 ghost use Rattle.edf_pace.specs.walk.Readings.{HasGoneOn};
 ghost use Rattle.edf_pace.specs.walk.Shown.{IfAtHand, IsAhead, IsGoing, StandsAt, begins_at};
@@ -13,7 +13,7 @@ ghost use Rattle.edf_pace.specs.walk.Shown.{IfAtHand, IsAhead, IsGoing, StandsAt
 use edf_fields::Source;
 use edf_heads::head_difference;
 use edf_pace::{
-    FaultOf, FirstFound, Found, Frame, Offset, Onlooker, Reading, Time, Turn, View, Watch,
+    FaultOf, FirstFound, Found, Frame, Offset, Onlooker, Reading, Time, Turn, View, Watch, Watcher,
     begin_ps_of, common_room, end_both, export_fault, finish, go_on, open, pairs_of, start,
     walk_on,
 };
@@ -37,6 +37,8 @@ pub(crate) struct Course {
     pub end: Time,
     /// The first difference of the samples, where these are compared.
     pub found: Option<Found>,
+    /// Whether the original stands where the last one ends, so that the next part can be compared.
+    pub is_beside: bool,
 }
 
 /// A part that was read to its end.
@@ -49,18 +51,6 @@ pub(crate) struct PartRead {
     pub samples: u64,
     /// Its annotations, where these are compared.
     pub notes: Vec<Note>,
-}
-
-impl PartRead {
-    /// Whether the samples of the next part are compared: those of this one were, and nothing was found that differs.
-    pub(crate) fn goes_on(&self, turn: Turn<'_>) -> bool
-        ensures { result ≡ (turn.entry.is_compared && agrees self.now) }
-    {
-        turn.is_compared
-            && self.heads.is_none()
-            && !self.course.is_early
-            && self.course.found.is_none()
-    }
 }
 
 /// How many samples the channels of a file have that was read to its end.
@@ -81,11 +71,11 @@ fn begins_from(reader: &FileReader, by: Offset, time: Time) -> bool
     reader.has_current() && time.ps <= begin_ps_of(reader, by)
 }
 
-/// Whether nothing more is compared behind a part: its samples differ, or no further part follows.
-fn is_over(found: Option<Found>, is_last: bool) -> bool
-    ensures { result ≡ (is_some found || is_last) }
+/// Whether nothing more is compared behind a part: enough was seen, or no further part follows.
+fn is_over(has_enough: bool, is_last: bool) -> bool
+    ensures { result ≡ (has_enough || is_last) }
 {
-    found.is_some() || is_last
+    has_enough || is_last
 }
 
 /// Compares a part, of which the first data record was read and doesn't begin early, with the original, which stands at the
@@ -108,6 +98,7 @@ fn compare_on<O: Source, E: Source, L: Onlooker>(
     ensures head { IfRead result (λ c. (export.new.reader).head ≡ (export.old.reader).head) }
     ensures later { IfRead result (λ c. c.is_early ≡ false) }
     ensures passes { IfRead result (PassesBehind O.Source original.old o.old original.new o.new (shown.entry.turn)) }
+    ensures stays { IfRead result (Stays (shown.entry.turn)) }
     ensures through { IfRead result (λ c. (shown.entry.turn).is_last ≡ true →
         ThroughBy (at_turn O.Source E.Source original.old o.old export.old e.old (shown.entry.turn)) (O.left o.new)) }
     ensures ended { IfRead result (EndedBy (at_turn O.Source E.Source original.old o.old export.old e.old (shown.entry.turn))
@@ -146,11 +137,12 @@ fn compare_on<O: Source, E: Source, L: Onlooker>(
         Err(stop) => return Err(stop),
     };
     let found = watch.watcher.found;
-    if !is_over(found, turn.is_last) {
+    if !is_over(watch.watcher.has_enough(), turn.is_last) {
         return Ok(Ok(Course {
             is_early: false,
             end: read.reached,
-            found: None,
+            found,
+            is_beside: true,
         }));
     }
     match end_both(&mut original.reader, o, &mut export.reader, e, turn) {
@@ -158,6 +150,7 @@ fn compare_on<O: Source, E: Source, L: Onlooker>(
             is_early: false,
             end,
             found,
+            is_beside: false,
         })),
         Ok(Err(fault)) => Ok(Err(fault)),
         Err(stop) => Err(stop),
@@ -182,6 +175,7 @@ fn compare<O: Source, E: Source, L: Onlooker>(
     ensures modest { IfRead result (λ c. IfSome c.found (IsFoundAmong (length (((shown.entry.turn).setting).labels).now))) }
     ensures head { IfRead result (λ c. (export.new.reader).head ≡ (export.old.reader).head) }
     ensures passes { IfRead result (PassesBehind O.Source original.old o.old original.new o.new (shown.entry.turn)) }
+    ensures stays { IfRead result (Stays (shown.entry.turn)) }
     ensures through { IfRead result (λ c. (shown.entry.turn).is_last ≡ true →
         ThroughBy (at_part O.Source E.Source original.old o.old export.old e.old (shown.entry.turn)) (O.left o.new)) }
     ensures passed { IfRead result (PassedBy (at_part O.Source E.Source original.old o.old export.old e.old (shown.entry.turn))
@@ -221,6 +215,7 @@ fn compare<O: Source, E: Source, L: Onlooker>(
             is_early: true,
             end,
             found: None,
+            is_beside: false,
         })),
         Ok(Err(fault)) => Ok(Err(fault)),
         Err(stop) => Err(stop),
@@ -240,7 +235,7 @@ fn pass_over<O: Source, E: Source>(
 ) -> Result<Result<Course, FaultOf>, PartsStop>
     requires original { IsGoing original.old.status }
     requires export { HasBegun export.old }
-    ensures none { IfRead result (λ c. c.found ≡ None) }
+    ensures none { IfRead result (λ c. (c.found ≡ None) × (c.is_beside ≡ false)) }
     ensures head { IfRead result (λ c. export.new.head ≡ export.old.head) }
     ensures goes { IfRead result (λ c. HasGoneOn O.Source original.old o.old original.new o.new) }
     ensures through { IfRead result (λ c. ThroughBy (over O.Source E.Source original.old o.old export.old e.old) (O.left o.new)) }
@@ -265,6 +260,7 @@ fn pass_over<O: Source, E: Source>(
             is_early,
             end,
             found: None,
+            is_beside: false,
         })),
         Ok(Err(fault)) => Ok(Err(fault)),
         Err(stop) => Err(stop),
@@ -285,7 +281,8 @@ fn read_course<O: Source, E: Source, L: Onlooker>(
     requires export { HasBegun export.old.reader × ((export.old.notes).items ≡ []) }
     ensures modest { IfRead result (λ c. IfSome c.found (IsFoundAmong (length (((shown.entry.turn).setting).labels).now))) }
     ensures head { IfRead result (λ c. (export.new.reader).head ≡ (export.old.reader).head) }
-    ensures passes { IfRead result (PassesOn O.Source original.old o.old original.new o.new (shown.entry.turn)) }
+    ensures passes { IfRead result (PassesBehind O.Source original.old o.old original.new o.new (shown.entry.turn)) }
+    ensures stays { IfRead result (Stays (shown.entry.turn)) }
     ensures through { IfRead result (λ c. (shown.entry.turn).is_last ≡ true →
         ThroughBy (at_part O.Source E.Source original.old o.old export.old e.old (shown.entry.turn)) (O.left o.new)) }
     ensures passed { IfRead result (PassedBy (at_part O.Source E.Source original.old o.old export.old e.old (shown.entry.turn))
@@ -326,6 +323,7 @@ pub(crate) fn read_part<O: Source, E: Source, L: Onlooker>(
     ensures modest { IfRead result (λ p. IfSome (p.course).found (IsFoundAmong (length ((turn.entry.setting).labels).now))) }
     ensures few { IfRead result (λ p. p.samples ≤ 2 ^ 50) }
     ensures passes { IfRead result (PassesPart O.Source original.old o.old original.new o.new turn.entry) }
+    ensures stays { IfRead result (PartStays turn.entry) }
     ensures read { IfRead result (PartReadBy O.Source E.Source turn.entry original.old o.old original.new o.new e.old e.new) }
     ensures fault { IfFaulty result (PartFaultBy O.Source E.Source turn.entry original.old o.old o.new e.old) }
     ensures failures { OnOk result ((O.reads o.new ≡ O.reads o.old) × (E.reads e.new ≡ E.reads e.old)) }

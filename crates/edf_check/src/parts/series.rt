@@ -95,7 +95,6 @@ pub(crate) fn read_parts<O: Source, E: Source, L: Onlooker>(
         Ok(Err(fault)) => return Ok(Err(fault)),
         Err(stop) => return Err(stop),
     };
-    let is_compared = read.goes_on(turn);
     let PartRead {
         heads,
         course,
@@ -116,7 +115,7 @@ pub(crate) fn read_parts<O: Source, E: Source, L: Onlooker>(
             let next_turn = Turn {
                 part: turn.part + 1,
                 from: course.end,
-                is_compared,
+                is_compared: course.is_beside,
                 ..turn
             };
             let next_shown = Shown {

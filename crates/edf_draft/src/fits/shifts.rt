@@ -4,10 +4,9 @@ use crate::fits::front::{Front, front_of};
 use crate::fits::places::places_of;
 use crate::kept::back::Back;
 use crate::recorded::Recorded;
+use crate::trial::Trial;
 use edf_claim::Interval;
 use edf_fields::SECOND_PS;
-use edf_stop::CheckStop;
-use edf_trial::Recordings;
 use std::alloc::{AllocError, Global};
 
 /// How many shifts are tried at the most.
@@ -70,24 +69,22 @@ fn shifts_at(
 
 /// The whole seconds of shift by which the first samples of an export, of all its channels, are samples of its original, three
 /// at the most; none where a file can't be read once more.
-pub(crate) fn fitting_shifts<R: Recordings>(
+pub(crate) fn fitting_shifts<T: Trial>(
     alloc: Global,
     original: &Recorded,
     export: &Recorded,
-    again: &R,
+    trial: &T,
 ) -> Result<Vec<i64>, AllocError> {
-    let front = match again.open_export() {
-        Ok(mut source) => front_of(alloc, &mut source, original.reader.header())?,
-        Err(CheckStop::OutOfMemory) => return Err(AllocError),
-        Err(_) => None,
+    let front = match trial.open_first(alloc)? {
+        Some(mut source) => front_of(alloc, &mut source, original.reader.header())?,
+        None => None,
     };
     let Some(front) = front else {
         return Ok(Vec::new(alloc));
     };
-    let places = match again.open_original() {
-        Ok(mut source) => places_of(alloc, &mut source, &front)?,
-        Err(CheckStop::OutOfMemory) => return Err(AllocError),
-        Err(_) => Vec::new(alloc),
+    let places = match trial.open_original()? {
+        Some(mut source) => places_of(alloc, &mut source, &front)?,
+        None => Vec::new(alloc),
     };
     shifts_at(alloc, original, export, &front, &places)
 }

@@ -1,7 +1,8 @@
 //! The clocks of both files.
 
 use crate::words::samples::AT;
-use edf_findings::{Seen, start_of};
+use edf_findings::{SeenPart, start_of};
+use edf_header::Header;
 use edf_sentences::{Piece, Text};
 use std::alloc::AllocError;
 
@@ -14,12 +15,12 @@ pub(crate) struct Clocks {
 }
 
 impl Clocks {
-    /// Those of two files.
-    pub(crate) fn of(seen: &Seen<'_>) -> Clocks {
-        let export_ps = start_of(seen.export_header());
+    /// Those of an original and an export.
+    pub(crate) fn of(original: &Header, part: &SeenPart) -> Clocks {
+        let export_ps = start_of(part.header());
         Clocks {
-            original_ps: start_of(seen.original_header()),
-            export_ps: export_ps.saturating_sub(seen.moved_ps()),
+            original_ps: start_of(original),
+            export_ps: export_ps.saturating_sub(part.moved_ps()),
         }
     }
 

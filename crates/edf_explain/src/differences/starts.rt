@@ -3,7 +3,7 @@
 use crate::tried::shifts::TriedShifts;
 use crate::words::starts as words;
 use edf_fields::SECOND_PS;
-use edf_findings::{MOST_SHIFT, Seen, Starts};
+use edf_findings::{MOST_SHIFT, Seen, SeenPart, Starts};
 use edf_sentences::{Piece, Text};
 use std::alloc::AllocError;
 
@@ -61,6 +61,17 @@ fn say_elsewhere(text: &mut Text, starts: &Starts, shifts: &TriedShifts) -> Resu
     say_likeness(text, starts)?;
     say_unfitting(text, starts)?;
     shifts.say(text, starts)
+}
+
+/// Says where one of several exports starts, if it doesn't start as claimed.
+pub(crate) fn say_start_of_part(text: &mut Text, part: &SeenPart) -> Result<(), AllocError> {
+    match part.starts() {
+        Some(starts) if !starts.are_same() => {
+            say_difference(text, &starts)?;
+            say_likeness(text, &starts)
+        }
+        _ => Ok(()),
+    }
 }
 
 /// Says where the export starts, or that nothing is kept. Where one of the files lacks a claimed channel, it isn't known whether

@@ -7,9 +7,7 @@ use edf_heads::{is_anonymous, is_unchanged};
 
 /// Whether two signals are the same in all that a header says of them.
 fn are_same_signals(one: &Signal, other: &Signal) -> bool {
-    one.label() == other.label()
-        && one.transducer() == other.transducer()
-        && one.prefilter() == other.prefilter()
+    are_same_texts(one, other)
         && one.dimension() == other.dimension()
         && one.samples() == other.samples()
         && one.calibration().physical() == other.calibration().physical()
@@ -24,6 +22,26 @@ fn are_same_subfields(one: &Header, other: &Header) -> bool {
         }
     }
     true
+}
+
+/// Whether the texts of two signals are the same.
+fn are_same_texts(one: &Signal, other: &Signal) -> bool {
+    one.label() == other.label()
+        && one.transducer() == other.transducer()
+        && one.prefilter() == other.prefilter()
+}
+
+/// Whether two headers have the same texts: subfields, labels, sensors and filters.
+pub fn have_same_texts(one: &Header, other: &Header) -> bool {
+    if one.signals().len() != other.signals().len() {
+        return false;
+    }
+    for (first, second) in one.signals().iter().zip(other.signals()) {
+        if !are_same_texts(first, second) {
+            return false;
+        }
+    }
+    are_same_subfields(one, other)
 }
 
 /// Whether two headers say the same.

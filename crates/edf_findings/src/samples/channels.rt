@@ -3,7 +3,7 @@
 use crate::samples::compared::ComparedChannel;
 use crate::samples::lane::Lanes;
 use crate::samples::side_by_side::Strides;
-use crate::samples::tally::Stands;
+use crate::samples::tally::{Hands, Stands};
 use crate::stand::Stand;
 use edf_claim::Claim;
 use edf_header::Header;
@@ -72,7 +72,7 @@ pub(crate) fn earlier(first: Option<i128>, second: Option<i128>) -> Option<i128>
 }
 
 /// Whether two data records have the same values in their first few bytes.
-fn are_alike(stands: Stands<'_>, room: Option<usize>) -> bool {
+fn are_alike(stands: &Stands<'_>, room: Option<usize>) -> bool {
     let Some(room) = room else {
         return false;
     };
@@ -122,6 +122,14 @@ impl Channels {
         first
     }
 
+    /// Of the data record of the original at hand all samples before a time are done with.
+    pub(crate) fn begin_at(&mut self, original: Stand<'_>, at_ps: i128) {
+        for channel in self.all.iter_mut() {
+            let run = original.samples(channel.lanes.original).since(at_ps);
+            channel.lanes.original.done = run.from;
+        }
+    }
+
     /// Nothing of the next data record of the original is done with.
     pub(crate) fn begin_original(&mut self) {
         for channel in self.all.iter_mut() {
@@ -137,14 +145,14 @@ impl Channels {
     }
 
     /// Compares the samples of each channel up to a time.
-    fn compare_each(&mut self, stands: Stands<'_>, end_ps: i128, is_kept: bool) {
+    fn compare_each(&mut self, stands: &Stands<'_>, end_ps: i128, is_kept: bool) {
         for channel in self.all.iter_mut() {
             channel.compare(stands, end_ps, is_kept);
         }
     }
 
     /// Compares all samples of each channel in data records that begin together and last as long, and are kept.
-    fn compare_whole(&mut self, stands: Stands<'_>, end_ps: i128) {
+    fn compare_whole(&mut self, stands: &Stands<'_>, end_ps: i128) {
         for channel in self.all.iter_mut() {
             channel.compare_whole(stands, end_ps);
         }
@@ -153,13 +161,13 @@ impl Channels {
     /// Compares the samples of each channel from a time on up to another, of which the original's are all kept, or none.
     pub(crate) fn compare(
         &mut self,
-        stands: Stands<'_>,
+        stands: &Stands<'_>,
         from_ps: i128,
         end_ps: i128,
         is_kept: bool,
     ) {
-        let (old, new) = stands.hands;
-        if !is_kept || !old.is_just(from_ps, end_ps) || !new.is_just(from_ps, end_ps) {
+        let Hands { original, export } = stands.hands;
+        if !is_kept || !original.is_just(from_ps, end_ps) || !export.is_just(from_ps, end_ps) {
             self.compare_each(stands, end_ps, is_kept);
         } else if are_alike(stands, self.room) {
             self.alike = self.alike.saturating_add(1);

@@ -3,9 +3,9 @@
 use crate::samples::blocks::numbers_of;
 use crate::samples::lane::Lanes;
 use crate::samples::places::Places;
-use crate::samples::sample_run::BothRuns;
+use crate::samples::sample_run::{BothRuns, places_of};
 use crate::samples::side_by_side::{Strides, side_by_side};
-use crate::samples::tally::{Stands, Tally};
+use crate::samples::tally::{BothLanes, Hands, Mismatch, Stands, Tally};
 
 /// A claimed channel that both files have, and which of its samples aren't as claimed.
 #[derive(Drop)]
@@ -60,67 +60,92 @@ impl ComparedChannel {
     }
 
     /// The samples of both files up to a time that aren't done with. They are done with then.
-    fn take<'a>(&mut self, stands: Stands<'a>, end_ps: i128) -> BothRuns<'a> {
-        let (old, new) = stands.hands;
+    fn take<'a>(&mut self, stands: &Stands<'a>, end_ps: i128) -> BothRuns<'a> {
+        let Hands { original, export } = stands.hands;
         BothRuns {
-            original: stands.original.take(&mut self.lanes.original, old, end_ps),
-            export: stands.export.take(&mut self.lanes.export, new, end_ps),
+            original: stands
+                .original
+                .take(&mut self.lanes.original, original, end_ps),
+            export: stands.export.take(&mut self.lanes.export, export, end_ps),
         }
     }
 
     /// Takes in the samples of both files up to a time, of which all those of the original are kept, or none.
-    pub(crate) fn compare(&mut self, stands: Stands<'_>, end_ps: i128, is_kept: bool) {
+    pub(crate) fn compare(&mut self, stands: &Stands<'_>, end_ps: i128, is_kept: bool) {
         let runs = self.take(stands, end_ps);
         if !is_kept || runs.original.is_empty() {
-            self.extra.add(runs.export, stands);
+            self.extra.add(Mismatch::Extra, runs.export, &stands.hands);
         } else if !self.has_other_rate && runs.original.begins_with(&runs.export) {
-            self.compare_on_grid(runs, stands);
+            self.compare_on_grid(runs, &stands.hands);
         } else {
-            self.compare_apart(runs, stands);
+            self.compare_apart(runs, &stands.hands);
+        }
+    }
+
+    /// The bytes of the channel in the data records at hand, of which all is done with then.
+    fn take_whole<'a>(&mut self, stands: &Stands<'a>) -> BothLanes<'a> {
+        let Lanes { original, export } = &mut self.lanes;
+        original.done = original.samples as usize;
+        export.done = export.samples as usize;
+        BothLanes {
+            original: stands.original.bytes(original.signal),
+            export: stands.export.bytes(export.signal),
+            samples: original.samples,
         }
     }
 
     /// Takes in all samples of data records that begin together and last as long, and are kept.
-    pub(crate) fn compare_whole(&mut self, stands: Stands<'_>, end_ps: i128) {
+    pub(crate) fn compare_whole(&mut self, stands: &Stands<'_>, end_ps: i128) {
         match (self.strides.original, self.strides.export) {
-            (1, 1) => {
-                let runs = self.take(stands, end_ps);
-                self.compare_each(runs, stands);
-            }
-            (2, 1) => {
-                let runs = self.take(stands, end_ps);
-                self.compare_halved(runs, stands);
-            }
+            (1, 1) => self.compare_each(stands),
+            (2, 1) => self.compare_halved(stands),
+            (1, 2) => self.compare_doubled(stands),
             _ => self.compare(stands, end_ps, true),
         }
     }
 
-    /// Takes in samples of two runs, each of which is taken at the time of the other's.
-    fn compare_each(&mut self, runs: BothRuns<'_>, stands: Stands<'_>) {
-        self.count_compared(runs.original.to);
-        if let Some(places) = runs.places() {
-            self.changed.add_changed(runs, places, places, stands);
+    /// The same, where each sample is taken at the time of the other file's.
+    fn compare_each(&mut self, stands: &Stands<'_>) {
+        let lanes = self.take_whole(stands);
+        self.count_compared(lanes.samples as usize);
+        if let Some(places) = places_of(lanes.original, lanes.export) {
+            self.changed
+                .add_changed(lanes, places, places, &stands.hands);
         }
     }
 
-    /// Takes in samples of two runs, of which the original's has two for each of the export's.
-    fn compare_halved(&mut self, runs: BothRuns<'_>, stands: Stands<'_>) {
-        let (original, export) = (runs.original, runs.export);
-        self.count_compared(export.to);
-        let left_out = Places {
-            count: export.to,
-            first: 1,
-            last: original.to.saturating_sub(1),
-        };
-        self.missing.add_places(original, left_out, stands);
-        if let Some(numbers) = numbers_of::<2>(original.bytes, export.bytes, export.to) {
+    /// The same, where the original has two samples for each of the export's.
+    fn compare_halved(&mut self, stands: &Stands<'_>) {
+        let lanes = self.take_whole(stands);
+        let (samples, count) = (lanes.samples, self.lanes.export.done);
+        self.count_compared(count);
+        let between = Places::between(count);
+        self.missing
+            .add_places(Mismatch::Missing, between, samples, &stands.hands);
+        if let Some(numbers) = numbers_of::<2>(lanes.original, lanes.export, count) {
             let places = numbers.doubled();
-            self.changed.add_changed(runs, places, numbers, stands);
+            self.changed
+                .add_changed(lanes, places, numbers, &stands.hands);
+        }
+    }
+
+    /// The same, where the export has two samples for each of the original's.
+    fn compare_doubled(&mut self, stands: &Stands<'_>) {
+        let lanes = self.take_whole(stands);
+        let (samples, count) = (self.lanes.export.samples, self.lanes.original.done);
+        self.count_compared(count);
+        let between = Places::between(count);
+        self.extra
+            .add_places(Mismatch::Extra, between, samples, &stands.hands);
+        if let Some(numbers) = numbers_of::<2>(lanes.export, lanes.original, count) {
+            let places = numbers.doubled();
+            self.changed
+                .add_changed(lanes, numbers, places, &stands.hands);
         }
     }
 
     /// Takes in samples of both files that are taken at the same times, as far as both go.
-    fn compare_on_grid(&mut self, runs: BothRuns<'_>, stands: Stands<'_>) {
+    fn compare_on_grid(&mut self, runs: BothRuns<'_>, hands: &Hands) {
         let (original, export) = (runs.original, runs.export);
         let count = original.len().min(export.len());
         self.count_compared(count);
@@ -131,24 +156,28 @@ impl ComparedChannel {
         if let Some(places) = together.places() {
             let old = places.behind(original.from);
             let new = places.behind(export.from);
-            self.changed.add_changed(together, old, new, stands);
+            self.changed.add_changed(runs.lanes(), old, new, hands);
         }
-        self.missing.add(original.rest(count), stands);
-        self.extra.add(export.rest(count), stands);
+        self.missing
+            .add(Mismatch::Missing, original.rest(count), hands);
+        self.extra.add(Mismatch::Extra, export.rest(count), hands);
     }
 
     /// Takes in samples of both files that are taken at any times.
-    fn compare_apart(&mut self, runs: BothRuns<'_>, stands: Stands<'_>) {
+    fn compare_apart(&mut self, runs: BothRuns<'_>, hands: &Hands) {
         let found = side_by_side(runs, self.strides);
+        let (samples, others) = (runs.original.samples, runs.export.samples);
         self.count_compared(found.compared);
         if let Some(places) = found.missing {
-            self.missing.add_places(runs.original, places, stands);
+            self.missing
+                .add_places(Mismatch::Missing, places, samples, hands);
         }
         if let Some(places) = found.extra {
-            self.extra.add_places(runs.export, places, stands);
+            self.extra
+                .add_places(Mismatch::Extra, places, others, hands);
         }
         if let Some((old, new)) = found.changed {
-            self.changed.add_changed(runs, old, new, stands);
+            self.changed.add_changed(runs.lanes(), old, new, hands);
         }
     }
 }

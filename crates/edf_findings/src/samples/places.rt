@@ -44,6 +44,15 @@ impl Places {
         }
     }
 
+    /// Those of every second sample of twice as many, behind the first.
+    pub(crate) fn between(count: usize) -> Places {
+        Places {
+            count,
+            first: 1,
+            last: count.saturating_mul(2).saturating_sub(1),
+        }
+    }
+
     /// These, so many places later.
     pub(crate) fn behind(self, count: usize) -> Places {
         Places {

@@ -1,7 +1,9 @@
 //! Samples of a signal that follow one another in a data record.
 
+use crate::record_time::RecordTime;
 use crate::samples::blocks::numbers_of;
 use crate::samples::places::Places;
+use crate::samples::tally::BothLanes;
 use edf_stream::Instant;
 use std::cmp::Ordering;
 
@@ -20,6 +22,15 @@ pub(crate) struct SampleRun<'a> {
     pub(crate) to: usize,
 }
 
+/// The value of the sample at a place of a signal.
+pub(crate) fn value_at(bytes: &[u8], place: usize) -> i16 {
+    let from = place.saturating_mul(2);
+    match bytes.get(from..from.saturating_add(2)) {
+        Some([low, high]) => i16::from_le_bytes([*low, *high]),
+        _ => 0,
+    }
+}
+
 /// A number of bytes or samples as a wide integer.
 fn wide(count: usize) -> i128 {
     count as i128
@@ -35,6 +46,16 @@ impl<'a> SampleRun<'a> {
         from: 0,
         to: 0,
     };
+
+    /// No samples of a signal, of which a data record with this time has so many.
+    pub(crate) fn of_none(time: RecordTime, samples: u32) -> SampleRun<'static> {
+        SampleRun {
+            start_ps: time.from_ps,
+            duration_ps: time.to_ps.saturating_sub(time.from_ps),
+            samples,
+            ..SampleRun::NONE
+        }
+    }
 
     /// How many samples there are.
     pub(crate) fn len(&self) -> usize {
@@ -122,15 +143,6 @@ impl<'a> SampleRun<'a> {
         self.bytes.get(from..to).unwrap_or(&[])
     }
 
-    /// The value of the sample at a place.
-    pub(crate) fn value(&self, place: usize) -> i16 {
-        let from = place.saturating_mul(2);
-        match self.bytes.get(from..from.saturating_add(2)) {
-            Some([low, high]) => i16::from_le_bytes([*low, *high]),
-            _ => 0,
-        }
-    }
-
     /// Whether the first sample of both was taken at one time, before or behind the other's.
     pub(crate) fn order(&self, other: &SampleRun<'_>) -> Ordering {
         let first = self.instant(self.from);
@@ -151,6 +163,14 @@ impl<'a> SampleRun<'a> {
     }
 }
 
+/// Where the values of two files differ, each of one with that of the other at its place.
+pub(crate) fn places_of(original: &[u8], export: &[u8]) -> Option<Places> {
+    if original == export {
+        return None;
+    }
+    numbers_of::<1>(original, export, original.len().min(export.len()) / 2)
+}
+
 /// Samples of both files that are compared.
 #[derive(Clone, Copy)]
 pub(crate) struct BothRuns<'a> {
@@ -161,11 +181,15 @@ pub(crate) struct BothRuns<'a> {
 impl<'a> BothRuns<'a> {
     /// Where the values of two runs differ that have as many samples, counted from the first of them.
     pub(crate) fn places(self) -> Option<Places> {
-        let original = self.original.values();
-        let export = self.export.values();
-        if original == export {
-            return None;
+        places_of(self.original.values(), self.export.values())
+    }
+
+    /// The bytes of the channel in both data records.
+    pub(crate) fn lanes(self) -> BothLanes<'a> {
+        BothLanes {
+            original: self.original.bytes,
+            export: self.export.bytes,
+            samples: self.original.samples,
         }
-        numbers_of::<1>(original, export, original.len().min(export.len()) / 2)
     }
 }

@@ -1,8 +1,8 @@
 //! Samples of a channel that were found: how many, the first and the last.
 
-use crate::record_time::Hand;
+use crate::record_time::{Hand, RecordTime};
 use crate::samples::places::Places;
-use crate::samples::sample_run::{BothRuns, SampleRun};
+use crate::samples::sample_run::{SampleRun, value_at};
 use crate::stand::Stand;
 
 /// A sample that was found.
@@ -18,12 +18,19 @@ pub struct Spot {
     pub values: Option<(i16, i16)>,
 }
 
+/// The data records at hand of both files: their times and their numbers.
+#[derive(Clone, Copy)]
+pub(crate) struct Hands {
+    pub(crate) original: Hand,
+    pub(crate) export: Hand,
+}
+
 /// The data records at hand of both files.
 #[derive(Clone, Copy)]
 pub(crate) struct Stands<'a> {
     pub(crate) original: Stand<'a>,
     pub(crate) export: Stand<'a>,
-    pub(crate) hands: (Hand, Hand),
+    pub(crate) hands: Hands,
 }
 
 impl<'a> Stands<'a> {
@@ -32,59 +39,83 @@ impl<'a> Stands<'a> {
         Stands {
             original,
             export,
-            hands: (original.hand(), export.hand()),
-        }
-    }
-
-    /// The sample of a run at a place.
-    fn mark(self, run: SampleRun<'_>, place: usize) -> FoundSample {
-        FoundSample {
-            start_ps: run.start_ps,
-            duration_ps: run.duration_ps,
-            samples: run.samples,
-            place,
-            hands: self.hands,
-            values: None,
-        }
-    }
-
-    /// The samples at a place of the original and one of the export.
-    fn mark_both(self, runs: BothRuns<'_>, original: usize, export: usize) -> FoundSample {
-        FoundSample {
-            values: Some((runs.original.value(original), runs.export.value(export))),
-            ..self.mark(runs.original, original)
+            hands: Hands {
+                original: original.hand(),
+                export: export.hand(),
+            },
         }
     }
 }
 
-/// A sample that was found, of which its time isn't reckoned so far.
+/// The bytes of a channel in two data records, of which the original's has so many samples.
+#[derive(Clone, Copy)]
+pub(crate) struct BothLanes<'a> {
+    pub(crate) original: &'a [u8],
+    pub(crate) export: &'a [u8],
+    pub(crate) samples: u32,
+}
+
+impl BothLanes<'_> {
+    /// How the sample at a place of the original differs, beside which the export has one at another place.
+    fn change(self, place: usize, other: usize) -> Mismatch {
+        Mismatch::Changed(value_at(self.original, place), value_at(self.export, other))
+    }
+}
+
+/// Which of two files has a sample.
+#[derive(Clone, Copy)]
+pub(crate) enum Mismatch {
+    /// The original alone.
+    Missing,
+    /// The export alone.
+    Extra,
+    /// Both have one, with these values.
+    Changed(i16, i16),
+}
+
+/// A sample that was found, of which its time isn't reckoned so far: its place in a data record at hand, which has so many of
+/// its signal.
 #[derive(Clone, Copy)]
 struct FoundSample {
-    /// The data record that it is of, and how many samples of its signal that has.
-    start_ps: i128,
-    duration_ps: i128,
-    samples: u32,
+    hands: Hands,
+    mismatch: Mismatch,
     place: usize,
-    hands: (Hand, Hand),
-    values: Option<(i16, i16)>,
+    samples: u32,
 }
 
 impl FoundSample {
+    /// The time of the data record that it is of.
+    fn time(self) -> Option<RecordTime> {
+        match self.mismatch {
+            Mismatch::Extra => self.hands.export.time,
+            Mismatch::Missing | Mismatch::Changed(_, _) => self.hands.original.time,
+        }
+    }
+
+    /// When it was taken, rounded down.
+    fn at_ps(self) -> i128 {
+        match self.time() {
+            Some(time) => SampleRun::of_none(time, self.samples).at_ps(self.place),
+            None => 0,
+        }
+    }
+
+    /// The values of both files, where both have one.
+    fn values(self) -> Option<(i16, i16)> {
+        match self.mismatch {
+            Mismatch::Changed(original, export) => Some((original, export)),
+            Mismatch::Missing | Mismatch::Extra => None,
+        }
+    }
+
     /// The sample.
     fn spot(self) -> Spot {
-        let run = SampleRun {
-            start_ps: self.start_ps,
-            duration_ps: self.duration_ps,
-            samples: self.samples,
-            ..SampleRun::NONE
-        };
-        let at_ps = run.at_ps(self.place);
-        let (original, export) = self.hands;
+        let at_ps = self.at_ps();
         Spot {
             at_ps,
-            original_record: original.number_at(at_ps),
-            export_record: export.number_at(at_ps),
-            values: self.values,
+            original_record: self.hands.original.number_at(at_ps),
+            export_record: self.hands.export.number_at(at_ps),
+            values: self.values(),
         }
     }
 }
@@ -111,21 +142,37 @@ impl Tally {
     }
 
     /// Takes in so many samples behind those so far, of which this is the last.
+    #[inline(always)]
     fn take_in(&mut self, count: usize, last: FoundSample) {
         self.count = self.count.saturating_add(count as u64);
         self.last = Some(last);
     }
 
-    /// Takes in samples of a run, by their places.
-    pub(crate) fn add_places(&mut self, run: SampleRun<'_>, places: Places, stands: Stands<'_>) {
+    /// Takes in samples that one of the files lacks, by their places in the data record of the other, which has so many.
+    pub(crate) fn add_places(
+        &mut self,
+        mismatch: Mismatch,
+        places: Places,
+        samples: u32,
+        hands: &Hands,
+    ) {
+        let last = FoundSample {
+            hands: *hands,
+            mismatch,
+            place: places.last,
+            samples,
+        };
         if self.first.is_none() {
-            self.first = Some(stands.mark(run, places.first));
+            self.first = Some(FoundSample {
+                place: places.first,
+                ..last
+            });
         }
-        self.take_in(places.count, stands.mark(run, places.last));
+        self.take_in(places.count, last);
     }
 
-    /// Takes in the samples of a run.
-    pub(crate) fn add(&mut self, run: SampleRun<'_>, stands: Stands<'_>) {
+    /// Takes in the samples of a run that one of the files lacks.
+    pub(crate) fn add(&mut self, mismatch: Mismatch, run: SampleRun<'_>, hands: &Hands) {
         if run.is_empty() {
             return;
         }
@@ -134,21 +181,30 @@ impl Tally {
             first: run.from,
             last: run.to.saturating_sub(1),
         };
-        self.add_places(run, places, stands);
+        self.add_places(mismatch, places, run.samples, hands);
     }
 
-    /// Takes in samples of two runs that have other values, by their places in the original and in the export.
+    /// Takes in samples that have other values, by their places in the original and in the export.
     pub(crate) fn add_changed(
         &mut self,
-        runs: BothRuns<'_>,
+        lanes: BothLanes<'_>,
         original: Places,
         export: Places,
-        stands: Stands<'_>,
+        hands: &Hands,
     ) {
+        let last = FoundSample {
+            hands: *hands,
+            mismatch: lanes.change(original.last, export.last),
+            place: original.last,
+            samples: lanes.samples,
+        };
         if self.first.is_none() {
-            self.first = Some(stands.mark_both(runs, original.first, export.first));
+            self.first = Some(FoundSample {
+                mismatch: lanes.change(original.first, export.first),
+                place: original.first,
+                ..last
+            });
         }
-        let last = stands.mark_both(runs, original.last, export.last);
         self.take_in(original.count, last);
     }
 }

@@ -1,4 +1,4 @@
-use Rattle.std.proofs.Common.{◌≡◌, ◌∙◌, ◌&&◌, ℕ, true, is_some, not, List, Option, IfSome, None, Some, map, length, refl, sym, ap, subst}
+use Rattle.std.proofs.Common.{◌≡◌, ◌∙◌, ◌&&◌, ◌||◌, ℕ, true, false, is_some, not, List, Option, IfSome, None, Some, map, length, refl, sym, ap, subst}
 use Rattle.std.proofs.lemmas.List.{length-map}
 use Rattle.std.specs.Borrow.{Bor}
 use Rattle.std.specs.List.{All}
@@ -11,7 +11,7 @@ use Rattle.edf_pace.specs.declared.walk.turn.Turn.{Turn}
 use Rattle.edf_pace.specs.walk.Ends.{IsMatched, IsFoundAmong, IsReadThrough, moved_export, moved_original}
 use Rattle.edf_pace.specs.walk.Pairs.{AreLaidAlike, ArePairs, places_of, places_in}
 use Rattle.edf_pace.specs.walk.Shown.{last_end_by}
-use Rattle.edf_check.proofs.parts.CompareFacts.{found-over, is_alone, last-over, not-over, passes_moved, passes_on}
+use Rattle.edf_check.proofs.parts.CompareFacts.{is_alone, last-over, not-over, passes_moved, passes_on}
 use Rattle.edf_pace.proofs.ForCallers.{are_places, has_ended, matched_behind, matched_end, matched_on}
 use Rattle.edf_check.proofs.parts.part.compare_on.Goals as goal
 
@@ -24,6 +24,12 @@ paired h h' g g' ps qs eh eg e are = subst (λ x. ArePairs x g qs) eh (subst (λ
 
 placed : (h h' g g' : Head) (ps qs : List Pair) (labels : List (Bor (List ℕ))) → h' ≡ h → g' ≡ g → qs ≡ ps → map places_of ps ≡ places_in h' g' labels → map places_of qs ≡ places_in h g labels
 placed h h' g g' ps qs labels eh eg e are = ap (map places_of) e ∙ are ∙ ap (λ x. places_in x g' labels) eh ∙ ap (λ y. places_in h y labels) eg
+
+-- what was found is a difference of one of the labels' channels
+among : (h g : Head) (ps qs : List Pair) (labels : List (Bor (List ℕ))) (found : Option Found) → ps ≡ qs → map places_of qs ≡ places_in h g labels → IfSome found (IsFoundAmong (length ps)) → IfSome found (IsFoundAmong (length labels))
+among h g ps qs labels found e are modest =
+    let long : length ps ≡ length labels = sym (length-map ps places_of) ∙ ap (λ xs. length (map places_of xs)) e ∙ ap length are ∙ length-map labels _ in
+    subst (λ n. IfSome found (IsFoundAmong n)) long modest
 
 pub walk_on-requires-clause-frame : goal.walk_on-requires-clause-frame
 walk_on-requires-clause-frame g c =
@@ -44,12 +50,13 @@ pub returns-then-not-is_over-clause-ended : goal.returns-then-not-is_over-clause
 returns-then-not-is_over-clause-ended g c = λ ho he a b ao ae.
     let read = c.in-Ok-Ok.read in
     let found = c.walk_on.new.watch.watcher.found in
-    let none = not-over found c.args.shown.turn.is_last (sym c.is_over.ensures ∙ c.if-not-is_over.true) in
-    let over = (rw c.in-Ok-Ok.field-0-is at c.in-Ok-Ok.ensures.over) (ap (λ f. is_some f && not (g.L.Onlooker.looks c.walk_on.new.watch.watcher.onlooker.now)) none.0) in
-    let walked = is_alone _ _ _ _ _ _ _ ((rw c.in-Ok-Ok.field-0-is at c.in-Ok-Ok.ensures.walked) ho he a b ao ae) in
+    let quiet = not (g.L.Onlooker.looks c.walk_on.new.watch.watcher.onlooker.now) in
+    let more = not-over (is_some found && quiet) c.args.shown.turn.is_last (ap (λ z. z || c.args.shown.turn.is_last) (sym c.has_enough.ensures) ∙ sym c.is_over.ensures ∙ c.if-not-is_over.true) in
+    let over = (rw c.in-Ok-Ok.field-0-is at c.in-Ok-Ok.ensures.over) more.0 in
+    let walked = (rw c.in-Ok-Ok.field-0-is at c.in-Ok-Ok.ensures.walked) ho he a b ao ae in
     let moved = rw c.in-Ok-Ok.field-0-is at c.in-Ok-Ok.ensures.export in
     let ended = has_ended c.args.export.now.reader c.walk_on.new.export.reader _ _ b None (moved_export c.args.shown.turn) read.reached.ps moved.head moved.going (over.1).0 (moved.comes he b ae) in
-    record { through = ended.through; end_is = walked.ends (ap is_some none.0) none.1 }
+    record { through = ended.through; end_is = walked.ends more.0 more.1 }
 
 pub returns-then-not-is_over-clause-matched : goal.returns-then-not-is_over-clause-matched
 returns-then-not-is_over-clause-matched g c = λ compared early ho he a b ao ae.
@@ -58,34 +65,41 @@ returns-then-not-is_over-clause-matched g c = λ compared early ho he a b ao ae.
     let found = c.walk_on.new.watch.watcher.found in
     let h = (c.args.original.now.reader).head in
     let k = (c.args.export.now.reader).head in
-    let none = not-over found turn.is_last (sym c.is_over.ensures ∙ c.if-not-is_over.true) in
-    let over = (rw c.in-Ok-Ok.field-0-is at c.in-Ok-Ok.ensures.over) (ap (λ f. is_some f && not (g.L.Onlooker.looks c.walk_on.new.watch.watcher.onlooker.now)) none.0) in
+    let quiet = not (g.L.Onlooker.looks c.walk_on.new.watch.watcher.onlooker.now) in
+    let more = not-over (is_some found && quiet) c.args.shown.turn.is_last (ap (λ z. z || c.args.shown.turn.is_last) (sym c.has_enough.ensures) ∙ sym c.is_over.ensures ∙ c.if-not-is_over.true) in
+    let over = (rw c.in-Ok-Ok.field-0-is at c.in-Ok-Ok.ensures.over) more.0 in
     let later = rw c.in-Ok-Ok.field-0-is at c.in-Ok-Ok.ensures.later in
     let walked = is_alone _ _ _ _ _ _ _ ((rw c.in-Ok-Ok.field-0-is at c.in-Ok-Ok.ensures.walked) ho he a b ao ae) in
     let moved = rw c.in-Ok-Ok.field-0-is at c.in-Ok-Ok.ensures.export in
     let ended = has_ended c.args.export.now.reader c.walk_on.new.export.reader _ _ b None (moved_export turn) read.reached.ps moved.head moved.going (over.1).0 (moved.comes he b ae) in
-    let M : Option Found → Type 0 = λ f. IsMatched turn a h (map note_value (c.walk_on.new.original.notes).items) b k (map note_value (c.walk_on.new.export.notes).items) f in
-    subst M none.0
-    (matched_on (framed c.args.shown.turn c.deref-2.result c.common_room-room.result) a h (map note_value (c.walk_on.new.original.notes).items) b k (map note_value (c.walk_on.new.export.notes).items) read found
-    (placed h c.header.result.now k c.header-2.result.now c.in_ok-pairs.pairs.items c.deref-2.result.now turn.setting.labels.now c.header.ensures c.header-2.ensures c.deref-2.ensures.value c.in_ok-pairs.ensures.places)
-    (are_places h k c.deref-2.result.now (paired h c.header.result.now k c.header-2.result.now c.in_ok-pairs.pairs.items c.deref-2.result.now c.header.ensures c.header-2.ensures c.deref-2.ensures.value c.in_ok-pairs.ensures.pairs))
-    later walked none.1 none.0 over.0 ended)
+    let ns = map note_value (c.walk_on.new.original.notes).items in
+    let ms = map note_value (c.walk_on.new.export.notes).items in
+    let same = placed h c.header.result.now k c.header-2.result.now c.in_ok-pairs.pairs.items c.deref-2.result.now turn.setting.labels.now c.header.ensures c.header-2.ensures c.deref-2.ensures.value c.in_ok-pairs.ensures.places in
+    let places = are_places h k c.deref-2.result.now (paired h c.header.result.now k c.header-2.result.now c.in_ok-pairs.pairs.items c.deref-2.result.now c.header.ensures c.header-2.ensures c.deref-2.ensures.value c.in_ok-pairs.ensures.pairs) in
+    let by : (f : Option Found) → found ≡ f → IsMatched turn a h ns b k ms found = λ f.
+    elim f as (λ f. found ≡ f → IsMatched turn a h ns b k ms found) [
+      | None ↦ λ none. matched_on (framed c.args.shown.turn c.deref-2.result c.common_room-room.result) a h ns b k ms read found same places later walked more.1 none over.0 ended
+      | Some first ↦ λ some. matched_behind (framed c.args.shown.turn c.deref-2.result c.common_room-room.result) a h ns b k ms read found same places later walked first some (ended.through).conforms
+    ]
+    in
+    by found refl
+
+pub returns-then-not-is_over-clause-modest : goal.returns-then-not-is_over-clause-modest
+returns-then-not-is_over-clause-modest g c =
+    let modest = rw c.in-Ok-Ok.field-0-is at c.in-Ok-Ok.ensures.fits in
+    among c.header.result.now c.header-2.result.now c.deref-2.result.now c.in_ok-pairs.pairs.items c.args.shown.turn.setting.labels.now c.walk_on.new.watch.watcher.found c.deref-2.ensures.value c.in_ok-pairs.ensures.places modest
 
 pub returns-in-Ok-Ok-end_both-clause-modest : goal.returns-in-Ok-Ok-end_both-clause-modest
 returns-in-Ok-Ok-end_both-clause-modest g c =
     let modest = rw c.in-Ok-Ok.field-0-is at c.in-Ok-Ok.ensures.fits in
-    let ps = c.deref-2.result.now in
-    let labels = c.args.shown.turn.setting.labels.now in
-    let long : length ps ≡ length labels = sym (length-map ps places_of) ∙ ap (λ qs. length (map places_of qs)) c.deref-2.ensures.value ∙ ap length c.in_ok-pairs.ensures.places ∙ length-map labels _ in
-    subst (λ n. IfSome c.walk_on.new.watch.watcher.found (IsFoundAmong n)) long modest
+    among c.header.result.now c.header-2.result.now c.deref-2.result.now c.in_ok-pairs.pairs.items c.args.shown.turn.setting.labels.now c.walk_on.new.watch.watcher.found c.deref-2.ensures.value c.in_ok-pairs.ensures.places modest
 
 pub returns-in-Ok-Ok-end_both-clause-passes : goal.returns-in-Ok-Ok-end_both-clause-passes
 returns-in-Ok-Ok-end_both-clause-passes g c = λ last.
     let read = c.in-Ok-Ok.read in
-    let found = c.walk_on.new.watch.watcher.found in
     let moved = rw c.in-Ok-Ok.field-0-is at c.in-Ok-Ok.ensures.original in
     let goes = rw c.in-Ok-Ok-end_both.field-0-is at c.in-Ok-Ok-end_both.ensures.goes in
-    passes_on c.args.shown.turn _ _ _ _ _ _ _ _ _ _ _ _ _ (not (is_some found)) read.reached.ps c.in-Ok-Ok-end_both.end c.requires.compared (found-over found c.args.shown.turn.is_last (sym c.is_over.ensures ∙ c.if-not-is_over.false) last) moved goes
+    passes_on c.args.shown.turn _ _ _ _ _ _ _ _ _ _ _ _ _ false read.reached.ps c.in-Ok-Ok-end_both.end c.requires.compared refl moved goes
 
 pub returns-in-Ok-Ok-end_both-clause-ended : goal.returns-in-Ok-Ok-end_both-clause-ended
 returns-in-Ok-Ok-end_both-clause-ended g c = λ ho he a b ao ae.
@@ -118,7 +132,7 @@ returns-in-Ok-Ok-end_both-clause-matched g c = λ compared early ho he a b ao ae
     let by : (f : Option Found) → found ≡ f → IsMatched turn a h ns b k ms found = λ f.
     elim f as (λ f. found ≡ f → IsMatched turn a h ns b k ms found) [
       | None ↦ λ none.
-          let last = last-over found turn.is_last none (sym c.is_over.ensures ∙ c.if-not-is_over.false) in
+          let last = last-over found (not (g.L.Onlooker.looks c.walk_on.new.watch.watcher.onlooker.now)) turn.is_last none (ap (λ z. z || turn.is_last) (sym c.has_enough.ensures) ∙ sym c.is_over.ensures ∙ c.if-not-is_over.false) in
           let there = over (ap (λ f. is_some f && not (g.L.Onlooker.looks c.walk_on.new.watch.watcher.onlooker.now)) none) in
           matched_end (framed c.args.shown.turn c.deref-2.result c.common_room-room.result) a h ns b k ms read found same places later walked last none there.0
           (has_ended c.args.original.now.reader c.walk_on.new.original.reader _ _ a (Some turn.setting.claim.now) (moved_original turn) read.reached.ps o.head o.going ((there.1).1 last) (o.comes ho a ao)) (has_ended c.args.export.now.reader c.walk_on.new.export.reader _ _ b None (moved_export turn) read.reached.ps e.head e.going (there.1).0 (e.comes he b ae))

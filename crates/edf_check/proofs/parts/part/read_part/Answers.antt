@@ -1,8 +1,8 @@
-use Rattle.std.proofs.Common.{◌∙◌, ◌&&◌, Bool, not, is_some, sym, ap}
+use Rattle.std.proofs.Common.{◌∙◌, sym, ap}
 use Rattle.edf_check.specs.parts.PartsVerdicts.{samples_in}
-use Rattle.edf_check.specs.parts.Ends.{goes_on}
 use Rattle.edf_pace.specs.walk.Ends.{moved_original}
-use Rattle.edf_check.proofs.parts.CompareFacts.{and-left, beside_less, compared-so, goes-so, heads_match, matched_less, passed_less, passes_less}
+use Rattle.edf_check.proofs.parts.CompareFacts.{and-left, beside_less, compared-so, heads_match, matched_less, passed_less, passes_less}
+use Rattle.edf_check.proofs.parts.SerialFacts.{same-parts}
 use Rattle.edf_pace.proofs.ForCallers.{fault_by, fault_by_header}
 use Rattle.edf_check.proofs.parts.part.read_part.Goals as goal
 
@@ -16,10 +16,18 @@ pub returns-in-Ok-Ok-read_course-clause-passes : goal.returns-in-Ok-Ok-read_cour
 returns-in-Ok-Ok-read_course-clause-passes g c = λ last.
     let turn = c.args.turn in
     let course = c.in-Ok-Ok-read_course.course in
-    let heads = c.in_ok-heads.heads in
     let passes = rw c.in-Ok-Ok-read_course.field-0-is at c.in-Ok-Ok-read_course.ensures.passes in
-    passes_less turn c.is_compared.result _ _ _ _ _ _ _ _ (c.is_compared.result && goes_on course) (turn.is_compared && (not (is_some heads) && goes_on course)) course.end
-    (λ e. and-left turn.is_compared _ (sym c.is_compared.ensures ∙ e)) (λ e. goes-so turn.is_compared (not (is_some heads)) _ (goes_on course) c.is_compared.result c.is_compared.ensures e) (passes last)
+    passes_less turn c.is_compared.result _ _ _ _ _ _ _ _ course.is_beside course.is_beside course.end
+    (λ e. and-left turn.is_compared _ (sym c.is_compared.ensures ∙ e)) (λ e. e) (passes last)
+
+pub returns-in-Ok-Ok-read_course-clause-stays : goal.returns-in-Ok-Ok-read_course-clause-stays
+returns-in-Ok-Ok-read_course-clause-stays g c = λ last compared is.
+    let turn = c.args.turn in
+    let course = c.in-Ok-Ok-read_course.course in
+    let heads = c.in_ok-heads.heads in
+    let stays = rw c.in-Ok-Ok-read_course.field-0-is at c.in-Ok-Ok-read_course.ensures.stays in
+    let same = same-parts heads course.is_early course.found is in
+    stays last (c.is_compared.ensures ∙ compared-so turn.is_compared _ heads compared same.0) same.1 same.2
 
 pub returns-in-Ok-Ok-read_course-clause-read : goal.returns-in-Ok-Ok-read_course-clause-read
 returns-in-Ok-Ok-read_course-clause-read g c = λ ho a bo he.

@@ -1,9 +1,11 @@
-use Rattle.std.proofs.Common.{◌≡◌, ◌+◌, ◌∷◌, [], true, false, List, IsTrue, map, length, arith, refl, sym, subst}
+use Rattle.std.proofs.Common.{◌≡◌, ◌+◌, ◌&&◌, ◌∷◌, [], true, false, List, IsTrue, map, length, arith, refl, sym, subst}
 use Rattle.std.specs.List.{AllByRecursion}
 use Rattle.edf_stream.specs.Views.{note_value}
 use Rattle.edf_check.specs.declared.parts.found.PartsFound.{PartsFound}
 use Rattle.edf_check.specs.parts.Together.{AreRead, HaveFault}
 use Rattle.edf_pace.specs.walk.Windows.{is_last}
+use Rattle.edf_check.specs.parts.Ends.{is_same}
+use Rattle.edf_check.proofs.parts.CompareFacts.{and-left, and-right}
 use Rattle.edf_check.proofs.parts.SerialFacts.{fault_behind, fault_first, next_turn, read_more, read_none}
 use Rattle.edf_check.proofs.parts.series.+read_parts.Goals as goal
 
@@ -29,12 +31,12 @@ returns-in-None-clause-read g t c = λ ho a bo he.
     let none = none-of c.args.others.now c.in-None.ensures.cases in
     let L : List _ → Type 0 = λ all. c.are_none.result ≡ is_last (map g.E.Source.left all) in
     let last : c.are_none.result ≡ true = subst L none c.are_none.ensures.value in
-    let rest = read_none turn c.are_none.result c.goes_on-is_compared.result read a h left notes e left' c.take.new.self last c.goes_on-is_compared.ensures part in
+    let rest = read_none turn c.are_none.result read a h left notes e left' c.take.new.self last part in
     let F : List _ → Type 0 = λ all. AreRead turn a h left notes (e ∷ map g.E.Source.left all) (left' ∷ map g.E.Source.left all) c.args.so_far.now.exported c.take.new.self c.found_with.result in
     let Q : PartsFound → Type 0 = λ f. AreRead turn a h left notes (e ∷ []) (left' ∷ []) c.args.so_far.now.exported c.take.new.self f in
     subst F (sym none)
     (subst Q (sym c.found_with.ensures)
-    (read_more turn c.are_none.result c.goes_on-is_compared.result read a h left left notes notes e left' [] [] c.args.so_far.now.exported c.take.new.self c.take.new.self _ last c.goes_on-is_compared.ensures c.in_ok-take.ensures.samples c.in_ok-take.ensures.notes part rest))
+    (read_more turn c.are_none.result (turn.is_compared && is_same read) read a h left left notes notes e left' [] [] c.args.so_far.now.exported c.take.new.self c.take.new.self _ last (λ z. z) c.in_ok-take.ensures.samples c.in_ok-take.ensures.notes part rest))
 
 pub returns-in-Ok-Ok-read_parts-clause-read : goal.returns-in-Ok-Ok-read_parts-clause-read
 returns-in-Ok-Ok-read_parts-clause-read g t c = λ ho a bo he.
@@ -52,15 +54,17 @@ returns-in-Ok-Ok-read_parts-clause-read g t c = λ ho a bo he.
     let L : List _ → Type 0 = λ all. c.are_none.result ≡ is_last (map g.E.Source.left all) in
     let last : c.are_none.result ≡ false = subst L others c.are_none.ensures.value in
     let passes = (rw c.in-Ok-Ok.field-0-is at c.in-Ok-Ok.ensures.passes) last in
-    let passed = rw (sym c.goes_on-is_compared.ensures) at passes in
+    let passed = passes in
+    let stays = rw c.in-Ok-Ok.field-0-is at c.in-Ok-Ok.ensures.stays in
+    let goes : (turn.is_compared && is_same read) ≡ true → (read.course).is_beside ≡ true = λ z. stays last (and-left turn.is_compared (is_same read) z) (and-right turn.is_compared (is_same read) z) in
     let H : List _ → Type 0 = λ all. AllByRecursion IsTrue (map g.E.Source.is_honest all) in
     let behind = (rw c.in-Ok-Ok-read_parts.field-0-is at c.in-Ok-Ok-read_parts.ensures.read) (passed.honesty ho) a (passed.comes ho a bo) (subst H others he.1) in
-    let rest = subst (λ k. AreRead (next_turn turn c.are_none.result read c.goes_on-is_compared.result) a k left notes parts lefts c.take.new.self c.read_parts.new.so_far.exported c.in-Ok-Ok-read_parts.rest) passed.head behind in
+    let rest = subst (λ k. AreRead (next_turn turn c.are_none.result read (read.course).is_beside) a k left notes parts lefts c.take.new.self c.read_parts.new.so_far.exported c.in-Ok-Ok-read_parts.rest) passed.head behind in
     let F : List _ → Type 0 = λ all. AreRead turn a h left notes (e ∷ map g.E.Source.left all) (left' ∷ lefts) c.args.so_far.now.exported c.read_parts.new.so_far.exported c.found_with-in-Ok-Ok-read_parts.result in
     let Q : PartsFound → Type 0 = λ f. AreRead turn a h left notes (e ∷ parts) (left' ∷ lefts) c.args.so_far.now.exported c.read_parts.new.so_far.exported f in
     subst F (sym others)
     (subst Q (sym c.found_with-in-Ok-Ok-read_parts.ensures)
-    (read_more turn c.are_none.result c.goes_on-is_compared.result read a h left _ notes _ e left' parts lefts c.args.so_far.now.exported c.take.new.self c.read_parts.new.so_far.exported c.in-Ok-Ok-read_parts.rest last c.goes_on-is_compared.ensures c.in_ok-take.ensures.samples c.in_ok-take.ensures.notes part rest))
+    (read_more turn c.are_none.result (read.course).is_beside read a h left _ notes _ e left' parts lefts c.args.so_far.now.exported c.take.new.self c.read_parts.new.so_far.exported c.in-Ok-Ok-read_parts.rest last goes c.in_ok-take.ensures.samples c.in_ok-take.ensures.notes part rest))
 
 pub returns-in-Ok-Err-read_parts-clause-fault : goal.returns-in-Ok-Err-read_parts-clause-fault
 returns-in-Ok-Err-read_parts-clause-fault g t c = λ ho a bo he.
@@ -72,7 +76,7 @@ returns-in-Ok-Err-read_parts-clause-fault g t c = λ ho a bo he.
     let L : List _ → Type 0 = λ all. c.are_none.result ≡ is_last (map g.E.Source.left all) in
     let last : c.are_none.result ≡ false = subst L others c.are_none.ensures.value in
     let passes = (rw c.in-Ok-Ok.field-0-is at c.in-Ok-Ok.ensures.passes) last in
-    let passed = rw (sym c.goes_on-is_compared.ensures) at passes in
+    let passed = passes in
     let H : List _ → Type 0 = λ all. AllByRecursion IsTrue (map g.E.Source.is_honest all) in
     let fault = (rw c.in-Ok-Err-read_parts.field-0-is at c.in-Ok-Err-read_parts.ensures.fault) (passed.honesty ho) a (passed.comes ho a bo) (subst H others he.1) in
     let F : List _ → Type 0 = λ all. HaveFault turn.part a (c.args.so_far.now.original.reader).head left (e ∷ map g.E.Source.left all) c.in-Ok-Err-read_parts.fault in

@@ -1,0 +1,13 @@
+//! Several exports. They are counted from 0, as in the line of the answer.
+
+/// The number of the export; what is said of it follows.
+pub(crate) const PART: &str = "Part {0}:";
+
+pub(crate) const PART_AS_CLAIMED: &str = "  Its header and its samples are as claimed.";
+
+pub(crate) const PART_EARLY: &str =
+    "  It begins before the part in front of it ends, so it isn't known which of the two has the samples there. Its samples weren't compared, nor those of the parts behind it, nor annotations: put the parts in the order of time, or make them so that none overlaps the next.";
+
+pub(crate) const PART_NOT_COMPARED: &str = "  Its samples weren't compared.";
+
+pub(crate) const NOTES_OF_ALL: &str = "The annotations of all parts together:";

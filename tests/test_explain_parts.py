@@ -1,0 +1,184 @@
+"""Each explanation of several exports beside their check, and what is said of each export.
+
+`explain-parts` has the status of `check-parts`, and its first line: on standard output behind an answer, on standard error
+behind a refusal. This is tried on all checks of several exports of tests/cases. What has to be said of a mistake follows
+from how its files are made: a cut of the night of 4 s, two channels and three annotations.
+"""
+
+import re
+import unittest
+
+from tests.cases import rows_of
+from tests.cases.parts import FIRST, JUST_EARLY, KEPT_TIME, SECOND, SECONDS, changed, second
+from tests.cases.small_night import BOTH, LANE_0, LANE_1, NIGHT, VALUES_0, VALUES_1
+from tests.edf import field, lane, signal, values
+from tests.harness import ProgramCase, each
+from tests.recordings import bytes_of, claim_of, recording
+
+ALL_OF_IT = claim_of(BOTH, "", [("0", "4")])
+AS_CLAIMED = "  Its header and its samples are as claimed.\n"
+EARLY = "  It begins before the part in front of it ends"
+
+# The first half with another value of the channel `EEG Fpz-Cz`, and without its first annotation.
+OTHER_FIRST = recording(parts=[VALUES_0, LANE_0, values([40, 50, 60, 71, 102, 103]), LANE_1], base=FIRST)
+FIRST_WITHOUT_NOTE = recording(parts=[VALUES_0, KEPT_TIME, VALUES_1, LANE_1], base=FIRST)
+OTHER_SECOND = second(third=values([80, 90, 100, 110, 104, 106]), fourth=values([120, 130, 140, 150, 107, 107]))
+
+ONE_OF_EEG = 'Channel "EEG Fpz-Cz": 1 sample has another value in the export.\n'
+TWO_OF_ECG = 'Channel "ECG": 2 samples have another value in the export.\n'
+OTHER_SENSOR = 'Channel "ECG" has another sensor in the export: the original has "AgAgCl electrode", the export has "x".'
+
+
+def behind(number, words):
+    """What is said of a part: its name, and the words behind it."""
+    return f"Part {number}:\n{words}"
+
+
+# The exports, the status, what has to be said, and what not.
+ROWS = [
+    ("two_halves", [FIRST, SECOND], 0, [behind(0, AS_CLAIMED) + behind(1, AS_CLAIMED)], ["Part 2", "together"]),
+    ("one_export", [NIGHT], 0, [behind(0, AS_CLAIMED)], ["Part 1"]),
+    ("four_seconds", SECONDS, 0, [behind(number, AS_CLAIMED) for number in range(4)], ["Part 4"]),
+    ("another_value_in_the_first_half", [OTHER_FIRST, SECOND], 1, [behind(0, ONE_OF_EEG), behind(1, AS_CLAIMED)], ["together"]),
+    (
+        "other_values_in_both_halves",
+        [OTHER_FIRST, OTHER_SECOND],
+        1,
+        [
+            behind(0, ONE_OF_EEG), "The first is at 2.5 s", "The last is at 3 s", behind(1, TWO_OF_ECG), ": 70 in the original, 71 in the",
+            ": 105 in the original, 106 in the export", ": 106 in the original, 107 in the export", "It is at 1.75 s (2002-03-02 22:00:01.75",
+        ],
+        [AS_CLAIMED, "together"],
+    ),
+    (
+        "another_header_of_the_first_half_and_values_of_the_second",
+        [changed(FIRST, (signal(1, "transducer"), "x")), OTHER_SECOND],
+        1,
+        [behind(0, OTHER_SENSOR), behind(1, TWO_OF_ECG)],
+        [AS_CLAIMED],
+    ),
+    (
+        "other_headers_in_both_halves",
+        [changed(FIRST, (signal(1, "transducer"), "x")), changed(SECOND, (signal(1, "transducer"), "x"))],
+        1,
+        [behind(0, OTHER_SENSOR), behind(1, OTHER_SENSOR)],
+        [AS_CLAIMED, "have another value", "has another value"],
+    ),
+    (
+        "third_second_missing",
+        [FIRST, SECONDS[3]],
+        1,
+        [
+            behind(0, AS_CLAIMED),
+            behind(1, "The export starts 1 s later than claimed"),
+            'Channel "EEG Fpz-Cz": 4 samples that the claim keeps are missing',
+            'Channel "ECG": 2 samples that the claim keeps are missing',
+        ],
+        ["together"],
+    ),
+    (
+        "last_second_missing",
+        [FIRST, SECONDS[2]],
+        1,
+        [
+            behind(0, AS_CLAIMED),
+            behind(1, 'Channel "EEG Fpz-Cz": 4 samples that the claim keeps are missing'),
+            "The annotations of all parts together:\nThe export lacks 1 annotation that the claim keeps",
+        ],
+        ["starts 1 s"],
+    ),
+    (
+        "first_half_alone",
+        [FIRST],
+        1,
+        [behind(0, 'Channel "EEG Fpz-Cz": 8 samples that the claim keeps are missing'), 'Channel "ECG": 4 samples that'],
+        ["Part 1"],
+    ),
+    (
+        "annotations_missing_and_a_value",
+        [FIRST_WITHOUT_NOTE, OTHER_SECOND],
+        1,
+        [behind(0, AS_CLAIMED), behind(1, TWO_OF_ECG), "The annotations of all parts together:", '"Lights off"'],
+        [],
+    ),
+    ("halves_exchanged", [SECOND, FIRST], 1, [EARLY, "put the parts in the order of time"], [behind(1, AS_CLAIMED), "together"]),
+    ("a_hair_early", [FIRST, JUST_EARLY], 1, [behind(0, AS_CLAIMED), behind(1, EARLY)], ["together"]),
+    (
+        "the_first_half_thrice",
+        [FIRST, FIRST, FIRST],
+        1,
+        [behind(1, EARLY), behind(2, "  Its samples weren't compared.\n")],
+        [behind(2, EARLY)],
+    ),
+    (
+        "a_broken_second_half",
+        [FIRST, recording(length=-1, base=SECOND)],
+        1,
+        [behind(1, "The export can't be judged. Its first fault is: Truncated at record 1."), "looks like a copy that was broken off"],
+        ["Part 0", "The original can't"],
+    ),
+    ("an_empty_first_half", [recording(length=0, base=FIRST), SECOND], 1, [behind(0, "The export can't"), "The file is empty"], ["Part 1"]),
+]
+
+# A name in the header of the second half alone, where a claim hides the patient's name.
+NAME = "Haagse"
+HIDDEN = (field("patient"), "MCH-0234567 F 02-MAY-1951 X")
+
+
+class ExplainPartsCase(ProgramCase):
+    """Tests of explanations of several exports."""
+
+    def explained(self, original, claim, exports):
+        """The words of the sentences, and the status; the line is that of the check."""
+        parts = [self.file(f"part-{number}.edf", export) for number, export in enumerate(exports)]
+        paths = [self.file("original.edf", original), self.file("claim.toml", claim), *parts]
+        check, given = self.run_program("check-parts", *paths), self.run_program("explain-parts", *paths)
+        line, said, other = (check.err, given.err, given.out) if check.status == 2 else (check.out, given.out, given.err)
+        self.assertTrue(given.status == check.status and said.startswith(line) and not other, f"{given}\nand the check: {check}")
+        text = said.removeprefix(line).decode(errors="replace")
+        self.assertTrue(line.count(b"\n") == 1 and text.strip() and text.endswith("\n"), f"no sentences: {given}")
+        return text, given.status
+
+
+class Rows(ExplainPartsCase):
+    """What is said of each part."""
+
+    @each(ROWS)
+    def row(self, exports, status, there, absent):
+        text, given = self.explained(bytes_of(NIGHT), ALL_OF_IT, [bytes_of(export) for export in exports])
+        self.assertEqual(given, status, text)
+        self.assertEqual([word for word in there if word not in text], [], f"words that lack: {text}")
+        self.assertEqual([word for word in absent if word in text], [], f"words that are said: {text}")
+
+    def test_name_in_the_second_header(self):
+        """The claim hides the name, and the second half has it in a text of a channel."""
+        claim = claim_of(BOTH, 'anonymous = ["name"]', [("0", "4")])
+        named = changed(SECOND, HIDDEN, (signal(1, "transducer"), NAME))
+        text, _ = self.explained(bytes_of(NIGHT), claim, [bytes_of(changed(FIRST, HIDDEN)), bytes_of(named)])
+        self.assertEqual(text.count(f'A text of channel "ECG" has something spelled like a word of the patient\'s name: "{NAME}".'), 1, text)
+
+
+class Checks(ExplainPartsCase):
+    """All checks of several exports of the tables."""
+
+    @each([(row.name, row) for row in rows_of("parts") if row.command == "check-parts"])
+    def check(self, row):
+        original, claim, *exports = row.made()
+        text, _ = self.explained(original, claim, exports)
+        # twelve seconds as two halves, of which one has another value at one second
+        at = re.search(r"_s_as_halves_of_.*_with_another_value_at_(\d+)_s$", row.name)
+        if at:
+            other = int(at[1]) // 6
+            self.assertIn(behind(other, 'Channel "Temp": 1 sample has another value in the export.\n'), text)
+            self.assertIn(behind(1 - other, AS_CLAIMED), text)
+            self.assertIn(f"  It is at {at[1]} s (", text)
+
+    def test_too_many(self):
+        paths = [self.file("original.edf", bytes_of(NIGHT)), self.file("claim.toml", ALL_OF_IT)]
+        parts = [self.file("part.edf", bytes_of(FIRST))] * 65
+        check, given = self.run_program("check-parts", *paths, *parts), self.run_program("explain-parts", *paths, *parts)
+        self.assertEqual((given.status, given.out, given.err), (2, b"", check.err))
+
+
+if __name__ == "__main__":
+    unittest.main()
