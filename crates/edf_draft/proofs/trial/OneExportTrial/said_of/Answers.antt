@@ -5,4 +5,4 @@ pub returns-in_ok-line-in-Ok : goal.returns-in_ok-line-in-Ok
 returns-in_ok-line-in-Ok g c =
     let again = c.args.self.now.again.now in
     said_of_one (g.R.Recordings.are_honest again) (g.R.Recordings.original again) (g.R.Recordings.export again) c.args.text.now
-    c.in-Ok.verdict c.in_ok-line.line.items c.said_with.result c.in-Ok.ensures c.in_ok-line.ensures c.said_with.ensures
+    c.in-Ok.verdict c.in_ok-line-in-Ok.line.items c.said_with.result c.in-Ok.ensures c.in_ok-line-in-Ok.ensures c.said_with.ensures
