@@ -83,6 +83,8 @@ fn is_over(has_enough: bool, is_last: bool) -> bool
 /// original, too, where no further part follows, or where the samples differ.
 ///
 /// The error is want of memory, or a failure of one of the sources.
+// the walk is inlined here, and is the slower the more stands around it
+#[inline(never)]
 fn compare_on<O: Source, E: Source, L: Onlooker>(
     original: &mut Reading,
     o: &mut O,
