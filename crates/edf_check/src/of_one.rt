@@ -22,13 +22,16 @@ pub(crate) fn check_beside<O: Source, E: Source, L: Onlooker>(
     export: &mut E,
     asked: Asked<'_, '_, L>,
 ) -> Result<Verdict, CheckStop>
-    ensures headline { IfOk result (λ verdict. IsTrue (O.is_honest original.old) → IsTrue (E.is_honest export.old) →
+    ensures headline { IfOk result (λ verdict. IsTrue (O.is_honest original.old) →
+        IsTrue (E.is_honest export.old) →
         YesMeans (O.left original.old) (E.left export.old) (asked.entry.claim).now verdict) }
-    ensures verdict { IfOk result (λ verdict. IsTrue (O.is_honest original.old) → IsTrue (E.is_honest export.old) →
+    ensures verdict { IfOk result (λ verdict. IsTrue (O.is_honest original.old) →
+        IsTrue (E.is_honest export.old) →
         IsVerdict (O.left original.old) (E.left export.old) (asked.entry.claim).now verdict) }
-    ensures read { IfOk result (λ verdict. IsTrue (O.is_honest original.old) → IsTrue (E.is_honest export.old) →
-        AreRead verdict (O.left original.new) (E.left export.new)) }
-    ensures failures { OnOk result ((O.reads original.new ≡ O.reads original.old) × (E.reads export.new ≡ E.reads export.old)) }
+    ensures read { IfOk result (λ verdict. IsTrue (O.is_honest original.old) →
+        IsTrue (E.is_honest export.old) → AreRead verdict (O.left original.new) (E.left export.new)) }
+    ensures failures { OnOk result ((O.reads original.new ≡ O.reads original.old) ×
+        (E.reads export.new ≡ E.reads export.old)) }
     ensures stop { IfErr result (CheckStops
         (Fails (O.reads original.old) (O.reads original.new))
         (Fails (E.reads export.old) (E.reads export.new))
@@ -56,13 +59,16 @@ pub fn check<O: Source, E: Source>(
     export: &mut E,
     claim: &Claim,
 ) -> Result<Verdict, CheckStop>
-    ensures headline { IfOk result (λ verdict. IsTrue (O.is_honest original.old) → IsTrue (E.is_honest export.old) →
+    ensures headline { IfOk result (λ verdict. IsTrue (O.is_honest original.old) →
+        IsTrue (E.is_honest export.old) →
         YesMeans (O.left original.old) (E.left export.old) claim.now verdict) }
-    ensures verdict { IfOk result (λ verdict. IsTrue (O.is_honest original.old) → IsTrue (E.is_honest export.old) →
+    ensures verdict { IfOk result (λ verdict. IsTrue (O.is_honest original.old) →
+        IsTrue (E.is_honest export.old) →
         IsVerdict (O.left original.old) (E.left export.old) claim.now verdict) }
-    ensures read { IfOk result (λ verdict. IsTrue (O.is_honest original.old) → IsTrue (E.is_honest export.old) →
-        AreRead verdict (O.left original.new) (E.left export.new)) }
-    ensures failures { OnOk result ((O.reads original.new ≡ O.reads original.old) × (E.reads export.new ≡ E.reads export.old)) }
+    ensures read { IfOk result (λ verdict. IsTrue (O.is_honest original.old) →
+        IsTrue (E.is_honest export.old) → AreRead verdict (O.left original.new) (E.left export.new)) }
+    ensures failures { OnOk result ((O.reads original.new ≡ O.reads original.old) ×
+        (E.reads export.new ≡ E.reads export.old)) }
     ensures stop { IfErr result (CheckStops
         (Fails (O.reads original.old) (O.reads original.new))
         (Fails (E.reads export.old) (E.reads export.new))

@@ -37,11 +37,14 @@ pub(crate) fn check_series<O: Source, E: Source, L: Onlooker>(
     asked: Asked<'_, '_, L>,
 ) -> Result<PartsVerdict, PartsStop>
     requires few { length others.old < 64 }
-    ensures verdict { IfOk result (IsVerdictOf O.Source E.Source original.old (part.old ∷ others.old) (asked.entry.claim).now) }
+    ensures verdict { IfOk result (IsVerdictOf O.Source E.Source original.old (part.old ∷ others.old)
+        (asked.entry.claim).now) }
     ensures read { IfOk result (IsReadBy O.Source E.Source original.old original.new
         (part.old ∷ others.old) (part.new ∷ others.new)) }
-    ensures failures { OnOk result (NoneFailed O.Source original.old original.new E.Source part.old part.new others.old others.new) }
-    ensures stop { IfErr result (StopsOfAll O.Source original.old original.new E.Source 0 (part.old ∷ others.old) (part.new ∷ others.new)) }
+    ensures failures { OnOk result (NoneFailed O.Source original.old original.new E.Source part.old part.new
+        others.old others.new) }
+    ensures stop { IfErr result (StopsOfAll O.Source original.old original.new E.Source 0
+        (part.old ∷ others.old) (part.new ∷ others.new)) }
 {
     let Asked {
         alloc,
@@ -97,13 +100,17 @@ pub(crate) fn check_parts_beside<O: Source, E: Source, L: Onlooker>(
 ) -> Result<PartsVerdict, PartsStop>
     requires some { 0 < length parts.old }
     requires few { length parts.old ≤ 64 }
-    ensures verdict { IfOk result (λ verdict. IsTrue (O.is_honest original.old) → AllByRecursion IsTrue (map E.is_honest parts.old) →
+    ensures verdict { IfOk result (λ verdict. IsTrue (O.is_honest original.old) →
+        AllByRecursion IsTrue (map E.is_honest parts.old) →
         IsPartsVerdict (O.left original.old) (map E.left parts.old) (asked.entry.claim).now verdict) }
-    ensures read { IfOk result (λ verdict. IsTrue (O.is_honest original.old) → AllByRecursion IsTrue (map E.is_honest parts.old) →
+    ensures read { IfOk result (λ verdict. IsTrue (O.is_honest original.old) →
+        AllByRecursion IsTrue (map E.is_honest parts.old) →
         AllByRecursion (AreRead verdict.verdict (O.left original.new)) (map E.left parts.new)) }
-    ensures failures { OnOk result ((O.reads original.new ≡ O.reads original.old) × (map E.reads parts.new ≡ map E.reads parts.old)) }
+    ensures failures { OnOk result ((O.reads original.new ≡ O.reads original.old) ×
+        (map E.reads parts.new ≡ map E.reads parts.old)) }
     ensures stop { IfErr result (PartsStops (Fails (O.reads original.old) (O.reads original.new))
-        ((O.reads original.new ≡ O.reads original.old) × (map E.reads parts.new ≡ map E.reads parts.old)) 0 (map E.reads parts.old) (map E.reads parts.new)) }
+        ((O.reads original.new ≡ O.reads original.old) × (map E.reads parts.new ≡ map E.reads parts.old)) 0
+        (map E.reads parts.old) (map E.reads parts.new)) }
 {
     match parts.split_first_mut() {
         None => unreachable!(),
@@ -131,13 +138,17 @@ pub fn check_parts<O: Source, E: Source>(
 ) -> Result<PartsVerdict, PartsStop>
     requires some { 0 < length parts.old }
     requires few { length parts.old ≤ 64 }
-    ensures verdict { IfOk result (λ verdict. IsTrue (O.is_honest original.old) → AllByRecursion IsTrue (map E.is_honest parts.old) →
+    ensures verdict { IfOk result (λ verdict. IsTrue (O.is_honest original.old) →
+        AllByRecursion IsTrue (map E.is_honest parts.old) →
         IsPartsVerdict (O.left original.old) (map E.left parts.old) claim.now verdict) }
-    ensures read { IfOk result (λ verdict. IsTrue (O.is_honest original.old) → AllByRecursion IsTrue (map E.is_honest parts.old) →
+    ensures read { IfOk result (λ verdict. IsTrue (O.is_honest original.old) →
+        AllByRecursion IsTrue (map E.is_honest parts.old) →
         AllByRecursion (AreRead verdict.verdict (O.left original.new)) (map E.left parts.new)) }
-    ensures failures { OnOk result ((O.reads original.new ≡ O.reads original.old) × (map E.reads parts.new ≡ map E.reads parts.old)) }
+    ensures failures { OnOk result ((O.reads original.new ≡ O.reads original.old) ×
+        (map E.reads parts.new ≡ map E.reads parts.old)) }
     ensures stop { IfErr result (PartsStops (Fails (O.reads original.old) (O.reads original.new))
-        ((O.reads original.new ≡ O.reads original.old) × (map E.reads parts.new ≡ map E.reads parts.old)) 0 (map E.reads parts.old) (map E.reads parts.new)) }
+        ((O.reads original.new ≡ O.reads original.old) × (map E.reads parts.new ≡ map E.reads parts.old)) 0
+        (map E.reads parts.old) (map E.reads parts.new)) }
 {
     let asked = Asked {
         alloc,

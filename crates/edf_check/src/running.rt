@@ -24,16 +24,21 @@ pub fn run<O: Source, E: Source, K: Sink>(
     claim_text: &[u8],
     sink: &mut K,
 ) -> Result<Outcome, RunStop>
-    ensures report { IfOk result (λ outcome. IsTrue (O.is_honest original.old) → IsTrue (E.is_honest export.old) → IsTrue (K.is_honest sink.old) →
-        IsReport (O.left original.old) (E.left export.old) claim_text.now (K.held sink.old) (K.held sink.new) outcome) }
-    ensures reads { OnOk result ((O.reads original.new ≡ O.reads original.old) × (E.reads export.new ≡ E.reads export.old)) }
+    ensures report { IfOk result (λ outcome. IsTrue (O.is_honest original.old) →
+        IsTrue (E.is_honest export.old) → IsTrue (K.is_honest sink.old) →
+        IsReport (O.left original.old) (E.left export.old) claim_text.now (K.held sink.old)
+        (K.held sink.new) outcome) }
+    ensures reads { OnOk result ((O.reads original.new ≡ O.reads original.old) ×
+        (E.reads export.new ≡ E.reads export.old)) }
     ensures failures { OnOk result (K.failures sink.new ≡ K.failures sink.old) }
     ensures honesty { IsTrue (K.is_honest sink.old) → IsTrue (K.is_honest sink.new) }
     ensures nothing { IfErr result (λ stop. stop ≢ stops.WriteFailed → sink.new ≡ sink.old) }
-    ensures part { IfErr result (λ stop. stop ≡ stops.WriteFailed → IsTrue (O.is_honest original.old) → IsTrue (E.is_honest export.old) →
-        IsTrue (K.is_honest sink.old) →
-        IsPartOfReport (O.left original.old) (E.left export.old) claim_text.now (K.held sink.old) (K.held sink.new)) }
-    ensures front { IfErr result (λ stop. stop ≡ stops.WriteFailed → IsTrue (K.is_honest sink.old) → IsFrontOfALine (K.held sink.old) (K.held sink.new)) }
+    ensures part { IfErr result (λ stop. stop ≡ stops.WriteFailed → IsTrue (O.is_honest original.old) →
+        IsTrue (E.is_honest export.old) → IsTrue (K.is_honest sink.old) →
+        IsPartOfReport (O.left original.old) (E.left export.old) claim_text.now (K.held sink.old)
+        (K.held sink.new)) }
+    ensures front { IfErr result (λ stop. stop ≡ stops.WriteFailed → IsTrue (K.is_honest sink.old) →
+        IsFrontOfALine (K.held sink.old) (K.held sink.new)) }
     ensures stop { IfErr result (RunStops
         (λ cause. (cause ≢ claim_stops.OutOfMemory) × FirstClaimFault claim_text.now cause)
         (Fails (O.reads original.old) (O.reads original.new))

@@ -27,15 +27,19 @@ pub fn run_parts<O: Source, E: Source, K: Sink>(
 ) -> Result<Outcome, PartsRunStop>
     requires some { 0 < length parts.old }
     requires few { length parts.old ≤ 64 }
-    ensures report { IfOk result (λ outcome. IsTrue (O.is_honest original.old) → AllByRecursion IsTrue (map E.is_honest parts.old) → IsTrue (K.is_honest sink.old) →
-        IsPartsReport (O.left original.old) (map E.left parts.old) claim_text.now (K.held sink.old) (K.held sink.new) outcome) }
-    ensures reads { OnOk result ((O.reads original.new ≡ O.reads original.old) × (map E.reads parts.new ≡ map E.reads parts.old)) }
+    ensures report { IfOk result (λ outcome. IsTrue (O.is_honest original.old) →
+        AllByRecursion IsTrue (map E.is_honest parts.old) → IsTrue (K.is_honest sink.old) →
+        IsPartsReport (O.left original.old) (map E.left parts.old) claim_text.now (K.held sink.old)
+        (K.held sink.new) outcome) }
+    ensures reads { OnOk result ((O.reads original.new ≡ O.reads original.old) ×
+        (map E.reads parts.new ≡ map E.reads parts.old)) }
     ensures failures { OnOk result (K.failures sink.new ≡ K.failures sink.old) }
     ensures honesty { IsTrue (K.is_honest sink.old) → IsTrue (K.is_honest sink.new) }
     ensures nothing { IfErr result (λ stop. stop ≢ stops.WriteFailed → sink.new ≡ sink.old) }
-    ensures part { IfErr result (λ stop. stop ≡ stops.WriteFailed → IsTrue (O.is_honest original.old) → AllByRecursion IsTrue (map E.is_honest parts.old) →
-        IsTrue (K.is_honest sink.old) →
-        IsPartOfPartsReport (O.left original.old) (map E.left parts.old) claim_text.now (K.held sink.old) (K.held sink.new)) }
+    ensures part { IfErr result (λ stop. stop ≡ stops.WriteFailed → IsTrue (O.is_honest original.old) →
+        AllByRecursion IsTrue (map E.is_honest parts.old) → IsTrue (K.is_honest sink.old) →
+        IsPartOfPartsReport (O.left original.old) (map E.left parts.old) claim_text.now (K.held sink.old)
+        (K.held sink.new)) }
     ensures front { IfErr result (λ stop. stop ≡ stops.WriteFailed → IsTrue (K.is_honest sink.old) →
         IsFrontOfAPartsLine (length parts.old) (K.held sink.old) (K.held sink.new)) }
     ensures stop { IfErr result (PartsRunStops

@@ -47,7 +47,8 @@ fn push_names(text: &mut Vec<u8>, whiches: &[Which]) -> Result<(), AllocError>
 
 /// Puts the lines of some texts behind another text.
 fn push_lines(text: &mut Vec<u8>, texts: &[Vec<u8>]) -> Result<(), AllocError>
-    ensures { OnOk result (text.new.items ≡ text.old.items ++ flat_map text_line (map (λ t. t.items) texts.now)) }
+    ensures { OnOk result (text.new.items ≡ text.old.items ++
+        flat_map text_line (map (λ t. t.items) texts.now)) }
 {
     for said in texts {
         push_line(text, said)?;
@@ -82,7 +83,8 @@ fn push_intervals(
     intervals: &[Interval],
     says_ps: bool,
 ) -> Result<(), AllocError>
-    ensures { OnOk result (text.new.items ≡ text.old.items ++ flat_map (interval_line says_ps) intervals.now) }
+    ensures { OnOk result (text.new.items ≡ text.old.items ++
+        flat_map (interval_line says_ps) intervals.now) }
 {
     for interval in intervals {
         push_interval(text, alloc, *interval, says_ps)?;
@@ -101,7 +103,8 @@ fn push_head(text: &mut Vec<u8>, key: &str) -> Result<(), AllocError>
 /// Puts a key with an array of some texts behind another text.
 #[tactic(auto, unfolding(crate::specs::PlainTexts::array_text))]
 fn push_texts(text: &mut Vec<u8>, key: &str, texts: &[Vec<u8>]) -> Result<(), AllocError>
-    ensures { OnOk result (text.new.items ≡ text.old.items ++ texts_array key.now (map (λ t. t.items) texts.now)) }
+    ensures { OnOk result (text.new.items ≡ text.old.items ++
+        texts_array key.now (map (λ t. t.items) texts.now)) }
 {
     push_head(text, key)?;
     push_lines(text, texts)?;
@@ -126,7 +129,8 @@ fn push_keep(
     intervals: &[Interval],
     says_ps: bool,
 ) -> Result<(), AllocError>
-    ensures { OnOk result (text.new.items ≡ text.old.items ++ array_text (codes "keep") (flat_map (interval_line says_ps) intervals.now)) }
+    ensures { OnOk result (text.new.items ≡ text.old.items ++
+        array_text (codes "keep") (flat_map (interval_line says_ps) intervals.now)) }
 {
     push_head(text, "keep")?;
     push_intervals(text, alloc, intervals, says_ps)?;
@@ -136,7 +140,8 @@ fn push_keep(
 /// Puts the subfields that are made anonymous behind a text.
 #[tactic(auto, unfolding(crate::specs::PlainTexts::array_text))]
 fn push_anonymous(text: &mut Vec<u8>, whiches: &[Which]) -> Result<(), AllocError>
-    ensures { OnOk result (text.new.items ≡ text.old.items ++ array_text (codes "anonymous") (flat_map name_line whiches.now)) }
+    ensures { OnOk result (text.new.items ≡ text.old.items ++
+        array_text (codes "anonymous") (flat_map name_line whiches.now)) }
 {
     push_head(text, "anonymous")?;
     push_names(text, whiches)?;

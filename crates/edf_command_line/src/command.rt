@@ -59,7 +59,8 @@ fn needing<'a>(
 ) -> Result<Command<'a>, AllocError>
     ensures shape { IfOk result (λ r. (fields_of command.entry).has_globals ≡ false →
         app_of r ≡ with_rule (app_of command.entry) (needed id.entry.now)) }
-    ensures local { IfOk result (λ r. (fields_of command.entry).has_globals ≡ false → (fields_of r).has_globals ≡ false) }
+    ensures local { IfOk result (λ r. (fields_of command.entry).has_globals ≡ false →
+        (fields_of r).has_globals ≡ false) }
 {
     command.arg(Arg::new(alloc, id).required(true).help(help))
 }
@@ -73,7 +74,8 @@ fn needing_some<'a>(
 ) -> Result<Command<'a>, AllocError>
     ensures shape { IfOk result (λ r. (fields_of command.entry).has_globals ≡ false →
         app_of r ≡ with_rule (app_of command.entry) (needed_some id.entry.now)) }
-    ensures local { IfOk result (λ r. (fields_of command.entry).has_globals ≡ false → (fields_of r).has_globals ≡ false) }
+    ensures local { IfOk result (λ r. (fields_of command.entry).has_globals ≡ false →
+        (fields_of r).has_globals ≡ false) }
 {
     command.arg(Arg::new(alloc, id).required(true).num_args(1..).help(help))
 }
@@ -149,7 +151,8 @@ fn with_report<'a>(
     program: Command<'a>,
     named: Named<'a>,
 ) -> Result<Command<'a>, AllocError>
-    ensures { IfOk result (λ r. app_of r ≡ with_subcommand (app_of program.entry) (file_app named.entry.name.now).top) }
+    ensures { IfOk result (λ r.
+        app_of r ≡ with_subcommand (app_of program.entry) (file_app named.entry.name.now).top) }
 {
     let report = file_command(alloc, named)?;
     program.subcommand(report)
@@ -186,7 +189,8 @@ fn with_both<'a>(
     of_one: Named<'a>,
     of_several: Named<'a>,
 ) -> Result<Command<'a>, AllocError>
-    ensures { IfOk result (λ c. app_of c ≡ with_both (app_of program.entry) of_one.entry.name.now of_several.entry.name.now) }
+    ensures { IfOk result (λ c.
+        app_of c ≡ with_both (app_of program.entry) of_one.entry.name.now of_several.entry.name.now) }
 {
     let one = export_command(alloc, of_one)?;
     let first = program.subcommand(one)?;
@@ -319,8 +323,8 @@ pub fn job<'a>(alloc: Global, words: &'a [&'a str]) -> Result<Option<Job<'a>>, E
     ensures some { IfOk result (λ found. IfSome found (SaysJob (behind_first words.entry.now))) }
     ensures exports { IfOk result (λ found. IfSome found HasExports) }
     ensures none { IfOk result (λ found. IfNone found (SaysNoJob (behind_first words.entry.now))) }
-    ensures fault { IfErr result (λ e. ArePlain (behind_first words.entry.now) → kind_of e ≢ ErrorKind.OutOfMemory →
-        SaysNoJob (behind_first words.entry.now)) }
+    ensures fault { IfErr result (λ e. ArePlain (behind_first words.entry.now) →
+        kind_of e ≢ ErrorKind.OutOfMemory → SaysNoJob (behind_first words.entry.now)) }
 {
     let command = program(alloc)?;
     match command.try_get_matches_from(words) {

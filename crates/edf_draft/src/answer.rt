@@ -48,7 +48,8 @@ impl Answer {
     /// That of a fault.
     #[tactic(auto, using(crate::proofs::AnswerFacts::fault_answers, crate::proofs::FirstLineFacts::fault_is_true))]
     pub(crate) fn of_fault(alloc: Global, side: Side, fault: &Fault) -> Result<Answer, AllocError>
-        ensures answer { IfOk result (λ a. (again : Anew) (original export : List ℕ) → IsFaultAt side fault.now original export →
+        ensures answer { IfOk result (λ a. (again : Anew) (original export : List ℕ) →
+            IsFaultAt side fault.now original export →
             IsAnswer again original export a.text.items a.outcome) }
         ensures first { IfOk result (λ a. (again : Anew) → IsTrueOfYes again a.text.items) }
     {
@@ -65,8 +66,8 @@ impl Answer {
         export: &Exported,
         trial: &T,
     ) -> Result<Answer, AllocError>
-        ensures answer { IfOk result (λ a. (o e : List ℕ) → IsReadOf o original.now → IsOneReadOf e export.now →
-            IsAnswer (T.files trial.now) o e a.text.items a.outcome) }
+        ensures answer { IfOk result (λ a. (o e : List ℕ) → IsReadOf o original.now →
+            IsOneReadOf e export.now → IsAnswer (T.files trial.now) o e a.text.items a.outcome) }
         ensures first { IfOk result (λ a. IsTrueOfYes (T.files trial.now) a.text.items) }
     {
         match draft_text(alloc, original, export, trial)? {
@@ -91,8 +92,10 @@ fn read_side<S: Source>(
     side: Side,
 ) -> Result<Result<Recorded, Fault>, CheckStop>
     ensures failures { OnOk result (S.reads source.new ≡ S.reads source.old) }
-    ensures read { IfOk result (λ read. IfOk read (λ recorded. OfSource S.Source source.old (λ file. IsReadOf file recorded))) }
-    ensures fault { IfOk result (λ read. IfErr read (λ fault. OfSource S.Source source.old (λ file. file_fault file ≡ Some fault))) }
+    ensures read { IfOk result (λ read.
+        IfOk read (λ recorded. OfSource S.Source source.old (λ file. IsReadOf file recorded))) }
+    ensures fault { IfOk result (λ read.
+        IfErr read (λ fault. OfSource S.Source source.old (λ file. file_fault file ≡ Some fault))) }
     ensures stop { IfErr result (StopsSide S.Source side source.old source.new) }
 {
     match read_through(alloc, source) {
@@ -107,8 +110,8 @@ fn read_side<S: Source>(
 ///
 /// The error is want of memory.
 fn fault_answer(alloc: Global, side: Side, fault: &Fault) -> Result<Answer, CheckStop>
-    ensures answer { IfOk result (λ a. (again : Anew) (original export : List ℕ) → IsFaultAt side fault.now original export →
-        IsAnswer again original export a.text.items a.outcome) }
+    ensures answer { IfOk result (λ a. (again : Anew) (original export : List ℕ) →
+        IsFaultAt side fault.now original export → IsAnswer again original export a.text.items a.outcome) }
     ensures first { IfOk result (λ a. (again : Anew) → IsTrueOfYes again a.text.items) }
     ensures stop { IfErr result (λ stop. stop ≡ check_stops.OutOfMemory) }
 {
@@ -125,8 +128,9 @@ fn draft_answer<R: Recordings>(
     export: Recorded,
     again: &R,
 ) -> Result<Answer, CheckStop>
-    ensures answer { IfOk result (λ a. (o e : List ℕ) → IsReadOf o original.now → IsReadOf e export → IsAnswer
-        (anew (R.are_honest again.now) (R.original again.now) (R.export again.now)) o e a.text.items a.outcome) }
+    ensures answer { IfOk result (λ a. (o e : List ℕ) → IsReadOf o original.now → IsReadOf e export →
+        IsAnswer (anew (R.are_honest again.now) (R.original again.now) (R.export again.now)) o e a.text.items
+        a.outcome) }
     ensures first { IfOk result (λ a. IsTrueOfYes
         (anew (R.are_honest again.now) (R.original again.now) (R.export again.now)) a.text.items) }
     ensures stop { IfErr result (λ stop. stop ≡ check_stops.OutOfMemory) }
@@ -147,11 +151,16 @@ pub(crate) fn answer_of<O: Source, E: Source, R: Recordings>(
     export: &mut E,
     again: &R,
 ) -> Result<Answer, CheckStop>
-    ensures answer { IfOk result (λ a. IsAnswerBy (anew (R.are_honest again.now) (R.original again.now) (R.export again.now))
-        O.Source original.old E.Source export.old a.text.items a.outcome) }
-    ensures first { IfOk result (λ a. IsTrueOfYes (anew (R.are_honest again.now) (R.original again.now) (R.export again.now)) a.text.items) }
-    ensures failures { OnOk result ((O.reads original.new ≡ O.reads original.old) × (E.reads export.new ≡ E.reads export.old)) }
-    ensures stop { IfErr result (StopsBoth O.Source original.old original.new E.Source export.old export.new) }
+    ensures answer { IfOk result (λ a.
+        IsAnswerBy (anew (R.are_honest again.now) (R.original again.now) (R.export again.now)) O.Source
+        original.old E.Source export.old a.text.items a.outcome) }
+    ensures first { IfOk result (λ a.
+        IsTrueOfYes (anew (R.are_honest again.now) (R.original again.now) (R.export again.now))
+        a.text.items) }
+    ensures failures { OnOk result ((O.reads original.new ≡ O.reads original.old) ×
+        (E.reads export.new ≡ E.reads export.old)) }
+    ensures stop { IfErr result
+        (StopsBoth O.Source original.old original.new E.Source export.old export.new) }
 {
     let first = match read_side(alloc, original, Side::Original)? {
         Ok(recorded) => recorded,

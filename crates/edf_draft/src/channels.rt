@@ -9,7 +9,8 @@ use std::alloc::{AllocError, Global};
 
 /// Takes in the label of a signal, where it is a channel.
 fn push_label(alloc: Global, labels: &mut Vec<Vec<u8>>, signal: &Signal) -> Result<(), AllocError>
-    ensures { OnOk result (map (λ t. t.items) labels.new.items ≡ map (λ t. t.items) labels.old.items ++ labels_of (signal.now ∷ [])) }
+    ensures { OnOk result (map (λ t. t.items) labels.new.items ≡ map (λ t. t.items) labels.old.items ++
+        labels_of (signal.now ∷ [])) }
 {
     if !signal.is_annotations() {
         let label = Vec::from_slice(alloc, signal.label())?;

@@ -37,20 +37,24 @@ pub fn draft_to<O: Source, E: Source, K: Sink, R: Recordings>(
     again: &R,
     sink: &mut K,
 ) -> Result<Outcome, RunStop>
-    ensures draft { IfOk result (λ outcome. IsTrue (O.is_honest original.old) → IsTrue (E.is_honest export.old) → IsTrue (K.is_honest sink.old) →
+    ensures draft { IfOk result (λ outcome. IsTrue (O.is_honest original.old) →
+        IsTrue (E.is_honest export.old) → IsTrue (K.is_honest sink.old) →
         IsDraftWritten (anew (R.are_honest again.now) (R.original again.now) (R.export again.now))
         (O.left original.old) (E.left export.old) (K.held sink.old) (K.held sink.new) outcome) }
-    ensures first { OnOk result (IsTrue (K.is_honest sink.old) → IsTrulyWritten
-        (anew (R.are_honest again.now) (R.original again.now) (R.export again.now)) (K.held sink.old) (K.held sink.new)) }
-    ensures reads { OnOk result ((O.reads original.new ≡ O.reads original.old) × (E.reads export.new ≡ E.reads export.old)) }
+    ensures first { OnOk result (IsTrue (K.is_honest sink.old) →
+        IsTrulyWritten (anew (R.are_honest again.now) (R.original again.now) (R.export again.now))
+        (K.held sink.old) (K.held sink.new)) }
+    ensures reads { OnOk result ((O.reads original.new ≡ O.reads original.old) ×
+        (E.reads export.new ≡ E.reads export.old)) }
     ensures failures { OnOk result (K.failures sink.new ≡ K.failures sink.old) }
     ensures honesty { IsTrue (K.is_honest sink.old) → IsTrue (K.is_honest sink.new) }
     ensures nothing { IfErr result (λ stop. stop ≢ stops.WriteFailed → sink.new ≡ sink.old) }
-    ensures part { IfErr result (λ stop. stop ≡ stops.WriteFailed → IsTrue (O.is_honest original.old) → IsTrue (E.is_honest export.old) →
-        IsTrue (K.is_honest sink.old) → IsPartWritten (anew (R.are_honest again.now) (R.original again.now) (R.export again.now))
+    ensures part { IfErr result (λ stop. stop ≡ stops.WriteFailed → IsTrue (O.is_honest original.old) →
+        IsTrue (E.is_honest export.old) → IsTrue (K.is_honest sink.old) →
+        IsPartWritten (anew (R.are_honest again.now) (R.original again.now) (R.export again.now))
         (O.left original.old) (E.left export.old) (K.held sink.old) (K.held sink.new)) }
-    ensures stop { IfErr result (DraftStops (Fails (O.reads original.old) (O.reads original.new)) (Fails (E.reads export.old) (E.reads export.new))
-        (Rises (K.failures sink.old) (K.failures sink.new))
+    ensures stop { IfErr result (DraftStops (Fails (O.reads original.old) (O.reads original.new))
+        (Fails (E.reads export.old) (E.reads export.new)) (Rises (K.failures sink.old) (K.failures sink.new))
         ((O.reads original.new ≡ O.reads original.old) × (E.reads export.new ≡ E.reads export.old))) }
 {
     let answer = answer_of(alloc, original, export, again)?;

@@ -45,10 +45,10 @@ pub fn draft_parts_to<O: Source, E: Source, K: Sink, R: PartsRecordings>(
     ensures failures { OnOk result (K.failures sink.new ≡ K.failures sink.old) }
     ensures honesty { IsTrue (K.is_honest sink.old) → IsTrue (K.is_honest sink.new) }
     ensures nothing { IfErr result (λ stop. stop ≢ stops.WriteFailed → sink.new ≡ sink.old) }
-    ensures stop { IfErr result (PartsRunStops (λ cause. ⊥) (Fails (O.reads original.old) (O.reads original.new))
-        (Rises (K.failures sink.old) (K.failures sink.new))
-        ((O.reads original.new ≡ O.reads original.old) × (map E.reads parts.new ≡ map E.reads parts.old))
-        (map E.reads parts.old) (map E.reads parts.new)) }
+    ensures stop { IfErr result
+        (PartsRunStops (λ cause. ⊥) (Fails (O.reads original.old) (O.reads original.new))
+        (Rises (K.failures sink.old) (K.failures sink.new)) ((O.reads original.new ≡ O.reads original.old) ×
+        (map E.reads parts.new ≡ map E.reads parts.old)) (map E.reads parts.old) (map E.reads parts.new)) }
 {
     let answer = answer_of_parts(alloc, original, parts, again)?;
     put_all(sink, &answer.text)?;

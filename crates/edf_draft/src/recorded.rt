@@ -145,9 +145,12 @@ fn push_notes(
 /// The error is the file's first fault, a failed read, or want of memory.
 pub(crate) fn read_through<S: Source>(alloc: Global, source: &mut S) -> Result<Recorded, Stop>
     ensures failures { OnOk result (S.reads source.new ≡ S.reads source.old) }
-    ensures conforms { IfOk result (λ r. OfSource S.Source source.old (λ file. Conforms file (r.reader).head)) }
-    ensures begins { IfOk result (λ r. OfSource S.Source source.old (λ file. (r.times).begin_ps ≡ begin_of file (r.reader).head)) }
-    ensures ends { IfOk result (λ r. OfSource S.Source source.old (λ file. (r.times).end_ps ≡ end_of file (r.reader).head)) }
+    ensures conforms { IfOk result (λ r.
+        OfSource S.Source source.old (λ file. Conforms file (r.reader).head)) }
+    ensures begins { IfOk result (λ r.
+        OfSource S.Source source.old (λ file. (r.times).begin_ps ≡ begin_of file (r.reader).head)) }
+    ensures ends { IfOk result (λ r.
+        OfSource S.Source source.old (λ file. (r.times).end_ps ≡ end_of file (r.reader).head)) }
     ensures stop { IfErr result (StopsReading S.Source source.old source.new) }
 {
     let mut reader = match FileReader::begin(alloc, source) {

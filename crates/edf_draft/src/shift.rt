@@ -114,7 +114,8 @@ fn shift_between(begin: i128, end: i128, from: i128, to: i128) -> Shift
 
 /// The shift between two recordings.
 pub(crate) fn shift_of(original: &Recorded, export: &Recorded) -> Shift
-    ensures { IsShift (original.now.times).begin_ps (original.now.times).end_ps (export.now.times).begin_ps (export.now.times).end_ps result.is_told result.seconds }
+    ensures { IsShift (original.now.times).begin_ps (original.now.times).end_ps (export.now.times).begin_ps
+        (export.now.times).end_ps result.is_told result.seconds }
 {
     let (old, new) = (original.times, export.times);
     shift_between(old.begin_ps, old.end_ps, new.begin_ps, new.end_ps)

@@ -118,8 +118,8 @@ pub(crate) struct SeveralExports<'a, R> {
 impl<'a, R: PartsRecordings> SeveralExports<'a, R> {
     /// Those that are opened so.
     pub(crate) fn new(again: &'a R) -> SeveralExports<'a, R>
-        ensures { ⟦<SeveralExports<'a, R> as Trial>⟧.files result ≡
-            anew_parts (R.are_honest again.entry.now) (R.original again.entry.now) (R.exports again.entry.now) }
+        ensures { ⟦<SeveralExports<'a, R> as Trial>⟧.files result ≡ anew_parts (R.are_honest again.entry.now)
+            (R.original again.entry.now) (R.exports again.entry.now) }
     {
         SeveralExports { again }
     }

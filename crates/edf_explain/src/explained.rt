@@ -27,8 +27,10 @@ pub fn run_explained<O: Source, E: Source, K: Sink, R: Recordings>(
     claim_text: &[u8],
     sink: &mut K,
 ) -> Result<Outcome, RunStop>
-    ensures report { IfOk result (λ outcome. IsTrue (O.is_honest original.old) → IsTrue (E.is_honest export.old) → IsTrue (K.is_honest sink.old) →
-        IsExplained (O.left original.old) (E.left export.old) claim_text.now (K.held sink.old) (K.held sink.new) outcome) }
+    ensures report { IfOk result (λ outcome. IsTrue (O.is_honest original.old) →
+        IsTrue (E.is_honest export.old) → IsTrue (K.is_honest sink.old) →
+        IsExplained (O.left original.old) (E.left export.old) claim_text.now (K.held sink.old)
+        (K.held sink.new) outcome) }
     ensures honesty { IsTrue (K.is_honest sink.old) → IsTrue (K.is_honest sink.new) }
 {
     let mut first = FrontSource::new(alloc, Lent::new(original));

@@ -48,9 +48,11 @@ pub fn run_explained_parts<O: Source + Drop, E: Source + Drop, K: Sink>(
     requires some { 0 < length parts.old }
     requires few { length parts.old ≤ 64 }
     ensures report { IfOk result (λ outcome. IsTrue (⟦<FrontSource<O> as Source>⟧.is_honest original.old) →
-        AllByRecursion IsTrue (map ⟦<FrontSource<E> as Source>⟧.is_honest parts.old) → IsTrue (K.is_honest sink.old) →
-        ArePartsExplained (⟦<FrontSource<O> as Source>⟧.left original.old) (map ⟦<FrontSource<E> as Source>⟧.left parts.old)
-        claim_text.now (K.held sink.old) (K.held sink.new) outcome) }
+        AllByRecursion IsTrue (map ⟦<FrontSource<E> as Source>⟧.is_honest parts.old) →
+        IsTrue (K.is_honest sink.old) →
+        ArePartsExplained (⟦<FrontSource<O> as Source>⟧.left original.old)
+        (map ⟦<FrontSource<E> as Source>⟧.left parts.old) claim_text.now (K.held sink.old)
+        (K.held sink.new) outcome) }
     ensures honesty { IsTrue (K.is_honest sink.old) → IsTrue (K.is_honest sink.new) }
 {
     let count = parts.len() as u16;

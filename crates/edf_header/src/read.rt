@@ -28,10 +28,13 @@ use std::alloc::Global;
 fn next_bytes<S: Source>(alloc: Global, source: &mut S, count: usize) -> Result<Vec<u8>, Stop>
     ensures honesty { OnOk result (IsTrue (S.is_honest source.old) → IsTrue (S.is_honest source.new)) }
     ensures failures { OnOk result (S.reads source.new ≡ S.reads source.old) }
-    ensures front { IfOk result (λ v. IsTrue (S.is_honest source.old) → v.items ≡ take count (S.left source.old)) }
-    ensures behind { OnOk result (IsTrue (S.is_honest source.old) → S.left source.new ≡ drop count (S.left source.old)) }
+    ensures front { IfOk result (λ v. IsTrue (S.is_honest source.old) →
+        v.items ≡ take count (S.left source.old)) }
+    ensures behind { OnOk result (IsTrue (S.is_honest source.old) →
+        S.left source.new ≡ drop count (S.left source.old)) }
     ensures within { IfOk result (λ v. length v.items ≤ count) }
-    ensures stop { IfErr result (Stops (λ _. ⊥) (Fails (S.reads source.old) (S.reads source.new)) (S.reads source.new ≡ S.reads source.old)) }
+    ensures stop { IfErr result (Stops (λ _. ⊥) (Fails (S.reads source.old) (S.reads source.new))
+        (S.reads source.new ≡ S.reads source.old)) }
 {
     let mut bytes = vec![in alloc; 0u8; count]?;
     let got = fill(source, &mut bytes)?;
@@ -64,11 +67,13 @@ fn read_each<S: Source>(
     ensures honesty { OnOk result (IsTrue (S.is_honest source.old) → IsTrue (S.is_honest source.new)) }
     ensures failures { OnOk result (S.reads source.new ≡ S.reads source.old) }
     ensures columns { IfOk result (λ v. AreColumns signals fields.now v.items) }
-    ensures front { IfOk result (λ v. IsTrue (S.is_honest source.old) → all_bytes v.items ≡ take (256 * signals) (S.left source.old)) }
-    ensures behind { OnOk result (IsTrue (S.is_honest source.old) → S.left source.new ≡ drop (256 * signals) (S.left source.old)) }
-    ensures stop { IfErr result (Stops (λ f. IsTrue (S.is_honest source.old)
-        → first (columns_missing fields.now signals (length (take (256 * signals) (S.left source.old)))) ≡ Some f)
-        (Fails (S.reads source.old) (S.reads source.new)) (S.reads source.new ≡ S.reads source.old)) }
+    ensures front { IfOk result (λ v. IsTrue (S.is_honest source.old) →
+        all_bytes v.items ≡ take (256 * signals) (S.left source.old)) }
+    ensures behind { OnOk result (IsTrue (S.is_honest source.old) →
+        S.left source.new ≡ drop (256 * signals) (S.left source.old)) }
+    ensures stop { IfErr result (Stops (λ f. IsTrue (S.is_honest source.old) →
+        first (columns_missing fields.now signals (length (take (256 * signals) (S.left source.old)))) ≡
+        Some f) (Fails (S.reads source.old) (S.reads source.new)) (S.reads source.new ≡ S.reads source.old)) }
 {
     let count = usize::from(signals);
     let mut columns = Vec::with_capacity(alloc, fields.len())?;
@@ -104,11 +109,13 @@ fn read_columns<S: Source>(alloc: Global, source: &mut S, signals: u16) -> Resul
     ensures failures { OnOk result (S.reads source.new ≡ S.reads source.old) }
     ensures signals { IfOk result (λ c. c.signals ≡ signals) }
     ensures whole { IfOk result (λ c. 256 * c.signals ≤ length c.bytes) }
-    ensures front { IfOk result (λ c. IsTrue (S.is_honest source.old) → c.bytes ≡ take (256 * signals) (S.left source.old)) }
-    ensures behind { OnOk result (IsTrue (S.is_honest source.old) → S.left source.new ≡ drop (256 * signals) (S.left source.old)) }
-    ensures stop { IfErr result (Stops (λ f. IsTrue (S.is_honest source.old)
-        → first (columns_missing all_columns signals (length (take (256 * signals) (S.left source.old)))) ≡ Some f)
-        (Fails (S.reads source.old) (S.reads source.new)) (S.reads source.new ≡ S.reads source.old)) }
+    ensures front { IfOk result (λ c. IsTrue (S.is_honest source.old) →
+        c.bytes ≡ take (256 * signals) (S.left source.old)) }
+    ensures behind { OnOk result (IsTrue (S.is_honest source.old) →
+        S.left source.new ≡ drop (256 * signals) (S.left source.old)) }
+    ensures stop { IfErr result (Stops (λ f. IsTrue (S.is_honest source.old) →
+        first (columns_missing all_columns signals (length (take (256 * signals) (S.left source.old)))) ≡
+        Some f) (Fails (S.reads source.old) (S.reads source.new)) (S.reads source.new ≡ S.reads source.old)) }
 {
     let columns = read_each(alloc, source, &COLUMNS, signals)?;
     Ok(Columns { columns, signals })
@@ -138,12 +145,15 @@ struct Parts {
 /// The fixed part of the header of a file, or the first fault of the header.
 fn read_fixed<S: Source>(alloc: Global, source: &mut S) -> Result<FixedPart, Stop>
     ensures failures { OnOk result (S.reads source.new ≡ S.reads source.old) }
-    ensures stop { IfErr result (Stops (λ f. IsTrue (S.is_honest source.old) → header_fault (S.left source.old) ≡ Some f)
-        (Fails (S.reads source.old) (S.reads source.new)) (S.reads source.new ≡ S.reads source.old)) }
+    ensures stop { IfErr result (Stops (λ f. IsTrue (S.is_honest source.old) →
+        header_fault (S.left source.old) ≡ Some f) (Fails (S.reads source.old) (S.reads source.new))
+        (S.reads source.new ≡ S.reads source.old)) }
     ensures said { IfOk result (λ p. IsFixed p.bytes.items p.said) }
     ensures honesty { OnOk result (IsTrue (S.is_honest source.old) → IsTrue (S.is_honest source.new)) }
-    ensures front { IfOk result (λ p. IsTrue (S.is_honest source.old) → p.bytes.items ≡ take 256 (S.left source.old)) }
-    ensures behind { OnOk result (IsTrue (S.is_honest source.old) → S.left source.new ≡ drop 256 (S.left source.old)) }
+    ensures front { IfOk result (λ p. IsTrue (S.is_honest source.old) →
+        p.bytes.items ≡ take 256 (S.left source.old)) }
+    ensures behind { OnOk result (IsTrue (S.is_honest source.old) →
+        S.left source.new ≡ drop 256 (S.left source.old)) }
 {
     let bytes = next_bytes(alloc, source, 256)?;
     let said = judge_fixed(&bytes)?;
@@ -154,14 +164,16 @@ fn read_fixed<S: Source>(alloc: Global, source: &mut S) -> Result<FixedPart, Sto
 fn read_body<S: Source>(alloc: Global, source: &mut S, signals: u16) -> Result<BodyPart, Stop>
     requires few { signals < 10 ^ 4 }
     ensures failures { OnOk result (S.reads source.new ≡ S.reads source.old) }
-    ensures stop { IfErr result (Stops
-        (λ f. IsTrue (S.is_honest source.old) → first (columns_tests signals (take (256 * signals) (S.left source.old))) ≡ Some f)
+    ensures stop { IfErr result (Stops (λ f. IsTrue (S.is_honest source.old) →
+        first (columns_tests signals (take (256 * signals) (S.left source.old))) ≡ Some f)
         (Fails (S.reads source.old) (S.reads source.new)) (S.reads source.new ≡ S.reads source.old)) }
     ensures signals { IfOk result (λ p. p.columns.signals ≡ signals) }
     ensures said { IfOk result (λ p. IsBody p.columns p.said) }
     ensures honesty { OnOk result (IsTrue (S.is_honest source.old) → IsTrue (S.is_honest source.new)) }
-    ensures front { IfOk result (λ p. IsTrue (S.is_honest source.old) → p.columns.bytes ≡ take (256 * signals) (S.left source.old)) }
-    ensures behind { OnOk result (IsTrue (S.is_honest source.old) → S.left source.new ≡ drop (256 * signals) (S.left source.old)) }
+    ensures front { IfOk result (λ p. IsTrue (S.is_honest source.old) →
+        p.columns.bytes ≡ take (256 * signals) (S.left source.old)) }
+    ensures behind { OnOk result (IsTrue (S.is_honest source.old) →
+        S.left source.new ≡ drop (256 * signals) (S.left source.old)) }
 {
     let columns = read_columns(alloc, source, signals)?;
     let said = judge_columns(alloc, &columns)?;
@@ -171,15 +183,17 @@ fn read_body<S: Source>(alloc: Global, source: &mut S, signals: u16) -> Result<B
 /// The parts of the header of a file, or the first fault of the header.
 fn read_parts<S: Source>(alloc: Global, source: &mut S) -> Result<Parts, Stop>
     ensures failures { OnOk result (S.reads source.new ≡ S.reads source.old) }
-    ensures stop { IfErr result (Stops (λ f. IsTrue (S.is_honest source.old) → header_fault (S.left source.old) ≡ Some f)
-        (Fails (S.reads source.old) (S.reads source.new)) (S.reads source.new ≡ S.reads source.old)) }
+    ensures stop { IfErr result (Stops (λ f. IsTrue (S.is_honest source.old) →
+        header_fault (S.left source.old) ≡ Some f) (Fails (S.reads source.old) (S.reads source.new))
+        (S.reads source.new ≡ S.reads source.old)) }
     ensures fixed { IfOk result (λ p. IsFixed p.fixed.bytes.items p.fixed.said) }
     ensures signals { IfOk result (λ p. p.body.columns.signals ≡ p.fixed.said.extent.signals) }
     ensures body { IfOk result (λ p. IsBody p.body.columns p.body.said) }
 
     // What an honest source gives.
     ensures honesty { OnOk result (IsTrue (S.is_honest source.old) → IsTrue (S.is_honest source.new)) }
-    ensures front { IfOk result (λ p. IsTrue (S.is_honest source.old) → p.fixed.bytes.items ≡ take 256 (S.left source.old)) }
+    ensures front { IfOk result (λ p. IsTrue (S.is_honest source.old) →
+        p.fixed.bytes.items ≡ take 256 (S.left source.old)) }
     ensures bytes { IfOk result (λ p. IsTrue (S.is_honest source.old)
         → p.body.columns.bytes ≡ take (256 * p.fixed.said.extent.signals) (drop 256 (S.left source.old))) }
     ensures behind { IfOk result (λ p. IsTrue (S.is_honest source.old)
@@ -205,17 +219,22 @@ impl Header {
     pub fn read<S: Source>(alloc: Global, source: &mut S) -> Result<Header, Stop>
         ensures sound { IfOk result IsSound }
         ensures failures { OnOk result (S.reads source.new ≡ S.reads source.old) }
-        ensures stop { IfErr result (Stops (λ f. IsTrue (S.is_honest source.old) → header_fault (S.left source.old) ≡ Some f)
-            (Fails (S.reads source.old) (S.reads source.new)) (S.reads source.new ≡ S.reads source.old)) }
+        ensures stop { IfErr result (Stops (λ f. IsTrue (S.is_honest source.old) →
+            header_fault (S.left source.old) ≡ Some f) (Fails (S.reads source.old) (S.reads source.new))
+            (S.reads source.new ≡ S.reads source.old)) }
 
         // What an honest source gives.
         ensures honesty { OnOk result (IsTrue (S.is_honest source.old) → IsTrue (S.is_honest source.new)) }
-        ensures passed { OnOk result (IsTrue (S.is_honest source.old) → header_fault (S.left source.old) ≡ None) }
+        ensures passed { OnOk result (IsTrue (S.is_honest source.old) →
+            header_fault (S.left source.old) ≡ None) }
         ensures value { IfOk result (λ h. IsTrue (S.is_honest source.old) → h ≡ head_of (S.left source.old)) }
         ensures says { IfOk result (λ h. IsTrue (S.is_honest source.old) → HasHead (S.left source.old) h) }
-        ensures conforms { IfOk result (λ h. IsTrue (S.is_honest source.old) → HeaderConforms (S.left source.old) h) }
-        ensures whole { IfOk result (λ h. IsTrue (S.is_honest source.old) → header_bytes h ≤ length (S.left source.old)) }
-        ensures behind { IfOk result (λ h. IsTrue (S.is_honest source.old) → S.left source.new ≡ drop (header_bytes h) (S.left source.old)) }
+        ensures conforms { IfOk result (λ h. IsTrue (S.is_honest source.old) →
+            HeaderConforms (S.left source.old) h) }
+        ensures whole { IfOk result (λ h. IsTrue (S.is_honest source.old) →
+            header_bytes h ≤ length (S.left source.old)) }
+        ensures behind { IfOk result (λ h. IsTrue (S.is_honest source.old) →
+            S.left source.new ≡ drop (header_bytes h) (S.left source.old)) }
     {
         let parts = read_parts(alloc, source)?;
         Ok(Header {

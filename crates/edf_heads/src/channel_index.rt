@@ -112,7 +112,8 @@ impl<'a> ChannelIndex<'a> {
 
     /// The channel of this label, where the header has one: it has one at most.
     pub fn channel(&self, label: &[u8]) -> Option<Channel<'a>>
-        ensures named { MatchOption result (HasNoChannel self.now label.now) (λ c. (c.signal.now).label ≡ label.now) }
+        ensures named { MatchOption result (HasNoChannel self.now label.now) (λ c.
+            (c.signal.now).label ≡ label.now) }
         ensures there { IfSome result (IsChannelAt self.now) }
         ensures sound { IsSound self.now }
         ensures found { option_map (λ c. c.signal.now) result ≡ channel_of label.now self.now.signals }

@@ -33,7 +33,8 @@ pub fn text_difference(original: &Signal, export: &Signal) -> Option<TextField>
 impl<'a> ClaimedChannel<'a> {
     /// The first text in which the label's two channels differ.
     fn text_difference(self) -> Option<TextField>
-        ensures { result ≡ text_difference_of (option_map (λ x. x.now) self.entry.original) (option_map (λ x. x.now) self.entry.export) }
+        ensures { result ≡ text_difference_of (option_map (λ x. x.now) self.entry.original)
+            (option_map (λ x. x.now) self.entry.export) }
     {
         text_difference(self.original?, self.export?)
     }
@@ -41,7 +42,8 @@ impl<'a> ClaimedChannel<'a> {
 
 /// The first of the labels whose channels differ in a text, and the first such text.
 fn first_text_difference<'a>(claimed: &[ClaimedChannel<'a>]) -> Option<TextDifference<'a>>
-    ensures { option_map (λ d. (d.label.now, d.field)) result ≡ first_text_difference_of (map claimed_view claimed.now) }
+    ensures { option_map (λ d. (d.label.now, d.field)) result ≡
+        first_text_difference_of (map claimed_view claimed.now) }
 {
     for channel in claimed {
         if let Some(field) = channel.text_difference() {

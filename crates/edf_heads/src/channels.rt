@@ -28,7 +28,8 @@ impl<'a> ChannelIndex<'a> {
     pub(crate) fn least_extra(&self, claimed: &[&[u8]]) -> Option<&'a [u8]>
         requires { IsSorted (λ x y. slice_cmp nat_cmp x.now y.now) claimed.now }
         ensures { (labels : List (List ℕ)) → AreSorted labels claimed.now →
-            MatchOption result (HasNoExtra self.now labels) (λ label. IsLeastExtra self.now labels label.now) }
+            MatchOption result (HasNoExtra self.now labels) (λ label.
+            IsLeastExtra self.now labels label.now) }
     {
         least_other(&self.sorted, claimed)
     }
@@ -37,8 +38,9 @@ impl<'a> ChannelIndex<'a> {
 /// The first of the channels whose label is none of these, which are in the order of their bytes.
 fn least_other<'a>(sorted: &[Channel<'a>], labels: &[&[u8]]) -> Option<&'a [u8]>
     requires { IsSorted (λ x y. slice_cmp nat_cmp x.now y.now) labels.now }
-    ensures { option_map (λ label. label.now) result ≡ option_map (λ s. s.label) (find (λ s. not (is_one_of (map
-        (λ t. t.now) labels.now) s.label)) (map (λ c. c.signal.now) sorted.now)) }
+    ensures { option_map (λ label. label.now) result ≡
+        option_map (λ s. s.label) (find (λ s. not (is_one_of (map (λ t. t.now) labels.now) s.label))
+        (map (λ c. c.signal.now) sorted.now)) }
 {
     for channel in sorted {
         let label = channel.signal.label();
@@ -58,7 +60,8 @@ pub(crate) fn claimed_channels<'a>(
     export: &ChannelIndex<'a>,
     labels: &'a [SignalLabel],
 ) -> Result<Vec<ClaimedChannel<'a>>, AllocError>
-    ensures { IfOk result (λ v. map claimed_view v.items ≡ map (claimed_of original.now.signals export.now.signals) labels.entry.now) }
+    ensures { IfOk result (λ v. map claimed_view v.items ≡
+        map (claimed_of original.now.signals export.now.signals) labels.entry.now) }
 {
     let mut claimed = Vec::with_capacity(alloc, labels.len())?;
     for label in labels {

@@ -29,7 +29,8 @@ fn borrow_each(alloc: Global, labels: &[SignalLabel]) -> Result<Vec<&[u8]>, Allo
 /// The error is want of memory.
 pub fn in_order(alloc: Global, labels: &[SignalLabel]) -> Result<Vec<&[u8]>, AllocError>
     ensures sorted { IfOk result (λ sorted. AreSorted labels.entry.now sorted.items) }
-    ensures same { IfOk result (λ sorted. IsPermutation labels.entry.now (map (λ label. label.now) sorted.items)) }
+    ensures same { IfOk result (λ sorted.
+        IsPermutation labels.entry.now (map (λ label. label.now) sorted.items)) }
 {
     let mut sorted = borrow_each(alloc, labels)?;
     sorted.sort_unstable();

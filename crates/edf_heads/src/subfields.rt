@@ -102,9 +102,9 @@ impl<'a> Comparison<'a> {
     /// How this subfield isn't as claimed, if it isn't.
     #[tactic(auto, using(crate::proofs::SubfieldFacts::claimed_anonymous, crate::proofs::SubfieldFacts::claimed_unchanged, crate::proofs::SubfieldFacts::not_anonymous, crate::proofs::SubfieldFacts::not_unchanged))]
     fn subfield_mismatch(&self, which: Which) -> Option<SubfieldMismatch>
-        ensures { MatchOption result
-            (IsAsClaimed self.now.original self.now.export self.now.claim which)
-            (λ mismatch. (IsAsClaimed self.now.original self.now.export self.now.claim which → ⊥) × IsMismatch self.now.claim which mismatch) }
+        ensures { MatchOption result (IsAsClaimed self.now.original self.now.export self.now.claim which)
+            (λ mismatch. (IsAsClaimed self.now.original self.now.export self.now.claim which → ⊥) ×
+            IsMismatch self.now.claim which mismatch) }
     {
         if self.claim.is_anonymous(which) {
             if is_anonymous(self.export.header, which) {

@@ -13,7 +13,8 @@ const BLOCK: usize = 32;
 fn is_same_block(a: &[u8], b: &[u8], place: usize) -> bool
     requires a { place + 32 ≤ length a.now }
     requires b { place + 32 ≤ length b.now }
-    ensures { IsTrue result → (k : ℕ) → k < place + 32 → place ≤ k → slice_index a.now k ≡ slice_index b.now k }
+    ensures { IsTrue result → (k : ℕ) → k < place + 32 → place ≤ k →
+        slice_index a.now k ≡ slice_index b.now k }
 {
     u8x32::from_slice(&a[place..])
         .simd_ne(u8x32::from_slice(&b[place..]))

@@ -27,7 +27,8 @@ fn text_of(alloc: Global, mut recorded: Recorded) -> Result<Vec<u8>, AllocError>
 
 /// The text of a file, and `Yes` where it conforms; or the line of its first fault.
 fn report<S: Source>(alloc: Global, source: &mut S) -> Result<Report, ReportStop>
-    ensures report { IfOk result (λ r. IsTrue (S.is_honest source.old) → IsReadText (S.left source.old) r.text.items r.outcome) }
+    ensures report { IfOk result (λ r. IsTrue (S.is_honest source.old) →
+        IsReadText (S.left source.old) r.text.items r.outcome) }
     ensures failures { OnOk result (S.reads source.new ≡ S.reads source.old) }
     ensures stop { IfErr result (StopsReading S.Source source.old source.new) }
 {
@@ -52,16 +53,17 @@ pub fn read_to<S: Source, K: Sink>(
     source: &mut S,
     sink: &mut K,
 ) -> Result<Outcome, ReportStop>
-    ensures written { IfOk result (λ outcome. IsTrue (S.is_honest source.old) → IsTrue (K.is_honest sink.old) →
+    ensures written { IfOk result (λ outcome. IsTrue (S.is_honest source.old) →
+        IsTrue (K.is_honest sink.old) →
         IsReadWritten (S.left source.old) (K.held sink.old) (K.held sink.new) outcome) }
     ensures nothing { IfErr result (λ stop. stop ≢ stops.WriteFailed → sink.new ≡ sink.old) }
-    ensures part { IfErr result (λ stop. stop ≡ stops.WriteFailed → IsTrue (S.is_honest source.old) → IsTrue (K.is_honest sink.old) →
-        IsPartRead (S.left source.old) (K.held sink.old) (K.held sink.new)) }
+    ensures part { IfErr result (λ stop. stop ≡ stops.WriteFailed → IsTrue (S.is_honest source.old) →
+        IsTrue (K.is_honest sink.old) → IsPartRead (S.left source.old) (K.held sink.old) (K.held sink.new)) }
     ensures reads { OnOk result (S.reads source.new ≡ S.reads source.old) }
     ensures failures { OnOk result (K.failures sink.new ≡ K.failures sink.old) }
     ensures honesty { IsTrue (K.is_honest sink.old) → IsTrue (K.is_honest sink.new) }
-    ensures stop { IfErr result (ReportStops (Fails (S.reads source.old) (S.reads source.new)) (Rises (K.failures sink.old) (K.failures sink.new))
-        (S.reads source.new ≡ S.reads source.old)) }
+    ensures stop { IfErr result (ReportStops (Fails (S.reads source.old) (S.reads source.new))
+        (Rises (K.failures sink.old) (K.failures sink.new)) (S.reads source.new ≡ S.reads source.old)) }
 {
     let report = report(alloc, source)?;
     report.put(sink)

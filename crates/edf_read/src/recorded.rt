@@ -63,7 +63,8 @@ fn push_notes(
 /// The error is the file's first fault, a failed read, or want of memory.
 pub(crate) fn read_through<S: Source>(alloc: Global, source: &mut S) -> Result<Recorded, Stop>
     ensures failures { OnOk result (S.reads source.new ≡ S.reads source.old) }
-    ensures conforms { IfOk result (λ r. IsTrue (S.is_honest source.old) → Conforms (S.left source.old) (r.reader).head) }
+    ensures conforms { IfOk result (λ r. IsTrue (S.is_honest source.old) →
+        Conforms (S.left source.old) (r.reader).head) }
     ensures stop { IfErr result (StopsAtFault S.Source source.old source.new) }
 {
     let mut reader = match FileReader::begin(alloc, source) {

@@ -36,7 +36,8 @@ impl<S: Source + Drop> DigestSource<S> {
     /// A source that gives what the other one gives, and digests from here on.
     pub fn new(source: S) -> DigestSource<S>
         ensures left { ⟦<DigestSource<S> as Source>⟧.left result ≡ S.left source }
-        ensures reads { ⟦<DigestSource<S> as Source>⟧.reads result ≡ digest_reads 0 (S.left source) (S.is_honest source) }
+        ensures reads { ⟦<DigestSource<S> as Source>⟧.reads result ≡
+            digest_reads 0 (S.left source) (S.is_honest source) }
         ensures honest { ⟦<DigestSource<S> as Source>⟧.is_honest result ≡ S.is_honest source }
     {
         let start = Snapshot::of(&source);
@@ -51,10 +52,12 @@ impl<S: Source + Drop> DigestSource<S> {
 
     /// The digest of what was handed on so far.
     pub fn digested(&self) -> Digested
-        ensures digest { (whole gone : List ℕ) → ⟦<DigestSource<S> as Source>⟧.reads self.now ≡ digest_reads 0 whole true →
-            whole ≡ gone ++ ⟦<DigestSource<S> as Source>⟧.left self.now → result.sha256 ≡ sha256 gone }
-        ensures bytes { (whole gone : List ℕ) → ⟦<DigestSource<S> as Source>⟧.reads self.now ≡ digest_reads 0 whole true →
-            whole ≡ gone ++ ⟦<DigestSource<S> as Source>⟧.left self.now → result.bytes ≡ min (length gone) (2 ^ 64 - 1) }
+        ensures digest { (whole gone : List ℕ) →
+            ⟦<DigestSource<S> as Source>⟧.reads self.now ≡ digest_reads 0 whole true → whole ≡ gone ++
+            ⟦<DigestSource<S> as Source>⟧.left self.now → result.sha256 ≡ sha256 gone }
+        ensures bytes { (whole gone : List ℕ) →
+            ⟦<DigestSource<S> as Source>⟧.reads self.now ≡ digest_reads 0 whole true → whole ≡ gone ++
+            ⟦<DigestSource<S> as Source>⟧.left self.now → result.bytes ≡ min (length gone) (2 ^ 64 - 1) }
     {
         let hasher = self.hasher.clone().unwrap();
         Digested {
@@ -69,10 +72,13 @@ impl<S: Source + Drop> DigestSource<S> {
     /// An `Err` comes only from a read that failed, and then at once.
     pub fn finish(&mut self, buf: &mut [u8]) -> Result<Digested, ReadFault>
         requires { 0 < length buf.old }
-        ensures digest { IfOk result (λ digested. (whole : List ℕ) → ⟦<DigestSource<S> as Source>⟧.reads self.old ≡ digest_reads 0 whole true →
+        ensures digest { IfOk result (λ digested. (whole : List ℕ) →
+            ⟦<DigestSource<S> as Source>⟧.reads self.old ≡ digest_reads 0 whole true →
             length whole < 2 ^ 64 - 1 → IsDigestOf whole digested) }
-        ensures failures { OnOk result (⟦<DigestSource<S> as Source>⟧.reads self.new ≡ ⟦<DigestSource<S> as Source>⟧.reads self.old) }
-        ensures fails { OnErr result (Fails (⟦<DigestSource<S> as Source>⟧.reads self.old) (⟦<DigestSource<S> as Source>⟧.reads self.new)) }
+        ensures failures { OnOk result (⟦<DigestSource<S> as Source>⟧.reads self.new ≡
+            ⟦<DigestSource<S> as Source>⟧.reads self.old) }
+        ensures fails { OnErr result (Fails (⟦<DigestSource<S> as Source>⟧.reads self.old)
+            (⟦<DigestSource<S> as Source>⟧.reads self.new)) }
     {
         skip_rest(self, buf)?;
         Ok(self.digested())

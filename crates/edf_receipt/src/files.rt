@@ -26,10 +26,13 @@ fn line_of<S: Source + Drop>(
     buf: &mut [u8],
 ) -> Result<FileLine, ReadFault>
     requires { 0 < length buf.old }
-    ensures line { IfOk result (λ line. (whole : List ℕ) → IsDigested (⟦<DigestSource<S> as Source>⟧.reads source.old) whole → line ≡ line_naming file whole) }
+    ensures line { IfOk result (λ line. (whole : List ℕ) →
+        IsDigested (⟦<DigestSource<S> as Source>⟧.reads source.old) whole → line ≡ line_naming file whole) }
     ensures room { length buf.new ≡ length buf.old }
-    ensures failures { OnOk result (⟦<DigestSource<S> as Source>⟧.reads source.new ≡ ⟦<DigestSource<S> as Source>⟧.reads source.old) }
-    ensures fails { OnErr result (Fails (⟦<DigestSource<S> as Source>⟧.reads source.old) (⟦<DigestSource<S> as Source>⟧.reads source.new)) }
+    ensures failures { OnOk result (⟦<DigestSource<S> as Source>⟧.reads source.new ≡
+        ⟦<DigestSource<S> as Source>⟧.reads source.old) }
+    ensures fails { OnErr result (Fails (⟦<DigestSource<S> as Source>⟧.reads source.old)
+        (⟦<DigestSource<S> as Source>⟧.reads source.new)) }
 {
     let digested = source.finish(buf)?;
     Ok(FileLine { file, digested })
@@ -54,16 +57,22 @@ pub(crate) fn files_of<O: Source + Drop, E: Source + Drop>(
     export: &mut DigestSource<E>,
     claim_text: &[u8],
 ) -> Result<[FileLine; 3], CheckStop>
-    ensures files { IfOk result (λ files. (first second : List ℕ) → IsDigested (⟦<DigestSource<O> as Source>⟧.reads original.old) first →
+    ensures files { IfOk result (λ files. (first second : List ℕ) →
+        IsDigested (⟦<DigestSource<O> as Source>⟧.reads original.old) first →
         IsDigested (⟦<DigestSource<E> as Source>⟧.reads export.old) second →
         files ≡ all_files first (line_naming names.Export second ∷ []) claim_text.now) }
-    ensures failures { OnOk result ((⟦<DigestSource<O> as Source>⟧.reads original.new ≡ ⟦<DigestSource<O> as Source>⟧.reads original.old)
-        × (⟦<DigestSource<E> as Source>⟧.reads export.new ≡ ⟦<DigestSource<E> as Source>⟧.reads export.old)) }
-    ensures stop { IfErr result (CheckStops
-        (Fails (⟦<DigestSource<O> as Source>⟧.reads original.old) (⟦<DigestSource<O> as Source>⟧.reads original.new))
-        (Fails (⟦<DigestSource<E> as Source>⟧.reads export.old) (⟦<DigestSource<E> as Source>⟧.reads export.new))
-        ((⟦<DigestSource<O> as Source>⟧.reads original.new ≡ ⟦<DigestSource<O> as Source>⟧.reads original.old)
-        × (⟦<DigestSource<E> as Source>⟧.reads export.new ≡ ⟦<DigestSource<E> as Source>⟧.reads export.old))) }
+    ensures failures { OnOk result
+        ((⟦<DigestSource<O> as Source>⟧.reads original.new ≡
+        ⟦<DigestSource<O> as Source>⟧.reads original.old) ×
+        (⟦<DigestSource<E> as Source>⟧.reads export.new ≡ ⟦<DigestSource<E> as Source>⟧.reads export.old)) }
+    ensures stop { IfErr result
+        (CheckStops (Fails (⟦<DigestSource<O> as Source>⟧.reads original.old)
+        (⟦<DigestSource<O> as Source>⟧.reads original.new))
+        (Fails (⟦<DigestSource<E> as Source>⟧.reads export.old)
+        (⟦<DigestSource<E> as Source>⟧.reads export.new))
+        ((⟦<DigestSource<O> as Source>⟧.reads original.new ≡
+        ⟦<DigestSource<O> as Source>⟧.reads original.old) ×
+        (⟦<DigestSource<E> as Source>⟧.reads export.new ≡ ⟦<DigestSource<E> as Source>⟧.reads export.old))) }
 {
     let mut buf = vec![in alloc; 0u8; AT_A_TIME]?;
     let Ok(first) = line_of(ReceiptFile::Original, original, &mut buf) else {
@@ -86,11 +95,15 @@ fn push_parts<E: Source + Drop>(
 ) -> Result<(), PartsStop>
     requires few { first + length parts.old ≤ 64 }
     requires room { 0 < length buf.old }
-    ensures files { OnOk result ((wholes : List (List ℕ)) → AreDigested (map ⟦<DigestSource<E> as Source>⟧.reads parts.old) wholes →
+    ensures files { OnOk result ((wholes : List (List ℕ)) →
+        AreDigested (map ⟦<DigestSource<E> as Source>⟧.reads parts.old) wholes →
         files.new.items ≡ files.old.items ++ part_lines first wholes) }
-    ensures failures { OnOk result (map ⟦<DigestSource<E> as Source>⟧.reads parts.new ≡ map ⟦<DigestSource<E> as Source>⟧.reads parts.old) }
-    ensures stop { IfErr result (PartsStops ⊥ (map ⟦<DigestSource<E> as Source>⟧.reads parts.new ≡ map ⟦<DigestSource<E> as Source>⟧.reads parts.old)
-        first (map ⟦<DigestSource<E> as Source>⟧.reads parts.old) (map ⟦<DigestSource<E> as Source>⟧.reads parts.new)) }
+    ensures failures { OnOk result (map ⟦<DigestSource<E> as Source>⟧.reads parts.new ≡
+        map ⟦<DigestSource<E> as Source>⟧.reads parts.old) }
+    ensures stop { IfErr result (PartsStops ⊥ (map ⟦<DigestSource<E> as Source>⟧.reads parts.new ≡
+        map ⟦<DigestSource<E> as Source>⟧.reads parts.old) first
+        (map ⟦<DigestSource<E> as Source>⟧.reads parts.old)
+        (map ⟦<DigestSource<E> as Source>⟧.reads parts.new)) }
 {
     let Some((part, others)) = parts.split_first_mut() else {
         return Ok(());
@@ -112,15 +125,24 @@ pub(crate) fn files_of_parts<O: Source + Drop, E: Source + Drop>(
     claim_text: &[u8],
 ) -> Result<Vec<FileLine>, PartsStop>
     requires few { length parts.old ≤ 64 }
-    ensures files { IfOk result (λ files. (first : List ℕ) (wholes : List (List ℕ)) → IsDigested (⟦<DigestSource<O> as Source>⟧.reads original.old) first →
-        AreDigested (map ⟦<DigestSource<E> as Source>⟧.reads parts.old) wholes → files.items ≡ all_files first (part_lines 0 wholes) claim_text.now) }
-    ensures failures { OnOk result ((⟦<DigestSource<O> as Source>⟧.reads original.new ≡ ⟦<DigestSource<O> as Source>⟧.reads original.old)
-        × (map ⟦<DigestSource<E> as Source>⟧.reads parts.new ≡ map ⟦<DigestSource<E> as Source>⟧.reads parts.old)) }
-    ensures stop { IfErr result (PartsStops
-        (Fails (⟦<DigestSource<O> as Source>⟧.reads original.old) (⟦<DigestSource<O> as Source>⟧.reads original.new))
-        ((⟦<DigestSource<O> as Source>⟧.reads original.new ≡ ⟦<DigestSource<O> as Source>⟧.reads original.old)
-        × (map ⟦<DigestSource<E> as Source>⟧.reads parts.new ≡ map ⟦<DigestSource<E> as Source>⟧.reads parts.old))
-        0 (map ⟦<DigestSource<E> as Source>⟧.reads parts.old) (map ⟦<DigestSource<E> as Source>⟧.reads parts.new)) }
+    ensures files { IfOk result (λ files. (first : List ℕ) (wholes : List (List ℕ)) →
+        IsDigested (⟦<DigestSource<O> as Source>⟧.reads original.old) first →
+        AreDigested (map ⟦<DigestSource<E> as Source>⟧.reads parts.old) wholes →
+        files.items ≡ all_files first (part_lines 0 wholes) claim_text.now) }
+    ensures failures { OnOk result
+        ((⟦<DigestSource<O> as Source>⟧.reads original.new ≡
+        ⟦<DigestSource<O> as Source>⟧.reads original.old) ×
+        (map ⟦<DigestSource<E> as Source>⟧.reads parts.new ≡
+        map ⟦<DigestSource<E> as Source>⟧.reads parts.old)) }
+    ensures stop { IfErr result
+        (PartsStops (Fails (⟦<DigestSource<O> as Source>⟧.reads original.old)
+        (⟦<DigestSource<O> as Source>⟧.reads original.new))
+        ((⟦<DigestSource<O> as Source>⟧.reads original.new ≡
+        ⟦<DigestSource<O> as Source>⟧.reads original.old) ×
+        (map ⟦<DigestSource<E> as Source>⟧.reads parts.new ≡
+        map ⟦<DigestSource<E> as Source>⟧.reads parts.old)) 0
+        (map ⟦<DigestSource<E> as Source>⟧.reads parts.old)
+        (map ⟦<DigestSource<E> as Source>⟧.reads parts.new)) }
 {
     let mut buf = vec![in alloc; 0u8; AT_A_TIME]?;
     let mut files = Vec::with_capacity(alloc, parts.len() + 2)?;

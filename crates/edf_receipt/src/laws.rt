@@ -27,7 +27,8 @@ pub fn a_run_writes_the_last_line()
 /// Of a new source that digests an honest one nothing was read, as a receipt wants it.
 pub fn a_new_source_is_fresh<S: Source + Drop>(source: S) -> DigestSource<S>
     ensures { IsTrue (S.is_honest source) → length (S.left source) < 2 ^ 64 - 1 →
-        IsFresh (⟦<DigestSource<S> as Source>⟧.reads result) (⟦<DigestSource<S> as Source>⟧.is_honest result) (⟦<DigestSource<S> as Source>⟧.left result) }
+        IsFresh (⟦<DigestSource<S> as Source>⟧.reads result) (⟦<DigestSource<S> as Source>⟧.is_honest result)
+        (⟦<DigestSource<S> as Source>⟧.left result) }
 {
     DigestSource::new(source)
 }

@@ -34,29 +34,45 @@ pub fn receipt_parts_to<O: Source + Drop, E: Source + Drop, K: Sink>(
     requires some { 0 < length parts.old }
     requires few { length parts.old ≤ 64 }
     ensures receipt { IfOk result (λ outcome.
-        IsFresh (⟦<DigestSource<O> as Source>⟧.reads original.old) (⟦<DigestSource<O> as Source>⟧.is_honest original.old) (⟦<DigestSource<O> as Source>⟧.left original.old) →
-        AreFresh (map ⟦<DigestSource<E> as Source>⟧.reads parts.old) (map ⟦<DigestSource<E> as Source>⟧.is_honest parts.old) (map ⟦<DigestSource<E> as Source>⟧.left parts.old) →
-        IsTrue (K.is_honest sink.old) →
-        IsPartsReceipt version.now (⟦<DigestSource<O> as Source>⟧.left original.old) (map ⟦<DigestSource<E> as Source>⟧.left parts.old) claim_text.now (K.held sink.old) (K.held sink.new) outcome) }
-    ensures reads { OnOk result ((⟦<DigestSource<O> as Source>⟧.reads original.new ≡ ⟦<DigestSource<O> as Source>⟧.reads original.old)
-        × (map ⟦<DigestSource<E> as Source>⟧.reads parts.new ≡ map ⟦<DigestSource<E> as Source>⟧.reads parts.old)) }
+        IsFresh (⟦<DigestSource<O> as Source>⟧.reads original.old)
+        (⟦<DigestSource<O> as Source>⟧.is_honest original.old)
+        (⟦<DigestSource<O> as Source>⟧.left original.old) →
+        AreFresh (map ⟦<DigestSource<E> as Source>⟧.reads parts.old)
+        (map ⟦<DigestSource<E> as Source>⟧.is_honest parts.old)
+        (map ⟦<DigestSource<E> as Source>⟧.left parts.old) → IsTrue (K.is_honest sink.old) →
+        IsPartsReceipt version.now (⟦<DigestSource<O> as Source>⟧.left original.old)
+        (map ⟦<DigestSource<E> as Source>⟧.left parts.old) claim_text.now (K.held sink.old)
+        (K.held sink.new) outcome) }
+    ensures reads { OnOk result
+        ((⟦<DigestSource<O> as Source>⟧.reads original.new ≡
+        ⟦<DigestSource<O> as Source>⟧.reads original.old) ×
+        (map ⟦<DigestSource<E> as Source>⟧.reads parts.new ≡
+        map ⟦<DigestSource<E> as Source>⟧.reads parts.old)) }
     ensures failures { OnOk result (K.failures sink.new ≡ K.failures sink.old) }
     ensures honesty { IsTrue (K.is_honest sink.old) → IsTrue (K.is_honest sink.new) }
     ensures nothing { IfErr result (λ stop. stop ≢ stops.WriteFailed → sink.new ≡ sink.old) }
     ensures part { IfErr result (λ stop. stop ≡ stops.WriteFailed →
-        IsFresh (⟦<DigestSource<O> as Source>⟧.reads original.old) (⟦<DigestSource<O> as Source>⟧.is_honest original.old) (⟦<DigestSource<O> as Source>⟧.left original.old) →
-        AreFresh (map ⟦<DigestSource<E> as Source>⟧.reads parts.old) (map ⟦<DigestSource<E> as Source>⟧.is_honest parts.old) (map ⟦<DigestSource<E> as Source>⟧.left parts.old) →
-        IsTrue (K.is_honest sink.old) →
-        IsPartOfPartsReceipt version.now (⟦<DigestSource<O> as Source>⟧.left original.old) (map ⟦<DigestSource<E> as Source>⟧.left parts.old) claim_text.now (K.held sink.old) (K.held sink.new)) }
+        IsFresh (⟦<DigestSource<O> as Source>⟧.reads original.old)
+        (⟦<DigestSource<O> as Source>⟧.is_honest original.old)
+        (⟦<DigestSource<O> as Source>⟧.left original.old) →
+        AreFresh (map ⟦<DigestSource<E> as Source>⟧.reads parts.old)
+        (map ⟦<DigestSource<E> as Source>⟧.is_honest parts.old)
+        (map ⟦<DigestSource<E> as Source>⟧.left parts.old) → IsTrue (K.is_honest sink.old) →
+        IsPartOfPartsReceipt version.now (⟦<DigestSource<O> as Source>⟧.left original.old)
+        (map ⟦<DigestSource<E> as Source>⟧.left parts.old) claim_text.now (K.held sink.old)
+        (K.held sink.new)) }
     ensures front { IfErr result (λ stop. stop ≡ stops.WriteFailed → IsTrue (K.is_honest sink.old) →
         IsFrontOfAPartsReceipt version.now (length parts.old) (K.held sink.old) (K.held sink.new)) }
-    ensures stop { IfErr result (PartsRunStops
-        (λ cause. (cause ≢ claim_stops.OutOfMemory) × FirstClaimFault claim_text.now cause)
-        (Fails (⟦<DigestSource<O> as Source>⟧.reads original.old) (⟦<DigestSource<O> as Source>⟧.reads original.new))
+    ensures stop { IfErr result (PartsRunStops (λ cause. (cause ≢ claim_stops.OutOfMemory) ×
+        FirstClaimFault claim_text.now cause) (Fails (⟦<DigestSource<O> as Source>⟧.reads original.old)
+        (⟦<DigestSource<O> as Source>⟧.reads original.new))
         (Rises (K.failures sink.old) (K.failures sink.new))
-        ((⟦<DigestSource<O> as Source>⟧.reads original.new ≡ ⟦<DigestSource<O> as Source>⟧.reads original.old)
-        × (map ⟦<DigestSource<E> as Source>⟧.reads parts.new ≡ map ⟦<DigestSource<E> as Source>⟧.reads parts.old))
-        (map ⟦<DigestSource<E> as Source>⟧.reads parts.old) (map ⟦<DigestSource<E> as Source>⟧.reads parts.new)) }
+        ((⟦<DigestSource<O> as Source>⟧.reads original.new ≡
+        ⟦<DigestSource<O> as Source>⟧.reads original.old) ×
+        (map ⟦<DigestSource<E> as Source>⟧.reads parts.new ≡
+        map ⟦<DigestSource<E> as Source>⟧.reads parts.old))
+        (map ⟦<DigestSource<E> as Source>⟧.reads parts.old)
+        (map ⟦<DigestSource<E> as Source>⟧.reads parts.new)) }
 {
     let count = parts.len() as u16;
     let verdict = judge_parts(alloc, original, parts, claim_text)?;

@@ -32,31 +32,41 @@ pub fn receipt_to<O: Source + Drop, E: Source + Drop, K: Sink>(
     sink: &mut K,
 ) -> Result<Outcome, RunStop>
     ensures receipt { IfOk result (λ outcome.
-        IsFresh (⟦<DigestSource<O> as Source>⟧.reads original.old) (⟦<DigestSource<O> as Source>⟧.is_honest original.old) (⟦<DigestSource<O> as Source>⟧.left original.old) →
-        IsFresh (⟦<DigestSource<E> as Source>⟧.reads export.old) (⟦<DigestSource<E> as Source>⟧.is_honest export.old) (⟦<DigestSource<E> as Source>⟧.left export.old) →
+        IsFresh (⟦<DigestSource<O> as Source>⟧.reads original.old)
+        (⟦<DigestSource<O> as Source>⟧.is_honest original.old)
+        (⟦<DigestSource<O> as Source>⟧.left original.old) →
+        IsFresh (⟦<DigestSource<E> as Source>⟧.reads export.old)
+        (⟦<DigestSource<E> as Source>⟧.is_honest export.old) (⟦<DigestSource<E> as Source>⟧.left export.old) →
         IsTrue (K.is_honest sink.old) →
-        IsReceipt version.now (⟦<DigestSource<O> as Source>⟧.left original.old) (⟦<DigestSource<E> as Source>⟧.left export.old) claim_text.now
-        (K.held sink.old) (K.held sink.new) outcome) }
-    ensures reads { OnOk result ((⟦<DigestSource<O> as Source>⟧.reads original.new ≡ ⟦<DigestSource<O> as Source>⟧.reads original.old)
-        × (⟦<DigestSource<E> as Source>⟧.reads export.new ≡ ⟦<DigestSource<E> as Source>⟧.reads export.old)) }
+        IsReceipt version.now (⟦<DigestSource<O> as Source>⟧.left original.old)
+        (⟦<DigestSource<E> as Source>⟧.left export.old) claim_text.now (K.held sink.old)
+        (K.held sink.new) outcome) }
+    ensures reads { OnOk result
+        ((⟦<DigestSource<O> as Source>⟧.reads original.new ≡
+        ⟦<DigestSource<O> as Source>⟧.reads original.old) ×
+        (⟦<DigestSource<E> as Source>⟧.reads export.new ≡ ⟦<DigestSource<E> as Source>⟧.reads export.old)) }
     ensures failures { OnOk result (K.failures sink.new ≡ K.failures sink.old) }
     ensures honesty { IsTrue (K.is_honest sink.old) → IsTrue (K.is_honest sink.new) }
     ensures nothing { IfErr result (λ stop. stop ≢ stops.WriteFailed → sink.new ≡ sink.old) }
     ensures part { IfErr result (λ stop. stop ≡ stops.WriteFailed →
-        IsFresh (⟦<DigestSource<O> as Source>⟧.reads original.old) (⟦<DigestSource<O> as Source>⟧.is_honest original.old) (⟦<DigestSource<O> as Source>⟧.left original.old) →
-        IsFresh (⟦<DigestSource<E> as Source>⟧.reads export.old) (⟦<DigestSource<E> as Source>⟧.is_honest export.old) (⟦<DigestSource<E> as Source>⟧.left export.old) →
+        IsFresh (⟦<DigestSource<O> as Source>⟧.reads original.old)
+        (⟦<DigestSource<O> as Source>⟧.is_honest original.old)
+        (⟦<DigestSource<O> as Source>⟧.left original.old) →
+        IsFresh (⟦<DigestSource<E> as Source>⟧.reads export.old)
+        (⟦<DigestSource<E> as Source>⟧.is_honest export.old) (⟦<DigestSource<E> as Source>⟧.left export.old) →
         IsTrue (K.is_honest sink.old) →
-        IsPartOfReceipt version.now (⟦<DigestSource<O> as Source>⟧.left original.old) (⟦<DigestSource<E> as Source>⟧.left export.old) claim_text.now
-        (K.held sink.old) (K.held sink.new)) }
+        IsPartOfReceipt version.now (⟦<DigestSource<O> as Source>⟧.left original.old)
+        (⟦<DigestSource<E> as Source>⟧.left export.old) claim_text.now (K.held sink.old) (K.held sink.new)) }
     ensures front { IfErr result (λ stop. stop ≡ stops.WriteFailed → IsTrue (K.is_honest sink.old) →
         IsFrontOfAReceipt version.now (K.held sink.old) (K.held sink.new)) }
-    ensures stop { IfErr result (RunStops
-        (λ cause. (cause ≢ claim_stops.OutOfMemory) × FirstClaimFault claim_text.now cause)
-        (Fails (⟦<DigestSource<O> as Source>⟧.reads original.old) (⟦<DigestSource<O> as Source>⟧.reads original.new))
-        (Fails (⟦<DigestSource<E> as Source>⟧.reads export.old) (⟦<DigestSource<E> as Source>⟧.reads export.new))
-        (Rises (K.failures sink.old) (K.failures sink.new))
-        ((⟦<DigestSource<O> as Source>⟧.reads original.new ≡ ⟦<DigestSource<O> as Source>⟧.reads original.old)
-        × (⟦<DigestSource<E> as Source>⟧.reads export.new ≡ ⟦<DigestSource<E> as Source>⟧.reads export.old))) }
+    ensures stop { IfErr result (RunStops (λ cause. (cause ≢ claim_stops.OutOfMemory) ×
+        FirstClaimFault claim_text.now cause) (Fails (⟦<DigestSource<O> as Source>⟧.reads original.old)
+        (⟦<DigestSource<O> as Source>⟧.reads original.new))
+        (Fails (⟦<DigestSource<E> as Source>⟧.reads export.old)
+        (⟦<DigestSource<E> as Source>⟧.reads export.new)) (Rises (K.failures sink.old) (K.failures sink.new))
+        ((⟦<DigestSource<O> as Source>⟧.reads original.new ≡
+        ⟦<DigestSource<O> as Source>⟧.reads original.old) ×
+        (⟦<DigestSource<E> as Source>⟧.reads export.new ≡ ⟦<DigestSource<E> as Source>⟧.reads export.old))) }
 {
     let verdict = judge(alloc, original, export, claim_text)?;
     let files = files_of(alloc, original, export, claim_text)?;

@@ -19,7 +19,9 @@ use std::alloc::{AllocError, Global};
 /// The line of how much a file holds.
 #[tactic(auto, unfolding(crate::specs::ConformTexts::counts_line))]
 fn counts_line(alloc: Global, summary: &Summary) -> Result<Vec<u8>, AllocError>
-    ensures { IfOk result (λ line. line.items ≡ counts_line summary.now.records summary.now.channels summary.now.samples summary.now.annotations) }
+    ensures { IfOk result (λ line.
+        line.items ≡ counts_line summary.now.records summary.now.channels summary.now.samples
+        summary.now.annotations) }
 {
     let line = format!(in alloc;
         "CONFORMS records {} channels {} samples {} annotations {}\n",
@@ -30,7 +32,8 @@ fn counts_line(alloc: Global, summary: &Summary) -> Result<Vec<u8>, AllocError>
 
 /// The line of a file, and `Yes` where it conforms.
 fn report<S: Source>(alloc: Global, source: &mut S) -> Result<Report, ReportStop>
-    ensures report { IfOk result (λ r. IsReportBy S.Source source.old conform_text file_fault r.text.items r.outcome) }
+    ensures report { IfOk result (λ r.
+        IsReportBy S.Source source.old conform_text file_fault r.text.items r.outcome) }
     ensures failures { OnOk result (S.reads source.new ≡ S.reads source.old) }
     ensures stop { IfErr result (StopsReading S.Source source.old source.new) }
 {
@@ -54,16 +57,18 @@ pub fn conform_to<S: Source, K: Sink>(
     source: &mut S,
     sink: &mut K,
 ) -> Result<Outcome, ReportStop>
-    ensures written { IfOk result (λ outcome. IsTrue (S.is_honest source.old) → IsTrue (K.is_honest sink.old) →
-        IsReported (conform_text (S.left source.old)) (file_fault (S.left source.old)) (K.held sink.old) (K.held sink.new) outcome) }
+    ensures written { IfOk result (λ outcome. IsTrue (S.is_honest source.old) →
+        IsTrue (K.is_honest sink.old) →
+        IsReported (conform_text (S.left source.old)) (file_fault (S.left source.old)) (K.held sink.old)
+        (K.held sink.new) outcome) }
     ensures nothing { IfErr result (λ stop. stop ≢ stops.WriteFailed → sink.new ≡ sink.old) }
     ensures part { OnErr result (IsTrue (S.is_honest source.old) → IsTrue (K.is_honest sink.old) →
         HoldsPrefix (K.held sink.old) (K.held sink.new) (conform_text (S.left source.old))) }
     ensures reads { OnOk result (S.reads source.new ≡ S.reads source.old) }
     ensures failures { OnOk result (K.failures sink.new ≡ K.failures sink.old) }
     ensures honesty { IsTrue (K.is_honest sink.old) → IsTrue (K.is_honest sink.new) }
-    ensures stop { IfErr result (ReportStops (Fails (S.reads source.old) (S.reads source.new)) (Rises (K.failures sink.old) (K.failures sink.new))
-        (S.reads source.new ≡ S.reads source.old)) }
+    ensures stop { IfErr result (ReportStops (Fails (S.reads source.old) (S.reads source.new))
+        (Rises (K.failures sink.old) (K.failures sink.new)) (S.reads source.new ≡ S.reads source.old)) }
 {
     let report = report(alloc, source)?;
     report.put(sink)

@@ -102,11 +102,12 @@ impl NoteKeeper for Lines {
 fn put_lines<K: Sink>(lines: &Lines, sink: &mut K) -> Result<(), ReportStop>
     ensures failures { OnOk result (K.failures sink.new ≡ K.failures sink.old) }
     ensures honesty { IsTrue (K.is_honest sink.old) → IsTrue (K.is_honest sink.new) }
-    ensures written { OnOk result (IsTrue (K.is_honest sink.old) → (notes : List NoteValue) → AreLinesOf lines.now notes
-        → K.held sink.new ≡ K.held sink.old ++ note_lines notes) }
-    ensures part { OnErr result (IsTrue (K.is_honest sink.old) → (notes : List NoteValue) → AreLinesOf lines.now notes
-        → HoldsPrefix (K.held sink.old) (K.held sink.new) (note_lines notes)) }
-    ensures stop { IfErr result (ReportStops ⊥ (Rises (K.failures sink.old) (K.failures sink.new)) (Unit {0})) }
+    ensures written { OnOk result (IsTrue (K.is_honest sink.old) → (notes : List NoteValue) →
+        AreLinesOf lines.now notes → K.held sink.new ≡ K.held sink.old ++ note_lines notes) }
+    ensures part { OnErr result (IsTrue (K.is_honest sink.old) → (notes : List NoteValue) →
+        AreLinesOf lines.now notes → HoldsPrefix (K.held sink.old) (K.held sink.new) (note_lines notes)) }
+    ensures stop { IfErr result (ReportStops ⊥ (Rises (K.failures sink.old) (K.failures sink.new))
+        (Unit {0})) }
 {
     if !lines.whole {
         return Err(ReportStop::OutOfMemory);
@@ -124,11 +125,12 @@ fn put_records<S: Source, K: Sink>(
     sink: &mut K,
 ) -> Result<Outcome, ReportStop>
     requires { HasBegun reader.old }
-    ensures written { IfOk result (λ outcome. IsTrue (S.is_honest source.old) → IsTrue (K.is_honest sink.old) → (file : List ℕ) →
-        StandsIn reader.old (S.left source.old) file →
-        IsReported (body_text file reader.old.head) (body_fault file reader.old.head) (K.held sink.old) (K.held sink.new) outcome) }
-    ensures part { OnErr result (IsTrue (S.is_honest source.old) → IsTrue (K.is_honest sink.old) → (file : List ℕ) →
-        StandsIn reader.old (S.left source.old) file →
+    ensures written { IfOk result (λ outcome. IsTrue (S.is_honest source.old) →
+        IsTrue (K.is_honest sink.old) → (file : List ℕ) → StandsIn reader.old (S.left source.old) file →
+        IsReported (body_text file reader.old.head) (body_fault file reader.old.head) (K.held sink.old)
+        (K.held sink.new) outcome) }
+    ensures part { OnErr result (IsTrue (S.is_honest source.old) → IsTrue (K.is_honest sink.old) →
+        (file : List ℕ) → StandsIn reader.old (S.left source.old) file →
         HoldsPrefix (K.held sink.old) (K.held sink.new) (body_text file reader.old.head)) }
     ensures reads { OnOk result (S.reads source.new ≡ S.reads source.old) }
     ensures failures { OnOk result (K.failures sink.new ≡ K.failures sink.old) }
@@ -166,15 +168,17 @@ pub fn notes_to<S: Source, K: Sink>(
     source: &mut S,
     sink: &mut K,
 ) -> Result<Outcome, ReportStop>
-    ensures written { IfOk result (λ outcome. IsTrue (S.is_honest source.old) → IsTrue (K.is_honest sink.old) →
-        IsReported (notes_text (S.left source.old)) (file_fault (S.left source.old)) (K.held sink.old) (K.held sink.new) outcome) }
+    ensures written { IfOk result (λ outcome. IsTrue (S.is_honest source.old) →
+        IsTrue (K.is_honest sink.old) →
+        IsReported (notes_text (S.left source.old)) (file_fault (S.left source.old)) (K.held sink.old)
+        (K.held sink.new) outcome) }
     ensures part { OnErr result (IsTrue (S.is_honest source.old) → IsTrue (K.is_honest sink.old) →
         HoldsPrefix (K.held sink.old) (K.held sink.new) (notes_text (S.left source.old))) }
     ensures reads { OnOk result (S.reads source.new ≡ S.reads source.old) }
     ensures failures { OnOk result (K.failures sink.new ≡ K.failures sink.old) }
     ensures honesty { IsTrue (K.is_honest sink.old) → IsTrue (K.is_honest sink.new) }
-    ensures stop { IfErr result (ReportStops (Fails (S.reads source.old) (S.reads source.new)) (Rises (K.failures sink.old) (K.failures sink.new))
-        (S.reads source.new ≡ S.reads source.old)) }
+    ensures stop { IfErr result (ReportStops (Fails (S.reads source.old) (S.reads source.new))
+        (Rises (K.failures sink.old) (K.failures sink.new)) (S.reads source.new ≡ S.reads source.old)) }
 {
     match FileReader::begin(alloc, source) {
         Ok(mut reader) => put_records(alloc, &mut reader, source, sink),

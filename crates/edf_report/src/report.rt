@@ -39,7 +39,8 @@ impl Report {
     /// The error is want of memory, or the failed read that stopped it.
     pub fn of_stop(alloc: Global, stop: Stop) -> Result<Report, ReportStop>
         ensures report { IfOk result (λ report. IsFaultReport stop report.text.items report.outcome) }
-        ensures stop { IfErr result (ReportStops (stop ≡ read_stops.ReadFailed) ⊥ (stop ≢ read_stops.ReadFailed)) }
+        ensures stop { IfErr result
+            (ReportStops (stop ≡ read_stops.ReadFailed) ⊥ (stop ≢ read_stops.ReadFailed)) }
     {
         match stop {
             Stop::Fault(fault) => Ok(Report {
@@ -55,12 +56,13 @@ impl Report {
     ///
     /// The error is that the sink failed; a front of the text was written then.
     pub fn put<K: Sink>(&self, sink: &mut K) -> Result<Outcome, ReportStop>
-        ensures written { IfOk result (λ outcome. (outcome ≡ self.now.outcome) × (IsTrue (K.is_honest sink.old) →
-            K.held sink.new ≡ K.held sink.old ++ self.now.text.items)) }
+        ensures written { IfOk result (λ outcome. (outcome ≡ self.now.outcome) ×
+            (IsTrue (K.is_honest sink.old) → K.held sink.new ≡ K.held sink.old ++ self.now.text.items)) }
         ensures failures { OnOk result (K.failures sink.new ≡ K.failures sink.old) }
         ensures honesty { IsTrue (K.is_honest sink.old) → IsTrue (K.is_honest sink.new) }
         ensures part { OnErr result (HoldsPart K.Sink sink.old sink.new self.now.text.items) }
-        ensures stop { IfErr result (λ stop. (stop ≡ stops.WriteFailed) × Rises (K.failures sink.old) (K.failures sink.new)) }
+        ensures stop { IfErr result (λ stop. (stop ≡ stops.WriteFailed) ×
+            Rises (K.failures sink.old) (K.failures sink.new)) }
     {
         put_all(sink, &self.text)?;
         Ok(self.outcome)
@@ -75,11 +77,13 @@ pub(crate) fn put_stop<K: Sink>(
     stop: Stop,
 ) -> Result<Outcome, ReportStop>
     ensures fault { OnOk result (IsFault stop) }
-    ensures written { IfOk result (λ outcome. IsTrue (K.is_honest sink.old) → IsStopWritten stop (K.held sink.old) (K.held sink.new) outcome) }
+    ensures written { IfOk result (λ outcome. IsTrue (K.is_honest sink.old) →
+        IsStopWritten stop (K.held sink.old) (K.held sink.new) outcome) }
     ensures failures { OnOk result (K.failures sink.new ≡ K.failures sink.old) }
     ensures honesty { IsTrue (K.is_honest sink.old) → IsTrue (K.is_honest sink.new) }
     ensures part { OnErr result (HoldsPart K.Sink sink.old sink.new (stop_line stop)) }
-    ensures stop { IfErr result (ReportStops (stop ≡ read_stops.ReadFailed) (Rises (K.failures sink.old) (K.failures sink.new))
+    ensures stop { IfErr result
+        (ReportStops (stop ≡ read_stops.ReadFailed) (Rises (K.failures sink.old) (K.failures sink.new))
         (stop ≢ read_stops.ReadFailed)) }
 {
     let report = Report::of_stop(alloc, stop)?;

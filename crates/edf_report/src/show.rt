@@ -124,7 +124,8 @@ fn push_course(text: &mut Vec<u8>, alloc: Global, header: &Header) -> Result<(),
 
 /// Puts a line for each additional subfield behind the text.
 fn push_extras(text: &mut Vec<u8>, word: &str, extras: Subfields<'_>) -> Result<(), AllocError>
-    ensures { OnOk result (text.new.items ≡ text.old.items ++ extras_text word.now (subfields_left extras.entry)) }
+    ensures { OnOk result (text.new.items ≡ text.old.items ++
+        extras_text word.now (subfields_left extras.entry)) }
 {
     for extra in extras {
         push_line(text, word, extra)?;
@@ -159,7 +160,8 @@ fn push_recording(text: &mut Vec<u8>, recording: &RecordingId<'_>) -> Result<(),
 /// Puts how many samples a channel has in a data record, and its extremes, behind the text.
 #[tactic(auto, unfolding(crate::specs::ShowTexts::numbers_text))]
 fn push_numbers(text: &mut Vec<u8>, alloc: Global, signal: &Signal) -> Result<(), AllocError>
-    ensures { OnOk result (text.new.items ≡ text.old.items ++ numbers_text signal.now.samples signal.now.calibration) }
+    ensures { OnOk result (text.new.items ≡ text.old.items ++
+        numbers_text signal.now.samples signal.now.calibration) }
 {
     let samples = signal.samples();
     let (physical_minimum, physical_maximum) = signal.calibration().physical();
@@ -219,8 +221,10 @@ fn header_text(alloc: Global, header: &Header) -> Result<Vec<u8>, AllocError>
 
 /// The lines of the header of a file, or that of its fault.
 fn report<S: Source>(alloc: Global, source: &mut S) -> Result<Report, ReportStop>
-    ensures report { IfOk result (λ r. IsReportBy S.Source source.old show_text header_fault r.text.items r.outcome) }
-    ensures behind { IfOk result (λ report. IsTrue (S.is_honest source.old) → IsLeftBehind (S.left source.old) (S.left source.new) report.outcome) }
+    ensures report { IfOk result (λ r.
+        IsReportBy S.Source source.old show_text header_fault r.text.items r.outcome) }
+    ensures behind { IfOk result (λ report. IsTrue (S.is_honest source.old) →
+        IsLeftBehind (S.left source.old) (S.left source.new) report.outcome) }
     ensures failures { OnOk result (S.reads source.new ≡ S.reads source.old) }
     ensures stop { IfErr result (StopsReading S.Source source.old source.new) }
 {
@@ -245,17 +249,20 @@ pub fn show_to<S: Source, K: Sink>(
     source: &mut S,
     sink: &mut K,
 ) -> Result<Outcome, ReportStop>
-    ensures written { IfOk result (λ outcome. IsTrue (S.is_honest source.old) → IsTrue (K.is_honest sink.old) →
-        IsReported (show_text (S.left source.old)) (header_fault (S.left source.old)) (K.held sink.old) (K.held sink.new) outcome) }
-    ensures behind { IfOk result (λ outcome. IsTrue (S.is_honest source.old) → IsLeftBehind (S.left source.old) (S.left source.new) outcome) }
+    ensures written { IfOk result (λ outcome. IsTrue (S.is_honest source.old) →
+        IsTrue (K.is_honest sink.old) →
+        IsReported (show_text (S.left source.old)) (header_fault (S.left source.old)) (K.held sink.old)
+        (K.held sink.new) outcome) }
+    ensures behind { IfOk result (λ outcome. IsTrue (S.is_honest source.old) →
+        IsLeftBehind (S.left source.old) (S.left source.new) outcome) }
     ensures nothing { IfErr result (λ stop. stop ≢ stops.WriteFailed → sink.new ≡ sink.old) }
     ensures part { OnErr result (IsTrue (S.is_honest source.old) → IsTrue (K.is_honest sink.old) →
         HoldsPrefix (K.held sink.old) (K.held sink.new) (show_text (S.left source.old))) }
     ensures reads { OnOk result (S.reads source.new ≡ S.reads source.old) }
     ensures failures { OnOk result (K.failures sink.new ≡ K.failures sink.old) }
     ensures honesty { IsTrue (K.is_honest sink.old) → IsTrue (K.is_honest sink.new) }
-    ensures stop { IfErr result (ReportStops (Fails (S.reads source.old) (S.reads source.new)) (Rises (K.failures sink.old) (K.failures sink.new))
-        (S.reads source.new ≡ S.reads source.old)) }
+    ensures stop { IfErr result (ReportStops (Fails (S.reads source.old) (S.reads source.new))
+        (Rises (K.failures sink.old) (K.failures sink.new)) (S.reads source.new ≡ S.reads source.old)) }
 {
     let report = report(alloc, source)?;
     report.put(sink)

@@ -23,9 +23,8 @@ struct TalTimes {
 
 /// The times in what stands before the first byte 20: first the onset is read, then the duration.
 fn times_in(head: &[u8]) -> Result<TalTimes, TalCause>
-    ensures said { MatchResult result
-        (λ times. (onset_of (until 21 head.now) ≡ Some times.onset) × (duration_of head.now ≡ Ok times.duration))
-        (λ cause. SaysNoTimes head.now cause) }
+    ensures said { MatchResult result (λ times. (onset_of (until 21 head.now) ≡ Some times.onset) ×
+        (duration_of head.now ≡ Ok times.duration)) (λ cause. SaysNoTimes head.now cause) }
     ensures small { IfOk result (λ times. unsigned_abs times.onset < 10 ^ 21) }
     ensures short { IfOk result (λ times. IfSome times.duration (λ v. unsigned_abs v < 10 ^ 21)) }
     ensures not_negative { IfOk result (λ times. IfSome times.duration (λ v. pos 0 ≤ℤ v)) }

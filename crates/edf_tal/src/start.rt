@@ -67,7 +67,8 @@ pub fn start_by_first(first: Option<&Result<Tal<'_>, TalCause>>) -> Result<i128,
     ensures value { result ≡ start_by (option_map (λ item. item_view item.now) first.entry) }
 
     // So it is for whatever items this one is the first of, as those of a lane.
-    ensures walk { (items : List Item) → first_of items ≡ option_map (λ item. item_view item.now) first.entry → result ≡ start_of items }
+    ensures walk { (items : List Item) →
+        first_of items ≡ option_map (λ item. item_view item.now) first.entry → result ≡ start_of items }
     ensures small { IfOk result (λ v. unsigned_abs v < 10 ^ 21) }
 {
     start_by(first)

@@ -56,10 +56,12 @@ impl<'a> Tals<'a> {
         ensures items { items_left result ≡ items_of lane.now }
 
         // No item is an `Err` exactly where the lane is one of TALs, and those are the items.
-        ensures grammar { (tals : List TalValue) → IsLaneOf lane.now tals ↔ (items_of lane.now ≡ map Ok tals) }
+        ensures grammar { (tals : List TalValue) →
+            IsLaneOf lane.now tals ↔ (items_of lane.now ≡ map Ok tals) }
 
         // Else they are the TALs before the first fault, and its cause.
-        ensures fault { (tals : List TalValue) (cause : TalCause) → FaultAfter lane.now tals cause ↔ (items_of lane.now ≡ map Ok tals ++ Err cause ∷ []) }
+        ensures fault { (tals : List TalValue) (cause : TalCause) →
+            FaultAfter lane.now tals cause ↔ (items_of lane.now ≡ map Ok tals ++ Err cause ∷ []) }
     {
         Tals { rest: lane }
     }

@@ -51,7 +51,8 @@ pub fn with_channels(
     claim_text: &[u8],
     labels: &[Vec<u8>],
 ) -> Result<Option<Vec<u8>>, AllocError>
-    ensures { IfOk result (λ text. IfSome text (λ t. IsClaimOfChannels t.items (map (λ l. l.items) labels.now))) }
+    ensures { IfOk result (λ text.
+        IfSome text (λ t. IsClaimOfChannels t.items (map (λ l. l.items) labels.now))) }
 {
     let Some(list) = list_of(alloc, labels)? else {
         return Ok(None);

@@ -26,15 +26,19 @@ pub trait Recordings {
     ///
     /// The error is want of memory; or it is a failed read of the original, also where it can't be opened any more.
     fn open_original(&self) -> Result<Self::Original, CheckStop>
-        ensures honest { IfOk result (λ s. IsTrue (are_honest self.now) → IsTrue (Self.Original.Source.is_honest s)) }
-        ensures bytes { IfOk result (λ s. IsTrue (are_honest self.now) → Self.Original.Source.left s ≡ original self.now) };
+        ensures honest { IfOk result (λ s. IsTrue (are_honest self.now) →
+            IsTrue (Self.Original.Source.is_honest s)) }
+        ensures bytes { IfOk result (λ s. IsTrue (are_honest self.now) →
+            Self.Original.Source.left s ≡ original self.now) };
 
     /// Opens the export, at its first byte.
     ///
     /// The error is want of memory; or it is a failed read of the export, also where it can't be opened any more.
     fn open_export(&self) -> Result<Self::Export, CheckStop>
-        ensures honest { IfOk result (λ s. IsTrue (are_honest self.now) → IsTrue (Self.Export.Source.is_honest s)) }
-        ensures bytes { IfOk result (λ s. IsTrue (are_honest self.now) → Self.Export.Source.left s ≡ export self.now) };
+        ensures honest { IfOk result (λ s. IsTrue (are_honest self.now) →
+            IsTrue (Self.Export.Source.is_honest s)) }
+        ensures bytes { IfOk result (λ s. IsTrue (are_honest self.now) →
+            Self.Export.Source.left s ≡ export self.now) };
 }
 
 /// Two recordings in memory. Their bytes are known, and opening them never fails.

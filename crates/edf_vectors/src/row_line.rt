@@ -40,8 +40,10 @@ fn line_of_parts<'a>(
 ) -> Result<Line, AllocError>
     requires some { 0 < length parts.old }
     requires few { length parts.old ≤ 64 }
-    ensures { IfOk result (λ line. AllByRecursion IsTrue (map ⟦<SliceSource<'a> as Source>⟧.is_honest parts.old) →
-        IsPartsLine original.now (map ⟦<SliceSource<'a> as Source>⟧.left parts.old) claim.now (⟦<Line as Sink>⟧.held line)) }
+    ensures { IfOk result (λ line.
+        AllByRecursion IsTrue (map ⟦<SliceSource<'a> as Source>⟧.is_honest parts.old) →
+        IsPartsLine original.now (map ⟦<SliceSource<'a> as Source>⟧.left parts.old) claim.now
+        (⟦<Line as Sink>⟧.held line)) }
 {
     let mut whole = SliceSource::new(original);
     let mut line = Line::new(alloc);

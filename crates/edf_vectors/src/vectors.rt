@@ -29,7 +29,8 @@ fn row_text(alloc: Global, number: u8, line: &[u8]) -> Result<Vec<u8>, AllocErro
 fn write_row<K: Sink>(alloc: Global, row: &Row, sink: &mut K) -> Result<Outcome, ReportStop>
     ensures failures { OnOk result (K.failures sink.new ≡ K.failures sink.old) }
     ensures honesty { OnOk result (IsTrue (K.is_honest sink.old) → IsTrue (K.is_honest sink.new)) }
-    ensures written { IfOk result (λ outcome. IsTrue (K.is_honest sink.old) → IsRowWritten (row_of row.now) (K.held sink.old) (K.held sink.new) outcome) }
+    ensures written { IfOk result (λ outcome. IsTrue (K.is_honest sink.old) →
+        IsRowWritten (row_of row.now) (K.held sink.old) (K.held sink.new) outcome) }
     ensures stop { IfErr result (RowStops (Rises (K.failures sink.old) (K.failures sink.new))) }
 {
     let line = line_of_row(alloc, row)?;
@@ -49,7 +50,8 @@ fn write_row<K: Sink>(alloc: Global, row: &Row, sink: &mut K) -> Result<Outcome,
 /// outcome is `Yes` where every line is the stored one. The error is want of memory, or a failure of the
 /// sink; the rows before it stay written. The files stand in memory, so that no read fails.
 pub fn vectors_to<K: Sink>(alloc: Global, sink: &mut K) -> Result<Outcome, ReportStop>
-    ensures written { IfOk result (λ outcome. IsTrue (K.is_honest sink.old) → AreAllRowsWritten (K.held sink.old) (K.held sink.new) outcome) }
+    ensures written { IfOk result (λ outcome. IsTrue (K.is_honest sink.old) →
+        AreAllRowsWritten (K.held sink.old) (K.held sink.new) outcome) }
     ensures stop { IfErr result (RowStops (Rises (K.failures sink.old) (K.failures sink.new))) }
 {
     let rows = worked_rows();

@@ -167,7 +167,8 @@ fn push_sample(
     label: &Label,
     moment: SampleWords,
 ) -> Result<(), AllocError>
-    ensures { OnOk result (line.new.items ≡ line.old.items ++ sample_text label.now moment.at_ps moment.mismatch) }
+    ensures { OnOk result (line.new.items ≡ line.old.items ++
+        sample_text label.now moment.at_ps moment.mismatch) }
 {
     let words = moment.to_string(alloc)?;
     push_around(line, "sample ", label, &words)
@@ -180,7 +181,8 @@ fn push_note(
     note: NoteWords,
     text: &NoteText,
 ) -> Result<(), AllocError>
-    ensures { OnOk result (line.new.items ≡ line.old.items ++ with_quoted (note_words note.mismatch (note.times).onset (note.times).duration) text.now) }
+    ensures { OnOk result (line.new.items ≡ line.old.items ++
+        with_quoted (note_words note.mismatch (note.times).onset (note.times).duration) text.now) }
 {
     let words = note.to_string(alloc)?;
     push_with_quoted(line, &words, text.as_str().as_bytes())
@@ -196,7 +198,8 @@ pub(crate) struct Counts {
 
 /// Puts what was compared behind the line.
 fn push_counts(line: &mut Vec<u8>, alloc: Global, counts: Counts) -> Result<(), AllocError>
-    ensures { OnOk result (line.new.items ≡ line.old.items ++ counts_text counts.channels counts.samples counts.annotations) }
+    ensures { OnOk result (line.new.items ≡ line.old.items ++
+        counts_text counts.channels counts.samples counts.annotations) }
 {
     let Counts {
         channels,

@@ -25,7 +25,8 @@ fn push_parts_counts(
     parts: u16,
     counts: Counts,
 ) -> Result<(), AllocError>
-    ensures { OnOk result (line.new.items ≡ line.old.items ++ parts_counts_text parts counts.channels counts.samples counts.annotations) }
+    ensures { OnOk result (line.new.items ≡ line.old.items ++
+        parts_counts_text parts counts.channels counts.samples counts.annotations) }
 {
     let Counts {
         channels,
@@ -67,7 +68,8 @@ impl Difference {
 impl PartsVerdict {
     /// Puts the verdict on so many exports in words behind the line.
     fn push(&self, line: &mut Vec<u8>, alloc: Global, parts: u16) -> Result<(), AllocError>
-        ensures { OnOk result (line.new.items ≡ line.old.items ++ parts_verdict_text parts self.now.part self.now.verdict) }
+        ensures { OnOk result (line.new.items ≡ line.old.items ++
+            parts_verdict_text parts self.now.part self.now.verdict) }
     {
         match &self.verdict {
             Verdict::Yes {

@@ -164,7 +164,8 @@ pub fn fronted_recordings<'a, R: Files + Eprint + Clock + AllocGlobal>(
 ///
 /// The error is a failed read, or want of memory.
 fn text_of<S: Source>(alloc: Global, source: &mut S, most: usize) -> Result<Vec<u8>, Refusal>
-    ensures text { IfOk result (λ text. IsTrue (S.is_honest source.old) → text.items ≡ take most (S.left source.old)) }
+    ensures text { IfOk result (λ text. IsTrue (S.is_honest source.old) →
+        text.items ≡ take most (S.left source.old)) }
     ensures short { IfOk result (λ text. length text.items ≤ most) }
     ensures stop { IfErr result (ClaimReadStops (Fails (S.reads source.old) (S.reads source.new))
         (S.reads source.new ≡ S.reads source.old)) }

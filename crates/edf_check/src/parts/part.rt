@@ -93,24 +93,33 @@ fn compare_on<O: Source, E: Source, L: Onlooker>(
     shown: Shown<'_, '_, L>,
 ) -> Result<Result<Course, FaultOf>, PartsStop>
     requires compared { (shown.turn).is_compared ≡ true }
-    requires original { StandsAt original.old.reader (((shown.turn).setting).clock.original).ps ((shown.turn).from).ps }
-    requires export { StandsAt export.old.reader (((shown.turn).setting).clock.export).ps ((shown.turn).from).ps }
+    requires original { StandsAt original.old.reader (((shown.turn).setting).clock.original).ps
+        ((shown.turn).from).ps }
+    requires export { StandsAt export.old.reader (((shown.turn).setting).clock.export).ps
+        ((shown.turn).from).ps }
     requires at_hand { is_current (export.old.reader).status ≡ true }
-    ensures modest { IfRead result (λ c. IfSome c.found (IsFoundAmong (length (((shown.entry.turn).setting).labels).now))) }
+    ensures modest { IfRead result (λ c.
+        IfSome c.found (IsFoundAmong (length (((shown.entry.turn).setting).labels).now))) }
     ensures head { IfRead result (λ c. (export.new.reader).head ≡ (export.old.reader).head) }
     ensures later { IfRead result (λ c. c.is_early ≡ false) }
-    ensures passes { IfRead result (PassesBehind O.Source original.old o.old original.new o.new (shown.entry.turn)) }
+    ensures passes { IfRead result (PassesBehind O.Source original.old o.old original.new o.new
+        (shown.entry.turn)) }
     ensures stays { IfRead result (Stays (shown.entry.turn)) }
     ensures through { IfRead result (λ c. (shown.entry.turn).is_last ≡ true →
-        ThroughBy (at_turn O.Source E.Source original.old o.old export.old e.old (shown.entry.turn)) (O.left o.new)) }
-    ensures ended { IfRead result (EndedBy (at_turn O.Source E.Source original.old o.old export.old e.old (shown.entry.turn))
+        ThroughBy (at_turn O.Source E.Source original.old o.old export.old e.old (shown.entry.turn))
+        (O.left o.new)) }
+    ensures ended { IfRead result
+        (EndedBy (at_turn O.Source E.Source original.old o.old export.old e.old (shown.entry.turn))
         (shown.entry.turn) (E.left e.new)) }
-    ensures matched { IfRead result (MatchedBy (at_turn O.Source E.Source original.old o.old export.old e.old (shown.entry.turn))
+    ensures matched { IfRead result
+        (MatchedBy (at_turn O.Source E.Source original.old o.old export.old e.old (shown.entry.turn))
         (shown.entry.turn) original.new export.new) }
-    ensures fault { IfFaulty result (FaultyBy (at_turn O.Source E.Source original.old o.old export.old e.old (shown.entry.turn))
+    ensures fault { IfFaulty result
+        (FaultyBy (at_turn O.Source E.Source original.old o.old export.old e.old (shown.entry.turn))
         (O.left o.new) (shown.entry.turn).part) }
     ensures failures { OnOk result ((O.reads o.new ≡ O.reads o.old) × (E.reads e.new ≡ E.reads e.old)) }
-    ensures stop { IfErr result (StopsOfTwo O.Source o.old o.new E.Source (shown.entry.turn).part e.old e.new) }
+    ensures stop { IfErr result (StopsOfTwo O.Source o.old o.new E.Source (shown.entry.turn).part e.old
+        e.new) }
 {
     let Shown { turn, onlooker } = shown;
     let (alloc, labels) = (turn.setting.alloc, turn.setting.labels);
@@ -172,22 +181,30 @@ fn compare<O: Source, E: Source, L: Onlooker>(
     shown: Shown<'_, '_, L>,
 ) -> Result<Result<Course, FaultOf>, PartsStop>
     requires compared { (shown.turn).is_compared ≡ true }
-    requires original { StandsAt original.old.reader (((shown.turn).setting).clock.original).ps ((shown.turn).from).ps }
+    requires original { StandsAt original.old.reader (((shown.turn).setting).clock.original).ps
+        ((shown.turn).from).ps }
     requires export { HasBegun export.old.reader × ((export.old.notes).items ≡ []) }
-    ensures modest { IfRead result (λ c. IfSome c.found (IsFoundAmong (length (((shown.entry.turn).setting).labels).now))) }
+    ensures modest { IfRead result (λ c.
+        IfSome c.found (IsFoundAmong (length (((shown.entry.turn).setting).labels).now))) }
     ensures head { IfRead result (λ c. (export.new.reader).head ≡ (export.old.reader).head) }
-    ensures passes { IfRead result (PassesBehind O.Source original.old o.old original.new o.new (shown.entry.turn)) }
+    ensures passes { IfRead result (PassesBehind O.Source original.old o.old original.new o.new
+        (shown.entry.turn)) }
     ensures stays { IfRead result (Stays (shown.entry.turn)) }
     ensures through { IfRead result (λ c. (shown.entry.turn).is_last ≡ true →
-        ThroughBy (at_part O.Source E.Source original.old o.old export.old e.old (shown.entry.turn)) (O.left o.new)) }
-    ensures passed { IfRead result (PassedBy (at_part O.Source E.Source original.old o.old export.old e.old (shown.entry.turn))
+        ThroughBy (at_part O.Source E.Source original.old o.old export.old e.old (shown.entry.turn))
+        (O.left o.new)) }
+    ensures passed { IfRead result
+        (PassedBy (at_part O.Source E.Source original.old o.old export.old e.old (shown.entry.turn))
         (shown.entry.turn) (E.left e.new)) }
-    ensures matched { IfRead result (MatchedBy (at_part O.Source E.Source original.old o.old export.old e.old (shown.entry.turn))
+    ensures matched { IfRead result
+        (MatchedBy (at_part O.Source E.Source original.old o.old export.old e.old (shown.entry.turn))
         (shown.entry.turn) original.new export.new) }
-    ensures fault { IfFaulty result (FaultyBy (at_part O.Source E.Source original.old o.old export.old e.old (shown.entry.turn))
+    ensures fault { IfFaulty result
+        (FaultyBy (at_part O.Source E.Source original.old o.old export.old e.old (shown.entry.turn))
         (O.left o.new) (shown.entry.turn).part) }
     ensures failures { OnOk result ((O.reads o.new ≡ O.reads o.old) × (E.reads e.new ≡ E.reads e.old)) }
-    ensures stop { IfErr result (StopsOfTwo O.Source o.old o.new E.Source (shown.entry.turn).part e.old e.new) }
+    ensures stop { IfErr result (StopsOfTwo O.Source o.old o.new E.Source (shown.entry.turn).part e.old
+        e.new) }
 {
     let turn = shown.turn;
     let view = View {
@@ -240,9 +257,12 @@ fn pass_over<O: Source, E: Source>(
     ensures none { IfRead result (λ c. (c.found ≡ None) × (c.is_beside ≡ false)) }
     ensures head { IfRead result (λ c. export.new.head ≡ export.old.head) }
     ensures goes { IfRead result (λ c. HasGoneOn O.Source original.old o.old original.new o.new) }
-    ensures through { IfRead result (λ c. ThroughBy (over O.Source E.Source original.old o.old export.old e.old) (O.left o.new)) }
-    ensures passed { IfRead result (PassedBy (over O.Source E.Source original.old o.old export.old e.old) turn.entry (E.left e.new)) }
-    ensures fault { IfFaulty result (FaultyBy (over O.Source E.Source original.old o.old export.old e.old) (O.left o.new) turn.entry.part) }
+    ensures through { IfRead result (λ c.
+        ThroughBy (over O.Source E.Source original.old o.old export.old e.old) (O.left o.new)) }
+    ensures passed { IfRead result (PassedBy (over O.Source E.Source original.old o.old export.old e.old)
+        turn.entry (E.left e.new)) }
+    ensures fault { IfFaulty result (FaultyBy (over O.Source E.Source original.old o.old export.old e.old)
+        (O.left o.new) turn.entry.part) }
     ensures failures { OnOk result ((O.reads o.new ≡ O.reads o.old) × (E.reads e.new ≡ E.reads e.old)) }
     ensures stop { IfErr result (StopsOfTwo O.Source o.old o.new E.Source turn.entry.part e.old e.new) }
 {
@@ -281,20 +301,27 @@ fn read_course<O: Source, E: Source, L: Onlooker>(
 ) -> Result<Result<Course, FaultOf>, PartsStop>
     requires original { IsReady shown.turn original.old.reader }
     requires export { HasBegun export.old.reader × ((export.old.notes).items ≡ []) }
-    ensures modest { IfRead result (λ c. IfSome c.found (IsFoundAmong (length (((shown.entry.turn).setting).labels).now))) }
+    ensures modest { IfRead result (λ c.
+        IfSome c.found (IsFoundAmong (length (((shown.entry.turn).setting).labels).now))) }
     ensures head { IfRead result (λ c. (export.new.reader).head ≡ (export.old.reader).head) }
-    ensures passes { IfRead result (PassesBehind O.Source original.old o.old original.new o.new (shown.entry.turn)) }
+    ensures passes { IfRead result (PassesBehind O.Source original.old o.old original.new o.new
+        (shown.entry.turn)) }
     ensures stays { IfRead result (Stays (shown.entry.turn)) }
     ensures through { IfRead result (λ c. (shown.entry.turn).is_last ≡ true →
-        ThroughBy (at_part O.Source E.Source original.old o.old export.old e.old (shown.entry.turn)) (O.left o.new)) }
-    ensures passed { IfRead result (PassedBy (at_part O.Source E.Source original.old o.old export.old e.old (shown.entry.turn))
+        ThroughBy (at_part O.Source E.Source original.old o.old export.old e.old (shown.entry.turn))
+        (O.left o.new)) }
+    ensures passed { IfRead result
+        (PassedBy (at_part O.Source E.Source original.old o.old export.old e.old (shown.entry.turn))
         (shown.entry.turn) (E.left e.new)) }
-    ensures matched { IfRead result (MatchedBy (at_part O.Source E.Source original.old o.old export.old e.old (shown.entry.turn))
+    ensures matched { IfRead result
+        (MatchedBy (at_part O.Source E.Source original.old o.old export.old e.old (shown.entry.turn))
         (shown.entry.turn) original.new export.new) }
-    ensures fault { IfFaulty result (FaultyBy (at_part O.Source E.Source original.old o.old export.old e.old (shown.entry.turn))
+    ensures fault { IfFaulty result
+        (FaultyBy (at_part O.Source E.Source original.old o.old export.old e.old (shown.entry.turn))
         (O.left o.new) (shown.entry.turn).part) }
     ensures failures { OnOk result ((O.reads o.new ≡ O.reads o.old) × (E.reads e.new ≡ E.reads e.old)) }
-    ensures stop { IfErr result (StopsOfTwo O.Source o.old o.new E.Source (shown.entry.turn).part e.old e.new) }
+    ensures stop { IfErr result (StopsOfTwo O.Source o.old o.new E.Source (shown.entry.turn).part e.old
+        e.new) }
 {
     if shown.turn.is_compared {
         compare(original, o, export, e, shown)
@@ -322,12 +349,15 @@ pub(crate) fn read_part<O: Source, E: Source, L: Onlooker>(
     onlooker: &mut L,
 ) -> Result<Result<PartRead, FaultOf>, PartsStop>
     requires original { IsReady turn original.old.reader }
-    ensures modest { IfRead result (λ p. IfSome (p.course).found (IsFoundAmong (length ((turn.entry.setting).labels).now))) }
+    ensures modest { IfRead result (λ p.
+        IfSome (p.course).found (IsFoundAmong (length ((turn.entry.setting).labels).now))) }
     ensures few { IfRead result (λ p. p.samples ≤ 2 ^ 50) }
     ensures passes { IfRead result (PassesPart O.Source original.old o.old original.new o.new turn.entry) }
     ensures stays { IfRead result (PartStays turn.entry) }
-    ensures read { IfRead result (PartReadBy O.Source E.Source turn.entry original.old o.old original.new o.new e.old e.new) }
-    ensures fault { IfFaulty result (PartFaultBy O.Source E.Source turn.entry original.old o.old o.new e.old) }
+    ensures read { IfRead result (PartReadBy O.Source E.Source turn.entry original.old o.old original.new
+        o.new e.old e.new) }
+    ensures fault { IfFaulty result
+        (PartFaultBy O.Source E.Source turn.entry original.old o.old o.new e.old) }
     ensures failures { OnOk result ((O.reads o.new ≡ O.reads o.old) × (E.reads e.new ≡ E.reads e.old)) }
     ensures stop { IfErr result (StopsOfTwo O.Source o.old o.new E.Source turn.entry.part e.old e.new) }
 {

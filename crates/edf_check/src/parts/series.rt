@@ -33,7 +33,8 @@ impl Exported {
     fn take(&mut self, samples: u64, notes: Vec<Note>) -> Result<(), AllocError>
         requires held { self.old.samples ≤ 63 * 2 ^ 50 }
         requires few { samples ≤ 2 ^ 50 }
-        ensures notes { OnOk result (held_notes self.new ≡ held_notes self.old ++ map note_value notes.items) }
+        ensures notes { OnOk result (held_notes self.new ≡ held_notes self.old ++
+            map note_value notes.items) }
         ensures samples { OnOk result (self.new.samples ≡ self.old.samples + samples) }
     {
         self.samples += samples;
@@ -77,11 +78,15 @@ pub(crate) fn read_parts<O: Source, E: Source, L: Onlooker>(
     requires original { IsReady shown.turn (so_far.old.original).reader }
     requires few { (shown.turn).part + length others.old < 64 }
     requires held { (so_far.old.exported).samples ≤ (shown.turn).part * 2 ^ 50 }
-    ensures modest { IfRead result (λ f. IfSome f.found (IsFoundAmong (length (((shown.entry.turn).setting).labels).now))) }
+    ensures modest { IfRead result (λ f.
+        IfSome f.found (IsFoundAmong (length (((shown.entry.turn).setting).labels).now))) }
     ensures read { IfRead result (AreReadFrom O.Source E.Source (shown.entry.turn) so_far.old.original o.old
-        so_far.new.original o.new part.old part.new others.old others.new so_far.old.exported so_far.new.exported) }
-    ensures fault { IfFaulty result (HaveFaultFrom O.Source E.Source (shown.entry.turn) so_far.old.original o.old o.new (part.old ∷ others.old)) }
-    ensures failures { OnOk result (NoneFailed O.Source o.old o.new E.Source part.old part.new others.old others.new) }
+        so_far.new.original o.new part.old part.new others.old others.new so_far.old.exported
+        so_far.new.exported) }
+    ensures fault { IfFaulty result (HaveFaultFrom O.Source E.Source (shown.entry.turn) so_far.old.original
+        o.old o.new (part.old ∷ others.old)) }
+    ensures failures { OnOk result (NoneFailed O.Source o.old o.new E.Source part.old part.new others.old
+        others.new) }
     ensures stop { IfErr result (StopsOfAll O.Source o.old o.new E.Source (shown.entry.turn).part
         (part.old ∷ others.old) (part.new ∷ others.new)) }
 {

@@ -45,14 +45,18 @@ pub(crate) fn walk_parts<O: Source, E: Source, L: Onlooker>(
     requires few { length others.old < 64 }
     requires none { ((so_far.old.exported).samples ≡ 0) × ((so_far.old.exported).notes.items ≡ []) }
     requires setting { IsSetting ((so_far.old.original).reader).head stage.setting }
-    ensures modest { IfRead result (λ f. IfSome f.found (IsFoundAmong (length ((stage.entry.setting).labels).now))) }
-    ensures judged { IfRead result (AreJudgedFrom O.Source E.Source (stage.entry.setting) so_far.old.original o.old
-        so_far.new.original (part.old ∷ others.old) so_far.new.exported) }
+    ensures modest { IfRead result (λ f.
+        IfSome f.found (IsFoundAmong (length ((stage.entry.setting).labels).now))) }
+    ensures judged { IfRead result (AreJudgedFrom O.Source E.Source (stage.entry.setting) so_far.old.original
+        o.old so_far.new.original (part.old ∷ others.old) so_far.new.exported) }
     ensures gone { IfRead result (λ f. AreGoneFrom O.Source E.Source so_far.old.original o.old o.new
         (part.old ∷ others.old) (part.new ∷ others.new)) }
-    ensures fault { IfFaulty result (IsFirstFrom O.Source E.Source so_far.old.original o.old o.new (part.old ∷ others.old)) }
-    ensures failures { OnOk result (NoneFailed O.Source o.old o.new E.Source part.old part.new others.old others.new) }
-    ensures stop { IfErr result (StopsOfAll O.Source o.old o.new E.Source 0 (part.old ∷ others.old) (part.new ∷ others.new)) }
+    ensures fault { IfFaulty result (IsFirstFrom O.Source E.Source so_far.old.original o.old o.new
+        (part.old ∷ others.old)) }
+    ensures failures { OnOk result (NoneFailed O.Source o.old o.new E.Source part.old part.new others.old
+        others.new) }
+    ensures stop { IfErr result (StopsOfAll O.Source o.old o.new E.Source 0 (part.old ∷ others.old)
+        (part.new ∷ others.new)) }
 {
     let Stage { setting, onlooker } = stage;
     let view = View {
@@ -101,7 +105,8 @@ fn first_finding(
     exported: &mut Exported,
 ) -> Result<Option<Finding>, AllocError>
     requires { IfSome found.found (IsFoundAmong (length (setting.labels).now)) }
-    ensures { IfOk result (λ finding. FollowsFrom setting.entry (map note_value kept.old.items) exported.old found
+    ensures { IfOk result (λ finding.
+        FollowsFrom setting.entry (map note_value kept.old.items) exported.old found
         (verdict_by setting.entry exported.old finding)) }
 {
     let PartsFound {

@@ -49,7 +49,8 @@ fn cut_by(interval: Interval, from: Moment, to: Moment) -> Moment
 fn ended_count(intervals: &[Interval], time: Moment) -> usize
     requires kept { AreKept intervals.now }
     ensures within { result ≤ length intervals.now }
-    ensures point { IsPartitionPoint (λ i. int_le i.to_ps time.ps ≡ true) (λ i. int_le i.to_ps time.ps ≡ false) intervals.now result }
+    ensures point { IsPartitionPoint (λ i. int_le i.to_ps time.ps ≡ true) (λ i.
+        int_le i.to_ps time.ps ≡ false) intervals.now result }
 {
     intervals.partition_point(
         |interval: &Interval| -> bool

@@ -64,7 +64,8 @@ fn half_at(intervals: &[Interval], num: i128, den: u32) -> &[Interval]
     requires some { 1 < length intervals.now }
     requires kept { AreKept intervals.now }
     requires den { den < 2 ^ 24 }
-    ensures same { list_any (λ i. is_within i num den) result.now ≡ list_any (λ i. is_within i num den) intervals.entry.now }
+    ensures same { list_any (λ i. is_within i num den) result.now ≡
+        list_any (λ i. is_within i num den) intervals.entry.now }
     ensures kept { AreKept result.now }
     ensures shorter { length result.now < length intervals.entry.now }
 {

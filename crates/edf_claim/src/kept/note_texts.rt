@@ -63,15 +63,17 @@ impl NoteTexts {
 
     /// Whether the text begins with one of the prefixes.
     fn is_begun(&self, text: &[u8]) -> bool
-        ensures { result ≡ list_any (λ prefix. begins_with prefix text.now) (map (λ t. t.items) self.now.remove_prefix.items) }
+        ensures { result ≡ list_any (λ prefix. begins_with prefix text.now)
+            (map (λ t. t.items) self.now.remove_prefix.items) }
     {
         begins_with_one(&self.shortest, text)
     }
 
     /// Whether annotations with this text are removed.
     pub(crate) fn is_removed(&self, text: &[u8]) -> bool
-        ensures { result ≡ (is_one_of (map (λ t. t.items) self.now.remove.items) text.now
-            || list_any (λ prefix. begins_with prefix text.now) (map (λ t. t.items) self.now.remove_prefix.items)) }
+        ensures { result ≡
+            (is_one_of (map (λ t. t.items) self.now.remove.items) text.now || list_any (λ prefix.
+            begins_with prefix text.now) (map (λ t. t.items) self.now.remove_prefix.items)) }
     {
         self.is_listed(text) || self.is_begun(text)
     }

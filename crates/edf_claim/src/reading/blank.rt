@@ -12,7 +12,8 @@ use toml::Table;
 /// The texts of annotations that are blanked: distinct texts, none where the key is absent.
 #[tactic(auto, unfolding(crate::specs::Reading::blank_of))]
 pub(crate) fn blank(alloc: Global, table: &Table) -> Result<Option<Vec<Vec<u8>>>, AllocError>
-    ensures { IfOk result (λ r. option_map (λ v. map (λ t. t.items) v.items) r ≡ blank_of (table_view table.now)) }
+    ensures { IfOk result (λ r. option_map (λ v. map (λ t. t.items) v.items) r ≡
+        blank_of (table_view table.now)) }
 {
     match value_at(table, "blank") {
         Some(value) => match distinct_texts(alloc, value)? {

@@ -33,14 +33,16 @@ fn is_more_claim_key(key: &str) -> bool
 
 /// Whether the keys are those of a claim of format 1, as a test of the table's entries.
 fn claim_keys_alone(table: &Table) -> bool
-    ensures { result ≡ list_all (λ key. is_one_of claim_keys (string_bytes key)) (map (λ entry. entry.0) table.now.entries) }
+    ensures { result ≡ list_all (λ key. is_one_of claim_keys (string_bytes key))
+        (map (λ entry. entry.0) table.now.entries) }
 {
     table.keys().all(|key| is_claim_key(key.as_str()))
 }
 
 /// Whether the keys are those of a claim of format 2, as a test of the table's entries.
 fn more_claim_keys_alone(table: &Table) -> bool
-    ensures { result ≡ list_all (λ key. is_one_of more_claim_keys (string_bytes key)) (map (λ entry. entry.0) table.now.entries) }
+    ensures { result ≡ list_all (λ key. is_one_of more_claim_keys (string_bytes key))
+        (map (λ entry. entry.0) table.now.entries) }
 {
     table.keys().all(|key| is_more_claim_key(key.as_str()))
 }
@@ -77,7 +79,8 @@ fn is_interval_key(key: &str) -> bool
 
 /// Whether the keys are those of an interval, as a test of the table's entries.
 fn interval_keys_alone(table: &Table) -> bool
-    ensures { result ≡ list_all (λ key. is_one_of interval_keys (string_bytes key)) (map (λ entry. entry.0) table.now.entries) }
+    ensures { result ≡ list_all (λ key. is_one_of interval_keys (string_bytes key))
+        (map (λ entry. entry.0) table.now.entries) }
 {
     table.keys().all(|key| is_interval_key(key.as_str()))
 }

@@ -28,7 +28,8 @@ use toml::Table;
 /// The table of a text.
 fn read_table(alloc: Global, text: &[u8]) -> Result<Table, ClaimStop>
     ensures ok { IfOk result (λ t. IsUtf8 text.now × (parse_document text.now ≡ Some (table_view t))) }
-    ensures stop { IfErr result (λ e. e ≢ stops.OutOfMemory → (e ≡ stops.NotToml) × (IsUtf8 text.now → parse_document text.now ≡ None)) }
+    ensures stop { IfErr result (λ e. e ≢ stops.OutOfMemory → (e ≡ stops.NotToml) ×
+        (IsUtf8 text.now → parse_document text.now ≡ None)) }
 {
     match toml::table_from_slice(alloc, text) {
         Ok(table) => Ok(table),
@@ -53,7 +54,8 @@ fn claim_of(_table: &Table, lists: KeyLists, shift: i64, texts: NoteTexts) -> Cl
     requires anonymous { anonymous_of (table_view _table.now) ≡ Some lists.anonymous.items }
     requires shift { shift_of (table_view _table.now) ≡ Some shift }
     requires remove { remove_of (table_view _table.now) ≡ Some (map (λ t. t.items) texts.remove.items) }
-    requires remove_prefix { remove_prefix_of (table_view _table.now) ≡ Some (map (λ t. t.items) texts.remove_prefix.items) }
+    requires remove_prefix { remove_prefix_of (table_view _table.now) ≡
+        Some (map (λ t. t.items) texts.remove_prefix.items) }
     requires blank { blank_of (table_view _table.now) ≡ Some (map (λ t. t.items) texts.blank.items) }
     ensures { result ≡ terms_of (table_view _table.now) }
 {
@@ -130,7 +132,8 @@ impl Claim {
     /// A text that is no longer than a claim may be is one that `read` takes, or that it refuses for the same cause.
     pub fn read_at_any_length(alloc: Global, text: &[u8]) -> Result<Claim, ClaimStop>
         ensures says { IfOk result (SaysClaimAtAnyLength text.now) }
-        ensures none { IfErr result (λ e. e ≢ stops.OutOfMemory → (c : Terms) → ¬ SaysClaimAtAnyLength text.now c) }
+        ensures none { IfErr result (λ e. e ≢ stops.OutOfMemory → (c : Terms) →
+            ¬ SaysClaimAtAnyLength text.now c) }
     {
         let said = read_table(alloc, text)?;
         claim_in(alloc, &said)

@@ -13,7 +13,8 @@ use toml::{Table, Value};
 /// The texts of the annotations that are removed: distinct texts, none where the key is absent.
 #[tactic(auto, unfolding(crate::specs::Reading::remove_of))]
 pub(crate) fn remove(alloc: Global, table: &Table) -> Result<Option<Vec<Vec<u8>>>, AllocError>
-    ensures { IfOk result (λ r. option_map (λ v. map (λ t. t.items) v.items) r ≡ remove_of (table_view table.now)) }
+    ensures { IfOk result (λ r. option_map (λ v. map (λ t. t.items) v.items) r ≡
+        remove_of (table_view table.now)) }
 {
     match value_at(table, "remove") {
         Some(value) => match distinct_texts(alloc, value)? {
@@ -38,7 +39,8 @@ fn are_some(texts: &[&str]) -> bool
 
 /// The texts of a value that is an array of distinct texts, none of them empty; none of them is copied.
 fn distinct_prefixes(alloc: Global, value: &Value) -> Result<Option<Vec<&str>>, AllocError>
-    ensures { IfOk result (λ r. option_map (λ v. map (λ t. t.now) v.items) r ≡ distinct_prefixes_of (view value.now)) }
+    ensures { IfOk result (λ r. option_map (λ v. map (λ t. t.now) v.items) r ≡
+        distinct_prefixes_of (view value.now)) }
 {
     let Some(texts) = distinct_texts(alloc, value)? else {
         return Ok(None);
@@ -56,7 +58,8 @@ pub(crate) fn remove_prefix(
     alloc: Global,
     table: &Table,
 ) -> Result<Option<Vec<Vec<u8>>>, AllocError>
-    ensures { IfOk result (λ r. option_map (λ v. map (λ t. t.items) v.items) r ≡ remove_prefix_of (table_view table.now)) }
+    ensures { IfOk result (λ r. option_map (λ v. map (λ t. t.items) v.items) r ≡
+        remove_prefix_of (table_view table.now)) }
 {
     match value_at(table, "remove-prefix") {
         Some(value) => match distinct_prefixes(alloc, value)? {

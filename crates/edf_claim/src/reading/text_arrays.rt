@@ -17,7 +17,8 @@ use toml::value::Array;
 
 /// The texts of an array, where each item is one; none of them is copied.
 fn texts_of(alloc: Global, array: &Array) -> Result<Option<Vec<&str>>, AllocError>
-    ensures { IfOk result (λ r. option_map (λ v. map (λ t. t.now) v.items) r ≡ texts_of_items (array_view array.now)) }
+    ensures { IfOk result (λ r. option_map (λ v. map (λ t. t.now) v.items) r ≡
+        texts_of_items (array_view array.now)) }
 {
     let mut found = Vec::new(alloc);
     for value in array {
@@ -112,7 +113,8 @@ fn bytes_of<'a>(alloc: Global, texts: &[&'a str]) -> Result<Vec<&'a [u8]>, Alloc
 
 /// The texts of a value that is an array of distinct texts; none of them is copied.
 pub(crate) fn distinct_texts(alloc: Global, value: &Value) -> Result<Option<Vec<&str>>, AllocError>
-    ensures { IfOk result (λ r. option_map (λ v. map (λ t. t.now) v.items) r ≡ distinct_texts_of (view value.now)) }
+    ensures { IfOk result (λ r. option_map (λ v. map (λ t. t.now) v.items) r ≡
+        distinct_texts_of (view value.now)) }
 {
     let Some(array) = value.as_array() else {
         return Ok(None);

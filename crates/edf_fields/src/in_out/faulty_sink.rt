@@ -61,13 +61,16 @@ impl<K: Sink + Drop> Sink for FaultySink<K> {
         ensures within { IfOk result (λ k. (1 ≤ k) × (k ≤ length bytes.now)) }
         ensures failures { OnOk result (self.new.failed ≡ self.old.failed) }
         ensures honesty { IsTrue (K.is_honest self.old.inner) → IsTrue (K.is_honest self.new.inner) }
-        ensures bytes { IfOk result (λ k. IsTrue (K.is_honest self.old.inner) → K.held self.new.inner ≡ K.held self.old.inner ++ take k bytes.now) }
-        ensures none { OnErr result (IsTrue (K.is_honest self.old.inner) → K.held self.new.inner ≡ K.held self.old.inner) }
+        ensures bytes { IfOk result (λ k. IsTrue (K.is_honest self.old.inner) →
+            K.held self.new.inner ≡ K.held self.old.inner ++ take k bytes.now) }
+        ensures none { OnErr result (IsTrue (K.is_honest self.old.inner) →
+            K.held self.new.inner ≡ K.held self.old.inner) }
         ensures fails { OnErr result (Rises self.old.failed self.new.failed) }
 
         // It fails where all passes are spent, and nothing is written then; before that only where the other one does.
         ensures spent { self.old.passes ≡ 0 → IsErr result × (self.new.inner ≡ self.old.inner) }
-        ensures passed { 0 < self.old.passes → OnErr result (Rises (K.failures self.old.inner) (K.failures self.new.inner)) }
+        ensures passed { 0 < self.old.passes →
+            OnErr result (Rises (K.failures self.old.inner) (K.failures self.new.inner)) }
         ensures counted { OnOk result (K.failures self.new.inner ≡ K.failures self.old.inner) }
         ensures passes { self.new.passes ≡ self.old.passes - 1 }
         ensures few { IfOk result (λ k. k ≤ self.old.most) }

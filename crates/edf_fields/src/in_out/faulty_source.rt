@@ -54,14 +54,18 @@ impl<S: Source + Drop> Source for FaultySource<S> {
         // As for every source.
         ensures within { IfOk result (λ k. k ≤ length buf.old) }
         ensures failures { OnOk result (plain_reads self.new.failed ≡ plain_reads self.old.failed) }
-        ensures honesty { OnOk result (IsTrue (S.is_honest self.old.inner) → IsTrue (S.is_honest self.new.inner)) }
-        ensures bytes { IfOk result (λ k. IsTrue (S.is_honest self.old.inner) → Takes (S.left self.old.inner) (S.left self.new.inner) k buf.new) }
-        ensures ends { IfOk result (λ k. IsTrue (S.is_honest self.old.inner) → k ≡ 0 → S.left self.old.inner ≡ []) }
+        ensures honesty { OnOk result (IsTrue (S.is_honest self.old.inner) →
+            IsTrue (S.is_honest self.new.inner)) }
+        ensures bytes { IfOk result (λ k. IsTrue (S.is_honest self.old.inner) →
+            Takes (S.left self.old.inner) (S.left self.new.inner) k buf.new) }
+        ensures ends { IfOk result (λ k. IsTrue (S.is_honest self.old.inner) → k ≡ 0 →
+            S.left self.old.inner ≡ []) }
         ensures fails { OnErr result (Fails (plain_reads self.old.failed) (plain_reads self.new.failed)) }
 
         // It fails where all passes are spent, and nothing is read then; before that only where the other one does.
         ensures spent { self.old.passes ≡ 0 → IsErr result × (self.new.inner ≡ self.old.inner) }
-        ensures passed { 0 < self.old.passes → OnErr result (Fails (S.reads self.old.inner) (S.reads self.new.inner)) }
+        ensures passed { 0 < self.old.passes →
+            OnErr result (Fails (S.reads self.old.inner) (S.reads self.new.inner)) }
         ensures counted { OnOk result (S.reads self.new.inner ≡ S.reads self.old.inner) }
         ensures passes { self.new.passes ≡ self.old.passes - 1 }
         ensures few { IfOk result (λ k. k ≤ self.old.most) }

@@ -32,7 +32,8 @@ pub trait Sink {
         ensures within { IfOk result (λ k. (1 ≤ k) × (k ≤ length bytes.now)) }
         ensures failures { OnOk result (failures self.new ≡ failures self.old) }
         ensures honesty { IsTrue (is_honest self.old) → IsTrue (is_honest self.new) }
-        ensures bytes { IfOk result (λ k. IsTrue (is_honest self.old) → held self.new ≡ held self.old ++ take k bytes.now) }
+        ensures bytes { IfOk result (λ k. IsTrue (is_honest self.old) → held self.new ≡ held self.old ++
+            take k bytes.now) }
         ensures none { OnErr result (IsTrue (is_honest self.old) → held self.new ≡ held self.old) }
         ensures fails { OnErr result (Rises (failures self.old) (failures self.new)) };
 }
@@ -88,13 +89,15 @@ impl<'a> Sink for SliceSink<'a> {
         ensures within { IfOk result (λ k. (1 ≤ k) × (k ≤ length bytes.now)) }
         ensures failures { OnOk result (failures_of self.new ≡ failures_of self.old) }
         ensures honesty { IsTrue (is_known self.old) → IsTrue (is_known self.new) }
-        ensures bytes { IfOk result (λ k. IsTrue (is_known self.old) → bytes_of self.new ≡ bytes_of self.old ++ take k bytes.now) }
+        ensures bytes { IfOk result (λ k. IsTrue (is_known self.old) →
+            bytes_of self.new ≡ bytes_of self.old ++ take k bytes.now) }
         ensures none { OnErr result (IsTrue (is_known self.old) → bytes_of self.new ≡ bytes_of self.old) }
         ensures fails { OnErr result (Rises (failures_of self.old) (failures_of self.new)) }
 
         // A write takes as many bytes as there is room for.
         ensures room { room_of self.new ≡ room_of self.old }
-        ensures count { IfOk result (λ k. k ≡ min (length bytes.now) (room_of self.old - length (bytes_of self.old))) }
+        ensures count { IfOk result (λ k.
+            k ≡ min (length bytes.now) (room_of self.old - length (bytes_of self.old))) }
         ensures full { OnErr result (length (bytes_of self.old) ≡ room_of self.old) }
     {
         let taken = bytes.len().min(self.room.len() - self.used);
@@ -132,10 +135,14 @@ impl<W: Write + Drop> WriteSink<W> {
     /// Passes on what the writer still keeps back, as a buffer does. An `Err` is a failed write,
     /// and is counted as one.
     pub fn flush(&mut self) -> Result<(), WriteFault>
-        ensures held { IsTrue (⟦<WriteSink<W> as Sink>⟧.is_honest self.old) → ⟦<WriteSink<W> as Sink>⟧.held self.new ≡ ⟦<WriteSink<W> as Sink>⟧.held self.old }
-        ensures honesty { IsTrue (⟦<WriteSink<W> as Sink>⟧.is_honest self.old) → IsTrue (⟦<WriteSink<W> as Sink>⟧.is_honest self.new) }
-        ensures failures { OnOk result (⟦<WriteSink<W> as Sink>⟧.failures self.new ≡ ⟦<WriteSink<W> as Sink>⟧.failures self.old) }
-        ensures fails { OnErr result (Rises (⟦<WriteSink<W> as Sink>⟧.failures self.old) (⟦<WriteSink<W> as Sink>⟧.failures self.new)) }
+        ensures held { IsTrue (⟦<WriteSink<W> as Sink>⟧.is_honest self.old) →
+            ⟦<WriteSink<W> as Sink>⟧.held self.new ≡ ⟦<WriteSink<W> as Sink>⟧.held self.old }
+        ensures honesty { IsTrue (⟦<WriteSink<W> as Sink>⟧.is_honest self.old) →
+            IsTrue (⟦<WriteSink<W> as Sink>⟧.is_honest self.new) }
+        ensures failures { OnOk result (⟦<WriteSink<W> as Sink>⟧.failures self.new ≡
+            ⟦<WriteSink<W> as Sink>⟧.failures self.old) }
+        ensures fails { OnErr result (Rises (⟦<WriteSink<W> as Sink>⟧.failures self.old)
+            (⟦<WriteSink<W> as Sink>⟧.failures self.new)) }
     {
         match self.writer.flush() {
             Ok(()) => Ok(()),
@@ -176,8 +183,10 @@ pub fn put_all<K: Sink>(sink: &mut K, bytes: &[u8]) -> Result<(), WriteFault>
 
     // What an honest sink holds then.
     ensures honesty { IsTrue (K.is_honest sink.old) → IsTrue (K.is_honest sink.new) }
-    ensures bytes { OnOk result (IsTrue (K.is_honest sink.old) → K.held sink.new ≡ K.held sink.old ++ bytes.now) }
-    ensures prefix { OnErr result (IsTrue (K.is_honest sink.old) → HoldsPrefix (K.held sink.old) (K.held sink.new) bytes.now) }
+    ensures bytes { OnOk result (IsTrue (K.is_honest sink.old) → K.held sink.new ≡ K.held sink.old ++
+        bytes.now) }
+    ensures prefix { OnErr result (IsTrue (K.is_honest sink.old) →
+        HoldsPrefix (K.held sink.old) (K.held sink.new) bytes.now) }
 {
     let mut done = 0;
     while done < bytes.len() {

@@ -34,7 +34,8 @@ pub trait Source {
         ensures within { IfOk result (λ k. k ≤ length buf.old) }
         ensures failures { OnOk result (reads self.new ≡ reads self.old) }
         ensures honesty { OnOk result (IsTrue (is_honest self.old) → IsTrue (is_honest self.new)) }
-        ensures bytes { IfOk result (λ k. IsTrue (is_honest self.old) → Takes (left self.old) (left self.new) k buf.new) }
+        ensures bytes { IfOk result (λ k. IsTrue (is_honest self.old) →
+            Takes (left self.old) (left self.new) k buf.new) }
         ensures ends { IfOk result (λ k. IsTrue (is_honest self.old) → k ≡ 0 → left self.old ≡ []) }
         ensures fails { OnErr result (Fails (reads self.old) (reads self.new)) };
 }
@@ -72,7 +73,8 @@ impl<'a> Source for SliceSource<'a> {
         ensures within { IfOk result (λ k. k ≤ length buf.old) }
         ensures failures { OnOk result (reads_of self.new ≡ reads_of self.old) }
         ensures honesty { OnOk result (IsTrue (is_known self.old) → IsTrue (is_known self.new)) }
-        ensures bytes { IfOk result (λ k. IsTrue (is_known self.old) → Takes (left_of self.old) (left_of self.new) k buf.new) }
+        ensures bytes { IfOk result (λ k. IsTrue (is_known self.old) →
+            Takes (left_of self.old) (left_of self.new) k buf.new) }
         ensures ends { IfOk result (λ k. IsTrue (is_known self.old) → k ≡ 0 → left_of self.old ≡ []) }
         ensures fails { OnErr result (Fails (reads_of self.old) (reads_of self.new)) }
 
@@ -140,10 +142,14 @@ pub fn fill<S: Source>(source: &mut S, buf: &mut [u8]) -> Result<usize, ReadFaul
 
     // What an honest source gives.
     ensures honesty { OnOk result (IsTrue (S.is_honest source.old) → IsTrue (S.is_honest source.new)) }
-    ensures bytes { IfOk result (λ k. IsTrue (S.is_honest source.old) → Takes (S.left source.old) (S.left source.new) k buf.new) }
-    ensures ends { IfOk result (λ k. IsTrue (S.is_honest source.old) → k < length buf.old → S.left source.new ≡ []) }
-    ensures front { IfOk result (λ k. IsTrue (S.is_honest source.old) → take k buf.new ≡ take (length buf.old) (S.left source.old)) }
-    ensures behind { OnOk result (IsTrue (S.is_honest source.old) → S.left source.new ≡ drop (length buf.old) (S.left source.old)) }
+    ensures bytes { IfOk result (λ k. IsTrue (S.is_honest source.old) →
+        Takes (S.left source.old) (S.left source.new) k buf.new) }
+    ensures ends { IfOk result (λ k. IsTrue (S.is_honest source.old) → k < length buf.old →
+        S.left source.new ≡ []) }
+    ensures front { IfOk result (λ k. IsTrue (S.is_honest source.old) →
+        take k buf.new ≡ take (length buf.old) (S.left source.old)) }
+    ensures behind { OnOk result (IsTrue (S.is_honest source.old) →
+        S.left source.new ≡ drop (length buf.old) (S.left source.old)) }
 {
     let mut done = 0;
     while done < buf.len() {
@@ -165,7 +171,8 @@ pub fn skip_rest<S: Source>(source: &mut S, buf: &mut [u8]) -> Result<(), ReadFa
     ensures failures { OnOk result (S.reads source.new ≡ S.reads source.old) }
     ensures fails { OnErr result (Fails (S.reads source.old) (S.reads source.new)) }
     ensures honesty { OnOk result (IsTrue (S.is_honest source.old) → IsTrue (S.is_honest source.new)) }
-    ensures end { OnOk result (IsTrue (S.is_honest source.old) → length (S.left source.old) < 2 ^ 64 - 1 → S.left source.new ≡ []) }
+    ensures end { OnOk result (IsTrue (S.is_honest source.old) → length (S.left source.old) < 2 ^ 64 - 1 →
+        S.left source.new ≡ []) }
 {
     'reads: for _ in 0..u64::MAX {
         if source.read(buf)? == 0 {

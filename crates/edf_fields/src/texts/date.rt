@@ -58,7 +58,8 @@ fn dotted_numbers(text: &[u8]) -> Option<DottedNumbers>
 
 /// The number of the month with this name, from 1 for `JAN` on; none where no month has it.
 fn month_number(name: &[u8]) -> Option<u16>
-    ensures { MatchOption result (month_of name.now ≡ 0) (λ month. (month ≡ month_of name.now) × (1 ≤ month) × (month ≤ 12)) }
+    ensures { MatchOption result (month_of name.now ≡ 0) (λ month. (month ≡ month_of name.now) × (1 ≤ month) ×
+        (month ≤ 12)) }
 {
     match name {
         b"JAN" => Some(1),
@@ -106,7 +107,8 @@ fn full_year(two_digits: u16) -> u16
 
 /// The day that a text names, as `dotted_date`.
 fn dotted_day(text: &[u8]) -> Option<Date>
-    ensures { MatchOption result ((n : ℤ) → ¬ NamesDottedDay text.now n) (λ date. NamesDottedDay text.now (epoch_day date)) }
+    ensures { MatchOption result ((n : ℤ) → ¬ NamesDottedDay text.now n) (λ date.
+        NamesDottedDay text.now (epoch_day date)) }
 {
     let numbers = dotted_numbers(text)?;
     existing_day(full_year(numbers.third), numbers.second, numbers.first)
@@ -114,7 +116,8 @@ fn dotted_day(text: &[u8]) -> Option<Date>
 
 /// The day of the month and the month that a text names, as `dotted_day_month`.
 fn day_month(text: &[u8]) -> Option<(u8, u8)>
-    ensures { MatchOption result ((day month : ℕ) → ¬ NamesDayMonth text.now day month) (λ said. NamesDayMonth text.now said.0 said.1) }
+    ensures { MatchOption result ((day month : ℕ) → ¬ NamesDayMonth text.now day month) (λ said.
+        NamesDayMonth text.now said.0 said.1) }
 {
     if text.len() != 8 || text[2] != b'.' || text[5] != b'.' || text[6] != b'y' || text[7] != b'y' {
         return None;
@@ -129,7 +132,8 @@ fn day_month(text: &[u8]) -> Option<(u8, u8)>
 
 /// The day that a text names, as `dashed_date`.
 fn dashed_day(text: &[u8]) -> Option<Date>
-    ensures { MatchOption result ((n : ℤ) → ¬ NamesDashedDay text.now n) (λ date. NamesDashedDay text.now (epoch_day date)) }
+    ensures { MatchOption result ((n : ℤ) → ¬ NamesDashedDay text.now n) (λ date.
+        NamesDashedDay text.now (epoch_day date)) }
 {
     if text.len() != 11 || text[2] != b'-' || text[6] != b'-' {
         return None;
@@ -142,7 +146,8 @@ fn dashed_day(text: &[u8]) -> Option<Date>
 
 /// The second of the day that a text names, as `clock_time`.
 fn clock_second(text: &[u8]) -> Option<u32>
-    ensures named { MatchOption result ((second : ℕ) → ¬ NamesClockTime text.now second) (NamesClockTime text.now) }
+    ensures named { MatchOption result ((second : ℕ) →
+        ¬ NamesClockTime text.now second) (NamesClockTime text.now) }
     ensures small { IfSome result (λ second. second < 86400) }
 {
     let DottedNumbers {
@@ -163,7 +168,8 @@ fn clock_second(text: &[u8]) -> Option<u32>
 /// specifications in EDF+"). None where the text has another form, the letters `yy` for the year
 /// included, and where there is no such day.
 pub fn dotted_date(text: &[u8]) -> Option<Date>
-    ensures named { MatchOption result ((n : ℤ) → ¬ NamesDottedDay text.now n) (λ date. NamesDottedDay text.now (epoch_day date)) }
+    ensures named { MatchOption result ((n : ℤ) → ¬ NamesDottedDay text.now n) (λ date.
+        NamesDottedDay text.now (epoch_day date)) }
     ensures day { option_map civil_day result ≡ dotted_day_of text.now }
 {
     dotted_day(text)
@@ -176,7 +182,8 @@ pub fn dotted_date(text: &[u8]) -> Option<Date>
 /// None where the text has another form, capitals included, and where the day or the month is out of these bounds.
 /// Whether some year has such a day isn't asked: `31.02.yy` is 31 and 2.
 pub fn dotted_day_month(text: &[u8]) -> Option<(u8, u8)>
-    ensures named { MatchOption result ((day month : ℕ) → ¬ NamesDayMonth text.now day month) (λ said. NamesDayMonth text.now said.0 said.1) }
+    ensures named { MatchOption result ((day month : ℕ) → ¬ NamesDayMonth text.now day month) (λ said.
+        NamesDayMonth text.now said.0 said.1) }
     ensures value { result ≡ day_month_of text.now }
 {
     day_month(text)
@@ -190,7 +197,8 @@ pub fn dotted_day_month(text: &[u8]) -> Option<(u8, u8)>
 /// which 29-FEB-0000 is a day. None where the text has another form, and where there is no such
 /// day.
 pub fn dashed_date(text: &[u8]) -> Option<Date>
-    ensures named { MatchOption result ((n : ℤ) → ¬ NamesDashedDay text.now n) (λ date. NamesDashedDay text.now (epoch_day date)) }
+    ensures named { MatchOption result ((n : ℤ) → ¬ NamesDashedDay text.now n) (λ date.
+        NamesDashedDay text.now (epoch_day date)) }
     ensures day { option_map civil_day result ≡ dashed_day_of text.now }
 {
     dashed_day(text)
@@ -203,7 +211,8 @@ pub fn dashed_date(text: &[u8]) -> Option<Date>
 /// above 59.
 #[tactic(auto, using(crate::proofs::texts::DateFacts::clock_time_read))]
 pub fn clock_time(text: &[u8]) -> Option<u32>
-    ensures named { MatchOption result ((second : ℕ) → ¬ NamesClockTime text.now second) (NamesClockTime text.now) }
+    ensures named { MatchOption result ((second : ℕ) →
+        ¬ NamesClockTime text.now second) (NamesClockTime text.now) }
     ensures value { result ≡ clock_time_of text.now }
     ensures small { IfSome result (λ second. second < 86400) }
 {

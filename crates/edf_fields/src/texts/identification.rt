@@ -94,8 +94,9 @@ impl<'a> PatientId<'a> {
 
     /// The first four subfields of a text, and those behind them; none where there are fewer.
     fn split(text: &'a [u8]) -> Option<PatientId<'a>>
-        ensures { MatchOption result (length (subfields_of text.entry.now) < 4)
-            (λ p. subfields_of text.entry.now ≡ p.code.now ∷ p.sex.now ∷ p.birthdate.now ∷ p.name.now ∷ subfields_left p.extras) }
+        ensures { MatchOption result (length (subfields_of text.entry.now) < 4) (λ p.
+            subfields_of text.entry.now ≡
+            p.code.now ∷ p.sex.now ∷ p.birthdate.now ∷ p.name.now ∷ subfields_left p.extras) }
     {
         let mut subfields = Subfields::new(text);
         let code = subfields.next()?;

@@ -104,8 +104,8 @@ fn in_units(whole: u64, fraction: u64, places: u32) -> u64
 /// The decimal that a text with no sign is, in units of 10^-7; none where it is no decimal.
 fn unsigned_decimal(text: &[u8]) -> Option<u64>
     requires { length text.now ≤ 8 }
-    ensures { MatchOption result (¬ IsDecimal text.now)
-        (λ v. IsDecimal text.now × (v ≡ decimal 7 (before_dot text.now) (behind_dot text.now)) × (v < 10 ^ 15)) }
+    ensures { MatchOption result (¬ IsDecimal text.now) (λ v. IsDecimal text.now ×
+        (v ≡ decimal 7 (before_dot text.now) (behind_dot text.now)) × (v < 10 ^ 15)) }
 {
     let (whole, fraction) = split_dot(text);
     if whole.is_empty() && fraction.is_empty() {
@@ -147,7 +147,8 @@ fn signed_text(field: &[u8]) -> Option<(bool, &[u8])>
 
 /// The number that a header's field spells, as `header_number`.
 fn decimal_of_field(field: &[u8]) -> Option<i64>
-    ensures spelled { MatchOption result ((v : ℤ) → ¬ SpellsHeaderNumber field.now v) (SpellsHeaderNumber field.now) }
+    ensures spelled { MatchOption result ((v : ℤ) →
+        ¬ SpellsHeaderNumber field.now v) (SpellsHeaderNumber field.now) }
     ensures small { IfSome result (λ v. unsigned_abs v < 10 ^ 15) }
 {
     let (is_negative, rest) = signed_text(field)?;
@@ -157,7 +158,8 @@ fn decimal_of_field(field: &[u8]) -> Option<i64>
 
 /// The whole number that a header's field spells, as `header_whole`.
 fn whole_of_field(field: &[u8]) -> Option<i64>
-    ensures spelled { MatchOption result ((v : ℤ) → ¬ SpellsWholeNumber field.now v) (SpellsWholeNumber field.now) }
+    ensures spelled { MatchOption result ((v : ℤ) →
+        ¬ SpellsWholeNumber field.now v) (SpellsWholeNumber field.now) }
     ensures small { IfSome result (λ v. unsigned_abs v < 10 ^ length field.now) }
 {
     let (is_negative, rest) = signed_text(field)?;
@@ -175,7 +177,8 @@ fn whole_of_field(field: &[u8]) -> Option<i64>
 /// other field spells none.
 #[tactic(auto, using(crate::proofs::texts::NumberFacts::header_number_read))]
 pub fn header_number(field: &[u8]) -> Option<i64>
-    ensures spelled { MatchOption result ((v : ℤ) → ¬ SpellsHeaderNumber field.now v) (SpellsHeaderNumber field.now) }
+    ensures spelled { MatchOption result ((v : ℤ) →
+        ¬ SpellsHeaderNumber field.now v) (SpellsHeaderNumber field.now) }
     ensures value { result ≡ header_number_of field.now }
     ensures small { IfSome result (λ v. unsigned_abs v < 10 ^ 15) }
 {
@@ -188,7 +191,8 @@ pub fn header_number(field: &[u8]) -> Option<i64>
 /// `-` and at least one digit; any other field spells none.
 #[tactic(auto, using(crate::proofs::texts::NumberFacts::whole_number_read))]
 pub fn header_whole(field: &[u8]) -> Option<i64>
-    ensures spelled { MatchOption result ((v : ℤ) → ¬ SpellsWholeNumber field.now v) (SpellsWholeNumber field.now) }
+    ensures spelled { MatchOption result ((v : ℤ) →
+        ¬ SpellsWholeNumber field.now v) (SpellsWholeNumber field.now) }
     ensures value { result ≡ whole_number_of field.now }
     ensures small { IfSome result (λ v. unsigned_abs v < 10 ^ length field.now) }
 {

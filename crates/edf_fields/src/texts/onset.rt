@@ -105,10 +105,9 @@ fn in_picoseconds(fraction: u64, places: usize) -> u64
 /// more than 12 digits stand before the zeros at the end.
 #[tactic(auto, using(crate::proofs::texts::OnsetFacts::fraction_missing, crate::proofs::texts::OnsetFacts::fraction_read))]
 fn fraction_picoseconds(bytes: &[u8]) -> Option<u64>
-    ensures { MatchOption result (¬ IsFraction bytes.now)
-        (λ v. IsFraction bytes.now
-        × (v ≡ weight (without_trailing_zeros bytes.now) * 10 ^ (12 - length (without_trailing_zeros bytes.now)))
-        × (v < 10 ^ 12)) }
+    ensures { MatchOption result (¬ IsFraction bytes.now) (λ v. IsFraction bytes.now ×
+        (v ≡ weight (without_trailing_zeros bytes.now) * 10 ^
+        (12 - length (without_trailing_zeros bytes.now))) × (v < 10 ^ 12)) }
 {
     let front = without_trailing_zeros(bytes);
     if front.len() > 12 {

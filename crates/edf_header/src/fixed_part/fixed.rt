@@ -71,7 +71,8 @@ pub(crate) struct Fixed {
 /// Whether the version is 0.
 #[tactic(auto, unfolding(crate::specs::Faults::version_fault))]
 fn version(field: &[u8]) -> Result<(), Fault>
-    ensures { MatchResult result (λ _. version_fault field.now ≡ None) (λ f. version_fault field.now ≡ Some f) }
+    ensures { MatchResult result (λ _. version_fault field.now ≡ None) (λ f. version_fault field.now ≡
+        Some f) }
 {
     let place = Place::AtField(FixedField::Version);
     printable(place, field)?;
@@ -87,7 +88,8 @@ fn version(field: &[u8]) -> Result<(), Fault>
 /// Whether the field says a patient.
 #[tactic(auto, unfolding(crate::specs::Faults::patient_fault))]
 fn patient(field: &[u8]) -> Result<(), Fault>
-    ensures { MatchResult result (λ _. (patient_fault field.now ≡ None) × (patient_cause field.now ≡ None)) (λ f. patient_fault field.now ≡ Some f) }
+    ensures { MatchResult result (λ _. (patient_fault field.now ≡ None) ×
+        (patient_cause field.now ≡ None)) (λ f. patient_fault field.now ≡ Some f) }
 {
     let place = Place::AtField(FixedField::Patient);
     printable(place, field)?;
@@ -103,9 +105,9 @@ fn patient(field: &[u8]) -> Result<(), Fault>
 /// The second of the day at which the recording starts.
 #[tactic(auto, unfolding(crate::specs::Faults::starttime_fault))]
 fn starttime(field: &[u8]) -> Result<u32, Fault>
-    ensures { MatchResult result
-        (λ v. (starttime_fault field.now ≡ None) × (unwrap_or (clock_time_of (text_of field.now)) 0 ≡ v) × (v < 86400))
-        (λ f. starttime_fault field.now ≡ Some f) }
+    ensures { MatchResult result (λ v. (starttime_fault field.now ≡ None) ×
+        (unwrap_or (clock_time_of (text_of field.now)) 0 ≡ v) ×
+        (v < 86400)) (λ f. starttime_fault field.now ≡ Some f) }
 {
     let place = Place::AtField(FixedField::Starttime);
     printable(place, field)?;
@@ -121,8 +123,8 @@ fn starttime(field: &[u8]) -> Result<u32, Fault>
 /// The field that tells how many bytes the header has: whether it spells a whole number.
 #[tactic(auto, unfolding(crate::specs::Faults::header_bytes_fault))]
 fn header_bytes(field: &[u8]) -> Result<i64, Fault>
-    ensures { MatchResult result (λ v. (header_bytes_fault field.now ≡ None) × (whole_number_of field.now ≡ Some v))
-        (λ f. header_bytes_fault field.now ≡ Some f) }
+    ensures { MatchResult result (λ v. (header_bytes_fault field.now ≡ None) ×
+        (whole_number_of field.now ≡ Some v)) (λ f. header_bytes_fault field.now ≡ Some f) }
 {
     let place = Place::AtField(FixedField::HeaderBytes);
     printable(place, field)?;
@@ -133,7 +135,8 @@ fn header_bytes(field: &[u8]) -> Result<i64, Fault>
 #[tactic(auto, unfolding(crate::specs::Faults::reserved_fault))]
 fn kind(field: &[u8]) -> Result<Kind, Fault>
     requires { 5 ≤ length field.now }
-    ensures { MatchResult result (λ v. (reserved_fault field.now ≡ None) × (kind_of field.now ≡ v)) (λ f. reserved_fault field.now ≡ Some f) }
+    ensures { MatchResult result (λ v. (reserved_fault field.now ≡ None) × (kind_of field.now ≡ v)) (λ f.
+        reserved_fault field.now ≡ Some f) }
 {
     let place = Place::AtField(FixedField::Reserved);
     printable(place, field)?;
@@ -154,9 +157,9 @@ fn kind(field: &[u8]) -> Result<Kind, Fault>
 #[tactic(auto, unfolding(crate::specs::Faults::records_fault))]
 fn records(field: &[u8]) -> Result<u32, Fault>
     requires { length field.now ≤ 8 }
-    ensures { MatchResult result
-        (λ v. (records_fault field.now ≡ None) × (whole_number_of field.now ≡ Some (pos v)) × (1 ≤ v) × (v < 10 ^ 8))
-        (λ f. records_fault field.now ≡ Some f) }
+    ensures { MatchResult result (λ v. (records_fault field.now ≡ None) ×
+        (whole_number_of field.now ≡ Some (pos v)) × (1 ≤ v) ×
+        (v < 10 ^ 8)) (λ f. records_fault field.now ≡ Some f) }
 {
     let place = Place::AtField(FixedField::Records);
     printable(place, field)?;
@@ -166,9 +169,9 @@ fn records(field: &[u8]) -> Result<u32, Fault>
 /// The duration of a data record in units of 10^-7 s, greater than 0.
 #[tactic(auto, unfolding(crate::specs::Faults::duration_fault))]
 fn duration(field: &[u8]) -> Result<i64, Fault>
-    ensures { MatchResult result
-        (λ v. (duration_fault field.now ≡ None) × (unwrap_or (header_number_of field.now) (pos 0) ≡ v) × (pos 1 ≤ℤ v) × (unsigned_abs v < 10 ^ 15))
-        (λ f. duration_fault field.now ≡ Some f) }
+    ensures { MatchResult result (λ v. (duration_fault field.now ≡ None) ×
+        (unwrap_or (header_number_of field.now) (pos 0) ≡ v) × (pos 1 ≤ℤ v) ×
+        (unsigned_abs v < 10 ^ 15)) (λ f. duration_fault field.now ≡ Some f) }
 {
     let place = Place::AtField(FixedField::Duration);
     printable(place, field)?;
@@ -179,9 +182,9 @@ fn duration(field: &[u8]) -> Result<i64, Fault>
 #[tactic(auto, unfolding(crate::specs::Faults::signals_fault))]
 fn signals(field: &[u8]) -> Result<u16, Fault>
     requires { length field.now ≤ 4 }
-    ensures { MatchResult result
-        (λ v. (signals_fault field.now ≡ None) × (whole_number_of field.now ≡ Some (pos v)) × (1 ≤ v) × (v < 10 ^ 4))
-        (λ f. signals_fault field.now ≡ Some f) }
+    ensures { MatchResult result (λ v. (signals_fault field.now ≡ None) ×
+        (whole_number_of field.now ≡ Some (pos v)) × (1 ≤ v) ×
+        (v < 10 ^ 4)) (λ f. signals_fault field.now ≡ Some f) }
 {
     let place = Place::AtField(FixedField::Signals);
     printable(place, field)?;
@@ -193,7 +196,8 @@ fn signals(field: &[u8]) -> Result<u16, Fault>
 #[tactic(auto, unfolding(crate::specs::Faults::header_size_fault))]
 fn header_size(signals: u16, field: &[u8], size: i64) -> Result<(), Fault>
     requires { whole_number_of field.now ≡ Some size }
-    ensures { MatchResult result (λ _. header_size_fault signals field.now ≡ None) (λ f. header_size_fault signals field.now ≡ Some f) }
+    ensures { MatchResult result (λ _. header_size_fault signals field.now ≡ None) (λ f.
+        header_size_fault signals field.now ≡ Some f) }
 {
     if size == 256 * (i64::from(signals) + 1) {
         return Ok(());
@@ -251,9 +255,8 @@ fn judge_extent(front: &[u8]) -> Result<Extent, Fault>
 
 /// The first of these fields of which a byte is missing, where there are `len` bytes.
 fn missing_in(fields: &[FixedField], len: usize) -> Option<FixedField>
-    ensures { MatchOption result
-        (first (fixed_missing fields.now len) ≡ None)
-        (λ field. first (fixed_missing fields.now len) ≡ Some (record { place = AtField field; cause = Truncated })) }
+    ensures { MatchOption result (first (fixed_missing fields.now len) ≡ None) (λ field.
+        first (fixed_missing fields.now len) ≡ Some (record { place = AtField field; cause = Truncated })) }
 {
     for field in fields {
         let (from, count) = field.extent();
@@ -267,9 +270,9 @@ fn missing_in(fields: &[FixedField], len: usize) -> Option<FixedField>
 /// The field of the first missing byte of the fixed part, of which there are `len` bytes.
 #[tactic(auto, using(crate::proofs::fixed_part::FixedFacts::part_whole))]
 fn missing_field(len: usize) -> Option<FixedField>
-    ensures { MatchOption result
-        ((first (fixed_missing fixed_fields len) ≡ None) × (256 ≤ len))
-        (λ field. first (fixed_missing fixed_fields len) ≡ Some (record { place = AtField field; cause = Truncated })) }
+    ensures { MatchOption result ((first (fixed_missing fixed_fields len) ≡ None) ×
+        (256 ≤ len)) (λ field. first (fixed_missing fixed_fields len) ≡
+        Some (record { place = AtField field; cause = Truncated })) }
 {
     missing_in(&FIXED, len)
 }

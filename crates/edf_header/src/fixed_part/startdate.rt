@@ -38,9 +38,9 @@ fn read_date(field: &[u8]) -> Result<&[u8], FieldCause>
 /// The date of the recording that the field says, or why it says none.
 #[tactic(auto, unfolding(crate::specs::Faults::recording_fault))]
 pub(crate) fn recording_date(field: &[u8]) -> Result<&[u8], Fault>
-    ensures { MatchResult result
-        (λ date. (recording_fault field.entry.now ≡ None) × (recording_cause field.entry.now ≡ None) × (date.now ≡ (recording_in field.entry.now).date))
-        (λ f. recording_fault field.entry.now ≡ Some f) }
+    ensures { MatchResult result (λ date. (recording_fault field.entry.now ≡ None) ×
+        (recording_cause field.entry.now ≡ None) × (date.now ≡ (recording_in field.entry.now).date)) (λ f.
+        recording_fault field.entry.now ≡ Some f) }
 {
     let place = Place::AtField(FixedField::Recording);
     printable(place, field)?;
@@ -66,10 +66,12 @@ fn wrong(cause: Cause) -> Fault
 
 /// The day of a startdate without a year: the recording date, after 2084, which has to be of this day and month.
 fn late_day(recorded: Option<Date>, day: u8, month: u8) -> Result<Date, Fault>
-    ensures { MatchResult result
-        (λ d. (first (start_tests (late_day (option_map civil_day recorded)) (has_day_month (day, month) (option_map civil_day recorded))) ≡ None)
-        × (late_day (option_map civil_day recorded) ≡ Some (civil_day d)))
-        (λ f. first (start_tests (late_day (option_map civil_day recorded)) (has_day_month (day, month) (option_map civil_day recorded))) ≡ Some f) }
+    ensures { MatchResult result (λ d.
+        (first (start_tests (late_day (option_map civil_day recorded))
+        (has_day_month (day, month) (option_map civil_day recorded))) ≡ None) ×
+        (late_day (option_map civil_day recorded) ≡ Some (civil_day d))) (λ f.
+        first (start_tests (late_day (option_map civil_day recorded))
+        (has_day_month (day, month) (option_map civil_day recorded))) ≡ Some f) }
 {
     match recorded {
         Some(date) if date.year() >= FIRST_LATE_YEAR => {
@@ -86,10 +88,12 @@ fn late_day(recorded: Option<Date>, day: u8, month: u8) -> Result<Date, Fault>
 
 /// The day of a startdate with a year, which the recording date has to be, where that isn't `X`.
 fn full_day(recorded: Option<Date>, dotted: Option<Date>) -> Result<Date, Fault>
-    ensures { MatchResult result
-        (λ d. (first (start_tests (option_map civil_day dotted) (is_same_day (option_map civil_day recorded) (option_map civil_day dotted))) ≡ None)
-        × (option_map civil_day dotted ≡ Some (civil_day d)))
-        (λ f. first (start_tests (option_map civil_day dotted) (is_same_day (option_map civil_day recorded) (option_map civil_day dotted))) ≡ Some f) }
+    ensures { MatchResult result (λ d.
+        (first (start_tests (option_map civil_day dotted)
+        (is_same_day (option_map civil_day recorded) (option_map civil_day dotted))) ≡ None) ×
+        (option_map civil_day dotted ≡ Some (civil_day d))) (λ f.
+        first (start_tests (option_map civil_day dotted)
+        (is_same_day (option_map civil_day recorded) (option_map civil_day dotted))) ≡ Some f) }
 {
     let Some(date) = dotted else {
         return Err(wrong(Cause::BadStart));
@@ -102,10 +106,13 @@ fn full_day(recorded: Option<Date>, dotted: Option<Date>) -> Result<Date, Fault>
 
 /// The day that a startdate says; `recorded` is the date in the recording identification.
 fn day_of(recorded: &[u8], text: &[u8]) -> Result<Date, Fault>
-    ensures { MatchResult result
-        (λ d. (first (start_tests (startdate_of text.now recorded.now) (is_same_start (day_month_of text.now) (dotted_day_of text.now) (dashed_day_of recorded.now))) ≡ None)
-        × (startdate_of text.now recorded.now ≡ Some (civil_day d)))
-        (λ f. first (start_tests (startdate_of text.now recorded.now) (is_same_start (day_month_of text.now) (dotted_day_of text.now) (dashed_day_of recorded.now))) ≡ Some f) }
+    ensures { MatchResult result (λ d.
+        (first (start_tests (startdate_of text.now recorded.now)
+        (is_same_start (day_month_of text.now) (dotted_day_of text.now) (dashed_day_of recorded.now))) ≡
+        None) × (startdate_of text.now recorded.now ≡ Some (civil_day d))) (λ f.
+        first (start_tests (startdate_of text.now recorded.now)
+        (is_same_start (day_month_of text.now) (dotted_day_of text.now) (dashed_day_of recorded.now))) ≡
+        Some f) }
 {
     match dotted_day_month(text) {
         Some((day, month)) => late_day(dashed_date(recorded), day, month),
@@ -116,9 +123,9 @@ fn day_of(recorded: &[u8], text: &[u8]) -> Result<Date, Fault>
 /// The day at which the recording starts; `recorded` is the date in the recording identification.
 #[tactic(auto, unfolding(crate::specs::Faults::startdate_fault))]
 pub(crate) fn startdate(recorded: &[u8], field: &[u8]) -> Result<Date, Fault>
-    ensures { MatchResult result
-        (λ d. (startdate_fault recorded.now field.now ≡ None) × (startdate_of (text_of field.now) recorded.now ≡ Some (civil_day d)))
-        (λ f. startdate_fault recorded.now field.now ≡ Some f) }
+    ensures { MatchResult result (λ d. (startdate_fault recorded.now field.now ≡ None) ×
+        (startdate_of (text_of field.now) recorded.now ≡ Some (civil_day d))) (λ f.
+        startdate_fault recorded.now field.now ≡ Some f) }
 {
     printable(Place::AtField(FixedField::Startdate), field)?;
     day_of(recorded, text(field))

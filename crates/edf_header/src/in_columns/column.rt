@@ -99,7 +99,8 @@ impl Column {
     /// The field of a signal; spaces at its end may be missing.
     pub(crate) fn field(&self, signal: usize) -> &[u8]
         requires { signal < self.now.count }
-        ensures { SaysTheSame result.now (part_of (self.entry.now).bytes ((self.entry.now).width * signal) (self.entry.now).width) }
+        ensures { SaysTheSame result.now (part_of (self.entry.now).bytes ((self.entry.now).width * signal)
+            (self.entry.now).width) }
     {
         bytes_at(&self.bytes, self.kept * signal, self.kept)
     }

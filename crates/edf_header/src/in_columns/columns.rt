@@ -38,7 +38,8 @@ impl Columns {
     /// A field of a signal; spaces at its end may be missing.
     pub(crate) fn field(&self, signal: u16, field: SignalField) -> &[u8]
         requires { signal < self.now.signals }
-        ensures { SaysTheSame result.now (signal_field_of (self.entry.now).bytes (self.entry.now).signals signal field) }
+        ensures { SaysTheSame result.now
+            (signal_field_of (self.entry.now).bytes (self.entry.now).signals signal field) }
     {
         self.columns[field.place()].field(usize::from(signal))
     }

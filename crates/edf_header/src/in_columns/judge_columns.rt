@@ -18,10 +18,14 @@ use std::alloc::Global;
 /// The signals of the columns, or the first fault of their fields.
 fn judge_signals(alloc: Global, columns: &Columns) -> Result<Vec<Signal>, Stop>
     requires { columns.now.signals < 10 ^ 4 }
-    ensures ok { IfOk result (λ v. (first (signals_faults columns.entry.now.bytes columns.entry.now.signals 0 columns.entry.now.signals) ≡ None)
-        × (v.items ≡ signals_in columns.entry.now.signals columns.entry.now.bytes)) }
-    ensures stop { IfErr result (Stops
-        (λ f. first (signals_faults columns.entry.now.bytes columns.entry.now.signals 0 columns.entry.now.signals) ≡ Some f) ⊥ (Unit {0})) }
+    ensures ok { IfOk result (λ v.
+        (first (signals_faults columns.entry.now.bytes columns.entry.now.signals 0
+        columns.entry.now.signals) ≡ None) ×
+        (v.items ≡ signals_in columns.entry.now.signals columns.entry.now.bytes)) }
+    ensures stop { IfErr result
+        (Stops (λ f.
+        first (signals_faults columns.entry.now.bytes columns.entry.now.signals 0 columns.entry.now.signals) ≡
+        Some f) ⊥ (Unit {0})) }
 {
     let signals = columns.signals();
     let mut found = Vec::with_capacity(alloc, usize::from(signals))?;
@@ -49,7 +53,9 @@ pub(crate) fn judge_columns(alloc: Global, columns: &Columns) -> Result<Body, St
     requires few { columns.now.signals < 10 ^ 4 }
     requires whole { 256 * columns.now.signals ≤ length columns.now.bytes }
     ensures ok { IfOk result (IsBody columns.entry.now) }
-    ensures stop { IfErr result (Stops (λ f. first (columns_tests columns.entry.now.signals columns.entry.now.bytes) ≡ Some f) ⊥ (Unit {0})) }
+    ensures stop { IfErr result
+        (Stops (λ f. first (columns_tests columns.entry.now.signals columns.entry.now.bytes) ≡ Some f) ⊥
+        (Unit {0})) }
 {
     let signals = judge_signals(alloc, columns)?;
     let record_bytes = judge_together(alloc, &signals)?;

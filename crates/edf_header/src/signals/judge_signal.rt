@@ -35,9 +35,9 @@ pub(crate) struct Extremes {
 /// Whether the digital extremes are in order.
 #[tactic(auto, unfolding(crate::specs::Faults::digital_order_fault))]
 fn digital_order(signal: u16, extremes: &Extremes) -> Result<(), Fault>
-    ensures { MatchResult result
-        (λ _. (digital_order_fault signal (extremes_line extremes.now) ≡ None) × (extremes.now.digital_minimum <ℤ extremes.now.digital_maximum))
-        (λ f. digital_order_fault signal (extremes_line extremes.now) ≡ Some f) }
+    ensures { MatchResult result (λ _. (digital_order_fault signal (extremes_line extremes.now) ≡ None) ×
+        (extremes.now.digital_minimum <ℤ extremes.now.digital_maximum)) (λ f.
+        digital_order_fault signal (extremes_line extremes.now) ≡ Some f) }
 {
     if extremes.digital_minimum < extremes.digital_maximum {
         return Ok(());
@@ -51,9 +51,9 @@ fn digital_order(signal: u16, extremes: &Extremes) -> Result<(), Fault>
 /// Whether the physical extremes differ.
 #[tactic(auto, unfolding(crate::specs::Faults::physical_differ_fault))]
 fn physical_differ(signal: u16, extremes: &Extremes) -> Result<(), Fault>
-    ensures { MatchResult result
-        (λ _. (physical_differ_fault signal (extremes_line extremes.now) ≡ None) × (extremes.now.physical_minimum ≢ extremes.now.physical_maximum))
-        (λ f. physical_differ_fault signal (extremes_line extremes.now) ≡ Some f) }
+    ensures { MatchResult result (λ _. (physical_differ_fault signal (extremes_line extremes.now) ≡ None) ×
+        (extremes.now.physical_minimum ≢ extremes.now.physical_maximum)) (λ f.
+        physical_differ_fault signal (extremes_line extremes.now) ≡ Some f) }
 {
     if extremes.physical_minimum != extremes.physical_maximum {
         return Ok(());
@@ -117,10 +117,11 @@ impl<'a> SignalFields<'a> {
     #[tactic(auto, using(crate::proofs::in_columns::TextSameFacts::same_printable, crate::proofs::in_columns::TextSameFacts::same_header_number), unfolding(crate::specs::Faults::physical_fault))]
     fn physical(self, field: SignalField) -> Result<i64, Fault>
         requires { column_width field ≤ 8 }
-        ensures { MatchResult result
-            (λ v. (physical_fault self.entry.signal field (field_in self.entry field) ≡ None)
-            × (unwrap_or (header_number_of (field_in self.entry field)) (pos 0) ≡ v) × (unsigned_abs v < 10 ^ 15))
-            (λ f. physical_fault self.entry.signal field (field_in self.entry field) ≡ Some f) }
+        ensures { MatchResult result (λ v.
+            (physical_fault self.entry.signal field (field_in self.entry field) ≡ None) ×
+            (unwrap_or (header_number_of (field_in self.entry field)) (pos 0) ≡ v) ×
+            (unsigned_abs v < 10 ^ 15)) (λ f.
+            physical_fault self.entry.signal field (field_in self.entry field) ≡ Some f) }
     {
         let place = Place::AtSignal(self.signal, field);
         printable(place, self.bytes(field))?;
@@ -157,9 +158,11 @@ impl<'a> SignalFields<'a> {
 
     /// Label, transducer and dimension.
     fn judge_naming(self) -> Result<(), Fault>
-        ensures { MatchResult result
-            (λ _. first (naming_faults (self.entry.columns.now).bytes (self.entry.columns.now).signals self.entry.signal) ≡ None)
-            (λ f. first (naming_faults (self.entry.columns.now).bytes (self.entry.columns.now).signals self.entry.signal) ≡ Some f) }
+        ensures { MatchResult result (λ _.
+            first (naming_faults (self.entry.columns.now).bytes (self.entry.columns.now).signals
+            self.entry.signal) ≡ None) (λ f.
+            first (naming_faults (self.entry.columns.now).bytes (self.entry.columns.now).signals
+            self.entry.signal) ≡ Some f) }
     {
         self.text(SignalField::Label)?;
         self.text(SignalField::Transducer)?;
@@ -168,11 +171,14 @@ impl<'a> SignalFields<'a> {
 
     /// The extremes.
     fn judge_extremes(self) -> Result<Extremes, Fault>
-        ensures { MatchResult result
-            (λ v. (first (extreme_faults (self.entry.columns.now).bytes (self.entry.columns.now).signals self.entry.signal) ≡ None)
-            × (extremes_line v ≡ line_of (self.entry.columns.now).bytes (self.entry.columns.now).signals self.entry.signal)
-            × (unsigned_abs v.physical_minimum < 10 ^ 15) × (unsigned_abs v.physical_maximum < 10 ^ 15))
-            (λ f. first (extreme_faults (self.entry.columns.now).bytes (self.entry.columns.now).signals self.entry.signal) ≡ Some f) }
+        ensures { MatchResult result (λ v.
+            (first (extreme_faults (self.entry.columns.now).bytes (self.entry.columns.now).signals
+            self.entry.signal) ≡ None) ×
+            (extremes_line v ≡ line_of (self.entry.columns.now).bytes (self.entry.columns.now).signals
+            self.entry.signal) × (unsigned_abs v.physical_minimum < 10 ^ 15) ×
+            (unsigned_abs v.physical_maximum < 10 ^ 15)) (λ f.
+            first (extreme_faults (self.entry.columns.now).bytes (self.entry.columns.now).signals
+            self.entry.signal) ≡ Some f) }
     {
         Ok(Extremes {
             physical_minimum: self.physical(SignalField::PhysicalMinimum)?,
@@ -184,10 +190,12 @@ impl<'a> SignalFields<'a> {
 
     /// Prefilter, samples and reserved: how many samples the signal has in a data record.
     fn judge_sampling(self) -> Result<u32, Fault>
-        ensures { MatchResult result
-            (λ v. (first (sampling_faults (self.entry.columns.now).bytes (self.entry.columns.now).signals self.entry.signal) ≡ None)
-            × (whole_number_of (field_in self.entry Samples) ≡ Some (pos v)) × (v < 10 ^ 8))
-            (λ f. first (sampling_faults (self.entry.columns.now).bytes (self.entry.columns.now).signals self.entry.signal) ≡ Some f) }
+        ensures { MatchResult result (λ v.
+            (first (sampling_faults (self.entry.columns.now).bytes (self.entry.columns.now).signals
+            self.entry.signal) ≡ None) × (whole_number_of (field_in self.entry Samples) ≡ Some (pos v)) ×
+            (v < 10 ^ 8)) (λ f.
+            first (sampling_faults (self.entry.columns.now).bytes (self.entry.columns.now).signals
+            self.entry.signal) ≡ Some f) }
     {
         self.text(SignalField::Prefilter)?;
         let samples = self.samples()?;
@@ -198,9 +206,10 @@ impl<'a> SignalFields<'a> {
     /// Whether an annotation signal has the digital extremes that it has to have.
     #[tactic(auto, using(crate::proofs::in_columns::TextSameFacts::same_annotation))]
     fn judge_annotation(self, extremes: &Extremes) -> Result<(), Fault>
-        ensures { MatchResult result
-            (λ _. annotation_fault self.entry.signal (field_in self.entry Label) (extremes_line extremes.now) ≡ None)
-            (λ f. annotation_fault self.entry.signal (field_in self.entry Label) (extremes_line extremes.now) ≡ Some f) }
+        ensures { MatchResult result (λ _. annotation_fault self.entry.signal (field_in self.entry Label)
+            (extremes_line extremes.now) ≡ None) (λ f.
+            annotation_fault self.entry.signal (field_in self.entry Label) (extremes_line extremes.now) ≡
+            Some f) }
     {
         annotation_extremes(self.signal, self.bytes(SignalField::Label), extremes)
     }
@@ -209,10 +218,11 @@ impl<'a> SignalFields<'a> {
     fn judge_agreement(self, extremes: &Extremes) -> Result<Calibration, Fault>
         requires small_minimum { unsigned_abs extremes.now.physical_minimum < 10 ^ 15 }
         requires small_maximum { unsigned_abs extremes.now.physical_maximum < 10 ^ 15 }
-        ensures { MatchResult result
-            (λ v. (first (agreement_faults self.entry.signal (field_in self.entry Label) (extremes_line extremes.now)) ≡ None)
-            × (v ≡ extremes_line extremes.now))
-            (λ f. first (agreement_faults self.entry.signal (field_in self.entry Label) (extremes_line extremes.now)) ≡ Some f) }
+        ensures { MatchResult result (λ v.
+            (first (agreement_faults self.entry.signal (field_in self.entry Label)
+            (extremes_line extremes.now)) ≡ None) × (v ≡ extremes_line extremes.now)) (λ f.
+            first (agreement_faults self.entry.signal (field_in self.entry Label)
+            (extremes_line extremes.now)) ≡ Some f) }
     {
         digital_order(self.signal, extremes)?;
         physical_differ(self.signal, extremes)?;
@@ -228,11 +238,14 @@ impl<'a> SignalFields<'a> {
     /// The numbers of the signal, or the first fault of its fields.
     #[tactic(auto, using(crate::proofs::signals::SignalFacts::naming_found))]
     fn numbers(self) -> Result<SignalNumbers, Fault>
-        ensures { MatchResult result
-            (λ v. (first (signal_faults (self.entry.columns.now).bytes (self.entry.columns.now).signals self.entry.signal) ≡ None)
-            × (v.calibration ≡ line_of (self.entry.columns.now).bytes (self.entry.columns.now).signals self.entry.signal)
-            × (whole_number_of (field_in self.entry Samples) ≡ Some (pos v.samples)) × (v.samples < 10 ^ 8))
-            (λ f. first (signal_faults (self.entry.columns.now).bytes (self.entry.columns.now).signals self.entry.signal) ≡ Some f) }
+        ensures { MatchResult result (λ v.
+            (first (signal_faults (self.entry.columns.now).bytes (self.entry.columns.now).signals
+            self.entry.signal) ≡ None) ×
+            (v.calibration ≡ line_of (self.entry.columns.now).bytes (self.entry.columns.now).signals
+            self.entry.signal) × (whole_number_of (field_in self.entry Samples) ≡ Some (pos v.samples)) ×
+            (v.samples < 10 ^ 8)) (λ f.
+            first (signal_faults (self.entry.columns.now).bytes (self.entry.columns.now).signals
+            self.entry.signal) ≡ Some f) }
     {
         self.judge_naming()?;
         let extremes = self.judge_extremes()?;
@@ -246,11 +259,16 @@ impl<'a> SignalFields<'a> {
 
     /// The texts of the fields.
     fn texts(self) -> TextsOf<'a>
-        ensures label { (result.label.now ≡ text_of (field_in self.entry Label)) × (length result.label.now ≤ 16) }
-        ensures transducer { (result.transducer.now ≡ text_of (field_in self.entry Transducer)) × (length result.transducer.now ≤ 80) }
-        ensures dimension { (result.dimension.now ≡ text_of (field_in self.entry Dimension)) × (length result.dimension.now ≤ 8) }
-        ensures prefilter { (result.prefilter.now ≡ text_of (field_in self.entry Prefilter)) × (length result.prefilter.now ≤ 80) }
-        ensures reserved { (result.reserved.now ≡ text_of (field_in self.entry Reserved)) × (length result.reserved.now ≤ 32) }
+        ensures label { (result.label.now ≡ text_of (field_in self.entry Label)) ×
+            (length result.label.now ≤ 16) }
+        ensures transducer { (result.transducer.now ≡ text_of (field_in self.entry Transducer)) ×
+            (length result.transducer.now ≤ 80) }
+        ensures dimension { (result.dimension.now ≡ text_of (field_in self.entry Dimension)) ×
+            (length result.dimension.now ≤ 8) }
+        ensures prefilter { (result.prefilter.now ≡ text_of (field_in self.entry Prefilter)) ×
+            (length result.prefilter.now ≤ 80) }
+        ensures reserved { (result.reserved.now ≡ text_of (field_in self.entry Reserved)) ×
+            (length result.reserved.now ≤ 32) }
     {
         TextsOf {
             label: text(self.bytes(SignalField::Label)),
@@ -272,10 +290,13 @@ pub(crate) fn judge_signal(
     before: Option<&Signal>,
 ) -> Result<Signal, Stop>
     requires { signal < columns.now.signals }
-    ensures ok { IfOk result (λ v. (first (signal_faults columns.entry.now.bytes columns.entry.now.signals signal) ≡ None)
-        × (v ≡ signal_of columns.entry.now.bytes columns.entry.now.signals signal offset)
-        × (v.samples < 10 ^ 8)) }
-    ensures stop { IfErr result (Stops (λ f. first (signal_faults columns.entry.now.bytes columns.entry.now.signals signal) ≡ Some f) ⊥ (Unit {0})) }
+    ensures ok { IfOk result (λ v.
+        (first (signal_faults columns.entry.now.bytes columns.entry.now.signals signal) ≡ None) ×
+        (v ≡ signal_of columns.entry.now.bytes columns.entry.now.signals signal offset) ×
+        (v.samples < 10 ^ 8)) }
+    ensures stop { IfErr result
+        (Stops (λ f. first (signal_faults columns.entry.now.bytes columns.entry.now.signals signal) ≡ Some f)
+        ⊥ (Unit {0})) }
 {
     let fields = SignalFields { columns, signal };
     let numbers = fields.numbers()?;

@@ -47,8 +47,10 @@ impl PackedTexts {
         prefilter: &[u8],
         reserved: &[u8],
     ) -> Result<PackedTexts, AllocError>
-        requires { length transducer.now + length dimension.now + length prefilter.now + length reserved.now < 256 }
-        ensures { IfOk result (λ t. t ≡ record { transducer = transducer.now; dimension = dimension.now; prefilter = prefilter.now; reserved = reserved.now }) }
+        requires { length transducer.now + length dimension.now + length prefilter.now + length
+            reserved.now < 256 }
+        ensures { IfOk result (λ t. t ≡ record { transducer = transducer.now; dimension = dimension.now;
+            prefilter = prefilter.now; reserved = reserved.now }) }
     {
         let mut bytes = Vec::with_capacity(
             alloc,

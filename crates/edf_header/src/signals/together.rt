@@ -35,7 +35,8 @@ fn all_annotations(signals: &[Signal]) -> bool
 /// Whether one signal at least holds annotations.
 #[tactic(auto, unfolding(crate::specs::Faults::no_annotation_signal))]
 fn annotation_signal(signals: &[Signal]) -> Result<(), Fault>
-    ensures { MatchResult result (λ _. no_annotation_signal signals.now ≡ None) (λ f. no_annotation_signal signals.now ≡ Some f) }
+    ensures { MatchResult result (λ _. no_annotation_signal signals.now ≡ None) (λ f.
+        no_annotation_signal signals.now ≡ Some f) }
 {
     if any_annotations(signals) {
         return Ok(());
@@ -49,7 +50,8 @@ fn annotation_signal(signals: &[Signal]) -> Result<(), Fault>
 /// Whether one signal at least is a channel.
 #[tactic(auto, unfolding(crate::specs::Faults::no_ordinary_signal))]
 fn ordinary_signal(signals: &[Signal]) -> Result<(), Fault>
-    ensures { MatchResult result (λ _. no_ordinary_signal signals.now ≡ None) (λ f. no_ordinary_signal signals.now ≡ Some f) }
+    ensures { MatchResult result (λ _. no_ordinary_signal signals.now ≡ None) (λ f.
+        no_ordinary_signal signals.now ≡ Some f) }
 {
     if !all_annotations(signals) {
         return Ok(());
@@ -95,7 +97,8 @@ fn is_repeated(signals: &[Signal], s: usize) -> bool
 fn judge_labels(signals: &[Signal], from: usize) -> Result<(), Fault>
     requires few { length signals.now < 2 ^ 16 }
     requires within { from ≤ length signals.now }
-    requires front { first (labels_faults signals.now 0 (length signals.now)) ≡ first (labels_faults signals.now from (length signals.now - from)) }
+    requires front { first (labels_faults signals.now 0 (length signals.now)) ≡
+        first (labels_faults signals.now from (length signals.now - from)) }
     ensures { MatchResult result
         (λ _. first (labels_faults signals.now 0 (length signals.now)) ≡ None)
         (λ f. first (labels_faults signals.now 0 (length signals.now)) ≡ Some f) }
@@ -137,7 +140,8 @@ fn has_distinct_labels(alloc: Global, signals: &[Signal]) -> Result<bool, AllocE
 /// it. The number is searched for by halves, with a sort for each.
 fn distinct_front(alloc: Global, signals: &[Signal]) -> Result<usize, AllocError>
     ensures within { IfOk result (λ m. m ≤ length signals.now) }
-    ensures distinct { IfOk result (λ m. IsTrue (are_distinct_texts (labels_of_channels (take m signals.now)))) }
+    ensures distinct { IfOk result (λ m.
+        IsTrue (are_distinct_texts (labels_of_channels (take m signals.now)))) }
 {
     let mut low = 0;
     let mut high = signals.len();
@@ -158,7 +162,8 @@ fn distinct_front(alloc: Global, signals: &[Signal]) -> Result<usize, AllocError
 fn distinct_labels(alloc: Global, signals: &[Signal]) -> Result<(), Stop>
     requires { length signals.now < 2 ^ 16 }
     ensures ok { IfOk result (λ _. first (labels_faults signals.now 0 (length signals.now)) ≡ None) }
-    ensures stop { IfErr result (Stops (λ f. first (labels_faults signals.now 0 (length signals.now)) ≡ Some f) ⊥ (Unit {0})) }
+    ensures stop { IfErr result (Stops (λ f. first (labels_faults signals.now 0 (length signals.now)) ≡
+        Some f) ⊥ (Unit {0})) }
 {
     if has_distinct_labels(alloc, signals)? {
         return Ok(());
@@ -171,8 +176,9 @@ fn distinct_labels(alloc: Global, signals: &[Signal]) -> Result<(), Stop>
 /// How many samples the signals have together in a data record, where they are at most `most`.
 fn sum_up_to(signals: &[Signal], most: u64) -> Option<u64>
     requires { most < 2 ^ 32 }
-    ensures { MatchOption result (nat_le (samples_together signals.now) most ≡ false)
-        (λ sum. (nat_le (samples_together signals.now) most ≡ true) × (sum ≡ samples_together signals.now) × (sum ≤ most)) }
+    ensures { MatchOption result (nat_le (samples_together signals.now) most ≡ false) (λ sum.
+        (nat_le (samples_together signals.now) most ≡ true) × (sum ≡ samples_together signals.now) ×
+        (sum ≤ most)) }
 {
     let mut sum = 0u64;
     for signal in signals {
@@ -187,9 +193,9 @@ fn sum_up_to(signals: &[Signal], most: u64) -> Option<u64>
 /// How many bytes a data record has: 16,777,216 at the most.
 #[tactic(auto, unfolding(crate::specs::Faults::record_too_large))]
 fn record_size(signals: &[Signal]) -> Result<u32, Fault>
-    ensures { MatchResult result
-        (λ size. (record_too_large signals.now ≡ None) × (size ≡ 2 * samples_together signals.now) × (size ≤ 16777216))
-        (λ f. record_too_large signals.now ≡ Some f) }
+    ensures { MatchResult result (λ size. (record_too_large signals.now ≡ None) ×
+        (size ≡ 2 * samples_together signals.now) × (size ≤ 16777216)) (λ f. record_too_large signals.now ≡
+        Some f) }
 {
     match sum_up_to(signals, MOST_RECORD_SAMPLES) {
         Some(sum) => Ok(2 * sum as u32),
@@ -205,7 +211,8 @@ fn record_size(signals: &[Signal]) -> Result<u32, Fault>
 #[tactic(auto, using(crate::proofs::signals::TogetherFacts::size_left))]
 pub(crate) fn judge_together(alloc: Global, signals: &[Signal]) -> Result<u32, Stop>
     requires { length signals.now < 2 ^ 16 }
-    ensures ok { IfOk result (λ size. (first (joint_faults signals.now) ≡ None) × (size ≡ 2 * samples_together signals.now) × (size ≤ 16777216)) }
+    ensures ok { IfOk result (λ size. (first (joint_faults signals.now) ≡ None) ×
+        (size ≡ 2 * samples_together signals.now) × (size ≤ 16777216)) }
     ensures stop { IfErr result (Stops (λ f. first (joint_faults signals.now) ≡ Some f) ⊥ (Unit {0})) }
 {
     annotation_signal(signals)?;

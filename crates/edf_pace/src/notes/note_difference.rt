@@ -132,7 +132,8 @@ pub fn note_difference(
     kept: &mut Vec<Note>,
     exported: &mut Vec<Note>,
 ) -> Result<Option<NoteDifference>, AllocError>
-    ensures { IfOk result (IsNoteDifference (map note_value kept.old.items) (map note_value exported.old.items)) }
+    ensures { IfOk result
+        (IsNoteDifference (map note_value kept.old.items) (map note_value exported.old.items)) }
 {
     let same = same_front(kept, exported);
     sort_notes(kept, same);

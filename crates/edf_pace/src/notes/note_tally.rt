@@ -98,7 +98,8 @@ fn count_both<'a>(kept: &'a [Note], exported: &'a [Note]) -> (NoteTally<'a>, usi
 
 /// Counts the annotations that don't stand equally often in two lists in order.
 pub fn count_notes<'a>(kept: &'a [Note], exported: &'a [Note]) -> NoteTally<'a>
-    ensures { IsNoteTally result (unequals_of (map note_value kept.entry.now) (map note_value exported.entry.now)) }
+    ensures { IsNoteTally result
+        (unequals_of (map note_value kept.entry.now) (map note_value exported.entry.now)) }
 {
     let (tally, i, j) = count_both(kept, exported);
     let tally = count_rest(&kept[i..], AnnotationMismatch::Missing, tally);

@@ -27,7 +27,8 @@ pub fn with_label(
 ) -> Result<SampleDifference, AllocError>
     requires channel { found.channel < length labels.now }
     requires some { 0 < found.difference.at.den }
-    ensures label { IfOk result (λ d. slice_get (map (λ label. label.now) labels.now) found.channel ≡ Some d.label) }
+    ensures label { IfOk result (λ d. slice_get (map (λ label. label.now) labels.now) found.channel ≡
+        Some d.label) }
     ensures at_ps { IfOk result (λ d. d.at_ps ≡ floor_of found.difference.at) }
     ensures mismatch { IfOk result (λ d. d.mismatch ≡ found.difference.mismatch) }
 {

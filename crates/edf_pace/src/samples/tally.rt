@@ -111,8 +111,10 @@ fn count_both(x: Stretch, y: Stretch, tally: &mut Tally) -> (usize, usize)
     requires y { IsPart y }
     ensures x_within { 2 * result.0 ≤ length x.entry.bytes.now }
     ensures y_within { 2 * result.1 ≤ length y.entry.bytes.now }
-    ensures over { (length x.entry.bytes.now ≤ 2 * result.0 + 1) ⊎ (length y.entry.bytes.now ≤ 2 * result.1 + 1) }
-    ensures value { with_rest tally.new x.entry result.0 y.entry result.1 ≡ with_rest tally.old x.entry 0 y.entry 0 }
+    ensures over { (length x.entry.bytes.now ≤ 2 * result.0 + 1) ⊎
+        (length y.entry.bytes.now ≤ 2 * result.1 + 1) }
+    ensures value { with_rest tally.new x.entry result.0 y.entry result.1 ≡
+        with_rest tally.old x.entry 0 y.entry 0 }
 {
     let x_count = count_in(x.bytes);
     let y_count = count_in(y.bytes);

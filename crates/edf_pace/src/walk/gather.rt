@@ -28,7 +28,8 @@ pub(crate) struct Delay {
 
 /// The text with which an annotation counts that has this onset and this text: none where it doesn't count.
 fn text_by<'a>(claim: Option<&Claim>, onset: i128, text: &'a str) -> Option<&'a str>
-    ensures { option_map (λ t. t.now) result ≡ counted_text (option_map (λ c. c.now) claim.entry) onset text.now }
+    ensures { option_map (λ t. t.now) result ≡ counted_text (option_map (λ c. c.now) claim.entry) onset
+        text.now }
 {
     let Some(claim) = claim else {
         return Some(text);
@@ -47,7 +48,9 @@ fn text_by<'a>(claim: Option<&Claim>, onset: i128, text: &'a str) -> Option<&'a 
 ///
 /// The error is want of memory.
 fn note_at(alloc: Global, note: NoteRef<'_>, onset: i128, text: &str) -> Result<Note, AllocError>
-    ensures { IfOk result (λ v. note_value v ≡ record { onset = onset; duration = (note_view note.entry).duration; text = text.now }) }
+    ensures { IfOk result (λ v.
+        note_value v ≡ record { onset = onset; duration = (note_view note.entry).duration;
+        text = text.now }) }
 {
     Ok(Note {
         onset,
@@ -65,7 +68,8 @@ fn push_counted(
     by: Delay,
     claim: Option<&Claim>,
 ) -> Result<(), AllocError>
-    ensures { OnOk result (AreAdded notes.old.items notes.new.items claim.entry by.ps (note_view note.entry ∷ [])) }
+    ensures { OnOk result (AreAdded notes.old.items notes.new.items claim.entry by.ps
+        (note_view note.entry ∷ [])) }
 {
     let onset = by.ps + note.onset;
     if let Some(text) = text_by(claim, onset, note.text) {
@@ -83,7 +87,8 @@ fn push_all_counted(
     by: Delay,
     claim: Option<&Claim>,
 ) -> Result<(), AllocError>
-    ensures { OnOk result (AreAdded notes.old.items notes.new.items claim.entry by.ps (tal_notes_left annotations.entry)) }
+    ensures { OnOk result (AreAdded notes.old.items notes.new.items claim.entry by.ps
+        (tal_notes_left annotations.entry)) }
 {
     for note in annotations {
         push_counted(alloc, notes, note, by, claim)?;

@@ -110,7 +110,8 @@ pub(crate) fn are_alike(
     clock: Clock,
     within: Window,
 ) -> bool
-    ensures { IsTrue result → AreRecordsAlike original.now export.now room (clock.original).ps (clock.export).ps }
+    ensures { IsTrue result →
+        AreRecordsAlike original.now export.now room (clock.original).ps (clock.export).ps }
 {
     if !original.has_current() || !export.has_current() {
         return false;

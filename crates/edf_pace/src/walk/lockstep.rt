@@ -69,9 +69,11 @@ pub fn end_both<O: Source, E: Source>(
     requires export { IsGoing export.old.status }
     ensures goes { IfRead result (λ end. HasGoneOn O.Source original.old o.old original.new o.new) }
     ensures head { IfRead result (λ end. export.new.head ≡ export.old.head) }
-    ensures through { IfRead result (AreThrough (going O.Source original.old o.old) (going E.Source export.old e.old)
-        (O.left o.new) (E.left e.new) turn.entry) }
-    ensures fault { IfFaulty result (AreFaulty (going O.Source original.old o.old) (going E.Source export.old e.old)
+    ensures through { IfRead result
+        (AreThrough (going O.Source original.old o.old) (going E.Source export.old e.old) (O.left o.new)
+        (E.left e.new) turn.entry) }
+    ensures fault { IfFaulty result
+        (AreFaulty (going O.Source original.old o.old) (going E.Source export.old e.old)
         (O.left o.new) turn.entry.part) }
     ensures failures { OnOk result ((O.reads o.new ≡ O.reads o.old) × (E.reads e.new ≡ E.reads e.old)) }
     ensures stop { IfErr result (StopsOfTwo O.Source o.old o.new E.Source turn.entry.part e.old e.new) }
@@ -128,7 +130,8 @@ fn pass_both<O: Source, E: Source>(
     ensures fault { IfFound result (FaultyBy (at_window O.Source E.Source original.old o.old
         export.old e.old step.entry.turn step.entry.within) (O.left o.new) (step.entry.turn).part) }
     ensures failures { OnOk result ((O.reads o.new ≡ O.reads o.old) × (E.reads e.new ≡ E.reads e.old)) }
-    ensures stop { IfErr result (StopsOfTwo O.Source o.old o.new E.Source (step.entry.turn).part e.old e.new) }
+    ensures stop { IfErr result (StopsOfTwo O.Source o.old o.new E.Source (step.entry.turn).part e.old
+        e.new) }
 {
     let Step { turn, within } = step;
     let setting = turn.setting;
@@ -200,7 +203,8 @@ pub fn walk_on<O: Source, E: Source, W: Watcher>(
         (((watch.old.frame).turn).from).ps }
     requires export { StandsAt export.old.reader (moved_export (watch.old.frame).turn)
         (((watch.old.frame).turn).from).ps }
-    requires begins { ((watch.old.frame).turn).is_last ≡ false → is_current (export.old.reader).status ≡ true }
+    requires begins { ((watch.old.frame).turn).is_last ≡ false →
+        is_current (export.old.reader).status ≡ true }
     requires frame { IsFrame (original.old.reader).head (export.old.reader).head watch.old.frame }
     requires fits { W.fits watch.old.watcher watch.old.frame }
     requires wants { W.has_enough watch.old.watcher ≡ false }
@@ -218,7 +222,8 @@ pub fn walk_on<O: Source, E: Source, W: Watcher>(
     ensures fault { IfFaulty result (FaultyBy (at_turn O.Source E.Source original.old o.old export.old e.old
         (watch.old.frame).turn) (O.left o.new) ((watch.old.frame).turn).part) }
     ensures failures { OnOk result ((O.reads o.new ≡ O.reads o.old) × (E.reads e.new ≡ E.reads e.old)) }
-    ensures stop { IfErr result (StopsOfTwo O.Source o.old o.new E.Source ((watch.old.frame).turn).part e.old e.new) }
+    ensures stop { IfErr result (StopsOfTwo O.Source o.old o.new E.Source ((watch.old.frame).turn).part e.old
+        e.new) }
 {
     let frame = watch.frame;
     let turn = frame.turn;

@@ -40,7 +40,8 @@ pub fn open<S: Source>(
     ensures honesty { IfRead result (λ r. IsTrue (S.is_honest source.old) → IsTrue (S.is_honest source.new)) }
     ensures stands { IfRead result (λ r. IsTrue (S.is_honest source.old) →
         StandsIn r.reader (S.left source.new) (S.left source.old)) }
-    ensures fault { IfFaulty result (λ fault. IsTrue (S.is_honest source.old) → file_fault (S.left source.old) ≡ Some fault) }
+    ensures fault { IfFaulty result (λ fault. IsTrue (S.is_honest source.old) →
+        file_fault (S.left source.old) ≡ Some fault) }
     ensures failures { OnOk result (S.reads source.new ≡ S.reads source.old) }
     ensures stop { IfErr result (StopsOf S.Source file source.old source.new) }
 {
@@ -129,11 +130,13 @@ fn gather_next<S: Source>(
     ensures going { IfNothing result (IsGoing (reading.new.reader).status) }
     ensures later { IfNothing result (IfAtHand reading.new.reader
         ((reading.old.reader).ended <ℤ (reading.new.reader).ended)) }
-    ensures count { IfNothing result (IfAtHand reading.new.reader (OneMore reading.old.reader reading.new.reader)) }
+    ensures count { IfNothing result
+        (IfAtHand reading.new.reader (OneMore reading.old.reader reading.new.reader)) }
     ensures start { IfNothing result (IfAtHand reading.new.reader (IsNear (reading.new.reader).head)) }
     ensures gathered { IfNothing result (HasGathered view.entry reading.old reading.new) }
     ensures honesty { IfNothing result (IsTrue (S.is_honest source.old) → IsTrue (S.is_honest source.new)) }
-    ensures comes { IfNothing result (HasCome S.Source reading.old.reader source.old reading.new.reader source.new) }
+    ensures comes { IfNothing result
+        (HasCome S.Source reading.old.reader source.old reading.new.reader source.new) }
     ensures fault { IfFound result (HasFault (standing S.Source reading.old.reader source.old)) }
     ensures failures { OnOk result (S.reads source.new ≡ S.reads source.old) }
     ensures stop { IfErr result (StopsOf S.Source file source.old source.new) }
@@ -188,7 +191,8 @@ pub(crate) fn last_end(reader: &FileReader, by: Offset) -> Time
 
 /// Where the data record at hand ends.
 fn end_of(reader: &FileReader, by: Offset) -> Option<Time>
-    ensures end { MatchOption result (is_current reader.now.status ≡ false) (λ t. IsEndOf reader.now by.ps t.ps) }
+    ensures end { MatchOption result (is_current reader.now.status ≡ false) (λ t.
+        IsEndOf reader.now by.ps t.ps) }
 {
     if reader.has_current() {
         Some(Time {
@@ -201,7 +205,8 @@ fn end_of(reader: &FileReader, by: Offset) -> Option<Time>
 
 /// Whether the data record at hand ends at a time or before.
 fn is_past(reader: &FileReader, by: Offset, time: Time) -> bool
-    ensures yes { result ≡ true → (is_current reader.now.status ≡ true) × (ends_at reader.now by.ps ≤ℤ time.ps) }
+    ensures yes { result ≡ true → (is_current reader.now.status ≡ true) ×
+        (ends_at reader.now by.ps ≤ℤ time.ps) }
     ensures no { result ≡ false → IsAhead reader.now by.ps time.ps }
 {
     match end_of(reader, by) {
@@ -279,7 +284,8 @@ fn earlier_time(a: Option<Time>, b: Option<Time>) -> Option<Time>
 
 /// The earlier end of the data records at hand; none where both files have ended.
 pub(crate) fn lesser_end(original: &FileReader, export: &FileReader, clock: Clock) -> Option<Time>
-    ensures none { IfNone result ((is_current original.now.status ≡ false) × (is_current export.now.status ≡ false)) }
+    ensures none { IfNone result ((is_current original.now.status ≡ false) ×
+        (is_current export.now.status ≡ false)) }
     ensures original { IfSome result (λ t. Reaches original.now (clock.original).ps t.ps) }
     ensures export { IfSome result (λ t. Reaches export.now (clock.export).ps t.ps) }
     ensures later { IfSome result (λ t. IsBehind original.now (clock.original).ps

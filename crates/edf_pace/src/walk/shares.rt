@@ -65,7 +65,8 @@ fn first_num(reader: &FileReader, samples: u32, moved: Offset) -> i128
 pub(crate) fn lane_at<'a>(reader: &'a FileReader, track: Track) -> &'a [u8]
     requires current { IsTrue (is_current reader.now.status) }
     requires track { IsTrack reader.now.head track }
-    ensures value { (t : IsTrack reader.now.head track) → result.now ≡ lane_of (t.place).channel reader.now.current }
+    ensures value { (t : IsTrack reader.now.head track) →
+        result.now ≡ lane_of (t.place).channel reader.now.current }
     ensures whole { length result.now ≡ 2 * track.place.samples }
 {
     reader.run(usize::from(track.signal))
@@ -120,7 +121,8 @@ fn keep_share(
 )
     requires track { IfSome track (IsTrack reader.now.head) }
     requires held { IsShareIn reader.now (look.moved).ps look.within held.old }
-    ensures samples { is_wanted ≡ true → IfSome track (λ t. IfAtHand reader.now (held.new.samples ≡ t.place.samples)) }
+    ensures samples { is_wanted ≡ true →
+        IfSome track (λ t. IfAtHand reader.now (held.new.samples ≡ t.place.samples)) }
     ensures share { IsShareIn reader.now (look.moved).ps look.within held.new }
 {
     if let Some(track) = track {
@@ -180,7 +182,8 @@ pub(crate) fn keep_shares(
     requires held { AreSharesIn original.now export.now sight.clock sight.within shares.old }
     ensures held { AreSharesIn original.now export.now sight.clock sight.within shares.new }
     ensures kept { shares.new.is_kept ≡ shares.old.is_kept }
-    ensures original_share { shares.new.is_kept ≡ true → HasShare original.now pair.original shares.new.original }
+    ensures original_share { shares.new.is_kept ≡ true →
+        HasShare original.now pair.original shares.new.original }
     ensures export_share { HasShare export.now pair.export shares.new.export }
 {
     let Sight { clock, within } = sight;

@@ -59,7 +59,8 @@ fn track_of(index: &ChannelIndex<'_>, label: &[u8]) -> Option<Track>
 
 /// The channels of a label in two files.
 fn pair_of(originals: &ChannelIndex<'_>, exports: &ChannelIndex<'_>, label: &[u8]) -> Pair
-    ensures places { places_of result ≡ (channel_in label.now originals.now, channel_in label.now exports.now) }
+    ensures places { places_of result ≡
+        (channel_in label.now originals.now, channel_in label.now exports.now) }
     ensures original { IfSome result.original (IsTrack originals.now) }
     ensures export { IfSome result.export (IsTrack exports.now) }
 {
@@ -78,7 +79,8 @@ fn pairs_among(
     exports: &ChannelIndex<'_>,
     labels: &[&[u8]],
 ) -> Result<Vec<Pair>, AllocError>
-    ensures places { IfOk result (λ pairs. map places_of pairs.items ≡ places_in originals.now exports.now labels.now) }
+    ensures places { IfOk result (λ pairs. map places_of pairs.items ≡
+        places_in originals.now exports.now labels.now) }
     ensures pairs { IfOk result (λ pairs. ArePairs originals.now exports.now pairs.items) }
 {
     let mut pairs = Vec::with_capacity(alloc, labels.len())?;
@@ -97,7 +99,8 @@ pub fn pairs_of(
     export: &Header,
     labels: &[&[u8]],
 ) -> Result<Vec<Pair>, AllocError>
-    ensures places { IfOk result (λ pairs. map places_of pairs.items ≡ places_in original.now export.now labels.now) }
+    ensures places { IfOk result (λ pairs. map places_of pairs.items ≡
+        places_in original.now export.now labels.now) }
     ensures pairs { IfOk result (λ pairs. ArePairs original.now export.now pairs.items) }
 {
     let originals = ChannelIndex::new(alloc, original)?;

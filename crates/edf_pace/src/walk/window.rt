@@ -42,7 +42,8 @@ pub(crate) fn kept_window<'a>(
     is_kept: bool,
 ) -> Stretch<'a>
     requires track { IsTrack reader.now.head track }
-    requires share { is_kept ≡ true → is_current reader.now.status ≡ true → share.now.samples ≡ track.place.samples }
+    requires share { is_kept ≡ true → is_current reader.now.status ≡ true →
+        share.now.samples ≡ track.place.samples }
     ensures part { IsPart result }
     ensures den { result.den ≡ track.place.samples }
     ensures value { AreKeptOf reader.now share.now is_kept track.place (points_in result) }
@@ -64,7 +65,8 @@ fn pair_difference(
 ) -> Option<PointDifference>
     requires original { IfSome pair.original (IsTrack original.now.head) }
     requires export { IfSome pair.export (IsTrack export.now.head) }
-    requires original_share { shares.now.is_kept ≡ true → HasShare original.now pair.original shares.now.original }
+    requires original_share { shares.now.is_kept ≡ true →
+        HasShare original.now pair.original shares.now.original }
     requires export_share { HasShare export.now pair.export shares.now.export }
     ensures value { IsPairIn original.now export.now shares.now pair result }
     ensures modest { IfSome result (λ d. IsModest d.at) }
@@ -93,7 +95,8 @@ pub(crate) fn window_difference(
     requires pairs { ArePairs original.now.head export.now.head (frame.pairs).now }
     requires uncut { IsUncut ((frame.turn).setting.claim).now.keep (within.from).ps (within.to).ps }
     ensures value { IsDifferenceBy frame.entry original.now export.now within result }
-    ensures modest { IfSome result (λ f. IsModest f.difference.at × (f.channel < length (frame.entry.pairs).now)) }
+    ensures modest { IfSome result (λ f. IsModest f.difference.at ×
+        (f.channel < length (frame.entry.pairs).now)) }
 {
     let sight = Sight {
         clock: frame.turn.setting.clock,

@@ -26,8 +26,9 @@ impl<'a> TalNotes<'a> {
 
     /// The next one.
     fn next_note(&mut self) -> Option<NoteRef<'a>>
-        ensures { MatchOption result ((notes_of_said (Some self.old) ≡ []) × (notes_of_said (Some self.new) ≡ []))
-            (λ note. notes_of_said (Some self.old) ≡ note_view note ∷ notes_of_said (Some self.new)) }
+        ensures { MatchOption result ((notes_of_said (Some self.old) ≡ []) ×
+            (notes_of_said (Some self.new) ≡ [])) (λ note. notes_of_said (Some self.old) ≡
+            note_view note ∷ notes_of_said (Some self.new)) }
     {
         let text = self.texts.next()?;
         Some(NoteRef {
@@ -142,10 +143,10 @@ impl<'a> Annotations<'a> {
 
     /// The lane of the next annotation signal, where there is one more.
     fn next_lane(&mut self) -> Option<LaneNotes<'a>>
-        ensures lane { MatchOption result
-            ((placed_lanes self.old.places.now self.old.bytes.now ≡ []) × (placed_lanes self.new.places.now self.new.bytes.now ≡ []))
-            (λ lane. notes_of_lanes (placed_lanes self.old.places.now self.old.bytes.now) ≡ lane_notes_left lane
-            ++ notes_of_lanes (placed_lanes self.new.places.now self.new.bytes.now)) }
+        ensures lane { MatchOption result ((placed_lanes self.old.places.now self.old.bytes.now ≡ []) ×
+            (placed_lanes self.new.places.now self.new.bytes.now ≡ [])) (λ lane.
+            notes_of_lanes (placed_lanes self.old.places.now self.old.bytes.now) ≡ lane_notes_left lane ++
+            notes_of_lanes (placed_lanes self.new.places.now self.new.bytes.now)) }
         ensures here { self.new.lane ≡ self.old.lane }
         ensures fewer { IfSome result (λ _. length self.new.places.now < length self.old.places.now) }
     {

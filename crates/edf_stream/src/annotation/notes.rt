@@ -52,7 +52,8 @@ fn push_note(
 ) -> Result<(), AllocError>
     requires start { unsigned_abs start_ps < 2 ^ 79 }
     requires near { All IsNear notes.old.items }
-    ensures value { OnOk result (map note_value notes.new.items ≡ map note_value notes.old.items ++ moved_by start_ps (note_view note.entry) ∷ []) }
+    ensures value { OnOk result (map note_value notes.new.items ≡ map note_value notes.old.items ++
+        moved_by start_ps (note_view note.entry) ∷ []) }
     ensures near { OnOk result (All IsNear notes.new.items) }
 {
     notes.push(Note::new(alloc, start_ps, note)?)?;
@@ -69,7 +70,8 @@ pub(crate) fn push_notes(
 ) -> Result<(), AllocError>
     requires start { unsigned_abs start_ps < 2 ^ 79 }
     requires near { All IsNear notes.old.items }
-    ensures value { OnOk result (map note_value notes.new.items ≡ map note_value notes.old.items ++ map (moved_by start_ps) (notes_left annotations.entry)) }
+    ensures value { OnOk result (map note_value notes.new.items ≡ map note_value notes.old.items ++
+        map (moved_by start_ps) (notes_left annotations.entry)) }
     ensures near { OnOk result (All IsNear notes.new.items) }
 {
     for note in annotations {

@@ -69,7 +69,8 @@ fn text_count(tal: &Tal<'_>) -> u32
 /// others of the data record, up to the most that fit. Where there are more than `most`, it gives none.
 fn keep_tal<K: NoteKeeper>(keeper: &mut K, tal: &Tal<'_>, count: u32, most: u32) -> u32
     ensures texts { result ≡ min (count + length (notes_of_tal (tal_view tal.now))) (2 ^ 32 - 1) }
-    ensures kept { result ≤ most → K.got keeper.old (behind_time count (notes_of_tal (tal_view tal.now))) keeper.new }
+    ensures kept { result ≤ most →
+        K.got keeper.old (behind_time count (notes_of_tal (tal_view tal.now))) keeper.new }
 {
     let texts = count.saturating_add(text_count(tal));
     if texts <= most {
@@ -92,10 +93,11 @@ fn rest_texts<K: NoteKeeper>(
     count: u32,
     most: u32,
 ) -> Result<u32, TalCause>
-    ensures counted { MatchResult result
-        (λ n. (cause_of (items_left tals.entry) ≡ None) × (n ≡ min (count + length (notes_of_items (items_left tals.entry))) (2 ^ 32 - 1)))
-        (λ cause. cause_of (items_left tals.entry) ≡ Some cause) }
-    ensures kept { IfOk result (λ n. n ≤ most → K.got keeper.old (behind_time count (notes_of_items (items_left tals.entry))) keeper.new) }
+    ensures counted { MatchResult result (λ n. (cause_of (items_left tals.entry) ≡ None) ×
+        (n ≡ min (count + length (notes_of_items (items_left tals.entry))) (2 ^ 32 - 1))) (λ cause.
+        cause_of (items_left tals.entry) ≡ Some cause) }
+    ensures kept { IfOk result (λ n. n ≤ most →
+        K.got keeper.old (behind_time count (notes_of_items (items_left tals.entry))) keeper.new) }
 {
     let mut texts = count;
     for item in tals {
@@ -127,7 +129,8 @@ fn said_by_tals<K: NoteKeeper>(
         × (said.texts ≡ min (before + length (notes_of_lane lane.now)) (2 ^ 32 - 1)))
         (λ cause. cause_of (items_of lane.now) ≡ Some cause) }
     ensures small { IfOk result (λ said. IfOk said.start (λ v. unsigned_abs v < 10 ^ 21)) }
-    ensures kept { IfOk result (λ said. said.texts ≤ most → K.got keeper.old (behind_time before (notes_of_lane lane.now)) keeper.new) }
+    ensures kept { IfOk result (λ said. said.texts ≤ most →
+        K.got keeper.old (behind_time before (notes_of_lane lane.now)) keeper.new) }
 {
     let mut tals = Tals::new(lane);
     match tals.next() {
@@ -158,7 +161,8 @@ fn said_by_lane<K: NoteKeeper>(
         × (said.texts ≡ min (before + length (notes_of_lane lane.now)) (2 ^ 32 - 1)))
         (λ cause. cause_of (items_of lane.now) ≡ Some cause) }
     ensures small { IfOk result (λ said. IfOk said.start (λ v. unsigned_abs v < 10 ^ 21)) }
-    ensures kept { IfOk result (λ said. said.texts ≤ most → K.got keeper.old (behind_time before (notes_of_lane lane.now)) keeper.new) }
+    ensures kept { IfOk result (λ said. said.texts ≤ most →
+        K.got keeper.old (behind_time before (notes_of_lane lane.now)) keeper.new) }
 {
     if before > 0 && keeper.wants() {
         return said_by_tals(keeper, lane, before, most);
@@ -223,7 +227,8 @@ fn said_at_places<K: NoteKeeper>(
 ) -> Result<Option<Said>, TalCause>
     ensures said { IsSaidBy (placed_lanes places.now bytes.now) result }
     ensures small { IfOk result (λ found. IfSome found (λ s. IfOk s.start (λ v. unsigned_abs v < 10 ^ 21))) }
-    ensures kept { IfOk result (λ found. texts_said found ≤ most → K.got keeper.old (drop 1 (notes_of_lanes (placed_lanes places.now bytes.now))) keeper.new) }
+    ensures kept { IfOk result (λ found. texts_said found ≤ most →
+        K.got keeper.old (drop 1 (notes_of_lanes (placed_lanes places.now bytes.now))) keeper.new) }
 {
     let mut found = None;
     for place in places {
@@ -245,7 +250,8 @@ pub(crate) fn said_by_lanes<K: NoteKeeper>(
     ensures said { IsSaidBy (annotation_lanes header.now.signals bytes.now) result }
     ensures small { IfOk result (λ found. IfSome found (λ s. IfOk s.start (λ v. unsigned_abs v < 10 ^ 21))) }
     ensures kept { IfOk result (λ found. texts_said found ≤ most →
-        K.got keeper.old (drop 1 (notes_of_lanes (annotation_lanes header.now.signals bytes.now))) keeper.new) }
+        K.got keeper.old (drop 1 (notes_of_lanes (annotation_lanes header.now.signals bytes.now)))
+        keeper.new) }
 {
     said_at_places(keeper, header.annotation_places(), bytes, most)
 }

@@ -38,19 +38,25 @@ fn read_record<S: Source, K: NoteKeeper>(
     requires few { progress.old.notes ≤ 1000000 }
     ensures few { progress.new.notes ≤ 1000000 }
     ensures small { OnOk result (unsigned_abs progress.new.ended_ps < 2 ^ 71) }
-    ensures later { OnOk result ((due.entry.k ≡ 0 → progress.old.ended_ps ≡ pos 0) → progress.old.ended_ps <ℤ progress.new.ended_ps) }
-    ensures end { OnOk result (progress.new.ended_ps ≡ start_in due.entry.header.now buffer.new +ℤ due.entry.header.now.duration) }
-    ensures notes { OnOk result (progress.new.notes ≡ progress.old.notes + length (notes_in due.entry.header.now buffer.new)) }
+    ensures later { OnOk result ((due.entry.k ≡ 0 → progress.old.ended_ps ≡ pos 0) →
+        progress.old.ended_ps <ℤ progress.new.ended_ps) }
+    ensures end { OnOk result (progress.new.ended_ps ≡
+        start_in due.entry.header.now buffer.new +ℤ due.entry.header.now.duration) }
+    ensures notes { OnOk result (progress.new.notes ≡
+        progress.old.notes + length (notes_in due.entry.header.now buffer.new)) }
     ensures held { OnErr result (progress.new ≡ progress.old) }
     ensures full { OnOk result (length buffer.new ≡ length buffer.old) }
     ensures failures { OnOk result (S.reads source.new ≡ S.reads source.old) }
     ensures honesty { OnOk result (IsTrue (S.is_honest source.old) → IsTrue (S.is_honest source.new)) }
     ensures found { OnOk result (IsTrue (S.is_honest source.old) → (file : List ℕ) →
-        StandsAt file due.entry.header.now due.entry.k progress.old.ended_ps progress.old.notes (S.left source.old)
-        → IsRead file due.entry.header.now due.entry.k progress.new.ended_ps progress.new.notes (S.left source.new) buffer.new) }
-    ensures stop { IfErr result (StopsReading
-        (λ f. (S.reads source.new ≡ S.reads source.old) × (IsTrue (S.is_honest source.old) → (file : List ℕ) →
-        StandsAt file due.entry.header.now due.entry.k progress.old.ended_ps progress.old.notes (S.left source.old) → first (records_tests file due.entry.header.now due.entry.k 1) ≡ Some f))
+        StandsAt file due.entry.header.now due.entry.k progress.old.ended_ps progress.old.notes
+        (S.left source.old) →
+        IsRead file due.entry.header.now due.entry.k progress.new.ended_ps progress.new.notes
+        (S.left source.new) buffer.new) }
+    ensures stop { IfErr result (StopsReading (λ f. (S.reads source.new ≡ S.reads source.old) ×
+        (IsTrue (S.is_honest source.old) → (file : List ℕ) →
+        StandsAt file due.entry.header.now due.entry.k progress.old.ended_ps progress.old.notes
+        (S.left source.old) → first (records_tests file due.entry.header.now due.entry.k 1) ≡ Some f))
         (Fails (S.reads source.old) (S.reads source.new))) }
     ensures place { IfErr result (StopsAt (AtRecord due.entry.k)) }
     ensures kept { OnOk result (K.got keeper.old (notes_in due.entry.header.now buffer.new) keeper.new) }
@@ -79,10 +85,11 @@ fn read_record<S: Source, K: NoteKeeper>(
 fn check_end<S: Source>(source: &mut S) -> Result<(), Stop>
     ensures failures { OnOk result (S.reads source.new ≡ S.reads source.old) }
     ensures honesty { OnOk result (IsTrue (S.is_honest source.old) → IsTrue (S.is_honest source.new)) }
-    ensures ended { OnOk result (IsTrue (S.is_honest source.old) → (S.left source.old ≡ []) × (S.left source.new ≡ [])) }
-    ensures stop { IfErr result (StopsReading
-        (λ f. (S.reads source.new ≡ S.reads source.old) × (IsTrue (S.is_honest source.old) → (0 < length (S.left source.old))
-        × (f ≡ record { place = AtEnd; cause = TrailingBytes })))
+    ensures ended { OnOk result (IsTrue (S.is_honest source.old) → (S.left source.old ≡ []) ×
+        (S.left source.new ≡ [])) }
+    ensures stop { IfErr result (StopsReading (λ f. (S.reads source.new ≡ S.reads source.old) ×
+        (IsTrue (S.is_honest source.old) → (0 < length (S.left source.old)) ×
+        (f ≡ record { place = AtEnd; cause = TrailingBytes })))
         (Fails (S.reads source.old) (S.reads source.new))) }
     ensures place { IfErr result (StopsAt AtEnd) }
 {
@@ -110,24 +117,32 @@ pub(crate) fn advance<S: Source, K: NoteKeeper>(
     requires few { progress.old.notes ≤ 1000000 }
     ensures few { progress.new.notes ≤ 1000000 }
     ensures small { IfOk result (λ more. IsTrue more → unsigned_abs progress.new.ended_ps < 2 ^ 71) }
-    ensures later { IfOk result (λ more. IsTrue more → (due.entry.k ≡ 0 → progress.old.ended_ps ≡ pos 0) → progress.old.ended_ps <ℤ progress.new.ended_ps) }
-    ensures end { IfOk result (λ more. IsTrue more → progress.new.ended_ps ≡ start_in due.entry.header.now buffer.new +ℤ due.entry.header.now.duration) }
-    ensures notes { IfOk result (λ more. IsTrue more → progress.new.notes ≡ progress.old.notes + length (notes_in due.entry.header.now buffer.new)) }
+    ensures later { IfOk result (λ more. IsTrue more → (due.entry.k ≡ 0 → progress.old.ended_ps ≡ pos 0) →
+        progress.old.ended_ps <ℤ progress.new.ended_ps) }
+    ensures end { IfOk result (λ more. IsTrue more →
+        progress.new.ended_ps ≡ start_in due.entry.header.now buffer.new +ℤ due.entry.header.now.duration) }
+    ensures notes { IfOk result (λ more. IsTrue more →
+        progress.new.notes ≡ progress.old.notes + length (notes_in due.entry.header.now buffer.new)) }
     ensures stays { IfOk result (λ more. more ≡ false → progress.new ≡ progress.old) }
     ensures held { OnErr result (progress.new ≡ progress.old) }
     ensures full { OnOk result (length buffer.new ≡ length buffer.old) }
     ensures room { IfOk result (λ more. IsTrue more → due.entry.k < due.entry.header.now.records) }
     ensures failures { OnOk result (S.reads source.new ≡ S.reads source.old) }
     ensures honesty { OnOk result (IsTrue (S.is_honest source.old) → IsTrue (S.is_honest source.new)) }
-    ensures goes_on { IfOk result (λ more. IsTrue (S.is_honest source.old) → (file : List ℕ) → HasPassed file due.entry.header.now due.entry.k →
-        StandsAt file due.entry.header.now due.entry.k progress.old.ended_ps progress.old.notes (S.left source.old)
-        → GoesOn file due.entry.header.now due.entry.k progress.old (followed more progress.new) (S.left source.new) buffer.new) }
-    ensures stop { IfErr result (StopsReading
-        (λ f. (S.reads source.new ≡ S.reads source.old) × (IsTrue (S.is_honest source.old) → (file : List ℕ) → HasPassed file due.entry.header.now due.entry.k →
-        StandsAt file due.entry.header.now due.entry.k progress.old.ended_ps progress.old.notes (S.left source.old) → body_fault file due.entry.header.now ≡ Some f))
+    ensures goes_on { IfOk result (λ more. IsTrue (S.is_honest source.old) → (file : List ℕ) →
+        HasPassed file due.entry.header.now due.entry.k →
+        StandsAt file due.entry.header.now due.entry.k progress.old.ended_ps progress.old.notes
+        (S.left source.old) →
+        GoesOn file due.entry.header.now due.entry.k progress.old (followed more progress.new)
+        (S.left source.new) buffer.new) }
+    ensures stop { IfErr result (StopsReading (λ f. (S.reads source.new ≡ S.reads source.old) ×
+        (IsTrue (S.is_honest source.old) → (file : List ℕ) → HasPassed file due.entry.header.now due.entry.k →
+        StandsAt file due.entry.header.now due.entry.k progress.old.ended_ps progress.old.notes
+        (S.left source.old) → body_fault file due.entry.header.now ≡ Some f))
         (Fails (S.reads source.old) (S.reads source.new))) }
     ensures place { IfErr result (StopsAt (place_behind due.entry.header.now due.entry.k)) }
-    ensures kept { IfOk result (λ more. IsTrue more → K.got keeper.old (notes_in due.entry.header.now buffer.new) keeper.new) }
+    ensures kept { IfOk result (λ more. IsTrue more →
+        K.got keeper.old (notes_in due.entry.header.now buffer.new) keeper.new) }
     ensures none { IfOk result (λ more. more ≡ false → keeper.new ≡ keeper.old) }
 {
     let DueRecord { header, k } = due;

@@ -63,9 +63,11 @@ impl FileReader {
         ensures room { IfOk result (λ r. length r.current ≡ record_bytes r.head) }
         ensures failures { OnOk result (S.reads source.new ≡ S.reads source.old) }
         ensures honesty { OnOk result (IsTrue (S.is_honest source.old) → IsTrue (S.is_honest source.new)) }
-        ensures stands { IfOk result (λ r. IsTrue (S.is_honest source.old) → StandsIn r (S.left source.new) (S.left source.old)) }
-        ensures stop { IfErr result (Stops (λ f. IsTrue (S.is_honest source.old) → header_fault (S.left source.old) ≡ Some f) (Fails
-            (S.reads source.old) (S.reads source.new)) (S.reads source.new ≡ S.reads source.old)) }
+        ensures stands { IfOk result (λ r. IsTrue (S.is_honest source.old) →
+            StandsIn r (S.left source.new) (S.left source.old)) }
+        ensures stop { IfErr result (Stops (λ f. IsTrue (S.is_honest source.old) →
+            header_fault (S.left source.old) ≡ Some f) (Fails (S.reads source.old) (S.reads source.new))
+            (S.reads source.new ≡ S.reads source.old)) }
     {
         let header = Header::read(alloc, source)?;
         let buffer = vec![in alloc; 0u8; header.record_bytes()]?;
@@ -87,14 +89,18 @@ impl FileReader {
     /// after `Ok(false)` it answers `Ok(false)` and reads nothing.
     pub fn next<S: Source>(&mut self, source: &mut S) -> Result<bool, Stop>
         // What was answered last, whatever the source.
-        ensures repeats { (s : Stop) → self.old.status ≡ Stopped s → (result ≡ Err s) × (self.new ≡ self.old) × (source.new ≡ source.old) }
-        ensures ended { self.old.status ≡ Ended → (result ≡ Ok false) × (self.new ≡ self.old) × (source.new ≡ source.old) }
+        ensures repeats { (s : Stop) → self.old.status ≡ Stopped s → (result ≡ Err s) ×
+            (self.new ≡ self.old) × (source.new ≡ source.old) }
+        ensures ended { self.old.status ≡ Ended → (result ≡ Ok false) × (self.new ≡ self.old) ×
+            (source.new ≡ source.old) }
         ensures status { self.new.status ≡ status_after result }
         ensures memory { OnErr result (IsContent (status_after result)) }
         ensures head { self.new.head ≡ self.old.head }
         ensures room { length self.new.current ≡ record_bytes self.new.head }
-        ensures count { IfOk result (λ more. IsTrue more → (self.new.read ≡ self.old.read + 1) × (self.new.read ≤ (self.new.head).records)) }
-        ensures notes { IfOk result (λ more. IsTrue more → self.new.notes ≡ self.old.notes + length (notes_in self.new.head self.new.current)) }
+        ensures count { IfOk result (λ more. IsTrue more → (self.new.read ≡ self.old.read + 1) ×
+            (self.new.read ≤ (self.new.head).records)) }
+        ensures notes { IfOk result (λ more. IsTrue more →
+            self.new.notes ≡ self.old.notes + length (notes_in self.new.head self.new.current)) }
         ensures near { unsigned_abs self.new.ended < 2 ^ 71 }
         ensures later { IfOk result (λ more. IsTrue more → (self.old.ended <ℤ self.new.ended)
             × (self.new.ended ≡ start_in self.new.head self.new.current +ℤ (self.new.head).duration)) }
@@ -102,13 +108,15 @@ impl FileReader {
         ensures honesty { OnOk result (IsTrue (S.is_honest source.old) → IsTrue (S.is_honest source.new)) }
 
         // The file: the next data record, the end, or the first fault.
-        ensures comes { IfOk result (λ more. IsOpen self.old.status → IsTrue (S.is_honest source.old) → (file : List ℕ) →
-            StandsIn self.old (S.left source.old) file → Comes more self.old self.new (S.left source.new) file) }
-        ensures stop { IfErr result (λ s. IsOpen self.old.status → StopsReading
-            (λ f. (S.reads source.new ≡ S.reads source.old) × (IsTrue (S.is_honest source.old) → (file : List ℕ) →
-            StandsIn self.old (S.left source.old) file → body_fault file self.old.head ≡ Some f))
-            (Fails (S.reads source.old) (S.reads source.new)) s) }
-        ensures place { IfErr result (λ s. IsOpen self.old.status → StopsAt (place_behind self.old.head self.old.read) s) }
+        ensures comes { IfOk result (λ more. IsOpen self.old.status → IsTrue (S.is_honest source.old) →
+            (file : List ℕ) → StandsIn self.old (S.left source.old) file →
+            Comes more self.old self.new (S.left source.new) file) }
+        ensures stop { IfErr result (λ s. IsOpen self.old.status →
+            StopsReading (λ f. (S.reads source.new ≡ S.reads source.old) ×
+            (IsTrue (S.is_honest source.old) → (file : List ℕ) → StandsIn self.old (S.left source.old) file →
+            body_fault file self.old.head ≡ Some f)) (Fails (S.reads source.old) (S.reads source.new)) s) }
+        ensures place { IfErr result (λ s. IsOpen self.old.status →
+            StopsAt (place_behind self.old.head self.old.read) s) }
     {
         self.next_with(source, &mut KeepsNone)
     }
@@ -123,14 +131,18 @@ impl FileReader {
         keeper: &mut K,
     ) -> Result<bool, Stop>
         // What was answered last, whatever the source.
-        ensures repeats { (s : Stop) → self.old.status ≡ Stopped s → (result ≡ Err s) × (self.new ≡ self.old) × (source.new ≡ source.old) × (keeper.new ≡ keeper.old) }
-        ensures ended { self.old.status ≡ Ended → (result ≡ Ok false) × (self.new ≡ self.old) × (source.new ≡ source.old) × (keeper.new ≡ keeper.old) }
+        ensures repeats { (s : Stop) → self.old.status ≡ Stopped s → (result ≡ Err s) ×
+            (self.new ≡ self.old) × (source.new ≡ source.old) × (keeper.new ≡ keeper.old) }
+        ensures ended { self.old.status ≡ Ended → (result ≡ Ok false) × (self.new ≡ self.old) ×
+            (source.new ≡ source.old) × (keeper.new ≡ keeper.old) }
         ensures status { self.new.status ≡ status_after result }
         ensures memory { OnErr result (IsContent (status_after result)) }
         ensures head { self.new.head ≡ self.old.head }
         ensures room { length self.new.current ≡ record_bytes self.new.head }
-        ensures count { IfOk result (λ more. IsTrue more → (self.new.read ≡ self.old.read + 1) × (self.new.read ≤ (self.new.head).records)) }
-        ensures notes { IfOk result (λ more. IsTrue more → self.new.notes ≡ self.old.notes + length (notes_in self.new.head self.new.current)) }
+        ensures count { IfOk result (λ more. IsTrue more → (self.new.read ≡ self.old.read + 1) ×
+            (self.new.read ≤ (self.new.head).records)) }
+        ensures notes { IfOk result (λ more. IsTrue more →
+            self.new.notes ≡ self.old.notes + length (notes_in self.new.head self.new.current)) }
         ensures near { unsigned_abs self.new.ended < 2 ^ 71 }
         ensures later { IfOk result (λ more. IsTrue more → (self.old.ended <ℤ self.new.ended)
             × (self.new.ended ≡ start_in self.new.head self.new.current +ℤ (self.new.head).duration)) }
@@ -138,16 +150,19 @@ impl FileReader {
         ensures honesty { OnOk result (IsTrue (S.is_honest source.old) → IsTrue (S.is_honest source.new)) }
 
         // The file: the next data record, the end, or the first fault.
-        ensures comes { IfOk result (λ more. IsOpen self.old.status → IsTrue (S.is_honest source.old) → (file : List ℕ) →
-            StandsIn self.old (S.left source.old) file → Comes more self.old self.new (S.left source.new) file) }
-        ensures stop { IfErr result (λ s. IsOpen self.old.status → StopsReading
-            (λ f. (S.reads source.new ≡ S.reads source.old) × (IsTrue (S.is_honest source.old) → (file : List ℕ) →
-            StandsIn self.old (S.left source.old) file → body_fault file self.old.head ≡ Some f))
-            (Fails (S.reads source.old) (S.reads source.new)) s) }
-        ensures place { IfErr result (λ s. IsOpen self.old.status → StopsAt (place_behind self.old.head self.old.read) s) }
+        ensures comes { IfOk result (λ more. IsOpen self.old.status → IsTrue (S.is_honest source.old) →
+            (file : List ℕ) → StandsIn self.old (S.left source.old) file →
+            Comes more self.old self.new (S.left source.new) file) }
+        ensures stop { IfErr result (λ s. IsOpen self.old.status →
+            StopsReading (λ f. (S.reads source.new ≡ S.reads source.old) ×
+            (IsTrue (S.is_honest source.old) → (file : List ℕ) → StandsIn self.old (S.left source.old) file →
+            body_fault file self.old.head ≡ Some f)) (Fails (S.reads source.old) (S.reads source.new)) s) }
+        ensures place { IfErr result (λ s. IsOpen self.old.status →
+            StopsAt (place_behind self.old.head self.old.read) s) }
 
         // Its annotations, in order of annotation signal, TAL and text.
-        ensures kept { IfOk result (λ more. IsTrue more → K.got keeper.old (notes_in self.new.head self.new.current) keeper.new) }
+        ensures kept { IfOk result (λ more. IsTrue more →
+            K.got keeper.old (notes_in self.new.head self.new.current) keeper.new) }
         ensures none { IfOk result (λ more. (more ≡ false) → keeper.new ≡ keeper.old) }
     {
         match self.status {

@@ -50,14 +50,16 @@ fn judge_lanes<K: NoteKeeper>(
     bytes: &[u8],
     most: u32,
 ) -> Result<Option<Said>, Fault>
-    ensures said { MatchResult result
-        (λ found. (lanes_fault k (cause_of_lanes (annotation_lanes header.now.signals bytes.now)) ≡ None)
-        × (start_with found [] ≡ said_start header.now bytes.now)
-        × (texts_said found ≡ min (length (notes_of_lanes (annotation_lanes header.now.signals bytes.now))) (2 ^ 32 - 1)))
-        (λ f. lanes_fault k (cause_of_lanes (annotation_lanes header.now.signals bytes.now)) ≡ Some f) }
+    ensures said { MatchResult result (λ found.
+        (lanes_fault k (cause_of_lanes (annotation_lanes header.now.signals bytes.now)) ≡ None) ×
+        (start_with found [] ≡ said_start header.now bytes.now) ×
+        (texts_said found ≡ min (length (notes_of_lanes (annotation_lanes header.now.signals bytes.now)))
+        (2 ^ 32 - 1))) (λ f. lanes_fault k (cause_of_lanes (annotation_lanes header.now.signals bytes.now)) ≡
+        Some f) }
     ensures small { IfOk result (λ found. IfSome found (λ s. IfOk s.start (λ v. unsigned_abs v < 10 ^ 21))) }
     ensures place { IfErr result (λ f. f.place ≡ AtRecord k) }
-    ensures kept { IfOk result (λ found. texts_said found ≤ most → K.got keeper.old (notes_in header.now bytes.now) keeper.new) }
+    ensures kept { IfOk result (λ found. texts_said found ≤ most →
+        K.got keeper.old (notes_in header.now bytes.now) keeper.new) }
 {
     match said_by_lanes(keeper, header, bytes, most) {
         Ok(found) => Ok(found),
@@ -72,9 +74,9 @@ fn judge_lanes<K: NoteKeeper>(
 #[tactic(auto, unfolding(crate::specs::Faults::time_fault))]
 fn judge_time(k: u32, found: Option<Said>) -> Result<RecordStart, Fault>
     requires { IfSome found (λ s. IfOk s.start (λ v. unsigned_abs v < 10 ^ 21)) }
-    ensures judged { MatchResult result
-        (λ start. (time_fault k (start_with found []) ≡ None) × (start_with found [] ≡ Ok start.ps) × (unsigned_abs start.ps < 10 ^ 21))
-        (λ f. time_fault k (start_with found []) ≡ Some f) }
+    ensures judged { MatchResult result (λ start. (time_fault k (start_with found []) ≡ None) ×
+        (start_with found [] ≡ Ok start.ps) × (unsigned_abs start.ps < 10 ^ 21)) (λ f.
+        time_fault k (start_with found []) ≡ Some f) }
     ensures place { IfErr result (λ f. f.place ≡ AtRecord k) }
 {
     match found {
@@ -104,15 +106,16 @@ fn judge_each_lane<K: NoteKeeper>(
     bytes: &[u8],
     most: u32,
 ) -> Result<Timed, Fault>
-    ensures judged { MatchResult result
-        (λ timed. (lanes_fault k (cause_of_lanes (annotation_lanes header.now.signals bytes.now)) ≡ None)
-        × (time_fault k (said_start header.now bytes.now) ≡ None)
-        × (said_start header.now bytes.now ≡ Ok timed.start.ps)
-        × (timed.texts ≡ min (length (notes_of_lanes (annotation_lanes header.now.signals bytes.now))) (2 ^ 32 - 1)))
-        (λ f. first (timed_faults header.now k bytes.now) ≡ Some f) }
+    ensures judged { MatchResult result (λ timed.
+        (lanes_fault k (cause_of_lanes (annotation_lanes header.now.signals bytes.now)) ≡ None) ×
+        (time_fault k (said_start header.now bytes.now) ≡ None) ×
+        (said_start header.now bytes.now ≡ Ok timed.start.ps) ×
+        (timed.texts ≡ min (length (notes_of_lanes (annotation_lanes header.now.signals bytes.now)))
+        (2 ^ 32 - 1))) (λ f. first (timed_faults header.now k bytes.now) ≡ Some f) }
     ensures small { IfOk result (λ timed. unsigned_abs timed.start.ps < 10 ^ 21) }
     ensures place { IfErr result (λ f. f.place ≡ AtRecord k) }
-    ensures kept { IfOk result (λ timed. timed.texts ≤ most → K.got keeper.old (notes_in header.now bytes.now) keeper.new) }
+    ensures kept { IfOk result (λ timed. timed.texts ≤ most →
+        K.got keeper.old (notes_in header.now bytes.now) keeper.new) }
 {
     let found = judge_lanes(keeper, header, k, bytes, most)?;
     let start = judge_time(k, found)?;
@@ -132,15 +135,16 @@ fn judge_timed<K: NoteKeeper>(
     bytes: &[u8],
     most: u32,
 ) -> Result<Timed, Fault>
-    ensures judged { MatchResult result
-        (λ timed. (lanes_fault k (cause_of_lanes (annotation_lanes header.now.signals bytes.now)) ≡ None)
-        × (time_fault k (said_start header.now bytes.now) ≡ None)
-        × (said_start header.now bytes.now ≡ Ok timed.start.ps)
-        × (timed.texts ≡ min (length (notes_of_lanes (annotation_lanes header.now.signals bytes.now))) (2 ^ 32 - 1)))
-        (λ f. first (timed_faults header.now k bytes.now) ≡ Some f) }
+    ensures judged { MatchResult result (λ timed.
+        (lanes_fault k (cause_of_lanes (annotation_lanes header.now.signals bytes.now)) ≡ None) ×
+        (time_fault k (said_start header.now bytes.now) ≡ None) ×
+        (said_start header.now bytes.now ≡ Ok timed.start.ps) ×
+        (timed.texts ≡ min (length (notes_of_lanes (annotation_lanes header.now.signals bytes.now)))
+        (2 ^ 32 - 1))) (λ f. first (timed_faults header.now k bytes.now) ≡ Some f) }
     ensures small { IfOk result (λ timed. unsigned_abs timed.start.ps < 10 ^ 21) }
     ensures place { IfErr result (λ f. f.place ≡ AtRecord k) }
-    ensures kept { IfOk result (λ timed. timed.texts ≤ most → K.got keeper.old (notes_in header.now bytes.now) keeper.new) }
+    ensures kept { IfOk result (λ timed. timed.texts ≤ most →
+        K.got keeper.old (notes_in header.now bytes.now) keeper.new) }
 {
     match lone_time(header, bytes) {
         Some(ps) => Ok(Timed {
@@ -171,7 +175,8 @@ fn judge_and_keep<K: NoteKeeper>(
         (λ f. record_fault header.now k before.ended_ps before.notes bytes.now ≡ Some f) }
     ensures few { IfOk result (λ after. after.notes ≤ 1000000) }
     ensures small { IfOk result (λ after. unsigned_abs after.ended_ps < 2 ^ 71) }
-    ensures later { IfOk result (λ after. (k ≡ 0 → before.ended_ps ≡ pos 0) → before.ended_ps <ℤ after.ended_ps) }
+    ensures later { IfOk result (λ after. (k ≡ 0 → before.ended_ps ≡ pos 0) →
+        before.ended_ps <ℤ after.ended_ps) }
     ensures place { IfErr result (λ f. f.place ≡ AtRecord k) }
     ensures kept { OnOk result (K.got keeper.old (notes_in header.now bytes.now) keeper.new) }
 {
@@ -204,7 +209,8 @@ fn judge_then_keep<K: NoteKeeper>(
         (λ f. record_fault header.now k before.ended_ps before.notes bytes.now ≡ Some f) }
     ensures few { IfOk result (λ after. after.notes ≤ 1000000) }
     ensures small { IfOk result (λ after. unsigned_abs after.ended_ps < 2 ^ 71) }
-    ensures later { IfOk result (λ after. (k ≡ 0 → before.ended_ps ≡ pos 0) → before.ended_ps <ℤ after.ended_ps) }
+    ensures later { IfOk result (λ after. (k ≡ 0 → before.ended_ps ≡ pos 0) →
+        before.ended_ps <ℤ after.ended_ps) }
     ensures place { IfErr result (λ f. f.place ≡ AtRecord k) }
     ensures kept { OnOk result (K.got keeper.old (notes_in header.now bytes.now) keeper.new) }
 {
@@ -235,7 +241,8 @@ pub(crate) fn judge_record<K: NoteKeeper>(
         (λ f. record_fault header.now k before.ended_ps before.notes bytes.now ≡ Some f) }
     ensures few { IfOk result (λ after. after.notes ≤ 1000000) }
     ensures small { IfOk result (λ after. unsigned_abs after.ended_ps < 2 ^ 71) }
-    ensures later { IfOk result (λ after. (k ≡ 0 → before.ended_ps ≡ pos 0) → before.ended_ps <ℤ after.ended_ps) }
+    ensures later { IfOk result (λ after. (k ≡ 0 → before.ended_ps ≡ pos 0) →
+        before.ended_ps <ℤ after.ended_ps) }
     ensures place { IfErr result (λ f. f.place ≡ AtRecord k) }
     ensures kept { OnOk result (K.got keeper.old (notes_in header.now bytes.now) keeper.new) }
 {

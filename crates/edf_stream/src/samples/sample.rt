@@ -58,7 +58,8 @@ pub(crate) fn push_lane(
     requires den { grid.den ≤ 2 ^ 23 }
     requires lane { length lane.now < 2 ^ 25 }
     requires small { All (λ x. IsSmall x.instant) samples.old.items }
-    ensures value { OnOk result (samples.new.items ≡ samples.old.items ++ lane_samples channel grid.den grid.start grid.step lane.now) }
+    ensures value { OnOk result (samples.new.items ≡ samples.old.items ++
+        lane_samples channel grid.den grid.start grid.step lane.now) }
     ensures small { OnOk result (All (λ x. IsSmall x.instant) samples.new.items) }
 {
     for place in 0..lane.len() / 2 {
@@ -82,8 +83,8 @@ fn push_signal(
     requires some { 0 < signal.now.samples }
     requires lane { signal.now.samples ≤ 2 ^ 23 }
     requires small { All (λ x. IsSmall x.instant) samples.old.items }
-    ensures value { OnOk result (samples.new.items ≡
-        samples.old.items ++ samples_by channel time.start_ps time.duration_ps (channels_among (signal.now ∷ [])) bytes.now) }
+    ensures value { OnOk result (samples.new.items ≡ samples.old.items ++
+        samples_by channel time.start_ps time.duration_ps (channels_among (signal.now ∷ [])) bytes.now) }
     ensures next { IfOk result (λ next. next ≡ channel + length (channels_among (signal.now ∷ []))) }
     ensures small { OnOk result (All (λ x. IsSmall x.instant) samples.new.items) }
 {
@@ -105,8 +106,8 @@ pub(crate) fn push_samples(
     requires start { unsigned_abs time.start_ps < 2 ^ 79 }
     requires duration { unsigned_abs time.duration_ps < 2 ^ 68 }
     requires small { All (λ x. IsSmall x.instant) samples.old.items }
-    ensures value { OnOk result (samples.new.items ≡
-        samples.old.items ++ samples_by 0 time.start_ps time.duration_ps (channels_among header.now.signals) bytes.now) }
+    ensures value { OnOk result (samples.new.items ≡ samples.old.items ++
+        samples_by 0 time.start_ps time.duration_ps (channels_among header.now.signals) bytes.now) }
     ensures small { OnOk result (All (λ x. IsSmall x.instant) samples.new.items) }
 {
     let mut channel = 0;

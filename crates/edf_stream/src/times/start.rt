@@ -60,7 +60,8 @@ pub(crate) fn judge_start(
     before: Progress,
     start: RecordStart,
 ) -> Result<(), Fault>
-    ensures judged { MatchResult result (λ _. start_fault kind k before.ended_ps start.ps ≡ None) (λ f. start_fault kind k before.ended_ps start.ps ≡ Some f) }
+    ensures judged { MatchResult result (λ _. start_fault kind k before.ended_ps start.ps ≡ None) (λ f.
+        start_fault kind k before.ended_ps start.ps ≡ Some f) }
 
     ensures place { IfErr result (λ f. f.place ≡ AtRecord k) }
 

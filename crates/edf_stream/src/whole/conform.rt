@@ -61,7 +61,8 @@ impl Summary {
     pub fn of(header: &Header, annotations: u64) -> Summary
         ensures records { result.records ≡ header.now.records }
         ensures channels { result.channels ≡ length (channels_among header.now.signals) }
-        ensures samples { result.samples ≡ header.now.records * samples_together (channels_among header.now.signals) }
+        ensures samples { result.samples ≡ header.now.records * samples_together
+            (channels_among header.now.signals) }
         ensures few { result.samples < 2 ^ 50 }
         ensures annotations { result.annotations ≡ annotations }
     {
@@ -81,7 +82,8 @@ impl FileReader {
     fn summary(&self) -> Summary
         ensures records { result.records ≡ (self.now.head).records }
         ensures channels { result.channels ≡ length (channels_among (self.now.head).signals) }
-        ensures samples { result.samples ≡ (self.now.head).records * samples_together (channels_among (self.now.head).signals) }
+        ensures samples { result.samples ≡ (self.now.head).records * samples_together
+            (channels_among (self.now.head).signals) }
         ensures annotations { result.annotations ≡ self.now.notes }
     {
         Summary::of(&self.header, u64::from(self.progress.notes))
@@ -93,9 +95,11 @@ impl FileReader {
 /// memory. The source is read to its end on `Ok`.
 pub fn conform<S: Source>(alloc: Global, source: &mut S) -> Result<Summary, Stop>
     ensures failures { OnOk result (S.reads source.new ≡ S.reads source.old) }
-    ensures conforms { IfOk result (λ summary. IsTrue (S.is_honest source.old) → IsSummed (S.left source.old) (S.left source.new) summary) }
-    ensures stop { IfErr result (Stops (λ f. IsTrue (S.is_honest source.old) → file_fault (S.left source.old) ≡ Some f) (Fails
-        (S.reads source.old) (S.reads source.new)) (S.reads source.new ≡ S.reads source.old)) }
+    ensures conforms { IfOk result (λ summary. IsTrue (S.is_honest source.old) →
+        IsSummed (S.left source.old) (S.left source.new) summary) }
+    ensures stop { IfErr result (Stops (λ f. IsTrue (S.is_honest source.old) →
+        file_fault (S.left source.old) ≡ Some f) (Fails (S.reads source.old) (S.reads source.new))
+        (S.reads source.new ≡ S.reads source.old)) }
 {
     let mut reader = match FileReader::begin(alloc, source) {
         Ok(reader) => reader,

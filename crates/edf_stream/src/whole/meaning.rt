@@ -49,7 +49,8 @@ impl Meaning {
         requires current { IsTrue (is_current reader.now.status) }
         requires small { All (λ x. IsSmall x.instant) self.old.samples.items }
         requires near { All IsNear self.old.notes.items }
-        ensures samples { OnOk result (self.new.samples.items ≡ self.old.samples.items ++ samples_in reader.now.head reader.now.current) }
+        ensures samples { OnOk result (self.new.samples.items ≡ self.old.samples.items ++
+            samples_in reader.now.head reader.now.current) }
         ensures notes { OnOk result (map note_value self.new.notes.items ≡ map note_value self.old.notes.items
             ++ moved_notes_in reader.now.head reader.now.current) }
         ensures small { OnOk result (All (λ x. IsSmall x.instant) self.new.samples.items) }
@@ -66,7 +67,8 @@ impl FileReader {
     fn push_samples(&self, samples: &mut Vec<Sample>) -> Result<(), AllocError>
         requires current { IsTrue (is_current self.now.status) }
         requires small { All (λ x. IsSmall x.instant) samples.old.items }
-        ensures value { OnOk result (samples.new.items ≡ samples.old.items ++ samples_in self.now.head self.now.current) }
+        ensures value { OnOk result (samples.new.items ≡ samples.old.items ++
+            samples_in self.now.head self.now.current) }
         ensures small { OnOk result (All (λ x. IsSmall x.instant) samples.new.items) }
     {
         let time = RecordTime::new(&self.header, self.start_ps());
@@ -78,7 +80,8 @@ impl FileReader {
     fn push_notes(&self, alloc: Global, notes: &mut Vec<Note>) -> Result<(), AllocError>
         requires current { IsTrue (is_current self.now.status) }
         requires near { All IsNear notes.old.items }
-        ensures value { OnOk result (map note_value notes.new.items ≡ map note_value notes.old.items ++ moved_notes_in self.now.head self.now.current) }
+        ensures value { OnOk result (map note_value notes.new.items ≡ map note_value notes.old.items ++
+            moved_notes_in self.now.head self.now.current) }
         ensures near { OnOk result (All IsNear notes.new.items) }
     {
         let file_start = file_start_ps(&self.header);
@@ -99,11 +102,12 @@ impl FileReader {
         ensures near { IfOk result (λ found. All IsNear found.1.notes.items) }
         ensures failures { OnOk result (S.reads source.new ≡ S.reads source.old) }
         ensures honesty { OnOk result (IsTrue (S.is_honest source.old) → IsTrue (S.is_honest source.new)) }
-        ensures meaning { IfOk result (λ found. IsTrue (S.is_honest source.old) → (file : List ℕ) → StandsIn self (S.left source.old) file →
-            IsMeaning file self.head (S.left source.new) found.1) }
-        ensures stop { IfErr result (Stops
-            (λ f. IsTrue (S.is_honest source.old) → (file : List ℕ) → StandsIn self (S.left source.old) file → body_fault file self.head ≡ Some f)
-            (Fails (S.reads source.old) (S.reads source.new)) (S.reads source.new ≡ S.reads source.old)) }
+        ensures meaning { IfOk result (λ found. IsTrue (S.is_honest source.old) → (file : List ℕ) →
+            StandsIn self (S.left source.old) file → IsMeaning file self.head (S.left source.new) found.1) }
+        ensures stop { IfErr result (Stops (λ f. IsTrue (S.is_honest source.old) → (file : List ℕ) →
+            StandsIn self (S.left source.old) file →
+            body_fault file self.head ≡ Some f) (Fails (S.reads source.old) (S.reads source.new))
+            (S.reads source.new ≡ S.reads source.old)) }
     {
         let mut reader = self;
         let mut meaning = Meaning::new(alloc);
@@ -123,10 +127,13 @@ pub fn whole_file<S: Source>(alloc: Global, source: &mut S) -> Result<(Header, M
     ensures small { IfOk result (λ found. All (λ x. IsSmall x.instant) found.1.samples.items) }
     ensures near { IfOk result (λ found. All IsNear found.1.notes.items) }
     ensures failures { OnOk result (S.reads source.new ≡ S.reads source.old) }
-    ensures head { IfOk result (λ found. IsTrue (S.is_honest source.old) → found.0 ≡ head_of (S.left source.old)) }
-    ensures meaning { IfOk result (λ found. IsTrue (S.is_honest source.old) → IsWhole (S.left source.old) (S.left source.new) found.1) }
-    ensures stop { IfErr result (Stops (λ f. IsTrue (S.is_honest source.old) → file_fault (S.left source.old) ≡ Some f) (Fails
-        (S.reads source.old) (S.reads source.new)) (S.reads source.new ≡ S.reads source.old)) }
+    ensures head { IfOk result (λ found. IsTrue (S.is_honest source.old) →
+        found.0 ≡ head_of (S.left source.old)) }
+    ensures meaning { IfOk result (λ found. IsTrue (S.is_honest source.old) →
+        IsWhole (S.left source.old) (S.left source.new) found.1) }
+    ensures stop { IfErr result (Stops (λ f. IsTrue (S.is_honest source.old) →
+        file_fault (S.left source.old) ≡ Some f) (Fails (S.reads source.old) (S.reads source.new))
+        (S.reads source.new ≡ S.reads source.old)) }
 {
     let reader = FileReader::begin(alloc, source)?;
     let (header, meaning) = reader.into_meaning(alloc, source)?;
@@ -138,9 +145,11 @@ pub fn whole_meaning<S: Source>(alloc: Global, source: &mut S) -> Result<Meaning
     ensures small { IfOk result (λ meaning. All (λ x. IsSmall x.instant) meaning.samples.items) }
     ensures near { IfOk result (λ meaning. All IsNear meaning.notes.items) }
     ensures failures { OnOk result (S.reads source.new ≡ S.reads source.old) }
-    ensures meaning { IfOk result (λ meaning. IsTrue (S.is_honest source.old) → IsWhole (S.left source.old) (S.left source.new) meaning) }
-    ensures stop { IfErr result (Stops (λ f. IsTrue (S.is_honest source.old) → file_fault (S.left source.old) ≡ Some f) (Fails
-        (S.reads source.old) (S.reads source.new)) (S.reads source.new ≡ S.reads source.old)) }
+    ensures meaning { IfOk result (λ meaning. IsTrue (S.is_honest source.old) →
+        IsWhole (S.left source.old) (S.left source.new) meaning) }
+    ensures stop { IfErr result (Stops (λ f. IsTrue (S.is_honest source.old) →
+        file_fault (S.left source.old) ≡ Some f) (Fails (S.reads source.old) (S.reads source.new))
+        (S.reads source.new ≡ S.reads source.old)) }
 {
     match whole_file(alloc, source) {
         Ok((_header, meaning)) => Ok(meaning),

@@ -27,7 +27,8 @@ fn count_pair(
 )
     requires original { IfSome pair.original (IsTrack original.now.head) }
     requires export { IfSome pair.export (IsTrack export.now.head) }
-    requires original_share { shares.now.is_kept ≡ true → HasShare original.now pair.original shares.now.original }
+    requires original_share { shares.now.is_kept ≡ true →
+        HasShare original.now pair.original shares.now.original }
     requires export_share { HasShare export.now pair.export shares.now.export }
     ensures { IsPairCounted original.now export.now shares.now pair tally.old tally.new }
 {
@@ -82,7 +83,8 @@ impl Counts {
     /// The error is want of memory.
     pub fn new(alloc: Global, frame: Frame<'_>) -> Result<Counts, AllocError>
         ensures each { IfOk result (λ w. length w.tallies.items ≡ length (frame.entry.pairs).now) }
-        ensures none { IfOk result (λ w. (files : TwoFiles) (t : ℤ) → w.tallies.items ≡ counts_between frame.entry files t t) }
+        ensures none { IfOk result (λ w. (files : TwoFiles) (t : ℤ) →
+            w.tallies.items ≡ counts_between frame.entry files t t) }
     {
         let mut tallies = Vec::new(alloc);
         for _ in frame.pairs {

@@ -26,7 +26,8 @@ fn shows_the_same(
     frame: Frame<'_>,
     within: Window,
 ) -> bool
-    ensures kept { IsTrue result → keeps_instant ((frame.entry.turn).setting.claim).now (within.from).ps 1 ≡ true }
+    ensures kept { IsTrue result → keeps_instant ((frame.entry.turn).setting.claim).now (within.from).ps 1 ≡
+        true }
     ensures alike { IsTrue result → AreAlikeIn frame.entry original.now export.now }
 {
     let setting = frame.turn.setting;
