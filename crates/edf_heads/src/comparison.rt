@@ -44,8 +44,11 @@ impl<'a> Comparison<'a> {
         export: &'a Header,
         claim: &'a Claim,
     ) -> Result<Comparison<'a>, AllocError>
-        ensures { IfOk result (λ c. c ≡ record { original = original.entry.now; export = export.entry.now;
-            claim = claim.entry.now }) }
+        ensures { IfOk result (λ c. c ≡ record {
+          original = original.entry.now;
+          export = export.entry.now;
+          claim = claim.entry.now;
+        }) }
     {
         let labels = in_order(alloc, claim.channels())?;
         let channels = ChannelIndex::new(alloc, original)?;

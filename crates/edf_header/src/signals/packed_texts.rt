@@ -49,8 +49,12 @@ impl PackedTexts {
     ) -> Result<PackedTexts, AllocError>
         requires { length transducer.now + length dimension.now + length prefilter.now + length
             reserved.now < 256 }
-        ensures { IfOk result (λ t. t ≡ record { transducer = transducer.now; dimension = dimension.now;
-            prefilter = prefilter.now; reserved = reserved.now }) }
+        ensures { IfOk result (λ t. t ≡ record {
+          transducer = transducer.now;
+          dimension = dimension.now;
+          prefilter = prefilter.now;
+          reserved = reserved.now;
+        }) }
     {
         let mut bytes = Vec::with_capacity(
             alloc,
