@@ -15,11 +15,12 @@ mod stand;
 mod starts;
 
 pub use clock::start_of;
+pub use edf_pace::OnlyInOne;
 pub use heads::cut_off::are_extremes_cut_off;
 pub use heads::exchanged::{Exchange, exchange_of, has_subfield, have_same_texts};
 pub use limits::MOST_SHIFT;
 pub use looker::Looker;
-pub use notes::both::{Notes, OnlyInOne};
+pub use notes::both::Notes;
 pub use notes::ends::is_at_end;
 pub use notes::one_way::{OneWay, one_way};
 pub use part::SeenPart;

@@ -1,11 +1,12 @@
 //! What an original and its exports differ in that were read to their ends.
 
-use crate::notes::both::{Notes, OnlyInOne};
+use crate::notes::both::Notes;
 use crate::part::SeenPart;
 use crate::samples::compared::ComparedChannel;
 use crate::starts::Starts;
 use edf_claim::Claim;
 use edf_header::Header;
+use edf_pace::OnlyInOne;
 use edf_stream::FileReader;
 use std::alloc::{AllocError, Global};
 

@@ -1,6 +1,7 @@
 -- What the crates above cite of this crate's proofs; they cite nothing else of it.
 pub use Rattle.edf_pace.proofs.notes.NoteFacts.{note-apart, note-total, one-note}
 pub use Rattle.edf_pace.proofs.notes.NoteOrderFacts.{Answer, AreInOrder, more-with, once, turn, unequal-exact}
+pub use Rattle.edf_pace.proofs.notes.OnlyInOneFacts.{none_is_found}
 pub use Rattle.edf_pace.proofs.notes.RearrangedFacts.{notes_in_words}
 pub use Rattle.edf_pace.proofs.samples.CutFacts.{earlier_from}
 pub use Rattle.edf_pace.proofs.samples.DifferenceFacts.{Differ, HasValue, IsAscending, IsLeastDifference, Match, exact, match_not_differ, partner_at}

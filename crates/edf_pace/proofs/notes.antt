@@ -1,4 +1,4 @@
 pub mod NoteFacts
 pub mod RearrangedFacts
 pub mod NoteOrderFacts
-pub mod NoteTallyFacts
+pub mod OnlyInOneFacts

@@ -1,2 +1,2 @@
 pub mod NoteOrder
-pub mod NoteTallies
+pub mod OnlyInOne

@@ -11,7 +11,7 @@ mod walk;
 
 pub use bytes::first_difference;
 pub use notes::note_difference::{NoteDifference, note_difference};
-pub use notes::note_tally::{NoteTally, count_notes};
+pub use notes::only_in_one::{OnlyInOne, only_in_one};
 pub use notes::unequal::Unequal;
 pub use samples::difference::PointDifference;
 pub use samples::earliest::Found;

@@ -1,9 +1,15 @@
 //! The annotations of both files, and which of them only one has.
 
+ghost use Rattle.std.specs.Prelude.{◌≡◌, ◌↔◌, [], map, IfOk};
+ghost use Rattle.std.specs.List.Sorted.{IsPermutation};
+ghost use Rattle.edf_pace.specs.Annotations.{SameNotes};
+ghost use Rattle.edf_pace.specs.notes.OnlyInOne.{AreOnlyInOne};
+ghost use Rattle.edf_stream.specs.Views.{note_value};
+
 use edf_claim::Claim;
+use edf_pace::{OnlyInOne, only_in_one};
 use edf_stream::{Annotations, Note, OwnText};
 use std::alloc::{AllocError, Global};
-use std::cmp::Ordering;
 
 /// The annotations of both files. Onsets are picoseconds after the second at which the original starts.
 #[derive(Drop)]
@@ -14,52 +20,6 @@ pub struct Notes {
     pub hidden: Vec<OwnText>,
     /// The annotations that the export has.
     pub exported: Vec<Note>,
-}
-
-/// The places of annotations that only one of the files has.
-#[derive(Drop)]
-pub struct OnlyInOne {
-    /// The places among those that are kept.
-    pub missing: Vec<usize>,
-    /// The places among those of the export.
-    pub extra: Vec<usize>,
-}
-
-/// How the first of two annotations stand to one another: the one that is there comes before one that isn't.
-fn order_of(kept: Option<&Note>, exported: Option<&Note>) -> Ordering {
-    match (kept, exported) {
-        (Some(kept), Some(exported)) => kept.cmp(exported),
-        (Some(_), None) => Ordering::Less,
-        (None, _) => Ordering::Greater,
-    }
-}
-
-/// The places of the annotations that only one of the two sorted lists has, as often as it has them more often.
-fn only_in_one(alloc: Global, kept: &[Note], exported: &[Note]) -> Result<OnlyInOne, AllocError> {
-    let mut missing = Vec::new(alloc);
-    let mut extra = Vec::new(alloc);
-    let mut old: usize = 0;
-    let mut new: usize = 0;
-    for _ in 0..kept.len().saturating_add(exported.len()) {
-        if old >= kept.len() && new >= exported.len() {
-            break;
-        }
-        match order_of(kept.get(old), exported.get(new)) {
-            Ordering::Less => {
-                missing.push(old)?;
-                old = old.saturating_add(1);
-            }
-            Ordering::Greater => {
-                extra.push(new)?;
-                new = new.saturating_add(1);
-            }
-            Ordering::Equal => {
-                old = old.saturating_add(1);
-                new = new.saturating_add(1);
-            }
-        }
-    }
-    Ok(OnlyInOne { missing, extra })
 }
 
 impl Notes {
@@ -89,8 +49,16 @@ impl Notes {
         Ok(())
     }
 
-    /// The annotations that only one of the files has. All are put in order before.
-    pub fn only_in_one(&mut self, alloc: Global) -> Result<OnlyInOne, AllocError> {
+    /// The places of the annotations that only one of the files has, as often as it has them more often; none exactly where each
+    /// stands equally often in both. All are put in order before.
+    pub fn only_in_one(&mut self, alloc: Global) -> Result<OnlyInOne, AllocError>
+        ensures kept { IfOk result (λ only. IsPermutation self.old.kept.items self.new.kept.items) }
+        ensures exported { IfOk result (λ only. IsPermutation self.old.exported.items
+            self.new.exported.items) }
+        ensures value { IfOk result (λ only. AreOnlyInOne self.new.kept.items self.new.exported.items only) }
+        ensures none { IfOk result (λ only. ((only.missing.items ≡ []) × (only.extra.items ≡ [])) ↔
+            SameNotes (map note_value self.old.kept.items) (map note_value self.old.exported.items)) }
+    {
         self.kept.sort_unstable();
         self.exported.sort_unstable();
         only_in_one(alloc, &self.kept, &self.exported)

@@ -1,6 +1,7 @@
 //! Annotations that all differ in one way.
 
-use crate::notes::both::{Notes, OnlyInOne};
+use crate::notes::both::Notes;
+use edf_pace::OnlyInOne;
 use edf_stream::Note;
 use std::alloc::{AllocError, Global};
 
