@@ -12,8 +12,9 @@ from tests.cases import rows_of
 from tests.cases.parts import FIRST, JUST_EARLY, KEPT_TIME, SECOND, SECONDS, changed, second
 from tests.cases.small_night import BOTH, LANE_0, LANE_1, NIGHT, VALUES_0, VALUES_1
 from tests.edf import field, lane, signal, values
-from tests.explain import sentences
+from tests.explain import sentences, tries
 from tests.harness import ProgramCase, each
+from tests.made import PS, Claimed
 from tests.recordings import bytes_of, claim_of, recording
 
 ALL_OF_IT = claim_of(BOTH, "", [("0", "4")])
@@ -119,6 +120,20 @@ ROWS = [
         ["Part 0", "The original can't"],
     ),
     ("an_empty_first_half", [recording(length=0, base=FIRST), SECOND], 1, [behind(0, "The export can't"), "The file is empty"], ["Part 1"]),
+    (
+        "two_broken_halves",
+        [recording(length=-1, base=FIRST), recording(length=-2, base=SECOND)],
+        1,
+        [behind(number, "The export can't be judged. Its first fault is: Truncated at record 1.") for number in range(2)],
+        ["The original can't", "Part 2"],
+    ),
+    (
+        "a_broken_half_between_two",
+        [SECONDS[0], recording(length=-1, base=SECONDS[1]), SECONDS[2], recording(length=0, base=SECONDS[3])],
+        1,
+        [behind(1, "The export can't be judged. Its first fault is: Truncated at record 0."), behind(3, "The export can't"), "is empty"],
+        ["The original can't", "Part 0", "Part 2"],
+    ),
 ]
 
 # A name in the header of the second half alone, where a claim hides the patient's name.
@@ -165,6 +180,70 @@ class Rows(ExplainPartsCase):
         named = changed(SECOND, HIDDEN, (signal(1, "transducer"), NAME))
         text, _ = self.explained(bytes_of(NIGHT), claim, [bytes_of(changed(FIRST, HIDDEN)), bytes_of(named)])
         self.assertEqual(text.count(f'A text of channel "ECG" has something spelled like a word of the patient\'s name: "{NAME}".'), 1, text)
+
+
+HALVES = [tries.NIGHT.cut(10, 40), tries.NIGHT.cut(40, 70)]
+MOVED = [half.but(shift=-tries.DAY) for half in HALVES]
+LAST_NOTE = (70 * PS, None, "Lights on")
+ENDED = tries.NIGHT.but(stretches=[(0, 70)], notes=[*tries.NIGHT.notes, LAST_NOTE])
+ENDED_HALVES = [HALVES[0], ENDED.cut(40, 71).but(stretches=[(40, 70)])]
+YES = "the answer would be YES parts 2 channels 2 samples 360 annotations"
+TRIED = ["With shift", "With channels", "With to", "were tried", "What follows is worked out"]
+
+# What is tried: the original, the exports and the claim; what has to be said, and what not.
+TRIES = [
+    ("a_forgotten_shift", tries.NIGHT, HALVES, tries.of_ten(),
+     [f"With shift = 0 {YES} 1.", "no sample and no annotation is listed", *(
+         behind(number, "The export starts 1 day later than claimed") for number in range(2))],
+     [*tries.LISTED, "were tried", "together", "With channels", "With to"]),
+    ("a_forgotten_shift_and_a_lost_annotation", tries.NIGHT, [HALVES[0], HALVES[1].but(notes=[])], tries.of_ten(),
+     [f"With shift = 0 the first difference would be NO 11 annotation missing at {50 * PS} ps duration none text \"Apnea\".",
+      "With it all samples are as claimed. What follows is worked out with shift = 0.", behind(0, AS_CLAIMED) + behind(1, AS_CLAIMED),
+      "The annotations of all parts together:\nThe export lacks 1 annotation"],
+     ["missing in the export", "another value", "1 day later", "With to"]),
+    ("a_forgotten_shift_and_another_value", tries.NIGHT, [HALVES[0], HALVES[1].changed("ECG", 100, -1)], tries.of_ten(),
+     [f"With shift = 0 the first difference would be NO 10 sample \"ECG\" at {50 * PS} ps original {tries.ecg(50)} export -1.",
+      f"What follows is worked out with shift = {-tries.DAY}, as claimed.", '"ECG": 60 samples that the claim keeps are missing'],
+     ["all samples are as claimed", "were tried", "would be YES"]),
+    ("a_cut_that_begins_a_second_late", tries.NIGHT, [tries.NIGHT.cut(11, 40, -tries.DAY), MOVED[1]], tries.of_ten(),
+     [f"Other shifts were tried, and with none of them the first samples are as claimed: {-tries.DAY + 1}, 0, {tries.DAY}. "
+      "It looks like the export was cut elsewhere",
+      behind(0, "The export starts 1 s later than claimed"), '"EEG Fpz-Cz": 4 samples that the claim keeps are missing', behind(1, AS_CLAIMED)],
+     ["With shift", "another value"]),
+    ("the_right_shift_and_another_value", tries.NIGHT, [MOVED[0], MOVED[1].changed("ECG", 100, -1)], tries.of_ten(),
+     [behind(0, AS_CLAIMED), behind(1, '"ECG": 1 sample has another value')], TRIED),
+    ("a_misspelt_channel", tries.NIGHT, HALVES, Claimed(["EEG Fpz-Cz", "EGC"], [(10, 70)]),
+     [f'With channels = ["EEG Fpz-Cz", "ECG"] {YES} 1.'], ["With shift", "With to", "were tried"]),
+    ("a_channel_of_another_name", tries.NIGHT, HALVES, Claimed(["EEG Fpz-Cz", "Blood pressure"], [(10, 70)]),
+     [f'With channels = ["EEG Fpz-Cz", "ECG"] {YES} 1.'], ["With shift", "With to", "were tried"]),
+    ("an_annotation_at_the_end", ENDED, ENDED_HALVES, Claimed(tries.BOTH, [(10, 70)]),
+     [f'With to = "70.000000000001" in place of "70" {YES} 2.', behind(0, AS_CLAIMED) + behind(1, AS_CLAIMED)],
+     ["With shift", "With channels", "were tried"]),
+    ("an_annotation_behind_the_end", ENDED, [HALVES[0], HALVES[1].but(notes=[*HALVES[1].notes, (71 * PS, None, "Lights on")])],
+     Claimed(tries.BOTH, [(10, 70)]),
+     ["has 1 annotation"], TRIED),
+]
+
+
+class Tries(ExplainPartsCase):
+    """Changes of the claim that are named, each of which was tried on all exports together."""
+
+    @each(TRIES)
+    def row(self, original, exports, claim, there, absent):
+        text, given = self.explained(original.bytes(), claim.text(), [export.bytes() for export in exports])
+        self.assertEqual(given, 1, text)
+        self.assertEqual([word for word in there if word not in text], [], f"words that lack: {text}")
+        self.assertEqual([word for word in absent if word in text], [], f"words that are said: {text}")
+
+    def test_faults_behind_the_original(self):
+        """Behind a fault of the original, that of each export that has one is said, too."""
+        broken = recording(length=-1, base=NIGHT)
+        exports = [bytes_of(FIRST), bytes_of(recording(length=-1, base=SECOND))]
+        text, given = self.explained(bytes_of(broken), ALL_OF_IT, exports)
+        self.assertEqual(given, 1, text)
+        self.assertIn("The original can't be judged. Its first fault is: Truncated at record 3.", text)
+        self.assertIn(behind(1, "The export can't be judged. Its first fault is: Truncated at record 1."), text)
+        self.assertNotIn("Part 0", text)
 
 
 class Checks(ExplainPartsCase):

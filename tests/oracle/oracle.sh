@@ -9,11 +9,12 @@
 # 1700 cases for the readers, 1000 for the run on two files, 2000 for that on several exports, and 10,000 honest exports
 # for the drafts, under each of which the second reading has to say the Yes that it says under the claim itself. The
 # toolchain lets a program run for 120 seconds and print 1 MB, so the cases of the last two are cut into several runs.
-# Each of the four ends with a line 'N passed, M failed'. Where the proved program stands, three more follow, each with a
-# line of the same kind: 2,000 wrong exports, of which what it explains is recounted from how they were made
-# (tests/oracle/honesty.py); 10,000 honest ones that were moved by any number of seconds, of which fewer than one in 100
-# has a draft that isn't a Yes (tests/oracle/moved_drafts.py); and 2,000 honest ones in two to four parts, each with a draft
-# that is a Yes (tests/oracle/drafted_parts.py).
+# Each of the four ends with a line 'N passed, M failed'. Where the proved program stands, four more follow, each with a
+# line of the same kind: 10,000 wrong exports, of which what it explains is recounted from how they were made
+# (tests/oracle/honesty.py), and 2,000 in one to four parts (tests/oracle/honest_parts.py); 10,000 honest ones that were
+# moved by any number of seconds, of which fewer than one in 100 has a draft that isn't a Yes
+# (tests/oracle/moved_drafts.py); and 2,000 honest ones in two to four parts, each with a draft that is a Yes
+# (tests/oracle/drafted_parts.py).
 set -euo pipefail
 
 seed=${1:-1}
@@ -93,7 +94,8 @@ python3 -m tests.reading.draft_rules "$work/all_cases" "$work/all_given" || fail
 
 program=crates/edfclaim/out/edfclaim
 if [ -x "$program" ]; then
-    python3 -m tests.oracle.honesty "$program" 2000 "$seed" || failed=1
+    python3 -m tests.oracle.honesty "$program" 10000 "$seed" || failed=1
+    python3 -m tests.oracle.honest_parts "$program" 2000 "$seed" || failed=1
     python3 -m tests.oracle.moved_drafts "$program" 10000 "$seed" || failed=1
     python3 -m tests.oracle.drafted_parts "$program" 2000 "$seed" || failed=1
 else

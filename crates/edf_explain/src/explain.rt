@@ -10,7 +10,7 @@ use crate::differences::samples::say_samples;
 use crate::differences::starts::say_starts;
 use crate::faults::{say_fault, say_fault_of_export};
 use crate::heads::Heads;
-use crate::tried::answers::Asked;
+use crate::tried::answers::{Asked, OneExport};
 use crate::tried::other_channels::say_other_channels;
 use crate::tried::other_end::say_other_end;
 use crate::tried::shifts::TriedShifts;
@@ -63,7 +63,7 @@ struct Both<'a, 'b, 'c, 'd> {
 /// stand elsewhere aren't listed. Where no other shift was tried, something else is.
 fn say_differences<R: Recordings>(
     text: &mut Text,
-    asked: &Asked<'_, R>,
+    asked: &Asked<'_, OneExport<'_, R>>,
     both: Both<'_, '_, '_, '_>,
     shifts: &TriedShifts,
 ) -> Result<(), RunStop> {
@@ -96,7 +96,7 @@ fn say_differences<R: Recordings>(
 /// Says what is to be done behind the differences, or what to read where there is none.
 fn say_behind<R: Recordings>(
     text: &mut Text,
-    asked: &Asked<'_, R>,
+    asked: &Asked<'_, OneExport<'_, R>>,
     both: Both<'_, '_, '_, '_>,
 ) -> Result<(), AllocError> {
     let read = ReadTexts {
@@ -116,7 +116,7 @@ fn say_behind<R: Recordings>(
 /// Says what is to be said of two files without a fault.
 fn say_both<R: Recordings>(
     text: &mut Text,
-    asked: &Asked<'_, R>,
+    asked: &Asked<'_, OneExport<'_, R>>,
     both: Both<'_, '_, '_, '_>,
     shifts: &TriedShifts,
 ) -> Result<(), RunStop> {
@@ -128,12 +128,12 @@ fn say_both<R: Recordings>(
 /// What is seen of both files under another claim, of which this is the text; none where one has a fault now.
 fn seen_anew<'c, R: Recordings>(
     alloc: Global,
-    asked: &Asked<'_, R>,
+    asked: &Asked<'_, OneExport<'_, R>>,
     claim_text: &[u8],
     claim: &'c Claim,
 ) -> Result<Option<Seen<'c>>, RunStop> {
-    let mut original = asked.recordings.open_original()?;
-    let mut export = asked.recordings.open_export()?;
+    let mut original = asked.tries.recordings.open_original()?;
+    let mut export = asked.tries.recordings.open_export()?;
     let mut looker = looker_for(alloc, claim_text)?;
     judge_beside(alloc, &mut original, &mut export, claim_text, &mut looker)?;
     Ok(looker.seen(claim)?)
@@ -142,7 +142,7 @@ fn seen_anew<'c, R: Recordings>(
 /// The same where samples and annotations are reckoned by another shift, in seconds.
 fn say_reckoned<R: Recordings>(
     text: &mut Text,
-    asked: &Asked<'_, R>,
+    asked: &Asked<'_, OneExport<'_, R>>,
     claimed: &Seen<'_>,
     shifts: &TriedShifts,
     seconds: i64,
@@ -168,7 +168,7 @@ fn say_reckoned<R: Recordings>(
 /// Says what is to be said of what was seen of two files.
 fn say_seen<R: Recordings>(
     text: &mut Text,
-    asked: &Asked<'_, R>,
+    asked: &Asked<'_, OneExport<'_, R>>,
     mut seen: Seen<'_>,
 ) -> Result<(), RunStop> {
     let alloc = text.alloc();
@@ -197,7 +197,7 @@ fn fault_in(verdict: &Verdict) -> Option<(Side, Fault)> {
 /// The sentences on two files and a claim.
 fn sentences<R: Recordings>(
     alloc: Global,
-    asked: &Asked<'_, R>,
+    asked: &Asked<'_, OneExport<'_, R>>,
     looker: Looker,
     fronts: Fronts<'_>,
 ) -> Result<Text, RunStop> {
@@ -205,7 +205,7 @@ fn sentences<R: Recordings>(
     if let Some((side, fault)) = fault_in(asked.verdict) {
         say_fault(&mut text, side, &fault, fronts.of(side))?;
         if side == Side::Original {
-            say_fault_of_export(&mut text, asked.recordings, fronts.export)?;
+            say_fault_of_export(&mut text, asked.tries.recordings, fronts.export)?;
         }
         return Ok(text);
     }
@@ -226,7 +226,7 @@ fn sentences<R: Recordings>(
 /// a file fails or memory runs out. What the sink held stays in front of them.
 pub(crate) fn explain_to<R: Recordings, K: Sink>(
     alloc: Global,
-    asked: &Asked<'_, R>,
+    asked: &Asked<'_, OneExport<'_, R>>,
     looker: Looker,
     fronts: Fronts<'_>,
     sink: &mut K,

@@ -6,7 +6,7 @@ ghost use Rattle.edf_explain.specs.Explained.{IsExplained};
 use crate::explain::{Fronts, explain_to, looker_for};
 use crate::front_source::FrontSource;
 use crate::lent::Lent;
-use crate::tried::answers::Asked;
+use crate::tried::answers::{Asked, OneExport};
 use edf_check::judge_beside;
 use edf_fields::{Sink, Source, put_all};
 use edf_stop::RunStop;
@@ -40,7 +40,7 @@ pub fn run_explained<O: Source, E: Source, K: Sink, R: Recordings>(
     let line = verdict.line(alloc)?;
     put_all(sink, &line)?;
     let asked = Asked {
-        recordings: again,
+        tries: OneExport { recordings: again },
         claim_text,
         verdict: &verdict,
     };

@@ -7,42 +7,51 @@ ghost use Rattle.edf_explain.specs.Explained.{ArePartsExplained};
 use crate::explain::looker_for;
 use crate::front_source::FrontSource;
 use crate::parts::{PartsAsked, explain_parts_to, fault_in};
+use crate::tried::answers::{Asked, SeveralExports};
 use edf_check::judge_parts_beside;
 use edf_fields::{Sink, Source, put_all};
-use edf_stop::{PartsRunStop, Side};
-use edf_verdict::{Outcome, PartsVerdict};
+use edf_stop::PartsRunStop;
+use edf_trial::PartsRecordings;
+use edf_verdict::{Outcome, Verdict};
 use std::alloc::{AllocError, Global};
 
-/// What stands in front of the file that a verdict says has a fault; nothing where none has one.
+/// What is asked of several exports: the text of a claim, and the recordings, which are opened anew for what is tried.
+#[derive(Clone, Copy)]
+pub struct PartsQuestion<'a, R> {
+    pub claim_text: &'a [u8],
+    pub again: &'a R,
+}
+
+/// What stands in front of each export, where a file has a fault; else nothing.
 ///
 /// The error is want of memory.
-fn front_of<O: Source + Drop, E: Source + Drop>(
+fn fronts_of<E: Source + Drop>(
     alloc: Global,
-    original: &FrontSource<O>,
     parts: &[FrontSource<E>],
-    verdict: &PartsVerdict,
-) -> Result<Vec<u8>, AllocError> {
-    match fault_in(verdict) {
-        Some((Side::Original, _)) => Vec::from_slice(alloc, original.front()),
-        Some((Side::Export, _)) => match parts.get(usize::from(verdict.part)) {
-            Some(part) => Vec::from_slice(alloc, part.front()),
-            None => Ok(Vec::new(alloc)),
-        },
-        None => Ok(Vec::new(alloc)),
+    verdict: &Verdict,
+) -> Result<Vec<Vec<u8>>, AllocError> {
+    let mut fronts = Vec::new(alloc);
+    if fault_in(verdict).is_none() {
+        return Ok(fronts);
     }
+    for part in parts {
+        fronts.push(Vec::from_slice(alloc, part.front())?)?;
+    }
+    Ok(fronts)
 }
 
 /// Checks one to 64 exports, in the order of time, against the original as `run_parts` does and writes its line; then writes
-/// sentences for whoever has to act on it. All files are read once. Of each export it is said how its header and its samples aren't
-/// as claimed, and of the annotations of all together how these aren't; nothing is tried.
+/// sentences for whoever has to act on it. Of each export it is said how its header and its samples aren't as claimed, and of the
+/// annotations of all together how these aren't; where a file has a fault, the first one of each. All files are read once, and opened
+/// anew for what is tried and for the faults of exports that a check leaves aside.
 ///
 /// The line and the outcome are what `run_parts` promises. Of the sentences nothing is promised but that they stand behind it, nor
-/// of what was written where there is an error, which is that of `run_parts`.
-pub fn run_explained_parts<O: Source + Drop, E: Source + Drop, K: Sink>(
+/// of what was written where there is an error: it is that of `run_parts`, or one of a later reading.
+pub fn run_explained_parts<O: Source + Drop, E: Source + Drop, K: Sink, R: PartsRecordings>(
     alloc: Global,
     original: &mut FrontSource<O>,
     parts: &mut [FrontSource<E>],
-    claim_text: &[u8],
+    question: PartsQuestion<'_, R>,
     sink: &mut K,
 ) -> Result<Outcome, PartsRunStop>
     requires some { 0 < length parts.old }
@@ -51,21 +60,27 @@ pub fn run_explained_parts<O: Source + Drop, E: Source + Drop, K: Sink>(
         AllByRecursion IsTrue (map ⟦<FrontSource<E> as Source>⟧.is_honest parts.old) →
         IsTrue (K.is_honest sink.old) →
         ArePartsExplained (⟦<FrontSource<O> as Source>⟧.left original.old)
-        (map ⟦<FrontSource<E> as Source>⟧.left parts.old) claim_text.now (K.held sink.old)
+        (map ⟦<FrontSource<E> as Source>⟧.left parts.old) question.entry.claim_text.now (K.held sink.old)
         (K.held sink.new) outcome) }
     ensures honesty { IsTrue (K.is_honest sink.old) → IsTrue (K.is_honest sink.new) }
 {
     let count = parts.len() as u16;
+    let PartsQuestion { claim_text, again } = question;
     let mut looker = looker_for(alloc, claim_text)?;
     let verdict = judge_parts_beside(alloc, original, parts, claim_text, &mut looker)?;
     let line = verdict.line(alloc, count)?;
     put_all(sink, &line)?;
-    let front = front_of(alloc, original, parts, &verdict)?;
+    let fronts = fronts_of(alloc, parts, &verdict.verdict)?;
     let asked = PartsAsked {
-        claim_text,
-        verdict: &verdict,
-        front: &front,
+        asked: Asked {
+            tries: SeveralExports { recordings: again },
+            claim_text,
+            verdict: &verdict.verdict,
+        },
+        part: verdict.part,
+        original_front: original.front(),
+        fronts: &fronts,
     };
-    explain_parts_to(alloc, asked, looker, sink)?;
+    explain_parts_to(alloc, &asked, looker, sink)?;
     Ok(verdict.verdict.outcome())
 }

@@ -6,7 +6,7 @@ use crate::words::faults as words;
 use edf_fields::{Cause, Fault, Source};
 use edf_header::Stop;
 use edf_sentences::{Piece, Text, begins_as_bdf, begins_as_edf, looks_like_a_claim};
-use edf_stop::{CheckStop, RunStop, Side};
+use edf_stop::{CheckStop, PartSide, PartsRunStop, RunStop, Side};
 use edf_stream::conform;
 use edf_trial::Recordings;
 use std::alloc::{AllocError, Global};
@@ -83,6 +83,22 @@ fn fault_of_export<S: Source>(alloc: Global, source: &mut S) -> Result<Option<Fa
         Err(Stop::Fault(fault)) => Ok(Some(fault)),
         Err(Stop::OutOfMemory) => Err(CheckStop::OutOfMemory),
         Err(Stop::ReadFailed) => Err(CheckStop::ReadFailed(Side::Export)),
+    }
+}
+
+/// The first fault of one of several exports, of which this is the number; none where it conforms.
+///
+/// The error is want of memory, or a failure of the source.
+pub(crate) fn fault_of_part<S: Source>(
+    alloc: Global,
+    source: &mut S,
+    number: u16,
+) -> Result<Option<Fault>, PartsRunStop> {
+    match conform(alloc, source) {
+        Ok(_) => Ok(None),
+        Err(Stop::Fault(fault)) => Ok(Some(fault)),
+        Err(Stop::OutOfMemory) => Err(PartsRunStop::OutOfMemory),
+        Err(Stop::ReadFailed) => Err(PartsRunStop::ReadFailed(PartSide::Part(number))),
     }
 }
 

@@ -7,30 +7,42 @@ use crate::differences::annotations::say_annotations;
 use crate::differences::clocks::Clocks;
 use crate::differences::headers::say_heads;
 use crate::differences::samples::say_samples;
-use crate::differences::starts::say_start_of_part;
-use crate::faults::say_fault;
+use crate::differences::starts::{say_shifts_of_parts, say_start_of_part};
+use crate::explain::looker_for;
+use crate::faults::{fault_of_part, say_fault};
+use crate::front_source::FrontSource;
 use crate::heads::Heads;
+use crate::tried::answers::{Asked, SeveralExports};
+use crate::tried::other_channels::say_other_channels;
+use crate::tried::other_end::say_other_end;
+use crate::tried::shifts::TriedShifts;
+use crate::words::files::READ_ANEW;
 use crate::words::parts as words;
+use edf_check::judge_parts_beside;
 use edf_claim::{Claim, ClaimStop};
 use edf_fields::{Fault, Sink, put_all};
 use edf_findings::{Looker, OnlyInOne, Seen, SeenPart};
 use edf_sentences::{Piece, Text};
 use edf_stop::{PartsRunStop, Side};
-use edf_verdict::{Difference, Outcome, PartsVerdict, Verdict};
+use edf_trial::{PartsRecordings, with_shift};
+use edf_verdict::{Difference, Outcome, Verdict};
 use edf_warnings::{ReadTexts, say_behind_no, say_warnings};
 use std::alloc::{AllocError, Global};
 
-/// What was asked: the text of a claim, what the check answers, and what stands in front of the file that it names.
-#[derive(Clone, Copy)]
-pub(crate) struct PartsAsked<'a> {
-    pub(crate) claim_text: &'a [u8],
-    pub(crate) verdict: &'a PartsVerdict,
-    pub(crate) front: &'a [u8],
+/// What was asked of several exports, and how many of them it is said of.
+#[derive(Drop)]
+pub(crate) struct PartsAsked<'a, R: PartsRecordings> {
+    pub(crate) asked: Asked<'a, SeveralExports<'a, R>>,
+    /// The number of the export that the verdict is on.
+    pub(crate) part: u16,
+    /// Where a file has a fault: what stands in front of the original, and in front of each export as far as it was read.
+    pub(crate) original_front: &'a [u8],
+    pub(crate) fronts: &'a [Vec<u8>],
 }
 
 /// The file that a verdict says has a fault, and the fault.
-pub(crate) fn fault_in(verdict: &PartsVerdict) -> Option<(Side, Fault)> {
-    match &verdict.verdict {
+pub(crate) fn fault_in(verdict: &Verdict) -> Option<(Side, Fault)> {
+    match verdict {
         Verdict::No(Difference::OriginalFault(fault)) => Some((Side::Original, *fault)),
         Verdict::No(Difference::ExportFault(fault)) => Some((Side::Export, *fault)),
         _ => None,
@@ -42,17 +54,60 @@ fn say_part_name(text: &mut Text, number: u16) -> Result<(), AllocError> {
     text.say(words::PART, &[Piece::Number(i128::from(number))])
 }
 
-/// Says the fault of a file.
-fn say_fault_in(
+/// Says the first fault of each of the exports from a number on, which the check left aside: they are opened anew. Where something
+/// else stands in front of one than stood there before, it can't be read once more, as a pipe, and nothing is said of it.
+fn say_faults_from<R: PartsRecordings>(
     text: &mut Text,
-    asked: PartsAsked<'_>,
+    parts: &PartsAsked<'_, R>,
+    first: u16,
+) -> Result<(), PartsRunStop> {
+    let alloc = text.alloc();
+    let mut number: u16 = 0;
+    for source in parts.asked.tries.recordings.open_exports(alloc)? {
+        if number >= first {
+            let mut source = FrontSource::new(alloc, source);
+            if let Some(fault) = fault_of_part(alloc, &mut source, number)?
+                && let Some(seen) = parts.fronts.get(usize::from(number))
+                && source.front().starts_with(seen)
+            {
+                say_part_name(text, number)?;
+                say_fault(text, Side::Export, &fault, source.front())?;
+            }
+        }
+        number = number.saturating_add(1);
+    }
+    Ok(())
+}
+
+/// Says the first fault of each file, of which the check says this one.
+fn say_faults<R: PartsRecordings>(
+    text: &mut Text,
+    parts: &PartsAsked<'_, R>,
     side: Side,
     fault: Fault,
-) -> Result<(), AllocError> {
-    if side == Side::Export {
-        say_part_name(text, asked.verdict.part)?;
+) -> Result<(), PartsRunStop> {
+    match side {
+        Side::Original => {
+            say_fault(text, side, &fault, parts.original_front)?;
+            say_faults_from(text, parts, 0)
+        }
+        Side::Export => {
+            say_part_name(text, parts.part)?;
+            let front: &[u8] = match parts.fronts.get(usize::from(parts.part)) {
+                Some(front) => front,
+                None => &[],
+            };
+            say_fault(text, side, &fault, front)?;
+            say_faults_from(text, parts, parts.part.saturating_add(1))
+        }
     }
-    say_fault(text, side, &fault, asked.front)
+}
+
+/// What was seen of several exports, and whether their samples are listed.
+#[derive(Clone, Copy)]
+struct Listed<'a, 'c> {
+    seen: &'a Seen<'c>,
+    has_samples: bool,
 }
 
 /// Says how the samples of a part aren't as claimed.
@@ -66,13 +121,14 @@ fn say_samples_of_part(
     say_samples(text, heads.claim.channels(), part.channels(), clocks)
 }
 
-/// Says how a part isn't as claimed, or that it is.
+/// Says how a part isn't as claimed, or that it is. Its samples are left aside where another shift makes all of them as claimed.
 fn say_part(
     text: &mut Text,
-    seen: &Seen<'_>,
+    listed: Listed<'_, '_>,
     number: u16,
     part: &SeenPart,
 ) -> Result<(), AllocError> {
+    let seen = listed.seen;
     let heads = Heads {
         original: seen.original_header(),
         export: part.header(),
@@ -84,7 +140,11 @@ fn say_part(
     if !part.is_compared() {
         return Ok(());
     }
-    say_samples_of_part(text, heads, part)?;
+    if listed.has_samples {
+        say_samples_of_part(text, heads, part)?;
+    } else {
+        say_start_of_part(text, part)?;
+    }
     if text.bytes().len() == said {
         text.say(words::PART_AS_CLAIMED, &[])?;
     }
@@ -93,13 +153,14 @@ fn say_part(
 
 /// Says how each part isn't as claimed, or that it is. The first one that wasn't compared begins early; answers whether there is
 /// none.
-fn say_each(text: &mut Text, seen: &Seen<'_>) -> Result<bool, AllocError> {
-    say_part(text, seen, 0, seen.first())?;
+fn say_each(text: &mut Text, listed: Listed<'_, '_>) -> Result<bool, AllocError> {
+    let seen = listed.seen;
+    say_part(text, listed, 0, seen.first())?;
     let mut number: u16 = 0;
     let mut are_compared = true;
     for part in seen.others() {
         number = number.saturating_add(1);
-        say_part(text, seen, number, part)?;
+        say_part(text, listed, number, part)?;
         if !part.is_compared() {
             let sentence = if are_compared {
                 words::PART_EARLY
@@ -124,29 +185,102 @@ fn say_notes(text: &mut Text, seen: &Seen<'_>, only: &OnlyInOne) -> Result<(), A
 }
 
 /// Says what is to be done behind the differences, or what to read where there is none.
-fn say_behind(text: &mut Text, asked: PartsAsked<'_>, seen: &Seen<'_>) -> Result<(), AllocError> {
+fn say_behind<R: PartsRecordings>(
+    text: &mut Text,
+    parts: &PartsAsked<'_, R>,
+    seen: &Seen<'_>,
+) -> Result<(), AllocError> {
     let read = ReadTexts {
         claim: seen.claim(),
-        claim_text: asked.claim_text,
+        claim_text: parts.asked.claim_text,
         original: seen.original_header(),
         export: seen.export_header(),
         others: seen.others(),
         notes: seen.notes(),
     };
-    match asked.verdict.verdict.outcome() {
+    match parts.asked.verdict.outcome() {
         Outcome::Yes => say_warnings(text, read),
         Outcome::No => say_behind_no(text, read),
     }
 }
 
-/// Says what is to be said of what was seen of an original and its exports. Where not all were compared, annotations weren't.
-fn say_seen(text: &mut Text, asked: PartsAsked<'_>, mut seen: Seen<'_>) -> Result<(), AllocError> {
-    if !say_each(text, &seen)? {
+/// Says how the parts aren't as claimed by what was seen of them, and what is to be done. Where not all were compared, annotations
+/// weren't. Where no other shift was tried, another end of an interval is.
+fn say_listed<R: PartsRecordings>(
+    text: &mut Text,
+    parts: &PartsAsked<'_, R>,
+    seen: &mut Seen<'_>,
+    shifts: &TriedShifts,
+) -> Result<(), PartsRunStop> {
+    let only = seen.only_in_one(text.alloc())?;
+    let listed = Listed {
+        seen: &*seen,
+        has_samples: !shifts.has_yes(),
+    };
+    if !say_each(text, listed)? {
         return Ok(());
     }
-    let only = seen.only_in_one(text.alloc())?;
-    say_notes(text, &seen, &only)?;
-    say_behind(text, asked, &seen)
+    if listed.has_samples {
+        say_notes(text, seen, &only)?;
+    }
+    if shifts.are_none() {
+        say_other_end(text, &parts.asked, seen.claim(), seen.notes(), &only)?;
+    }
+    say_behind(text, parts, seen)?;
+    Ok(())
+}
+
+/// What is seen of all exports under another claim, of which this is the text; none where a file has a fault now.
+fn seen_anew<'c, R: PartsRecordings>(
+    alloc: Global,
+    parts: &PartsAsked<'_, R>,
+    claim_text: &[u8],
+    claim: &'c Claim,
+) -> Result<Option<Seen<'c>>, PartsRunStop> {
+    let recordings = parts.asked.tries.recordings;
+    let mut original = recordings.open_original()?;
+    let mut exports = recordings.open_exports(alloc)?;
+    let mut looker = looker_for(alloc, claim_text)?;
+    judge_parts_beside(alloc, &mut original, &mut exports, claim_text, &mut looker)?;
+    Ok(looker.seen(claim)?)
+}
+
+/// Says the same where samples and annotations are reckoned by another shift, in seconds.
+fn say_reckoned<R: PartsRecordings>(
+    text: &mut Text,
+    parts: &PartsAsked<'_, R>,
+    shifts: &TriedShifts,
+    seconds: i64,
+) -> Result<(), PartsRunStop> {
+    let alloc = text.alloc();
+    let Some(claim_text) = with_shift(alloc, parts.asked.claim_text, seconds)? else {
+        return Ok(());
+    };
+    let claim = claim_of(alloc, &claim_text)?;
+    match seen_anew(alloc, parts, &claim_text, &claim)? {
+        Some(mut seen) => say_listed(text, parts, &mut seen, shifts),
+        None => Ok(text.say(READ_ANEW, &[])?),
+    }
+}
+
+/// Says what is to be said of what was seen of an original and its exports: what was tried, and how each export isn't as claimed.
+fn say_seen<R: PartsRecordings>(
+    text: &mut Text,
+    parts: &PartsAsked<'_, R>,
+    mut seen: Seen<'_>,
+) -> Result<(), PartsRunStop> {
+    let heads = Heads {
+        original: seen.original_header(),
+        export: seen.export_header(),
+        claim: seen.claim(),
+    };
+    say_other_channels(text, &parts.asked, heads)?;
+    let shifts = TriedShifts::of(text.alloc(), &parts.asked, seen.starts())?;
+    say_shifts_of_parts(text, &seen, &shifts)?;
+    match shifts.for_samples() {
+        Some(seconds) => say_reckoned(text, parts, &shifts, seconds),
+        None => say_listed(text, parts, &mut seen, &shifts),
+    }
 }
 
 /// The claim that a text says.
@@ -159,37 +293,38 @@ fn claim_of(alloc: Global, text: &[u8]) -> Result<Claim, PartsRunStop> {
 }
 
 /// The sentences on an original, its exports and a claim: of each export all that differs, and of the annotations of all together.
-fn sentences_on_parts(
+fn sentences_on_parts<R: PartsRecordings>(
     alloc: Global,
-    asked: PartsAsked<'_>,
+    parts: &PartsAsked<'_, R>,
     looker: Looker,
 ) -> Result<Text, PartsRunStop> {
     let mut text = Text::new(alloc);
-    if let Some((side, fault)) = fault_in(asked.verdict) {
-        say_fault_in(&mut text, asked, side, fault)?;
+    if let Some((side, fault)) = fault_in(parts.asked.verdict) {
+        say_faults(&mut text, parts, side, fault)?;
         return Ok(text);
     }
-    let claim = claim_of(alloc, asked.claim_text)?;
+    let claim = claim_of(alloc, parts.asked.claim_text)?;
     if let Some(seen) = looker.seen(&claim)? {
-        say_seen(&mut text, asked, seen)?;
+        say_seen(&mut text, parts, seen)?;
     }
     Ok(text)
 }
 
 /// Writes sentences for whoever has to act on the line of a check of several exports.
 ///
-/// The verdict is that of the check, and `looker` looked on. The sentences are made before the first of them is written. What the
-/// sink held stays in front of them.
-pub(crate) fn explain_parts_to<K: Sink>(
+/// The verdict is that of the check, and `looker` looked on. All files are opened anew for each of at most three tries, once more
+/// where all samples are as claimed with another shift, and for the faults of exports that the check left aside. The sentences are
+/// made before the first of them is written. What the sink held stays in front of them.
+pub(crate) fn explain_parts_to<R: PartsRecordings, K: Sink>(
     alloc: Global,
-    asked: PartsAsked<'_>,
+    parts: &PartsAsked<'_, R>,
     looker: Looker,
     sink: &mut K,
 ) -> Result<(), PartsRunStop>
     ensures appended { IsTrue (K.is_honest sink.old) → Appended (K.held sink.old) (K.held sink.new) }
     ensures honesty { IsTrue (K.is_honest sink.old) → IsTrue (K.is_honest sink.new) }
 {
-    let text = sentences_on_parts(alloc, asked, looker)?;
+    let text = sentences_on_parts(alloc, parts, looker)?;
     put_all(sink, text.bytes())?;
     Ok(())
 }

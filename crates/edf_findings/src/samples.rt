@@ -5,6 +5,7 @@ pub mod channels;
 pub mod compared;
 pub mod kinds;
 pub mod lane;
+pub mod mismatch;
 pub mod places;
 pub mod sample_run;
 pub mod side_by_side;

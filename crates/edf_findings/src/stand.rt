@@ -16,7 +16,7 @@ use edf_stream::FileReader;
 pub(crate) struct RecordCount {
     /// Where the last one starts, as the file has it.
     start_ps: Option<i128>,
-    number: u64,
+    number: u32,
 }
 
 impl RecordCount {
@@ -57,7 +57,7 @@ pub(crate) struct Stand<'a> {
     /// What the times of the file have to be moved by, so that they count from the second at which the original starts.
     moved_ps: i128,
     /// The number of the data record at hand, from 0 on.
-    number: u64,
+    number: u32,
 }
 
 impl<'a> Stand<'a> {
@@ -92,10 +92,7 @@ impl<'a> Stand<'a> {
 
     /// The data record at hand, and its number from 0 on.
     pub(crate) fn hand(self) -> Hand {
-        Hand {
-            time: self.time(),
-            number: self.number,
-        }
+        Hand::of(self.time(), self.number)
     }
 
     /// The bytes of a signal in the data record at hand.
@@ -130,7 +127,7 @@ impl<'a> Stand<'a> {
     /// The samples of a signal in the data record at hand, which has this time, that aren't done with, up to a time. They are done
     /// with then.
     pub(crate) fn take(self, lane: &mut Lane, hand: Hand, end_ps: i128) -> SampleRun<'a> {
-        let Some(time) = hand.time else {
+        let Some(time) = hand.time() else {
             return SampleRun::NONE;
         };
         let run = self.samples_in(*lane, time).behind(lane.done);

@@ -14,7 +14,7 @@ use edf_check::{run, run_parts};
 use edf_claim_text::claim_to;
 use edf_command_line::{Job, VERSION};
 use edf_draft::{draft_parts_to, draft_to};
-use edf_explain::{FrontSource, run_explained, run_explained_parts};
+use edf_explain::{FrontSource, PartsQuestion, run_explained, run_explained_parts};
 use edf_fields::{Sink, WriteSink};
 use edf_read::read_to;
 use edf_receipt::{DigestSource, receipt_parts_to, receipt_to};
@@ -207,7 +207,12 @@ fn explain_parts<'a, R: Files + Eprint + Clock + AllocGlobal, K: Sink>(
     let text = claim_text(signs.rt(), claim)?;
     let mut first = FrontSource::new(alloc, watched(signs, original, Role::Original)?);
     let mut parts = fronted_recordings(signs, exports, Role::Export)?;
-    Ok(run_explained_parts(alloc, &mut first, &mut parts, &text, sink)?)
+    let again = PartsAgain::new(signs, original, exports);
+    let question = PartsQuestion {
+        claim_text: &text,
+        again: &again,
+    };
+    Ok(run_explained_parts(alloc, &mut first, &mut parts, question, sink)?)
 }
 
 /// Says whether a file conforms.

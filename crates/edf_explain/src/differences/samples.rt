@@ -37,12 +37,13 @@ struct Counted {
     one: &'static str,
     more: &'static str,
     tally: Tally,
+    ends: Option<(Spot, Spot)>,
 }
 
 impl Counted {
     /// Says how many samples of a channel were found, and the first and the last of them.
     fn say(self, text: &mut Text, label: &[u8], clocks: Clocks) -> Result<(), AllocError> {
-        let Some((first, last)) = self.tally.ends() else {
+        let Some((first, last)) = self.ends else {
             return Ok(());
         };
         let count = i128::from(self.tally.count);
@@ -72,16 +73,19 @@ fn say_channel(
             one: words::SAMPLE_MISSING,
             more: words::SAMPLES_MISSING,
             tally: channel.missing,
+            ends: channel.ends_of(&channel.missing),
         },
         Counted {
             one: words::SAMPLE_EXTRA,
             more: words::SAMPLES_EXTRA,
             tally: channel.extra,
+            ends: channel.ends_of(&channel.extra),
         },
         Counted {
             one: words::SAMPLE_CHANGED,
             more: words::SAMPLES_CHANGED,
             tally: channel.changed,
+            ends: channel.ends_of(&channel.changed),
         },
     ];
     for counted in &kinds {

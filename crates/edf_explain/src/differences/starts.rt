@@ -74,6 +74,18 @@ pub(crate) fn say_start_of_part(text: &mut Text, part: &SeenPart) -> Result<(), 
     }
 }
 
+/// Says what other shifts would change of several exports, of which the first doesn't start as claimed.
+pub(crate) fn say_shifts_of_parts(
+    text: &mut Text,
+    seen: &Seen<'_>,
+    shifts: &TriedShifts,
+) -> Result<(), AllocError> {
+    match seen.starts() {
+        Some(starts) if !shifts.are_none() => shifts.say(text, &starts),
+        _ => Ok(()),
+    }
+}
+
 /// Says where the export starts, or that nothing is kept. Where one of the files lacks a claimed channel, it isn't known whether
 /// nothing is.
 pub(crate) fn say_starts(

@@ -1,17 +1,16 @@
 //! What the check answers under a claim that was changed.
 
-use edf_stop::RunStop;
-use edf_trial::{Recordings, check_anew, is_better};
-use edf_verdict::{Difference, Verdict};
-use std::alloc::Global;
+ghost use Rattle.std.specs.Prelude.{◌≡◌, ℕ, List, IfOk, IfSome, true};
+ghost use Rattle.edf_trial.specs.Better.{is_better as is_better_of};
+ghost use Rattle.edf_verdict.specs.declared.verdict.Verdict.{Verdict};
+ghost use Rattle.edf_explain.specs.Tries.{IsAnswer, IsAnswerOnParts};
 
-/// What was asked: two recordings, the text of a claim, and what the check answers.
-#[derive(Drop)]
-pub(crate) struct Asked<'a, R: Recordings> {
-    pub(crate) recordings: &'a R,
-    pub(crate) claim_text: &'a [u8],
-    pub(crate) verdict: &'a Verdict,
-}
+use edf_stop::{PartsRunStop, RunStop};
+use edf_trial::{
+    PartsAnswer, PartsRecordings, Recordings, check_anew, check_parts_anew, is_better,
+};
+use edf_verdict::{Difference, PartsVerdict, Verdict};
+use std::alloc::{AllocError, Global};
 
 /// What the check answers under another claim, also as a line.
 #[derive(Drop)]
@@ -21,12 +20,6 @@ pub(crate) struct TriedAnswer {
 }
 
 impl TriedAnswer {
-    /// That of a verdict.
-    pub(crate) fn of(alloc: Global, verdict: Verdict) -> Result<TriedAnswer, RunStop> {
-        let line = verdict.line(alloc)?;
-        Ok(TriedAnswer { verdict, line })
-    }
-
     /// Its line, without the end of it.
     pub(crate) fn line(&self) -> &[u8] {
         self.line.trim_ascii_end()
@@ -55,16 +48,81 @@ pub(crate) fn is_of_channels(verdict: &Verdict) -> bool {
     )
 }
 
-impl<'a, R: Recordings> Asked<'a, R> {
+/// Recordings that are opened anew for each try, and checked.
+pub(crate) trait Tries {
+    /// Why there is no answer.
+    type Stop: From<AllocError>;
+
+    /// Under the claim of a text, this is the verdict, and its line.
+    ghost answers: { Self → List ℕ → Verdict → List ℕ → Type 0 };
+
+    /// What the check answers under the claim of a text.
+    fn answer(&self, alloc: Global, claim_text: &[u8]) -> Result<TriedAnswer, Self::Stop>
+        ensures { IfOk result (λ a. answers self.now claim_text.now a.verdict a.line.items) };
+}
+
+/// An original and one export.
+#[derive(Drop)]
+pub(crate) struct OneExport<'a, R> {
+    pub(crate) recordings: &'a R,
+}
+
+impl<'a, R: Recordings> Tries for OneExport<'a, R> {
+    type Stop = RunStop;
+
+    ghost answers = { λ t text verdict line. IsAnswer (R.are_honest t.recordings.now)
+        (R.original t.recordings.now) (R.export t.recordings.now) text verdict line };
+
+    fn answer(&self, alloc: Global, claim_text: &[u8]) -> Result<TriedAnswer, RunStop> {
+        let verdict = check_anew(alloc, self.recordings, claim_text)?;
+        let line = verdict.line(alloc)?;
+        Ok(TriedAnswer { verdict, line })
+    }
+}
+
+/// An original and several exports, in the order of time.
+#[derive(Drop)]
+pub(crate) struct SeveralExports<'a, R> {
+    pub(crate) recordings: &'a R,
+}
+
+impl<'a, R: PartsRecordings> Tries for SeveralExports<'a, R> {
+    type Stop = PartsRunStop;
+
+    ghost answers = { λ t text verdict line. IsAnswerOnParts (R.are_honest t.recordings.now)
+        (R.original t.recordings.now) (R.exports t.recordings.now) text verdict line };
+
+    fn answer(&self, alloc: Global, claim_text: &[u8]) -> Result<TriedAnswer, PartsRunStop> {
+        let PartsAnswer { verdict, parts } = check_parts_anew(alloc, self.recordings, claim_text)?;
+        let line = verdict.line(alloc, parts)?;
+        let PartsVerdict { verdict, .. } = verdict;
+        Ok(TriedAnswer { verdict, line })
+    }
+}
+
+/// What was asked: recordings, the text of a claim, and what the check answers.
+#[derive(Drop)]
+pub(crate) struct Asked<'a, T: Tries + Drop> {
+    pub(crate) tries: T,
+    pub(crate) claim_text: &'a [u8],
+    pub(crate) verdict: &'a Verdict,
+}
+
+impl<'a, T: Tries + Drop> Asked<'a, T> {
     /// What the check answers under another claim, where that is better than what it answers under the one that was asked for.
     pub(crate) fn better_under(
         &self,
         alloc: Global,
         claim_text: &[u8],
-    ) -> Result<Option<TriedAnswer>, RunStop> {
-        let verdict = check_anew(alloc, self.recordings, claim_text)?;
-        if is_better(&verdict, self.verdict) {
-            Ok(Some(TriedAnswer::of(alloc, verdict)?))
+    ) -> Result<Option<TriedAnswer>, T::Stop>
+        ensures tried { IfOk result (λ found. IfSome found (λ a.
+            T.answers self.now.tries claim_text.now a.verdict a.line.items)) }
+        ensures better { IfOk result (λ found. IfSome found (λ a.
+            is_better_of a.verdict self.now.verdict.now ≡ true)) }
+    {
+        let answer = self.tries.answer(alloc, claim_text)?;
+        if is_better(&answer.verdict, self.verdict) {
+            Ok(Some(answer))
         } else {
             Ok(None)
         }

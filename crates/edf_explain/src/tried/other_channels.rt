@@ -1,14 +1,13 @@
 //! Other channels than the claimed ones, tried by a check.
 
 use crate::heads::Heads;
-use crate::tried::answers::{Asked, TriedAnswer, is_of_channels};
+use crate::tried::answers::{Asked, TriedAnswer, Tries, is_of_channels};
 use crate::words::tried as words;
 use edf_claim::Claim;
 use edf_header::Header;
 use edf_heads::ChannelIndex;
 use edf_sentences::{NEXT, Piece, Text, nearest};
-use edf_stop::RunStop;
-use edf_trial::{Recordings, with_channels};
+use edf_trial::with_channels;
 use std::alloc::{AllocError, Global};
 
 /// Channels with which the check answers better than with the claimed ones.
@@ -129,11 +128,11 @@ impl<'a> Fitting<'a> {
 impl OtherChannels {
     /// Tries the channels that both files have, where the first difference is one of channels; none where the answer isn't
     /// better, or is one of channels again.
-    fn of<R: Recordings>(
+    fn of<T: Tries + Drop>(
         alloc: Global,
-        asked: &Asked<'_, R>,
+        asked: &Asked<'_, T>,
         heads: Heads<'_>,
-    ) -> Result<Option<OtherChannels>, RunStop> {
+    ) -> Result<Option<OtherChannels>, T::Stop> {
         if !is_of_channels(asked.verdict) {
             return Ok(None);
         }
@@ -164,11 +163,11 @@ impl OtherChannels {
 }
 
 /// Says with which other channels the check answers better, if the first difference is one of channels and there are such.
-pub(crate) fn say_other_channels<R: Recordings>(
+pub(crate) fn say_other_channels<T: Tries + Drop>(
     text: &mut Text,
-    asked: &Asked<'_, R>,
+    asked: &Asked<'_, T>,
     heads: Heads<'_>,
-) -> Result<(), RunStop> {
+) -> Result<(), T::Stop> {
     if let Some(other) = OtherChannels::of(text.alloc(), asked, heads)? {
         other.say(text)?;
     }

@@ -1,12 +1,11 @@
 //! Another end of an interval than the claimed one, tried by a check.
 
-use crate::tried::answers::{Asked, TriedAnswer};
+use crate::tried::answers::{Asked, TriedAnswer, Tries};
 use crate::words::tried as words;
 use edf_claim::Claim;
 use edf_findings::{Notes, OnlyInOne, is_at_end};
 use edf_sentences::{Piece, Text};
-use edf_stop::RunStop;
-use edf_trial::{Recordings, with_end};
+use edf_trial::with_end;
 use edf_verdict::{Difference, Verdict};
 use std::alloc::{AllocError, Global};
 
@@ -37,13 +36,13 @@ fn first_end(claim: &Claim, notes: &Notes, only: &OnlyInOne) -> Option<i128> {
 impl OtherEnd {
     /// Tries the first end at which an annotation begins that isn't kept, where the first difference is an annotation; none
     /// where the answer isn't better.
-    fn of<R: Recordings>(
+    fn of<T: Tries + Drop>(
         alloc: Global,
-        asked: &Asked<'_, R>,
+        asked: &Asked<'_, T>,
         claim: &Claim,
         notes: &Notes,
         only: &OnlyInOne,
-    ) -> Result<Option<OtherEnd>, RunStop> {
+    ) -> Result<Option<OtherEnd>, T::Stop> {
         if !is_of_annotation(asked.verdict) {
             return Ok(None);
         }
@@ -77,13 +76,13 @@ impl OtherEnd {
 
 /// Says with which other end of an interval the check answers better, if the first difference is an annotation and there is
 /// such an end.
-pub(crate) fn say_other_end<R: Recordings>(
+pub(crate) fn say_other_end<T: Tries + Drop>(
     text: &mut Text,
-    asked: &Asked<'_, R>,
+    asked: &Asked<'_, T>,
     claim: &Claim,
     notes: &Notes,
     only: &OnlyInOne,
-) -> Result<(), RunStop> {
+) -> Result<(), T::Stop> {
     if let Some(other) = OtherEnd::of(text.alloc(), asked, claim, notes, only)? {
         other.say(text)?;
     }

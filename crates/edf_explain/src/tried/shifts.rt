@@ -1,11 +1,10 @@
 //! Other shifts than the claimed one, each tried by a check.
 
-use crate::tried::answers::{Asked, TriedAnswer};
+use crate::tried::answers::{Asked, TriedAnswer, Tries};
 use crate::words::tried as words;
 use edf_findings::Starts;
 use edf_sentences::{FULL_STOP, NEXT, Piece, Text};
-use edf_stop::RunStop;
-use edf_trial::{Recordings, check_anew, is_better, with_shift};
+use edf_trial::{is_better, with_shift};
 use edf_verdict::{Difference, Verdict};
 use std::alloc::{AllocError, Global};
 
@@ -41,18 +40,18 @@ impl TriedShifts {
 
     /// Tries a shift. One with which the first samples that are kept aren't as claimed is no better one. Where a file has a fault
     /// now, it can't be read once more, as a pipe, and nothing was tried.
-    fn try_shift<R: Recordings>(
+    fn try_shift<T: Tries + Drop>(
         &mut self,
         alloc: Global,
-        asked: &Asked<'_, R>,
+        asked: &Asked<'_, T>,
         first_ps: i128,
         seconds: i64,
-    ) -> Result<(), RunStop> {
+    ) -> Result<(), T::Stop> {
         let Some(claim_text) = with_shift(alloc, asked.claim_text, seconds)? else {
             return Ok(());
         };
-        let verdict = check_anew(alloc, asked.recordings, &claim_text)?;
-        if is_of_fault(&verdict) {
+        let answer = asked.tries.answer(alloc, &claim_text)?;
+        if is_of_fault(&answer.verdict) {
             return Ok(());
         }
         self.remember(seconds)?;
@@ -60,8 +59,7 @@ impl TriedShifts {
             Some(best) => &best.answer.verdict,
             None => asked.verdict,
         };
-        if is_better(&verdict, best) && is_behind(&verdict, first_ps) {
-            let answer = TriedAnswer::of(alloc, verdict)?;
+        if is_better(&answer.verdict, best) && is_behind(&answer.verdict, first_ps) {
             self.best = Some(TriedShift { seconds, answer });
         }
         Ok(())
@@ -69,11 +67,11 @@ impl TriedShifts {
 
     /// Tries the shifts that the starts suggest, until the check answers with a Yes. Nothing is tried where another shift can't
     /// change the first difference: where the headers differ, or the export starts as claimed.
-    pub(crate) fn of<R: Recordings>(
+    pub(crate) fn of<T: Tries + Drop>(
         alloc: Global,
-        asked: &Asked<'_, R>,
+        asked: &Asked<'_, T>,
         starts: Option<Starts>,
-    ) -> Result<TriedShifts, RunStop> {
+    ) -> Result<TriedShifts, T::Stop> {
         let mut shifts = TriedShifts::none(alloc);
         let Some(starts) = starts else {
             return Ok(shifts);

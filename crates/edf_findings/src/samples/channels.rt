@@ -2,8 +2,7 @@
 
 use crate::samples::compared::ComparedChannel;
 use crate::samples::lane::Lanes;
-use crate::samples::side_by_side::Strides;
-use crate::samples::tally::{Hands, Stands};
+use crate::samples::tally::{Durations, Hands, Stands};
 use crate::stand::Stand;
 use edf_claim::Claim;
 use edf_header::Header;
@@ -20,17 +19,6 @@ pub(crate) struct Channels {
     alike: u64,
 }
 
-/// How the samples of a channel follow one another in both files.
-fn strides_of(original: &Header, export: &Header, lanes: Lanes) -> Strides {
-    let step = original
-        .duration_ps()
-        .saturating_mul(i128::from(lanes.export.samples));
-    let other_step = export
-        .duration_ps()
-        .saturating_mul(i128::from(lanes.original.samples));
-    Strides::of(step, other_step)
-}
-
 /// The claimed channels that both files have.
 fn channels_of(
     alloc: Global,
@@ -40,14 +28,17 @@ fn channels_of(
 ) -> Result<Vec<ComparedChannel>, AllocError> {
     let originals = ChannelIndex::new(alloc, original)?;
     let exports = ChannelIndex::new(alloc, export)?;
+    let durations = Durations {
+        original_ps: original.duration_ps(),
+        export_ps: export.duration_ps(),
+    };
     let mut channels = Vec::new(alloc);
     for (place, label) in claim.channels().iter().enumerate() {
         if let Some(old) = originals.channel(label.text())
             && let Some(new) = exports.channel(label.text())
         {
             let lanes = Lanes::of(old, new);
-            let strides = strides_of(original, export, lanes);
-            channels.push(ComparedChannel::new(place, lanes, strides))?;
+            channels.push(ComparedChannel::new(place, lanes, durations))?;
         }
     }
     Ok(channels)

@@ -2,10 +2,11 @@
 
 use crate::samples::blocks::numbers_of;
 use crate::samples::lane::Lanes;
+use crate::samples::mismatch::{BothLanes, Mismatch};
 use crate::samples::places::Places;
 use crate::samples::sample_run::{BothRuns, places_of};
 use crate::samples::side_by_side::{Strides, side_by_side};
-use crate::samples::tally::{BothLanes, Hands, Mismatch, Stands, Tally};
+use crate::samples::tally::{Durations, Hands, Measures, Spot, Stands, Tally};
 
 /// A claimed channel that both files have, and which of its samples aren't as claimed.
 #[derive(Drop)]
@@ -16,6 +17,7 @@ pub struct ComparedChannel {
     pub has_other_rate: bool,
     strides: Strides,
     pub(crate) lanes: Lanes,
+    durations: Durations,
     /// How many samples of both were compared.
     pub compared: u64,
     /// Samples that are kept, and that the export lacks.
@@ -28,12 +30,14 @@ pub struct ComparedChannel {
 
 impl ComparedChannel {
     /// Nothing was found of it so far.
-    pub(crate) fn new(place: usize, lanes: Lanes, strides: Strides) -> ComparedChannel {
+    pub(crate) fn new(place: usize, lanes: Lanes, durations: Durations) -> ComparedChannel {
+        let strides = Strides::between(lanes, durations);
         ComparedChannel {
             place,
             has_other_rate: !strides.are_same(),
             strides,
             lanes,
+            durations,
             compared: 0,
             missing: Tally::NONE,
             extra: Tally::NONE,
@@ -44,6 +48,15 @@ impl ComparedChannel {
     /// Whether nothing was found.
     pub fn is_as_claimed(&self) -> bool {
         self.missing.count == 0 && self.extra.count == 0 && self.changed.count == 0
+    }
+
+    /// The first and the last of some samples that were found of it, where there are some.
+    pub fn ends_of(&self, tally: &Tally) -> Option<(Spot, Spot)> {
+        tally.ends(Measures {
+            durations: self.durations,
+            original_samples: self.lanes.original.samples,
+            export_samples: self.lanes.export.samples,
+        })
     }
 
     /// Takes in that so many samples were compared.
@@ -90,7 +103,6 @@ impl ComparedChannel {
         BothLanes {
             original: stands.original.bytes(original.signal),
             export: stands.export.bytes(export.signal),
-            samples: original.samples,
         }
     }
 
@@ -107,7 +119,7 @@ impl ComparedChannel {
     /// The same, where each sample is taken at the time of the other file's.
     fn compare_each(&mut self, stands: &Stands<'_>) {
         let lanes = self.take_whole(stands);
-        self.count_compared(lanes.samples as usize);
+        self.count_compared(self.lanes.original.done);
         if let Some(places) = places_of(lanes.original, lanes.export) {
             self.changed
                 .add_changed(lanes, places, places, &stands.hands);
@@ -117,11 +129,11 @@ impl ComparedChannel {
     /// The same, where the original has two samples for each of the export's.
     fn compare_halved(&mut self, stands: &Stands<'_>) {
         let lanes = self.take_whole(stands);
-        let (samples, count) = (lanes.samples, self.lanes.export.done);
+        let count = self.lanes.export.done;
         self.count_compared(count);
         let between = Places::between(count);
         self.missing
-            .add_places(Mismatch::Missing, between, samples, &stands.hands);
+            .add_places(Mismatch::Missing, between, &stands.hands);
         if let Some(numbers) = numbers_of::<2>(lanes.original, lanes.export, count) {
             let places = numbers.doubled();
             self.changed
@@ -132,11 +144,11 @@ impl ComparedChannel {
     /// The same, where the export has two samples for each of the original's.
     fn compare_doubled(&mut self, stands: &Stands<'_>) {
         let lanes = self.take_whole(stands);
-        let (samples, count) = (self.lanes.export.samples, self.lanes.original.done);
+        let count = self.lanes.original.done;
         self.count_compared(count);
         let between = Places::between(count);
         self.extra
-            .add_places(Mismatch::Extra, between, samples, &stands.hands);
+            .add_places(Mismatch::Extra, between, &stands.hands);
         if let Some(numbers) = numbers_of::<2>(lanes.export, lanes.original, count) {
             let places = numbers.doubled();
             self.changed
@@ -166,15 +178,12 @@ impl ComparedChannel {
     /// Takes in samples of both files that are taken at any times.
     fn compare_apart(&mut self, runs: BothRuns<'_>, hands: &Hands) {
         let found = side_by_side(runs, self.strides);
-        let (samples, others) = (runs.original.samples, runs.export.samples);
         self.count_compared(found.compared);
         if let Some(places) = found.missing {
-            self.missing
-                .add_places(Mismatch::Missing, places, samples, hands);
+            self.missing.add_places(Mismatch::Missing, places, hands);
         }
         if let Some(places) = found.extra {
-            self.extra
-                .add_places(Mismatch::Extra, places, others, hands);
+            self.extra.add_places(Mismatch::Extra, places, hands);
         }
         if let Some((old, new)) = found.changed {
             self.changed.add_changed(runs.lanes(), old, new, hands);

@@ -3,6 +3,15 @@
 use edf_header::Header;
 use edf_heads::Channel;
 
+/// The value of the sample at a place of a signal.
+pub(crate) fn value_at(bytes: &[u8], place: usize) -> i16 {
+    let from = place.saturating_mul(2);
+    match bytes.get(from..from.saturating_add(2)) {
+        Some([low, high]) => i16::from_le_bytes([*low, *high]),
+        _ => 0,
+    }
+}
+
 /// A signal of a file, and how many samples of the data record at hand are done with.
 #[derive(Clone, Copy)]
 pub(crate) struct Lane {

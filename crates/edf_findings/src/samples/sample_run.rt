@@ -1,9 +1,8 @@
 //! Samples of a signal that follow one another in a data record.
 
-use crate::record_time::RecordTime;
 use crate::samples::blocks::numbers_of;
+use crate::samples::mismatch::BothLanes;
 use crate::samples::places::Places;
-use crate::samples::tally::BothLanes;
 use edf_stream::Instant;
 use std::cmp::Ordering;
 
@@ -22,15 +21,6 @@ pub(crate) struct SampleRun<'a> {
     pub(crate) to: usize,
 }
 
-/// The value of the sample at a place of a signal.
-pub(crate) fn value_at(bytes: &[u8], place: usize) -> i16 {
-    let from = place.saturating_mul(2);
-    match bytes.get(from..from.saturating_add(2)) {
-        Some([low, high]) => i16::from_le_bytes([*low, *high]),
-        _ => 0,
-    }
-}
-
 /// A number of bytes or samples as a wide integer.
 fn wide(count: usize) -> i128 {
     count as i128
@@ -47,11 +37,11 @@ impl<'a> SampleRun<'a> {
         to: 0,
     };
 
-    /// No samples of a signal, of which a data record with this time has so many.
-    pub(crate) fn of_none(time: RecordTime, samples: u32) -> SampleRun<'static> {
+    /// No samples of a signal, of which a data record that starts then and lasts so long has so many.
+    pub(crate) fn of_none(start_ps: i128, duration_ps: i128, samples: u32) -> SampleRun<'static> {
         SampleRun {
-            start_ps: time.from_ps,
-            duration_ps: time.to_ps.saturating_sub(time.from_ps),
+            start_ps,
+            duration_ps,
             samples,
             ..SampleRun::NONE
         }
@@ -189,7 +179,6 @@ impl<'a> BothRuns<'a> {
         BothLanes {
             original: self.original.bytes,
             export: self.export.bytes,
-            samples: self.original.samples,
         }
     }
 }

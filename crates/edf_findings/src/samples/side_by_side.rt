@@ -1,8 +1,10 @@
 //! Samples of two runs that are taken at any times.
 
+use crate::samples::lane::Lanes;
 use crate::samples::places::Places;
 use crate::samples::sample_run::{BothRuns, SampleRun};
 use crate::samples::strided::{Values, numbers_changed};
+use crate::samples::tally::Durations;
 use std::cmp::Ordering;
 
 /// How many samples of the original, and how many of the export, go by from one instant at which both have a sample to the
@@ -34,8 +36,19 @@ fn times(length: i128, whole: i128) -> usize {
 }
 
 impl Strides {
+    /// Those of a channel with these lanes, in data records that last so long.
+    pub(crate) fn between(lanes: Lanes, durations: Durations) -> Strides {
+        let step = durations
+            .original_ps
+            .saturating_mul(i128::from(lanes.export.samples));
+        let other_step = durations
+            .export_ps
+            .saturating_mul(i128::from(lanes.original.samples));
+        Strides::of(step, other_step)
+    }
+
     /// Those of channels of which the samples follow one another by these steps, in one unit.
-    pub(crate) fn of(original_step: i128, export_step: i128) -> Strides {
+    fn of(original_step: i128, export_step: i128) -> Strides {
         let common = common_divisor(original_step, export_step);
         Strides {
             original: times(common, export_step),

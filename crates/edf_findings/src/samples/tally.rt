@@ -1,8 +1,9 @@
 //! Samples of a channel that were found: how many, the first and the last.
 
-use crate::record_time::{Hand, RecordTime};
+use crate::record_time::Hand;
+use crate::samples::mismatch::{BothLanes, Mismatch};
 use crate::samples::places::Places;
-use crate::samples::sample_run::{SampleRun, value_at};
+use crate::samples::sample_run::SampleRun;
 use crate::stand::Stand;
 
 /// A sample that was found.
@@ -47,57 +48,77 @@ impl<'a> Stands<'a> {
     }
 }
 
-/// The bytes of a channel in two data records, of which the original's has so many samples.
+/// How long a data record of each file lasts, in picoseconds.
 #[derive(Clone, Copy)]
-pub(crate) struct BothLanes<'a> {
-    pub(crate) original: &'a [u8],
-    pub(crate) export: &'a [u8],
-    pub(crate) samples: u32,
+pub(crate) struct Durations {
+    pub(crate) original_ps: i128,
+    pub(crate) export_ps: i128,
 }
 
-impl BothLanes<'_> {
-    /// How the sample at a place of the original differs, beside which the export has one at another place.
-    fn change(self, place: usize, other: usize) -> Mismatch {
-        Mismatch::Changed(value_at(self.original, place), value_at(self.export, other))
+/// The lanes of a channel in data records of both files: how long these last, and how many samples of it each has.
+#[derive(Clone, Copy)]
+pub(crate) struct Measures {
+    pub(crate) durations: Durations,
+    pub(crate) original_samples: u32,
+    pub(crate) export_samples: u32,
+}
+
+/// A sample that was found, of which its time isn't reckoned so far: where the data records at hand start and their numbers, where
+/// they are there, and its place in one of them. It is small, since each data record may have one.
+#[derive(Clone, Copy)]
+struct FoundSample {
+    original_ps: i128,
+    export_ps: i128,
+    original_record: Option<u32>,
+    export_record: Option<u32>,
+    place: u32,
+    mismatch: Mismatch,
+}
+
+/// The number of the data record at hand that starts at a time and lasts so long, where another time lies in it.
+fn record_at(number: Option<u32>, from_ps: i128, duration_ps: i128, at_ps: i128) -> Option<u64> {
+    let number = number?;
+    if from_ps <= at_ps && at_ps < from_ps.saturating_add(duration_ps) {
+        Some(u64::from(number))
+    } else {
+        None
     }
 }
 
-/// Which of two files has a sample.
-#[derive(Clone, Copy)]
-pub(crate) enum Mismatch {
-    /// The original alone.
-    Missing,
-    /// The export alone.
-    Extra,
-    /// Both have one, with these values.
-    Changed(i16, i16),
-}
-
-/// A sample that was found, of which its time isn't reckoned so far: its place in a data record at hand, which has so many of
-/// its signal.
-#[derive(Clone, Copy)]
-struct FoundSample {
-    hands: Hands,
-    mismatch: Mismatch,
-    place: usize,
-    samples: u32,
-}
-
 impl FoundSample {
-    /// The time of the data record that it is of.
-    fn time(self) -> Option<RecordTime> {
-        match self.mismatch {
-            Mismatch::Extra => self.hands.export.time,
-            Mismatch::Missing | Mismatch::Changed(_, _) => self.hands.original.time,
+    /// The sample at a place of data records at hand.
+    #[inline(always)]
+    fn new(hands: &Hands, mismatch: Mismatch, place: usize) -> FoundSample {
+        FoundSample {
+            original_ps: hands.original.from_ps,
+            export_ps: hands.export.from_ps,
+            original_record: hands.original.number,
+            export_record: hands.export.number,
+            place: place as u32,
+            mismatch,
         }
     }
 
     /// When it was taken, rounded down.
-    fn at_ps(self) -> i128 {
-        match self.time() {
-            Some(time) => SampleRun::of_none(time, self.samples).at_ps(self.place),
-            None => 0,
+    fn at_ps(self, measures: Measures) -> i128 {
+        let (record, start_ps, duration_ps, samples) = match self.mismatch {
+            Mismatch::Extra => (
+                self.export_record,
+                self.export_ps,
+                measures.durations.export_ps,
+                measures.export_samples,
+            ),
+            Mismatch::Missing | Mismatch::Changed(_, _) => (
+                self.original_record,
+                self.original_ps,
+                measures.durations.original_ps,
+                measures.original_samples,
+            ),
+        };
+        if record.is_none() {
+            return 0;
         }
+        SampleRun::of_none(start_ps, duration_ps, samples).at_ps(self.place as usize)
     }
 
     /// The values of both files, where both have one.
@@ -108,13 +129,17 @@ impl FoundSample {
         }
     }
 
-    /// The sample.
-    fn spot(self) -> Spot {
-        let at_ps = self.at_ps();
+    /// The sample, of a channel with such lanes.
+    fn spot(self, measures: Measures) -> Spot {
+        let at_ps = self.at_ps(measures);
+        let Durations {
+            original_ps,
+            export_ps,
+        } = measures.durations;
         Spot {
             at_ps,
-            original_record: self.hands.original.number_at(at_ps),
-            export_record: self.hands.export.number_at(at_ps),
+            original_record: record_at(self.original_record, self.original_ps, original_ps, at_ps),
+            export_record: record_at(self.export_record, self.export_ps, export_ps, at_ps),
             values: self.values(),
         }
     }
@@ -136,9 +161,9 @@ impl Tally {
         last: None,
     };
 
-    /// The first and the last, where there are some.
-    pub fn ends(&self) -> Option<(Spot, Spot)> {
-        Some((self.first?.spot(), self.last?.spot()))
+    /// The first and the last, where there are some, of a channel with such lanes.
+    pub(crate) fn ends(&self, measures: Measures) -> Option<(Spot, Spot)> {
+        Some((self.first?.spot(measures), self.last?.spot(measures)))
     }
 
     /// Takes in so many samples behind those so far, of which this is the last.
@@ -148,27 +173,12 @@ impl Tally {
         self.last = Some(last);
     }
 
-    /// Takes in samples that one of the files lacks, by their places in the data record of the other, which has so many.
-    pub(crate) fn add_places(
-        &mut self,
-        mismatch: Mismatch,
-        places: Places,
-        samples: u32,
-        hands: &Hands,
-    ) {
-        let last = FoundSample {
-            hands: *hands,
-            mismatch,
-            place: places.last,
-            samples,
-        };
+    /// Takes in samples that one of the files lacks, by their places in the data record of the other.
+    pub(crate) fn add_places(&mut self, mismatch: Mismatch, places: Places, hands: &Hands) {
         if self.first.is_none() {
-            self.first = Some(FoundSample {
-                place: places.first,
-                ..last
-            });
+            self.first = Some(FoundSample::new(hands, mismatch, places.first));
         }
-        self.take_in(places.count, last);
+        self.take_in(places.count, FoundSample::new(hands, mismatch, places.last));
     }
 
     /// Takes in the samples of a run that one of the files lacks.
@@ -181,7 +191,7 @@ impl Tally {
             first: run.from,
             last: run.to.saturating_sub(1),
         };
-        self.add_places(mismatch, places, run.samples, hands);
+        self.add_places(mismatch, places, hands);
     }
 
     /// Takes in samples that have other values, by their places in the original and in the export.
@@ -192,19 +202,14 @@ impl Tally {
         export: Places,
         hands: &Hands,
     ) {
-        let last = FoundSample {
-            hands: *hands,
-            mismatch: lanes.change(original.last, export.last),
-            place: original.last,
-            samples: lanes.samples,
-        };
         if self.first.is_none() {
-            self.first = Some(FoundSample {
-                mismatch: lanes.change(original.first, export.first),
-                place: original.first,
-                ..last
-            });
+            let change = lanes.change(original.first, export.first);
+            self.first = Some(FoundSample::new(hands, change, original.first));
         }
-        self.take_in(original.count, last);
+        let change = lanes.change(original.last, export.last);
+        self.take_in(
+            original.count,
+            FoundSample::new(hands, change, original.last),
+        );
     }
 }

@@ -1,0 +1,188 @@
+"""Looks whether what `explain-parts` says of random wrong exports in several parts is so: numbers, and remedies.
+
+usage: python3 -m tests.oracle.honest_parts PROGRAM [COUNT [SEED]]
+
+It makes COUNT nights with a claim and a wrong export as tests/oracle/honesty.py does (2,000 where none is said; SEED is a number,
+1 if none is said, and the same number makes the same files), and cuts the export into one to four parts. PROGRAM runs
+`check-parts` and `explain-parts` on each. What the sentences state is recounted from how the files were made: of each part where
+it starts and is claimed to, and of each of its channels how many samples are missing, too many and changed, the first and the last
+of them; of all parts together how many annotations are missing and too many. What is missing in front of a part counts for it, and
+behind the last part for that one. Each change of the claim that is named is put into the claim, `check-parts` is run again, and its
+line is compared with what was said.
+
+What disagrees is said, of twenty exports at the most. The last line counts the exports that passed and failed.
+"""
+
+import os
+import re
+import sys
+import tempfile
+
+from tests.made import PS, apart
+from tests.oracle.honesty import Honesty, Said, case, choose, clock, common, wrong_notes, wrong_spot
+
+PART = re.compile(r"^Part (\d+):$")
+TOGETHER = "The annotations of all parts together:"
+AS_CLAIMED = "  Its header and its samples are as claimed."
+
+
+def in_parts(export):
+    """The export in one to four parts, each of which has at least one second. An annotation stands in the first part that ends
+    behind its onset, or in the last one."""
+    places = [second for first, last in export.stretches for second in range(first, last)]
+    cuts = sorted(choose.sample(range(1, len(places)), min(choose.randint(0, 3), len(places) - 1)))
+    left, parts = list(export.notes), []
+    for first, last in zip([0, *cuts], [*cuts, len(places)]):
+        own = places[first:last]
+        stretches = []
+        for second in own:
+            if stretches and stretches[-1][1] == second:
+                stretches[-1] = stretches[-1][0], second + 1
+            else:
+                stretches.append((second, second + 1))
+        is_last = last == len(places)
+        kept = [note for note in left if is_last or note[0] < stretches[-1][1] * PS]
+        left = [note for note in left if note not in kept]
+        parts.append(export.but(stretches=stretches, notes=kept))
+    return parts
+
+
+class Sections:
+    """The sentences of an explanation of several exports: those in front of the first part, of each part, and behind all."""
+
+    def __init__(self, text):
+        self.front, self.parts, self.together = [], [], None
+        into = self.front
+        for line in text.splitlines():
+            if found := PART.match(line):
+                assert int(found[1]) == len(self.parts), text
+                into = []
+                self.parts.append(into)
+            elif line == TOGETHER:
+                into = self.together = []
+            else:
+                into.append(line)
+
+    def tried(self):
+        """What is said of what was tried."""
+        return Said("\n".join(self.front + (self.together or []) + self.parts[-1]))
+
+
+def span_of(parts, number, moved):
+    """The time that counts for a part, in picoseconds after the start of the original: from the end of the one in front of it, and
+    to its own end, or for ever."""
+    def end(part):
+        return part.stretches[-1][1] * PS + part.fraction + moved
+
+    first = end(parts[number - 1]) if number else -(10**30)
+    return first, end(parts[number]) if number + 1 < len(parts) else 10**30
+
+
+def wrong_start(said, original, part, claim, span, shift):
+    """What is wrong with where a part starts, by this shift."""
+    kept = [at for label in common(original, part, claim) for at in original.samples(label)
+            if claim.keeps(at) and span[0] <= at < span[1]]
+    if not kept:
+        return None if said.starts is None else f"nothing is kept; said: {said.starts}"
+    claimed = clock(min(kept), shift)
+    exported = clock(part.begin() * PS + part.fraction, part.shift)
+    later = (part.begin() + part.shift - shift) * PS + part.fraction - min(kept)
+    want = ("earlier" if later < 0 else "later", exported, claimed) if later else None
+    return None if said.starts == want else f"it starts {want}; said: {said.starts}"
+
+
+def wrong_part(lines, original, parts, number, claim, shift):
+    """What is wrong with what is said of a part, by this shift."""
+    part, said = parts[number], Said("\n".join(lines))
+    span = span_of(parts, number, (part.shift - shift) * PS)
+    if wrong := wrong_start(said, original, part, claim, span, shift):
+        return wrong
+    for label in common(original, part, claim):
+        for kind, found in apart(original, part, claim, label, shift).items():
+            if kind == "missing":
+                found = [spot for spot in found if span[0] <= spot[0] < span[1]]
+            count, spots = said.counts.pop((label, kind), (0, []))
+            if count != len(found):
+                return f"{len(found)} samples of {label} are {kind}; said: {count}"
+            names = ["It"] if count == 1 else ["The first", "The last"] if count else []
+            for name, spot, want in zip(names, spots + [None, None], [found[0], found[-1]] if found else []):
+                if wrong := wrong_spot(spot, name, want, shift):
+                    return f"{kind} sample of {label}: {wrong}"
+    return f"said of samples that aren't: {said.counts}" if said.counts else None
+
+
+class HonestParts(Honesty):
+    """The program in a folder of its own, and how many explanations passed and failed."""
+
+    def run(self, command, *files):
+        """As `check-parts` wants its files: the claim behind the original."""
+        if command != "check":
+            return super().run(command, *files)
+        original, *exports, claim = files
+        return super().run("check-parts", original, claim, *exports)
+
+    def wrong_in_parts(self, original, export, claim):
+        """What is wrong with an explanation, or none."""
+        parts = in_parts(export)
+        files = [self.path("original.edf", original.bytes())]
+        files += [self.path(f"part-{number}.edf", part.bytes()) for number, part in enumerate(parts)]
+        text = self.path("claim.toml", claim.text().encode())
+        status, line = self.run("check", *files, text)
+        if status not in (0, 1):
+            return f"the check has status {status}: {line}"
+        ended, whole = self.run("explain-parts", files[0], text, *files[1:])
+        if ended != status or not whole.startswith(line) or whole == line:
+            return f"the explanation has status {ended}; the check: {line}"
+        sections, line = Sections(whole[len(line):]), line.rstrip("\n")
+        self.seen[line.split()[0] + line.split()[1] * (status == 1)] += 1
+        self.seen[f"{len(parts)} parts"] += 1
+        if len(sections.parts) != len(parts):
+            return f"{len(parts)} parts; said: {len(sections.parts)}"
+        said = sections.tried()
+        self.seen["a shift that makes a Yes"] += said.has_yes()
+        self.seen["a shift that is better"] += bool(said.named) and not said.has_yes()
+        self.seen["shifts that aren't better"] += bool(said.tried)
+        self.seen["other channels"] += bool(said.channels)
+        self.seen["another end"] += bool(said.ends)
+        kept = [at for label in common(original, export, claim) for at in original.samples(label) if claim.keeps(at)]
+        if wrong := self.wrong_remedies(said, claim, files, line, min(kept, default=0)):
+            return wrong
+        return self.wrong_counts(sections, said, original, export, parts, claim)
+
+    def wrong_counts(self, sections, said, original, export, parts, claim):
+        """What is wrong with the numbers, or none."""
+        if said.has_yes():
+            of_all = [Said("\n".join(lines)) for lines in sections.parts]
+            return "samples or annotations are listed" if sections.together or any(part.counts for part in of_all) else None
+        shift = claim.shift if said.reckoned is None else said.reckoned
+        for number, lines in enumerate(sections.parts):
+            if wrong := wrong_part(lines, original, parts, number, claim, shift):
+                return f"part {number}: {wrong}"
+            if (AS_CLAIMED in lines) and any(line.startswith(("Channel", "The export")) for line in lines):
+                return f"part {number} is as claimed, and {lines}"
+        return wrong_notes(Said("\n".join(sections.together or [])), original, export, claim, shift)
+
+
+def main():
+    if len(sys.argv) not in (2, 3, 4) or not os.access(sys.argv[1], os.X_OK):
+        print("usage: python3 -m tests.oracle.honest_parts PROGRAM [COUNT [SEED]]", file=sys.stderr)
+        return 2
+    count = int(sys.argv[2]) if len(sys.argv) > 2 else 2000
+    choose.seed(int(sys.argv[3]) if len(sys.argv) > 3 else 1)
+    failed = 0
+    shared = "/dev/shm" if os.access("/dev/shm", os.W_OK) else None
+    with tempfile.TemporaryDirectory(dir=shared) as work:
+        honest = HonestParts(os.path.abspath(sys.argv[1]), work)
+        for number in range(count):
+            if wrong := honest.wrong_in_parts(*case()):
+                failed += 1
+                if failed <= 20:
+                    print(f"export {number}: {wrong}")
+    for name, times in sorted(honest.seen.items()):
+        print(f"{times} with {name}")
+    print(f"{count - failed} passed, {failed} failed")
+    return 1 if failed or not count else 0
+
+
+if __name__ == "__main__":
+    sys.exit(main())
