@@ -62,8 +62,10 @@ pub(crate) fn count_in(bytes: &[u8]) -> usize
 pub(crate) fn instant_at(stretch: Stretch, place: usize) -> Instant
     requires stretch { IsPart stretch }
     requires place { place ≤ 2 ^ 23 }
-    ensures value { result ≡ record { num = stretch.entry.num +ℤ pos place *ℤ stretch.entry.step;
-        den = stretch.entry.den } }
+    ensures value { result ≡ record {
+      num = stretch.entry.num +ℤ pos place *ℤ stretch.entry.step;
+      den = stretch.entry.den;
+    } }
     ensures modest { IsModest result }
 {
     Instant {
@@ -76,8 +78,10 @@ pub(crate) fn instant_at(stretch: Stretch, place: usize) -> Instant
 pub(crate) fn point_at(stretch: Stretch, place: usize) -> Point
     requires stretch { IsPart stretch }
     requires place { 2 * place + 1 < length stretch.bytes.now }
-    ensures value { result ≡ record { num = stretch.entry.num +ℤ pos place *ℤ stretch.entry.step;
-        value = digital_value stretch.entry.bytes.now place } }
+    ensures value { result ≡ record {
+      num = stretch.entry.num +ℤ pos place *ℤ stretch.entry.step;
+      value = digital_value stretch.entry.bytes.now place;
+    } }
     ensures small { unsigned_abs result.num < 2 ^ 104 }
 {
     Point {

@@ -49,8 +49,11 @@ fn text_by<'a>(claim: Option<&Claim>, onset: i128, text: &'a str) -> Option<&'a 
 /// The error is want of memory.
 fn note_at(alloc: Global, note: NoteRef<'_>, onset: i128, text: &str) -> Result<Note, AllocError>
     ensures { IfOk result (λ v.
-        note_value v ≡ record { onset = onset; duration = (note_view note.entry).duration;
-        text = text.now }) }
+        note_value v ≡ record {
+          onset = onset;
+          duration = (note_view note.entry).duration;
+          text = text.now;
+        }) }
 {
     Ok(Note {
         onset,
