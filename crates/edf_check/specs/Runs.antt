@@ -1,6 +1,6 @@
 -- What a check under the claim of a text says, and what a run writes: of one export, and of several.
-use Rattle.std.specs.Prelude.{◌≡◌, ◌≢◌, ℕ, List, ◌++◌, Bool, IsTrue, length}
-use Rattle.edf_check.specs.Words.{SaysClaimText, FirstClaimFault, Terms, ClaimStop, Fails, Reads, outcome_of, Outcome, Verdict, AllByRecursion, PartsVerdict}
+use Rattle.std.specs.Prelude.{◌≡◌, ◌≢◌, ℕ, List, ◌++◌, Bool, IsTrue, length, map}
+use Rattle.edf_check.specs.Words.{SaysClaimText, FirstClaimFault, Terms, ClaimStop, Fails, Reads, Ghosts, outcome_of, Outcome, Verdict, AllByRecursion, PartsVerdict}
 use Rattle.edf_fields.specs.in_out.Sinks.{HoldsPrefix}
 use Rattle.edf_stop.specs.declared.stops.RunStop.{RunStop}
 use Rattle.edf_stop.specs.declared.stops.RunStop.TheVariants.{OutOfMemory, ReadFailed, Claim, WriteFailed}
@@ -26,6 +26,10 @@ pub record IsVerdictUnder (original export text : List ℕ) (verdict : Verdict) 
 -- of two sources with these bytes it is so where both are honest
 abbrev pub IsJudged : (honest : Bool) (original : List ℕ) (sound : Bool) (export text : List ℕ) → Verdict → Type 0
 IsJudged honest original sound export text verdict = IsTrue honest → IsTrue sound → IsVerdictUnder original export text verdict
+
+-- the same, said of the sources
+abbrev pub IsJudgedBy : {O E : Type 0} → Ghosts O → Ghosts E → O → E → (text : List ℕ) → Verdict → Type 0
+IsJudgedBy original export o e = IsJudged (original.is_honest o) (original.left o) (export.is_honest e) (export.left e)
 
 -- behind what was held stands the text of such a verdict, and nothing else; the outcome is the verdict's
 pub record IsWritten (V : Type 0) (IsSuch : V → Type 0) (text_of : V → List ℕ) (outcome_of_it : V → Outcome) (old new : List ℕ) (outcome : Outcome) : Type 0 where
@@ -67,6 +71,10 @@ JudgeStops text original original_behind export export_behind =
     RunStops (λ cause. (cause ≢ claims.OutOfMemory) × FirstClaimFault text cause) (Fails original original_behind) (Fails export export_behind)
     ⊥ ((original_behind ≡ original) × (export_behind ≡ export))
 
+-- the same of two sources
+abbrev pub JudgeStopsOf : {O E : Type 0} → Ghosts O → Ghosts E → O → O → E → E → (text : List ℕ) → RunStop → Type 0
+JudgeStopsOf original export o o' e e' text = JudgeStops text (original.reads o) (original.reads o') (export.reads e) (export.reads e')
+
 -- this is the verdict on an original and several exports under the claim that a text says
 pub record IsPartsVerdictUnder (original : List ℕ) (parts : List (List ℕ)) (text : List ℕ) (verdict : PartsVerdict) : Type 0 where
   pub claim : Terms
@@ -76,6 +84,10 @@ pub record IsPartsVerdictUnder (original : List ℕ) (parts : List (List ℕ)) (
 -- of sources with these bytes it is so where all are honest
 abbrev pub IsPartsJudged : (honest : Bool) (original : List ℕ) (sound : List Bool) (parts : List (List ℕ)) (text : List ℕ) → PartsVerdict → Type 0
 IsPartsJudged honest original sound parts text verdict = IsTrue honest → AllByRecursion IsTrue sound → IsPartsVerdictUnder original parts text verdict
+
+-- the same, said of the sources
+abbrev pub ArePartsJudgedBy : {O E : Type 0} → Ghosts O → Ghosts E → O → List E → (text : List ℕ) → PartsVerdict → Type 0
+ArePartsJudgedBy original export o parts = IsPartsJudged (original.is_honest o) (original.left o) (map export.is_honest parts) (map export.left parts)
 
 -- the line of that verdict was written, with its outcome
 abbrev pub IsPartsReport : (original : List ℕ) (parts : List (List ℕ)) (text old new : List ℕ) (outcome : Outcome) → Type 0
@@ -104,3 +116,8 @@ abbrev pub PartsJudgeStops : (text : List ℕ) (original original_behind : Reads
 PartsJudgeStops text original original_behind olds news =
     PartsRunStops (λ cause. (cause ≢ claims.OutOfMemory) × FirstClaimFault text cause) (Fails original original_behind)
     ⊥ ((original_behind ≡ original) × (news ≡ olds)) olds news
+
+-- the same of all sources
+abbrev pub JudgeStopsOfAll : {O E : Type 0} → Ghosts O → Ghosts E → O → O → List E → List E → (text : List ℕ) → PartsRunStop → Type 0
+JudgeStopsOfAll original export o o' parts parts' text =
+    PartsJudgeStops text (original.reads o) (original.reads o') (map export.reads parts) (map export.reads parts')

@@ -19,9 +19,11 @@ pub use Rattle.edf_heads.specs.SameHeads.{AreBlankAlike, AreSameHeads}
 pub use Rattle.edf_verdict.specs.Outcomes.{outcome_of}
 pub use Rattle.edf_verdict.specs.declared.outcome.Outcome.{Outcome}
 pub use Rattle.edf_verdict.specs.declared.parts_verdict.PartsVerdict.{PartsVerdict}
+pub use Rattle.edf_stop.specs.declared.parts_stops.PartsStop.{PartsStop}
 pub use Rattle.edf_verdict.specs.declared.verdict.Verdict.{Verdict}
 pub use Rattle.edf_check.specs.declared.finding.Finding.{Finding}
 pub use Rattle.edf_check.specs.declared.parts.found.PartVerdict.{PartVerdict}
 pub use Rattle.edf_check.specs.declared.parts.found.PartsFound.{PartsFound}
 pub use Rattle.edf_check.specs.declared.parts.part.Course.{Course}
 pub use Rattle.edf_check.specs.declared.parts.series.Exported.{Exported}
+pub use Rattle.edf_check.specs.declared.parts.series.ReadSoFar.{ReadSoFar}

@@ -1,7 +1,7 @@
 //! The check under the claim that a text says.
 
 ghost use Rattle.std.specs.Prelude.{◌≡◌, ◌<◌, ◌≤◌, map, length, IfOk, IfErr, OnOk};
-ghost use Rattle.edf_check.specs.Runs.{IsJudged, JudgeStops, IsPartsJudged, PartsJudgeStops};
+ghost use Rattle.edf_check.specs.Runs.{ArePartsJudgedBy, IsJudgedBy, JudgeStopsOf, JudgeStopsOfAll};
 
 use crate::of_one::check_beside;
 use crate::of_several::{Asked, check_parts_beside};
@@ -23,12 +23,11 @@ pub fn judge_beside<O: Source, E: Source, L: Onlooker>(
     claim_text: &[u8],
     onlooker: &mut L,
 ) -> Result<Verdict, RunStop>
-    ensures under { IfOk result (IsJudged (O.is_honest original.old) (O.left original.old)
-        (E.is_honest export.old) (E.left export.old) claim_text.now) }
+    ensures under { IfOk result (IsJudgedBy O.Source E.Source original.old export.old claim_text.now) }
     ensures failures { OnOk result ((O.reads original.new ≡ O.reads original.old)
         × (E.reads export.new ≡ E.reads export.old)) }
-    ensures stop { IfErr result (JudgeStops claim_text.now (O.reads original.old) (O.reads original.new)
-        (E.reads export.old) (E.reads export.new)) }
+    ensures stop { IfErr result (JudgeStopsOf O.Source E.Source original.old original.new export.old
+        export.new claim_text.now) }
 {
     match Claim::read(alloc, claim_text) {
         Ok(claim) => {
@@ -53,12 +52,11 @@ pub fn judge<O: Source, E: Source>(
     export: &mut E,
     claim_text: &[u8],
 ) -> Result<Verdict, RunStop>
-    ensures under { IfOk result (IsJudged (O.is_honest original.old) (O.left original.old)
-        (E.is_honest export.old) (E.left export.old) claim_text.now) }
+    ensures under { IfOk result (IsJudgedBy O.Source E.Source original.old export.old claim_text.now) }
     ensures failures { OnOk result ((O.reads original.new ≡ O.reads original.old)
         × (E.reads export.new ≡ E.reads export.old)) }
-    ensures stop { IfErr result (JudgeStops claim_text.now (O.reads original.old) (O.reads original.new)
-        (E.reads export.old) (E.reads export.new)) }
+    ensures stop { IfErr result (JudgeStopsOf O.Source E.Source original.old original.new export.old
+        export.new claim_text.now) }
 {
     judge_beside(alloc, original, export, claim_text, &mut Nobody)
 }
@@ -76,13 +74,12 @@ pub fn judge_parts_beside<O: Source, E: Source, L: Onlooker>(
 ) -> Result<PartsVerdict, PartsRunStop>
     requires some { 0 < length parts.old }
     requires few { length parts.old ≤ 64 }
-    ensures under { IfOk result (IsPartsJudged (O.is_honest original.old) (O.left original.old)
-        (map E.is_honest parts.old) (map E.left parts.old) claim_text.now) }
+    ensures under { IfOk result (ArePartsJudgedBy O.Source E.Source original.old parts.old claim_text.now) }
     ensures failures { OnOk result ((O.reads original.new ≡ O.reads original.old)
         × (map E.reads parts.new ≡ map E.reads parts.old)) }
     ensures size { length parts.new ≡ length parts.old }
-    ensures stop { IfErr result (PartsJudgeStops claim_text.now (O.reads original.old) (O.reads original.new)
-        (map E.reads parts.old) (map E.reads parts.new)) }
+    ensures stop { IfErr result (JudgeStopsOfAll O.Source E.Source original.old original.new parts.old
+        parts.new claim_text.now) }
 {
     match Claim::read(alloc, claim_text) {
         Ok(claim) => {
@@ -109,13 +106,12 @@ pub fn judge_parts<O: Source, E: Source>(
 ) -> Result<PartsVerdict, PartsRunStop>
     requires some { 0 < length parts.old }
     requires few { length parts.old ≤ 64 }
-    ensures under { IfOk result (IsPartsJudged (O.is_honest original.old) (O.left original.old)
-        (map E.is_honest parts.old) (map E.left parts.old) claim_text.now) }
+    ensures under { IfOk result (ArePartsJudgedBy O.Source E.Source original.old parts.old claim_text.now) }
     ensures failures { OnOk result ((O.reads original.new ≡ O.reads original.old)
         × (map E.reads parts.new ≡ map E.reads parts.old)) }
     ensures size { length parts.new ≡ length parts.old }
-    ensures stop { IfErr result (PartsJudgeStops claim_text.now (O.reads original.old) (O.reads original.new)
-        (map E.reads parts.old) (map E.reads parts.new)) }
+    ensures stop { IfErr result (JudgeStopsOfAll O.Source E.Source original.old original.new parts.old
+        parts.new claim_text.now) }
 {
     judge_parts_beside(alloc, original, parts, claim_text, &mut Nobody)
 }

@@ -2,7 +2,7 @@
 
 ghost use Rattle.std.specs.Prelude.{◌≡◌, IfOk, IfErr, OnOk, IsTrue};
 ghost use Rattle.edf_fields.specs.in_out.Sources.{Fails};
-ghost use Rattle.edf_check.specs.Checks.{AreRead, CheckStops};
+ghost use Rattle.edf_check.specs.Checks.{AreRead, AreReadOfTwo, CheckStops, CheckStopsOf, IsHeadlineOfTwo, IsVerdictOfTwo};
 ghost use Rattle.edf_check.specs.Headline.{YesMeans};
 ghost use Rattle.edf_check.specs.Verdicts.{IsVerdict};
 
@@ -22,20 +22,16 @@ pub(crate) fn check_beside<O: Source, E: Source, L: Onlooker>(
     export: &mut E,
     asked: Asked<'_, '_, L>,
 ) -> Result<Verdict, CheckStop>
-    ensures headline { IfOk result (λ verdict. IsTrue (O.is_honest original.old) →
-        IsTrue (E.is_honest export.old) →
-        YesMeans (O.left original.old) (E.left export.old) (asked.entry.claim).now verdict) }
-    ensures verdict { IfOk result (λ verdict. IsTrue (O.is_honest original.old) →
-        IsTrue (E.is_honest export.old) →
-        IsVerdict (O.left original.old) (E.left export.old) (asked.entry.claim).now verdict) }
-    ensures read { IfOk result (λ verdict. IsTrue (O.is_honest original.old) →
-        IsTrue (E.is_honest export.old) → AreRead verdict (O.left original.new) (E.left export.new)) }
+    ensures headline { IfOk result (IsHeadlineOfTwo O.Source E.Source original.old export.old
+        (asked.entry.claim).now) }
+    ensures verdict { IfOk result (IsVerdictOfTwo O.Source E.Source original.old export.old
+        (asked.entry.claim).now) }
+    ensures read { IfOk result (AreReadOfTwo O.Source E.Source original.old original.new export.old
+        export.new) }
     ensures failures { OnOk result ((O.reads original.new ≡ O.reads original.old) ×
         (E.reads export.new ≡ E.reads export.old)) }
-    ensures stop { IfErr result (CheckStops
-        (Fails (O.reads original.old) (O.reads original.new))
-        (Fails (E.reads export.old) (E.reads export.new))
-        ((O.reads original.new ≡ O.reads original.old) × (E.reads export.new ≡ E.reads export.old))) }
+    ensures stop { IfErr result (CheckStopsOf O.Source E.Source original.old original.new export.old
+        export.new) }
 {
     match check_series(original, export, &mut [], asked) {
         Ok(on_parts) => Ok(on_parts.verdict),

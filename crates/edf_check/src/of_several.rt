@@ -6,7 +6,7 @@ ghost use Rattle.edf_fields.specs.in_out.Sources.{Fails};
 ghost use Rattle.edf_check.specs.Checks.{AreRead};
 ghost use Rattle.edf_pace.specs.PartsStops.{NoneFailed, PartsStops, StopsOfAll};
 ghost use Rattle.edf_check.specs.parts.PartsVerdicts.{IsPartsVerdict};
-ghost use Rattle.edf_check.specs.parts.Together.{IsReadBy, IsVerdictOf};
+ghost use Rattle.edf_check.specs.parts.Together.{IsReadBy, IsVerdictOf, SeriesLeft, SeriesStop};
 
 use crate::finding::Finding;
 use crate::parts::series::{Exported, ReadSoFar};
@@ -39,12 +39,12 @@ pub(crate) fn check_series<O: Source, E: Source, L: Onlooker>(
     requires few { length others.old < 64 }
     ensures verdict { IfOk result (IsVerdictOf O.Source E.Source original.old (part.old ∷ others.old)
         (asked.entry.claim).now) }
-    ensures read { IfOk result (IsReadBy O.Source E.Source original.old original.new
-        (part.old ∷ others.old) (part.new ∷ others.new)) }
+    ensures read { IfOk result (SeriesLeft O.Source E.Source original.old original.new part.old part.new
+        others.old others.new) }
     ensures failures { OnOk result (NoneFailed O.Source original.old original.new E.Source part.old part.new
         others.old others.new) }
-    ensures stop { IfErr result (StopsOfAll O.Source original.old original.new E.Source 0
-        (part.old ∷ others.old) (part.new ∷ others.new)) }
+    ensures stop { IfErr result (SeriesStop O.Source original.old original.new E.Source part.old part.new
+        others.old others.new) }
 {
     let Asked {
         alloc,
@@ -65,10 +65,7 @@ pub(crate) fn check_series<O: Source, E: Source, L: Onlooker>(
     };
     let mut so_far = ReadSoFar {
         original: reading,
-        exported: Exported {
-            samples: 0,
-            notes: Vec::new(alloc),
-        },
+        exported: Exported::new(alloc),
     };
     let stage = Stage {
         setting,
@@ -100,17 +97,13 @@ pub(crate) fn check_parts_beside<O: Source, E: Source, L: Onlooker>(
 ) -> Result<PartsVerdict, PartsStop>
     requires some { 0 < length parts.old }
     requires few { length parts.old ≤ 64 }
-    ensures verdict { IfOk result (λ verdict. IsTrue (O.is_honest original.old) →
-        AllByRecursion IsTrue (map E.is_honest parts.old) →
-        IsPartsVerdict (O.left original.old) (map E.left parts.old) (asked.entry.claim).now verdict) }
-    ensures read { IfOk result (λ verdict. IsTrue (O.is_honest original.old) →
-        AllByRecursion IsTrue (map E.is_honest parts.old) →
-        AllByRecursion (AreRead verdict.verdict (O.left original.new)) (map E.left parts.new)) }
+    ensures verdict { IfOk result (IsVerdictOf O.Source E.Source original.old parts.old
+        (asked.entry.claim).now) }
+    ensures read { IfOk result (IsReadBy O.Source E.Source original.old original.new parts.old parts.new) }
     ensures failures { OnOk result ((O.reads original.new ≡ O.reads original.old) ×
         (map E.reads parts.new ≡ map E.reads parts.old)) }
-    ensures stop { IfErr result (PartsStops (Fails (O.reads original.old) (O.reads original.new))
-        ((O.reads original.new ≡ O.reads original.old) × (map E.reads parts.new ≡ map E.reads parts.old)) 0
-        (map E.reads parts.old) (map E.reads parts.new)) }
+    ensures stop { IfErr result (StopsOfAll O.Source original.old original.new E.Source 0 parts.old
+        parts.new) }
 {
     match parts.split_first_mut() {
         None => unreachable!(),

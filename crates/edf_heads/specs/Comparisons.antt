@@ -1,5 +1,5 @@
 -- What a comparison of two headers holds: the channels of each claimed label, found once; and a difference as the code holds it. These are steps between the definitions and the code.
-use Rattle.std.specs.Prelude.{◌≡◌, ◌↔◌, ℕ, ◌==◌, Bool, true, false, not, ◌&&◌, ◌||◌, List, [], ◌∷◌, length, map, find, Option, None, Some, option_map, is_none, MatchOption, ◌*ℤ◌, codes, if◌then◌else◌}
+use Rattle.std.specs.Prelude.{◌≡◌, ◌↔◌, ℕ, ◌==◌, Bool, true, false, not, ◌&&◌, ◌||◌, List, [], ◌∷◌, length, map, find, slice_get, Option, None, Some, option_map, is_none, MatchOption, ◌*ℤ◌, codes, if◌then◌else◌}
 use Rattle.std.specs.Borrow.{Bor}
 use Rattle.std.specs.Cmp.Lexicographic.{slice_cmp}
 use Rattle.std.specs.List.Sorted.{IsSorted, IsPermutation}
@@ -18,18 +18,21 @@ use Rattle.edf_fields.specs.declared.fields.which.Which.{Which}
 use Rattle.edf_fields.specs.declared.fields.which.Which.TheVariants.{Code, Sex, Birthdate, Name, PatientExtras, Date, Administration, Technician, Equipment, RecordingExtras}
 use Rattle.edf_heads.specs.differences.BlankDifference.{HasFreeText}
 use Rattle.edf_heads.specs.Calibrations.{HaveSameCalibration, SameCalibrations}
-use Rattle.edf_heads.specs.Channels.{HasAll}
-use Rattle.edf_heads.specs.differences.ChannelDifferences.{HasNoChannel, IsExtra, AreUnlike}
+use Rattle.edf_heads.specs.Channels.{HasAll, SameChannels}
+use Rattle.edf_heads.specs.ChannelTexts.{SameTexts}
+use Rattle.edf_heads.specs.differences.ChannelDifferences.{HasNoChannel, IsExtra, IsLeastExtra, AreUnlike}
 use Rattle.edf_heads.specs.Firsts.{IsFirstWith}
-use Rattle.edf_heads.specs.Subfields.{IsX, AreAllX, IsAsClaimed}
-use Rattle.edf_heads.specs.differences.SubfieldDifference.{IsMismatch}
-use Rattle.edf_heads.specs.HeadVerdicts.{IsHeadVerdict}
+use Rattle.edf_heads.specs.Subfields.{IsX, AreAllX, IsAsClaimed, SubfieldsAsClaimed}
+use Rattle.edf_heads.specs.differences.SubfieldDifference.{IsMismatch, IsSubfieldDifference}
+use Rattle.edf_heads.specs.differences.TextDifference.{IsTextDifference}
+use Rattle.edf_heads.specs.HeadVerdicts.{HeadsAgree, SignalsAgree, IsHeadVerdict}
 use Rattle.edf_heads.specs.declared.channels.ClaimedChannel.{ClaimedChannel}
 use Rattle.edf_heads.specs.declared.heads.HeadDifference.{HeadDifference}
 use Rattle.edf_heads.specs.declared.heads.HeadDifference.TheVariants as heads
 use Rattle.edf_heads.specs.declared.rules.ChannelRule.{ChannelRule}
 use Rattle.edf_heads.specs.declared.rules.ChannelRule.TheVariants.{Known, Exported, Calibrated, Clean}
 use Rattle.edf_heads.specs.declared.subfields.SubfieldDifference.{SubfieldDifference}
+use Rattle.edf_verdict.specs.declared.verdict.SubfieldMismatch.{SubfieldMismatch}
 use Rattle.edf_verdict.specs.declared.verdict.Difference.{Difference}
 use Rattle.edf_verdict.specs.declared.verdict.Difference.TheVariants.{UnknownChannel, MissingChannel, ExtraChannel, ChannelText, Calibration, Subfield, NotClean}
 use Rattle.edf_verdict.specs.declared.verdict.FreeText.TheVariants.{Header, Channel}
@@ -61,10 +64,25 @@ pub record Compared : Type 0 where
   pub export : Head
   pub claim : Terms
 
+abbrev pub compared : Head → Head → Terms → Compared
+compared original export claim = record { original = original; export = export; claim = claim }
+
+-- the claimed labels, each with its channels in the two headers
+abbrev pub AreClaimedOf : Head → Head → List (List ℕ) → List ClaimedChannel → Type 0
+AreClaimedOf original export labels claimed = map claimed_view claimed ≡ map (claimed_of original.signals export.signals) labels
+
 -- labels in the order of their bytes, the same as these
 pub record AreSorted (labels : List (List ℕ)) (sorted : List (Bor (List ℕ))) : Type 0 where
   pub order : IsSorted (λ x y. slice_cmp nat_cmp x.now y.now) sorted
   pub same : (label : List ℕ) → is_one_of (map (λ t. t.now) sorted) label ≡ is_one_of labels label
+
+-- the label is none of these
+abbrev pub IsNoneOf : List (Bor (List ℕ)) → List ℕ → Type 0
+IsNoneOf sorted label = Has (map (λ t. t.now) sorted) label → ⊥
+
+-- or it stands at this place
+abbrev pub IsPlaceOf : List (Bor (List ℕ)) → List ℕ → ℕ → Type 0
+IsPlaceOf sorted label place = slice_get (map (λ t. t.now) sorted) place ≡ Some label
 
 -- what holds of every comparison
 pub record IsComparison (original export : Head) (claim : Terms) (claimed : List ClaimedChannel) (labels : List (Bor (List ℕ))) : Type 0 where
@@ -94,6 +112,10 @@ first_text_difference (c ∷ cs) =
 -- the header has no channel whose label is none of these
 abbrev pub HasNoExtra : Head → List (List ℕ) → Type 0
 HasNoExtra h labels = (label : List ℕ) → IsExtra h labels label → ⊥
+
+-- the least label of such a channel is found, or there is none
+abbrev pub IsLeastOrNone : Head → List (List ℕ) → Option (Bor (List ℕ)) → Type 0
+IsLeastOrNone h labels found = MatchOption found (HasNoExtra h labels) (λ label. IsLeastExtra h labels label.now)
 
 -- where the header has a channel of each of these labels, its channels have these labels, in some order
 abbrev pub HasOnly : Head → List (List ℕ) → Type 0
@@ -130,6 +152,10 @@ breaks Known c = is_none c.original
 breaks Exported c = is_none c.export
 breaks Calibrated c = of_both has_other_calibration c.original c.export
 breaks Clean c = has_text c.export
+
+-- the first of these labels whose channels break the rule
+abbrev pub first_breaking : ChannelRule → List Claimed → Option (List ℕ)
+first_breaking rule claimed = option_map (λ c. c.label) (find (breaks rule) claimed)
 
 -- the headers break the rule at this label
 abbrev pub Breaks : ChannelRule → Compared → List ℕ → Type 0
@@ -208,3 +234,57 @@ difference_of (heads.FreeTextInChannel label) = NotClean (Channel label.now)
 -- it is the first difference of the headers
 abbrev pub IsHeadDifference : Head → Head → Terms → HeadDifference → Type 0
 IsHeadDifference original export claim difference = IsHeadVerdict original export claim (No (difference_of difference))
+
+-- ---- the same of two headers and a claim that are compared
+
+-- the headers have the same channels
+abbrev pub SameChannelsIn : Compared → Type 0
+SameChannelsIn c = SameChannels c.original c.export c.claim
+
+-- with the same texts
+abbrev pub SameTextsIn : Compared → Type 0
+SameTextsIn c = SameTexts c.original c.export c.claim
+
+-- or this is the first of these texts that differs
+abbrev pub IsTextDifferenceIn : Compared → List ℕ → TextField → Type 0
+IsTextDifferenceIn c label field = IsTextDifference c.original c.export c.claim label field
+
+-- they agree up to their calibrations
+abbrev pub SignalsAgreeIn : Compared → Type 0
+SignalsAgreeIn c = SignalsAgree c.original c.export c.claim
+
+-- the export's header is what the claim says of the original's
+abbrev pub HeadsAgreeIn : Compared → Type 0
+HeadsAgreeIn c = HeadsAgree c.original c.export c.claim
+
+-- or this is the first difference
+abbrev pub IsHeadDifferenceIn : Compared → HeadDifference → Type 0
+IsHeadDifferenceIn c difference = IsHeadDifference c.original c.export c.claim difference
+
+-- the channels of the export are the claimed ones, where it has all of these
+abbrev pub HasOnlyClaimed : Compared → Type 0
+HasOnlyClaimed c = HasOnly c.export c.claim.channels
+
+-- or this is the least label of its other channels
+abbrev pub IsLeastUnclaimed : Compared → List ℕ → Type 0
+IsLeastUnclaimed c label = IsLeastExtra c.export c.claim.channels label
+
+-- this is the first claimed label at which the headers break the rule
+abbrev pub IsFirstBreaking : ChannelRule → Compared → List ℕ → Type 0
+IsFirstBreaking rule c label = IsFirstWith (Breaks rule c) c.claim.channels label
+
+-- the subfield is as claimed
+abbrev pub IsAsClaimedIn : Compared → Which → Type 0
+IsAsClaimedIn c which = IsAsClaimed c.original c.export c.claim which
+
+-- it isn't, and this is how it isn't
+abbrev pub IsMismatchIn : Compared → Which → SubfieldMismatch → Type 0
+IsMismatchIn c which mismatch = (IsAsClaimedIn c which → ⊥) × IsMismatch c.claim which mismatch
+
+-- all subfields are as claimed
+abbrev pub AllAsClaimedIn : Compared → Type 0
+AllAsClaimedIn c = SubfieldsAsClaimed c.original c.export c.claim
+
+-- or this is the first one that isn't, and how it isn't
+abbrev pub IsSubfieldDifferenceIn : Compared → Which → SubfieldMismatch → Type 0
+IsSubfieldDifferenceIn c which mismatch = IsSubfieldDifference c.original c.export c.claim which mismatch

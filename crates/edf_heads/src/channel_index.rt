@@ -1,15 +1,14 @@
 //! The channels of a header, found by their labels. EDF (1992), "Header record"; EDF+ (2003), "The 'EDF
 //! Annotations' signal".
 
-ghost use Rattle.std.specs.Prelude.{◌≡◌, ◌≢◌, ◌≤◌, ◌^◌, length, map, filter, option_map, IfOk, IfSome, OnOk, MatchOption};
+ghost use Rattle.std.specs.Prelude.{◌≡◌, ◌≤◌, ◌^◌, length, map, filter, option_map, IfOk, IfSome, OnOk, MatchOption};
 ghost use Rattle.std.specs.Cmp.Lexicographic.{slice_cmp};
 ghost use Rattle.std.specs.List.Sorted.{IsPermutation};
 ghost use Rattle.std.specs.Ordering.{nat_cmp};
-ghost use Rattle.edf_fields.specs.Lists.{Has};
 ghost use Rattle.edf_header.specs.signals.Channels.{is_ordinary};
 ghost use Rattle.edf_header.specs.Sound.{IsSound};
 ghost use Rattle.edf_heads.specs.differences.ChannelDifferences.{HasNoChannel};
-ghost use Rattle.edf_heads.specs.ChannelIndexes.{AreAmong, AreByLabel, IsChannelAt};
+ghost use Rattle.edf_heads.specs.ChannelIndexes.{AreAmong, AreByLabel, IsChannelAt, IsOneLabelled, NoneIsLabelled};
 ghost use Rattle.edf_heads.specs.Comparisons.{channel_of};
 
 use edf_header::{Header, Signal};
@@ -83,9 +82,7 @@ fn sort_by_label(channels: &mut Vec<Channel<'_>>)
 /// The channel of this label among these, which are in the order of their labels.
 fn find_label<'a>(sorted: &[Channel<'a>], label: &[u8]) -> Option<Channel<'a>>
     requires { AreByLabel sorted.now }
-    ensures { MatchOption result
-        ((x : _) → Has (map (λ c. c.signal.now) sorted.now) x → x.label ≢ label.now)
-        (λ c. Has sorted.now c × ((c.signal.now).label ≡ label.now)) }
+    ensures { MatchOption result (NoneIsLabelled sorted.now label.now) (IsOneLabelled sorted.now label.now) }
 {
     match sorted.binary_search_by(
         |other: &Channel<'_>| -> Ordering

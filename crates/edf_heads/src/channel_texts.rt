@@ -1,9 +1,7 @@
 //! The texts of the channels.
 
 ghost use Rattle.std.specs.Prelude.{◌≡◌, map, option_map, MatchOption};
-ghost use Rattle.edf_heads.specs.Comparisons.{claimed_view, text_difference, text_difference_of, first_text_difference as first_text_difference_of};
-ghost use Rattle.edf_heads.specs.ChannelTexts.{SameTexts};
-ghost use Rattle.edf_heads.specs.differences.TextDifference.{IsTextDifference};
+ghost use Rattle.edf_heads.specs.Comparisons.{claimed_view, IsTextDifferenceIn, SameTextsIn, text_difference, text_difference_of, first_text_difference as first_text_difference_of};
 
 use crate::channels::ClaimedChannel;
 use crate::comparison::Comparison;
@@ -33,8 +31,8 @@ pub fn text_difference(original: &Signal, export: &Signal) -> Option<TextField>
 impl<'a> ClaimedChannel<'a> {
     /// The first text in which the label's two channels differ.
     fn text_difference(self) -> Option<TextField>
-        ensures { result ≡ text_difference_of (option_map (λ x. x.now) self.entry.original)
-            (option_map (λ x. x.now) self.entry.export) }
+        ensures { result ≡ text_difference_of (claimed_view self.entry).original
+            (claimed_view self.entry).export }
     {
         text_difference(self.original?, self.export?)
     }
@@ -59,9 +57,8 @@ fn first_text_difference<'a>(claimed: &[ClaimedChannel<'a>]) -> Option<TextDiffe
 impl<'a> Comparison<'a> {
     /// The first claimed channel that hasn't the original's texts in the export, and its first such text.
     pub(crate) fn text_difference(&self) -> Option<TextDifference<'a>>
-        ensures { MatchOption result
-            (SameTexts self.now.original self.now.export self.now.claim)
-            (λ d. IsTextDifference self.now.original self.now.export self.now.claim d.label.now d.field) }
+        ensures { MatchOption result (SameTextsIn self.now)
+            (λ d. IsTextDifferenceIn self.now d.label.now d.field) }
     {
         first_text_difference(&self.claimed)
     }

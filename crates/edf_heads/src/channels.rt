@@ -1,12 +1,11 @@
 //! The channels that a claim names, and those that it doesn't.
 
-ghost use Rattle.std.specs.Prelude.{◌≡◌, ℕ, List, map, find, not, option_map, IfOk, MatchOption};
+ghost use Rattle.std.specs.Prelude.{◌≡◌, ℕ, List, option_map, IfOk};
 ghost use Rattle.std.specs.Cmp.Lexicographic.{slice_cmp};
 ghost use Rattle.std.specs.List.Sorted.{IsSorted};
 ghost use Rattle.std.specs.Ordering.{nat_cmp};
-ghost use Rattle.edf_fields.specs.Lists.{is_one_of};
-ghost use Rattle.edf_heads.specs.differences.ChannelDifferences.{IsLeastExtra};
-ghost use Rattle.edf_heads.specs.Comparisons.{claimed_of, claimed_view, AreSorted, HasNoExtra};
+ghost use Rattle.edf_heads.specs.ChannelIndexes.{first_other};
+ghost use Rattle.edf_heads.specs.Comparisons.{AreClaimedOf, AreSorted, IsLeastOrNone};
 
 use crate::channel_index::{Channel, ChannelIndex};
 use crate::labels::is_found;
@@ -28,8 +27,7 @@ impl<'a> ChannelIndex<'a> {
     pub(crate) fn least_extra(&self, claimed: &[&[u8]]) -> Option<&'a [u8]>
         requires { IsSorted (λ x y. slice_cmp nat_cmp x.now y.now) claimed.now }
         ensures { (labels : List (List ℕ)) → AreSorted labels claimed.now →
-            MatchOption result (HasNoExtra self.now labels) (λ label.
-            IsLeastExtra self.now labels label.now) }
+            IsLeastOrNone self.now labels result }
     {
         least_other(&self.sorted, claimed)
     }
@@ -38,9 +36,7 @@ impl<'a> ChannelIndex<'a> {
 /// The first of the channels whose label is none of these, which are in the order of their bytes.
 fn least_other<'a>(sorted: &[Channel<'a>], labels: &[&[u8]]) -> Option<&'a [u8]>
     requires { IsSorted (λ x y. slice_cmp nat_cmp x.now y.now) labels.now }
-    ensures { option_map (λ label. label.now) result ≡
-        option_map (λ s. s.label) (find (λ s. not (is_one_of (map (λ t. t.now) labels.now) s.label))
-        (map (λ c. c.signal.now) sorted.now)) }
+    ensures { option_map (λ label. label.now) result ≡ first_other sorted.now labels.now }
 {
     for channel in sorted {
         let label = channel.signal.label();
@@ -60,8 +56,7 @@ pub(crate) fn claimed_channels<'a>(
     export: &ChannelIndex<'a>,
     labels: &'a [SignalLabel],
 ) -> Result<Vec<ClaimedChannel<'a>>, AllocError>
-    ensures { IfOk result (λ v. map claimed_view v.items ≡
-        map (claimed_of original.now.signals export.now.signals) labels.entry.now) }
+    ensures { IfOk result (λ v. AreClaimedOf original.now export.now labels.entry.now v.items) }
 {
     let mut claimed = Vec::with_capacity(alloc, labels.len())?;
     for label in labels {

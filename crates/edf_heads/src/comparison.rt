@@ -1,8 +1,7 @@
 //! Two headers and a claim, with the channels that are claimed.
 
 ghost use Rattle.std.specs.Prelude.{◌≡◌, IfOk, MatchOption};
-ghost use Rattle.edf_heads.specs.differences.ChannelDifferences.{IsLeastExtra};
-ghost use Rattle.edf_heads.specs.Comparisons.{HasOnly};
+ghost use Rattle.edf_heads.specs.Comparisons.{compared, HasOnlyClaimed, IsLeastUnclaimed};
 
 use crate::channel_index::ChannelIndex;
 use crate::channels::{ClaimedChannel, claimed_channels};
@@ -44,11 +43,7 @@ impl<'a> Comparison<'a> {
         export: &'a Header,
         claim: &'a Claim,
     ) -> Result<Comparison<'a>, AllocError>
-        ensures { IfOk result (λ c. c ≡ record {
-          original = original.entry.now;
-          export = export.entry.now;
-          claim = claim.entry.now;
-        }) }
+        ensures { IfOk result (λ c. c ≡ compared original.entry.now export.entry.now claim.entry.now) }
     {
         let labels = in_order(alloc, claim.channels())?;
         let channels = ChannelIndex::new(alloc, original)?;
@@ -65,9 +60,8 @@ impl<'a> Comparison<'a> {
 
     /// The least label, in the order of bytes, of the export's channels that aren't claimed.
     pub(crate) fn extra_channel(&self) -> Option<&'a [u8]>
-        ensures { MatchOption result
-            (HasOnly self.now.export self.now.claim.channels)
-            (λ label. IsLeastExtra self.now.export self.now.claim.channels label.now) }
+        ensures { MatchOption result (HasOnlyClaimed self.now)
+            (λ label. IsLeastUnclaimed self.now label.now) }
     {
         self.export.least_extra(&self.labels)
     }

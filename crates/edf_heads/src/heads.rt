@@ -1,9 +1,8 @@
 //! The first difference of two headers.
 
 ghost use Rattle.std.specs.Prelude.{◌≡◌, ◌↔◌, None, IfOk, IfSome, MatchOption};
-ghost use Rattle.edf_heads.specs.Channels.{SameChannels};
-ghost use Rattle.edf_heads.specs.Comparisons.{difference_of, IsHeadDifference};
-ghost use Rattle.edf_heads.specs.HeadVerdicts.{HeadsAgree, SignalsAgree, IsHeadVerdict};
+ghost use Rattle.edf_heads.specs.Comparisons.{difference_of, HeadsAgreeIn, IsHeadDifferenceIn, SameChannelsIn, SignalsAgreeIn};
+ghost use Rattle.edf_heads.specs.HeadVerdicts.{HeadsAgree, IsHeadVerdict};
 
 use crate::channel_texts::TextDifference;
 use crate::comparison::Comparison;
@@ -72,9 +71,7 @@ impl<'a> Comparison<'a> {
     /// The first difference in which channels the headers have.
     #[tactic(auto, using(crate::proofs::HeadFacts::same_channels))]
     fn channel_difference(&self) -> Option<HeadDifference<'a>>
-        ensures { MatchOption result
-            (SameChannels self.now.original self.now.export self.now.claim)
-            (IsHeadDifference self.now.original self.now.export self.now.claim) }
+        ensures { MatchOption result (SameChannelsIn self.now) (IsHeadDifferenceIn self.now) }
     {
         if let Some(label) = self.first_breaking(ChannelRule::Known) {
             return Some(HeadDifference::UnknownChannel(label));
@@ -90,10 +87,8 @@ impl<'a> Comparison<'a> {
 
     /// The first difference in what the headers say of their channels, where they have the same ones.
     fn content_difference(&self) -> Option<HeadDifference<'a>>
-        ensures { SameChannels self.now.original self.now.export self.now.claim →
-            MatchOption result
-            (SignalsAgree self.now.original self.now.export self.now.claim)
-            (IsHeadDifference self.now.original self.now.export self.now.claim) }
+        ensures { SameChannelsIn self.now →
+            MatchOption result (SignalsAgreeIn self.now) (IsHeadDifferenceIn self.now) }
     {
         if let Some(TextDifference { label, field }) = self.text_difference() {
             return Some(HeadDifference::ChannelText(label, field));
@@ -107,10 +102,8 @@ impl<'a> Comparison<'a> {
     /// The first difference in the subfields, and the first free text of the export, where the headers
     /// agree on the channels.
     fn remaining_difference(&self) -> Option<HeadDifference<'a>>
-        ensures { SignalsAgree self.now.original self.now.export self.now.claim →
-            MatchOption result
-            (HeadsAgree self.now.original self.now.export self.now.claim)
-            (IsHeadDifference self.now.original self.now.export self.now.claim) }
+        ensures { SignalsAgreeIn self.now →
+            MatchOption result (HeadsAgreeIn self.now) (IsHeadDifferenceIn self.now) }
     {
         if let Some(SubfieldDifference { which, mismatch }) = self.subfield_difference() {
             return Some(HeadDifference::Subfield(which, mismatch));
@@ -126,9 +119,7 @@ impl<'a> Comparison<'a> {
 
     /// The first difference of the headers.
     fn difference(&self) -> Option<HeadDifference<'a>>
-        ensures { MatchOption result
-            (HeadsAgree self.now.original self.now.export self.now.claim)
-            (IsHeadDifference self.now.original self.now.export self.now.claim) }
+        ensures { MatchOption result (HeadsAgreeIn self.now) (IsHeadDifferenceIn self.now) }
     {
         if let Some(difference) = self.channel_difference() {
             return Some(difference);

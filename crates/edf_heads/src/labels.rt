@@ -1,11 +1,11 @@
 //! Labels in the order of their bytes.
 
-ghost use Rattle.std.specs.Prelude.{◌≡◌, map, slice_get, Some, IfOk, MatchOption};
+ghost use Rattle.std.specs.Prelude.{◌≡◌, map, IfOk, MatchOption};
 ghost use Rattle.std.specs.Cmp.Lexicographic.{slice_cmp};
 ghost use Rattle.std.specs.List.Sorted.{IsPermutation, IsSorted};
 ghost use Rattle.std.specs.Ordering.{nat_cmp};
-ghost use Rattle.edf_fields.specs.Lists.{Has, is_one_of};
-ghost use Rattle.edf_heads.specs.Comparisons.{AreSorted};
+ghost use Rattle.edf_fields.specs.Lists.{is_one_of};
+ghost use Rattle.edf_heads.specs.Comparisons.{AreSorted, IsNoneOf, IsPlaceOf};
 
 use edf_fields::SignalLabel;
 use std::alloc::{AllocError, Global};
@@ -40,9 +40,7 @@ pub fn in_order(alloc: Global, labels: &[SignalLabel]) -> Result<Vec<&[u8]>, All
 /// The place of the label among these, which are in the order of their bytes.
 fn found_at(sorted: &[&[u8]], label: &[u8]) -> Option<usize>
     requires { IsSorted (λ x y. slice_cmp nat_cmp x.now y.now) sorted.now }
-    ensures { MatchOption result
-        (Has (map (λ t. t.now) sorted.now) label.now → ⊥)
-        (λ place. slice_get (map (λ t. t.now) sorted.now) place ≡ Some label.now) }
+    ensures { MatchOption result (IsNoneOf sorted.now label.now) (IsPlaceOf sorted.now label.now) }
 {
     match sorted.binary_search_by(
         |other: &&[u8]| -> Ordering

@@ -1,8 +1,7 @@
 //! The rules that each claimed channel keeps or breaks by itself, and the first channel that breaks one.
 
-ghost use Rattle.std.specs.Prelude.{◌≡◌, map, find, option_map, MatchOption};
-ghost use Rattle.edf_heads.specs.Comparisons.{claimed_view, breaks, Breaks, Keep};
-ghost use Rattle.edf_heads.specs.Firsts.{IsFirstWith};
+ghost use Rattle.std.specs.Prelude.{◌≡◌, map, option_map, MatchOption};
+ghost use Rattle.edf_heads.specs.Comparisons.{claimed_view, breaks, first_breaking as first_breaking_of, IsFirstBreaking, Keep};
 
 use crate::calibrations::has_other_calibration;
 use crate::channels::ClaimedChannel;
@@ -40,8 +39,7 @@ impl<'a> ClaimedChannel<'a> {
 
 /// The first of the labels whose channels break the rule.
 fn first_breaking<'a>(claimed: &[ClaimedChannel<'a>], rule: ChannelRule) -> Option<&'a [u8]>
-    ensures { option_map (λ label. label.now) result
-        ≡ option_map (λ c. c.label) (find (breaks rule) (map claimed_view claimed.now)) }
+    ensures { option_map (λ label. label.now) result ≡ first_breaking_of rule (map claimed_view claimed.now) }
 {
     for channel in claimed {
         if channel.breaks(rule) {
@@ -54,8 +52,7 @@ fn first_breaking<'a>(claimed: &[ClaimedChannel<'a>], rule: ChannelRule) -> Opti
 impl<'a> Comparison<'a> {
     /// The first claimed label whose channels break the rule.
     pub(crate) fn first_breaking(&self, rule: ChannelRule) -> Option<&'a [u8]>
-        ensures { MatchOption result (Keep rule self.now)
-            (λ label. IsFirstWith (Breaks rule self.now) self.now.claim.channels label.now) }
+        ensures { MatchOption result (Keep rule self.now) (λ label. IsFirstBreaking rule self.now label.now) }
     {
         first_breaking(&self.claimed, rule)
     }

@@ -3,9 +3,7 @@
 ghost use Rattle.std.specs.Prelude.{◌≡◌, ◌↔◌, IsTrue, MatchOption};
 ghost use Rattle.std.specs.List.{list_all};
 ghost use Rattle.edf_fields.specs.texts.SubfieldsReading.{subfields_left};
-ghost use Rattle.edf_heads.specs.Comparisons.{is_x as is_x_text, are_same as are_same_texts, IsAnonymous, IsUnchanged, IsFoundAmong};
-ghost use Rattle.edf_heads.specs.Subfields.{IsAsClaimed, SubfieldsAsClaimed};
-ghost use Rattle.edf_heads.specs.differences.SubfieldDifference.{IsMismatch, IsSubfieldDifference};
+ghost use Rattle.edf_heads.specs.Comparisons.{is_x as is_x_text, are_same as are_same_texts, AllAsClaimedIn, IsAnonymous, IsAsClaimedIn, IsFoundAmong, IsMismatchIn, IsSubfieldDifferenceIn, IsUnchanged};
 
 use crate::comparison::Comparison;
 use edf_claim::Claim;
@@ -102,9 +100,7 @@ impl<'a> Comparison<'a> {
     /// How this subfield isn't as claimed, if it isn't.
     #[tactic(auto, using(crate::proofs::SubfieldFacts::claimed_anonymous, crate::proofs::SubfieldFacts::claimed_unchanged, crate::proofs::SubfieldFacts::not_anonymous, crate::proofs::SubfieldFacts::not_unchanged))]
     fn subfield_mismatch(&self, which: Which) -> Option<SubfieldMismatch>
-        ensures { MatchOption result (IsAsClaimed self.now.original self.now.export self.now.claim which)
-            (λ mismatch. (IsAsClaimed self.now.original self.now.export self.now.claim which → ⊥) ×
-            IsMismatch self.now.claim which mismatch) }
+        ensures { MatchOption result (IsAsClaimedIn self.now which) (IsMismatchIn self.now which) }
     {
         if self.claim.is_anonymous(which) {
             if is_anonymous(self.export.header, which) {
@@ -137,9 +133,8 @@ impl<'a> Comparison<'a> {
     /// The first subfield that isn't as claimed, in their written order, and how it isn't.
     #[tactic(auto, using(crate::proofs::SubfieldFacts::subfields_said), unfolding(edf_fields::specs::fields::SubfieldNamesReading::all_subfields))]
     pub(crate) fn subfield_difference(&self) -> Option<SubfieldDifference>
-        ensures { MatchOption result
-            (SubfieldsAsClaimed self.now.original self.now.export self.now.claim)
-            (λ d. IsSubfieldDifference self.now.original self.now.export self.now.claim d.which d.mismatch) }
+        ensures { MatchOption result (AllAsClaimedIn self.now)
+            (λ d. IsSubfieldDifferenceIn self.now d.which d.mismatch) }
     {
         self.first_subfield(Which::all())
     }

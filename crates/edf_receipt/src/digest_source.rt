@@ -1,9 +1,8 @@
 //! A source that digests what it hands on.
 
-ghost use Rattle.std.specs.Prelude.{◌≡◌, ◌&&◌, ◌<◌, ◌-◌, ◌^◌, ◌++◌, ℕ, List, length, min, nat_eq, IfOk, OnOk, OnErr, IsTrue, true};
+ghost use Rattle.std.specs.Prelude.{◌≡◌, ◌&&◌, ◌<◌, ◌-◌, ◌^◌, length, min, nat_eq, IfOk, OnOk, OnErr, IsTrue};
 ghost use Rattle.sha2.specs.Sha256.{sha256};
-ghost use Rattle.edf_receipt.specs.Digests.{HasDigested, IsDigestOf, digest_reads};
-ghost use Rattle.edf_fields.specs.in_out.Sources.{Fails};
+ghost use Rattle.edf_receipt.specs.Digests.{FailsReading, HasDigested, IsDigestOf, IsDigestOfAll, OfGone, digest_reads};
 
 use edf_fields::{ReadFault, Source, skip_rest};
 use sha2::{Digest, Sha256};
@@ -52,12 +51,10 @@ impl<S: Source + Drop> DigestSource<S> {
 
     /// The digest of what was handed on so far.
     pub fn digested(&self) -> Digested
-        ensures digest { (whole gone : List ℕ) →
-            ⟦<DigestSource<S> as Source>⟧.reads self.now ≡ digest_reads 0 whole true → whole ≡ gone ++
-            ⟦<DigestSource<S> as Source>⟧.left self.now → result.sha256 ≡ sha256 gone }
-        ensures bytes { (whole gone : List ℕ) →
-            ⟦<DigestSource<S> as Source>⟧.reads self.now ≡ digest_reads 0 whole true → whole ≡ gone ++
-            ⟦<DigestSource<S> as Source>⟧.left self.now → result.bytes ≡ min (length gone) (2 ^ 64 - 1) }
+        ensures digest { OfGone ⟦<DigestSource<S> as Source>⟧ self.now
+            (λ gone. result.sha256 ≡ sha256 gone) }
+        ensures bytes { OfGone ⟦<DigestSource<S> as Source>⟧ self.now
+            (λ gone. result.bytes ≡ min (length gone) (2 ^ 64 - 1)) }
     {
         let hasher = self.hasher.clone().unwrap();
         Digested {
@@ -72,13 +69,10 @@ impl<S: Source + Drop> DigestSource<S> {
     /// An `Err` comes only from a read that failed, and then at once.
     pub fn finish(&mut self, buf: &mut [u8]) -> Result<Digested, ReadFault>
         requires { 0 < length buf.old }
-        ensures digest { IfOk result (λ digested. (whole : List ℕ) →
-            ⟦<DigestSource<S> as Source>⟧.reads self.old ≡ digest_reads 0 whole true →
-            length whole < 2 ^ 64 - 1 → IsDigestOf whole digested) }
+        ensures digest { IfOk result (IsDigestOfAll ⟦<DigestSource<S> as Source>⟧ self.old) }
         ensures failures { OnOk result (⟦<DigestSource<S> as Source>⟧.reads self.new ≡
             ⟦<DigestSource<S> as Source>⟧.reads self.old) }
-        ensures fails { OnErr result (Fails (⟦<DigestSource<S> as Source>⟧.reads self.old)
-            (⟦<DigestSource<S> as Source>⟧.reads self.new)) }
+        ensures fails { OnErr result (FailsReading ⟦<DigestSource<S> as Source>⟧ self.old self.new) }
     {
         skip_rest(self, buf)?;
         Ok(self.digested())

@@ -1,11 +1,11 @@
 //! The files that were judged, each read to its end.
 
-ghost use Rattle.std.specs.Prelude.{◌≡◌, ◌+◌, ◌<◌, ◌≤◌, ◌++◌, ◌∷◌, [], ℕ, List, length, map, IfOk, IfErr, OnOk, OnErr};
-ghost use Rattle.edf_check.specs.Checks.{CheckStops};
-ghost use Rattle.edf_pace.specs.PartsStops.{PartsStops};
-ghost use Rattle.edf_fields.specs.in_out.Sources.{Fails};
-ghost use Rattle.edf_receipt.specs.ReceiptRuns.{AreDigested, IsDigested};
-ghost use Rattle.edf_receipt.specs.Receipts.{files_of as all_files, line_of as line_naming, part_lines};
+ghost use Rattle.std.specs.Prelude.{◌≡◌, ◌+◌, ◌<◌, ◌≤◌, length, IfOk, IfErr, OnOk, OnErr};
+ghost use Rattle.edf_check.specs.Checks.{CheckStopsOf};
+ghost use Rattle.edf_pace.specs.PartsStops.{StopsOfAll};
+ghost use Rattle.edf_receipt.specs.Digests.{FailsReading};
+ghost use Rattle.edf_receipt.specs.ReceiptRuns.{AreFilesOf, AreFilesOfAll, ArePartsOf, IsLineOf, NeitherFails, NoneOfAllFails, NoPartFails, StopsOfParts};
+ghost use Rattle.edf_receipt.specs.Receipts.{line_of as line_naming};
 ghost use Rattle.edf_receipt.specs.declared.file_line.ReceiptFile.TheVariants as names;
 
 use crate::digest_source::{DigestSource, digest_of};
@@ -26,13 +26,11 @@ fn line_of<S: Source + Drop>(
     buf: &mut [u8],
 ) -> Result<FileLine, ReadFault>
     requires { 0 < length buf.old }
-    ensures line { IfOk result (λ line. (whole : List ℕ) →
-        IsDigested (⟦<DigestSource<S> as Source>⟧.reads source.old) whole → line ≡ line_naming file whole) }
+    ensures line { IfOk result (IsLineOf ⟦<DigestSource<S> as Source>⟧ source.old file) }
     ensures room { length buf.new ≡ length buf.old }
     ensures failures { OnOk result (⟦<DigestSource<S> as Source>⟧.reads source.new ≡
         ⟦<DigestSource<S> as Source>⟧.reads source.old) }
-    ensures fails { OnErr result (Fails (⟦<DigestSource<S> as Source>⟧.reads source.old)
-        (⟦<DigestSource<S> as Source>⟧.reads source.new)) }
+    ensures fails { OnErr result (FailsReading ⟦<DigestSource<S> as Source>⟧ source.old source.new) }
 {
     let digested = source.finish(buf)?;
     Ok(FileLine { file, digested })
@@ -57,22 +55,15 @@ pub(crate) fn files_of<O: Source + Drop, E: Source + Drop>(
     export: &mut DigestSource<E>,
     claim_text: &[u8],
 ) -> Result<[FileLine; 3], CheckStop>
-    ensures files { IfOk result (λ files. (first second : List ℕ) →
-        IsDigested (⟦<DigestSource<O> as Source>⟧.reads original.old) first →
-        IsDigested (⟦<DigestSource<E> as Source>⟧.reads export.old) second →
-        files ≡ all_files first (line_naming names.Export second ∷ []) claim_text.now) }
+    ensures files { IfOk result
+        (AreFilesOf ⟦<DigestSource<O> as Source>⟧ ⟦<DigestSource<E> as Source>⟧ original.old export.old
+        claim_text.now) }
     ensures failures { OnOk result
-        ((⟦<DigestSource<O> as Source>⟧.reads original.new ≡
-        ⟦<DigestSource<O> as Source>⟧.reads original.old) ×
-        (⟦<DigestSource<E> as Source>⟧.reads export.new ≡ ⟦<DigestSource<E> as Source>⟧.reads export.old)) }
+        (NeitherFails ⟦<DigestSource<O> as Source>⟧ ⟦<DigestSource<E> as Source>⟧ original.old original.new
+        export.old export.new) }
     ensures stop { IfErr result
-        (CheckStops (Fails (⟦<DigestSource<O> as Source>⟧.reads original.old)
-        (⟦<DigestSource<O> as Source>⟧.reads original.new))
-        (Fails (⟦<DigestSource<E> as Source>⟧.reads export.old)
-        (⟦<DigestSource<E> as Source>⟧.reads export.new))
-        ((⟦<DigestSource<O> as Source>⟧.reads original.new ≡
-        ⟦<DigestSource<O> as Source>⟧.reads original.old) ×
-        (⟦<DigestSource<E> as Source>⟧.reads export.new ≡ ⟦<DigestSource<E> as Source>⟧.reads export.old))) }
+        (CheckStopsOf ⟦<DigestSource<O> as Source>⟧ ⟦<DigestSource<E> as Source>⟧ original.old original.new
+        export.old export.new) }
 {
     let mut buf = vec![in alloc; 0u8; AT_A_TIME]?;
     let Ok(first) = line_of(ReceiptFile::Original, original, &mut buf) else {
@@ -95,15 +86,10 @@ fn push_parts<E: Source + Drop>(
 ) -> Result<(), PartsStop>
     requires few { first + length parts.old ≤ 64 }
     requires room { 0 < length buf.old }
-    ensures files { OnOk result ((wholes : List (List ℕ)) →
-        AreDigested (map ⟦<DigestSource<E> as Source>⟧.reads parts.old) wholes →
-        files.new.items ≡ files.old.items ++ part_lines first wholes) }
-    ensures failures { OnOk result (map ⟦<DigestSource<E> as Source>⟧.reads parts.new ≡
-        map ⟦<DigestSource<E> as Source>⟧.reads parts.old) }
-    ensures stop { IfErr result (PartsStops ⊥ (map ⟦<DigestSource<E> as Source>⟧.reads parts.new ≡
-        map ⟦<DigestSource<E> as Source>⟧.reads parts.old) first
-        (map ⟦<DigestSource<E> as Source>⟧.reads parts.old)
-        (map ⟦<DigestSource<E> as Source>⟧.reads parts.new)) }
+    ensures files { OnOk result (ArePartsOf ⟦<DigestSource<E> as Source>⟧ parts.old first files.old.items
+        files.new.items) }
+    ensures failures { OnOk result (NoPartFails ⟦<DigestSource<E> as Source>⟧ parts.old parts.new) }
+    ensures stop { IfErr result (StopsOfParts ⟦<DigestSource<E> as Source>⟧ first parts.old parts.new) }
 {
     let Some((part, others)) = parts.split_first_mut() else {
         return Ok(());
@@ -125,24 +111,15 @@ pub(crate) fn files_of_parts<O: Source + Drop, E: Source + Drop>(
     claim_text: &[u8],
 ) -> Result<Vec<FileLine>, PartsStop>
     requires few { length parts.old ≤ 64 }
-    ensures files { IfOk result (λ files. (first : List ℕ) (wholes : List (List ℕ)) →
-        IsDigested (⟦<DigestSource<O> as Source>⟧.reads original.old) first →
-        AreDigested (map ⟦<DigestSource<E> as Source>⟧.reads parts.old) wholes →
-        files.items ≡ all_files first (part_lines 0 wholes) claim_text.now) }
+    ensures files { IfOk result (λ files.
+        AreFilesOfAll ⟦<DigestSource<O> as Source>⟧ ⟦<DigestSource<E> as Source>⟧ original.old parts.old
+        claim_text.now files.items) }
     ensures failures { OnOk result
-        ((⟦<DigestSource<O> as Source>⟧.reads original.new ≡
-        ⟦<DigestSource<O> as Source>⟧.reads original.old) ×
-        (map ⟦<DigestSource<E> as Source>⟧.reads parts.new ≡
-        map ⟦<DigestSource<E> as Source>⟧.reads parts.old)) }
+        (NoneOfAllFails ⟦<DigestSource<O> as Source>⟧ ⟦<DigestSource<E> as Source>⟧ original.old original.new
+        parts.old parts.new) }
     ensures stop { IfErr result
-        (PartsStops (Fails (⟦<DigestSource<O> as Source>⟧.reads original.old)
-        (⟦<DigestSource<O> as Source>⟧.reads original.new))
-        ((⟦<DigestSource<O> as Source>⟧.reads original.new ≡
-        ⟦<DigestSource<O> as Source>⟧.reads original.old) ×
-        (map ⟦<DigestSource<E> as Source>⟧.reads parts.new ≡
-        map ⟦<DigestSource<E> as Source>⟧.reads parts.old)) 0
-        (map ⟦<DigestSource<E> as Source>⟧.reads parts.old)
-        (map ⟦<DigestSource<E> as Source>⟧.reads parts.new)) }
+        (StopsOfAll ⟦<DigestSource<O> as Source>⟧ original.old original.new ⟦<DigestSource<E> as Source>⟧ 0
+        parts.old parts.new) }
 {
     let mut buf = vec![in alloc; 0u8; AT_A_TIME]?;
     let mut files = Vec::with_capacity(alloc, parts.len() + 2)?;

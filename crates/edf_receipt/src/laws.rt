@@ -1,8 +1,7 @@
 //! Laws of receipts, each the contract of a function that does nothing, or no more than it says.
 
-ghost use Rattle.std.specs.Prelude.{◌-◌, ◌<◌, ◌^◌, length, IsTrue};
 ghost use Rattle.edf_receipt.specs.Laws.{PartsRunIsLastLine, RunIsLastLine, TextTellsLine};
-ghost use Rattle.edf_receipt.specs.ReceiptRuns.{IsFresh};
+ghost use Rattle.edf_receipt.specs.ReceiptRuns.{IsFreshOver};
 
 use crate::digest_source::DigestSource;
 use edf_check::laws::{there_is_one_verdict, there_is_one_verdict_on_parts};
@@ -26,9 +25,7 @@ pub fn a_run_writes_the_last_line()
 
 /// Of a new source that digests an honest one nothing was read, as a receipt wants it.
 pub fn a_new_source_is_fresh<S: Source + Drop>(source: S) -> DigestSource<S>
-    ensures { IsTrue (S.is_honest source) → length (S.left source) < 2 ^ 64 - 1 →
-        IsFresh (⟦<DigestSource<S> as Source>⟧.reads result) (⟦<DigestSource<S> as Source>⟧.is_honest result)
-        (⟦<DigestSource<S> as Source>⟧.left result) }
+    ensures { IsFreshOver S.Source source ⟦<DigestSource<S> as Source>⟧ result }
 {
     DigestSource::new(source)
 }

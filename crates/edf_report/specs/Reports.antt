@@ -1,5 +1,5 @@
 -- What a report on one file writes.
-use Rattle.std.specs.Prelude.{◌≡◌, ℕ, IsTrue, List, [], ◌∷◌, ◌++◌, Option, None, Some, codes}
+use Rattle.std.specs.Prelude.{◌≡◌, ◌≢◌, ℕ, IsTrue, List, [], ◌∷◌, ◌++◌, Option, None, Some, codes}
 use Rattle.edf_fields.specs.declared.faults.fault.Fault.{Fault}
 use Rattle.edf_fields.specs.declared.in_out.sink.Sink.{Ghosts as SinkGhosts}
 use Rattle.edf_fields.specs.declared.in_out.source.Source.{Ghosts}
@@ -10,6 +10,7 @@ use Rattle.edf_stop.specs.declared.stops.ReportStop.{ReportStop}
 use Rattle.edf_header.specs.declared.stop.Stop.{Stop}
 use Rattle.edf_header.specs.declared.stop.Stop.TheVariants as reads
 use Rattle.edf_fields.specs.FaultTexts.{fault_text}
+use Rattle.edf_report.specs.declared.report.Report.{Report}
 use Rattle.edf_verdict.specs.declared.outcome.Outcome.{Outcome}
 use Rattle.edf_verdict.specs.declared.outcome.Outcome.TheVariants as outcomes
 
@@ -64,6 +65,18 @@ IsReportBy source s text_of fault_of text outcome = IsTrue (source.is_honest s) 
 -- an honest sink holds what it held, and behind it a beginning of this text
 abbrev pub HoldsPart : {K : Type 0} → SinkGhosts K → K → K → List ℕ → Type 0
 HoldsPart sink k k' text = IsTrue (sink.is_honest k) → HoldsPrefix (sink.held k) (sink.held k') text
+
+-- an honest sink holds the report behind what it held, and the outcome is the report's
+abbrev pub IsPut : {K : Type 0} → SinkGhosts K → Report → K → K → Outcome → Type 0
+IsPut sink report k k' outcome = (outcome ≡ report.outcome) × (IsTrue (sink.is_honest k) → sink.held k' ≡ sink.held k ++ report.text.items)
+
+-- an honest sink holds the line of the fault behind what it held
+abbrev pub IsStopPut : {K : Type 0} → SinkGhosts K → Stop → K → K → Outcome → Type 0
+IsStopPut sink stop k k' outcome = IsTrue (sink.is_honest k) → IsStopWritten stop (sink.held k) (sink.held k') outcome
+
+-- why that isn't written: reading failed before, or a write to the sink did, or memory ran out
+abbrev pub StopsPutting : {K : Type 0} → Stop → SinkGhosts K → K → K → ReportStop → Type 0
+StopsPutting stop sink k k' = ReportStops (stop ≡ reads.ReadFailed) (Rises (sink.failures k) (sink.failures k')) (stop ≢ reads.ReadFailed)
 
 -- why nothing is reported: a read of the source failed, or memory ran out
 abbrev pub StopsReading : {S : Type 0} → Ghosts S → S → S → ReportStop → Type 0

@@ -1,7 +1,8 @@
 -- What `show` writes of a file: its header, line by line.
-use Rattle.std.specs.Prelude.{◌≡◌, ℕ, ℤ, ◌/◌, ◌%◌, List, [], ◌∷◌, ◌++◌, drop, codes}
+use Rattle.std.specs.Prelude.{◌≡◌, ℕ, ℤ, ◌/◌, ◌%◌, IsTrue, List, [], ◌∷◌, ◌++◌, drop, codes}
 use Rattle.std.specs.Fmt.{decimal, signed_decimal}
 use Rattle.std.specs.List.{flat_map}
+use Rattle.edf_fields.specs.declared.in_out.source.Source.{Ghosts}
 use Rattle.edf_fields.specs.texts.Dates.{CivilDay}
 use Rattle.edf_fields.specs.texts.Identifications.{Patient, Recording}
 use Rattle.edf_header.specs.signals.Calibrations.{Line}
@@ -102,3 +103,7 @@ show_text file = text_or_fault (head_text (head_of file)) (header_fault file)
 abbrev pub IsLeftBehind : List ℕ → List ℕ → Outcome → Type 0
 IsLeftBehind file left outcomes.Yes = left ≡ drop (header_bytes (head_of file)) file
 IsLeftBehind file left outcomes.No = Unit {0}
+
+-- the same of an honest source, before and behind
+abbrev pub LeavesBehind : {S : Type 0} → Ghosts S → S → S → Outcome → Type 0
+LeavesBehind source s s' outcome = IsTrue (source.is_honest s) → IsLeftBehind (source.left s) (source.left s') outcome

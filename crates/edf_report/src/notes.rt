@@ -1,15 +1,14 @@
 //! The annotations of a file, line by line.
 
-ghost use Rattle.std.specs.Prelude.{◌≡◌, ℕ, List, [], ◌++◌, IfOk, IfErr, OnOk, OnErr, IsTrue};
+ghost use Rattle.std.specs.Prelude.{◌≡◌, [], ◌++◌, IfOk, IfErr, OnOk, OnErr, IsTrue};
 ghost use Rattle.edf_fields.specs.in_out.Sinks.{HoldsPrefix};
 ghost use Rattle.edf_fields.specs.in_out.Sources.{Fails, Rises};
-ghost use Rattle.edf_stream.specs.Faults.{body_fault, file_fault};
+ghost use Rattle.edf_stream.specs.Faults.{file_fault};
 ghost use Rattle.edf_stream.specs.annotation.Keeping.{tal_notes_left};
-ghost use Rattle.edf_stream.specs.annotation.Notes.{NoteValue};
-ghost use Rattle.edf_stream.specs.records.Readers.{HasBegun, StandsIn};
+ghost use Rattle.edf_stream.specs.records.Readers.{HasBegun};
 ghost use Rattle.edf_stream.specs.Views.{note_view};
-ghost use Rattle.edf_report.specs.NotesKept.{AreLinesOf};
-ghost use Rattle.edf_report.specs.NotesTexts.{note_line, note_lines, body_text, notes_text};
+ghost use Rattle.edf_report.specs.NotesKept.{LinesArePut, PartOfLinesIsPut, PartOfRecordsIsPut, RecordsArePut};
+ghost use Rattle.edf_report.specs.NotesTexts.{note_line, note_lines, notes_text};
 ghost use Rattle.edf_report.specs.Reports.{IsReported, StopsReport};
 ghost use Rattle.edf_stop.specs.Stops.{ReportStops};
 
@@ -102,10 +101,8 @@ impl NoteKeeper for Lines {
 fn put_lines<K: Sink>(lines: &Lines, sink: &mut K) -> Result<(), ReportStop>
     ensures failures { OnOk result (K.failures sink.new ≡ K.failures sink.old) }
     ensures honesty { IsTrue (K.is_honest sink.old) → IsTrue (K.is_honest sink.new) }
-    ensures written { OnOk result (IsTrue (K.is_honest sink.old) → (notes : List NoteValue) →
-        AreLinesOf lines.now notes → K.held sink.new ≡ K.held sink.old ++ note_lines notes) }
-    ensures part { OnErr result (IsTrue (K.is_honest sink.old) → (notes : List NoteValue) →
-        AreLinesOf lines.now notes → HoldsPrefix (K.held sink.old) (K.held sink.new) (note_lines notes)) }
+    ensures written { OnOk result (LinesArePut K.Sink lines.now sink.old sink.new) }
+    ensures part { OnErr result (PartOfLinesIsPut K.Sink lines.now sink.old sink.new) }
     ensures stop { IfErr result (ReportStops ⊥ (Rises (K.failures sink.old) (K.failures sink.new))
         (Unit {0})) }
 {
@@ -125,13 +122,9 @@ fn put_records<S: Source, K: Sink>(
     sink: &mut K,
 ) -> Result<Outcome, ReportStop>
     requires { HasBegun reader.old }
-    ensures written { IfOk result (λ outcome. IsTrue (S.is_honest source.old) →
-        IsTrue (K.is_honest sink.old) → (file : List ℕ) → StandsIn reader.old (S.left source.old) file →
-        IsReported (body_text file reader.old.head) (body_fault file reader.old.head) (K.held sink.old)
-        (K.held sink.new) outcome) }
-    ensures part { OnErr result (IsTrue (S.is_honest source.old) → IsTrue (K.is_honest sink.old) →
-        (file : List ℕ) → StandsIn reader.old (S.left source.old) file →
-        HoldsPrefix (K.held sink.old) (K.held sink.new) (body_text file reader.old.head)) }
+    ensures written { IfOk result (RecordsArePut S.Source reader.old source.old K.Sink sink.old sink.new) }
+    ensures part { OnErr result (PartOfRecordsIsPut S.Source reader.old source.old K.Sink sink.old
+        sink.new) }
     ensures reads { OnOk result (S.reads source.new ≡ S.reads source.old) }
     ensures failures { OnOk result (K.failures sink.new ≡ K.failures sink.old) }
     ensures honesty { IsTrue (K.is_honest sink.old) → IsTrue (K.is_honest sink.new) }

@@ -1,11 +1,11 @@
 //! The text of a report on one file, and what is written of a file that can't be read.
 
-ghost use Rattle.std.specs.Prelude.{◌≡◌, ◌≢◌, ◌++◌, IfOk, IfErr, OnOk, OnErr, IsTrue};
+ghost use Rattle.std.specs.Prelude.{◌≡◌, ◌≢◌, IfOk, IfErr, OnOk, OnErr, IsTrue};
 ghost use Rattle.edf_fields.specs.in_out.Sources.{Rises};
 ghost use Rattle.edf_header.specs.declared.stop.Stop.TheVariants as read_stops;
 ghost use Rattle.edf_stop.specs.declared.stops.ReportStop.TheVariants as stops;
 ghost use Rattle.edf_stop.specs.Stops.{ReportStops};
-ghost use Rattle.edf_report.specs.Reports.{fault_line, stop_line, HoldsPart, IsFault, IsFaultReport, IsStopWritten};
+ghost use Rattle.edf_report.specs.Reports.{fault_line, stop_line, HoldsPart, IsFault, IsFaultReport, IsPut, IsStopPut, StopsPutting};
 
 use edf_fields::{Fault, Sink, put_all};
 use edf_header::Stop;
@@ -56,8 +56,7 @@ impl Report {
     ///
     /// The error is that the sink failed; a front of the text was written then.
     pub fn put<K: Sink>(&self, sink: &mut K) -> Result<Outcome, ReportStop>
-        ensures written { IfOk result (λ outcome. (outcome ≡ self.now.outcome) ×
-            (IsTrue (K.is_honest sink.old) → K.held sink.new ≡ K.held sink.old ++ self.now.text.items)) }
+        ensures written { IfOk result (IsPut K.Sink self.now sink.old sink.new) }
         ensures failures { OnOk result (K.failures sink.new ≡ K.failures sink.old) }
         ensures honesty { IsTrue (K.is_honest sink.old) → IsTrue (K.is_honest sink.new) }
         ensures part { OnErr result (HoldsPart K.Sink sink.old sink.new self.now.text.items) }
@@ -77,14 +76,11 @@ pub(crate) fn put_stop<K: Sink>(
     stop: Stop,
 ) -> Result<Outcome, ReportStop>
     ensures fault { OnOk result (IsFault stop) }
-    ensures written { IfOk result (λ outcome. IsTrue (K.is_honest sink.old) →
-        IsStopWritten stop (K.held sink.old) (K.held sink.new) outcome) }
+    ensures written { IfOk result (IsStopPut K.Sink stop sink.old sink.new) }
     ensures failures { OnOk result (K.failures sink.new ≡ K.failures sink.old) }
     ensures honesty { IsTrue (K.is_honest sink.old) → IsTrue (K.is_honest sink.new) }
     ensures part { OnErr result (HoldsPart K.Sink sink.old sink.new (stop_line stop)) }
-    ensures stop { IfErr result
-        (ReportStops (stop ≡ read_stops.ReadFailed) (Rises (K.failures sink.old) (K.failures sink.new))
-        (stop ≢ read_stops.ReadFailed)) }
+    ensures stop { IfErr result (StopsPutting stop K.Sink sink.old sink.new) }
 {
     let report = Report::of_stop(alloc, stop)?;
     report.put(sink)

@@ -11,7 +11,7 @@ ghost use Rattle.edf_header.specs.Heads.{kind_word};
 ghost use Rattle.edf_stop.specs.declared.stops.ReportStop.TheVariants as stops;
 ghost use Rattle.edf_report.specs.Reports.{IsReportBy, IsReported, StopsReading};
 ghost use Rattle.edf_stop.specs.Stops.{ReportStops};
-ghost use Rattle.edf_report.specs.ShowTexts.{word_line, two_digits, day_text, clock_text, start_text, duration_text, course_text, extras_text, patient_text, recording_text, numbers_text, texts_text, channel_line, channels_text, head_text, show_text, IsLeftBehind};
+ghost use Rattle.edf_report.specs.ShowTexts.{word_line, two_digits, day_text, clock_text, start_text, duration_text, course_text, extras_text, patient_text, recording_text, numbers_text, texts_text, channel_line, channels_text, head_text, show_text, IsLeftBehind, LeavesBehind};
 
 use crate::report::Report;
 use edf_fields::{PatientId, RecordingId, Sink, Source, Subfields};
@@ -223,8 +223,7 @@ fn header_text(alloc: Global, header: &Header) -> Result<Vec<u8>, AllocError>
 fn report<S: Source>(alloc: Global, source: &mut S) -> Result<Report, ReportStop>
     ensures report { IfOk result (λ r.
         IsReportBy S.Source source.old show_text header_fault r.text.items r.outcome) }
-    ensures behind { IfOk result (λ report. IsTrue (S.is_honest source.old) →
-        IsLeftBehind (S.left source.old) (S.left source.new) report.outcome) }
+    ensures behind { IfOk result (λ report. LeavesBehind S.Source source.old source.new report.outcome) }
     ensures failures { OnOk result (S.reads source.new ≡ S.reads source.old) }
     ensures stop { IfErr result (StopsReading S.Source source.old source.new) }
 {

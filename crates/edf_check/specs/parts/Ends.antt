@@ -7,7 +7,7 @@ use Rattle.edf_check.specs.parts.PartsVerdicts.{samples_in}
 use Rattle.edf_pace.specs.Premises.{Known, OfFile, OfFiles}
 use Rattle.edf_pace.specs.walk.Readings.{IsAt, IsThere, gathered_so_far, going, standing}
 use Rattle.edf_pace.specs.walk.Shown.{IsAhead, IsGoing, begin_by, last_end_by}
-use Rattle.edf_pace.specs.walk.Ends.{Both, IsFaultBy, IsMatched, IsReadThrough, moved_export, moved_original}
+use Rattle.edf_pace.specs.walk.Ends.{Both, FaultyBy, IsFaultBy, IsMatched, IsReadThrough, at_turn, moved_export, moved_original}
 
 -- a part was read to its end, which is there
 pub record IsEnded (turn : Turn) (e : List ℕ) (g : Head) (left : List ℕ) (end : Time) : Type 0 where
@@ -61,6 +61,54 @@ PassedBy both turn left course = OfFiles both.original both.export (λ o e. IsPa
 abbrev pub MatchedBy : Both → Turn → Reading → Reading → Course → Type 0
 MatchedBy both turn r' s' course = turn.is_compared ≡ true → course.is_early ≡ false → OfFiles both.original both.export
     (λ o e. IsMatched turn o (both.original).head (gathered_so_far r') e (both.export).head (gathered_so_far s') course.found)
+
+-- ---- the same of readers and their sources, before and behind: where both were read to the begin of the turn
+
+-- the original was read to its end, where no part follows
+abbrev pub TurnThrough : {O E : Type 0} → Ghosts O → Ghosts E → Reading → O → O → Reading → E → Turn → Course → Type 0
+TurnThrough o e r s s_behind r' s' turn course = turn.is_last ≡ true → ThroughBy (at_turn o e r s r' s' turn) (o.left s_behind)
+
+-- the part was read to its end
+abbrev pub TurnEnded : {O E : Type 0} → Ghosts O → Ghosts E → Reading → O → Reading → E → E → Turn → Course → Type 0
+TurnEnded o e r s r' s' s'_behind turn = EndedBy (at_turn o e r s r' s' turn) turn (e.left s'_behind)
+
+-- it was compared
+abbrev pub TurnMatched : {O E : Type 0} → Ghosts O → Ghosts E → Reading → O → Reading → Reading → E → Reading → Turn → Course → Type 0
+TurnMatched o e r s r_behind r' s' r'_behind turn = MatchedBy (at_turn o e r s r' s' turn) turn r_behind r'_behind
+
+-- ---- the same where of the part the header was read
+
+-- the original was read to its end, where no part follows
+abbrev pub PartThrough : {O E : Type 0} → Ghosts O → Ghosts E → Reading → O → O → Reading → E → Turn → Course → Type 0
+PartThrough o e r s s_behind r' s' turn course = turn.is_last ≡ true → ThroughBy (at_part o e r s r' s' turn) (o.left s_behind)
+
+-- the part was read to its end, and begins early or not
+abbrev pub PartPassed : {O E : Type 0} → Ghosts O → Ghosts E → Reading → O → Reading → E → E → Turn → Course → Type 0
+PartPassed o e r s r' s' s'_behind turn = PassedBy (at_part o e r s r' s' turn) turn (e.left s'_behind)
+
+-- it was compared
+abbrev pub PartMatched : {O E : Type 0} → Ghosts O → Ghosts E → Reading → O → Reading → Reading → E → Reading → Turn → Course → Type 0
+PartMatched o e r s r_behind r' s' r'_behind turn = MatchedBy (at_part o e r s r' s' turn) turn r_behind r'_behind
+
+-- or this is the first fault
+abbrev pub PartFaulty : {O E : Type 0} → Ghosts O → Ghosts E → Reading → O → O → Reading → E → Turn → FaultOf → Type 0
+PartFaulty o e r s s_behind r' s' turn = FaultyBy (at_part o e r s r' s' turn) (o.left s_behind) turn.part
+
+-- ---- the same where the original is read on beside it, and nothing is compared
+
+-- the original was read to its end
+abbrev pub ThroughOver : {O E : Type 0} → Ghosts O → Ghosts E → Reader → O → O → Reader → E → Course → Type 0
+ThroughOver o e r s s_behind r' s' course = ThroughBy (over o e r s r' s') (o.left s_behind)
+
+-- the part was read to its end, and begins early or not
+abbrev pub PassedOver : {O E : Type 0} → Ghosts O → Ghosts E → Reader → O → Reader → E → E → Turn → Course → Type 0
+PassedOver o e r s r' s' s'_behind turn = PassedBy (over o e r s r' s') turn (e.left s'_behind)
+
+-- or this is the first fault
+abbrev pub FaultyOver : {O E : Type 0} → Ghosts O → Ghosts E → Reader → O → O → Reader → E → ℕ → FaultOf → Type 0
+FaultyOver o e r s s_behind r' s' part = FaultyBy (over o e r s r' s') (o.left s_behind) part
+
+-- ---- of a part whose header is read with it
 
 abbrev pub PartReadBy : {O E : Type 0} → Ghosts O → Ghosts E → Turn → Reading → O → Reading → O → E → E → PartRead → Type 0
 PartReadBy original export turn r s r' s' e e' part = OfFile (beside original r s turn) (λ o. IsTrue (export.is_honest e)

@@ -1,7 +1,7 @@
 -- An original and the parts of its export as they are read, one after the other, each in what it is moved by, and what was found in them when
 -- all were read to their ends, in the words of their bytes. These are steps between the definitions and the code.
 use Rattle.std.specs.Prelude.{◌≡◌, ℕ, List, [], IsTrue, length, map, Option, None, Some, slice_get, ◌+◌, ℤ, true, ◌∷◌, ◌++◌}
-use Rattle.edf_check.specs.Words.{AllByRecursion, Terms, Ghosts, head_of, file_fault, NoteValue, note_value, PartsVerdict, Finding, PartVerdict, PartsFound, Exported, Found, Reading, Setting, FaultOf, Bor, option_or, Head, body_fault, notes_of, Turn}
+use Rattle.edf_check.specs.Words.{AllByRecursion, Terms, Ghosts, head_of, file_fault, NoteValue, note_value, PartsVerdict, PartsStop, Finding, PartVerdict, PartsFound, Exported, ReadSoFar, Found, Reading, Setting, FaultOf, Bor, option_or, Head, body_fault, notes_of, Turn}
 use Rattle.edf_pace.specs.declared.walk.fault_of.FaultOf.TheVariants.{Original as OfOriginal, Part as OfPart}
 use Rattle.edf_verdict.specs.declared.verdict.Verdict.TheVariants.{Yes}
 use Rattle.edf_check.specs.Checks.{AreRead as AreLeft}
@@ -13,6 +13,7 @@ use Rattle.edf_check.specs.parts.Parts.{AllConform, ExportedByOne, exported_by_a
 use Rattle.edf_check.specs.parts.PartsFirst.{IsFirstFault, IsFirstHead}
 use Rattle.edf_check.specs.parts.PartsVerdicts.{AllAgreed, AllInOrder, IsFirstOverlap, IsPartsVerdict, samples_of_all}
 use Rattle.edf_pace.specs.Premises.{OfFile}
+use Rattle.edf_pace.specs.PartsStops.{StopsOfAll}
 use Rattle.edf_pace.specs.walk.Readings.{standing}
 use Rattle.edf_check.specs.parts.PartsFound.{AllConformAt, IsEarlyFound, IsHeadsFound}
 use Rattle.edf_check.specs.parts.Ends.{beside}
@@ -71,6 +72,15 @@ HaveFaultFrom original export turn r o o' parts fault =
     OfFile (beside original r o turn) (λ file. AllByRecursion IsTrue (map export.is_honest parts)
     → HaveFault turn.part file (r.reader).head (original.left o') (map export.left parts) fault)
 
+-- the same of what was read so far, of a part and of those behind it
+abbrev pub SeriesRead : {O E : Type 0} → Ghosts O → Ghosts E → Turn → ReadSoFar → ReadSoFar → O → O → E → E → List E → List E → PartsFound → Type 0
+SeriesRead original export turn so_far so_far' o o' e e' es es' =
+    AreReadFrom original export turn so_far.original o so_far'.original o' e e' es es' so_far.exported so_far'.exported
+
+-- or this is the first fault
+abbrev pub SeriesFault : {O E : Type 0} → Ghosts O → Ghosts E → Turn → ReadSoFar → O → O → E → List E → FaultOf → Type 0
+SeriesFault original export turn so_far o o' e es = HaveFaultFrom original export turn so_far.original o o' (e ∷ es)
+
 -- this is the first fault of all
 abbrev pub IsFirstOfAll : List ℕ → List (List ℕ) → FaultOf → Type 0
 IsFirstOfAll original parts (OfOriginal fault) = file_fault original ≡ Some fault
@@ -106,6 +116,10 @@ abbrev pub FollowsFrom : Setting → List NoteValue → Exported → PartsFound 
 FollowsFrom setting kept exported found verdict = (o : List ℕ) (parts : List (List ℕ))
     → AreJudged o parts setting kept exported found → IsPartsVerdict o parts (setting.claim).now verdict
 
+-- the verdict on what is found first, or a Yes, follows from what was found
+abbrev pub IsFindingOf : Setting → List NoteValue → Exported → PartsFound → Option Finding → Type 0
+IsFindingOf setting kept exported found finding = FollowsFrom setting kept exported found (verdict_by setting exported finding)
+
 -- ---- the same of readers and their sources, before and behind
 
 -- this is the verdict on the files that honest sources give; and they were read as far as it says
@@ -117,6 +131,14 @@ abbrev pub IsReadBy : {O E : Type 0} → Ghosts O → Ghosts E → O → O → L
 IsReadBy original export o o' parts parts' verdict =
     IsTrue (original.is_honest o) → AllByRecursion IsTrue (map export.is_honest parts) → AllByRecursion (AreLeft verdict.verdict (original.left o')) (map export.left parts')
 
+-- the same of a part and those behind it
+abbrev pub SeriesLeft : {O E : Type 0} → Ghosts O → Ghosts E → O → O → E → E → List E → List E → PartsVerdict → Type 0
+SeriesLeft original export o o' e e' es es' = IsReadBy original export o o' (e ∷ es) (e' ∷ es')
+
+-- why a check of them stops
+abbrev pub SeriesStop : {O E : Type 0} → Ghosts O → O → O → Ghosts E → E → E → List E → List E → PartsStop → Type 0
+SeriesStop original o o' export e e' es es' = StopsOfAll original o o' export 0 (e ∷ es) (e' ∷ es')
+
 abbrev pub AreJudgedFrom : {O E : Type 0} → Ghosts O → Ghosts E → Setting → Reading → O → Reading → List E → Exported → PartsFound → Type 0
 AreJudgedFrom original export setting r o r' parts behind found =
     OfFile (standing original r.reader o) (λ file. AllByRecursion IsTrue (map export.is_honest parts)
@@ -127,6 +149,14 @@ abbrev pub AreGoneFrom : {O E : Type 0} → Ghosts O → Ghosts E → Reading �
 AreGoneFrom original export r o o' parts parts' =
     OfFile (standing original r.reader o) (λ file. AllByRecursion IsTrue (map export.is_honest parts)
     → (original.left o' ≡ []) × AllByRecursion (λ left. left ≡ []) (map export.left parts'))
+
+-- the same of what was read so far, of a part and of those behind it
+abbrev pub SeriesJudged : {O E : Type 0} → Ghosts O → Ghosts E → Setting → ReadSoFar → ReadSoFar → O → E → List E → PartsFound → Type 0
+SeriesJudged original export setting so_far so_far' o e es = AreJudgedFrom original export setting so_far.original o so_far'.original (e ∷ es) so_far'.exported
+
+-- and all of these were read to their ends
+abbrev pub SeriesGone : {O E : Type 0} → Ghosts O → Ghosts E → ReadSoFar → O → O → E → E → List E → List E → PartsFound → Type 0
+SeriesGone original export so_far o o' e e' es es' found = AreGoneFrom original export so_far.original o o' (e ∷ es) (e' ∷ es')
 
 -- behind a fault of a part nothing of the original is left
 abbrev pub IsLeftBy : FaultOf → List ℕ → Type 0

@@ -2,7 +2,7 @@
 
 ghost use Rattle.std.specs.Prelude.{◌≡◌, Some, None};
 ghost use Rattle.edf_check.specs.parts.PartsFirst.{rank as rank_of};
-ghost use Rattle.edf_check.specs.parts.PartsFound.{earlier_of, first_of, found_with as found_with_those};
+ghost use Rattle.edf_check.specs.parts.PartsFound.{earlier_of, first_of, found_with as found_with_those, nothing as found_nothing};
 
 use crate::parts::part::Course;
 use edf_pace::Found;
@@ -24,6 +24,17 @@ pub(crate) struct PartsFound {
     pub early: Option<u16>,
     /// The first difference of the samples.
     pub found: Option<Found>,
+}
+
+/// What is found where there is no part.
+pub(crate) fn nothing() -> PartsFound
+    ensures { result ≡ found_nothing }
+{
+    PartsFound {
+        heads: None,
+        early: None,
+        found: None,
+    }
 }
 
 /// The number of a verdict No.

@@ -5,8 +5,8 @@ ghost use Rattle.edf_stream.specs.records.Readers.{HasBegun, is_current};
 ghost use Rattle.edf_pace.specs.PartsStops.{StopsOfTwo};
 ghost use Rattle.edf_check.specs.parts.PartsVerdicts.{samples_in};
 ghost use Rattle.edf_pace.specs.Premises.{IfFaulty, IfRead};
-ghost use Rattle.edf_check.specs.parts.Ends.{EndedBy, IsReady, MatchedBy, PartFaultBy, PartReadBy, PartStays, PassedBy, PassesBehind, PassesPart, Stays, ThroughBy, at_part, beside, over};
-ghost use Rattle.edf_pace.specs.walk.Ends.{FaultyBy, IsFoundAmong, at_turn};
+ghost use Rattle.edf_check.specs.parts.Ends.{FaultyOver, IsReady, PartFaultBy, PartFaulty, PartMatched, PartPassed, PartReadBy, PartStays, PartThrough, PassedOver, PassesBehind, PassesPart, Stays, ThroughOver, TurnEnded, TurnMatched, TurnThrough};
+ghost use Rattle.edf_pace.specs.walk.Ends.{FaultyOn, IsFoundAmong};
 ghost use Rattle.edf_pace.specs.walk.Readings.{HasGoneOn};
 ghost use Rattle.edf_pace.specs.walk.Shown.{IfAtHand, IsAhead, IsGoing, StandsAt, begins_at};
 
@@ -105,38 +105,28 @@ fn compare_on<O: Source, E: Source, L: Onlooker>(
     ensures passes { IfRead result (PassesBehind O.Source original.old o.old original.new o.new
         (shown.entry.turn)) }
     ensures stays { IfRead result (Stays (shown.entry.turn)) }
-    ensures through { IfRead result (λ c. (shown.entry.turn).is_last ≡ true →
-        ThroughBy (at_turn O.Source E.Source original.old o.old export.old e.old (shown.entry.turn))
-        (O.left o.new)) }
-    ensures ended { IfRead result
-        (EndedBy (at_turn O.Source E.Source original.old o.old export.old e.old (shown.entry.turn))
-        (shown.entry.turn) (E.left e.new)) }
-    ensures matched { IfRead result
-        (MatchedBy (at_turn O.Source E.Source original.old o.old export.old e.old (shown.entry.turn))
-        (shown.entry.turn) original.new export.new) }
-    ensures fault { IfFaulty result
-        (FaultyBy (at_turn O.Source E.Source original.old o.old export.old e.old (shown.entry.turn))
-        (O.left o.new) (shown.entry.turn).part) }
+    ensures through { IfRead result (TurnThrough O.Source E.Source original.old o.old o.new export.old e.old
+        (shown.entry.turn)) }
+    ensures ended { IfRead result (TurnEnded O.Source E.Source original.old o.old export.old e.old e.new
+        (shown.entry.turn)) }
+    ensures matched { IfRead result (TurnMatched O.Source E.Source original.old o.old original.new export.old
+        e.old export.new (shown.entry.turn)) }
+    ensures fault { IfFaulty result (FaultyOn O.Source E.Source original.old o.old o.new export.old e.old
+        (shown.entry.turn)) }
     ensures failures { OnOk result ((O.reads o.new ≡ O.reads o.old) × (E.reads e.new ≡ E.reads e.old)) }
     ensures stop { IfErr result (StopsOfTwo O.Source o.old o.new E.Source (shown.entry.turn).part e.old
         e.new) }
 {
     let Shown { turn, onlooker } = shown;
-    let (alloc, labels) = (turn.setting.alloc, turn.setting.labels);
-    let pairs = pairs_of(
-        alloc,
-        original.reader.header(),
-        export.reader.header(),
-        labels,
-    )?;
-    let room = common_room(original.reader.header(), export.reader.header(), &pairs);
-    let frame = Frame {
-        turn,
-        pairs: &pairs,
-        room,
-    };
+    let (here, there) = (original.reader.header(), export.reader.header());
+    let pairs = pairs_of(turn.setting.alloc, here, there, turn.setting.labels)?;
+    let room = common_room(here, there, &pairs);
     let mut watch = Watch {
-        frame,
+        frame: Frame {
+            turn,
+            pairs: &pairs,
+            room,
+        },
         watcher: FirstFound {
             found: None,
             onlooker,
@@ -190,18 +180,14 @@ fn compare<O: Source, E: Source, L: Onlooker>(
     ensures passes { IfRead result (PassesBehind O.Source original.old o.old original.new o.new
         (shown.entry.turn)) }
     ensures stays { IfRead result (Stays (shown.entry.turn)) }
-    ensures through { IfRead result (λ c. (shown.entry.turn).is_last ≡ true →
-        ThroughBy (at_part O.Source E.Source original.old o.old export.old e.old (shown.entry.turn))
-        (O.left o.new)) }
-    ensures passed { IfRead result
-        (PassedBy (at_part O.Source E.Source original.old o.old export.old e.old (shown.entry.turn))
-        (shown.entry.turn) (E.left e.new)) }
-    ensures matched { IfRead result
-        (MatchedBy (at_part O.Source E.Source original.old o.old export.old e.old (shown.entry.turn))
-        (shown.entry.turn) original.new export.new) }
-    ensures fault { IfFaulty result
-        (FaultyBy (at_part O.Source E.Source original.old o.old export.old e.old (shown.entry.turn))
-        (O.left o.new) (shown.entry.turn).part) }
+    ensures through { IfRead result (PartThrough O.Source E.Source original.old o.old o.new export.old e.old
+        (shown.entry.turn)) }
+    ensures passed { IfRead result (PartPassed O.Source E.Source original.old o.old export.old e.old e.new
+        (shown.entry.turn)) }
+    ensures matched { IfRead result (PartMatched O.Source E.Source original.old o.old original.new export.old
+        e.old export.new (shown.entry.turn)) }
+    ensures fault { IfFaulty result (PartFaulty O.Source E.Source original.old o.old o.new export.old e.old
+        (shown.entry.turn)) }
     ensures failures { OnOk result ((O.reads o.new ≡ O.reads o.old) × (E.reads e.new ≡ E.reads e.old)) }
     ensures stop { IfErr result (StopsOfTwo O.Source o.old o.new E.Source (shown.entry.turn).part e.old
         e.new) }
@@ -257,12 +243,12 @@ fn pass_over<O: Source, E: Source>(
     ensures none { IfRead result (λ c. (c.found ≡ None) × (c.is_beside ≡ false)) }
     ensures head { IfRead result (λ c. export.new.head ≡ export.old.head) }
     ensures goes { IfRead result (λ c. HasGoneOn O.Source original.old o.old original.new o.new) }
-    ensures through { IfRead result (λ c.
-        ThroughBy (over O.Source E.Source original.old o.old export.old e.old) (O.left o.new)) }
-    ensures passed { IfRead result (PassedBy (over O.Source E.Source original.old o.old export.old e.old)
-        turn.entry (E.left e.new)) }
-    ensures fault { IfFaulty result (FaultyBy (over O.Source E.Source original.old o.old export.old e.old)
-        (O.left o.new) turn.entry.part) }
+    ensures through { IfRead result (ThroughOver O.Source E.Source original.old o.old o.new export.old
+        e.old) }
+    ensures passed { IfRead result (PassedOver O.Source E.Source original.old o.old export.old e.old e.new
+        turn.entry) }
+    ensures fault { IfFaulty result (FaultyOver O.Source E.Source original.old o.old o.new export.old e.old
+        turn.entry.part) }
     ensures failures { OnOk result ((O.reads o.new ≡ O.reads o.old) × (E.reads e.new ≡ E.reads e.old)) }
     ensures stop { IfErr result (StopsOfTwo O.Source o.old o.new E.Source turn.entry.part e.old e.new) }
 {
@@ -307,18 +293,14 @@ fn read_course<O: Source, E: Source, L: Onlooker>(
     ensures passes { IfRead result (PassesBehind O.Source original.old o.old original.new o.new
         (shown.entry.turn)) }
     ensures stays { IfRead result (Stays (shown.entry.turn)) }
-    ensures through { IfRead result (λ c. (shown.entry.turn).is_last ≡ true →
-        ThroughBy (at_part O.Source E.Source original.old o.old export.old e.old (shown.entry.turn))
-        (O.left o.new)) }
-    ensures passed { IfRead result
-        (PassedBy (at_part O.Source E.Source original.old o.old export.old e.old (shown.entry.turn))
-        (shown.entry.turn) (E.left e.new)) }
-    ensures matched { IfRead result
-        (MatchedBy (at_part O.Source E.Source original.old o.old export.old e.old (shown.entry.turn))
-        (shown.entry.turn) original.new export.new) }
-    ensures fault { IfFaulty result
-        (FaultyBy (at_part O.Source E.Source original.old o.old export.old e.old (shown.entry.turn))
-        (O.left o.new) (shown.entry.turn).part) }
+    ensures through { IfRead result (PartThrough O.Source E.Source original.old o.old o.new export.old e.old
+        (shown.entry.turn)) }
+    ensures passed { IfRead result (PartPassed O.Source E.Source original.old o.old export.old e.old e.new
+        (shown.entry.turn)) }
+    ensures matched { IfRead result (PartMatched O.Source E.Source original.old o.old original.new export.old
+        e.old export.new (shown.entry.turn)) }
+    ensures fault { IfFaulty result (PartFaulty O.Source E.Source original.old o.old o.new export.old e.old
+        (shown.entry.turn)) }
     ensures failures { OnOk result ((O.reads o.new ≡ O.reads o.old) × (E.reads e.new ≡ E.reads e.old)) }
     ensures stop { IfErr result (StopsOfTwo O.Source o.old o.new E.Source (shown.entry.turn).part e.old
         e.new) }

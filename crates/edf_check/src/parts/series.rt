@@ -1,22 +1,22 @@
 //! Several exports, one after the other, read beside the original.
 
-ghost use Rattle.std.specs.Prelude.{◌≡◌, ◌+◌, ◌*◌, ◌<◌, ◌≤◌, ◌^◌, ◌++◌, ◌∷◌, map, length, IfErr, IfSome, OnOk};
+ghost use Rattle.std.specs.Prelude.{◌≡◌, ◌+◌, ◌*◌, ◌<◌, ◌≤◌, ◌^◌, ◌++◌, ◌∷◌, [], map, length, IfErr, IfSome, OnOk};
 ghost use Rattle.edf_stream.specs.Views.{note_value};
 ghost use Rattle.edf_pace.specs.PartsStops.{NoneFailed, StopsOfAll};
 ghost use Rattle.edf_pace.specs.Premises.{IfFaulty, IfRead};
 ghost use Rattle.edf_check.specs.parts.Ends.{IsReady};
 ghost use Rattle.edf_pace.specs.walk.Ends.{IsFoundAmong};
-ghost use Rattle.edf_check.specs.parts.Together.{AreReadFrom, HaveFaultFrom, held_notes};
+ghost use Rattle.edf_check.specs.parts.Together.{SeriesFault, SeriesRead, held_notes};
 ghost use Rattle.edf_pace.specs.walk.Windows.{is_last as is_last_of};
 ghost use Rattle.edf_pace.specs.walk.Shown.{IsAhead, IsGoing};
 
-use crate::parts::found::{PartsFound, found_with};
+use crate::parts::found::{PartsFound, found_with, nothing};
 use crate::parts::part::{PartRead, Shown, read_part};
 use edf_fields::Source;
 use edf_pace::{FaultOf, Onlooker, Reading, Turn};
 use edf_stop::PartsStop;
 use edf_stream::Note;
-use std::alloc::AllocError;
+use std::alloc::{AllocError, Global};
 
 /// What the parts hold together that were read so far.
 #[derive(Drop)]
@@ -27,6 +27,16 @@ pub(crate) struct Exported {
 }
 
 impl Exported {
+    /// What no part holds: nothing was read yet.
+    pub fn new(alloc: Global) -> Exported
+        ensures none { (result.samples ≡ 0) × (result.notes.items ≡ []) }
+    {
+        Exported {
+            samples: 0,
+            notes: Vec::new(alloc),
+        }
+    }
+
     /// Takes in what a part holds that was read to its end: so many samples, and its annotations.
     ///
     /// The error is want of memory.
@@ -80,11 +90,10 @@ pub(crate) fn read_parts<O: Source, E: Source, L: Onlooker>(
     requires held { (so_far.old.exported).samples ≤ (shown.turn).part * 2 ^ 50 }
     ensures modest { IfRead result (λ f.
         IfSome f.found (IsFoundAmong (length (((shown.entry.turn).setting).labels).now))) }
-    ensures read { IfRead result (AreReadFrom O.Source E.Source (shown.entry.turn) so_far.old.original o.old
-        so_far.new.original o.new part.old part.new others.old others.new so_far.old.exported
-        so_far.new.exported) }
-    ensures fault { IfFaulty result (HaveFaultFrom O.Source E.Source (shown.entry.turn) so_far.old.original
-        o.old o.new (part.old ∷ others.old)) }
+    ensures read { IfRead result (SeriesRead O.Source E.Source (shown.entry.turn) so_far.old so_far.new o.old
+        o.new part.old part.new others.old others.new) }
+    ensures fault { IfFaulty result (SeriesFault O.Source E.Source (shown.entry.turn) so_far.old o.old o.new
+        part.old others.old) }
     ensures failures { OnOk result (NoneFailed O.Source o.old o.new E.Source part.old part.new others.old
         others.new) }
     ensures stop { IfErr result (StopsOfAll O.Source o.old o.new E.Source (shown.entry.turn).part
@@ -108,14 +117,7 @@ pub(crate) fn read_parts<O: Source, E: Source, L: Onlooker>(
     } = read;
     so_far.exported.take(samples, notes)?;
     match others.split_first_mut() {
-        None => {
-            let nothing = PartsFound {
-                heads: None,
-                early: None,
-                found: None,
-            };
-            return Ok(Ok(found_with(turn.part, heads, course, nothing)));
-        }
+        None => return Ok(Ok(found_with(turn.part, heads, course, nothing()))),
         Some((next, behind)) => {
             let next_turn = Turn {
                 part: turn.part + 1,

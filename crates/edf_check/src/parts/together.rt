@@ -7,7 +7,7 @@ ghost use Rattle.edf_pace.specs.PartsStops.{NoneFailed, StopsOfAll};
 ghost use Rattle.edf_pace.specs.Premises.{IfFaulty, IfRead};
 ghost use Rattle.edf_pace.specs.walk.Readings.{IsSetting};
 ghost use Rattle.edf_pace.specs.walk.Ends.{IsFoundAmong};
-ghost use Rattle.edf_check.specs.parts.Together.{AreGoneFrom, AreJudgedFrom, FollowsFrom, IsFirstFrom, verdict_by};
+ghost use Rattle.edf_check.specs.parts.Together.{FollowsFrom, IsFindingOf, IsFirstFrom, SeriesGone, SeriesJudged};
 
 use crate::finding::Finding;
 use crate::parts::found::PartsFound;
@@ -47,10 +47,10 @@ pub(crate) fn walk_parts<O: Source, E: Source, L: Onlooker>(
     requires setting { IsSetting ((so_far.old.original).reader).head stage.setting }
     ensures modest { IfRead result (λ f.
         IfSome f.found (IsFoundAmong (length ((stage.entry.setting).labels).now))) }
-    ensures judged { IfRead result (AreJudgedFrom O.Source E.Source (stage.entry.setting) so_far.old.original
-        o.old so_far.new.original (part.old ∷ others.old) so_far.new.exported) }
-    ensures gone { IfRead result (λ f. AreGoneFrom O.Source E.Source so_far.old.original o.old o.new
-        (part.old ∷ others.old) (part.new ∷ others.new)) }
+    ensures judged { IfRead result (SeriesJudged O.Source E.Source (stage.entry.setting) so_far.old so_far.new
+        o.old part.old others.old) }
+    ensures gone { IfRead result (SeriesGone O.Source E.Source so_far.old o.old o.new part.old part.new
+        others.old others.new) }
     ensures fault { IfFaulty result (IsFirstFrom O.Source E.Source so_far.old.original o.old o.new
         (part.old ∷ others.old)) }
     ensures failures { OnOk result (NoneFailed O.Source o.old o.new E.Source part.old part.new others.old
@@ -105,9 +105,7 @@ fn first_finding(
     exported: &mut Exported,
 ) -> Result<Option<Finding>, AllocError>
     requires { IfSome found.found (IsFoundAmong (length (setting.labels).now)) }
-    ensures { IfOk result (λ finding.
-        FollowsFrom setting.entry (map note_value kept.old.items) exported.old found
-        (verdict_by setting.entry exported.old finding)) }
+    ensures { IfOk result (IsFindingOf setting.entry (map note_value kept.old.items) exported.old found) }
 {
     let PartsFound {
         heads,

@@ -1,14 +1,15 @@
 -- How a walk over the data records of an original and a part ends. By `ps` a file is moved: its times, in picoseconds after 1970-01-01
 -- 00:00:00, then count from the second at which the original starts, before the shift. These are steps between the definitions and the code.
 use Rattle.std.specs.Prelude.{◌≡◌, ℕ, ℤ, ◌<◌, ◌≤ℤ◌, Bool, true, false, List, [], Option, None, Some}
-use Rattle.edf_pace.specs.Words.{Fault, Ghosts, Head, Conforms, body_fault, file_fault, NoteValue, notes_of, Reader, is_current, end_before, Found, Reading, Time, Window, Turn, FaultOf}
+use Rattle.edf_pace.specs.Words.{Fault, Ghosts, Head, Conforms, body_fault, file_fault, NoteValue, notes_of, Reader, is_current, end_before, Found, Frame, Reading, Time, Window, Turn, FaultOf}
 use Rattle.edf_pace.specs.declared.walk.lockstep.ReadOn.{ReadOn}
+use Rattle.edf_pace.specs.declared.walk.lockstep.Step.{Step}
 use Rattle.edf_pace.specs.declared.walk.fault_of.FaultOf.TheVariants.{Original as OfOriginal, Part as OfPart}
 use Rattle.edf_pace.specs.InstantOrder.{IsModest}
 use Rattle.edf_pace.specs.Premises.{Known, OfFile, OfFiles}
 use Rattle.edf_pace.specs.walk.Gathered.{gathered_of}
 use Rattle.edf_pace.specs.walk.Pairs.{places_in}
-use Rattle.edf_pace.specs.walk.Readings.{export_at, going, original_at}
+use Rattle.edf_pace.specs.walk.Readings.{ExportIn, ExportMoves, OriginalIn, OriginalMoves, export_at, going, original_at}
 use Rattle.edf_pace.specs.walk.Shown.{last_end_by}
 use Rattle.edf_pace.specs.walk.Watching.{TwoFiles, two_files}
 pub use Rattle.edf_pace.specs.walk.Watching.{moved_export, moved_original}
@@ -88,6 +89,44 @@ at_window o e r s r' s' turn w = record { original = original_at o r s turn.sett
 
 abbrev pub FaultyBy : Both → List ℕ → ℕ → FaultOf → Type 0
 FaultyBy both left part fault = AreFaulty both.original both.export left part fault
+
+-- ---- the same of readers and their sources, before and behind
+
+-- both were read to their ends, and the part ends there
+abbrev pub BothThrough : {O E : Type 0} → Ghosts O → Ghosts E → Reader → O → O → Reader → E → E → Turn → Time → Type 0
+BothThrough o e r s s_behind r' s' s'_behind turn = AreThrough (going o r s) (going e r' s') (o.left s_behind) (e.left s'_behind) turn
+
+-- or this is their first fault
+abbrev pub BothFaulty : {O E : Type 0} → Ghosts O → Ghosts E → Reader → O → O → Reader → E → ℕ → FaultOf → Type 0
+BothFaulty o e r s s_behind r' s' part = AreFaulty (going o r s) (going e r' s') (o.left s_behind) part
+
+-- a reader is moved through a step
+abbrev pub OriginalSteps : {S : Type 0} → Ghosts S → Reading → S → Reading → S → Step → Type 0
+OriginalSteps source r s r' s' step = OriginalIn source r s r' s' step.turn step.within
+
+abbrev pub ExportSteps : {S : Type 0} → Ghosts S → Reading → S → Reading → S → Step → Type 0
+ExportSteps source r s r' s' step = ExportIn source r s r' s' step.turn step.within
+
+-- or this is the first fault
+abbrev pub FaultyIn : {O E : Type 0} → Ghosts O → Ghosts E → Reading → O → O → Reading → E → Step → FaultOf → Type 0
+FaultyIn o e r s s_behind r' s' step = FaultyBy (at_window o e r s r' s' step.turn step.within) (o.left s_behind) (step.turn).part
+
+-- a reader is moved from the begin of a turn to the time that was reached
+abbrev pub OriginalReadOn : {S : Type 0} → Ghosts S → Reading → S → Reading → S → Turn → ReadOn → Type 0
+OriginalReadOn source r s r' s' turn walked = OriginalMoves source r s r' s' turn walked.reached
+
+abbrev pub ExportReadOn : {S : Type 0} → Ghosts S → Reading → S → Reading → S → Turn → ReadOn → Type 0
+ExportReadOn source r s r' s' turn walked = ExportMoves source r s r' s' turn walked.reached
+
+-- or this is the first fault
+abbrev pub FaultyOn : {O E : Type 0} → Ghosts O → Ghosts E → Reading → O → O → Reading → E → Turn → FaultOf → Type 0
+FaultyOn o e r s s_behind r' s' turn = FaultyBy (at_turn o e r s r' s' turn) (o.left s_behind) turn.part
+
+-- where not enough was seen, all was seen to the time that was reached, and nothing is left of the part, nor, where none follows, of the
+-- original
+abbrev pub HasSeenAll : Bool → Frame → Reading → Reading → ReadOn → Type 0
+HasSeenAll enough frame original export walked = enough ≡ false
+    → ((walked.seen).ps ≡ (walked.reached).ps) × IsOver (frame.turn).is_last original.reader export.reader
 
 abbrev pub WalkedBy : Both → Turn → (TwoFiles → ℤ → ℤ → Type 0) → (TwoFiles → ℤ → ℤ → Type 0) → Bool → ReadOn → Type 0
 WalkedBy both turn Held Holds enough walked = OfFiles both.original both.export

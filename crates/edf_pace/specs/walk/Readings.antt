@@ -2,6 +2,7 @@
 -- starts, before the shift. These are steps between the definitions and the code.
 use Rattle.std.specs.Prelude.{◌≡◌, ◌^◌, neg_ℤ, pos, ℕ, ℤ, IsTrue, Bool, true, List, [], ◌++◌, map, Option, None, Some, ◌+ℤ◌}
 use Rattle.edf_pace.specs.Words.{Terms, Reads, Ghosts, Conforms, body_fault, NoteValue, moved_notes_before, Comes, Reader, IsOpen, StandsIn, is_current, end_before, note_value, View, Reading, Time, Window, Setting, Turn, Head, file_start, Clock}
+use Rattle.edf_stream.specs.annotation.NotesReading.{notes_in}
 use Rattle.edf_stream.specs.declared.records.status.Status.TheVariants.{Ended}
 use Rattle.edf_heads.specs.Comparisons.{AreSorted}
 use Rattle.edf_pace.specs.declared.walk.offset.Offset.{Offset}
@@ -91,6 +92,14 @@ HasMovedAs source r s r' s' view w = HasMoved source r s r' s' (claim_of view) v
 -- the next data record came, or the end
 abbrev pub HasCome : {S : Type 0} → Ghosts S → Reader → S → Reader → S → Type 0
 HasCome source r s r' s' = OfFile (standing source r s) (Comes (is_current r'.status) r r' (source.left s'))
+
+-- a reader stands in the file that its source had, where that is honest
+abbrev pub HasOpened : {S : Type 0} → Ghosts S → S → S → Reading → Type 0
+HasOpened source s s' r = IsTrue (source.is_honest s) → StandsIn r.reader (source.left s') (source.left s)
+
+-- the annotations of the data record at hand
+abbrev pub notes_at_hand : Reader → List NoteValue
+notes_at_hand r = notes_in r.head r.current
 
 -- the first one is at hand
 abbrev pub HasFirst : {S : Type 0} → Ghosts S → Reader → S → Reader → Type 0

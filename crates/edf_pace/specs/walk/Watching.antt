@@ -1,6 +1,6 @@
 -- What a watcher of two files that are read in step gets to see.
-use Rattle.std.specs.Prelude.{ℕ, ℤ, ◌≤ℤ◌, List, map, Option}
-use Rattle.edf_pace.specs.Words.{Found, Frame, Head, Reader, Turn}
+use Rattle.std.specs.Prelude.{◌≡◌, ℕ, ℤ, ◌≤ℤ◌, List, map, Option}
+use Rattle.edf_pace.specs.Words.{Found, Frame, Head, Reader, Turn, Window}
 use Rattle.edf_pace.specs.walk.Pairs.{places_of}
 use Rattle.edf_pace.specs.walk.Shown.{Covers}
 use Rattle.edf_pace.specs.walk.Windows.{sampled, window_difference}
@@ -28,7 +28,15 @@ abbrev pub HasSeen : (TwoFiles → ℤ → ℤ → Type 0) → (TwoFiles → ℤ
 HasSeen Held Holds frame r s t u = (o e : List ℕ) → Covers r o (moved_original frame.turn) t u → Covers s e (moved_export frame.turn) t u
     → (from : ℤ) → from ≤ℤ t → Held (two_files o r.head e s.head) from t → Holds (two_files o r.head e s.head) from u
 
+-- the same between the two times of a window, of the channels of a frame
+abbrev pub HasSeenIn : (Frame → TwoFiles → ℤ → ℤ → Type 0) → (Frame → TwoFiles → ℤ → ℤ → Type 0) → Frame → Reader → Reader → Window → Type 0
+HasSeenIn Held Holds frame r s w = HasSeen (Held frame) (Holds frame) frame r s (w.from).ps (w.to).ps
+
 -- the earliest difference of the channels of a frame, from t on and before u
 abbrev pub first_between : Frame → TwoFiles → ℤ → ℤ → Option Found
 first_between frame files t u =
     window_difference ((frame.turn).setting.claim).now (sampled files.original files.head (moved_original frame.turn)) (sampled files.export files.export_head (moved_export frame.turn)) (map places_of (frame.pairs).now) t u
+
+-- what was found is that
+abbrev pub IsFirst : Option Found → Frame → TwoFiles → ℤ → ℤ → Type 0
+IsFirst found frame files t u = found ≡ first_between frame files t u

@@ -5,9 +5,9 @@ ghost use Rattle.edf_claim.specs.KeepsReading.{IsUncut};
 ghost use Rattle.edf_stream.specs.records.Readers.{is_current};
 ghost use Rattle.edf_pace.specs.Premises.{IfFaulty, IfFound, IfNothing, IfRead};
 ghost use Rattle.edf_pace.specs.PartsStops.{StopsOf, StopsOfTwo};
-ghost use Rattle.edf_pace.specs.walk.Ends.{AreFaulty, AreThrough, FaultyBy, IsFirstFaultOf, IsOver, WalkedBy, at_turn, at_window, moved_export, moved_original};
+ghost use Rattle.edf_pace.specs.walk.Ends.{BothFaulty, BothThrough, ExportReadOn, ExportSteps, FaultyIn, FaultyOn, HasSeenAll, IsFirstFaultOf, IsOver, OriginalReadOn, OriginalSteps, WalkedBy, at_turn, moved_export, moved_original};
 ghost use Rattle.edf_pace.specs.walk.Pairs.{IsFrame};
-ghost use Rattle.edf_pace.specs.walk.Readings.{ExportIn, ExportMoves, HasGoneOn, OriginalIn, OriginalMoves, going};
+ghost use Rattle.edf_pace.specs.walk.Readings.{HasGoneOn, going};
 ghost use Rattle.edf_pace.specs.walk.Shown.{IsBehind, IsGoing, Reaches, StandsAt};
 ghost use Rattle.edf_stop.specs.declared.parts_stops.PartSide.TheVariants as sides;
 
@@ -69,12 +69,10 @@ pub fn end_both<O: Source, E: Source>(
     requires export { IsGoing export.old.status }
     ensures goes { IfRead result (λ end. HasGoneOn O.Source original.old o.old original.new o.new) }
     ensures head { IfRead result (λ end. export.new.head ≡ export.old.head) }
-    ensures through { IfRead result
-        (AreThrough (going O.Source original.old o.old) (going E.Source export.old e.old) (O.left o.new)
-        (E.left e.new) turn.entry) }
-    ensures fault { IfFaulty result
-        (AreFaulty (going O.Source original.old o.old) (going E.Source export.old e.old)
-        (O.left o.new) turn.entry.part) }
+    ensures through { IfRead result (BothThrough O.Source E.Source original.old o.old o.new export.old e.old
+        e.new turn.entry) }
+    ensures fault { IfFaulty result (BothFaulty O.Source E.Source original.old o.old o.new export.old e.old
+        turn.entry.part) }
     ensures failures { OnOk result ((O.reads o.new ≡ O.reads o.old) × (E.reads e.new ≡ E.reads e.old)) }
     ensures stop { IfErr result (StopsOfTwo O.Source o.old o.new E.Source turn.entry.part e.old e.new) }
 {
@@ -123,12 +121,11 @@ fn pass_both<O: Source, E: Source>(
     requires export { IsGoing (export.old.reader).status }
     requires original_reaches { Reaches original.old.reader (moved_original step.turn) (step.within.to).ps }
     requires export_reaches { Reaches export.old.reader (moved_export step.turn) (step.within.to).ps }
-    ensures original { IfNothing result (OriginalIn O.Source original.old o.old original.new o.new
-        step.entry.turn step.entry.within) }
-    ensures export { IfNothing result (ExportIn E.Source export.old e.old export.new e.new
-        step.entry.turn step.entry.within) }
-    ensures fault { IfFound result (FaultyBy (at_window O.Source E.Source original.old o.old
-        export.old e.old step.entry.turn step.entry.within) (O.left o.new) (step.entry.turn).part) }
+    ensures original { IfNothing result (OriginalSteps O.Source original.old o.old original.new o.new
+        step.entry) }
+    ensures export { IfNothing result (ExportSteps E.Source export.old e.old export.new e.new step.entry) }
+    ensures fault { IfFound result (FaultyIn O.Source E.Source original.old o.old o.new export.old e.old
+        step.entry) }
     ensures failures { OnOk result ((O.reads o.new ≡ O.reads o.old) × (E.reads e.new ≡ E.reads e.old)) }
     ensures stop { IfErr result (StopsOfTwo O.Source o.old o.new E.Source (step.entry.turn).part e.old
         e.new) }
@@ -209,18 +206,18 @@ pub fn walk_on<O: Source, E: Source, W: Watcher>(
     requires fits { W.fits watch.old.watcher watch.old.frame }
     requires wants { W.has_enough watch.old.watcher ≡ false }
     ensures fits { IfRead result (λ r. W.fits watch.new.watcher watch.old.frame) }
-    ensures original { IfRead result (λ r. OriginalMoves O.Source original.old o.old original.new o.new
-        (watch.old.frame).turn r.reached) }
-    ensures export { IfRead result (λ r. ExportMoves E.Source export.old e.old export.new e.new
-        (watch.old.frame).turn r.reached) }
-    ensures over { IfRead result (λ r. W.has_enough watch.new.watcher ≡ false → ((r.seen).ps ≡ (r.reached).ps)
-        × IsOver ((watch.old.frame).turn).is_last original.new.reader export.new.reader) }
+    ensures original { IfRead result (OriginalReadOn O.Source original.old o.old original.new o.new
+        (watch.old.frame).turn) }
+    ensures export { IfRead result (ExportReadOn E.Source export.old e.old export.new e.new
+        (watch.old.frame).turn) }
+    ensures over { IfRead result (HasSeenAll (W.has_enough watch.new.watcher) watch.old.frame original.new
+        export.new) }
     ensures later { IfRead result (λ r. (((watch.old.frame).turn).from).ps ≤ℤ (r.seen).ps) }
     ensures walked { IfRead result (WalkedBy (at_turn O.Source E.Source original.old o.old export.old e.old
         (watch.old.frame).turn) (watch.old.frame).turn (W.holds watch.old.watcher watch.old.frame)
         (W.holds watch.new.watcher watch.old.frame) (W.has_enough watch.new.watcher)) }
-    ensures fault { IfFaulty result (FaultyBy (at_turn O.Source E.Source original.old o.old export.old e.old
-        (watch.old.frame).turn) (O.left o.new) ((watch.old.frame).turn).part) }
+    ensures fault { IfFaulty result (FaultyOn O.Source E.Source original.old o.old o.new export.old e.old
+        (watch.old.frame).turn) }
     ensures failures { OnOk result ((O.reads o.new ≡ O.reads o.old) × (E.reads e.new ≡ E.reads e.old)) }
     ensures stop { IfErr result (StopsOfTwo O.Source o.old o.new E.Source ((watch.old.frame).turn).part e.old
         e.new) }

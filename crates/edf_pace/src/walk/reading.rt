@@ -2,11 +2,10 @@
 
 ghost use Rattle.std.specs.Prelude.{◌≡◌, ◌<◌, ◌≤◌, ◌+◌, ◌^◌, ℤ, ◌≤ℤ◌, ◌<ℤ◌, ◌+ℤ◌, ◌⊎◌, true, false, [], None, Some, IfErr, OnOk, IfSome, IfNone, IsTrue, IfOk, MatchOption, unsigned_abs};
 ghost use Rattle.edf_stream.specs.Faults.{file_fault};
-ghost use Rattle.edf_stream.specs.annotation.NotesReading.{notes_in};
-ghost use Rattle.edf_stream.specs.records.Readers.{HasBegun, IsOpen, is_current, StandsIn};
+ghost use Rattle.edf_stream.specs.records.Readers.{HasBegun, IsOpen, is_current};
 ghost use Rattle.edf_pace.specs.Premises.{HasFault, IfFaulty, IfFound, IfNothing, IfRead};
 ghost use Rattle.edf_pace.specs.PartsStops.{StopsOf};
-ghost use Rattle.edf_pace.specs.walk.Readings.{HasCome, HasFirst, HasFollowed, HasGathered, HasGoneOn, HasMovedAs, going, standing};
+ghost use Rattle.edf_pace.specs.walk.Readings.{HasCome, HasFirst, HasFollowed, HasGathered, HasGoneOn, HasMovedAs, HasOpened, going, notes_at_hand, standing};
 ghost use Rattle.edf_pace.specs.walk.Shown.{IfAtHand, IsAhead, IsBehind, IsEndOf, IsGoing, IsNear, OneMore, Reaches, begins_at, ends_at};
 ghost use Rattle.edf_pace.specs.walk.Ends.{HasFinished};
 
@@ -38,8 +37,7 @@ pub fn open<S: Source>(
 ) -> Result<Result<Reading, Fault>, PartsStop>
     ensures begun { IfRead result (λ r. HasBegun r.reader × (r.notes.items ≡ [])) }
     ensures honesty { IfRead result (λ r. IsTrue (S.is_honest source.old) → IsTrue (S.is_honest source.new)) }
-    ensures stands { IfRead result (λ r. IsTrue (S.is_honest source.old) →
-        StandsIn r.reader (S.left source.new) (S.left source.old)) }
+    ensures stands { IfRead result (HasOpened S.Source source.old source.new) }
     ensures fault { IfFaulty result (λ fault. IsTrue (S.is_honest source.old) →
         file_fault (S.left source.old) ≡ Some fault) }
     ensures failures { OnOk result (S.reads source.new ≡ S.reads source.old) }
@@ -77,7 +75,7 @@ pub fn go_on<S: Source, K: NoteKeeper>(
     ensures fault { IfFound result (HasFault (standing S.Source reader.old source.old)) }
     ensures failures { OnOk result (S.reads source.new ≡ S.reads source.old) }
     ensures kept { IfNothing result (IfAtHand reader.new
-        (K.got keeper.old (notes_in reader.new.head reader.new.current) keeper.new)) }
+        (K.got keeper.old (notes_at_hand reader.new) keeper.new)) }
     ensures none { IfNothing result (is_current reader.new.status ≡ false → keeper.new ≡ keeper.old) }
     ensures stop { IfErr result (StopsOf S.Source file source.old source.new) }
 {

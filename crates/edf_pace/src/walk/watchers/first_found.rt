@@ -5,7 +5,7 @@ ghost use Rattle.edf_claim.specs.Keeps.{keeps_instant};
 ghost use Rattle.edf_claim.specs.KeepsReading.{IsUncut};
 ghost use Rattle.edf_pace.specs.walk.Ends.{IsFoundAmong};
 ghost use Rattle.edf_pace.specs.walk.Pairs.{AreAlikeIn, IsFrame};
-ghost use Rattle.edf_pace.specs.walk.Watching.{HasSeen, first_between};
+ghost use Rattle.edf_pace.specs.walk.Watching.{HasSeenIn, IsFirst};
 ghost use Rattle.edf_pace.specs.walk.Windows.{IsDifferenceBy};
 
 use crate::samples::earliest::Found;
@@ -77,9 +77,8 @@ impl<'a, L: Onlooker> FirstFound<'a, L> {
         requires uncut { IsUncut ((frame.turn).setting.claim).now.keep (within.from).ps (within.to).ps }
         ensures fits { IfSome self.new.found (IsFoundAmong (length (frame.entry.pairs).now)) }
         ensures same { self.new.onlooker ≡ self.old.onlooker }
-        ensures holds { HasSeen (λ files t u. self.old.found ≡ first_between frame.entry files t u)
-            (λ files t u. self.new.found ≡ first_between frame.entry files t u) frame.entry
-            original.now export.now (within.from).ps (within.to).ps }
+        ensures holds { HasSeenIn (IsFirst self.old.found) (IsFirst self.new.found) frame.entry original.now
+            export.now within }
     {
         if self.found.is_none() {
             self.found = difference_in(original, export, frame, within);

@@ -4,7 +4,7 @@ ghost use Rattle.std.specs.Prelude.{◌≡◌, ℤ, Bool, false};
 ghost use Rattle.edf_claim.specs.KeepsReading.{IsUncut};
 ghost use Rattle.edf_pace.specs.declared.walk.frame.Frame.{Frame};
 ghost use Rattle.edf_pace.specs.walk.Pairs.{IsFrame};
-ghost use Rattle.edf_pace.specs.walk.Watching.{HasSeen, TwoFiles};
+ghost use Rattle.edf_pace.specs.walk.Watching.{HasSeenIn, TwoFiles};
 
 use crate::times::Window;
 use crate::walk::frame::Frame;
@@ -35,8 +35,8 @@ pub trait Watcher {
         requires frame { IsFrame original.now.head export.now.head frame }
         requires uncut { IsUncut ((frame.turn).setting.claim).now.keep (within.from).ps (within.to).ps }
         ensures fits { fits self.new frame.entry }
-        ensures holds { HasSeen (holds self.old frame.entry) (holds self.new frame.entry) frame.entry
-            original.now export.now (within.from).ps (within.to).ps };
+        ensures holds { HasSeenIn (holds self.old) (holds self.new) frame.entry original.now export.now
+            within };
 }
 
 /// A watcher, and the channels that it looks at.

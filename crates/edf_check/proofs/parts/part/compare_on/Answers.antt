@@ -37,8 +37,8 @@ walk_on-requires-clause-frame g c =
     let same : c.deref.result.now ≡ c.deref-2.result.now = c.deref.ensures.value ∙ sym c.deref-2.ensures.value in
     let h = (c.args.original.now.reader).head in
     let k = (c.args.export.now.reader).head in (
-      paired h c.header.result.now k c.header-2.result.now c.in_ok-pairs.pairs.items c.deref-2.result.now c.header.ensures c.header-2.ensures c.deref-2.ensures.value c.in_ok-pairs.ensures.pairs,
-      subst (λ x. of x k c.deref-2.result.now) c.header-3.ensures (subst (λ y. of c.header-3.result.now y c.deref-2.result.now) c.header-4.ensures (subst (of c.header-3.result.now c.header-4.result.now) same c.common_room-room.ensures)),
+      paired h c.header-here.result.now k c.header-there.result.now c.in_ok-pairs.pairs.items c.deref-2.result.now c.header-here.ensures c.header-there.ensures c.deref-2.ensures.value c.in_ok-pairs.ensures.pairs,
+      subst (λ x. of x k c.deref-2.result.now) c.header-here.ensures (subst (λ y. of c.header-here.result.now y c.deref-2.result.now) c.header-there.ensures (subst (of c.header-here.result.now c.header-there.result.now) same c.common_room-room.ensures)),
     )
 
 pub returns-then-not-is_over-clause-passes : goal.returns-then-not-is_over-clause-passes
@@ -74,8 +74,8 @@ returns-then-not-is_over-clause-matched g c = λ compared early ho he a b ao ae.
     let ended = has_ended c.args.export.now.reader c.walk_on.new.export.reader _ _ b None (moved_export turn) read.reached.ps moved.head moved.going (over.1).0 (moved.comes he b ae) in
     let ns = map note_value (c.walk_on.new.original.notes).items in
     let ms = map note_value (c.walk_on.new.export.notes).items in
-    let same = placed h c.header.result.now k c.header-2.result.now c.in_ok-pairs.pairs.items c.deref-2.result.now turn.setting.labels.now c.header.ensures c.header-2.ensures c.deref-2.ensures.value c.in_ok-pairs.ensures.places in
-    let places = are_places h k c.deref-2.result.now (paired h c.header.result.now k c.header-2.result.now c.in_ok-pairs.pairs.items c.deref-2.result.now c.header.ensures c.header-2.ensures c.deref-2.ensures.value c.in_ok-pairs.ensures.pairs) in
+    let same = placed h c.header-here.result.now k c.header-there.result.now c.in_ok-pairs.pairs.items c.deref-2.result.now turn.setting.labels.now c.header-here.ensures c.header-there.ensures c.deref-2.ensures.value c.in_ok-pairs.ensures.places in
+    let places = are_places h k c.deref-2.result.now (paired h c.header-here.result.now k c.header-there.result.now c.in_ok-pairs.pairs.items c.deref-2.result.now c.header-here.ensures c.header-there.ensures c.deref-2.ensures.value c.in_ok-pairs.ensures.pairs) in
     let by : (f : Option Found) → found ≡ f → IsMatched turn a h ns b k ms found = λ f.
     elim f as (λ f. found ≡ f → IsMatched turn a h ns b k ms found) [
       | None ↦ λ none. matched_on (framed c.args.shown.turn c.deref-2.result c.common_room-room.result) a h ns b k ms read found same places later walked more.1 none over.0 ended
@@ -87,12 +87,12 @@ returns-then-not-is_over-clause-matched g c = λ compared early ho he a b ao ae.
 pub returns-then-not-is_over-clause-modest : goal.returns-then-not-is_over-clause-modest
 returns-then-not-is_over-clause-modest g c =
     let modest = rw c.in-Ok-Ok.field-0-is at c.in-Ok-Ok.ensures.fits in
-    among c.header.result.now c.header-2.result.now c.deref-2.result.now c.in_ok-pairs.pairs.items c.args.shown.turn.setting.labels.now c.walk_on.new.watch.watcher.found c.deref-2.ensures.value c.in_ok-pairs.ensures.places modest
+    among c.header-here.result.now c.header-there.result.now c.deref-2.result.now c.in_ok-pairs.pairs.items c.args.shown.turn.setting.labels.now c.walk_on.new.watch.watcher.found c.deref-2.ensures.value c.in_ok-pairs.ensures.places modest
 
 pub returns-in-Ok-Ok-end_both-clause-modest : goal.returns-in-Ok-Ok-end_both-clause-modest
 returns-in-Ok-Ok-end_both-clause-modest g c =
     let modest = rw c.in-Ok-Ok.field-0-is at c.in-Ok-Ok.ensures.fits in
-    among c.header.result.now c.header-2.result.now c.deref-2.result.now c.in_ok-pairs.pairs.items c.args.shown.turn.setting.labels.now c.walk_on.new.watch.watcher.found c.deref-2.ensures.value c.in_ok-pairs.ensures.places modest
+    among c.header-here.result.now c.header-there.result.now c.deref-2.result.now c.in_ok-pairs.pairs.items c.args.shown.turn.setting.labels.now c.walk_on.new.watch.watcher.found c.deref-2.ensures.value c.in_ok-pairs.ensures.places modest
 
 pub returns-in-Ok-Ok-end_both-clause-passes : goal.returns-in-Ok-Ok-end_both-clause-passes
 returns-in-Ok-Ok-end_both-clause-passes g c = λ last.
@@ -126,8 +126,8 @@ returns-in-Ok-Ok-end_both-clause-matched g c = λ compared early ho he a b ao ae
     let e = rw c.in-Ok-Ok.field-0-is at c.in-Ok-Ok.ensures.export in
     let over = rw c.in-Ok-Ok.field-0-is at c.in-Ok-Ok.ensures.over in
     let both = (rw c.in-Ok-Ok-end_both.field-0-is at c.in-Ok-Ok-end_both.ensures.through) (o.honesty ho) (e.honesty he) a b (o.comes ho a ao).there (e.comes he b ae).there in
-    let same = placed h c.header.result.now k c.header-2.result.now c.in_ok-pairs.pairs.items c.deref-2.result.now turn.setting.labels.now c.header.ensures c.header-2.ensures c.deref-2.ensures.value c.in_ok-pairs.ensures.places in
-    let places = are_places h k c.deref-2.result.now (paired h c.header.result.now k c.header-2.result.now c.in_ok-pairs.pairs.items c.deref-2.result.now c.header.ensures c.header-2.ensures c.deref-2.ensures.value c.in_ok-pairs.ensures.pairs) in
+    let same = placed h c.header-here.result.now k c.header-there.result.now c.in_ok-pairs.pairs.items c.deref-2.result.now turn.setting.labels.now c.header-here.ensures c.header-there.ensures c.deref-2.ensures.value c.in_ok-pairs.ensures.places in
+    let places = are_places h k c.deref-2.result.now (paired h c.header-here.result.now k c.header-there.result.now c.in_ok-pairs.pairs.items c.deref-2.result.now c.header-here.ensures c.header-there.ensures c.deref-2.ensures.value c.in_ok-pairs.ensures.pairs) in
     let through : IsReadThrough b k (g.E.Source.left c.end_both.new.e) = subst (λ x. IsReadThrough b x (g.E.Source.left c.end_both.new.e)) e.head both.1 in
     let by : (f : Option Found) → found ≡ f → IsMatched turn a h ns b k ms found = λ f.
     elim f as (λ f. found ≡ f → IsMatched turn a h ns b k ms found) [

@@ -31,7 +31,8 @@ returns-in-None-clause-read g t c = λ ho a bo he.
     let none = none-of c.args.others.now c.in-None.ensures.cases in
     let L : List _ → Type 0 = λ all. c.are_none.result ≡ is_last (map g.E.Source.left all) in
     let last : c.are_none.result ≡ true = subst L none c.are_none.ensures.value in
-    let rest = read_none turn c.are_none.result read a h left notes e left' c.take.new.self last part in
+    let N : PartsFound → Type 0 = λ f. AreRead (next_turn turn c.are_none.result read (turn.is_compared && is_same read)) a h left notes [] [] c.take.new.self c.take.new.self f in
+    let rest : N c.nothing.result = subst N (sym c.nothing.ensures) (read_none turn c.are_none.result read a h left notes e left' c.take.new.self last part) in
     let F : List _ → Type 0 = λ all. AreRead turn a h left notes (e ∷ map g.E.Source.left all) (left' ∷ map g.E.Source.left all) c.args.so_far.now.exported c.take.new.self c.found_with.result in
     let Q : PartsFound → Type 0 = λ f. AreRead turn a h left notes (e ∷ []) (left' ∷ []) c.args.so_far.now.exported c.take.new.self f in
     subst F (sym none)
