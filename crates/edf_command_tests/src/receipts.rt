@@ -2,7 +2,7 @@
 
 use edf_claim::ClaimStop;
 use edf_fields::{FaultySource, Sink, SliceSink, SliceSource};
-use edf_receipt::{DigestSource, receipt_parts_to, receipt_to};
+use edf_receipt::{DigestSource, Printed, receipt_parts_to, receipt_to};
 use edf_stop::{PartSide, PartsRunStop, RunStop, Side};
 use edf_vectors::Line;
 use edf_verdict::Outcome;
@@ -43,10 +43,12 @@ fn receipt<K: Sink>(
     let mut export = DigestSource::new(second);
     receipt_to(
         alloc,
-        "1.2",
         &mut original,
         &mut export,
-        claim.as_bytes(),
+        Printed {
+            version: "1.2",
+            claim_text: claim.as_bytes(),
+        },
         sink,
     )
 }
@@ -64,10 +66,12 @@ fn parts_receipt<K: Sink>(
     let mut original = DigestSource::new(first);
     receipt_parts_to(
         alloc,
-        "1.2",
         &mut original,
         &mut parts,
-        CLAIM.as_bytes(),
+        Printed {
+            version: "1.2",
+            claim_text: CLAIM.as_bytes(),
+        },
         sink,
     )
 }

@@ -6,6 +6,7 @@ ghost use Rattle.edf_explain.specs.Explained.{IsExplained};
 use crate::explain::{Fronts, explain_to, looker_for};
 use crate::front_source::FrontSource;
 use crate::lent::Lent;
+use crate::question::Question;
 use crate::tried::answers::{Asked, OneExport};
 use edf_check::judge_beside;
 use edf_fields::{Sink, Source, put_all};
@@ -23,16 +24,16 @@ pub fn run_explained<O: Source, E: Source, K: Sink, R: Recordings>(
     alloc: Global,
     original: &mut O,
     export: &mut E,
-    again: &R,
-    claim_text: &[u8],
+    question: Question<'_, R>,
     sink: &mut K,
 ) -> Result<Outcome, RunStop>
     ensures report { IfOk result (λ outcome. IsTrue (O.is_honest original.old) →
         IsTrue (E.is_honest export.old) → IsTrue (K.is_honest sink.old) →
-        IsExplained (O.left original.old) (E.left export.old) claim_text.now (K.held sink.old)
+        IsExplained (O.left original.old) (E.left export.old) question.entry.claim_text.now (K.held sink.old)
         (K.held sink.new) outcome) }
     ensures honesty { IsTrue (K.is_honest sink.old) → IsTrue (K.is_honest sink.new) }
 {
+    let Question { claim_text, again } = question;
     let mut first = FrontSource::new(alloc, Lent::new(original));
     let mut second = FrontSource::new(alloc, Lent::new(export));
     let mut looker = looker_for(alloc, claim_text)?;

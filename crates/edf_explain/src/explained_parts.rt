@@ -7,6 +7,7 @@ ghost use Rattle.edf_explain.specs.Explained.{ArePartsExplained};
 use crate::explain::looker_for;
 use crate::front_source::FrontSource;
 use crate::parts::{PartsAsked, explain_parts_to, fault_in};
+use crate::question::Question;
 use crate::tried::answers::{Asked, SeveralExports};
 use edf_check::judge_parts_beside;
 use edf_fields::{Sink, Source, put_all};
@@ -14,13 +15,6 @@ use edf_stop::PartsRunStop;
 use edf_trial::PartsRecordings;
 use edf_verdict::{Outcome, Verdict};
 use std::alloc::{AllocError, Global};
-
-/// What is asked of several exports: the text of a claim, and the recordings, which are opened anew for what is tried.
-#[derive(Clone, Copy)]
-pub struct PartsQuestion<'a, R> {
-    pub claim_text: &'a [u8],
-    pub again: &'a R,
-}
 
 /// What stands in front of each export, where a file has a fault; else nothing.
 ///
@@ -51,7 +45,7 @@ pub fn run_explained_parts<O: Source + Drop, E: Source + Drop, K: Sink, R: Parts
     alloc: Global,
     original: &mut FrontSource<O>,
     parts: &mut [FrontSource<E>],
-    question: PartsQuestion<'_, R>,
+    question: Question<'_, R>,
     sink: &mut K,
 ) -> Result<Outcome, PartsRunStop>
     requires some { 0 < length parts.old }
@@ -65,7 +59,7 @@ pub fn run_explained_parts<O: Source + Drop, E: Source + Drop, K: Sink, R: Parts
     ensures honesty { IsTrue (K.is_honest sink.old) → IsTrue (K.is_honest sink.new) }
 {
     let count = parts.len() as u16;
-    let PartsQuestion { claim_text, again } = question;
+    let Question { claim_text, again } = question;
     let mut looker = looker_for(alloc, claim_text)?;
     let verdict = judge_parts_beside(alloc, original, parts, claim_text, &mut looker)?;
     let line = verdict.line(alloc, count)?;

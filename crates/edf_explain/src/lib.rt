@@ -12,10 +12,12 @@ mod lent;
 mod limits;
 mod opening;
 mod parts;
+mod question;
 mod tried;
 mod words;
 
 pub use explained::run_explained;
-pub use explained_parts::{PartsQuestion, run_explained_parts};
+pub use explained_parts::run_explained_parts;
 pub use front_source::FrontSource;
 pub use opening::{explain_opening, explain_reading};
+pub use question::Question;

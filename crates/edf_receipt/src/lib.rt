@@ -7,9 +7,11 @@ mod file_line;
 mod files;
 pub mod laws;
 mod parts_receipt;
+mod printed;
 mod receipt;
 mod text;
 
 pub use digest_source::{DigestSource, Digested, digest_of};
 pub use parts_receipt::receipt_parts_to;
+pub use printed::Printed;
 pub use receipt::receipt_to;

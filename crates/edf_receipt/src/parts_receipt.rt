@@ -10,6 +10,7 @@ ghost use Rattle.edf_stop.specs.declared.parts_stops.PartsRunStop.TheVariants as
 
 use crate::digest_source::DigestSource;
 use crate::files::files_of_parts;
+use crate::printed::Printed;
 use crate::text::receipt_text;
 use edf_check::judge_parts;
 use edf_fields::{Sink, Source, put_all};
@@ -25,10 +26,9 @@ use std::alloc::Global;
 /// a front of the receipt was written.
 pub fn receipt_parts_to<O: Source + Drop, E: Source + Drop, K: Sink>(
     alloc: Global,
-    version: &str,
     original: &mut DigestSource<O>,
     parts: &mut [DigestSource<E>],
-    claim_text: &[u8],
+    printed: Printed<'_>,
     sink: &mut K,
 ) -> Result<Outcome, PartsRunStop>
     requires some { 0 < length parts.old }
@@ -40,8 +40,8 @@ pub fn receipt_parts_to<O: Source + Drop, E: Source + Drop, K: Sink>(
         AreFresh (map ⟦<DigestSource<E> as Source>⟧.reads parts.old)
         (map ⟦<DigestSource<E> as Source>⟧.is_honest parts.old)
         (map ⟦<DigestSource<E> as Source>⟧.left parts.old) → IsTrue (K.is_honest sink.old) →
-        IsPartsReceipt version.now (⟦<DigestSource<O> as Source>⟧.left original.old)
-        (map ⟦<DigestSource<E> as Source>⟧.left parts.old) claim_text.now (K.held sink.old)
+        IsPartsReceipt printed.entry.version.now (⟦<DigestSource<O> as Source>⟧.left original.old)
+        (map ⟦<DigestSource<E> as Source>⟧.left parts.old) printed.entry.claim_text.now (K.held sink.old)
         (K.held sink.new) outcome) }
     ensures reads { OnOk result
         ((⟦<DigestSource<O> as Source>⟧.reads original.new ≡
@@ -58,13 +58,13 @@ pub fn receipt_parts_to<O: Source + Drop, E: Source + Drop, K: Sink>(
         AreFresh (map ⟦<DigestSource<E> as Source>⟧.reads parts.old)
         (map ⟦<DigestSource<E> as Source>⟧.is_honest parts.old)
         (map ⟦<DigestSource<E> as Source>⟧.left parts.old) → IsTrue (K.is_honest sink.old) →
-        IsPartOfPartsReceipt version.now (⟦<DigestSource<O> as Source>⟧.left original.old)
-        (map ⟦<DigestSource<E> as Source>⟧.left parts.old) claim_text.now (K.held sink.old)
+        IsPartOfPartsReceipt printed.entry.version.now (⟦<DigestSource<O> as Source>⟧.left original.old)
+        (map ⟦<DigestSource<E> as Source>⟧.left parts.old) printed.entry.claim_text.now (K.held sink.old)
         (K.held sink.new)) }
     ensures front { IfErr result (λ stop. stop ≡ stops.WriteFailed → IsTrue (K.is_honest sink.old) →
-        IsFrontOfAPartsReceipt version.now (length parts.old) (K.held sink.old) (K.held sink.new)) }
+        IsFrontOfAPartsReceipt printed.entry.version.now (length parts.old) (K.held sink.old) (K.held sink.new)) }
     ensures stop { IfErr result (PartsRunStops (λ cause. (cause ≢ claim_stops.OutOfMemory) ×
-        FirstClaimFault claim_text.now cause) (Fails (⟦<DigestSource<O> as Source>⟧.reads original.old)
+        FirstClaimFault printed.entry.claim_text.now cause) (Fails (⟦<DigestSource<O> as Source>⟧.reads original.old)
         (⟦<DigestSource<O> as Source>⟧.reads original.new))
         (Rises (K.failures sink.old) (K.failures sink.new))
         ((⟦<DigestSource<O> as Source>⟧.reads original.new ≡
@@ -74,6 +74,10 @@ pub fn receipt_parts_to<O: Source + Drop, E: Source + Drop, K: Sink>(
         (map ⟦<DigestSource<E> as Source>⟧.reads parts.old)
         (map ⟦<DigestSource<E> as Source>⟧.reads parts.new)) }
 {
+    let Printed {
+        version,
+        claim_text,
+    } = printed;
     let count = parts.len() as u16;
     let verdict = judge_parts(alloc, original, parts, claim_text)?;
     let files = files_of_parts(alloc, original, parts, claim_text)?;

@@ -10,6 +10,7 @@ ghost use Rattle.edf_stop.specs.declared.stops.RunStop.TheVariants as stops;
 
 use crate::digest_source::DigestSource;
 use crate::files::files_of;
+use crate::printed::Printed;
 use crate::text::receipt_text;
 use edf_check::judge;
 use edf_fields::{Sink, Source, put_all};
@@ -25,10 +26,9 @@ use std::alloc::Global;
 /// a front of the receipt was written.
 pub fn receipt_to<O: Source + Drop, E: Source + Drop, K: Sink>(
     alloc: Global,
-    version: &str,
     original: &mut DigestSource<O>,
     export: &mut DigestSource<E>,
-    claim_text: &[u8],
+    printed: Printed<'_>,
     sink: &mut K,
 ) -> Result<Outcome, RunStop>
     ensures receipt { IfOk result (λ outcome.
@@ -38,8 +38,8 @@ pub fn receipt_to<O: Source + Drop, E: Source + Drop, K: Sink>(
         IsFresh (⟦<DigestSource<E> as Source>⟧.reads export.old)
         (⟦<DigestSource<E> as Source>⟧.is_honest export.old) (⟦<DigestSource<E> as Source>⟧.left export.old) →
         IsTrue (K.is_honest sink.old) →
-        IsReceipt version.now (⟦<DigestSource<O> as Source>⟧.left original.old)
-        (⟦<DigestSource<E> as Source>⟧.left export.old) claim_text.now (K.held sink.old)
+        IsReceipt printed.entry.version.now (⟦<DigestSource<O> as Source>⟧.left original.old)
+        (⟦<DigestSource<E> as Source>⟧.left export.old) printed.entry.claim_text.now (K.held sink.old)
         (K.held sink.new) outcome) }
     ensures reads { OnOk result
         ((⟦<DigestSource<O> as Source>⟧.reads original.new ≡
@@ -55,12 +55,12 @@ pub fn receipt_to<O: Source + Drop, E: Source + Drop, K: Sink>(
         IsFresh (⟦<DigestSource<E> as Source>⟧.reads export.old)
         (⟦<DigestSource<E> as Source>⟧.is_honest export.old) (⟦<DigestSource<E> as Source>⟧.left export.old) →
         IsTrue (K.is_honest sink.old) →
-        IsPartOfReceipt version.now (⟦<DigestSource<O> as Source>⟧.left original.old)
-        (⟦<DigestSource<E> as Source>⟧.left export.old) claim_text.now (K.held sink.old) (K.held sink.new)) }
+        IsPartOfReceipt printed.entry.version.now (⟦<DigestSource<O> as Source>⟧.left original.old)
+        (⟦<DigestSource<E> as Source>⟧.left export.old) printed.entry.claim_text.now (K.held sink.old) (K.held sink.new)) }
     ensures front { IfErr result (λ stop. stop ≡ stops.WriteFailed → IsTrue (K.is_honest sink.old) →
-        IsFrontOfAReceipt version.now (K.held sink.old) (K.held sink.new)) }
+        IsFrontOfAReceipt printed.entry.version.now (K.held sink.old) (K.held sink.new)) }
     ensures stop { IfErr result (RunStops (λ cause. (cause ≢ claim_stops.OutOfMemory) ×
-        FirstClaimFault claim_text.now cause) (Fails (⟦<DigestSource<O> as Source>⟧.reads original.old)
+        FirstClaimFault printed.entry.claim_text.now cause) (Fails (⟦<DigestSource<O> as Source>⟧.reads original.old)
         (⟦<DigestSource<O> as Source>⟧.reads original.new))
         (Fails (⟦<DigestSource<E> as Source>⟧.reads export.old)
         (⟦<DigestSource<E> as Source>⟧.reads export.new)) (Rises (K.failures sink.old) (K.failures sink.new))
@@ -68,6 +68,10 @@ pub fn receipt_to<O: Source + Drop, E: Source + Drop, K: Sink>(
         ⟦<DigestSource<O> as Source>⟧.reads original.old) ×
         (⟦<DigestSource<E> as Source>⟧.reads export.new ≡ ⟦<DigestSource<E> as Source>⟧.reads export.old))) }
 {
+    let Printed {
+        version,
+        claim_text,
+    } = printed;
     let verdict = judge(alloc, original, export, claim_text)?;
     let files = files_of(alloc, original, export, claim_text)?;
     let text = receipt_text(alloc, version, &files, &verdict.line(alloc)?)?;

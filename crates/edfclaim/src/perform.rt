@@ -14,10 +14,10 @@ use edf_check::{run, run_parts};
 use edf_claim_text::claim_to;
 use edf_command_line::{Job, VERSION};
 use edf_draft::{draft_parts_to, draft_to};
-use edf_explain::{FrontSource, PartsQuestion, run_explained, run_explained_parts};
+use edf_explain::{FrontSource, Question, run_explained, run_explained_parts};
 use edf_fields::{Sink, WriteSink};
 use edf_read::read_to;
-use edf_receipt::{DigestSource, receipt_parts_to, receipt_to};
+use edf_receipt::{DigestSource, Printed, receipt_parts_to, receipt_to};
 use edf_refusal::{Refusal, Role};
 use edf_report::{conform_to, notes_to, show_to};
 use edf_vectors::vectors_to;
@@ -85,14 +85,11 @@ fn receipt<'a, R: Files + Eprint + Clock + AllocGlobal, K: Sink>(
     let text = claim_text(signs.rt(), claim)?;
     let mut first = DigestSource::new(watched(signs, original, Role::Original)?);
     let mut second = DigestSource::new(watched(signs, export, Role::Export)?);
-    Ok(receipt_to(
-        signs.rt().alloc(),
-        VERSION,
-        &mut first,
-        &mut second,
-        &text,
-        sink,
-    )?)
+    let printed = Printed {
+        version: VERSION,
+        claim_text: &text,
+    };
+    Ok(receipt_to(signs.rt().alloc(), &mut first, &mut second, printed, sink)?)
 }
 
 /// The same as `check_parts`, with a receipt for its answer.
@@ -113,14 +110,11 @@ fn receipt_parts<'a, R: Files + Eprint + Clock + AllocGlobal, K: Sink>(
     let text = claim_text(signs.rt(), claim)?;
     let mut first = DigestSource::new(watched(signs, original, Role::Original)?);
     let mut parts = digested_recordings(signs, exports, Role::Export)?;
-    Ok(receipt_parts_to(
-        signs.rt().alloc(),
-        VERSION,
-        &mut first,
-        &mut parts,
-        &text,
-        sink,
-    )?)
+    let printed = Printed {
+        version: VERSION,
+        claim_text: &text,
+    };
+    Ok(receipt_parts_to(signs.rt().alloc(), &mut first, &mut parts, printed, sink)?)
 }
 
 /// Drafts the claim by which a recording is the export of another.
@@ -178,14 +172,11 @@ fn explain<'a, R: Files + Eprint + Clock + AllocGlobal, K: Sink>(
     let mut first = watched(signs, original, Role::Original)?;
     let mut second = watched(signs, export, Role::Export)?;
     let again = FilesAgain::new(signs, original, export);
-    Ok(run_explained(
-        signs.rt().alloc(),
-        &mut first,
-        &mut second,
-        &again,
-        &text,
-        sink,
-    )?)
+    let question = Question {
+        claim_text: &text,
+        again: &again,
+    };
+    Ok(run_explained(signs.rt().alloc(), &mut first, &mut second, question, sink)?)
 }
 
 /// The same as `check_parts`, with sentences behind its line.
@@ -208,7 +199,7 @@ fn explain_parts<'a, R: Files + Eprint + Clock + AllocGlobal, K: Sink>(
     let mut first = FrontSource::new(alloc, watched(signs, original, Role::Original)?);
     let mut parts = fronted_recordings(signs, exports, Role::Export)?;
     let again = PartsAgain::new(signs, original, exports);
-    let question = PartsQuestion {
+    let question = Question {
         claim_text: &text,
         again: &again,
     };

@@ -51,7 +51,7 @@ returns-in_err-put_all-clause-part g c =
     let p = err_from_is_err_and c.from_residual-in_err-put_all.result c.from_residual-in_err-put_all.ensures.1 in
     let reads = c.in_ok-verdict.ensures.failures in
     rw (p.1, p.2) (λ same o es sink.
-    part_of c.args.version.now _ _ c.args.claim_text.now (g.K.Sink.held c.args.sink.now) (g.K.Sink.held c.put_all.new.sink) c.deref-3.result.now c.deref-2.result.now
+    part_of c.args.printed.version.now _ _ c.args.printed.claim_text.now (g.K.Sink.held c.args.sink.now) (g.K.Sink.held c.put_all.new.sink) c.deref-3.result.now c.deref-2.result.now
     (length c.args.parts.now) c.deref.result.now c.in_ok-verdict.verdict
     (c.in_ok-verdict.ensures.under o.honest_is es.honest_are)
     (c.deref.ensures.value ∙ c.in_ok-files.ensures.files _ _ (reads.0 ∙ o.digested.0, o.digested.1) (still _ _ _ reads.1 es.digested))
@@ -66,13 +66,13 @@ returns-in_err-put_all-clause-front g c =
       verdict = (c.deref.result.now, c.in_ok-verdict.verdict);
       under = tt;
       part = subst (HoldsPrefix (g.K.Sink.held c.args.sink.now) (g.K.Sink.held c.put_all.new.sink))
-          (c.deref-3.ensures.value ∙ c.in_ok-text.ensures ∙ (λ i. receipt c.args.version.now c.deref.result.now (line i))) (c.in_err-put_all.ensures.prefix sink);
+          (c.deref-3.ensures.value ∙ c.in_ok-text.ensures ∙ (λ i. receipt c.args.printed.version.now c.deref.result.now (line i))) (c.in_err-put_all.ensures.prefix sink);
     })
 
 pub returns-clause-receipt : goal.returns-clause-receipt
 returns-clause-receipt g c = λ o es sink.
     let reads = c.in_ok-verdict.ensures.failures in
-    whole_of c.args.version.now _ _ c.args.claim_text.now (g.K.Sink.held c.args.sink.now) (g.K.Sink.held c.put_all.new.sink) c.deref-3.result.now c.deref-2.result.now
+    whole_of c.args.printed.version.now _ _ c.args.printed.claim_text.now (g.K.Sink.held c.args.sink.now) (g.K.Sink.held c.put_all.new.sink) c.deref-3.result.now c.deref-2.result.now
     (length c.args.parts.now) c.deref.result.now c.in_ok-verdict.verdict
     (c.in_ok-verdict.ensures.under o.honest_is es.honest_are)
     (c.deref.ensures.value ∙ c.in_ok-files.ensures.files _ _ (reads.0 ∙ o.digested.0, o.digested.1) (still _ _ _ reads.1 es.digested))

@@ -15,7 +15,7 @@ returns-in_err-put_all-clause-part g c =
       verdict = c.in_ok-verdict.verdict;
       under = c.in_ok-verdict.ensures.under o.honest_is e.honest_is;
       part = subst (HoldsPrefix (g.K.Sink.held c.args.sink.now) (g.K.Sink.held c.put_all.new.sink))
-          (c.deref-2.ensures.value ∙ c.in_ok-text.ensures ∙ (λ i. receipt c.args.version.now (files i) (line i))) (c.in_err-put_all.ensures.prefix sink);
+          (c.deref-2.ensures.value ∙ c.in_ok-text.ensures ∙ (λ i. receipt c.args.printed.version.now (files i) (line i))) (c.in_err-put_all.ensures.prefix sink);
     })
 
 pub returns-in_err-put_all-clause-front : goal.returns-in_err-put_all-clause-front
@@ -26,5 +26,5 @@ returns-in_err-put_all-clause-front g c =
       verdict = (c.in_ok-files.files, c.in_ok-verdict.verdict);
       under = tt;
       part = subst (HoldsPrefix (g.K.Sink.held c.args.sink.now) (g.K.Sink.held c.put_all.new.sink))
-          (c.deref-2.ensures.value ∙ c.in_ok-text.ensures ∙ (λ i. receipt c.args.version.now c.in_ok-files.files (line i))) (c.in_err-put_all.ensures.prefix sink);
+          (c.deref-2.ensures.value ∙ c.in_ok-text.ensures ∙ (λ i. receipt c.args.printed.version.now c.in_ok-files.files (line i))) (c.in_err-put_all.ensures.prefix sink);
     })
