@@ -1,7 +1,7 @@
 //! An original and several exports that can be opened as often as they are needed.
 
-ghost use Rattle.std.specs.Prelude.{◌≡◌, ◌<◌, ◌≤◌, ℕ, List, Bool, length, map, IfOk, IsTrue};
-ghost use Rattle.std.specs.List.{AllByRecursion};
+ghost use Rattle.std.specs.Prelude.{◌≡◌, ◌<◌, ◌≤◌, ℕ, List, Bool, length, IfOk, IsTrue};
+ghost use Rattle.edf_trial.specs.Parts.{AreHonestIf, AreLeftIf};
 
 use edf_fields::Source;
 use edf_stop::PartsStop;
@@ -39,8 +39,8 @@ pub trait PartsRecordings {
     fn open_exports(&self, alloc: Global) -> Result<Vec<Self::Export>, PartsStop>
         ensures some { IfOk result (λ sources. 0 < length sources.items) }
         ensures few { IfOk result (λ sources. length sources.items ≤ 64) }
-        ensures honest { IfOk result (λ sources. IsTrue (are_honest self.now) →
-            AllByRecursion IsTrue (map Self.Export.Source.is_honest sources.items)) }
-        ensures bytes { IfOk result (λ sources. IsTrue (are_honest self.now) →
-            map Self.Export.Source.left sources.items ≡ exports self.now) };
+        ensures honest { IfOk result (λ sources.
+            AreHonestIf (are_honest self.now) Self.Export.Source sources.items) }
+        ensures bytes { IfOk result (λ sources.
+            AreLeftIf (are_honest self.now) Self.Export.Source sources.items (exports self.now)) };
 }
