@@ -94,7 +94,7 @@ impl FoundSample {
             export_ps: hands.export.from_ps,
             original_record: hands.original.number,
             export_record: hands.export.number,
-            place: place as u32,
+            place: u32::try_from(place).unwrap_or(u32::MAX),
             mismatch,
         }
     }
