@@ -16,9 +16,9 @@ use Rattle.edf_draft.specs.Days.{IsShift}
 use Rattle.edf_draft.specs.Drafts.{IsDraftFor, IsDraftText, IsMoved, IsShiftOf}
 use Rattle.edf_draft.specs.Exported.{heads_of}
 use Rattle.edf_draft.specs.FirstLines.{Anew, IsTrueOfYes}
-use Rattle.edf_draft.specs.Times.{begin_of, end_of}
+use Rattle.edf_recording.specs.Times.{begin_of, end_of}
 use Rattle.edf_draft.specs.declared.exported.Exported.{Exported}
-use Rattle.edf_draft.specs.declared.recorded.Recorded.{Recorded}
+use Rattle.edf_recording.specs.declared.recorded.Recorded.{Recorded}
 use Rattle.edf_draft.proofs.ChoiceFacts.{moved_weaker}
 
 -- a file that was read to its end has no fault

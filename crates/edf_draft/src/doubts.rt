@@ -4,11 +4,11 @@ use crate::days::DAY_PS;
 use crate::exported::Exported;
 use crate::hidden::hidden_subfields;
 use crate::kept::back::{Back, moved_stretches, times_beside};
-use crate::recorded::{Recorded, Times};
 use crate::shift::{Moved, shift_of};
 use edf_fields::Which;
 use edf_header::Header;
 use edf_heads::ChannelIndex;
+use edf_recording::{Recorded, Times};
 use edf_verdict::push_quoted;
 use std::alloc::{AllocError, Global};
 

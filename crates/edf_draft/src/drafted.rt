@@ -14,12 +14,12 @@ use crate::kept::back::Back;
 use crate::kept::keep::kept_intervals;
 use crate::kept::lacking::{Lacking, lacking_texts};
 use crate::kept::sampling::Sampling;
-use crate::recorded::Recorded;
 use crate::shift::Moved;
 use crate::trial::Trial;
 use crate::tried::Tried;
 use edf_claim::{Comments, Draft};
 use edf_fields::Which;
+use edf_recording::Recorded;
 use std::alloc::{AllocError, Global};
 
 /// A draft, and how often each text stands that it removes, and that it blanks.
@@ -39,16 +39,9 @@ struct Told {
     shown: Vec<Which>,
 }
 
-impl Recorded {
-    /// The second at which the file starts, 0 for 1970-01-01 00:00:00.
-    pub(crate) fn start_second(&self) -> i64 {
-        self.reader.header().start_second()
-    }
-
-    /// The second of the day at which the file starts.
-    fn start_of_day(&self) -> u32 {
-        u32::try_from(self.start_second().rem_euclid(86_400)).unwrap_or(0)
-    }
+/// The second of the day at which a file starts.
+fn start_of_day(recorded: &Recorded) -> u32 {
+    u32::try_from(recorded.start_second().rem_euclid(86_400)).unwrap_or(0)
 }
 
 /// The draft of a claim by which one recording is the export of another, which was moved by so many seconds.
@@ -163,7 +156,7 @@ pub(crate) fn draft_tried<T: Trial>(
 {
     let drafted = draft_of(alloc, original, export, moved.seconds)?;
     let told = told_of(alloc, original, export, moved, &drafted.draft.channels)?;
-    let start = Some(original.start_of_day());
+    let start = Some(start_of_day(original));
     match drafted.tried(alloc, start, &told, trial)? {
         Some(tried) => Ok(Some(tried)),
         None => drafted.tried(alloc, None, &told, trial),

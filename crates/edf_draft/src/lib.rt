@@ -15,7 +15,6 @@ mod kept;
 mod obstacles;
 mod parts;
 mod parts_answer;
-mod recorded;
 mod shift;
 mod trial;
 mod tried;

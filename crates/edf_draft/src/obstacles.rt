@@ -1,8 +1,8 @@
 //! What keeps each claim for several exports from a Yes, so that none is drafted.
 
-use crate::recorded::Recorded;
 use edf_header::Header;
 use edf_heads::ChannelIndex;
+use edf_recording::Recorded;
 use edf_verdict::push_quoted;
 use std::alloc::{AllocError, Global};
 

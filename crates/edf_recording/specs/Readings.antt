@@ -10,6 +10,6 @@ use Rattle.edf_stream.specs.Faults.{file_fault}
 abbrev pub OfSource : {S : Type 0} → Ghosts S → S → (List ℕ → Type 0) → Type 0
 OfSource source s Holds = IsTrue (source.is_honest s) → Holds (source.left s)
 
--- why no more of a source is read: a fault of its file, a failed read, or want of memory
-abbrev pub StopsReading : {S : Type 0} → Ghosts S → S → S → Stop → Type 0
-StopsReading source s s' stop = Stops (λ f. IsTrue (source.is_honest s) → file_fault (source.left s) ≡ Some f) (Fails (source.reads s) (source.reads s')) (source.reads s' ≡ source.reads s) stop
+-- why a source isn't read to the end of its file: the first fault of the file, a failed read, or want of memory
+abbrev pub StopsAtFault : {S : Type 0} → Ghosts S → S → S → Stop → Type 0
+StopsAtFault source s s' stop = Stops (λ f. IsTrue (source.is_honest s) → file_fault (source.left s) ≡ Some f) (Fails (source.reads s) (source.reads s')) (source.reads s' ≡ source.reads s) stop

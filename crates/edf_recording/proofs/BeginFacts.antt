@@ -5,8 +5,8 @@ use Rattle.edf_stream.specs.Conforming.{Conforms}
 use Rattle.edf_stream.specs.records.Records.{record_at}
 use Rattle.edf_stream.specs.times.Starts.{file_start}
 use Rattle.edf_stream.specs.times.StartsReading.{end_before, start_at, start_in}
-use Rattle.edf_draft.specs.Times.{begin_of, end_of}
-use Rattle.edf_draft.specs.declared.recorded.RecordStart.{RecordStart}
+use Rattle.edf_recording.specs.Times.{begin_of, end_of}
+use Rattle.edf_recording.specs.declared.times.RecordStart.{RecordStart}
 
 -- one data record more, and it is known where the first one starts
 pub first_known : (P : Type 0) (file : List ℕ) (h next : Head) (read : ℕ) (current : List ℕ) (seen : Option RecordStart) (start : ℤ)

@@ -5,8 +5,9 @@ use Rattle.edf_stream.specs.Conforming.{Conforms}
 use Rattle.edf_stream.specs.Faults.{body_fault, file_fault}
 use Rattle.edf_stream.specs.records.Readers.{IsOpen, status_after, StandsIn, Comes}
 use Rattle.edf_stream.proofs.ForCallers.{fault_is_of_body, header_first}
-use Rattle.edf_read.proofs.StopFacts.{at_header, at_record}
-use Rattle.edf_read.proofs.recorded.read_through.Goals as goal
+use Rattle.edf_recording.proofs.BeginFacts.{begins_there, ends_there, first_known}
+use Rattle.edf_recording.proofs.StopFacts.{at_header, at_record}
+use Rattle.edf_recording.proofs.reading.read_through.Goals as goal
 
 pub returns-in-Err-clause-stop : goal.returns-in-Err-clause-stop
 returns-in-Err-clause-stop g c =
@@ -29,6 +30,12 @@ loop-reader-preserved g c =
       honesty = λ h. next.honesty (before.honesty h);
       stands = λ h. (subst (λ more. Comes more c.loop-reader.reader c.next.new.self (g.S.Source.left c.next.new.source) file) c.in-Ok-true.field-0-test
           (next.comes before.going (before.honesty h) file (before.stands h))).0;
+      unseen = tt;
+      seen = first_known (IsTrue (g.S.Source.is_honest c.args.source.now)) file (c.loop-reader.reader).head (c.next.new.self).head (c.loop-reader.reader).read (c.next.new.self).current
+          c.loop-reader.begin c.first_start.result.ps next.head
+          (λ h. (subst (λ more. Comes more c.loop-reader.reader c.next.new.self (g.S.Source.left c.next.new.source) file) c.in-Ok-true.field-0-test
+          (next.comes before.going (before.honesty h) file (before.stands h))).1)
+          before.unseen before.seen c.first_start.ensures.seen c.first_start.ensures.first;
     }
 
 pub returns-in-Err-next-clause-stop : goal.returns-in-Err-next-clause-stop
@@ -56,3 +63,22 @@ returns-in-Ok-false-clause-conforms g c = λ h.
     let end = subst (λ more. Comes more c.loop-reader.reader c.next.new.self (g.S.Source.left c.next.new.source) file) c.in-Ok-false.field-0-test
     (c.in-Ok-false.ensures.comes before.going (before.honesty h) file (before.stands h)) in
     subst (Conforms file) (sym c.in-Ok-false.ensures.head) end.3
+
+pub returns-in-Ok-false-clause-begins : goal.returns-in-Ok-false-clause-begins
+returns-in-Ok-false-clause-begins g c =
+    let before = c.loop-reader.invariant in
+    let file = g.S.Source.left c.args.source.now in
+    begins_there (IsTrue (g.S.Source.is_honest c.args.source.now)) file (c.loop-reader.reader).head (c.next.new.self).head (c.loop-reader.reader).read c.loop-reader.begin
+    c.times_of.result.begin_ps c.in-Ok-false.ensures.head
+    (λ h. let end = subst (λ more. Comes more c.loop-reader.reader c.next.new.self (g.S.Source.left c.next.new.source) file) c.in-Ok-false.field-0-test
+    (c.in-Ok-false.ensures.comes before.going (before.honesty h) file (before.stands h)) in
+    (end.3, end.5)) before.unseen before.seen c.times_of.ensures.begins
+
+pub returns-in-Ok-false-clause-ends : goal.returns-in-Ok-false-clause-ends
+returns-in-Ok-false-clause-ends g c = λ h.
+    let before = c.loop-reader.invariant in
+    let file = g.S.Source.left c.args.source.now in
+    let end = subst (λ more. Comes more c.loop-reader.reader c.next.new.self (g.S.Source.left c.next.new.source) file) c.in-Ok-false.field-0-test
+    (c.in-Ok-false.ensures.comes before.going (before.honesty h) file (before.stands h)) in
+    ends_there file (c.next.new.self).head (c.next.new.self).read (c.next.new.self).ended c.times_of.result.end_ps
+    (end.1 ∙ ap (λ x. x.records) (sym c.in-Ok-false.ensures.head)) end.0.stands.end_is c.times_of.ensures.ends
