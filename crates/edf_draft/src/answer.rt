@@ -7,9 +7,9 @@ ghost use Rattle.edf_draft.specs.Answers.{IsAnswer, IsAnswerBy, IsFaultAt, IsOne
 ghost use Rattle.edf_draft.specs.FirstLines.{IsTrueOfYes, anew, Anew};
 ghost use Rattle.edf_recording.specs.Readings.{OfSource};
 
-use crate::chosen::draft_text;
 use crate::exported::Exported;
-use crate::trial::{OneExport, Trial};
+use crate::tries::chosen::draft_text;
+use crate::tries::trial::{OneExport, Trial};
 use edf_fields::{Fault, Source};
 use edf_header::Stop;
 use edf_recording::{Recorded, read_through};

@@ -8,9 +8,9 @@ ghost use Rattle.edf_pace.specs.PartsStops.{PartsStops, StopsOf};
 ghost use Rattle.edf_draft.specs.FirstLines.{Anew, IsTrueOfYes, anew_parts};
 
 use crate::answer::Answer;
+use crate::comments::obstacles::obstacle;
 use crate::exported::Exported;
-use crate::obstacles::obstacle;
-use crate::trial::{SeveralExports, Trial};
+use crate::tries::trial::{SeveralExports, Trial};
 use edf_fields::{Fault, Source};
 use edf_header::Stop;
 use edf_recording::{Recorded, read_through};

@@ -3,7 +3,7 @@
 use crate::fits::front::{Front, front_of};
 use crate::fits::places::places_of;
 use crate::kept::back::Back;
-use crate::trial::Trial;
+use crate::tries::trial::Trial;
 use edf_fields::SECOND_PS;
 use edf_recording::{Recorded, Stretch};
 use std::alloc::{AllocError, Global};

@@ -8,12 +8,12 @@ ghost use Rattle.edf_draft.specs.Exported.{heads_of};
 ghost use Rattle.edf_draft.specs.FirstLines.{IsTrueOfYes};
 ghost use Rattle.edf_draft.specs.Tries.{IsTriedDraft};
 
-use crate::drafted::draft_tried;
 use crate::exported::Exported;
 use crate::fits::shifts::fitting_shifts;
 use crate::shift::{Moved, Shift, shift_of};
-use crate::trial::Trial;
-use crate::tried::Tried;
+use crate::tries::drafted::draft_tried;
+use crate::tries::trial::Trial;
+use crate::tries::tried::Tried;
 use edf_recording::Recorded;
 use edf_trial::is_better;
 use edf_verdict::Verdict;

@@ -1,5 +1,5 @@
 use Rattle.edf_draft.proofs.SaidFacts.{said_of_several}
-use Rattle.edf_draft.proofs.trial.SeveralExportsTrial.said_of.Goals as goal
+use Rattle.edf_draft.proofs.tries.trial.SeveralExportsTrial.said_of.Goals as goal
 
 pub returns-in_ok-line-in-Ok : goal.returns-in_ok-line-in-Ok
 returns-in_ok-line-in-Ok g c =

@@ -5,7 +5,7 @@ ghost use Rattle.edf_claim.specs.Claims.{SaysClaimText};
 ghost use Rattle.edf_draft.specs.FirstLines.{HasNotInFront, IsFirstLineOf, verdict_said, yes_front};
 ghost use Rattle.edf_draft.specs.Tries.{IsTriedAs};
 
-use crate::trial::{Said, Trial};
+use crate::tries::trial::{Said, Trial};
 use edf_claim::Draft;
 use edf_claim::laws::tables_say_one_claim;
 use edf_verdict::{Difference, Verdict};

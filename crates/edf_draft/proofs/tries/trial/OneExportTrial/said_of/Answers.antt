@@ -1,5 +1,5 @@
 use Rattle.edf_draft.proofs.SaidFacts.{said_of_one}
-use Rattle.edf_draft.proofs.trial.OneExportTrial.said_of.Goals as goal
+use Rattle.edf_draft.proofs.tries.trial.OneExportTrial.said_of.Goals as goal
 
 pub returns-in_ok-line-in-Ok : goal.returns-in_ok-line-in-Ok
 returns-in_ok-line-in-Ok g c =

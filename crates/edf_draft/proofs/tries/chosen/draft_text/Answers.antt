@@ -2,7 +2,7 @@ use Rattle.std.proofs.Common.{IfSome, subst}
 use Rattle.edf_draft.specs.Choices.{IsGiven}
 use Rattle.edf_draft.specs.Exported.{heads_of}
 use Rattle.edf_draft.proofs.ChoiceFacts.{given_is_text, given_is_true}
-use Rattle.edf_draft.proofs.chosen.draft_text.Goals as goal
+use Rattle.edf_draft.proofs.tries.chosen.draft_text.Goals as goal
 
 pub returns-in-Some-clause-text : goal.returns-in-Some-clause-text
 returns-in-Some-clause-text g c =

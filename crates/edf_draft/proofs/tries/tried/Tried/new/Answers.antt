@@ -1,7 +1,7 @@
 use Rattle.std.proofs.Common.{subst}
 use Rattle.edf_claim.specs.Claims.{SaysClaimText}
 use Rattle.edf_draft.proofs.FirstLineFacts.{first_is_true, said_of_whole}
-use Rattle.edf_draft.proofs.tried.Tried.new.Goals as goal
+use Rattle.edf_draft.proofs.tries.tried.Tried.new.Goals as goal
 
 pub returns-then-branch : goal.returns-then-branch
 returns-then-branch g c =
