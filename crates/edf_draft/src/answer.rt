@@ -121,7 +121,6 @@ fn fault_answer(alloc: Global, side: Side, fault: &Fault) -> Result<Answer, Chec
 /// What is written of an original and one export that conform.
 ///
 /// The error is want of memory.
-#[tactic(auto, using(crate::proofs::AnswerFacts::one_answers, crate::proofs::AnswerFacts::one_is_true))]
 fn draft_answer<R: Recordings>(
     alloc: Global,
     original: &Recorded,
