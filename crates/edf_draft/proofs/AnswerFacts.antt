@@ -1,5 +1,5 @@
 -- What is written of two files.
-use Rattle.std.proofs.Common.{◌≡◌, inl, inr, ℕ, ℤ, List, [], ◌∷◌, Bool, None, ap, subst, sym, ◌∙◌}
+use Rattle.std.proofs.Common.{◌≡◌, inl, inr, ℕ, ℤ, List, Bool, None, subst}
 use Rattle.edf_fields.specs.declared.faults.fault.Fault.{Fault}
 use Rattle.edf_stop.specs.declared.sides.Side.{Side}
 use Rattle.edf_stop.specs.declared.sides.Side.TheVariants.{Original, Export}
@@ -9,16 +9,15 @@ use Rattle.edf_stop.specs.declared.stops.RunStop.TheVariants.{WriteFailed}
 use Rattle.edf_stop.specs.Stops.{stop_of_check}
 use Rattle.edf_stream.specs.Faults.{file_fault}
 use Rattle.edf_stream.proofs.ForCallers.{conforming_is_faultless}
-use Rattle.edf_verdict.specs.declared.outcome.Outcome.{Outcome}
 use Rattle.edf_verdict.specs.declared.outcome.Outcome.TheVariants.{No}
 use Rattle.edf_draft.specs.Answers.{IsAnswer, IsFaultAt, IsOneReadOf, IsReadOf, IsShiftBetween, IsTextOf, fault_text_of, none_text}
 use Rattle.edf_draft.specs.Days.{IsShift}
 use Rattle.edf_draft.specs.Drafts.{IsDraftFor, IsDraftText, IsMoved, IsShiftOf}
 use Rattle.edf_draft.specs.Exported.{heads_of}
-use Rattle.edf_draft.specs.FirstLines.{Anew, IsTrueOfYes}
-use Rattle.edf_draft.specs.Times.{begin_of, end_of}
+use Rattle.edf_draft.specs.FirstLines.{Anew}
+use Rattle.edf_recording.specs.Times.{begin_of, end_of}
 use Rattle.edf_draft.specs.declared.exported.Exported.{Exported}
-use Rattle.edf_draft.specs.declared.recorded.Recorded.{Recorded}
+use Rattle.edf_recording.specs.declared.recorded.Recorded.{Recorded}
 use Rattle.edf_draft.proofs.ChoiceFacts.{moved_weaker}
 
 -- a file that was read to its end has no fault
@@ -62,18 +61,6 @@ draft_answers again original export text o e first second is = record {
       (moved_weaker again (o.reader).head (heads_of e) (IsShiftBetween o e) (IsShiftOf original (o.reader).head export ((e.together).reader).head)
       text (is.claim).shift (shift_there original export o e first second.read) is.moved);
 }
-
--- what is written of an original and exports that conform, where there is one export
-pub one_answers : (files again : Anew) (original export : Recorded) (x : Exported) (text : List ℕ) (outcome : Outcome) → files ≡ again
-    → x.together ≡ export → heads_of x ≡ (export.reader).head ∷ []
-    → ((o e : List ℕ) → IsReadOf o original → IsOneReadOf e x → IsAnswer files o e text outcome)
-    → (o e : List ℕ) → IsReadOf o original → IsReadOf e export → IsAnswer again o e text outcome
-one_answers files again original export x text outcome same is alone answers o e first second =
-    subst (λ f. IsAnswer f o e text outcome) same (answers o e first
-    (record { alone = alone ∙ ap (λ (r : Recorded). (r.reader).head ∷ []) (sym is); read = subst (IsReadOf e) (sym is) second }))
-
-pub one_is_true : (files again : Anew) (text : List ℕ) → files ≡ again → IsTrueOfYes files text → IsTrueOfYes again text
-one_is_true files again text same is = subst (λ f. IsTrueOfYes f text) same is
 
 -- a stop of the reading is no failed write
 pub none_written : (A : Type 0) (stop : CheckStop) → stop_of_check stop ≡ WriteFailed → A

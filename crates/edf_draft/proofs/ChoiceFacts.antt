@@ -10,8 +10,8 @@ use Rattle.edf_draft.specs.FirstLines.{Anew, IsTried, IsTrueOfYes}
 use Rattle.edf_draft.specs.Tries.{IsTriedDraft}
 use Rattle.edf_draft.specs.Exported.{heads_of}
 use Rattle.edf_draft.specs.declared.exported.Exported.{Exported}
-use Rattle.edf_draft.specs.declared.recorded.Recorded.{Recorded}
-use Rattle.edf_draft.specs.declared.tried.Tried.{Tried}
+use Rattle.edf_recording.specs.declared.recorded.Recorded.{Recorded}
+use Rattle.edf_draft.specs.declared.tries.tried.Tried.{Tried}
 
 -- what holds of both of two drafts holds of the one that is taken
 pub one_holds : (P : Tried → Type 0) (best : Option Tried) (tried result : Tried) → IfSome best P → P tried → IsOneOf best tried result → P result

@@ -13,7 +13,7 @@ use Rattle.edf_verdict.specs.declared.verdict.Verdict.{Verdict}
 use Rattle.edf_verdict.specs.declared.verdict.Verdict.TheVariants.{Yes, No}
 use Rattle.edf_draft.specs.Answers.{fault_text_of, none_text}
 use Rattle.edf_draft.specs.FirstLines.{Anew, Exports, single, several, HasNotInFront, IsFirstLine, IsFirstLineOf, IsLineOfYes, IsSaid, IsTried, IsTrueOfYes, IsVerdictOn, SaysYes, verdict_said, yes_front, yes_line}
-use Rattle.edf_draft.specs.declared.trial.Said.{Said}
+use Rattle.edf_draft.specs.declared.tries.trial.Said.{Said}
 
 pub not_a_yes : (line rest : List ℕ) → line ≡ codes "# NOT A YES: with this draft the check answers: " ++ rest → HasNotInFront line
 not_a_yes line rest is = (codes "A YES: with this draft the check answers: " ++ rest, is)

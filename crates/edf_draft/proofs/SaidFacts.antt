@@ -9,7 +9,7 @@ use Rattle.edf_verdict.specs.declared.parts_verdict.PartsVerdict.{PartsVerdict}
 use Rattle.edf_verdict.specs.declared.verdict.Verdict.{Verdict}
 use Rattle.edf_verdict.specs.declared.verdict.Verdict.TheVariants.{Yes, No}
 use Rattle.edf_draft.specs.FirstLines.{single, several, IsLineOfYes, IsSaid, anew, anew_parts}
-use Rattle.edf_draft.specs.declared.trial.Said.{Said}
+use Rattle.edf_draft.specs.declared.tries.trial.Said.{Said}
 
 -- the line of a verdict is that of its Yes: of one export
 line_of_one : (export : List ℕ) (verdict : Verdict) (line : List ℕ) → line ≡ verdict_line verdict → IsLineOfYes (single export) verdict line

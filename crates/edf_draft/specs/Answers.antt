@@ -19,10 +19,10 @@ use Rattle.edf_verdict.specs.declared.outcome.Outcome.TheVariants.{Yes, No}
 use Rattle.edf_draft.specs.Days.{IsShift}
 use Rattle.edf_draft.specs.Drafts.{IsDraftFor, IsDraftText, IsMoved}
 use Rattle.edf_draft.specs.FirstLines.{Anew}
-use Rattle.edf_draft.specs.Times.{begin_of, end_of}
+use Rattle.edf_recording.specs.Times.{begin_of, end_of}
 use Rattle.edf_draft.specs.Exported.{heads_of}
 use Rattle.edf_draft.specs.declared.exported.Exported.{Exported}
-use Rattle.edf_draft.specs.declared.recorded.Recorded.{Recorded}
+use Rattle.edf_recording.specs.declared.recorded.Recorded.{Recorded}
 
 -- a comment says which file it is, and then comes the line of its fault
 abbrev pub fault_text_of : Side → Fault → List ℕ

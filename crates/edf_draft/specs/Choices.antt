@@ -5,7 +5,7 @@ use Rattle.edf_verdict.specs.declared.verdict.Verdict.{Verdict}
 use Rattle.edf_draft.specs.Better.{is_taken}
 use Rattle.edf_draft.specs.FirstLines.{Anew}
 use Rattle.edf_draft.specs.Tries.{IsTriedDraft}
-use Rattle.edf_draft.specs.declared.tried.Tried.{Tried}
+use Rattle.edf_draft.specs.declared.tries.tried.Tried.{Tried}
 
 -- the verdict with a draft, where there is one and it was tried
 abbrev pub verdict_with : Option Tried → Option Verdict

@@ -12,7 +12,7 @@ use Rattle.edf_draft.specs.Better.{is_taken}
 use Rattle.edf_draft.specs.Days.{IsShift}
 use Rattle.edf_draft.specs.FirstLines.{Anew, IsTried}
 use Rattle.edf_draft.specs.Hidden.{IsHiddenInAll}
-use Rattle.edf_draft.specs.Times.{begin_of, end_of}
+use Rattle.edf_recording.specs.Times.{begin_of, end_of}
 
 -- the labels of the channels of the first of several exports, in its order
 abbrev pub first_labels : List Head → List (List ℕ)

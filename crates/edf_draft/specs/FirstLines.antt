@@ -4,7 +4,7 @@ use Rattle.edf_check.specs.Runs.{IsPartsVerdictUnder, IsVerdictUnder}
 use Rattle.edf_verdict.specs.Lines.{verdict_line}
 use Rattle.edf_verdict.specs.PartsLines.{parts_verdict_line}
 use Rattle.edf_verdict.specs.declared.verdict.Verdict.{Verdict}
-use Rattle.edf_draft.specs.declared.trial.Said.{Said}
+use Rattle.edf_draft.specs.declared.tries.trial.Said.{Said}
 use Rattle.edf_verdict.specs.declared.verdict.Verdict.TheVariants.{Yes, No}
 
 -- one export, or several in the order of time: their bytes

@@ -4,9 +4,7 @@ pub mod Days
 pub mod Exported
 pub mod FirstLines
 pub mod Hidden
-pub mod Times
 pub mod Tries
 pub mod Drafts
 pub mod Answers
 pub mod Written
-pub mod Readings

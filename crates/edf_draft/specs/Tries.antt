@@ -5,7 +5,7 @@ use Rattle.edf_claim.specs.Terms.{Terms}
 use Rattle.edf_header.specs.Heads.{Head}
 use Rattle.edf_draft.specs.Drafts.{IsDraftFor}
 use Rattle.edf_draft.specs.FirstLines.{Anew, IsTried, IsTrueOfYes}
-use Rattle.edf_draft.specs.declared.tried.Tried.{Tried}
+use Rattle.edf_draft.specs.declared.tries.tried.Tried.{Tried}
 
 -- a text says just this claim, its first line is true of it, and this is what the check with it said
 pub record IsTriedAs (again : Anew) (claim : Terms) (tried : Tried) : Type 0 where

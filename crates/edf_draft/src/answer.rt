@@ -5,14 +5,14 @@ ghost use Rattle.edf_stream.specs.Faults.{file_fault};
 ghost use Rattle.edf_stop.specs.declared.stops.CheckStop.TheVariants as check_stops;
 ghost use Rattle.edf_draft.specs.Answers.{IsAnswer, IsAnswerBy, IsFaultAt, IsOneReadOf, IsReadOf, StopsBoth, StopsSide, fault_text_of};
 ghost use Rattle.edf_draft.specs.FirstLines.{IsTrueOfYes, anew, Anew};
-ghost use Rattle.edf_draft.specs.Readings.{OfSource};
+ghost use Rattle.edf_recording.specs.Readings.{OfSource};
 
-use crate::chosen::draft_text;
 use crate::exported::Exported;
-use crate::recorded::{Recorded, read_through};
-use crate::trial::{OneExport, Trial};
+use crate::tries::chosen::draft_text;
+use crate::tries::trial::{OneExport, Trial};
 use edf_fields::{Fault, Source};
 use edf_header::Stop;
+use edf_recording::{Recorded, read_through};
 use edf_stop::{CheckStop, Side};
 use edf_trial::Recordings;
 use edf_verdict::Outcome;
@@ -121,7 +121,6 @@ fn fault_answer(alloc: Global, side: Side, fault: &Fault) -> Result<Answer, Chec
 /// What is written of an original and one export that conform.
 ///
 /// The error is want of memory.
-#[tactic(auto, using(crate::proofs::AnswerFacts::one_answers, crate::proofs::AnswerFacts::one_is_true))]
 fn draft_answer<R: Recordings>(
     alloc: Global,
     original: &Recorded,

@@ -4,7 +4,7 @@ ghost use Rattle.std.specs.Prelude.{◌≡◌, ◌∷◌, []};
 ghost use Rattle.edf_draft.specs.Exported.{heads_of};
 
 use crate::kept::back::Back;
-use crate::recorded::{Recorded, RecordedNote, push_stretch};
+use edf_recording::{Recorded, RecordedNote, push_stretch};
 use edf_stream::FileReader;
 use std::alloc::{AllocError, Global};
 
@@ -50,11 +50,7 @@ impl Exported {
             0,
         );
         for stretch in &stretches {
-            push_stretch(
-                &mut self.together.stretches,
-                back.of(stretch.from_ps),
-                back.of(stretch.to_ps),
-            )?;
+            push_stretch(&mut self.together.stretches, back.of_stretch(*stretch))?;
         }
         move_notes(&mut notes, back);
         self.together.notes.append(&mut notes)?;

@@ -3,22 +3,17 @@
 
 mod answer;
 mod channels;
-mod chosen;
+mod comments;
 mod days;
-mod doubts;
 mod draft;
-mod drafted;
 mod exported;
 mod fits;
 mod hidden;
 mod kept;
-mod obstacles;
 mod parts;
 mod parts_answer;
-mod recorded;
 mod shift;
-mod trial;
-mod tried;
+mod tries;
 
 pub use draft::draft_to;
 pub use parts::draft_parts_to;

@@ -8,12 +8,12 @@ ghost use Rattle.edf_pace.specs.PartsStops.{PartsStops, StopsOf};
 ghost use Rattle.edf_draft.specs.FirstLines.{Anew, IsTrueOfYes, anew_parts};
 
 use crate::answer::Answer;
+use crate::comments::obstacles::obstacle;
 use crate::exported::Exported;
-use crate::obstacles::obstacle;
-use crate::recorded::{Recorded, read_through};
-use crate::trial::{SeveralExports, Trial};
+use crate::tries::trial::{SeveralExports, Trial};
 use edf_fields::{Fault, Source};
 use edf_header::Stop;
+use edf_recording::{Recorded, read_through};
 use edf_stop::{PartSide, PartsStop, Side};
 use edf_trial::PartsRecordings;
 use edf_verdict::Outcome;

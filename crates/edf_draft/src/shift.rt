@@ -4,8 +4,8 @@ ghost use Rattle.std.specs.Prelude.{◌≡◌, ◌<◌, ◌^◌, ◌*ℤ◌, pos
 ghost use Rattle.edf_draft.specs.Days.{IsShift, LiesWithin};
 
 use crate::days::days_between;
-use crate::recorded::Recorded;
 use edf_fields::SECOND_PS;
+use edf_recording::Recorded;
 
 /// A shift in seconds, and whether the starts of two files tell it. Where they don't, it is the one by which the export
 /// begins with the original.

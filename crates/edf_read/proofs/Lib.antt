@@ -1,2 +1,1 @@
 pub mod ReadFacts
-pub mod StopFacts

@@ -1,11 +1,7 @@
 -- What is written of a file for a person to read.
-use Rattle.std.specs.Prelude.{◌≡◌, ℕ, IsTrue, List, ◌++◌, None, Some}
+use Rattle.std.specs.Prelude.{◌≡◌, ℕ, List, ◌++◌, None, Some}
 use Rattle.edf_fields.specs.declared.faults.fault.Fault.{Fault}
-use Rattle.edf_fields.specs.declared.in_out.source.Source.{Ghosts}
 use Rattle.edf_fields.specs.in_out.Sinks.{HoldsPrefix}
-use Rattle.edf_fields.specs.in_out.Sources.{Fails}
-use Rattle.edf_header.specs.Stops.{Stops}
-use Rattle.edf_header.specs.declared.stop.Stop.{Stop}
 use Rattle.edf_report.specs.Reports.{fault_line}
 use Rattle.edf_stream.specs.Faults.{file_fault}
 use Rattle.edf_verdict.specs.declared.outcome.Outcome.{Outcome}
@@ -28,7 +24,3 @@ pub record IsPartRead (file old new : List ℕ) : Type 0 where
   pub outcome : Outcome
   pub is : IsReadText file text outcome
   pub part : HoldsPrefix old new text
-
--- why a source isn't read to the end of its file: the first fault of the file, a failed read, or want of memory
-abbrev pub StopsAtFault : {S : Type 0} → Ghosts S → S → S → Stop → Type 0
-StopsAtFault source s s' stop = Stops (λ f. IsTrue (source.is_honest s) → file_fault (source.left s) ≡ Some f) (Fails (source.reads s) (source.reads s')) (source.reads s' ≡ source.reads s) stop

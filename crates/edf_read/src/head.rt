@@ -2,10 +2,10 @@
 
 ghost use Rattle.std.specs.Prelude.{◌<◌, ◌^◌, unsigned_abs};
 
-use crate::recorded::Recorded;
 use crate::words;
 use edf_fields::{PatientId, RecordingId, SECOND_PS, Subfields};
 use edf_header::{Header, Kind, Signal};
+use edf_recording::Recorded;
 use edf_sentences::{Piece, Text};
 use std::alloc::AllocError;
 
@@ -21,14 +21,15 @@ fn say_course(text: &mut Text, recorded: &Recorded) -> Result<(), AllocError> {
     let header = recorded.reader.header();
     let start = start_ps(header);
     let end = recorded.reader.read_to_ps();
+    let first = recorded.times.begin_ps - start;
     let kind = match header.kind() {
         Kind::Contiguous => words::CONTIGUOUS,
         Kind::Interrupted => words::INTERRUPTED,
     };
     text.say(kind, &[])?;
     text.say(words::START, &[Piece::Moment(start)])?;
-    if recorded.begin_ps != 0 {
-        text.say(words::FIRST, &[Piece::Seconds(recorded.begin_ps)])?;
+    if first != 0 {
+        text.say(words::FIRST, &[Piece::Seconds(first)])?;
     }
     text.say(
         words::END,

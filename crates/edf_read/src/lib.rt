@@ -4,7 +4,6 @@
 mod head;
 mod notes;
 mod read;
-mod recorded;
 mod words;
 
 pub use read::read_to;

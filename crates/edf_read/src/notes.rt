@@ -3,8 +3,8 @@
 ghost use Rattle.std.specs.Prelude.{◌≡◌, ◌-◌, ◌<◌, ◌≤◌, length};
 
 use crate::head::start_ps;
-use crate::recorded::{ReadNote, Recorded};
 use crate::words;
+use edf_recording::{Recorded, RecordedNote};
 use edf_sentences::{Piece, Text};
 use std::alloc::AllocError;
 
@@ -30,30 +30,40 @@ fn say_place(text: &mut Text, record: u32, times: usize) -> Result<(), AllocErro
 }
 
 /// Says an annotation of a file that starts at this time, which the file has so often.
-fn say_note(text: &mut Text, start: i128, note: &ReadNote, times: usize) -> Result<(), AllocError> {
+fn say_note(
+    text: &mut Text,
+    start: i128,
+    note: &RecordedNote,
+    times: usize,
+) -> Result<(), AllocError> {
     say_onset(text, start, note.onset)?;
     if let Some(duration) = note.duration {
         text.add(words::DURATION, &[Piece::Seconds(duration)])?;
     }
     say_place(text, note.record, times)?;
-    text.say(words::NOTE, &[Piece::Quoted(note.text.as_str().as_bytes())])
+    text.say(words::NOTE, &[Piece::Quoted(note.bytes())])
+}
+
+/// Whether two annotations begin at the same time, last as long, and have the same text.
+fn are_equal(note: &RecordedNote, other: &RecordedNote) -> bool {
+    note.onset == other.onset && note.duration == other.duration && note.text == other.text
 }
 
 /// How many annotations from the first on are equal to it.
-fn equal_front(notes: &[ReadNote]) -> usize
+fn equal_front(notes: &[RecordedNote]) -> usize
     requires { 0 < length notes.now }
     ensures some { 0 < result }
     ensures within { result ≤ length notes.now }
 {
     let mut count = 1;
-    while count < notes.len() && notes[0].is_equal(&notes[count]) {
+    while count < notes.len() && are_equal(&notes[0], &notes[count]) {
         count += 1;
     }
     count
 }
 
 /// The annotations behind so many of these.
-fn behind(notes: &[ReadNote], count: usize) -> &[ReadNote]
+fn behind(notes: &[RecordedNote], count: usize) -> &[RecordedNote]
     requires { count ≤ length notes.now }
     ensures { length result.now ≡ length notes.entry.now - count }
 {

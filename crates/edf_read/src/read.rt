@@ -9,8 +9,8 @@ ghost use Rattle.edf_read.specs.ReadTexts.{IsPartRead, IsReadText, IsReadWritten
 
 use crate::head::say_head;
 use crate::notes::say_notes;
-use crate::recorded::{Recorded, read_through};
 use edf_fields::{Sink, Source};
+use edf_recording::{Recorded, read_through};
 use edf_report::Report;
 use edf_sentences::Text;
 use edf_stop::ReportStop;

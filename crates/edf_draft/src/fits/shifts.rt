@@ -3,10 +3,9 @@
 use crate::fits::front::{Front, front_of};
 use crate::fits::places::places_of;
 use crate::kept::back::Back;
-use crate::recorded::Recorded;
-use crate::trial::Trial;
-use edf_claim::Interval;
+use crate::tries::trial::Trial;
 use edf_fields::SECOND_PS;
+use edf_recording::{Recorded, Stretch};
 use std::alloc::{AllocError, Global};
 
 /// How many shifts are tried at the most.
@@ -22,11 +21,11 @@ fn shift_at(original: &Recorded, export: &Recorded, front: &Front, at_ps: i128) 
         .checked_add(moved)
 }
 
-/// Whether an interval lies in one of others, which are in order.
-fn lies_in(interval: Interval, others: &[Interval]) -> bool {
-    let before = others.partition_point(|other| other.to_ps < interval.to_ps);
+/// Whether a stretch lies in one of others, which are in order.
+fn lies_in(stretch: Stretch, others: &[Stretch]) -> bool {
+    let before = others.partition_point(|other| other.to_ps < stretch.to_ps);
     match others.get(before) {
-        Some(other) => other.from_ps <= interval.from_ps,
+        Some(other) => other.from_ps <= stretch.from_ps,
         None => false,
     }
 }
@@ -35,11 +34,7 @@ fn lies_in(interval: Interval, others: &[Interval]) -> bool {
 fn has_room(original: &Recorded, export: &Recorded, shift: i64) -> bool {
     let back = Back::new(original.start_second(), export.start_second(), shift);
     for stretch in &export.stretches {
-        let moved = Interval {
-            from_ps: back.of(stretch.from_ps),
-            to_ps: back.of(stretch.to_ps),
-        };
-        if !lies_in(moved, &original.stretches) {
+        if !lies_in(back.of_stretch(*stretch), &original.stretches) {
             return false;
         }
     }

@@ -1,9 +1,9 @@
 //! The times of an export as those of its original.
 
 use crate::kept::intervals::is_kept;
-use crate::recorded::{Recorded, RecordedNote};
 use edf_claim::Interval;
 use edf_fields::SECOND_PS;
+use edf_recording::{Recorded, RecordedNote, Stretch};
 use std::alloc::{AllocError, Global};
 
 /// The times of an export as those of its original: both counted from the second at which their file starts.
@@ -33,6 +33,14 @@ impl Back {
     pub(crate) fn of(self, at_ps: i128) -> i128 {
         at_ps.saturating_add(self.ps)
     }
+
+    /// A time of the export's data records.
+    pub(crate) fn of_stretch(self, stretch: Stretch) -> Stretch {
+        Stretch {
+            from_ps: self.of(stretch.from_ps),
+            to_ps: self.of(stretch.to_ps),
+        }
+    }
 }
 
 /// The time of the export's data records in the original.
@@ -43,10 +51,8 @@ pub(crate) fn moved_stretches(
 ) -> Result<Vec<Interval>, AllocError> {
     let mut keep = Vec::with_capacity(alloc, export.stretches.len())?;
     for stretch in &export.stretches {
-        keep.push(Interval {
-            from_ps: back.of(stretch.from_ps),
-            to_ps: back.of(stretch.to_ps),
-        })?;
+        let Stretch { from_ps, to_ps } = back.of_stretch(*stretch);
+        keep.push(Interval { from_ps, to_ps })?;
     }
     Ok(keep)
 }

@@ -4,8 +4,8 @@ use crate::kept::back::{Back, moved_stretches, times_beside};
 use crate::kept::intervals::{ended_count, is_kept};
 use crate::kept::lacking::lacking_times;
 use crate::kept::sampling::Sampling;
-use crate::recorded::Recorded;
 use edf_claim::{Interval, MOST_INTERVALS};
+use edf_recording::{Recorded, Stretch};
 use std::alloc::{AllocError, Global};
 
 /// What of an original an interval may reach over.
@@ -13,7 +13,7 @@ use std::alloc::{AllocError, Global};
 struct Ground<'a> {
     sampling: &'a Sampling,
     /// The time of the original's data records.
-    stretches: &'a [Interval],
+    stretches: &'a [Stretch],
     /// The times, in order, of annotations that no interval may have.
     barred: &'a [i128],
 }

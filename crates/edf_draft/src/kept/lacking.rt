@@ -3,8 +3,8 @@
 use crate::kept::back::Back;
 use crate::kept::blanked::{Lacked, Span, blanked_texts, is_found, spans_left};
 use crate::kept::intervals::is_kept;
-use crate::recorded::RecordedNote;
 use edf_claim::{BLANK, Interval};
+use edf_recording::RecordedNote;
 use std::alloc::{AllocError, Global};
 
 /// CountedTexts, and how often each of them stands in the original.
@@ -24,7 +24,7 @@ fn sorted_texts<'a>(
     let mut texts: Vec<&'a [u8]> = Vec::new(alloc);
     for note in notes {
         if is_kept(keep, back.of(note.onset)) {
-            texts.push(&note.text)?;
+            texts.push(note.bytes())?;
         }
     }
     texts.sort_unstable();
@@ -74,7 +74,7 @@ fn blanks_of(
     let mut blanks = Vec::new(alloc);
     for note in notes {
         let at_ps = back.of(note.onset);
-        if note.text.as_slice() == BLANK.as_bytes() && is_kept(keep, at_ps) {
+        if note.bytes() == BLANK.as_bytes() && is_kept(keep, at_ps) {
             blanks.push((at_ps, note.duration))?;
         }
     }
@@ -106,7 +106,7 @@ fn lacking_notes<'a>(
 ) -> Result<Vec<Lacked<'a>>, AllocError> {
     let mut lacking: Vec<Lacked<'a>> = Vec::new(alloc);
     for note in notes {
-        let text = note.text.as_slice();
+        let text = note.bytes();
         if is_kept(keep, note.onset) && !is_found(exported, text) {
             lacking.push(((note.onset, note.duration), text))?;
         }
@@ -190,7 +190,7 @@ fn times_and_texts<'a>(
 ) -> Result<Vec<(i128, &'a [u8])>, AllocError> {
     let mut found: Vec<(i128, &'a [u8])> = Vec::new(alloc);
     for note in notes {
-        found.push((back.of(note.onset), note.text.as_slice()))?;
+        found.push((back.of(note.onset), note.bytes()))?;
     }
     found.sort_unstable();
     Ok(found)
@@ -200,7 +200,7 @@ fn times_and_texts<'a>(
 fn all_texts<'a>(alloc: Global, notes: &'a [RecordedNote]) -> Result<Vec<&'a [u8]>, AllocError> {
     let mut texts: Vec<&'a [u8]> = Vec::new(alloc);
     for note in notes {
-        texts.push(&note.text)?;
+        texts.push(note.bytes())?;
     }
     texts.sort_unstable();
     Ok(texts)
@@ -217,7 +217,7 @@ pub(crate) fn lacking_times(
     let texts = all_texts(alloc, export)?;
     let mut times = Vec::new(alloc);
     for note in original {
-        let text = note.text.as_slice();
+        let text = note.bytes();
         if is_found(&texts, text) && exported.binary_search(&(note.onset, text)).is_err() {
             times.push(note.onset)?;
         }

@@ -1,8 +1,7 @@
 //! Where samples of the original stand beside a time.
 
-use crate::kept::intervals::ended_count;
-use edf_claim::Interval;
 use edf_header::Header;
+use edf_recording::Stretch;
 use std::alloc::{AllocError, Global};
 
 /// The channels of an original that an export has, by how often they are sampled.
@@ -63,7 +62,7 @@ impl Sampling {
     }
 
     /// The first sample in a stretch of data records that doesn't stand before a time, in picoseconds rounded down.
-    fn first_from(&self, stretch: Interval, at_ps: i128) -> Option<i128> {
+    fn first_from(&self, stretch: Stretch, at_ps: i128) -> Option<i128> {
         let offset = at_ps.saturating_sub(stretch.from_ps).max(0);
         let mut first = None;
         for count in &self.counts {
@@ -82,7 +81,7 @@ impl Sampling {
     }
 
     /// The last sample in a stretch of data records that stands before a time, in picoseconds rounded down.
-    fn last_before(&self, stretch: Interval, at_ps: i128) -> Option<i128> {
+    fn last_before(&self, stretch: Stretch, at_ps: i128) -> Option<i128> {
         let offset = at_ps.min(stretch.to_ps).saturating_sub(stretch.from_ps);
         let mut last = None;
         for count in &self.counts {
@@ -101,18 +100,19 @@ impl Sampling {
     }
 
     /// The first sample that doesn't stand before a time, in picoseconds rounded down; none where there is none.
-    pub(crate) fn next_sample(&self, stretches: &[Interval], at_ps: i128) -> Option<i128> {
+    pub(crate) fn next_sample(&self, stretches: &[Stretch], at_ps: i128) -> Option<i128> {
         if self.counts.is_empty() {
             return None;
         }
-        let (_, behind) = stretches.split_at_checked(ended_count(stretches, at_ps))?;
+        let ended = stretches.partition_point(|stretch| stretch.to_ps <= at_ps);
+        let (_, behind) = stretches.split_at_checked(ended)?;
         behind
             .iter()
             .find_map(|stretch| self.first_from(*stretch, at_ps))
     }
 
     /// The last sample that stands before a time, in picoseconds rounded down; none where there is none.
-    pub(crate) fn sample_before(&self, stretches: &[Interval], at_ps: i128) -> Option<i128> {
+    pub(crate) fn sample_before(&self, stretches: &[Stretch], at_ps: i128) -> Option<i128> {
         if self.counts.is_empty() {
             return None;
         }

@@ -1,7 +1,7 @@
 use Rattle.std.proofs.Common.{◌∷◌, [], ◌∙◌, ap, sym, subst}
 use Rattle.edf_draft.specs.Answers.{IsAnswer, IsOneReadOf, IsReadOf}
 use Rattle.edf_draft.specs.FirstLines.{IsTrueOfYes}
-use Rattle.edf_draft.specs.declared.recorded.Recorded.{Recorded}
+use Rattle.edf_recording.specs.declared.recorded.Recorded.{Recorded}
 use Rattle.edf_draft.proofs.answer.draft_answer.Goals as goal
 
 pub returns-clause-answer : goal.returns-clause-answer

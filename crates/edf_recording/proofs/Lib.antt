@@ -1,0 +1,2 @@
+pub mod StopFacts
+pub mod BeginFacts
