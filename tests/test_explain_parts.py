@@ -193,9 +193,8 @@ TRIED = ["With shift", "With channels", "With to", "were tried", "What follows i
 # What is tried: the original, the exports and the claim; what has to be said, and what not.
 TRIES = [
     ("a_forgotten_shift", tries.NIGHT, HALVES, tries.of_ten(),
-     [f"With shift = 0 {YES} 1.", "no sample and no annotation is listed", *(
-         behind(number, "The export starts 1 day later than claimed") for number in range(2))],
-     [*tries.LISTED, "were tried", "together", "With channels", "With to"]),
+     [f"With shift = 0 {YES} 1.", "no sample and no annotation is listed", behind(0, "The export starts 1 day later than claimed")],
+     [*tries.LISTED, "were tried", "together", "With channels", "With to", "Part 1", AS_CLAIMED]),
     ("a_forgotten_shift_and_a_lost_annotation", tries.NIGHT, [HALVES[0], HALVES[1].but(notes=[])], tries.of_ten(),
      [f"With shift = 0 the first difference would be NO 11 annotation missing at {50 * PS} ps duration none text \"Apnea\".",
       "With it all samples are as claimed. What follows is worked out with shift = 0.", behind(0, AS_CLAIMED) + behind(1, AS_CLAIMED),

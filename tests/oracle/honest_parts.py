@@ -136,9 +136,10 @@ class HonestParts(Honesty):
         sections, line = Sections(whole[len(line):]), line.rstrip("\n")
         self.seen[line.split()[0] + line.split()[1] * (status == 1)] += 1
         self.seen[f"{len(parts)} parts"] += 1
-        if len(sections.parts) != len(parts):
-            return f"{len(parts)} parts; said: {len(sections.parts)}"
         said = sections.tried()
+        # with a shift that makes a Yes it is said where the first part starts, and nothing else
+        if len(sections.parts) != (1 if said.has_yes() else len(parts)):
+            return f"{len(parts)} parts; said: {len(sections.parts)}"
         self.seen["a shift that makes a Yes"] += said.has_yes()
         self.seen["a shift that is better"] += bool(said.named) and not said.has_yes()
         self.seen["shifts that aren't better"] += bool(said.tried)
@@ -152,8 +153,10 @@ class HonestParts(Honesty):
     def wrong_counts(self, sections, said, original, export, parts, claim):
         """What is wrong with the numbers, or none."""
         if said.has_yes():
-            of_all = [Said("\n".join(lines)) for lines in sections.parts]
-            return "samples or annotations are listed" if sections.together or any(part.counts for part in of_all) else None
+            if sections.together or any(Said("\n".join(lines)).counts for lines in sections.parts):
+                return "samples or annotations are listed"
+            first = Said("\n".join(sections.parts[0]))
+            return wrong_start(first, original, parts[0], claim, span_of(parts, 0, (parts[0].shift - claim.shift) * PS), claim.shift)
         shift = claim.shift if said.reckoned is None else said.reckoned
         for number, lines in enumerate(sections.parts):
             if wrong := wrong_part(lines, original, parts, number, claim, shift):

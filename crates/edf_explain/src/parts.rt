@@ -103,13 +103,6 @@ fn say_faults<R: PartsRecordings>(
     }
 }
 
-/// What was seen of several exports, and whether their samples are listed.
-#[derive(Clone, Copy)]
-struct Listed<'a, 'c> {
-    seen: &'a Seen<'c>,
-    has_samples: bool,
-}
-
 /// Says how the samples of a part aren't as claimed.
 fn say_samples_of_part(
     text: &mut Text,
@@ -121,14 +114,13 @@ fn say_samples_of_part(
     say_samples(text, heads.claim.channels(), part.channels(), clocks)
 }
 
-/// Says how a part isn't as claimed, or that it is. Its samples are left aside where another shift makes all of them as claimed.
+/// Says how a part isn't as claimed, or that it is.
 fn say_part(
     text: &mut Text,
-    listed: Listed<'_, '_>,
+    seen: &Seen<'_>,
     number: u16,
     part: &SeenPart,
 ) -> Result<(), AllocError> {
-    let seen = listed.seen;
     let heads = Heads {
         original: seen.original_header(),
         export: part.header(),
@@ -140,11 +132,7 @@ fn say_part(
     if !part.is_compared() {
         return Ok(());
     }
-    if listed.has_samples {
-        say_samples_of_part(text, heads, part)?;
-    } else {
-        say_start_of_part(text, part)?;
-    }
+    say_samples_of_part(text, heads, part)?;
     if text.bytes().len() == said {
         text.say(words::PART_AS_CLAIMED, &[])?;
     }
@@ -153,14 +141,13 @@ fn say_part(
 
 /// Says how each part isn't as claimed, or that it is. The first one that wasn't compared begins early; answers whether there is
 /// none.
-fn say_each(text: &mut Text, listed: Listed<'_, '_>) -> Result<bool, AllocError> {
-    let seen = listed.seen;
-    say_part(text, listed, 0, seen.first())?;
+fn say_each(text: &mut Text, seen: &Seen<'_>) -> Result<bool, AllocError> {
+    say_part(text, seen, 0, seen.first())?;
     let mut number: u16 = 0;
     let mut are_compared = true;
     for part in seen.others() {
         number = number.saturating_add(1);
-        say_part(text, listed, number, part)?;
+        say_part(text, seen, number, part)?;
         if !part.is_compared() {
             let sentence = if are_compared {
                 words::PART_EARLY
@@ -213,16 +200,10 @@ fn say_listed<R: PartsRecordings>(
     shifts: &TriedShifts,
 ) -> Result<(), PartsRunStop> {
     let only = seen.only_in_one(text.alloc())?;
-    let listed = Listed {
-        seen: &*seen,
-        has_samples: !shifts.has_yes(),
-    };
-    if !say_each(text, listed)? {
+    if !say_each(text, seen)? {
         return Ok(());
     }
-    if listed.has_samples {
-        say_notes(text, seen, &only)?;
-    }
+    say_notes(text, seen, &only)?;
     if shifts.are_none() {
         say_other_end(text, &parts.asked, seen.claim(), seen.notes(), &only)?;
     }
@@ -264,6 +245,7 @@ fn say_reckoned<R: PartsRecordings>(
 }
 
 /// Says what is to be said of what was seen of an original and its exports: what was tried, and how each export isn't as claimed.
+/// Where the check answers with a Yes with another shift, it is said where the first one starts, and nothing else.
 fn say_seen<R: PartsRecordings>(
     text: &mut Text,
     parts: &PartsAsked<'_, R>,
@@ -277,6 +259,12 @@ fn say_seen<R: PartsRecordings>(
     say_other_channels(text, &parts.asked, heads)?;
     let shifts = TriedShifts::of(text.alloc(), &parts.asked, seen.starts())?;
     say_shifts_of_parts(text, &seen, &shifts)?;
+    if shifts.has_yes() {
+        say_part_name(text, 0)?;
+        say_start_of_part(text, seen.first())?;
+        say_behind(text, parts, &seen)?;
+        return Ok(());
+    }
     match shifts.for_samples() {
         Some(seconds) => say_reckoned(text, parts, &shifts, seconds),
         None => say_listed(text, parts, &mut seen, &shifts),
