@@ -1,10 +1,11 @@
-//! The headers of an original and an export, and what `head_difference` answers; `tests/cases` has many more.
+//! The headers of an original and an export, and what `head_difference` and `head_differences` answer; `tests/cases` has
+//! many more.
 
 use edf_claim::Claim;
 use edf_fields::Place::{AtField, AtSignal};
 use edf_fields::{FixedField as Fixed, SignalField as Field, SliceSource, Which};
 use edf_header::Header;
-use edf_heads::head_difference;
+use edf_heads::{HeadDifference, head_difference, head_differences};
 use edf_test_files::{Done, Edit, header_of, put};
 use edf_verdict::{Difference, FreeText, SubfieldMismatch, TextField, Verdict};
 use std::alloc::{AllocError, Global};
@@ -168,4 +169,64 @@ const ROWS: &[Row<'static>] = &[
 #[test]
 fn compares_headers(rt: HostRuntime) -> Done {
     assert_rows(rt.alloc(), &rt, ROWS)
+}
+
+/// The answer that names this rule alone.
+fn answer_to<'a>(rule: &HeadDifference<'a>) -> Answer<'a> {
+    match *rule {
+        HeadDifference::UnknownChannel(label) => Answer::Unknown(label),
+        HeadDifference::MissingChannel(label) => Answer::Missing(label),
+        HeadDifference::ExtraChannel(label) => Answer::Extra(label),
+        HeadDifference::ChannelText(label, field) => Answer::Text(label, field),
+        HeadDifference::Calibration(label) => Answer::Calibration(label),
+        HeadDifference::Subfield(which, mismatch) => Answer::Subfield(which, mismatch),
+        HeadDifference::FreeTextInHeader => Answer::Header,
+        HeadDifference::FreeTextInChannel(label) => Answer::Channel(label),
+    }
+}
+
+/// An export that breaks a rule of each kind beside the reference file, under a claim on two channels.
+const WORN: Built<'static> = (
+    ALL,
+    &[
+        (AtSignal(0, Field::Prefilter), "HP:1Hz"),
+        (AtSignal(0, Field::PhysicalMaximum), "100.0001"),
+        (AtSignal(0, Field::Reserved), "seen by P."),
+        (AtSignal(2, Field::Prefilter), "HP:1Hz"),
+    ],
+);
+
+/// All that is broken there.
+const BROKEN: &[Answer<'static>] = &[
+    Answer::Unknown(b"EMG"),
+    Answer::Missing(b"EMG"),
+    Answer::Text(EEG, TextField::Prefilter),
+    Answer::Calibration(EEG),
+    Answer::Channel(EEG),
+    Answer::Extra(ECG),
+    Answer::Subfield(Which::Name, SubfieldMismatch::NotX),
+    Answer::Header,
+];
+
+#[test]
+fn finds_all_that_is_broken(rt: HostRuntime) -> Done {
+    let alloc = rt.alloc();
+    let original = read(alloc, &rt, A)?;
+    let export = read(alloc, &rt, WORN)?;
+    let claim = claim(
+        alloc,
+        &rt,
+        "[\"EMG\", \"EEG Fpz-Cz\"]",
+        "anonymous = [\"name\"]",
+    )?;
+    let found = head_differences(alloc, &original, &export, &claim)?;
+    assert_eq!(rt; found.len(), BROKEN.len());
+    for (at, rule) in found.iter().enumerate() {
+        assert_eq!(rt;
+            Some(answer_to(rule)),
+            BROKEN.get(at).copied(),
+            "at place {at}"
+        );
+    }
+    Ok(())
 }

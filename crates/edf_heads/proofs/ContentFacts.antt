@@ -16,11 +16,11 @@ use Rattle.edf_claim.specs.Terms.{Terms}
 use Rattle.edf_heads.specs.Blank.{HasNoTexts, IsBlankHeader}
 use Rattle.edf_heads.specs.differences.BlankDifference.{HasFreeText, IsFirstWithFreeText}
 use Rattle.edf_heads.specs.Calibrations.{HaveSameCalibration, SameCalibrations}
-use Rattle.edf_heads.specs.Channels.{AreAlike}
+use Rattle.edf_heads.specs.Channels.{AllAlike, AreAlike}
 use Rattle.edf_heads.specs.differences.ChannelDifferences.{AreUnlike, IsFirstUnlike}
-use Rattle.edf_heads.specs.Comparisons.{channel_of, claimed_of, claimed_view, IsComparison, text_difference_of, first_text_difference, is_same_line, has_other_calibration, of_both, has_text, HasNoFreeText, is_blank_signal}
+use Rattle.edf_heads.specs.Comparisons.{channel_of, claimed_of, claimed_view, IsComparison, text_difference_of, first_text_difference, is_same_line, has_other_calibration, has_other_text, of_both, has_text, HasNoFreeText, is_blank_signal}
 use Rattle.edf_heads.specs.Firsts.{IsFirstWith}
-use Rattle.edf_heads.specs.ChannelTexts.{HaveSameText, HaveSameTexts, SameTexts}
+use Rattle.edf_heads.specs.ChannelTexts.{HaveSameText, HaveSameTexts, SameTexts, text_in}
 use Rattle.edf_heads.specs.differences.TextDifference.{IsFirstText, IsTextDifference}
 use Rattle.edf_heads.specs.declared.channels.ClaimedChannel.{ClaimedChannel}
 use Rattle.edf_heads.specs.declared.channel_texts.TextDifference.{TextDifference}
@@ -134,14 +134,14 @@ empty-is : (xs : List ℕ) → (length xs == 0) ≡ true → xs ≡ []
 empty-is [] h = refl
 empty-is (x ∷ xs) h = absurd (let e : suc (length xs) ≡ 0 = (Decides-eqb (suc (length xs)) 0).0 h in omega (arith, e))
 
-text-there : (e : Head) (l : List ℕ) → has_text (channel_of l e.signals) ≡ true → HasFreeText e l
+pub text-there : (e : Head) (l : List ℕ) → has_text (channel_of l e.signals) ≡ true → HasFreeText e l
 text-there e l t = there-case (channel_of l e.signals) refl t
   where
     there-case : (p : Option SignalHead) → channel_of l e.signals ≡ p → has_text p ≡ true → HasFreeText e l
     there-case None q t = absurd (let f : false ≡ true = t in cc)
     there-case (Some x) q t = (x, channel-some e l x q, λ none. let f : false ≡ true = sym (ap (λ (xs : List ℕ). not (length xs == 0)) none) ∙ t in cc)
 
-no-text : (e : Head) (l : List ℕ) → IsSound e → has_text (channel_of l e.signals) ≡ false → HasFreeText e l → ⊥
+pub no-text : (e : Head) (l : List ℕ) → IsSound e → has_text (channel_of l e.signals) ≡ false → HasFreeText e l → ⊥
 no-text e l se f h =
     let g : not (length (h.0).reserved == 0) ≡ false = sym (ap has_text (channel-is e l h.0 se h.1)) ∙ f in
     h.2 (empty-is (h.0).reserved (untrue (length (h.0).reserved == 0) g))
@@ -211,13 +211,13 @@ either-not : (a b : Bool) → (not a || not b) ≡ not (a && b)
 either-not true b = refl
 either-not false b = refl
 
-other-calibration : (x y : SignalHead) → has_other_calibration x y ≡ true → HaveSameCalibration x y → ⊥
+pub other-calibration : (x y : SignalHead) → has_other_calibration x y ≡ true → HaveSameCalibration x y → ⊥
 other-calibration x y t h =
     let same = (calibration-decided x y).1 (h.dimension, h.line) in
     let f : true ≡ false = sym t ∙ either-not (bytes_eq x.dimension y.dimension) (is_same_line x.calibration y.calibration) ∙ ap not same in
     cc
 
-same-calibration : (x y : SignalHead) → has_other_calibration x y ≡ false → HaveSameCalibration x y
+pub same-calibration : (x y : SignalHead) → has_other_calibration x y ≡ false → HaveSameCalibration x y
 same-calibration x y f =
     let test = bytes_eq x.dimension y.dimension && is_same_line x.calibration y.calibration in
     let both = (calibration-decided x y).0 (untrue test (sym (either-not (bytes_eq x.dimension y.dimension) (is_same_line x.calibration y.calibration)) ∙ f)) in
@@ -230,3 +230,19 @@ calibrations-found o e claim so se =
     (λ l there t. differ-tested HaveSameCalibration has_other_calibration o e l other-calibration t)
     (λ l there f. alike-tested HaveSameCalibration has_other_calibration o e l so se same-calibration f)
     (λ l a d. alike-differ HaveSameCalibration o e l a d)
+
+-- ---- a text of one field
+
+pub other-text : (field : TextField) (x y : SignalHead) → has_other_text field x y ≡ true → HaveSameText field x y → ⊥
+other-text field x y t same = let f : true ≡ false = sym t ∙ ap not ((bytes_eq-Decides (text_in field x) (text_in field y)).1 same) in cc
+
+pub same-text : (field : TextField) (x y : SignalHead) → has_other_text field x y ≡ false → HaveSameText field x y
+same-text field x y f = (bytes_eq-Decides (text_in field x) (text_in field y)).0 (untrue (bytes_eq (text_in field x) (text_in field y)) f)
+
+pub one-text-found : (field : TextField) (o e : Head) (claim : Terms) → IsSound o → IsSound e
+    → MatchOption (find (λ l. of_both (has_other_text field) (channel_of l o.signals) (channel_of l e.signals)) claim.channels) (AllAlike (HaveSameText field) o e claim) (IsFirstUnlike (HaveSameText field) o e claim)
+one-text-found field o e claim so se =
+    first-found (λ l. of_both (has_other_text field) (channel_of l o.signals) (channel_of l e.signals)) (AreUnlike (HaveSameText field) o e) (AreAlike (HaveSameText field) o e) claim.channels
+    (λ l there t. differ-tested (HaveSameText field) (has_other_text field) o e l (other-text field) t)
+    (λ l there f. alike-tested (HaveSameText field) (has_other_text field) o e l so se (same-text field) f)
+    (λ l a d. alike-differ (HaveSameText field) o e l a d)

@@ -1,10 +1,10 @@
 -- The kinds of differences of two headers, in their order. A rule more of two headers is a kind more: here stand its rows, and in
 -- no other file of proofs. Two headers agree or have one first difference, and headers that say the same have the same one.
-use Rattle.std.proofs.Common.{◌≡◌, ◌↔◌, ℕ, Bor, option_map, ap, ◌∙◌, List, map, Option, Some, None, MatchOption, refl, ◌⊎◌, inl, inr, ◌&&◌, ◌==◌, length, find, is_none, ⊎_elim}
+use Rattle.std.proofs.Common.{◌≡◌, ◌↔◌, ℕ, Bor, Bool, true, false, not, IsTrue, option_map, ap, ◌∙◌, List, [], ◌∷◌, ◌++◌, map, Option, Some, None, MatchOption, refl, sym, subst, ◌⊎◌, inl, inr, ◌&&◌, ◌==◌, length, find, is_none, ⊎_elim}
 use Rattle.edf_fields.specs.Lists.{Has, is_one_of}
-use Rattle.edf_fields.proofs.ForCallers.{one_of-has, has-one_of}
+use Rattle.edf_fields.proofs.ForCallers.{one_of-has, has-one_of, has-append, has-back, has-front, has-map, map-has, not-true}
 use Rattle.edf_header.specs.signals.Channels.{channel_labels}
-use Rattle.edf_header.specs.Heads.{Head}
+use Rattle.edf_header.specs.Heads.{SignalHead, Head}
 use Rattle.edf_header.specs.Sound.{IsSound}
 use Rattle.edf_claim.specs.Claims.{IsClaim}
 use Rattle.edf_claim.specs.Terms.{Terms}
@@ -13,18 +13,22 @@ use Rattle.edf_heads.specs.differences.BlankDifference.{HasFreeText, IsFirstWith
 use Rattle.edf_heads.specs.Calibrations.{HaveSameCalibration, SameCalibrations}
 use Rattle.edf_heads.specs.Channels.{HasAll, SameChannels}
 use Rattle.edf_heads.specs.differences.ChannelDifferences.{HasNoChannel, IsLeastExtra, AreUnlike, IsFirstUnlike}
-use Rattle.edf_heads.specs.Comparisons.{Claimed, Compared, claimed_view, IsComparison, breaks, Breaks, Keep, HasNoFreeText, channel_of, claimed_of, first_text_difference, has_other_calibration, of_both, has_text, is_blank_signal}
-use Rattle.edf_heads.specs.HeadVerdicts.{HeadsAgree, SignalsAgree, IsHeadVerdict}
+use Rattle.edf_heads.specs.Comparisons.{Claimed, Compared, claimed_view, IsComparison, breaks, Breaks, Keep, HasNoFreeText, channel_of, claimed_of, first_text_difference, has_other_calibration, has_other_text, of_both, has_text, is_blank_signal, all_rules, broken_at, broken_by, difference_of, named_at, named_if, unclaimed_in, Adds, Appends, AreAllBrokenIn, IsBrokenAmong}
+use Rattle.edf_heads.specs.HeadVerdicts.{AreAllBroken, HeadsAgree, SignalsAgree, IsBroken, IsHeadVerdict}
 use Rattle.edf_heads.specs.Subfields.{IsAsClaimed, SubfieldsAsClaimed}
 use Rattle.edf_fields.specs.fields.SubfieldNamesReading.{all_subfields}
-use Rattle.edf_heads.specs.ChannelTexts.{HaveSameTexts, SameTexts}
+use Rattle.edf_heads.specs.ChannelTexts.{HaveSameText, HaveSameTexts, SameTexts}
 use Rattle.edf_verdict.specs.declared.verdict.Verdict.{Verdict}
-use Rattle.edf_verdict.specs.declared.verdict.Verdict.TheVariants.{No}
+use Rattle.edf_verdict.specs.declared.verdict.Verdict.TheVariants.{Yes, No}
+use Rattle.edf_verdict.specs.declared.verdict.Difference.{Difference}
 use Rattle.edf_verdict.specs.declared.verdict.FreeText.TheVariants.{Header, Channel}
-use Rattle.edf_heads.proofs.ContentFacts.{texts-found, free-found, blank_decided, calibrations-found}
+use Rattle.edf_heads.proofs.BrokenFacts.{at-held, by-held, held-at, held-by, held-named, held-unclaimed, named-held, unclaimed-held}
+use Rattle.edf_heads.proofs.ChannelFacts.{channel-none, channel-some}
+use Rattle.edf_heads.proofs.ContentFacts.{texts-found, free-found, blank_decided, calibrations-found, one-text-found, alike-differ, alike-tested, differ-tested, no-text, other-calibration, other-text, same-calibration, same-text, text-there, untrue}
 use Rattle.edf_heads.proofs.ListFacts.{first-has}
 use Rattle.edf_fields.specs.declared.fields.which.Which.{Which}
 use Rattle.edf_verdict.specs.declared.verdict.TextField.{TextField}
+use Rattle.edf_verdict.specs.declared.verdict.TextField.TheVariants.{Transducer, Prefilter}
 use Rattle.edf_verdict.specs.declared.verdict.SubfieldMismatch.{SubfieldMismatch}
 use Rattle.edf_verdict.specs.declared.verdict.SubfieldMismatch.TheVariants.{NotX, Changed}
 use Rattle.edf_heads.specs.Firsts.{IsFirstWith}
@@ -33,8 +37,9 @@ use Rattle.edf_heads.specs.differences.TextDifference.{IsFirstText, IsTextDiffer
 use Rattle.edf_heads.proofs.LabelFacts.{one-label}
 use Rattle.std.specs.List.{list_all}
 use Rattle.edf_heads.specs.declared.channels.ClaimedChannel.{ClaimedChannel}
+use Rattle.edf_heads.specs.declared.heads.HeadDifference.{HeadDifference}
 use Rattle.edf_heads.specs.declared.rules.ChannelRule.{ChannelRule}
-use Rattle.edf_heads.specs.declared.rules.ChannelRule.TheVariants.{Known, Exported, Calibrated, Clean}
+use Rattle.edf_heads.specs.declared.rules.ChannelRule.TheVariants.{Known, Exported, SameText, Calibrated, Clean}
 use Rattle.edf_heads.proofs.ComparisonFacts.{absent-first, find-claimed, said-of}
 use Rattle.edf_heads.proofs.SubfieldFacts.{has-all}
 use Rattle.edf_heads.specs.SameHeads.{AreBlankAlike}
@@ -50,6 +55,7 @@ rule-found : (rule : ChannelRule) (c : Compared) → IsSound c.original → IsSo
     → MatchOption (find (λ l. breaks rule (claimed_of c.original.signals c.export.signals l)) c.claim.channels) (Keep rule c) (IsFirstWith (Breaks rule c) c.claim.channels)
 rule-found Known c so se = absent-first c.original c.claim.channels
 rule-found Exported c so se = absent-first c.export c.claim.channels
+rule-found (SameText field) c so se = one-text-found field c.original c.export c.claim so se
 rule-found Calibrated c so se = calibrations-found c.original c.export c.claim so se
 rule-found Clean c so se = free-found c.export c.claim se
 
@@ -60,6 +66,38 @@ rule_said rule c claimed labels seen r is all found =
     said-of (Keep rule c) (IsFirstWith (Breaks rule c) c.claim.channels) r (find (λ l. breaks rule (claimed_of c.original.signals c.export.signals l)) c.claim.channels)
     (found ∙ ap (λ cs. option_map (λ (x : Claimed). x.label) (find (breaks rule) cs)) (ap (map claimed_view) all ∙ is.claimed_are) ∙ find-claimed c.original.signals c.export.signals (breaks rule) c.claim.channels)
     (rule-found rule c is.original_sound is.export_sound)
+
+-- ---- a channel breaks a rule
+
+none-there : (h : Head) (l : List ℕ) → is_none (channel_of l h.signals) ≡ true → HasNoChannel h l
+none-there h l t = none-case (channel_of l h.signals) refl t
+  where
+    none-case : (o : Option SignalHead) → channel_of l h.signals ≡ o → is_none o ≡ true → HasNoChannel h l
+    none-case None e t = channel-none h l e
+    none-case (Some x) e t = absurd (let f : false ≡ true = t in cc)
+
+some-there : (h : Head) (l : List ℕ) → is_none (channel_of l h.signals) ≡ false → HasNoChannel h l → ⊥
+some-there h l f none = some-case (channel_of l h.signals) refl f
+  where
+    some-case : (o : Option SignalHead) → channel_of l h.signals ≡ o → is_none o ≡ false → ⊥
+    some-case None e f = let g : true ≡ false = f in cc
+    some-case (Some x) e f = none (x, channel-some h l x e)
+
+breaks-said : (rule : ChannelRule) (c : Compared) (l : List ℕ) → breaks rule (claimed_of c.original.signals c.export.signals l) ≡ true → Breaks rule c l
+breaks-said Known c l t = none-there c.original l t
+breaks-said Exported c l t = none-there c.export l t
+breaks-said (SameText field) c l t = differ-tested (HaveSameText field) (has_other_text field) c.original c.export l (other-text field) t
+breaks-said Calibrated c l t = differ-tested HaveSameCalibration has_other_calibration c.original c.export l other-calibration t
+breaks-said Clean c l t = text-there c.export l t
+
+keeps-said : (rule : ChannelRule) (c : Compared) (l : List ℕ) → IsSound c.original → IsSound c.export → breaks rule (claimed_of c.original.signals c.export.signals l) ≡ false → Breaks rule c l → ⊥
+keeps-said Known c l so se f = some-there c.original l f
+keeps-said Exported c l so se f = some-there c.export l f
+keeps-said (SameText field) c l so se f =
+    alike-differ (HaveSameText field) c.original c.export l (alike-tested (HaveSameText field) (has_other_text field) c.original c.export l so se (same-text field) f)
+keeps-said Calibrated c l so se f =
+    alike-differ HaveSameCalibration c.original c.export l (alike-tested HaveSameCalibration has_other_calibration c.original c.export l so se same-calibration f)
+keeps-said Clean c l so se f = no-text c.export l se f
 
 -- ---- the headers agree
 
@@ -280,3 +318,147 @@ head_verdict_carried o e o' e' s b c (No (differences.NotClean (Channel l))) h =
   first-carried (HasFreeText e) (HasFreeText e') (free-carried e e' s.export b) (free-carried e' e (same-heads-back e e' s.export) (blank-alike-back e e' b)) c.channels l h.3,
 )
 head_verdict_carried o e o' e' s b c v h = absurd h
+
+-- ---- all rules that are broken
+
+-- a rule that the channels of a claimed label break is broken
+named-broken : (rule : ChannelRule) (c : Compared) (l : List ℕ) → Has c.claim.channels l → Breaks rule c l → IsBroken c.original c.export c.claim (named_at rule l)
+named-broken Known c l there b = (there, b)
+named-broken Exported c l there b = (there, b)
+named-broken (SameText field) c l there b = (there, b)
+named-broken Calibrated c l there b = (there, b)
+named-broken Clean c l there b = (there, b)
+
+claimed-broken : (c : Compared) (rules : List ChannelRule) (rule : Difference) → Has (broken_by rules (map (claimed_of c.original.signals c.export.signals) c.claim.channels)) rule → IsBroken c.original c.export c.claim rule
+claimed-broken c rules rule h =
+    by-held (λ r. IsBroken c.original c.export c.claim r) rules (map (claimed_of c.original.signals c.export.signals) c.claim.channels) rule
+    (λ x there i.
+    let m = map-has (claimed_of c.original.signals c.export.signals) c.claim.channels x there in
+    let j = let P : Claimed → Type 0 = λ y. Has (broken_at rules y) rule in subst P (sym m.2) i in
+    at-held (λ r. IsBroken c.original c.export c.claim r) rules (claimed_of c.original.signals c.export.signals m.0) rule (λ r t. named-broken r c m.0 m.1 (breaks-said r c m.0 t)) j)
+    h
+
+broken-claimed : (c : Compared) (rule : ChannelRule) (l : List ℕ) → IsSound c.original → IsSound c.export → Has all_rules rule → Has c.claim.channels l → Breaks rule c l
+    → Has (broken_by all_rules (map (claimed_of c.original.signals c.export.signals) c.claim.channels)) (named_at rule l)
+broken-claimed c rule l so se among there b =
+    held-by all_rules (map (claimed_of c.original.signals c.export.signals) c.claim.channels) (claimed_of c.original.signals c.export.signals l) (named_at rule l)
+    (has-map (claimed_of c.original.signals c.export.signals) c.claim.channels l there)
+    (held-at all_rules (claimed_of c.original.signals c.export.signals l) rule among (λ f. keeps-said rule c l so se f b))
+
+-- what is found one after the other is all that is broken
+pub all_broken : (c : Compared) (claimed : List ClaimedChannel) (labels : List (Bor (List ℕ))) (seen : List ClaimedChannel) (none channels others subfields all : List HeadDifference) (blank : Bool)
+    → IsComparison c.original c.export c.claim claimed labels → seen ≡ claimed → none ≡ [] → Appends none channels (broken_by all_rules (map claimed_view seen)) → Appends channels others (unclaimed_in c.claim.channels c.export.signals)
+    → Adds others subfields (IsBrokenAmong c all_subfields) → IsTrue blank ↔ IsBlankHeader c.export → Appends subfields all (named_if (not blank) (differences.NotClean Header)) → AreAllBrokenIn c all
+all_broken c claimed labels seen none channels others subfields all blank is same empty first second third tested fourth rule = (λ h. from rule h, λ h. to rule h)
+  where
+    so : IsSound c.original
+    so = is.original_sound
+
+    se : IsSound c.export
+    se = is.export_sound
+
+    found : List Difference
+    found = broken_by all_rules (map (claimed_of c.original.signals c.export.signals) c.claim.channels)
+
+    channels-are : map difference_of channels ≡ found
+    channels-are =
+        first ∙ ap (λ (ds : List HeadDifference). map difference_of ds ++ broken_by all_rules (map claimed_view seen)) empty ∙ ap (λ cs. broken_by all_rules (map claimed_view cs)) same ∙ ap (broken_by all_rules) is.claimed_are
+
+    from-others : (r : Difference) → Has (map difference_of others) r → IsBroken c.original c.export c.claim r
+    from-others r h =
+        ⊎_elim (λ i. claimed-broken c all_rules r (subst (λ (ds : List Difference). Has ds r) channels-are i))
+        (unclaimed-held (λ d. IsBroken c.original c.export c.claim d) c.export c.claim.channels c.export.signals r (λ x j. j) (λ l x. x))
+        (has-append (map difference_of channels) (unclaimed_in c.claim.channels c.export.signals) r (subst (λ (ds : List Difference). Has ds r) second h))
+
+    among-broken : (r : Difference) → IsBrokenAmong c all_subfields r → IsBroken c.original c.export c.claim r
+    among-broken (differences.Subfield which mismatch) h = h.1
+    among-broken r h = absurd h
+
+    from : (r : Difference) → Has (map difference_of all) r → IsBroken c.original c.export c.claim r
+    from r h =
+        ⊎_elim (λ i. ⊎_elim (λ j. from-others r j) (λ j. among-broken r j) ((third r).0 i))
+        (named-held (λ d. IsBroken c.original c.export c.claim d) (not blank) (differences.NotClean Header) r (λ t agree. let f : true ≡ false = sym (tested.1 agree) ∙ not-true blank t in cc))
+        (has-append (map difference_of subfields) (named_if (not blank) (differences.NotClean Header)) r (subst (λ (ds : List Difference). Has ds r) fourth h))
+
+    of-subfields : (r : Difference) → Has (map difference_of subfields) r → Has (map difference_of all) r
+    of-subfields r h = subst (λ (ds : List Difference). Has ds r) (sym fourth) (has-front (map difference_of subfields) (named_if (not blank) (differences.NotClean Header)) r h)
+
+    of-others : (r : Difference) → Has (map difference_of others) r → Has (map difference_of all) r
+    of-others r h = of-subfields r ((third r).1 (inl h))
+
+    of-channel : (r : ChannelRule) (l : List ℕ) → Has all_rules r → Has c.claim.channels l → Breaks r c l → Has (map difference_of all) (named_at r l)
+    of-channel r l among there b =
+        of-others (named_at r l)
+        (subst (λ (ds : List Difference). Has ds (named_at r l)) (sym second)
+        (has-front (map difference_of channels) (unclaimed_in c.claim.channels c.export.signals) (named_at r l)
+        (subst (λ (ds : List Difference). Has ds (named_at r l)) (sym channels-are) (broken-claimed c r l so se among there b))))
+
+    to : (r : Difference) → IsBroken c.original c.export c.claim r → Has (map difference_of all) r
+    to (differences.UnknownChannel l) h = of-channel Known l (inl refl) h.0 h.1
+    to (differences.MissingChannel l) h = of-channel Exported l (inr (inl refl)) h.0 h.1
+    to (differences.ExtraChannel l) h =
+        of-others (differences.ExtraChannel l)
+        (subst (λ (ds : List Difference). Has ds (differences.ExtraChannel l)) (sym second)
+        (has-back (map difference_of channels) (unclaimed_in c.claim.channels c.export.signals) (differences.ExtraChannel l) (held-unclaimed c.export c.claim.channels l h)))
+    to (differences.ChannelText l Transducer) h = of-channel (SameText Transducer) l (inr (inr (inl refl))) h.0 h.1
+    to (differences.ChannelText l Prefilter) h = of-channel (SameText Prefilter) l (inr (inr (inr (inl refl)))) h.0 h.1
+    to (differences.Calibration l) h = of-channel Calibrated l (inr (inr (inr (inr (inl refl))))) h.0 h.1
+    to (differences.Subfield which mismatch) h = of-subfields (differences.Subfield which mismatch) ((third (differences.Subfield which mismatch)).1 (inr (has-all which, h)))
+    to (differences.NotClean Header) h =
+        subst (λ (ds : List Difference). Has ds (differences.NotClean Header)) (sym fourth)
+        (has-back (map difference_of subfields) (named_if (not blank) (differences.NotClean Header)) (differences.NotClean Header)
+        (held-named (not blank) (differences.NotClean Header) (λ f. h (tested.0 (untrue blank f)))))
+    to (differences.NotClean (Channel l)) h = of-channel Clean l (inr (inr (inr (inr (inr (inl refl)))))) h.0 h.1
+    to r h = absurd h
+
+-- the same of what a comparison says that it is
+pub all_broken_in : (c m : Compared) (claimed : List ClaimedChannel) (labels : List (Bor (List ℕ))) (seen : List ClaimedChannel) (signals : List SignalHead) (whiches : List Which) (none channels others subfields all : List HeadDifference) (blank : Bool)
+    → c ≡ m → IsComparison c.original c.export c.claim claimed labels → seen ≡ claimed → signals ≡ c.export.signals → whiches ≡ all_subfields → none ≡ [] → Appends none channels (broken_by all_rules (map claimed_view seen))
+    → Appends channels others (unclaimed_in c.claim.channels signals) → Adds others subfields (IsBrokenAmong m whiches) → IsTrue blank ↔ IsBlankHeader m.export → Appends subfields all (named_if (not blank) (differences.NotClean Header)) → AreAllBrokenIn m all
+all_broken_in c m claimed labels seen signals whiches none channels others subfields all blank e is same of every empty first second third tested fourth =
+    subst (λ (x : Compared). AreAllBrokenIn x all) e
+    (all_broken c claimed labels seen none channels others subfields all blank is same empty first
+    (subst (λ (ss : List SignalHead). Appends channels others (unclaimed_in c.claim.channels ss)) of second)
+    (subst (λ (ws : List Which). Adds others subfields (IsBrokenAmong c ws)) every (subst (λ (x : Compared). Adds others subfields (IsBrokenAmong x whiches)) (sym e) third))
+    (subst (λ (x : Compared). IsTrue blank ↔ IsBlankHeader x.export) (sym e) tested) fourth)
+
+-- ---- the rule that a verdict names is broken, and where the headers agree none is
+
+pub first_is_broken : (o e : Head) (c : Terms) (rule : Difference) → IsHeadVerdict o e c (No rule) → IsBroken o e c rule
+first_is_broken o e c (differences.UnknownChannel l) v = first-has (HasNoChannel o) c.channels l v
+first_is_broken o e c (differences.MissingChannel l) v = first-has (HasNoChannel e) c.channels l v.1
+first_is_broken o e c (differences.ExtraChannel l) v = (v.2).extra
+first_is_broken o e c (differences.ChannelText l Transducer) v = ((first-has (AreUnlike HaveSameTexts o e) c.channels l (v.1).channel).0, (v.1).text)
+first_is_broken o e c (differences.ChannelText l Prefilter) v = ((first-has (AreUnlike HaveSameTexts o e) c.channels l (v.1).channel).0, ((v.1).text).1)
+first_is_broken o e c (differences.Calibration l) v = first-has (AreUnlike HaveSameCalibration o e) c.channels l v.2
+first_is_broken o e c (differences.Subfield which mismatch) v = ((first-has (λ w. IsAsClaimed o e c w → ⊥) all_subfields which (v.1).subfield).1, (v.1).mismatch_is)
+first_is_broken o e c (differences.NotClean Header) v = v.2
+first_is_broken o e c (differences.NotClean (Channel l)) v = first-has (HasFreeText e) c.channels l v.3
+first_is_broken o e c rule v = absurd v
+
+none-broken : (o e : Head) (c : Terms) → HeadsAgree o e c → (rule : Difference) → IsBroken o e c rule → ⊥
+none-broken o e c agree (differences.UnknownChannel l) b = b.1 (agree.channels.in_original l b.0)
+none-broken o e c agree (differences.MissingChannel l) b = b.1 (in-export o e c agree.channels l b.0)
+none-broken o e c agree (differences.ExtraChannel l) b = b.unclaimed (claimed-in o e c agree.channels l b.there)
+none-broken o e c agree (differences.ChannelText l Transducer) b = let d = b.1 in d.4 (agree.texts l b.0 d.0 d.1 d.2 d.3).0
+none-broken o e c agree (differences.ChannelText l Prefilter) b = let d = b.1 in d.4 (agree.texts l b.0 d.0 d.1 d.2 d.3).1
+none-broken o e c agree (differences.Calibration l) b = let d = b.1 in d.4 (agree.calibrations l b.0 d.0 d.1 d.2 d.3)
+none-broken o e c agree (differences.Subfield which mismatch) b = b.0 (agree.subfields which)
+none-broken o e c agree (differences.NotClean Header) b = b agree.blank.header
+none-broken o e c agree (differences.NotClean (Channel l)) b = let t = b.1 in t.2 (agree.blank.channels l t.0 t.1)
+none-broken o e c agree rule b = absurd b
+
+pub nothing_is_broken : (o e : Head) (c : Terms) (found : List Difference) → IsSound o → IsSound e → IsClaim c → AreAllBroken o e c found → (found ≡ []) ↔ HeadsAgree o e c
+nothing_is_broken o e c found so se is are = (λ none. agrees none (agree_or_differ o e c so se is), λ agree. empty found (λ rule h. none-broken o e c agree rule ((are rule).0 h)))
+  where
+    nowhere : found ≡ [] → (v : Verdict) → IsHeadVerdict o e c v → ⊥
+    nowhere none (No rule) v = subst (λ (ds : List Difference). Has ds rule) none ((are rule).1 (first_is_broken o e c rule v))
+    nowhere none (Yes x s a) v = v
+
+    agrees : found ≡ [] → AgreeOrDiffer o e c → HeadsAgree o e c
+    agrees none (inl h) = h
+    agrees none (inr r) = absurd (nowhere none r.0 r.1)
+
+    empty : (ds : List Difference) → ((rule : Difference) → Has ds rule → ⊥) → ds ≡ []
+    empty [] h = refl
+    empty (d ∷ ds) h = absurd (h d (inl refl))

@@ -9,5 +9,6 @@ pub mod SubfieldFacts
 pub mod OneHeadFacts
 pub mod SomeHeadFacts
 pub mod SameHeadFacts
+pub mod BrokenFacts
 pub mod KindFacts
 pub mod ForCallers

@@ -64,7 +64,7 @@ one-text o e c (l, p) (m, q) a b =
     let field : p ≡ q = one-field o e m p q (subst (λ k. IsFirstText o e k p) label a.text) b.text in
     cc
 
-one-side : (c : Terms) (which : Which) (p q : SubfieldMismatch) → IsMismatch c which p → IsMismatch c which q → p ≡ q
+pub one-side : (c : Terms) (which : Which) (p q : SubfieldMismatch) → IsMismatch c which p → IsMismatch c which q → p ≡ q
 one-side c which NotX NotX h i = refl
 one-side c which NotX Changed h i = absurd (i h)
 one-side c which Changed NotX h i = absurd (h i)

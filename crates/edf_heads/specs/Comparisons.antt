@@ -1,5 +1,5 @@
 -- What a comparison of two headers holds: the channels of each claimed label, found once; and a difference as the code holds it. These are steps between the definitions and the code.
-use Rattle.std.specs.Prelude.{◌≡◌, ◌↔◌, ℕ, ◌==◌, Bool, true, false, not, ◌&&◌, ◌||◌, List, [], ◌∷◌, length, map, find, slice_get, Option, None, Some, option_map, is_none, MatchOption, ◌*ℤ◌, codes, if◌then◌else◌}
+use Rattle.std.specs.Prelude.{◌≡◌, ◌↔◌, ℕ, ◌==◌, Bool, true, false, not, ◌&&◌, ◌||◌, ◌⊎◌, List, [], ◌∷◌, ◌++◌, length, map, find, slice_get, Option, None, Some, option_map, is_none, MatchOption, ◌*ℤ◌, codes, if◌then◌else◌}
 use Rattle.std.specs.Borrow.{Bor}
 use Rattle.std.specs.Cmp.Lexicographic.{slice_cmp}
 use Rattle.std.specs.List.Sorted.{IsSorted, IsPermutation}
@@ -18,19 +18,19 @@ use Rattle.edf_fields.specs.declared.fields.which.Which.{Which}
 use Rattle.edf_fields.specs.declared.fields.which.Which.TheVariants.{Code, Sex, Birthdate, Name, PatientExtras, Date, Administration, Technician, Equipment, RecordingExtras}
 use Rattle.edf_heads.specs.differences.BlankDifference.{HasFreeText}
 use Rattle.edf_heads.specs.Calibrations.{HaveSameCalibration, SameCalibrations}
-use Rattle.edf_heads.specs.Channels.{HasAll, SameChannels}
-use Rattle.edf_heads.specs.ChannelTexts.{SameTexts}
+use Rattle.edf_heads.specs.Channels.{AllAlike, HasAll, SameChannels}
+use Rattle.edf_heads.specs.ChannelTexts.{HaveSameText, SameTexts, text_in}
 use Rattle.edf_heads.specs.differences.ChannelDifferences.{HasNoChannel, IsExtra, IsLeastExtra, AreUnlike}
 use Rattle.edf_heads.specs.Firsts.{IsFirstWith}
 use Rattle.edf_heads.specs.Subfields.{IsX, AreAllX, IsAsClaimed, SubfieldsAsClaimed}
 use Rattle.edf_heads.specs.differences.SubfieldDifference.{IsMismatch, IsSubfieldDifference}
 use Rattle.edf_heads.specs.differences.TextDifference.{IsTextDifference}
-use Rattle.edf_heads.specs.HeadVerdicts.{HeadsAgree, SignalsAgree, IsHeadVerdict}
+use Rattle.edf_heads.specs.HeadVerdicts.{AreAllBroken, HeadsAgree, SignalsAgree, IsHeadVerdict}
 use Rattle.edf_heads.specs.declared.channels.ClaimedChannel.{ClaimedChannel}
 use Rattle.edf_heads.specs.declared.heads.HeadDifference.{HeadDifference}
 use Rattle.edf_heads.specs.declared.heads.HeadDifference.TheVariants as heads
 use Rattle.edf_heads.specs.declared.rules.ChannelRule.{ChannelRule}
-use Rattle.edf_heads.specs.declared.rules.ChannelRule.TheVariants.{Known, Exported, Calibrated, Clean}
+use Rattle.edf_heads.specs.declared.rules.ChannelRule.TheVariants.{Known, Exported, SameText, Calibrated, Clean}
 use Rattle.edf_heads.specs.declared.subfields.SubfieldDifference.{SubfieldDifference}
 use Rattle.edf_verdict.specs.declared.verdict.SubfieldMismatch.{SubfieldMismatch}
 use Rattle.edf_verdict.specs.declared.verdict.Difference.{Difference}
@@ -137,6 +137,10 @@ of_both test None y = false
 of_both test (Some x) None = false
 of_both test (Some x) (Some y) = test x y
 
+-- two channels have another text in this field
+abbrev pub has_other_text : TextField → SignalHead → SignalHead → Bool
+has_other_text field x y = not (bytes_eq (text_in field x) (text_in field y))
+
 -- the channel is there and has free text
 abbrev pub has_text : Option SignalHead → Bool
 has_text None = false
@@ -150,6 +154,7 @@ HasNoFreeText export claim = (label : List ℕ) → Has claim.channels label →
 abbrev pub breaks : ChannelRule → Claimed → Bool
 breaks Known c = is_none c.original
 breaks Exported c = is_none c.export
+breaks (SameText field) c = of_both (has_other_text field) c.original c.export
 breaks Calibrated c = of_both has_other_calibration c.original c.export
 breaks Clean c = has_text c.export
 
@@ -161,6 +166,7 @@ first_breaking rule claimed = option_map (λ c. c.label) (find (breaks rule) cla
 abbrev pub Breaks : ChannelRule → Compared → List ℕ → Type 0
 Breaks Known c label = HasNoChannel c.original label
 Breaks Exported c label = HasNoChannel c.export label
+Breaks (SameText field) c label = AreUnlike (HaveSameText field) c.original c.export label
 Breaks Calibrated c label = AreUnlike HaveSameCalibration c.original c.export label
 Breaks Clean c label = HasFreeText c.export label
 
@@ -168,8 +174,41 @@ Breaks Clean c label = HasFreeText c.export label
 abbrev pub Keep : ChannelRule → Compared → Type 0
 Keep Known c = HasAll c.original c.claim.channels
 Keep Exported c = HasAll c.export c.claim.channels
+Keep (SameText field) c = AllAlike (HaveSameText field) c.original c.export c.claim
 Keep Calibrated c = SameCalibrations c.original c.export c.claim
 Keep Clean c = HasNoFreeText c.export c.claim
+
+-- all rules of a channel, in the order in which they are found at a label
+abbrev pub all_rules : List ChannelRule
+all_rules = Known ∷ Exported ∷ SameText Transducer ∷ SameText Prefilter ∷ Calibrated ∷ Clean ∷ []
+
+-- the rule as a verdict names it, that is broken at this label
+abbrev pub named_at : ChannelRule → List ℕ → Difference
+named_at Known label = UnknownChannel label
+named_at Exported label = MissingChannel label
+named_at (SameText field) label = ChannelText label field
+named_at Calibrated label = Calibration label
+named_at Clean label = NotClean (Channel label)
+
+-- a rule that is broken, if it is
+abbrev pub named_if : Bool → Difference → List Difference
+named_if is_broken rule = if is_broken then rule ∷ [] else []
+
+-- those of these rules that the channels of a label break
+abbrev pub broken_at : List ChannelRule → Claimed → List Difference
+broken_at [] c = []
+broken_at (rule ∷ rules) c = named_if (breaks rule c) (named_at rule c.label) ++ broken_at rules c
+
+-- those that the channels of each label break
+abbrev pub broken_by : List ChannelRule → List Claimed → List Difference
+broken_by rules [] = []
+broken_by rules (c ∷ cs) = broken_at rules c ++ broken_by rules cs
+
+-- the channels among the signals whose label is none of these
+abbrev pub unclaimed_in : List (List ℕ) → List SignalHead → List Difference
+unclaimed_in labels [] = []
+unclaimed_in labels (signal ∷ signals) =
+    named_if (not (is_annotations signal.label) && not (is_one_of labels signal.label)) (ExtraChannel signal.label) ++ unclaimed_in labels signals
 
 -- the signal is a channel, or has no text but its label
 abbrev pub is_blank_signal : SignalHead → Bool
@@ -288,3 +327,27 @@ AllAsClaimedIn c = SubfieldsAsClaimed c.original c.export c.claim
 -- or this is the first one that isn't, and how it isn't
 abbrev pub IsSubfieldDifferenceIn : Compared → Which → SubfieldMismatch → Type 0
 IsSubfieldDifferenceIn c which mismatch = IsSubfieldDifference c.original c.export c.claim which mismatch
+
+-- ---- all rules that are broken
+
+-- what was found before stands there, and behind it these rules
+abbrev pub Appends : List HeadDifference → List HeadDifference → List Difference → Type 0
+Appends before after rules = map difference_of after ≡ map difference_of before ++ rules
+
+-- the rules that were found before stand there, and those of which this holds, and no other
+abbrev pub Adds : List HeadDifference → List HeadDifference → (Difference → Type 0) → Type 0
+Adds before after Holds = (rule : Difference) → Has (map difference_of after) rule ↔ (Has (map difference_of before) rule ⊎ Holds rule)
+
+-- how a subfield isn't as claimed, if it isn't
+abbrev pub named_some : Which → Option SubfieldMismatch → List Difference
+named_some which None = []
+named_some which (Some mismatch) = Subfield which mismatch ∷ []
+
+-- the rule is that of one of these subfields, and is broken
+abbrev pub IsBrokenAmong : Compared → List Which → Difference → Type 0
+IsBrokenAmong c whiches (Subfield which mismatch) = Has whiches which × IsMismatchIn c which mismatch
+IsBrokenAmong c whiches rule = ⊥
+
+-- each rule that is broken was found, and no other
+abbrev pub AreAllBrokenIn : Compared → List HeadDifference → Type 0
+AreAllBrokenIn c found = AreAllBroken c.original c.export c.claim (map difference_of found)

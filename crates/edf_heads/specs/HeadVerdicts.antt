@@ -1,16 +1,19 @@
 -- The verdict on the headers of an original and an export.
+use Rattle.std.specs.Prelude.{◌↔◌, List}
+use Rattle.edf_fields.specs.Lists.{Has}
 use Rattle.edf_header.specs.Heads.{Head}
 use Rattle.edf_claim.specs.Terms.{Terms}
 use Rattle.edf_heads.specs.Firsts.{IsFirstWith}
 use Rattle.edf_heads.specs.Channels.{HasAll, SameChannels}
-use Rattle.edf_heads.specs.differences.ChannelDifferences.{HasNoChannel, IsFirstUnlike, IsLeastExtra}
-use Rattle.edf_heads.specs.ChannelTexts.{SameTexts}
+use Rattle.edf_heads.specs.differences.ChannelDifferences.{AreUnlike, HasNoChannel, IsExtra, IsFirstUnlike, IsLeastExtra}
+use Rattle.edf_heads.specs.ChannelTexts.{HaveSameText, SameTexts}
 use Rattle.edf_heads.specs.differences.TextDifference.{IsTextDifference}
 use Rattle.edf_heads.specs.Calibrations.{HaveSameCalibration, SameCalibrations}
-use Rattle.edf_heads.specs.Subfields.{SubfieldsAsClaimed}
-use Rattle.edf_heads.specs.differences.SubfieldDifference.{IsSubfieldDifference}
+use Rattle.edf_heads.specs.Subfields.{IsAsClaimed, SubfieldsAsClaimed}
+use Rattle.edf_heads.specs.differences.SubfieldDifference.{IsMismatch, IsSubfieldDifference}
 use Rattle.edf_heads.specs.Blank.{IsBlankHeader, IsBlank}
-use Rattle.edf_heads.specs.differences.BlankDifference.{IsFirstWithFreeText}
+use Rattle.edf_heads.specs.differences.BlankDifference.{HasFreeText, IsFirstWithFreeText}
+use Rattle.edf_verdict.specs.declared.verdict.Difference.{Difference}
 use Rattle.edf_verdict.specs.declared.verdict.Verdict.{Verdict}
 use Rattle.edf_verdict.specs.declared.verdict.Verdict.TheVariants.{No}
 use Rattle.edf_verdict.specs.declared.verdict.Difference.TheVariants.{UnknownChannel, MissingChannel, ExtraChannel, ChannelText, Calibration, Subfield, NotClean}
@@ -49,3 +52,19 @@ IsHeadVerdict original export claim (No (NotClean Header)) =
 IsHeadVerdict original export claim (No (NotClean (Channel label))) =
     SignalsAgree original export claim × SubfieldsAsClaimed original export claim × IsBlankHeader export × IsFirstWithFreeText export claim label
 IsHeadVerdict original export claim verdict = ⊥
+
+-- the rule that a verdict names is broken, whether or not another one is broken before it; samples and annotations break none of headers
+abbrev pub IsBroken : Head → Head → Terms → Difference → Type 0
+IsBroken original export claim (UnknownChannel label) = Has claim.channels label × HasNoChannel original label
+IsBroken original export claim (MissingChannel label) = Has claim.channels label × HasNoChannel export label
+IsBroken original export claim (ExtraChannel label) = IsExtra export claim.channels label
+IsBroken original export claim (ChannelText label field) = Has claim.channels label × AreUnlike (HaveSameText field) original export label
+IsBroken original export claim (Calibration label) = Has claim.channels label × AreUnlike HaveSameCalibration original export label
+IsBroken original export claim (Subfield which mismatch) = (IsAsClaimed original export claim which → ⊥) × IsMismatch claim which mismatch
+IsBroken original export claim (NotClean Header) = IsBlankHeader export → ⊥
+IsBroken original export claim (NotClean (Channel label)) = Has claim.channels label × HasFreeText export label
+IsBroken original export claim rule = ⊥
+
+-- each rule of two headers that is broken stands there, and no other
+abbrev pub AreAllBroken : Head → Head → Terms → List Difference → Type 0
+AreAllBroken original export claim found = (rule : Difference) → Has found rule ↔ IsBroken original export claim rule

@@ -6,6 +6,7 @@ pub mod Comparisons
 pub mod Firsts
 pub mod HeadVerdicts
 pub mod Labels
+pub mod Laws
 pub mod Subfields
 pub mod SameHeads
 pub mod ChannelTexts

@@ -1,6 +1,7 @@
 //! The texts of the channels.
 
 ghost use Rattle.std.specs.Prelude.{◌≡◌, map, option_map, MatchOption};
+ghost use Rattle.edf_heads.specs.ChannelTexts.{text_in};
 ghost use Rattle.edf_heads.specs.Comparisons.{claimed_view, IsTextDifferenceIn, SameTextsIn, text_difference, text_difference_of, first_text_difference as first_text_difference_of};
 
 use crate::channels::ClaimedChannel;
@@ -13,6 +14,16 @@ use edf_verdict::TextField;
 pub(crate) struct TextDifference<'a> {
     pub(crate) label: &'a [u8],
     pub(crate) field: TextField,
+}
+
+/// A text of a channel (EDF, "Header record": transducer type, prefiltering).
+pub(crate) fn text_of(signal: &Signal, field: TextField) -> &[u8]
+    ensures { result.now ≡ text_in field signal.entry.now }
+{
+    match field {
+        TextField::Transducer => signal.transducer(),
+        TextField::Prefilter => signal.prefilter(),
+    }
 }
 
 /// The first text in which two channels differ: the transducer, then the prefilter (EDF, "Header record").

@@ -14,9 +14,10 @@ use edf_header::Header;
 use edf_verdict::{Difference, FreeText, Label, SubfieldMismatch, TextField, Verdict};
 use std::alloc::{AllocError, Global};
 
-/// A difference of two headers; its label is borrowed.
+/// A rule of two headers that is broken; its label is borrowed: from the claim or, of a channel that isn't claimed, from
+/// the export.
 #[derive(Clone, Copy)]
-enum HeadDifference<'a> {
+pub enum HeadDifference<'a> {
     /// A claimed channel isn't in the original.
     UnknownChannel(&'a [u8]),
     /// A claimed channel isn't in the export.

@@ -3,6 +3,7 @@
 #![tactic(auto)]
 
 mod blank;
+mod broken;
 mod calibrations;
 mod channel_index;
 mod channel_texts;
@@ -10,13 +11,15 @@ mod channels;
 mod comparison;
 mod heads;
 mod labels;
+pub mod laws;
 mod rules;
 mod subfields;
 
 pub use blank::is_blank_header;
+pub use broken::head_differences;
 pub use calibrations::has_other_calibration;
 pub use channel_index::{Channel, ChannelIndex};
 pub use channel_texts::text_difference;
-pub use heads::head_difference;
+pub use heads::{HeadDifference, head_difference};
 pub use labels::in_order;
 pub use subfields::{is_anonymous, is_unchanged};

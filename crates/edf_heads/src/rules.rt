@@ -1,11 +1,14 @@
 //! The rules that each claimed channel keeps or breaks by itself, and the first channel that breaks one.
 
 ghost use Rattle.std.specs.Prelude.{◌≡◌, map, option_map, MatchOption};
-ghost use Rattle.edf_heads.specs.Comparisons.{claimed_view, breaks, first_breaking as first_breaking_of, IsFirstBreaking, Keep};
+ghost use Rattle.edf_heads.specs.Comparisons.{claimed_view, all_rules, breaks, difference_of, first_breaking as first_breaking_of, named_at, IsFirstBreaking, Keep};
 
 use crate::calibrations::has_other_calibration;
+use crate::channel_texts::text_of;
 use crate::channels::ClaimedChannel;
 use crate::comparison::Comparison;
+use crate::heads::HeadDifference;
+use edf_verdict::TextField;
 
 /// What is asked of each claimed channel (this project's profile).
 #[derive(Clone, Copy)]
@@ -14,20 +17,57 @@ pub(crate) enum ChannelRule {
     Known,
     /// It is in the export.
     Exported,
+    /// It has the original's text of this field in the export.
+    SameText(TextField),
     /// It has the original's calibration in the export.
     Calibrated,
     /// It has no free text in the export.
     Clean,
 }
 
+/// All rules of a channel, in the order in which they are found at a label.
+const RULES: [ChannelRule; 6] = [
+    ChannelRule::Known,
+    ChannelRule::Exported,
+    ChannelRule::SameText(TextField::Transducer),
+    ChannelRule::SameText(TextField::Prefilter),
+    ChannelRule::Calibrated,
+    ChannelRule::Clean,
+];
+
+impl ChannelRule {
+    /// All of them, in the order in which they are found at a label.
+    pub(crate) fn all() -> &'static [ChannelRule]
+        ensures { result.now ≡ all_rules }
+    {
+        &RULES
+    }
+
+    /// That the channels of a label break it.
+    pub(crate) fn broken_at(self, label: &[u8]) -> HeadDifference<'_>
+        ensures { difference_of result ≡ named_at self label.entry.now }
+    {
+        match self {
+            ChannelRule::Known => HeadDifference::UnknownChannel(label),
+            ChannelRule::Exported => HeadDifference::MissingChannel(label),
+            ChannelRule::SameText(field) => HeadDifference::ChannelText(label, field),
+            ChannelRule::Calibrated => HeadDifference::Calibration(label),
+            ChannelRule::Clean => HeadDifference::FreeTextInChannel(label),
+        }
+    }
+}
+
 impl<'a> ClaimedChannel<'a> {
     /// Whether the channel breaks the rule.
-    fn breaks(self, rule: ChannelRule) -> bool
+    pub(crate) fn breaks(self, rule: ChannelRule) -> bool
         ensures { result ≡ breaks rule (claimed_view self.entry) }
     {
         match (rule, self.original, self.export) {
             (ChannelRule::Known, original, _) => original.is_none(),
             (ChannelRule::Exported, _, export) => export.is_none(),
+            (ChannelRule::SameText(field), Some(original), Some(export)) => {
+                text_of(original, field) != text_of(export, field)
+            }
             (ChannelRule::Calibrated, Some(original), Some(export)) => {
                 has_other_calibration(original, export)
             }

@@ -99,7 +99,7 @@ pub fn is_unchanged(original: &Header, export: &Header, which: Which) -> bool
 impl<'a> Comparison<'a> {
     /// How this subfield isn't as claimed, if it isn't.
     #[tactic(auto, using(crate::proofs::SubfieldFacts::claimed_anonymous, crate::proofs::SubfieldFacts::claimed_unchanged, crate::proofs::SubfieldFacts::not_anonymous, crate::proofs::SubfieldFacts::not_unchanged))]
-    fn subfield_mismatch(&self, which: Which) -> Option<SubfieldMismatch>
+    pub(crate) fn subfield_mismatch(&self, which: Which) -> Option<SubfieldMismatch>
         ensures { MatchOption result (IsAsClaimedIn self.now which) (IsMismatchIn self.now which) }
     {
         if self.claim.is_anonymous(which) {

@@ -3,13 +3,13 @@
 use crate::heads::Heads;
 use crate::words::files::{EXCHANGED, EXPORT_TWICE, ORIGINAL_TWICE};
 use crate::words::headers as words;
-use edf_claim::Claim;
 use edf_fields::Which;
 use edf_findings::{Exchange, are_extremes_cut_off, exchange_of, has_subfield};
-use edf_header::{Header, Signal};
-use edf_heads::{ChannelIndex, has_other_calibration, is_anonymous, is_blank_header, is_unchanged};
+use edf_header::Signal;
+use edf_heads::{ChannelIndex, HeadDifference, head_differences, is_anonymous};
 use edf_sentences::{Piece, Text};
-use std::alloc::AllocError;
+use edf_verdict::{SubfieldMismatch, TextField};
+use std::alloc::{AllocError, Global};
 
 /// What it looks like where one file stands in the places of both, or each in the place of the other.
 fn words_of(exchange: Exchange) -> &'static str {
@@ -20,17 +20,79 @@ fn words_of(exchange: Exchange) -> &'static str {
     }
 }
 
-/// Says of a text of a channel that it is another one in the export, if it is.
+/// The channels of both headers, to be found by their labels.
+#[derive(Drop)]
+struct BothChannels<'a> {
+    originals: ChannelIndex<'a>,
+    exports: ChannelIndex<'a>,
+}
+
+impl<'a> BothChannels<'a> {
+    /// Those of these headers.
+    fn of(alloc: Global, heads: Heads<'a>) -> Result<BothChannels<'a>, AllocError> {
+        Ok(BothChannels {
+            originals: ChannelIndex::new(alloc, heads.original)?,
+            exports: ChannelIndex::new(alloc, heads.export)?,
+        })
+    }
+
+    /// The original's channel of a label, and the export's, where both have one.
+    fn both(&self, label: &[u8]) -> Option<(&'a Signal, &'a Signal)> {
+        let original = self.originals.channel(label)?;
+        let export = self.exports.channel(label)?;
+        Some((original.signal, export.signal))
+    }
+}
+
+/// Says of a claimed channel that the original doesn't have it.
+fn say_unknown(
+    text: &mut Text,
+    channels: &BothChannels<'_>,
+    label: &[u8],
+) -> Result<(), AllocError> {
+    let sentence = match channels.exports.channel(label) {
+        Some(_) => words::UNKNOWN_CHANNEL,
+        None => words::CHANNEL_NOWHERE,
+    };
+    text.say(sentence, &[Piece::Quoted(label)])
+}
+
+/// Says of a claimed channel that the export doesn't have it, unless it was said that neither file does.
+fn say_missing(
+    text: &mut Text,
+    channels: &BothChannels<'_>,
+    label: &[u8],
+) -> Result<(), AllocError> {
+    match channels.originals.channel(label) {
+        Some(_) => text.say(words::MISSING_CHANNEL, &[Piece::Quoted(label)]),
+        None => Ok(()),
+    }
+}
+
+/// The sentence that a text of a channel is another one, and the text that each channel has.
+fn text_of<'a>(
+    field: TextField,
+    original: &'a Signal,
+    export: &'a Signal,
+) -> (&'static str, &'a [u8], &'a [u8]) {
+    match field {
+        TextField::Transducer => (
+            words::TRANSDUCER,
+            original.transducer(),
+            export.transducer(),
+        ),
+        TextField::Prefilter => (words::PREFILTER, original.prefilter(), export.prefilter()),
+    }
+}
+
+/// Says of a text of a channel that it is another one in the export.
 fn say_text(
     text: &mut Text,
-    sentence: &str,
     label: &[u8],
-    original: &[u8],
-    export: &[u8],
+    field: TextField,
+    (original, export): (&Signal, &Signal),
 ) -> Result<(), AllocError> {
-    if original == export {
-        return Ok(());
-    }
+    let (sentence, original, export) = text_of(field, original, export);
     let pieces = [
         Piece::Quoted(label),
         Piece::Quoted(original),
@@ -59,16 +121,12 @@ fn say_extremes(text: &mut Text, sentence: &str, signal: &Signal) -> Result<(), 
     )
 }
 
-/// Says of the calibration of a channel that it is another one in the export, if it is.
+/// Says of the calibration of a channel that it is another one in the export.
 fn say_calibration(
     text: &mut Text,
     label: &[u8],
-    original: &Signal,
-    export: &Signal,
+    (original, export): (&Signal, &Signal),
 ) -> Result<(), AllocError> {
-    if !has_other_calibration(original, export) {
-        return Ok(());
-    }
     text.say(words::CALIBRATION, &[Piece::Quoted(label)])?;
     say_extremes(text, words::CALIBRATION_ORIGINAL, original)?;
     say_extremes(text, words::CALIBRATION_EXPORT, export)?;
@@ -82,82 +140,52 @@ fn say_calibration(
     Ok(())
 }
 
-/// Says how a channel that both files have isn't the original's.
+/// Says which free text a channel of the export has.
+fn say_free_text(
+    text: &mut Text,
+    channels: &BothChannels<'_>,
+    label: &[u8],
+) -> Result<(), AllocError> {
+    match channels.exports.channel(label) {
+        Some(channel) => {
+            let pieces = [
+                Piece::Quoted(label),
+                Piece::Quoted(channel.signal.reserved()),
+            ];
+            text.say(words::FREE_TEXT_OF_CHANNEL, &pieces)
+        }
+        None => Ok(()),
+    }
+}
+
+/// Says how the channels of a label differ.
 fn say_channel(
     text: &mut Text,
+    channels: &BothChannels<'_>,
     label: &[u8],
-    original: &Signal,
-    export: &Signal,
+    field: Option<TextField>,
 ) -> Result<(), AllocError> {
-    say_text(
-        text,
-        words::TRANSDUCER,
-        label,
-        original.transducer(),
-        export.transducer(),
-    )?;
-    say_text(
-        text,
-        words::PREFILTER,
-        label,
-        original.prefilter(),
-        export.prefilter(),
-    )?;
-    say_calibration(text, label, original, export)?;
-    if !export.reserved().is_empty() {
-        let pieces = [Piece::Quoted(label), Piece::Quoted(export.reserved())];
-        text.say(words::FREE_TEXT_OF_CHANNEL, &pieces)?;
+    match (channels.both(label), field) {
+        (Some(both), Some(field)) => say_text(text, label, field, both),
+        (Some(both), None) => say_calibration(text, label, both),
+        (None, _) => Ok(()),
     }
-    Ok(())
-}
-
-/// Says of each claimed channel how it isn't as claimed.
-fn say_claimed(
-    text: &mut Text,
-    claim: &Claim,
-    originals: &ChannelIndex<'_>,
-    exports: &ChannelIndex<'_>,
-) -> Result<(), AllocError> {
-    for label in claim.channels() {
-        let label = label.text();
-        let quoted = [Piece::Quoted(label)];
-        match (originals.channel(label), exports.channel(label)) {
-            (Some(old), Some(new)) => {
-                say_channel(text, label, old.signal, new.signal)?;
-            }
-            (Some(_), None) => text.say(words::MISSING_CHANNEL, &quoted)?,
-            (None, Some(_)) => text.say(words::UNKNOWN_CHANNEL, &quoted)?,
-            (None, None) => text.say(words::CHANNEL_NOWHERE, &quoted)?,
-        }
-    }
-    Ok(())
-}
-
-/// Says which channels the export has that aren't claimed.
-fn say_extra(text: &mut Text, claim: &Claim, export: &Header) -> Result<(), AllocError> {
-    for signal in export.signals() {
-        if !signal.is_annotations() && !claim.keeps_channel(signal.label()) {
-            text.say(words::EXTRA_CHANNEL, &[Piece::Quoted(signal.label())])?;
-        }
-    }
-    Ok(())
 }
 
 impl<'a> Heads<'a> {
-    /// Says how a subfield isn't as claimed, if it isn't.
-    fn say_subfield(self, text: &mut Text, which: Which) -> Result<(), AllocError> {
+    /// Says how a subfield isn't as claimed.
+    fn say_subfield(
+        self,
+        text: &mut Text,
+        which: Which,
+        mismatch: SubfieldMismatch,
+    ) -> Result<(), AllocError> {
         let pieces = [
             Piece::Word(which.name()),
             Piece::Word(words::meaning(which)),
         ];
-        if self.claim.is_anonymous(which) {
-            if is_anonymous(self.export, which) {
-                return Ok(());
-            }
+        if mismatch == SubfieldMismatch::NotX {
             return text.say(words::SUBFIELD_NOT_X, &pieces);
-        }
-        if is_unchanged(self.original, self.export, which) {
-            return Ok(());
         }
         if which == Which::Date {
             return text.say(words::DATE_CHANGED, &pieces);
@@ -171,12 +199,27 @@ impl<'a> Heads<'a> {
         text.say(words::SUBFIELD_CHANGED, &pieces)
     }
 
-    /// Says of each subfield how it isn't as claimed.
-    fn say_subfields(self, text: &mut Text) -> Result<(), AllocError> {
-        for which in Which::all() {
-            self.say_subfield(text, *which)?;
+    /// Says that a rule is broken.
+    fn say(
+        self,
+        text: &mut Text,
+        channels: &BothChannels<'_>,
+        difference: HeadDifference<'_>,
+    ) -> Result<(), AllocError> {
+        match difference {
+            HeadDifference::UnknownChannel(label) => say_unknown(text, channels, label),
+            HeadDifference::MissingChannel(label) => say_missing(text, channels, label),
+            HeadDifference::ExtraChannel(label) => {
+                text.say(words::EXTRA_CHANNEL, &[Piece::Quoted(label)])
+            }
+            HeadDifference::ChannelText(label, field) => {
+                say_channel(text, channels, label, Some(field))
+            }
+            HeadDifference::Calibration(label) => say_channel(text, channels, label, None),
+            HeadDifference::Subfield(which, mismatch) => self.say_subfield(text, which, mismatch),
+            HeadDifference::FreeTextInHeader => text.say(words::FREE_TEXT_OF_HEADER, &[]),
+            HeadDifference::FreeTextInChannel(label) => say_free_text(text, channels, label),
         }
-        Ok(())
     }
 }
 
@@ -185,13 +228,10 @@ pub(crate) fn say_heads(text: &mut Text, heads: Heads<'_>) -> Result<(), AllocEr
     if let Some(exchange) = exchange_of(heads.claim, heads.original, heads.export) {
         text.say(words_of(exchange), &[])?;
     }
-    let originals = ChannelIndex::new(text.alloc(), heads.original)?;
-    let exports = ChannelIndex::new(text.alloc(), heads.export)?;
-    say_claimed(text, heads.claim, &originals, &exports)?;
-    say_extra(text, heads.claim, heads.export)?;
-    heads.say_subfields(text)?;
-    if !is_blank_header(heads.export) {
-        text.say(words::FREE_TEXT_OF_HEADER, &[])?;
+    let alloc = text.alloc();
+    let channels = BothChannels::of(alloc, heads)?;
+    for difference in head_differences(alloc, heads.original, heads.export, heads.claim)? {
+        heads.say(text, &channels, difference)?;
     }
     Ok(())
 }
