@@ -6,13 +6,15 @@ usage: tools/gate/headline.py           writes out/headline.txt and out/headline
 
 The document begins with the contract of the call `check`, with its clause `headline` alone. Then comes each
 definition that the contract stands on, once, as its file has it and with its comment, behind the first that
-needs it. Of a type of the code that is its item, and its value to contracts where it has one (`impl Model`);
-bodies of functions are no part of it. At the end stand what the files say of themselves, and the words of the
-toolchain.
+needs it: first what an export keeps of its original, and behind that what bytes say. Of a type of the code that is
+its item, and its value to contracts where it has one (`impl Model`); bodies of functions are no part of it. What is
+left out of a copy is marked by `..`, and words that aren't copied are named. At the end stand what the files say of
+themselves, and the words of the toolchain.
 
 A word that is defined nowhere is printed, and so is one that stands beside those of the headline in a file of
-definitions and isn't needed; nothing is written then, and the status is 1. The last line of the output
-counts the definitions, and their lines without and with comments. Empty lines never count.
+definitions and isn't needed, and a row of the notation of which nothing is used; nothing is written then, and the
+status is 1. The last line of the output counts the definitions, their lines without and with comments, and the words
+of the text. Empty lines never count.
 """
 
 import functools
@@ -48,10 +50,31 @@ MODEL = re.compile(r"impl(?:<[^>]*>)? Model for (\w+)")
 CLAUSE = re.compile(r"    (?:ensures|requires)\b *(\w*)")
 COLON = re.compile(r"\b(\w+):(?!:)")
 VARIANT = re.compile(r"^    ([A-Z]\w*)", re.M)
+PART = re.compile(r" +(?:pub |ghost |ensures |requires )+(\w+)")
 GHOST = re.compile(r"^ *(?:(?:ensures|requires)\b *\w*|ghost \w+(?::| =)) *(?=\{)", re.M)
 
 TITLE = "What a Yes means"
 HEADLINE = "Headline"
+# with these begins what bytes say: they come behind all that an export keeps
+BYTES = ("Conforms", "HasHead", "HasNotes", "SaysRecord", "record_at", "lane_at", "digital_value", "day_number")
+PARTS = ("What an export keeps", "What bytes say")
+# what stands right behind the headline: laws, each a clause of a call that does nothing
+LAWS = (
+    ("edf_header/specs/HeadsReading.antt", "HasOneHead"),
+    ("edf_stream/specs/Laws.antt", "NotesAreRead"),
+    ("edf_stream/specs/Laws.antt", "HasTheseNotes"),
+)
+# what isn't copied, and why
+LEFT_OUT = {
+    "Difference": "what a No names; of a No the headline says nothing",
+    "CheckStop": "why a check stops and answers neither Yes nor No",
+    "Reads": "how many reads of a source failed",
+    "ReadFault": "a read that failed",
+    "Fails": "that one more failed",
+    "Rises": "that a count went up",
+}
+# parts of what is copied that are left out: fields, members and clauses of these names
+CUT = {"Source": ("reads", "failures", "fails"), "HasTheseNotes": ("read",)}
 ABOUT = [
     "edfclaim checks an export of a night against its original and a claim: that the export is the original, cut"
     " and made anonymous as the claim says, and nothing else. The call `check` answers this. If it answers Yes, and"
@@ -64,10 +87,16 @@ ABOUT = [
     " lane of a signal are its bytes in a data record; a TAL is a time-stamped annotations list (EDF+ 2003).",
     "Here stands all of this project that has to be read to know what is proved: first the contract of `check`,"
     " then each definition that it stands on, once. A definition comes behind the first that needs it, so it is"
-    " plain why it comes; of the statement `Headline` all parts come first. Each has a number. All is copied from the"
+    " plain why it comes; of the statement `Headline` all parts come first. Each has a number. There are two parts:"
+    " what an export keeps of its original, and what the bytes of a file say, for who knows EDF. All is copied from the"
     " files that are named. The prose above a definition is its comment: it says in words what the definition says"
-    " exactly, and the definition is what counts. Of a type that the code declares its parts count, and the value that"
-    " it is to contracts (`impl Model`); how the code works is no part of it.",
+    " exactly, and the definition is what counts. Right behind `Headline` stand two laws, which follow from the"
+    " definitions: a file has one header, and says its annotations in one way.",
+    "Of a type that the code declares its parts count, and the value that it is to contracts (`impl Model`); how the"
+    " code works is no part of it. Where something is left out of a copy it says `..`: the other clauses of `check`,"
+    " what holds of each value of a type, and what a source says of reads that fail. What the code derives for its"
+    " types (`#[derive]`) is left out, too. A claim that was read is always one that the page on claims describes"
+    " (`IsClaim`); nothing here needs that. Words that aren't copied are named at the end.",
     "Behind the definitions stands what their files say of themselves, such as from when times count, and at last"
     " the words that no file of this project defines: those of the toolchain's library.",
 ]
@@ -75,12 +104,16 @@ NOTATION = [
     ("f x y", "the function f of x and y; a word with a capital is a statement, or a kind of values"),
     ("A → B", "between statements: from A follows B; between kinds of values: the functions from A to B"),
     ("A × B, A ⊎ B", "A and B; A or B"),
+    ("what binds first", "a call; then ^; *; ∷; +, - and ++; <, ≤, <ℤ, ≤ℤ and ==; &&; ||; *ℤ; +ℤ and -ℤ; ≡ and ≢; ×, ⊎"
+     " and ↔, between which brackets stand; and → last. A → B → C is A → (B → C)"),
     ("(x : T) → A", "for each x of the kind T, A holds"),
     ("(x : T) × A", "there is an x of the kind T for which A holds"),
     ("a ≡ b, a ≢ b", "a and b are equal; they aren't"),
     ("⊥, Unit {0}", "never; always. So A → ⊥ says that A doesn't hold"),
     ("A ↔ B", "each follows from the other"),
     ("Type 0", "the kind of all statements; f : A → Type 0 says something of each A"),
+    ("Date, IsYmd, epoch_day", "a day that the Gregorian calendar has, so none is the 31st of February: the library's type"
+     " holds no other. It has this year, month and day; its number is 0 for 1970-01-01"),
     ("ℕ, ℤ", "the whole numbers from 0 on; those with a sign. pos n is the number n of ℤ, negsuc n is -(n + 1)"),
     ("+ℤ, -ℤ, *ℤ, <ℤ, ≤ℤ", "what +, -, *, < and ≤ are on ℕ, on ℤ. No number has a bound. On ℕ, a - b is never below 0"),
     ("[], x ∷ xs, xs ++ ys", "the empty list; x before the list xs; one list behind the other"),
@@ -108,6 +141,9 @@ NOTATION = [
     ("IfOk r P, IsTrue b", "in a contract: if the call answered Ok x, then P x; the test b gives true"),
     ("u8 .. usize, i16 .. i128", "whole numbers of the code; a contract takes the first for those of ℕ, the others for ℤ"),
 ]
+# rows that say how a definition is read, and name no word
+SAID = ("f x y", "what binds first", "A → B", "(x : T) → A", "(x : T) × A", "λ x. e", "several lines", "let x = e in ..",
+        "record R .. where ..", "record { a = x }, r.a", "◌+◌", "{X : Type 0}")
 STYLE = """
 :root { color-scheme: light dark; --ink: #1c1c1c; --paper: #fdfdfb; --dim: #5f6368; --line: #d8d8d2; --link: #0b57a4; }
 @media (prefers-color-scheme: dark) {
@@ -363,6 +399,24 @@ def without_ghosts(lines):
             inside = line.startswith("    ghost ")
         if not inside:
             kept.append(line)
+        elif kept[-1] != "    ..":
+            kept.append("    ..")
+    return kept
+
+
+def without_parts(lines, names):
+    """The lines of a definition without its parts of these names, each of which goes on over lines that stand deeper."""
+    kept, room = [], None
+    for line in lines:
+        depth = len(line) - len(line.lstrip())
+        if room is not None and line.strip() and depth > room:
+            continue
+        of = PART.match(line)
+        room = depth if of and of[1] in names else None
+        if room is None:
+            kept.append(line)
+        elif kept[-1].strip() != "..":
+            kept.append(" " * depth + "..")
     return kept
 
 
@@ -413,6 +467,7 @@ class Code:
         if kind == "struct":
             # what holds of each value is proved where one is made, and no statement needs it
             lines = without_ghosts(lines)
+        lines = without_parts(lines, CUT.get(name, ()))
         self.definitions[name] = Definition(Word(self.file, name), comment, lines)
         self.names.add(name, Word(self.file, name))
 
@@ -425,6 +480,8 @@ class Code:
                 inside = line.startswith(("    ghost Value ", "    ghost view "))
             if inside and line.startswith("    ") and line.strip():
                 kept.append(line)
+            elif line.startswith("    ghost invariant "):
+                kept.append("    ..")
         definition.lines += ["", lines[0], *kept, "}"]
 
     def read(self, definition):
@@ -533,6 +590,8 @@ def define(word):
     """The definition of a word, with the words that it needs; none where its file has none."""
     definition = opened(word.home).definitions.get(word.name) if word.home.is_file() else None
     if definition:
+        if not word.is_code():
+            definition.lines = without_parts(definition.lines, CUT.get(word.name, ()))
         opened(word.home).read(definition)
     return definition
 
@@ -546,50 +605,81 @@ def contract(file, name, clause):
         keeps = of[1] == clause if of else keeps
         if keeps:
             lines.append(line)
+        elif lines[-1] != "    ..":
+            lines.append("    ..")
     one = Definition(whole.word, whole.comment, lines)
     opened(file).read(one)
     return one
 
 
-def in_order(first):
-    """The definition and all that it needs, each behind the first that needs it, and what is wrong with them."""
-    found, faults = {first.word: first}, []
-    first.number = 1
+class Order:
+    """The definitions that one needs, each behind the first that needs it, and what is wrong with them."""
 
-    def go_on(definition):
-        later = []
+    def __init__(self, first):
+        self.first, self.found, self.faults, self.left, self.put_off = first, {first.word: first}, [], {}, []
+        first.number = 1
+        self.go_on(first)
+        # what bytes say comes behind all that an export keeps
+        self.begin_bytes = len(self.found) + 1
+        for word in self.put_off:
+            if word not in self.found:
+                self.go_on(self.take(word, 0))
+        self.look()
+
+    def take(self, word, depth):
+        """Takes a definition, and gives it its number."""
+        taken = define(word)
+        self.found[word] = taken
+        taken.number, taken.depth = len(self.found), depth
+        return taken
+
+    def needs(self, definition):
+        """The words that a definition needs, but for the toolchain's and those that aren't copied."""
         place = f"{definition.word.home.relative_to(TOP)}: {definition.word.name}"
-        faults.extend(f"{place}: `{token}` is defined nowhere" for token in definition.unknown)
+        self.faults += [f"{place}: `{token}` is defined nowhere" for token in definition.unknown]
         for word in definition.needs():
             if word.is_toolchain():
                 continue
-            needed = found.get(word) or define(word)
-            if not needed:
-                faults.append(f"{place}: `{word.name}` isn't in {word.home.relative_to(TOP)}")
-                continue
-            needed.users.append(definition)
-            if word not in found:
-                found[word] = needed
-                needed.number, needed.depth = len(found), definition.depth + 1
-                # of the headline all parts come first, and then what each of them needs
-                later.append(needed)
-                if definition.word.name != HEADLINE:
-                    go_on(later.pop())
-        for needed in later:
-            go_on(needed)
+            if word.name in LEFT_OUT:
+                self.left[word] = LEFT_OUT[word.name]
+            elif not define(word):
+                self.faults.append(f"{place}: `{word.name}` isn't in {word.home.relative_to(TOP)}")
+            else:
+                define(word).users.append(definition)
+                yield word
 
-    go_on(first)
-    for file in {word.home for word in found}:
-        faults += [f"{file.relative_to(TOP)}: a line that isn't understood: {line}" for line in opened(file).odd]
-        if file.suffix == ".antt":
-            # what the headline needs stands in files that hold nothing else
-            others = [name for name, one in opened(file).definitions.items() if one.word not in found]
-            faults += [f"{file.relative_to(TOP)}: `{name}` isn't needed by the headline" for name in others]
-    for one in found.values():
-        one.users.sort(key=lambda user: user.number)
-        if one is not first and not (one.users and one.users[0].number < one.number):
-            faults.append(f"{one.word.name}: no definition before it uses it")
-    return list(found.values()), faults
+    def go_on(self, definition):
+        """Takes what a definition needs; of the headline all parts come first, and then what each of them needs."""
+        later = []
+        if definition.word.name == HEADLINE:
+            later += [self.take(Word(CRATES / file, name), 1) for file, name in LAWS]
+        for word in self.needs(definition):
+            if word.name in BYTES and not self.is_in_bytes():
+                self.put_off.append(word)
+            elif word not in self.found:
+                later.append(self.take(word, definition.depth + 1))
+                if definition.word.name != HEADLINE:
+                    self.go_on(later.pop())
+        for needed in later:
+            self.go_on(needed)
+
+    def is_in_bytes(self):
+        return hasattr(self, "begin_bytes")
+
+    def look(self):
+        """Looks for what is wrong."""
+        laws = {CRATES / file for file, _ in LAWS}
+        for file in {word.home for word in self.found}:
+            self.faults += [f"{file.relative_to(TOP)}: a line that isn't understood: {line}" for line in opened(file).odd]
+            if file.suffix == ".antt" and file not in laws:
+                # what the headline needs stands in files that hold nothing else
+                others = [name for name, one in opened(file).definitions.items() if not self.has(one.word)]
+                self.faults += [f"{file.relative_to(TOP)}: `{name}` isn't needed by the headline" for name in others]
+        for one in self.found.values():
+            one.users.sort(key=lambda user: user.number)
+
+    def has(self, word):
+        return word in self.found or word.name in LEFT_OUT
 
 
 def toolchain(definitions):
@@ -636,8 +726,15 @@ def listed(front, those, indent):
     return [line.replace(chr(160), " ") for line in lines]
 
 
-def as_text(definitions):
+def parts(order):
+    """The two parts, each with its definitions."""
+    every = list(order.found.values())
+    return zip(PARTS, (every[:order.begin_bytes - 1], every[order.begin_bytes - 1:]))
+
+
+def as_text(order):
     """The document as a text."""
+    definitions = list(order.found.values())
     said = {one.word: f"{one.number} {one.word.name}" for one in definitions}
     lines = [TITLE, "=" * len(TITLE), ""]
     for paragraph in ABOUT:
@@ -645,12 +742,14 @@ def as_text(definitions):
     for written, says in NOTATION:
         first, *more = textwrap.wrap(says, WIDTH - 28)
         lines += [f"  {written:<25} {first}", *(28 * " " + line for line in more)]
-    for one in definitions:
-        lines += ["", "", f"{one.number}. {one.word.name}  ({one.word.home.relative_to(TOP)})", ""]
-        lines += ["    " + line for line in fitted(prose(one.comment), WIDTH - 4)]
-        lines += [""] * bool(one.comment) + one.lines + [""]
-        lines += listed("used by", [said[user.word] for user in one.users], "    ")
-        lines += listed("uses", [said[word] for word in one.needs() if word in said], "    ")
+    for part, those in parts(order):
+        lines += ["", "", part, "-" * len(part)]
+        for one in those:
+            lines += ["", "", f"{one.number}. {one.word.name}  ({one.word.home.relative_to(TOP)})", ""]
+            lines += ["    " + line for line in fitted(prose(one.comment), WIDTH - 4)]
+            lines += [""] * bool(one.comment) + one.lines
+    lines += ["", "", "What isn't copied", ""]
+    lines += [f"{word.name}  ({word.home.relative_to(TOP)}): {why}" for word, why in order.left.items()]
     lines += ["", "", "What the files say of themselves", ""]
     for file, those in files(definitions).items():
         lines += listed(file.relative_to(TOP), [said[one.word] for one in those], "")
@@ -670,6 +769,9 @@ def linked(one, anchors):
     """The lines of a definition for the page, each word with a link to its definition."""
     text, at, page = one.text, 0, ""
     for begin, end, word in one.marks:
+        if word not in anchors:
+            # it isn't copied
+            continue
         page += html.escape(text[at:begin])
         kind = ' class="toolchain"' if word.is_toolchain() else ""
         page += f'<a{kind} href="#{anchors[word]}">{html.escape(text[begin:end])}</a>'
@@ -695,7 +797,7 @@ def section(one, anchors):
     return page + "</section>\n"
 
 
-def page_front(definitions, anchors):
+def page_front(order, anchors):
     """The page up to its first definition."""
     page = f'<!DOCTYPE html>\n<html lang="en">\n<head>\n<meta charset="utf-8">\n<title>{TITLE}</title>\n'
     page += f"<style>{STYLE}</style>\n</head>\n<body>\n<h1>{TITLE}</h1>\n"
@@ -703,19 +805,29 @@ def page_front(definitions, anchors):
     for written, says in NOTATION:
         page += f"<tr><td><code>{html.escape(written)}</code></td><td>{html.escape(says)}</td></tr>\n"
     page += "</table>\n<h2>Contents</h2>\n<nav>\n"
-    for one in definitions:
-        page += f'<div style="padding-left: {one.depth}ch">{link(one, anchors)}</div>\n'
+    for part, those in parts(order):
+        page += f"<div><b>{part}</b></div>\n"
+        for one in those:
+            page += f'<div style="padding-left: {one.depth}ch">{link(one, anchors)}</div>\n'
+    page += '<div><a href="#left">What isn\'t copied</a></div>\n'
     page += '<div><a href="#files">What the files say of themselves</a></div>\n'
     return page + '<div><a href="#toolchain">Words of the toolchain</a></div>\n</nav>\n'
 
 
-def as_page(definitions):
+def as_page(order):
     """The document as a page."""
+    definitions = list(order.found.values())
     homes, library = files(definitions), toolchain(definitions)
     anchors = {one.word: f"d{one.number}" for one in definitions}
     anchors |= {file: f"f{k}" for k, file in enumerate(homes, 1)}
     anchors |= {word: f"t{k}" for k, word in enumerate(itertools.chain(*library.values()), 1)}
-    page = page_front(definitions, anchors) + "".join(section(one, anchors) for one in definitions)
+    page = page_front(order, anchors)
+    for part, those in parts(order):
+        page += f"<h2>{part}</h2>\n" + "".join(section(one, anchors) for one in those)
+    page += '<section id="left">\n<h2>What isn\'t copied</h2>\n'
+    for word, why in order.left.items():
+        page += f"<p><code>{html.escape(word.name)}</code> ({word.home.relative_to(TOP)}): {html.escape(why)}</p>\n"
+    page += "</section>\n"
     page += '<section id="files">\n<h2>What the files say of themselves</h2>\n'
     for file, those in homes.items():
         page += f'<p id="{anchors[file]}"><code>{file.relative_to(TOP)}</code>'
@@ -752,23 +864,37 @@ class Page(html.parser.HTMLParser):
             self.faults.append(f"the page: `{tag}` is closed and wasn't open")
 
 
+def unused(definitions):
+    """The rows of the notation of which no definition has anything."""
+    written = " ".join(one.text for one in definitions)
+    signs = set(TOKEN.findall(written)) | set(NAME.findall(written))
+    return [
+        f"the notation: no definition has anything of `{row}`"
+        for row, _ in NOTATION
+        if row not in SAID and not signs & (set(TOKEN.findall(row)) - SIGNS - set("fxyABCabnkpTPRei"))
+    ]
+
+
 def main():
     if sys.argv[1:] not in ([], ["--check"]):
         print(f"usage: {sys.argv[0]} [--check]", file=sys.stderr)
         return 2
-    definitions, faults = in_order(contract(CRATES / "edf_check" / "src" / "of_one.rt", "check", "headline"))
+    order = Order(contract(CRATES / "edf_check" / "src" / "of_one.rt", "check", "headline"))
+    definitions, faults = list(order.found.values()), order.faults
     if not faults:
-        page = as_page(definitions)
-        faults = Page(page).faults
+        page = as_page(order)
+        faults = Page(page).faults + unused(definitions)
     for fault in faults:
         print(fault)
+    text = as_text(order)
     if not faults and sys.argv[1:] == []:
         OUT.mkdir(exist_ok=True)
-        (OUT / "headline.txt").write_text(as_text(definitions), encoding="utf-8")
+        (OUT / "headline.txt").write_text(text, encoding="utf-8")
         (OUT / "headline.html").write_text(page, encoding="utf-8")
     said = sum(one.counts()[0] for one in definitions)
     written = sum(one.counts()[1] for one in definitions)
-    print(f"{len(definitions)} definitions, {said} lines, {written} with comments, of {len(files(definitions))} files")
+    print(f"{len(definitions)} definitions, {said} lines, {written} with comments, of {len(files(definitions))} files;"
+          f" {len(text.split())} words")
     return 1 if faults else 0
 
 
