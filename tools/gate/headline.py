@@ -8,7 +8,7 @@ The document begins with the contract of the call `check`, with its clause `head
 definition that the contract stands on, once, as its file has it and with its comment, behind the first that
 needs it: first what an export keeps of its original, and behind that what bytes say. Of a type of the code that is
 its item, and its value to contracts where it has one (`impl Model`); bodies of functions are no part of it. What is
-left out of a copy is marked by `..`, and words that aren't copied are named. At the end stand what the files say of
+left out of a copy is marked by `[..]`, and words that aren't copied are named. At the end stand what the files say of
 themselves, and the words of the toolchain.
 
 A word that is defined nowhere is printed, and so is one that stands beside those of the headline in a file of
@@ -34,11 +34,11 @@ OUT = TOP / "out"
 WIDTH = 120
 
 # signs and words that the language of definitions has without a `use`
-SIGNS = set(": = . , ; _ → × λ ⊥ ¬ ( ) { } Type Unit tt record where let in".split())
+SIGNS = set(": = . , ; _ → × λ ⊥ ¬ ( ) { } [..] Type Unit tt record where let in".split())
 # kinds of values that the code has without a `use`
 KINDS = re.compile(r"[iu](?:8|16|32|64|128|size)|bool|char|str|Option|Result|String|Vec")
 
-TOKEN = re.compile(r'--.*|"(?:[^"\\]|\\.)*"|\[\]|λ|[(){}\[\];,.]|[^\s(){}\[\];,."]+')
+TOKEN = re.compile(r'--.*|"(?:[^"\\]|\\.)*"|\[\.\.\]|\[\]|λ|[(){}\[\];,.]|[^\s(){}\[\];,."]+')
 NAME = re.compile(r"[^\W\d][\w'-]*")
 DEFINES = re.compile(r"(?:abbrev |unfoldable )?(?:pub )?(?:record (?P<record>\S+)|(?P<word>\S+) :(?=\s))")
 FIELD = re.compile(r"^  (?:pub )?(\S+) :(?=\s)", re.M)
@@ -63,6 +63,7 @@ LAWS = (
     ("edf_header/specs/HeadsReading.antt", "HasOneHead"),
     ("edf_stream/specs/Laws.antt", "NotesAreRead"),
     ("edf_stream/specs/Laws.antt", "HasTheseNotes"),
+    ("edf_stream/specs/Laws.antt", "OneAtAnInstant"),
 )
 # what isn't copied, and why
 LEFT_OUT = {
@@ -78,25 +79,27 @@ CUT = {"Source": ("reads", "failures", "fails"), "HasTheseNotes": ("read",)}
 ABOUT = [
     "edfclaim checks an export of a night against its original and a claim: that the export is the original, cut"
     " and made anonymous as the claim says, and nothing else. The call `check` answers this. If it answers Yes, and"
-    " each of its two sources gives the bytes of its file, then the statement `Headline` holds of the two files and"
-    " the claim, and the counts of the Yes are the export's. This is proved of the code.",
+    " each of its two sources gives the bytes of its file (`is_honest`; `left` are those that it has yet to give, at first"
+    " all), then the statement `Headline` holds of the two files and the claim, and the counts of the Yes are the"
+    " export's. This is proved of the code.",
     "It says this of a Yes alone: what a No says is another clause of `check`, `verdict`. A source over bytes in memory"
     " gives them, and this is proved; that a file on a disk gives its bytes is assumed. How the text of a claim becomes"
     " the claim, and that the line of this verdict is printed, are clauses of `run`. The profile is the definition"
     " `Conforms`: which EDF+ files are judged at all. A channel is a signal whose label isn't `EDF Annotations`; the"
-    " lane of a signal are its bytes in a data record; a TAL is a time-stamped annotations list (EDF+ 2003).",
+    " lane of a signal is its bytes in a data record; a TAL is a time-stamped annotations list (EDF+ 2003).",
     "Here stands all of this project that has to be read to know what is proved: first the contract of `check`,"
     " then each definition that it stands on, once. A definition comes behind the first that needs it, so it is"
-    " plain why it comes; of the statement `Headline` all parts come first. Each has a number. There are two parts:"
-    " what an export keeps of its original, and what the bytes of a file say, for who knows EDF. All is copied from the"
-    " files that are named. The prose above a definition is its comment: it says in words what the definition says"
-    " exactly, and the definition is what counts. Right behind `Headline` stand two laws, which follow from the"
-    " definitions: a file has one header, and says its annotations in one way.",
+    " plain why it comes. Each has a number. There are two parts: what an export keeps of its original, and what the"
+    " bytes of a file say, for who knows EDF, with `Conforms` first. All is copied from the files that are named. The"
+    " prose above a definition is its comment: it says in words what the definition says exactly, and the definition is"
+    " what counts. Right behind `Headline` stand laws, which are proved to follow from the definitions: a file has one"
+    " header, says its annotations in one way, and has no sample twice.",
     "Of a type that the code declares its parts count, and the value that it is to contracts (`impl Model`); how the"
-    " code works is no part of it. Where something is left out of a copy it says `..`: the other clauses of `check`,"
-    " what holds of each value of a type, and what a source says of reads that fail. What the code derives for its"
-    " types (`#[derive]`) is left out, too. A claim that was read is always one that the page on claims describes"
-    " (`IsClaim`); nothing here needs that. Words that aren't copied are named at the end.",
+    " code works is no part of it. Where something is left out of a copy a line says `[..]`: the other clauses of"
+    " `check`, what holds of each value of a type, what a source says of reads that fail, and of the law on annotations"
+    " that they are those that are read. What the code derives for its types (`#[derive]`) is left out, too. Words that"
+    " aren't copied are named at the end. That a claim which can be read is a sensible one (`IsClaim`) is proved as well,"
+    " and nothing here needs it.",
     "Behind the definitions stands what their files say of themselves, such as from when times count, and at last"
     " the words that no file of this project defines: those of the toolchain's library.",
 ]
@@ -112,38 +115,47 @@ NOTATION = [
     ("⊥, Unit {0}", "never; always. So A → ⊥ says that A doesn't hold"),
     ("A ↔ B", "each follows from the other"),
     ("Type 0", "the kind of all statements; f : A → Type 0 says something of each A"),
-    ("Date, IsYmd, epoch_day", "a day that the Gregorian calendar has, so none is the 31st of February: the library's type"
-     " holds no other. It has this year, month and day; its number is 0 for 1970-01-01"),
-    ("ℕ, ℤ", "the whole numbers from 0 on; those with a sign. pos n is the number n of ℤ, negsuc n is -(n + 1)"),
-    ("+ℤ, -ℤ, *ℤ, <ℤ, ≤ℤ", "what +, -, *, < and ≤ are on ℕ, on ℤ. No number has a bound. On ℕ, a - b is never below 0"),
-    ("[], x ∷ xs, xs ++ ys", "the empty list; x before the list xs; one list behind the other"),
+    ("ℕ, ℤ", "the whole numbers from 0 on; those with a sign, of which pos n is the number n, and neg_ℤ z is -z"),
+    ("+ℤ, -ℤ, *ℤ, <ℤ, ≤ℤ", "what +, -, *, < and ≤ are on ℕ, on ℤ. No number has a bound. On ℕ, a - b is never below 0;"
+     " ^ is to the power of"),
     ("zero, suc n", "0 and n + 1"),
+    ("Bool, true, false", "what a test gives. && is and, || is or, not turns it"),
+    ("if b then x else y", "x where the test b gives true, and else y"),
+    ("==, nat_le, nat_lt", "tests: two numbers are equal; the first is ≤ the second; it is < it. int_le, int_lt: on ℤ"),
+    ("bytes_eq", "a test: two texts are the same, byte for byte"),
+    ("List T, [], x ∷ xs", "lists of T; the empty one; x before the list xs. xs ++ ys is one behind the other"),
+    ("length, replicate n x", "how many a list has; the list of n times x"),
     ("take n xs, drop n xs", "the first n of xs; what stands behind them"),
     ("slice_get xs i", "Some x, or None where there is none at i; slice_index xs i is that number, or 0"),
     ("map, filter, flat_map", "f of each; those that pass the test; the lists that f gives, one behind the other"),
     ("All P xs, IsPermutation", "P holds of each of xs; one list is the other, perhaps in another order"),
     ("list_all p, list_any p", "whether all pass the test p; whether one does"),
     ("before_first, after_first", "what stands before the first that passes, or all; what stands behind it, or nothing"),
-    ("Some x, None, Ok x, Err e", "a value, or none; what a call gives, or why it gives nothing"),
-    ('codes "EDF+C"', "the bytes of a text"),
+    ("position p xs", "the place of the first that passes the test p, if there is one"),
+    ("Option, Some x, None", "a value that may be missing. option_map_or f o d: f of the value, or d where there is none"),
+    ('codes "EDF+C", IsUtf8', "the bytes of a text; bytes are a text in UTF-8"),
+    ("Date, IsYmd, epoch_day", "a day that the Gregorian calendar has, so none is the 31st of February: the library's type"
+     " holds no other. It has this year, month and day; its number is 0 for 1970-01-01, as is that of days_from_civil, which"
+     " is reckoned from year, month and day"),
     ("λ x. e", "the function that gives e for x"),
-    ("record R .. where ..", "a kind of values that have these fields, or a statement: all of its fields hold, and a"
-     " field that is a value says that there is one"),
-    ("record { a = x }, r.a", "the value with this field; its field a. p.0 and p.1 are the two parts of a pair"),
-    ("fixed.Version, Yes n", "a value of a type that the code declares, here with its part n"),
-    ("let x = e in ..", "x stands for e in what follows"),
-    ("several lines", "of one word: one for each form of its arguments, of which the first that fits counts; _ fits all"),
-    ("abbrev, unfoldable, pub", "how other files may use the word; they change nothing of what it says"),
+    ("record R .. where ..", "a kind of values that have these fields, or a statement: all of its fields hold, and a field"
+     " that is a value says that there is one"),
+    ("record { a = x }, r.a", "the value with this field; its field a, also of a statement. p.0 and p.1 are the two parts"
+     " of a pair"),
+    ("fixed.Version, Yes n", "a value of a type that the code declares (FixedField, and so signal of SignalField), here"
+     " with its part n"),
+    ("several lines", "of one word: one for each form of its arguments, of which the first that fits counts"),
+    ("abbrev, pub", "how other files may use the word; they change nothing of what it says"),
     ("{X : Type 0}", "an argument that isn't written where the word is used"),
-    ("◌+◌", "the name of the word +; each ◌ is the place of an argument"),
     ("x.old, x.new, x.now", "in a contract: what x stood for as the call began; as it ended; what it stands for"),
     ("result, v.items", "in a contract: what the call answers; the list in a Vec"),
-    ("IfOk r P, IsTrue b", "in a contract: if the call answered Ok x, then P x; the test b gives true"),
-    ("u8 .. usize, i16 .. i128", "whole numbers of the code; a contract takes the first for those of ℕ, the others for ℤ"),
+    ("IfOk r P, OnOk r A", "in a contract: if the call answered Ok x, then P x; then A. IsTrue b: the test b gives true"),
+    ("Result, Global, Model", "in the code: an answer or an error; where a call has its memory; what a type is to contracts"),
+    ("u8, u32, u64, usize", "whole numbers of the code, which a contract takes for those of ℕ; i64 and i128 for those of ℤ"),
 ]
 # rows that say how a definition is read, and name no word
-SAID = ("f x y", "what binds first", "A → B", "(x : T) → A", "(x : T) × A", "λ x. e", "several lines", "let x = e in ..",
-        "record R .. where ..", "record { a = x }, r.a", "◌+◌", "{X : Type 0}")
+SAID = ("f x y", "what binds first", "A → B", "(x : T) → A", "(x : T) × A", "λ x. e", "several lines",
+        "record R .. where ..", "record { a = x }, r.a", "{X : Type 0}")
 STYLE = """
 :root { color-scheme: light dark; --ink: #1c1c1c; --paper: #fdfdfb; --dim: #5f6368; --line: #d8d8d2; --link: #0b57a4; }
 @media (prefers-color-scheme: dark) {
@@ -399,8 +411,8 @@ def without_ghosts(lines):
             inside = line.startswith("    ghost ")
         if not inside:
             kept.append(line)
-        elif kept[-1] != "    ..":
-            kept.append("    ..")
+        elif kept[-1] != "    [..]":
+            kept.append("    [..]")
     return kept
 
 
@@ -415,8 +427,8 @@ def without_parts(lines, names):
         room = depth if of and of[1] in names else None
         if room is None:
             kept.append(line)
-        elif kept[-1].strip() != "..":
-            kept.append(" " * depth + "..")
+        elif kept[-1].strip() != "[..]":
+            kept.append(" " * depth + "[..]")
     return kept
 
 
@@ -481,7 +493,7 @@ class Code:
             if inside and line.startswith("    ") and line.strip():
                 kept.append(line)
             elif line.startswith("    ghost invariant "):
-                kept.append("    ..")
+                kept.append("    [..]")
         definition.lines += ["", lines[0], *kept, "}"]
 
     def read(self, definition):
@@ -605,8 +617,8 @@ def contract(file, name, clause):
         keeps = of[1] == clause if of else keeps
         if keeps:
             lines.append(line)
-        elif lines[-1] != "    ..":
-            lines.append("    ..")
+        elif lines[-1] != "    [..]":
+            lines.append("    [..]")
     one = Definition(whole.word, whole.comment, lines)
     opened(file).read(one)
     return one
@@ -864,14 +876,26 @@ class Page(html.parser.HTMLParser):
             self.faults.append(f"the page: `{tag}` is closed and wasn't open")
 
 
-def unused(definitions):
-    """The rows of the notation of which no definition has anything."""
+def notation_faults(definitions):
+    """What the notation lacks of the toolchain's words, and its rows of which no definition has anything."""
     written = " ".join(one.text for one in definitions)
     signs = set(TOKEN.findall(written)) | set(NAME.findall(written))
-    return [
-        f"the notation: no definition has anything of `{row}`"
+    told = set(TOKEN.findall(" ".join(f"{row} {says}".replace(";", " ") for row, says in NOTATION)))
+    told |= {it.rstrip(".,:") for it in told} | {"Vec"}
+    lacking = {
+        part
+        for words in toolchain(definitions).values()
+        for word in words
+        for part in word.name.split("◌")
+        if part and part not in told
+    }
+    dead = {
+        row: [it for it in NAME.findall(row) if len(it) > 1 and it not in signs]
         for row, _ in NOTATION
-        if row not in SAID and not signs & (set(TOKEN.findall(row)) - SIGNS - set("fxyABCabnkpTPRei"))
+        if row not in SAID
+    }
+    return [f"the notation doesn't tell `{part}`" for part in sorted(lacking)] + [
+        f"the notation: no definition has `{word}`" for words in dead.values() for word in words
     ]
 
 
@@ -883,7 +907,7 @@ def main():
     definitions, faults = list(order.found.values()), order.faults
     if not faults:
         page = as_page(order)
-        faults = Page(page).faults + unused(definitions)
+        faults = Page(page).faults + notation_faults(definitions)
     for fault in faults:
         print(fault)
     text = as_text(order)
