@@ -180,8 +180,8 @@ fn answer_to<'a>(rule: &HeadDifference<'a>) -> Answer<'a> {
         HeadDifference::ChannelText(label, field) => Answer::Text(label, field),
         HeadDifference::Calibration(label) => Answer::Calibration(label),
         HeadDifference::Subfield(which, mismatch) => Answer::Subfield(which, mismatch),
-        HeadDifference::FreeTextInHeader => Answer::Header,
         HeadDifference::FreeTextInChannel(label) => Answer::Channel(label),
+        _ => Answer::Other,
     }
 }
 
@@ -205,7 +205,7 @@ const BROKEN: &[Answer<'static>] = &[
     Answer::Channel(EEG),
     Answer::Extra(ECG),
     Answer::Subfield(Which::Name, SubfieldMismatch::NotX),
-    Answer::Header,
+    Answer::Other,
 ];
 
 #[test]
