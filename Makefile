@@ -4,19 +4,22 @@
 PREFIX = /usr/local
 PROGRAM = crates/edfclaim/out/edfclaim
 PAGES = START.md CLAIM.md READING-THE-ANSWER.md PROFILE.md SCRIPTS.md
+# a goal for each crate, behind those of the crates that it stands on
+CRATES = awk -f tools/gate/rules.awk crates.txt | $(MAKE) -s -f -
 
 # Shows a Yes and a No of the example night, without proofs where no proved program stands there: a minute or so.
 run:
 	@tools/gate/first.sh
 
-# Proves the crates, and leaves the program at crates/edfclaim/out/edfclaim.
+# Proves the crates, and leaves the program at crates/edfclaim/out/edfclaim. Where it stands there, and is that of the
+# sources as they are, nothing is done.
 build:
-	@tools/gate/prove.py build
+	@if tools/gate/prove.sh current; then echo "$(PROGRAM) stands there already, proved"; else \
+	    $(CRATES) -j "$$(tools/gate/lanes.sh)" VERB=lib edfclaim && rm -rf out/room && tools/gate/prove.sh done && \
+	    echo "built $(PROGRAM), proved"; fi
 
-# Installs the program with its manual pages, the users' pages, the licences, and what helps those who script. Where it
-# stands there, and is that of the sources as they are, it is installed as it stands.
-install:
-	@tools/gate/prove.py current || tools/gate/prove.py build
+# Installs the program with its manual pages, the users' pages, the licences, and what helps those who script.
+install: build
 	install -d "$(DESTDIR)$(PREFIX)/bin" "$(DESTDIR)$(PREFIX)/share/man/man1" "$(DESTDIR)$(PREFIX)/share/doc/edfclaim"
 	install -m 755 $(PROGRAM) "$(DESTDIR)$(PREFIX)/bin/edfclaim"
 	for name in edfclaim edfclaim-look; do install -m 644 "docs/$$name.1" "$(DESTDIR)$(PREFIX)/share/man/man1/$$name.1" || exit 1; done
@@ -29,13 +32,12 @@ install:
 	install -D -m 644 docs/tables/rows.tsv "$(DESTDIR)$(PREFIX)/share/doc/edfclaim/tables/rows.tsv"
 
 # Packs the program, in the folder out: as a Debian package, and as a tarball with its digest.
-deb dist:
-	@tools/gate/prove.py current || tools/gate/prove.py build
+deb dist: build
 	@tools/release/package.sh $@ $(PROGRAM) out
 
 # All proofs and no more, over what earlier runs kept: for the daily loop.
 check:
-	@tools/gate/prove.py check
+	@$(CRATES) VERB=check all
 
 # The whole gate: all proofs, tests, must-fail edits and runs; then the scripts over the built program. What it
 # passed earlier on this machine isn't proved again as long as nothing changes that it stands on.

@@ -32,7 +32,7 @@ show() {
     fi
 }
 
-if tools/gate/prove.py current; then
+if tools/gate/prove.sh current; then
     for case in 1 2; do
         # shellcheck disable=SC2046
         (cd "$night" && ../../crates/edfclaim/out/edfclaim $(cat "$work/cases/$case.args")) >"$work/line" 2>&1
