@@ -1,0 +1,2 @@
+pub mod BlockFacts
+pub mod CountFacts

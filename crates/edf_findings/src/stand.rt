@@ -1,6 +1,7 @@
 //! Where a file stands that is read: its data record at hand, on the clock of the original.
 
-ghost use Rattle.std.specs.Prelude.{IsTrue};
+ghost use Rattle.std.specs.Prelude.{◌≡◌, IsTrue};
+ghost use Rattle.edf_findings.specs.Compared.{lane_at_hand};
 ghost use Rattle.edf_stream.specs.records.Readers.{is_current};
 
 use crate::clock::start_of;
@@ -96,7 +97,9 @@ impl<'a> Stand<'a> {
     }
 
     /// The bytes of a signal in the data record at hand.
-    pub(crate) fn bytes(self, signal: usize) -> &'a [u8] {
+    pub(crate) fn bytes(self, signal: usize) -> &'a [u8]
+        ensures { result.now ≡ lane_at_hand self.entry.reader.now signal }
+    {
         if self.reader.has_current() && signal < self.reader.header().signals().len() {
             self.reader.run(signal)
         } else {

@@ -1,11 +1,14 @@
 //! A channel that both files have, and what was found of its samples.
 
-use crate::samples::blocks::numbers_of;
+ghost use Rattle.std.specs.Prelude.{◌≡◌};
+ghost use Rattle.edf_findings.specs.Compared.{IsCompared, lane_at_hand};
+
 use crate::samples::lane::Lanes;
 use crate::samples::mismatch::{BothLanes, Mismatch};
 use crate::samples::places::Places;
 use crate::samples::sample_run::{BothRuns, places_of};
 use crate::samples::side_by_side::{Strides, side_by_side};
+use crate::samples::strided::numbers_at_half;
 use crate::samples::tally::{Durations, Hands, Measures, Spot, Stands, Tally};
 
 /// A claimed channel that both files have, and which of its samples aren't as claimed.
@@ -60,7 +63,9 @@ impl ComparedChannel {
     }
 
     /// Takes in that so many samples were compared.
-    fn count_compared(&mut self, count: usize) {
+    fn count_compared(&mut self, count: usize)
+        ensures changed { self.new.changed ≡ self.old.changed }
+    {
         self.compared = self.compared.saturating_add(count as u64);
     }
 
@@ -96,7 +101,13 @@ impl ComparedChannel {
     }
 
     /// The bytes of the channel in the data records at hand, of which all is done with then.
-    fn take_whole<'a>(&mut self, stands: &Stands<'a>) -> BothLanes<'a> {
+    fn take_whole<'a>(&mut self, stands: &Stands<'a>) -> BothLanes<'a>
+        ensures original { result.original.now ≡
+            lane_at_hand stands.now.original.reader.now self.old.lanes.original.signal }
+        ensures export { result.export.now ≡
+            lane_at_hand stands.now.export.reader.now self.old.lanes.export.signal }
+        ensures changed { self.new.changed ≡ self.old.changed }
+    {
         let Lanes { original, export } = &mut self.lanes;
         original.done = original.samples as usize;
         export.done = export.samples as usize;
@@ -117,13 +128,15 @@ impl ComparedChannel {
     }
 
     /// The same, where each sample is taken at the time of the other file's.
-    fn compare_each(&mut self, stands: &Stands<'_>) {
+    fn compare_each(&mut self, stands: &Stands<'_>)
+        ensures { IsCompared self.old.changed self.new.changed stands.now.hands
+            (lane_at_hand stands.now.original.reader.now self.old.lanes.original.signal)
+            (lane_at_hand stands.now.export.reader.now self.old.lanes.export.signal) }
+    {
         let lanes = self.take_whole(stands);
         self.count_compared(self.lanes.original.done);
-        if let Some(places) = places_of(lanes.original, lanes.export) {
-            self.changed
-                .add_changed(lanes, places, places, &stands.hands);
-        }
+        let places = places_of(lanes.original, lanes.export);
+        self.changed.add_others(lanes, places, &stands.hands);
     }
 
     /// The same, where the original has two samples for each of the export's.
@@ -134,7 +147,7 @@ impl ComparedChannel {
         let between = Places::between(count);
         self.missing
             .add_places(Mismatch::Missing, between, &stands.hands);
-        if let Some(numbers) = numbers_of::<2>(lanes.original, lanes.export, count) {
+        if let Some(numbers) = numbers_at_half(lanes.original, lanes.export, count) {
             let places = numbers.doubled();
             self.changed
                 .add_changed(lanes, places, numbers, &stands.hands);
@@ -149,7 +162,7 @@ impl ComparedChannel {
         let between = Places::between(count);
         self.extra
             .add_places(Mismatch::Extra, between, &stands.hands);
-        if let Some(numbers) = numbers_of::<2>(lanes.export, lanes.original, count) {
+        if let Some(numbers) = numbers_at_half(lanes.export, lanes.original, count) {
             let places = numbers.doubled();
             self.changed
                 .add_changed(lanes, numbers, places, &stands.hands);

@@ -1,15 +1,19 @@
 //! The signal that a channel is in a file, and in both.
 
+ghost use Rattle.std.specs.Prelude.{◌≡◌};
+ghost use Rattle.edf_findings.specs.Tallies.{value_in};
+
 use edf_header::Header;
 use edf_heads::Channel;
 
 /// The value of the sample at a place of a signal.
-pub(crate) fn value_at(bytes: &[u8], place: usize) -> i16 {
-    let from = place.saturating_mul(2);
-    match bytes.get(from..from.saturating_add(2)) {
-        Some([low, high]) => i16::from_le_bytes([*low, *high]),
-        _ => 0,
+pub(crate) fn value_at(bytes: &[u8], place: usize) -> i16
+    ensures { result ≡ value_in bytes.now place }
+{
+    if place >= bytes.len() / 2 {
+        return 0;
     }
+    i16::from_le_bytes([bytes[2 * place], bytes[2 * place + 1]])
 }
 
 /// A signal of a file, and how many samples of the data record at hand are done with.

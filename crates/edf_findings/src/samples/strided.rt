@@ -1,5 +1,8 @@
 //! Values at common times, of which one file has others between them.
 
+ghost use Rattle.std.specs.Prelude.{◌+◌, ◌/◌, length, min};
+ghost use Rattle.edf_findings.specs.Others.{AreOthers, differs};
+
 use crate::samples::blocks::numbers_of;
 use crate::samples::places::Places;
 
@@ -8,21 +11,6 @@ use crate::samples::places::Places;
 pub(crate) struct Values<'a> {
     pub(crate) bytes: &'a [u8],
     pub(crate) stride: usize,
-}
-
-/// The bytes of so many values, where these can be compared many at a time: of one file every second sample is one of them, and of
-/// the other each.
-fn at_half<'a, 'b>(
-    long: Values<'a>,
-    short: Values<'b>,
-    count: usize,
-) -> Option<(&'a [u8], &'b [u8])> {
-    if long.stride != 2 || short.stride != 1 {
-        return None;
-    }
-    let old = long.bytes.get(..count.checked_mul(4)?)?;
-    let new = short.bytes.get(..count.checked_mul(2)?)?;
-    Some((old, new))
 }
 
 /// The two bytes at a place.
@@ -52,13 +40,20 @@ fn numbers_one_by_one(old: Values<'_>, new: Values<'_>, count: usize) -> Option<
     numbers
 }
 
+/// The numbers of those of the first few values that differ, of which one file has every second sample, and the other each.
+pub(crate) fn numbers_at_half(long: &[u8], short: &[u8], count: usize) -> Option<Places>
+    ensures { AreOthers (differs 2 long.now short.now)
+        (min count (min ((length long.now + 2) / 4) (length short.now / 2))) result }
+{
+    let most = (long.len() + 2) / 4;
+    numbers_of::<2>(long, short, count.min(most.min(short.len() / 2)))
+}
+
 /// The numbers of those of the first few values that differ.
 pub(crate) fn numbers_changed(old: Values<'_>, new: Values<'_>, count: usize) -> Option<Places> {
-    if let Some((long, short)) = at_half(old, new, count) {
-        return numbers_of::<2>(long, short, count);
+    match (old.stride, new.stride) {
+        (2, 1) => numbers_at_half(old.bytes, new.bytes, count),
+        (1, 2) => numbers_at_half(new.bytes, old.bytes, count),
+        _ => numbers_one_by_one(old, new, count),
     }
-    if let Some((long, short)) = at_half(new, old, count) {
-        return numbers_of::<2>(long, short, count);
-    }
-    numbers_one_by_one(old, new, count)
 }

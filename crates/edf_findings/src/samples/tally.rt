@@ -1,5 +1,9 @@
 //! Samples of a channel that were found: how many, the first and the last.
 
+ghost use Rattle.std.specs.Prelude.{◌≡◌, ◌+◌, ◌-◌, ◌^◌, min, Some};
+ghost use Rattle.edf_findings.specs.Compared.{AreTaken};
+ghost use Rattle.edf_findings.specs.Tallies.{AreMore, change_of, found_at};
+
 use crate::record_time::Hand;
 use crate::samples::mismatch::{BothLanes, Mismatch};
 use crate::samples::places::Places;
@@ -88,7 +92,9 @@ fn record_at(number: Option<u32>, from_ps: i128, duration_ps: i128, at_ps: i128)
 impl FoundSample {
     /// The sample at a place of data records at hand.
     #[inline(always)]
-    fn new(hands: &Hands, mismatch: Mismatch, place: usize) -> FoundSample {
+    fn new(hands: &Hands, mismatch: Mismatch, place: usize) -> FoundSample
+        ensures { result ≡ found_at hands.now mismatch place }
+    {
         FoundSample {
             original_ps: hands.original.from_ps,
             export_ps: hands.export.from_ps,
@@ -168,13 +174,20 @@ impl Tally {
 
     /// Takes in so many samples behind those so far, of which this is the last.
     #[inline(always)]
-    fn take_in(&mut self, count: usize, last: FoundSample) {
+    fn take_in(&mut self, count: usize, last: FoundSample)
+        ensures count { self.new.count ≡ min (self.old.count + count) (2 ^ 64 - 1) }
+        ensures first { self.new.first ≡ self.old.first }
+        ensures last { self.new.last ≡ Some last }
+    {
         self.count = self.count.saturating_add(count as u64);
         self.last = Some(last);
     }
 
     /// Takes in samples that one of the files lacks, by their places in the data record of the other.
-    pub(crate) fn add_places(&mut self, mismatch: Mismatch, places: Places, hands: &Hands) {
+    pub(crate) fn add_places(&mut self, mismatch: Mismatch, places: Places, hands: &Hands)
+        ensures { AreMore self.old self.new places.count (found_at hands.now mismatch places.first)
+            (found_at hands.now mismatch places.last) }
+    {
         if self.first.is_none() {
             self.first = Some(FoundSample::new(hands, mismatch, places.first));
         }
@@ -194,6 +207,15 @@ impl Tally {
         self.add_places(mismatch, places, hands);
     }
 
+    /// Takes in samples that have other values, if there are any, by their places, which are the same in both files.
+    pub(crate) fn add_others(&mut self, lanes: BothLanes<'_>, places: Option<Places>, hands: &Hands)
+        ensures { AreTaken self.old self.new hands.now lanes.entry.original.now lanes.entry.export.now places }
+    {
+        if let Some(places) = places {
+            self.add_changed(lanes, places, places, hands);
+        }
+    }
+
     /// Takes in samples that have other values, by their places in the original and in the export.
     pub(crate) fn add_changed(
         &mut self,
@@ -201,7 +223,11 @@ impl Tally {
         original: Places,
         export: Places,
         hands: &Hands,
-    ) {
+    )
+        ensures { AreMore self.old self.new original.count
+            (found_at hands.now (change_of lanes.entry.original.now lanes.entry.export.now original.first export.first) original.first)
+            (found_at hands.now (change_of lanes.entry.original.now lanes.entry.export.now original.last export.last) original.last) }
+    {
         if self.first.is_none() {
             let change = lanes.change(original.first, export.first);
             self.first = Some(FoundSample::new(hands, change, original.first));
