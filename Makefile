@@ -15,8 +15,8 @@ run:
 # sources as they are, nothing is done.
 build:
 	@if tools/gate/prove.sh current; then echo "$(PROGRAM) stands there already, proved"; else \
-	    $(CRATES) -j "$$(tools/gate/lanes.sh)" VERB=lib edfclaim && rm -rf out/room && tools/gate/prove.sh done && \
-	    echo "built $(PROGRAM), proved"; fi
+	    $(CRATES) -j "$$(tools/gate/lanes.sh)" VERB=lib edfclaim; status=$$?; rm -rf out/room; [ $$status -eq 0 ] && \
+	    tools/gate/prove.sh current && echo "built $(PROGRAM), proved"; fi
 
 # Installs the program with its manual pages, the users' pages, the licences, and what helps those who script.
 install: build
@@ -37,7 +37,7 @@ deb dist: build
 
 # All proofs and no more, over what earlier runs kept: for the daily loop.
 check:
-	@$(CRATES) VERB=check all
+	@$(CRATES) -j 1 VERB=check all
 
 # The whole gate: all proofs, tests, must-fail edits and runs; then the scripts over the built program. What it
 # passed earlier on this machine isn't proved again as long as nothing changes that it stands on.

@@ -577,6 +577,11 @@ def of_channels():
         yield f"the channels {claimed}, of an export with another", 1, WHOLE, flow, claim_of(claimed, "", ALL), words, [
             tried,
         ]
+    told = edited(NIGHT, (signal(1, "label"), "Flow"), (signal(1, "reserved"), "Haagse"))
+    free = 'channel "Flow" has the text "Haagse" in its reserved field'
+    for file, words, others in ((told, [unknown, free], []), (flow, [unknown], [free])):
+        yield (f"a channel that the original lacks, with {'a text' if words[1:] else 'none'}", 1, WHOLE, file,
+               claim_of('["EEG Fpz-Cz", "Flow"]', "", ALL), words, others)
     half = edited(NIGHT, (field("records"), "2"), parts=NIGHT["parts"][:4])
     yield ("a channel too many, and half of the night", 1, WHOLE, half, claim_of('["ECG"]', "", ALL),
            [f'{tried}"ECG", "EEG Fpz-Cz"] the first difference would be NO 10 sample "ECG" at 2000000000000 ps missing.'], [])
