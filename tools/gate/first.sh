@@ -56,4 +56,4 @@ for case in 1 2; do
     status=$(sed -n "s/^case=$case .*run=ended status=\([0-9]*\) .*/\1/p" out/run.log)
     show "$case" "${status:-none}" $((case - 1))
 done
-echo "That was run and not yet proved: make build proves all of it, and leaves the program (about 20 minutes on 4 idle cores)."
+echo "That was run and not yet proved: make build proves all of it, and leaves the program (from nothing within an hour or so on 4 cores)."
