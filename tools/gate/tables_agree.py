@@ -120,7 +120,8 @@ def of_show():
 
 def of_comments():
     """The comments of a draft: each begins so in the code that writes it."""
-    files = [*(CRATES / "edf_draft" / "src").rglob("*.rt"), CRATES / "edf_claim" / "src" / "drafting" / "draft_text.rt"]
+    files = [*(CRATES / "edf_draft" / "src").rglob("*.rt"), *(CRATES / "edf_guesses" / "src").rglob("*.rt"),
+             CRATES / "edf_claim" / "src" / "drafting" / "draft_text.rt"]
     code = "".join(path.read_text(encoding="utf-8") for path in files)
     said = [re.split(r"\.\.|(?<=answers: )", text)[0].strip("# ")
             for row in lines()["draft"] for text in re.findall(r"`(# [^`]*)`", row["line"])]
@@ -188,7 +189,7 @@ def of_keys():
 def of_commands():
     """The commands with their words, and what the help says of each."""
     said = {row["name"]: row for row in rows("commands")}
-    jobs = re.findall(SAYS_JOB, source("edf_command_line/specs/Jobs.antt"), re.MULTILINE)
+    jobs = re.findall(SAYS_JOB, source("edf_jobs/specs/Jobs.antt"), re.MULTILINE)
     found = differing("commands.tsv", sorted(said), sorted(name for name, _ in jobs))
     spelled = {"PATH": "FILE", "EXPORTS": "EXPORT..."}
     for name, rest in jobs:

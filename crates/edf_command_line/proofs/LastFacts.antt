@@ -8,7 +8,7 @@ use Rattle.clap.specs.Walk.{Held, Row, Rule, Text, Walk, finished, positional, w
 use Rattle.clap.specs.Simple.{Shape}
 use Rattle.clap.specs.Takes.{default_passes, is_valid, settle_passes, turn_passes, value_passes, walk_passes}
 use Rattle.edf_command_line.proofs.PlainFacts.{first_is, tail_plain}
-use Rattle.edf_command_line.specs.Jobs.{ArePlain}
+use Rattle.edf_jobs.specs.Jobs.{ArePlain}
 
 -- the walk within the last argument, which is the one at this place, from 1 on
 abbrev pub reading : ℕ → List Row → List Text → Walk

@@ -11,9 +11,9 @@ use Rattle.edf_command_line.proofs.PartsFacts.{parts_passes}
 use Rattle.edf_command_line.proofs.PlainFacts.{tail_plain}
 use Rattle.edf_command_line.proofs.SeriesFacts.{series_passes}
 use Rattle.edf_command_line.specs.Commands.{claim_app, export_app, file_app, pair_app, parts_app, program_app, series_app}
-use Rattle.edf_command_line.specs.Jobs.{ArePlain, SaysJob}
-use Rattle.edf_command_line.specs.declared.jobs.Job.{Job}
-use Rattle.edf_command_line.specs.declared.jobs.Job.TheVariants.{Check, CheckParts, Receipt, ReceiptParts, Draft, DraftParts, Explain, ExplainParts, Conform, Show, Notes, Read, Claim, Vectors}
+use Rattle.edf_jobs.specs.Jobs.{ArePlain, SaysJob}
+use Rattle.edf_jobs.specs.declared.jobs.Job.{Job}
+use Rattle.edf_jobs.specs.declared.jobs.Job.TheVariants.{Check, CheckParts, Receipt, ReceiptParts, Draft, DraftParts, Explain, ExplainParts, Conform, Show, Notes, Read, Claim, Vectors}
 
 -- the words behind the program's name are taken
 abbrev Taken : List ℕ → List (List ℕ) → Type 0

@@ -1,7 +1,7 @@
 -- Words that are not empty and begin with no minus.
 use Rattle.std.proofs.Common.{◌≡◌, ◌≢◌, ◌<◌, ℕ, List, ◌∷◌, false, nat_eq, suc, length, slice_index, arith}
 use Rattle.std.proofs.lemmas.Bool.Decides.{nat_tests}
-use Rattle.edf_command_line.specs.Jobs.{ArePlain}
+use Rattle.edf_jobs.specs.Jobs.{ArePlain}
 
 -- a word that is not empty and begins with no minus
 abbrev pub IsPlain : List ℕ → Type 0

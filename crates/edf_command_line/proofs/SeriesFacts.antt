@@ -11,7 +11,7 @@ use Rattle.edf_command_line.proofs.ExportFacts.{alone}
 use Rattle.edf_command_line.proofs.LastFacts.{PassesOn, ReadsOn, all_pass, all_read, all_values, at_most, both_true, ends, reading}
 use Rattle.edf_command_line.proofs.PlainFacts.{IsPlain, first_is}
 use Rattle.edf_command_line.specs.Commands.{needed, series_app}
-use Rattle.edf_command_line.specs.Jobs.{ArePlain}
+use Rattle.edf_jobs.specs.Jobs.{ArePlain}
 
 -- the command as it is built, in a program that has no other
 module _ (name : Text) where

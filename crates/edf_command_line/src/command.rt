@@ -7,13 +7,12 @@ ghost use Rattle.clap.specs.Simple.{app_of, new_app, with_rule, with_subcommand}
 ghost use Rattle.clap.specs.Values.{kind_of};
 ghost use Rattle.clap.specs.declared.builder.command.Command.TheViews.{out-Command as fields_of};
 ghost use Rattle.edf_command_line.specs.Commands.{needed, needed_some, bare_app, checking_app, claim_app, draft_app, explain_app, export_app, file_app, pair_app, parts_app, program_app, receipt_app, reporting_app, series_app, with_both};
-ghost use Rattle.edf_command_line.specs.Jobs.{ArePlain, HasExports, SaysJob, SaysNoJob, behind_first};
+ghost use Rattle.edf_jobs.specs.Jobs.{ArePlain, HasExports, SaysJob, SaysNoJob, behind_first};
 
 use crate::VERSION;
-use crate::jobs::Job;
-use crate::words::job_of;
 use clap::error::ErrorKind;
 use clap::{Arg, Command, Error};
+use edf_jobs::{Job, job_of};
 use std::alloc::{AllocError, Global};
 
 /// What the program is, in the help.

@@ -2,11 +2,7 @@
 #![tactic(auto)]
 
 mod command;
-mod jobs;
-mod words;
 
 pub use command::job;
-pub use jobs::Job;
-pub use words::job_of;
 
 pub const VERSION: &str = "0.2.0";

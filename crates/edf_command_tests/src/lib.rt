@@ -1,4 +1,4 @@
-//! Tests of `edf_report`, `edf_receipt`, `edf_trial`, `edf_command_line`, `edf_refusal` and `edf_vectors` by their public names: the
+//! Tests of `edf_report`, `edf_receipt`, `edf_trial`, `edf_jobs`, `edf_refusal` and `edf_vectors` by their public names: the
 //! reports on one file, digests, the receipts, the worked rows, tries, the command that some words are, the line and the
 //! status of each refusal, and what is written where a source, a sink or memory gives out.
 #![tactic(auto)]

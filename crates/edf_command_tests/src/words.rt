@@ -1,6 +1,6 @@
 //! The command that some words are.
 
-use edf_command_line::{Job, job_of};
+use edf_jobs::{Job, job_of};
 
 /// Words, and the command that they are.
 const WORDS: &[(&[&str], Option<Job<'static>>)] = &[

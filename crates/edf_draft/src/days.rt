@@ -5,7 +5,7 @@ ghost use Rattle.std.specs.Int.{int_div_euclid};
 ghost use Rattle.edf_draft.specs.Days.{LiesWithin};
 
 /// How many picoseconds a day has.
-pub(crate) const DAY_PS: i128 = 86_400_000_000_000_000;
+const DAY_PS: i128 = 86_400_000_000_000_000;
 
 /// How many whole days lie between two times, rounded down.
 #[tactic(auto, using(crate::proofs::DayFacts::days_fit))]

@@ -3,7 +3,7 @@
 ghost use Rattle.std.specs.Prelude.{◌≡◌, ◌∷◌, []};
 ghost use Rattle.edf_draft.specs.Exported.{heads_of};
 
-use crate::kept::back::Back;
+use edf_guesses::Back;
 use edf_recording::{Recorded, RecordedNote, push_stretch};
 use edf_stream::FileReader;
 use std::alloc::{AllocError, Global};

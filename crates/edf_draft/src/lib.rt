@@ -3,13 +3,12 @@
 
 mod answer;
 mod channels;
-mod comments;
 mod days;
 mod draft;
 mod exported;
 mod fits;
 mod hidden;
-mod kept;
+mod order;
 mod parts;
 mod parts_answer;
 mod shift;

@@ -8,10 +8,10 @@ ghost use Rattle.edf_pace.specs.PartsStops.{PartsStops, StopsOf};
 ghost use Rattle.edf_draft.specs.FirstLines.{Anew, IsTrueOfYes, anew_parts};
 
 use crate::answer::Answer;
-use crate::comments::obstacles::obstacle;
 use crate::exported::Exported;
 use crate::tries::trial::{SeveralExports, Trial};
 use edf_fields::{Fault, Source};
+use edf_guesses::obstacle;
 use edf_header::Stop;
 use edf_recording::{Recorded, read_through};
 use edf_stop::{PartSide, PartsStop, Side};

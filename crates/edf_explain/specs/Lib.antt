@@ -1,3 +1,1 @@
 pub mod Appending
-pub mod Explained
-pub mod Tries

@@ -10,7 +10,6 @@ use crate::differences::samples::say_samples;
 use crate::differences::starts::say_starts;
 use crate::faults::{say_fault, say_fault_of_export};
 use crate::heads::Heads;
-use crate::tried::answers::{Asked, OneExport};
 use crate::tried::other_channels::say_other_channels;
 use crate::tried::other_end::say_other_end;
 use crate::tried::shifts::TriedShifts;
@@ -21,16 +20,16 @@ use edf_fields::{Fault, Sink, put_all};
 use edf_findings::{Looker, OnlyInOne, Seen};
 use edf_sentences::Text;
 use edf_stop::{RunStop, Side};
-use edf_trial::{Recordings, with_shift};
+use edf_trial::{Asked, OneExport, Recordings, with_shift};
 use edf_verdict::{Difference, Outcome, Verdict};
 use edf_warnings::{ReadTexts, asks_for_texts, say_behind_no, say_warnings};
 use std::alloc::{AllocError, Global};
 
 /// What stands in front of each file.
 #[derive(Clone, Copy)]
-pub(crate) struct Fronts<'a> {
-    pub(crate) original: &'a [u8],
-    pub(crate) export: &'a [u8],
+pub struct Fronts<'a> {
+    pub original: &'a [u8],
+    pub export: &'a [u8],
 }
 
 impl<'a> Fronts<'a> {
@@ -46,7 +45,7 @@ impl<'a> Fronts<'a> {
 /// Who looks on while a check is run under the claim of a text.
 ///
 /// The error is want of memory.
-pub(crate) fn looker_for(alloc: Global, claim_text: &[u8]) -> Result<Looker, AllocError> {
+pub fn looker_for(alloc: Global, claim_text: &[u8]) -> Result<Looker, AllocError> {
     Ok(Looker::new(alloc, asks_for_texts(alloc, claim_text)?))
 }
 
@@ -224,7 +223,7 @@ fn sentences<R: Recordings>(
 /// other shifts, of the channels that both files have, or of the end of an interval; and once more where all samples are as
 /// claimed with another shift. The sentences are made before the first of them is written, so that nothing is written where
 /// a file fails or memory runs out. What the sink held stays in front of them.
-pub(crate) fn explain_to<R: Recordings, K: Sink>(
+pub fn explain_to<R: Recordings, K: Sink>(
     alloc: Global,
     asked: &Asked<'_, OneExport<'_, R>>,
     looker: Looker,

@@ -3,21 +3,16 @@
 
 mod differences;
 mod explain;
-mod explained;
-mod explained_parts;
 mod faults;
 mod front_source;
 mod heads;
-mod lent;
 mod limits;
 mod opening;
 mod parts;
-mod question;
 mod tried;
 mod words;
 
-pub use explained::run_explained;
-pub use explained_parts::run_explained_parts;
+pub use explain::{Fronts, explain_to, looker_for};
 pub use front_source::FrontSource;
 pub use opening::{explain_opening, explain_reading};
-pub use question::Question;
+pub use parts::{PartsAsked, explain_parts_to, fault_in};

@@ -12,7 +12,6 @@ use crate::explain::looker_for;
 use crate::faults::{fault_of_part, say_fault};
 use crate::front_source::FrontSource;
 use crate::heads::Heads;
-use crate::tried::answers::{Asked, SeveralExports};
 use crate::tried::other_channels::say_other_channels;
 use crate::tried::other_end::say_other_end;
 use crate::tried::shifts::TriedShifts;
@@ -24,24 +23,24 @@ use edf_fields::{Fault, Sink, put_all};
 use edf_findings::{Looker, OnlyInOne, Seen, SeenPart};
 use edf_sentences::{Piece, Text};
 use edf_stop::{PartsRunStop, Side};
-use edf_trial::{PartsRecordings, with_shift};
+use edf_trial::{Asked, PartsRecordings, SeveralExports, with_shift};
 use edf_verdict::{Difference, Outcome, Verdict};
 use edf_warnings::{ReadTexts, say_behind_no, say_warnings};
 use std::alloc::{AllocError, Global};
 
 /// What was asked of several exports, and how many of them it is said of.
 #[derive(Drop)]
-pub(crate) struct PartsAsked<'a, R: PartsRecordings> {
-    pub(crate) asked: Asked<'a, SeveralExports<'a, R>>,
+pub struct PartsAsked<'a, R: PartsRecordings> {
+    pub asked: Asked<'a, SeveralExports<'a, R>>,
     /// The number of the export that the verdict is on.
-    pub(crate) part: u16,
+    pub part: u16,
     /// Where a file has a fault: what stands in front of the original, and in front of each export as far as it was read.
-    pub(crate) original_front: &'a [u8],
-    pub(crate) fronts: &'a [Vec<u8>],
+    pub original_front: &'a [u8],
+    pub fronts: &'a [Vec<u8>],
 }
 
 /// The file that a verdict says has a fault, and the fault.
-pub(crate) fn fault_in(verdict: &Verdict) -> Option<(Side, Fault)> {
+pub fn fault_in(verdict: &Verdict) -> Option<(Side, Fault)> {
     match verdict {
         Verdict::No(Difference::OriginalFault(fault)) => Some((Side::Original, *fault)),
         Verdict::No(Difference::ExportFault(fault)) => Some((Side::Export, *fault)),
@@ -303,7 +302,7 @@ fn sentences_on_parts<R: PartsRecordings>(
 /// The verdict is that of the check, and `looker` looked on. All files are opened anew for each of at most three tries, once more
 /// where all samples are as claimed with another shift, and for the faults of exports that the check left aside. The sentences are
 /// made before the first of them is written. What the sink held stays in front of them.
-pub(crate) fn explain_parts_to<R: PartsRecordings, K: Sink>(
+pub fn explain_parts_to<R: PartsRecordings, K: Sink>(
     alloc: Global,
     parts: &PartsAsked<'_, R>,
     looker: Looker,

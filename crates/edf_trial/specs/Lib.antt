@@ -1,3 +1,4 @@
 pub mod Better
 pub mod Changes
 pub mod Parts
+pub mod Tries

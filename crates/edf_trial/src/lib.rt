@@ -2,6 +2,7 @@
 #![tactic(auto)]
 
 mod anew;
+mod answers;
 mod better;
 mod changed;
 mod channels;
@@ -12,6 +13,7 @@ mod recordings;
 mod shifted;
 
 pub use anew::check_anew;
+pub use answers::{Asked, OneExport, SeveralExports, TriedAnswer, Tries, is_of_channels};
 pub use better::is_better;
 pub use channels::with_channels;
 pub use ends::with_end;

@@ -2,8 +2,8 @@
 
 use crate::files::claim_text;
 use edf_claim_advice::explain_claim;
-use edf_command_line::Job;
 use edf_explain::{explain_opening, explain_reading};
+use edf_jobs::Job;
 use edf_refusal::{Refusal, Role};
 use std::alloc::AllocError;
 use std::fs;

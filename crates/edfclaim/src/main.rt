@@ -13,10 +13,11 @@ mod hints;
 mod perform;
 mod signs;
 
-ghost use Rattle.edf_command_line.specs.Jobs.{HasExports};
+ghost use Rattle.edf_jobs.specs.Jobs.{HasExports};
 
 use clap::error::ErrorKind;
-use edf_command_line::{Job, job};
+use edf_command_line::job;
+use edf_jobs::Job;
 use edf_refusal::{Refusal, status};
 use std::io::IsTerminal;
 use std::process::ExitCode;

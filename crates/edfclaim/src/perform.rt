@@ -1,7 +1,7 @@
 //! The commands, on files and standard output.
 
 ghost use Rattle.std.specs.Prelude.{◌≡◌, ◌<◌, length, Err, IfErr};
-ghost use Rattle.edf_command_line.specs.Jobs.{HasExports};
+ghost use Rattle.edf_jobs.specs.Jobs.{HasExports};
 ghost use Rattle.edf_refusal.specs.declared.refusals.Refusal.TheVariants as refusals;
 ghost use Rattle.edfclaim.specs.Opening.{CheckIsRefused, ClaimIsRefused, DraftIsRefused, PartsAreRefused, PartsDraftIsRefused, ReportIsRefused};
 
@@ -12,10 +12,12 @@ use crate::files_again::{FilesAgain, PartsAgain};
 use crate::signs::{Signs, Wiped};
 use edf_check::{run, run_parts};
 use edf_claim_text::claim_to;
-use edf_command_line::{Job, VERSION};
+use edf_command_line::VERSION;
 use edf_draft::{draft_parts_to, draft_to};
-use edf_explain::{FrontSource, Question, run_explained, run_explained_parts};
+use edf_explain::FrontSource;
+use edf_explained::{Question, run_explained, run_explained_parts};
 use edf_fields::{Sink, WriteSink};
+use edf_jobs::Job;
 use edf_read::read_to;
 use edf_receipt::{DigestSource, Printed, receipt_parts_to, receipt_to};
 use edf_refusal::{Refusal, Role};

@@ -9,7 +9,7 @@ ghost use Rattle.edf_draft.specs.FirstLines.{IsTrueOfYes};
 ghost use Rattle.edf_draft.specs.Tries.{IsTriedDraft};
 
 use crate::exported::Exported;
-use crate::fits::shifts::fitting_shifts;
+use crate::fits::fitting_shifts;
 use crate::shift::{Moved, Shift, shift_of};
 use crate::tries::drafted::draft_tried;
 use crate::tries::trial::Trial;

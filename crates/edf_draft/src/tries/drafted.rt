@@ -7,18 +7,15 @@ ghost use Rattle.edf_draft.specs.Exported.{heads_of};
 ghost use Rattle.edf_draft.specs.Tries.{IsTriedAs, IsTriedDraft};
 
 use crate::channels::{are_known, channel_labels};
-use crate::comments::doubts::doubts_of;
 use crate::exported::Exported;
 use crate::hidden::{hidden_subfields, shown_subfields};
-use crate::kept::back::Back;
-use crate::kept::keep::kept_intervals;
-use crate::kept::lacking::{Lacking, lacking_texts};
-use crate::kept::sampling::Sampling;
+use crate::order::look_swapped;
 use crate::shift::Moved;
 use crate::tries::trial::Trial;
 use crate::tries::tried::Tried;
 use edf_claim::{Comments, Draft};
 use edf_fields::Which;
+use edf_guesses::{Back, Basis, Lacking, Sampling, doubts_of, kept_intervals, lacking_texts};
 use edf_recording::Recorded;
 use std::alloc::{AllocError, Global};
 
@@ -93,8 +90,15 @@ fn told_of(
     moved: Moved<'_>,
     channels: &[Vec<u8>],
 ) -> Result<Told, AllocError> {
+    let basis = Basis {
+        shift: moved.seconds,
+        is_told: moved.is_told,
+        fits: moved.fits,
+        are_swapped: look_swapped(alloc, original, export, moved)?,
+        are_several: !export.others.is_empty(),
+    };
     Ok(Told {
-        doubts: doubts_of(alloc, original, export, moved)?,
+        doubts: doubts_of(alloc, original, &export.together, basis)?,
         are_known: are_known(alloc, original.reader.header(), channels)?,
         shown: shown_subfields(alloc, export)?,
     })

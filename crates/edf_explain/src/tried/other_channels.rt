@@ -1,13 +1,12 @@
 //! Other channels than the claimed ones, tried by a check.
 
 use crate::heads::Heads;
-use crate::tried::answers::{Asked, TriedAnswer, Tries, is_of_channels};
 use crate::words::tried as words;
 use edf_claim::Claim;
 use edf_header::Header;
 use edf_heads::ChannelIndex;
 use edf_sentences::{NEXT, Piece, Text, nearest};
-use edf_trial::with_channels;
+use edf_trial::{Asked, TriedAnswer, Tries, is_of_channels, with_channels};
 use std::alloc::{AllocError, Global};
 
 /// Channels with which the check answers better than with the claimed ones.

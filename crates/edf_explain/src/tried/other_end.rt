@@ -1,11 +1,10 @@
 //! Another end of an interval than the claimed one, tried by a check.
 
-use crate::tried::answers::{Asked, TriedAnswer, Tries};
 use crate::words::tried as words;
 use edf_claim::Claim;
 use edf_findings::{Notes, OnlyInOne, is_at_end};
 use edf_sentences::{Piece, Text};
-use edf_trial::with_end;
+use edf_trial::{Asked, TriedAnswer, Tries, with_end};
 use edf_verdict::{Difference, Verdict};
 use std::alloc::{AllocError, Global};
 

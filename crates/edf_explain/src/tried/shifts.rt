@@ -1,10 +1,9 @@
 //! Other shifts than the claimed one, each tried by a check.
 
-use crate::tried::answers::{Asked, TriedAnswer, Tries};
 use crate::words::tried as words;
 use edf_findings::Starts;
 use edf_sentences::{FULL_STOP, NEXT, Piece, Text};
-use edf_trial::{is_better, with_shift};
+use edf_trial::{Asked, TriedAnswer, Tries, is_better, with_shift};
 use edf_verdict::{Difference, Verdict};
 use std::alloc::{AllocError, Global};
 

@@ -1,0 +1,52 @@
+//! A check of two files under the text of a claim, with its line and sentences behind it.
+
+ghost use Rattle.std.specs.Prelude.{IfOk, IsTrue};
+ghost use Rattle.edf_explained.specs.Explained.{IsExplained};
+
+use crate::lent::Lent;
+use crate::question::Question;
+use edf_check::judge_beside;
+use edf_explain::{FrontSource, Fronts, explain_to, looker_for};
+use edf_fields::{Sink, Source, put_all};
+use edf_stop::RunStop;
+use edf_trial::{Asked, OneExport, Recordings};
+use edf_verdict::Outcome;
+use std::alloc::Global;
+
+/// Checks the export against the original as `run` does and writes its line; then writes sentences for whoever has to act on it.
+/// Both files are read once, and opened anew for what is tried.
+///
+/// The line and the outcome are what `run` promises. Of the sentences nothing is promised but that they stand behind it, nor of
+/// what was written where there is an error: it is that of `run`, or one of a later reading.
+pub fn run_explained<O: Source, E: Source, K: Sink, R: Recordings>(
+    alloc: Global,
+    original: &mut O,
+    export: &mut E,
+    question: Question<'_, R>,
+    sink: &mut K,
+) -> Result<Outcome, RunStop>
+    ensures report { IfOk result (λ outcome. IsTrue (O.is_honest original.old) →
+        IsTrue (E.is_honest export.old) → IsTrue (K.is_honest sink.old) →
+        IsExplained (O.left original.old) (E.left export.old) question.entry.claim_text.now (K.held sink.old)
+        (K.held sink.new) outcome) }
+    ensures honesty { IsTrue (K.is_honest sink.old) → IsTrue (K.is_honest sink.new) }
+{
+    let Question { claim_text, again } = question;
+    let mut first = FrontSource::new(alloc, Lent::new(original));
+    let mut second = FrontSource::new(alloc, Lent::new(export));
+    let mut looker = looker_for(alloc, claim_text)?;
+    let verdict = judge_beside(alloc, &mut first, &mut second, claim_text, &mut looker)?;
+    let line = verdict.line(alloc)?;
+    put_all(sink, &line)?;
+    let asked = Asked {
+        tries: OneExport { recordings: again },
+        claim_text,
+        verdict: &verdict,
+    };
+    let fronts = Fronts {
+        original: first.front(),
+        export: second.front(),
+    };
+    explain_to(alloc, &asked, looker, fronts, sink)?;
+    Ok(verdict.outcome())
+}
