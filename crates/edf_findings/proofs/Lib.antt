@@ -1,2 +1,1 @@
-pub mod BlockFacts
-pub mod CountFacts
+pub mod SameFacts

@@ -2,9 +2,9 @@
 use Rattle.std.specs.Prelude.{◌≡◌, ℕ, ◌/◌, ◌&&◌, List, [], length, min, nat_lt, if◌then◌else◌, Option, MatchOption}
 use Rattle.edf_stream.specs.records.Readers.{Reader, is_current}
 use Rattle.edf_stream.specs.records.RecordsReading.{lane_in}
-use Rattle.edf_findings.specs.Others.{AreOthers, differs}
+use Rattle.edf_pace.specs.samples.Others.{AreOthers, differs}
 use Rattle.edf_findings.specs.Tallies.{AreMore, change_of, found_at}
-use Rattle.edf_findings.specs.declared.samples.places.Places.{Places}
+use Rattle.edf_pace.specs.declared.samples.places.Places.{Places}
 use Rattle.edf_findings.specs.declared.samples.tally.Hands.{Hands}
 use Rattle.edf_findings.specs.declared.samples.tally.Tally.{Tally}
 

@@ -1,6 +1,5 @@
 //! The samples of a channel of both files, all of which are compared.
 
-pub mod blocks;
 pub mod channels;
 pub mod compared;
 pub mod kinds;

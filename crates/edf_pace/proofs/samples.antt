@@ -6,3 +6,7 @@ pub mod StretchFacts
 pub mod FilterFacts
 pub mod CutFacts
 pub mod TallyFacts
+pub mod BlockFacts
+pub mod PlaceCountFacts
+pub mod ValueFacts
+pub mod FrontFacts

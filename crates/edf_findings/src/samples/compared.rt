@@ -5,7 +5,7 @@ ghost use Rattle.edf_findings.specs.Compared.{IsCompared, lane_at_hand};
 
 use crate::samples::lane::Lanes;
 use crate::samples::mismatch::{BothLanes, Mismatch};
-use crate::samples::places::Places;
+use crate::samples::places::{behind, between, doubled};
 use crate::samples::sample_run::{BothRuns, places_of};
 use crate::samples::side_by_side::{Strides, side_by_side};
 use crate::samples::strided::numbers_at_half;
@@ -144,11 +144,10 @@ impl ComparedChannel {
         let lanes = self.take_whole(stands);
         let count = self.lanes.export.done;
         self.count_compared(count);
-        let between = Places::between(count);
         self.missing
-            .add_places(Mismatch::Missing, between, &stands.hands);
+            .add_places(Mismatch::Missing, between(count), &stands.hands);
         if let Some(numbers) = numbers_at_half(lanes.original, lanes.export, count) {
-            let places = numbers.doubled();
+            let places = doubled(numbers);
             self.changed
                 .add_changed(lanes, places, numbers, &stands.hands);
         }
@@ -159,11 +158,10 @@ impl ComparedChannel {
         let lanes = self.take_whole(stands);
         let count = self.lanes.original.done;
         self.count_compared(count);
-        let between = Places::between(count);
         self.extra
-            .add_places(Mismatch::Extra, between, &stands.hands);
+            .add_places(Mismatch::Extra, between(count), &stands.hands);
         if let Some(numbers) = numbers_at_half(lanes.export, lanes.original, count) {
-            let places = numbers.doubled();
+            let places = doubled(numbers);
             self.changed
                 .add_changed(lanes, numbers, places, &stands.hands);
         }
@@ -179,8 +177,8 @@ impl ComparedChannel {
             export: export.front(count),
         };
         if let Some(places) = together.places() {
-            let old = places.behind(original.from);
-            let new = places.behind(export.from);
+            let old = behind(places, original.from);
+            let new = behind(places, export.from);
             self.changed.add_changed(runs.lanes(), old, new, hands);
         }
         self.missing

@@ -1,11 +1,10 @@
 //! Samples of a signal that follow one another in a data record.
 
 ghost use Rattle.std.specs.Prelude.{◌/◌, length, min};
-ghost use Rattle.edf_findings.specs.Others.{AreOthers, differs};
+ghost use Rattle.edf_pace.specs.samples.Others.{AreOthers, differs};
 
-use crate::samples::blocks::numbers_of;
 use crate::samples::mismatch::BothLanes;
-use crate::samples::places::Places;
+use edf_pace::{Places, numbers_of};
 use edf_stream::Instant;
 use std::cmp::Ordering;
 
@@ -157,7 +156,7 @@ impl<'a> SampleRun<'a> {
 }
 
 /// Where the values of two files differ, each of one with that of the other at its place.
-#[tactic(auto, using(crate::proofs::CountFacts::none_in_same))]
+#[tactic(auto, using(crate::proofs::SameFacts::none_in_same))]
 pub(crate) fn places_of(original: &[u8], export: &[u8]) -> Option<Places>
     ensures { AreOthers (differs 1 original.now export.now)
         (min (length original.now) (length export.now) / 2) result }

@@ -1,10 +1,10 @@
 //! Samples of two runs that are taken at any times.
 
 use crate::samples::lane::Lanes;
-use crate::samples::places::Places;
 use crate::samples::sample_run::{BothRuns, SampleRun};
 use crate::samples::strided::{Values, numbers_changed};
 use crate::samples::tally::Durations;
+use edf_pace::Places;
 use std::cmp::Ordering;
 
 /// How many samples of the original, and how many of the export, go by from one instant at which both have a sample to the

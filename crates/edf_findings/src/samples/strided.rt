@@ -1,10 +1,10 @@
 //! Values at common times, of which one file has others between them.
 
 ghost use Rattle.std.specs.Prelude.{◌+◌, ◌/◌, length, min};
-ghost use Rattle.edf_findings.specs.Others.{AreOthers, differs};
+ghost use Rattle.edf_pace.specs.samples.Others.{AreOthers, differs};
 
-use crate::samples::blocks::numbers_of;
-use crate::samples::places::Places;
+use crate::samples::places::with_one;
+use edf_pace::{Places, numbers_of};
 
 /// Values that are compared: the bytes from the first of them on, and how many samples go by from one to the next.
 #[derive(Clone, Copy)]
@@ -29,7 +29,7 @@ fn numbers_one_by_one(old: Values<'_>, new: Values<'_>, count: usize) -> Option<
         match (value_at(old.bytes, place), value_at(new.bytes, other)) {
             (Some(one), Some(two)) => {
                 if one != two {
-                    numbers = Places::with_one(numbers, number);
+                    numbers = with_one(numbers, number);
                 }
             }
             _ => break,

@@ -6,9 +6,9 @@ ghost use Rattle.edf_findings.specs.Tallies.{AreMore, change_of, found_at};
 
 use crate::record_time::Hand;
 use crate::samples::mismatch::{BothLanes, Mismatch};
-use crate::samples::places::Places;
 use crate::samples::sample_run::SampleRun;
 use crate::stand::Stand;
+use edf_pace::Places;
 
 /// A sample that was found.
 #[derive(Clone, Copy)]

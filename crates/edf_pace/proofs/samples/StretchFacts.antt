@@ -20,10 +20,10 @@ use Rattle.edf_pace.proofs.samples.FractionFacts.{true-is_before, false-is_befor
 
 -- ---- behind a place
 
-none-on : (a d : ℤ) → a +ℤ pos 0 *ℤ d ≡ a
+pub none-on : (a d : ℤ) → a +ℤ pos 0 *ℤ d ≡ a
 none-on a d = omega (arith, ints)
 
-one-on : (a d : ℤ) (k : ℕ) → (a +ℤ pos k *ℤ d) +ℤ d ≡ a +ℤ pos (suc k) *ℤ d
+pub one-on : (a d : ℤ) (k : ℕ) → (a +ℤ pos k *ℤ d) +ℤ d ≡ a +ℤ pos (suc k) *ℤ d
 one-on a d k = omega (arith, ints)
 
 one-first : (a d : ℤ) (k : ℕ) → (a +ℤ d) +ℤ pos k *ℤ d ≡ a +ℤ pos (suc k) *ℤ d
@@ -103,7 +103,7 @@ sum-scaled zero a d z e = omega (arith, ints)
 sum-scaled (suc m) a d z e = let r : z *ℤ pos m ≡ (a *ℤ pos m) +ℤ (d *ℤ pos m) = sum-scaled m a d z e in omega (arith, ints)
 
 -- the next samples stand at the same instant, too
-next-instant : (n m : ℕ) (a b d e : ℤ) → a *ℤ pos m ≡ b *ℤ pos n → d *ℤ pos m ≡ e *ℤ pos n → (a +ℤ d) *ℤ pos m ≡ (b +ℤ e) *ℤ pos n
+pub next-instant : (n m : ℕ) (a b d e : ℤ) → a *ℤ pos m ≡ b *ℤ pos n → d *ℤ pos m ≡ e *ℤ pos n → (a +ℤ d) *ℤ pos m ≡ (b +ℤ e) *ℤ pos n
 next-instant n m a b d e s t = sum-scaled m a d (a +ℤ d) refl ∙ ap (λ z. z +ℤ (d *ℤ pos m)) s ∙ ap (λ z. (b *ℤ pos n) +ℤ z) t ∙ sym (sum-scaled n b e (b +ℤ e) refl)
 
 -- the same bytes at the same instants are passed over

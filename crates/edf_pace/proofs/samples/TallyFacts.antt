@@ -1,6 +1,6 @@
 -- How tallies are joined, and the tally of what two lists differ in.
-use Rattle.std.proofs.Common.{◌≡◌, ℕ, ◌+◌, ◌-◌, ◌*◌, ◌^◌, ◌<◌, ◌≤◌, max, min, Bool, true, false, cond, not, ℤ, pos, ◌+ℤ◌, ◌*ℤ◌, ◌⊎◌, MatchOption, List, [], ◌∷◌, ◌++◌, map, filter, length, Option, Some, None, inl, inr, refl, sym, ap, ◌∙◌, subst, arith, Fits, w64}
-use Rattle.std.proofs.lemmas.List.{map-append, append-nil}
+use Rattle.std.proofs.Common.{◌≡◌, ℕ, ◌+◌, ◌-◌, ◌*◌, ◌^◌, ◌<◌, ◌≤◌, max, min, Bool, true, false, cond, not, ℤ, pos, ◌+ℤ◌, ◌*ℤ◌, ◌⊎◌, MatchOption, List, [], ◌∷◌, ◌++◌, map, length, Option, Some, None, inl, inr, refl, sym, ap, ◌∙◌, subst, arith, Fits, w64}
+use Rattle.std.proofs.lemmas.List.{map-append, append-nil, length-append}
 use Rattle.std.proofs.lemmas.List.Elements.{filter-append}
 use Rattle.std.specs.Int.{from_bool}
 use Rattle.std.specs.Option.{option_or}
@@ -10,10 +10,11 @@ use Rattle.edf_verdict.specs.declared.verdict.SampleMismatch.{SampleMismatch}
 use Rattle.edf_verdict.specs.declared.verdict.SampleMismatch.TheVariants.{Missing, Extra, Value}
 use Rattle.edf_pace.specs.declared.samples.difference.PointDifference.{PointDifference}
 use Rattle.edf_pace.specs.declared.samples.point.Point.{Point}
+use Rattle.edf_pace.specs.declared.samples.counted.Counted.{Counted}
 use Rattle.edf_pace.specs.declared.samples.tally.Tally.{Tally}
 use Rattle.edf_pace.specs.InstantOrder.{is_before}
 use Rattle.edf_pace.specs.samples.Differences.{instant, missing, extra, other, heads, first_difference_of}
-use Rattle.edf_pace.specs.samples.Tallies.{all_behind, differences_of, each_is, first_of, lacks_first, lacks_second, last_of, is_missing, is_extra, is_changed, added, counted, count_of, tally_of, joined}
+use Rattle.edf_pace.specs.samples.Tallies.{all_behind, differences_of, each_is, first_of, lacks_first, lacks_second, last_of, is_missing, is_extra, is_changed, of_kind, counted, joined_kind, tally_of, joined, all_missing, all_extra, all_changed}
 use Rattle.edf_stream.specs.samples.Values.{digital_value}
 use Rattle.edf_pace.specs.declared.samples.stretch.Stretch.{Stretch}
 use Rattle.edf_pace.specs.samples.Stretches.{points_behind, points_in}
@@ -24,122 +25,114 @@ use Rattle.edf_pace.proofs.samples.FractionFacts.{before-not_before, before_belo
 
 -- ---- joined
 
-capped : (a b c m : ℕ) → min (min (a + min b m) (max a m) + min c m) (max (min (a + min b m) (max a m)) m) ≡ min (a + min (b + c) m) (max a m)
-capped a b c m = omega arith
-
-length-append : {X : Type 0} (xs ys : List X) → length (xs ++ ys) ≡ length xs + length ys
-length-append [] ys = omega arith
-length-append {X} (x ∷ xs) ys = let r = length-append xs ys in omega (arith, r)
-
-counted-joined : (is : SampleMismatch → Bool) (a : ℕ) (xs ys : List PointDifference) → added (added a (count_of is xs)) (count_of is ys) ≡ added a (count_of is (xs ++ ys))
-counted-joined is a xs ys =
-    let test : PointDifference → Bool = λ d. is d.mismatch in
-    capped a (length (filter test xs)) (length (filter test ys)) (2 ^ 64 - 1)
-    ∙ ap (λ k. added a (counted k)) (sym (ap length (filter-append test xs ys) ∙ length-append (filter test xs) (filter test ys)))
-
 or_or : {X : Type 0} (a b c : Option X) → option_or (option_or a b) c ≡ option_or a (option_or b c)
 or_or None b c = refl
 or_or (Some x) b c = refl
+
+or_nothing : (o : Option PointDifference) → option_or o None ≡ o
+or_nothing None = refl
+or_nothing (Some d) = refl
 
 first-append : (xs ys : List PointDifference) → first_of (xs ++ ys) ≡ option_or (first_of xs) (first_of ys)
 first-append [] ys = refl
 first-append (x ∷ xs) ys = refl
 
 last-append : (xs ys : List PointDifference) → last_of (xs ++ ys) ≡ option_or (last_of ys) (last_of xs)
-last-append [] [] = refl
-last-append [] (y ∷ ys) = none_behind (option_or (last_of ys) (Some y))
-  where
-    none_behind : (o : Option PointDifference) → o ≡ option_or o None
-    none_behind None = refl
-    none_behind (Some d) = refl
+last-append [] ys = sym (or_nothing (last_of ys))
 last-append (x ∷ xs) ys = ap (λ o. option_or o (Some x)) (last-append xs ys) ∙ or_or (last_of ys) (last_of xs) (Some x)
+
+pub kind_same : (a b : Counted) → a.count ≡ b.count → a.first ≡ b.first → a.last ≡ b.last → a ≡ b
+kind_same a b c f l =
+    let step : (count : ℕ) (first last : Option PointDifference) → a.count ≡ count → a.first ≡ first → a.last ≡ last → a ≡ record { count = count; first = first; last = last } =
+    λ count first last c f l. rw (← c, ← f, ← l) refl in
+    step b.count b.first b.last c f l
+
+tally_same : (a b : Tally) → a.missing ≡ b.missing → a.extra ≡ b.extra → a.changed ≡ b.changed → a.first ≡ b.first → a ≡ b
+tally_same a b p q r f =
+    let step : (m e c : Counted) (first : Option PointDifference) → a.missing ≡ m → a.extra ≡ e → a.changed ≡ c → a.first ≡ first → a ≡ record { missing = m; extra = e; changed = c; first = first } =
+    λ m e c first p q r f. rw (← p, ← q, ← r, ← f) refl in
+    step b.missing b.extra b.changed b.first p q r f
+
+count-append : (a : ℕ) (xs ys : List PointDifference)
+    → min (min (a + min (length xs) (2 ^ 64 - 1)) (max a (2 ^ 64 - 1)) + min (length ys) (2 ^ 64 - 1)) (max (min (a + min (length xs) (2 ^ 64 - 1)) (max a (2 ^ 64 - 1))) (2 ^ 64 - 1))
+    ≡ min (a + min (length (xs ++ ys)) (2 ^ 64 - 1)) (max a (2 ^ 64 - 1))
+count-append a xs ys =
+    capped a (length xs) (length ys) (2 ^ 64 - 1)
+    ∙ ap (λ k. min (a + min k (2 ^ 64 - 1)) (max a (2 ^ 64 - 1))) (sym (length-append xs ys))
+  where
+    capped : (a b c m : ℕ) → min (min (a + min b m) (max a m) + min c m) (max (min (a + min b m) (max a m)) m) ≡ min (a + min (b + c) m) (max a m)
+    capped a b c m = omega arith
+
+kind-twice : (a : Counted) (xs ys : List PointDifference) → joined_kind (joined_kind a (counted xs)) (counted ys) ≡ joined_kind a (counted (xs ++ ys))
+unfolding joined_kind counted
+kind-twice a xs ys =
+    kind_same (joined_kind (joined_kind a (counted xs)) (counted ys)) (joined_kind a (counted (xs ++ ys)))
+    (count-append a.count xs ys)
+    (or_or a.first (first_of xs) (first_of ys) ∙ ap (option_or a.first) (sym (first-append xs ys)))
+    (sym (or_or (last_of ys) (last_of xs) a.last) ∙ ap (λ o. option_or o a.last) (sym (last-append xs ys)))
+
+kind-parts : (is : SampleMismatch → Bool) (a : Counted) (xs ys : List PointDifference) → joined_kind (joined_kind a (counted (of_kind is xs))) (counted (of_kind is ys)) ≡ joined_kind a (counted (of_kind is (xs ++ ys)))
+kind-parts is a xs ys =
+    kind-twice a (of_kind is xs) (of_kind is ys) ∙ ap (λ ds. joined_kind a (counted ds)) (sym (filter-append (λ (d : PointDifference). is d.mismatch) xs ys))
+
+-- nothing more, and nothing before
+kind_none : (a : Counted) → joined_kind a (counted []) ≡ a
+unfolding joined_kind counted
+kind_none a = kind_same (joined_kind a (counted [])) a (no_more a.count (2 ^ 64 - 1)) (or_nothing a.first) refl
+  where
+    no_more : (a m : ℕ) → min (a + min 0 m) (max a m) ≡ a
+    no_more a m = omega arith
+
+none-kind : (ds : List PointDifference) → joined_kind (counted []) (counted ds) ≡ counted ds
+unfolding joined_kind counted
+none-kind ds = kind_same (joined_kind (counted []) (counted ds)) (counted ds) (from-zero (length ds) (2 ^ 64 - 1)) refl (or_nothing (last_of ds))
+  where
+    from-zero : (a m : ℕ) → min (min 0 m + min a m) (max (min 0 m) m) ≡ min a m
+    from-zero a m = omega arith
 
 -- a tally with that of some, and then of others, is that with the tally of all
 pub joined_twice : (a : Tally) (xs ys : List PointDifference) → joined (joined a (tally_of xs)) (tally_of ys) ≡ joined a (tally_of (xs ++ ys))
 unfolding joined tally_of
 joined_twice a xs ys =
-    rw (
-      counted-joined is_missing a.missing xs ys,
-      counted-joined is_extra a.extra xs ys,
-      counted-joined is_changed a.changed xs ys,
-      first-append xs ys,
-      last-append xs ys,
-      or_or a.first (first_of xs) (first_of ys),
-      or_or (last_of ys) (last_of xs) a.last,
-    ) refl
-
-both-counted : (is : SampleMismatch → Bool) (xs ys : List PointDifference) → added (count_of is xs) (count_of is ys) ≡ count_of is (xs ++ ys)
-both-counted is xs ys =
-    let test : PointDifference → Bool = λ d. is d.mismatch in
-    capped-both (length (filter test xs)) (length (filter test ys)) (2 ^ 64 - 1)
-    ∙ ap counted (sym (ap length (filter-append test xs ys) ∙ length-append (filter test xs) (filter test ys)))
-  where
-    capped-both : (b c m : ℕ) → min (min b m + min c m) (max (min b m) m) ≡ min (b + c) m
-    capped-both b c m = omega arith
-
--- the tally of some and of others is that of all
-pub tally_append : (xs ys : List PointDifference) → joined (tally_of xs) (tally_of ys) ≡ tally_of (xs ++ ys)
-unfolding joined tally_of
-tally_append xs ys =
-    rw (both-counted is_missing xs ys, both-counted is_extra xs ys, both-counted is_changed xs ys, first-append xs ys, last-append xs ys) refl
+    tally_same (joined (joined a (tally_of xs)) (tally_of ys)) (joined a (tally_of (xs ++ ys)))
+    (kind-parts is_missing a.missing xs ys) (kind-parts is_extra a.extra xs ys) (kind-parts is_changed a.changed xs ys)
+    (or_or a.first (first_of xs) (first_of ys) ∙ ap (option_or a.first) (sym (first-append xs ys)))
 
 pub joined_more : (a : Tally) (d : PointDifference) (ds : List PointDifference) → joined (joined a (tally_of (d ∷ []))) (tally_of ds) ≡ joined a (tally_of (d ∷ ds))
 joined_more a d ds = joined_twice a (d ∷ []) ds
 
-no_more : (a m : ℕ) → min (a + min 0 m) (max a m) ≡ a
-no_more a m = omega arith
-
-or_nothing : (o : Option PointDifference) → option_or o None ≡ o
-or_nothing None = refl
-or_nothing (Some d) = refl
-
 pub joined_none : (a : Tally) → joined a (tally_of []) ≡ a
 unfolding joined tally_of
-joined_none a = rw (no_more a.missing (2 ^ 64 - 1), no_more a.extra (2 ^ 64 - 1), no_more a.changed (2 ^ 64 - 1), or_nothing a.first) refl
+joined_none a = tally_same (joined a (tally_of [])) a (kind_none a.missing) (kind_none a.extra) (kind_none a.changed) (or_nothing a.first)
 
--- one difference more, of each kind
-tally_same : (a b : Tally) → a.missing ≡ b.missing → a.extra ≡ b.extra → a.changed ≡ b.changed → a.first ≡ b.first → a.last ≡ b.last → a ≡ b
-tally_same a b p q r f l =
-    let step : (m e c : ℕ) (first last : Option PointDifference) → a.missing ≡ m → a.extra ≡ e → a.changed ≡ c → a.first ≡ first → a.last ≡ last → a ≡ record { missing = m; extra = e; changed = c; first = first; last = last } =
-    λ m e c first last p q r f l. rw (← p, ← q, ← r, ← f, ← l) refl in
-    step b.missing b.extra b.changed b.first b.last p q r f l
-
-count_yes : (is : SampleMismatch → Bool) (d : PointDifference) → is d.mismatch ≡ true → count_of is (d ∷ []) ≡ 1
-count_yes is d e = rw e (omega arith)
-
-count_no : (is : SampleMismatch → Bool) (d : PointDifference) → is d.mismatch ≡ false → count_of is (d ∷ []) ≡ 0
-count_no is d e = rw e (omega arith)
-
--- a counter of another kind stays
-stays : (is : SampleMismatch → Bool) (a : ℕ) (d : PointDifference) → is d.mismatch ≡ false → a ≡ added a (count_of is (d ∷ []))
-stays is a d e = sym (ap (added a) (count_no is d e) ∙ nothing a (2 ^ 64 - 1))
-  where
-    nothing : (a m : ℕ) → min (a + 0) (max a m) ≡ a
-    nothing a m = omega arith
-
-goes_up : (is : SampleMismatch → Bool) (a k : ℕ) (d : PointDifference) → Fits w64 a → k ≡ min (a + 1) (2 ^ 64 - 1) → is d.mismatch ≡ true → k ≡ added a (count_of is (d ∷ []))
-goes_up is a k d fits more e = more ∙ omega (arith, fits) ∙ ap (added a) (sym (count_yes is d e))
-
-pub one_missing : (a : Tally) (d : PointDifference) (k : ℕ) (first : Option PointDifference) → Fits w64 a.missing → d.mismatch ≡ Missing → k ≡ min (a.missing + 1) (2 ^ 64 - 1) → first ≡ option_or a.first (Some d)
-    → record { missing = k; extra = a.extra; changed = a.changed; first = first; last = Some d } ≡ joined a (tally_of (d ∷ []))
+none-joined : (ds : List PointDifference) → joined (tally_of []) (tally_of ds) ≡ tally_of ds
 unfolding joined tally_of
-one_missing a d k first fits kind more is =
-    tally_same (record { missing = k; extra = a.extra; changed = a.changed; first = first; last = Some d }) (joined a (tally_of (d ∷ [])))
-    (goes_up is_missing a.missing k d fits more (ap is_missing kind)) (stays is_extra a.extra d (ap is_extra kind)) (stays is_changed a.changed d (ap is_changed kind)) is refl
+none-joined ds =
+    tally_same (joined (tally_of []) (tally_of ds)) (tally_of ds) (none-kind (of_kind is_missing ds)) (none-kind (of_kind is_extra ds)) (none-kind (of_kind is_changed ds)) refl
 
-pub one_extra : (a : Tally) (d : PointDifference) (k : ℕ) (first : Option PointDifference) → Fits w64 a.extra → d.mismatch ≡ Extra → k ≡ min (a.extra + 1) (2 ^ 64 - 1) → first ≡ option_or a.first (Some d)
-    → record { missing = a.missing; extra = k; changed = a.changed; first = first; last = Some d } ≡ joined a (tally_of (d ∷ []))
-unfolding joined tally_of
-one_extra a d k first fits kind more is =
-    tally_same (record { missing = a.missing; extra = k; changed = a.changed; first = first; last = Some d }) (joined a (tally_of (d ∷ [])))
-    (stays is_missing a.missing d (ap is_missing kind)) (goes_up is_extra a.extra k d fits more (ap is_extra kind)) (stays is_changed a.changed d (ap is_changed kind)) is refl
+-- the tally of some and of others is that of all
+pub tally_append : (xs ys : List PointDifference) → joined (tally_of xs) (tally_of ys) ≡ tally_of (xs ++ ys)
+tally_append xs ys = ap (λ t. joined t (tally_of ys)) (sym (none-joined xs)) ∙ joined_twice (tally_of []) xs ys ∙ none-joined (xs ++ ys)
 
-pub one_changed : (a : Tally) (d : PointDifference) (v w : ℤ) (k : ℕ) (first : Option PointDifference) → Fits w64 a.changed → d.mismatch ≡ Value v w → k ≡ min (a.changed + 1) (2 ^ 64 - 1) → first ≡ option_or a.first (Some d)
-    → record { missing = a.missing; extra = a.extra; changed = k; first = first; last = Some d } ≡ joined a (tally_of (d ∷ []))
-unfolding joined tally_of
-one_changed a d v w k first fits kind more is =
-    tally_same (record { missing = a.missing; extra = a.extra; changed = k; first = first; last = Some d }) (joined a (tally_of (d ∷ [])))
-    (stays is_missing a.missing d (ap is_missing kind)) (stays is_extra a.extra d (ap is_extra kind)) (goes_up is_changed a.changed k d fits more (ap is_changed kind)) is refl
+-- ---- single steps
+
+pub kind_joined : (a b : Counted) (k : ℕ) → Fits w64 a.count → k ≡ min (a.count + b.count) (2 ^ 64 - 1) → record { count = k; first = option_or a.first b.first; last = option_or b.last a.last } ≡ joined_kind a b
+unfolding joined_kind
+kind_joined a b k fits more =
+    kind_same (record { count = k; first = option_or a.first b.first; last = option_or b.last a.last }) (joined_kind a b) (more ∙ omega (arith, fits)) refl refl
+
+-- one difference, of each kind
+pub one_missing : (d : PointDifference) (one : Counted) → d.mismatch ≡ Missing → one ≡ counted (d ∷ []) → all_missing one ≡ tally_of (d ∷ [])
+unfolding counted tally_of
+one_missing d one e is = ap all_missing is ∙ sym (rw e refl)
+
+pub one_extra : (d : PointDifference) (one : Counted) → d.mismatch ≡ Extra → one ≡ counted (d ∷ []) → all_extra one ≡ tally_of (d ∷ [])
+unfolding counted tally_of
+one_extra d one e is = ap all_extra is ∙ sym (rw e refl)
+
+pub one_changed : (d : PointDifference) (v w : ℤ) (one : Counted) → d.mismatch ≡ Value v w → one ≡ counted (d ∷ []) → all_changed one ≡ tally_of (d ∷ [])
+unfolding counted tally_of
+one_changed d v w one e is = ap all_changed is ∙ sym (rw e refl)
 
 -- ---- two lists
 
@@ -213,19 +206,6 @@ differences_split n m (x ∷ xs) xs' (y ∷ ys) ys' t pn pm pt bx by' fx fy =
     (λ h. r) (λ h. ap (λ ds. other n x y ∷ ds) r)))
 
 -- ---- stretches
-
-pub rest_step : (a b : Tally) (mismatch : SampleMismatch) (x : Stretch) (k : ℕ) (d : PointDifference) → 2 * k + 1 < length x.bytes.now
-    → d ≡ record { at = record { num = x.num +ℤ pos k *ℤ x.step; den = x.den }; mismatch = mismatch } → b ≡ joined a (tally_of (d ∷ []))
-    → joined b (tally_of (each_is mismatch x (k + 1))) ≡ joined a (tally_of (each_is mismatch x k))
-rest_step a b mismatch x k d lt is more =
-    ap (λ t. joined t (tally_of (each_is mismatch x (k + 1)))) more
-    ∙ joined_more a d (each_is mismatch x (k + 1))
-    ∙ ap (λ e. joined a (tally_of (e ∷ each_is mismatch x (k + 1)))) is
-    ∙ ap (λ ps. joined a (tally_of (map (λ (p : Point). record { at = instant x.den p; mismatch = mismatch }) ps))) (sym (behind_step x k lt))
-
-pub rest_end : (a : Tally) (mismatch : SampleMismatch) (x : Stretch) (k : ℕ) → length x.bytes.now ≤ 2 * k + 1 → joined a (tally_of (each_is mismatch x k)) ≡ a
-rest_end a mismatch x k le =
-    ap (λ ps. joined a (tally_of (map (λ (p : Point). record { at = instant x.den p; mismatch = mismatch }) ps))) (behind-end x k le) ∙ joined_none a
 
 -- the heads of two stretches, and what is behind
 pub both_step : (a b : Tally) (x y : Stretch) (i j : ℕ) (found : Option PointDifference) → 2 * i + 1 < length x.bytes.now → 2 * j + 1 < length y.bytes.now

@@ -3,11 +3,12 @@ use Rattle.std.specs.Prelude.{ℕ, ◌+◌, ◌^◌, ◌-◌, max, min, List, []
 use Rattle.edf_pace.specs.Words.{option_or, int_eq, PointDifference, Point}
 use Rattle.edf_verdict.specs.declared.verdict.SampleMismatch.{SampleMismatch}
 use Rattle.edf_verdict.specs.declared.verdict.SampleMismatch.TheVariants.{Missing, Extra, Value}
+use Rattle.edf_pace.specs.declared.samples.counted.Counted.{Counted}
 use Rattle.edf_pace.specs.declared.samples.tally.Tally.{Tally}
 use Rattle.edf_pace.specs.declared.samples.stretch.Stretch.{Stretch}
 use Rattle.edf_pace.specs.InstantOrder.{is_before}
 use Rattle.edf_pace.specs.samples.Differences.{instant, missing, extra, other}
-use Rattle.edf_pace.specs.samples.Stretches.{points_behind, points_in}
+use Rattle.edf_pace.specs.samples.Stretches.{points_behind, points_in, sample_at}
 
 -- all differences, read from the left
 unfoldable pub differences_of : ℕ → List Point → ℕ → List Point → List PointDifference
@@ -30,7 +31,15 @@ all_of x y = differences_of x.den (points_in x) y.den (points_in y)
 abbrev pub each_is : SampleMismatch → Stretch → ℕ → List PointDifference
 each_is mismatch x k = map (λ (p : Point). record { at = instant x.den p; mismatch = mismatch }) (points_behind x k)
 
--- the first of them, and the last
+-- the sample at a place of a stretch is such a mismatch
+abbrev pub alone : SampleMismatch → Stretch → ℕ → PointDifference
+alone mismatch x k = record { at = instant x.den (sample_at x k); mismatch = mismatch }
+
+-- two samples at one instant have two values
+abbrev pub change : Stretch → ℕ → Stretch → ℕ → PointDifference
+change x i y j = other x.den (sample_at x i) (sample_at y j)
+
+-- the first of some differences, and the last
 abbrev pub first_of : List PointDifference → Option PointDifference
 first_of [] = None
 first_of (d ∷ ds) = Some d
@@ -63,37 +72,49 @@ abbrev pub lacks_first : Option PointDifference → Bool
 lacks_first None = false
 lacks_first (Some d) = is_extra d.mismatch
 
--- as many as a counter holds
-abbrev pub counted : ℕ → ℕ
-counted k = min k (2 ^ 64 - 1)
+-- those of a kind
+abbrev pub of_kind : (SampleMismatch → Bool) → List PointDifference → List PointDifference
+of_kind is ds = filter (λ d. is d.mismatch) ds
 
--- b more than a, as far as a counter goes
-abbrev pub added : ℕ → ℕ → ℕ
-added a b = min (a + b) (max a (2 ^ 64 - 1))
+-- how many some differences are, as far as a counter goes, the first and the last
+unfoldable pub counted : List PointDifference → Counted
+counted ds = record { count = min (length ds) (2 ^ 64 - 1); first = first_of ds; last = last_of ds }
 
--- how many there are of a kind
-abbrev pub count_of : (SampleMismatch → Bool) → List PointDifference → ℕ
-count_of is ds = counted (length (filter (λ d. is d.mismatch) ds))
+-- some, and then others
+unfoldable pub joined_kind : Counted → Counted → Counted
+joined_kind a b = record {
+  count = min (a.count + b.count) (max a.count (2 ^ 64 - 1));
+  first = option_or a.first b.first;
+  last = option_or b.last a.last;
+}
 
--- how many of each kind, the first and the last
+-- those of each kind, and the first of all
 unfoldable pub tally_of : List PointDifference → Tally
 tally_of ds = record {
-  missing = count_of is_missing ds;
-  extra = count_of is_extra ds;
-  changed = count_of is_changed ds;
+  missing = counted (of_kind is_missing ds);
+  extra = counted (of_kind is_extra ds);
+  changed = counted (of_kind is_changed ds);
   first = first_of ds;
-  last = last_of ds;
 }
 
 -- the tally of some, and then of others
 unfoldable pub joined : Tally → Tally → Tally
 joined a b = record {
-  missing = added a.missing b.missing;
-  extra = added a.extra b.extra;
-  changed = added a.changed b.changed;
+  missing = joined_kind a.missing b.missing;
+  extra = joined_kind a.extra b.extra;
+  changed = joined_kind a.changed b.changed;
   first = option_or a.first b.first;
-  last = option_or b.last a.last;
 }
+
+-- the tally where all are of one kind
+abbrev pub all_missing : Counted → Tally
+all_missing c = record { missing = c; extra = counted []; changed = counted []; first = c.first }
+
+abbrev pub all_extra : Counted → Tally
+all_extra c = record { missing = counted []; extra = c; changed = counted []; first = c.first }
+
+abbrev pub all_changed : Counted → Tally
+all_changed c = record { missing = counted []; extra = counted []; changed = c; first = c.first }
 
 -- a tally, and that of what is behind the first i samples of one stretch and the first j of another
 abbrev pub with_rest : Tally → Stretch → ℕ → Stretch → ℕ → Tally

@@ -124,7 +124,7 @@ fn difference_behind(
 }
 
 /// Whether two fractions are the same.
-fn is_same(num: i128, den: u32, other_num: i128, other_den: u32) -> bool
+pub(crate) fn is_same(num: i128, den: u32, other_num: i128, other_den: u32) -> bool
     requires num { unsigned_abs num < 2 ^ 104 }
     requires den { den ≤ 2 ^ 23 }
     requires other_num { unsigned_abs other_num < 2 ^ 104 }
@@ -135,7 +135,7 @@ fn is_same(num: i128, den: u32, other_num: i128, other_den: u32) -> bool
 }
 
 /// Whether the samples of two stretches stand at the same instants, one by one.
-fn is_one_grid(x: Stretch, y: Stretch) -> bool
+pub(crate) fn is_one_grid(x: Stretch, y: Stretch) -> bool
     requires x { IsPart x }
     requires y { IsPart y }
     ensures { result ≡ are_on_one_grid x.entry y.entry }

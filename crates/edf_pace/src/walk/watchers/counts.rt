@@ -7,7 +7,8 @@ ghost use Rattle.edf_pace.specs.walk.Watching.{TwoFiles};
 ghost use Rattle.edf_pace.specs.walk.Pairs.{ArePairs, IsTrack};
 ghost use Rattle.edf_pace.specs.walk.Windows.{HasShare};
 
-use crate::samples::tally::{Tally, count_differences};
+use crate::samples::count::count_differences;
+use crate::samples::tally::Tally;
 use crate::times::Window;
 use crate::walk::frame::Frame;
 use crate::walk::shares::{Shares, Sight, keep_shares, no_shares};

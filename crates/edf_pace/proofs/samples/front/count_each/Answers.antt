@@ -1,0 +1,17 @@
+use Rattle.std.proofs.Common.{◌*◌, ◌≤◌, length, arith}
+use Rattle.edf_pace.specs.samples.Others.{values_differ}
+use Rattle.edf_pace.proofs.samples.FrontFacts.{each_counted}
+use Rattle.edf_pace.proofs.samples.front.count_each.Goals as goal
+
+pub returns-clause-value : goal.returns-clause-value
+returns-clause-value c =
+    let x = c.args.x in
+    let y = c.args.y in
+    let n = c.min-count.result in
+    let few = c.min-count.ensures in
+    let here = c.count_in.ensures.within in
+    let there = c.count_in-2.ensures.within in
+    let lx : 2 * n ≤ length x.bytes.now = omega (arith, few, here) in
+    let ly : 2 * n ≤ length y.bytes.now = omega (arith, few, there) in
+    each_counted c.args.tally.now c.add.new.self c.of_changed.result c.changes_at.result x y n c.requires.grid lx ly
+    (c.changes_at.ensures (values_differ 1 x.bytes.now y.bytes.now) n c.numbers_of-numbers.ensures.values) c.of_changed.ensures c.add.ensures

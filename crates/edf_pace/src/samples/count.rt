@@ -1,0 +1,87 @@
+//! How many samples of two stretches differ.
+
+ghost use Rattle.std.specs.Prelude.{◌≡◌, ◌≤◌, ◌+◌, ◌*◌, ◌⊎◌, length};
+ghost use Rattle.edf_pace.specs.samples.Stretches.{IsPart};
+ghost use Rattle.edf_pace.specs.samples.Tallies.{all_of, joined, lacks_first, lacks_second, tally_of, with_rest};
+
+use crate::samples::difference::{PointDifference, difference_of_heads};
+use crate::samples::front::{alone_behind, count_front};
+use crate::samples::stretch::{Stretch, count_in, point_at};
+use crate::samples::tally::Tally;
+use edf_verdict::SampleMismatch;
+
+/// Whether the sample of the first file has no partner, as a difference says.
+fn is_missing(found: Option<PointDifference>) -> bool
+    ensures { result ≡ lacks_second found }
+{
+    matches!(
+        found,
+        Some(PointDifference {
+            mismatch: SampleMismatch::Missing,
+            ..
+        })
+    )
+}
+
+/// Whether the sample of the second file has none.
+fn is_extra(found: Option<PointDifference>) -> bool
+    ensures { result ≡ lacks_first found }
+{
+    matches!(
+        found,
+        Some(PointDifference {
+            mismatch: SampleMismatch::Extra,
+            ..
+        })
+    )
+}
+
+/// Counts the differences of two stretches behind so many samples of each, up to where one of them has no more, and answers how
+/// many of each were passed.
+fn count_both(
+    x: Stretch,
+    x_from: usize,
+    y: Stretch,
+    y_from: usize,
+    tally: &mut Tally,
+) -> (usize, usize)
+    requires x { IsPart x }
+    requires x_from { 2 * x_from ≤ length x.bytes.now }
+    requires y { IsPart y }
+    requires y_from { 2 * y_from ≤ length y.bytes.now }
+    ensures x_within { 2 * result.0 ≤ length x.entry.bytes.now }
+    ensures y_within { 2 * result.1 ≤ length y.entry.bytes.now }
+    ensures over { (length x.entry.bytes.now ≤ 2 * result.0 + 1) ⊎
+        (length y.entry.bytes.now ≤ 2 * result.1 + 1) }
+    ensures value { with_rest tally.new x.entry result.0 y.entry result.1 ≡
+        with_rest tally.old x.entry x_from y.entry y_from }
+{
+    let x_count = count_in(x.bytes);
+    let y_count = count_in(y.bytes);
+    let mut i = x_from;
+    let mut j = y_from;
+    while i < x_count && j < y_count {
+        let found = difference_of_heads(point_at(x, i), x.den, point_at(y, j), y.den);
+        match found {
+            Some(difference) => tally.add(Tally::of_one(difference)),
+            None => {}
+        }
+        i += usize::from(!is_extra(found));
+        j += usize::from(!is_missing(found));
+    }
+    (i, j)
+}
+
+/// Counts all differences of two stretches of one channel.
+pub(crate) fn count_differences(x: Stretch, y: Stretch, tally: &mut Tally)
+    requires x { IsPart x }
+    requires y { IsPart y }
+    ensures { tally.new ≡ joined tally.old (tally_of (all_of x.entry y.entry)) }
+{
+    let (x_from, y_from) = count_front(x, y, tally);
+    let (i, j) = count_both(x, x_from, y, y_from, tally);
+    let missing = alone_behind(x, i, SampleMismatch::Missing);
+    tally.add(Tally::of_missing(missing));
+    let extra = alone_behind(y, j, SampleMismatch::Extra);
+    tally.add(Tally::of_extra(extra));
+}
