@@ -10,7 +10,7 @@ abbrev pub differs : ℕ → List ℕ → List ℕ → ℕ → Bool
 differs stride long short k =
     not ((slice_index long (2 * (stride * k)) == slice_index short (2 * k)) && (slice_index long (2 * (stride * k) + 1) == slice_index short (2 * k + 1)))
 
--- and so do their values
+-- the values of these bytes differ
 abbrev pub values_differ : ℕ → List ℕ → List ℕ → ℕ → Bool
 values_differ stride long short k = not (int_eq (digital_value long (stride * k)) (digital_value short k))
 

@@ -1,4 +1,4 @@
--- All differences of two rising lists of samples, and how many there are of each kind.
+-- All differences of two rising lists of samples, and of each kind how many there are, the first and the last.
 use Rattle.std.specs.Prelude.{ℕ, ◌+◌, ◌^◌, ◌-◌, max, min, List, [], ◌∷◌, map, length, filter, Bool, true, false, Option, Some, None, if◌then◌else◌}
 use Rattle.edf_pace.specs.Words.{option_or, int_eq, PointDifference, Point}
 use Rattle.edf_verdict.specs.declared.verdict.SampleMismatch.{SampleMismatch}

@@ -28,7 +28,6 @@ fn alone_at(x: Stretch, place: usize, mismatch: SampleMismatch) -> PointDifferen
 }
 
 /// Samples that one file has alone, by their places.
-#[tactic(auto, using(crate::proofs::samples::FrontFacts::range_counted))]
 fn alone_among(x: Stretch, places: Places, mismatch: SampleMismatch) -> Counted
     requires x { IsPart x }
     requires some { 0 < places.count }
@@ -78,20 +77,20 @@ fn alone_between(x: Stretch, count: usize, mismatch: SampleMismatch) -> Counted
 }
 
 /// Two samples at one instant that have two values.
-fn change_at(x: Stretch, place: usize, y: Stretch, other: usize) -> PointDifference
+fn change_at(x: Stretch, here: usize, y: Stretch, there: usize) -> PointDifference
     requires x { IsPart x }
-    requires place { 2 * place + 1 < length x.bytes.now }
-    requires other { 2 * other + 1 < length y.bytes.now }
-    ensures { result ≡ change x.entry place y.entry other }
+    requires here { 2 * here + 1 < length x.bytes.now }
+    requires there { 2 * there + 1 < length y.bytes.now }
+    ensures { result ≡ change x.entry here y.entry there }
 {
     PointDifference {
-        at: instant_at(x, place),
-        mismatch: SampleMismatch::Value(value_at(x.bytes, place), value_at(y.bytes, other)),
+        at: instant_at(x, here),
+        mismatch: SampleMismatch::Value(value_at(x.bytes, here), value_at(y.bytes, there)),
     }
 }
 
-/// Samples at the same instants that have two values, by their numbers: their places are so many times the numbers.
-#[tactic(auto, using(crate::proofs::samples::FrontFacts::some_counted, crate::proofs::samples::FrontFacts::none_counted))]
+/// Samples at the same instants that have two values, by their numbers: the places of the first and of the second are so many
+/// times these.
 fn changes_at(x: Stretch, here: usize, y: Stretch, there: usize, numbers: Option<Places>) -> Counted
     requires x { IsPart x }
     requires first_here { IfSome numbers (λ p. 2 * (here * p.first) + 1 < length x.bytes.now) }
@@ -99,7 +98,8 @@ fn changes_at(x: Stretch, here: usize, y: Stretch, there: usize, numbers: Option
     requires first_there { IfSome numbers (λ p. 2 * (there * p.first) + 1 < length y.bytes.now) }
     requires last_there { IfSome numbers (λ p. 2 * (there * p.last) + 1 < length y.bytes.now) }
     ensures { (test : ℕ → Bool) (n : ℕ) → AreOthers test n numbers →
-        result ≡ counted (map (λ k. change x.entry (here * k) y.entry (there * k)) (filter test (range_with_len 0 n))) }
+        result ≡ counted (map (λ k. change x.entry (here * k) y.entry (there * k))
+        (filter test (range_with_len 0 n))) }
 {
     match numbers {
         Some(places) => Counted {
@@ -109,23 +109,6 @@ fn changes_at(x: Stretch, here: usize, y: Stretch, there: usize, numbers: Option
         },
         None => Counted::none(),
     }
-}
-
-/// Counts the differences of as many samples of two stretches as both have, each of which stands at the instant of the other's,
-/// and answers how many these are.
-fn count_each(x: Stretch, y: Stretch, tally: &mut Tally) -> (usize, usize)
-    requires x { IsPart x }
-    requires y { IsPart y }
-    requires grid { are_on_one_grid x y ≡ true }
-    ensures x_within { 2 * result.0 ≤ length x.entry.bytes.now }
-    ensures y_within { 2 * result.1 ≤ length y.entry.bytes.now }
-    ensures value { with_rest tally.new x.entry result.0 y.entry result.1 ≡
-        with_rest tally.old x.entry 0 y.entry 0 }
-{
-    let count = count_in(x.bytes).min(count_in(y.bytes));
-    let numbers = numbers_of::<1>(x.bytes, y.bytes, count);
-    tally.add(Tally::of_changed(changes_at(x, 1, y, 1, numbers)));
-    (count, count)
 }
 
 /// How far the second sample behind another stands from it, times the denominator.
@@ -177,6 +160,23 @@ fn first_of_both(differ: bool, changed: Counted, between: Counted) -> Option<Poi
     ensures { result ≡ if differ then changed.first else between.first }
 {
     if differ { changed.first } else { between.first }
+}
+
+/// Counts the differences of as many samples of two stretches as both have, each of which stands at the instant of the other's,
+/// and answers how many these are.
+fn count_each(x: Stretch, y: Stretch, tally: &mut Tally) -> (usize, usize)
+    requires x { IsPart x }
+    requires y { IsPart y }
+    requires grid { are_on_one_grid x y ≡ true }
+    ensures x_within { 2 * result.0 ≤ length x.entry.bytes.now }
+    ensures y_within { 2 * result.1 ≤ length y.entry.bytes.now }
+    ensures value { with_rest tally.new x.entry result.0 y.entry result.1 ≡
+        with_rest tally.old x.entry 0 y.entry 0 }
+{
+    let count = count_in(x.bytes).min(count_in(y.bytes));
+    let numbers = numbers_of::<1>(x.bytes, y.bytes, count);
+    tally.add(Tally::of_changed(changes_at(x, 1, y, 1, numbers)));
+    (count, count)
 }
 
 /// The same, where each second sample of the first stretch is missing in the other.
