@@ -10,3 +10,4 @@ pub mod BlockFacts
 pub mod PlaceCountFacts
 pub mod ValueFacts
 pub mod FrontFacts
+pub mod HeadFacts

@@ -7,6 +7,7 @@ pub mod counted;
 pub mod difference;
 pub mod earliest;
 pub mod front;
+pub mod head;
 pub mod instants;
 pub mod places;
 pub mod point;

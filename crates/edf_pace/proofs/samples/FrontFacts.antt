@@ -43,19 +43,19 @@ same-back v w = same_from_decides (int_eq v w) (int_eq w v) (Decides-int_eq v w)
 abbrev stands : Stretch → ℕ → Instant
 stands x i = instant x.den (sample_at x i)
 
-both-behind : (x y : Stretch) (i j : ℕ) → 2 * i + 1 < length x.bytes.now → 2 * j + 1 < length y.bytes.now
+pair-behind : (x y : Stretch) (i j : ℕ) → 2 * i + 1 < length x.bytes.now → 2 * j + 1 < length y.bytes.now
     → all_behind x i y j ≡ differences_of x.den (sample_at x i ∷ points_behind x (i + 1)) y.den (sample_at y j ∷ points_behind y (j + 1))
-both-behind x y i j lx ly =
+pair-behind x y i j lx ly =
     ap (λ ps. differences_of x.den ps y.den (points_behind y j)) (behind_step x i lx)
     ∙ ap (λ qs. differences_of x.den (sample_at x i ∷ points_behind x (i + 1)) y.den qs) (behind_step y j ly)
 
 -- those of two samples at one instant
-both-step : (x y : Stretch) (i j : ℕ) → 2 * i + 1 < length x.bytes.now → 2 * j + 1 < length y.bytes.now → IsSame (stands x i) (stands y j)
+pair-step : (x y : Stretch) (i j : ℕ) → 2 * i + 1 < length x.bytes.now → 2 * j + 1 < length y.bytes.now → IsSame (stands x i) (stands y j)
     → all_behind x i y j ≡ cond (int_eq (digital_value x.bytes.now i) (digital_value y.bytes.now j)) [] (change x i y j ∷ []) ++ all_behind x (i + 1) y (j + 1)
-both-step x y i j lx ly same =
+pair-step x y i j lx ly same =
     let e = false-is_before (stands x i) (stands y j) (same_above (stands x i) (stands y j) same) in
     let f = false-is_before (stands y j) (stands x i) (same_below (stands x i) (stands y j) same) in
-    both-behind x y i j lx ly
+    pair-behind x y i j lx ly
     ∙ by_test (int_eq (digital_value x.bytes.now i) (digital_value y.bytes.now j))
     (λ b. differences_of x.den (sample_at x i ∷ points_behind x (i + 1)) y.den (sample_at y j ∷ points_behind y (j + 1)) ≡ cond b [] (change x i y j ∷ []) ++ all_behind x (i + 1) y (j + 1))
     (λ h. behind-same x.den (sample_at x i) (points_behind x (i + 1)) y.den (sample_at y j) (points_behind y (j + 1)) e f h)
@@ -68,7 +68,7 @@ missing-step x y i j lx before = ⊎_elim here ended (cases_lt (2 * j + 1) (leng
   where
     here : 2 * j + 1 < length y.bytes.now → all_behind x i y j ≡ alone Missing x i ∷ all_behind x (i + 1) y j
     here ly =
-        both-behind x y i j lx ly
+        pair-behind x y i j lx ly
         ∙ behind-missing x.den (sample_at x i) (points_behind x (i + 1)) y.den (sample_at y j) (points_behind y (j + 1)) (true-is_before (stands x i) (stands y j) before)
         ∙ ap (λ qs. alone Missing x i ∷ differences_of x.den (points_behind x (i + 1)) y.den qs) (sym (behind_step y j ly))
 
@@ -85,7 +85,7 @@ extra-step x y i j ly before = ⊎_elim here ended (cases_lt (2 * i + 1) (length
   where
     here : 2 * i + 1 < length x.bytes.now → all_behind x i y j ≡ alone Extra y j ∷ all_behind x i y (j + 1)
     here lx =
-        both-behind x y i j lx ly
+        pair-behind x y i j lx ly
         ∙ behind-extra x.den (sample_at x i) (points_behind x (i + 1)) y.den (sample_at y j) (points_behind y (j + 1))
         (false-is_before (stands x i) (stands y j) (before_below (stands y j) (stands x i) before)) (true-is_before (stands y j) (stands x i) before)
         ∙ ap (λ ps. alone Extra y j ∷ differences_of x.den ps y.den (points_behind y (j + 1))) (sym (behind_step x i lx))
@@ -127,7 +127,7 @@ each-front x y same k (suc n) lx ly =
     let rest = each-front x y same (k + 1) n (omega (arith, lx)) (omega (arith, ly)) in
     let test = ap (λ j. int_eq (digital_value x.bytes.now j) (digital_value y.bytes.now k)) (sym (one-times k)) ∙ not-not (int_eq (digital_value x.bytes.now (1 * k)) (digital_value y.bytes.now k)) in
     let changes : List PointDifference = map (λ j. change x j y j) (filter (values_differ 1 x.bytes.now y.bytes.now) (range_with_len (k + 1) n)) in
-    both-step x y k k (omega (arith, lx)) (omega (arith, ly)) (same k)
+    pair-step x y k k (omega (arith, lx)) (omega (arith, ly)) (same k)
     ∙ ap (λ b. cond b [] (change x k y k ∷ []) ++ all_behind x (k + 1) y (k + 1)) test
     ∙ ap (λ ds. cond (not (values_differ 1 x.bytes.now y.bytes.now k)) [] (change x k y k ∷ []) ++ ds) (rest ∙ ap (λ j. changes ++ all_behind x j y j) next)
     ∙ by_test (values_differ 1 x.bytes.now y.bytes.now k)
@@ -204,7 +204,7 @@ halved-front x y h k (suc n) lx ly =
     mixed-step (values_differ 2 x.bytes.now y.bytes.now) (λ j. change x (2 * j) y j) (λ j. alone Missing x (1 + 2 * j)) k n
     (int_eq (digital_value x.bytes.now (2 * k)) (digital_value y.bytes.now k)) (all_behind x (2 * k) y k) (all_behind x (2 * (k + 1)) y (k + 1)) (all_behind x (2 * (k + suc n)) y (k + suc n))
     (not-not (int_eq (digital_value x.bytes.now (2 * k)) (digital_value y.bytes.now k)))
-    (both-step x y (2 * k) k (omega (arith, lx)) (omega (arith, ly)) (h.same k)
+    (pair-step x y (2 * k) k (omega (arith, lx)) (omega (arith, ly)) (h.same k)
     ∙ ap (λ ds. cond (int_eq (digital_value x.bytes.now (2 * k)) (digital_value y.bytes.now k)) [] (change x (2 * k) y k ∷ []) ++ ds)
     (missing-step x y (2 * k + 1) (k + 1) (omega (arith, lx)) (h.before k)
     ∙ ap (λ j. alone Missing x j ∷ all_behind x (2 * k + 1 + 1) y (k + 1)) turned ∙ ap (λ j. alone Missing x (1 + 2 * k) ∷ all_behind x j y (k + 1)) twice))
@@ -221,7 +221,7 @@ doubled-front x y h k (suc n) lx ly =
     mixed-step (values_differ 2 y.bytes.now x.bytes.now) (λ j. change x j y (2 * j)) (λ j. alone Extra y (1 + 2 * j)) k n
     (int_eq (digital_value x.bytes.now k) (digital_value y.bytes.now (2 * k))) (all_behind x k y (2 * k)) (all_behind x (k + 1) y (2 * (k + 1))) (all_behind x (k + suc n) y (2 * (k + suc n)))
     (same-back (digital_value x.bytes.now k) (digital_value y.bytes.now (2 * k)) ∙ not-not (int_eq (digital_value y.bytes.now (2 * k)) (digital_value x.bytes.now k)))
-    (both-step x y k (2 * k) (omega (arith, lx)) (omega (arith, ly)) (same_back (stands y (2 * k)) (stands x k) (h.same k))
+    (pair-step x y k (2 * k) (omega (arith, lx)) (omega (arith, ly)) (same_back (stands y (2 * k)) (stands x k) (h.same k))
     ∙ ap (λ ds. cond (int_eq (digital_value x.bytes.now k) (digital_value y.bytes.now (2 * k))) [] (change x k y (2 * k) ∷ []) ++ ds)
     (extra-step x y (k + 1) (2 * k + 1) (omega (arith, ly)) (h.before k)
     ∙ ap (λ j. alone Extra y j ∷ all_behind x (k + 1) y (2 * k + 1 + 1)) turned ∙ ap (λ j. alone Extra y (1 + 2 * k) ∷ all_behind x (k + 1) y j) twice))

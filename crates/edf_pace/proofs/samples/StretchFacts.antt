@@ -98,7 +98,7 @@ alike-heads n m a b v s =
     let g : int_eq v v ≡ true = (Decides-int_eq v v).1 refl in
     rw (e, f, g) refl
 
-sum-scaled : (m : ℕ) (a d z : ℤ) → z ≡ a +ℤ d → z *ℤ pos m ≡ (a *ℤ pos m) +ℤ (d *ℤ pos m)
+pub sum-scaled : (m : ℕ) (a d z : ℤ) → z ≡ a +ℤ d → z *ℤ pos m ≡ (a *ℤ pos m) +ℤ (d *ℤ pos m)
 sum-scaled zero a d z e = omega (arith, ints)
 sum-scaled (suc m) a d z e = let r : z *ℤ pos m ≡ (a *ℤ pos m) +ℤ (d *ℤ pos m) = sum-scaled m a d z e in omega (arith, ints)
 

@@ -121,6 +121,25 @@ unfolding joined_kind
 kind_joined a b k fits more =
     kind_same (record { count = k; first = option_or a.first b.first; last = option_or b.last a.last }) (joined_kind a b) (more ∙ omega (arith, fits)) refl refl
 
+-- those of one kind more
+pub missing_joined : (a : Tally) (c more : Counted) → c ≡ joined_kind a.missing more → record { missing = c; extra = a.extra; changed = a.changed; first = option_or a.first more.first } ≡ joined a (all_missing more)
+unfolding joined
+missing_joined a c more e =
+    tally_same (record { missing = c; extra = a.extra; changed = a.changed; first = option_or a.first more.first }) (joined a (all_missing more))
+    e (sym (kind_none a.extra)) (sym (kind_none a.changed)) refl
+
+pub extra_joined : (a : Tally) (c more : Counted) → c ≡ joined_kind a.extra more → record { missing = a.missing; extra = c; changed = a.changed; first = option_or a.first more.first } ≡ joined a (all_extra more)
+unfolding joined
+extra_joined a c more e =
+    tally_same (record { missing = a.missing; extra = c; changed = a.changed; first = option_or a.first more.first }) (joined a (all_extra more))
+    (sym (kind_none a.missing)) e (sym (kind_none a.changed)) refl
+
+pub changed_joined : (a : Tally) (c more : Counted) → c ≡ joined_kind a.changed more → record { missing = a.missing; extra = a.extra; changed = c; first = option_or a.first more.first } ≡ joined a (all_changed more)
+unfolding joined
+changed_joined a c more e =
+    tally_same (record { missing = a.missing; extra = a.extra; changed = c; first = option_or a.first more.first }) (joined a (all_changed more))
+    (sym (kind_none a.missing)) (sym (kind_none a.extra)) e refl
+
 -- one difference, of each kind
 pub one_missing : (d : PointDifference) (one : Counted) → d.mismatch ≡ Missing → one ≡ counted (d ∷ []) → all_missing one ≡ tally_of (d ∷ [])
 unfolding counted tally_of

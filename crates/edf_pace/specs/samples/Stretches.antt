@@ -3,6 +3,7 @@
 use Rattle.std.specs.Prelude.{ℕ, suc, ◌+◌, ◌*◌, ◌<◌, ◌≤◌, ◌^◌, ℤ, pos, ◌+ℤ◌, ◌*ℤ◌, ◌<ℤ◌, unsigned_abs, List, [], ◌∷◌, Option, length, drop, Bool, ◌&&◌, if◌then◌else◌, ◌≡◌, ◌≢◌, slice_index, not, filter, int_lt}
 use Rattle.edf_pace.specs.Words.{int_eq, Instant, PointDifference, Point}
 use Rattle.edf_stream.specs.samples.Values.{digital, digital_value}
+use Rattle.edf_pace.specs.declared.samples.head.Head.{Head}
 use Rattle.edf_pace.specs.declared.samples.stretch.Stretch.{Stretch}
 use Rattle.edf_pace.specs.samples.Differences.{first_difference_of, instant}
 use Rattle.edf_pace.specs.InstantOrder.{is_before}
@@ -23,6 +24,10 @@ points_behind s k = stretch_points (s.num +ℤ pos k *ℤ s.step) s.step (drop (
 -- the one at a place
 abbrev pub sample_at : Stretch → ℕ → Point
 sample_at s k = record { num = s.num +ℤ pos k *ℤ s.step; value = digital_value s.bytes.now k }
+
+-- a sample of a stretch, its instant and the distance to the next one, both times another denominator as well
+abbrev pub IsHead : Stretch → ℕ → Head → Type 0
+IsHead x m h = (h.time ≡ (x.num +ℤ pos h.place *ℤ x.step) *ℤ pos m) × (h.step ≡ x.step *ℤ pos m)
 
 -- the first difference of two stretches; and of what is behind the first k samples of each
 abbrev pub difference_of_both : Stretch → Stretch → Option PointDifference

@@ -119,7 +119,8 @@ fn others_of<const STRIDE: usize>(long: &[u8], short: &[u8], block: usize) -> u6
     requires stride { (STRIDE ≡ 1) ⊎ (STRIDE ≡ 2) }
     requires long { 32 * (STRIDE * (block + 1)) ≤ length long.now }
     requires short { 32 * (block + 1) ≤ length short.now }
-    ensures { result ≡ mask_l (map (λ k. differs STRIDE long.now short.now (16 * block + k)) (range_with_len 0 16)) }
+    ensures { result ≡ mask_l (map (λ k. differs STRIDE long.now short.now (16 * block + k))
+        (range_with_len 0 16)) }
 {
     let old = bytes_from(long, BLOCK * (STRIDE * block));
     let new = bytes_from(short, BLOCK * block);

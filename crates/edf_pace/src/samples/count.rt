@@ -4,9 +4,10 @@ ghost use Rattle.std.specs.Prelude.{◌≡◌, ◌≤◌, ◌+◌, ◌*◌, ◌�
 ghost use Rattle.edf_pace.specs.samples.Stretches.{IsPart};
 ghost use Rattle.edf_pace.specs.samples.Tallies.{all_of, joined, lacks_first, lacks_second, tally_of, with_rest};
 
-use crate::samples::difference::{PointDifference, difference_of_heads};
+use crate::samples::difference::PointDifference;
 use crate::samples::front::{alone_behind, count_front};
-use crate::samples::stretch::{Stretch, count_in, point_at};
+use crate::samples::head::{difference_at, head_at, head_behind};
+use crate::samples::stretch::{Stretch, count_in};
 use crate::samples::tally::Tally;
 use edf_verdict::SampleMismatch;
 
@@ -58,18 +59,18 @@ fn count_both(
 {
     let x_count = count_in(x.bytes);
     let y_count = count_in(y.bytes);
-    let mut i = x_from;
-    let mut j = y_from;
-    while i < x_count && j < y_count {
-        let found = difference_of_heads(point_at(x, i), x.den, point_at(y, j), y.den);
+    let mut here = head_at(x, x_from, y.den);
+    let mut there = head_at(y, y_from, x.den);
+    while here.place < x_count && there.place < y_count {
+        let found = difference_at(x, here, y, there);
         match found {
-            Some(difference) => tally.add(Tally::of_one(difference)),
+            Some(difference) => tally.add_one(difference),
             None => {}
         }
-        i += usize::from(!is_extra(found));
-        j += usize::from(!is_missing(found));
+        here = head_behind(x, y.den, here, !is_extra(found));
+        there = head_behind(y, x.den, there, !is_missing(found));
     }
-    (i, j)
+    (here.place, there.place)
 }
 
 /// Counts all differences of two stretches of one channel.
@@ -80,8 +81,6 @@ pub(crate) fn count_differences(x: Stretch, y: Stretch, tally: &mut Tally)
 {
     let (x_from, y_from) = count_front(x, y, tally);
     let (i, j) = count_both(x, x_from, y, y_from, tally);
-    let missing = alone_behind(x, i, SampleMismatch::Missing);
-    tally.add(Tally::of_missing(missing));
-    let extra = alone_behind(y, j, SampleMismatch::Extra);
-    tally.add(Tally::of_extra(extra));
+    tally.add_missing(alone_behind(x, i, SampleMismatch::Missing));
+    tally.add_extra(alone_behind(y, j, SampleMismatch::Extra));
 }

@@ -16,7 +16,7 @@ use edf_stream::value_at;
 use edf_verdict::SampleMismatch;
 
 /// The sample at a place, which one file has alone.
-fn alone_at(x: Stretch, place: usize, mismatch: SampleMismatch) -> PointDifference
+pub(crate) fn alone_at(x: Stretch, place: usize, mismatch: SampleMismatch) -> PointDifference
     requires x { IsPart x }
     requires place { place ≤ 2 ^ 23 }
     ensures { result ≡ alone mismatch x.entry place }
@@ -77,7 +77,7 @@ fn alone_between(x: Stretch, count: usize, mismatch: SampleMismatch) -> Counted
 }
 
 /// Two samples at one instant that have two values.
-fn change_at(x: Stretch, here: usize, y: Stretch, there: usize) -> PointDifference
+pub(crate) fn change_at(x: Stretch, here: usize, y: Stretch, there: usize) -> PointDifference
     requires x { IsPart x }
     requires here { 2 * here + 1 < length x.bytes.now }
     requires there { 2 * there + 1 < length y.bytes.now }
@@ -154,16 +154,16 @@ fn begin_apart(long: &[u8], short: &[u8]) -> bool
     value_at(long, 0) != value_at(short, 0)
 }
 
-/// The first difference of samples that are compared and of others, each of which stands behind one of these: the first of those
-/// of two values where the very first samples differ.
+/// The first difference of samples that are compared, and of others, each of which stands behind one of these: that of the
+/// first two samples, if they have two values, else the first of the others.
 fn first_of_both(differ: bool, changed: Counted, between: Counted) -> Option<PointDifference>
     ensures { result ≡ if differ then changed.first else between.first }
 {
     if differ { changed.first } else { between.first }
 }
 
-/// Counts the differences of as many samples of two stretches as both have, each of which stands at the instant of the other's,
-/// and answers how many these are.
+/// Counts the differences of as many samples of two stretches as both have, each of which stands at the instant of the
+/// other's, and answers how many these are.
 fn count_each(x: Stretch, y: Stretch, tally: &mut Tally) -> (usize, usize)
     requires x { IsPart x }
     requires y { IsPart y }
@@ -175,7 +175,7 @@ fn count_each(x: Stretch, y: Stretch, tally: &mut Tally) -> (usize, usize)
 {
     let count = count_in(x.bytes).min(count_in(y.bytes));
     let numbers = numbers_of::<1>(x.bytes, y.bytes, count);
-    tally.add(Tally::of_changed(changes_at(x, 1, y, 1, numbers)));
+    tally.add_changed(changes_at(x, 1, y, 1, numbers));
     (count, count)
 }
 
@@ -233,8 +233,8 @@ fn count_doubled(x: Stretch, y: Stretch, tally: &mut Tally) -> (usize, usize)
     (count, 2 * count)
 }
 
-/// Counts the differences at the front of two stretches at once, where the samples of both stand at the same instants or those of
-/// one at every second one of the other, and answers how many of each are done with; else none.
+/// Counts the differences at the front of two stretches at once, where the samples of both stand at the same instants, or
+/// those of one at every second one of the other. It answers how many samples of each are done with: elsewhere none.
 pub(crate) fn count_front(x: Stretch, y: Stretch, tally: &mut Tally) -> (usize, usize)
     requires x { IsPart x }
     requires y { IsPart y }

@@ -30,52 +30,43 @@ impl Tally {
         }
     }
 
-    /// That of missing samples alone.
-    pub(crate) fn of_missing(missing: Counted) -> Tally
-        ensures { result ≡ all_missing missing }
+    /// Takes in missing samples, which are behind the others.
+    #[tactic(auto, using(crate::proofs::samples::TallyFacts::missing_joined))]
+    pub(crate) fn add_missing(&mut self, missing: Counted)
+        ensures { self.new ≡ joined self.old (all_missing missing) }
     {
-        Tally {
-            missing,
-            extra: Counted::none(),
-            changed: Counted::none(),
-            first: missing.first,
-        }
+        self.missing.add(missing);
+        self.first = self.first.or(missing.first);
     }
 
-    /// That of extra samples alone.
-    pub(crate) fn of_extra(extra: Counted) -> Tally
-        ensures { result ≡ all_extra extra }
+    /// Takes in extra samples.
+    #[tactic(auto, using(crate::proofs::samples::TallyFacts::extra_joined))]
+    pub(crate) fn add_extra(&mut self, extra: Counted)
+        ensures { self.new ≡ joined self.old (all_extra extra) }
     {
-        Tally {
-            missing: Counted::none(),
-            extra,
-            changed: Counted::none(),
-            first: extra.first,
-        }
+        self.extra.add(extra);
+        self.first = self.first.or(extra.first);
     }
 
-    /// That of samples of two values alone.
-    pub(crate) fn of_changed(changed: Counted) -> Tally
-        ensures { result ≡ all_changed changed }
+    /// Takes in samples of two values.
+    #[tactic(auto, using(crate::proofs::samples::TallyFacts::changed_joined))]
+    pub(crate) fn add_changed(&mut self, changed: Counted)
+        ensures { self.new ≡ joined self.old (all_changed changed) }
     {
-        Tally {
-            missing: Counted::none(),
-            extra: Counted::none(),
-            changed,
-            first: changed.first,
-        }
+        self.changed.add(changed);
+        self.first = self.first.or(changed.first);
     }
 
-    /// That of one difference.
+    /// Takes in one difference.
     #[tactic(auto, using(crate::proofs::samples::TallyFacts::one_missing, crate::proofs::samples::TallyFacts::one_extra, crate::proofs::samples::TallyFacts::one_changed))]
-    pub(crate) fn of_one(difference: PointDifference) -> Tally
-        ensures { result ≡ tally_of (difference ∷ []) }
+    pub(crate) fn add_one(&mut self, difference: PointDifference)
+        ensures { self.new ≡ joined self.old (tally_of (difference ∷ [])) }
     {
         let one = Counted::one(difference);
         match difference.mismatch {
-            SampleMismatch::Missing => Tally::of_missing(one),
-            SampleMismatch::Extra => Tally::of_extra(one),
-            SampleMismatch::Value(_, _) => Tally::of_changed(one),
+            SampleMismatch::Missing => self.add_missing(one),
+            SampleMismatch::Extra => self.add_extra(one),
+            SampleMismatch::Value(_, _) => self.add_changed(one),
         }
     }
 

@@ -1,13 +1,16 @@
 use Rattle.std.proofs.Common.{◌≡◌, ◌≤◌, ◌-◌, ◌+◌}
+use Rattle.edf_pace.specs.samples.Stretches.{IsHead}
 use Rattle.edf_pace.specs.samples.Tallies.{all_behind, joined, tally_of}
 use Rattle.edf_pace.proofs.samples.count.count_both.Given as goal
 
-abbrev pub invariant-loop-i : goal.invariant-loop-i
-invariant-loop-i l = record {
-  here : l.i ≤ l.x_count;
-  there : l.j ≤ l.y_count;
-  value : joined l.tally (tally_of (all_behind l.x l.i l.y l.j)) ≡ joined l.fn.tally (tally_of (all_behind l.x l.x_from l.y l.y_from));
+abbrev pub invariant-loop-here : goal.invariant-loop-here
+invariant-loop-here l = record {
+  x_head : IsHead l.x (l.y).den l.here;
+  y_head : IsHead l.y (l.x).den l.there;
+  x_within : (l.here).place ≤ l.x_count;
+  y_within : (l.there).place ≤ l.y_count;
+  value : joined l.tally (tally_of (all_behind l.x (l.here).place l.y (l.there).place)) ≡ joined l.fn.tally (tally_of (all_behind l.x l.x_from l.y l.y_from));
 }
 
-abbrev pub decreases-loop-i : goal.decreases-loop-i
-decreases-loop-i l = (l.x_count - l.i) + (l.y_count - l.j)
+abbrev pub decreases-loop-here : goal.decreases-loop-here
+decreases-loop-here l = (l.x_count - (l.here).place) + (l.y_count - (l.there).place)

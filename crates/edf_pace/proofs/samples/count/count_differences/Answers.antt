@@ -8,7 +8,7 @@ pub returns : goal.returns
 returns c =
     let i = c.count_both-i.result.0 in
     let j = c.count_both-i.result.1 in
-    both_counted c.args.tally.now c.count_both-i.new.tally c.add.new.self c.add-2.new.self c.args.x c.args.y i j
+    both_counted c.args.tally.now c.count_both-i.new.tally c.add_missing.new.self c.add_extra.new.self c.args.x c.args.y i j
     c.count_both-i.ensures.over (c.count_both-i.ensures.value ∙ c.count_front-x_from.ensures.value)
-    (c.add.ensures ∙ ap (joined c.count_both-i.new.tally) (c.of_missing.ensures ∙ ap all_missing c.alone_behind-missing.ensures ∙ rest_missing c.args.x i))
-    (c.add-2.ensures ∙ ap (joined c.add.new.self) (c.of_extra.ensures ∙ ap all_extra c.alone_behind-extra.ensures ∙ rest_extra c.args.y j))
+    (c.add_missing.ensures ∙ ap (joined c.count_both-i.new.tally) (ap all_missing c.alone_behind.ensures ∙ rest_missing c.args.x i))
+    (c.add_extra.ensures ∙ ap (joined c.add_missing.new.self) (ap all_extra c.alone_behind-2.ensures ∙ rest_extra c.args.y j))

@@ -1,5 +1,6 @@
-use Rattle.std.proofs.Common.{◌*◌, ◌≤◌, length, arith}
+use Rattle.std.proofs.Common.{◌*◌, ◌≤◌, length, arith, refl}
 use Rattle.edf_pace.specs.samples.Others.{values_differ}
+use Rattle.edf_pace.specs.samples.Tallies.{all_changed}
 use Rattle.edf_pace.proofs.samples.FrontFacts.{each_counted}
 use Rattle.edf_pace.proofs.samples.front.count_each.Goals as goal
 
@@ -13,5 +14,5 @@ returns-clause-value c =
     let there = c.count_in-2.ensures.within in
     let lx : 2 * n ≤ length x.bytes.now = omega (arith, few, here) in
     let ly : 2 * n ≤ length y.bytes.now = omega (arith, few, there) in
-    each_counted c.args.tally.now c.add.new.self c.of_changed.result c.changes_at.result x y n c.requires.grid lx ly
-    (c.changes_at.ensures (values_differ 1 x.bytes.now y.bytes.now) n c.numbers_of-numbers.ensures.values) c.of_changed.ensures c.add.ensures
+    each_counted c.args.tally.now c.add_changed.new.self (all_changed c.changes_at.result) c.changes_at.result x y n c.requires.grid lx ly
+    (c.changes_at.ensures (values_differ 1 x.bytes.now y.bytes.now) n c.numbers_of-numbers.ensures.values) refl c.add_changed.ensures
