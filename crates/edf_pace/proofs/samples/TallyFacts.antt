@@ -140,18 +140,32 @@ changed_joined a c more e =
     tally_same (record { missing = a.missing; extra = a.extra; changed = c; first = option_or a.first more.first }) (joined a (all_changed more))
     (sym (kind_none a.missing)) (sym (kind_none a.extra)) e refl
 
--- one difference, of each kind
-pub one_missing : (d : PointDifference) (one : Counted) → d.mismatch ≡ Missing → one ≡ counted (d ∷ []) → all_missing one ≡ tally_of (d ∷ [])
-unfolding counted tally_of
-one_missing d one e is = ap all_missing is ∙ sym (rw e refl)
+-- one difference more, and of each kind
+pub one_joined : (a : Counted) (d : PointDifference) (k : ℕ) → Fits w64 a.count → k ≡ min (a.count + 1) (2 ^ 64 - 1) → record { count = k; first = option_or a.first (Some d); last = Some d } ≡ joined_kind a (counted (d ∷ []))
+unfolding counted joined_kind
+one_joined a d k fits more =
+    kind_same (record { count = k; first = option_or a.first (Some d); last = Some d }) (joined_kind a (counted (d ∷ []))) (more ∙ omega (arith, fits)) refl refl
 
-pub one_extra : (d : PointDifference) (one : Counted) → d.mismatch ≡ Extra → one ≡ counted (d ∷ []) → all_extra one ≡ tally_of (d ∷ [])
-unfolding counted tally_of
-one_extra d one e is = ap all_extra is ∙ sym (rw e refl)
+pub one_missing : (a : Tally) (d : PointDifference) (c : Counted) (first : Option PointDifference) → d.mismatch ≡ Missing → c ≡ joined_kind a.missing (counted (d ∷ [])) → first ≡ option_or a.first (Some d)
+    → record { missing = c; extra = a.extra; changed = a.changed; first = first } ≡ joined a (tally_of (d ∷ []))
+unfolding tally_of joined
+one_missing a d c first e is f =
+    tally_same (record { missing = c; extra = a.extra; changed = a.changed; first = first }) (joined a (tally_of (d ∷ [])))
+    (is ∙ sym (rw e refl)) (sym (rw e (kind_none a.extra))) (sym (rw e (kind_none a.changed))) f
 
-pub one_changed : (d : PointDifference) (v w : ℤ) (one : Counted) → d.mismatch ≡ Value v w → one ≡ counted (d ∷ []) → all_changed one ≡ tally_of (d ∷ [])
-unfolding counted tally_of
-one_changed d v w one e is = ap all_changed is ∙ sym (rw e refl)
+pub one_extra : (a : Tally) (d : PointDifference) (c : Counted) (first : Option PointDifference) → d.mismatch ≡ Extra → c ≡ joined_kind a.extra (counted (d ∷ [])) → first ≡ option_or a.first (Some d)
+    → record { missing = a.missing; extra = c; changed = a.changed; first = first } ≡ joined a (tally_of (d ∷ []))
+unfolding tally_of joined
+one_extra a d c first e is f =
+    tally_same (record { missing = a.missing; extra = c; changed = a.changed; first = first }) (joined a (tally_of (d ∷ [])))
+    (sym (rw e (kind_none a.missing))) (is ∙ sym (rw e refl)) (sym (rw e (kind_none a.changed))) f
+
+pub one_changed : (a : Tally) (d : PointDifference) (v w : ℤ) (c : Counted) (first : Option PointDifference) → d.mismatch ≡ Value v w → c ≡ joined_kind a.changed (counted (d ∷ [])) → first ≡ option_or a.first (Some d)
+    → record { missing = a.missing; extra = a.extra; changed = c; first = first } ≡ joined a (tally_of (d ∷ []))
+unfolding tally_of joined
+one_changed a d v w c first e is f =
+    tally_same (record { missing = a.missing; extra = a.extra; changed = c; first = first }) (joined a (tally_of (d ∷ [])))
+    (sym (rw e (kind_none a.missing))) (sym (rw e (kind_none a.extra))) (is ∙ sym (rw e refl)) f
 
 -- ---- two lists
 

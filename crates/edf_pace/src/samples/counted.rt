@@ -1,6 +1,7 @@
 //! Differences of the samples of a channel that were counted.
 
-ghost use Rattle.std.specs.Prelude.{◌≡◌, [], ◌∷◌};
+ghost use Rattle.std.specs.Prelude.{◌≡◌, [], ◌∷◌, Some};
+ghost use Rattle.std.specs.Option.{option_or};
 ghost use Rattle.edf_pace.specs.samples.Tallies.{counted, joined_kind};
 
 use crate::samples::difference::PointDifference;
@@ -11,6 +12,15 @@ pub struct Counted {
     pub count: u64,
     pub first: Option<PointDifference>,
     pub last: Option<PointDifference>,
+}
+
+/// Keeps a difference as the first one, if there is none before it.
+pub(crate) fn keep_first(first: &mut Option<PointDifference>, difference: PointDifference)
+    ensures { first.new ≡ option_or first.old (Some difference) }
+{
+    if first.is_none() {
+        *first = Some(difference);
+    }
 }
 
 impl Counted {
@@ -26,18 +36,6 @@ impl Counted {
         }
     }
 
-    /// One difference.
-    #[tactic(auto, unfolding(crate::specs::samples::Tallies::counted))]
-    pub(crate) fn one(difference: PointDifference) -> Counted
-        ensures { result ≡ counted (difference ∷ []) }
-    {
-        Counted {
-            count: 1,
-            first: Some(difference),
-            last: Some(difference),
-        }
-    }
-
     /// Takes in others, which are behind these.
     #[tactic(auto, using(crate::proofs::samples::TallyFacts::kind_joined))]
     pub(crate) fn add(&mut self, others: Counted)
@@ -46,5 +44,15 @@ impl Counted {
         self.count = self.count.saturating_add(others.count);
         self.first = self.first.or(others.first);
         self.last = others.last.or(self.last);
+    }
+
+    /// Takes in one more, which is behind these.
+    #[tactic(auto, using(crate::proofs::samples::TallyFacts::one_joined))]
+    pub(crate) fn add_one(&mut self, difference: PointDifference)
+        ensures { self.new ≡ joined_kind self.old (counted (difference ∷ [])) }
+    {
+        self.count = self.count.saturating_add(1);
+        keep_first(&mut self.first, difference);
+        self.last = Some(difference);
     }
 }

@@ -3,7 +3,7 @@
 ghost use Rattle.std.specs.Prelude.{◌≡◌, [], ◌∷◌};
 ghost use Rattle.edf_pace.specs.samples.Tallies.{all_changed, all_extra, all_missing, joined, tally_of};
 
-use crate::samples::counted::Counted;
+use crate::samples::counted::{Counted, keep_first};
 use crate::samples::difference::PointDifference;
 use edf_verdict::SampleMismatch;
 
@@ -62,11 +62,11 @@ impl Tally {
     pub(crate) fn add_one(&mut self, difference: PointDifference)
         ensures { self.new ≡ joined self.old (tally_of (difference ∷ [])) }
     {
-        let one = Counted::one(difference);
+        keep_first(&mut self.first, difference);
         match difference.mismatch {
-            SampleMismatch::Missing => self.add_missing(one),
-            SampleMismatch::Extra => self.add_extra(one),
-            SampleMismatch::Value(_, _) => self.add_changed(one),
+            SampleMismatch::Missing => self.missing.add_one(difference),
+            SampleMismatch::Extra => self.extra.add_one(difference),
+            SampleMismatch::Value(_, _) => self.changed.add_one(difference),
         }
     }
 
