@@ -62,7 +62,7 @@ start-near file c =
     let early = bounds.early in
     omega (arith, ints, near, early)
 
-shift-small : (claim : Terms) → IsClaim claim → unsigned_abs (shift_ps claim) ≤ 2 ^ 79
+pub shift-small : (claim : Terms) → IsClaim claim → unsigned_abs (shift_ps claim) ≤ 2 ^ 79
 shift-small claim c = let low = c.not_far_back in let high = c.not_far_on in omega (arith, ints, low, high)
 
 pub products_fit : AllProductsFit

@@ -7,3 +7,4 @@ pub mod SerialFacts
 pub mod TogetherFacts
 pub mod LeftFacts
 pub mod SeriesFacts
+pub mod NoneFacts

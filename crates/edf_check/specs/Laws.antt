@@ -1,5 +1,5 @@
 -- What follows from the definition of the verdict.
-use Rattle.std.specs.Prelude.{◌≡◌, ◌↔◌, ◌<◌, ◌^◌, ◌*ℤ◌, ℕ, pos, neg_ℤ, unsigned_abs, List, [], ◌∷◌, ℤ, ◌+ℤ◌, ◌<ℤ◌, ◌≤ℤ◌}
+use Rattle.std.specs.Prelude.{◌≡◌, ◌↔◌, ◌<◌, ◌^◌, ◌*ℤ◌, ℕ, pos, neg_ℤ, unsigned_abs, List, [], ◌∷◌, length, ℤ, ◌+ℤ◌, ◌<ℤ◌, ◌≤ℤ◌}
 use Rattle.edf_check.specs.Words.{IsPermutation, IsClaim, Terms, Has, SignalHead, Head, start_second, head_of, AreBlankAlike, NoteValue, PartsVerdict, Verdict}
 use Rattle.edf_claim.specs.declared.kept.interval.Interval.{Interval}
 use Rattle.edf_fields.specs.texts.Dates.{NamesDashedDay}
@@ -12,9 +12,12 @@ use Rattle.edf_check.specs.Exports.{BothConform, SameSamples, IsExport}
 use Rattle.edf_pace.specs.Instants.{later}
 use Rattle.edf_check.specs.Headline.{Headline}
 use Rattle.edf_pace.specs.Kept.{IsKeptSample, SamplesAsKept, shift_ps}
-use Rattle.edf_check.specs.KeptReading.{origin_of}
-use Rattle.edf_check.specs.parts.Parts.{AllConform, AreTogether}
-use Rattle.edf_check.specs.parts.PartsVerdicts.{IsPartsVerdict}
+use Rattle.edf_check.specs.KeptReading.{KeptAt, origin_of}
+use Rattle.edf_check.specs.Courses.{Agree}
+use Rattle.edf_check.specs.parts.Counted.{AreCounted, HasNothing}
+use Rattle.edf_check.specs.parts.Parts.{AllConform, AreTogether, ExportedByOne, FollowOneAnother}
+use Rattle.edf_check.specs.parts.PartsVerdicts.{AllAgreed, IsPartsVerdict}
+use Rattle.edf_pace.specs.declared.samples.tally.Tally.{Tally}
 use Rattle.edf_check.specs.SameFiles.{HoldTheSame}
 use Rattle.edf_check.specs.Verdicts.{IsVerdict}
 
@@ -115,3 +118,8 @@ AnyCutOfExport = (original export other : List ℕ) (claim : Terms) (v : Verdict
 abbrev pub AnyCutOfOriginal : Type 0
 AnyCutOfOriginal = (original other export : List ℕ) (claim : Terms) (v : Verdict) → HoldTheSame original other
     → IsVerdict original export claim v → IsVerdict other export claim v
+
+-- of parts whose headers agree and that follow one another nothing is counted exactly where the samples of all together are as the claim says
+abbrev pub NothingIsCounted : Type 0
+NothingIsCounted = (original : List ℕ) (parts : List (List ℕ)) (claim : Terms) (counts : List (List Tally)) → IsClaim claim → 0 < length parts → AllAgreed original parts claim → FollowOneAnother parts
+    → AreCounted original parts claim [] counts → HasNothing counts ↔ Agree (KeptAt original claim) (ExportedByOne original parts claim)

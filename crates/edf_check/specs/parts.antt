@@ -4,3 +4,4 @@ pub mod PartsFound
 pub mod PartsVerdicts
 pub mod Ends
 pub mod Together
+pub mod Counted

@@ -2,6 +2,7 @@
 
 ghost use Rattle.std.specs.Prelude.{◌≡◌, ◌<◌, ◌≤◌, map, length, IfOk, IfErr, OnOk};
 ghost use Rattle.edf_check.specs.Runs.{ArePartsJudgedBy, IsJudgedBy, JudgeStopsOf, JudgeStopsOfAll};
+ghost use Rattle.edf_check.specs.parts.Counted.{AreCountedUnder, IsCountedUnder};
 
 use crate::of_one::check_beside;
 use crate::of_several::{Asked, check_parts_beside};
@@ -24,6 +25,8 @@ pub fn judge_beside<O: Source, E: Source, L: Onlooker>(
     onlooker: &mut L,
 ) -> Result<Verdict, RunStop>
     ensures under { IfOk result (IsJudgedBy O.Source E.Source original.old export.old claim_text.now) }
+    ensures counted { IfOk result (λ v. IsCountedUnder O.Source E.Source original.old export.old claim_text.now
+        (L.looks onlooker.old) (L.counted onlooker.old) (L.counted onlooker.new)) }
     ensures failures { OnOk result ((O.reads original.new ≡ O.reads original.old)
         × (E.reads export.new ≡ E.reads export.old)) }
     ensures stop { IfErr result (JudgeStopsOf O.Source E.Source original.old original.new export.old
@@ -31,12 +34,12 @@ pub fn judge_beside<O: Source, E: Source, L: Onlooker>(
 {
     match Claim::read(alloc, claim_text) {
         Ok(claim) => {
-            let asked = Asked {
+            let mut asked = Asked {
                 alloc,
                 claim: &claim,
-                onlooker,
+                onlooker: &mut *onlooker,
             };
-            Ok(check_beside(original, export, asked)?)
+            Ok(check_beside(original, export, &mut asked)?)
         }
         Err(cause) if cause != ClaimStop::OutOfMemory => Err(RunStop::Claim(cause)),
         Err(_) => Err(RunStop::OutOfMemory),
@@ -75,6 +78,8 @@ pub fn judge_parts_beside<O: Source, E: Source, L: Onlooker>(
     requires some { 0 < length parts.old }
     requires few { length parts.old ≤ 64 }
     ensures under { IfOk result (ArePartsJudgedBy O.Source E.Source original.old parts.old claim_text.now) }
+    ensures counted { IfOk result (λ v. AreCountedUnder O.Source E.Source original.old parts.old claim_text.now
+        (L.looks onlooker.old) (L.counted onlooker.old) (L.counted onlooker.new)) }
     ensures failures { OnOk result ((O.reads original.new ≡ O.reads original.old)
         × (map E.reads parts.new ≡ map E.reads parts.old)) }
     ensures size { length parts.new ≡ length parts.old }
@@ -83,12 +88,12 @@ pub fn judge_parts_beside<O: Source, E: Source, L: Onlooker>(
 {
     match Claim::read(alloc, claim_text) {
         Ok(claim) => {
-            let asked = Asked {
+            let mut asked = Asked {
                 alloc,
                 claim: &claim,
-                onlooker,
+                onlooker: &mut *onlooker,
             };
-            Ok(check_parts_beside(original, parts, asked)?)
+            Ok(check_parts_beside(original, parts, &mut asked)?)
         }
         Err(cause) if cause != ClaimStop::OutOfMemory => Err(PartsRunStop::Claim(cause)),
         Err(_) => Err(PartsRunStop::OutOfMemory),

@@ -1,6 +1,6 @@
 //! Laws of the definitions, each the contract of a function that does nothing.
 
-ghost use Rattle.edf_check.specs.Laws.{OnePart, OnePartVerdict, YesTogether, AnyCutOfExport, AnyCutOfOriginal, OneVerdict, OneVerdictOnParts, SomeVerdict, YesExactly, HeadlineExactly, SamplesInWords, NotesInWords, StartFollows, AllProductsFit};
+ghost use Rattle.edf_check.specs.Laws.{AllProductsFit, AnyCutOfExport, AnyCutOfOriginal, HeadlineExactly, NotesInWords, NothingIsCounted, OnePart, OnePartVerdict, OneVerdict, OneVerdictOnParts, SamplesInWords, SomeVerdict, StartFollows, YesExactly, YesTogether};
 
 /// Two files have one verdict at most.
 pub fn there_is_one_verdict()
@@ -67,4 +67,10 @@ pub fn there_is_one_verdict_on_parts()
 /// are together the export.
 pub fn a_yes_is_given_exactly_for_all_parts_together()
     ensures { YesTogether }
+{}
+
+/// Of exports whose headers agree and that follow one another an onlooker counts nothing exactly where the samples of all
+/// together are what the claim keeps.
+pub fn nothing_is_counted_exactly_where_samples_are_as_claimed()
+    ensures { NothingIsCounted }
 {}

@@ -5,6 +5,7 @@ ghost use Rattle.edf_fields.specs.in_out.Sources.{Fails};
 ghost use Rattle.edf_check.specs.Checks.{AreRead, AreReadOfTwo, CheckStops, CheckStopsOf, IsHeadlineOfTwo, IsVerdictOfTwo};
 ghost use Rattle.edf_check.specs.Headline.{YesMeans};
 ghost use Rattle.edf_check.specs.Verdicts.{IsVerdict};
+ghost use Rattle.edf_check.specs.parts.Counted.{IsCountedOfTwo};
 
 use crate::of_several::{Asked, check_series};
 use edf_claim::Claim;
@@ -20,12 +21,16 @@ use std::alloc::Global;
 pub(crate) fn check_beside<O: Source, E: Source, L: Onlooker>(
     original: &mut O,
     export: &mut E,
-    asked: Asked<'_, '_, L>,
+    asked: &mut Asked<'_, '_, L>,
 ) -> Result<Verdict, CheckStop>
     ensures headline { IfOk result (IsHeadlineOfTwo O.Source E.Source original.old export.old
-        (asked.entry.claim).now) }
+        (asked.old.claim).now) }
     ensures verdict { IfOk result (IsVerdictOfTwo O.Source E.Source original.old export.old
-        (asked.entry.claim).now) }
+        (asked.old.claim).now) }
+    ensures lender { asked.new.onlooker.ghost_name ≡ asked.old.onlooker.ghost_name }
+    ensures counted { IfOk result (λ v. IsCountedOfTwo O.Source E.Source original.old export.old
+        (asked.old.claim).now (L.looks asked.old.onlooker.now) (L.counted asked.old.onlooker.now)
+        (L.counted asked.new.onlooker.now)) }
     ensures read { IfOk result (AreReadOfTwo O.Source E.Source original.old original.new export.old
         export.new) }
     ensures failures { OnOk result ((O.reads original.new ≡ O.reads original.old) ×
@@ -70,12 +75,12 @@ pub fn check<O: Source, E: Source>(
         (Fails (E.reads export.old) (E.reads export.new))
         ((O.reads original.new ≡ O.reads original.old) × (E.reads export.new ≡ E.reads export.old))) }
 {
-    let asked = Asked {
+    let mut asked = Asked {
         alloc,
         claim,
         onlooker: &mut Nobody,
     };
-    match check_beside(original, export, asked) {
+    match check_beside(original, export, &mut asked) {
         Ok(verdict) => Ok(verdict),
         Err(stop) => Err(stop),
     }

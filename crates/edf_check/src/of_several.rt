@@ -5,6 +5,7 @@ ghost use Rattle.std.specs.List.{AllByRecursion};
 ghost use Rattle.edf_fields.specs.in_out.Sources.{Fails};
 ghost use Rattle.edf_check.specs.Checks.{AreRead};
 ghost use Rattle.edf_pace.specs.PartsStops.{NoneFailed, PartsStops, StopsOfAll};
+ghost use Rattle.edf_check.specs.parts.Counted.{AreCountedOfAll};
 ghost use Rattle.edf_check.specs.parts.PartsVerdicts.{IsPartsVerdict};
 ghost use Rattle.edf_check.specs.parts.Together.{IsReadBy, IsVerdictOf, SeriesLeft, SeriesStop};
 
@@ -34,11 +35,15 @@ pub(crate) fn check_series<O: Source, E: Source, L: Onlooker>(
     original: &mut O,
     part: &mut E,
     others: &mut [E],
-    asked: Asked<'_, '_, L>,
+    asked: &mut Asked<'_, '_, L>,
 ) -> Result<PartsVerdict, PartsStop>
     requires few { length others.old < 64 }
     ensures verdict { IfOk result (IsVerdictOf O.Source E.Source original.old (part.old ∷ others.old)
-        (asked.entry.claim).now) }
+        (asked.old.claim).now) }
+    ensures lender { asked.new.onlooker.ghost_name ≡ asked.old.onlooker.ghost_name }
+    ensures counted { IfOk result (λ v. AreCountedOfAll O.Source E.Source original.old (part.old ∷ others.old)
+        (asked.old.claim).now (L.looks asked.old.onlooker.now) (L.counted asked.old.onlooker.now)
+        (L.counted asked.new.onlooker.now)) }
     ensures read { IfOk result (SeriesLeft O.Source E.Source original.old original.new part.old part.new
         others.old others.new) }
     ensures failures { OnOk result (NoneFailed O.Source original.old original.new E.Source part.old part.new
@@ -46,11 +51,7 @@ pub(crate) fn check_series<O: Source, E: Source, L: Onlooker>(
     ensures stop { IfErr result (SeriesStop O.Source original.old original.new E.Source part.old part.new
         others.old others.new) }
 {
-    let Asked {
-        alloc,
-        claim,
-        onlooker,
-    } = asked;
+    let Asked { alloc, claim, .. } = *asked;
     let reading = match open(alloc, original, PartSide::Original) {
         Ok(Ok(reading)) => reading,
         Ok(Err(fault)) => return Ok(Finding::Fault(FaultOf::Original(fault)).verdict()),
@@ -67,11 +68,11 @@ pub(crate) fn check_series<O: Source, E: Source, L: Onlooker>(
         original: reading,
         exported: Exported::new(alloc),
     };
-    let stage = Stage {
+    let mut stage = Stage {
         setting,
-        onlooker: &mut *onlooker,
+        onlooker: &mut *asked.onlooker,
     };
-    match walk_parts(&mut so_far, original, part, others, stage) {
+    match walk_parts(&mut so_far, original, part, others, &mut stage) {
         Ok(Ok(found)) => {
             let verdict = conclude_parts(
                 setting,
@@ -79,7 +80,9 @@ pub(crate) fn check_series<O: Source, E: Source, L: Onlooker>(
                 &mut so_far.original.notes,
                 &mut so_far.exported,
             )?;
-            onlooker.take_original(so_far.original, so_far.exported.notes);
+            asked
+                .onlooker
+                .take_original(so_far.original, so_far.exported.notes);
             Ok(verdict)
         }
         Ok(Err(fault)) => Ok(Finding::Fault(fault).verdict()),
@@ -93,12 +96,16 @@ pub(crate) fn check_series<O: Source, E: Source, L: Onlooker>(
 pub(crate) fn check_parts_beside<O: Source, E: Source, L: Onlooker>(
     original: &mut O,
     parts: &mut [E],
-    asked: Asked<'_, '_, L>,
+    asked: &mut Asked<'_, '_, L>,
 ) -> Result<PartsVerdict, PartsStop>
     requires some { 0 < length parts.old }
     requires few { length parts.old ≤ 64 }
     ensures verdict { IfOk result (IsVerdictOf O.Source E.Source original.old parts.old
-        (asked.entry.claim).now) }
+        (asked.old.claim).now) }
+    ensures lender { asked.new.onlooker.ghost_name ≡ asked.old.onlooker.ghost_name }
+    ensures counted { IfOk result (λ v. AreCountedOfAll O.Source E.Source original.old parts.old
+        (asked.old.claim).now (L.looks asked.old.onlooker.now) (L.counted asked.old.onlooker.now)
+        (L.counted asked.new.onlooker.now)) }
     ensures read { IfOk result (IsReadBy O.Source E.Source original.old original.new parts.old parts.new) }
     ensures failures { OnOk result ((O.reads original.new ≡ O.reads original.old) ×
         (map E.reads parts.new ≡ map E.reads parts.old)) }
@@ -143,12 +150,12 @@ pub fn check_parts<O: Source, E: Source>(
         ((O.reads original.new ≡ O.reads original.old) × (map E.reads parts.new ≡ map E.reads parts.old)) 0
         (map E.reads parts.old) (map E.reads parts.new)) }
 {
-    let asked = Asked {
+    let mut asked = Asked {
         alloc,
         claim,
         onlooker: &mut Nobody,
     };
-    match check_parts_beside(original, parts, asked) {
+    match check_parts_beside(original, parts, &mut asked) {
         Ok(verdict) => Ok(verdict),
         Err(stop) => Err(stop),
     }

@@ -1,2 +1,1 @@
-pub mod Tallies
-pub mod Compared
+pub mod Told

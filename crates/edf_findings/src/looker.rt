@@ -1,29 +1,35 @@
 //! Who looks on while an original and its exports are checked, and takes in what they differ in.
 
+ghost use Rattle.std.specs.Prelude.{◌≡◌};
+
 use crate::notes::both::Notes;
-use crate::part::{PartSoFar, SeenPart};
+use crate::part::{PartSoFar, ReadPart, SeenPart};
 use crate::seen::Seen;
 use crate::stand::RecordCount;
 use edf_claim::Claim;
-use edf_pace::{Frame, Onlooker, Reading, Window};
+use edf_pace::{Counts, Frame, Onlooker, Reading, Watcher, Window};
 use edf_stream::{FileReader, Note};
 use std::alloc::{AllocError, Global};
+use std::mem;
 
-/// Looks on while an original and its exports are checked, and takes in what they differ in.
+/// Looks on while an original and its exports are checked: it counts the samples that differ (`Counts` of `edf_pace`), notes in
+/// which data records they were found, and keeps the annotations of all files.
 #[derive(Drop)]
 pub struct Looker {
     alloc: Global,
     /// Whether texts are remembered that the claim removes or blanks.
     wants_hidden: bool,
-    /// Whether there was memory for all that was seen.
+    /// Whether there was memory for all that was noted.
     is_whole: bool,
     originals: RecordCount,
-    /// Those of the exports that were compared, from the first one on.
-    parts: Vec<PartSoFar>,
+    /// What differs in the samples of the export that is compared.
+    counts: Counts,
+    /// What else was seen of it.
+    part: Option<PartSoFar>,
+    /// The exports that were read to their ends.
+    parts: Vec<ReadPart>,
     notes: Notes,
     original: Option<FileReader>,
-    /// The exports that were read to their ends.
-    exports: Vec<FileReader>,
 }
 
 impl Looker {
@@ -35,20 +41,23 @@ impl Looker {
             wants_hidden,
             is_whole: true,
             originals: RecordCount::NONE,
+            counts: Counts {
+                tallies: Vec::new(alloc),
+            },
+            part: None,
             parts: Vec::new(alloc),
             notes: Notes::new(alloc),
             original: None,
-            exports: Vec::new(alloc),
         }
     }
 
     /// Takes in the data record of the original at hand, if it is another one than before.
-    fn take_record(&mut self, original: &FileReader, claim: &Claim) -> Result<(), AllocError> {
+    fn take_record(&mut self, original: &FileReader, claim: &Claim) -> Result<(), AllocError>
+        ensures counts { self.new.counts ≡ self.old.counts }
+        ensures parts { self.new.parts ≡ self.old.parts }
+    {
         if !self.originals.take_in(original) {
             return Ok(());
-        }
-        if let Some(part) = self.parts.last_mut() {
-            part.begin_original();
         }
         if self.wants_hidden {
             self.notes
@@ -57,43 +66,39 @@ impl Looker {
         Ok(())
     }
 
-    /// Begins with the export whose turn it is, if nothing was seen of it so far.
-    fn begin_part(
+    /// What was seen of the export that is compared.
+    fn part_so_far(
         &mut self,
         original: &FileReader,
         export: &FileReader,
         frame: Frame<'_>,
-    ) -> Result<(), AllocError> {
-        let is_there = match self.parts.last() {
-            Some(part) => part.number == frame.turn.part,
-            None => false,
-        };
-        if is_there {
-            return Ok(());
+    ) -> Result<PartSoFar, AllocError>
+        ensures counts { self.new.counts ≡ self.old.counts }
+        ensures parts { self.new.parts ≡ self.old.parts }
+    {
+        match self.part.take() {
+            Some(part) => Ok(part),
+            None => PartSoFar::new(self.alloc, (original.header(), export.header()), frame),
         }
-        let here = self
-            .originals
-            .stand(original, frame.turn.setting.clock.original);
-        self.parts
-            .push(PartSoFar::new(self.alloc, here, export, frame)?)?;
-        Ok(())
     }
 
-    /// Takes in what two files show between two times.
-    fn see(
+    /// Notes in which data records samples were found between two times, and where the export starts.
+    fn note(
         &mut self,
         original: &FileReader,
         export: &FileReader,
         frame: Frame<'_>,
         within: Window,
-    ) -> Result<(), AllocError> {
+    ) -> Result<(), AllocError>
+        ensures counts { self.new.counts ≡ self.old.counts }
+        ensures parts { self.new.parts ≡ self.old.parts }
+    {
         let setting = frame.turn.setting;
         self.take_record(original, setting.claim)?;
-        self.begin_part(original, export, frame)?;
+        let mut part = self.part_so_far(original, export, frame)?;
         let here = self.originals.stand(original, setting.clock.original);
-        if let Some(part) = self.parts.last_mut() {
-            part.see(here, export, setting, within);
-        }
+        part.see(here, export, setting, within, &self.counts.tallies);
+        self.part = Some(part);
         Ok(())
     }
 
@@ -108,7 +113,6 @@ impl Looker {
             parts,
             notes,
             original,
-            exports,
             ..
         } = self;
         if !is_whole {
@@ -117,23 +121,32 @@ impl Looker {
         let Some(original) = original else {
             return Ok(None);
         };
-        let mut so_far = parts.into_iter();
         let mut seen = Vec::new(alloc);
-        for export in exports {
-            let part = SeenPart::new(export, so_far.next(), original.header(), claim);
-            seen.push(part)?;
+        for part in parts {
+            seen.push(SeenPart::new(alloc, part, original.header(), claim)?)?;
         }
         Ok(Seen::of(claim, original, seen, notes))
     }
 }
 
 impl Onlooker for Looker {
-    ghost use Rattle.std.specs.Prelude.{true};
+    ghost use Rattle.std.specs.Prelude.{map, true};
+    ghost use Rattle.edf_findings.specs.declared.part.ReadPart.{ReadPart};
 
     ghost looks = { λ _. true };
 
+    ghost tallies = { λ w. w.counts.tallies.items };
+
+    ghost counted = { λ w. map (λ (part : ReadPart). part.tallies.items) w.parts.items };
+
     fn looks(&self) -> bool {
         true
+    }
+
+    fn begin(&mut self, frame: Frame<'_>) -> Result<(), AllocError> {
+        self.counts = Counts::new(self.alloc, frame)?;
+        self.part = None;
+        Ok(())
     }
 
     fn look(
@@ -143,13 +156,20 @@ impl Onlooker for Looker {
         frame: Frame<'_>,
         within: Window,
     ) {
-        let seen = self.see(original, export, frame, within);
-        self.is_whole = self.is_whole && seen.is_ok();
+        self.counts.see(original, export, frame, within);
+        let noted = self.note(original, export, frame, within);
+        self.is_whole = self.is_whole && noted.is_ok();
     }
 
-    fn take_export(&mut self, export: FileReader) {
-        let taken = self.exports.push(export);
-        self.is_whole = self.is_whole && taken.is_ok();
+    fn take_export(&mut self, export: FileReader) -> Result<(), AllocError> {
+        let tallies = mem::replace(&mut self.counts.tallies, Vec::new(self.alloc));
+        let so_far = self.part.take();
+        self.parts.push(ReadPart {
+            export,
+            so_far,
+            tallies,
+        })?;
+        Ok(())
     }
 
     fn take_original(&mut self, original: Reading, exported: Vec<Note>) {

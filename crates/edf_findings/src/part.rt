@@ -1,23 +1,22 @@
 //! What is seen of one export while it is compared.
 
-use crate::samples::channels::Channels;
+use crate::record_time::Hands;
+use crate::samples::channel::ChannelSoFar;
 use crate::samples::compared::ComparedChannel;
-use crate::samples::tally::Stands;
 use crate::stand::{RecordCount, Stand};
 use crate::starts::Starts;
 use edf_claim::Claim;
 use edf_header::Header;
-use edf_pace::{Frame, Setting, Window};
+use edf_pace::{Frame, Setting, Tally, Window};
 use edf_stream::FileReader;
 use std::alloc::{AllocError, Global};
 
-/// What was seen so far of an export that is compared.
+/// What was seen so far of an export that is compared, but for the counts of its samples.
 #[derive(Drop)]
 pub(crate) struct PartSoFar {
-    /// Its number, counted from 0.
-    pub(crate) number: u16,
     records: RecordCount,
-    channels: Channels,
+    /// The claimed channels that both files have, in the order of the claim.
+    channels: Vec<ChannelSoFar>,
     /// When the first sample is taken that is kept.
     first_ps: Option<i128>,
     /// When the first data record starts, as the export has it.
@@ -26,21 +25,25 @@ pub(crate) struct PartSoFar {
     moved_ps: i128,
 }
 
+/// The earlier one of two times, of which each may be missing.
+pub(crate) fn earlier(first: Option<i128>, second: Option<i128>) -> Option<i128> {
+    match (first, second) {
+        (Some(first), Some(second)) => Some(first.min(second)),
+        (Some(first), None) => Some(first),
+        (None, second) => second,
+    }
+}
+
 impl PartSoFar {
-    /// Nothing was seen of the export whose turn it is. Of the data record of the original at hand all before its turn is done with.
+    /// Nothing was seen of the export that is compared.
     pub(crate) fn new(
         alloc: Global,
-        original: Stand<'_>,
-        export: &FileReader,
+        headers: (&Header, &Header),
         frame: Frame<'_>,
     ) -> Result<PartSoFar, AllocError> {
-        let claim = frame.turn.setting.claim;
-        let mut channels = Channels::of(alloc, claim, original.header(), export.header())?;
-        channels.begin_at(original, frame.turn.from.ps);
         Ok(PartSoFar {
-            number: frame.turn.part,
             records: RecordCount::NONE,
-            channels,
+            channels: ChannelSoFar::all_of(alloc, headers, frame)?,
             first_ps: None,
             begin_ps: None,
             keeps_between: false,
@@ -48,20 +51,24 @@ impl PartSoFar {
         })
     }
 
-    /// Nothing of the next data record of the original is done with.
-    pub(crate) fn begin_original(&mut self) {
-        self.channels.begin_original();
-    }
-
     /// Takes in the data record of the export at hand, if it is another one than before.
     fn take_record(&mut self, export: &FileReader) {
         if !self.records.take_in(export) {
             return;
         }
-        self.channels.begin_export();
         if self.begin_ps.is_none() {
             self.begin_ps = Some(export.start_ps());
         }
+    }
+
+    /// When the first sample of these channels is taken in the original between two times, rounded down.
+    fn first_between(&self, original: Stand<'_>, within: Window) -> Option<i128> {
+        let mut first = None;
+        for channel in &self.channels {
+            let samples = channel.original.place.samples;
+            first = earlier(first, original.first_between(samples, within));
+        }
+        first
     }
 
     /// Sees when the first sample of the original is taken that is kept between two times, where all are and none was seen so
@@ -70,50 +77,68 @@ impl PartSoFar {
         if self.first_ps.is_some() || !original.has_begun_before(within.to.ps) {
             return;
         }
-        self.first_ps = self
-            .channels
-            .first_between(original, within.from.ps, within.to.ps);
+        self.first_ps = self.first_between(original, within);
         self.keeps_between = self.keeps_between || self.first_ps.is_none();
     }
 
-    /// Takes in what the data records at hand show between two times.
+    /// Notes in which data records at hand samples were found between two times, of which there are so many now.
     pub(crate) fn see(
         &mut self,
         original: Stand<'_>,
         export: &FileReader,
         setting: Setting<'_>,
         within: Window,
+        tallies: &[Tally],
     ) {
         self.take_record(export);
-        let is_kept = setting.claim.keeps_instant(within.from.ps, 1);
-        if is_kept {
+        if setting.claim.keeps_instant(within.from.ps, 1) {
             self.see_first(original, within);
         }
         let there = self.records.stand(export, setting.clock.export);
         self.moved_ps = there.moved_ps();
-        let stands = Stands::new(original, there);
-        self.channels
-            .compare(&stands, within.from.ps, within.to.ps, is_kept);
+        let hands = Hands {
+            original: original.hand(),
+            export: there.hand(),
+        };
+        for channel in self.channels.iter_mut() {
+            channel.note(tallies, &hands);
+        }
     }
 
     /// Where the export starts; none where the original has no sample that is kept.
-    fn starts(&self, original: &Header, export: &Header, claim: &Claim) -> Option<Starts> {
+    fn starts(&self, headers: (&Header, &Header), claim: &Claim) -> Option<Starts> {
         let first_ps = self.first_ps?;
         let begin_ps = self.begin_ps?;
-        let headers = (original, export);
         Some(Starts::of(headers, claim.shift_ps(), first_ps, begin_ps))
     }
 
-    /// What was seen of the export, which was read to its end.
-    fn compared(mut self, original: &Header, export: &Header, claim: &Claim) -> ComparedPart {
-        self.channels.count_alike();
-        ComparedPart {
-            starts: self.starts(original, export, claim),
-            channels: self.channels.all,
+    /// What was seen of the export, which was read to its end, and in which so many samples differ.
+    fn compared(
+        &self,
+        alloc: Global,
+        tallies: &[Tally],
+        headers: (&Header, &Header),
+        claim: &Claim,
+    ) -> Result<ComparedPart, AllocError> {
+        let mut channels = Vec::new(alloc);
+        for channel in &self.channels {
+            channels.push(ComparedChannel::of(channel, tallies, headers))?;
+        }
+        Ok(ComparedPart {
+            channels,
+            starts: self.starts(headers, claim),
             keeps_between: self.keeps_between,
             moved_ps: self.moved_ps,
-        }
+        })
     }
+}
+
+/// An export that was read to its end, what was counted in it, and what else was seen of it, where it was compared.
+#[derive(Drop)]
+pub(crate) struct ReadPart {
+    pub(crate) export: FileReader,
+    pub(crate) so_far: Option<PartSoFar>,
+    pub(crate) tallies: Vec<Tally>,
 }
 
 /// What was seen of an export that was compared.
@@ -134,17 +159,25 @@ pub struct SeenPart {
 
 impl SeenPart {
     /// An export, and what was seen of it, where it was compared.
+    ///
+    /// The error is want of memory.
     pub(crate) fn new(
-        export: FileReader,
-        so_far: Option<PartSoFar>,
+        alloc: Global,
+        part: ReadPart,
         original: &Header,
         claim: &Claim,
-    ) -> SeenPart {
-        let compared = match so_far {
-            Some(so_far) => Some(so_far.compared(original, export.header(), claim)),
+    ) -> Result<SeenPart, AllocError> {
+        let ReadPart {
+            export,
+            so_far,
+            tallies,
+        } = part;
+        let headers = (original, export.header());
+        let compared = match &so_far {
+            Some(so_far) => Some(so_far.compared(alloc, &tallies, headers, claim)?),
             None => None,
         };
-        SeenPart { export, compared }
+        Ok(SeenPart { export, compared })
     }
 
     /// The header of the export.

@@ -1,12 +1,5 @@
-//! The samples of a channel of both files, all of which are compared.
+//! The samples of a channel that both files have, and what was counted of them.
 
-pub mod channels;
+pub mod channel;
 pub mod compared;
 pub mod kinds;
-pub mod lane;
-pub mod mismatch;
-pub mod places;
-pub mod sample_run;
-pub mod side_by_side;
-pub mod strided;
-pub mod tally;

@@ -1,15 +1,11 @@
 //! Where a file stands that is read: its data record at hand, on the clock of the original.
 
-ghost use Rattle.std.specs.Prelude.{◌≡◌, IsTrue};
-ghost use Rattle.edf_findings.specs.Compared.{lane_at_hand};
+ghost use Rattle.std.specs.Prelude.{IsTrue};
 ghost use Rattle.edf_stream.specs.records.Readers.{is_current};
 
 use crate::clock::start_of;
 use crate::record_time::{Hand, RecordTime};
-use crate::samples::lane::Lane;
-use crate::samples::sample_run::SampleRun;
-use edf_header::Header;
-use edf_pace::Offset;
+use edf_pace::{Offset, Window};
 use edf_stream::FileReader;
 
 /// Which data record of a file is at hand, of those that were there.
@@ -61,7 +57,7 @@ pub(crate) struct Stand<'a> {
     number: u32,
 }
 
-impl<'a> Stand<'a> {
+impl Stand<'_> {
     /// The time of the data record at hand.
     fn time(self) -> Option<RecordTime> {
         if !self.reader.has_current() {
@@ -71,11 +67,6 @@ impl<'a> Stand<'a> {
             from_ps: self.reader.start_ps().saturating_add(self.moved_ps),
             to_ps: self.reader.end_ps().saturating_add(self.moved_ps),
         })
-    }
-
-    /// The header of the file.
-    pub(crate) fn header(self) -> &'a Header {
-        self.reader.header()
     }
 
     /// What the times of the file are moved by.
@@ -96,59 +87,15 @@ impl<'a> Stand<'a> {
         Hand::of(self.time(), self.number)
     }
 
-    /// The bytes of a signal in the data record at hand.
-    pub(crate) fn bytes(self, signal: usize) -> &'a [u8]
-        ensures { result.now ≡ lane_at_hand self.entry.reader.now signal }
-    {
-        if self.reader.has_current() && signal < self.reader.header().signals().len() {
-            self.reader.run(signal)
+    /// When the first sample between two times is taken, rounded down, of a signal that has so many samples in the data record at
+    /// hand.
+    pub(crate) fn first_between(self, samples: u32, within: Window) -> Option<i128> {
+        let time = self.time()?;
+        let at_ps = time.first_since(samples, within.from.ps)?;
+        if at_ps < within.to.ps {
+            Some(at_ps)
         } else {
-            &[]
-        }
-    }
-
-    /// All samples of a signal in the data record at hand, which has this time.
-    fn samples_in(self, lane: Lane, time: RecordTime) -> SampleRun<'a> {
-        SampleRun {
-            bytes: self.bytes(lane.signal),
-            start_ps: time.from_ps,
-            duration_ps: self.reader.header().duration_ps(),
-            samples: lane.samples,
-            from: 0,
-            to: lane.samples as usize,
-        }
-    }
-
-    /// All samples of a signal in the data record at hand.
-    pub(crate) fn samples(self, lane: Lane) -> SampleRun<'a> {
-        match self.time() {
-            Some(time) => self.samples_in(lane, time),
-            None => SampleRun::NONE,
-        }
-    }
-
-    /// The samples of a signal in the data record at hand, which has this time, that aren't done with, up to a time. They are done
-    /// with then.
-    pub(crate) fn take(self, lane: &mut Lane, hand: Hand, end_ps: i128) -> SampleRun<'a> {
-        let Some(time) = hand.time() else {
-            return SampleRun::NONE;
-        };
-        let run = self.samples_in(*lane, time).behind(lane.done);
-        let taken = if end_ps < time.to_ps {
-            run.before(end_ps)
-        } else {
-            run
-        };
-        lane.done = taken.to;
-        taken
-    }
-
-    /// The bytes of the data record at hand.
-    pub(crate) fn record(self) -> &'a [u8] {
-        if self.reader.has_current() {
-            self.reader.record()
-        } else {
-            &[]
+            None
         }
     }
 }

@@ -10,6 +10,7 @@ pub use Rattle.edf_pace.proofs.samples.FilterFacts.{by_test}
 pub use Rattle.edf_pace.proofs.samples.FloorFacts.{floor-same}
 pub use Rattle.edf_pace.proofs.samples.FractionFacts.{scaled, before-not_before, before_below, before_not, both_same, by_before, from_below, not_before-before, same_above, same_back, same_before, same_below, same_through}
 pub use Rattle.edf_pace.proofs.walk.ChannelFacts.{ascending, difference_at}
+pub use Rattle.edf_pace.proofs.walk.CountedFacts.{counted_end, counted_on, first_walked, found_among, none_in_span, tallies_walked}
 pub use Rattle.edf_pace.proofs.walk.FileFacts.{fault_is}
 pub use Rattle.edf_pace.proofs.walk.LockstepFacts.{are_places, fault_after, fault_by, fault_by_header, fault_of_heads, has_ended}
 pub use Rattle.edf_pace.proofs.walk.OnwardFacts.{begin_is, ends_behind, matched_behind, matched_end, matched_on, other_way, past_all}

@@ -29,7 +29,7 @@ pub use walk::layout::common_room;
 pub use walk::lockstep::{ReadOn, end_both, export_fault, walk_on};
 pub use walk::offset::Offset;
 pub use walk::reading::{Reading, begin_ps_of, finish, go_on, open, start};
-pub use walk::track::pairs_of;
+pub use walk::track::{Pair, Track, pairs_of};
 pub use walk::turn::{Setting, Turn};
 pub use walk::watchers::counts::Counts;
 pub use walk::watchers::first_found::FirstFound;

@@ -106,7 +106,17 @@ last-over (Some f) quiet last none e = absurd (let z : Some f ≡ None = none in
 pub compared-so : (p looks : Bool) (heads : Option Verdict) → p ≡ true → heads ≡ None → (p && (not (is_some heads) || looks)) ≡ true
 compared-so p looks heads a b = rw (a, b) refl
 
+-- the samples of a part are compared, too, where its header differs and somebody looks on
+pub compared-beside : (p q looks : Bool) → p ≡ true → looks ≡ true → (p && (q || looks)) ≡ true
+compared-beside p true looks a b = rw a refl
+compared-beside p false looks a b = rw (a, b) refl
+
 -- ---- who looks on
+
+-- a walk never ends at a difference where somebody looks on
+pub never-enough : (found looks : Bool) → looks ≡ true → (found && not looks) ≡ false
+never-enough true looks l = rw l refl
+never-enough false looks l = refl
 
 -- who has seen enough where nobody looks on, may look further where somebody does
 pub is_alone : (turn : Turn) (files : TwoFiles) (Held Holds : TwoFiles → ℤ → ℤ → Type 0) (some quiet : Bool) (walked : ReadOn) → IsWalked turn files Held Holds (some && quiet) walked → IsWalked turn files Held Holds some walked

@@ -68,7 +68,7 @@ further j = omega arith
 follow-tail : (part : List ℕ) (parts : List (List ℕ)) → FollowOneAnother (part ∷ parts) → FollowOneAnother parts
 follow-tail part parts follow j x y p q = follow (suc j) x y p (subst (λ n. slice_get (part ∷ parts) n ≡ Some y) (further j) q)
 
-from-first : (o : List ℕ) (c : Terms) (t : ℤ) (part : List ℕ) (parts : List (List ℕ)) → FollowOneAnother (part ∷ parts) → t ≤ℤ part_begin o c part → AreOrdered (moved_part o c) t (part ∷ parts)
+pub from-first : (o : List ℕ) (c : Terms) (t : ℤ) (part : List ℕ) (parts : List (List ℕ)) → FollowOneAnother (part ∷ parts) → t ≤ℤ part_begin o c part → AreOrdered (moved_part o c) t (part ∷ parts)
 from-first o c t part [] follow le = (le, tt)
 from-first o c t part (next ∷ parts) follow le =
     let b = begin-moved next (moved_part o c) in
@@ -79,7 +79,7 @@ from-first o c t part (next ∷ parts) follow le =
 same-time : (x : ℤ) → x ≤ℤ x
 same-time x = omega (arith, ints)
 
-ordered-course : (o : List ℕ) (c : Terms) (parts : List (List ℕ)) → ((part : List ℕ) → Has parts part → Conforms part (head_of part)) → FollowOneAnother parts → IsCourse (ExportedByOne o parts c)
+pub ordered-course : (o : List ℕ) (c : Terms) (parts : List (List ℕ)) → ((part : List ℕ) → Has parts part → Conforms part (head_of part)) → FollowOneAnother parts → IsCourse (ExportedByOne o parts c)
 ordered-course o c [] conform follow = none-course o c
 ordered-course o c (part ∷ parts) conform follow = parts-course o c (part_begin o c part) (part ∷ parts) conform (from-first o c (part_begin o c part) part parts follow (same-time (part_begin o c part)))
 

@@ -22,6 +22,10 @@ use Rattle.edf_check.specs.parts.PartsFound.{IsEarlyFound, first_of, found_with,
 use Rattle.edf_check.specs.parts.Ends.{IsPartRead, is_same}
 use Rattle.edf_pace.specs.walk.Ends.{IsFaultBy, moved_export, moved_original}
 use Rattle.edf_check.specs.parts.Together.{AreRead, HaveFault, gathered_of_all, serial_difference}
+use Rattle.edf_pace.specs.declared.samples.tally.Tally.{Tally}
+use Rattle.edf_pace.specs.declared.times.Time.{Time}
+use Rattle.edf_check.specs.parts.Counted.{IsCountedBehind, serial_counts}
+use Rattle.edf_pace.specs.walk.Counting.{span_counts}
 use Rattle.edf_pace.specs.walk.Pairs.{places_in}
 use Rattle.edf_pace.specs.walk.Shown.{last_end_by}
 use Rattle.edf_pace.specs.walk.Windows.{sampled, span_difference, is_last}
@@ -34,7 +38,7 @@ none-first : (part : ℕ) (heads : Option Verdict) (later : Option PartVerdict) 
 none-first part None later e = (refl, e)
 none-first part (Some v) later e = absurd (cc)
 
-none-early : (part : ℕ) (early : Bool) (later : Option ℕ) → (if early then Some part else later) ≡ None → (early ≡ false) × (later ≡ None)
+pub none-early : (part : ℕ) (early : Bool) (later : Option ℕ) → (if early then Some part else later) ≡ None → (early ≡ false) × (later ≡ None)
 none-early part true later e = absurd (let z : Some part ≡ None = e in cc)
 none-early part false later e = (refl, e)
 
@@ -155,3 +159,42 @@ fault_first o h left first part parts (faults.Part other fault) p =
 pub fault_behind : (o : List ℕ) (h : Head) (left : List ℕ) (first : ℕ) (part : List ℕ) (parts : List (List ℕ)) (w : FaultOf) → Conforms part (head_of part) → HaveFault (first + 1) o h left parts w → HaveFault first o h left (part ∷ parts) w
 fault_behind o h left first part parts (faults.Original fault) c p = p
 fault_behind o h left first part parts (faults.Part other fault) c p = (p.0, fault_later first part parts other fault (faultless_part part c) p.1, p.2)
+
+-- ---- what was counted
+
+-- of the last part
+pub counted_last : (turn : Turn) (last : Bool) (o : List ℕ) (h : Head) (e : List ℕ) (parts : List (List ℕ)) (before behind : List (List Tally)) → last ≡ true → parts ≡ []
+    → behind ≡ before ++ (span_counts last ((turn.setting).claim).now (sampled o h (moved_original turn)) (sampled e (head_of e) (moved_export turn)) (places_in h (head_of e) ((turn.setting).labels).now) (turn.from).ps (last_end_by e (head_of e) (moved_export turn)) ∷ [])
+    → behind ≡ before ++ serial_counts ((turn.setting).claim).now o h (moved_original turn) (moved_export turn) ((turn.setting).labels).now (turn.from).ps (e ∷ parts)
+counted_last turn last o h e parts before behind is none here =
+    let claim = ((turn.setting).claim).now in
+    let a = moved_original turn in
+    let b = moved_export turn in
+    let labels = ((turn.setting).labels).now in
+    let t = (turn.from).ps in
+    let F : Bool → Type 0 = λ l. behind ≡ before ++ (span_counts l claim (sampled o h a) (sampled e (head_of e) b) (places_in h (head_of e) labels) t (last_end_by e (head_of e) b) ∷ []) in
+    let P : List (List ℕ) → Type 0 = λ all. behind ≡ before ++ serial_counts claim o h a b labels t (e ∷ all) in
+    subst P (sym none) (subst F is here)
+
+-- of a part, and of those behind it
+pub counted_more : (turn : Turn) (last : Bool) (o : List ℕ) (h k : Head) (e : List ℕ) (parts more : List (List ℕ)) (end : Time) (before mid behind : List (List Tally)) → last ≡ false → is_last more ≡ false → k ≡ h
+    → end.ps ≡ last_end_by e (head_of e) (moved_export turn) → parts ≡ more
+    → mid ≡ before ++ (span_counts last ((turn.setting).claim).now (sampled o h (moved_original turn)) (sampled e (head_of e) (moved_export turn)) (places_in h (head_of e) ((turn.setting).labels).now) (turn.from).ps (last_end_by e (head_of e) (moved_export turn)) ∷ [])
+    → behind ≡ mid ++ serial_counts ((turn.setting).claim).now o k (moved_original turn) (moved_export turn) ((turn.setting).labels).now end.ps more
+    → behind ≡ before ++ serial_counts ((turn.setting).claim).now o h (moved_original turn) (moved_export turn) ((turn.setting).labels).now (turn.from).ps (e ∷ parts)
+counted_more turn last o h k e parts more end before mid behind is some head ends same here rest =
+    let claim = ((turn.setting).claim).now in
+    let a = moved_original turn in
+    let b = moved_export turn in
+    let labels = ((turn.setting).labels).now in
+    let t = (turn.from).ps in
+    let v = last_end_by e (head_of e) b in
+    let first : Bool → List Tally = λ l. span_counts l claim (sampled o h a) (sampled e (head_of e) b) (places_in h (head_of e) labels) t v in
+    let P : List (List ℕ) → Type 0 = λ all. behind ≡ before ++ serial_counts claim o h a b labels t (e ∷ all) in
+    subst P (sym same)
+    (rest
+    ∙ ap (λ x. mid ++ serial_counts claim o x a b labels end.ps more) head
+    ∙ ap (λ x. mid ++ serial_counts claim o h a b labels x more) ends
+    ∙ ap (λ ts. ts ++ serial_counts claim o h a b labels v more) here
+    ∙ append_assoc before (first last ∷ []) (serial_counts claim o h a b labels v more)
+    ∙ ap (λ l. before ++ (first l ∷ serial_counts claim o h a b labels v more)) (is ∙ sym some))

@@ -8,6 +8,7 @@ use Rattle.edf_header.specs.HeadsReading.{head_of}
 use Rattle.edf_heads.specs.Comparisons.{AreSorted}
 use Rattle.edf_heads.specs.HeadVerdicts.{HeadsAgree}
 use Rattle.edf_stream.specs.Conforming.{Conforms}
+use Rattle.edf_fields.specs.declared.faults.fault.Fault.{Fault}
 use Rattle.edf_stream.specs.Faults.{body_fault, file_fault}
 use Rattle.edf_stream.specs.annotation.Notes.{NoteValue}
 use Rattle.edf_stream.specs.annotation.NotesReading.{notes_of}
@@ -36,12 +37,16 @@ use Rattle.edf_check.specs.parts.PartsFirst.{IsFirstHead}
 use Rattle.edf_check.specs.parts.Parts.{AllConform, ExportedByOne, FollowOneAnother, exported_by_all, first_begin, last_end}
 use Rattle.edf_check.specs.parts.PartsFound.{AllAgree, AllConformAt, AreOrdered, IsEarlyFound, IsFirstEarly, IsHeadsFound, end_before_part}
 use Rattle.edf_check.specs.parts.PartsVerdicts.{AllAgreed, AllInOrder, HeadDiffers, IsFirstOverlap, IsPartsVerdict, IsVerdictOnParts, samples_of_all}
+use Rattle.edf_pace.specs.declared.samples.tally.Tally.{Tally}
+use Rattle.edf_check.specs.parts.Counted.{AreCounted, serial_counts}
 use Rattle.edf_pace.specs.walk.Gathered.{gathered_of}
 use Rattle.edf_pace.specs.walk.Readings.{IsSetting}
 use Rattle.edf_pace.specs.walk.Ends.{moved_export, moved_original}
 use Rattle.edf_check.specs.parts.Together.{AreRead, HaveFault, gathered_of_all, serial_difference, AreFoundIn, AreJudged, IsFirstOfAll, IsLeftBy}
 use Rattle.edf_pace.specs.walk.Shown.{begin_by, last_end_by}
+use Rattle.edf_check.proofs.parts.FoundFacts.{faultless_part}
 use Rattle.edf_check.proofs.parts.SeriesFacts.{IsFirst, parts_first, moved_part}
+use Rattle.edf_fields.proofs.ForCallers.{has-at}
 
 -- ---- parts by their places and by their bytes
 
@@ -96,7 +101,7 @@ there-before (x ∷ parts) zero next e = (x, refl)
 there-before (x ∷ parts) (suc j) next e = there-before parts j next e
 
 -- no part begins before all times
-from-beginning : (part : List ℕ) (by : ℤ) → Conforms part (head_of part) → unsigned_abs by < 2 ^ 80 → neg_ℤ (pos (2 ^ 90)) ≤ℤ begin_by part (head_of part) by 0
+pub from-beginning : (part : List ℕ) (by : ℤ) → Conforms part (head_of part) → unsigned_abs by < 2 ^ 80 → neg_ℤ (pos (2 ^ 90)) ≤ℤ begin_by part (head_of part) by 0
 from-beginning part by c near =
     let day = ((sound-of part (head_of part) c).bounds).near in
     let late = starts_late part (head_of part) c in
@@ -140,7 +145,7 @@ gathered-is o claim [] = refl
 gathered-is o claim (part ∷ parts) = ap (λ ns. gathered_of None (moved_part o claim) (notes_of part (head_of part)) ++ ns) (gathered-is o claim parts)
 
 -- before the original begins
-before-all : (o : List ℕ) (t : ℤ) → Conforms o (head_of o) → t ≡ neg_ℤ (pos (2 ^ 90)) → t ≤ℤ begin_by o (head_of o) (neg_ℤ (origin_of o)) 0
+pub before-all : (o : List ℕ) (t : ℤ) → Conforms o (head_of o) → t ≡ neg_ℤ (pos (2 ^ 90)) → t ≤ℤ begin_by o (head_of o) (neg_ℤ (origin_of o)) 0
 before-all o t c is = let late = starts_late o (head_of o) c in omega (arith, ints, is, late)
 
 -- parts of which no header differs and none begins early
@@ -262,3 +267,57 @@ of_head o parts claim part (No differences.PartOrder) h = absurd (h.1).differs
 of_head o parts claim part (No (differences.Sample label at_ps mismatch)) h = absurd (h.1).differs
 of_head o parts claim part (No (differences.Annotation mismatch onset duration text)) h = absurd (h.1).differs
 of_head o parts claim part v h = h
+
+-- ---- what was counted
+
+-- of parts that follow one another none begins early
+not-early : (by t : ℤ) (first : ℕ) (parts : List (List ℕ)) (found : Option ℕ) → t ≡ neg_ℤ (pos (2 ^ 90)) → unsigned_abs by < 2 ^ 80 → first ≡ 0 → AllConformAt parts → FollowOneAnother parts → IsEarlyFound by t first parts found → found ≡ None
+not-early by t first parts None is near zero' cs follow e = refl
+not-early by t first parts (Some part) is near zero' cs follow e =
+    let N : ℕ → Type 0 = λ k. IsFirstEarly by t k parts part in
+    let early = subst N zero' e in
+    let at = overlap by t parts part is near cs early early.at refl in
+    let before = at.early in
+    let order = follow at.before at.one at.next at.one_is at.next_is in
+    absurd (omega (arith, ints, before, order))
+
+pub counted_together : (turn : Turn) (o : List ℕ) (h k : Head) (left : List ℕ) (notes : List NoteValue) (parts lefts : List (List ℕ)) (before behind : Exported) (found : PartsFound) (held now : List (List Tally)) → AreRead turn o h left notes parts lefts before behind found
+    → (turn.from).ps ≡ neg_ℤ (pos (2 ^ 90)) → turn.part ≡ 0 → h ≡ head_of o → k ≡ head_of o → IsSetting k turn.setting → FollowOneAnother parts
+    → (found.early ≡ None → Conforms o h → now ≡ held ++ serial_counts ((turn.setting).claim).now o h (moved_original turn) (moved_export turn) ((turn.setting).labels).now (turn.from).ps parts)
+    → AreCounted o parts ((turn.setting).claim).now held now
+counted_together turn o h k left notes parts lefts before behind found held now r is zero' head head' setting follow counted =
+    let claim = ((turn.setting).claim).now in
+    let labels = ((turn.setting).labels).now in
+    let clock = setting.clock in
+    let early = not-early (moved_export turn) (turn.from).ps turn.part parts found.early is (((turn.setting).clock).export).near zero' r.conform follow r.early_is in
+    let a : moved_original turn ≡ neg_ℤ (origin_of o) = clock.original ∙ ap (λ x. neg_ℤ (file_start x)) head' in
+    let b : moved_export turn ≡ neg_ℤ (origin_of o +ℤ shift_ps claim) = clock.export ∙ ap (λ x. neg_ℤ (file_start x +ℤ shift_ps claim)) head' in
+    record {
+      labels = labels;
+      sorted = setting.sorted;
+      are = counted early (r.through).conforms
+          ∙ ap (λ x. held ++ serial_counts claim o x (moved_original turn) (moved_export turn) labels (turn.from).ps parts) head
+          ∙ ap (λ x. held ++ serial_counts claim o (head_of o) x (moved_export turn) labels (turn.from).ps parts) a
+          ∙ ap (λ x. held ++ serial_counts claim o (head_of o) (neg_ℤ (origin_of o)) x labels (turn.from).ps parts) b
+          ∙ ap (λ x. held ++ serial_counts claim o (head_of o) (neg_ℤ (origin_of o)) (neg_ℤ (origin_of o +ℤ shift_ps claim)) labels x parts) is;
+    }
+
+no-fault : (file : List ℕ) (fault : Fault) → file_fault file ≡ Some fault → file_fault file ≡ None → ⊥
+no-fault file fault some none = let z : Some fault ≡ None = sym some ∙ none in cc
+
+-- files that conform have no fault
+pub none_faulty : (o : List ℕ) (parts : List (List ℕ)) (w : FaultOf) → AllConform o parts → IsFirstOfAll o parts w → ⊥
+none_faulty o parts (faults.Original fault) all is = no-fault o fault is (faultless_part o all.original_conforms)
+none_faulty o parts (faults.Part part fault) all is =
+    let f = is.1 in
+    no-fault f.file fault f.fault_is (faultless_part f.file (all.parts_conform f.file (has-at parts f.at f.file (f.is).there)))
+
+-- one export conforms and follows no other
+pub one_conforms : (o e : List ℕ) → Conforms o (head_of o) → Conforms e (head_of e) → AllConform o (e ∷ [])
+one_conforms o e co ce = record {
+  original_conforms = co;
+  parts_conform = λ part i. (let P : List ℕ → Type 0 = λ f. Conforms f (head_of f) in elim i [ | inl same ↦ subst P same ce | inr none ↦ absurd none ]);
+}
+
+pub one_follows : (e : List ℕ) → FollowOneAnother (e ∷ [])
+one_follows e j part next there behind = absurd (let z : None ≡ Some next = subst (λ k. slice_get (e ∷ []) k ≡ Some next) (plus-one j) behind in cc)

@@ -6,6 +6,7 @@ ghost use Rattle.edf_pace.specs.PartsStops.{StopsOfTwo};
 ghost use Rattle.edf_check.specs.parts.PartsVerdicts.{samples_in};
 ghost use Rattle.edf_pace.specs.Premises.{IfFaulty, IfRead};
 ghost use Rattle.edf_check.specs.parts.Ends.{FaultyOver, IsReady, PartFaultBy, PartFaulty, PartMatched, PartPassed, PartReadBy, PartStays, PartThrough, PassedOver, PassesBehind, PassesPart, Stays, ThroughOver, TurnEnded, TurnMatched, TurnThrough};
+ghost use Rattle.edf_check.specs.parts.Counted.{PartCounted, PartCountedBy, StaysBeside, TurnCounted};
 ghost use Rattle.edf_pace.specs.walk.Ends.{FaultyOn, IsFoundAmong};
 ghost use Rattle.edf_pace.specs.walk.Readings.{HasGoneOn};
 ghost use Rattle.edf_pace.specs.walk.Shown.{IfAtHand, IsAhead, IsGoing, StandsAt, begins_at};
@@ -90,46 +91,54 @@ fn compare_on<O: Source, E: Source, L: Onlooker>(
     o: &mut O,
     export: &mut Reading,
     e: &mut E,
-    shown: Shown<'_, '_, L>,
+    shown: &mut Shown<'_, '_, L>,
 ) -> Result<Result<Course, FaultOf>, PartsStop>
-    requires compared { (shown.turn).is_compared ≡ true }
-    requires original { StandsAt original.old.reader (((shown.turn).setting).clock.original).ps
-        ((shown.turn).from).ps }
-    requires export { StandsAt export.old.reader (((shown.turn).setting).clock.export).ps
-        ((shown.turn).from).ps }
+    requires compared { shown.old.turn.is_compared ≡ true }
+    requires original { StandsAt original.old.reader ((shown.old.turn.setting).clock.original).ps
+        (shown.old.turn.from).ps }
+    requires export { StandsAt export.old.reader ((shown.old.turn.setting).clock.export).ps
+        (shown.old.turn.from).ps }
     requires at_hand { is_current (export.old.reader).status ≡ true }
     ensures modest { IfRead result (λ c.
-        IfSome c.found (IsFoundAmong (length (((shown.entry.turn).setting).labels).now))) }
+        IfSome c.found (IsFoundAmong (length ((shown.old.turn.setting).labels).now))) }
     ensures head { IfRead result (λ c. (export.new.reader).head ≡ (export.old.reader).head) }
     ensures later { IfRead result (λ c. c.is_early ≡ false) }
     ensures passes { IfRead result (PassesBehind O.Source original.old o.old original.new o.new
-        (shown.entry.turn)) }
-    ensures stays { IfRead result (Stays (shown.entry.turn)) }
+        shown.old.turn) }
+    ensures stays { IfRead result (Stays shown.old.turn) }
     ensures through { IfRead result (TurnThrough O.Source E.Source original.old o.old o.new export.old e.old
-        (shown.entry.turn)) }
+        shown.old.turn) }
     ensures ended { IfRead result (TurnEnded O.Source E.Source original.old o.old export.old e.old e.new
-        (shown.entry.turn)) }
+        shown.old.turn) }
     ensures matched { IfRead result (TurnMatched O.Source E.Source original.old o.old original.new export.old
-        e.old export.new (shown.entry.turn)) }
+        e.old export.new shown.old.turn) }
+    ensures lender { shown.new.onlooker.ghost_name ≡ shown.old.onlooker.ghost_name }
+    ensures looks { L.looks shown.new.onlooker.now ≡ L.looks shown.old.onlooker.now }
+    ensures before { L.counted shown.new.onlooker.now ≡ L.counted shown.old.onlooker.now }
+    ensures beside { IfRead result (StaysBeside (L.looks shown.old.onlooker.now) shown.old.turn) }
+    ensures counted { IfRead result (λ c. TurnCounted O.Source E.Source original.old o.old export.old e.old
+        shown.old.turn (L.looks shown.old.onlooker.now) (L.tallies shown.new.onlooker.now)) }
     ensures fault { IfFaulty result (FaultyOn O.Source E.Source original.old o.old o.new export.old e.old
-        (shown.entry.turn)) }
+        shown.old.turn) }
     ensures failures { OnOk result ((O.reads o.new ≡ O.reads o.old) × (E.reads e.new ≡ E.reads e.old)) }
-    ensures stop { IfErr result (StopsOfTwo O.Source o.old o.new E.Source (shown.entry.turn).part e.old
+    ensures stop { IfErr result (StopsOfTwo O.Source o.old o.new E.Source shown.old.turn.part e.old
         e.new) }
 {
-    let Shown { turn, onlooker } = shown;
+    let turn = shown.turn;
     let (here, there) = (original.reader.header(), export.reader.header());
     let pairs = pairs_of(turn.setting.alloc, here, there, turn.setting.labels)?;
     let room = common_room(here, there, &pairs);
+    let frame = Frame {
+        turn,
+        pairs: &pairs,
+        room,
+    };
+    shown.onlooker.begin(frame)?;
     let mut watch = Watch {
-        frame: Frame {
-            turn,
-            pairs: &pairs,
-            room,
-        },
+        frame,
         watcher: FirstFound {
             found: None,
-            onlooker,
+            onlooker: &mut *shown.onlooker,
         },
     };
     let read = match walk_on(original, o, export, e, &mut watch) {
@@ -168,28 +177,34 @@ fn compare<O: Source, E: Source, L: Onlooker>(
     o: &mut O,
     export: &mut Reading,
     e: &mut E,
-    shown: Shown<'_, '_, L>,
+    shown: &mut Shown<'_, '_, L>,
 ) -> Result<Result<Course, FaultOf>, PartsStop>
-    requires compared { (shown.turn).is_compared ≡ true }
-    requires original { StandsAt original.old.reader (((shown.turn).setting).clock.original).ps
-        ((shown.turn).from).ps }
+    requires compared { shown.old.turn.is_compared ≡ true }
+    requires original { StandsAt original.old.reader ((shown.old.turn.setting).clock.original).ps
+        (shown.old.turn.from).ps }
     requires export { HasBegun export.old.reader × ((export.old.notes).items ≡ []) }
     ensures modest { IfRead result (λ c.
-        IfSome c.found (IsFoundAmong (length (((shown.entry.turn).setting).labels).now))) }
+        IfSome c.found (IsFoundAmong (length ((shown.old.turn.setting).labels).now))) }
     ensures head { IfRead result (λ c. (export.new.reader).head ≡ (export.old.reader).head) }
     ensures passes { IfRead result (PassesBehind O.Source original.old o.old original.new o.new
-        (shown.entry.turn)) }
-    ensures stays { IfRead result (Stays (shown.entry.turn)) }
+        shown.old.turn) }
+    ensures stays { IfRead result (Stays shown.old.turn) }
     ensures through { IfRead result (PartThrough O.Source E.Source original.old o.old o.new export.old e.old
-        (shown.entry.turn)) }
+        shown.old.turn) }
     ensures passed { IfRead result (PartPassed O.Source E.Source original.old o.old export.old e.old e.new
-        (shown.entry.turn)) }
+        shown.old.turn) }
     ensures matched { IfRead result (PartMatched O.Source E.Source original.old o.old original.new export.old
-        e.old export.new (shown.entry.turn)) }
+        e.old export.new shown.old.turn) }
+    ensures lender { shown.new.onlooker.ghost_name ≡ shown.old.onlooker.ghost_name }
+    ensures looks { L.looks shown.new.onlooker.now ≡ L.looks shown.old.onlooker.now }
+    ensures before { L.counted shown.new.onlooker.now ≡ L.counted shown.old.onlooker.now }
+    ensures beside { IfRead result (StaysBeside (L.looks shown.old.onlooker.now) shown.old.turn) }
+    ensures counted { IfRead result (PartCounted O.Source E.Source original.old o.old export.old e.old
+        shown.old.turn (L.looks shown.old.onlooker.now) (L.tallies shown.new.onlooker.now)) }
     ensures fault { IfFaulty result (PartFaulty O.Source E.Source original.old o.old o.new export.old e.old
-        (shown.entry.turn)) }
+        shown.old.turn) }
     ensures failures { OnOk result ((O.reads o.new ≡ O.reads o.old) × (E.reads e.new ≡ E.reads e.old)) }
-    ensures stop { IfErr result (StopsOfTwo O.Source o.old o.new E.Source (shown.entry.turn).part e.old
+    ensures stop { IfErr result (StopsOfTwo O.Source o.old o.new E.Source shown.old.turn.part e.old
         e.new) }
 {
     let turn = shown.turn;
@@ -283,26 +298,32 @@ fn read_course<O: Source, E: Source, L: Onlooker>(
     o: &mut O,
     export: &mut Reading,
     e: &mut E,
-    shown: Shown<'_, '_, L>,
+    shown: &mut Shown<'_, '_, L>,
 ) -> Result<Result<Course, FaultOf>, PartsStop>
-    requires original { IsReady shown.turn original.old.reader }
+    requires original { IsReady shown.old.turn original.old.reader }
     requires export { HasBegun export.old.reader × ((export.old.notes).items ≡ []) }
     ensures modest { IfRead result (λ c.
-        IfSome c.found (IsFoundAmong (length (((shown.entry.turn).setting).labels).now))) }
+        IfSome c.found (IsFoundAmong (length ((shown.old.turn.setting).labels).now))) }
     ensures head { IfRead result (λ c. (export.new.reader).head ≡ (export.old.reader).head) }
     ensures passes { IfRead result (PassesBehind O.Source original.old o.old original.new o.new
-        (shown.entry.turn)) }
-    ensures stays { IfRead result (Stays (shown.entry.turn)) }
+        shown.old.turn) }
+    ensures stays { IfRead result (Stays shown.old.turn) }
     ensures through { IfRead result (PartThrough O.Source E.Source original.old o.old o.new export.old e.old
-        (shown.entry.turn)) }
+        shown.old.turn) }
     ensures passed { IfRead result (PartPassed O.Source E.Source original.old o.old export.old e.old e.new
-        (shown.entry.turn)) }
+        shown.old.turn) }
     ensures matched { IfRead result (PartMatched O.Source E.Source original.old o.old original.new export.old
-        e.old export.new (shown.entry.turn)) }
+        e.old export.new shown.old.turn) }
+    ensures lender { shown.new.onlooker.ghost_name ≡ shown.old.onlooker.ghost_name }
+    ensures looks { L.looks shown.new.onlooker.now ≡ L.looks shown.old.onlooker.now }
+    ensures before { L.counted shown.new.onlooker.now ≡ L.counted shown.old.onlooker.now }
+    ensures beside { IfRead result (StaysBeside (L.looks shown.old.onlooker.now) shown.old.turn) }
+    ensures counted { IfRead result (PartCounted O.Source E.Source original.old o.old export.old e.old
+        shown.old.turn (L.looks shown.old.onlooker.now) (L.tallies shown.new.onlooker.now)) }
     ensures fault { IfFaulty result (PartFaulty O.Source E.Source original.old o.old o.new export.old e.old
-        (shown.entry.turn)) }
+        shown.old.turn) }
     ensures failures { OnOk result ((O.reads o.new ≡ O.reads o.old) × (E.reads e.new ≡ E.reads e.old)) }
-    ensures stop { IfErr result (StopsOfTwo O.Source o.old o.new E.Source (shown.entry.turn).part e.old
+    ensures stop { IfErr result (StopsOfTwo O.Source o.old o.new E.Source shown.old.turn.part e.old
         e.new) }
 {
     if shown.turn.is_compared {
@@ -336,6 +357,10 @@ pub(crate) fn read_part<O: Source, E: Source, L: Onlooker>(
     ensures few { IfRead result (λ p. p.samples ≤ 2 ^ 50) }
     ensures passes { IfRead result (PassesPart O.Source original.old o.old original.new o.new turn.entry) }
     ensures stays { IfRead result (PartStays turn.entry) }
+    ensures looks { L.looks onlooker.new ≡ L.looks onlooker.old }
+    ensures beside { IfRead result (λ p. StaysBeside (L.looks onlooker.old) turn.entry p.course) }
+    ensures counted { IfRead result (PartCountedBy O.Source E.Source turn.entry original.old o.old e.old
+        (L.looks onlooker.old) (L.counted onlooker.old) (L.counted onlooker.new)) }
     ensures read { IfRead result (PartReadBy O.Source E.Source turn.entry original.old o.old original.new
         o.new e.old e.new) }
     ensures fault { IfFaulty result
@@ -360,14 +385,14 @@ pub(crate) fn read_part<O: Source, E: Source, L: Onlooker>(
         is_compared: is_compared(turn, &heads, onlooker.looks()),
         ..turn
     };
-    let shown = Shown {
+    let mut shown = Shown {
         turn,
         onlooker: &mut *onlooker,
     };
-    match read_course(original, o, &mut export, e, shown) {
+    match read_course(original, o, &mut export, e, &mut shown) {
         Ok(Ok(course)) => {
             let samples = samples_of(&export);
-            onlooker.take_export(export.reader);
+            onlooker.take_export(export.reader)?;
             Ok(Ok(PartRead {
                 heads,
                 course,

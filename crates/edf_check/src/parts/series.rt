@@ -4,6 +4,7 @@ ghost use Rattle.std.specs.Prelude.{◌≡◌, ◌+◌, ◌*◌, ◌<◌, ◌≤
 ghost use Rattle.edf_stream.specs.Views.{note_value};
 ghost use Rattle.edf_pace.specs.PartsStops.{NoneFailed, StopsOfAll};
 ghost use Rattle.edf_pace.specs.Premises.{IfFaulty, IfRead};
+ghost use Rattle.edf_check.specs.parts.Counted.{AreCountedBehind};
 ghost use Rattle.edf_check.specs.parts.Ends.{IsReady};
 ghost use Rattle.edf_pace.specs.walk.Ends.{IsFoundAmong};
 ghost use Rattle.edf_check.specs.parts.Together.{SeriesFault, SeriesRead, held_notes};
@@ -83,28 +84,32 @@ pub(crate) fn read_parts<O: Source, E: Source, L: Onlooker>(
     o: &mut O,
     part: &mut E,
     others: &mut [E],
-    shown: Shown<'_, '_, L>,
+    shown: &mut Shown<'_, '_, L>,
 ) -> Result<Result<PartsFound, FaultOf>, PartsStop>
-    requires original { IsReady shown.turn (so_far.old.original).reader }
-    requires few { (shown.turn).part + length others.old < 64 }
-    requires held { (so_far.old.exported).samples ≤ (shown.turn).part * 2 ^ 50 }
+    requires original { IsReady shown.old.turn (so_far.old.original).reader }
+    requires few { shown.old.turn.part + length others.old < 64 }
+    requires held { (so_far.old.exported).samples ≤ shown.old.turn.part * 2 ^ 50 }
     ensures modest { IfRead result (λ f.
-        IfSome f.found (IsFoundAmong (length (((shown.entry.turn).setting).labels).now))) }
-    ensures read { IfRead result (SeriesRead O.Source E.Source (shown.entry.turn) so_far.old so_far.new o.old
+        IfSome f.found (IsFoundAmong (length ((shown.old.turn.setting).labels).now))) }
+    ensures read { IfRead result (SeriesRead O.Source E.Source shown.old.turn so_far.old so_far.new o.old
         o.new part.old part.new others.old others.new) }
-    ensures fault { IfFaulty result (SeriesFault O.Source E.Source (shown.entry.turn) so_far.old o.old o.new
+    ensures lender { shown.new.onlooker.ghost_name ≡ shown.old.onlooker.ghost_name }
+    ensures looks { L.looks shown.new.onlooker.now ≡ L.looks shown.old.onlooker.now }
+    ensures counted { IfRead result (AreCountedBehind O.Source E.Source shown.old.turn so_far.old.original o.old
+        (part.old ∷ others.old) (L.looks shown.old.onlooker.now) (L.counted shown.old.onlooker.now)
+        (L.counted shown.new.onlooker.now)) }
+    ensures fault { IfFaulty result (SeriesFault O.Source E.Source shown.old.turn so_far.old o.old o.new
         part.old others.old) }
     ensures failures { OnOk result (NoneFailed O.Source o.old o.new E.Source part.old part.new others.old
         others.new) }
-    ensures stop { IfErr result (StopsOfAll O.Source o.old o.new E.Source (shown.entry.turn).part
+    ensures stop { IfErr result (StopsOfAll O.Source o.old o.new E.Source shown.old.turn.part
         (part.old ∷ others.old) (part.new ∷ others.new)) }
 {
-    let Shown { turn, onlooker } = shown;
     let turn = Turn {
         is_last: are_none(others),
-        ..turn
+        ..shown.turn
     };
-    let read = match read_part(&mut so_far.original, o, part, turn, &mut *onlooker) {
+    let read = match read_part(&mut so_far.original, o, part, turn, &mut *shown.onlooker) {
         Ok(Ok(read)) => read,
         Ok(Err(fault)) => return Ok(Err(fault)),
         Err(stop) => return Err(stop),
@@ -125,11 +130,11 @@ pub(crate) fn read_parts<O: Source, E: Source, L: Onlooker>(
                 is_compared: course.is_beside,
                 ..turn
             };
-            let next_shown = Shown {
+            let mut next_shown = Shown {
                 turn: next_turn,
-                onlooker: &mut *onlooker,
+                onlooker: &mut *shown.onlooker,
             };
-            match read_parts(so_far, o, next, behind, next_shown) {
+            match read_parts(so_far, o, next, behind, &mut next_shown) {
                 Ok(Ok(rest)) => return Ok(Ok(found_with(turn.part, heads, course, rest))),
                 Ok(Err(fault)) => return Ok(Err(fault)),
                 Err(stop) => return Err(stop),

@@ -7,6 +7,7 @@ ghost use Rattle.edf_pace.specs.PartsStops.{NoneFailed, StopsOfAll};
 ghost use Rattle.edf_pace.specs.Premises.{IfFaulty, IfRead};
 ghost use Rattle.edf_pace.specs.walk.Readings.{IsSetting};
 ghost use Rattle.edf_pace.specs.walk.Ends.{IsFoundAmong};
+ghost use Rattle.edf_check.specs.parts.Counted.{SeriesCounted};
 ghost use Rattle.edf_check.specs.parts.Together.{FollowsFrom, IsFindingOf, IsFirstFrom, SeriesGone, SeriesJudged};
 
 use crate::finding::Finding;
@@ -39,18 +40,23 @@ pub(crate) fn walk_parts<O: Source, E: Source, L: Onlooker>(
     o: &mut O,
     part: &mut E,
     others: &mut [E],
-    stage: Stage<'_, '_, L>,
+    stage: &mut Stage<'_, '_, L>,
 ) -> Result<Result<PartsFound, FaultOf>, PartsStop>
     requires original { HasBegun (so_far.old.original).reader × ((so_far.old.original).notes.items ≡ []) }
     requires few { length others.old < 64 }
     requires none { ((so_far.old.exported).samples ≡ 0) × ((so_far.old.exported).notes.items ≡ []) }
-    requires setting { IsSetting ((so_far.old.original).reader).head stage.setting }
+    requires setting { IsSetting ((so_far.old.original).reader).head stage.old.setting }
     ensures modest { IfRead result (λ f.
-        IfSome f.found (IsFoundAmong (length ((stage.entry.setting).labels).now))) }
-    ensures judged { IfRead result (SeriesJudged O.Source E.Source (stage.entry.setting) so_far.old so_far.new
+        IfSome f.found (IsFoundAmong (length (stage.old.setting.labels).now))) }
+    ensures judged { IfRead result (SeriesJudged O.Source E.Source stage.old.setting so_far.old so_far.new
         o.old part.old others.old) }
     ensures gone { IfRead result (SeriesGone O.Source E.Source so_far.old o.old o.new part.old part.new
         others.old others.new) }
+    ensures lender { stage.new.onlooker.ghost_name ≡ stage.old.onlooker.ghost_name }
+    ensures looks { L.looks stage.new.onlooker.now ≡ L.looks stage.old.onlooker.now }
+    ensures counted { IfRead result (λ f. SeriesCounted O.Source E.Source stage.old.setting so_far.old o.old
+        (part.old ∷ others.old) (L.looks stage.old.onlooker.now) (L.counted stage.old.onlooker.now)
+        (L.counted stage.new.onlooker.now)) }
     ensures fault { IfFaulty result (IsFirstFrom O.Source E.Source so_far.old.original o.old o.new
         (part.old ∷ others.old)) }
     ensures failures { OnOk result (NoneFailed O.Source o.old o.new E.Source part.old part.new others.old
@@ -58,7 +64,7 @@ pub(crate) fn walk_parts<O: Source, E: Source, L: Onlooker>(
     ensures stop { IfErr result (StopsOfAll O.Source o.old o.new E.Source 0 (part.old ∷ others.old)
         (part.new ∷ others.new)) }
 {
-    let Stage { setting, onlooker } = stage;
+    let setting = stage.setting;
     let view = View {
         alloc: setting.alloc,
         moved: setting.clock.original,
@@ -76,11 +82,11 @@ pub(crate) fn walk_parts<O: Source, E: Source, L: Onlooker>(
         is_last: others.is_empty(),
         is_compared: true,
     };
-    let shown = Shown {
+    let mut shown = Shown {
         turn,
-        onlooker: &mut *onlooker,
+        onlooker: &mut *stage.onlooker,
     };
-    match read_parts(so_far, o, part, others, shown) {
+    match read_parts(so_far, o, part, others, &mut shown) {
         Ok(Ok(found)) => return Ok(Ok(found)),
         Ok(Err(fault)) => return Ok(Err(fault)),
         Err(stop) => return Err(stop),

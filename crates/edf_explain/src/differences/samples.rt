@@ -3,7 +3,7 @@
 use crate::differences::clocks::Clocks;
 use crate::words::samples as words;
 use edf_fields::SignalLabel;
-use edf_findings::{ComparedChannel, SampleKinds, Spot, Tally};
+use edf_findings::{ComparedChannel, SampleKinds, Samples, Spot};
 use edf_sentences::{FULL_STOP, Piece, Text};
 use std::alloc::AllocError;
 
@@ -18,10 +18,10 @@ fn add_record(text: &mut Text, words: &str, record: Option<u64>) -> Result<(), A
 /// Says where a sample stands, and its values.
 fn say_spot(text: &mut Text, words: &str, spot: Spot, clocks: Clocks) -> Result<(), AllocError> {
     text.add(words, &[])?;
-    clocks.add(text, spot.at_ps)?;
+    clocks.add(text, spot.at_ps())?;
     add_record(text, words::RECORD_OF_ORIGINAL, spot.original_record)?;
     add_record(text, words::RECORD_OF_EXPORT, spot.export_record)?;
-    if let Some((original, export)) = spot.values {
+    if let Some((original, export)) = spot.values() {
         let pieces = [
             Piece::Number(i128::from(original)),
             Piece::Number(i128::from(export)),
@@ -36,17 +36,16 @@ fn say_spot(text: &mut Text, words: &str, spot: Spot, clocks: Clocks) -> Result<
 struct Counted {
     one: &'static str,
     more: &'static str,
-    tally: Tally,
-    ends: Option<(Spot, Spot)>,
+    samples: Samples,
 }
 
 impl Counted {
     /// Says how many samples of a channel were found, and the first and the last of them.
     fn say(self, text: &mut Text, label: &[u8], clocks: Clocks) -> Result<(), AllocError> {
-        let Some((first, last)) = self.ends else {
+        let Some((first, last)) = self.samples.ends else {
             return Ok(());
         };
-        let count = i128::from(self.tally.count);
+        let count = i128::from(self.samples.count);
         let pieces = [Piece::Quoted(label), Piece::Number(count)];
         if count == 1 {
             text.say(self.one, &pieces)?;
@@ -72,20 +71,17 @@ fn say_channel(
         Counted {
             one: words::SAMPLE_MISSING,
             more: words::SAMPLES_MISSING,
-            tally: channel.missing,
-            ends: channel.ends_of(&channel.missing),
+            samples: channel.missing,
         },
         Counted {
             one: words::SAMPLE_EXTRA,
             more: words::SAMPLES_EXTRA,
-            tally: channel.extra,
-            ends: channel.ends_of(&channel.extra),
+            samples: channel.extra,
         },
         Counted {
             one: words::SAMPLE_CHANGED,
             more: words::SAMPLES_CHANGED,
-            tally: channel.changed,
-            ends: channel.ends_of(&channel.changed),
+            samples: channel.changed,
         },
     ];
     for counted in &kinds {

@@ -1,203 +1,135 @@
-//! A channel that both files have, and what was found of its samples.
+//! A channel that both files have, and which of its samples aren't as claimed.
 
-ghost use Rattle.std.specs.Prelude.{◌≡◌};
-ghost use Rattle.edf_findings.specs.Compared.{IsCompared, lane_at_hand};
+ghost use Rattle.std.specs.Prelude.{◌≡◌, IfSome, slice_get};
+ghost use Rattle.edf_findings.specs.Told.{AreThose, IsTold};
 
-use crate::samples::lane::Lanes;
-use crate::samples::mismatch::{BothLanes, Mismatch};
-use crate::samples::places::{behind, between, doubled};
-use crate::samples::sample_run::{BothRuns, places_of};
-use crate::samples::side_by_side::{Strides, side_by_side};
-use crate::samples::strided::numbers_at_half;
-use crate::samples::tally::{Durations, Hands, Measures, Spot, Stands, Tally};
+use crate::record_time::Hands;
+use crate::samples::channel::{ChannelSoFar, FoundIn};
+use edf_header::Header;
+use edf_pace::{Counted, PointDifference, Tally};
+use edf_verdict::SampleMismatch;
+
+/// A sample that isn't as claimed.
+#[derive(Clone, Copy)]
+pub struct Spot {
+    /// How it differs, and when it was taken, after the second at which the original starts.
+    pub difference: PointDifference,
+    /// The data record of the original in which this time lies.
+    pub original_record: Option<u64>,
+    /// The data record of the export in which this time lies.
+    pub export_record: Option<u64>,
+}
+
+/// The time of a difference in picoseconds after the second at which the original starts, rounded down.
+fn floor(difference: PointDifference) -> i128 {
+    let instant = difference.at;
+    instant
+        .num
+        .checked_div_euclid(i128::from(instant.den))
+        .unwrap_or(0)
+}
+
+impl Spot {
+    /// That of a difference, found in the data records at hand of files with these headers.
+    fn of(difference: PointDifference, hands: Hands, headers: (&Header, &Header)) -> Spot
+        ensures { result.difference ≡ difference }
+    {
+        let at_ps = floor(difference);
+        let (original, export) = headers;
+        Spot {
+            difference,
+            original_record: hands.original.record_at(original.duration_ps(), at_ps),
+            export_record: hands.export.record_at(export.duration_ps(), at_ps),
+        }
+    }
+
+    /// When it was taken, in picoseconds after the second at which the original starts, rounded down.
+    pub fn at_ps(self) -> i128 {
+        floor(self.difference)
+    }
+
+    /// The values of the original and the export, where both have one.
+    pub fn values(self) -> Option<(i16, i16)> {
+        match self.difference.mismatch {
+            SampleMismatch::Value(kept, exported) => Some((kept, exported)),
+            SampleMismatch::Missing | SampleMismatch::Extra => None,
+        }
+    }
+}
+
+/// Samples of one kind: how many, the first and the last.
+#[derive(Clone, Copy)]
+pub struct Samples {
+    pub count: u64,
+    pub ends: Option<(Spot, Spot)>,
+}
+
+impl Samples {
+    /// Those that were counted, of which the first and the last were found in these data records.
+    fn of(counted: Counted, found: FoundIn, headers: (&Header, &Header)) -> Samples
+        ensures { AreThose counted result }
+    {
+        let count = counted.count;
+        match (counted.first, found.first, counted.last, found.last) {
+            (Some(first), Some(here), Some(last), Some(there)) => {
+                let ends = (
+                    Spot::of(first, here, headers),
+                    Spot::of(last, there, headers),
+                );
+                Samples {
+                    count,
+                    ends: Some(ends),
+                }
+            }
+            _ => Samples { count, ends: None },
+        }
+    }
+}
 
 /// A claimed channel that both files have, and which of its samples aren't as claimed.
-#[derive(Drop)]
+#[derive(Clone, Copy)]
 pub struct ComparedChannel {
     /// Which of the labels of the claim it has.
     pub place: usize,
     /// Whether it has another number of samples a second in the export.
     pub has_other_rate: bool,
-    strides: Strides,
-    pub(crate) lanes: Lanes,
-    durations: Durations,
-    /// How many samples of both were compared.
+    /// How many samples of both are taken at the same times.
     pub compared: u64,
     /// Samples that are kept, and that the export lacks.
-    pub missing: Tally,
+    pub missing: Samples,
     /// Samples of the export that aren't kept.
-    pub extra: Tally,
+    pub extra: Samples,
     /// Samples that have another value in the export.
-    pub changed: Tally,
+    pub changed: Samples,
 }
 
 impl ComparedChannel {
-    /// Nothing was found of it so far.
-    pub(crate) fn new(place: usize, lanes: Lanes, durations: Durations) -> ComparedChannel {
-        let strides = Strides::between(lanes, durations);
+    /// The channel with its tally. Those samples of the export that aren't extra are taken at the times of kept ones.
+    pub(crate) fn of(
+        channel: &ChannelSoFar,
+        tallies: &[Tally],
+        headers: (&Header, &Header),
+    ) -> ComparedChannel
+        ensures { IfSome (slice_get tallies.now channel.now.at) (λ tally. IsTold tally result) }
+    {
+        let tally = match tallies.get(channel.at) {
+            Some(tally) => *tally,
+            None => Tally::none(),
+        };
+        let exported = u64::from(headers.1.records())
+            .saturating_mul(u64::from(channel.export.place.samples));
         ComparedChannel {
-            place,
-            has_other_rate: !strides.are_same(),
-            strides,
-            lanes,
-            durations,
-            compared: 0,
-            missing: Tally::NONE,
-            extra: Tally::NONE,
-            changed: Tally::NONE,
+            place: channel.place,
+            has_other_rate: channel.has_other_rate,
+            compared: exported.saturating_sub(tally.extra.count),
+            missing: Samples::of(tally.missing, channel.missing, headers),
+            extra: Samples::of(tally.extra, channel.extra, headers),
+            changed: Samples::of(tally.changed, channel.changed, headers),
         }
     }
 
     /// Whether nothing was found.
     pub fn is_as_claimed(&self) -> bool {
         self.missing.count == 0 && self.extra.count == 0 && self.changed.count == 0
-    }
-
-    /// The first and the last of some samples that were found of it, where there are some.
-    pub fn ends_of(&self, tally: &Tally) -> Option<(Spot, Spot)> {
-        tally.ends(Measures {
-            durations: self.durations,
-            original_samples: self.lanes.original.samples,
-            export_samples: self.lanes.export.samples,
-        })
-    }
-
-    /// Takes in that so many samples were compared.
-    fn count_compared(&mut self, count: usize)
-        ensures changed { self.new.changed ≡ self.old.changed }
-    {
-        self.compared = self.compared.saturating_add(count as u64);
-    }
-
-    /// Takes in that so many data records were compared, with all of their samples.
-    pub(crate) fn count_records(&mut self, records: u64) {
-        let samples = u64::from(self.lanes.original.samples);
-        self.compared = self
-            .compared
-            .saturating_add(records.saturating_mul(samples));
-    }
-
-    /// The samples of both files up to a time that aren't done with. They are done with then.
-    fn take<'a>(&mut self, stands: &Stands<'a>, end_ps: i128) -> BothRuns<'a> {
-        let Hands { original, export } = stands.hands;
-        BothRuns {
-            original: stands
-                .original
-                .take(&mut self.lanes.original, original, end_ps),
-            export: stands.export.take(&mut self.lanes.export, export, end_ps),
-        }
-    }
-
-    /// Takes in the samples of both files up to a time, of which all those of the original are kept, or none.
-    pub(crate) fn compare(&mut self, stands: &Stands<'_>, end_ps: i128, is_kept: bool) {
-        let runs = self.take(stands, end_ps);
-        if !is_kept || runs.original.is_empty() {
-            self.extra.add(Mismatch::Extra, runs.export, &stands.hands);
-        } else if !self.has_other_rate && runs.original.begins_with(&runs.export) {
-            self.compare_on_grid(runs, &stands.hands);
-        } else {
-            self.compare_apart(runs, &stands.hands);
-        }
-    }
-
-    /// The bytes of the channel in the data records at hand, of which all is done with then.
-    fn take_whole<'a>(&mut self, stands: &Stands<'a>) -> BothLanes<'a>
-        ensures original { result.original.now ≡
-            lane_at_hand stands.now.original.reader.now self.old.lanes.original.signal }
-        ensures export { result.export.now ≡
-            lane_at_hand stands.now.export.reader.now self.old.lanes.export.signal }
-        ensures changed { self.new.changed ≡ self.old.changed }
-    {
-        let Lanes { original, export } = &mut self.lanes;
-        original.done = original.samples as usize;
-        export.done = export.samples as usize;
-        BothLanes {
-            original: stands.original.bytes(original.signal),
-            export: stands.export.bytes(export.signal),
-        }
-    }
-
-    /// Takes in all samples of data records that begin together and last as long, and are kept.
-    pub(crate) fn compare_whole(&mut self, stands: &Stands<'_>, end_ps: i128) {
-        match (self.strides.original, self.strides.export) {
-            (1, 1) => self.compare_each(stands),
-            (2, 1) => self.compare_halved(stands),
-            (1, 2) => self.compare_doubled(stands),
-            _ => self.compare(stands, end_ps, true),
-        }
-    }
-
-    /// The same, where each sample is taken at the time of the other file's.
-    fn compare_each(&mut self, stands: &Stands<'_>)
-        ensures { IsCompared self.old.changed self.new.changed stands.now.hands
-            (lane_at_hand stands.now.original.reader.now self.old.lanes.original.signal)
-            (lane_at_hand stands.now.export.reader.now self.old.lanes.export.signal) }
-    {
-        let lanes = self.take_whole(stands);
-        self.count_compared(self.lanes.original.done);
-        let places = places_of(lanes.original, lanes.export);
-        self.changed.add_others(lanes, places, &stands.hands);
-    }
-
-    /// The same, where the original has two samples for each of the export's.
-    fn compare_halved(&mut self, stands: &Stands<'_>) {
-        let lanes = self.take_whole(stands);
-        let count = self.lanes.export.done;
-        self.count_compared(count);
-        self.missing
-            .add_places(Mismatch::Missing, between(count), &stands.hands);
-        if let Some(numbers) = numbers_at_half(lanes.original, lanes.export, count) {
-            let places = doubled(numbers);
-            self.changed
-                .add_changed(lanes, places, numbers, &stands.hands);
-        }
-    }
-
-    /// The same, where the export has two samples for each of the original's.
-    fn compare_doubled(&mut self, stands: &Stands<'_>) {
-        let lanes = self.take_whole(stands);
-        let count = self.lanes.original.done;
-        self.count_compared(count);
-        self.extra
-            .add_places(Mismatch::Extra, between(count), &stands.hands);
-        if let Some(numbers) = numbers_at_half(lanes.export, lanes.original, count) {
-            let places = doubled(numbers);
-            self.changed
-                .add_changed(lanes, numbers, places, &stands.hands);
-        }
-    }
-
-    /// Takes in samples of both files that are taken at the same times, as far as both go.
-    fn compare_on_grid(&mut self, runs: BothRuns<'_>, hands: &Hands) {
-        let (original, export) = (runs.original, runs.export);
-        let count = original.len().min(export.len());
-        self.count_compared(count);
-        let together = BothRuns {
-            original: original.front(count),
-            export: export.front(count),
-        };
-        if let Some(places) = together.places() {
-            let old = behind(places, original.from);
-            let new = behind(places, export.from);
-            self.changed.add_changed(runs.lanes(), old, new, hands);
-        }
-        self.missing
-            .add(Mismatch::Missing, original.rest(count), hands);
-        self.extra.add(Mismatch::Extra, export.rest(count), hands);
-    }
-
-    /// Takes in samples of both files that are taken at any times.
-    fn compare_apart(&mut self, runs: BothRuns<'_>, hands: &Hands) {
-        let found = side_by_side(runs, self.strides);
-        self.count_compared(found.compared);
-        if let Some(places) = found.missing {
-            self.missing.add_places(Mismatch::Missing, places, hands);
-        }
-        if let Some(places) = found.extra {
-            self.extra.add_places(Mismatch::Extra, places, hands);
-        }
-        if let Some((old, new)) = found.changed {
-            self.changed.add_changed(runs.lanes(), old, new, hands);
-        }
     }
 }

@@ -165,7 +165,7 @@ unfoldable pub ArePlaces : Head → Head → List Places → Type 0
 ArePlaces h g [] = Unit {0}
 ArePlaces h g (p ∷ ps) = IfSome p.0 (IsPlaceIn h) × IfSome p.1 (IsPlaceIn g) × ArePlaces h g ps
 
-kept-ascend : (claim : Terms) (file : List ℕ) (h : Head) (p : ChannelPlace) (ps : ℤ) → Conforms file h → IsPlaceIn h p → IsAscending (kept_at claim (sampled file h ps) p)
+pub kept-ascend : (claim : Terms) (file : List ℕ) (h : Head) (p : ChannelPlace) (ps : ℤ) → Conforms file h → IsPlaceIn h p → IsAscending (kept_at claim (sampled file h ps) p)
 kept-ascend claim file h p ps c is =
     let P : List Point → Type 0 = IsAscending in
     subst P (sym (points-are-kept claim file h p ps c is)) (filter-ascending (λ x. keeps_instant claim x.num p.samples) (points_at (sampled file h ps) p) (points-ascend file h p ps c is))

@@ -1,5 +1,5 @@
 -- What a watcher counts that looks at each channel.
-use Rattle.std.specs.Prelude.{◌≡◌, ℕ, ℤ, List, [], ◌∷◌, map, Option, None, Some}
+use Rattle.std.specs.Prelude.{◌≡◌, ℕ, ℤ, Bool, true, false, List, [], ◌∷◌, map, Option, None, Some}
 use Rattle.edf_pace.specs.Words.{keeps_instant, Terms, PointDifference, ChannelPlace, Clock, Frame, Pair, Reader, Window}
 use Rattle.edf_claim.specs.KeepsReading.{IsUncut}
 use Rattle.edf_pace.specs.declared.samples.tally.Tally.{Tally}
@@ -7,7 +7,7 @@ use Rattle.edf_pace.specs.declared.walk.shares.Shares.{Shares}
 use Rattle.edf_pace.specs.samples.Columns.{Sampled}
 use Rattle.edf_pace.specs.samples.Stretches.{since, until}
 use Rattle.edf_pace.specs.samples.Tallies.{differences_of, joined, tally_of}
-use Rattle.edf_pace.specs.walk.Pairs.{places_of}
+use Rattle.edf_pace.specs.walk.Pairs.{Places, places_of}
 use Rattle.edf_pace.specs.walk.Shown.{Covers}
 use Rattle.edf_pace.specs.walk.Watching.{TwoFiles, moved_export, moved_original}
 use Rattle.edf_pace.specs.walk.Windows.{IsShareIn, kept_at, points_at, sampled}
@@ -24,6 +24,21 @@ abbrev pub counts_between : Frame → TwoFiles → ℤ → ℤ → List Tally
 counts_between frame files t u =
     map (λ (pair : Pair). tally_of (differences_in ((frame.turn).setting.claim).now (sampled files.original files.head (moved_original frame.turn)) (sampled files.export files.export_head (moved_export frame.turn)) t u
     (places_of pair).0 (places_of pair).1)) (frame.pairs).now
+
+-- these are they
+abbrev pub AreTallies : List Tally → Frame → TwoFiles → ℤ → ℤ → Type 0
+AreTallies tallies frame files t u = tallies ≡ counts_between frame files t u
+
+-- all differences of two channels, of the samples from t on
+unfoldable pub differences_since : Terms → Sampled → Sampled → ℤ → Option ChannelPlace → Option ChannelPlace → List PointDifference
+differences_since claim o e t None q = []
+differences_since claim o e t (Some p) None = []
+differences_since claim o e t (Some p) (Some q) = differences_of p.samples (since p.samples t (kept_at claim o p)) q.samples (since q.samples t (points_at e q))
+
+-- the tally of each of these channels, of the samples from t on; where further exports follow, of those before u alone
+abbrev pub span_counts : Bool → Terms → Sampled → Sampled → List Places → ℤ → ℤ → List Tally
+span_counts true claim o e places t u = map (λ (p : Places). tally_of (differences_since claim o e t p.0 p.1)) places
+span_counts false claim o e places t u = map (λ (p : Places). tally_of (differences_in claim o e t u p.0 p.1)) places
 
 -- the differences of a pair of channels were counted that two readers show in a window of which these are the shares
 abbrev pub IsPairCounted : Reader → Reader → Shares → Pair → Tally → Tally → Type 0

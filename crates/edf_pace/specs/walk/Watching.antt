@@ -1,6 +1,7 @@
 -- What a watcher of two files that are read in step gets to see.
-use Rattle.std.specs.Prelude.{◌≡◌, ℕ, ℤ, ◌≤ℤ◌, List, map, Option}
+use Rattle.std.specs.Prelude.{◌≡◌, ℕ, ℤ, ◌≤ℤ◌, Bool, List, map, Option}
 use Rattle.edf_pace.specs.Words.{Found, Frame, Head, Reader, Turn, Window}
+use Rattle.edf_pace.specs.declared.samples.tally.Tally.{Tally}
 use Rattle.edf_pace.specs.walk.Pairs.{places_of}
 use Rattle.edf_pace.specs.walk.Shown.{Covers}
 use Rattle.edf_pace.specs.walk.Windows.{sampled, window_difference}
@@ -21,6 +22,11 @@ moved_original turn = ((turn.setting).clock.original).ps
 
 abbrev pub moved_export : Turn → ℤ
 moved_export turn = ((turn.setting).clock.export).ps
+
+-- what stays as it is while a watcher sees: whether it has an onlooker that looks on, and what that one counted of the exports before
+pub record Kept : Type 0 where
+  pub looks : Bool
+  pub counted : List (List Tally)
 
 -- who held what there is in two files before t, then holds what there is before u: in any two files of which two readers show all that
 -- stands from t on and before u

@@ -206,6 +206,8 @@ pub fn walk_on<O: Source, E: Source, W: Watcher>(
     requires fits { W.fits watch.old.watcher watch.old.frame }
     requires wants { W.has_enough watch.old.watcher ≡ false }
     ensures fits { IfRead result (λ r. W.fits watch.new.watcher watch.old.frame) }
+    ensures lender { W.lender watch.new.watcher ≡ W.lender watch.old.watcher }
+    ensures keeps { W.keeps watch.new.watcher ≡ W.keeps watch.old.watcher }
     ensures original { IfRead result (OriginalReadOn O.Source original.old o.old original.new o.new
         (watch.old.frame).turn) }
     ensures export { IfRead result (ExportReadOn E.Source export.old e.old export.new e.new

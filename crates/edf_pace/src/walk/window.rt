@@ -1,12 +1,13 @@
 //! What two files show between two times.
 
-ghost use Rattle.std.specs.Prelude.{◌≡◌, ◌<◌, length, true, IfSome};
+ghost use Rattle.std.specs.Prelude.{◌≡◌, ◌<◌, length, true, IfSome, IsTrue};
+ghost use Rattle.edf_claim.specs.Keeps.{keeps_instant};
 ghost use Rattle.edf_claim.specs.KeepsReading.{IsUncut};
 ghost use Rattle.edf_stream.specs.records.Readers.{is_current};
 ghost use Rattle.edf_pace.specs.InstantOrder.{IsModest};
 ghost use Rattle.edf_pace.specs.samples.Stretches.{points_in, IsPart};
 ghost use Rattle.edf_pace.specs.walk.Windows.{AreKeptOf, AreShown, IsDifferenceBy, IsPairIn, HasShare};
-ghost use Rattle.edf_pace.specs.walk.Pairs.{IsTrack, ArePairs};
+ghost use Rattle.edf_pace.specs.walk.Pairs.{AreAlikeIn, ArePairs, IsTrack};
 
 use crate::samples::between::part_by;
 use crate::samples::difference::PointDifference;
@@ -15,7 +16,8 @@ use crate::samples::share::Share;
 use crate::samples::stretch::{Stretch, no_samples, stretch_difference};
 use crate::times::Window;
 use crate::walk::frame::Frame;
-use crate::walk::shares::{Shares, Sight, keep_shares, lane_at, no_shares};
+use crate::walk::layout::are_alike;
+use crate::walk::shares::{Shares, Sight, keep_shares, keeps_at, lane_at, no_shares};
 use crate::walk::track::{Pair, Track};
 use edf_stream::FileReader;
 
@@ -114,4 +116,26 @@ pub(crate) fn window_difference(
         keep_earlier(i, next, &mut held);
     }
     held
+}
+
+/// Whether the data records at hand show the same, all of which is kept. It may say no where one of them
+/// reaches beyond the two times.
+pub(crate) fn shows_the_same(
+    original: &FileReader,
+    export: &FileReader,
+    frame: Frame<'_>,
+    within: Window,
+) -> bool
+    ensures kept { IsTrue result → keeps_instant ((frame.entry.turn).setting.claim).now (within.from).ps 1 ≡
+        true }
+    ensures alike { IsTrue result → AreAlikeIn frame.entry original.now export.now }
+{
+    let setting = frame.turn.setting;
+    match frame.room {
+        Some(room) => {
+            keeps_at(setting.claim, within.from)
+                && are_alike(original, export, room, setting.clock, within)
+        }
+        None => false,
+    }
 }

@@ -1,10 +1,11 @@
-use Rattle.std.proofs.Common.{◌∷◌, map, sym, subst}
+use Rattle.std.proofs.Common.{◌≡◌, ◌∷◌, ◌∙◌, map, sym, subst}
 use Rattle.std.specs.List.{AllByRecursion}
 use Rattle.edf_check.specs.Checks.{AreRead}
 use Rattle.edf_pace.specs.declared.walk.fault_of.FaultOf.TheVariants as faults
 use Rattle.edf_check.specs.parts.PartsVerdicts.{IsPartsVerdict}
 use Rattle.edf_check.proofs.parts.LeftFacts.{read_all, read_fault}
-use Rattle.edf_check.proofs.parts.TogetherFacts.{fault_verdict}
+use Rattle.edf_check.specs.parts.Counted.{AreCounted}
+use Rattle.edf_check.proofs.parts.TogetherFacts.{fault_verdict, none_faulty}
 use Rattle.edf_check.proofs.of_several.check_series.Goals as goal
 
 pub returns-in-Ok-Err-clause-verdict : goal.returns-in-Ok-Err-clause-verdict
@@ -12,7 +13,7 @@ returns-in-Ok-Err-clause-verdict g c = λ ho he.
     let fault = rw c.in-Ok-Err.field-0-is at c.in-Ok-Err.ensures.fault in
     let o = g.O.Source.left c.args.original.now in
     let parts = g.E.Source.left c.args.part.now ∷ map g.E.Source.left c.args.others.now in
-    subst (IsPartsVerdict o parts c.args.asked.claim.now) (sym c.verdict.ensures) (fault_verdict o parts c.args.asked.claim.now (faults.Original c.in-Ok-Err.fault) (fault ho))
+    subst (IsPartsVerdict o parts c.args.asked.now.claim.now) (sym c.verdict.ensures) (fault_verdict o parts c.args.asked.now.claim.now (faults.Original c.in-Ok-Err.fault) (fault ho))
 
 pub returns-in-Ok-Err-clause-read : goal.returns-in-Ok-Err-clause-read
 returns-in-Ok-Err-clause-read g c = λ ho he.
@@ -42,7 +43,7 @@ returns-in-Ok-Err-walk_parts-clause-verdict g c = λ ho he.
     let o = g.O.Source.left c.args.original.now in
     let fault = (rw c.in-Ok-Err-walk_parts.field-0-is at c.in-Ok-Err-walk_parts.ensures.fault) (honesty ho) o (stands ho) he in
     let parts = g.E.Source.left c.args.part.now ∷ map g.E.Source.left c.args.others.now in
-    subst (IsPartsVerdict o parts c.args.asked.claim.now) (sym c.verdict-in-Ok-Err-walk_parts.ensures) (fault_verdict o parts c.args.asked.claim.now c.in-Ok-Err-walk_parts.fault fault.0)
+    subst (IsPartsVerdict o parts c.args.asked.now.claim.now) (sym c.verdict-in-Ok-Err-walk_parts.ensures) (fault_verdict o parts c.args.asked.now.claim.now c.in-Ok-Err-walk_parts.fault fault.0)
 
 pub returns-in-Ok-Err-walk_parts-clause-read : goal.returns-in-Ok-Err-walk_parts-clause-read
 returns-in-Ok-Err-walk_parts-clause-read g c = λ ho he.
@@ -52,3 +53,25 @@ returns-in-Ok-Err-walk_parts-clause-read g c = λ ho he.
     let lefts = g.E.Source.left c.walk_parts.new.part ∷ map g.E.Source.left c.walk_parts.new.others in
     let fault = (rw c.in-Ok-Err-walk_parts.field-0-is at c.in-Ok-Err-walk_parts.ensures.fault) (honesty ho) (g.O.Source.left c.args.original.now) (stands ho) he in
     subst (λ v. AllByRecursion (AreRead v.verdict left) lefts) (sym c.verdict-in-Ok-Err-walk_parts.ensures) (read_fault c.in-Ok-Err-walk_parts.fault left lefts fault.1)
+
+pub returns-in-Ok-Err-clause-counted : goal.returns-in-Ok-Err-clause-counted
+returns-in-Ok-Err-clause-counted g c = λ looks ho he all follow.
+    let fault = rw c.in-Ok-Err.field-0-is at c.in-Ok-Err.ensures.fault in
+    absurd (none_faulty (g.O.Source.left c.args.original.now) (g.E.Source.left c.args.part.now ∷ map g.E.Source.left c.args.others.now) (faults.Original c.in-Ok-Err.fault) all (fault ho))
+
+pub returns-in-Ok-Ok-walk_parts-clause-counted : goal.returns-in-Ok-Ok-walk_parts-clause-counted
+returns-in-Ok-Ok-walk_parts-clause-counted g c = λ looks ho he all follow.
+    let stands = rw c.in-Ok-Ok.field-0-is at c.in-Ok-Ok.ensures.stands in
+    let honesty = rw c.in-Ok-Ok.field-0-is at c.in-Ok-Ok.ensures.honesty in
+    let o = g.O.Source.left c.args.original.now in
+    let parts = g.E.Source.left c.args.part.now ∷ map g.E.Source.left c.args.others.now in
+    let counted = (rw c.in-Ok-Ok-walk_parts.field-0-is at c.in-Ok-Ok-walk_parts.ensures.counted) looks (honesty ho) o (stands ho) he follow in
+    subst (AreCounted o parts c.args.asked.now.claim.now (g.L.Onlooker.counted c.args.asked.now.onlooker.now)) (sym c.take_original.ensures.counted) counted
+
+pub returns-in-Ok-Err-walk_parts-clause-counted : goal.returns-in-Ok-Err-walk_parts-clause-counted
+returns-in-Ok-Err-walk_parts-clause-counted g c = λ looks ho he all follow.
+    let stands = rw c.in-Ok-Ok.field-0-is at c.in-Ok-Ok.ensures.stands in
+    let honesty = rw c.in-Ok-Ok.field-0-is at c.in-Ok-Ok.ensures.honesty in
+    let o = g.O.Source.left c.args.original.now in
+    let fault = (rw c.in-Ok-Err-walk_parts.field-0-is at c.in-Ok-Err-walk_parts.ensures.fault) (honesty ho) o (stands ho) he in
+    absurd (none_faulty o (g.E.Source.left c.args.part.now ∷ map g.E.Source.left c.args.others.now) c.in-Ok-Err-walk_parts.fault all fault.0)

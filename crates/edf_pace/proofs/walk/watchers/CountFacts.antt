@@ -1,15 +1,17 @@
 -- What a watcher counts window by window is what it counts at once; and the first of what it counts is what a check finds.
-use Rattle.std.proofs.Common.{◌≡◌, ℕ, zero, suc, ◌+◌, ◌<◌, ℤ, ◌≤ℤ◌, List, [], ◌∷◌, ◌++◌, map, take, drop, get_or, replicate, set, length, Option, Some, None, option_map, refl, sym, ap, ◌∙◌, arith, lit<}
+use Rattle.std.proofs.Common.{◌≡◌, cond, ℕ, zero, suc, ◌+◌, ◌<◌, ℤ, ◌≤ℤ◌, List, [], ◌∷◌, ◌++◌, map, take, drop, get_or, replicate, set, length, Option, Some, None, option_map, refl, sym, ap, ◌∙◌, arith, lit<}
 use Rattle.edf_claim.specs.Terms.{Terms}
 use Rattle.edf_pace.specs.declared.samples.difference.PointDifference.{PointDifference}
 use Rattle.edf_pace.specs.declared.samples.tally.Tally.{Tally}
 use Rattle.edf_pace.specs.declared.walk.channel_place.ChannelPlace.{ChannelPlace}
+use Rattle.edf_pace.specs.declared.samples.earliest.Found.{Found}
 use Rattle.edf_pace.specs.declared.samples.point.Point.{Point}
+use Rattle.edf_pace.specs.InstantOrder.{is_before}
 use Rattle.edf_pace.specs.declared.walk.track.Pair.{Pair}
 use Rattle.edf_pace.specs.declared.walk.track.Track.{Track}
 use Rattle.std.proofs.lemmas.List.{append-nil}
 use Rattle.edf_pace.specs.samples.Columns.{Sampled}
-use Rattle.edf_pace.specs.samples.Differences.{earliest}
+use Rattle.edf_pace.specs.samples.Differences.{earlier, earliest, found}
 use Rattle.edf_pace.specs.samples.Stretches.{since, until, whole}
 use Rattle.edf_pace.specs.samples.Tallies.{differences_of, first_of, joined, tally_of}
 use Rattle.edf_pace.specs.declared.times.Window.{Window}
@@ -21,6 +23,7 @@ use Rattle.edf_pace.specs.walk.Watching.{TwoFiles, first_between, moved_export, 
 use Rattle.edf_pace.specs.walk.Pairs.{IsFrame, Places, places_of}
 use Rattle.edf_pace.specs.walk.Windows.{kept_at, points_at, sampled, window_of, window_difference}
 use Rattle.edf_pace.proofs.samples.CutFacts.{until-before}
+use Rattle.edf_pace.proofs.samples.FilterFacts.{by_test}
 use Rattle.edf_pace.proofs.samples.TallyFacts.{differences_split, first_is_first, joined_none, tally_append}
 use Rattle.edf_pace.proofs.walk.LockstepFacts.{are_places}
 use Rattle.edf_pace.proofs.walk.SplitFacts.{AreSound, AllSound, all_sound}
@@ -29,7 +32,7 @@ use Rattle.edf_pace.proofs.walk.WindowFacts.{nothing_between, until-from, window
 -- ---- the first of what is counted
 
 -- what a check finds in a channel is the first of its differences
-channel_first : (claim : Terms) (o e : Sampled) (t u : ℤ) (p q : Option ChannelPlace) → window_of claim o e t u p q ≡ first_of (differences_in claim o e t u p q)
+pub channel_first : (claim : Terms) (o e : Sampled) (t u : ℤ) (p q : Option ChannelPlace) → window_of claim o e t u p q ≡ first_of (differences_in claim o e t u p q)
 unfolding differences_in
 channel_first claim o e t u None q = refl
 channel_first claim o e t u (Some p) None = refl
@@ -217,3 +220,40 @@ all_left i xs dss e =
 
 pub none_left : (i : ℕ) (xs : List Tally) (dss : List (List PointDifference)) → i ≡ 0 → take i xs ++ joined_each (drop i xs) (drop i dss) ≡ joined_each xs dss
 none_left i xs dss e = ap (λ k. take k xs ++ joined_each (drop k xs) (drop k dss)) e
+
+-- ---- where nothing differs
+
+pub none-both : (a b : Option Found) → earlier a b ≡ None → (a ≡ None) × (b ≡ None)
+none-both None b e = (refl, e)
+none-both (Some a) None e = absurd (let z : Some a ≡ None = e in cc)
+none-both (Some a) (Some b) e =
+    by_test (is_before b.difference.at a.difference.at) (λ t. cond t (Some b) (Some a) ≡ None → (Some a ≡ None) × (Some b ≡ None))
+    (λ t z. absurd (let y : Some b ≡ None = z in cc)) (λ t z. absurd (let y : Some a ≡ None = z in cc)) e
+
+pub none-mapped : (k : ℕ) (d : Option PointDifference) → option_map (found k) d ≡ None → d ≡ None
+none-mapped k None e = refl
+none-mapped k (Some d) e = absurd (let z : Some (found k d) ≡ None = e in cc)
+
+pub none-first : (ds : List PointDifference) → first_of ds ≡ None → ds ≡ []
+none-first [] e = refl
+none-first (d ∷ ds) e = absurd (let z : Some d ≡ None = e in cc)
+
+none-channel : (claim : Terms) (o e : Sampled) (t u : ℤ) (p q : Option ChannelPlace) → window_of claim o e t u p q ≡ None → differences_in claim o e t u p q ≡ []
+none-channel claim o e t u p q none = none-first (differences_in claim o e t u p q) (sym (channel_first claim o e t u p q) ∙ none)
+
+none-counted : (claim : Terms) (o e : Sampled) (t u : ℤ) (k : ℕ) (pairs : List Pair) (held : List Tally) → earliest k (map (λ (p : Places). window_of claim o e t u p.0 p.1) (map places_of pairs)) ≡ None
+    → held ≡ joined_each held (map (λ (pair : Pair). differences_in claim o e t u (places_of pair).0 (places_of pair).1) pairs)
+none-counted claim o e t u k pairs [] none = refl
+none-counted claim o e t u k [] (a ∷ more) none = refl
+none-counted claim o e t u k (p ∷ ps) (a ∷ more) none =
+    let both = none-both (option_map (found k) (window_of claim o e t u (places_of p).0 (places_of p).1)) (earliest (k + 1) (map (λ (q : Places). window_of claim o e t u q.0 q.1) (map places_of ps))) none in
+    let here = none-channel claim o e t u (places_of p).0 (places_of p).1 (none-mapped k (window_of claim o e t u (places_of p).0 (places_of p).1) both.0) in
+    let all = map (λ (pair : Pair). differences_in claim o e t u (places_of pair).0 (places_of pair).1) ps in
+    ap (λ x. x ∷ more) (sym (ap (λ ds. joined a (tally_of ds)) here ∙ joined_none a))
+    ∙ ap (λ xs. joined a (tally_of (differences_in claim o e t u (places_of p).0 (places_of p).1)) ∷ xs) (none-counted claim o e t u (k + 1) ps more both.1)
+
+-- of what shows no difference nothing is counted
+pub nothing_counted : (claim : Terms) (o e : Sampled) (t u : ℤ) (pairs : List Pair) (held : List Tally) → None ≡ window_difference claim o e (map places_of pairs) t u
+    → held ≡ joined_each held (map (λ (pair : Pair). differences_in claim o e t u (places_of pair).0 (places_of pair).1) pairs)
+unfolding window_difference
+nothing_counted claim o e t u pairs held none = none-counted claim o e t u 0 pairs held (sym none)

@@ -1,6 +1,6 @@
 //! The watcher that counts: of each channel how many samples differ.
 
-ghost use Rattle.std.specs.Prelude.{◌≡◌, ℤ, IfOk, IfSome, false, length, true};
+ghost use Rattle.std.specs.Prelude.{◌≡◌, ℤ, [], IfOk, IfSome, false, length, true};
 ghost use Rattle.edf_claim.specs.KeepsReading.{IsUncut};
 ghost use Rattle.edf_pace.specs.walk.Counting.{AreCounted, IsPairCounted, counts_between};
 ghost use Rattle.edf_pace.specs.walk.Watching.{TwoFiles};
@@ -14,7 +14,7 @@ use crate::walk::frame::Frame;
 use crate::walk::shares::{Shares, Sight, keep_shares, no_shares};
 use crate::walk::track::Pair;
 use crate::walk::watchers::watcher::Watcher;
-use crate::walk::window::{kept_window, window};
+use crate::walk::window::{kept_window, shows_the_same, window};
 use edf_stream::FileReader;
 use std::alloc::{AllocError, Global};
 
@@ -100,6 +100,10 @@ impl Watcher for Counts {
 
     ghost has_enough = { λ w. false };
 
+    ghost lender = { λ w. 0 };
+
+    ghost keeps = { λ w. record { looks = false; counted = [] } };
+
     ghost holds = { λ w frame files t u. w.tallies.items ≡ counts_between frame files t u };
 
     fn has_enough(&self) -> bool {
@@ -113,6 +117,9 @@ impl Watcher for Counts {
         frame: Frame<'_>,
         within: Window,
     ) {
+        if shows_the_same(original, export, frame, within) {
+            return;
+        }
         count_window(original, export, frame, within, &mut self.tallies);
     }
 }

@@ -1,44 +1,20 @@
 //! The watcher of a check: it keeps the first difference of the samples, and lets somebody look on.
 
-ghost use Rattle.std.specs.Prelude.{◌≡◌, ◌&&◌, IfSome, IsTrue, is_some, length, not, true};
-ghost use Rattle.edf_claim.specs.Keeps.{keeps_instant};
+ghost use Rattle.std.specs.Prelude.{◌≡◌, ◌&&◌, IfSome, is_some, length, not, true};
 ghost use Rattle.edf_claim.specs.KeepsReading.{IsUncut};
 ghost use Rattle.edf_pace.specs.walk.Ends.{IsFoundAmong};
-ghost use Rattle.edf_pace.specs.walk.Pairs.{AreAlikeIn, IsFrame};
+ghost use Rattle.edf_pace.specs.walk.Pairs.{IsFrame};
+ghost use Rattle.edf_pace.specs.walk.Counting.{AreTallies};
 ghost use Rattle.edf_pace.specs.walk.Watching.{HasSeenIn, IsFirst};
 ghost use Rattle.edf_pace.specs.walk.Windows.{IsDifferenceBy};
 
 use crate::samples::earliest::Found;
 use crate::times::Window;
 use crate::walk::frame::Frame;
-use crate::walk::layout::are_alike;
-use crate::walk::shares::keeps_at;
 use crate::walk::watchers::onlooker::Onlooker;
 use crate::walk::watchers::watcher::Watcher;
-use crate::walk::window::window_difference;
+use crate::walk::window::{shows_the_same, window_difference};
 use edf_stream::FileReader;
-
-/// Whether the data records at hand show the same, all of which is kept. It may say no where one of them
-/// reaches beyond the two times.
-fn shows_the_same(
-    original: &FileReader,
-    export: &FileReader,
-    frame: Frame<'_>,
-    within: Window,
-) -> bool
-    ensures kept { IsTrue result → keeps_instant ((frame.entry.turn).setting.claim).now (within.from).ps 1 ≡
-        true }
-    ensures alike { IsTrue result → AreAlikeIn frame.entry original.now export.now }
-{
-    let setting = frame.turn.setting;
-    match frame.room {
-        Some(room) => {
-            keeps_at(setting.claim, within.from)
-                && are_alike(original, export, room, setting.clock, within)
-        }
-        None => false,
-    }
-}
 
 /// The earliest difference of the channels between two times. Where the data records at hand show the same,
 /// there is none.
@@ -87,13 +63,17 @@ impl<'a, L: Onlooker> FirstFound<'a, L> {
 }
 
 impl<'a, L: Onlooker> Watcher for FirstFound<'a, L> {
-    ghost use Rattle.edf_pace.specs.walk.Watching.{first_between};
-
-    ghost fits = { λ w frame. IfSome w.found (IsFoundAmong (length (frame.pairs).now)) };
+    ghost fits = { λ w frame. IfSome w.found (IsFoundAmong (length (frame.pairs).now))
+        × (L.looks w.onlooker.now ≡ true → length (L.tallies w.onlooker.now) ≡ length (frame.pairs).now) };
 
     ghost has_enough = { λ w. is_some w.found && not (L.looks w.onlooker.now) };
 
-    ghost holds = { λ w frame files t u. w.found ≡ first_between frame files t u };
+    ghost lender = { λ w. w.onlooker.ghost_name };
+
+    ghost keeps = { λ w. record { looks = L.looks w.onlooker.now; counted = L.counted w.onlooker.now } };
+
+    ghost holds = { λ w frame files t u. IsFirst w.found frame files t u
+        × (L.looks w.onlooker.now ≡ true → AreTallies (L.tallies w.onlooker.now) frame files t u) };
 
     fn has_enough(&self) -> bool {
         self.found.is_some() && !self.onlooker.looks()

@@ -1,34 +1,70 @@
 //! Who looks on while a check compares two files.
 
-ghost use Rattle.std.specs.Prelude.{◌≡◌, Bool};
+ghost use Rattle.std.specs.Prelude.{◌≡◌, ◌++◌, ◌∷◌, [], ℤ, Bool, List, OnOk, length, true};
+ghost use Rattle.edf_claim.specs.KeepsReading.{IsUncut};
+ghost use Rattle.edf_pace.specs.declared.samples.tally.Tally.{Tally};
+ghost use Rattle.edf_pace.specs.walk.Counting.{AreTallies};
+ghost use Rattle.edf_pace.specs.walk.Pairs.{IsFrame};
+ghost use Rattle.edf_pace.specs.walk.Watching.{HasSeenIn, TwoFiles};
 
 use crate::times::Window;
 use crate::walk::frame::Frame;
 use crate::walk::reading::Reading;
 use edf_stream::{FileReader, Note};
+use std::alloc::AllocError;
 
-/// Looks on while an original and an export are compared. No answer of a check depends on it, and nothing is promised of what it
-/// makes of what it sees.
+/// Looks on while an original and its exports are compared, and counts the samples that differ. No answer of a check depends on
+/// it.
 pub trait Onlooker {
     /// Whether it looks on at all: then both files are shown to their ends, also behind a difference.
     ghost looks: { Self → Bool };
+
+    /// What it counted so far of each channel of the export that is compared.
+    ghost tallies: { Self → List Tally };
+
+    /// What it counted of each export that was read to its end.
+    ghost counted: { Self → List (List Tally) };
 
     /// Whether it looks on at all.
     fn looks(&self) -> bool
         ensures { result ≡ looks self.now };
 
-    /// Looks at what the data records at hand show between two times.
-    fn look(&mut self, original: &FileReader, export: &FileReader, frame: Frame<'_>, within: Window)
-        ensures { looks self.new ≡ looks self.old };
+    /// Begins with an export: nothing was counted yet of the channels of this frame.
+    ///
+    /// The error is want of memory.
+    fn begin(&mut self, frame: Frame<'_>) -> Result<(), AllocError>
+        ensures looks { looks self.new ≡ looks self.old }
+        ensures counted { counted self.new ≡ counted self.old }
+        ensures each { OnOk result (looks self.old ≡ true →
+            length (tallies self.new) ≡ length (frame.entry.pairs).now) }
+        ensures none { OnOk result (looks self.old ≡ true → (files : TwoFiles) (t : ℤ) →
+            AreTallies (tallies self.new) frame.entry files t t) };
 
-    /// Gets an export that was read to its end.
-    fn take_export(&mut self, export: FileReader)
-        ensures { looks self.new ≡ looks self.old };
+    /// Counts what the data records at hand show between two times.
+    fn look(&mut self, original: &FileReader, export: &FileReader, frame: Frame<'_>, within: Window)
+        requires looks { looks self.old ≡ true }
+        requires frame { IsFrame original.now.head export.now.head frame }
+        requires uncut { IsUncut ((frame.turn).setting.claim).now.keep (within.from).ps (within.to).ps }
+        requires each { length (tallies self.old) ≡ length (frame.pairs).now }
+        ensures looks { looks self.new ≡ looks self.old }
+        ensures counted { counted self.new ≡ counted self.old }
+        ensures each { length (tallies self.new) ≡ length (frame.entry.pairs).now }
+        ensures holds { HasSeenIn (AreTallies (tallies self.old)) (AreTallies (tallies self.new)) frame.entry
+            original.now export.now within };
+
+    /// Gets an export that was read to its end. Where it was compared, that is counted with what was counted of it.
+    ///
+    /// The error is want of memory.
+    fn take_export(&mut self, export: FileReader) -> Result<(), AllocError>
+        ensures looks { looks self.new ≡ looks self.old }
+        ensures counted { OnOk result (looks self.old ≡ true →
+            counted self.new ≡ counted self.old ++ (tallies self.old ∷ [])) };
 
     /// Gets the original, which was read to its end, with those of its annotations that are kept; and the annotations of all
     /// exports. Behind a difference at which nobody looked on, they are those of a front.
     fn take_original(&mut self, original: Reading, exported: Vec<Note>)
-        ensures { looks self.new ≡ looks self.old };
+        ensures looks { looks self.new ≡ looks self.old }
+        ensures counted { counted self.new ≡ counted self.old };
 }
 
 /// Nobody looks on.
@@ -36,13 +72,22 @@ pub trait Onlooker {
 pub struct Nobody;
 
 impl Onlooker for Nobody {
-    ghost use Rattle.std.specs.Prelude.{false};
+    ghost use Rattle.std.specs.Prelude.{[], false};
 
     ghost looks = { λ _. false };
+
+    ghost tallies = { λ _. [] };
+
+    ghost counted = { λ _. [] };
 
     #[inline(always)]
     fn looks(&self) -> bool {
         false
+    }
+
+    #[inline(always)]
+    fn begin(&mut self, _frame: Frame<'_>) -> Result<(), AllocError> {
+        Ok(())
     }
 
     #[inline(always)]
@@ -55,7 +100,9 @@ impl Onlooker for Nobody {
     ) {}
 
     #[inline(always)]
-    fn take_export(&mut self, _export: FileReader) {}
+    fn take_export(&mut self, _export: FileReader) -> Result<(), AllocError> {
+        Ok(())
+    }
 
     #[inline(always)]
     fn take_original(&mut self, _original: Reading, _exported: Vec<Note>) {}

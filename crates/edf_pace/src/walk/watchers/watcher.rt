@@ -1,10 +1,10 @@
 //! Who looks at two files while they are read in step.
 
-ghost use Rattle.std.specs.Prelude.{◌≡◌, ℤ, Bool, false};
+ghost use Rattle.std.specs.Prelude.{◌≡◌, ℕ, ℤ, Bool, false};
 ghost use Rattle.edf_claim.specs.KeepsReading.{IsUncut};
 ghost use Rattle.edf_pace.specs.declared.walk.frame.Frame.{Frame};
 ghost use Rattle.edf_pace.specs.walk.Pairs.{IsFrame};
-ghost use Rattle.edf_pace.specs.walk.Watching.{HasSeenIn, TwoFiles};
+ghost use Rattle.edf_pace.specs.walk.Watching.{HasSeenIn, Kept, TwoFiles};
 
 use crate::times::Window;
 use crate::walk::frame::Frame;
@@ -18,6 +18,12 @@ pub trait Watcher {
 
     /// Whether it has seen enough.
     ghost has_enough: { Self → Bool };
+
+    /// Whose onlooker it holds: a reference that it keeps.
+    ghost lender: { Self → ℕ };
+
+    /// What stays as it is while it sees.
+    ghost keeps: { Self → Kept };
 
     /// What it holds is what it looks for in the channels of this frame of two files, from the first time on and before
     /// the second.
@@ -35,6 +41,8 @@ pub trait Watcher {
         requires frame { IsFrame original.now.head export.now.head frame }
         requires uncut { IsUncut ((frame.turn).setting.claim).now.keep (within.from).ps (within.to).ps }
         ensures fits { fits self.new frame.entry }
+        ensures lender { lender self.new ≡ lender self.old }
+        ensures keeps { keeps self.new ≡ keeps self.old }
         ensures holds { HasSeenIn (holds self.old) (holds self.new) frame.entry original.now export.now
             within };
 }

@@ -1,7 +1,7 @@
-use Rattle.std.proofs.Common.{◌∙◌, sym, ap}
+use Rattle.std.proofs.Common.{rules, ◌≡◌, ◌∙◌, ◌++◌, ◌∷◌, [], true, sym, ap, subst}
 use Rattle.edf_check.specs.parts.PartsVerdicts.{samples_in}
-use Rattle.edf_pace.specs.walk.Ends.{moved_original}
-use Rattle.edf_check.proofs.parts.CompareFacts.{and-left, beside_less, compared-so, heads_match, matched_less, passed_less, passes_less}
+use Rattle.edf_pace.specs.walk.Ends.{IsCounted, moved_original}
+use Rattle.edf_check.proofs.parts.CompareFacts.{and-left, beside_less, compared-beside, compared-so, heads_match, matched_less, passed_less, passes_less}
 use Rattle.edf_check.proofs.parts.SerialFacts.{same-parts}
 use Rattle.edf_pace.proofs.ForCallers.{fault_by, fault_by_header}
 use Rattle.edf_check.proofs.parts.part.read_part.Goals as goal
@@ -12,16 +12,16 @@ returns-in-Ok-clause-fault g c = λ ho a bo he.
     let found = c.in-Ok.ensures.found ho a bo.there in
     fault_by_header a (c.args.original.now.reader).head (g.O.Source.left c.export_fault.new.source) (g.E.Source.left c.args.e.now) c.args.turn.part c.in-Ok-Err.fault c.in-Ok.first (fault he) found.0 found.1
 
-pub returns-in-Ok-Ok-read_course-clause-passes : goal.returns-in-Ok-Ok-read_course-clause-passes
-returns-in-Ok-Ok-read_course-clause-passes g c = λ last.
+pub returns-in_ok-take_export-in-Ok-Ok-read_course-clause-passes : goal.returns-in_ok-take_export-in-Ok-Ok-read_course-clause-passes
+returns-in_ok-take_export-in-Ok-Ok-read_course-clause-passes g c = λ last.
     let turn = c.args.turn in
     let course = c.in-Ok-Ok-read_course.course in
     let passes = rw c.in-Ok-Ok-read_course.field-0-is at c.in-Ok-Ok-read_course.ensures.passes in
     passes_less turn c.is_compared.result _ _ _ _ _ _ _ _ course.is_beside course.is_beside course.end
     (λ e. and-left turn.is_compared _ (sym c.is_compared.ensures ∙ e)) (λ e. e) (passes last)
 
-pub returns-in-Ok-Ok-read_course-clause-stays : goal.returns-in-Ok-Ok-read_course-clause-stays
-returns-in-Ok-Ok-read_course-clause-stays g c = λ last compared is.
+pub returns-in_ok-take_export-in-Ok-Ok-read_course-clause-stays : goal.returns-in_ok-take_export-in-Ok-Ok-read_course-clause-stays
+returns-in_ok-take_export-in-Ok-Ok-read_course-clause-stays g c = λ last compared is.
     let turn = c.args.turn in
     let course = c.in-Ok-Ok-read_course.course in
     let heads = c.in_ok-heads.heads in
@@ -29,8 +29,8 @@ returns-in-Ok-Ok-read_course-clause-stays g c = λ last compared is.
     let same = same-parts heads course.is_early course.found is in
     stays last (c.is_compared.ensures ∙ compared-so turn.is_compared _ heads compared same.0) same.1 same.2
 
-pub returns-in-Ok-Ok-read_course-clause-read : goal.returns-in-Ok-Ok-read_course-clause-read
-returns-in-Ok-Ok-read_course-clause-read g c = λ ho a bo he.
+pub returns-in_ok-take_export-in-Ok-Ok-read_course-clause-read : goal.returns-in_ok-take_export-in-Ok-Ok-read_course-clause-read
+returns-in_ok-take_export-in-Ok-Ok-read_course-clause-read g c = λ ho a bo he.
     let turn = c.args.turn in
     let e = g.E.Source.left c.args.e.now in
     let heads = c.in_ok-heads.heads in
@@ -66,3 +66,27 @@ pub read_course-requires-clause-original : goal.read_course-requires-clause-orig
 read_course-requires-clause-original g c =
     let turn = c.args.turn in
     ((c.requires.original).0, λ e. (c.requires.original).1 (and-left turn.is_compared _ (sym c.is_compared.ensures ∙ e)))
+
+pub returns-in_ok-take_export-in-Ok-Ok-read_course-clause-beside : goal.returns-in_ok-take_export-in-Ok-Ok-read_course-clause-beside
+returns-in_ok-take_export-in-Ok-Ok-read_course-clause-beside g c = λ looks last compared early.
+    let beside = rw c.in-Ok-Ok-read_course.field-0-is at c.in-Ok-Ok-read_course.ensures.beside in
+    beside looks last (c.is_compared.ensures ∙ compared-beside c.args.turn.is_compared _ _ compared (c.looks.ensures ∙ looks)) early
+
+pub returns-in_ok-take_export-in-Ok-Ok-read_course-clause-counted : goal.returns-in_ok-take_export-in-Ok-Ok-read_course-clause-counted
+returns-in_ok-take_export-in-Ok-Ok-read_course-clause-counted g c = λ looks compared early ho a bo he co.
+    let turn = c.args.turn in
+    let e = g.E.Source.left c.args.e.now in
+    let h = (c.args.original.now.reader).head in
+    let stands = (rw c.in-Ok-Ok.field-0-is at c.in-Ok-Ok.ensures.stands) he in
+    let honest = (rw c.in-Ok-Ok.field-0-is at c.in-Ok-Ok.ensures.honesty) he in
+    let less = beside_less c.args.original.now.reader _ _ a (turn.setting.claim).now (moved_original turn) (turn.from).ps turn.is_compared c.is_compared.result (λ z. and-left turn.is_compared _ (sym c.is_compared.ensures ∙ z)) bo in
+    let counted = rw c.in-Ok-Ok-read_course.field-0-is at c.in-Ok-Ok-read_course.ensures.counted in
+    let tallies = g.L.Onlooker.tallies c.read_course.new.shown.onlooker.now in
+    let before = g.L.Onlooker.counted c.args.onlooker.now in
+    let whole = counted looks (c.is_compared.ensures ∙ compared-beside turn.is_compared _ _ compared (c.looks.ensures ∙ looks)) early ho honest a e less stands in
+    let told : g.L.Onlooker.looks c.read_course.new.shown.onlooker.now ≡ true
+        → g.L.Onlooker.counted c.take_export.new.self ≡ g.L.Onlooker.counted c.read_course.new.shown.onlooker.now ++ (g.L.Onlooker.tallies c.read_course.new.shown.onlooker.now ∷ []) =
+        subst (λ x. g.L.Onlooker.looks x ≡ true → g.L.Onlooker.counted c.take_export.new.self ≡ g.L.Onlooker.counted x ++ (g.L.Onlooker.tallies x ∷ [])) (search rules) c.in_ok-take_export-in-Ok-Ok-read_course.ensures.counted in
+    told (c.read_course.ensures.looks ∙ looks)
+    ∙ ap (λ ts. ts ++ (tallies ∷ [])) c.read_course.ensures.before
+    ∙ ap (λ t. before ++ (t ∷ [])) ((subst (λ k. IsCounted turn a h e k tallies) (stands.passed).head whole) co)

@@ -1,12 +1,15 @@
-use Rattle.std.proofs.Common.{◌≡◌, ◌+◌, ◌&&◌, ◌∷◌, [], true, false, List, IsTrue, map, length, arith, refl, sym, subst}
+use Rattle.std.proofs.Common.{rules, ◌≡◌, ◌++◌, ◌+◌, ◌&&◌, ◌∷◌, [], true, false, List, IsTrue, map, length, arith, refl, sym, ap, ◌∙◌, subst}
 use Rattle.std.specs.List.{AllByRecursion}
 use Rattle.edf_stream.specs.Views.{note_value}
 use Rattle.edf_check.specs.declared.parts.found.PartsFound.{PartsFound}
 use Rattle.edf_check.specs.parts.Together.{AreRead, HaveFault}
 use Rattle.edf_pace.specs.walk.Windows.{is_last}
+use Rattle.edf_pace.specs.walk.Ends.{moved_export, moved_original}
+use Rattle.edf_check.specs.parts.Counted.{serial_counts}
+use Rattle.edf_stream.specs.Conforming.{Conforms}
 use Rattle.edf_check.specs.parts.Ends.{is_same}
 use Rattle.edf_check.proofs.parts.CompareFacts.{and-left, and-right}
-use Rattle.edf_check.proofs.parts.SerialFacts.{fault_behind, fault_first, next_turn, read_more, read_none}
+use Rattle.edf_check.proofs.parts.SerialFacts.{counted_last, counted_more, fault_behind, fault_first, next_turn, none-early, read_more, read_none}
 use Rattle.edf_check.proofs.parts.series.+read_parts.Goals as goal
 
 none-of : {X : Type 0} (xs : List X) → length xs ≡ 0 → xs ≡ []
@@ -16,11 +19,11 @@ none-of (x ∷ xs) e = absurd (omega (arith, e))
 pub returns-in-Ok-Err-clause-fault : goal.returns-in-Ok-Err-clause-fault
 returns-in-Ok-Err-clause-fault g t c = λ ho a bo he.
     let fault = (rw c.in-Ok-Err.field-0-is at c.in-Ok-Err.ensures.fault) ho a bo he.0 in
-    fault_first a (c.args.so_far.now.original.reader).head _ c.args.shown.turn.part (g.E.Source.left c.args.part.now) (map g.E.Source.left c.args.others.now) c.in-Ok-Err.fault fault
+    fault_first a (c.args.so_far.now.original.reader).head _ c.args.shown.now.turn.part (g.E.Source.left c.args.part.now) (map g.E.Source.left c.args.others.now) c.in-Ok-Err.fault fault
 
 pub returns-in-None-clause-read : goal.returns-in-None-clause-read
 returns-in-None-clause-read g t c = λ ho a bo he.
-    let turn = c.args.shown.turn in
+    let turn = c.args.shown.now.turn in
     let read = c.in-Ok-Ok.read in
     let h = (c.args.so_far.now.original.reader).head in
     let left = g.O.Source.left c.read_part.new.o in
@@ -41,7 +44,7 @@ returns-in-None-clause-read g t c = λ ho a bo he.
 
 pub returns-in-Ok-Ok-read_parts-clause-read : goal.returns-in-Ok-Ok-read_parts-clause-read
 returns-in-Ok-Ok-read_parts-clause-read g t c = λ ho a bo he.
-    let turn = c.args.shown.turn in
+    let turn = c.args.shown.now.turn in
     let read = c.in-Ok-Ok.read in
     let h = (c.args.so_far.now.original.reader).head in
     let left = g.O.Source.left c.read_parts.new.o in
@@ -69,7 +72,7 @@ returns-in-Ok-Ok-read_parts-clause-read g t c = λ ho a bo he.
 
 pub returns-in-Ok-Err-read_parts-clause-fault : goal.returns-in-Ok-Err-read_parts-clause-fault
 returns-in-Ok-Err-read_parts-clause-fault g t c = λ ho a bo he.
-    let turn = c.args.shown.turn in
+    let turn = c.args.shown.now.turn in
     let left = g.O.Source.left c.read_parts.new.o in
     let e = g.E.Source.left c.args.part.now in
     let part = (rw c.in-Ok-Ok.field-0-is at c.in-Ok-Ok.ensures.read) ho a bo he.0 in
@@ -85,3 +88,40 @@ returns-in-Ok-Err-read_parts-clause-fault g t c = λ ho a bo he.
     subst F (sym others)
     (fault_behind a (c.args.so_far.now.original.reader).head left turn.part e parts c.in-Ok-Err-read_parts.fault (((part.passed).ended).through).conforms
     (subst (λ k. HaveFault (turn.part + 1) a k left parts c.in-Ok-Err-read_parts.fault) passed.head fault))
+
+pub returns-in-None-clause-counted : goal.returns-in-None-clause-counted
+returns-in-None-clause-counted g t c = λ looks compared early ho a bo he co.
+    let turn = c.args.shown.now.turn in
+    let read = c.in-Ok-Ok.read in
+    let h = (c.args.so_far.now.original.reader).head in
+    let e = g.E.Source.left c.args.part.now in
+    let before = g.L.Onlooker.counted c.args.shown.now.onlooker.now in
+    let none = none-of c.args.others.now c.in-None.ensures.cases in
+    let L : List _ → Type 0 = λ all. c.are_none.result ≡ is_last (map g.E.Source.left all) in
+    let last : c.are_none.result ≡ true = subst L none c.are_none.ensures.value in
+    let none-early' = none-early turn.part (read.course).is_early c.nothing.result.early (sym (ap (λ (f : PartsFound). f.early) c.found_with.ensures) ∙ early) in
+    let here = (rw c.in-Ok-Ok.field-0-is at c.in-Ok-Ok.ensures.counted) looks compared none-early'.0 ho a bo he.0 co in
+    subst (λ x. g.L.Onlooker.counted x ≡ before ++ serial_counts (turn.setting.claim).now a h (moved_original turn) (moved_export turn) (turn.setting.labels).now (turn.from).ps (e ∷ map g.E.Source.left c.args.others.now)) (search rules)
+    (counted_last turn c.are_none.result a h e (map g.E.Source.left c.args.others.now) before (g.L.Onlooker.counted c.read_part.new.onlooker) last (ap (map g.E.Source.left) none) here)
+
+pub returns-in-Ok-Ok-read_parts-clause-counted : goal.returns-in-Ok-Ok-read_parts-clause-counted
+returns-in-Ok-Ok-read_parts-clause-counted g t c = λ looks compared early ho a bo he co.
+    let turn = c.args.shown.now.turn in
+    let read = c.in-Ok-Ok.read in
+    let h = (c.args.so_far.now.original.reader).head in
+    let e = g.E.Source.left c.args.part.now in
+    let parts = g.E.Source.left c.in-Some.next.now ∷ map g.E.Source.left c.in-Some.behind.now in
+    let others = c.in-Some.ensures.cases.0 in
+    let before = g.L.Onlooker.counted c.args.shown.now.onlooker.now in
+    let L : List _ → Type 0 = λ all. c.are_none.result ≡ is_last (map g.E.Source.left all) in
+    let last : c.are_none.result ≡ false = subst L others c.are_none.ensures.value in
+    let passed = (rw c.in-Ok-Ok.field-0-is at c.in-Ok-Ok.ensures.passes) last in
+    let part = (rw c.in-Ok-Ok.field-0-is at c.in-Ok-Ok.ensures.read) ho a bo he.0 in
+    let not-early = none-early turn.part (read.course).is_early c.in-Ok-Ok-read_parts.rest.early (sym (ap (λ (f : PartsFound). f.early) c.found_with-in-Ok-Ok-read_parts.ensures) ∙ early) in
+    let here = (rw c.in-Ok-Ok.field-0-is at c.in-Ok-Ok.ensures.counted) looks compared not-early.0 ho a bo he.0 co in
+    let beside = (rw c.in-Ok-Ok.field-0-is at c.in-Ok-Ok.ensures.beside) looks last compared not-early.0 in
+    let H : List _ → Type 0 = λ all. AllByRecursion IsTrue (map g.E.Source.is_honest all) in
+    let behind = (rw c.in-Ok-Ok-read_parts.field-0-is at c.in-Ok-Ok-read_parts.ensures.counted) (c.read_part.ensures.looks ∙ looks) beside not-early.1 (passed.honesty ho) a (passed.comes ho a bo) (subst H others he.1) (subst (Conforms a) (sym passed.head) co) in
+    let behind' = subst (λ x. g.L.Onlooker.counted c.read_parts.new.shown.onlooker.now ≡ g.L.Onlooker.counted x ++ serial_counts (turn.setting.claim).now a (c.read_part.new.original.reader).head (moved_original turn) (moved_export turn) (turn.setting.labels).now ((read.course).end).ps parts) (search rules) behind in
+    subst (λ x. g.L.Onlooker.counted x ≡ before ++ serial_counts (turn.setting.claim).now a h (moved_original turn) (moved_export turn) (turn.setting.labels).now (turn.from).ps (e ∷ map g.E.Source.left c.args.others.now)) (search rules)
+    (counted_more turn c.are_none.result a h _ e (map g.E.Source.left c.args.others.now) parts (read.course).end before (g.L.Onlooker.counted c.read_part.new.onlooker) (g.L.Onlooker.counted c.read_parts.new.shown.onlooker.now) last refl passed.head ((part.passed).ended).end_is (ap (map g.E.Source.left) others) here behind')

@@ -1,4 +1,4 @@
-use Rattle.std.proofs.Common.{◌≡◌, None, arith, map, ◌∙◌, ap, sym, subst}
+use Rattle.std.proofs.Common.{◌≡◌, None, arith, map, refl, ◌∙◌, ap, sym, subst}
 use Rattle.std.proofs.lemmas.Int.{ints}
 use Rattle.edf_header.specs.Heads.{Head}
 use Rattle.edf_stream.specs.Conforming.{Conforms}
@@ -21,6 +21,8 @@ loop-end-init g c =
       ended = λ f z he b ae. absurd (other_way _ (c.requires.begins f) z);
       fits = c.requires.fits;
       wants = c.requires.wants;
+      lender = refl;
+      keeps = refl;
       holds = λ ho he a b ao ae co ce held. held;
     }
 
@@ -56,6 +58,8 @@ loop-end-preserved g c =
           before (e.comes ((inv.export).honesty he) b before);
       fits = c.see.ensures.fits;
       wants = sym c.has_enough.ensures ∙ c.if-has_enough.false;
+      lender = c.see.ensures.lender ∙ inv.lender;
+      keeps = c.see.ensures.keeps ∙ inv.keeps;
       holds = λ ho he a b ao ae co ce held.
           seen_next (g.W.Watcher.holds (c.loop-end.watch).watcher c.args.watch.now.frame) (g.W.Watcher.holds c.see.new.self c.args.watch.now.frame) c.args.watch.now.frame
           c.args.original.now.reader c.args.export.now.reader c.loop-end.original.reader c.loop-end.export.reader (g.O.Source.left c.loop-end.o) (g.E.Source.left c.loop-end.e)

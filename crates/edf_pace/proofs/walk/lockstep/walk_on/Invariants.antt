@@ -16,6 +16,8 @@ invariant-loop-end g l = record {
       → OfFile (export_at g.E.Source l.fn.export l.fn.e (l.turn).setting (l.turn).from) (λ b. l.time.ps ≡ last_end_by b ((l.fn.export).reader).head (moved_export l.turn));
   fits : g.W.Watcher.fits (l.watch).watcher (l.fn.watch).frame;
   wants : g.W.Watcher.has_enough (l.watch).watcher ≡ false;
+  lender : g.W.Watcher.lender (l.watch).watcher ≡ g.W.Watcher.lender (l.fn.watch).watcher;
+  keeps : g.W.Watcher.keeps (l.watch).watcher ≡ g.W.Watcher.keeps (l.fn.watch).watcher;
   holds : OfFiles (original_at g.O.Source l.fn.original l.fn.o (l.turn).setting (l.turn).from) (export_at g.E.Source l.fn.export l.fn.e (l.turn).setting (l.turn).from)
       (λ a b. Conforms a ((l.fn.original).reader).head → Conforms b ((l.fn.export).reader).head
       → g.W.Watcher.holds (l.fn.watch).watcher (l.fn.watch).frame (two_files a ((l.fn.original).reader).head b ((l.fn.export).reader).head) ((l.turn).from).ps ((l.turn).from).ps

@@ -1,0 +1,103 @@
+-- Nothing is counted exactly where the samples are as claimed.
+use Rattle.std.proofs.Common.{◌≡◌, ◌↔◌, ℕ, zero, suc, ◌<◌, ℤ, neg_ℤ, pos, ◌^◌, Bor, List, [], ◌∷◌, length, map, Option, None, Some, slice_get, IfSome, inl, unsigned_abs, refl, sym, ap, ◌∙◌, arith, subst}
+use Rattle.std.proofs.lemmas.List.{length-map}
+use Rattle.std.specs.List.{AllByRecursion}
+use Rattle.std.specs.Option.{option_or}
+use Rattle.edf_claim.specs.Terms.{Terms}
+use Rattle.edf_fields.specs.Lists.{Has}
+use Rattle.edf_header.specs.Heads.{Head}
+use Rattle.edf_header.specs.HeadsReading.{head_of}
+use Rattle.edf_pace.specs.declared.samples.earliest.Found.{Found}
+use Rattle.edf_pace.specs.declared.samples.tally.Tally.{Tally}
+use Rattle.edf_pace.specs.InstantOrder.{floor_of}
+use Rattle.edf_pace.specs.samples.Tallies.{tally_of}
+use Rattle.edf_pace.specs.walk.Pairs.{places_in}
+use Rattle.edf_pace.specs.walk.Readings.{beginning}
+use Rattle.edf_pace.specs.walk.Shown.{last_end_by}
+use Rattle.edf_pace.specs.walk.Windows.{is_last, sampled, span_difference}
+use Rattle.edf_pace.proofs.ForCallers.{found_among, none_in_span}
+use Rattle.edf_check.specs.Courses.{Agree}
+use Rattle.edf_check.specs.KeptReading.{KeptAt, origin_of}
+use Rattle.edf_check.specs.parts.Counted.{AreCounted, HasNothing, serial_counts}
+use Rattle.edf_check.specs.parts.Parts.{ExportedByOne, FollowOneAnother}
+use Rattle.edf_check.specs.parts.PartsVerdicts.{AllAgreed}
+use Rattle.edf_check.specs.parts.Together.{serial_difference}
+use Rattle.edf_claim.specs.Claims.{IsClaim}
+use Rattle.edf_stream.proofs.ForCallers.{sound-of}
+use Rattle.std.proofs.lemmas.Int.{ints}
+use Rattle.edf_check.proofs.CourseFacts.{first-apart}
+use Rattle.edf_check.proofs.ProductFacts.{shift-small}
+use Rattle.edf_check.proofs.parts.OnePartsVerdictFacts.{from-first, ordered-course}
+use Rattle.edf_check.proofs.parts.SeriesFacts.{IsFirst, moved_part, parts_first}
+use Rattle.edf_check.proofs.parts.TogetherFacts.{before-all, from-beginning}
+
+none-of-both : {X : Type 0} (x y : Option X) → option_or x y ≡ None → (x ≡ None) × (y ≡ None)
+none-of-both None y e = (refl, e)
+none-of-both (Some x) y e = absurd (let z : Some x ≡ None = e in cc)
+
+none-or : {X : Type 0} (x y : Option X) → x ≡ None → y ≡ None → option_or x y ≡ None
+none-or x y a b = rw (a, b) refl
+
+-- there is no first difference exactly where nothing is counted
+none-counted : (claim : Terms) (o : List ℕ) (h : Head) (a b : ℤ) (labels : List (Bor (List ℕ))) (t : ℤ) (parts : List (List ℕ)) → (serial_difference claim o h a b labels t parts ≡ None) ↔ HasNothing (serial_counts claim o h a b labels t parts)
+none-counted claim o h a b labels t [] = (λ e. tt, λ n. refl)
+none-counted claim o h a b labels t (part ∷ parts) =
+    let v = last_end_by part (head_of part) b in
+    let here = none_in_span (is_last parts) claim (sampled o h a) (sampled part (head_of part) b) (places_in h (head_of part) labels) t v in
+    let there = none-counted claim o h a b labels v parts in (
+      λ e. (let both = none-of-both (span_difference (is_last parts) claim (sampled o h a) (sampled part (head_of part) b) (places_in h (head_of part) labels) t v) (serial_difference claim o h a b labels v parts) e in (here.0 both.0, there.0 both.1)),
+      λ n. none-or (span_difference (is_last parts) claim (sampled o h a) (sampled part (head_of part) b) (places_in h (head_of part) labels) t v) (serial_difference claim o h a b labels v parts) (here.1 n.0) (there.1 n.1),
+    )
+
+or-among : (x y : Option Found) (n : ℕ) → IfSome x (λ f. f.channel < n) → IfSome y (λ f. f.channel < n) → IfSome (option_or x y) (λ f. f.channel < n)
+or-among None y n a b = b
+or-among (Some f) y n a b = a
+
+-- the first difference is one of a label's channels
+serial-among : (claim : Terms) (o : List ℕ) (h : Head) (a b : ℤ) (labels : List (Bor (List ℕ))) (t : ℤ) (parts : List (List ℕ)) → IfSome (serial_difference claim o h a b labels t parts) (λ f. f.channel < length labels)
+serial-among claim o h a b labels t [] = tt
+serial-among claim o h a b labels t (part ∷ parts) =
+    let v = last_end_by part (head_of part) b in
+    let here = found_among (is_last parts) claim (sampled o h a) (sampled part (head_of part) b) (places_in h (head_of part) labels) t v in
+    or-among (span_difference (is_last parts) claim (sampled o h a) (sampled part (head_of part) b) (places_in h (head_of part) labels) t v) (serial_difference claim o h a b labels v parts) (length labels)
+    (subst (λ n. IfSome (span_difference (is_last parts) claim (sampled o h a) (sampled part (head_of part) b) (places_in h (head_of part) labels) t v) (λ f. f.channel < n)) (length-map labels _) here)
+    (serial-among claim o h a b labels v parts)
+
+there-at : {X : Type 0} (xs : List X) (k : ℕ) → k < length xs → (x : X) × (slice_get xs k ≡ Some x)
+there-at [] k lt = absurd (omega (arith, lt))
+there-at (x ∷ xs) zero lt = (x, refl)
+there-at (x ∷ xs) (suc k) lt = there-at xs k (omega (arith, lt))
+
+pub nothing_counted : (o : List ℕ) (parts : List (List ℕ)) (claim : Terms) (counts : List (List Tally)) → IsClaim claim → 0 < length parts → AllAgreed o parts claim → FollowOneAnother parts → AreCounted o parts claim [] counts
+    → HasNothing counts ↔ Agree (KeptAt o claim) (ExportedByOne o parts claim)
+nothing_counted o [] claim counts sound some all follow c = absurd (omega (arith, some))
+nothing_counted o (part ∷ parts) claim counts sound some all follow c = (
+  λ none. (let is : first ≡ None = (none-counted claim o (head_of o) (neg_ℤ (origin_of o)) (moved_part o claim) labels beginning (part ∷ parts)).1 (subst HasNothing c.are none) in subst (IsFirst (KeptAt o claim) (ExportedByOne o (part ∷ parts) claim) labels) is found),
+  λ agree. subst HasNothing (sym c.are) ((none-counted claim o (head_of o) (neg_ℤ (origin_of o)) (moved_part o claim) labels beginning (part ∷ parts)).0 (by agree first refl)),
+)
+  where
+    labels : List (Bor (List ℕ))
+    labels = c.labels
+
+    first : Option Found
+    first = serial_difference claim o (head_of o) (neg_ℤ (origin_of o)) (moved_part o claim) labels beginning (part ∷ parts)
+
+    near : unsigned_abs (moved_part o claim) < 2 ^ 80
+    near =
+        let day = ((sound-of o (head_of o) (all.conform).original_conforms).bounds).near in
+        let shift = shift-small claim sound in
+        omega (arith, ints, day, shift)
+
+    found : IsFirst (KeptAt o claim) (ExportedByOne o (part ∷ parts) claim) labels first
+    found =
+        let conform = (all.conform).parts_conform in
+        parts_first o claim labels beginning part parts (all.conform).original_conforms conform all.agree c.sorted
+        (from-first o claim beginning part parts follow (from-beginning part (moved_part o claim) (conform part (inl refl)) near)) (before-all o beginning (all.conform).original_conforms refl)
+
+    by : Agree (KeptAt o claim) (ExportedByOne o (part ∷ parts) claim) → (f : Option Found) → first ≡ f → first ≡ None
+    by agree None e = e
+    by agree (Some f) e =
+        let lt = subst (λ x. IfSome x (λ g. g.channel < length labels)) e (serial-among claim o (head_of o) (neg_ℤ (origin_of o)) (moved_part o claim) labels beginning (part ∷ parts)) in
+        let at = there-at (map (λ l. l.now) labels) f.channel (subst (λ n. f.channel < n) (sym (length-map labels _)) lt) in
+        let mismatch = subst (IsFirst (KeptAt o claim) (ExportedByOne o (part ∷ parts) claim) labels) e found at.0 at.1 in
+        absurd (first-apart (KeptAt o claim) (ExportedByOne o (part ∷ parts) claim) at.0 (floor_of f.difference.at) f.difference.mismatch (ordered-course o claim (part ∷ parts) (all.conform).parts_conform follow) agree mismatch)

@@ -1,0 +1,12 @@
+use Rattle.std.proofs.Common.{rules, ◌≡◌, ◌∙◌, List, sym}
+use Rattle.edf_pace.specs.declared.samples.tally.Tally.{Tally}
+use Rattle.edf_pace.specs.walk.Counting.{AreTallies}
+use Rattle.edf_pace.specs.walk.Watching.{HasSeenIn}
+use Rattle.edf_findings.proofs.looker.LookerOnlooker.look.Goals as goal
+
+pub returns-clause-holds : goal.returns-clause-holds
+returns-clause-holds c =
+    let there : (ts : List Tally) → c.see.new.self.tallies.items ≡ ts → HasSeenIn (AreTallies c.args.self.now.counts.tallies.items) (AreTallies ts) c.args.frame c.args.original.now c.args.export.now c.args.within =
+        λ ts is o e ho he t from held. sym is ∙ c.see.ensures.holds o e ho he t from held
+    in
+    there _ (search rules)
