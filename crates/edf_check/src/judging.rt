@@ -16,7 +16,7 @@ use std::alloc::Global;
 /// Reads the claim that a text says, and checks the export against the original under it. Somebody looks on while the samples
 /// are compared, which changes no answer.
 ///
-/// The error is the first fault of the text, want of memory, or a failure of one of the sources.
+/// The error is the first fault of the text, want of memory, also for who looks on, or a failure of one of the sources.
 pub fn judge_beside<O: Source, E: Source, L: Onlooker>(
     alloc: Global,
     original: &mut O,
@@ -25,8 +25,8 @@ pub fn judge_beside<O: Source, E: Source, L: Onlooker>(
     onlooker: &mut L,
 ) -> Result<Verdict, RunStop>
     ensures under { IfOk result (IsJudgedBy O.Source E.Source original.old export.old claim_text.now) }
-    ensures counted { IfOk result (λ v. IsCountedUnder O.Source E.Source original.old export.old claim_text.now
-        (L.looks onlooker.old) (L.counted onlooker.old) (L.counted onlooker.new)) }
+    ensures counted { IfOk result (λ v. IsCountedUnder O.Source E.Source original.old export.old
+        claim_text.now (L.looks onlooker.old) (L.counted onlooker.old) (L.counted onlooker.new)) }
     ensures failures { OnOk result ((O.reads original.new ≡ O.reads original.old)
         × (E.reads export.new ≡ E.reads export.old)) }
     ensures stop { IfErr result (JudgeStopsOf O.Source E.Source original.old original.new export.old
@@ -78,8 +78,8 @@ pub fn judge_parts_beside<O: Source, E: Source, L: Onlooker>(
     requires some { 0 < length parts.old }
     requires few { length parts.old ≤ 64 }
     ensures under { IfOk result (ArePartsJudgedBy O.Source E.Source original.old parts.old claim_text.now) }
-    ensures counted { IfOk result (λ v. AreCountedUnder O.Source E.Source original.old parts.old claim_text.now
-        (L.looks onlooker.old) (L.counted onlooker.old) (L.counted onlooker.new)) }
+    ensures counted { IfOk result (λ v. AreCountedUnder O.Source E.Source original.old parts.old
+        claim_text.now (L.looks onlooker.old) (L.counted onlooker.old) (L.counted onlooker.new)) }
     ensures failures { OnOk result ((O.reads original.new ≡ O.reads original.old)
         × (map E.reads parts.new ≡ map E.reads parts.old)) }
     ensures size { length parts.new ≡ length parts.old }

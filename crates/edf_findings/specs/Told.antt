@@ -1,13 +1,22 @@
 -- What is told of the samples of a channel that were counted.
-use Rattle.std.specs.Prelude.{◌≡◌, Some, IfSome}
+use Rattle.std.specs.Prelude.{◌≡◌, Option, Some, None}
 use Rattle.edf_pace.specs.declared.samples.counted.Counted.{Counted}
+use Rattle.edf_pace.specs.declared.samples.difference.PointDifference.{PointDifference}
 use Rattle.edf_pace.specs.declared.samples.tally.Tally.{Tally}
 use Rattle.edf_findings.specs.declared.samples.compared.ComparedChannel.{ComparedChannel}
 use Rattle.edf_findings.specs.declared.samples.compared.Samples.{Samples}
+use Rattle.edf_findings.specs.declared.samples.compared.Spot.{Spot}
 
--- as many, and where the first and the last are told, it is they
+-- these are the first and the last, where both are there
+abbrev pub AreEnds : Option PointDifference → Option PointDifference → Option (Spot × Spot) → Type 0
+AreEnds None last ends = ends ≡ None
+AreEnds (Some first) None ends = ends ≡ None
+AreEnds (Some first) (Some last) None = ⊥
+AreEnds (Some first) (Some last) (Some ends) = (ends.0.difference ≡ first) × (ends.1.difference ≡ last)
+
+-- as many, with the first and the last
 abbrev pub AreThose : Counted → Samples → Type 0
-AreThose counted samples = (samples.count ≡ counted.count) × IfSome samples.ends (λ ends. (counted.first ≡ Some ends.0.difference) × (counted.last ≡ Some ends.1.difference))
+AreThose counted samples = (samples.count ≡ counted.count) × AreEnds counted.first counted.last samples.ends
 
 -- those of each kind
 abbrev pub IsTold : Tally → ComparedChannel → Type 0

@@ -29,17 +29,31 @@ fn floor(difference: PointDifference) -> i128 {
         .unwrap_or(0)
 }
 
+/// In which data records of files with these headers a time lies, of those at hand.
+fn records_at(
+    hands: Option<Hands>,
+    (original, export): (&Header, &Header),
+    at_ps: i128,
+) -> (Option<u64>, Option<u64>) {
+    match hands {
+        Some(hands) => (
+            hands.original.record_at(original.duration_ps(), at_ps),
+            hands.export.record_at(export.duration_ps(), at_ps),
+        ),
+        None => (None, None),
+    }
+}
+
 impl Spot {
     /// That of a difference, found in the data records at hand of files with these headers.
-    fn of(difference: PointDifference, hands: Hands, headers: (&Header, &Header)) -> Spot
+    fn of(difference: PointDifference, hands: Option<Hands>, headers: (&Header, &Header)) -> Spot
         ensures { result.difference ≡ difference }
     {
-        let at_ps = floor(difference);
-        let (original, export) = headers;
+        let (original_record, export_record) = records_at(hands, headers, floor(difference));
         Spot {
             difference,
-            original_record: hands.original.record_at(original.duration_ps(), at_ps),
-            export_record: hands.export.record_at(export.duration_ps(), at_ps),
+            original_record,
+            export_record,
         }
     }
 
@@ -70,11 +84,11 @@ impl Samples {
         ensures { AreThose counted result }
     {
         let count = counted.count;
-        match (counted.first, found.first, counted.last, found.last) {
-            (Some(first), Some(here), Some(last), Some(there)) => {
+        match (counted.first, counted.last) {
+            (Some(first), Some(last)) => {
                 let ends = (
-                    Spot::of(first, here, headers),
-                    Spot::of(last, there, headers),
+                    Spot::of(first, found.first, headers),
+                    Spot::of(last, found.last, headers),
                 );
                 Samples {
                     count,
@@ -110,7 +124,8 @@ impl ComparedChannel {
         tallies: &[Tally],
         headers: (&Header, &Header),
     ) -> ComparedChannel
-        ensures { IfSome (slice_get tallies.now channel.now.at) (λ tally. IsTold tally result) }
+        ensures place { result.place ≡ channel.now.place }
+        ensures told { IfSome (slice_get tallies.now channel.now.at) (λ tally. IsTold tally result) }
     {
         let tally = match tallies.get(channel.at) {
             Some(tally) => *tally,

@@ -14,7 +14,7 @@ use edf_stream::{FileReader, Note};
 use std::alloc::AllocError;
 
 /// Looks on while an original and its exports are compared, and counts the samples that differ. No answer of a check depends on
-/// it.
+/// it, but that memory may be wanting for it.
 pub trait Onlooker {
     /// Whether it looks on at all: then both files are shown to their ends, also behind a difference.
     ghost looks: { Self → Bool };
@@ -42,17 +42,16 @@ pub trait Onlooker {
 
     /// Counts what the data records at hand show between two times.
     fn look(&mut self, original: &FileReader, export: &FileReader, frame: Frame<'_>, within: Window)
-        requires looks { looks self.old ≡ true }
         requires frame { IsFrame original.now.head export.now.head frame }
         requires uncut { IsUncut ((frame.turn).setting.claim).now.keep (within.from).ps (within.to).ps }
-        requires each { length (tallies self.old) ≡ length (frame.pairs).now }
+        requires each { looks self.old ≡ true → length (tallies self.old) ≡ length (frame.pairs).now }
         ensures looks { looks self.new ≡ looks self.old }
         ensures counted { counted self.new ≡ counted self.old }
-        ensures each { length (tallies self.new) ≡ length (frame.entry.pairs).now }
-        ensures holds { HasSeenIn (AreTallies (tallies self.old)) (AreTallies (tallies self.new)) frame.entry
-            original.now export.now within };
+        ensures each { looks self.old ≡ true → length (tallies self.new) ≡ length (frame.entry.pairs).now }
+        ensures holds { looks self.old ≡ true → HasSeenIn (AreTallies (tallies self.old))
+            (AreTallies (tallies self.new)) frame.entry original.now export.now within };
 
-    /// Gets an export that was read to its end. Where it was compared, that is counted with what was counted of it.
+    /// Gets an export that was read to its end. What it counted last is that of this export, where it was compared.
     ///
     /// The error is want of memory.
     fn take_export(&mut self, export: FileReader) -> Result<(), AllocError>

@@ -10,8 +10,9 @@ returns-then-looks-clause-holds g c = λ o e ho he t from held. (
   λ looks.
       let same = c.find.ensures.same in
       let files = two_files o c.args.original.now.head e c.args.export.now.head in
-      let before = held.1 (subst (λ b. g.L.Onlooker.looks b.now ≡ true) same (sym c.look.ensures.looks ∙ looks)) in
-      c.look.ensures.holds o e ho he t from (subst (λ b. AreTallies (g.L.Onlooker.tallies b.now) c.args.frame files t c.args.within.from.ps) (sym same) before),
+      let yes = sym c.look.ensures.looks ∙ looks in
+      let before = held.1 (subst (λ b. g.L.Onlooker.looks b.now ≡ true) same yes) in
+      c.look.ensures.holds yes o e ho he t from (subst (λ b. AreTallies (g.L.Onlooker.tallies b.now) c.args.frame files t c.args.within.from.ps) (sym same) before),
 )
 
 pub returns-else-looks-clause-holds : goal.returns-else-looks-clause-holds
