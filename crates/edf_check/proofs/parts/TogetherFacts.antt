@@ -316,7 +316,7 @@ none_faulty o parts (faults.Part part fault) all is =
 pub one_conforms : (o e : List ℕ) → Conforms o (head_of o) → Conforms e (head_of e) → AllConform o (e ∷ [])
 one_conforms o e co ce = record {
   original_conforms = co;
-  parts_conform = λ part i. (let P : List ℕ → Type 0 = λ f. Conforms f (head_of f) in elim i [ | inl same ↦ subst P same ce | inr none ↦ absurd none ]);
+  parts_conform = λ part i. (let P : List ℕ → Type 0 = λ f. Conforms f (head_of f) in elim i [ inl same ↦ subst P same ce | inr none ↦ absurd none ]);
 }
 
 pub one_follows : (e : List ℕ) → FollowOneAnother (e ∷ [])

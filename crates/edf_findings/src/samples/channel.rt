@@ -63,7 +63,12 @@ fn has_other_rate((original, export): (&Header, &Header), here: Track, there: Tr
 
 impl ChannelSoFar {
     /// The channel of a label of the claim and of a tally, where both files have it.
-    fn of(headers: (&Header, &Header), place: usize, at: usize, pair: Pair) -> Option<ChannelSoFar> {
+    fn of(
+        headers: (&Header, &Header),
+        place: usize,
+        at: usize,
+        pair: Pair,
+    ) -> Option<ChannelSoFar> {
         let (Some(original), Some(export)) = (pair.original, pair.export) else {
             return None;
         };

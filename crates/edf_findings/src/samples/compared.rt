@@ -131,8 +131,9 @@ impl ComparedChannel {
             Some(tally) => *tally,
             None => Tally::none(),
         };
-        let exported = u64::from(headers.1.records())
-            .saturating_mul(u64::from(channel.export.place.samples));
+        let exported = u64::from(headers.1.records()).saturating_mul(u64::from(
+            channel.export.place.samples,
+        ));
         ComparedChannel {
             place: channel.place,
             has_other_rate: channel.has_other_rate,

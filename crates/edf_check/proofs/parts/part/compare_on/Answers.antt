@@ -73,11 +73,11 @@ returns-then-not-is_over-clause-matched g c = λ compared early ho he a b ao ae.
     let over = (rw c.in-Ok-Ok.field-0-is at c.in-Ok-Ok.ensures.over) more.0 in
     let later = rw c.in-Ok-Ok.field-0-is at c.in-Ok-Ok.ensures.later in
     let walked = (
-      let frame = framed turn c.deref-2.result c.common_room-room.result in
-      let files = two_files a h b k in
-      let quiet = not (g.L.Onlooker.looks c.walk_on.new.watch.watcher.onlooker.now) in
-      is_alone turn files (IsFirst None frame) (IsFirst found frame) (is_some found) quiet read
-      (first_walked frame files found _ _ _ _ (is_some found && quiet) read (λ l. c.in_ok-begin.ensures.none (sym c.in_ok-begin.ensures.looks ∙ l) files turn.from.ps) ((rw c.in-Ok-Ok.field-0-is at c.in-Ok-Ok.ensures.walked) ho he a b ao ae))
+    let frame = framed turn c.deref-2.result c.common_room-room.result in
+    let files = two_files a h b k in
+    let quiet = not (g.L.Onlooker.looks c.walk_on.new.watch.watcher.onlooker.now) in
+    is_alone turn files (IsFirst None frame) (IsFirst found frame) (is_some found) quiet read
+    (first_walked frame files found _ _ _ _ (is_some found && quiet) read (λ l. c.in_ok-begin.ensures.none (sym c.in_ok-begin.ensures.looks ∙ l) files turn.from.ps) ((rw c.in-Ok-Ok.field-0-is at c.in-Ok-Ok.ensures.walked) ho he a b ao ae))
     ) in
     let moved = rw c.in-Ok-Ok.field-0-is at c.in-Ok-Ok.ensures.export in
     let ended = has_ended c.args.export.now.reader c.walk_on.new.export.reader _ _ b None (moved_export turn) read.reached.ps moved.head moved.going (over.1).0 (moved.comes he b ae) in
@@ -131,11 +131,11 @@ returns-in-Ok-Ok-end_both-clause-matched g c = λ compared early ho he a b ao ae
     let ms = map note_value (c.walk_on.new.export.notes).items in
     let later = rw c.in-Ok-Ok.field-0-is at c.in-Ok-Ok.ensures.later in
     let walked = (
-      let frame = framed turn c.deref-2.result c.common_room-room.result in
-      let files = two_files a h b k in
-      let quiet = not (g.L.Onlooker.looks c.walk_on.new.watch.watcher.onlooker.now) in
-      is_alone turn files (IsFirst None frame) (IsFirst found frame) (is_some found) quiet read
-      (first_walked frame files found _ _ _ _ (is_some found && quiet) read (λ l. c.in_ok-begin.ensures.none (sym c.in_ok-begin.ensures.looks ∙ l) files turn.from.ps) ((rw c.in-Ok-Ok.field-0-is at c.in-Ok-Ok.ensures.walked) ho he a b ao ae))
+    let frame = framed turn c.deref-2.result c.common_room-room.result in
+    let files = two_files a h b k in
+    let quiet = not (g.L.Onlooker.looks c.walk_on.new.watch.watcher.onlooker.now) in
+    is_alone turn files (IsFirst None frame) (IsFirst found frame) (is_some found) quiet read
+    (first_walked frame files found _ _ _ _ (is_some found && quiet) read (λ l. c.in_ok-begin.ensures.none (sym c.in_ok-begin.ensures.looks ∙ l) files turn.from.ps) ((rw c.in-Ok-Ok.field-0-is at c.in-Ok-Ok.ensures.walked) ho he a b ao ae))
     ) in
     let o = rw c.in-Ok-Ok.field-0-is at c.in-Ok-Ok.ensures.original in
     let e = rw c.in-Ok-Ok.field-0-is at c.in-Ok-Ok.ensures.export in
@@ -159,56 +159,56 @@ returns-in-Ok-Ok-end_both-clause-matched g c = λ compared early ho he a b ao ae
 pub returns-then-not-is_over-clause-counted : goal.returns-then-not-is_over-clause-counted
 returns-then-not-is_over-clause-counted g c =
     let there : (ts : List Tally) → g.L.Onlooker.tallies c.walk_on.new.watch.watcher.onlooker.now ≡ ts
-        → TurnCounted g.O.Source g.E.Source c.args.original.now c.args.o.now c.args.export.now c.args.e.now c.args.shown.now.turn (g.L.Onlooker.looks c.args.shown.now.onlooker.now) ts = λ ts is looks ho he a b ao ae.
-        let turn = c.args.shown.now.turn in
-        let read = c.in-Ok-Ok.read in
-        let found = c.walk_on.new.watch.watcher.found in
-        let h = (c.args.original.now.reader).head in
-        let k = (c.args.export.now.reader).head in
-        let frame = framed turn c.deref-2.result c.common_room-room.result in
-        let files = two_files a h b k in
-        let looks' : g.L.Onlooker.looks c.walk_on.new.watch.watcher.onlooker.now ≡ true = ap (λ (kept : Kept). kept.looks) c.walk_on.ensures.keeps ∙ c.in_ok-begin.ensures.looks ∙ looks in
-        let quiet = not (g.L.Onlooker.looks c.walk_on.new.watch.watcher.onlooker.now) in
-        let more : (is_some found && quiet) ≡ false = never-enough (is_some found) _ looks' in
-        let over = (rw c.in-Ok-Ok.field-0-is at c.in-Ok-Ok.ensures.over) more in
-        let later = rw c.in-Ok-Ok.field-0-is at c.in-Ok-Ok.ensures.later in
-        let walked = tallies_walked frame files found _ _ _ _ (is_some found && quiet) read looks' ((rw c.in-Ok-Ok.field-0-is at c.in-Ok-Ok.ensures.walked) ho he a b ao ae) in
-        let o = rw c.in-Ok-Ok.field-0-is at c.in-Ok-Ok.ensures.original in
-        let e = rw c.in-Ok-Ok.field-0-is at c.in-Ok-Ok.ensures.export in
-        let begun = c.in_ok-begin.ensures.none looks files turn.from.ps in
-        let same = placed h c.header-here.result.now k c.header-there.result.now c.in_ok-pairs.pairs.items c.deref-2.result.now turn.setting.labels.now c.header-here.ensures c.header-there.ensures c.deref-2.ensures.value c.in_ok-pairs.ensures.places in
-        let places = are_places h k c.deref-2.result.now (paired h c.header-here.result.now k c.header-there.result.now c.in_ok-pairs.pairs.items c.deref-2.result.now c.header-here.ensures c.header-there.ensures c.deref-2.ensures.value c.in_ok-pairs.ensures.pairs) in
-        let ended = has_ended c.args.export.now.reader c.walk_on.new.export.reader _ _ b None (moved_export turn) read.reached.ps e.head e.going (over.1).0 (e.comes he b ae) in
-        let last = (not-over (is_some found && quiet) turn.is_last (ap (λ z. z || turn.is_last) (sym c.has_enough.ensures) ∙ sym c.is_over.ensures ∙ c.if-not-is_over.true)).1 in
-        subst (λ (xs : List Tally). IsCounted turn a h b k xs) is (counted_on frame a h b k read (is_some found && quiet) _ _ same places later over.0 begun walked last more (ended.through).conforms)
+    → TurnCounted g.O.Source g.E.Source c.args.original.now c.args.o.now c.args.export.now c.args.e.now c.args.shown.now.turn (g.L.Onlooker.looks c.args.shown.now.onlooker.now) ts = λ ts is looks ho he a b ao ae.
+    let turn = c.args.shown.now.turn in
+    let read = c.in-Ok-Ok.read in
+    let found = c.walk_on.new.watch.watcher.found in
+    let h = (c.args.original.now.reader).head in
+    let k = (c.args.export.now.reader).head in
+    let frame = framed turn c.deref-2.result c.common_room-room.result in
+    let files = two_files a h b k in
+    let looks' : g.L.Onlooker.looks c.walk_on.new.watch.watcher.onlooker.now ≡ true = ap (λ (kept : Kept). kept.looks) c.walk_on.ensures.keeps ∙ c.in_ok-begin.ensures.looks ∙ looks in
+    let quiet = not (g.L.Onlooker.looks c.walk_on.new.watch.watcher.onlooker.now) in
+    let more : (is_some found && quiet) ≡ false = never-enough (is_some found) _ looks' in
+    let over = (rw c.in-Ok-Ok.field-0-is at c.in-Ok-Ok.ensures.over) more in
+    let later = rw c.in-Ok-Ok.field-0-is at c.in-Ok-Ok.ensures.later in
+    let walked = tallies_walked frame files found _ _ _ _ (is_some found && quiet) read looks' ((rw c.in-Ok-Ok.field-0-is at c.in-Ok-Ok.ensures.walked) ho he a b ao ae) in
+    let o = rw c.in-Ok-Ok.field-0-is at c.in-Ok-Ok.ensures.original in
+    let e = rw c.in-Ok-Ok.field-0-is at c.in-Ok-Ok.ensures.export in
+    let begun = c.in_ok-begin.ensures.none looks files turn.from.ps in
+    let same = placed h c.header-here.result.now k c.header-there.result.now c.in_ok-pairs.pairs.items c.deref-2.result.now turn.setting.labels.now c.header-here.ensures c.header-there.ensures c.deref-2.ensures.value c.in_ok-pairs.ensures.places in
+    let places = are_places h k c.deref-2.result.now (paired h c.header-here.result.now k c.header-there.result.now c.in_ok-pairs.pairs.items c.deref-2.result.now c.header-here.ensures c.header-there.ensures c.deref-2.ensures.value c.in_ok-pairs.ensures.pairs) in
+    let ended = has_ended c.args.export.now.reader c.walk_on.new.export.reader _ _ b None (moved_export turn) read.reached.ps e.head e.going (over.1).0 (e.comes he b ae) in
+    let last = (not-over (is_some found && quiet) turn.is_last (ap (λ z. z || turn.is_last) (sym c.has_enough.ensures) ∙ sym c.is_over.ensures ∙ c.if-not-is_over.true)).1 in
+    subst (λ (xs : List Tally). IsCounted turn a h b k xs) is (counted_on frame a h b k read (is_some found && quiet) _ _ same places later over.0 begun walked last more (ended.through).conforms)
     in
     there _ (search rules)
 
 pub returns-in-Ok-Ok-end_both-clause-counted : goal.returns-in-Ok-Ok-end_both-clause-counted
 returns-in-Ok-Ok-end_both-clause-counted g c =
     let there : (ts : List Tally) → g.L.Onlooker.tallies c.walk_on.new.watch.watcher.onlooker.now ≡ ts
-        → TurnCounted g.O.Source g.E.Source c.args.original.now c.args.o.now c.args.export.now c.args.e.now c.args.shown.now.turn (g.L.Onlooker.looks c.args.shown.now.onlooker.now) ts = λ ts is looks ho he a b ao ae.
-        let turn = c.args.shown.now.turn in
-        let read = c.in-Ok-Ok.read in
-        let found = c.walk_on.new.watch.watcher.found in
-        let h = (c.args.original.now.reader).head in
-        let k = (c.args.export.now.reader).head in
-        let frame = framed turn c.deref-2.result c.common_room-room.result in
-        let files = two_files a h b k in
-        let looks' : g.L.Onlooker.looks c.walk_on.new.watch.watcher.onlooker.now ≡ true = ap (λ (kept : Kept). kept.looks) c.walk_on.ensures.keeps ∙ c.in_ok-begin.ensures.looks ∙ looks in
-        let quiet = not (g.L.Onlooker.looks c.walk_on.new.watch.watcher.onlooker.now) in
-        let more : (is_some found && quiet) ≡ false = never-enough (is_some found) _ looks' in
-        let over = (rw c.in-Ok-Ok.field-0-is at c.in-Ok-Ok.ensures.over) more in
-        let later = rw c.in-Ok-Ok.field-0-is at c.in-Ok-Ok.ensures.later in
-        let walked = tallies_walked frame files found _ _ _ _ (is_some found && quiet) read looks' ((rw c.in-Ok-Ok.field-0-is at c.in-Ok-Ok.ensures.walked) ho he a b ao ae) in
-        let o = rw c.in-Ok-Ok.field-0-is at c.in-Ok-Ok.ensures.original in
-        let e = rw c.in-Ok-Ok.field-0-is at c.in-Ok-Ok.ensures.export in
-        let begun = c.in_ok-begin.ensures.none looks files turn.from.ps in
-        let same = placed h c.header-here.result.now k c.header-there.result.now c.in_ok-pairs.pairs.items c.deref-2.result.now turn.setting.labels.now c.header-here.ensures c.header-there.ensures c.deref-2.ensures.value c.in_ok-pairs.ensures.places in
-        let places = are_places h k c.deref-2.result.now (paired h c.header-here.result.now k c.header-there.result.now c.in_ok-pairs.pairs.items c.deref-2.result.now c.header-here.ensures c.header-there.ensures c.deref-2.ensures.value c.in_ok-pairs.ensures.pairs) in
-        let ended = has_ended c.args.export.now.reader c.walk_on.new.export.reader _ _ b None (moved_export turn) read.reached.ps e.head e.going (over.1).0 (e.comes he b ae) in
-        let last : turn.is_last ≡ true = ap (λ z. z || turn.is_last) (sym more ∙ sym c.has_enough.ensures) ∙ sym c.is_over.ensures ∙ c.if-not-is_over.false in
-        let ended' = has_ended c.args.original.now.reader c.walk_on.new.original.reader _ _ a (Some turn.setting.claim.now) (moved_original turn) read.reached.ps o.head o.going ((over.1).1 last) (o.comes ho a ao) in
-        subst (λ (xs : List Tally). IsCounted turn a h b k xs) is (counted_end frame a h b k read (is_some found && quiet) _ _ same places later over.0 begun walked last ended' ended)
+    → TurnCounted g.O.Source g.E.Source c.args.original.now c.args.o.now c.args.export.now c.args.e.now c.args.shown.now.turn (g.L.Onlooker.looks c.args.shown.now.onlooker.now) ts = λ ts is looks ho he a b ao ae.
+    let turn = c.args.shown.now.turn in
+    let read = c.in-Ok-Ok.read in
+    let found = c.walk_on.new.watch.watcher.found in
+    let h = (c.args.original.now.reader).head in
+    let k = (c.args.export.now.reader).head in
+    let frame = framed turn c.deref-2.result c.common_room-room.result in
+    let files = two_files a h b k in
+    let looks' : g.L.Onlooker.looks c.walk_on.new.watch.watcher.onlooker.now ≡ true = ap (λ (kept : Kept). kept.looks) c.walk_on.ensures.keeps ∙ c.in_ok-begin.ensures.looks ∙ looks in
+    let quiet = not (g.L.Onlooker.looks c.walk_on.new.watch.watcher.onlooker.now) in
+    let more : (is_some found && quiet) ≡ false = never-enough (is_some found) _ looks' in
+    let over = (rw c.in-Ok-Ok.field-0-is at c.in-Ok-Ok.ensures.over) more in
+    let later = rw c.in-Ok-Ok.field-0-is at c.in-Ok-Ok.ensures.later in
+    let walked = tallies_walked frame files found _ _ _ _ (is_some found && quiet) read looks' ((rw c.in-Ok-Ok.field-0-is at c.in-Ok-Ok.ensures.walked) ho he a b ao ae) in
+    let o = rw c.in-Ok-Ok.field-0-is at c.in-Ok-Ok.ensures.original in
+    let e = rw c.in-Ok-Ok.field-0-is at c.in-Ok-Ok.ensures.export in
+    let begun = c.in_ok-begin.ensures.none looks files turn.from.ps in
+    let same = placed h c.header-here.result.now k c.header-there.result.now c.in_ok-pairs.pairs.items c.deref-2.result.now turn.setting.labels.now c.header-here.ensures c.header-there.ensures c.deref-2.ensures.value c.in_ok-pairs.ensures.places in
+    let places = are_places h k c.deref-2.result.now (paired h c.header-here.result.now k c.header-there.result.now c.in_ok-pairs.pairs.items c.deref-2.result.now c.header-here.ensures c.header-there.ensures c.deref-2.ensures.value c.in_ok-pairs.ensures.pairs) in
+    let ended = has_ended c.args.export.now.reader c.walk_on.new.export.reader _ _ b None (moved_export turn) read.reached.ps e.head e.going (over.1).0 (e.comes he b ae) in
+    let last : turn.is_last ≡ true = ap (λ z. z || turn.is_last) (sym more ∙ sym c.has_enough.ensures) ∙ sym c.is_over.ensures ∙ c.if-not-is_over.false in
+    let ended' = has_ended c.args.original.now.reader c.walk_on.new.original.reader _ _ a (Some turn.setting.claim.now) (moved_original turn) read.reached.ps o.head o.going ((over.1).1 last) (o.comes ho a ao) in
+    subst (λ (xs : List Tally). IsCounted turn a h b k xs) is (counted_end frame a h b k read (is_some found && quiet) _ _ same places later over.0 begun walked last ended' ended)
     in
     there _ (search rules)

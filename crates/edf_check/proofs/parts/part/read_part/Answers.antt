@@ -85,8 +85,8 @@ returns-in_ok-take_export-in-Ok-Ok-read_course-clause-counted g c = λ looks com
     let before = g.L.Onlooker.counted c.args.onlooker.now in
     let whole = counted looks (c.is_compared.ensures ∙ compared-beside turn.is_compared _ _ compared (c.looks.ensures ∙ looks)) early ho honest a e less stands in
     let told : g.L.Onlooker.looks c.read_course.new.shown.onlooker.now ≡ true
-        → g.L.Onlooker.counted c.take_export.new.self ≡ g.L.Onlooker.counted c.read_course.new.shown.onlooker.now ++ (g.L.Onlooker.tallies c.read_course.new.shown.onlooker.now ∷ []) =
-        subst (λ x. g.L.Onlooker.looks x ≡ true → g.L.Onlooker.counted c.take_export.new.self ≡ g.L.Onlooker.counted x ++ (g.L.Onlooker.tallies x ∷ [])) (search rules) c.in_ok-take_export-in-Ok-Ok-read_course.ensures.counted in
+    → g.L.Onlooker.counted c.take_export.new.self ≡ g.L.Onlooker.counted c.read_course.new.shown.onlooker.now ++ (g.L.Onlooker.tallies c.read_course.new.shown.onlooker.now ∷ []) =
+    subst (λ x. g.L.Onlooker.looks x ≡ true → g.L.Onlooker.counted c.take_export.new.self ≡ g.L.Onlooker.counted x ++ (g.L.Onlooker.tallies x ∷ [])) (search rules) c.in_ok-take_export-in-Ok-Ok-read_course.ensures.counted in
     told (c.read_course.ensures.looks ∙ looks)
     ∙ ap (λ ts. ts ++ (tallies ∷ [])) c.read_course.ensures.before
     ∙ ap (λ t. before ++ (t ∷ [])) ((subst (λ k. IsCounted turn a h e k tallies) (stands.passed).head whole) co)

@@ -7,6 +7,6 @@ use Rattle.edf_findings.proofs.looker.LookerOnlooker.look.Goals as goal
 pub returns-clause-holds : goal.returns-clause-holds
 returns-clause-holds c = λ yes.
     let there : (ts : List Tally) → c.see.new.self.tallies.items ≡ ts → HasSeenIn (AreTallies c.args.self.now.counts.tallies.items) (AreTallies ts) c.args.frame c.args.original.now c.args.export.now c.args.within =
-        λ ts is o e ho he t from held. sym is ∙ c.see.ensures.holds o e ho he t from held
+    λ ts is o e ho he t from held. sym is ∙ c.see.ensures.holds o e ho he t from held
     in
     there _ (search rules)
