@@ -9,13 +9,15 @@ use Rattle.edf_stream.specs.samples.Samples.{SampleValue, IsSample}
 use Rattle.edf_pace.specs.Annotations.{SameNotes}
 use Rattle.edf_verdict.specs.declared.verdict.Verdict.TheVariants.{Yes}
 use Rattle.edf_check.specs.Exports.{BothConform, SameSamples, IsExport}
+use Rattle.edf_heads.specs.HeadVerdicts.{IsBroken}
+use Rattle.edf_verdict.specs.declared.verdict.Difference.{Difference}
 use Rattle.edf_pace.specs.Instants.{later}
 use Rattle.edf_check.specs.Headline.{Headline}
 use Rattle.edf_pace.specs.Kept.{IsKeptSample, SamplesAsKept, shift_ps}
-use Rattle.edf_check.specs.KeptReading.{KeptAt, origin_of}
+use Rattle.edf_check.specs.KeptReading.{KeptAt, kept_notes, origin_of}
 use Rattle.edf_check.specs.Courses.{Agree}
 use Rattle.edf_check.specs.parts.Counted.{AreCounted, HasNothing}
-use Rattle.edf_check.specs.parts.Parts.{AllConform, AreTogether, ExportedByOne, FollowOneAnother}
+use Rattle.edf_check.specs.parts.Parts.{AllConform, AreTogether, ExportedByOne, FollowOneAnother, exported_by_all}
 use Rattle.edf_check.specs.parts.PartsVerdicts.{AllAgreed, IsPartsVerdict}
 use Rattle.edf_pace.specs.declared.samples.tally.Tally.{Tally}
 use Rattle.edf_check.specs.SameFiles.{HoldTheSame}
@@ -123,3 +125,16 @@ AnyCutOfOriginal = (original other export : List ℕ) (claim : Terms) (v : Verdi
 abbrev pub NothingIsCounted : Type 0
 NothingIsCounted = (original : List ℕ) (parts : List (List ℕ)) (claim : Terms) (counts : List (List Tally)) → IsClaim claim → 0 < length parts → AllAgreed original parts claim → FollowOneAnother parts
     → AreCounted original parts claim [] counts → HasNothing counts ↔ Agree (KeptAt original claim) (ExportedByOne original parts claim)
+
+-- of an original and exports that conform nothing was found: no rule of the two headers is broken in any of them, none begins before the one
+-- before it ends, nothing was counted of any channel, and no annotation is in the original or the exports alone
+pub record NothingIsFoundIn (original : List ℕ) (parts : List (List ℕ)) (claim : Terms) (counts : List (List Tally)) : Type 0 where
+  pub heads : (part : List ℕ) (rule : Difference) → Has parts part → IsBroken (head_of original) (head_of part) claim rule → ⊥
+  pub order : FollowOneAnother parts
+  pub samples : HasNothing counts
+  pub notes : SameNotes (kept_notes original claim) (exported_by_all original parts claim)
+
+-- nothing is found exactly where the verdict is a Yes
+abbrev pub NothingIsFound : Type 0
+NothingIsFound = (original : List ℕ) (parts : List (List ℕ)) (claim : Terms) (counts : List (List Tally)) (v : PartsVerdict) → IsClaim claim → 0 < length parts → AllConform original parts
+    → IsPartsVerdict original parts claim v → AreCounted original parts claim [] counts → NothingIsFoundIn original parts claim counts ↔ IsYes v.verdict

@@ -1,6 +1,6 @@
 //! Laws of the definitions, each the contract of a function that does nothing.
 
-ghost use Rattle.edf_check.specs.Laws.{AllProductsFit, AnyCutOfExport, AnyCutOfOriginal, HeadlineExactly, NotesInWords, NothingIsCounted, OnePart, OnePartVerdict, OneVerdict, OneVerdictOnParts, SamplesInWords, SomeVerdict, StartFollows, YesExactly, YesTogether};
+ghost use Rattle.edf_check.specs.Laws.{AllProductsFit, AnyCutOfExport, AnyCutOfOriginal, HeadlineExactly, NotesInWords, NothingIsCounted, NothingIsFound, OnePart, OnePartVerdict, OneVerdict, OneVerdictOnParts, SamplesInWords, SomeVerdict, StartFollows, YesExactly, YesTogether};
 
 /// Two files have one verdict at most.
 pub fn there_is_one_verdict()
@@ -73,4 +73,10 @@ pub fn a_yes_is_given_exactly_for_all_parts_together()
 /// together are what the claim keeps.
 pub fn nothing_is_counted_exactly_where_samples_are_as_claimed()
     ensures { NothingIsCounted }
+{}
+
+/// Of an original and exports that conform nothing is found exactly where the answer is Yes: no rule of the headers is broken,
+/// no export begins early, nothing is counted of the samples, and no annotation is in the original or the exports alone.
+pub fn nothing_is_found_exactly_where_the_answer_is_yes()
+    ensures { NothingIsFound }
 {}

@@ -6,4 +6,4 @@ pub use Rattle.edf_heads.proofs.OneHeadFacts.{One, Made, Else, one-made, either-
 pub use Rattle.edf_heads.proofs.SomeHeadFacts.{not-above-self, not-above-behind, one-not-above}
 pub use Rattle.edf_heads.proofs.SubfieldFacts.{has-all}
 pub use Rattle.edf_heads.proofs.SameHeadFacts.{AreSamePairs, same-heads-self, blank-alike-self}
-pub use Rattle.edf_heads.proofs.KindFacts.{agree-apart, one_head_verdict, AgreeOrDiffer, agree_or_differ, agree_carried, head_verdict_carried}
+pub use Rattle.edf_heads.proofs.KindFacts.{agree-apart, one_head_verdict, AgreeOrDiffer, agree_or_differ, agree_carried, head_verdict_carried, none-broken, nothing_is_broken}

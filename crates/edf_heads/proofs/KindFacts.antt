@@ -436,7 +436,7 @@ first_is_broken o e c (differences.NotClean Header) v = v.2
 first_is_broken o e c (differences.NotClean (Channel l)) v = first-has (HasFreeText e) c.channels l v.3
 first_is_broken o e c rule v = absurd v
 
-none-broken : (o e : Head) (c : Terms) → HeadsAgree o e c → (rule : Difference) → IsBroken o e c rule → ⊥
+pub none-broken : (o e : Head) (c : Terms) → HeadsAgree o e c → (rule : Difference) → IsBroken o e c rule → ⊥
 none-broken o e c agree (differences.UnknownChannel l) b = b.1 (agree.channels.in_original l b.0)
 none-broken o e c agree (differences.MissingChannel l) b = b.1 (in-export o e c agree.channels l b.0)
 none-broken o e c agree (differences.ExtraChannel l) b = b.unclaimed (claimed-in o e c agree.channels l b.there)

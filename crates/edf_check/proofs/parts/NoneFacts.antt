@@ -1,4 +1,4 @@
--- Nothing is counted exactly where the samples are as claimed.
+-- Nothing is counted exactly where the samples are as claimed, and nothing is found exactly where the answer is Yes.
 use Rattle.std.proofs.Common.{◌≡◌, ◌↔◌, ℕ, zero, suc, ◌<◌, ℤ, neg_ℤ, pos, ◌^◌, Bor, List, [], ◌∷◌, length, map, Option, None, Some, slice_get, IfSome, inl, unsigned_abs, refl, sym, ap, ◌∙◌, arith, subst}
 use Rattle.std.proofs.lemmas.List.{length-map}
 use Rattle.std.specs.List.{AllByRecursion}
@@ -19,7 +19,11 @@ use Rattle.edf_pace.proofs.ForCallers.{found_among, none_in_span}
 use Rattle.edf_check.specs.Courses.{Agree}
 use Rattle.edf_check.specs.KeptReading.{KeptAt, origin_of}
 use Rattle.edf_check.specs.parts.Counted.{AreCounted, HasNothing, serial_counts}
-use Rattle.edf_check.specs.parts.Parts.{ExportedByOne, FollowOneAnother}
+use Rattle.edf_check.specs.Laws.{NothingIsFound}
+use Rattle.edf_check.specs.parts.Parts.{AllConform, AreTogether, ExportedByOne, FollowOneAnother}
+use Rattle.edf_heads.specs.HeadVerdicts.{HeadsAgree, IsBroken}
+use Rattle.edf_heads.proofs.ForCallers.{none-broken, nothing_is_broken}
+use Rattle.edf_verdict.specs.declared.verdict.Difference.{Difference}
 use Rattle.edf_check.specs.parts.PartsVerdicts.{AllAgreed}
 use Rattle.edf_check.specs.parts.Together.{serial_difference}
 use Rattle.edf_claim.specs.Claims.{IsClaim}
@@ -27,7 +31,7 @@ use Rattle.edf_stream.proofs.ForCallers.{sound-of}
 use Rattle.std.proofs.lemmas.Int.{ints}
 use Rattle.edf_check.proofs.CourseFacts.{first-apart}
 use Rattle.edf_check.proofs.ProductFacts.{shift-small}
-use Rattle.edf_check.proofs.parts.OnePartsVerdictFacts.{from-first, ordered-course}
+use Rattle.edf_check.proofs.parts.OnePartsVerdictFacts.{from-first, ordered-course, yes_together}
 use Rattle.edf_check.proofs.parts.SeriesFacts.{IsFirst, moved_part, parts_first}
 use Rattle.edf_check.proofs.parts.TogetherFacts.{before-all, from-beginning}
 
@@ -101,3 +105,36 @@ nothing_counted o (part ∷ parts) claim counts sound some all follow c = (
         let at = there-at (map (λ l. l.now) labels) f.channel (subst (λ n. f.channel < n) (sym (length-map labels _)) lt) in
         let mismatch = subst (IsFirst (KeptAt o claim) (ExportedByOne o (part ∷ parts) claim) labels) e found at.0 at.1 in
         absurd (first-apart (KeptAt o claim) (ExportedByOne o (part ∷ parts) claim) at.0 (floor_of f.difference.at) f.difference.mismatch (ordered-course o claim (part ∷ parts) (all.conform).parts_conform follow) agree mismatch)
+
+-- no rule is broken exactly where the headers agree
+heads-agree : (o : List ℕ) (parts : List (List ℕ)) (claim : Terms) → IsClaim claim → AllConform o parts → (part : List ℕ) → Has parts part
+    → ((rule : Difference) → IsBroken (head_of o) (head_of part) claim rule → ⊥) ↔ HeadsAgree (head_of o) (head_of part) claim
+heads-agree o parts claim is all part has = (
+  λ none. (nothing_is_broken (head_of o) (head_of part) claim [] (sound-of o (head_of o) all.original_conforms) (sound-of part (head_of part) (all.parts_conform part has)) is (λ rule. (λ x. absurd x, λ x. absurd (none rule x)))).0 refl,
+  λ agree rule x. none-broken (head_of o) (head_of part) claim agree rule x,
+)
+
+pub nothing_found : NothingIsFound
+nothing_found o parts claim counts v is some all verdict counted = (
+  λ found.
+      let agreed : AllAgreed o parts claim = record { conform = all; agree = λ part has. (heads-agree o parts claim is all part has).0 (λ rule. found.heads part rule has) } in
+      (yes_together o parts claim v verdict).0 (
+        all,
+        record {
+          heads = agreed.agree;
+          order = found.order;
+          samples = (nothing_counted o parts claim counts is some agreed found.order counted).0 found.samples;
+          notes = found.notes;
+        },
+      ),
+  λ yes.
+      let z = (yes_together o parts claim v verdict).1 yes in
+      let together : AreTogether o parts claim = z.1 in
+      let agreed : AllAgreed o parts claim = record { conform = all; agree = together.heads } in
+      record {
+        heads = λ part rule has. (heads-agree o parts claim is all part has).1 (together.heads part has) rule;
+        order = together.order;
+        samples = (nothing_counted o parts claim counts is some agreed together.order counted).1 together.samples;
+        notes = together.notes;
+      },
+)
