@@ -37,8 +37,8 @@ pub fn in_order(alloc: Global, labels: &[SignalLabel]) -> Result<Vec<&[u8]>, All
     Ok(sorted)
 }
 
-/// The place of the label among these, which are in the order of their bytes.
-fn found_at(sorted: &[&[u8]], label: &[u8]) -> Option<usize>
+/// The place of the label among these, which are in the order of their bytes; none where it is none of them.
+pub fn place_among(sorted: &[&[u8]], label: &[u8]) -> Option<usize>
     requires { IsSorted (λ x y. slice_cmp nat_cmp x.now y.now) sorted.now }
     ensures { MatchOption result (IsNoneOf sorted.now label.now) (IsPlaceOf sorted.now label.now) }
 {
@@ -58,5 +58,5 @@ pub(crate) fn is_found(sorted: &[&[u8]], label: &[u8]) -> bool
     requires { IsSorted (λ x y. slice_cmp nat_cmp x.now y.now) sorted.now }
     ensures { result ≡ is_one_of (map (λ t. t.now) sorted.now) label.now }
 {
-    found_at(sorted, label).is_some()
+    place_among(sorted, label).is_some()
 }

@@ -21,5 +21,5 @@ pub use calibrations::has_other_calibration;
 pub use channel_index::{Channel, ChannelIndex};
 pub use channel_texts::text_difference;
 pub use heads::{HeadDifference, head_difference};
-pub use labels::in_order;
+pub use labels::{in_order, place_among};
 pub use subfields::{is_anonymous, is_unchanged};

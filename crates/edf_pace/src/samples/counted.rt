@@ -23,6 +23,27 @@ pub(crate) fn keep_first(first: &mut Option<PointDifference>, difference: PointD
     }
 }
 
+/// Keeps the first of others as the first one, if there is none before it. What is kept isn't moved: this is done for each
+/// channel in each data record.
+#[inline(always)]
+pub(crate) fn keep_first_of(first: &mut Option<PointDifference>, others: Option<PointDifference>)
+    ensures { first.new ≡ option_or first.old others }
+{
+    if first.is_none() {
+        *first = others;
+    }
+}
+
+/// Keeps the last of others as the last one, if there is one.
+#[inline(always)]
+fn keep_last_of(last: &mut Option<PointDifference>, others: Option<PointDifference>)
+    ensures { last.new ≡ option_or others last.old }
+{
+    if others.is_some() {
+        *last = others;
+    }
+}
+
 impl Counted {
     /// No difference.
     #[tactic(auto, unfolding(crate::specs::samples::Tallies::counted))]
@@ -37,13 +58,14 @@ impl Counted {
     }
 
     /// Takes in others, which are behind these.
+    #[inline(always)]
     #[tactic(auto, using(crate::proofs::samples::TallyFacts::kind_joined))]
     pub(crate) fn add(&mut self, others: Counted)
         ensures { self.new ≡ joined_kind self.old others }
     {
         self.count = self.count.saturating_add(others.count);
-        self.first = self.first.or(others.first);
-        self.last = others.last.or(self.last);
+        keep_first_of(&mut self.first, others.first);
+        keep_last_of(&mut self.last, others.last);
     }
 
     /// Takes in one more, which is behind these.

@@ -16,6 +16,7 @@ use edf_stream::value_at;
 use edf_verdict::SampleMismatch;
 
 /// The sample at a place, which one file has alone.
+#[inline(always)]
 pub(crate) fn alone_at(x: Stretch, place: usize, mismatch: SampleMismatch) -> PointDifference
     requires x { IsPart x }
     requires place { place ≤ 2 ^ 23 }
@@ -28,6 +29,7 @@ pub(crate) fn alone_at(x: Stretch, place: usize, mismatch: SampleMismatch) -> Po
 }
 
 /// Samples that one file has alone, by their places.
+#[inline(always)]
 fn alone_among(x: Stretch, places: Places, mismatch: SampleMismatch) -> Counted
     requires x { IsPart x }
     requires some { 0 < places.count }
@@ -44,6 +46,7 @@ fn alone_among(x: Stretch, places: Places, mismatch: SampleMismatch) -> Counted
 }
 
 /// The samples of a stretch from a place on, which one file has alone.
+#[inline(always)]
 pub(crate) fn alone_behind(x: Stretch, from: usize, mismatch: SampleMismatch) -> Counted
     requires x { IsPart x }
     requires from { 2 * from ≤ length x.bytes.now }
@@ -62,6 +65,7 @@ pub(crate) fn alone_behind(x: Stretch, from: usize, mismatch: SampleMismatch) ->
 }
 
 /// Every second one of the first few samples of a stretch, twice as many as these, from the second on.
+#[inline(always)]
 fn alone_between(x: Stretch, count: usize, mismatch: SampleMismatch) -> Counted
     requires x { IsPart x }
     requires some { 0 < count }
@@ -77,6 +81,7 @@ fn alone_between(x: Stretch, count: usize, mismatch: SampleMismatch) -> Counted
 }
 
 /// Two samples at one instant that have two values.
+#[inline(always)]
 pub(crate) fn change_at(x: Stretch, here: usize, y: Stretch, there: usize) -> PointDifference
     requires x { IsPart x }
     requires here { 2 * here + 1 < length x.bytes.now }
@@ -91,6 +96,7 @@ pub(crate) fn change_at(x: Stretch, here: usize, y: Stretch, there: usize) -> Po
 
 /// Samples at the same instants that have two values, by their numbers: the places of the first and of the second are so many
 /// times these.
+#[inline(always)]
 fn changes_at(x: Stretch, here: usize, y: Stretch, there: usize, numbers: Option<Places>) -> Counted
     requires x { IsPart x }
     requires first_here { IfSome numbers (λ p. 2 * (here * p.first) + 1 < length x.bytes.now) }
@@ -156,6 +162,7 @@ fn begin_apart(long: &[u8], short: &[u8]) -> bool
 
 /// The first difference of samples that are compared, and of others, each of which stands behind one of these: that of the
 /// first two samples, if they have two values, else the first of the others.
+#[inline(always)]
 fn first_of_both(differ: bool, changed: Counted, between: Counted) -> Option<PointDifference>
     ensures { result ≡ if differ then changed.first else between.first }
 {

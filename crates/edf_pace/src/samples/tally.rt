@@ -3,7 +3,7 @@
 ghost use Rattle.std.specs.Prelude.{◌≡◌, [], ◌∷◌};
 ghost use Rattle.edf_pace.specs.samples.Tallies.{all_changed, all_extra, all_missing, joined, tally_of};
 
-use crate::samples::counted::{Counted, keep_first};
+use crate::samples::counted::{Counted, keep_first, keep_first_of};
 use crate::samples::difference::PointDifference;
 use edf_verdict::SampleMismatch;
 
@@ -31,30 +31,33 @@ impl Tally {
     }
 
     /// Takes in missing samples, which are behind the others.
+    #[inline(always)]
     #[tactic(auto, using(crate::proofs::samples::TallyFacts::missing_joined))]
     pub(crate) fn add_missing(&mut self, missing: Counted)
         ensures { self.new ≡ joined self.old (all_missing missing) }
     {
         self.missing.add(missing);
-        self.first = self.first.or(missing.first);
+        keep_first_of(&mut self.first, missing.first);
     }
 
     /// Takes in extra samples.
+    #[inline(always)]
     #[tactic(auto, using(crate::proofs::samples::TallyFacts::extra_joined))]
     pub(crate) fn add_extra(&mut self, extra: Counted)
         ensures { self.new ≡ joined self.old (all_extra extra) }
     {
         self.extra.add(extra);
-        self.first = self.first.or(extra.first);
+        keep_first_of(&mut self.first, extra.first);
     }
 
     /// Takes in samples of two values.
+    #[inline(always)]
     #[tactic(auto, using(crate::proofs::samples::TallyFacts::changed_joined))]
     pub(crate) fn add_changed(&mut self, changed: Counted)
         ensures { self.new ≡ joined self.old (all_changed changed) }
     {
         self.changed.add(changed);
-        self.first = self.first.or(changed.first);
+        keep_first_of(&mut self.first, changed.first);
     }
 
     /// Takes in one difference.
@@ -71,6 +74,7 @@ impl Tally {
     }
 
     /// Takes in the differences behind these.
+    #[inline(always)]
     #[tactic(auto, unfolding(crate::specs::samples::Tallies::joined))]
     pub(crate) fn add(&mut self, more: Tally)
         ensures { self.new ≡ joined self.old more }
@@ -78,6 +82,6 @@ impl Tally {
         self.missing.add(more.missing);
         self.extra.add(more.extra);
         self.changed.add(more.changed);
-        self.first = self.first.or(more.first);
+        keep_first_of(&mut self.first, more.first);
     }
 }

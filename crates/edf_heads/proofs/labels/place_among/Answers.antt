@@ -3,7 +3,7 @@ use Rattle.std.proofs.lemmas.Fn.{always_returns_same}
 use Rattle.std.specs.Cmp.Lexicographic.{slice_cmp}
 use Rattle.std.specs.Ordering.{nat_cmp}
 use Rattle.edf_heads.proofs.LabelFacts.{place_there, place_nowhere}
-use Rattle.edf_heads.proofs.labels.found_at.Goals as goal
+use Rattle.edf_heads.proofs.labels.place_among.Goals as goal
 
 pub returns-in-Ok : goal.returns-in-Ok
 returns-in-Ok c =
