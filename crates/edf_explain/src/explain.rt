@@ -17,7 +17,7 @@ use crate::words::files::READ_ANEW;
 use edf_check::judge_beside;
 use edf_claim::Claim;
 use edf_fields::{Fault, Sink, put_all};
-use edf_findings::{Looker, OnlyInOne, Seen};
+use edf_findings::{Findings, Looker, OnlyInOne};
 use edf_sentences::Text;
 use edf_stop::{RunStop, Side};
 use edf_trial::{Asked, OneExport, Recordings, with_shift};
@@ -53,8 +53,8 @@ pub fn looker_for(alloc: Global, claim_text: &[u8]) -> Result<Looker, AllocError
 /// was seen of them under the shift with which all samples are as claimed.
 #[derive(Clone, Copy)]
 struct Both<'a, 'b, 'c, 'd> {
-    claimed: &'a Seen<'c>,
-    reckoned: &'b Seen<'d>,
+    claimed: &'a Findings<'c>,
+    reckoned: &'b Findings<'d>,
     only: &'b OnlyInOne,
 }
 
@@ -130,19 +130,19 @@ fn seen_anew<'c, R: Recordings>(
     asked: &Asked<'_, OneExport<'_, R>>,
     claim_text: &[u8],
     claim: &'c Claim,
-) -> Result<Option<Seen<'c>>, RunStop> {
+) -> Result<Option<Findings<'c>>, RunStop> {
     let mut original = asked.tries.recordings.open_original()?;
     let mut export = asked.tries.recordings.open_export()?;
     let mut looker = looker_for(alloc, claim_text)?;
     judge_beside(alloc, &mut original, &mut export, claim_text, &mut looker)?;
-    Ok(looker.seen(claim)?)
+    Ok(looker.findings(claim)?)
 }
 
 /// The same where samples and annotations are reckoned by another shift, in seconds.
 fn say_reckoned<R: Recordings>(
     text: &mut Text,
     asked: &Asked<'_, OneExport<'_, R>>,
-    claimed: &Seen<'_>,
+    claimed: &Findings<'_>,
     shifts: &TriedShifts,
     seconds: i64,
 ) -> Result<(), RunStop> {
@@ -168,7 +168,7 @@ fn say_reckoned<R: Recordings>(
 fn say_seen<R: Recordings>(
     text: &mut Text,
     asked: &Asked<'_, OneExport<'_, R>>,
-    mut seen: Seen<'_>,
+    mut seen: Findings<'_>,
 ) -> Result<(), RunStop> {
     let alloc = text.alloc();
     let shifts = TriedShifts::of(alloc, asked, seen.starts())?;
@@ -209,7 +209,7 @@ fn sentences<R: Recordings>(
         return Ok(text);
     }
     let claim = Claim::read(alloc, asked.claim_text)?;
-    if let Some(seen) = looker.seen(&claim)? {
+    if let Some(seen) = looker.findings(&claim)? {
         say_seen(&mut text, asked, seen)?;
     }
     Ok(text)

@@ -20,7 +20,7 @@ use crate::words::parts as words;
 use edf_check::judge_parts_beside;
 use edf_claim::{Claim, ClaimStop};
 use edf_fields::{Fault, Sink, put_all};
-use edf_findings::{Looker, OnlyInOne, Seen, SeenPart};
+use edf_findings::{Findings, Looker, OnlyInOne, PartFindings};
 use edf_sentences::{Piece, Text};
 use edf_stop::{PartsRunStop, Side};
 use edf_trial::{Asked, PartsRecordings, SeveralExports, with_shift};
@@ -106,7 +106,7 @@ fn say_faults<R: PartsRecordings>(
 fn say_samples_of_part(
     text: &mut Text,
     heads: Heads<'_>,
-    part: &SeenPart,
+    part: &PartFindings,
 ) -> Result<(), AllocError> {
     say_start_of_part(text, part)?;
     let clocks = Clocks::of(heads.original, part);
@@ -116,9 +116,9 @@ fn say_samples_of_part(
 /// Says how a part isn't as claimed, or that it is.
 fn say_part(
     text: &mut Text,
-    seen: &Seen<'_>,
+    seen: &Findings<'_>,
     number: u16,
-    part: &SeenPart,
+    part: &PartFindings,
 ) -> Result<(), AllocError> {
     let heads = Heads {
         original: seen.original_header(),
@@ -140,7 +140,7 @@ fn say_part(
 
 /// Says how each part isn't as claimed, or that it is. The first one that wasn't compared begins early; answers whether there is
 /// none.
-fn say_each(text: &mut Text, seen: &Seen<'_>) -> Result<bool, AllocError> {
+fn say_each(text: &mut Text, seen: &Findings<'_>) -> Result<bool, AllocError> {
     say_part(text, seen, 0, seen.first())?;
     let mut number: u16 = 0;
     let mut are_compared = true;
@@ -161,7 +161,7 @@ fn say_each(text: &mut Text, seen: &Seen<'_>) -> Result<bool, AllocError> {
 }
 
 /// Says how the annotations of all parts together aren't as claimed.
-fn say_notes(text: &mut Text, seen: &Seen<'_>, only: &OnlyInOne) -> Result<(), AllocError> {
+fn say_notes(text: &mut Text, seen: &Findings<'_>, only: &OnlyInOne) -> Result<(), AllocError> {
     if only.missing.is_empty() && only.extra.is_empty() {
         return Ok(());
     }
@@ -174,7 +174,7 @@ fn say_notes(text: &mut Text, seen: &Seen<'_>, only: &OnlyInOne) -> Result<(), A
 fn say_behind<R: PartsRecordings>(
     text: &mut Text,
     parts: &PartsAsked<'_, R>,
-    seen: &Seen<'_>,
+    seen: &Findings<'_>,
 ) -> Result<(), AllocError> {
     let read = ReadTexts {
         claim: seen.claim(),
@@ -195,7 +195,7 @@ fn say_behind<R: PartsRecordings>(
 fn say_listed<R: PartsRecordings>(
     text: &mut Text,
     parts: &PartsAsked<'_, R>,
-    seen: &mut Seen<'_>,
+    seen: &mut Findings<'_>,
     shifts: &TriedShifts,
 ) -> Result<(), PartsRunStop> {
     let only = seen.only_in_one(text.alloc())?;
@@ -216,13 +216,13 @@ fn seen_anew<'c, R: PartsRecordings>(
     parts: &PartsAsked<'_, R>,
     claim_text: &[u8],
     claim: &'c Claim,
-) -> Result<Option<Seen<'c>>, PartsRunStop> {
+) -> Result<Option<Findings<'c>>, PartsRunStop> {
     let recordings = parts.asked.tries.recordings;
     let mut original = recordings.open_original()?;
     let mut exports = recordings.open_exports(alloc)?;
     let mut looker = looker_for(alloc, claim_text)?;
     judge_parts_beside(alloc, &mut original, &mut exports, claim_text, &mut looker)?;
-    Ok(looker.seen(claim)?)
+    Ok(looker.findings(claim)?)
 }
 
 /// Says the same where samples and annotations are reckoned by another shift, in seconds.
@@ -248,7 +248,7 @@ fn say_reckoned<R: PartsRecordings>(
 fn say_seen<R: PartsRecordings>(
     text: &mut Text,
     parts: &PartsAsked<'_, R>,
-    mut seen: Seen<'_>,
+    mut seen: Findings<'_>,
 ) -> Result<(), PartsRunStop> {
     let heads = Heads {
         original: seen.original_header(),
@@ -291,7 +291,7 @@ fn sentences_on_parts<R: PartsRecordings>(
         return Ok(text);
     }
     let claim = claim_of(alloc, parts.asked.claim_text)?;
-    if let Some(seen) = looker.seen(&claim)? {
+    if let Some(seen) = looker.findings(&claim)? {
         say_seen(&mut text, parts, seen)?;
     }
     Ok(text)

@@ -1,5 +1,11 @@
--- What is told of the samples of a channel that were counted.
-use Rattle.std.specs.Prelude.{◌≡◌, Option, Some, None}
+-- What is told of samples that were counted: of each claimed channel that both files have, of each export.
+use Rattle.std.specs.Prelude.{◌≡◌, ℕ, ◌+◌, Bool, ◌&&◌, if◌then◌else◌, List, [], ◌∷◌, map, length, slice_get, Option, Some, None, is_some}
+use Rattle.std.specs.Borrow.{Bor}
+use Rattle.edf_claim.specs.Terms.{Terms}
+use Rattle.edf_fields.specs.Lists.{Has}
+use Rattle.edf_header.specs.Heads.{Head}
+use Rattle.edf_heads.specs.Comparisons.{AreSorted, IsPlaceOf}
+use Rattle.edf_pace.specs.samples.Columns.{channel_at}
 use Rattle.edf_pace.specs.declared.samples.counted.Counted.{Counted}
 use Rattle.edf_pace.specs.declared.samples.difference.PointDifference.{PointDifference}
 use Rattle.edf_pace.specs.declared.samples.tally.Tally.{Tally}
@@ -21,3 +27,29 @@ AreThose counted samples = (samples.count ≡ counted.count) × AreEnds counted.
 -- those of each kind
 abbrev pub IsTold : Tally → ComparedChannel → Type 0
 IsTold tally channel = AreThose tally.missing channel.missing × AreThose tally.extra channel.extra × AreThose tally.changed channel.changed
+
+-- the channel tells the tally of this label, where the tallies stand in the order of these labels
+pub record IsToldAt (labels : List (Bor (List ℕ))) (tallies : List Tally) (label : List ℕ) (channel : ComparedChannel) : Type 0 where
+  pub at : ℕ
+  pub label_is : IsPlaceOf labels label at
+  pub tally : Tally
+  pub tally_is : slice_get tallies at ≡ Some tally
+  pub told : IsTold tally channel
+
+-- it tells that of the label with its place in a claim
+abbrev pub IsToldOf : List (List ℕ) → List (Bor (List ℕ)) → List Tally → ComparedChannel → Type 0
+IsToldOf claimed labels tallies channel = (label : List ℕ) × (slice_get claimed channel.place ≡ Some label) × IsToldAt labels tallies label channel
+
+-- two files with these headers have channels of this label
+abbrev pub is_in_both : Head → Head → List ℕ → Bool
+is_in_both h g label = is_some (channel_at label h) && is_some (channel_at label g)
+
+-- the places of those of these labels of which both files have channels, where the first label has this place
+abbrev pub places_from : Head → Head → ℕ → List (List ℕ) → List ℕ
+places_from h g k [] = []
+places_from h g k (label ∷ labels) = if is_in_both h g label then k ∷ places_from h g (k + 1) labels else places_from h g (k + 1) labels
+
+-- the claimed channels that both files have are told in the order of the claim, each with the tally of its label
+pub record AreTold (claimed : List (List ℕ)) (labels : List (Bor (List ℕ))) (tallies : List Tally) (h g : Head) (channels : List ComparedChannel) : Type 0 where
+  pub which : map (λ (channel : ComparedChannel). channel.place) channels ≡ places_from h g 0 claimed
+  pub each : (channel : ComparedChannel) → Has channels channel → IsToldOf claimed labels tallies channel

@@ -3,6 +3,7 @@
 #![tactic(auto)]
 
 mod clock;
+mod findings;
 mod heads;
 mod limits;
 mod looker;
@@ -10,12 +11,12 @@ mod notes;
 mod part;
 mod record_time;
 mod samples;
-mod seen;
 mod stand;
 mod starts;
 
 pub use clock::start_of;
 pub use edf_pace::OnlyInOne;
+pub use findings::Findings;
 pub use heads::cut_off::are_extremes_cut_off;
 pub use heads::exchanged::{Exchange, exchange_of, has_subfield, have_same_texts};
 pub use limits::MOST_SHIFT;
@@ -23,8 +24,7 @@ pub use looker::Looker;
 pub use notes::both::Notes;
 pub use notes::ends::is_at_end;
 pub use notes::one_way::{OneWay, one_way};
-pub use part::SeenPart;
+pub use part::PartFindings;
 pub use samples::compared::{ComparedChannel, Samples, Spot};
 pub use samples::kinds::SampleKinds;
-pub use seen::Seen;
 pub use starts::Starts;

@@ -1,12 +1,15 @@
 //! Who looks on while an original and its exports are checked, and takes in what they differ in.
 
-ghost use Rattle.std.specs.Prelude.{◌≡◌};
+ghost use Rattle.std.specs.Prelude.{◌≡◌, IfOk, IfSome};
+ghost use Rattle.edf_heads.specs.Comparisons.{AreSorted};
+ghost use Rattle.edf_findings.specs.Found.{AreFoundIn, AreFoundOf};
 
+use crate::findings::Findings;
 use crate::notes::both::Notes;
-use crate::part::{PartSoFar, ReadPart, SeenPart};
-use crate::seen::Seen;
+use crate::part::{PartFindings, PartSoFar, ReadPart, Under};
 use crate::stand::RecordCount;
 use edf_claim::Claim;
+use edf_heads::in_order;
 use edf_pace::{Counts, Frame, Onlooker, Reading, Watcher, Window};
 use edf_stream::{FileReader, Note};
 use std::alloc::{AllocError, Global};
@@ -25,11 +28,30 @@ pub struct Looker {
     /// What differs in the samples of the export that is compared.
     counts: Counts,
     /// What else was seen of it.
-    part: Option<PartSoFar>,
+    part: PartSoFar,
     /// The exports that were read to their ends.
     parts: Vec<ReadPart>,
     notes: Notes,
     original: Option<FileReader>,
+}
+
+/// What each of these exports differs in.
+///
+/// The error is want of memory.
+fn findings_in(
+    alloc: Global,
+    parts: Vec<ReadPart>,
+    under: Under<'_>,
+) -> Result<Vec<PartFindings>, AllocError>
+    requires sorted { AreSorted (under.claim).now.channels under.labels.now }
+    ensures { IfOk result (λ found. AreFoundIn (under.entry.claim).now under.entry.labels.now
+        (under.entry.original).now parts.items found.items) }
+{
+    let mut found = Vec::with_capacity(alloc, parts.len())?;
+    for part in parts {
+        found.push(PartFindings::of(alloc, part, under)?)?;
+    }
+    Ok(found)
 }
 
 impl Looker {
@@ -44,7 +66,7 @@ impl Looker {
             counts: Counts {
                 tallies: Vec::new(alloc),
             },
-            part: None,
+            part: PartSoFar::none(alloc),
             parts: Vec::new(alloc),
             notes: Notes::new(alloc),
             original: None,
@@ -66,22 +88,6 @@ impl Looker {
         Ok(())
     }
 
-    /// What was seen of the export that is compared.
-    fn part_so_far(
-        &mut self,
-        original: &FileReader,
-        export: &FileReader,
-        frame: Frame<'_>,
-    ) -> Result<PartSoFar, AllocError>
-        ensures counts { self.new.counts ≡ self.old.counts }
-        ensures parts { self.new.parts ≡ self.old.parts }
-    {
-        match self.part.take() {
-            Some(part) => Ok(part),
-            None => PartSoFar::new(self.alloc, (original.header(), export.header()), frame),
-        }
-    }
-
     /// Notes in which data records samples were found between two times, and where the export starts.
     fn note(
         &mut self,
@@ -95,18 +101,19 @@ impl Looker {
     {
         let setting = frame.turn.setting;
         self.take_record(original, setting.claim)?;
-        let mut part = self.part_so_far(original, export, frame)?;
         let here = self.originals.stand(original, setting.clock.original);
-        part.see(here, export, setting, within, &self.counts.tallies);
-        self.part = Some(part);
+        self.part
+            .see(here, export, frame, within, &self.counts.tallies);
         Ok(())
     }
 
-    /// What was seen of an original and its exports that were read to their ends, under this claim. There is none where one of them
+    /// What an original and its exports differ in that were read to their ends, under this claim. There is none where one of them
     /// has a fault.
     ///
     /// The error is want of memory.
-    pub fn seen(self, claim: &Claim) -> Result<Option<Seen<'_>>, AllocError> {
+    pub fn findings(self, claim: &Claim) -> Result<Option<Findings<'_>>, AllocError>
+        ensures { IfOk result (λ found. IfSome found (AreFoundOf claim.entry.now self.parts.items)) }
+    {
         let Looker {
             alloc,
             is_whole,
@@ -121,11 +128,14 @@ impl Looker {
         let Some(original) = original else {
             return Ok(None);
         };
-        let mut seen = Vec::new(alloc);
-        for part in parts {
-            seen.push(SeenPart::new(alloc, part, original.header(), claim)?)?;
-        }
-        Ok(Seen::of(claim, original, seen, notes))
+        let labels = in_order(alloc, claim.channels())?;
+        let under = Under {
+            original: original.header(),
+            claim,
+            labels: &labels,
+        };
+        let found = findings_in(alloc, parts, under)?;
+        Ok(Findings::of(claim, original, found, notes))
     }
 }
 
@@ -145,7 +155,7 @@ impl Onlooker for Looker {
 
     fn begin(&mut self, frame: Frame<'_>) -> Result<(), AllocError> {
         self.counts = Counts::new(self.alloc, frame)?;
-        self.part = None;
+        self.part = PartSoFar::new(self.alloc, frame.pairs.len())?;
         Ok(())
     }
 
@@ -163,7 +173,7 @@ impl Onlooker for Looker {
 
     fn take_export(&mut self, export: FileReader) -> Result<(), AllocError> {
         let tallies = mem::replace(&mut self.counts.tallies, Vec::new(self.alloc));
-        let so_far = self.part.take();
+        let so_far = mem::replace(&mut self.part, PartSoFar::none(self.alloc));
         self.parts.push(ReadPart {
             export,
             so_far,

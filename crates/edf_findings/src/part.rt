@@ -1,13 +1,19 @@
 //! What is seen of one export while it is compared.
 
+ghost use Rattle.std.specs.Prelude.{◌≡◌, length, IfOk};
+ghost use Rattle.edf_heads.specs.Comparisons.{AreSorted};
+ghost use Rattle.edf_findings.specs.Told.{AreTold};
+ghost use Rattle.edf_findings.specs.Found.{IsFoundIn};
+
 use crate::record_time::Hands;
-use crate::samples::channel::ChannelSoFar;
+use crate::samples::claimed::CountedLabels;
 use crate::samples::compared::ComparedChannel;
+use crate::samples::found_in::FoundOf;
 use crate::stand::{RecordCount, Stand};
 use crate::starts::Starts;
 use edf_claim::Claim;
 use edf_header::Header;
-use edf_pace::{Frame, Setting, Tally, Window};
+use edf_pace::{Frame, Pair, Tally, Window, pairs_of};
 use edf_stream::FileReader;
 use std::alloc::{AllocError, Global};
 
@@ -15,8 +21,8 @@ use std::alloc::{AllocError, Global};
 #[derive(Drop)]
 pub(crate) struct PartSoFar {
     records: RecordCount,
-    /// The claimed channels that both files have, in the order of the claim.
-    channels: Vec<ChannelSoFar>,
+    /// In which data records samples of the channels were found, in the order of the labels.
+    found: Vec<FoundOf>,
     /// When the first sample is taken that is kept.
     first_ps: Option<i128>,
     /// When the first data record starts, as the export has it.
@@ -34,21 +40,38 @@ pub(crate) fn earlier(first: Option<i128>, second: Option<i128>) -> Option<i128>
     }
 }
 
+/// When the first sample is taken in the original between two times, rounded down, of the channels that both files have.
+fn first_between(pairs: &[Pair], original: Stand<'_>, within: Window) -> Option<i128> {
+    let mut first = None;
+    for pair in pairs {
+        if let (Some(here), Some(_)) = (pair.original, pair.export) {
+            first = earlier(first, original.first_between(here.place.samples, within));
+        }
+    }
+    first
+}
+
 impl PartSoFar {
-    /// Nothing was seen of the export that is compared.
-    pub(crate) fn new(
-        alloc: Global,
-        headers: (&Header, &Header),
-        frame: Frame<'_>,
-    ) -> Result<PartSoFar, AllocError> {
+    /// Nothing was seen of an export with so many labels.
+    ///
+    /// The error is want of memory.
+    pub(crate) fn new(alloc: Global, labels: usize) -> Result<PartSoFar, AllocError> {
         Ok(PartSoFar {
+            found: FoundOf::none_of(alloc, labels)?,
+            ..PartSoFar::none(alloc)
+        })
+    }
+
+    /// Nothing was seen of an export that isn't compared.
+    pub(crate) fn none(alloc: Global) -> PartSoFar {
+        PartSoFar {
             records: RecordCount::NONE,
-            channels: ChannelSoFar::all_of(alloc, headers, frame)?,
+            found: Vec::new(alloc),
             first_ps: None,
             begin_ps: None,
             keeps_between: false,
             moved_ps: 0,
-        })
+        }
     }
 
     /// Takes in the data record of the export at hand, if it is another one than before.
@@ -61,24 +84,21 @@ impl PartSoFar {
         }
     }
 
-    /// When the first sample of these channels is taken in the original between two times, rounded down.
-    fn first_between(&self, original: Stand<'_>, within: Window) -> Option<i128> {
-        let mut first = None;
-        for channel in &self.channels {
-            let samples = channel.original.place.samples;
-            first = earlier(first, original.first_between(samples, within));
-        }
-        first
-    }
-
     /// Sees when the first sample of the original is taken that is kept between two times, where all are and none was seen so
     /// far.
-    fn see_first(&mut self, original: Stand<'_>, within: Window) {
+    fn see_first(&mut self, pairs: &[Pair], original: Stand<'_>, within: Window) {
         if self.first_ps.is_some() || !original.has_begun_before(within.to.ps) {
             return;
         }
-        self.first_ps = self.first_between(original, within);
+        self.first_ps = first_between(pairs, original, within);
         self.keeps_between = self.keeps_between || self.first_ps.is_none();
+    }
+
+    /// Notes in which data records at hand samples were found, of which there are so many now.
+    fn note(&mut self, tallies: &[Tally], hands: &Hands) {
+        for (found, tally) in self.found.iter_mut().zip(tallies) {
+            found.note(tally, hands);
+        }
     }
 
     /// Notes in which data records at hand samples were found between two times, of which there are so many now.
@@ -86,13 +106,14 @@ impl PartSoFar {
         &mut self,
         original: Stand<'_>,
         export: &FileReader,
-        setting: Setting<'_>,
+        frame: Frame<'_>,
         within: Window,
         tallies: &[Tally],
     ) {
+        let setting = frame.turn.setting;
         self.take_record(export);
         if setting.claim.keeps_instant(within.from.ps, 1) {
-            self.see_first(original, within);
+            self.see_first(frame.pairs, original, within);
         }
         let there = self.records.stand(export, setting.clock.export);
         self.moved_ps = there.moved_ps();
@@ -100,9 +121,7 @@ impl PartSoFar {
             original: original.hand(),
             export: there.hand(),
         };
-        for channel in self.channels.iter_mut() {
-            channel.note(tallies, &hands);
-        }
+        self.note(tallies, &hands);
     }
 
     /// Where the export starts; none where the original has no sample that is kept.
@@ -111,73 +130,104 @@ impl PartSoFar {
         let begin_ps = self.begin_ps?;
         Some(Starts::of(headers, claim.shift_ps(), first_ps, begin_ps))
     }
-
-    /// What was seen of the export, which was read to its end, and in which so many samples differ.
-    fn compared(
-        &self,
-        alloc: Global,
-        tallies: &[Tally],
-        headers: (&Header, &Header),
-        claim: &Claim,
-    ) -> Result<ComparedPart, AllocError> {
-        let mut channels = Vec::new(alloc);
-        for channel in &self.channels {
-            channels.push(ComparedChannel::of(channel, tallies, headers))?;
-        }
-        Ok(ComparedPart {
-            channels,
-            starts: self.starts(headers, claim),
-            keeps_between: self.keeps_between,
-            moved_ps: self.moved_ps,
-        })
-    }
 }
 
-/// An export that was read to its end, what was counted in it, and what else was seen of it, where it was compared.
+/// The header of an original, and the claim under which it was exported, with its labels in the order of their bytes.
+#[derive(Clone, Copy)]
+pub(crate) struct Under<'a> {
+    pub(crate) original: &'a Header,
+    pub(crate) claim: &'a Claim,
+    pub(crate) labels: &'a [&'a [u8]],
+}
+
+/// An export that was read to its end, what was counted in it, and what else was seen of it. Where it wasn't compared, nothing was
+/// counted of any label.
 #[derive(Drop)]
 pub(crate) struct ReadPart {
     pub(crate) export: FileReader,
-    pub(crate) so_far: Option<PartSoFar>,
+    pub(crate) so_far: PartSoFar,
     pub(crate) tallies: Vec<Tally>,
 }
 
 /// What was seen of an export that was compared.
 #[derive(Drop)]
-struct ComparedPart {
+pub(crate) struct ComparedPart {
     channels: Vec<ComparedChannel>,
     starts: Option<Starts>,
     keeps_between: bool,
     moved_ps: i128,
 }
 
-/// An export that was read to its end, and what was seen of it.
+impl ComparedPart {
+    /// What was seen of an export with this header, of which so much was counted.
+    ///
+    /// The error is want of memory.
+    fn of(
+        alloc: Global,
+        export: &Header,
+        so_far: &PartSoFar,
+        tallies: &[Tally],
+        under: Under<'_>,
+    ) -> Result<ComparedPart, AllocError>
+        requires sorted { AreSorted (under.claim).now.channels under.labels.now }
+        requires tallies { length tallies.now ≡ length under.labels.now }
+        ensures { IfOk result (λ part. AreTold (under.entry.claim).now.channels under.entry.labels.now
+            tallies.now (under.entry.original).now export.now part.channels.items) }
+    {
+        let headers = (under.original, export);
+        let pairs = pairs_of(alloc, under.original, export, under.labels)?;
+        let counted = CountedLabels {
+            headers,
+            labels: under.labels,
+            pairs: &pairs,
+            tallies,
+            found: &so_far.found,
+        };
+        Ok(ComparedPart {
+            channels: counted.channels(alloc, under.claim)?,
+            starts: so_far.starts(headers, under.claim),
+            keeps_between: so_far.keeps_between,
+            moved_ps: so_far.moved_ps,
+        })
+    }
+}
+
+/// An export that was read to its end, and what it differs in from what the claim keeps.
 #[derive(Drop)]
-pub struct SeenPart {
+pub struct PartFindings {
     export: FileReader,
     compared: Option<ComparedPart>,
 }
 
-impl SeenPart {
-    /// An export, and what was seen of it, where it was compared.
+impl PartFindings {
+    /// Those of an export: where it was compared, something was counted of each label, were it nothing.
     ///
     /// The error is want of memory.
-    pub(crate) fn new(
+    pub(crate) fn of(
         alloc: Global,
         part: ReadPart,
-        original: &Header,
-        claim: &Claim,
-    ) -> Result<SeenPart, AllocError> {
+        under: Under<'_>,
+    ) -> Result<PartFindings, AllocError>
+        requires sorted { AreSorted (under.claim).now.channels under.labels.now }
+        ensures { IfOk result (IsFoundIn (under.entry.claim).now under.entry.labels.now
+            (under.entry.original).now part) }
+    {
         let ReadPart {
             export,
             so_far,
             tallies,
         } = part;
-        let headers = (original, export.header());
-        let compared = match &so_far {
-            Some(so_far) => Some(so_far.compared(alloc, &tallies, headers, claim)?),
-            None => None,
-        };
-        Ok(SeenPart { export, compared })
+        if tallies.len() != under.labels.len() {
+            return Ok(PartFindings {
+                export,
+                compared: None,
+            });
+        }
+        let compared = ComparedPart::of(alloc, export.header(), &so_far, &tallies, under)?;
+        Ok(PartFindings {
+            export,
+            compared: Some(compared),
+        })
     }
 
     /// The header of the export.

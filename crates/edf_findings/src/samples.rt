@@ -1,5 +1,6 @@
 //! The samples of a channel that both files have, and what was counted of them.
 
-pub mod channel;
+pub mod claimed;
 pub mod compared;
+pub mod found_in;
 pub mod kinds;

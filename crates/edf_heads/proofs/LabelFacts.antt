@@ -1,5 +1,5 @@
 -- Labels in the order of their bytes, and one of them found.
-use Rattle.std.proofs.Common.{◌≡◌, ℕ, ◌<◌, Equal, Bool, true, false, cond, not, nat_lt, nat_eq, ◌||◌, List, [], ◌∷◌, length, get_or, map, slice_get, Bor, Option, Some, None, is_some, MatchOption, Ok, Err, inl, inr, refl, sym, ap, ◌∙◌, arith}
+use Rattle.std.proofs.Common.{subst, ◌≡◌, ℕ, ◌<◌, Equal, Bool, true, false, cond, not, nat_lt, nat_eq, ◌||◌, List, [], ◌∷◌, length, get_or, map, slice_get, Bor, Option, Some, None, is_some, MatchOption, Ok, Err, inl, inr, refl, sym, ap, ◌∙◌, arith}
 use Rattle.std.specs.Cmp.Lexicographic.{slice_cmp}
 use Rattle.std.specs.List.{list_any}
 use Rattle.std.specs.List.Sorted.{IsSorted, IsPermutation, IsBinarySearchResult}
@@ -66,6 +66,7 @@ found_said texts text (Some p) there = sym (has-one_of texts text (has-at texts 
 pub labels_sorted : (texts : List (List ℕ)) (before after : List (Bor (List ℕ))) → map (λ t. t.now) before ≡ texts → IsPermutation before after → IsSorted (λ x y. slice_cmp nat_cmp x.now y.now) after → AreSorted texts after
 labels_sorted texts before after same p up = record {
   order = up;
+  all = (let P : List (List ℕ) → Type 0 = λ ls. IsPermutation ls (map (λ (v : Bor (List ℕ)). v.now) after) in subst P same (IsPermutation-map (λ (v : Bor (List ℕ)). v.now) before after p));
   same = λ t. sym (list_any-IsPermutation (λ other. bytes_eq other t) (map (λ (v : Bor (List ℕ)). v.now) before) (map (λ (v : Bor (List ℕ)). v.now) after) (IsPermutation-map (λ (v : Bor (List ℕ)). v.now) before after p)) ∙ ap (λ ts. is_one_of ts t) same;
 }
 

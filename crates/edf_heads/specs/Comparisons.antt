@@ -71,9 +71,10 @@ compared original export claim = record { original = original; export = export; 
 abbrev pub AreClaimedOf : Head → Head → List (List ℕ) → List ClaimedChannel → Type 0
 AreClaimedOf original export labels claimed = map claimed_view claimed ≡ map (claimed_of original.signals export.signals) labels
 
--- labels in the order of their bytes, the same as these
+-- labels in the order of their bytes, the same as these and each as often
 pub record AreSorted (labels : List (List ℕ)) (sorted : List (Bor (List ℕ))) : Type 0 where
   pub order : IsSorted (λ x y. slice_cmp nat_cmp x.now y.now) sorted
+  pub all : IsPermutation labels (map (λ t. t.now) sorted)
   pub same : (label : List ℕ) → is_one_of (map (λ t. t.now) sorted) label ≡ is_one_of labels label
 
 -- the label is none of these

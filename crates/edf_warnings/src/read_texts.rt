@@ -1,7 +1,7 @@
 //! Whose texts are read.
 
 use edf_claim::Claim;
-use edf_findings::{Notes, SeenPart};
+use edf_findings::{Notes, PartFindings};
 use edf_header::Header;
 
 /// An original, its exports and a claim, whose texts are read: the claim as it was read and as it stands, the headers, and the
@@ -14,6 +14,6 @@ pub struct ReadTexts<'a> {
     /// That of the first export, or of the only one.
     pub export: &'a Header,
     /// The exports behind it.
-    pub others: &'a [SeenPart],
+    pub others: &'a [PartFindings],
     pub notes: &'a Notes,
 }

@@ -1,7 +1,7 @@
 //! The clocks of both files.
 
 use crate::words::samples::AT;
-use edf_findings::{SeenPart, start_of};
+use edf_findings::{PartFindings, start_of};
 use edf_header::Header;
 use edf_sentences::{Piece, Text};
 use std::alloc::AllocError;
@@ -16,7 +16,7 @@ pub(crate) struct Clocks {
 
 impl Clocks {
     /// Those of an original and an export.
-    pub(crate) fn of(original: &Header, part: &SeenPart) -> Clocks {
+    pub(crate) fn of(original: &Header, part: &PartFindings) -> Clocks {
         let export_ps = start_of(part.header());
         Clocks {
             original_ps: start_of(original),

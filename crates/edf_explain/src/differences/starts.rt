@@ -3,7 +3,7 @@
 use crate::tried::shifts::TriedShifts;
 use crate::words::starts as words;
 use edf_fields::SECOND_PS;
-use edf_findings::{MOST_SHIFT, Seen, SeenPart, Starts};
+use edf_findings::{Findings, MOST_SHIFT, PartFindings, Starts};
 use edf_sentences::{Piece, Text};
 use std::alloc::AllocError;
 
@@ -64,7 +64,7 @@ fn say_elsewhere(text: &mut Text, starts: &Starts, shifts: &TriedShifts) -> Resu
 }
 
 /// Says where one of several exports starts, if it doesn't start as claimed.
-pub(crate) fn say_start_of_part(text: &mut Text, part: &SeenPart) -> Result<(), AllocError> {
+pub(crate) fn say_start_of_part(text: &mut Text, part: &PartFindings) -> Result<(), AllocError> {
     match part.starts() {
         Some(starts) if !starts.are_same() => {
             say_difference(text, &starts)?;
@@ -77,7 +77,7 @@ pub(crate) fn say_start_of_part(text: &mut Text, part: &SeenPart) -> Result<(), 
 /// Says what other shifts would change of several exports, of which the first doesn't start as claimed.
 pub(crate) fn say_shifts_of_parts(
     text: &mut Text,
-    seen: &Seen<'_>,
+    seen: &Findings<'_>,
     shifts: &TriedShifts,
 ) -> Result<(), AllocError> {
     match seen.starts() {
@@ -90,7 +90,7 @@ pub(crate) fn say_shifts_of_parts(
 /// nothing is.
 pub(crate) fn say_starts(
     text: &mut Text,
-    seen: &Seen<'_>,
+    seen: &Findings<'_>,
     shifts: &TriedShifts,
 ) -> Result<(), AllocError> {
     match seen.starts() {

@@ -1,12 +1,12 @@
 //! A channel that both files have, and which of its samples aren't as claimed.
 
-ghost use Rattle.std.specs.Prelude.{◌≡◌, IfSome, slice_get};
+ghost use Rattle.std.specs.Prelude.{◌≡◌};
 ghost use Rattle.edf_findings.specs.Told.{AreThose, IsTold};
 
 use crate::record_time::Hands;
-use crate::samples::channel::{ChannelSoFar, FoundIn};
+use crate::samples::found_in::{FoundIn, FoundOf};
 use edf_header::Header;
-use edf_pace::{Counted, PointDifference, Tally};
+use edf_pace::{Counted, PointDifference, Tally, Track};
 use edf_verdict::SampleMismatch;
 
 /// A sample that isn't as claimed.
@@ -117,30 +117,42 @@ pub struct ComparedChannel {
     pub changed: Samples,
 }
 
+/// Whether a channel has another number of samples a second in the export than in the original.
+fn has_other_rate((original, export): (&Header, &Header), (here, there): (Track, Track)) -> bool {
+    let step = original
+        .duration_ps()
+        .saturating_mul(i128::from(there.place.samples));
+    let other_step = export
+        .duration_ps()
+        .saturating_mul(i128::from(here.place.samples));
+    step != other_step
+}
+
+/// How many samples of the export are taken at the times of kept ones: those of it that aren't extra.
+fn compared_in(export: &Header, there: Track, extra: u64) -> u64 {
+    let exported = u64::from(export.records()).saturating_mul(u64::from(there.place.samples));
+    exported.saturating_sub(extra)
+}
+
 impl ComparedChannel {
-    /// The channel with its tally. Those samples of the export that aren't extra are taken at the times of kept ones.
+    /// The channel of the label with this place in the claim, which stands there in both files, with its tally.
     pub(crate) fn of(
-        channel: &ChannelSoFar,
-        tallies: &[Tally],
+        place: usize,
+        tracks: (Track, Track),
+        tally: &Tally,
+        found: &FoundOf,
         headers: (&Header, &Header),
     ) -> ComparedChannel
-        ensures place { result.place ≡ channel.now.place }
-        ensures told { IfSome (slice_get tallies.now channel.now.at) (λ tally. IsTold tally result) }
+        ensures place { result.place ≡ place }
+        ensures told { IsTold tally.now result }
     {
-        let tally = match tallies.get(channel.at) {
-            Some(tally) => *tally,
-            None => Tally::none(),
-        };
-        let exported = u64::from(headers.1.records()).saturating_mul(u64::from(
-            channel.export.place.samples,
-        ));
         ComparedChannel {
-            place: channel.place,
-            has_other_rate: channel.has_other_rate,
-            compared: exported.saturating_sub(tally.extra.count),
-            missing: Samples::of(tally.missing, channel.missing, headers),
-            extra: Samples::of(tally.extra, channel.extra, headers),
-            changed: Samples::of(tally.changed, channel.changed, headers),
+            place,
+            has_other_rate: has_other_rate(headers, tracks),
+            compared: compared_in(headers.1, tracks.1, tally.extra.count),
+            missing: Samples::of(tally.missing, found.missing, headers),
+            extra: Samples::of(tally.extra, found.extra, headers),
+            changed: Samples::of(tally.changed, found.changed, headers),
         }
     }
 

@@ -1,7 +1,10 @@
 //! What an original and its exports differ in that were read to their ends.
 
+ghost use Rattle.std.specs.Prelude.{◌≡◌, ◌<◌, length, IfSome};
+ghost use Rattle.edf_findings.specs.Found.{AreFindings};
+
 use crate::notes::both::Notes;
-use crate::part::SeenPart;
+use crate::part::PartFindings;
 use crate::samples::compared::ComparedChannel;
 use crate::starts::Starts;
 use edf_claim::Claim;
@@ -10,51 +13,50 @@ use edf_pace::OnlyInOne;
 use edf_stream::FileReader;
 use std::alloc::{AllocError, Global};
 
-/// What was seen of an original and its exports, one at least, and what they differ in.
+/// What an original and its exports, one at least, differ in: values, without any sentence.
 #[derive(Drop)]
-pub struct Seen<'a> {
+pub struct Findings<'a> {
     claim: &'a Claim,
     original: FileReader,
-    first: SeenPart,
-    /// The exports behind the first one.
-    others: Vec<SeenPart>,
+    parts: Vec<PartFindings>,
     notes: Notes,
+    ghost some: { 0 < length parts.items },
 }
 
-impl<'a> Seen<'a> {
-    /// That of these files; none where there is no export.
+impl<'a> Findings<'a> {
+    /// Those of these files; none where there is no export.
     pub(crate) fn of(
         claim: &'a Claim,
         original: FileReader,
-        mut parts: Vec<SeenPart>,
+        parts: Vec<PartFindings>,
         notes: Notes,
-    ) -> Option<Seen<'a>> {
+    ) -> Option<Findings<'a>>
+        ensures { IfSome result (AreFindings original parts.items) }
+    {
         if parts.is_empty() {
             return None;
         }
-        let first = parts.remove(0);
-        Some(Seen {
+        Some(Findings {
             claim,
             original,
-            first,
-            others: parts,
+            parts,
             notes,
         })
     }
 
     /// The first export.
-    pub fn first(&self) -> &SeenPart {
-        &self.first
+    pub fn first(&self) -> &PartFindings {
+        &self.parts[0]
     }
 
     /// The exports behind the first one, in their order.
-    pub fn others(&self) -> &[SeenPart] {
-        &self.others
+    pub fn others(&self) -> &[PartFindings] {
+        &self.parts[1..]
     }
 
     /// The claimed channels that the original and the first export have, and which of their samples aren't as claimed.
     pub fn channels(&self) -> &[ComparedChannel] {
-        self.first.channels()
+        self.first().channels()
     }
 
     /// The annotations of all files.
@@ -69,12 +71,12 @@ impl<'a> Seen<'a> {
 
     /// Where the first export starts; none where the original has no sample that is kept.
     pub fn starts(&self) -> Option<Starts> {
-        self.first.starts()
+        self.first().starts()
     }
 
     /// Whether an interval was found that has no sample in a data record of the original in which it lies, beside the first export.
     pub fn keeps_between(&self) -> bool {
-        self.first.keeps_between()
+        self.first().keeps_between()
     }
 
     /// The claim.
@@ -84,7 +86,7 @@ impl<'a> Seen<'a> {
 
     /// Whether the original and the first export have all channels of the claim.
     pub fn has_all_channels(&self) -> bool {
-        self.first.has_all_channels(self.claim)
+        self.first().has_all_channels(self.claim)
     }
 
     /// The header of the original.
@@ -94,11 +96,11 @@ impl<'a> Seen<'a> {
 
     /// The header of the first export.
     pub fn export_header(&self) -> &Header {
-        self.first.header()
+        self.first().header()
     }
 
     /// By how much the times of the first export are moved.
     pub fn moved_ps(&self) -> i128 {
-        self.first.moved_ps()
+        self.first().moved_ps()
     }
 }
