@@ -1,8 +1,8 @@
 -- What is told of the samples of a channel that were counted.
 use Rattle.std.specs.Prelude.{◌≡◌, Option, Some, None}
-use Rattle.edf_pace.specs.declared.samples.counted.Counted.{Counted}
-use Rattle.edf_pace.specs.declared.samples.difference.PointDifference.{PointDifference}
-use Rattle.edf_pace.specs.declared.samples.tally.Tally.{Tally}
+use Rattle.edf_samples.specs.declared.counted.Counted.{Counted}
+use Rattle.edf_samples.specs.declared.difference.PointDifference.{PointDifference}
+use Rattle.edf_samples.specs.declared.tally.Tally.{Tally}
 use Rattle.edf_findings.specs.declared.samples.compared.ComparedChannel.{ComparedChannel}
 use Rattle.edf_findings.specs.declared.samples.compared.Samples.{Samples}
 use Rattle.edf_findings.specs.declared.samples.compared.Spot.{Spot}
