@@ -7,8 +7,8 @@ mod notes;
 mod walk;
 
 pub use edf_samples::{
-    BEGINNING, Counted, Found, Places, PointDifference, SampleDifference, Tally, Time, Window, first_difference, numbers_of,
-    with_label,
+    BEGINNING, Counted, Found, Places, PointDifference, SampleDifference, Tally, Time, Window,
+    first_difference, numbers_of, with_label,
 };
 pub use notes::note_difference::{NoteDifference, note_difference};
 pub use notes::only_in_one::{OnlyInOne, only_in_one};

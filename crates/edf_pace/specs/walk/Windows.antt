@@ -1,6 +1,6 @@
 -- Which samples of the data record at hand stand between two times, and the channels of two files compared there, in picoseconds after the
 -- second at which the original starts, before the shift. These are steps between the definitions and the code.
-use Rattle.std.specs.Prelude.{◌≡◌, ℕ, ℤ, Bool, true, false, List, map, Option, None, Some, [], ◌∷◌, IfSome, ◌<◌, pos, ◌+ℤ◌, ◌*ℤ◌, ◌<ℤ◌, ◌*◌, length, max}
+use Rattle.std.specs.Prelude.{◌≡◌, ℕ, ℤ, Bool, true, false, List, map, Option, None, Some, [], ◌∷◌, IfSome, ◌<◌, pos, ◌+ℤ◌, ◌*ℤ◌}
 use Rattle.edf_pace.specs.Words.{keeps_instant, Terms, Head, Reader, PointDifference, Found, Point, Share, ChannelPlace, Clock, Frame, Window, Pair, is_current, file_start, start_in, Track}
 use Rattle.edf_claim.specs.KeepsReading.{IsUncut}
 use Rattle.edf_stream.specs.samples.SamplesReading.{samples_of}
@@ -16,7 +16,7 @@ use Rattle.edf_pace.specs.walk.Shown.{Covers}
 abbrev pub first_at : Reader → ℤ → ℕ → ℤ
 first_at r ps n = (pos n *ℤ (file_start r.head +ℤ start_in r.head r.current)) +ℤ (pos n *ℤ ps)
 
--- the same of the data record at hand, if the lane has any samples
+-- a share of each lane with so many samples of the data record at hand, if they are any
 abbrev pub IsShareIn : Reader → ℤ → Window → Share → Type 0
 IsShareIn r ps w s = 0 < s.samples → IsShareOf (first_at r ps s.samples) r.head.duration w s
 

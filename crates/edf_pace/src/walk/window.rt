@@ -13,7 +13,10 @@ use crate::walk::frame::Frame;
 use crate::walk::layout::are_alike;
 use crate::walk::shares::{Shares, Sight, keep_shares, keeps_at, lane_at, no_shares};
 use crate::walk::track::{Pair, Track};
-use edf_samples::{Found, PointDifference, Share, Stretch, Window, keep_earlier, no_samples, part_by, stretch_difference};
+use edf_samples::{
+    Found, PointDifference, Share, Stretch, Window, keep_earlier, no_samples, part_by,
+    stretch_difference,
+};
 use edf_stream::FileReader;
 
 /// The samples of a channel between two times: those of its share.
