@@ -43,8 +43,8 @@ answers() {
     fi
 }
 
-for crate in edf_fields edf_header edf_tal edf_stream edf_claim edf_verdict edf_stop edf_heads edf_pace edf_check \
-    edf_recording edf_guesses edf_trial edf_draft; do
+for crate in edf_fields edf_header edf_tal edf_stream edf_claim edf_verdict edf_stop edf_heads edf_samples edf_pace \
+    edf_check edf_recording edf_guesses edf_trial edf_draft; do
     take "$work" "$crate"
 done
 

@@ -4,16 +4,16 @@ use Rattle.edf_fields.specs.Lists.{Has}
 use Rattle.edf_fields.proofs.ForCallers.{at-has, has-at, map-get, get-map}
 use Rattle.edf_stream.specs.declared.times.instant.Instant.{Instant}
 use Rattle.edf_stream.specs.times.InstantOrder.{IsNotBefore}
-use Rattle.edf_pace.specs.declared.samples.difference.PointDifference.{PointDifference}
-use Rattle.edf_pace.specs.declared.samples.earliest.Found.{Found}
+use Rattle.edf_samples.specs.declared.difference.PointDifference.{PointDifference}
+use Rattle.edf_samples.specs.declared.earliest.Found.{Found}
 use Rattle.edf_verdict.specs.declared.verdict.SampleMismatch.{SampleMismatch}
 use Rattle.edf_verdict.specs.declared.verdict.SampleMismatch.TheVariants.{Missing, Extra, Value}
 use Rattle.edf_check.specs.Courses.{Agree, DifferAt, IsFirstMismatch, Course}
-use Rattle.edf_pace.specs.InstantOrder.{floor_of}
+use Rattle.edf_samples.specs.InstantOrder.{floor_of}
 use Rattle.edf_heads.specs.Labels.{IsNotAbove}
-use Rattle.edf_pace.proofs.ForCallers.{exact, partner_at, match_not_differ, HasValue, Match, Differ, IsLeastDifference, IsAscending, earliest-is-least, IsEarliest, AreInstants, same_below, from_below, before_not, by_before, both_same}
-use Rattle.edf_pace.specs.declared.samples.point.Point.{Point}
-use Rattle.edf_pace.specs.samples.Differences.{first_difference_of, earliest}
+use Rattle.edf_samples.proofs.ForCallers.{exact, partner_at, match_not_differ, HasValue, Match, Differ, IsLeastDifference, IsAscending, earliest-is-least, IsEarliest, AreInstants, same_below, from_below, before_not, by_before, both_same}
+use Rattle.edf_samples.specs.declared.point.Point.{Point}
+use Rattle.edf_samples.specs.Differences.{first_difference_of, earliest}
 
 -- a label, the kept samples of its channel, with n of them in a data record of the original, and the exported ones, with m in one of the export
 pub record Column : Type 0 where

@@ -5,7 +5,7 @@ use Rattle.edf_stream.specs.times.Instants.{IsSame}
 use Rattle.edf_verdict.specs.declared.verdict.SampleMismatch.{SampleMismatch}
 use Rattle.edf_verdict.specs.declared.verdict.SampleMismatch.TheVariants.{Missing, Extra, Value}
 use Rattle.edf_check.specs.Courses.{Course, Agree, DifferAt, IsFirstMismatch}
-use Rattle.edf_pace.proofs.ForCallers.{same_back, by_before, both_same, floor-same}
+use Rattle.edf_samples.proofs.ForCallers.{same_back, by_before, both_same, floor-same}
 use Rattle.edf_heads.proofs.ForCallers.{one-label}
 
 -- what a course has at an instant it has at the same instant, and that is one value

@@ -6,9 +6,9 @@ use Rattle.edf_stream.specs.times.InstantOrder.{IsNotBefore}
 use Rattle.edf_verdict.specs.declared.verdict.SampleMismatch.{SampleMismatch}
 use Rattle.edf_verdict.specs.declared.verdict.SampleMismatch.TheVariants.{Missing, Extra, Value}
 use Rattle.edf_check.specs.Courses.{Course, Agree, DifferAt, IsFirstMismatch}
-use Rattle.edf_pace.specs.InstantOrder.{IsBefore}
+use Rattle.edf_samples.specs.InstantOrder.{IsBefore}
 use Rattle.edf_check.proofs.CourseFacts.{IsCourse, agree-apart}
-use Rattle.edf_pace.proofs.ForCallers.{by_before, before_not, before-not_before, same_before, before_below}
+use Rattle.edf_samples.proofs.ForCallers.{by_before, before_not, before-not_before, same_before, before_below}
 
 -- the first of three courses is made of the other two: what stands in it before the instant u, and what stands from there on
 pub record IsCutAt (u : Instant) (whole first second : Course) : Type 0 where

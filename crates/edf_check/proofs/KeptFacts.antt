@@ -11,12 +11,12 @@ use Rattle.edf_stream.specs.times.Instants.{IsSame}
 use Rattle.edf_stream.specs.times.InstantOrder.{IsNotBefore}
 use Rattle.edf_stream.specs.samples.Samples.{SampleValue, IsSample}
 use Rattle.edf_stream.proofs.ForCallers.{one_at_an_instant}
-use Rattle.edf_pace.specs.InstantOrder.{IsBefore}
-use Rattle.edf_pace.specs.Instants.{later}
+use Rattle.edf_samples.specs.InstantOrder.{IsBefore}
+use Rattle.edf_samples.specs.Instants.{later}
 use Rattle.edf_pace.specs.Kept.{shift_ps}
 use Rattle.edf_check.specs.KeptReading.{origin_of, ValueAt, KeptAt, ExportedAt}
 use Rattle.edf_check.proofs.CourseFacts.{IsCourse}
-use Rattle.edf_pace.proofs.ForCallers.{same_through, same_back, same_below, same_before, from_below}
+use Rattle.edf_samples.proofs.ForCallers.{same_through, same_back, same_below, same_before, from_below}
 
 pub positive : (file : List ℕ) (x : SampleValue) → IsSample file (head_of file) x → 0 < (x.instant).den
 positive file x s = omega (arith, s.in_lane)

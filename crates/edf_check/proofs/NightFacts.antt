@@ -24,26 +24,27 @@ use Rattle.edf_stream.specs.samples.SamplesReading.{samples_of, channel_label, l
 use Rattle.edf_header.specs.signals.Channels.{channels_among, channel_labels}
 use Rattle.edf_stream.proofs.ForCallers.{sound-of, samples_are_listed, samples_are_of_channels, samples_rise}
 use Rattle.edf_pace.specs.declared.walk.channel_place.ChannelPlace.{ChannelPlace}
-use Rattle.edf_pace.specs.declared.samples.point.Point.{Point}
+use Rattle.edf_samples.specs.declared.point.Point.{Point}
 use Rattle.edf_heads.specs.Channels.{HasChannel, SameChannels}
-use Rattle.edf_pace.specs.samples.Columns.{channel_at, Sampled, point_of, is_of, is_kept, points_of}
+use Rattle.edf_pace.specs.walk.Columns.{channel_at, Sampled, point_of, is_of, is_kept, points_of}
 use Rattle.edf_heads.specs.Comparisons.{AreSorted}
 use Rattle.edf_check.specs.Courses.{Agree, IsFirstMismatch}
-use Rattle.edf_pace.specs.declared.samples.earliest.Found.{Found}
+use Rattle.edf_samples.specs.declared.earliest.Found.{Found}
 use Rattle.edf_check.specs.Exports.{SameSamples, BothConform}
-use Rattle.edf_pace.specs.InstantOrder.{floor_of}
-use Rattle.edf_pace.specs.Instants.{later}
+use Rattle.edf_samples.specs.InstantOrder.{floor_of}
+use Rattle.edf_samples.specs.Instants.{later}
 use Rattle.edf_check.proofs.ColumnFacts.{named, first-is-first, Column, label_of, KeptIn, ExportedIn, IsColumn, LabelsRise, AreColumns, difference_of}
 use Rattle.edf_check.proofs.CourseFacts.{agree-alike, first-alike}
-use Rattle.edf_pace.specs.samples.Differences.{instant, earliest}
-use Rattle.edf_pace.proofs.ForCallers.{HasValue, IsAscending, same_back, one-number, channels-distinct, at-found, at-there, channel-bounds}
+use Rattle.edf_samples.specs.Differences.{instant, earliest}
+use Rattle.edf_pace.proofs.ForCallers.{one-number, channels-distinct, at-found, at-there, channel-bounds}
+use Rattle.edf_samples.proofs.ForCallers.{HasValue, IsAscending, same_back}
 use Rattle.edf_pace.specs.Kept.{shift_ps}
 use Rattle.edf_check.specs.KeptReading.{origin_of, ValueAt, KeptAt, ExportedAt}
 use Rattle.edf_heads.specs.Labels.{IsNotAbove}
 use Rattle.edf_heads.proofs.ForCallers.{has-label, label-has, not_below}
 use Rattle.edf_check.proofs.KeptFacts.{later-same, keeps-same}
 use Rattle.edf_check.proofs.WordsFacts.{later-back, since-same}
-use Rattle.edf_pace.specs.declared.samples.difference.PointDifference.{PointDifference}
+use Rattle.edf_samples.specs.declared.difference.PointDifference.{PointDifference}
 use Rattle.std.proofs.lemmas.Simd.{map-map}
 use Rattle.edf_pace.proofs.ForCallers.{ascending, difference_at}
 

@@ -18,7 +18,7 @@ use Rattle.edf_stream.specs.Conforming.{Conforms}
 use Rattle.edf_stream.specs.times.InstantOrder.{IsSmall}
 use Rattle.edf_stream.specs.samples.Samples.{SampleValue, IsSample}
 use Rattle.edf_stream.proofs.ForCallers.{instants_fit, sound-of}
-use Rattle.edf_pace.specs.Instants.{later}
+use Rattle.edf_samples.specs.Instants.{later}
 use Rattle.edf_pace.specs.Kept.{shift_ps}
 use Rattle.edf_check.specs.KeptReading.{origin_of}
 use Rattle.edf_check.specs.Laws.{AllProductsFit}

@@ -29,8 +29,8 @@ use Rattle.edf_heads.proofs.ForCallers.{AreSamePairs, same-heads-self, blank-ali
 use Rattle.edf_pace.specs.Annotations.{note_cmp, times}
 use Rattle.edf_check.specs.Courses.{Agree}
 use Rattle.edf_check.specs.Exports.{BothConform, SameSamples}
-use Rattle.edf_pace.specs.InstantOrder.{IsBefore}
-use Rattle.edf_pace.specs.Instants.{later}
+use Rattle.edf_samples.specs.InstantOrder.{IsBefore}
+use Rattle.edf_samples.specs.Instants.{later}
 use Rattle.edf_pace.specs.Kept.{shift_ps, kept_of}
 use Rattle.edf_pace.specs.walk.Gathered.{as_kept}
 use Rattle.edf_check.specs.KeptReading.{origin_of, ValueAt, KeptAt, ExportedAt, kept_notes, exported_notes}
@@ -41,7 +41,8 @@ use Rattle.edf_check.proofs.CourseFacts.{agree-alike, agree-back, first-alike}
 use Rattle.edf_check.proofs.StartFacts.{whole-at, once, reached-at, before-at, same-second}
 use Rattle.edf_check.proofs.parts.FoundFacts.{faultless_part}
 use Rattle.edf_check.proofs.parts.PartsVerdictFacts.{no-fault}
-use Rattle.edf_pace.proofs.ForCallers.{more-with, not_before-before, same_above, same_back, both_same, from_below}
+use Rattle.edf_pace.proofs.ForCallers.{more-with}
+use Rattle.edf_samples.proofs.ForCallers.{not_before-before, same_above, same_back, both_same, from_below}
 use Rattle.edf_check.proofs.NightFacts.{sound-head}
 
 -- ---- the start of a file follows from its samples

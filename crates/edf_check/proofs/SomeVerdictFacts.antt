@@ -33,10 +33,10 @@ use Rattle.edf_pace.specs.Kept.{shift_ps}
 use Rattle.edf_check.specs.KeptReading.{origin_of, KeptAt, ExportedAt, kept_notes, exported_notes}
 use Rattle.edf_check.specs.Laws.{SomeVerdict}
 use Rattle.edf_check.specs.Verdicts.{IsVerdict}
-use Rattle.edf_pace.specs.declared.samples.earliest.Found.{Found}
+use Rattle.edf_samples.specs.declared.earliest.Found.{Found}
 use Rattle.edf_pace.specs.notes.NoteOrder.{NoteMismatch, first_unequal_of}
-use Rattle.edf_pace.specs.samples.Columns.{Sampled}
-use Rattle.edf_pace.specs.samples.Differences.{earliest}
+use Rattle.edf_pace.specs.walk.Columns.{Sampled}
+use Rattle.edf_samples.specs.Differences.{earliest}
 use Rattle.edf_check.proofs.CourseFacts.{agree-alike, first-alike}
 use Rattle.edf_pace.proofs.ForCallers.{note-total, once, turn, more-with, Answer, unequal-exact, AreInOrder}
 use Rattle.edf_check.proofs.ColumnFacts.{named, first-is-first, Column, KeptIn, ExportedIn, LabelsRise, difference_of}

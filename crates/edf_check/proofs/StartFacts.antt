@@ -9,11 +9,11 @@ use Rattle.edf_stream.specs.times.InstantOrder.{IsNotBefore, IsSecondOf}
 use Rattle.edf_stream.specs.times.Instants.{IsSame}
 use Rattle.edf_stream.specs.samples.Samples.{SampleValue, IsSample}
 use Rattle.edf_stream.proofs.ForCallers.{start_is_of_least, sound-of}
-use Rattle.edf_pace.specs.InstantOrder.{IsBefore}
-use Rattle.edf_pace.specs.Instants.{later}
+use Rattle.edf_samples.specs.InstantOrder.{IsBefore}
+use Rattle.edf_samples.specs.Instants.{later}
 use Rattle.edf_pace.specs.Kept.{shift_ps, IsKeptSample, SamplesAsKept}
 use Rattle.edf_check.specs.Laws.{IsFirstKept, IsDayOf, StartFollows}
-use Rattle.edf_pace.proofs.ForCallers.{same_above, same_below, same_before, from_below}
+use Rattle.edf_samples.proofs.ForCallers.{same_above, same_below, same_before, from_below}
 
 -- an instant, and a whole number of picoseconds
 unfoldable pub whole-at : ℤ → Instant

@@ -6,14 +6,14 @@ use Rattle.edf_fields.specs.Lists.{Has}
 use Rattle.edf_header.specs.HeadsReading.{head_of}
 use Rattle.edf_stream.specs.declared.times.instant.Instant.{Instant}
 use Rattle.edf_stream.specs.times.Instants.{IsSame}
-use Rattle.edf_pace.specs.Instants.{later}
+use Rattle.edf_samples.specs.Instants.{later}
 use Rattle.edf_check.specs.Exports.{SameSamples}
 use Rattle.edf_pace.specs.Kept.{shift_ps, SamplesAsKept}
 use Rattle.edf_check.specs.KeptReading.{origin_of}
 use Rattle.edf_check.specs.Laws.{SamplesInWords}
-use Rattle.edf_pace.proofs.ForCallers.{same_through, same_back}
+use Rattle.edf_samples.proofs.ForCallers.{same_through, same_back}
 use Rattle.edf_check.proofs.KeptFacts.{positive, later-same, keeps-same}
-use Rattle.edf_pace.proofs.ForCallers.{scaled}
+use Rattle.edf_samples.proofs.ForCallers.{scaled}
 
 at-num : ℕ → ℤ → Instant
 at-num n k = record { num = k; den = n }

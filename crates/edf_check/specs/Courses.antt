@@ -4,7 +4,7 @@ use Rattle.edf_stream.specs.declared.times.instant.Instant.{Instant}
 use Rattle.edf_stream.specs.times.Instants.{IsSame}
 use Rattle.edf_verdict.specs.declared.verdict.SampleMismatch.{SampleMismatch}
 use Rattle.edf_verdict.specs.declared.verdict.SampleMismatch.TheVariants.{Missing, Extra, Value}
-use Rattle.edf_pace.specs.InstantOrder.{IsBefore, floor_of}
+use Rattle.edf_samples.specs.InstantOrder.{IsBefore, floor_of}
 use Rattle.edf_heads.specs.Labels.{IsNotAbove}
 
 -- which value the channel of a label has at an instant

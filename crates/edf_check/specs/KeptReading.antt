@@ -10,7 +10,7 @@ use Rattle.edf_stream.specs.annotation.NotesReading.{notes_of}
 use Rattle.edf_stream.specs.samples.Samples.{SampleValue, IsSample}
 use Rattle.edf_stream.specs.times.Starts.{file_start}
 use Rattle.edf_check.specs.Courses.{Course}
-use Rattle.edf_pace.specs.Instants.{later}
+use Rattle.edf_samples.specs.Instants.{later}
 use Rattle.edf_pace.specs.Kept.{shift_ps, kept_of}
 
 -- the start of a file, in picoseconds after 1970-01-01 00:00:00

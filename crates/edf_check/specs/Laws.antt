@@ -11,7 +11,7 @@ use Rattle.edf_verdict.specs.declared.verdict.Verdict.TheVariants.{Yes}
 use Rattle.edf_check.specs.Exports.{BothConform, SameSamples, IsExport}
 use Rattle.edf_heads.specs.HeadVerdicts.{IsBroken}
 use Rattle.edf_verdict.specs.declared.verdict.Difference.{Difference}
-use Rattle.edf_pace.specs.Instants.{later}
+use Rattle.edf_samples.specs.Instants.{later}
 use Rattle.edf_check.specs.Headline.{Headline}
 use Rattle.edf_pace.specs.Kept.{IsKeptSample, SamplesAsKept, shift_ps}
 use Rattle.edf_check.specs.KeptReading.{KeptAt, kept_notes, origin_of}
@@ -19,7 +19,7 @@ use Rattle.edf_check.specs.Courses.{Agree}
 use Rattle.edf_check.specs.parts.Counted.{AreCounted, HasNothing}
 use Rattle.edf_check.specs.parts.Parts.{AllConform, AreTogether, ExportedByOne, FollowOneAnother, exported_by_all}
 use Rattle.edf_check.specs.parts.PartsVerdicts.{AllAgreed, IsPartsVerdict}
-use Rattle.edf_pace.specs.declared.samples.tally.Tally.{Tally}
+use Rattle.edf_samples.specs.declared.tally.Tally.{Tally}
 use Rattle.edf_check.specs.SameFiles.{HoldTheSame}
 use Rattle.edf_check.specs.Verdicts.{IsVerdict}
 

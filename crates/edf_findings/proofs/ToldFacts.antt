@@ -5,7 +5,7 @@ use Rattle.edf_fields.specs.Lists.{Has}
 use Rattle.edf_header.specs.Heads.{Head}
 use Rattle.edf_heads.specs.Comparisons.{IsPlaceOf}
 use Rattle.edf_pace.specs.declared.walk.track.Pair.{Pair}
-use Rattle.edf_pace.specs.samples.Columns.{channel_at}
+use Rattle.edf_pace.specs.walk.Columns.{channel_at}
 use Rattle.edf_pace.specs.walk.Pairs.{places_in, places_of}
 use Rattle.edf_findings.specs.declared.part.PartFindings.{PartFindings}
 use Rattle.edf_findings.specs.declared.part.ReadPart.{ReadPart}

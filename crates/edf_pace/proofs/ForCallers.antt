@@ -3,12 +3,6 @@ pub use Rattle.edf_pace.proofs.notes.NoteFacts.{note-apart, note-total, one-note
 pub use Rattle.edf_pace.proofs.notes.NoteOrderFacts.{Answer, AreInOrder, more-with, once, turn, unequal-exact}
 pub use Rattle.edf_pace.proofs.notes.OnlyInOneFacts.{none_is_found}
 pub use Rattle.edf_pace.proofs.notes.RearrangedFacts.{notes_in_words}
-pub use Rattle.edf_pace.proofs.samples.CutFacts.{earlier_from}
-pub use Rattle.edf_pace.proofs.samples.DifferenceFacts.{Differ, HasValue, IsAscending, IsLeastDifference, Match, exact, match_not_differ, partner_at}
-pub use Rattle.edf_pace.proofs.samples.EarliestFacts.{AreInstants, IsEarliest, earliest-is-least}
-pub use Rattle.edf_pace.proofs.samples.FilterFacts.{by_test}
-pub use Rattle.edf_pace.proofs.samples.FloorFacts.{floor-same}
-pub use Rattle.edf_pace.proofs.samples.FractionFacts.{scaled, before-not_before, before_below, before_not, both_same, by_before, from_below, not_before-before, same_above, same_back, same_before, same_below, same_through}
 pub use Rattle.edf_pace.proofs.walk.ChannelFacts.{ascending, difference_at}
 pub use Rattle.edf_pace.proofs.walk.CountedFacts.{counted_end, counted_on, first_walked, found_among, none_in_span, tallies_walked}
 pub use Rattle.edf_pace.proofs.walk.FileFacts.{fault_is}

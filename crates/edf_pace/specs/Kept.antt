@@ -8,7 +8,7 @@ use Rattle.edf_stream.specs.times.Instants.{IsSame}
 use Rattle.edf_stream.specs.annotation.Notes.{NoteValue, moved_by}
 use Rattle.edf_stream.specs.samples.Samples.{SampleValue, IsSample}
 use Rattle.edf_stream.specs.times.Starts.{file_start}
-use Rattle.edf_pace.specs.Instants.{later}
+use Rattle.edf_samples.specs.Instants.{later}
 
 -- by how much a claim moves what it keeps, in picoseconds
 abbrev pub shift_ps : Terms → ℤ

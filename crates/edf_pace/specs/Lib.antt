@@ -1,11 +1,8 @@
 pub mod Words
-pub mod Instants
-pub mod InstantOrder
 pub mod Premises
 pub mod Kept
 pub mod Annotations
 pub mod Laws
 pub mod PartsStops
-pub mod samples
 pub mod notes
 pub mod walk

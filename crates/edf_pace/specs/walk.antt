@@ -1,3 +1,4 @@
+pub mod Columns
 pub mod Shown
 pub mod Gathered
 pub mod Keepers

@@ -2,25 +2,17 @@
 //! shown to a watcher as far as both have come; and what they differ in there.
 #![tactic(auto)]
 
-mod bytes;
 pub mod laws;
 mod notes;
-mod samples;
-mod times;
 mod walk;
 
-pub use bytes::first_difference;
+pub use edf_samples::{
+    BEGINNING, Counted, Found, Places, PointDifference, SampleDifference, Tally, Time, Window,
+    first_difference, numbers_of, with_label,
+};
 pub use notes::note_difference::{NoteDifference, note_difference};
 pub use notes::only_in_one::{OnlyInOne, only_in_one};
 pub use notes::unequal::Unequal;
-pub use samples::blocks::numbers_of;
-pub use samples::counted::Counted;
-pub use samples::difference::PointDifference;
-pub use samples::earliest::Found;
-pub use samples::places::Places;
-pub use samples::sample_difference::{SampleDifference, with_label};
-pub use samples::tally::Tally;
-pub use times::{BEGINNING, Time, Window};
 pub use walk::clock::Clock;
 pub use walk::fault_of::FaultOf;
 pub use walk::frame::Frame;

@@ -8,8 +8,8 @@ use Rattle.edf_stream.specs.annotation.Notes.{NoteValue}
 use Rattle.edf_stream.specs.records.Readers.{Reader}
 use Rattle.edf_verdict.specs.declared.verdict.Verdict.{Verdict}
 use Rattle.edf_check.specs.declared.parts.part.Course.{Course}
-use Rattle.edf_pace.specs.declared.samples.earliest.Found.{Found}
-use Rattle.edf_pace.specs.declared.times.Time.{Time}
+use Rattle.edf_samples.specs.declared.earliest.Found.{Found}
+use Rattle.edf_samples.specs.declared.times.Time.{Time}
 use Rattle.edf_pace.specs.declared.walk.turn.Turn.{Turn}
 use Rattle.edf_pace.specs.Premises.{IfFaulty, IfRead}
 use Rattle.edf_check.specs.parts.Ends.{IsBeside, IsPassed, Passes}

@@ -15,7 +15,7 @@ use Rattle.edf_check.specs.declared.parts.found.PartVerdict.{PartVerdict}
 use Rattle.edf_check.specs.parts.PartsFirst.{IsPart, IsFirstFault, rank, GoesFirst, IsFirstHead}
 use Rattle.edf_check.specs.parts.PartsFound.{AllAgree, AllConformAt, IsHeadsFound, earlier_of, first_of, end_before_part, IsFirstEarly, IsEarlyFound}
 use Rattle.edf_pace.specs.walk.Shown.{begin_by, last_end_by}
-use Rattle.edf_pace.proofs.ForCallers.{by_test}
+use Rattle.edf_samples.proofs.ForCallers.{by_test}
 
 first-is : (first : ℕ) (part : List ℕ) (parts : List (List ℕ)) → IsPart first (part ∷ parts) first 0 part
 first-is first part parts = record { number = omega arith; there = refl }

@@ -7,10 +7,10 @@ use Rattle.edf_claim.specs.Terms.{Terms}
 use Rattle.edf_fields.specs.Lists.{Has}
 use Rattle.edf_header.specs.Heads.{Head}
 use Rattle.edf_header.specs.HeadsReading.{head_of}
-use Rattle.edf_pace.specs.declared.samples.earliest.Found.{Found}
-use Rattle.edf_pace.specs.declared.samples.tally.Tally.{Tally}
-use Rattle.edf_pace.specs.InstantOrder.{floor_of}
-use Rattle.edf_pace.specs.samples.Tallies.{tally_of}
+use Rattle.edf_samples.specs.declared.earliest.Found.{Found}
+use Rattle.edf_samples.specs.declared.tally.Tally.{Tally}
+use Rattle.edf_samples.specs.InstantOrder.{floor_of}
+use Rattle.edf_samples.specs.Tallies.{tally_of}
 use Rattle.edf_pace.specs.walk.Pairs.{places_in}
 use Rattle.edf_pace.specs.walk.Readings.{beginning}
 use Rattle.edf_pace.specs.walk.Shown.{last_end_by}

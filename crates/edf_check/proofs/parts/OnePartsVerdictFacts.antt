@@ -25,7 +25,7 @@ use Rattle.edf_check.specs.Laws.{OneVerdict, OneVerdictOnParts, YesExactly, YesT
 use Rattle.edf_check.specs.parts.Parts.{AllConform, ExportedByOne, FollowOneAnother, exported_by_all}
 use Rattle.edf_check.specs.parts.PartsFirst.{GoesFirst, IsFirstFault, IsFirstHead, rank}
 use Rattle.edf_check.specs.parts.PartsVerdicts.{AllInOrder, HaveCounts, IsFirstOverlap, IsVerdictOnParts, samples_of_all}
-use Rattle.edf_pace.specs.samples.Stretches.{whole}
+use Rattle.edf_samples.specs.Stretches.{whole}
 use Rattle.edf_check.proofs.CourseFacts.{IsCourse, first-apart, one-first}
 use Rattle.edf_check.proofs.parts.FoundFacts.{faultless_part}
 use Rattle.edf_check.proofs.JoinFacts.{back-of, front-of, IsCutAt}
@@ -33,7 +33,8 @@ use Rattle.edf_check.proofs.KeptFacts.{exported-course, kept-course}
 use Rattle.edf_check.proofs.parts.PartsFacts.{one_part}
 use Rattle.edf_check.proofs.parts.PartsVerdictFacts.{no-fault, agreeing-course, conforms-alone, one-conforms, to-parts}
 use Rattle.edf_check.proofs.parts.TogetherFacts.{begin-moved, end-moved}
-use Rattle.edf_pace.proofs.ForCallers.{note-apart, one-note, by_before}
+use Rattle.edf_pace.proofs.ForCallers.{note-apart, one-note}
+use Rattle.edf_samples.proofs.ForCallers.{by_before}
 use Rattle.edf_check.proofs.parts.SeriesFacts.{parts-cut, moved_part, part_begin, part_end}
 use Rattle.edf_check.specs.parts.PartsFound.{AreOrdered}
 

@@ -13,7 +13,7 @@ use Rattle.edf_check.specs.declared.parts.found.PartVerdict.{PartVerdict}
 use Rattle.edf_check.specs.declared.parts.found.PartsFound.{PartsFound}
 use Rattle.edf_check.specs.declared.parts.part.PartRead.{PartRead}
 use Rattle.edf_check.specs.declared.parts.series.Exported.{Exported}
-use Rattle.edf_pace.specs.declared.samples.earliest.Found.{Found}
+use Rattle.edf_samples.specs.declared.earliest.Found.{Found}
 use Rattle.edf_pace.specs.declared.walk.turn.Turn.{Turn}
 use Rattle.edf_pace.specs.declared.walk.fault_of.FaultOf.{FaultOf}
 use Rattle.edf_pace.specs.declared.walk.fault_of.FaultOf.TheVariants as faults
@@ -22,8 +22,8 @@ use Rattle.edf_check.specs.parts.PartsFound.{IsEarlyFound, first_of, found_with,
 use Rattle.edf_check.specs.parts.Ends.{IsPartRead, is_same}
 use Rattle.edf_pace.specs.walk.Ends.{IsFaultBy, moved_export, moved_original}
 use Rattle.edf_check.specs.parts.Together.{AreRead, HaveFault, gathered_of_all, serial_difference}
-use Rattle.edf_pace.specs.declared.samples.tally.Tally.{Tally}
-use Rattle.edf_pace.specs.declared.times.Time.{Time}
+use Rattle.edf_samples.specs.declared.tally.Tally.{Tally}
+use Rattle.edf_samples.specs.declared.times.Time.{Time}
 use Rattle.edf_check.specs.parts.Counted.{IsCountedBehind, serial_counts}
 use Rattle.edf_pace.specs.walk.Counting.{span_counts}
 use Rattle.edf_pace.specs.walk.Pairs.{places_in}

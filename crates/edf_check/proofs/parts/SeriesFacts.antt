@@ -20,15 +20,15 @@ use Rattle.edf_stream.specs.times.Instants.{IsSame}
 use Rattle.edf_stream.specs.times.InstantOrder.{IsNotBefore}
 use Rattle.edf_stream.specs.samples.SamplesReading.{samples_of}
 use Rattle.edf_stream.proofs.ForCallers.{samples_are_of_channels}
-use Rattle.edf_pace.specs.declared.samples.earliest.Found.{Found}
-use Rattle.edf_pace.specs.declared.samples.point.Point.{Point}
+use Rattle.edf_samples.specs.declared.earliest.Found.{Found}
+use Rattle.edf_samples.specs.declared.point.Point.{Point}
 use Rattle.edf_pace.specs.declared.walk.channel_place.ChannelPlace.{ChannelPlace}
-use Rattle.edf_pace.specs.samples.Columns.{point_of, is_of, channel_at, Sampled}
-use Rattle.edf_pace.specs.samples.Stretches.{whole}
-use Rattle.edf_pace.specs.samples.Differences.{instant, earliest}
+use Rattle.edf_pace.specs.walk.Columns.{point_of, is_of, channel_at, Sampled}
+use Rattle.edf_samples.specs.Stretches.{whole}
+use Rattle.edf_samples.specs.Differences.{instant, earliest}
 use Rattle.edf_check.specs.Courses.{Course, Agree, IsFirstMismatch}
-use Rattle.edf_pace.specs.InstantOrder.{IsBefore, floor_of}
-use Rattle.edf_pace.specs.Instants.{later}
+use Rattle.edf_samples.specs.InstantOrder.{IsBefore, floor_of}
+use Rattle.edf_samples.specs.Instants.{later}
 use Rattle.edf_pace.specs.Kept.{shift_ps}
 use Rattle.edf_check.specs.KeptReading.{origin_of, ValueAt, KeptAt, ExportedAt}
 use Rattle.edf_check.specs.parts.Parts.{ExportedByOne}
@@ -38,7 +38,8 @@ use Rattle.edf_pace.specs.walk.Windows.{sampled, points_at, span_difference}
 use Rattle.edf_check.proofs.CourseFacts.{IsCourse, agree-alike, first-alike, agree-self}
 use Rattle.edf_check.proofs.JoinFacts.{join-agree, join-first, join-later, IsCutAt}
 use Rattle.edf_check.proofs.KeptFacts.{exported-course}
-use Rattle.edf_pace.proofs.ForCallers.{earlier_from, by_before, same_before, same_back, same_below, from_below, difference_at, past_all, ends_behind, at-found, channel-bounds, from-first, before-past-all, within-keeps, within-from, within-until, span_is_whole, whole_difference, claim_within, ArePlaces}
+use Rattle.edf_pace.proofs.ForCallers.{difference_at, past_all, ends_behind, at-found, channel-bounds, from-first, before-past-all, within-keeps, within-from, within-until, span_is_whole, whole_difference, claim_within, ArePlaces}
+use Rattle.edf_samples.proofs.ForCallers.{earlier_from, by_before, same_before, same_back, same_below, from_below}
 use Rattle.edf_check.proofs.NightFacts.{first-found, value-sampled, at-instant, sound-head, AreNights, label_difference}
 use Rattle.std.proofs.lemmas.Simd.{map-map}
 use Rattle.edf_check.specs.parts.PartsFound.{AreOrdered}

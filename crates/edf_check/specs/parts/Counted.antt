@@ -7,9 +7,9 @@ use Rattle.edf_check.specs.parts.Ends.{at_part, beside}
 use Rattle.edf_check.specs.parts.Parts.{AllConform, FollowOneAnother}
 use Rattle.edf_heads.specs.Comparisons.{AreSorted}
 use Rattle.edf_pace.specs.Kept.{shift_ps}
-use Rattle.edf_pace.specs.declared.samples.tally.Tally.{Tally}
+use Rattle.edf_samples.specs.declared.tally.Tally.{Tally}
 use Rattle.edf_pace.specs.Premises.{OfFile, OfFiles}
-use Rattle.edf_pace.specs.samples.Tallies.{tally_of}
+use Rattle.edf_samples.specs.Tallies.{tally_of}
 use Rattle.edf_pace.specs.walk.Counting.{span_counts}
 use Rattle.edf_pace.specs.walk.Ends.{Both, IsCounted, at_turn, moved_export, moved_original}
 use Rattle.edf_pace.specs.walk.Pairs.{places_in}

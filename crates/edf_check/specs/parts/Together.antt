@@ -7,7 +7,7 @@ use Rattle.edf_verdict.specs.declared.verdict.Verdict.TheVariants.{Yes}
 use Rattle.edf_check.specs.Checks.{AreRead as AreLeft}
 use Rattle.edf_check.specs.Courses.{Agree, IsFirstMismatch}
 use Rattle.edf_check.specs.Findings.{verdict_on}
-use Rattle.edf_pace.specs.InstantOrder.{floor_of}
+use Rattle.edf_samples.specs.InstantOrder.{floor_of}
 use Rattle.edf_check.specs.KeptReading.{KeptAt, kept_notes}
 use Rattle.edf_check.specs.parts.Parts.{AllConform, ExportedByOne, exported_by_all}
 use Rattle.edf_check.specs.parts.PartsFirst.{IsFirstFault, IsFirstHead}

@@ -7,11 +7,11 @@ use Rattle.edf_fields.proofs.ForCallers.{map-has, has-filtered}
 use Rattle.edf_stream.specs.declared.samples.sample.Sample.{Sample}
 use Rattle.edf_stream.specs.samples.SamplesReading.{AreRising}
 use Rattle.edf_pace.specs.declared.walk.channel_place.ChannelPlace.{ChannelPlace}
-use Rattle.edf_pace.specs.declared.samples.point.Point.{Point}
-use Rattle.edf_pace.specs.samples.Columns.{Sampled, point_of, is_of, is_kept, points_of}
-use Rattle.edf_pace.specs.samples.Differences.{first_difference_of}
-use Rattle.edf_pace.specs.declared.samples.difference.PointDifference.{PointDifference}
-use Rattle.edf_pace.proofs.samples.DifferenceFacts.{IsAscending}
+use Rattle.edf_samples.specs.declared.point.Point.{Point}
+use Rattle.edf_pace.specs.walk.Columns.{Sampled, point_of, is_of, is_kept, points_of}
+use Rattle.edf_samples.specs.Differences.{first_difference_of}
+use Rattle.edf_samples.specs.declared.difference.PointDifference.{PointDifference}
+use Rattle.edf_samples.proofs.ForCallers.{IsAscending}
 
 -- the first difference of two channels; none where one of them isn't there
 abbrev pub difference_at : Terms → Sampled → Sampled → Option ChannelPlace → Option ChannelPlace → Option PointDifference

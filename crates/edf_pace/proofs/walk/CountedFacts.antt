@@ -8,30 +8,28 @@ use Rattle.edf_claim.specs.Terms.{Terms}
 use Rattle.edf_header.specs.Heads.{Head}
 use Rattle.edf_stream.specs.Conforming.{Conforms}
 use Rattle.edf_stream.specs.annotation.Notes.{NoteValue}
-use Rattle.edf_pace.specs.declared.samples.difference.PointDifference.{PointDifference}
-use Rattle.edf_pace.specs.declared.samples.earliest.Found.{Found}
-use Rattle.edf_pace.specs.declared.samples.point.Point.{Point}
-use Rattle.edf_pace.specs.declared.samples.tally.Tally.{Tally}
+use Rattle.edf_samples.specs.declared.difference.PointDifference.{PointDifference}
+use Rattle.edf_samples.specs.declared.earliest.Found.{Found}
+use Rattle.edf_samples.specs.declared.point.Point.{Point}
+use Rattle.edf_samples.specs.declared.tally.Tally.{Tally}
 use Rattle.edf_pace.specs.declared.walk.channel_place.ChannelPlace.{ChannelPlace}
 use Rattle.edf_pace.specs.declared.walk.frame.Frame.{Frame}
 use Rattle.edf_pace.specs.declared.walk.lockstep.ReadOn.{ReadOn}
 use Rattle.edf_pace.specs.declared.walk.track.Pair.{Pair}
 use Rattle.edf_pace.specs.declared.walk.turn.Turn.{Turn}
-use Rattle.edf_pace.specs.samples.Columns.{Sampled}
-use Rattle.edf_pace.specs.samples.Stretches.{since, until}
-use Rattle.edf_pace.specs.samples.Differences.{earlier, earliest, found}
-use Rattle.edf_pace.specs.samples.Tallies.{differences_of, first_of, tally_of}
+use Rattle.edf_pace.specs.walk.Columns.{Sampled}
+use Rattle.edf_samples.specs.Stretches.{since, until}
+use Rattle.edf_samples.specs.Differences.{earlier, earliest, found}
+use Rattle.edf_samples.specs.Tallies.{differences_of, first_of, tally_of}
 use Rattle.edf_pace.specs.walk.Counting.{AreTallies, counts_between, differences_in, differences_since, span_counts}
 use Rattle.edf_pace.specs.walk.Ends.{IsCounted, IsWalked}
 use Rattle.edf_pace.specs.walk.Pairs.{IsPlaceIn, Places, places_in, places_of}
 use Rattle.edf_pace.specs.walk.Shown.{ArePast, last_end_by}
 use Rattle.edf_pace.specs.walk.Watching.{IsFirst, TwoFiles, moved_export, moved_original, two_files}
 use Rattle.edf_pace.specs.walk.Windows.{kept_at, points_at, rest_difference, rest_of, sampled, span_difference, window_difference, window_of}
-use Rattle.edf_pace.proofs.samples.CutFacts.{since_split}
-use Rattle.edf_pace.proofs.samples.DifferenceFacts.{IsAscending}
+use Rattle.edf_samples.proofs.ForCallers.{since_split, IsAscending, first_is_first}
 use Rattle.edf_pace.proofs.walk.LockstepFacts.{HasEnded}
 use Rattle.edf_pace.proofs.walk.RecordFacts.{nothing-kept, nothing-left, points-ascend}
-use Rattle.edf_pace.proofs.samples.TallyFacts.{first_is_first}
 use Rattle.edf_pace.proofs.walk.SplitFacts.{ArePlaces, earlier_both, kept-ascend}
 use Rattle.edf_pace.proofs.walk.watchers.CountFacts.{channel_first, none-both, none-first, none-mapped}
 use Rattle.edf_pace.proofs.walk.WindowFacts.{window_none}

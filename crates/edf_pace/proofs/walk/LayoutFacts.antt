@@ -18,20 +18,19 @@ use Rattle.edf_stream.specs.records.Records.{lane_of}
 use Rattle.edf_stream.specs.records.RecordsReading.{lane_in}
 use Rattle.edf_stream.specs.times.Starts.{file_start}
 use Rattle.edf_stream.specs.times.StartsReading.{start_in}
-use Rattle.edf_pace.specs.declared.samples.difference.PointDifference.{PointDifference}
-use Rattle.edf_pace.specs.declared.samples.point.Point.{Point}
+use Rattle.edf_samples.specs.declared.difference.PointDifference.{PointDifference}
+use Rattle.edf_samples.specs.declared.point.Point.{Point}
 use Rattle.edf_pace.specs.declared.walk.track.Pair.{Pair}
 use Rattle.edf_pace.specs.declared.walk.track.Track.{Track}
-use Rattle.edf_pace.specs.samples.Differences.{first_difference_of, earliest}
+use Rattle.edf_samples.specs.Differences.{first_difference_of, earliest}
 use Rattle.edf_pace.specs.walk.Pairs.{AreLaidAlike, AreRecordsAlike, Places, places_of, IsTrack, ArePairs}
-use Rattle.edf_pace.specs.samples.Stretches.{stretch_points, since, until}
+use Rattle.edf_samples.specs.Stretches.{stretch_points, since, until}
 use Rattle.edf_pace.specs.walk.Windows.{sampled, points_at, window_of, window_difference}
 use Rattle.edf_pace.specs.walk.Shown.{Covers}
 use Rattle.edf_pace.proofs.walk.RecordFacts.{shown_points}
 use Rattle.edf_pace.proofs.walk.ShownFacts.{covers_current, kept_all}
-use Rattle.edf_pace.proofs.samples.StretchFacts.{alike-heads}
+use Rattle.edf_samples.proofs.ForCallers.{alike-heads, scaled}
 use Rattle.edf_pace.proofs.walk.TrackFacts.{lane_is}
-use Rattle.edf_pace.proofs.samples.FractionFacts.{scaled}
 
 -- ---- the same first bytes
 

@@ -14,10 +14,10 @@ use Rattle.edf_stream.specs.records.Records.{record_at}
 use Rattle.edf_stream.specs.times.Starts.{file_start}
 use Rattle.edf_stream.specs.times.StartsReading.{start_at, end_at, end_before, start_in}
 use Rattle.edf_stream.proofs.ForCallers.{starts-behind}
-use Rattle.edf_pace.specs.declared.samples.earliest.Found.{Found}
+use Rattle.edf_samples.specs.declared.earliest.Found.{Found}
 use Rattle.edf_pace.specs.declared.walk.lockstep.ReadOn.{ReadOn}
 use Rattle.edf_pace.specs.declared.walk.frame.Frame.{Frame}
-use Rattle.edf_pace.specs.declared.times.Window.{Window}
+use Rattle.edf_samples.specs.declared.times.Window.{Window}
 use Rattle.edf_pace.specs.declared.walk.turn.Turn.{Turn}
 use Rattle.edf_pace.specs.walk.Windows.{IsDifferenceBy, sampled, rest_difference, window_difference, span_difference}
 use Rattle.edf_pace.specs.walk.Pairs.{IsFrame, Places, places_of, places_in}

@@ -10,7 +10,7 @@ use Rattle.edf_header.specs.Sound.{IsSound}
 use Rattle.edf_header.specs.Standard.{IsSoundSignal}
 use Rattle.edf_header.specs.signals.Channels.{channels_among}
 use Rattle.edf_pace.specs.declared.walk.channel_place.ChannelPlace.{ChannelPlace}
-use Rattle.edf_pace.specs.samples.Columns.{place_from, channel_at}
+use Rattle.edf_pace.specs.walk.Columns.{place_from, channel_at}
 use Rattle.edf_heads.proofs.ForCallers.{labels-distinct}
 
 -- the place that was found: its channel has the label, and so many samples

@@ -22,17 +22,15 @@ use Rattle.edf_header.specs.signals.Channels.{channels_among}
 use Rattle.edf_stream.specs.samples.Values.{digital}
 use Rattle.edf_stream.proofs.ForCallers.{samples_are_of_channels, samples_rise, starts-behind, starts_late}
 use Rattle.edf_pace.specs.declared.walk.channel_place.ChannelPlace.{ChannelPlace}
-use Rattle.edf_pace.specs.declared.samples.point.Point.{Point}
-use Rattle.edf_pace.specs.samples.Columns.{point_of, is_of, is_kept, points_of}
-use Rattle.edf_pace.specs.samples.Differences.{instant}
-use Rattle.edf_pace.proofs.samples.DifferenceFacts.{IsAscending, AreBefore, AreFrom}
-use Rattle.edf_pace.specs.InstantOrder.{IsBefore, is_before}
-use Rattle.edf_pace.specs.samples.Stretches.{stretch_points, whole, since, until}
+use Rattle.edf_samples.specs.declared.point.Point.{Point}
+use Rattle.edf_pace.specs.walk.Columns.{point_of, is_of, is_kept, points_of}
+use Rattle.edf_samples.specs.Differences.{instant}
+use Rattle.edf_samples.proofs.ForCallers.{IsAscending, AreBefore, AreFrom, since_none, until_none, later, earlier_from, by_test, filters_swap}
+use Rattle.edf_samples.specs.InstantOrder.{IsBefore, is_before}
+use Rattle.edf_samples.specs.Stretches.{stretch_points, whole, since, until}
 use Rattle.edf_pace.specs.walk.Windows.{sampled, points_at, kept_at}
 use Rattle.edf_pace.specs.walk.Pairs.{IsPlaceIn}
 use Rattle.edf_pace.specs.walk.Shown.{begin_by, end_by, ArePast}
-use Rattle.edf_pace.proofs.samples.CutFacts.{since_none, until_none, later, earlier_from}
-use Rattle.edf_pace.proofs.samples.FilterFacts.{by_test, filters_swap}
 use Rattle.edf_pace.proofs.walk.ChannelFacts.{ascending}
 
 -- the samples of a channel in the data record of these bytes, moved

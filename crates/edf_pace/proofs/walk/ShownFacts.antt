@@ -13,21 +13,20 @@ use Rattle.edf_stream.specs.Conforming.{Conforms}
 use Rattle.edf_stream.specs.records.Readers.{Reader, is_current}
 use Rattle.edf_stream.specs.times.StartsReading.{end_at}
 use Rattle.edf_pace.specs.declared.walk.channel_place.ChannelPlace.{ChannelPlace}
-use Rattle.edf_pace.specs.declared.samples.earliest.Found.{Found}
-use Rattle.edf_pace.specs.declared.samples.point.Point.{Point}
-use Rattle.edf_pace.specs.declared.samples.difference.PointDifference.{PointDifference}
+use Rattle.edf_samples.specs.declared.earliest.Found.{Found}
+use Rattle.edf_samples.specs.declared.point.Point.{Point}
+use Rattle.edf_samples.specs.declared.difference.PointDifference.{PointDifference}
 use Rattle.edf_pace.specs.declared.walk.track.Pair.{Pair}
 use Rattle.edf_pace.specs.declared.walk.track.Track.{Track}
-use Rattle.edf_pace.specs.samples.Columns.{Sampled}
-use Rattle.edf_pace.specs.samples.Differences.{instant, first_difference_of, found, earlier, earliest}
-use Rattle.edf_pace.specs.InstantOrder.{IsModest, is_before}
+use Rattle.edf_pace.specs.walk.Columns.{Sampled}
+use Rattle.edf_samples.specs.Differences.{instant, first_difference_of, found, earlier, earliest}
+use Rattle.edf_samples.specs.InstantOrder.{IsModest, is_before}
 use Rattle.edf_pace.specs.walk.Windows.{sampled, points_at, kept_at, window_of, window_difference, first_at}
 use Rattle.edf_pace.specs.walk.Pairs.{Places, places_of, IsPlaceIn}
 use Rattle.edf_stream.specs.records.Records.{lane_of}
-use Rattle.edf_pace.specs.samples.Stretches.{stretch_points, whole, since, until}
+use Rattle.edf_samples.specs.Stretches.{stretch_points, whole, since, until}
 use Rattle.edf_pace.specs.walk.Shown.{Shows, ends_at, Covers}
-use Rattle.edf_pace.proofs.samples.CutFacts.{until-before, since-from}
-use Rattle.edf_pace.proofs.samples.FilterFacts.{filter_all, filter_none, filters_swap}
+use Rattle.edf_samples.proofs.ForCallers.{until-before, since-from, filter_all, filter_none, filters_swap}
 use Rattle.edf_pace.proofs.walk.SplitFacts.{earlier_both, mapped}
 use Rattle.edf_pace.proofs.walk.RecordFacts.{points-are-kept, window-is, nothing-left, shown_points}
 use Rattle.std.proofs.lemmas.Simd.{map-map}

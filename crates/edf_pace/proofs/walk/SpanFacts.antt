@@ -11,23 +11,20 @@ use Rattle.edf_fields.proofs.ForCallers.{has-filtered, not-true}
 use Rattle.edf_header.specs.Heads.{Head}
 use Rattle.edf_stream.specs.Conforming.{Conforms}
 use Rattle.edf_pace.specs.declared.walk.channel_place.ChannelPlace.{ChannelPlace}
-use Rattle.edf_pace.specs.declared.samples.point.Point.{Point}
+use Rattle.edf_samples.specs.declared.point.Point.{Point}
 use Rattle.edf_pace.proofs.walk.ChannelFacts.{difference_at}
-use Rattle.edf_pace.specs.samples.Stretches.{whole, since, until}
-use Rattle.edf_pace.specs.samples.Differences.{instant, first_difference_of, earliest}
-use Rattle.edf_pace.proofs.samples.DifferenceFacts.{AreBefore}
-use Rattle.edf_pace.specs.InstantOrder.{is_before}
+use Rattle.edf_samples.specs.Stretches.{whole, since, until}
+use Rattle.edf_samples.specs.Differences.{instant, first_difference_of, earliest}
+use Rattle.edf_samples.proofs.ForCallers.{AreBefore, since_all, by_test, filter_all, filter_implied, is_before-true, is_before-false, true-is_before, false-is_before}
+use Rattle.edf_samples.specs.InstantOrder.{is_before}
 use Rattle.edf_pace.specs.walk.Pairs.{Places, IsPlaceIn}
 use Rattle.edf_pace.specs.walk.Shown.{begin_by, last_end_by}
 use Rattle.edf_pace.specs.walk.Windows.{sampled, points_at, kept_at, rest_of, window_of, rest_difference, window_difference, span_difference}
-use Rattle.edf_pace.proofs.samples.CutFacts.{since_all}
-use Rattle.edf_pace.proofs.samples.FilterFacts.{by_test, filter_all, filter_implied}
-use Rattle.edf_pace.proofs.samples.FractionFacts.{is_before-true, is_before-false, true-is_before, false-is_before}
 use Rattle.edf_pace.proofs.walk.OnwardFacts.{past_all, other_way}
 use Rattle.edf_pace.proofs.walk.RecordFacts.{points-are-kept, from-first, before-past-all}
 use Rattle.edf_pace.proofs.walk.SplitFacts.{ArePlaces}
-use Rattle.edf_pace.specs.declared.samples.earliest.Found.{Found}
-use Rattle.edf_pace.specs.samples.Columns.{Sampled}
+use Rattle.edf_samples.specs.declared.earliest.Found.{Found}
+use Rattle.edf_pace.specs.walk.Columns.{Sampled}
 
 -- of each interval what stands from t on
 abbrev cut_from : ℤ → List Interval → List Interval

@@ -8,19 +8,17 @@ use Rattle.edf_stream.specs.declared.times.instant.Instant.{Instant}
 use Rattle.edf_stream.specs.Conforming.{Conforms}
 use Rattle.edf_stream.specs.times.InstantOrder.{IsNotBefore}
 use Rattle.edf_pace.specs.declared.walk.channel_place.ChannelPlace.{ChannelPlace}
-use Rattle.edf_pace.specs.declared.samples.difference.PointDifference.{PointDifference}
-use Rattle.edf_pace.specs.declared.samples.earliest.Found.{Found}
-use Rattle.edf_pace.specs.declared.samples.point.Point.{Point}
-use Rattle.edf_pace.specs.samples.Columns.{Sampled}
-use Rattle.edf_pace.specs.samples.Differences.{first_difference_of, found, earlier, earliest}
-use Rattle.edf_pace.specs.InstantOrder.{IsBefore, is_before}
-use Rattle.edf_pace.specs.samples.Stretches.{whole, since, until}
+use Rattle.edf_samples.specs.declared.difference.PointDifference.{PointDifference}
+use Rattle.edf_samples.specs.declared.earliest.Found.{Found}
+use Rattle.edf_samples.specs.declared.point.Point.{Point}
+use Rattle.edf_pace.specs.walk.Columns.{Sampled}
+use Rattle.edf_samples.specs.Differences.{first_difference_of, found, earlier, earliest}
+use Rattle.edf_samples.specs.InstantOrder.{IsBefore, is_before}
+use Rattle.edf_samples.specs.Stretches.{whole, since, until}
 use Rattle.edf_pace.specs.walk.Windows.{sampled, points_at, kept_at, rest_of, window_of, rest_difference, window_difference}
 use Rattle.edf_pace.specs.walk.Pairs.{Places, IsPlaceIn}
 use Rattle.edf_pace.specs.walk.Shown.{ArePast}
-use Rattle.edf_pace.proofs.samples.CutFacts.{since_split, since-from, until-before, filter-ascending}
-use Rattle.edf_pace.proofs.samples.DifferenceFacts.{difference_splits, difference-before, difference-from, IsAscending, or_assoc}
-use Rattle.edf_pace.proofs.samples.FractionFacts.{before-not_before, before_below, true-is_before, false-is_before}
+use Rattle.edf_samples.proofs.ForCallers.{since_split, since-from, until-before, filter-ascending, difference_splits, difference-before, difference-from, IsAscending, or_assoc, before-not_before, before_below, true-is_before, false-is_before}
 use Rattle.edf_pace.proofs.walk.RecordFacts.{points-are-kept, points-ascend, nothing-left, nothing-kept}
 use Rattle.std.proofs.lemmas.Simd.{map-map}
 

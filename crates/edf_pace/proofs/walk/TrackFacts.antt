@@ -12,7 +12,7 @@ use Rattle.edf_stream.specs.records.Records.{lane_of, samples_at}
 use Rattle.edf_stream.specs.records.RecordsReading.{lane_bytes, lane_in}
 use Rattle.edf_pace.specs.declared.walk.channel_place.ChannelPlace.{ChannelPlace}
 use Rattle.edf_pace.specs.declared.walk.track.Track.{Track}
-use Rattle.edf_pace.specs.samples.Columns.{channel_at}
+use Rattle.edf_pace.specs.walk.Columns.{channel_at}
 use Rattle.edf_pace.specs.walk.Pairs.{IsPlaceIn, IsTrack}
 use Rattle.edf_pace.proofs.walk.PlaceFacts.{at-found, at-there, one-number, channels-distinct, channel-bounds}
 

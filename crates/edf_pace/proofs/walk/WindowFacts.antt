@@ -8,18 +8,15 @@ use Rattle.edf_header.specs.Heads.{Head}
 use Rattle.edf_stream.specs.Conforming.{Conforms}
 use Rattle.edf_stream.specs.times.InstantOrder.{IsNotBefore}
 use Rattle.edf_pace.specs.declared.walk.channel_place.ChannelPlace.{ChannelPlace}
-use Rattle.edf_pace.specs.declared.samples.difference.PointDifference.{PointDifference}
-use Rattle.edf_pace.specs.declared.samples.point.Point.{Point}
-use Rattle.edf_pace.specs.samples.Columns.{Sampled}
-use Rattle.edf_pace.specs.samples.Stretches.{whole, since, until}
-use Rattle.edf_pace.specs.samples.Differences.{instant, first_difference_of, earliest}
-use Rattle.edf_pace.specs.InstantOrder.{is_before}
+use Rattle.edf_samples.specs.declared.difference.PointDifference.{PointDifference}
+use Rattle.edf_samples.specs.declared.point.Point.{Point}
+use Rattle.edf_pace.specs.walk.Columns.{Sampled}
+use Rattle.edf_samples.specs.Stretches.{whole, since, until}
+use Rattle.edf_samples.specs.Differences.{instant, first_difference_of, earliest}
+use Rattle.edf_samples.specs.InstantOrder.{is_before}
 use Rattle.edf_pace.specs.walk.Pairs.{Places}
 use Rattle.edf_pace.specs.walk.Windows.{sampled, points_at, kept_at, window_of, rest_difference, window_difference}
-use Rattle.edf_pace.proofs.samples.CutFacts.{since_split, since-from, until-before, until_none, later}
-use Rattle.edf_pace.proofs.samples.DifferenceFacts.{difference_splits, difference-from, IsAscending, AreFrom}
-use Rattle.edf_pace.proofs.samples.FilterFacts.{filter_all}
-use Rattle.edf_pace.proofs.samples.FractionFacts.{true-is_before}
+use Rattle.edf_samples.proofs.ForCallers.{since_split, since-from, until-before, until_none, later, difference_splits, difference-from, IsAscending, AreFrom, filter_all, true-is_before}
 use Rattle.edf_pace.proofs.walk.SplitFacts.{AreSides, earliest-splits, AreSound, AllSound, place_before, all_sound, all_splits, ArePlaces}
 use Rattle.std.proofs.lemmas.Simd.{map-map}
 

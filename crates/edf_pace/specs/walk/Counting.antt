@@ -2,11 +2,11 @@
 use Rattle.std.specs.Prelude.{◌≡◌, ℕ, ℤ, Bool, true, false, List, [], ◌∷◌, map, Option, None, Some}
 use Rattle.edf_pace.specs.Words.{keeps_instant, Terms, PointDifference, ChannelPlace, Clock, Frame, Pair, Reader, Window}
 use Rattle.edf_claim.specs.KeepsReading.{IsUncut}
-use Rattle.edf_pace.specs.declared.samples.tally.Tally.{Tally}
+use Rattle.edf_samples.specs.declared.tally.Tally.{Tally}
 use Rattle.edf_pace.specs.declared.walk.shares.Shares.{Shares}
-use Rattle.edf_pace.specs.samples.Columns.{Sampled}
-use Rattle.edf_pace.specs.samples.Stretches.{since, until}
-use Rattle.edf_pace.specs.samples.Tallies.{differences_of, joined, tally_of}
+use Rattle.edf_pace.specs.walk.Columns.{Sampled}
+use Rattle.edf_samples.specs.Stretches.{since, until}
+use Rattle.edf_samples.specs.Tallies.{differences_of, joined, tally_of}
 use Rattle.edf_pace.specs.walk.Pairs.{Places, places_of}
 use Rattle.edf_pace.specs.walk.Shown.{Covers}
 use Rattle.edf_pace.specs.walk.Watching.{TwoFiles, moved_export, moved_original}

@@ -3,7 +3,7 @@
 use Rattle.std.specs.Prelude.{◌≡◌, ◌<◌, ◌≤◌, ◌^◌, List, Option, Some, option_map, slice_get, IfSome, ℕ, map, ◌+ℤ◌, ℤ, Bool, ◌&&◌, take, true}
 use Rattle.edf_pace.specs.Words.{Bor, All, channels_among, SignalHead, Head, ChannelPlace, Pair, Track, int_eq, Reader, is_current, file_start, start_in, Frame}
 use Rattle.edf_stream.specs.records.RecordsReading.{lane_in}
-use Rattle.edf_pace.specs.samples.Columns.{channel_at}
+use Rattle.edf_pace.specs.walk.Columns.{channel_at}
 
 -- the channels of a label in two files, where there are such
 abbrev pub Places : Type 0

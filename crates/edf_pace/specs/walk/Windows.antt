@@ -1,27 +1,22 @@
 -- Which samples of the data record at hand stand between two times, and the channels of two files compared there, in picoseconds after the
 -- second at which the original starts, before the shift. These are steps between the definitions and the code.
-use Rattle.std.specs.Prelude.{◌≡◌, ℕ, ℤ, Bool, true, false, List, map, Option, None, Some, [], ◌∷◌, IfSome, ◌<◌, pos, ◌+ℤ◌, ◌*ℤ◌, ◌<ℤ◌, ◌*◌, length, max}
+use Rattle.std.specs.Prelude.{◌≡◌, ℕ, ℤ, Bool, true, false, List, map, Option, None, Some, [], ◌∷◌, IfSome, ◌<◌, pos, ◌+ℤ◌, ◌*ℤ◌}
 use Rattle.edf_pace.specs.Words.{keeps_instant, Terms, Head, Reader, PointDifference, Found, Point, Share, ChannelPlace, Clock, Frame, Window, Pair, is_current, file_start, start_in, Track}
 use Rattle.edf_claim.specs.KeepsReading.{IsUncut}
 use Rattle.edf_stream.specs.samples.SamplesReading.{samples_of}
 use Rattle.edf_pace.specs.declared.walk.shares.Shares.{Shares}
-use Rattle.edf_pace.specs.samples.Columns.{Sampled, is_of, is_kept, points_of}
-use Rattle.edf_pace.specs.samples.Differences.{first_difference_of, earliest}
-use Rattle.edf_pace.specs.samples.Stretches.{since, until, stretch_points, front_count, whole}
+use Rattle.edf_pace.specs.walk.Columns.{Sampled, is_of, is_kept, points_of}
+use Rattle.edf_samples.specs.Differences.{first_difference_of, earliest}
+use Rattle.edf_samples.specs.Shares.{IsShareOf}
+use Rattle.edf_samples.specs.Stretches.{since, until}
 use Rattle.edf_pace.specs.walk.Pairs.{Places, places_of}
 use Rattle.edf_pace.specs.walk.Shown.{Covers}
-
--- a share of each lane with so many samples, of which the first stands at the numerator a and each further one d behind the one before
-pub record IsShareOf (a d : ℤ) (w : Window) (s : Share) : Type 0 where
-  pub num : s.num ≡ a +ℤ pos s.begin *ℤ d
-  pub begin : (bytes : List ℕ) → length bytes ≡ 2 * s.samples → s.begin ≡ front_count s.samples (stretch_points a d bytes) (whole (w.from).ps)
-  pub end : (bytes : List ℕ) → length bytes ≡ 2 * s.samples → s.end ≡ max (front_count s.samples (stretch_points a d bytes) (whole (w.to).ps)) s.begin
 
 -- where the first of n samples of a lane stands in the data record at hand, moved
 abbrev pub first_at : Reader → ℤ → ℕ → ℤ
 first_at r ps n = (pos n *ℤ (file_start r.head +ℤ start_in r.head r.current)) +ℤ (pos n *ℤ ps)
 
--- the same of the data record at hand, if the lane has any samples
+-- a share of each lane with so many samples of the data record at hand, if they are any
 abbrev pub IsShareIn : Reader → ℤ → Window → Share → Type 0
 IsShareIn r ps w s = 0 < s.samples → IsShareOf (first_at r ps s.samples) r.head.duration w s
 
@@ -32,11 +27,6 @@ AreSharesIn r s clock w shares = IsShareIn r (clock.original).ps w shares.origin
 -- where a data record is at hand, the share is one of lanes with as many samples as this channel's
 abbrev pub HasShare : Reader → Option Track → Share → Type 0
 HasShare r track share = IfSome track (λ t. is_current r.status ≡ true → share.samples ≡ t.place.samples)
-
--- the part of a lane that stands in the window of which this is the share
-abbrev pub IsPartBy : Share → ℤ → List ℕ → List Point → Type 0
-IsPartBy s d lane points = (a : ℤ) (w : Window) → pos 0 <ℤ d → IsShareOf a d w s
-    → points ≡ until s.samples (w.to).ps (since s.samples (w.from).ps (stretch_points a d lane))
 
 -- a file with its samples, moved by so many picoseconds
 abbrev pub sampled : List ℕ → Head → ℤ → Sampled

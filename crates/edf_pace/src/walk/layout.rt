@@ -6,13 +6,12 @@ ghost use Rattle.std.specs.Ordering.{int_eq};
 ghost use Rattle.edf_stream.specs.records.Readers.{is_current};
 ghost use Rattle.edf_pace.specs.walk.Pairs.{AreLaidAlike, AreLanesAlike, AreRecordsAlike, are_together as begin_together, IsTrack, ArePairs};
 
-use crate::bytes::first_difference;
-use crate::times::Window;
 use crate::walk::clock::Clock;
 use crate::walk::offset::Offset;
 use crate::walk::reading::{begin_ps_of, end_ps_of};
 use crate::walk::track::{Pair, Track};
 use edf_header::{Header, Signal};
+use edf_samples::{Window, first_difference};
 use edf_stream::FileReader;
 
 /// Where the lane of a signal ends in a data record.

@@ -11,7 +11,6 @@ ghost use Rattle.edf_pace.specs.walk.Readings.{HasGoneOn, going};
 ghost use Rattle.edf_pace.specs.walk.Shown.{IsBehind, IsGoing, Reaches, StandsAt};
 ghost use Rattle.edf_stop.specs.declared.parts_stops.PartSide.TheVariants as sides;
 
-use crate::times::{Time, Window};
 use crate::walk::clock::Clock;
 use crate::walk::fault_of::FaultOf;
 use crate::walk::gather::View;
@@ -20,6 +19,7 @@ use crate::walk::turn::Turn;
 use crate::walk::watchers::watcher::{Watch, Watcher};
 use edf_claim::Claim;
 use edf_fields::{Fault, Source};
+use edf_samples::{Time, Window};
 use edf_stop::{PartSide, PartsStop};
 use edf_stream::FileReader;
 

@@ -9,12 +9,12 @@ ghost use Rattle.edf_pace.specs.walk.Readings.{HasCome, HasFirst, HasFollowed, H
 ghost use Rattle.edf_pace.specs.walk.Shown.{IfAtHand, IsAhead, IsBehind, IsEndOf, IsGoing, IsNear, OneMore, Reaches, begins_at, ends_at};
 ghost use Rattle.edf_pace.specs.walk.Ends.{HasFinished};
 
-use crate::times::{Time, Window};
 use crate::walk::clock::{Clock, start_ps_of};
 use crate::walk::gather::{Delay, Gathering, View};
 use crate::walk::offset::Offset;
 use edf_fields::{Fault, Source};
 use edf_header::Stop;
+use edf_samples::{Time, Window};
 use edf_stop::{PartSide, PartsStop};
 use edf_stream::{FileReader, KeepsNone, Note, NoteKeeper, file_start_ps};
 use std::alloc::Global;

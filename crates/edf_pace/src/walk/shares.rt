@@ -6,19 +6,16 @@ ghost use Rattle.edf_stream.specs.records.Readers.{is_current};
 ghost use Rattle.edf_stream.specs.records.Records.{lane_of};
 ghost use Rattle.edf_stream.specs.times.Starts.{file_start};
 ghost use Rattle.edf_stream.specs.times.StartsReading.{start_in};
-ghost use Rattle.edf_pace.specs.samples.Stretches.{IsBounded};
+ghost use Rattle.edf_samples.specs.Stretches.{IsBounded};
 ghost use Rattle.edf_pace.specs.walk.Windows.{AreSharesIn, HasShare, IsShareIn, first_at};
 ghost use Rattle.edf_pace.specs.walk.Pairs.{IsTrack};
 ghost use Rattle.edf_pace.specs.walk.Shown.{IfAtHand};
 
-use crate::samples::between::{share_of, share_of_none};
-use crate::samples::share::Share;
-use crate::samples::stretch::Stretch;
-use crate::times::{Time, Window};
 use crate::walk::clock::Clock;
 use crate::walk::offset::Offset;
 use crate::walk::track::{Pair, Track};
 use edf_claim::Claim;
+use edf_samples::{Share, Stretch, Time, Window, share_of, share_of_none};
 use edf_stream::{FileReader, file_start_ps};
 
 /// A number of picoseconds in units of 1 / `den` picoseconds.

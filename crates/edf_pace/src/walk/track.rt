@@ -1,7 +1,7 @@
 //! Where the channels of a label stand in two files.
 
 ghost use Rattle.std.specs.Prelude.{◌≡◌, IfOk, IfSome, map, option_map};
-ghost use Rattle.edf_pace.specs.samples.Columns.{channel_at as channel_in};
+ghost use Rattle.edf_pace.specs.walk.Columns.{channel_at as channel_in};
 ghost use Rattle.edf_pace.specs.walk.Pairs.{places_in, ArePairs, IsTrack, places_of};
 
 use crate::walk::channel_place::ChannelPlace;

@@ -1,8 +1,8 @@
 //! By what files are compared, and whose turn it is.
 
-use crate::times::Time;
 use crate::walk::clock::Clock;
 use edf_claim::Claim;
+use edf_samples::Time;
 use std::alloc::Global;
 
 /// What is the same for all exports: where memory is taken, how far files are moved, the claim, and its labels in the

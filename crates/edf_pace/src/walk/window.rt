@@ -4,21 +4,19 @@ ghost use Rattle.std.specs.Prelude.{◌≡◌, ◌<◌, length, true, IfSome, Is
 ghost use Rattle.edf_claim.specs.Keeps.{keeps_instant};
 ghost use Rattle.edf_claim.specs.KeepsReading.{IsUncut};
 ghost use Rattle.edf_stream.specs.records.Readers.{is_current};
-ghost use Rattle.edf_pace.specs.InstantOrder.{IsModest};
-ghost use Rattle.edf_pace.specs.samples.Stretches.{points_in, IsPart};
+ghost use Rattle.edf_samples.specs.InstantOrder.{IsModest};
+ghost use Rattle.edf_samples.specs.Stretches.{points_in, IsPart};
 ghost use Rattle.edf_pace.specs.walk.Windows.{AreKeptOf, AreShown, IsDifferenceBy, IsPairIn, HasShare};
 ghost use Rattle.edf_pace.specs.walk.Pairs.{AreAlikeIn, ArePairs, IsTrack};
 
-use crate::samples::between::part_by;
-use crate::samples::difference::PointDifference;
-use crate::samples::earliest::{Found, keep_earlier};
-use crate::samples::share::Share;
-use crate::samples::stretch::{Stretch, no_samples, stretch_difference};
-use crate::times::Window;
 use crate::walk::frame::Frame;
 use crate::walk::layout::are_alike;
 use crate::walk::shares::{Shares, Sight, keep_shares, keeps_at, lane_at, no_shares};
 use crate::walk::track::{Pair, Track};
+use edf_samples::{
+    Found, PointDifference, Share, Stretch, Window, keep_earlier, no_samples, part_by,
+    stretch_difference,
+};
 use edf_stream::FileReader;
 
 /// The samples of a channel between two times: those of its share.

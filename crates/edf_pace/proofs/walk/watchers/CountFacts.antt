@@ -1,20 +1,20 @@
 -- What a watcher counts window by window is what it counts at once; and the first of what it counts is what a check finds.
 use Rattle.std.proofs.Common.{◌≡◌, cond, ℕ, zero, suc, ◌+◌, ◌<◌, ℤ, ◌≤ℤ◌, List, [], ◌∷◌, ◌++◌, map, take, drop, get_or, replicate, set, length, Option, Some, None, option_map, refl, sym, ap, ◌∙◌, arith, lit<}
 use Rattle.edf_claim.specs.Terms.{Terms}
-use Rattle.edf_pace.specs.declared.samples.difference.PointDifference.{PointDifference}
-use Rattle.edf_pace.specs.declared.samples.tally.Tally.{Tally}
+use Rattle.edf_samples.specs.declared.difference.PointDifference.{PointDifference}
+use Rattle.edf_samples.specs.declared.tally.Tally.{Tally}
 use Rattle.edf_pace.specs.declared.walk.channel_place.ChannelPlace.{ChannelPlace}
-use Rattle.edf_pace.specs.declared.samples.earliest.Found.{Found}
-use Rattle.edf_pace.specs.declared.samples.point.Point.{Point}
-use Rattle.edf_pace.specs.InstantOrder.{is_before}
+use Rattle.edf_samples.specs.declared.earliest.Found.{Found}
+use Rattle.edf_samples.specs.declared.point.Point.{Point}
+use Rattle.edf_samples.specs.InstantOrder.{is_before}
 use Rattle.edf_pace.specs.declared.walk.track.Pair.{Pair}
 use Rattle.edf_pace.specs.declared.walk.track.Track.{Track}
 use Rattle.std.proofs.lemmas.List.{append-nil}
-use Rattle.edf_pace.specs.samples.Columns.{Sampled}
-use Rattle.edf_pace.specs.samples.Differences.{earlier, earliest, found}
-use Rattle.edf_pace.specs.samples.Stretches.{since, until, whole}
-use Rattle.edf_pace.specs.samples.Tallies.{differences_of, first_of, joined, tally_of}
-use Rattle.edf_pace.specs.declared.times.Window.{Window}
+use Rattle.edf_pace.specs.walk.Columns.{Sampled}
+use Rattle.edf_samples.specs.Differences.{earlier, earliest, found}
+use Rattle.edf_samples.specs.Stretches.{since, until, whole}
+use Rattle.edf_samples.specs.Tallies.{differences_of, first_of, joined, tally_of}
+use Rattle.edf_samples.specs.declared.times.Window.{Window}
 use Rattle.edf_pace.specs.declared.walk.frame.Frame.{Frame}
 use Rattle.edf_stream.specs.records.Readers.{Reader}
 use Rattle.edf_pace.specs.walk.Counting.{AreCounted, counts_between, differences_in, joined_each}
@@ -22,9 +22,7 @@ use Rattle.edf_pace.specs.walk.Shown.{Covers}
 use Rattle.edf_pace.specs.walk.Watching.{TwoFiles, first_between, moved_export, moved_original, two_files}
 use Rattle.edf_pace.specs.walk.Pairs.{IsFrame, Places, places_of}
 use Rattle.edf_pace.specs.walk.Windows.{kept_at, points_at, sampled, window_of, window_difference}
-use Rattle.edf_pace.proofs.samples.CutFacts.{until-before}
-use Rattle.edf_pace.proofs.samples.FilterFacts.{by_test}
-use Rattle.edf_pace.proofs.samples.TallyFacts.{differences_split, first_is_first, joined_none, tally_append}
+use Rattle.edf_samples.proofs.ForCallers.{until-before, by_test, differences_split, first_is_first, joined_none, tally_append}
 use Rattle.edf_pace.proofs.walk.LockstepFacts.{are_places}
 use Rattle.edf_pace.proofs.walk.SplitFacts.{AreSound, AllSound, all_sound}
 use Rattle.edf_pace.proofs.walk.WindowFacts.{nothing_between, until-from, window_split}

@@ -7,14 +7,12 @@ ghost use Rattle.edf_pace.specs.walk.Watching.{TwoFiles};
 ghost use Rattle.edf_pace.specs.walk.Pairs.{ArePairs, IsTrack};
 ghost use Rattle.edf_pace.specs.walk.Windows.{HasShare};
 
-use crate::samples::count::count_differences;
-use crate::samples::tally::Tally;
-use crate::times::Window;
 use crate::walk::frame::Frame;
 use crate::walk::shares::{Shares, Sight, keep_shares, no_shares};
 use crate::walk::track::Pair;
 use crate::walk::watchers::watcher::Watcher;
 use crate::walk::window::{kept_window, shows_the_same, window};
+use edf_samples::{Tally, Window, count_differences};
 use edf_stream::FileReader;
 use std::alloc::{AllocError, Global};
 

@@ -8,12 +8,11 @@ ghost use Rattle.edf_pace.specs.walk.Counting.{AreTallies};
 ghost use Rattle.edf_pace.specs.walk.Watching.{HasSeenIn, IsFirst};
 ghost use Rattle.edf_pace.specs.walk.Windows.{IsDifferenceBy};
 
-use crate::samples::earliest::Found;
-use crate::times::Window;
 use crate::walk::frame::Frame;
 use crate::walk::watchers::onlooker::Onlooker;
 use crate::walk::watchers::watcher::Watcher;
 use crate::walk::window::{shows_the_same, window_difference};
+use edf_samples::{Found, Window};
 use edf_stream::FileReader;
 
 /// The earliest difference of the channels between two times. Where the data records at hand show the same,

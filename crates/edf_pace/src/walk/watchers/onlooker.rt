@@ -2,14 +2,14 @@
 
 ghost use Rattle.std.specs.Prelude.{◌≡◌, ◌++◌, ◌∷◌, [], ℤ, Bool, List, OnOk, length, true};
 ghost use Rattle.edf_claim.specs.KeepsReading.{IsUncut};
-ghost use Rattle.edf_pace.specs.declared.samples.tally.Tally.{Tally};
+ghost use Rattle.edf_samples.specs.declared.tally.Tally.{Tally};
 ghost use Rattle.edf_pace.specs.walk.Counting.{AreTallies};
 ghost use Rattle.edf_pace.specs.walk.Pairs.{IsFrame};
 ghost use Rattle.edf_pace.specs.walk.Watching.{HasSeenIn, TwoFiles};
 
-use crate::times::Window;
 use crate::walk::frame::Frame;
 use crate::walk::reading::Reading;
+use edf_samples::Window;
 use edf_stream::{FileReader, Note};
 use std::alloc::AllocError;
 

@@ -6,8 +6,8 @@ ghost use Rattle.edf_pace.specs.declared.walk.frame.Frame.{Frame};
 ghost use Rattle.edf_pace.specs.walk.Pairs.{IsFrame};
 ghost use Rattle.edf_pace.specs.walk.Watching.{HasSeenIn, Kept, TwoFiles};
 
-use crate::times::Window;
 use crate::walk::frame::Frame;
+use edf_samples::Window;
 use edf_stream::FileReader;
 
 /// Looks at what an original and a part show between two times, and then from the later one to the next, while both are

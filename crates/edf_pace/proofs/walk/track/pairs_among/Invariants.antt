@@ -1,5 +1,5 @@
 use Rattle.std.proofs.Common.{◌≡◌, map, take}
-use Rattle.edf_pace.specs.samples.Columns.{channel_at as channel_in}
+use Rattle.edf_pace.specs.walk.Columns.{channel_at as channel_in}
 use Rattle.edf_pace.specs.walk.Pairs.{ArePairs, places_of}
 use Rattle.edf_pace.proofs.walk.track.pairs_among.Given as goal
 

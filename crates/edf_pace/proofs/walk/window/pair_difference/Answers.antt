@@ -1,5 +1,5 @@
 use Rattle.edf_pace.specs.walk.Windows.{sampled}
-use Rattle.edf_pace.specs.samples.Stretches.{points_in}
+use Rattle.edf_samples.specs.Stretches.{points_in}
 use Rattle.edf_pace.proofs.walk.ShownFacts.{pair_window}
 use Rattle.edf_pace.proofs.walk.window.pair_difference.Goals as goal
 

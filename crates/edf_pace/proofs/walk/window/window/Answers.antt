@@ -3,8 +3,9 @@ use Rattle.std.proofs.lemmas.Int.{ints, to_z-of_z}
 use mir.Val.{SFits}
 use mir.Syntax.{w128}
 use Rattle.edf_header.specs.Heads.{Head}
-use Rattle.edf_pace.specs.samples.Stretches.{stretch_points, since, until}
-use Rattle.edf_pace.specs.walk.Windows.{first_at, IsShareOf}
+use Rattle.edf_samples.specs.Stretches.{stretch_points, since, until}
+use Rattle.edf_pace.specs.walk.Windows.{first_at}
+use Rattle.edf_samples.specs.Shares.{IsShareOf}
 use Rattle.edf_stream.specs.records.Readers.{is_current}
 use Rattle.edf_pace.proofs.walk.ShownFacts.{covers_current, covers_nothing, shown_by}
 use Rattle.edf_pace.proofs.walk.window.window.Goals as goal

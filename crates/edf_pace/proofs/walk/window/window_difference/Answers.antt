@@ -1,10 +1,10 @@
 use Rattle.std.proofs.Common.{◌≡◌, ◌+◌, ◌-◌, ◌<◌, ◌∙◌, length, arith, Option, option_map, refl}
-use Rattle.edf_pace.specs.samples.Differences.{found}
-use Rattle.edf_pace.specs.declared.samples.difference.PointDifference.{PointDifference}
+use Rattle.edf_samples.specs.Differences.{found}
+use Rattle.edf_samples.specs.declared.difference.PointDifference.{PointDifference}
 use Rattle.edf_pace.specs.declared.walk.track.Pair.{Pair}
 use Rattle.edf_pace.specs.walk.Windows.{sampled, window_of}
 use Rattle.edf_pace.specs.walk.Pairs.{places_of}
-use Rattle.edf_pace.proofs.samples.EarliestFacts.{earliest-step}
+use Rattle.edf_samples.proofs.ForCallers.{earliest-step}
 use Rattle.edf_pace.proofs.walk.ShownFacts.{windows_are, channel_more, both_some}
 use Rattle.edf_pace.proofs.walk.window.window_difference.Goals as goal
 

@@ -1,7 +1,7 @@
 use Rattle.std.proofs.Common.{◌≡◌, ◌<◌, ◌≤◌, List, ℕ, drop, map, length, IfSome}
 use Rattle.edf_claim.specs.Keeps.{keeps_instant}
-use Rattle.edf_pace.specs.samples.Differences.{earliest}
-use Rattle.edf_pace.specs.InstantOrder.{IsModest}
+use Rattle.edf_samples.specs.Differences.{earliest}
+use Rattle.edf_samples.specs.InstantOrder.{IsModest}
 use Rattle.edf_pace.specs.walk.Windows.{AreSharesIn, sampled, window_of}
 use Rattle.edf_pace.specs.walk.Shown.{Covers}
 use Rattle.edf_pace.specs.walk.Pairs.{places_of}

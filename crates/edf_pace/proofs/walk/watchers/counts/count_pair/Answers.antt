@@ -1,5 +1,5 @@
 use Rattle.edf_pace.specs.walk.Windows.{sampled}
-use Rattle.edf_pace.specs.samples.Stretches.{points_in}
+use Rattle.edf_samples.specs.Stretches.{points_in}
 use Rattle.edf_pace.proofs.walk.watchers.CountFacts.{none_here, none_there, pair_counted}
 use Rattle.edf_pace.proofs.walk.watchers.counts.count_pair.Goals as goal
 

@@ -1,5 +1,5 @@
 use Rattle.std.proofs.Common.{◌≡◌, ◌∙◌, [], ◌∷◌, ◌++◌, ap, length, replicate, rules}
-use Rattle.edf_pace.specs.samples.Tallies.{tally_of}
+use Rattle.edf_samples.specs.Tallies.{tally_of}
 use Rattle.edf_pace.proofs.walk.watchers.CountFacts.{each_none, replicate-length, replicate-more}
 use Rattle.edf_pace.proofs.walk.watchers.counts.Counts.new.Goals as goal
 

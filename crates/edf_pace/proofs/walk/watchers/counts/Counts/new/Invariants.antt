@@ -1,5 +1,5 @@
 use Rattle.std.proofs.Common.{◌≡◌, [], replicate}
-use Rattle.edf_pace.specs.samples.Tallies.{tally_of}
+use Rattle.edf_samples.specs.Tallies.{tally_of}
 use Rattle.edf_pace.proofs.walk.watchers.counts.Counts.new.Given as goal
 
 abbrev pub invariant-loop : goal.invariant-loop

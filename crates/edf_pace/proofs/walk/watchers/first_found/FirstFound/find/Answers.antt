@@ -1,5 +1,5 @@
 use Rattle.std.proofs.Common.{◌≡◌, ◌∙◌, true, false, not, Option, None, Some, is_some, refl, ap}
-use Rattle.edf_pace.specs.declared.samples.earliest.Found.{Found}
+use Rattle.edf_samples.specs.declared.earliest.Found.{Found}
 use Rattle.edf_pace.proofs.walk.OnwardFacts.{first_next, first_stays, nothing_yet}
 use Rattle.edf_pace.proofs.walk.watchers.first_found.FirstFound.find.Goals as goal
 

@@ -1,5 +1,0 @@
-use Rattle.edf_pace.specs.samples.Stretches.{AreAlikeBefore}
-use Rattle.edf_pace.proofs.bytes.first_difference.Given as goal
-
-abbrev pub invariant-loop-place : goal.invariant-loop-place
-invariant-loop-place l = AreAlikeBefore l.place l.a l.b

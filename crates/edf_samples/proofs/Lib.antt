@@ -1,0 +1,14 @@
+pub mod ForCallers
+pub mod FractionFacts
+pub mod FloorFacts
+pub mod DifferenceFacts
+pub mod EarliestFacts
+pub mod StretchFacts
+pub mod FilterFacts
+pub mod CutFacts
+pub mod TallyFacts
+pub mod BlockFacts
+pub mod PlaceCountFacts
+pub mod ValueFacts
+pub mod FrontFacts
+pub mod HeadFacts
