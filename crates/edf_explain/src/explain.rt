@@ -14,10 +14,9 @@ use crate::tried::other_channels::say_other_channels;
 use crate::tried::other_end::say_other_end;
 use crate::tried::shifts::TriedShifts;
 use crate::words::files::READ_ANEW;
-use edf_check::judge_beside;
 use edf_claim::Claim;
 use edf_fields::{Fault, Sink, put_all};
-use edf_findings::{Findings, Looker, OnlyInOne};
+use edf_findings::{Findings, Looker, OnlyInOne, Wanted, findings_of};
 use edf_sentences::Text;
 use edf_stop::{RunStop, Side};
 use edf_trial::{Asked, OneExport, Recordings, with_shift};
@@ -133,9 +132,12 @@ fn seen_anew<'c, R: Recordings>(
 ) -> Result<Option<Findings<'c>>, RunStop> {
     let mut original = asked.tries.recordings.open_original()?;
     let mut export = asked.tries.recordings.open_export()?;
-    let mut looker = looker_for(alloc, claim_text)?;
-    judge_beside(alloc, &mut original, &mut export, claim_text, &mut looker)?;
-    Ok(looker.findings(claim)?)
+    let wanted = Wanted {
+        claim_text,
+        claim,
+        hidden: asks_for_texts(alloc, claim_text)?,
+    };
+    findings_of(alloc, &mut original, &mut export, wanted)
 }
 
 /// The same where samples and annotations are reckoned by another shift, in seconds.

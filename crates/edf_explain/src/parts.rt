@@ -8,7 +8,6 @@ use crate::differences::clocks::Clocks;
 use crate::differences::headers::say_heads;
 use crate::differences::samples::say_samples;
 use crate::differences::starts::{say_shifts_of_parts, say_start_of_part};
-use crate::explain::looker_for;
 use crate::faults::{fault_of_part, say_fault};
 use crate::front_source::FrontSource;
 use crate::heads::Heads;
@@ -17,15 +16,14 @@ use crate::tried::other_end::say_other_end;
 use crate::tried::shifts::TriedShifts;
 use crate::words::files::READ_ANEW;
 use crate::words::parts as words;
-use edf_check::judge_parts_beside;
 use edf_claim::{Claim, ClaimStop};
 use edf_fields::{Fault, Sink, put_all};
-use edf_findings::{Findings, Looker, OnlyInOne, PartFindings};
+use edf_findings::{Findings, Looker, OnlyInOne, PartFindings, Wanted, findings_of_parts};
 use edf_sentences::{Piece, Text};
 use edf_stop::{PartsRunStop, Side};
 use edf_trial::{Asked, PartsRecordings, SeveralExports, with_shift};
 use edf_verdict::{Difference, Outcome, Verdict};
-use edf_warnings::{ReadTexts, say_behind_no, say_warnings};
+use edf_warnings::{ReadTexts, asks_for_texts, say_behind_no, say_warnings};
 use std::alloc::{AllocError, Global};
 
 /// What was asked of several exports, and how many of them it is said of.
@@ -220,9 +218,12 @@ fn seen_anew<'c, R: PartsRecordings>(
     let recordings = parts.asked.tries.recordings;
     let mut original = recordings.open_original()?;
     let mut exports = recordings.open_exports(alloc)?;
-    let mut looker = looker_for(alloc, claim_text)?;
-    judge_parts_beside(alloc, &mut original, &mut exports, claim_text, &mut looker)?;
-    Ok(looker.findings(claim)?)
+    let wanted = Wanted {
+        claim_text,
+        claim,
+        hidden: asks_for_texts(alloc, claim_text)?,
+    };
+    findings_of_parts(alloc, &mut original, &mut exports, wanted)
 }
 
 /// Says the same where samples and annotations are reckoned by another shift, in seconds.

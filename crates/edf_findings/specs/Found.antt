@@ -1,14 +1,18 @@
 -- What is found in an original and its exports, of what was counted of each.
-use Rattle.std.specs.Prelude.{◌≡◌, ℕ, List, [], ◌∷◌, length, MatchOption}
+use Rattle.std.specs.Prelude.{◌≡◌, ℕ, List, [], ◌∷◌, map, length, true, MatchOption}
 use Rattle.std.specs.Borrow.{Bor}
+use Rattle.edf_check.specs.parts.Counted.{AreCountedUnder, IsCountedUnder}
 use Rattle.edf_claim.specs.Terms.{Terms}
+use Rattle.edf_fields.specs.declared.in_out.source.Source.{Ghosts}
 use Rattle.edf_header.specs.Heads.{Head}
 use Rattle.edf_heads.specs.Comparisons.{AreSorted}
 use Rattle.edf_stream.specs.records.Readers.{Reader}
 use Rattle.edf_findings.specs.declared.findings.Findings.{Findings}
+use Rattle.edf_findings.specs.declared.looker.Looker.{Looker}
 use Rattle.edf_findings.specs.declared.part.PartFindings.{PartFindings}
 use Rattle.edf_findings.specs.declared.part.ReadPart.{ReadPart}
 use Rattle.edf_findings.specs.Told.{AreTold}
+use Rattle.edf_samples.specs.declared.tally.Tally.{Tally}
 
 -- of an export that was read this is found: where something was counted of each label, it is told of the claimed channels that both files have
 pub record IsFoundIn (claim : Terms) (labels : List (Bor (List ℕ))) (h : Head) (part : ReadPart) (found : PartFindings) : Type 0 where
@@ -28,8 +32,20 @@ pub record AreFindings (original : Reader) (parts : List PartFindings) (found : 
   pub original_is : found.original ≡ original
   pub parts_are : found.parts.items ≡ parts
 
--- the findings are those in these exports, under the labels of a claim in their order
-pub record AreFoundOf (claim : Terms) (parts : List ReadPart) (found : Findings) : Type 0 where
+-- what somebody who looked on counted of each export that was read to its end
+abbrev pub counted_by : Looker → List (List Tally)
+counted_by looker = map (λ (part : ReadPart). part.tallies.items) looker.parts.items
+
+-- the findings are those of somebody who looked on, under a claim: of each export, with the labels of the claim in their order
+pub record AreFoundBy (claim : Terms) (looker : Looker) (found : Findings) : Type 0 where
   pub labels : List (Bor (List ℕ))
   pub sorted : AreSorted claim.channels labels
-  pub are : AreFoundIn claim labels (found.original).head parts found.parts.items
+  pub are : AreFoundIn claim labels (found.original).head looker.parts.items found.parts.items
+
+-- they are the findings in two files, as a check under the claim that a text says shows them
+abbrev pub AreFindingsOf : {O E : Type 0} → Ghosts O → Ghosts E → O → E → List ℕ → Terms → Findings → Type 0
+AreFindingsOf original export o e text claim found = (looker : Looker) × IsCountedUnder original export o e text true [] (counted_by looker) × AreFoundBy claim looker found
+
+-- the same of several exports
+abbrev pub AreFindingsOfAll : {O E : Type 0} → Ghosts O → Ghosts E → O → List E → List ℕ → Terms → Findings → Type 0
+AreFindingsOfAll original export o parts text claim found = (looker : Looker) × AreCountedUnder original export o parts text true [] (counted_by looker) × AreFoundBy claim looker found

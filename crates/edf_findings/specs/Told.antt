@@ -1,5 +1,5 @@
 -- What is told of samples that were counted: of each claimed channel that both files have, of each export.
-use Rattle.std.specs.Prelude.{◌≡◌, ℕ, ◌+◌, Bool, ◌&&◌, if◌then◌else◌, List, [], ◌∷◌, map, length, slice_get, Option, Some, None, is_some}
+use Rattle.std.specs.Prelude.{◌≡◌, ℕ, ◌+◌, Bool, ◌&&◌, if◌then◌else◌, List, [], ◌∷◌, ◌++◌, map, length, slice_get, Option, Some, None, is_some}
 use Rattle.std.specs.Borrow.{Bor}
 use Rattle.edf_claim.specs.Terms.{Terms}
 use Rattle.edf_fields.specs.Lists.{Has}
@@ -53,3 +53,8 @@ places_from h g k (label ∷ labels) = if is_in_both h g label then k ∷ places
 pub record AreTold (claimed : List (List ℕ)) (labels : List (Bor (List ℕ))) (tallies : List Tally) (h g : Head) (channels : List ComparedChannel) : Type 0 where
   pub which : map (λ (channel : ComparedChannel). channel.place) channels ≡ places_from h g 0 claimed
   pub each : (channel : ComparedChannel) → Has channels channel → IsToldOf claimed labels tallies channel
+
+-- the channels, and one behind them, if there is one
+abbrev pub with_one : List ComparedChannel → Option ComparedChannel → List ComparedChannel
+with_one channels None = channels
+with_one channels (Some channel) = channels ++ channel ∷ []

@@ -1,7 +1,6 @@
 //! What an original and its exports differ in that were read to their ends.
 
 ghost use Rattle.std.specs.Prelude.{◌≡◌, ◌<◌, length, IfSome};
-ghost use Rattle.edf_findings.specs.Found.{AreFindings};
 
 use crate::notes::both::Notes;
 use crate::part::PartFindings;
@@ -24,6 +23,8 @@ pub struct Findings<'a> {
 }
 
 impl<'a> Findings<'a> {
+    ghost use Rattle.edf_findings.specs.Found.{AreFindings};
+
     /// Those of these files; none where there is no export.
     pub(crate) fn of(
         claim: &'a Claim,

@@ -1,8 +1,8 @@
 //! Who looks on while an original and its exports are checked, and takes in what they differ in.
 
-ghost use Rattle.std.specs.Prelude.{◌≡◌, IfOk, IfSome};
+ghost use Rattle.std.specs.Prelude.{◌≡◌, [], IfOk, IfSome};
 ghost use Rattle.edf_heads.specs.Comparisons.{AreSorted};
-ghost use Rattle.edf_findings.specs.Found.{AreFoundIn, AreFoundOf};
+ghost use Rattle.edf_findings.specs.Found.{AreFoundBy, AreFoundIn, counted_by};
 
 use crate::findings::Findings;
 use crate::notes::both::Notes;
@@ -57,7 +57,9 @@ fn findings_in(
 impl Looker {
     /// Nothing was seen so far. Of the texts of annotations that are removed or blanked it is remembered that they are there, if that
     /// is wanted.
-    pub fn new(alloc: Global, wants_hidden: bool) -> Looker {
+    pub fn new(alloc: Global, wants_hidden: bool) -> Looker
+        ensures { counted_by result ≡ [] }
+    {
         Looker {
             alloc,
             wants_hidden,
@@ -112,7 +114,7 @@ impl Looker {
     ///
     /// The error is want of memory.
     pub fn findings(self, claim: &Claim) -> Result<Option<Findings<'_>>, AllocError>
-        ensures { IfOk result (λ found. IfSome found (AreFoundOf claim.entry.now self.parts.items)) }
+        ensures { IfOk result (λ found. IfSome found (AreFoundBy claim.entry.now self)) }
     {
         let Looker {
             alloc,
@@ -140,14 +142,13 @@ impl Looker {
 }
 
 impl Onlooker for Looker {
-    ghost use Rattle.std.specs.Prelude.{map, true};
-    ghost use Rattle.edf_findings.specs.declared.part.ReadPart.{ReadPart};
+    ghost use Rattle.std.specs.Prelude.{true};
 
     ghost looks = { λ _. true };
 
     ghost tallies = { λ w. w.counts.tallies.items };
 
-    ghost counted = { λ w. map (λ (part : ReadPart). part.tallies.items) w.parts.items };
+    ghost counted = { counted_by };
 
     fn looks(&self) -> bool {
         true

@@ -1,13 +1,13 @@
 //! The claimed channels that both files have, with what was counted of each.
 
-ghost use Rattle.std.specs.Prelude.{◌≡◌, map, length, IfOk, IfSome, is_some};
+ghost use Rattle.std.specs.Prelude.{◌≡◌, map, length, IfOk, IfSome, OnOk, is_some};
 ghost use Rattle.std.specs.Cmp.Lexicographic.{slice_cmp};
 ghost use Rattle.std.specs.List.Sorted.{IsSorted};
 ghost use Rattle.std.specs.Ordering.{nat_cmp};
 ghost use Rattle.edf_fields.specs.Lists.{Has};
 ghost use Rattle.edf_heads.specs.Comparisons.{AreSorted};
 ghost use Rattle.edf_pace.specs.walk.Pairs.{places_in, places_of};
-ghost use Rattle.edf_findings.specs.Told.{AreTold, IsToldAt, is_in_both};
+ghost use Rattle.edf_findings.specs.Told.{AreTold, IsToldAt, is_in_both, with_one};
 
 use crate::samples::compared::ComparedChannel;
 use crate::samples::found_in::FoundOf;
@@ -26,6 +26,21 @@ pub(crate) struct CountedLabels<'a> {
     pub(crate) pairs: &'a [Pair],
     pub(crate) tallies: &'a [Tally],
     pub(crate) found: &'a [FoundOf],
+}
+
+/// Takes in a channel, if there is one.
+///
+/// The error is want of memory.
+fn take_in(
+    channels: &mut Vec<ComparedChannel>,
+    channel: Option<ComparedChannel>,
+) -> Result<(), AllocError>
+    ensures { OnOk result (channels.new.items ≡ with_one channels.old.items channel) }
+{
+    if let Some(channel) = channel {
+        channels.push(channel)?;
+    }
+    Ok(())
 }
 
 impl CountedLabels<'_> {
@@ -79,9 +94,7 @@ impl CountedLabels<'_> {
         let labels = claim.channels();
         let mut channels = Vec::new(alloc);
         for place in 0..labels.len() {
-            if let Some(channel) = self.channel(place, labels[place].text()) {
-                channels.push(channel)?;
-            }
+            take_in(&mut channels, self.channel(place, labels[place].text()))?;
         }
         Ok(channels)
     }

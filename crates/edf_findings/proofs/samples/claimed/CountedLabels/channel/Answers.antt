@@ -1,0 +1,36 @@
+use Rattle.std.proofs.Common.{◌≡◌, ◌∙◌, length, refl}
+use Rattle.std.proofs.lemmas.Option.{slice_get_read}
+use Rattle.edf_findings.proofs.ToldFacts.{both-at, both-there, first-lacks, second-lacks}
+use Rattle.edf_findings.proofs.samples.claimed.CountedLabels.channel.Goals as goal
+
+pub returns-in-Some-Some-clause-both : goal.returns-in-Some-Some-clause-both
+returns-in-Some-Some-clause-both c =
+    let got = c.in_ok-pair.ensures.lookup in
+    let at = slice_get_read c.args.self.pairs.now (length c.args.self.pairs.now) c.in_ok-at.at c.in_ok-pair.pair.now refl (got.3).0 got.1 in
+    let is = both-at c.args.self.headers.0.now c.args.self.headers.1.now c.args.self.labels.now c.args.self.pairs.now c.args.label.now c.in_ok-at.at c.in_ok-pair.pair.now c.requires.pairs c.in_ok-at.ensures at in
+    both-there (c.in_ok-pair.pair.now).original (c.in_ok-pair.pair.now).export c.in-Some-Some.here c.in-Some-Some.there c.in-Some-Some.is-0 c.in-Some-Some.is-1 ∙ is
+
+pub returns-in-Some-Some-clause-told : goal.returns-in-Some-Some-clause-told
+returns-in-Some-Some-clause-told c =
+    let got = c.in_ok-tally.ensures.lookup in
+    record {
+      at = c.in_ok-at.at;
+      label_is = c.in_ok-at.ensures;
+      tally = c.in_ok-tally.tally.now;
+      tally_is = slice_get_read c.args.self.tallies.now (length c.args.self.tallies.now) c.in_ok-at.at c.in_ok-tally.tally.now refl (got.3).0 got.1;
+      told = c.of.ensures.told;
+    }
+
+pub returns-in_default-clause-both : goal.returns-in_default-clause-both
+returns-in_default-clause-both c =
+    let got = c.in_ok-pair.ensures.lookup in
+    let at = slice_get_read c.args.self.pairs.now (length c.args.self.pairs.now) c.in_ok-at.at c.in_ok-pair.pair.now refl (got.3).0 got.1 in
+    let is = both-at c.args.self.headers.0.now c.args.self.headers.1.now c.args.self.labels.now c.args.self.pairs.now c.args.label.now c.in_ok-at.at c.in_ok-pair.pair.now c.requires.pairs c.in_ok-at.ensures at in
+    second-lacks (c.in_ok-pair.pair.now).original (c.in_ok-pair.pair.now).export c.in_default.is-1 ∙ is
+
+pub returns-in_default-2-clause-both : goal.returns-in_default-2-clause-both
+returns-in_default-2-clause-both c =
+    let got = c.in_ok-pair.ensures.lookup in
+    let at = slice_get_read c.args.self.pairs.now (length c.args.self.pairs.now) c.in_ok-at.at c.in_ok-pair.pair.now refl (got.3).0 got.1 in
+    let is = both-at c.args.self.headers.0.now c.args.self.headers.1.now c.args.self.labels.now c.args.self.pairs.now c.args.label.now c.in_ok-at.at c.in_ok-pair.pair.now c.requires.pairs c.in_ok-at.ensures at in
+    first-lacks (c.in_ok-pair.pair.now).original (c.in_ok-pair.pair.now).export c.in_default.is-0 ∙ is
