@@ -127,11 +127,10 @@ fn compare_on<O: Source, E: Source, L: Onlooker>(
     let turn = shown.turn;
     let (here, there) = (original.reader.header(), export.reader.header());
     let pairs = pairs_of(turn.setting.alloc, here, there, turn.setting.labels)?;
-    let room = common_room(here, there, &pairs);
     let frame = Frame {
         turn,
         pairs: &pairs,
-        room,
+        room: common_room(here, there, &pairs),
     };
     shown.onlooker.begin(frame)?;
     let mut watch = Watch {

@@ -36,12 +36,12 @@ among h g ps qs labels found e are modest =
 
 pub walk_on-requires-clause-frame : goal.walk_on-requires-clause-frame
 walk_on-requires-clause-frame g c =
-    let of : Head → Head → List Pair → Type 0 = λ h k pairs. IfSome c.common_room-room.result (λ n. All (AreLaidAlike h k n) pairs) in
-    let same : c.deref.result.now ≡ c.deref-2.result.now = c.deref.ensures.value ∙ sym c.deref-2.ensures.value in
+    let of : Head → Head → List Pair → Type 0 = λ h k pairs. IfSome c.common_room.result (λ n. All (AreLaidAlike h k n) pairs) in
+    let same : c.deref-2.result.now ≡ c.deref.result.now = c.deref-2.ensures.value ∙ sym c.deref.ensures.value in
     let h = (c.args.original.now.reader).head in
     let k = (c.args.export.now.reader).head in (
-      paired h c.header-here.result.now k c.header-there.result.now c.in_ok-pairs.pairs.items c.deref-2.result.now c.header-here.ensures c.header-there.ensures c.deref-2.ensures.value c.in_ok-pairs.ensures.pairs,
-      subst (λ x. of x k c.deref-2.result.now) c.header-here.ensures (subst (λ y. of c.header-here.result.now y c.deref-2.result.now) c.header-there.ensures (subst (of c.header-here.result.now c.header-there.result.now) same c.common_room-room.ensures)),
+      paired h c.header-here.result.now k c.header-there.result.now c.in_ok-pairs.pairs.items c.deref.result.now c.header-here.ensures c.header-there.ensures c.deref.ensures.value c.in_ok-pairs.ensures.pairs,
+      subst (λ x. of x k c.deref.result.now) c.header-here.ensures (subst (λ y. of c.header-here.result.now y c.deref.result.now) c.header-there.ensures (subst (of c.header-here.result.now c.header-there.result.now) same c.common_room.ensures)),
     )
 
 pub returns-then-not-is_over-clause-passes : goal.returns-then-not-is_over-clause-passes
@@ -73,7 +73,7 @@ returns-then-not-is_over-clause-matched g c = λ compared early ho he a b ao ae.
     let over = (rw c.in-Ok-Ok.field-0-is at c.in-Ok-Ok.ensures.over) more.0 in
     let later = rw c.in-Ok-Ok.field-0-is at c.in-Ok-Ok.ensures.later in
     let walked = (
-    let frame = framed turn c.deref-2.result c.common_room-room.result in
+    let frame = framed turn c.deref.result c.common_room.result in
     let files = two_files a h b k in
     let quiet = not (g.L.Onlooker.looks c.walk_on.new.watch.watcher.onlooker.now) in
     is_alone turn files (IsFirst None frame) (IsFirst found frame) (is_some found) quiet read
@@ -83,12 +83,12 @@ returns-then-not-is_over-clause-matched g c = λ compared early ho he a b ao ae.
     let ended = has_ended c.args.export.now.reader c.walk_on.new.export.reader _ _ b None (moved_export turn) read.reached.ps moved.head moved.going (over.1).0 (moved.comes he b ae) in
     let ns = map note_value (c.walk_on.new.original.notes).items in
     let ms = map note_value (c.walk_on.new.export.notes).items in
-    let same = placed h c.header-here.result.now k c.header-there.result.now c.in_ok-pairs.pairs.items c.deref-2.result.now turn.setting.labels.now c.header-here.ensures c.header-there.ensures c.deref-2.ensures.value c.in_ok-pairs.ensures.places in
-    let places = are_places h k c.deref-2.result.now (paired h c.header-here.result.now k c.header-there.result.now c.in_ok-pairs.pairs.items c.deref-2.result.now c.header-here.ensures c.header-there.ensures c.deref-2.ensures.value c.in_ok-pairs.ensures.pairs) in
+    let same = placed h c.header-here.result.now k c.header-there.result.now c.in_ok-pairs.pairs.items c.deref.result.now turn.setting.labels.now c.header-here.ensures c.header-there.ensures c.deref.ensures.value c.in_ok-pairs.ensures.places in
+    let places = are_places h k c.deref.result.now (paired h c.header-here.result.now k c.header-there.result.now c.in_ok-pairs.pairs.items c.deref.result.now c.header-here.ensures c.header-there.ensures c.deref.ensures.value c.in_ok-pairs.ensures.pairs) in
     let by : (f : Option Found) → found ≡ f → IsMatched turn a h ns b k ms found = λ f.
     elim f as (λ f. found ≡ f → IsMatched turn a h ns b k ms found) [
-      | None ↦ λ none. matched_on (framed c.args.shown.now.turn c.deref-2.result c.common_room-room.result) a h ns b k ms read found same places later walked more.1 none over.0 ended
-      | Some first ↦ λ some. matched_behind (framed c.args.shown.now.turn c.deref-2.result c.common_room-room.result) a h ns b k ms read found same places later walked first some (ended.through).conforms
+      | None ↦ λ none. matched_on (framed c.args.shown.now.turn c.deref.result c.common_room.result) a h ns b k ms read found same places later walked more.1 none over.0 ended
+      | Some first ↦ λ some. matched_behind (framed c.args.shown.now.turn c.deref.result c.common_room.result) a h ns b k ms read found same places later walked first some (ended.through).conforms
     ]
     in
     by found refl
@@ -96,12 +96,12 @@ returns-then-not-is_over-clause-matched g c = λ compared early ho he a b ao ae.
 pub returns-then-not-is_over-clause-modest : goal.returns-then-not-is_over-clause-modest
 returns-then-not-is_over-clause-modest g c =
     let modest = rw c.in-Ok-Ok.field-0-is at c.in-Ok-Ok.ensures.fits in
-    among c.header-here.result.now c.header-there.result.now c.deref-2.result.now c.in_ok-pairs.pairs.items c.args.shown.now.turn.setting.labels.now c.walk_on.new.watch.watcher.found c.deref-2.ensures.value c.in_ok-pairs.ensures.places modest.0
+    among c.header-here.result.now c.header-there.result.now c.deref.result.now c.in_ok-pairs.pairs.items c.args.shown.now.turn.setting.labels.now c.walk_on.new.watch.watcher.found c.deref.ensures.value c.in_ok-pairs.ensures.places modest.0
 
 pub returns-in-Ok-Ok-end_both-clause-modest : goal.returns-in-Ok-Ok-end_both-clause-modest
 returns-in-Ok-Ok-end_both-clause-modest g c =
     let modest = rw c.in-Ok-Ok.field-0-is at c.in-Ok-Ok.ensures.fits in
-    among c.header-here.result.now c.header-there.result.now c.deref-2.result.now c.in_ok-pairs.pairs.items c.args.shown.now.turn.setting.labels.now c.walk_on.new.watch.watcher.found c.deref-2.ensures.value c.in_ok-pairs.ensures.places modest.0
+    among c.header-here.result.now c.header-there.result.now c.deref.result.now c.in_ok-pairs.pairs.items c.args.shown.now.turn.setting.labels.now c.walk_on.new.watch.watcher.found c.deref.ensures.value c.in_ok-pairs.ensures.places modest.0
 
 pub returns-in-Ok-Ok-end_both-clause-passes : goal.returns-in-Ok-Ok-end_both-clause-passes
 returns-in-Ok-Ok-end_both-clause-passes g c = λ last.
@@ -131,7 +131,7 @@ returns-in-Ok-Ok-end_both-clause-matched g c = λ compared early ho he a b ao ae
     let ms = map note_value (c.walk_on.new.export.notes).items in
     let later = rw c.in-Ok-Ok.field-0-is at c.in-Ok-Ok.ensures.later in
     let walked = (
-    let frame = framed turn c.deref-2.result c.common_room-room.result in
+    let frame = framed turn c.deref.result c.common_room.result in
     let files = two_files a h b k in
     let quiet = not (g.L.Onlooker.looks c.walk_on.new.watch.watcher.onlooker.now) in
     is_alone turn files (IsFirst None frame) (IsFirst found frame) (is_some found) quiet read
@@ -141,17 +141,17 @@ returns-in-Ok-Ok-end_both-clause-matched g c = λ compared early ho he a b ao ae
     let e = rw c.in-Ok-Ok.field-0-is at c.in-Ok-Ok.ensures.export in
     let over = rw c.in-Ok-Ok.field-0-is at c.in-Ok-Ok.ensures.over in
     let both = (rw c.in-Ok-Ok-end_both.field-0-is at c.in-Ok-Ok-end_both.ensures.through) (o.honesty ho) (e.honesty he) a b (o.comes ho a ao).there (e.comes he b ae).there in
-    let same = placed h c.header-here.result.now k c.header-there.result.now c.in_ok-pairs.pairs.items c.deref-2.result.now turn.setting.labels.now c.header-here.ensures c.header-there.ensures c.deref-2.ensures.value c.in_ok-pairs.ensures.places in
-    let places = are_places h k c.deref-2.result.now (paired h c.header-here.result.now k c.header-there.result.now c.in_ok-pairs.pairs.items c.deref-2.result.now c.header-here.ensures c.header-there.ensures c.deref-2.ensures.value c.in_ok-pairs.ensures.pairs) in
+    let same = placed h c.header-here.result.now k c.header-there.result.now c.in_ok-pairs.pairs.items c.deref.result.now turn.setting.labels.now c.header-here.ensures c.header-there.ensures c.deref.ensures.value c.in_ok-pairs.ensures.places in
+    let places = are_places h k c.deref.result.now (paired h c.header-here.result.now k c.header-there.result.now c.in_ok-pairs.pairs.items c.deref.result.now c.header-here.ensures c.header-there.ensures c.deref.ensures.value c.in_ok-pairs.ensures.pairs) in
     let through : IsReadThrough b k (g.E.Source.left c.end_both.new.e) = subst (λ x. IsReadThrough b x (g.E.Source.left c.end_both.new.e)) e.head both.1 in
     let by : (f : Option Found) → found ≡ f → IsMatched turn a h ns b k ms found = λ f.
     elim f as (λ f. found ≡ f → IsMatched turn a h ns b k ms found) [
       | None ↦ λ none.
           let last = last-over found (not (g.L.Onlooker.looks c.walk_on.new.watch.watcher.onlooker.now)) turn.is_last none (ap (λ z. z || turn.is_last) (sym c.has_enough.ensures) ∙ sym c.is_over.ensures ∙ c.if-not-is_over.false) in
           let there = over (ap (λ f. is_some f && not (g.L.Onlooker.looks c.walk_on.new.watch.watcher.onlooker.now)) none) in
-          matched_end (framed c.args.shown.now.turn c.deref-2.result c.common_room-room.result) a h ns b k ms read found same places later walked last none there.0
+          matched_end (framed c.args.shown.now.turn c.deref.result c.common_room.result) a h ns b k ms read found same places later walked last none there.0
           (has_ended c.args.original.now.reader c.walk_on.new.original.reader _ _ a (Some turn.setting.claim.now) (moved_original turn) read.reached.ps o.head o.going ((there.1).1 last) (o.comes ho a ao)) (has_ended c.args.export.now.reader c.walk_on.new.export.reader _ _ b None (moved_export turn) read.reached.ps e.head e.going (there.1).0 (e.comes he b ae))
-      | Some first ↦ λ some. matched_behind (framed c.args.shown.now.turn c.deref-2.result c.common_room-room.result) a h ns b k ms read found same places later walked first some through.conforms
+      | Some first ↦ λ some. matched_behind (framed c.args.shown.now.turn c.deref.result c.common_room.result) a h ns b k ms read found same places later walked first some through.conforms
     ]
     in
     by found refl
@@ -165,7 +165,7 @@ returns-then-not-is_over-clause-counted g c =
     let found = c.walk_on.new.watch.watcher.found in
     let h = (c.args.original.now.reader).head in
     let k = (c.args.export.now.reader).head in
-    let frame = framed turn c.deref-2.result c.common_room-room.result in
+    let frame = framed turn c.deref.result c.common_room.result in
     let files = two_files a h b k in
     let looks' : g.L.Onlooker.looks c.walk_on.new.watch.watcher.onlooker.now ≡ true = ap (λ (kept : Kept). kept.looks) c.walk_on.ensures.keeps ∙ c.in_ok-begin.ensures.looks ∙ looks in
     let quiet = not (g.L.Onlooker.looks c.walk_on.new.watch.watcher.onlooker.now) in
@@ -176,8 +176,8 @@ returns-then-not-is_over-clause-counted g c =
     let o = rw c.in-Ok-Ok.field-0-is at c.in-Ok-Ok.ensures.original in
     let e = rw c.in-Ok-Ok.field-0-is at c.in-Ok-Ok.ensures.export in
     let begun = c.in_ok-begin.ensures.none looks files turn.from.ps in
-    let same = placed h c.header-here.result.now k c.header-there.result.now c.in_ok-pairs.pairs.items c.deref-2.result.now turn.setting.labels.now c.header-here.ensures c.header-there.ensures c.deref-2.ensures.value c.in_ok-pairs.ensures.places in
-    let places = are_places h k c.deref-2.result.now (paired h c.header-here.result.now k c.header-there.result.now c.in_ok-pairs.pairs.items c.deref-2.result.now c.header-here.ensures c.header-there.ensures c.deref-2.ensures.value c.in_ok-pairs.ensures.pairs) in
+    let same = placed h c.header-here.result.now k c.header-there.result.now c.in_ok-pairs.pairs.items c.deref.result.now turn.setting.labels.now c.header-here.ensures c.header-there.ensures c.deref.ensures.value c.in_ok-pairs.ensures.places in
+    let places = are_places h k c.deref.result.now (paired h c.header-here.result.now k c.header-there.result.now c.in_ok-pairs.pairs.items c.deref.result.now c.header-here.ensures c.header-there.ensures c.deref.ensures.value c.in_ok-pairs.ensures.pairs) in
     let ended = has_ended c.args.export.now.reader c.walk_on.new.export.reader _ _ b None (moved_export turn) read.reached.ps e.head e.going (over.1).0 (e.comes he b ae) in
     let last = (not-over (is_some found && quiet) turn.is_last (ap (λ z. z || turn.is_last) (sym c.has_enough.ensures) ∙ sym c.is_over.ensures ∙ c.if-not-is_over.true)).1 in
     subst (λ (xs : List Tally). IsCounted turn a h b k xs) is (counted_on frame a h b k read (is_some found && quiet) _ _ same places later over.0 begun walked last more (ended.through).conforms)
@@ -193,7 +193,7 @@ returns-in-Ok-Ok-end_both-clause-counted g c =
     let found = c.walk_on.new.watch.watcher.found in
     let h = (c.args.original.now.reader).head in
     let k = (c.args.export.now.reader).head in
-    let frame = framed turn c.deref-2.result c.common_room-room.result in
+    let frame = framed turn c.deref.result c.common_room.result in
     let files = two_files a h b k in
     let looks' : g.L.Onlooker.looks c.walk_on.new.watch.watcher.onlooker.now ≡ true = ap (λ (kept : Kept). kept.looks) c.walk_on.ensures.keeps ∙ c.in_ok-begin.ensures.looks ∙ looks in
     let quiet = not (g.L.Onlooker.looks c.walk_on.new.watch.watcher.onlooker.now) in
@@ -204,8 +204,8 @@ returns-in-Ok-Ok-end_both-clause-counted g c =
     let o = rw c.in-Ok-Ok.field-0-is at c.in-Ok-Ok.ensures.original in
     let e = rw c.in-Ok-Ok.field-0-is at c.in-Ok-Ok.ensures.export in
     let begun = c.in_ok-begin.ensures.none looks files turn.from.ps in
-    let same = placed h c.header-here.result.now k c.header-there.result.now c.in_ok-pairs.pairs.items c.deref-2.result.now turn.setting.labels.now c.header-here.ensures c.header-there.ensures c.deref-2.ensures.value c.in_ok-pairs.ensures.places in
-    let places = are_places h k c.deref-2.result.now (paired h c.header-here.result.now k c.header-there.result.now c.in_ok-pairs.pairs.items c.deref-2.result.now c.header-here.ensures c.header-there.ensures c.deref-2.ensures.value c.in_ok-pairs.ensures.pairs) in
+    let same = placed h c.header-here.result.now k c.header-there.result.now c.in_ok-pairs.pairs.items c.deref.result.now turn.setting.labels.now c.header-here.ensures c.header-there.ensures c.deref.ensures.value c.in_ok-pairs.ensures.places in
+    let places = are_places h k c.deref.result.now (paired h c.header-here.result.now k c.header-there.result.now c.in_ok-pairs.pairs.items c.deref.result.now c.header-here.ensures c.header-there.ensures c.deref.ensures.value c.in_ok-pairs.ensures.pairs) in
     let ended = has_ended c.args.export.now.reader c.walk_on.new.export.reader _ _ b None (moved_export turn) read.reached.ps e.head e.going (over.1).0 (e.comes he b ae) in
     let last : turn.is_last ≡ true = ap (λ z. z || turn.is_last) (sym more ∙ sym c.has_enough.ensures) ∙ sym c.is_over.ensures ∙ c.if-not-is_over.false in
     let ended' = has_ended c.args.original.now.reader c.walk_on.new.original.reader _ _ a (Some turn.setting.claim.now) (moved_original turn) read.reached.ps o.head o.going ((over.1).1 last) (o.comes ho a ao) in
