@@ -1,2 +1,3 @@
 pub mod Told
 pub mod Found
+pub mod Hands

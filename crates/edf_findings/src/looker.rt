@@ -7,7 +7,7 @@ ghost use Rattle.edf_findings.specs.Found.{AreFoundBy, AreFoundIn, counted_by};
 use crate::findings::Findings;
 use crate::notes::both::Notes;
 use crate::part::{PartFindings, PartSoFar, ReadPart, Under};
-use crate::stand::RecordCount;
+use crate::stand::{RecordCount, Stand};
 use edf_claim::Claim;
 use edf_heads::in_order;
 use edf_pace::{Counts, Frame, Onlooker, Reading, Watcher, Window};
@@ -103,7 +103,10 @@ impl Looker {
     {
         let setting = frame.turn.setting;
         self.take_record(original, setting.claim)?;
-        let here = self.originals.stand(original, setting.clock.original);
+        let here = Stand {
+            reader: original,
+            by: setting.clock.original,
+        };
         self.part
             .see(here, export, frame, within, &self.counts.tallies);
         Ok(())

@@ -115,7 +115,10 @@ impl PartSoFar {
         if setting.claim.keeps_instant(within.from.ps, 1) {
             self.see_first(frame.pairs, original, within);
         }
-        let there = self.records.stand(export, setting.clock.export);
+        let there = Stand {
+            reader: export,
+            by: setting.clock.export,
+        };
         self.moved_ps = there.moved_ps();
         let hands = Hands {
             original: original.hand(),

@@ -1,5 +1,8 @@
 //! The data records that are at hand while two files are compared.
 
+ghost use Rattle.std.specs.Prelude.{IfSome};
+ghost use Rattle.edf_findings.specs.Hands.{IsRecordAt};
+
 /// From when to when a data record lasts, in picoseconds after the second at which the original starts.
 #[derive(Clone, Copy)]
 pub(crate) struct RecordTime {
@@ -31,27 +34,21 @@ impl RecordTime {
 /// A data record at hand: when it begins, and its number from 0 on; no number where none is at hand.
 #[derive(Clone, Copy)]
 pub(crate) struct Hand {
-    from_ps: i128,
-    number: Option<u32>,
+    pub(crate) from_ps: i128,
+    pub(crate) number: Option<u32>,
 }
 
 impl Hand {
-    /// The data record of a number, where it is at hand and has a time.
-    pub(crate) fn of(time: Option<RecordTime>, number: u32) -> Hand {
-        match time {
-            Some(time) => Hand {
-                from_ps: time.from_ps,
-                number: Some(number),
-            },
-            None => Hand {
-                from_ps: 0,
-                number: None,
-            },
-        }
-    }
+    /// None is at hand.
+    pub(crate) const NONE: Hand = Hand {
+        from_ps: 0,
+        number: None,
+    };
 
     /// The number of the data record, which lasts so long, where a time lies in it.
-    pub(crate) fn record_at(self, duration_ps: i128, at_ps: i128) -> Option<u64> {
+    pub(crate) fn record_at(self, duration_ps: i128, at_ps: i128) -> Option<u64>
+        ensures { IfSome result (IsRecordAt self duration_ps at_ps) }
+    {
         let number = self.number?;
         if self.from_ps <= at_ps && at_ps < self.from_ps.saturating_add(duration_ps) {
             Some(u64::from(number))

@@ -2,59 +2,41 @@
 
 ghost use Rattle.std.specs.Prelude.{IsTrue};
 ghost use Rattle.edf_stream.specs.records.Readers.{is_current};
+ghost use Rattle.edf_findings.specs.Hands.{IsHandOf};
 
 use crate::clock::start_of;
 use crate::record_time::{Hand, RecordTime};
-use edf_pace::{Offset, Window};
+use edf_pace::{Offset, Window, begin_ps_of};
 use edf_stream::FileReader;
 
-/// Which data record of a file is at hand, of those that were there.
+/// How many data records of a file were taken in.
 #[derive(Clone, Copy)]
 pub(crate) struct RecordCount {
-    /// Where the last one starts, as the file has it.
-    start_ps: Option<i128>,
-    number: u32,
+    read: u32,
 }
 
 impl RecordCount {
     /// None was there so far.
-    pub(crate) const NONE: RecordCount = RecordCount {
-        start_ps: None,
-        number: 0,
-    };
+    pub(crate) const NONE: RecordCount = RecordCount { read: 0 };
 
     /// Takes in the data record at hand, and answers whether it is another one than before.
     pub(crate) fn take_in(&mut self, reader: &FileReader) -> bool
         ensures { IsTrue result → IsTrue (is_current reader.now.status) }
     {
-        if !reader.has_current() || self.start_ps == Some(reader.start_ps()) {
+        if !reader.has_current() || self.read == reader.record_count() {
             return false;
         }
-        if self.start_ps.is_some() {
-            self.number = self.number.saturating_add(1);
-        }
-        self.start_ps = Some(reader.start_ps());
+        self.read = reader.record_count();
         true
-    }
-
-    /// The file, of which this data record is at hand, moved by so much.
-    pub(crate) fn stand(self, reader: &FileReader, by: Offset) -> Stand<'_> {
-        Stand {
-            reader,
-            moved_ps: start_of(reader.header()).saturating_add(by.ps),
-            number: self.number,
-        }
     }
 }
 
 /// A file that is read, of which a data record is at hand or was.
 #[derive(Clone, Copy)]
 pub(crate) struct Stand<'a> {
-    reader: &'a FileReader,
+    pub(crate) reader: &'a FileReader,
     /// What the times of the file have to be moved by, so that they count from the second at which the original starts.
-    moved_ps: i128,
-    /// The number of the data record at hand, from 0 on.
-    number: u32,
+    pub(crate) by: Offset,
 }
 
 impl Stand<'_> {
@@ -63,15 +45,16 @@ impl Stand<'_> {
         if !self.reader.has_current() {
             return None;
         }
+        let from_ps = begin_ps_of(self.reader, self.by);
         Some(RecordTime {
-            from_ps: self.reader.start_ps().saturating_add(self.moved_ps),
-            to_ps: self.reader.end_ps().saturating_add(self.moved_ps),
+            from_ps,
+            to_ps: from_ps.saturating_add(self.reader.header().duration_ps()),
         })
     }
 
-    /// What the times of the file are moved by.
+    /// What the times of the file are moved by, from the second on at which it starts.
     pub(crate) fn moved_ps(self) -> i128 {
-        self.moved_ps
+        start_of(self.reader.header()).saturating_add(self.by.ps)
     }
 
     /// Whether a data record is at hand that begins before a time.
@@ -82,9 +65,17 @@ impl Stand<'_> {
         }
     }
 
-    /// The data record at hand, and its number from 0 on.
-    pub(crate) fn hand(self) -> Hand {
-        Hand::of(self.time(), self.number)
+    /// The data record at hand.
+    pub(crate) fn hand(self) -> Hand
+        ensures { IsHandOf self.entry.reader.now self.entry.by.ps result }
+    {
+        if !self.reader.has_current() {
+            return Hand::NONE;
+        }
+        Hand {
+            from_ps: begin_ps_of(self.reader, self.by),
+            number: self.reader.record_count().checked_sub(1),
+        }
     }
 
     /// When the first sample between two times is taken, rounded down, of a signal that has so many samples in the data record at

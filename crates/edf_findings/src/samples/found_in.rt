@@ -1,5 +1,8 @@
 //! In which data records samples of a channel were found.
 
+ghost use Rattle.std.specs.Prelude.{◌≡◌, if◌then◌else◌, nat_eq, Some};
+ghost use Rattle.std.specs.Option.{option_or};
+
 use crate::record_time::Hands;
 use edf_pace::{Counted, Tally};
 use std::alloc::{AllocError, Global};
@@ -22,7 +25,12 @@ impl FoundIn {
 
     /// Notes the data records at hand, if more samples were counted in them.
     #[inline(always)]
-    fn note(&mut self, counted: &Counted, hands: &Hands) {
+    fn note(&mut self, counted: &Counted, hands: &Hands)
+        ensures last { self.new.last ≡ if nat_eq counted.now.count self.old.count then self.old.last
+            else Some hands.now }
+        ensures first { self.new.first ≡ if nat_eq counted.now.count self.old.count then self.old.first
+            else option_or self.old.first (Some hands.now) }
+    {
         if counted.count == self.count {
             return;
         }

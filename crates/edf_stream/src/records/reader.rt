@@ -192,6 +192,13 @@ impl FileReader {
         }
     }
 
+    /// How many data records were read so far.
+    pub fn record_count(&self) -> u32
+        ensures { result ≡ self.now.read }
+    {
+        self.read
+    }
+
     /// How many annotations the data records have that were read so far; the time-keeping texts are none
     /// of them.
     pub fn note_count(&self) -> u32
