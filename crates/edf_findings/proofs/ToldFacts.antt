@@ -6,7 +6,7 @@ use Rattle.std.proofs.Common.{IfSome, ◌<◌, get_or, take, ◌≡◌, ◌∙�
 use Rattle.edf_claim.specs.Terms.{Terms}
 use Rattle.edf_fields.specs.Lists.{Has}
 use Rattle.edf_fields.proofs.ForCallers.{has-append}
-use Rattle.edf_samples.specs.declared.tally.Tally.{Tally}
+use Rattle.edf_samples.specs.declared.counts.tally.Tally.{Tally}
 use Rattle.edf_findings.specs.declared.samples.compared.ComparedChannel.{ComparedChannel}
 use Rattle.edf_header.specs.Heads.{Head}
 use Rattle.edf_heads.specs.Comparisons.{IsPlaceOf}

@@ -12,7 +12,7 @@ use Rattle.edf_findings.specs.declared.looker.Looker.{Looker}
 use Rattle.edf_findings.specs.declared.part.PartFindings.{PartFindings}
 use Rattle.edf_findings.specs.declared.part.ReadPart.{ReadPart}
 use Rattle.edf_findings.specs.Told.{AreTold}
-use Rattle.edf_samples.specs.declared.tally.Tally.{Tally}
+use Rattle.edf_samples.specs.declared.counts.tally.Tally.{Tally}
 
 -- of an export that was read this is found: where something was counted of each label, it is told of the claimed channels that both files have
 pub record IsFoundIn (claim : Terms) (labels : List (Bor (List ℕ))) (h : Head) (part : ReadPart) (found : PartFindings) : Type 0 where

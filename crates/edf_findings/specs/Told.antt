@@ -6,9 +6,9 @@ use Rattle.edf_fields.specs.Lists.{Has}
 use Rattle.edf_header.specs.Heads.{Head}
 use Rattle.edf_heads.specs.Comparisons.{AreSorted, IsPlaceOf}
 use Rattle.edf_pace.specs.walk.Columns.{channel_at}
-use Rattle.edf_samples.specs.declared.counted.Counted.{Counted}
+use Rattle.edf_samples.specs.declared.counts.counted.Counted.{Counted}
 use Rattle.edf_samples.specs.declared.difference.PointDifference.{PointDifference}
-use Rattle.edf_samples.specs.declared.tally.Tally.{Tally}
+use Rattle.edf_samples.specs.declared.counts.tally.Tally.{Tally}
 use Rattle.edf_findings.specs.declared.samples.compared.ComparedChannel.{ComparedChannel}
 use Rattle.edf_findings.specs.declared.samples.compared.Samples.{Samples}
 use Rattle.edf_findings.specs.declared.samples.compared.Spot.{Spot}

@@ -107,8 +107,8 @@ impl Looker {
             reader: original,
             by: setting.clock.original,
         };
-        self.part
-            .see(here, export, frame, within, &self.counts.tallies);
+        let hands = self.part.see(here, export, frame, within);
+        self.part.note(&self.counts.tallies, &hands);
         Ok(())
     }
 

@@ -95,21 +95,21 @@ impl PartSoFar {
     }
 
     /// Notes in which data records at hand samples were found, of which there are so many now.
-    fn note(&mut self, tallies: &[Tally], hands: &Hands) {
+    pub(crate) fn note(&mut self, tallies: &[Tally], hands: &Hands) {
         for (found, tally) in self.found.iter_mut().zip(tallies) {
             found.note(tally, hands);
         }
     }
 
-    /// Notes in which data records at hand samples were found between two times, of which there are so many now.
+    /// Sees when the export begins, and when the first sample is taken that is kept, of what both show between two times. It
+    /// answers the data records at hand.
     pub(crate) fn see(
         &mut self,
         original: Stand<'_>,
         export: &FileReader,
         frame: Frame<'_>,
         within: Window,
-        tallies: &[Tally],
-    ) {
+    ) -> Hands {
         let setting = frame.turn.setting;
         self.take_record(export);
         if setting.claim.keeps_instant(within.from.ps, 1) {
@@ -120,11 +120,10 @@ impl PartSoFar {
             by: setting.clock.export,
         };
         self.moved_ps = there.moved_ps();
-        let hands = Hands {
+        Hands {
             original: original.hand(),
             export: there.hand(),
-        };
-        self.note(tallies, &hands);
+        }
     }
 
     /// Where the export starts; none where the original has no sample that is kept.

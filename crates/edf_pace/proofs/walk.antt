@@ -7,7 +7,6 @@ pub mod SplitFacts
 pub mod WindowFacts
 pub mod OnwardFacts
 pub mod SpanFacts
-pub mod CountedFacts
 pub mod PassFacts
 pub mod KeeperFacts
 pub mod PlaceFacts

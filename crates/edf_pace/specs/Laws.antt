@@ -3,7 +3,7 @@ use Rattle.std.specs.Prelude.{◌≡◌, ◌↔◌, ℤ, List, [], map}
 use Rattle.std.specs.List.Sorted.{IsPermutation, IsSorted}
 use Rattle.edf_pace.specs.Words.{Frame, Note, NoteValue, note_value}
 use Rattle.edf_pace.specs.declared.notes.only_in_one.OnlyInOne.{OnlyInOne}
-use Rattle.edf_samples.specs.declared.tally.Tally.{Tally}
+use Rattle.edf_samples.specs.declared.counts.tally.Tally.{Tally}
 use Rattle.edf_pace.specs.Annotations.{SameNotes, note_cmp}
 use Rattle.edf_pace.specs.notes.NoteOrder.{first_unequal_of}
 use Rattle.edf_pace.specs.notes.OnlyInOne.{AreOnlyInOne, first_note, unequals_of}

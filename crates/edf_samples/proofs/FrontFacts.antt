@@ -16,9 +16,9 @@ use Rattle.edf_verdict.specs.declared.verdict.SampleMismatch.{SampleMismatch}
 use Rattle.edf_verdict.specs.declared.verdict.SampleMismatch.TheVariants.{Missing, Extra}
 use Rattle.edf_samples.specs.declared.difference.PointDifference.{PointDifference}
 use Rattle.edf_samples.specs.declared.point.Point.{Point}
-use Rattle.edf_samples.specs.declared.places.Places.{Places}
-use Rattle.edf_samples.specs.declared.counted.Counted.{Counted}
-use Rattle.edf_samples.specs.declared.tally.Tally.{Tally}
+use Rattle.edf_samples.specs.declared.counts.places.Places.{Places}
+use Rattle.edf_samples.specs.declared.counts.counted.Counted.{Counted}
+use Rattle.edf_samples.specs.declared.counts.tally.Tally.{Tally}
 use Rattle.edf_samples.specs.declared.stretch.Stretch.{Stretch}
 use Rattle.edf_samples.specs.InstantOrder.{IsBefore}
 use Rattle.edf_samples.specs.Others.{ArePlaces, values_differ}

@@ -6,7 +6,7 @@ use Rattle.std.proofs.lemmas.Int.{ints, unsigned_abs-mul}
 use Rattle.edf_stream.specs.samples.Values.{digital_value}
 use Rattle.edf_verdict.specs.declared.verdict.SampleMismatch.TheVariants.{Missing, Extra}
 use Rattle.edf_samples.specs.declared.difference.PointDifference.{PointDifference}
-use Rattle.edf_samples.specs.declared.head.Head.{Head}
+use Rattle.edf_samples.specs.declared.counts.head.Head.{Head}
 use Rattle.edf_samples.specs.declared.stretch.Stretch.{Stretch}
 use Rattle.edf_samples.specs.InstantOrder.{is_before}
 use Rattle.edf_samples.specs.Differences.{heads, instant}

@@ -13,7 +13,7 @@ use Rattle.std.proofs.lemmas.Simd.{bit_mask_l, mask_l-lt, ones-mask_l, run_in_ch
 use lib.Count.{count_leading_zeros, count_trailing_zeros}
 use lib.Lanes.{mask_l}
 use Rattle.edf_samples.specs.Others.{AreOthers, ArePlaces}
-use Rattle.edf_samples.specs.declared.places.Places.{Places}
+use Rattle.edf_samples.specs.declared.counts.places.Places.{Places}
 
 -- ---- how many pass
 

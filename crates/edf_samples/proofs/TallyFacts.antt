@@ -10,8 +10,8 @@ use Rattle.edf_verdict.specs.declared.verdict.SampleMismatch.{SampleMismatch}
 use Rattle.edf_verdict.specs.declared.verdict.SampleMismatch.TheVariants.{Missing, Extra, Value}
 use Rattle.edf_samples.specs.declared.difference.PointDifference.{PointDifference}
 use Rattle.edf_samples.specs.declared.point.Point.{Point}
-use Rattle.edf_samples.specs.declared.counted.Counted.{Counted}
-use Rattle.edf_samples.specs.declared.tally.Tally.{Tally}
+use Rattle.edf_samples.specs.declared.counts.counted.Counted.{Counted}
+use Rattle.edf_samples.specs.declared.counts.tally.Tally.{Tally}
 use Rattle.edf_samples.specs.InstantOrder.{is_before}
 use Rattle.edf_samples.specs.Differences.{instant, missing, extra, other, heads, first_difference_of}
 use Rattle.edf_samples.specs.Tallies.{all_behind, differences_of, each_is, first_of, lacks_first, lacks_second, last_of, is_missing, is_extra, is_changed, of_kind, counted, joined_kind, tally_of, joined, all_missing, all_extra, all_changed}

@@ -6,7 +6,7 @@ use Rattle.std.specs.Ordering.{int_eq}
 use Rattle.std.proofs.lemmas.Bool.Decides.{Decides-and, Decides-eqb, Decides-int_eq, same_from_decides}
 use Rattle.std.proofs.lemmas.Int.{ints}
 use Rattle.edf_stream.specs.samples.Values.{digital}
-use Rattle.edf_samples.specs.declared.places.Places.{Places}
+use Rattle.edf_samples.specs.declared.counts.places.Places.{Places}
 use Rattle.edf_samples.specs.Others.{AreOthers, differs, values_differ}
 use Rattle.edf_samples.proofs.FilterFacts.{by_test}
 

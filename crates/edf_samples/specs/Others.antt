@@ -3,7 +3,7 @@ use Rattle.std.specs.Prelude.{◌≡◌, ℕ, ◌+◌, ◌*◌, ◌==◌, ◌&&�
 use Rattle.std.specs.List.{range_with_len}
 use Rattle.edf_samples.specs.Words.{int_eq}
 use Rattle.edf_stream.specs.samples.Values.{digital_value}
-use Rattle.edf_samples.specs.declared.places.Places.{Places}
+use Rattle.edf_samples.specs.declared.counts.places.Places.{Places}
 
 -- of values of two bytes each, number k of the second list differs from that of the first, of which so many go by from one to the next
 abbrev pub differs : ℕ → List ℕ → List ℕ → ℕ → Bool

@@ -3,7 +3,7 @@
 use Rattle.std.specs.Prelude.{ℕ, suc, ◌+◌, ◌*◌, ◌<◌, ◌≤◌, ◌^◌, ℤ, pos, ◌+ℤ◌, ◌*ℤ◌, ◌<ℤ◌, unsigned_abs, List, [], ◌∷◌, Option, length, drop, Bool, ◌&&◌, if◌then◌else◌, ◌≡◌, ◌≢◌, slice_index, not, filter, int_lt}
 use Rattle.edf_samples.specs.Words.{int_eq, Instant, PointDifference, Point}
 use Rattle.edf_stream.specs.samples.Values.{digital, digital_value}
-use Rattle.edf_samples.specs.declared.head.Head.{Head}
+use Rattle.edf_samples.specs.declared.counts.head.Head.{Head}
 use Rattle.edf_samples.specs.declared.stretch.Stretch.{Stretch}
 use Rattle.edf_samples.specs.Differences.{first_difference_of, instant}
 use Rattle.edf_samples.specs.InstantOrder.{is_before}

@@ -3,8 +3,8 @@ use Rattle.std.specs.Prelude.{ℕ, ◌+◌, ◌^◌, ◌-◌, max, min, List, []
 use Rattle.edf_samples.specs.Words.{option_or, int_eq, PointDifference, Point}
 use Rattle.edf_verdict.specs.declared.verdict.SampleMismatch.{SampleMismatch}
 use Rattle.edf_verdict.specs.declared.verdict.SampleMismatch.TheVariants.{Missing, Extra, Value}
-use Rattle.edf_samples.specs.declared.counted.Counted.{Counted}
-use Rattle.edf_samples.specs.declared.tally.Tally.{Tally}
+use Rattle.edf_samples.specs.declared.counts.counted.Counted.{Counted}
+use Rattle.edf_samples.specs.declared.counts.tally.Tally.{Tally}
 use Rattle.edf_samples.specs.declared.stretch.Stretch.{Stretch}
 use Rattle.edf_samples.specs.InstantOrder.{is_before}
 use Rattle.edf_samples.specs.Differences.{instant, missing, extra, other}

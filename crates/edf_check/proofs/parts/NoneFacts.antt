@@ -8,7 +8,7 @@ use Rattle.edf_fields.specs.Lists.{Has}
 use Rattle.edf_header.specs.Heads.{Head}
 use Rattle.edf_header.specs.HeadsReading.{head_of}
 use Rattle.edf_samples.specs.declared.earliest.Found.{Found}
-use Rattle.edf_samples.specs.declared.tally.Tally.{Tally}
+use Rattle.edf_samples.specs.declared.counts.tally.Tally.{Tally}
 use Rattle.edf_samples.specs.InstantOrder.{floor_of}
 use Rattle.edf_samples.specs.Tallies.{tally_of}
 use Rattle.edf_pace.specs.walk.Pairs.{places_in}

@@ -22,7 +22,7 @@ use Rattle.edf_check.specs.parts.PartsFound.{IsEarlyFound, first_of, found_with,
 use Rattle.edf_check.specs.parts.Ends.{IsPartRead, is_same}
 use Rattle.edf_pace.specs.walk.Ends.{IsFaultBy, moved_export, moved_original}
 use Rattle.edf_check.specs.parts.Together.{AreRead, HaveFault, gathered_of_all, serial_difference}
-use Rattle.edf_samples.specs.declared.tally.Tally.{Tally}
+use Rattle.edf_samples.specs.declared.counts.tally.Tally.{Tally}
 use Rattle.edf_samples.specs.declared.times.Time.{Time}
 use Rattle.edf_check.specs.parts.Counted.{IsCountedBehind, serial_counts}
 use Rattle.edf_pace.specs.walk.Counting.{span_counts}

@@ -37,7 +37,7 @@ use Rattle.edf_check.specs.parts.PartsFirst.{IsFirstHead}
 use Rattle.edf_check.specs.parts.Parts.{AllConform, ExportedByOne, FollowOneAnother, exported_by_all, first_begin, last_end}
 use Rattle.edf_check.specs.parts.PartsFound.{AllAgree, AllConformAt, AreOrdered, IsEarlyFound, IsFirstEarly, IsHeadsFound, end_before_part}
 use Rattle.edf_check.specs.parts.PartsVerdicts.{AllAgreed, AllInOrder, HeadDiffers, IsFirstOverlap, IsPartsVerdict, IsVerdictOnParts, samples_of_all}
-use Rattle.edf_samples.specs.declared.tally.Tally.{Tally}
+use Rattle.edf_samples.specs.declared.counts.tally.Tally.{Tally}
 use Rattle.edf_check.specs.parts.Counted.{AreCounted, serial_counts}
 use Rattle.edf_pace.specs.walk.Gathered.{gathered_of}
 use Rattle.edf_pace.specs.walk.Readings.{IsSetting}

@@ -7,7 +7,7 @@ use Rattle.edf_check.specs.parts.Ends.{at_part, beside}
 use Rattle.edf_check.specs.parts.Parts.{AllConform, FollowOneAnother}
 use Rattle.edf_heads.specs.Comparisons.{AreSorted}
 use Rattle.edf_pace.specs.Kept.{shift_ps}
-use Rattle.edf_samples.specs.declared.tally.Tally.{Tally}
+use Rattle.edf_samples.specs.declared.counts.tally.Tally.{Tally}
 use Rattle.edf_pace.specs.Premises.{OfFile, OfFiles}
 use Rattle.edf_samples.specs.Tallies.{tally_of}
 use Rattle.edf_pace.specs.walk.Counting.{span_counts}

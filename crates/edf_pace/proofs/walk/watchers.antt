@@ -1,1 +1,2 @@
 pub mod CountFacts
+pub mod CountedFacts

@@ -2,7 +2,7 @@
 use Rattle.std.specs.Prelude.{◌≡◌, ℕ, ℤ, Bool, true, false, List, [], ◌∷◌, map, Option, None, Some}
 use Rattle.edf_pace.specs.Words.{keeps_instant, Terms, PointDifference, ChannelPlace, Clock, Frame, Pair, Reader, Window}
 use Rattle.edf_claim.specs.KeepsReading.{IsUncut}
-use Rattle.edf_samples.specs.declared.tally.Tally.{Tally}
+use Rattle.edf_samples.specs.declared.counts.tally.Tally.{Tally}
 use Rattle.edf_pace.specs.declared.walk.shares.Shares.{Shares}
 use Rattle.edf_pace.specs.walk.Columns.{Sampled}
 use Rattle.edf_samples.specs.Stretches.{since, until}

@@ -2,7 +2,7 @@
 -- 00:00:00, then count from the second at which the original starts, before the shift. These are steps between the definitions and the code.
 use Rattle.std.specs.Prelude.{◌≡◌, ℕ, ℤ, ◌<◌, ◌≤ℤ◌, Bool, true, false, List, [], Option, None, Some}
 use Rattle.edf_pace.specs.Words.{Fault, Ghosts, Head, Conforms, body_fault, file_fault, NoteValue, notes_of, Reader, is_current, end_before, Found, Frame, Reading, Time, Window, Turn, FaultOf}
-use Rattle.edf_samples.specs.declared.tally.Tally.{Tally}
+use Rattle.edf_samples.specs.declared.counts.tally.Tally.{Tally}
 use Rattle.edf_pace.specs.declared.walk.lockstep.ReadOn.{ReadOn}
 use Rattle.edf_pace.specs.declared.walk.lockstep.Step.{Step}
 use Rattle.edf_pace.specs.declared.walk.fault_of.FaultOf.TheVariants.{Original as OfOriginal, Part as OfPart}

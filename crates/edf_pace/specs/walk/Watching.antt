@@ -1,7 +1,7 @@
 -- What a watcher of two files that are read in step gets to see.
 use Rattle.std.specs.Prelude.{◌≡◌, ℕ, ℤ, ◌≤ℤ◌, Bool, List, map, Option}
 use Rattle.edf_pace.specs.Words.{Found, Frame, Head, Reader, Turn, Window}
-use Rattle.edf_samples.specs.declared.tally.Tally.{Tally}
+use Rattle.edf_samples.specs.declared.counts.tally.Tally.{Tally}
 use Rattle.edf_pace.specs.walk.Pairs.{places_of}
 use Rattle.edf_pace.specs.walk.Shown.{Covers}
 use Rattle.edf_pace.specs.walk.Windows.{sampled, window_difference}

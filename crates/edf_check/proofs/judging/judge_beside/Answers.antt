@@ -1,5 +1,5 @@
 use Rattle.std.proofs.Common.{rules, ◌≡◌, ◌∷◌, [], List, subst}
-use Rattle.edf_samples.specs.declared.tally.Tally.{Tally}
+use Rattle.edf_samples.specs.declared.counts.tally.Tally.{Tally}
 use Rattle.edf_check.specs.parts.Counted.{AreCounted, IsCountedOfTwo}
 use Rattle.edf_check.proofs.judging.judge_beside.Goals as goal
 

@@ -1,6 +1,6 @@
 use Rattle.std.proofs.Common.{List, true, subst}
 use Rattle.edf_check.specs.parts.Counted.{IsCountedUnder}
-use Rattle.edf_samples.specs.declared.tally.Tally.{Tally}
+use Rattle.edf_samples.specs.declared.counts.tally.Tally.{Tally}
 use Rattle.edf_findings.specs.Found.{counted_by}
 use Rattle.edf_findings.proofs.ToldFacts.{if-some}
 use Rattle.edf_findings.proofs.of_files.findings_of.Goals as goal

@@ -2,7 +2,7 @@
 use Rattle.std.proofs.Common.{◌≡◌, cond, ℕ, zero, suc, ◌+◌, ◌<◌, ℤ, ◌≤ℤ◌, List, [], ◌∷◌, ◌++◌, map, take, drop, get_or, replicate, set, length, Option, Some, None, option_map, refl, sym, ap, ◌∙◌, arith, lit<}
 use Rattle.edf_claim.specs.Terms.{Terms}
 use Rattle.edf_samples.specs.declared.difference.PointDifference.{PointDifference}
-use Rattle.edf_samples.specs.declared.tally.Tally.{Tally}
+use Rattle.edf_samples.specs.declared.counts.tally.Tally.{Tally}
 use Rattle.edf_pace.specs.declared.walk.channel_place.ChannelPlace.{ChannelPlace}
 use Rattle.edf_samples.specs.declared.earliest.Found.{Found}
 use Rattle.edf_samples.specs.declared.point.Point.{Point}

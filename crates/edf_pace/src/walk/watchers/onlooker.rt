@@ -2,7 +2,7 @@
 
 ghost use Rattle.std.specs.Prelude.{◌≡◌, ◌++◌, ◌∷◌, [], ℤ, Bool, List, OnOk, length, true};
 ghost use Rattle.edf_claim.specs.KeepsReading.{IsUncut};
-ghost use Rattle.edf_samples.specs.declared.tally.Tally.{Tally};
+ghost use Rattle.edf_samples.specs.declared.counts.tally.Tally.{Tally};
 ghost use Rattle.edf_pace.specs.walk.Counting.{AreTallies};
 ghost use Rattle.edf_pace.specs.walk.Pairs.{IsFrame};
 ghost use Rattle.edf_pace.specs.walk.Watching.{HasSeenIn, TwoFiles};

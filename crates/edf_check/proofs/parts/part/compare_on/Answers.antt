@@ -5,7 +5,7 @@ use Rattle.std.specs.List.{All}
 use Rattle.edf_header.specs.Heads.{Head}
 use Rattle.edf_stream.specs.Views.{note_value}
 use Rattle.edf_samples.specs.declared.earliest.Found.{Found}
-use Rattle.edf_samples.specs.declared.tally.Tally.{Tally}
+use Rattle.edf_samples.specs.declared.counts.tally.Tally.{Tally}
 use Rattle.edf_pace.specs.declared.walk.frame.Frame.{Frame}
 use Rattle.edf_pace.specs.declared.walk.track.Pair.{Pair}
 use Rattle.edf_pace.specs.declared.walk.turn.Turn.{Turn}

@@ -1,5 +1,5 @@
 use Rattle.std.proofs.Common.{rules, ◌≡◌, ◌∙◌, List, sym}
-use Rattle.edf_samples.specs.declared.tally.Tally.{Tally}
+use Rattle.edf_samples.specs.declared.counts.tally.Tally.{Tally}
 use Rattle.edf_pace.specs.walk.Counting.{AreTallies}
 use Rattle.edf_pace.specs.walk.Watching.{HasSeenIn}
 use Rattle.edf_findings.proofs.looker.LookerOnlooker.look.Goals as goal

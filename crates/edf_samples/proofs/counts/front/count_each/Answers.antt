@@ -1,0 +1,18 @@
+use Rattle.std.proofs.Common.{◌*◌, ◌≤◌, length, arith, refl}
+use Rattle.edf_samples.specs.Others.{values_differ}
+use Rattle.edf_samples.specs.Tallies.{all_changed}
+use Rattle.edf_samples.proofs.FrontFacts.{each_counted}
+use Rattle.edf_samples.proofs.counts.front.count_each.Goals as goal
+
+pub returns-clause-value : goal.returns-clause-value
+returns-clause-value c =
+    let x = c.args.x in
+    let y = c.args.y in
+    let n = c.min-count.result in
+    let few = c.min-count.ensures in
+    let here = c.count_in.ensures.within in
+    let there = c.count_in-2.ensures.within in
+    let lx : 2 * n ≤ length x.bytes.now = omega (arith, few, here) in
+    let ly : 2 * n ≤ length y.bytes.now = omega (arith, few, there) in
+    each_counted c.args.tally.now c.add_changed.new.self (all_changed c.changes_at.result) c.changes_at.result x y n c.requires.grid lx ly
+    (c.changes_at.ensures (values_differ 1 x.bytes.now y.bytes.now) n c.numbers_of-numbers.ensures.values) refl c.add_changed.ensures

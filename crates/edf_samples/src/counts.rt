@@ -1,0 +1,9 @@
+//! How many samples of a channel differ, by kind, with the first and the last.
+
+pub mod blocks;
+pub mod count;
+pub mod counted;
+pub mod front;
+pub mod head;
+pub mod places;
+pub mod tally;
