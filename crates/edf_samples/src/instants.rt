@@ -1,8 +1,6 @@
 //! Instants compared and moved, exactly.
 
 ghost use Rattle.std.specs.Prelude.{◌≡◌, ◌<◌, ◌≤◌, ◌^◌, ◌*ℤ◌, pos, unsigned_abs};
-ghost use Rattle.edf_stream.specs.times.InstantOrder.{IsSmall};
-ghost use Rattle.edf_samples.specs.Instants.{later as later_instant};
 ghost use Rattle.edf_samples.specs.InstantOrder.{IsModest, floor_of, is_before as is_before_instant};
 
 use edf_stream::Instant;
@@ -23,29 +21,6 @@ pub(crate) fn is_before(this: Instant, other: Instant) -> bool
     ensures { result ≡ is_before_instant this other }
 {
     product(this.num, other.den) < product(other.num, this.den)
-}
-
-/// A number of picoseconds in units of 1 / `den` picoseconds.
-fn scaled(ps: i128, den: u32) -> i128
-    requires ps { unsigned_abs ps < 2 ^ 80 }
-    requires den { den ≤ 2 ^ 23 }
-    ensures value { result ≡ pos den *ℤ ps }
-    ensures small { unsigned_abs result < 2 ^ 103 }
-{
-    i128::from(den) * ps
-}
-
-/// The instant, so many picoseconds later.
-pub(crate) fn later(instant: Instant, ps: i128) -> Instant
-    requires small { IsSmall instant }
-    requires near { unsigned_abs ps < 2 ^ 80 }
-    ensures value { result ≡ later_instant ps instant }
-    ensures modest { IsModest result }
-{
-    Instant {
-        num: instant.num + scaled(ps, instant.den),
-        den: instant.den,
-    }
 }
 
 /// The whole picoseconds of an instant, rounded down.
