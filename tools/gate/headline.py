@@ -33,6 +33,8 @@ CRATES = TOP / "crates"
 OUT = TOP / "out"
 WIDTH = 120
 
+# how other files may use a word: this isn't copied, but of code
+VISIBLE = re.compile(r"^( *)(?:(?:abbrev|unfoldable) )?pub (?!fn|struct|enum|trait|const)", re.M)
 # signs and words that the language of definitions has without a `use`
 SIGNS = set(": = . , ; _ → × λ ⊥ ¬ ( ) { } [..] Type Unit tt record where let in".split())
 # kinds of values that the code has without a `use`
@@ -90,7 +92,8 @@ ABOUT = [
     "Here stands all of this project that has to be read to know what is proved: first the contract of `check`,"
     " then each definition that it stands on, once. A definition comes behind the first that needs it, so it is"
     " plain why it comes. Each has a number. There are two parts: what an export keeps of its original, and what the"
-    " bytes of a file say, for who knows EDF, with `Conforms` first. All is copied from the files that are named. The"
+    " bytes of a file say, for who knows EDF, with `Conforms` first. All is copied from the files that are named, but for `abbrev`,"
+    " `unfoldable` and `pub`, which say how other files may use a word. The"
     " prose above a definition is its comment: it says in words what the definition says exactly, and the definition is"
     " what counts. Right behind `Headline` stand laws, which are proved to follow from the definitions: a file has one"
     " header, says its annotations in one way, and has no sample twice.",
@@ -145,7 +148,6 @@ NOTATION = [
     ("fixed.Version, Yes n", "a value of a type that the code declares (FixedField, and so signal of SignalField), here"
      " with its part n"),
     ("several lines", "of one word: one for each form of its arguments, of which the first that fits counts"),
-    ("abbrev, pub", "how other files may use the word; they change nothing of what it says"),
     ("{X : Type 0}", "an argument that isn't written where the word is used"),
     ("x.old, x.new, x.now", "in a contract: what x stood for as the call began; as it ended; what it stands for"),
     ("result, v.items", "in a contract: what the call answers; the list in a Vec"),
@@ -738,6 +740,11 @@ def listed(front, those, indent):
     return [line.replace(chr(160), " ") for line in lines]
 
 
+def plain(one, text):
+    """The text of a definition without how other files may use its words; of code as it is."""
+    return text if one.word.is_code() else VISIBLE.sub(r"\1", text)
+
+
 def parts(order):
     """The two parts, each with its definitions."""
     every = list(order.found.values())
@@ -747,7 +754,6 @@ def parts(order):
 def as_text(order):
     """The document as a text."""
     definitions = list(order.found.values())
-    said = {one.word: f"{one.number} {one.word.name}" for one in definitions}
     lines = [TITLE, "=" * len(TITLE), ""]
     for paragraph in ABOUT:
         lines += [*textwrap.wrap(paragraph, WIDTH, break_on_hyphens=False), ""]
@@ -759,12 +765,12 @@ def as_text(order):
         for one in those:
             lines += ["", "", f"{one.number}. {one.word.name}  ({one.word.home.relative_to(TOP)})", ""]
             lines += ["    " + line for line in fitted(prose(one.comment), WIDTH - 4)]
-            lines += [""] * bool(one.comment) + one.lines
+            lines += [""] * bool(one.comment) + [plain(one, line) for line in one.lines]
     lines += ["", "", "What isn't copied", ""]
     lines += [f"{word.name}  ({word.home.relative_to(TOP)}): {why}" for word, why in order.left.items()]
     lines += ["", "", "What the files say of themselves", ""]
-    for file, those in files(definitions).items():
-        lines += listed(file.relative_to(TOP), [said[one.word] for one in those], "")
+    for file in files(definitions):
+        lines += [str(file.relative_to(TOP))]
         lines += ["    " + line for line in fitted(prose(heading(file)), WIDTH - 4)]
     lines += ["", "", "Words of the toolchain", ""]
     for home, words in toolchain(definitions).items():
@@ -803,7 +809,7 @@ def section(one, anchors):
     page += f"<h2>{one.number}. <code>{html.escape(one.word.name)}</code> <small>{file}</small></h2>\n"
     if one.comment:
         page += f'<p class="comment">{marked(prose(one.comment))}</p>\n'
-    page += f"<pre><code>{linked(one, anchors)}</code></pre>\n"
+    page += f"<pre><code>{plain(one, linked(one, anchors))}</code></pre>\n"
     if one.users:
         page += f'<p class="users">used by: {", ".join(link(user, anchors) for user in one.users)}</p>\n'
     return page + "</section>\n"
