@@ -1,0 +1,16 @@
+pub mod FieldFacts
+pub mod SpacesFacts
+pub mod DigitFacts
+pub mod StartFacts
+pub mod HeadFacts
+pub mod LineFacts
+pub mod CutFacts
+pub mod ReportFacts
+pub mod CutLineFacts
+pub mod TextLawFacts
+pub mod TellsFacts
+pub mod BodyFacts
+pub mod PlainFacts
+pub mod PlainLawFacts
+pub mod PlainHeadFacts
+pub mod LaneFacts

@@ -1,0 +1,5 @@
+use Rattle.edf_layout.proofs.LaneFacts.{file_is_its_parts}
+use Rattle.edf_layout.proofs.laws.file_is_its_parts.Goals as goal
+
+pub returns : goal.returns
+returns c = file_is_its_parts

@@ -1,0 +1,13 @@
+pub mod Spaces
+pub mod PlainNumbers
+pub mod HeadLayouts
+pub mod HeadTexts
+pub mod OddPlaces
+pub mod HeadLaws
+pub mod RawSignals
+pub mod HeadFiles
+pub mod HeadReports
+pub mod BodyLaws
+pub mod PlainLaws
+pub mod LaneLayouts
+pub mod FileLaws

@@ -1,0 +1,47 @@
+//! Laws of the definitions, each the contract of a function that does nothing.
+
+ghost use Rattle.edf_layout.specs.BodyLaws.{LanesAreTheRest};
+ghost use Rattle.edf_layout.specs.PlainLaws.{OnePlainHeaderNumber, OnePlainOnset, OnePlainSpan, OnePlainWholeNumber, PlainHeadersAreOne};
+ghost use Rattle.edf_layout.specs.FileLaws.{FileIsItsParts, LaneIsItsTals, LanesHaveLayouts};
+ghost use Rattle.edf_layout.specs.HeadLaws.{LayoutIsTheRest, TextTellsLayout};
+
+/// Two headers in order are the same bytes exactly where they say the same and have the same layout.
+pub fn layout_is_the_rest()
+    ensures { LayoutIsTheRest }
+{}
+
+/// What is written of two headers in order is the same only where they have the same layout.
+pub fn text_tells_the_layout()
+    ensures { TextTellsLayout }
+{}
+
+/// Two files that conform, with the same header, the same samples and the same annotation lanes, are the same bytes.
+pub fn lanes_are_the_rest()
+    ensures { LanesAreTheRest }
+{}
+
+/// A number of a header, an onset and a duration have one plain spelling at the most.
+pub fn spellings_are_plain_in_one_way()
+    ensures header_number { OnePlainHeaderNumber }
+    ensures whole_number { OnePlainWholeNumber }
+    ensures onset { OnePlainOnset }
+    ensures span { OnePlainSpan }
+{}
+
+/// Two headers in order that say the same and have no place that isn't plain are the same bytes.
+pub fn plain_headers_are_one()
+    ensures { PlainHeadersAreOne }
+{}
+
+/// A lane that holds TALs has a layout, and two lanes of one length that hold the same TALs with the same layouts are the same
+/// bytes.
+pub fn lane_is_its_tals()
+    ensures some { LanesHaveLayouts }
+    ensures one { LaneIsItsTals }
+{}
+
+/// Two files that conform are the same bytes where their headers say the same and have the same layout, and they have the same
+/// samples, and the same TALs in each lane, with the same layouts.
+pub fn file_is_its_parts()
+    ensures { FileIsItsParts }
+{}
