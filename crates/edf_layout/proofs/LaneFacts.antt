@@ -17,7 +17,7 @@ use Rattle.edf_layout.specs.PlainNumbers.{is_plain_unsigned}
 use Rattle.edf_layout.specs.PlainLaws.{is_plain_onset}
 use Rattle.edf_layout.proofs.BodyFacts.{lane-long, lane-is, lanes_are_the_rest}
 use Rattle.edf_layout.proofs.HeadFacts.{head-same, layout_is_the_rest}
-use Rattle.edf_layout.proofs.PlainLawFacts.{one_plain_onset, one_plain_span}
+use Rattle.edf_layout.proofs.plain.LawFacts.{one_plain_onset, one_plain_span}
 
 -- zeros of one length
 zeros-same : (xs ys : List ℕ) → length xs ≡ length ys → are_zeros xs ≡ true → are_zeros ys ≡ true → xs ≡ ys

@@ -10,7 +10,5 @@ pub mod CutLineFacts
 pub mod TextLawFacts
 pub mod TellsFacts
 pub mod BodyFacts
-pub mod PlainFacts
-pub mod PlainLawFacts
-pub mod PlainHeadFacts
 pub mod LaneFacts
+pub mod plain

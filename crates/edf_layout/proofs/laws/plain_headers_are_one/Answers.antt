@@ -1,4 +1,4 @@
-use Rattle.edf_layout.proofs.PlainHeadFacts.{plain_headers_are_one}
+use Rattle.edf_layout.proofs.plain.HeaderFacts.{plain_headers_are_one}
 use Rattle.edf_layout.proofs.laws.plain_headers_are_one.Goals as goal
 
 pub returns : goal.returns

@@ -1,4 +1,4 @@
-use Rattle.edf_layout.proofs.PlainLawFacts.{one_plain_header_number, one_plain_whole_number, one_plain_onset, one_plain_span}
+use Rattle.edf_layout.proofs.plain.LawFacts.{one_plain_header_number, one_plain_whole_number, one_plain_onset, one_plain_span}
 use Rattle.edf_layout.proofs.laws.spellings_are_plain_in_one_way.Goals as goal
 
 pub returns-clause-header_number : goal.returns-clause-header_number

@@ -21,7 +21,7 @@ use Rattle.edf_layout.specs.PlainLaws.{PlainHeadersAreOne}
 use Rattle.edf_layout.specs.PlainNumbers.{is_plain_number}
 use Rattle.edf_layout.specs.Spaces.{spaces_of}
 use Rattle.edf_layout.proofs.HeadFacts.{get-some, say-the-same, layout_is_the_rest}
-use Rattle.edf_layout.proofs.PlainLawFacts.{one_plain_header_number, one_plain_whole_number}
+use Rattle.edf_layout.proofs.plain.LawFacts.{one_plain_header_number, one_plain_whole_number}
 use Rattle.edf_layout.proofs.SpacesFacts.{spaces-more, behind-subfield}
 
 -- no line at all

@@ -1,0 +1,3 @@
+pub mod NumberFacts
+pub mod HeaderFacts
+pub mod LawFacts
