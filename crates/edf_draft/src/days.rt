@@ -4,8 +4,7 @@ ghost use Rattle.std.specs.Prelude.{◌≡◌, ◌<◌, ◌^◌, ◌*ℤ◌, ◌
 ghost use Rattle.std.specs.Int.{int_div_euclid};
 ghost use Rattle.edf_draft.specs.Days.{LiesWithin};
 
-/// How many picoseconds a day has.
-const DAY_PS: i128 = 86_400_000_000_000_000;
+use edf_fields::DAY_PS;
 
 /// How many whole days lie between two times, rounded down.
 #[tactic(auto, using(crate::proofs::DayFacts::days_fit))]

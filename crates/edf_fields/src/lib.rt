@@ -24,6 +24,6 @@ pub use in_out::source::{ReadFault, ReadSource, SliceSource, Source, fill, skip_
 pub use texts::date::{clock_time, dashed_date, dotted_date, dotted_day_month};
 pub use texts::identification::{PatientId, RecordingId};
 pub use texts::number::{NUMBER_BYTES, bytes_at, header_number, header_whole, text};
-pub use texts::onset::{SECOND_PS, onset, span};
+pub use texts::onset::{DAY_PS, SECOND_PS, onset, span};
 pub use texts::printable::is_printable;
 pub use texts::subfields::Subfields;

@@ -2,12 +2,9 @@
 
 use crate::clock::start_of;
 use crate::limits::MOST_SHIFT;
-use edf_fields::SECOND_PS;
+use edf_fields::{DAY_PS, SECOND_PS};
 use edf_header::Header;
 use std::alloc::{AllocError, Global};
-
-/// How many picoseconds a day has.
-const DAY_PS: i128 = 86_400 * SECOND_PS;
 
 /// The most shifts that are tried, each by a check.
 const MOST_TRIES: usize = 3;

@@ -1,15 +1,12 @@
 //! What a person has to know of the files before their draft is confirmed, each as a comment of TOML.
 
 use crate::kept::back::{Back, moved_stretches, times_beside};
-use edf_fields::SECOND_PS;
+use edf_fields::DAY_PS;
 use edf_header::Header;
 use edf_heads::ChannelIndex;
 use edf_recording::{Recorded, Times};
 use edf_verdict::push_quoted;
 use std::alloc::{AllocError, Global};
-
-/// How many picoseconds a day has.
-const DAY_PS: i128 = 86_400 * SECOND_PS;
 
 /// What a draft rests on.
 #[derive(Clone, Copy)]

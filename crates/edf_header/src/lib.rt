@@ -15,6 +15,7 @@ mod stop;
 pub use edf_fields::{Cause, Fault, Place};
 pub use header::Header;
 pub use kind::Kind;
+pub use read::next_bytes;
 pub use signals::calibration::Calibration;
 pub use signals::lane_place::LanePlace;
 pub use signals::signal::Signal;

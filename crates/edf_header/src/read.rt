@@ -25,7 +25,9 @@ use edf_fields::{Cause, Fault, Place, SignalField, Source, fill};
 use std::alloc::Global;
 
 /// The next `count` bytes of a source, or all that there are.
-fn next_bytes<S: Source>(alloc: Global, source: &mut S, count: usize) -> Result<Vec<u8>, Stop>
+///
+/// The error is want of memory, or a failure of the source.
+pub fn next_bytes<S: Source>(alloc: Global, source: &mut S, count: usize) -> Result<Vec<u8>, Stop>
     ensures honesty { OnOk result (IsTrue (S.is_honest source.old) → IsTrue (S.is_honest source.new)) }
     ensures failures { OnOk result (S.reads source.new ≡ S.reads source.old) }
     ensures front { IfOk result (λ v. IsTrue (S.is_honest source.old) →

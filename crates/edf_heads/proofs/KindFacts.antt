@@ -37,7 +37,7 @@ use Rattle.edf_heads.specs.differences.TextDifference.{IsFirstText, IsTextDiffer
 use Rattle.edf_heads.proofs.LabelFacts.{one-label}
 use Rattle.std.specs.List.{list_all}
 use Rattle.edf_heads.specs.declared.channels.ClaimedChannel.{ClaimedChannel}
-use Rattle.edf_heads.specs.declared.heads.HeadDifference.{HeadDifference}
+use Rattle.edf_heads.specs.declared.difference.HeadDifference.{HeadDifference}
 use Rattle.edf_heads.specs.declared.rules.ChannelRule.{ChannelRule}
 use Rattle.edf_heads.specs.declared.rules.ChannelRule.TheVariants.{Known, Exported, SameText, Calibrated, Clean}
 use Rattle.edf_heads.proofs.ComparisonFacts.{absent-first, find-claimed, said-of}

@@ -27,8 +27,8 @@ use Rattle.edf_heads.specs.differences.SubfieldDifference.{IsMismatch, IsSubfiel
 use Rattle.edf_heads.specs.differences.TextDifference.{IsTextDifference}
 use Rattle.edf_heads.specs.HeadVerdicts.{AreAllBroken, HeadsAgree, SignalsAgree, IsHeadVerdict}
 use Rattle.edf_heads.specs.declared.channels.ClaimedChannel.{ClaimedChannel}
-use Rattle.edf_heads.specs.declared.heads.HeadDifference.{HeadDifference}
-use Rattle.edf_heads.specs.declared.heads.HeadDifference.TheVariants as heads
+use Rattle.edf_heads.specs.declared.difference.HeadDifference.{HeadDifference}
+use Rattle.edf_heads.specs.declared.difference.HeadDifference.TheVariants as heads
 use Rattle.edf_heads.specs.declared.rules.ChannelRule.{ChannelRule}
 use Rattle.edf_heads.specs.declared.rules.ChannelRule.TheVariants.{Known, Exported, SameText, Calibrated, Clean}
 use Rattle.edf_heads.specs.declared.subfields.SubfieldDifference.{SubfieldDifference}

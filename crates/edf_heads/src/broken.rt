@@ -6,7 +6,7 @@ ghost use Rattle.edf_heads.specs.HeadVerdicts.{AreAllBroken};
 
 use crate::channels::ClaimedChannel;
 use crate::comparison::Comparison;
-use crate::heads::HeadDifference;
+use crate::difference::HeadDifference;
 use crate::rules::ChannelRule;
 use edf_claim::Claim;
 use edf_fields::Which;

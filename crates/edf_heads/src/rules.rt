@@ -7,7 +7,7 @@ use crate::calibrations::has_other_calibration;
 use crate::channel_texts::text_of;
 use crate::channels::ClaimedChannel;
 use crate::comparison::Comparison;
-use crate::heads::HeadDifference;
+use crate::difference::HeadDifference;
 use edf_verdict::TextField;
 
 /// What is asked of each claimed channel (this project's profile).

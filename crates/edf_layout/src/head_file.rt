@@ -8,8 +8,8 @@ ghost use Rattle.edf_header.specs.HeadsReading.{signals_of, head_of};
 ghost use Rattle.edf_header.specs.Stops.{Stops};
 ghost use Rattle.edf_layout.specs.HeadFiles.{IsWhole, IsHeadFile};
 
-use edf_fields::{FixedField, SliceSource, Source, fill, fixed_field, header_whole};
-use edf_header::{Header, Stop};
+use edf_fields::{FixedField, SliceSource, Source, fixed_field, header_whole};
+use edf_header::{Header, Stop, next_bytes};
 use std::alloc::{AllocError, Global};
 
 /// The header of a file that was read, with its bytes.
@@ -21,24 +21,6 @@ pub struct HeadFile {
     pub columns: Vec<u8>,
     /// What both say.
     pub header: Header,
-}
-
-/// The next `count` bytes of a source, or all that there are.
-fn next_bytes<S: Source>(alloc: Global, source: &mut S, count: usize) -> Result<Vec<u8>, Stop>
-    ensures honesty { OnOk result (IsTrue (S.is_honest source.old) → IsTrue (S.is_honest source.new)) }
-    ensures failures { OnOk result (S.reads source.new ≡ S.reads source.old) }
-    ensures front { IfOk result (λ v. IsTrue (S.is_honest source.old) →
-        v.items ≡ take count (S.left source.old)) }
-    ensures behind { OnOk result (IsTrue (S.is_honest source.old) →
-        S.left source.new ≡ drop count (S.left source.old)) }
-    ensures within { IfOk result (λ v. length v.items ≤ count) }
-    ensures stop { IfErr result (Stops (λ _. ⊥) (Fails (S.reads source.old) (S.reads source.new))
-        (S.reads source.new ≡ S.reads source.old)) }
-{
-    let mut bytes = vec![in alloc; 0u8; count]?;
-    let got = fill(source, &mut bytes)?;
-    bytes.truncate(got);
-    Ok(bytes)
 }
 
 /// How many signals the fixed part announces; none where it isn't all there.

@@ -1,10 +1,10 @@
 //! Times of a draft as people say them.
 
-use edf_fields::SECOND_PS;
+use edf_fields::{DAY_PS, SECOND_PS};
 use std::alloc::{AllocError, Global};
 
 /// How many seconds a day has, and an hour, and a minute.
-const DAY: i128 = 86_400;
+const DAY: i128 = DAY_PS / SECOND_PS;
 
 const HOUR: i128 = 3_600;
 

@@ -5,10 +5,8 @@ ghost use Rattle.std.specs.List.{flat_map};
 ghost use Rattle.edf_claim.specs.Spellings.{hex_digit as hex_digit_of, last_digits, said_byte, said_fraction, said_interval, said_seconds, said_text};
 
 use crate::kept::interval::Interval;
+use edf_fields::SECOND_PS;
 use std::alloc::{AllocError, Global};
-
-/// How many picoseconds a second has.
-const SECOND: u128 = 1_000_000_000_000;
 
 /// How many digits the fraction of a second has at the most.
 const PLACES: u32 = 12;
@@ -96,9 +94,9 @@ fn push_fraction(text: &mut Vec<u8>, ps: u64) -> Result<(), AllocError>
 fn push_seconds(text: &mut Vec<u8>, alloc: Global, ps: u128) -> Result<(), AllocError>
     ensures { OnOk result (text.new.items ≡ text.old.items ++ said_seconds ps) }
 {
-    let whole = (ps / SECOND).to_string(alloc)?;
+    let whole = (ps / SECOND_PS as u128).to_string(alloc)?;
     text.extend_from_slice(whole.as_bytes())?;
-    push_fraction(text, (ps % SECOND) as u64)
+    push_fraction(text, (ps % SECOND_PS as u128) as u64)
 }
 
 /// Puts an interval as a table in one line, `{ from = "30", to = "120" }`, behind a text: seconds with their fraction.

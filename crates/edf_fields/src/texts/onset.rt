@@ -13,6 +13,9 @@ use crate::texts::number::{digits, split_dot};
 /// One second, in picoseconds.
 pub const SECOND_PS: i128 = 1_000_000_000_000;
 
+/// One day, in picoseconds.
+pub const DAY_PS: i128 = 86_400 * SECOND_PS;
+
 /// How many zeros stand in front.
 #[tactic(auto, using(crate::proofs::texts::ZeroFacts::leading_zero, crate::proofs::texts::ZeroFacts::leading_digit, crate::proofs::texts::ZeroFacts::leading_end))]
 fn leading_zeros(bytes: &[u8]) -> usize
@@ -124,7 +127,7 @@ fn joined(seconds: u64, picoseconds: u64) -> u128
     ensures value { result ≡ seconds * 10 ^ 12 + picoseconds }
     ensures small { result < 10 ^ 21 }
 {
-    u128::from(seconds) * 1_000_000_000_000 + u128::from(picoseconds)
+    u128::from(seconds) * SECOND_PS as u128 + u128::from(picoseconds)
 }
 
 /// The time that a text with no sign spells, as `time`, by its two parts.
