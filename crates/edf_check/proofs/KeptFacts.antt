@@ -3,7 +3,7 @@ use Rattle.std.proofs.Common.{◌≡◌, ℕ, ◌<◌, ◌+◌, ◌*◌, ℤ, po
 use Rattle.std.proofs.lemmas.Int.{ints}
 use borrow.Author.Differences.{up, down}
 use Rattle.edf_claim.specs.Terms.{Terms}
-use Rattle.edf_claim.specs.Keeps.{KeepsInstant}
+use Rattle.edf_claim.specs.KeepsReading.{KeepsInstant}
 use Rattle.edf_header.specs.HeadsReading.{head_of}
 use Rattle.edf_stream.specs.declared.times.instant.Instant.{Instant}
 use Rattle.edf_stream.specs.Conforming.{Conforms}

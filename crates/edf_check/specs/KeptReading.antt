@@ -1,7 +1,7 @@
 -- What a claim keeps of an original, and what an export holds with the shift taken off, at instants counted from the second at which the original starts.
 use Rattle.std.specs.Prelude.{◌≡◌, ℕ, ℤ, neg_ℤ, ◌+ℤ◌, List, map}
 use Rattle.edf_claim.specs.Terms.{Terms}
-use Rattle.edf_claim.specs.Keeps.{KeepsInstant}
+use Rattle.edf_claim.specs.KeepsReading.{KeepsInstant}
 use Rattle.edf_fields.specs.Lists.{Has}
 use Rattle.edf_header.specs.HeadsReading.{head_of}
 use Rattle.edf_stream.specs.times.Instants.{IsSame}

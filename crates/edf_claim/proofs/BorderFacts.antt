@@ -9,8 +9,8 @@ use borrow.Author.Differences.{up, down}
 use Rattle.edf_claim.specs.Claims.{IsInterval}
 use Rattle.edf_claim.specs.Terms.{Terms}
 use Rattle.edf_claim.specs.declared.kept.interval.Interval.{Interval}
-use Rattle.edf_claim.specs.Keeps.{is_within, keeps_instant}
-use Rattle.edf_claim.specs.KeepsReading.{AreKept, IsOutside, IsUncut, HasBorder}
+use Rattle.edf_claim.specs.Keeps.{keeps_instant}
+use Rattle.edf_claim.specs.KeepsReading.{AreKept, IsOutside, IsUncut, HasBorder, is_within}
 use Rattle.edf_claim.proofs.OrderFacts.{kept-tail, ends-before}
 use Rattle.edf_fields.specs.Lists.{Has}
 

@@ -6,8 +6,8 @@ use Rattle.edf_claim.specs.Claims.{IsInterval}
 use Rattle.edf_claim.specs.Terms.{Terms}
 use Rattle.edf_claim.specs.declared.kept.interval.Interval.{Interval}
 use Rattle.edf_fields.specs.declared.fields.which.Which.{Which}
-use Rattle.edf_claim.specs.Keeps.{IsWithin, KeepsInstant, is_within, keeps_instant, keeps_annotation, begins_with, removes}
-use Rattle.edf_claim.specs.KeepsReading.{KeepsAnnotation, BeginsWith, Removes, Blanks, blanks}
+use Rattle.edf_claim.specs.Keeps.{keeps_instant, keeps_annotation, removes}
+use Rattle.edf_claim.specs.KeepsReading.{KeepsAnnotation, BeginsWith, Removes, Blanks, blanks, IsWithin, KeepsInstant, is_within, begins_with}
 use Rattle.edf_fields.specs.Lists.{Has, is_one_of}
 use Rattle.edf_fields.proofs.ForCallers.{has-one_of, one_of-has, or-true, and-true, not-true, both-true, not-is, le-passes, lt-passes}
 use Rattle.std.proofs.Math.Seq.{drop-cons, take-append_seam}

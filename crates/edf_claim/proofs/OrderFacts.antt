@@ -7,8 +7,7 @@ use Rattle.std.proofs.lemmas.List.{take_rest}
 use Rattle.std.proofs.lemmas.List.Elements.{All-head, All-tail, All-take, All-drop}
 use Rattle.std.proofs.lemmas.List.Folds.{list_any-append}
 use Rattle.edf_claim.specs.Claims.{IsInterval, IsFollowedBy, AreInOrder}
-use Rattle.edf_claim.specs.Keeps.{is_within}
-use Rattle.edf_claim.specs.KeepsReading.{AreKept}
+use Rattle.edf_claim.specs.KeepsReading.{AreKept, is_within}
 use Rattle.edf_claim.specs.declared.kept.interval.Interval.{Interval}
 
 -- a part of intervals in order

@@ -18,8 +18,7 @@ use Rattle.std.proofs.lemmas.Option.{slice_get-get_or}
 use Rattle.std.proofs.lemmas.Slice.Eq.{bytes_eq-Decides}
 use Rattle.edf_fields.specs.Lists.{Has, is_one_of}
 use Rattle.edf_fields.proofs.ForCallers.{and-true, both-true, or-true, has-one_of, one_of-has}
-use Rattle.edf_claim.specs.Keeps.{begins_with}
-use Rattle.edf_claim.specs.KeepsReading.{begins_with_last, AreApart, IsIndex, IsPrefixIndex}
+use Rattle.edf_claim.specs.KeepsReading.{begins_with_last, AreApart, IsIndex, IsPrefixIndex, begins_with}
 use Rattle.edf_claim.proofs.SortedFacts.{any-map, equal-tested}
 
 -- ---- one text that begins with another

@@ -1,16 +1,32 @@
 -- What a claim keeps, as it is asked for.
-use Rattle.std.specs.Prelude.{◌≡◌, ◌⊎◌, map, ℕ, ℤ, ◌≤ℤ◌, List, [], ◌∷◌, ◌++◌, ◌-◌, Bool, false, length, slice_get}
+use Rattle.std.specs.Prelude.{◌≡◌, ◌⊎◌, map, ℕ, ℤ, pos, ◌*ℤ◌, ◌≤ℤ◌, ◌<ℤ◌, int_le, int_lt, List, [], ◌∷◌, ◌++◌, ◌-◌, ◌&&◌, Bool, false, length, take, slice_get}
 use Rattle.std.specs.Option.{option_map_or}
 use Rattle.std.specs.Cmp.Lexicographic.{slice_cmp}
 use Rattle.std.specs.Global.{Vec}
 use Rattle.std.specs.List.{All, list_any}
 use Rattle.std.specs.List.Sorted.{IsSorted, IsSortedBy}
 use Rattle.std.specs.Ordering.{nat_cmp}
+use Rattle.std.specs.Str.{bytes_eq}
 use Rattle.edf_claim.specs.Claims.{IsInterval, AreInOrder}
 use Rattle.edf_claim.specs.Terms.{Terms}
 use Rattle.edf_fields.specs.Lists.{Has, is_one_of}
 use Rattle.edf_claim.specs.declared.kept.interval.Interval.{Interval}
-use Rattle.edf_claim.specs.Keeps.{KeepsInstant, begins_with}
+
+-- the instant num / den, in picoseconds, is in the interval
+abbrev pub is_within : Interval → ℤ → ℕ → Bool
+is_within interval num den = int_le (interval.from_ps *ℤ pos den) num && int_lt num (interval.to_ps *ℤ pos den)
+
+-- `is_within` in words: from its first bound on, and before its second
+abbrev pub IsWithin : Interval → ℤ → ℕ → Type 0
+IsWithin interval num den = ((interval.from_ps *ℤ pos den) ≤ℤ num) × (num <ℤ (interval.to_ps *ℤ pos den))
+
+-- `keeps_instant` in words: the instant num / den, in picoseconds after the second at which the original starts, is in one of the kept intervals
+abbrev pub KeepsInstant : Terms → ℤ → ℕ → Type 0
+KeepsInstant c num den = (interval : Interval) × Has c.keep interval × IsWithin interval num den
+
+-- the text begins with the prefix, byte for byte
+abbrev pub begins_with : List ℕ → List ℕ → Bool
+begins_with prefix text = bytes_eq prefix (take (length prefix) text)
 
 -- intervals as a claim keeps them, in order
 pub record AreKept (intervals : List Interval) : Type 0 where
@@ -36,15 +52,15 @@ pub record IsPrefixIndex (texts : List (List ℕ)) (sorted : List (Vec ℕ)) : T
   pub apart : AreApart sorted
   pub same : (text : List ℕ) → list_any (λ prefix. begins_with prefix text) (map (λ t. t.items) sorted) ≡ list_any (λ prefix. begins_with prefix text) texts
 
--- the text begins with the prefix, byte for byte
+-- `begins_with` in words
 abbrev pub BeginsWith : List ℕ → List ℕ → Type 0
 BeginsWith prefix text = (rest : List ℕ) × (text ≡ prefix ++ rest)
 
--- annotations with this text are removed: it is one of the claim's, or begins with one of its prefixes
+-- `removes` in words: the text is one of the claim's, or begins with one of its prefixes
 abbrev pub Removes : Terms → List ℕ → Type 0
 Removes c text = Has c.remove text ⊎ ((prefix : List ℕ) × Has c.remove_prefix prefix × BeginsWith prefix text)
 
--- an annotation with this onset, in picoseconds after the second at which the original starts, and this text is kept: its onset is in one of the kept intervals, and its text isn't removed
+-- `keeps_annotation` in words: its onset is in one of the kept intervals, and its text isn't removed
 abbrev pub KeepsAnnotation : Terms → ℤ → List ℕ → Type 0
 KeepsAnnotation c onset text = KeepsInstant c onset 1 × (Removes c text → ⊥)
 

@@ -1,7 +1,8 @@
 -- What a claim keeps of an original, and how it stands in an export.
 use Rattle.std.specs.Prelude.{◌≡◌, ℕ, ℤ, pos, neg_ℤ, ◌+ℤ◌, ◌-ℤ◌, ◌*ℤ◌, ◌^◌, List, filter, map}
 use Rattle.edf_claim.specs.Terms.{Terms}
-use Rattle.edf_claim.specs.Keeps.{KeepsInstant, keeps_annotation, kept_text}
+use Rattle.edf_claim.specs.Keeps.{keeps_annotation, kept_text}
+use Rattle.edf_claim.specs.KeepsReading.{KeepsInstant}
 use Rattle.edf_fields.specs.Lists.{Has}
 use Rattle.edf_header.specs.Heads.{Head}
 use Rattle.edf_stream.specs.times.Instants.{IsSame}

@@ -1,7 +1,7 @@
 -- Claims that say something else than another one in one place.
 use Rattle.std.specs.Prelude.{◌≡◌, ℕ, ℤ, List}
 use Rattle.edf_claim.specs.Claims.{SaysClaimText}
-use Rattle.edf_claim.specs.Keeps.{KeepsInstant}
+use Rattle.edf_claim.specs.KeepsReading.{KeepsInstant}
 use Rattle.edf_claim.specs.Terms.{Terms}
 
 -- the text says a claim of this shift, in seconds

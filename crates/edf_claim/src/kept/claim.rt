@@ -4,8 +4,8 @@ ghost use Rattle.std.specs.Prelude.{◌≡◌, ◌↔◌, ◌<◌, ◌≤◌, �
 ghost use Rattle.std.specs.List.{list_any};
 ghost use Rattle.edf_claim.specs.Claims.{IsClaim};
 ghost use Rattle.edf_fields.specs.Lists.{Has, is_one_of as is_one_of_texts};
-ghost use Rattle.edf_claim.specs.Keeps.{KeepsInstant, is_within, keeps_instant, keeps_annotation};
-ghost use Rattle.edf_claim.specs.KeepsReading.{AreKept, Blanks, KeepsAnnotation, blanks};
+ghost use Rattle.edf_claim.specs.Keeps.{keeps_instant, keeps_annotation};
+ghost use Rattle.edf_claim.specs.KeepsReading.{AreKept, Blanks, KeepsAnnotation, blanks, KeepsInstant, is_within};
 
 use crate::kept::interval::Interval;
 use crate::kept::note_texts::NoteTexts;

@@ -1,7 +1,7 @@
 //! An interval of time that a claim keeps.
 
 ghost use Rattle.std.specs.Prelude.{◌≡◌, ◌<◌, ◌^◌, ◌*ℤ◌, pos, unsigned_abs, int_le};
-ghost use Rattle.edf_claim.specs.Keeps.{is_within};
+ghost use Rattle.edf_claim.specs.KeepsReading.{is_within};
 
 /// An interval of time in picoseconds after the second at which the original starts: `from_ps` is
 /// included, `to_ps` is not.

@@ -2,8 +2,7 @@
 
 ghost use Rattle.std.specs.Prelude.{◌≡◌, ◌||◌, map, IfOk};
 ghost use Rattle.std.specs.List.{list_any};
-ghost use Rattle.edf_claim.specs.Keeps.{begins_with};
-ghost use Rattle.edf_claim.specs.KeepsReading.{IsIndex, IsPrefixIndex};
+ghost use Rattle.edf_claim.specs.KeepsReading.{IsIndex, IsPrefixIndex, begins_with};
 ghost use Rattle.edf_fields.specs.Lists.{is_one_of};
 
 use crate::kept::prefixes::{begins_with_one, shortest_copies};

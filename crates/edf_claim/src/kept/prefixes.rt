@@ -5,8 +5,7 @@ ghost use Rattle.std.specs.Cmp.Lexicographic.{slice_cmp};
 ghost use Rattle.std.specs.List.{list_any};
 ghost use Rattle.std.specs.List.Sorted.{IsSorted};
 ghost use Rattle.std.specs.Ordering.{nat_cmp};
-ghost use Rattle.edf_claim.specs.Keeps.{begins_with};
-ghost use Rattle.edf_claim.specs.KeepsReading.{begins_with_last, AreApart, IsPrefixIndex};
+ghost use Rattle.edf_claim.specs.KeepsReading.{begins_with_last, AreApart, IsPrefixIndex, begins_with};
 
 use crate::reading::text_arrays::sorted_copies;
 use std::alloc::{AllocError, Global};

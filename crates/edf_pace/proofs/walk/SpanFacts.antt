@@ -5,7 +5,8 @@ use Rattle.std.proofs.Math.Nat.{mul-le-mul_right}
 use Rattle.std.specs.List.{list_any}
 use borrow.Author.Differences.{up, down}
 use Rattle.edf_claim.specs.Terms.{Terms}
-use Rattle.edf_claim.specs.Keeps.{is_within, keeps_instant}
+use Rattle.edf_claim.specs.Keeps.{keeps_instant}
+use Rattle.edf_claim.specs.KeepsReading.{is_within}
 use Rattle.edf_claim.specs.declared.kept.interval.Interval.{Interval}
 use Rattle.edf_fields.proofs.ForCallers.{has-filtered, not-true}
 use Rattle.edf_header.specs.Heads.{Head}

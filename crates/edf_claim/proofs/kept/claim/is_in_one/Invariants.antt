@@ -1,7 +1,6 @@
 use Rattle.std.proofs.Common.{◌≡◌, length}
 use Rattle.std.specs.List.{list_any}
-use Rattle.edf_claim.specs.Keeps.{is_within}
-use Rattle.edf_claim.specs.KeepsReading.{AreKept}
+use Rattle.edf_claim.specs.KeepsReading.{AreKept, is_within}
 use Rattle.edf_claim.proofs.kept.claim.is_in_one.Given as goal
 
 abbrev pub invariant-loop-left : goal.invariant-loop-left
