@@ -8,12 +8,12 @@ The document begins with the contract of the call `check`, with its clause `head
 definition that the contract stands on, once, as its file has it and with its comment, behind the first that
 needs it: first what an export keeps of its original, and behind that what bytes say. Of a type of the code that is
 its item, and its value to contracts where it has one (`impl Model`); bodies of functions are no part of it. What is
-left out of a copy is marked by `[..]`, and words that aren't copied are named. At the end stand what the files say of
-themselves, and the words of the toolchain.
+left out of a copy is marked by `[..]`, and words that aren't copied are named. At the end stand a few sentences that no
+comment has, and the words of the toolchain.
 
 A word that is defined nowhere is printed, and so is one that stands beside those of the headline in a file of
-definitions and isn't needed, and a row of the notation of which nothing is used; nothing is written then, and the
-status is 1. The last line of the output counts the definitions, their lines without and with comments, and the words
+definitions and isn't needed, a sentence of a definition that isn't copied, and a row of the notation of which nothing
+is used; nothing is written then, and the status is 1. The last line of the output counts the definitions, their lines without and with comments, and the words
 of the text. Empty lines never count.
 """
 
@@ -78,6 +78,24 @@ LEFT_OUT = {
 }
 # parts of what is copied that are left out: fields, members and clauses of these names
 CUT = {"Source": ("reads", "failures", "fails"), "HasTheseNotes": ("read",)}
+# words that stand beside those of the headline in a file of definitions, as contracts of the code name them
+BESIDE = ("SameLine", "is_one_of", "moved_by")
+# what the comments don't say of a definition
+UNSAID = [
+    ("IsSample", 'EDF, "Data record"; EDF+, "Time keeping of data records". `instant` counts from 1970-01-01 00:00:00 on.'),
+    ("Source", "Of a file or a pipe nothing is known but that its failures are counted."),
+    ("Conforms", "The profile is docs/PROFILE.md."),
+    ("IsPrintable", 'EDF, "Header record"; EDF+, "Additional specifications in EDF+".'),
+    ("fixed_extent", 'EDF, "Header record", as is the table of the columns.'),
+    ("text_of", 'The fields of a header are ASCII, stand to the left and are filled with spaces (EDF, "Header record").'),
+    ("HasHead", 'EDF, "Header record"; EDF+, "The EDF+ header".'),
+    ("SaysPatient", 'EDF+, "Additional specifications in EDF+", as is what a recording says.'),
+    ("HasSubfields", 'EDF+, "Additional specifications in EDF+"; that more than one space may stand between two subfields is this'
+     " project's profile."),
+    ("SaysRecord", 'EDF+, "Time-stamped Annotations Lists (TALs) in an \'EDF Annotations\' signal", as are TALs themselves, and'
+     ' "Time keeping of data records".'),
+    ("digital_value", 'A sample is a 2-byte integer in two\'s complement, the low byte first (EDF, "Data record").'),
+]
 ABOUT = [
     "edfclaim checks an export of a night against its original and a claim: that the export is the original, cut"
     " and made anonymous as the claim says, and nothing else. The call `check` answers this. If it answers Yes, and"
@@ -103,8 +121,8 @@ ABOUT = [
     " that they are those that are read. What the code derives for its types (`#[derive]`) is left out, too. Words that"
     " aren't copied are named at the end. That a claim which can be read is a sensible one (`IsClaim`) is proved as well,"
     " and nothing here needs it.",
-    "Behind the definitions stands what their files say of themselves, such as from when times count, and at last"
-    " the words that no file of this project defines: those of the toolchain's library.",
+    "Behind the definitions stand a few sentences that no comment has, and at last the words that no file of this project"
+    " defines: those of the toolchain's library.",
 ]
 NOTATION = [
     ("f x y", "the function f of x and y; a word with a capital is a statement, or a kind of values"),
@@ -688,7 +706,10 @@ class Order:
             if file.suffix == ".antt" and file not in laws:
                 # what the headline needs stands in files that hold nothing else
                 others = [name for name, one in opened(file).definitions.items() if not self.has(one.word)]
+                others = [name for name in others if name not in BESIDE]
                 self.faults += [f"{file.relative_to(TOP)}: `{name}` isn't needed by the headline" for name in others]
+        copied = {word.name for word in self.found}
+        self.faults += [f"a sentence tells of `{name}`, which isn't copied" for name, _ in UNSAID if name not in copied]
         for one in self.found.values():
             one.users.sort(key=lambda user: user.number)
 
@@ -712,15 +733,15 @@ def files(definitions):
     return dict(sorted(found.items()))
 
 
-def heading(file):
-    """What a file says of itself."""
-    lines = file.read_text(encoding="utf-8").splitlines()
-    return list(itertools.takewhile(lambda line: line.startswith(("--", "//!")), lines))
-
-
 def prose(comment):
     """A comment without its marks, line by line."""
     return [re.sub(r"^(?:--|//[/!]) ?", "", line) for line in comment]
+
+
+def unsaid(definitions):
+    """The sentences that no comment has, each with its definition, in the order of these."""
+    sentences = dict(UNSAID)
+    return [(one, sentences[one.word.name]) for one in definitions if one.word.name in sentences]
 
 
 def fitted(lines, room):
@@ -768,10 +789,9 @@ def as_text(order):
             lines += [""] * bool(one.comment) + [plain(one, line) for line in one.lines]
     lines += ["", "", "What isn't copied", ""]
     lines += [f"{word.name}  ({word.home.relative_to(TOP)}): {why}" for word, why in order.left.items()]
-    lines += ["", "", "What the files say of themselves", ""]
-    for file in files(definitions):
-        lines += [str(file.relative_to(TOP))]
-        lines += ["    " + line for line in fitted(prose(heading(file)), WIDTH - 4)]
+    lines += ["", "", "What no comment says", ""]
+    for one, sentence in unsaid(definitions):
+        lines += textwrap.wrap(f"{one.number} {one.word.name}: {sentence}", WIDTH, break_on_hyphens=False, subsequent_indent="    ")
     lines += ["", "", "Words of the toolchain", ""]
     for home, words in toolchain(definitions).items():
         lines += listed(home, [word.name for word in words], "")
@@ -804,9 +824,8 @@ def link(one, anchors):
 
 def section(one, anchors):
     """A definition on the page."""
-    file = f'<a href="#{anchors[one.word.home]}">{one.word.home.relative_to(TOP)}</a>'
     page = f'<section id="{anchors[one.word]}">\n'
-    page += f"<h2>{one.number}. <code>{html.escape(one.word.name)}</code> <small>{file}</small></h2>\n"
+    page += f"<h2>{one.number}. <code>{html.escape(one.word.name)}</code> <small>{one.word.home.relative_to(TOP)}</small></h2>\n"
     if one.comment:
         page += f'<p class="comment">{marked(prose(one.comment))}</p>\n'
     page += f"<pre><code>{plain(one, linked(one, anchors))}</code></pre>\n"
@@ -828,16 +847,15 @@ def page_front(order, anchors):
         for one in those:
             page += f'<div style="padding-left: {one.depth}ch">{link(one, anchors)}</div>\n'
     page += '<div><a href="#left">What isn\'t copied</a></div>\n'
-    page += '<div><a href="#files">What the files say of themselves</a></div>\n'
+    page += '<div><a href="#unsaid">What no comment says</a></div>\n'
     return page + '<div><a href="#toolchain">Words of the toolchain</a></div>\n</nav>\n'
 
 
 def as_page(order):
     """The document as a page."""
     definitions = list(order.found.values())
-    homes, library = files(definitions), toolchain(definitions)
+    library = toolchain(definitions)
     anchors = {one.word: f"d{one.number}" for one in definitions}
-    anchors |= {file: f"f{k}" for k, file in enumerate(homes, 1)}
     anchors |= {word: f"t{k}" for k, word in enumerate(itertools.chain(*library.values()), 1)}
     page = page_front(order, anchors)
     for part, those in parts(order):
@@ -846,11 +864,8 @@ def as_page(order):
     for word, why in order.left.items():
         page += f"<p><code>{html.escape(word.name)}</code> ({word.home.relative_to(TOP)}): {html.escape(why)}</p>\n"
     page += "</section>\n"
-    page += '<section id="files">\n<h2>What the files say of themselves</h2>\n'
-    for file, those in homes.items():
-        page += f'<p id="{anchors[file]}"><code>{file.relative_to(TOP)}</code>'
-        page += f' <span class="users">{", ".join(link(one, anchors) for one in those)}</span></p>\n'
-        page += f'<p class="comment">{marked(prose(heading(file)))}</p>\n'
+    page += '<section id="unsaid">\n<h2>What no comment says</h2>\n'
+    page += "".join(f"<p>{link(one, anchors)}: {marked([sentence])}</p>\n" for one, sentence in unsaid(definitions))
     page += '</section>\n<section id="toolchain">\n<h2>Words of the toolchain</h2>\n'
     for home, words in library.items():
         those = ", ".join(f'<code id="{anchors[word]}">{html.escape(word.name)}</code>' for word in words)

@@ -1,9 +1,11 @@
 -- What a claim keeps, and what an export holds, are courses.
-use Rattle.std.proofs.Common.{◌≡◌, ℕ, ◌<◌, ◌+◌, ◌*◌, ℤ, pos, ◌+ℤ◌, ◌*ℤ◌, List, refl, sym, ap, ◌∙◌, arith}
+use Rattle.std.proofs.Common.{◌≡◌, IsTrue, ℕ, ◌<◌, ◌+◌, ◌*◌, ℤ, pos, ◌+ℤ◌, ◌*ℤ◌, List, refl, sym, ap, ◌∙◌, arith}
 use Rattle.std.proofs.lemmas.Int.{ints}
 use borrow.Author.Differences.{up, down}
 use Rattle.edf_claim.specs.Terms.{Terms}
+use Rattle.edf_claim.specs.Keeps.{keeps_instant}
 use Rattle.edf_claim.specs.KeepsReading.{KeepsInstant}
+use Rattle.edf_claim.proofs.ForCallers.{instant_kept}
 use Rattle.edf_header.specs.HeadsReading.{head_of}
 use Rattle.edf_stream.specs.declared.times.instant.Instant.{Instant}
 use Rattle.edf_stream.specs.Conforming.{Conforms}
@@ -39,8 +41,8 @@ sums a b z w d n m ez ew e =
 pub later-same : (ps : ℤ) (t u : Instant) → IsSame t u → IsSame (later ps t) (later ps u)
 later-same ps t u s = sums t.num u.num (t.num +ℤ (pos t.den *ℤ ps)) (u.num +ℤ (pos u.den *ℤ ps)) ps t.den u.den refl refl s
 
-pub keeps-same : (claim : Terms) (t u : Instant) → 0 < t.den → 0 < u.den → IsSame t u → KeepsInstant claim t.num t.den → KeepsInstant claim u.num u.den
-keeps-same claim t u pt pu s (interval, there, within) =
+in-same : (claim : Terms) (t u : Instant) → 0 < t.den → 0 < u.den → IsSame t u → KeepsInstant claim t.num t.den → KeepsInstant claim u.num u.den
+in-same claim t u pt pu s (interval, there, within) =
     let from : Instant = record { num = interval.from_ps; den = 1 } in
     let to : Instant = record { num = interval.to_ps; den = 1 } in
     let a = within.0 in
@@ -48,6 +50,11 @@ keeps-same claim t u pt pu s (interval, there, within) =
     let low : IsNotBefore u from = from_below u t from pt (same_below t u s) (omega (arith, ints, a)) in
     let high : IsBefore u to = same_before u t to pu (same_back t u s) (omega (arith, ints, b)) in
     (interval, there, (omega (arith, ints, low), omega (arith, ints, high)))
+
+pub keeps-same : (claim : Terms) (t u : Instant) → 0 < t.den → 0 < u.den → IsSame t u → IsTrue (keeps_instant claim t.num t.den) → IsTrue (keeps_instant claim u.num u.den)
+keeps-same claim t u pt pu s h =
+    (instant_kept claim u.num u.den (keeps_instant claim u.num u.den) refl).1
+    (in-same claim t u pt pu s ((instant_kept claim t.num t.den (keeps_instant claim t.num t.den) refl).0 h))
 
 pub kept-course : (o : List ℕ) (claim : Terms) → Conforms o (head_of o) → IsCourse (KeptAt o claim)
 kept-course o claim c = record {

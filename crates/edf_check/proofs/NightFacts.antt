@@ -9,8 +9,6 @@ use Rattle.std.proofs.lemmas.Cmp.{nat_list_cmp_total}
 use Rattle.std.proofs.lemmas.List.Sorted.{sorted_far, ranks_by, IsPermutation-sym}
 use Rattle.edf_claim.specs.Terms.{Terms}
 use Rattle.edf_claim.specs.Keeps.{keeps_instant}
-use Rattle.edf_claim.specs.KeepsReading.{KeepsInstant}
-use Rattle.edf_claim.proofs.ForCallers.{instant_kept}
 use Rattle.edf_fields.specs.Lists.{Has}
 use Rattle.edf_fields.proofs.ForCallers.{and-true, both-true, has-map, map-has, has-filtered, filtered-has, has-at, get-index, get-within, has-one_of, one_of-has, has-permutation, map-get, get-map}
 use Rattle.edf_header.specs.Heads.{SignalHead, Head, is_annotations}
@@ -26,7 +24,8 @@ use Rattle.edf_header.specs.signals.Channels.{channels_among, channel_labels}
 use Rattle.edf_stream.proofs.ForCallers.{sound-of, samples_are_listed, samples_are_of_channels, samples_rise}
 use Rattle.edf_pace.specs.declared.walk.channel_place.ChannelPlace.{ChannelPlace}
 use Rattle.edf_samples.specs.declared.point.Point.{Point}
-use Rattle.edf_heads.specs.Channels.{HasChannel, SameChannels}
+use Rattle.edf_heads.specs.Channels.{SameChannels}
+use Rattle.edf_heads.specs.differences.ChannelDifferences.{HasChannel}
 use Rattle.edf_pace.specs.walk.Columns.{channel_at, Sampled, point_of, is_of, is_kept, points_of}
 use Rattle.edf_heads.specs.Comparisons.{AreSorted}
 use Rattle.edf_check.specs.Courses.{Agree, IsFirstMismatch}
@@ -326,9 +325,6 @@ is-column original export claim c co ce is =
       exported = subst IsAscending (sym is.exported_is) (column-rises export c.label t (is_of t.number) qs ce is.export_place (λ x h. h));
     }
 
-keeps_decided : (claim : Terms) (num : ℤ) (den : ℕ) → (keeps_instant claim num den ≡ true → KeepsInstant claim num den) × (KeepsInstant claim num den → keeps_instant claim num den ≡ true)
-keeps_decided claim num den = instant_kept claim num den (keeps_instant claim num den) refl
-
 -- what a column keeps is kept
 kept-there : (original export : List ℕ) (claim : Terms) (c : Column) (at : Instant) (v : ℤ) → Conforms original (head_of original) → IsColumnOf original export claim c → Has claim.channels c.label → 0 < at.den
     → HasValue c.n c.kept at v → KeptAt original claim c.label at v
@@ -339,7 +335,7 @@ kept-there original export claim c at v co is claimed p h =
     let found : HasValue s.samples (points_of test ps (samples_of original (head_of original))) at v = subst (λ xs. HasValue s.samples xs at v) is.kept_is (subst (λ n. HasValue n c.kept at v) is.n_is h) in
     let r = column-sampled original (head_of original) c.label s test ps at v is.original_place (kept-of claim s.number ps) found in
     let px : 0 < (later ps (r.x).instant).den = positive-sample original r.x co r.there in
-    let kept = (keeps_decided claim (later ps (r.x).instant).num ((r.x).instant).den).0 (kept-instant claim s.number ps r.x r.passes) in
+    let kept = kept-instant claim s.number ps r.x r.passes in
     (claimed, keeps-same claim (later ps (r.x).instant) at px p r.same kept, sampled-value original (origin_of original) c.label test at v co r)
 
 there-kept : (original export : List ℕ) (claim : Terms) (c : Column) (at : Instant) (v : ℤ) → Conforms original (head_of original) → IsColumnOf original export claim c → 0 < at.den
@@ -355,7 +351,7 @@ there-kept original export claim c at v co is p (claimed, kept, value) =
     let px : 0 < (later ps x.instant).den = positive-sample original x co i in
     both-true (is_of s.number x) (keeps_instant claim (later ps x.instant).num (x.instant).den)
     (label-of original h c.label s x (sound-head original co) is.original_place i named)
-    ((keeps_decided claim (later ps x.instant).num (x.instant).den).1 (keeps-same claim at (later ps x.instant) p px (same_back (later ps x.instant) at same) kept)))
+    (keeps-same claim at (later ps x.instant) p px (same_back (later ps x.instant) at same) kept))
     value in
     let found = sampled-column original h c.label s test ps at v is.original_place (sound-head original co) (kept-of claim s.number ps) r in
     subst (λ n. HasValue n c.kept at v) (sym is.n_is) (subst (λ xs. HasValue s.samples xs at v) (sym is.kept_is) found)

@@ -4,10 +4,11 @@ use Rattle.std.specs.List.Sorted.{IsPermutation}
 use Rattle.edf_claim.specs.Terms.{Terms}
 use Rattle.edf_header.specs.Heads.{Head, samples_together}
 use Rattle.edf_heads.specs.Blank.{IsBlank}
-use Rattle.edf_heads.specs.Calibrations.{SameCalibrations}
-use Rattle.edf_heads.specs.Channels.{SameChannels}
-use Rattle.edf_heads.specs.Subfields.{SubfieldsAsClaimed}
-use Rattle.edf_heads.specs.ChannelTexts.{SameTexts}
+use Rattle.edf_fields.specs.declared.fields.which.Which.{Which}
+use Rattle.edf_heads.specs.Calibrations.{HaveSameCalibration}
+use Rattle.edf_heads.specs.Channels.{AllAlike, SameChannels}
+use Rattle.edf_heads.specs.Subfields.{IsAsClaimed}
+use Rattle.edf_heads.specs.ChannelTexts.{HaveSameTexts}
 use Rattle.edf_stream.specs.Conforming.{Conforms}
 use Rattle.edf_stream.specs.annotation.Notes.{NoteValue, HasNotes}
 use Rattle.edf_header.specs.signals.Channels.{channels_among}
@@ -30,11 +31,11 @@ pub record Headline (original export : List ℕ) (claim : Terms) : Type 0 where
   pub original_says : HasNotes original original_head original_notes
   pub export_says : HasNotes export export_head export_notes
   pub channels : SameChannels original_head export_head claim
-  pub texts : SameTexts original_head export_head claim
-  pub calibrations : SameCalibrations original_head export_head claim
+  pub texts : AllAlike HaveSameTexts original_head export_head claim
+  pub calibrations : AllAlike HaveSameCalibration original_head export_head claim
   pub samples : SamplesAsKept original export original_head export_head claim
   pub annotations : IsPermutation (kept_of claim original_notes) (unshifted original_head export_head claim export_notes)
-  pub subfields : SubfieldsAsClaimed original_head export_head claim
+  pub subfields : (which : Which) → IsAsClaimed original_head export_head claim which
   pub blank : IsBlank export_head
 
 -- how many channels, samples of all channels and annotations a file has with this header and these annotations
@@ -46,4 +47,6 @@ pub record AreCounts (h : Head) (notes : List NoteValue) (channels samples annot
 -- what a Yes means: the headline, and its counts are the export's
 abbrev pub YesMeans : List ℕ → List ℕ → Terms → Verdict → Type 0
 YesMeans original export claim (No difference) = Unit {0}
-YesMeans original export claim (Yes channels samples annotations) = (headline : Headline original export claim) × AreCounts headline.export_head headline.export_notes channels samples annotations
+YesMeans original export claim (Yes channels samples annotations) =
+    (headline : Headline original export claim)
+    × AreCounts headline.export_head headline.export_notes channels samples annotations

@@ -1,7 +1,7 @@
 -- What a claim keeps of an original, and what an export holds with the shift taken off, at instants counted from the second at which the original starts.
-use Rattle.std.specs.Prelude.{◌≡◌, ℕ, ℤ, neg_ℤ, ◌+ℤ◌, List, map}
+use Rattle.std.specs.Prelude.{◌≡◌, ℕ, ℤ, neg_ℤ, ◌+ℤ◌, IsTrue, List, map}
 use Rattle.edf_claim.specs.Terms.{Terms}
-use Rattle.edf_claim.specs.KeepsReading.{KeepsInstant}
+use Rattle.edf_claim.specs.Keeps.{keeps_instant}
 use Rattle.edf_fields.specs.Lists.{Has}
 use Rattle.edf_header.specs.HeadsReading.{head_of}
 use Rattle.edf_stream.specs.times.Instants.{IsSame}
@@ -24,7 +24,7 @@ ValueAt file label at value = (x : SampleValue) × IsSample file (head_of file) 
 -- the claim keeps a value of the original: the channel is claimed, the instant is in an interval, and the original has it there
 abbrev pub KeptAt : List ℕ → Terms → Course
 KeptAt original claim label at value =
-    Has claim.channels label × KeepsInstant claim at.num at.den × ValueAt original label (later (origin_of original) at) value
+    Has claim.channels label × IsTrue (keeps_instant claim at.num at.den) × ValueAt original label (later (origin_of original) at) value
 
 -- the export has a value at the instant moved by the shift
 abbrev pub ExportedAt : List ℕ → List ℕ → Terms → Course

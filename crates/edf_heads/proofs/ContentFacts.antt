@@ -13,15 +13,15 @@ use Rattle.edf_header.specs.signals.Calibrations.{Line, SameLine, physical_span,
 use Rattle.edf_header.specs.Heads.{SignalHead, Head, is_annotations}
 use Rattle.edf_header.specs.Sound.{IsSound}
 use Rattle.edf_claim.specs.Terms.{Terms}
-use Rattle.edf_heads.specs.Blank.{HasNoTexts, IsBlankHeader}
-use Rattle.edf_heads.specs.differences.BlankDifference.{HasFreeText, IsFirstWithFreeText}
-use Rattle.edf_heads.specs.Calibrations.{HaveSameCalibration, SameCalibrations}
-use Rattle.edf_heads.specs.Channels.{AllAlike, AreAlike}
-use Rattle.edf_heads.specs.differences.ChannelDifferences.{AreUnlike, IsFirstUnlike}
+use Rattle.edf_heads.specs.Blank.{HasNoTexts}
+use Rattle.edf_heads.specs.differences.BlankDifference.{IsBlankHeader, HasFreeText, IsFirstWithFreeText}
+use Rattle.edf_heads.specs.Calibrations.{HaveSameCalibration}
+use Rattle.edf_heads.specs.Channels.{AllAlike}
+use Rattle.edf_heads.specs.differences.ChannelDifferences.{AreAlike, AreUnlike, IsFirstUnlike}
 use Rattle.edf_heads.specs.Comparisons.{channel_of, claimed_of, claimed_view, IsComparison, text_difference_of, first_text_difference, is_same_line, has_other_calibration, has_other_text, of_both, has_text, HasNoFreeText, is_blank_signal}
 use Rattle.edf_heads.specs.Firsts.{IsFirstWith}
-use Rattle.edf_heads.specs.ChannelTexts.{HaveSameText, HaveSameTexts, SameTexts, text_in}
-use Rattle.edf_heads.specs.differences.TextDifference.{IsFirstText, IsTextDifference}
+use Rattle.edf_heads.specs.ChannelTexts.{HaveSameTexts}
+use Rattle.edf_heads.specs.differences.TextDifference.{text_in, HaveSameText, IsFirstText, IsTextDifference}
 use Rattle.edf_heads.specs.declared.channels.ClaimedChannel.{ClaimedChannel}
 use Rattle.edf_heads.specs.declared.channel_texts.TextDifference.{TextDifference}
 use Rattle.edf_verdict.specs.declared.verdict.TextField.{TextField}
@@ -110,12 +110,12 @@ texts-found o e so se (l ∷ ls) =
 
 pub texts_said : (o e : Head) (claim : Terms) (claimed : List ClaimedChannel) (labels : List (Bor (List ℕ))) (seen : List ClaimedChannel) (r : Option TextDifference) → IsComparison o e claim claimed labels → seen ≡ claimed
     → option_map (λ (d : TextDifference). (d.label.now, d.field)) r ≡ first_text_difference (map claimed_view seen)
-    → MatchOption r (SameTexts o e claim) (λ d. IsTextDifference o e claim d.label.now d.field)
+    → MatchOption r (AllAlike HaveSameTexts o e claim) (λ d. IsTextDifference o e claim d.label.now d.field)
 texts_said o e claim claimed labels seen r is all found =
     said-case r (first_text_difference (map (claimed_of o.signals e.signals) claim.channels)) (found ∙ ap first_text_difference (ap (map claimed_view) all ∙ is.claimed_are)) (texts-found o e is.original_sound is.export_sound claim.channels)
   where
     said-case : (r : Option TextDifference) (f : Option (List ℕ × TextField)) → option_map (λ (d : TextDifference). (d.label.now, d.field)) r ≡ f → TextsOf o e claim.channels f
-        → MatchOption r (SameTexts o e claim) (λ d. IsTextDifference o e claim d.label.now d.field)
+        → MatchOption r (AllAlike HaveSameTexts o e claim) (λ d. IsTextDifference o e claim d.label.now d.field)
     said-case None None e h = h
     said-case None (Some x) e h = absurd (let f : None ≡ Some x = e in cc)
     said-case (Some d) None e h = absurd (let f : Some (d.label.now, d.field) ≡ None = e in cc)
@@ -213,7 +213,7 @@ either-not false b = refl
 
 pub other-calibration : (x y : SignalHead) → has_other_calibration x y ≡ true → HaveSameCalibration x y → ⊥
 other-calibration x y t h =
-    let same = (calibration-decided x y).1 (h.dimension, h.line) in
+    let same = (calibration-decided x y).1 (h.dimension, (h.gain, h.offset)) in
     let f : true ≡ false = sym t ∙ either-not (bytes_eq x.dimension y.dimension) (is_same_line x.calibration y.calibration) ∙ ap not same in
     cc
 
@@ -221,10 +221,10 @@ pub same-calibration : (x y : SignalHead) → has_other_calibration x y ≡ fals
 same-calibration x y f =
     let test = bytes_eq x.dimension y.dimension && is_same_line x.calibration y.calibration in
     let both = (calibration-decided x y).0 (untrue test (sym (either-not (bytes_eq x.dimension y.dimension) (is_same_line x.calibration y.calibration)) ∙ f)) in
-    record { dimension = both.0; line = both.1 }
+    record { dimension = both.0; gain = both.1.0; offset = both.1.1 }
 
 pub calibrations-found : (o e : Head) (claim : Terms) → IsSound o → IsSound e
-    → MatchOption (find (λ l. of_both has_other_calibration (channel_of l o.signals) (channel_of l e.signals)) claim.channels) (SameCalibrations o e claim) (IsFirstUnlike HaveSameCalibration o e claim)
+    → MatchOption (find (λ l. of_both has_other_calibration (channel_of l o.signals) (channel_of l e.signals)) claim.channels) (AllAlike HaveSameCalibration o e claim) (IsFirstUnlike HaveSameCalibration o e claim)
 calibrations-found o e claim so se =
     first-found (λ l. of_both has_other_calibration (channel_of l o.signals) (channel_of l e.signals)) (AreUnlike HaveSameCalibration o e) (AreAlike HaveSameCalibration o e) claim.channels
     (λ l there t. differ-tested HaveSameCalibration has_other_calibration o e l other-calibration t)

@@ -1,5 +1,5 @@
 -- The labels of the channels of a header, its free text, and channels that are alike in two headers.
-use Rattle.std.proofs.Common.{◌≡◌, ◌≢◌, ℕ, suc, Bool, true, false, not, cond, List, [], ◌∷◌, map, Bor, Option, Some, None, MatchOption, refl, sym, ap, ◌∙◌, subst, arith}
+use Rattle.std.proofs.Common.{◌≡◌, ◌≢◌, ℕ, suc, Bool, true, false, not, cond, List, [], ◌∷◌, map, filter, Bor, Option, Some, None, MatchOption, refl, sym, ap, ◌∙◌, subst, arith}
 use Rattle.std.proofs.lemmas.List.Sorted.{IsPermutation-sym}
 use Rattle.edf_fields.specs.Lists.{Has, is_one_of}
 use Rattle.edf_fields.specs.Distinct.{AreDistinct}
@@ -9,12 +9,13 @@ use Rattle.edf_header.specs.Heads.{SignalHead, Head, is_annotations}
 use Rattle.edf_header.specs.Sound.{IsSound}
 use Rattle.edf_claim.specs.Claims.{IsClaim}
 use Rattle.edf_claim.specs.Terms.{Terms}
-use Rattle.edf_heads.specs.Blank.{IsBlankHeader, IsBlank}
-use Rattle.edf_heads.specs.Channels.{HasChannel, HasAll, SameChannels, AllAlike}
-use Rattle.edf_heads.specs.differences.ChannelDifferences.{IsLeastExtra, AreUnlike, IsFirstUnlike}
+use Rattle.edf_heads.specs.Blank.{HasNoTexts, IsBlank}
+use Rattle.edf_heads.specs.differences.BlankDifference.{IsBlankHeader}
+use Rattle.edf_heads.specs.Channels.{IsChannelOf, SameChannels, AllAlike}
+use Rattle.edf_heads.specs.differences.ChannelDifferences.{HasChannel, HasAll, IsLeastExtra, AreUnlike, IsFirstUnlike}
 use Rattle.edf_heads.specs.Comparisons.{HasNoExtra, HasOnly, HasNoFreeText}
 use Rattle.edf_heads.proofs.ContentFacts.{alike-differ}
-use Rattle.edf_heads.proofs.ListFacts.{first-has, same-members}
+use Rattle.edf_heads.proofs.ListFacts.{all-of, of-all, first-has, same-members}
 
 -- ---- the labels of the channels of a header
 
@@ -85,11 +86,34 @@ empty-unless : (xs : List ℕ) → (xs ≢ [] → ⊥) → xs ≡ []
 empty-unless [] h = refl
 empty-unless (x ∷ xs) h = absurd (h (λ e. let f : x ∷ xs ≡ [] = e in cc))
 
-pub is_blank : (o e : Head) (claim : Terms) → SameChannels o e claim → IsBlankHeader e → HasNoFreeText e claim → IsBlank e
-is_blank o e claim same blank none = record {
-  header = blank;
-  channels = λ l x c. empty-unless x.reserved (λ text. none l (claimed-in o e claim same l (x, c)) (x, c, text));
+-- the header has no free text where its own has none, and no channel has any
+pub blank-of : (h : Head) → IsBlankHeader h → ((l : List ℕ) (x : SignalHead) → IsChannelOf h l x → x.reserved ≡ []) → IsBlank h
+blank-of h own channels = record {
+  free = own.free;
+  channels = all-of (λ (s : SignalHead). s.reserved ≡ []) (channels_among h.signals) (λ x i.
+      let r = has-filtered is_ordinary h.signals x i in
+      channels x.label x (record { there = r.0; labelled = (refl, not-true (is_annotations x.label) r.1) }));
+  annotations = all-of HasNoTexts (filter (λ (s : SignalHead). is_annotations s.label) h.signals) (λ x i.
+      let r = has-filtered (λ (s : SignalHead). is_annotations s.label) h.signals x i in
+      own.annotations x r.0 r.1);
 }
+
+pub blank-header : (h : Head) → IsBlank h → IsBlankHeader h
+blank-header h blank = record {
+  free = blank.free;
+  annotations = λ x there a.
+      of-all HasNoTexts (filter (λ (s : SignalHead). is_annotations s.label) h.signals) blank.annotations x
+      (filtered-has (λ (s : SignalHead). is_annotations s.label) h.signals x there a);
+}
+
+pub blank-channel : (h : Head) → IsBlank h → (l : List ℕ) (x : SignalHead) → IsChannelOf h l x → x.reserved ≡ []
+blank-channel h blank l x c =
+    of-all (λ (s : SignalHead). s.reserved ≡ []) (channels_among h.signals) blank.channels x
+    (filtered-has is_ordinary h.signals x c.there (ap (λ m. not (is_annotations m)) c.labelled.0 ∙ ap not c.labelled.1))
+
+pub is_blank : (o e : Head) (claim : Terms) → SameChannels o e claim → IsBlankHeader e → HasNoFreeText e claim → IsBlank e
+is_blank o e claim same blank none =
+    blank-of e blank (λ l x c. empty-unless x.reserved (λ text. none l (claimed-in o e claim same l (x, c)) (x, c, text)))
 
 -- ---- channels that are alike
 

@@ -8,16 +8,15 @@ use Rattle.edf_header.specs.Heads.{SignalHead, Head}
 use Rattle.edf_header.specs.Sound.{IsSound}
 use Rattle.edf_claim.specs.Claims.{IsClaim}
 use Rattle.edf_claim.specs.Terms.{Terms}
-use Rattle.edf_heads.specs.Blank.{IsBlankHeader}
-use Rattle.edf_heads.specs.differences.BlankDifference.{HasFreeText, IsFirstWithFreeText}
-use Rattle.edf_heads.specs.Calibrations.{HaveSameCalibration, SameCalibrations}
-use Rattle.edf_heads.specs.Channels.{HasAll, SameChannels}
-use Rattle.edf_heads.specs.differences.ChannelDifferences.{HasNoChannel, IsLeastExtra, AreUnlike, IsFirstUnlike}
+use Rattle.edf_heads.specs.differences.BlankDifference.{IsBlankHeader, HasFreeText, IsFirstWithFreeText}
+use Rattle.edf_heads.specs.Calibrations.{HaveSameCalibration}
+use Rattle.edf_heads.specs.Channels.{SameChannels, AllAlike}
+use Rattle.edf_heads.specs.differences.ChannelDifferences.{HasAll, HasNoChannel, IsLeastExtra, AreUnlike, IsFirstUnlike}
 use Rattle.edf_heads.specs.Comparisons.{Claimed, Compared, claimed_view, IsComparison, breaks, Breaks, Keep, HasNoFreeText, channel_of, claimed_of, first_text_difference, has_other_calibration, has_other_text, of_both, has_text, is_blank_signal, all_rules, broken_at, broken_by, difference_of, named_at, named_if, unclaimed_in, Adds, Appends, AreAllBrokenIn, IsBrokenAmong}
 use Rattle.edf_heads.specs.HeadVerdicts.{AreAllBroken, HeadsAgree, SignalsAgree, IsBroken, IsHeadVerdict}
-use Rattle.edf_heads.specs.Subfields.{IsAsClaimed, SubfieldsAsClaimed}
+use Rattle.edf_heads.specs.Subfields.{IsAsClaimed}
 use Rattle.edf_fields.specs.fields.SubfieldNamesReading.{all_subfields}
-use Rattle.edf_heads.specs.ChannelTexts.{HaveSameText, HaveSameTexts, SameTexts}
+use Rattle.edf_heads.specs.ChannelTexts.{HaveSameTexts}
 use Rattle.edf_verdict.specs.declared.verdict.Verdict.{Verdict}
 use Rattle.edf_verdict.specs.declared.verdict.Verdict.TheVariants.{Yes, No}
 use Rattle.edf_verdict.specs.declared.verdict.Difference.{Difference}
@@ -33,7 +32,7 @@ use Rattle.edf_verdict.specs.declared.verdict.SubfieldMismatch.{SubfieldMismatch
 use Rattle.edf_verdict.specs.declared.verdict.SubfieldMismatch.TheVariants.{NotX, Changed}
 use Rattle.edf_heads.specs.Firsts.{IsFirstWith}
 use Rattle.edf_heads.specs.differences.SubfieldDifference.{IsSubfieldDifference}
-use Rattle.edf_heads.specs.differences.TextDifference.{IsFirstText, IsTextDifference}
+use Rattle.edf_heads.specs.differences.TextDifference.{HaveSameText, IsFirstText, IsTextDifference}
 use Rattle.edf_heads.proofs.LabelFacts.{one-label}
 use Rattle.std.specs.List.{list_all}
 use Rattle.edf_heads.specs.declared.channels.ClaimedChannel.{ClaimedChannel}
@@ -44,7 +43,7 @@ use Rattle.edf_heads.proofs.ComparisonFacts.{absent-first, find-claimed, said-of
 use Rattle.edf_heads.proofs.SubfieldFacts.{has-all}
 use Rattle.edf_heads.specs.SameHeads.{AreBlankAlike}
 use Rattle.edf_verdict.specs.declared.verdict.Difference.TheVariants as differences
-use Rattle.edf_heads.proofs.HeadFacts.{has-label, label-has, has_only, same_channels, in-export, claimed-in, is_blank, unlike-alike}
+use Rattle.edf_heads.proofs.HeadFacts.{has-label, label-has, has_only, same_channels, in-export, claimed-in, blank-header, blank-channel, blank-of, is_blank, unlike-alike}
 use Rattle.edf_heads.proofs.OneHeadFacts.{one-of-first, One, Made, Else, one-made, either-one, one-text, one-subfield, first-apart}
 use Rattle.edf_heads.proofs.SomeHeadFacts.{Decided, tested, found-or-not, all-or-first, LeastOrNone, least-or-none, has-which, is-as-claimed}
 use Rattle.edf_heads.proofs.SameHeadFacts.{same-heads-back, blank-alike-back, there, AreSamePairs, pairs-back, first-carried, texts-carried, calibration-carried, first-unlike-carried, all-alike-carried, all-there, same-channels-carried, first-nowhere-carried, extra-carried, claimed-carried, free-carried, text-first-carried}
@@ -101,7 +100,7 @@ keeps-said Clean c l so se f = no-text c.export l se f
 
 -- ---- the headers agree
 
-pub heads_agree : (o e : Head) (claim : Terms) → SignalsAgree o e claim → SubfieldsAsClaimed o e claim → IsBlankHeader e → HasNoFreeText e claim → HeadsAgree o e claim
+pub heads_agree : (o e : Head) (claim : Terms) → SignalsAgree o e claim → ((w : Which) → IsAsClaimed o e claim w) → IsBlankHeader e → HasNoFreeText e claim → HeadsAgree o e claim
 heads_agree o e claim agree subfields blank none = record {
   channels = agree.channels;
   texts = agree.texts;
@@ -114,14 +113,14 @@ heads_agree o e claim agree subfields blank none = record {
 
 abbrev FromSubfield : Head → Head → Terms → Verdict → Type 0
 FromSubfield o e c =
-    Else (Made (λ (d : Which × SubfieldMismatch). No (differences.Subfield d.0 d.1)) (λ d. IsSubfieldDifference o e c d.0 d.1)) (SubfieldsAsClaimed o e c)
+    Else (Made (λ (d : Which × SubfieldMismatch). No (differences.Subfield d.0 d.1)) (λ d. IsSubfieldDifference o e c d.0 d.1)) ((w : Which) → IsAsClaimed o e c w)
     (Else (Made (λ (u : Unit {0}). No (differences.NotClean Header)) (λ u. IsBlankHeader e → ⊥)) (IsBlankHeader e)
     (Made (λ l. No (differences.NotClean (Channel l))) (IsFirstWithFreeText e c)))
 
 abbrev FromText : Head → Head → Terms → Verdict → Type 0
 FromText o e c =
-    Else (Made (λ (d : List ℕ × TextField). No (differences.ChannelText d.0 d.1)) (λ d. IsTextDifference o e c d.0 d.1)) (SameTexts o e c)
-    (Else (Made (λ l. No (differences.Calibration l)) (IsFirstUnlike HaveSameCalibration o e c)) (SameCalibrations o e c) (FromSubfield o e c))
+    Else (Made (λ (d : List ℕ × TextField). No (differences.ChannelText d.0 d.1)) (λ d. IsTextDifference o e c d.0 d.1)) (AllAlike HaveSameTexts o e c)
+    (Else (Made (λ l. No (differences.Calibration l)) (IsFirstUnlike HaveSameCalibration o e c)) (AllAlike HaveSameCalibration o e c) (FromSubfield o e c))
 
 abbrev FromUnknown : Head → Head → Terms → Verdict → Type 0
 FromUnknown o e c =
@@ -164,10 +163,10 @@ agree-apart o e claim (No (differences.Calibration label)) v h = unlike-alike Ha
 agree-apart o e claim (No (differences.Subfield which mismatch)) v h =
     let r = first-has (λ w. IsAsClaimed o e claim w → ⊥) all_subfields which (v.1).subfield in
     r.1 (h.subfields which)
-agree-apart o e claim (No (differences.NotClean Header)) v h = v.2 h.blank.header
+agree-apart o e claim (No (differences.NotClean Header)) v h = v.2 (blank-header e h.blank)
 agree-apart o e claim (No (differences.NotClean (Channel label))) v h =
     let r = first-has (HasFreeText e) claim.channels label v.3 in
-    (r.1).2 (h.blank.channels label (r.1).0 (r.1).1)
+    (r.1).2 (blank-channel e h.blank label (r.1).0 (r.1).1)
 agree-apart o e claim w v h = v
 
 -- none is answered exactly where the headers agree
@@ -201,12 +200,12 @@ one_head_verdict o e c v w p q = one-from-unknown o e c v w (kind-of o e c v p) 
 abbrev pub AgreeOrDiffer : Head → Head → Terms → Type 0
 AgreeOrDiffer o e c = HeadsAgree o e c ⊎ ((v : Verdict) × IsHeadVerdict o e c v)
 
-some-free : (o e : Head) (c : Terms) → IsSound e → SignalsAgree o e c → SubfieldsAsClaimed o e c → IsBlankHeader e → AgreeOrDiffer o e c
+some-free : (o e : Head) (c : Terms) → IsSound e → SignalsAgree o e c → ((w : Which) → IsAsClaimed o e c w) → IsBlankHeader e → AgreeOrDiffer o e c
 some-free o e c se agree subfields blank =
     ⊎_elim (λ none. inl (heads_agree o e c agree subfields blank none)) (λ r. inr (No (differences.NotClean (Channel r.0)), (agree, subfields, blank, r.1)))
     (found-or-not (HasNoFreeText e c) (IsFirstWithFreeText e c) (find (λ l. has_text (channel_of l e.signals)) c.channels) (free-found e c se))
 
-some-header : (o e : Head) (c : Terms) → IsSound e → SignalsAgree o e c → SubfieldsAsClaimed o e c → AgreeOrDiffer o e c
+some-header : (o e : Head) (c : Terms) → IsSound e → SignalsAgree o e c → ((w : Which) → IsAsClaimed o e c w) → AgreeOrDiffer o e c
 some-header o e c se agree subfields =
     let b = (length e.free == 0) && list_all is_blank_signal e.signals in
     let said = blank_decided e b refl in
@@ -219,15 +218,15 @@ some-subfield o e c se agree = ⊎_elim (λ all. some-header o e c se agree (λ 
     side w first (inl there) = inr (No (differences.Subfield w NotX), (agree, record { subfield = first; mismatch_is = there }))
     side w first (inr out) = inr (No (differences.Subfield w Changed), (agree, record { subfield = first; mismatch_is = out }))
 
-some-calibration : (o e : Head) (c : Terms) → IsSound o → IsSound e → SameChannels o e c → SameTexts o e c → AgreeOrDiffer o e c
+some-calibration : (o e : Head) (c : Terms) → IsSound o → IsSound e → SameChannels o e c → AllAlike HaveSameTexts o e c → AgreeOrDiffer o e c
 some-calibration o e c so se same texts =
     ⊎_elim (λ all. some-subfield o e c se (record { channels = same; texts = texts; calibrations = all })) (λ r. inr (No (differences.Calibration r.0), (same, texts, r.1)))
-    (found-or-not (SameCalibrations o e c) (IsFirstUnlike HaveSameCalibration o e c) (find (λ l. of_both has_other_calibration (channel_of l o.signals) (channel_of l e.signals)) c.channels) (calibrations-found o e c so se))
+    (found-or-not (AllAlike HaveSameCalibration o e c) (IsFirstUnlike HaveSameCalibration o e c) (find (λ l. of_both has_other_calibration (channel_of l o.signals) (channel_of l e.signals)) c.channels) (calibrations-found o e c so se))
 
 some-text : (o e : Head) (c : Terms) → IsSound o → IsSound e → SameChannels o e c → AgreeOrDiffer o e c
 some-text o e c so se same =
     ⊎_elim (λ all. some-calibration o e c so se same all) (λ r. inr (No (differences.ChannelText (r.0).0 (r.0).1), (same, record { channel = (r.1).0; text = (r.1).1 })))
-    (found-or-not (SameTexts o e c) (λ d. IsFirstWith (AreUnlike HaveSameTexts o e) c.channels d.0 × IsFirstText o e d.0 d.1) (first_text_difference (map (claimed_of o.signals e.signals) c.channels)) (texts-found o e so se c.channels))
+    (found-or-not (AllAlike HaveSameTexts o e c) (λ d. IsFirstWith (AreUnlike HaveSameTexts o e) c.channels d.0 × IsFirstText o e d.0 d.1) (first_text_difference (map (claimed_of o.signals e.signals) c.channels)) (texts-found o e so se c.channels))
 
 some-extra : (o e : Head) (c : Terms) → IsSound o → IsSound e → IsClaim c → HasAll o c.channels → HasAll e c.channels → AgreeOrDiffer o e c
 some-extra o e c so se is there here =
@@ -267,12 +266,9 @@ agree_carried o e o' e' s b c h =
       texts = signals.texts;
       calibrations = signals.calibrations;
       subfields = λ w. claimed-carried o e o' e' s c w (h.subfields w);
-      blank = record {
-        header = b.header.0 h.blank.header;
-        channels = λ l y' cy'.
-            let d = there e' e (same-heads-back e e' s.export) l (y', cy') in
-            (b.channels l d.0 y' d.1 cy').0 (h.blank.channels l d.0 d.1);
-      };
+      blank = blank-of e' (b.header.0 (blank-header e h.blank)) (λ l y' cy'.
+          let d = there e' e (same-heads-back e e' s.export) l (y', cy') in
+          (b.channels l d.0 y' d.1 cy').0 (blank-channel e h.blank l d.0 d.1));
     }
 
 pub head_verdict_carried : (o e o' e' : Head) → AreSamePairs o e o' e' → AreBlankAlike e e' → (c : Terms) (v : Verdict) → IsHeadVerdict o e c v → IsHeadVerdict o' e' c v
@@ -444,8 +440,8 @@ none-broken o e c agree (differences.ChannelText l Transducer) b = let d = b.1 i
 none-broken o e c agree (differences.ChannelText l Prefilter) b = let d = b.1 in d.4 (agree.texts l b.0 d.0 d.1 d.2 d.3).1
 none-broken o e c agree (differences.Calibration l) b = let d = b.1 in d.4 (agree.calibrations l b.0 d.0 d.1 d.2 d.3)
 none-broken o e c agree (differences.Subfield which mismatch) b = b.0 (agree.subfields which)
-none-broken o e c agree (differences.NotClean Header) b = b agree.blank.header
-none-broken o e c agree (differences.NotClean (Channel l)) b = let t = b.1 in t.2 (agree.blank.channels l t.0 t.1)
+none-broken o e c agree (differences.NotClean Header) b = b (blank-header e agree.blank)
+none-broken o e c agree (differences.NotClean (Channel l)) b = let t = b.1 in t.2 (blank-channel e agree.blank l t.0 t.1)
 none-broken o e c agree rule b = absurd b
 
 pub nothing_is_broken : (o e : Head) (c : Terms) (found : List Difference) → IsSound o → IsSound e → IsClaim c → AreAllBroken o e c found → (found ≡ []) ↔ HeadsAgree o e c

@@ -1,6 +1,8 @@
 -- What stands in a list, and what is found first there.
 use Rattle.std.proofs.Common.{◌≡◌, ℕ, zero, suc, Bool, true, false, cond, List, [], ◌∷◌, ◌++◌, find, length, get_or, Option, Some, None, MatchOption, inl, inr, ⊎_elim, refl, sym, subst, ap, ◌<◌, arith}
+use Rattle.std.specs.List.{All}
 use Rattle.std.specs.List.Sorted.{IsPermutation}
+use Rattle.std.proofs.lemmas.List.Elements.{All-nil, All-cons, All-head, All-tail}
 use Rattle.std.proofs.lemmas.List.Sorted.{IsPermutation-refl, IsPermutation-sym, IsPermutation-cons, IsPermutation-trans, IsPermutation-middle}
 use Rattle.edf_fields.specs.Lists.{Has}
 use Rattle.edf_fields.specs.Distinct.{AreDistinct}
@@ -12,6 +14,16 @@ pub has-get : {X : Type 0} (xs : List X) (k : ℕ) (d : X) → k < length xs →
 has-get [] k d lt = absurd (omega (arith, lt))
 has-get (z ∷ xs) zero d lt = inl refl
 has-get (z ∷ xs) (suc k) d lt = inr (has-get xs k d (omega (arith, lt)))
+
+-- what holds of each that stands in a list holds of all of it
+pub all-of : {X : Type 0} (P : X → Type 0) (xs : List X) → ((x : X) → Has xs x → P x) → All P xs
+all-of P [] h = All-nil P
+all-of P (z ∷ xs) h = All-cons P z xs (h z (inl refl)) (all-of P xs (λ x i. h x (inr i)))
+
+pub of-all : {X : Type 0} (P : X → Type 0) (xs : List X) → All P xs → (x : X) → Has xs x → P x
+of-all P [] all x i = absurd i
+of-all P (z ∷ xs) all x (inl e) = subst P e (All-head P z xs all)
+of-all P (z ∷ xs) all x (inr i) = of-all P xs (All-tail P z xs all) x i
 
 find-case : {X : Type 0} (b : Bool) (x : X) (o : Option X) (P : Option X → Type 0) → (b ≡ true → P (Some x)) → (b ≡ false → P o) → P (cond b (Some x) o)
 find-case true x o P f g = f refl

@@ -7,14 +7,13 @@ use Rattle.edf_verdict.specs.declared.verdict.TextField.{TextField}
 use Rattle.edf_verdict.specs.declared.verdict.TextField.TheVariants.{Transducer, Prefilter}
 use Rattle.edf_verdict.specs.declared.verdict.SubfieldMismatch.{SubfieldMismatch}
 use Rattle.edf_verdict.specs.declared.verdict.SubfieldMismatch.TheVariants.{NotX, Changed}
-use Rattle.edf_heads.specs.Channels.{HasAll}
-use Rattle.edf_heads.specs.differences.ChannelDifferences.{HasNoChannel, AreUnlike}
+use Rattle.edf_heads.specs.differences.ChannelDifferences.{HasAll, HasNoChannel, AreUnlike}
 use Rattle.edf_heads.specs.Firsts.{IsFirstWith}
 use Rattle.edf_heads.specs.Subfields.{IsAsClaimed}
 use Rattle.edf_fields.specs.fields.SubfieldNamesReading.{all_subfields}
 use Rattle.edf_heads.specs.differences.SubfieldDifference.{IsMismatch, IsSubfieldDifference}
-use Rattle.edf_heads.specs.ChannelTexts.{HaveSameText, HaveSameTexts}
-use Rattle.edf_heads.specs.differences.TextDifference.{IsFirstText, IsTextDifference}
+use Rattle.edf_heads.specs.ChannelTexts.{HaveSameTexts}
+use Rattle.edf_heads.specs.differences.TextDifference.{HaveSameText, IsFirstText, IsTextDifference}
 use Rattle.edf_heads.proofs.ContentFacts.{alike-differ}
 use Rattle.edf_heads.proofs.ListFacts.{first-has}
 

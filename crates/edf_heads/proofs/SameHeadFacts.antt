@@ -1,13 +1,11 @@
 -- What holds of headers holds of headers that say the same.
 use Rattle.std.proofs.Common.{◌≡◌, ◌↔◌, ℕ, List, [], ◌∷◌, inl, inr, ⊎_elim, refl, sym, ◌∙◌, subst}
 use Rattle.std.specs.List.{All}
-use Rattle.std.proofs.lemmas.List.Elements.{All-head, All-tail}
 use Rattle.std.proofs.lemmas.List.Sorted.{IsPermutation-refl, IsPermutation-sym, IsPermutation-trans}
 use Rattle.edf_claim.specs.Terms.{Terms}
 use Rattle.edf_fields.specs.declared.fields.which.Which.{Which}
 use Rattle.edf_fields.specs.declared.fields.which.Which.TheVariants.{PatientExtras, Date, RecordingExtras}
 use Rattle.edf_fields.specs.texts.Identifications.{Patient, Recording}
-use Rattle.edf_fields.specs.Lists.{Has}
 use Rattle.edf_fields.proofs.ForCallers.{has-permutation}
 use Rattle.edf_header.specs.signals.Calibrations.{AreExtremes}
 use Rattle.edf_header.specs.signals.Channels.{channel_labels}
@@ -19,16 +17,17 @@ use Rattle.edf_verdict.specs.declared.verdict.TextField.{TextField}
 use Rattle.edf_verdict.specs.declared.verdict.TextField.TheVariants.{Transducer, Prefilter}
 use Rattle.edf_heads.specs.differences.BlankDifference.{HasFreeText}
 use Rattle.edf_heads.specs.Calibrations.{HaveSameCalibration}
-use Rattle.edf_heads.specs.Channels.{IsChannelOf, HasChannel, HasAll, SameChannels, AreAlike, AllAlike}
-use Rattle.edf_heads.specs.differences.ChannelDifferences.{HasNoChannel, IsExtra, AreUnlike, IsFirstUnlike}
+use Rattle.edf_heads.specs.Channels.{IsChannelOf, SameChannels, AllAlike}
+use Rattle.edf_heads.specs.differences.ChannelDifferences.{HasChannel, HasAll, HasNoChannel, IsExtra, AreAlike, AreUnlike, IsFirstUnlike}
 use Rattle.edf_heads.specs.Comparisons.{IsAnonymous, IsUnchanged}
 use Rattle.edf_heads.specs.Firsts.{IsFirstWith}
 use Rattle.edf_heads.specs.SameHeads.{AreSameChannels, AreSameRecordings, AreSameHeads, AreBlankAlike}
-use Rattle.edf_heads.specs.Subfields.{IsX, AreAllX, IsAsClaimed}
-use Rattle.edf_heads.specs.ChannelTexts.{HaveSameText, HaveSameTexts}
-use Rattle.edf_heads.specs.differences.TextDifference.{IsFirstText}
+use Rattle.edf_heads.specs.Subfields.{IsX, IsAsClaimed}
+use Rattle.edf_heads.specs.ChannelTexts.{HaveSameTexts}
+use Rattle.edf_heads.specs.differences.TextDifference.{HaveSameText, IsFirstText}
 use Rattle.edf_heads.proofs.ChannelFacts.{one-channel}
 use Rattle.edf_heads.proofs.HeadFacts.{has-label, label-has}
+use Rattle.edf_heads.proofs.ListFacts.{of-all}
 use Rattle.edf_heads.proofs.SubfieldFacts.{to-claimed, of-claimed}
 
 -- ---- being the same
@@ -80,12 +79,7 @@ pub there : (h g : Head) → AreSameHeads h g → (l : List ℕ) → HasChannel 
 there h g s l c = label-has g l (has-permutation (channel_labels h.signals) (channel_labels g.signals) l s.channels (has-label h l c))
 
 sound-channel : (h : Head) (l : List ℕ) (x : SignalHead) → IsSound h → IsChannelOf h l x → AreExtremes x.calibration
-sound-channel h l x sound c = (all-has h.signals sound.standard.signals x c.there).calibration
-  where
-    all-has : (xs : List SignalHead) → All IsSoundSignal xs → (y : SignalHead) → Has xs y → IsSoundSignal y
-    all-has [] all y i = absurd i
-    all-has (z ∷ zs) all y (inl e) = subst IsSoundSignal e (All-head IsSoundSignal z zs all)
-    all-has (z ∷ zs) all y (inr i) = all-has zs (All-tail IsSoundSignal z zs all) y i
+sound-channel h l x sound c = (of-all IsSoundSignal h.signals sound.standard.signals x c.there).calibration
 
 -- ---- two headers in place of two others
 
@@ -127,11 +121,9 @@ texts-carried x y x' y' ex ey s r h = (text-carried Transducer x y x' y' ex ey s
 pub calibration-carried : Carries HaveSameCalibration
 calibration-carried x y x' y' ex ey s r h =
     let through = same_line_is_equivalence.2 in
-    record {
-      dimension = sym s.dimension ∙ h.dimension ∙ r.dimension;
-      line = through x'.calibration x.calibration y'.calibration ex.order (same_line_is_equivalence.1 x.calibration x'.calibration s.line)
-          (through x.calibration y.calibration y'.calibration ey.order h.line r.line);
-    }
+    let line = through x'.calibration x.calibration y'.calibration ex.order (same_line_is_equivalence.1 x.calibration x'.calibration s.line)
+    (through x.calibration y.calibration y'.calibration ey.order (h.gain, h.offset) r.line) in
+    record { dimension = sym s.dimension ∙ h.dimension ∙ r.dimension; gain = line.0; offset = line.1 }
 
 alike-carried : (Alike : SignalHead → SignalHead → Type 0) → Carries Alike → (o e o' e' : Head) → AreSamePairs o e o' e' → (l : List ℕ) → AreAlike Alike o e l → AreAlike Alike o' e' l
 alike-carried Alike carries o e o' e' s l a x' y' cx' cy' =
@@ -184,8 +176,8 @@ x-carried r s h x = ⊎_elim (λ e. sym e ∙ x) (λ n. absurd (n.0 x)) h.date
 
 anonymous-carried : (e e' : Head) → AreSameHeads e e' → (w : Which) → IsAnonymous e w → IsAnonymous e' w
 anonymous-carried e e' s Date h = x-carried e.recording e'.recording s.recording h
-anonymous-carried e e' s PatientExtras h = subst (λ (p : Patient). AreAllX p.extras) s.patient h
-anonymous-carried e e' s RecordingExtras h = subst AreAllX s.recording.extras h
+anonymous-carried e e' s PatientExtras h = subst (λ (p : Patient). All IsX p.extras) s.patient h
+anonymous-carried e e' s RecordingExtras h = subst (All IsX) s.recording.extras h
 anonymous-carried e e' s w h = cc
 
 unchanged-carried : (o e o' e' : Head) → AreSameHeads o o' → AreSameHeads e e' → (w : Which) → IsUnchanged o e w → IsUnchanged o' e' w

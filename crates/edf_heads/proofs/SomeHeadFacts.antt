@@ -1,6 +1,6 @@
 -- What can be decided of two sound headers, and the first of what isn't so.
 use Rattle.std.proofs.Common.{◌≡◌, ◌↔◌, ℕ, Bool, true, false, List, [], ◌∷◌, Option, Some, None, MatchOption, ◌⊎◌, inl, inr, ⊎_elim, refl, sym, ap, ◌∙◌, subst, arith}
-use Rattle.std.specs.List.{list_all}
+use Rattle.std.specs.List.{All, list_all}
 use Rattle.std.specs.Str.{bytes_eq}
 use Rattle.std.proofs.lemmas.Bool.{cases_lt}
 use Rattle.std.proofs.lemmas.Slice.Eq.{bytes_eq-Decides}
@@ -14,7 +14,7 @@ use Rattle.edf_header.specs.Heads.{Head}
 use Rattle.edf_heads.specs.Comparisons.{is_x, are_same, IsAnonymous, IsUnchanged}
 use Rattle.edf_heads.specs.Firsts.{IsFirstWith}
 use Rattle.edf_heads.specs.Labels.{IsNotAbove}
-use Rattle.edf_heads.specs.Subfields.{AreAllX, IsAsClaimed}
+use Rattle.edf_heads.specs.Subfields.{IsX, IsAsClaimed}
 use Rattle.edf_heads.proofs.SubfieldFacts.{all-x, x-all, same-is, same-self, claimed_anonymous, claimed_unchanged, not_anonymous, not_unchanged}
 
 -- ---- what a test decides
@@ -106,7 +106,7 @@ same-text t u = tested (bytes_eq t u) (bytes_eq-Decides t u).0 (bytes_eq-Decides
 same-texts : (ts us : List (List ℕ)) → Decided (ts ≡ us)
 same-texts ts us = tested (are_same ts us) (same-is ts us) (λ h. subst (λ xs. are_same ts xs ≡ true) h (same-self ts))
 
-all-are-x : (ts : List (List ℕ)) → Decided (AreAllX ts)
+all-are-x : (ts : List (List ℕ)) → Decided (All IsX ts)
 all-are-x ts = tested (list_all is_x ts) (all-x ts) (x-all ts)
 
 is-anonymous : (h : Head) (w : Which) → Decided (IsAnonymous h w)

@@ -1,9 +1,10 @@
 -- The subfields of two headers, in words.
 use Rattle.std.proofs.Common.{◌≡◌, ◌↔◌, ℕ, Bool, true, false, cond, IsTrue, List, [], ◌∷◌, drop, length, ◌<◌, ◌≤◌, ◌+◌, get_or, Option, Some, None, MatchOption, inl, inr, ⊎_elim, refl, sym, ap, ◌∙◌, subst, add-one}
-use Rattle.std.specs.List.{list_all}
+use Rattle.std.specs.List.{All, list_all}
 use Rattle.std.specs.Str.{bytes_eq}
 use Rattle.std.proofs.Math.Seq.{drop-cons}
 use Rattle.std.proofs.lemmas.List.{drop_all}
+use Rattle.std.proofs.lemmas.List.Elements.{All-nil, All-cons, All-head, All-tail}
 use Rattle.std.proofs.lemmas.Slice.Eq.{bytes_eq-Decides}
 use Rattle.edf_fields.specs.Lists.{Has}
 use Rattle.edf_fields.proofs.ForCallers.{and-true, both-true, which-read}
@@ -12,7 +13,7 @@ use Rattle.edf_claim.specs.Terms.{Terms}
 use Rattle.edf_fields.specs.declared.fields.which.Which.{Which}
 use Rattle.edf_fields.specs.declared.fields.which.Which.TheVariants.{Code}
 use Rattle.edf_heads.specs.Comparisons.{is_x, are_same, IsAnonymous, IsUnchanged, IsFoundAmong}
-use Rattle.edf_heads.specs.Subfields.{IsX, AreAllX, ByClaim, IsAsClaimed, SubfieldsAsClaimed}
+use Rattle.edf_heads.specs.Subfields.{IsX, ByClaim, IsAsClaimed}
 use Rattle.edf_fields.specs.fields.SubfieldNames.{name_of}
 use Rattle.edf_fields.specs.fields.SubfieldNamesReading.{all_subfields, named_in, which_of}
 use Rattle.edf_heads.specs.differences.SubfieldDifference.{IsMismatch, IsSubfieldDifference}
@@ -24,17 +25,17 @@ use Rattle.edf_verdict.specs.declared.verdict.SubfieldMismatch.{SubfieldMismatch
 pub x_tested : (b : Bool) (t : List ℕ) → b ≡ is_x t → IsTrue b ↔ IsX t
 x_tested b t e = (λ h. (bytes_eq-Decides t _).0 (sym e ∙ h), λ h. e ∙ (bytes_eq-Decides t _).1 h)
 
-pub all-x : (ts : List (List ℕ)) → list_all is_x ts ≡ true → AreAllX ts
-all-x [] h t there = absurd there
-all-x (u ∷ us) h t there =
+pub all-x : (ts : List (List ℕ)) → list_all is_x ts ≡ true → All IsX ts
+all-x [] h = All-nil IsX
+all-x (u ∷ us) h =
     let both = and-true (is_x u) (list_all is_x us) h in
-    ⊎_elim (λ e. sym e ∙ (bytes_eq-Decides u _).0 both.0) (λ i. all-x us both.1 t i) there
+    All-cons IsX u us ((bytes_eq-Decides u _).0 both.0) (all-x us both.1)
 
-pub x-all : (ts : List (List ℕ)) → AreAllX ts → list_all is_x ts ≡ true
+pub x-all : (ts : List (List ℕ)) → All IsX ts → list_all is_x ts ≡ true
 x-all [] h = refl
-x-all (u ∷ us) h = both-true (is_x u) (list_all is_x us) ((bytes_eq-Decides u _).1 (h u (inl refl))) (x-all us (λ t i. h t (inr i)))
+x-all (u ∷ us) h = both-true (is_x u) (list_all is_x us) ((bytes_eq-Decides u _).1 (All-head IsX u us h)) (x-all us (All-tail IsX u us h))
 
-pub all_x_tested : (b : Bool) (ts : List (List ℕ)) → b ≡ list_all is_x ts → IsTrue b ↔ AreAllX ts
+pub all_x_tested : (b : Bool) (ts : List (List ℕ)) → b ≡ list_all is_x ts → IsTrue b ↔ All IsX ts
 all_x_tested b ts e = (λ h. all-x ts (sym e ∙ h), λ h. e ∙ x-all ts h)
 
 pub same-is : (ts us : List (List ℕ)) → are_same ts us ≡ true → ts ≡ us
@@ -117,6 +118,6 @@ unfolding which_of
 has-all w = named-has all_subfields (name_of w) w (which-read w)
 
 pub subfields_said : (o e : Head) (claim : Terms) (r : Option SubfieldDifference) → IsFoundAmong o e claim all_subfields r
-    → MatchOption r (SubfieldsAsClaimed o e claim) (λ d. IsSubfieldDifference o e claim d.which d.mismatch)
+    → MatchOption r ((w : Which) → IsAsClaimed o e claim w) (λ d. IsSubfieldDifference o e claim d.which d.mismatch)
 subfields_said o e claim None h = λ w. h w (has-all w)
 subfields_said o e claim (Some d) h = record { subfield = h.0; mismatch_is = h.1 }

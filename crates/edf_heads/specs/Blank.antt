@@ -1,8 +1,8 @@
--- The free text of a header, which an export may not have (this project's profile).
-use Rattle.std.specs.Prelude.{◌≡◌, ℕ, IsTrue, List, []}
-use Rattle.edf_fields.specs.Lists.{Has}
+-- The free text of a header.
+use Rattle.std.specs.Prelude.{◌≡◌, [], filter}
+use Rattle.std.specs.List.{All}
 use Rattle.edf_header.specs.Heads.{SignalHead, Head, is_annotations}
-use Rattle.edf_heads.specs.Channels.{IsChannelOf}
+use Rattle.edf_header.specs.signals.Channels.{channels_among}
 
 -- the texts of a signal but its label are empty (EDF, "Header record": transducer type, physical dimension, prefiltering, reserved)
 pub record HasNoTexts (signal : SignalHead) : Type 0 where
@@ -11,12 +11,8 @@ pub record HasNoTexts (signal : SignalHead) : Type 0 where
   pub prefilter : signal.prefilter ≡ []
   pub reserved : signal.reserved ≡ []
 
--- nothing stands behind `EDF+C` or `EDF+D`, and the annotation signals have no texts (EDF+, "The EDF+ header", "The 'EDF Annotations' signal")
-pub record IsBlankHeader (h : Head) : Type 0 where
-  pub free : h.free ≡ []
-  pub annotations : (signal : SignalHead) → Has h.signals signal → IsTrue (is_annotations signal.label) → HasNoTexts signal
-
--- the fields of the header that hold nothing but free text are empty; labels, and the texts of channels, stay
+-- the fields of the header that hold nothing but free text are empty (this project's profile): what stands behind `EDF+C` or `EDF+D`, the reserved field of each channel, and all texts of an annotation signal but its label (EDF+, "The EDF+ header", "The 'EDF Annotations' signal")
 pub record IsBlank (h : Head) : Type 0 where
-  pub header : IsBlankHeader h
-  pub channels : (label : List ℕ) (channel : SignalHead) → IsChannelOf h label channel → channel.reserved ≡ []
+  pub free : h.free ≡ []
+  pub channels : All (λ channel. channel.reserved ≡ []) (channels_among h.signals)
+  pub annotations : All HasNoTexts (filter (λ signal. is_annotations signal.label) h.signals)

@@ -1,4 +1,4 @@
--- The channels of two headers and of a claim. Which channels an export has to have is this project's profile.
+-- The channels of two headers and of a claim.
 use Rattle.std.specs.Prelude.{ℕ, List}
 use Rattle.std.specs.List.Sorted.{IsPermutation}
 use Rattle.edf_fields.specs.Lists.{Has}
@@ -11,24 +11,14 @@ pub record IsChannelOf (h : Head) (label : List ℕ) (channel : SignalHead) : Ty
   pub there : Has h.signals channel
   pub labelled : IsLabelled label channel
 
--- the header has a channel of this label
-abbrev pub HasChannel : Head → List ℕ → Type 0
-HasChannel h label = (channel : SignalHead) × IsChannelOf h label channel
-
--- the header has a channel of each of these labels
-abbrev pub HasAll : Head → List (List ℕ) → Type 0
-HasAll h labels = (label : List ℕ) → Has labels label → HasChannel h label
-
--- each claimed label is that of a channel of the original, and the labels of the export's channels are the claimed ones, in some order
+-- each claimed label is that of a channel of the original, and the labels of the export's channels are the claimed ones, in some order (this project's profile)
 pub record SameChannels (original export : Head) (claim : Terms) : Type 0 where
-  pub in_original : HasAll original claim.channels
+  pub in_original : (label : List ℕ) → Has claim.channels label
+      → (channel : SignalHead) × IsChannelOf original label channel
   pub in_export : IsPermutation claim.channels (channel_labels export.signals)
-
--- the channels of this label are alike in the two headers
-abbrev pub AreAlike : (SignalHead → SignalHead → Type 0) → Head → Head → List ℕ → Type 0
-AreAlike Alike original export label =
-    (x y : SignalHead) → IsChannelOf original label x → IsChannelOf export label y → Alike x y
 
 -- the channels of each claimed label are alike in the two headers
 abbrev pub AllAlike : (SignalHead → SignalHead → Type 0) → Head → Head → Terms → Type 0
-AllAlike Alike original export claim = (label : List ℕ) → Has claim.channels label → AreAlike Alike original export label
+AllAlike Alike original export claim =
+    (label : List ℕ) → Has claim.channels label
+    → (x y : SignalHead) → IsChannelOf original label x → IsChannelOf export label y → Alike x y

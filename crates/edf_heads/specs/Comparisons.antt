@@ -2,6 +2,7 @@
 use Rattle.std.specs.Prelude.{◌≡◌, ◌↔◌, ℕ, ◌==◌, Bool, true, false, not, ◌&&◌, ◌||◌, ◌⊎◌, List, [], ◌∷◌, ◌++◌, length, map, find, slice_get, Option, None, Some, option_map, is_none, MatchOption, ◌*ℤ◌, codes, if◌then◌else◌}
 use Rattle.std.specs.Borrow.{Bor}
 use Rattle.std.specs.Cmp.Lexicographic.{slice_cmp}
+use Rattle.std.specs.List.{All}
 use Rattle.std.specs.List.Sorted.{IsSorted, IsPermutation}
 use Rattle.std.specs.Option.{option_or}
 use Rattle.std.specs.Ordering.{nat_cmp, int_eq}
@@ -17,14 +18,14 @@ use Rattle.edf_claim.specs.Terms.{Terms}
 use Rattle.edf_fields.specs.declared.fields.which.Which.{Which}
 use Rattle.edf_fields.specs.declared.fields.which.Which.TheVariants.{Code, Sex, Birthdate, Name, PatientExtras, Date, Administration, Technician, Equipment, RecordingExtras}
 use Rattle.edf_heads.specs.differences.BlankDifference.{HasFreeText}
-use Rattle.edf_heads.specs.Calibrations.{HaveSameCalibration, SameCalibrations}
-use Rattle.edf_heads.specs.Channels.{AllAlike, HasAll, SameChannels}
-use Rattle.edf_heads.specs.ChannelTexts.{HaveSameText, SameTexts, text_in}
-use Rattle.edf_heads.specs.differences.ChannelDifferences.{HasNoChannel, IsExtra, IsLeastExtra, AreUnlike}
+use Rattle.edf_heads.specs.Calibrations.{HaveSameCalibration}
+use Rattle.edf_heads.specs.Channels.{AllAlike, SameChannels}
+use Rattle.edf_heads.specs.ChannelTexts.{HaveSameTexts}
+use Rattle.edf_heads.specs.differences.ChannelDifferences.{HasAll, HasNoChannel, IsExtra, IsLeastExtra, AreUnlike}
 use Rattle.edf_heads.specs.Firsts.{IsFirstWith}
-use Rattle.edf_heads.specs.Subfields.{IsX, AreAllX, IsAsClaimed, SubfieldsAsClaimed}
+use Rattle.edf_heads.specs.Subfields.{IsX, IsAsClaimed}
 use Rattle.edf_heads.specs.differences.SubfieldDifference.{IsMismatch, IsSubfieldDifference}
-use Rattle.edf_heads.specs.differences.TextDifference.{IsTextDifference}
+use Rattle.edf_heads.specs.differences.TextDifference.{text_in, HaveSameText, IsTextDifference}
 use Rattle.edf_heads.specs.HeadVerdicts.{AreAllBroken, HeadsAgree, SignalsAgree, IsHeadVerdict}
 use Rattle.edf_heads.specs.declared.channels.ClaimedChannel.{ClaimedChannel}
 use Rattle.edf_heads.specs.declared.difference.HeadDifference.{HeadDifference}
@@ -176,7 +177,7 @@ abbrev pub Keep : ChannelRule → Compared → Type 0
 Keep Known c = HasAll c.original c.claim.channels
 Keep Exported c = HasAll c.export c.claim.channels
 Keep (SameText field) c = AllAlike (HaveSameText field) c.original c.export c.claim
-Keep Calibrated c = SameCalibrations c.original c.export c.claim
+Keep Calibrated c = AllAlike HaveSameCalibration c.original c.export c.claim
 Keep Clean c = HasNoFreeText c.export c.claim
 
 -- all rules of a channel, in the order in which they are found at a label
@@ -234,12 +235,12 @@ IsAnonymous h Code = IsX h.patient.code
 IsAnonymous h Sex = IsX h.patient.sex
 IsAnonymous h Birthdate = IsX h.patient.birthdate
 IsAnonymous h Name = IsX h.patient.name
-IsAnonymous h PatientExtras = AreAllX h.patient.extras
+IsAnonymous h PatientExtras = All IsX h.patient.extras
 IsAnonymous h Date = IsX h.recording.date
 IsAnonymous h Administration = IsX h.recording.admin
 IsAnonymous h Technician = IsX h.recording.technician
 IsAnonymous h Equipment = IsX h.recording.equipment
-IsAnonymous h RecordingExtras = AreAllX h.recording.extras
+IsAnonymous h RecordingExtras = All IsX h.recording.extras
 
 -- this subfield of the export is the original's
 abbrev pub IsUnchanged : Head → Head → Which → Type 0
@@ -283,7 +284,7 @@ SameChannelsIn c = SameChannels c.original c.export c.claim
 
 -- with the same texts
 abbrev pub SameTextsIn : Compared → Type 0
-SameTextsIn c = SameTexts c.original c.export c.claim
+SameTextsIn c = AllAlike HaveSameTexts c.original c.export c.claim
 
 -- or this is the first of these texts that differs
 abbrev pub IsTextDifferenceIn : Compared → List ℕ → TextField → Type 0
@@ -323,7 +324,7 @@ IsMismatchIn c which mismatch = (IsAsClaimedIn c which → ⊥) × IsMismatch c.
 
 -- all subfields are as claimed
 abbrev pub AllAsClaimedIn : Compared → Type 0
-AllAsClaimedIn c = SubfieldsAsClaimed c.original c.export c.claim
+AllAsClaimedIn c = (which : Which) → IsAsClaimedIn c which
 
 -- or this is the first one that isn't, and how it isn't
 abbrev pub IsSubfieldDifferenceIn : Compared → Which → SubfieldMismatch → Type 0

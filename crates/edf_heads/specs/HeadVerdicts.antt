@@ -4,15 +4,16 @@ use Rattle.edf_fields.specs.Lists.{Has}
 use Rattle.edf_header.specs.Heads.{Head}
 use Rattle.edf_claim.specs.Terms.{Terms}
 use Rattle.edf_heads.specs.Firsts.{IsFirstWith}
-use Rattle.edf_heads.specs.Channels.{HasAll, SameChannels}
-use Rattle.edf_heads.specs.differences.ChannelDifferences.{AreUnlike, HasNoChannel, IsExtra, IsFirstUnlike, IsLeastExtra}
-use Rattle.edf_heads.specs.ChannelTexts.{HaveSameText, SameTexts}
-use Rattle.edf_heads.specs.differences.TextDifference.{IsTextDifference}
-use Rattle.edf_heads.specs.Calibrations.{HaveSameCalibration, SameCalibrations}
-use Rattle.edf_heads.specs.Subfields.{IsAsClaimed, SubfieldsAsClaimed}
+use Rattle.edf_heads.specs.Channels.{SameChannels, AllAlike}
+use Rattle.edf_heads.specs.differences.ChannelDifferences.{AreUnlike, HasAll, HasNoChannel, IsExtra, IsFirstUnlike, IsLeastExtra}
+use Rattle.edf_heads.specs.ChannelTexts.{HaveSameTexts}
+use Rattle.edf_heads.specs.differences.TextDifference.{HaveSameText, IsTextDifference}
+use Rattle.edf_heads.specs.Calibrations.{HaveSameCalibration}
+use Rattle.edf_fields.specs.declared.fields.which.Which.{Which}
+use Rattle.edf_heads.specs.Subfields.{IsAsClaimed}
 use Rattle.edf_heads.specs.differences.SubfieldDifference.{IsMismatch, IsSubfieldDifference}
-use Rattle.edf_heads.specs.Blank.{IsBlankHeader, IsBlank}
-use Rattle.edf_heads.specs.differences.BlankDifference.{HasFreeText, IsFirstWithFreeText}
+use Rattle.edf_heads.specs.Blank.{IsBlank}
+use Rattle.edf_heads.specs.differences.BlankDifference.{IsBlankHeader, HasFreeText, IsFirstWithFreeText}
 use Rattle.edf_verdict.specs.declared.verdict.Difference.{Difference}
 use Rattle.edf_verdict.specs.declared.verdict.Verdict.{Verdict}
 use Rattle.edf_verdict.specs.declared.verdict.Verdict.TheVariants.{No}
@@ -22,16 +23,16 @@ use Rattle.edf_verdict.specs.declared.verdict.FreeText.TheVariants.{Header, Chan
 -- the export's header is what the claim says of the original's
 pub record HeadsAgree (original export : Head) (claim : Terms) : Type 0 where
   pub channels : SameChannels original export claim
-  pub texts : SameTexts original export claim
-  pub calibrations : SameCalibrations original export claim
-  pub subfields : SubfieldsAsClaimed original export claim
+  pub texts : AllAlike HaveSameTexts original export claim
+  pub calibrations : AllAlike HaveSameCalibration original export claim
+  pub subfields : (which : Which) → IsAsClaimed original export claim which
   pub blank : IsBlank export
 
 -- the headers agree up to their calibrations
 pub record SignalsAgree (original export : Head) (claim : Terms) : Type 0 where
   pub channels : SameChannels original export claim
-  pub texts : SameTexts original export claim
-  pub calibrations : SameCalibrations original export claim
+  pub texts : AllAlike HaveSameTexts original export claim
+  pub calibrations : AllAlike HaveSameCalibration original export claim
 
 -- the verdict is the first rule of two headers that is broken; each says that those before it aren't, and no other verdict is on headers
 abbrev pub IsHeadVerdict : Head → Head → Terms → Verdict → Type 0
@@ -44,13 +45,14 @@ IsHeadVerdict original export claim (No (ExtraChannel label)) =
 IsHeadVerdict original export claim (No (ChannelText label field)) =
     SameChannels original export claim × IsTextDifference original export claim label field
 IsHeadVerdict original export claim (No (Calibration label)) =
-    SameChannels original export claim × SameTexts original export claim × IsFirstUnlike HaveSameCalibration original export claim label
+    SameChannels original export claim × AllAlike HaveSameTexts original export claim × IsFirstUnlike HaveSameCalibration original export claim label
 IsHeadVerdict original export claim (No (Subfield which mismatch)) =
     SignalsAgree original export claim × IsSubfieldDifference original export claim which mismatch
 IsHeadVerdict original export claim (No (NotClean Header)) =
-    SignalsAgree original export claim × SubfieldsAsClaimed original export claim × (IsBlankHeader export → ⊥)
+    SignalsAgree original export claim × ((which : Which) → IsAsClaimed original export claim which) × (IsBlankHeader export → ⊥)
 IsHeadVerdict original export claim (No (NotClean (Channel label))) =
-    SignalsAgree original export claim × SubfieldsAsClaimed original export claim × IsBlankHeader export × IsFirstWithFreeText export claim label
+    SignalsAgree original export claim × ((which : Which) → IsAsClaimed original export claim which)
+    × IsBlankHeader export × IsFirstWithFreeText export claim label
 IsHeadVerdict original export claim verdict = ⊥
 
 -- the rule that a verdict names is broken, whether or not another one is broken before it; samples and annotations break none of headers

@@ -5,7 +5,7 @@ use Rattle.edf_fields.specs.texts.Identifications.{Recording}
 use Rattle.edf_header.specs.signals.Calibrations.{SameLine}
 use Rattle.edf_header.specs.signals.Channels.{channel_labels}
 use Rattle.edf_header.specs.Heads.{SignalHead, Head}
-use Rattle.edf_heads.specs.Blank.{IsBlankHeader}
+use Rattle.edf_heads.specs.differences.BlankDifference.{IsBlankHeader}
 use Rattle.edf_heads.specs.Channels.{IsChannelOf}
 use Rattle.edf_heads.specs.Subfields.{IsX}
 

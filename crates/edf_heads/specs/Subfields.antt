@@ -1,6 +1,6 @@
--- The subfields of the patient and of the recording (EDF+, "Additional specifications in EDF+": local patient identification, local recording identification).
--- What a claim makes anonymous, and that all else stays, is this project's profile.
+-- The subfields of the patient and of the recording.
 use Rattle.std.specs.Prelude.{◌≡◌, ℕ, ◌↔◌, List, codes}
+use Rattle.std.specs.List.{All}
 use Rattle.edf_fields.specs.Lists.{Has}
 use Rattle.edf_header.specs.Heads.{Head}
 use Rattle.edf_claim.specs.Terms.{Terms}
@@ -11,10 +11,6 @@ use Rattle.edf_fields.specs.declared.fields.which.Which.TheVariants.{Code, Sex, 
 abbrev pub IsX : List ℕ → Type 0
 IsX text = text ≡ codes "X"
 
--- each of the texts is `X`; there may be none
-abbrev pub AreAllX : List (List ℕ) → Type 0
-AreAllX texts = (text : List ℕ) → Has texts text → IsX text
-
 -- the first statement holds where the claim makes the subfield anonymous, and the second one where it doesn't
 pub record ByClaim (claim : Terms) (which : Which) (Anonymous Kept : Type 0) : Type 0 where
   pub claimed : Has claim.anonymous which → Anonymous
@@ -24,27 +20,18 @@ pub record ByClaim (claim : Terms) (which : Which) (Anonymous Kept : Type 0) : T
 abbrev pub IsXOrElse : Terms → Which → List ℕ → List ℕ → Type 0
 IsXOrElse claim which exported original = ByClaim claim which (IsX exported) (exported ≡ original)
 
--- each of the export's texts is `X`, or else they are the original's
-abbrev pub AreAllXOrElse : Terms → Which → List (List ℕ) → List (List ℕ) → Type 0
-AreAllXOrElse claim which exported original = ByClaim claim which (AreAllX exported) (exported ≡ original)
-
--- the export's date is `X`, or else it is `X` exactly where the original's is: which day it is follows from the samples that are kept
-abbrev pub IsXOrElseToldAlike : Terms → Which → List ℕ → List ℕ → Type 0
-IsXOrElseToldAlike claim which exported original = ByClaim claim which (IsX exported) (IsX exported ↔ IsX original)
-
--- in the export this subfield is as the claim says
+-- in the export this subfield is as the claim says (what a claim makes anonymous, and that all else stays, is this project's profile); where additional ones are anonymous there may be none; a date that isn't is `X` exactly where the original's is: which day it is follows from the samples that are kept
 abbrev pub IsAsClaimed : Head → Head → Terms → Which → Type 0
 IsAsClaimed original export claim Code = IsXOrElse claim Code export.patient.code original.patient.code
 IsAsClaimed original export claim Sex = IsXOrElse claim Sex export.patient.sex original.patient.sex
 IsAsClaimed original export claim Birthdate = IsXOrElse claim Birthdate export.patient.birthdate original.patient.birthdate
 IsAsClaimed original export claim Name = IsXOrElse claim Name export.patient.name original.patient.name
-IsAsClaimed original export claim PatientExtras = AreAllXOrElse claim PatientExtras export.patient.extras original.patient.extras
-IsAsClaimed original export claim Date = IsXOrElseToldAlike claim Date export.recording.date original.recording.date
+IsAsClaimed original export claim PatientExtras =
+    ByClaim claim PatientExtras (All IsX export.patient.extras) (export.patient.extras ≡ original.patient.extras)
+IsAsClaimed original export claim Date =
+    ByClaim claim Date (IsX export.recording.date) (IsX export.recording.date ↔ IsX original.recording.date)
 IsAsClaimed original export claim Administration = IsXOrElse claim Administration export.recording.admin original.recording.admin
 IsAsClaimed original export claim Technician = IsXOrElse claim Technician export.recording.technician original.recording.technician
 IsAsClaimed original export claim Equipment = IsXOrElse claim Equipment export.recording.equipment original.recording.equipment
-IsAsClaimed original export claim RecordingExtras = AreAllXOrElse claim RecordingExtras export.recording.extras original.recording.extras
-
--- in the export each subfield is as the claim says
-abbrev pub SubfieldsAsClaimed : Head → Head → Terms → Type 0
-SubfieldsAsClaimed original export claim = (which : Which) → IsAsClaimed original export claim which
+IsAsClaimed original export claim RecordingExtras =
+    ByClaim claim RecordingExtras (All IsX export.recording.extras) (export.recording.extras ≡ original.recording.extras)

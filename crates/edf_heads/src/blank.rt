@@ -2,7 +2,7 @@
 
 ghost use Rattle.std.specs.Prelude.{◌≡◌, ◌↔◌, IsTrue};
 ghost use Rattle.std.specs.List.{list_all};
-ghost use Rattle.edf_heads.specs.Blank.{IsBlankHeader};
+ghost use Rattle.edf_heads.specs.differences.BlankDifference.{IsBlankHeader};
 ghost use Rattle.edf_heads.specs.Comparisons.{is_blank_signal};
 
 use crate::comparison::Comparison;

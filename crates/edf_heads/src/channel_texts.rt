@@ -1,7 +1,7 @@
 //! The texts of the channels.
 
 ghost use Rattle.std.specs.Prelude.{◌≡◌, map, option_map, MatchOption};
-ghost use Rattle.edf_heads.specs.ChannelTexts.{text_in};
+ghost use Rattle.edf_heads.specs.differences.TextDifference.{text_in};
 ghost use Rattle.edf_heads.specs.Comparisons.{claimed_view, IsTextDifferenceIn, SameTextsIn, text_difference, text_difference_of, first_text_difference as first_text_difference_of};
 
 use crate::channels::ClaimedChannel;

@@ -1,12 +1,11 @@
 -- What a claim keeps of an original, and how it stands in an export.
-use Rattle.std.specs.Prelude.{◌≡◌, ℕ, ℤ, pos, neg_ℤ, ◌+ℤ◌, ◌-ℤ◌, ◌*ℤ◌, ◌^◌, List, filter, map}
+use Rattle.std.specs.Prelude.{◌≡◌, ℕ, ℤ, pos, neg_ℤ, ◌+ℤ◌, ◌-ℤ◌, ◌*ℤ◌, ◌^◌, IsTrue, List, filter, map}
 use Rattle.edf_claim.specs.Terms.{Terms}
-use Rattle.edf_claim.specs.Keeps.{keeps_annotation, kept_text}
-use Rattle.edf_claim.specs.KeepsReading.{KeepsInstant}
+use Rattle.edf_claim.specs.Keeps.{keeps_instant, keeps_annotation, kept_text}
 use Rattle.edf_fields.specs.Lists.{Has}
 use Rattle.edf_header.specs.Heads.{Head}
 use Rattle.edf_stream.specs.times.Instants.{IsSame}
-use Rattle.edf_stream.specs.annotation.Notes.{NoteValue, moved_by}
+use Rattle.edf_stream.specs.annotation.Notes.{NoteValue}
 use Rattle.edf_stream.specs.samples.Samples.{SampleValue, IsSample}
 use Rattle.edf_stream.specs.times.Starts.{file_start}
 use Rattle.edf_samples.specs.Instants.{later}
@@ -20,7 +19,7 @@ shift_ps claim = claim.shift *ℤ pos (10 ^ 12)
 pub record IsKeptSample (original : List ℕ) (h : Head) (claim : Terms) (x : SampleValue) : Type 0 where
   pub sample : IsSample original h x
   pub channel : Has claim.channels x.label
-  pub instant : KeepsInstant claim (later (neg_ℤ (file_start h)) x.instant).num (x.instant).den
+  pub instant : IsTrue (keeps_instant claim (later (neg_ℤ (file_start h)) x.instant).num (x.instant).den)
 
 -- the second sample is the first one at its instant moved by the claimed shift
 pub record IsShifted (claim : Terms) (x y : SampleValue) : Type 0 where
@@ -37,9 +36,16 @@ pub record SamplesAsKept (original export : List ℕ) (h g : Head) (claim : Term
 -- what the claim makes of the original's annotations: nothing of one that it doesn't keep; and each other one stays as it is, but for
 -- the text, which is `X` where the claim blanks it
 abbrev pub kept_of : Terms → List NoteValue → List NoteValue
-kept_of claim notes = map (λ note. record { onset = note.onset; duration = note.duration; text = kept_text claim note.text }) (filter (λ note. keeps_annotation claim note.onset note.text) notes)
+kept_of claim notes =
+    map (λ note. record { onset = note.onset; duration = note.duration; text = kept_text claim note.text })
+    (filter (λ note. keeps_annotation claim note.onset note.text) notes)
 
 -- the annotations of the export, whose header is g, with the shift taken off: their onsets count from the second at which the
 -- original starts, whose header is h
 abbrev pub unshifted : Head → Head → Terms → List NoteValue → List NoteValue
-unshifted h g claim notes = map (moved_by (file_start g -ℤ (file_start h +ℤ shift_ps claim))) notes
+unshifted h g claim notes =
+    map (λ note. record {
+      onset = (file_start g -ℤ (file_start h +ℤ shift_ps claim)) +ℤ note.onset;
+      duration = note.duration;
+      text = note.text;
+    }) notes

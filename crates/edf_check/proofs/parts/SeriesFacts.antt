@@ -5,7 +5,6 @@ use Rattle.std.proofs.lemmas.Int.{ints}
 use Rattle.std.specs.Option.{option_or}
 use Rattle.edf_claim.specs.Keeps.{keeps_instant}
 use Rattle.edf_claim.specs.Terms.{Terms}
-use Rattle.edf_claim.proofs.ForCallers.{instant_kept}
 use Rattle.edf_fields.specs.Lists.{Has}
 use Rattle.edf_fields.proofs.ForCallers.{has-at, has-map, filtered-has}
 use Rattle.edf_header.specs.Heads.{Head}
@@ -113,11 +112,11 @@ abbrev KeptUntil : List ℕ → Terms → ℤ → ℤ → Course
 KeptUntil original claim t u = KeptAt original (claim_within false t u claim)
 
 as-test : (claim : Terms) (t : Instant) (label : List ℕ) (v : ℤ) (original : List ℕ) → KeptAt original claim label t v → keeps_instant claim t.num t.den ≡ true
-as-test claim t label v original h = (instant_kept claim t.num t.den (keeps_instant claim t.num t.den) refl).1 h.1
+as-test claim t label v original h = h.1
 
 -- an instant that one claim keeps and the other as well
 kept-so : (original : List ℕ) (c d : Terms) (label : List ℕ) (t : Instant) (v : ℤ) → d.channels ≡ c.channels → keeps_instant d t.num t.den ≡ true → KeptAt original c label t v → KeptAt original d label t v
-kept-so original c d label t v same keeps h = (subst (λ (ls : List (List ℕ)). Has ls label) (sym same) h.0, (instant_kept d t.num t.den (keeps_instant d t.num t.den) refl).0 keeps, h.2)
+kept-so original c d label t v same keeps h = (subst (λ (ls : List (List ℕ)). Has ls label) (sym same) h.0, keeps, h.2)
 
 kept-cut : (original : List ℕ) (claim : Terms) (t u : ℤ) → t ≤ℤ u → IsCutAt (whole u) (KeptFrom original claim t) (KeptUntil original claim t u) (KeptFrom original claim u)
 kept-cut original claim t u l = record {
