@@ -1,4 +1,4 @@
--- The differences at the front of two stretches whose samples stand at the same instants: each of one and each of the other, or every second one of the denser.
+-- The differences at the front of two stretches, sample by sample, and of those whose samples stand at the same instants.
 use Rattle.std.proofs.Common.{◌≡◌, ℕ, zero, suc, ◌+◌, ◌-◌, ◌*◌, ◌^◌, ◌<◌, ◌≤◌, min, Bool, true, false, cond, not, int_lt, ℤ, pos, ◌+ℤ◌, ◌*ℤ◌, ◌<ℤ◌, ⊎_elim, List, [], ◌∷◌, ◌++◌, map, filter, length, Option, Some, None, refl, sym, ap, ◌∙◌, subst, arith, Fits, w64}
 use Rattle.std.specs.List.{range_with_len}
 use Rattle.std.specs.Ordering.{int_eq}
@@ -23,7 +23,7 @@ use Rattle.edf_samples.specs.declared.stretch.Stretch.{Stretch}
 use Rattle.edf_samples.specs.InstantOrder.{IsBefore}
 use Rattle.edf_samples.specs.Others.{ArePlaces, values_differ}
 use Rattle.edf_samples.specs.Differences.{instant}
-use Rattle.edf_samples.specs.Stretches.{are_on_half_grid, are_on_one_grid, is_twice_as_dense, points_behind, sample_at}
+use Rattle.edf_samples.specs.Stretches.{are_on_one_grid, points_behind, sample_at}
 use Rattle.edf_samples.specs.Tallies.{all_behind, all_changed, all_extra, all_missing, alone, change, counted, differences_of, each_is, first_of, is_changed, is_extra, is_missing, joined, last_of, of_kind, tally_of}
 use Rattle.edf_samples.proofs.FilterFacts.{by_test}
 use Rattle.edf_samples.proofs.FractionFacts.{before-not_before, before_below, before_over, false-is_before, same_above, same_back, same_below, true-is_before}
@@ -37,10 +37,10 @@ not-not : (b : Bool) → b ≡ not (not b)
 not-not true = refl
 not-not false = refl
 
-same-back : (v w : ℤ) → int_eq v w ≡ int_eq w v
-same-back v w = same_from_decides (int_eq v w) (int_eq w v) (Decides-int_eq v w) (λ t. sym ((Decides-int_eq w v).0 t), λ e. (Decides-int_eq w v).1 (sym e))
+pub same_back_value : (v w : ℤ) → int_eq v w ≡ int_eq w v
+same_back_value v w = same_from_decides (int_eq v w) (int_eq w v) (Decides-int_eq v w) (λ t. sym ((Decides-int_eq w v).0 t), λ e. (Decides-int_eq w v).1 (sym e))
 
-abbrev stands : Stretch → ℕ → Instant
+abbrev pub stands : Stretch → ℕ → Instant
 stands x i = instant x.den (sample_at x i)
 
 pair-behind : (x y : Stretch) (i j : ℕ) → 2 * i + 1 < length x.bytes.now → 2 * j + 1 < length y.bytes.now
@@ -50,9 +50,9 @@ pair-behind x y i j lx ly =
     ∙ ap (λ qs. differences_of x.den (sample_at x i ∷ points_behind x (i + 1)) y.den qs) (behind_step y j ly)
 
 -- those of two samples at one instant
-pair-step : (x y : Stretch) (i j : ℕ) → 2 * i + 1 < length x.bytes.now → 2 * j + 1 < length y.bytes.now → IsSame (stands x i) (stands y j)
+pub pair_step : (x y : Stretch) (i j : ℕ) → 2 * i + 1 < length x.bytes.now → 2 * j + 1 < length y.bytes.now → IsSame (stands x i) (stands y j)
     → all_behind x i y j ≡ cond (int_eq (digital_value x.bytes.now i) (digital_value y.bytes.now j)) [] (change x i y j ∷ []) ++ all_behind x (i + 1) y (j + 1)
-pair-step x y i j lx ly same =
+pair_step x y i j lx ly same =
     let e = false-is_before (stands x i) (stands y j) (same_above (stands x i) (stands y j) same) in
     let f = false-is_before (stands y j) (stands x i) (same_below (stands x i) (stands y j) same) in
     pair-behind x y i j lx ly
@@ -62,9 +62,9 @@ pair-step x y i j lx ly same =
     (λ h. behind-other x.den (sample_at x i) (points_behind x (i + 1)) y.den (sample_at y j) (points_behind y (j + 1)) e f h)
 
 -- a sample of one that is before what is left of the other
-missing-step : (x y : Stretch) (i j : ℕ) → 2 * i + 1 < length x.bytes.now → IsBefore (stands x i) (stands y j) → all_behind x i y j ≡ alone Missing x i ∷ all_behind x (i + 1) y j
+pub missing_step : (x y : Stretch) (i j : ℕ) → 2 * i + 1 < length x.bytes.now → IsBefore (stands x i) (stands y j) → all_behind x i y j ≡ alone Missing x i ∷ all_behind x (i + 1) y j
 unfolding differences_of
-missing-step x y i j lx before = ⊎_elim here ended (cases_lt (2 * j + 1) (length y.bytes.now))
+missing_step x y i j lx before = ⊎_elim here ended (cases_lt (2 * j + 1) (length y.bytes.now))
   where
     here : 2 * j + 1 < length y.bytes.now → all_behind x i y j ≡ alone Missing x i ∷ all_behind x (i + 1) y j
     here ly =
@@ -79,9 +79,9 @@ missing-step x y i j lx before = ⊎_elim here ended (cases_lt (2 * j + 1) (leng
         ∙ ap (λ ds. alone Missing x i ∷ ds) (sym (only-missing x.den (points_behind x (i + 1)) y.den))
         ∙ ap (λ qs. alone Missing x i ∷ differences_of x.den (points_behind x (i + 1)) y.den qs) (sym (behind-end y j le))
 
-extra-step : (x y : Stretch) (i j : ℕ) → 2 * j + 1 < length y.bytes.now → IsBefore (stands y j) (stands x i) → all_behind x i y j ≡ alone Extra y j ∷ all_behind x i y (j + 1)
+pub extra_step : (x y : Stretch) (i j : ℕ) → 2 * j + 1 < length y.bytes.now → IsBefore (stands y j) (stands x i) → all_behind x i y j ≡ alone Extra y j ∷ all_behind x i y (j + 1)
 unfolding differences_of
-extra-step x y i j ly before = ⊎_elim here ended (cases_lt (2 * i + 1) (length x.bytes.now))
+extra_step x y i j ly before = ⊎_elim here ended (cases_lt (2 * i + 1) (length x.bytes.now))
   where
     here : 2 * i + 1 < length x.bytes.now → all_behind x i y j ≡ alone Extra y j ∷ all_behind x i y (j + 1)
     here lx =
@@ -127,106 +127,13 @@ each-front x y same k (suc n) lx ly =
     let rest = each-front x y same (k + 1) n (omega (arith, lx)) (omega (arith, ly)) in
     let test = ap (λ j. int_eq (digital_value x.bytes.now j) (digital_value y.bytes.now k)) (sym (one-times k)) ∙ not-not (int_eq (digital_value x.bytes.now (1 * k)) (digital_value y.bytes.now k)) in
     let changes : List PointDifference = map (λ j. change x j y j) (filter (values_differ 1 x.bytes.now y.bytes.now) (range_with_len (k + 1) n)) in
-    pair-step x y k k (omega (arith, lx)) (omega (arith, ly)) (same k)
+    pair_step x y k k (omega (arith, lx)) (omega (arith, ly)) (same k)
     ∙ ap (λ b. cond b [] (change x k y k ∷ []) ++ all_behind x (k + 1) y (k + 1)) test
     ∙ ap (λ ds. cond (not (values_differ 1 x.bytes.now y.bytes.now k)) [] (change x k y k ∷ []) ++ ds) (rest ∙ ap (λ j. changes ++ all_behind x j y j) next)
     ∙ by_test (values_differ 1 x.bytes.now y.bytes.now k)
     (λ b. cond (not b) [] (change x k y k ∷ []) ++ (changes ++ all_behind x (k + suc n) y (k + suc n))
     ≡ map (λ j. change x j y j) (cond b (k ∷ filter (values_differ 1 x.bytes.now y.bytes.now) (range_with_len (k + 1) n)) (filter (values_differ 1 x.bytes.now y.bytes.now) (range_with_len (k + 1) n))) ++ all_behind x (k + suc n) y (k + suc n))
     (λ h. refl) (λ h. refl)
-
--- ---- every second one
-
--- samples of two values, and behind each of them or in its place one that only one file has
-abbrev mixed : (ℕ → Bool) → (ℕ → PointDifference) → (ℕ → PointDifference) → ℕ → ℕ → List PointDifference
-mixed test change gone k zero = []
-mixed test change gone k (suc n) = cond (test k) (change k ∷ []) [] ++ (gone k ∷ mixed test change gone (k + 1) n)
-
--- every second sample of the first stretch stands at the instant of one of the second, and the others before the next of them
-record Halves (x y : Stretch) : Type 0 where
-  same : (k : ℕ) → IsSame (stands x (2 * k)) (stands y k)
-  before : (k : ℕ) → IsBefore (stands x (2 * k + 1)) (stands y (k + 1))
-
-twice-on : (a d : ℤ) (k : ℕ) → a +ℤ pos (2 * k) *ℤ d ≡ a +ℤ pos k *ℤ (d +ℤ d)
-twice-on a d zero = none-on a d ∙ sym (none-on a (d +ℤ d))
-twice-on a d (suc k) =
-    let r = twice-on a d k in
-    let two : 2 * suc k ≡ suc (suc (2 * k)) = omega arith in
-    ap (λ j. a +ℤ pos j *ℤ d) two ∙ sym (one-on a d (suc (2 * k))) ∙ ap (λ z. z +ℤ d) (sym (one-on a d (2 * k)) ∙ ap (λ z. z +ℤ d) r)
-    ∙ sum-moved (a +ℤ pos k *ℤ (d +ℤ d)) d ∙ one-on a (d +ℤ d) k
-  where
-    sum-moved : (z d : ℤ) → (z +ℤ d) +ℤ d ≡ z +ℤ (d +ℤ d)
-    sum-moved z d = omega (arith, ints)
-
-more-on : (a d : ℤ) (k : ℕ) → pos 0 <ℤ d → (a +ℤ pos k *ℤ d) <ℤ (a +ℤ pos (suc k) *ℤ d)
-more-on a d k p = omega (arith, ints)
-
-halves : (x y : Stretch) → 0 < x.den → 0 < y.den → is_twice_as_dense x y ≡ true → Halves x y
-halves x y px py dense = record { same = same; before = before }
-  where
-    dense-parts : (int_lt (pos 0) x.step ≡ true) × (are_on_half_grid x y ≡ true)
-    dense-parts = and-true (int_lt (pos 0) x.step) (are_on_half_grid x y) dense
-
-    forward : pos 0 <ℤ x.step
-    forward = let h = dense-parts.0 in omega (arith, ints, h)
-
-    both : (int_eq (x.num *ℤ pos y.den) (y.num *ℤ pos x.den) ≡ true) × (int_eq ((x.step +ℤ x.step) *ℤ pos y.den) (y.step *ℤ pos x.den) ≡ true)
-    both = and-true (int_eq (x.num *ℤ pos y.den) (y.num *ℤ pos x.den)) (int_eq ((x.step +ℤ x.step) *ℤ pos y.den) (y.step *ℤ pos x.den)) dense-parts.1
-
-    same : (k : ℕ) → IsSame (stands x (2 * k)) (stands y k)
-    same k = ap (λ z. z *ℤ pos y.den) (twice-on x.num x.step k) ∙ steps-same x.den y.den x.num y.num (x.step +ℤ x.step) y.step ((Decides-int_eq (x.num *ℤ pos y.den) (y.num *ℤ pos x.den)).0 both.0) ((Decides-int_eq ((x.step +ℤ x.step) *ℤ pos y.den) (y.step *ℤ pos x.den)).0 both.1) k
-
-    before : (k : ℕ) → IsBefore (stands x (2 * k + 1)) (stands y (k + 1))
-    before k =
-        let next : suc (2 * k + 1) ≡ 2 * (k + 1) = omega arith in
-        let P : ℕ → Type 0 = λ j. (x.num +ℤ pos (2 * k + 1) *ℤ x.step) <ℤ (x.num +ℤ pos j *ℤ x.step) in
-        before-not_before (stands x (2 * k + 1)) (stands x (2 * (k + 1))) (stands y (k + 1)) py
-        (before_over (x.num +ℤ pos (2 * k + 1) *ℤ x.step) (x.num +ℤ pos (2 * (k + 1)) *ℤ x.step) x.den px (subst P next (more-on x.num x.step (2 * k + 1) forward)))
-        (same_below (stands x (2 * (k + 1))) (stands y (k + 1)) (same (k + 1)))
-
--- a pair of samples at one instant, one that stands alone behind it, and what is further behind
-mixed-step : (test : ℕ → Bool) (change gone : ℕ → PointDifference) (k n : ℕ) (b : Bool) (all rest end : List PointDifference) → b ≡ not (test k)
-    → all ≡ cond b [] (change k ∷ []) ++ (gone k ∷ rest) → rest ≡ mixed test change gone (k + 1) n ++ end → all ≡ mixed test change gone k (suc n) ++ end
-mixed-step test change gone k n b all rest end is front behind =
-    front ∙ ap (λ t. cond t [] (change k ∷ []) ++ (gone k ∷ rest)) is
-    ∙ ap (λ ds. cond (not (test k)) [] (change k ∷ []) ++ (gone k ∷ ds)) behind
-    ∙ by_test (test k)
-    (λ t. cond (not t) [] (change k ∷ []) ++ (gone k ∷ (mixed test change gone (k + 1) n ++ end)) ≡ (cond t (change k ∷ []) [] ++ (gone k ∷ mixed test change gone (k + 1) n)) ++ end)
-    (λ h. refl) (λ h. refl)
-
-halved-front : (x y : Stretch) → Halves x y → (k n : ℕ) → 2 * (2 * (k + n)) ≤ length x.bytes.now → 2 * (k + n) ≤ length y.bytes.now
-    → all_behind x (2 * k) y k ≡ mixed (values_differ 2 x.bytes.now y.bytes.now) (λ j. change x (2 * j) y j) (λ j. alone Missing x (1 + 2 * j)) k n ++ all_behind x (2 * (k + n)) y (k + n)
-halved-front x y h k zero lx ly = ap (λ j. all_behind x (2 * j) y j) (none-more k)
-halved-front x y h k (suc n) lx ly =
-    let next : k + 1 + n ≡ k + suc n = omega arith in
-    let twice : 2 * k + 1 + 1 ≡ 2 * (k + 1) = omega arith in
-    let turned : 2 * k + 1 ≡ 1 + 2 * k = omega arith in
-    mixed-step (values_differ 2 x.bytes.now y.bytes.now) (λ j. change x (2 * j) y j) (λ j. alone Missing x (1 + 2 * j)) k n
-    (int_eq (digital_value x.bytes.now (2 * k)) (digital_value y.bytes.now k)) (all_behind x (2 * k) y k) (all_behind x (2 * (k + 1)) y (k + 1)) (all_behind x (2 * (k + suc n)) y (k + suc n))
-    (not-not (int_eq (digital_value x.bytes.now (2 * k)) (digital_value y.bytes.now k)))
-    (pair-step x y (2 * k) k (omega (arith, lx)) (omega (arith, ly)) (h.same k)
-    ∙ ap (λ ds. cond (int_eq (digital_value x.bytes.now (2 * k)) (digital_value y.bytes.now k)) [] (change x (2 * k) y k ∷ []) ++ ds)
-    (missing-step x y (2 * k + 1) (k + 1) (omega (arith, lx)) (h.before k)
-    ∙ ap (λ j. alone Missing x j ∷ all_behind x (2 * k + 1 + 1) y (k + 1)) turned ∙ ap (λ j. alone Missing x (1 + 2 * k) ∷ all_behind x j y (k + 1)) twice))
-    (halved-front x y h (k + 1) n (omega (arith, lx)) (omega (arith, ly))
-    ∙ ap (λ j. mixed (values_differ 2 x.bytes.now y.bytes.now) (λ j. change x (2 * j) y j) (λ j. alone Missing x (1 + 2 * j)) (k + 1) n ++ all_behind x (2 * j) y j) next)
-
-doubled-front : (x y : Stretch) → Halves y x → (k n : ℕ) → 2 * (k + n) ≤ length x.bytes.now → 2 * (2 * (k + n)) ≤ length y.bytes.now
-    → all_behind x k y (2 * k) ≡ mixed (values_differ 2 y.bytes.now x.bytes.now) (λ j. change x j y (2 * j)) (λ j. alone Extra y (1 + 2 * j)) k n ++ all_behind x (k + n) y (2 * (k + n))
-doubled-front x y h k zero lx ly = ap (λ j. all_behind x j y (2 * j)) (none-more k)
-doubled-front x y h k (suc n) lx ly =
-    let next : k + 1 + n ≡ k + suc n = omega arith in
-    let twice : 2 * k + 1 + 1 ≡ 2 * (k + 1) = omega arith in
-    let turned : 2 * k + 1 ≡ 1 + 2 * k = omega arith in
-    mixed-step (values_differ 2 y.bytes.now x.bytes.now) (λ j. change x j y (2 * j)) (λ j. alone Extra y (1 + 2 * j)) k n
-    (int_eq (digital_value x.bytes.now k) (digital_value y.bytes.now (2 * k))) (all_behind x k y (2 * k)) (all_behind x (k + 1) y (2 * (k + 1))) (all_behind x (k + suc n) y (2 * (k + suc n)))
-    (same-back (digital_value x.bytes.now k) (digital_value y.bytes.now (2 * k)) ∙ not-not (int_eq (digital_value y.bytes.now (2 * k)) (digital_value x.bytes.now k)))
-    (pair-step x y k (2 * k) (omega (arith, lx)) (omega (arith, ly)) (same_back (stands y (2 * k)) (stands x k) (h.same k))
-    ∙ ap (λ ds. cond (int_eq (digital_value x.bytes.now k) (digital_value y.bytes.now (2 * k))) [] (change x k y (2 * k) ∷ []) ++ ds)
-    (extra-step x y (k + 1) (2 * k + 1) (omega (arith, ly)) (h.before k)
-    ∙ ap (λ j. alone Extra y j ∷ all_behind x (k + 1) y (2 * k + 1 + 1)) turned ∙ ap (λ j. alone Extra y (1 + 2 * k) ∷ all_behind x (k + 1) y j) twice))
-    (doubled-front x y h (k + 1) n (omega (arith, lx)) (omega (arith, ly))
-    ∙ ap (λ j. mixed (values_differ 2 y.bytes.now x.bytes.now) (λ j. change x j y (2 * j)) (λ j. alone Extra y (1 + 2 * j)) (k + 1) n ++ all_behind x j y (2 * j)) next)
 
 -- ---- what there is of each kind
 
@@ -243,56 +150,25 @@ pub tally_kinds : (ds ms es cs : List PointDifference) → of_kind is_missing ds
 unfolding tally_of
 tally_kinds ds ms es cs m e c = rw (m, e, c) refl
 
-first-counted : (ds : List PointDifference) → (counted ds).first ≡ first_of ds
+pub first_counted : (ds : List PointDifference) → (counted ds).first ≡ first_of ds
 unfolding counted
-first-counted ds = refl
+first_counted ds = refl
 
 missing-tally : {X : Type 0} (f : X → PointDifference) → ((v : X) → (f v).mismatch ≡ Missing) → (xs : List X) → tally_of (map f xs) ≡ all_missing (counted (map f xs))
 missing-tally {X} f is xs =
     tally_kinds (map f xs) (map f xs) [] [] (kind-all is_missing f (λ v. ap is_missing (is v)) xs) (kind-none is_extra f (λ v. ap is_extra (is v)) xs) (kind-none is_changed f (λ v. ap is_changed (is v)) xs)
-    ∙ ap (λ first. record { missing = counted (map f xs); extra = counted []; changed = counted []; first = first }) (sym (first-counted (map f xs)))
+    ∙ ap (λ first. record { missing = counted (map f xs); extra = counted []; changed = counted []; first = first }) (sym (first_counted (map f xs)))
 
 extra-tally : {X : Type 0} (f : X → PointDifference) → ((v : X) → (f v).mismatch ≡ Extra) → (xs : List X) → tally_of (map f xs) ≡ all_extra (counted (map f xs))
 extra-tally {X} f is xs =
     tally_kinds (map f xs) [] (map f xs) [] (kind-none is_missing f (λ v. ap is_missing (is v)) xs) (kind-all is_extra f (λ v. ap is_extra (is v)) xs) (kind-none is_changed f (λ v. ap is_changed (is v)) xs)
-    ∙ ap (λ first. record { missing = counted []; extra = counted (map f xs); changed = counted []; first = first }) (sym (first-counted (map f xs)))
+    ∙ ap (λ first. record { missing = counted []; extra = counted (map f xs); changed = counted []; first = first }) (sym (first_counted (map f xs)))
 
 changed-tally : (x y : Stretch) (i j : ℕ → ℕ) (ks : List ℕ) → tally_of (map (λ k. change x (i k) y (j k)) ks) ≡ all_changed (counted (map (λ k. change x (i k) y (j k)) ks))
 changed-tally x y i j ks =
     let f : ℕ → PointDifference = λ k. change x (i k) y (j k) in
     tally_kinds (map f ks) [] [] (map f ks) (kind-none is_missing f (λ k. refl) ks) (kind-none is_extra f (λ k. refl) ks) (kind-all is_changed f (λ k. refl) ks)
-    ∙ ap (λ first. record { missing = counted []; extra = counted []; changed = counted (map f ks); first = first }) (sym (first-counted (map f ks)))
-
-mixed-changes : (is : SampleMismatch → Bool) (test : ℕ → Bool) (change gone : ℕ → PointDifference) → ((k : ℕ) → is (change k).mismatch ≡ true) → ((k : ℕ) → is (gone k).mismatch ≡ false) → (k n : ℕ)
-    → of_kind is (mixed test change gone k n) ≡ map change (filter test (range_with_len k n))
-mixed-changes is test change gone holds fails k zero = refl
-mixed-changes is test change gone holds fails k (suc n) =
-    let r = mixed-changes is test change gone holds fails (k + 1) n in
-    by_test (test k) (λ b. of_kind is (cond b (change k ∷ []) [] ++ (gone k ∷ mixed test change gone (k + 1) n)) ≡ map change (cond b (k ∷ filter test (range_with_len (k + 1) n)) (filter test (range_with_len (k + 1) n))))
-    (λ h. rw (holds k, fails k) (ap (λ ds. change k ∷ ds) r)) (λ h. rw (fails k) r)
-
-mixed-gone : (is : SampleMismatch → Bool) (test : ℕ → Bool) (change gone : ℕ → PointDifference) → ((k : ℕ) → is (change k).mismatch ≡ false) → ((k : ℕ) → is (gone k).mismatch ≡ true) → (k n : ℕ)
-    → of_kind is (mixed test change gone k n) ≡ map gone (range_with_len k n)
-mixed-gone is test change gone fails holds k zero = refl
-mixed-gone is test change gone fails holds k (suc n) =
-    let r = mixed-gone is test change gone fails holds (k + 1) n in
-    by_test (test k) (λ b. of_kind is (cond b (change k ∷ []) [] ++ (gone k ∷ mixed test change gone (k + 1) n)) ≡ gone k ∷ map gone (range_with_len (k + 1) n))
-    (λ h. rw (fails k, holds k) (ap (λ ds. gone k ∷ ds) r)) (λ h. rw (holds k) (ap (λ ds. gone k ∷ ds) r))
-
-mixed-none : (is : SampleMismatch → Bool) (test : ℕ → Bool) (change gone : ℕ → PointDifference) → ((k : ℕ) → is (change k).mismatch ≡ false) → ((k : ℕ) → is (gone k).mismatch ≡ false) → (k n : ℕ)
-    → of_kind is (mixed test change gone k n) ≡ []
-mixed-none is test change gone fails also k zero = refl
-mixed-none is test change gone fails also k (suc n) =
-    let r = mixed-none is test change gone fails also (k + 1) n in
-    by_test (test k) (λ b. of_kind is (cond b (change k ∷ []) [] ++ (gone k ∷ mixed test change gone (k + 1) n)) ≡ [])
-    (λ h. rw (fails k, also k) r) (λ h. rw (also k) r)
-
-mixed-first : (test : ℕ → Bool) (change gone : ℕ → PointDifference) (n : ℕ)
-    → first_of (mixed test change gone 0 n) ≡ cond (test 0) (first_of (map change (filter test (range_with_len 0 n)))) (first_of (map gone (range_with_len 0 n)))
-mixed-first test change gone zero = by_test (test 0) (λ b. ◌≡◌ {A = Option PointDifference} None (cond b None None)) (λ h. refl) (λ h. refl)
-mixed-first test change gone (suc n) =
-    by_test (test 0) (λ b. first_of (cond b (change 0 ∷ []) [] ++ (gone 0 ∷ mixed test change gone 1 n)) ≡ cond b (first_of (map change (cond b (0 ∷ filter test (range_with_len 1 n)) (filter test (range_with_len 1 n))))) (Some (gone 0)))
-    (λ h. refl) (λ h. refl)
+    ∙ ap (λ first. record { missing = counted []; extra = counted []; changed = counted (map f ks); first = first }) (sym (first_counted (map f ks)))
 
 -- ---- what was counted at once
 
@@ -353,11 +229,11 @@ none_counted x y here there test n none =
     sym (ap (λ ks. counted (map (λ k. change x (here * k) y (there * k)) ks)) (passing-none test 0 n (λ j le lt. none j (omega (arith, lt)))))
 
 -- samples that stand alone, from a first one to a last one
-range-last : (f : ℕ → PointDifference) (a n : ℕ) → last_of (map f (range_with_len a (suc n))) ≡ Some (f (a + n))
-range-last f a zero = ap (λ k. Some (f k)) (none-more a)
-range-last f a (suc n) =
+pub range_last : (f : ℕ → PointDifference) (a n : ℕ) → last_of (map f (range_with_len a (suc n))) ≡ Some (f (a + n))
+range_last f a zero = ap (λ k. Some (f k)) (none-more a)
+range_last f a (suc n) =
     let next : a + 1 + n ≡ a + suc n = omega arith in
-    ap (λ o. option_or o (Some (f a))) (range-last f (a + 1) n ∙ ap (λ k. Some (f k)) next)
+    ap (λ o. option_or o (Some (f a))) (range_last f (a + 1) n ∙ ap (λ k. Some (f k)) next)
 
 pub range_counted : (mismatch : SampleMismatch) (x : Stretch) (p : Places) (one last : PointDifference) (place : ℕ → ℕ) → Fits w64 p.count → 0 < p.count → one ≡ alone mismatch x p.first → last ≡ alone mismatch x p.last
     → p.first ≡ place 0 → p.last ≡ place (p.count - 1) → record { count = p.count; first = Some one; last = Some last } ≡ counted (map (λ k. alone mismatch x (place k)) (range_with_len 0 p.count))
@@ -375,7 +251,7 @@ range_counted mismatch x p one last place fits some is end f l = from p.count fi
         kind_same (record { count = suc n; first = Some one; last = Some last }) (counted (map g (range_with_len 0 (suc n))))
         (at-most (suc n) (2 ^ 64 - 1) (omega (arith, fits)) ∙ ap (λ k. min k (2 ^ 64 - 1)) (sym (length-map (range_with_len 0 (suc n)) g ∙ length-range_with_len 0 (suc n))))
         (ap Some (is ∙ ap (alone mismatch x) f))
-        (ap Some (end ∙ ap g less) ∙ sym (range-last g 0 n))
+        (ap Some (end ∙ ap g less) ∙ sym (range_last g 0 n))
 
 -- what is left of a stretch behind a place
 rest-range : (mismatch : SampleMismatch) (x : Stretch) (from a n : ℕ) → 2 * (from + (a + n)) ≤ length x.bytes.now → length x.bytes.now ≤ 2 * (from + (a + n)) + 1
@@ -405,9 +281,9 @@ pub rest_extra : (x : Stretch) (k : ℕ) → all_extra (counted (each_is Extra x
 rest_extra x k = sym (extra-tally (λ (p : Point). record { at = instant x.den p; mismatch = Extra }) (λ p. refl) (points_behind x k))
 
 -- a front was counted, and the rest is behind it
-front-counted : (a b t : Tally) (ds : List PointDifference) (x y : Stretch) (i j : ℕ) → b ≡ joined a t → t ≡ tally_of ds → all_behind x 0 y 0 ≡ ds ++ all_behind x i y j
+pub front_counted : (a b t : Tally) (ds : List PointDifference) (x y : Stretch) (i j : ℕ) → b ≡ joined a t → t ≡ tally_of ds → all_behind x 0 y 0 ≡ ds ++ all_behind x i y j
     → joined b (tally_of (all_behind x i y j)) ≡ joined a (tally_of (all_behind x 0 y 0))
-front-counted a b t ds x y i j more is front =
+front_counted a b t ds x y i j more is front =
     ap (λ c. joined c (tally_of (all_behind x i y j))) (more ∙ ap (joined a) is) ∙ joined_twice a ds (all_behind x i y j) ∙ ap (λ es. joined a (tally_of es)) (sym front)
 
 pub each_counted : (a b t : Tally) (c : Counted) (x y : Stretch) (n : ℕ) → are_on_one_grid x y ≡ true → 2 * n ≤ length x.bytes.now → 2 * n ≤ length y.bytes.now
@@ -417,54 +293,8 @@ each_counted a b t c x y n grid lx ly counts is more =
     let ks = filter (values_differ 1 x.bytes.now y.bytes.now) (range_with_len 0 n) in
     let ds : List PointDifference = map (λ k. change x k y k) ks in
     let same : map (λ k. change x (1 * k) y (1 * k)) ks ≡ ds = map-same (λ k. change x (1 * k) y (1 * k)) (λ k. change x k y k) (λ k. ap (λ j. change x j y j) (one-times k)) ks in
-    front-counted a b t ds x y n n more
+    front_counted a b t ds x y n n more
     (is ∙ ap all_changed (counts ∙ ap counted same) ∙ sym (changed-tally x y (λ k. k) (λ k. k) ks))
     (let e : 0 + n ≡ n = omega arith in
     each-front x y (grid-same x y grid) 0 n (omega (arith, lx)) (omega (arith, ly))
     ∙ ap (λ j. ds ++ all_behind x j y j) e)
-
-pub halved_counted : (a b t : Tally) (c m : Counted) (x y : Stretch) (n : ℕ) → 0 < x.den → 0 < y.den → is_twice_as_dense x y ≡ true
-    → 2 * (2 * n) ≤ length x.bytes.now → 2 * n ≤ length y.bytes.now
-    → c ≡ counted (map (λ k. change x (2 * k) y (1 * k)) (filter (values_differ 2 x.bytes.now y.bytes.now) (range_with_len 0 n)))
-    → m ≡ counted (map (λ k. alone Missing x (1 + 2 * k)) (range_with_len 0 n))
-    → t ≡ record { missing = m; extra = counted []; changed = c; first = cond (values_differ 2 x.bytes.now y.bytes.now 0) c.first m.first } → b ≡ joined a t
-    → joined b (tally_of (all_behind x (2 * n) y n)) ≡ joined a (tally_of (all_behind x 0 y 0))
-halved_counted a b t c m x y n px py dense lx ly changes gone is more =
-    let test = values_differ 2 x.bytes.now y.bytes.now in
-    let f : ℕ → PointDifference = λ k. change x (2 * k) y k in
-    let g : ℕ → PointDifference = λ k. alone Missing x (1 + 2 * k) in
-    let ks = filter test (range_with_len 0 n) in
-    let same : map (λ k. change x (2 * k) y (1 * k)) ks ≡ map f ks = map-same (λ k. change x (2 * k) y (1 * k)) f (λ k. ap (λ j. change x (2 * k) y j) (one-times k)) ks in
-    front-counted a b t (mixed test f g 0 n) x y (2 * n) n more
-    (is ∙ ap (λ e. record { missing = m; extra = counted []; changed = e; first = cond (test 0) e.first m.first }) (changes ∙ ap counted same)
-    ∙ ap (λ e. record { missing = e; extra = counted []; changed = counted (map f ks); first = cond (test 0) (counted (map f ks)).first e.first }) gone
-    ∙ ap (λ o. record { missing = counted (map g (range_with_len 0 n)); extra = counted []; changed = counted (map f ks); first = o })
-    (ap (λ o. cond (test 0) o (counted (map g (range_with_len 0 n))).first) (first-counted (map f ks)) ∙ ap (λ o. cond (test 0) (first_of (map f ks)) o) (first-counted (map g (range_with_len 0 n))) ∙ sym (mixed-first test f g n))
-    ∙ sym (tally_kinds (mixed test f g 0 n) (map g (range_with_len 0 n)) [] (map f ks)
-    (mixed-gone is_missing test f g (λ k. refl) (λ k. refl) 0 n) (mixed-none is_extra test f g (λ k. refl) (λ k. refl) 0 n) (mixed-changes is_changed test f g (λ k. refl) (λ k. refl) 0 n)))
-    (let e : 0 + n ≡ n = omega arith in
-    halved-front x y (halves x y px py dense) 0 n (omega (arith, lx)) (omega (arith, ly))
-    ∙ ap (λ j. mixed test f g 0 n ++ all_behind x (2 * j) y j) e)
-
-pub doubled_counted : (a b t : Tally) (c m : Counted) (x y : Stretch) (n : ℕ) → 0 < x.den → 0 < y.den → is_twice_as_dense y x ≡ true
-    → 2 * n ≤ length x.bytes.now → 2 * (2 * n) ≤ length y.bytes.now
-    → c ≡ counted (map (λ k. change x (1 * k) y (2 * k)) (filter (values_differ 2 y.bytes.now x.bytes.now) (range_with_len 0 n)))
-    → m ≡ counted (map (λ k. alone Extra y (1 + 2 * k)) (range_with_len 0 n))
-    → t ≡ record { missing = counted []; extra = m; changed = c; first = cond (values_differ 2 y.bytes.now x.bytes.now 0) c.first m.first } → b ≡ joined a t
-    → joined b (tally_of (all_behind x n y (2 * n))) ≡ joined a (tally_of (all_behind x 0 y 0))
-doubled_counted a b t c m x y n px py dense lx ly changes gone is more =
-    let test = values_differ 2 y.bytes.now x.bytes.now in
-    let f : ℕ → PointDifference = λ k. change x k y (2 * k) in
-    let g : ℕ → PointDifference = λ k. alone Extra y (1 + 2 * k) in
-    let ks = filter test (range_with_len 0 n) in
-    let same : map (λ k. change x (1 * k) y (2 * k)) ks ≡ map f ks = map-same (λ k. change x (1 * k) y (2 * k)) f (λ k. ap (λ j. change x j y (2 * k)) (one-times k)) ks in
-    front-counted a b t (mixed test f g 0 n) x y n (2 * n) more
-    (is ∙ ap (λ e. record { missing = counted []; extra = m; changed = e; first = cond (test 0) e.first m.first }) (changes ∙ ap counted same)
-    ∙ ap (λ e. record { missing = counted []; extra = e; changed = counted (map f ks); first = cond (test 0) (counted (map f ks)).first e.first }) gone
-    ∙ ap (λ o. record { missing = counted []; extra = counted (map g (range_with_len 0 n)); changed = counted (map f ks); first = o })
-    (ap (λ o. cond (test 0) o (counted (map g (range_with_len 0 n))).first) (first-counted (map f ks)) ∙ ap (λ o. cond (test 0) (first_of (map f ks)) o) (first-counted (map g (range_with_len 0 n))) ∙ sym (mixed-first test f g n))
-    ∙ sym (tally_kinds (mixed test f g 0 n) [] (map g (range_with_len 0 n)) (map f ks)
-    (mixed-none is_missing test f g (λ k. refl) (λ k. refl) 0 n) (mixed-gone is_extra test f g (λ k. refl) (λ k. refl) 0 n) (mixed-changes is_changed test f g (λ k. refl) (λ k. refl) 0 n)))
-    (let e : 0 + n ≡ n = omega arith in
-    doubled-front x y (halves y x py px dense) 0 n (omega (arith, lx)) (omega (arith, ly))
-    ∙ ap (λ j. mixed test f g 0 n ++ all_behind x j y (2 * j)) e)

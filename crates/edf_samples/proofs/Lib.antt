@@ -11,4 +11,6 @@ pub mod BlockFacts
 pub mod PlaceCountFacts
 pub mod ValueFacts
 pub mod FrontFacts
+pub mod StrideFacts
+pub mod NumberFacts
 pub mod HeadFacts

@@ -226,14 +226,14 @@ all-count n s a t (x ∷ y ∷ rest) p le =
     let e : is_before (record { num = a; den = n }) (whole t) ≡ true = true-is_before (record { num = a; den = n }) (whole t) (omega (arith, ints)) in
     rw e (ap suc (all-count n s (a +ℤ pos s) t rest p (omega (arith, ints))))
 
-step-is : (d : ℤ) → pos 0 <ℤ d → d ≡ pos (unsigned_abs d)
-step-is d p = omega (arith, ints)
+pub step_is : (d : ℤ) → pos 0 <ℤ d → d ≡ pos (unsigned_abs d)
+step_is d p = omega (arith, ints)
 
 pub count-all : (n c : ℕ) (a d t gap : ℤ) (bytes : List ℕ) → pos 0 <ℤ d → gap ≡ t *ℤ pos n -ℤ a → (pos c *ℤ d) ≤ℤ gap → 2 * c ≤ length bytes → length bytes ≤ 2 * c + 1
     → front_count n (stretch_points a d bytes) (whole t) ≡ c
 count-all n c a d t gap bytes p e l within all =
     let s = unsigned_abs d in
-    let f : d ≡ pos s = step-is d p in
+    let f : d ≡ pos s = step_is d p in
     let size : length (stretch_points a (pos s) bytes) ≡ c = points-length c a (pos s) bytes within all in
     let product : pos c *ℤ pos s ≡ pos (c * s) = omega (arith, ints) in
     let reach : pos (c * s) ≤ℤ gap = (let P : ℤ → Type 0 = λ z. (pos c *ℤ z) ≤ℤ gap in let Q : ℤ → Type 0 = λ z. z ≤ℤ gap in subst Q product (subst P f l)) in
@@ -249,7 +249,7 @@ count-some n c q a d t gap bytes p e g le low high within all =
     let l = low.1 in
     let k : gap ≡ pos (unsigned_abs gap) = omega (arith, ints) in
     let size : length (stretch_points a (pos s) bytes) ≡ c = points-length c a (pos s) bytes within all in
-    ap (λ z. front_count n (stretch_points a z bytes) (whole t)) (step-is d p)
+    ap (λ z. front_count n (stretch_points a z bytes) (whole t)) (step_is d p)
     ∙ steps-count q n s a t bytes (λ r. omega (arith, ints)) (omega (arith, ints)) ∙ ap (min q) size ∙ omega (arith, le)
 
 -- where the steps to the last place reach a gap, no more of them stay below it than there are places
@@ -259,7 +259,7 @@ steps-within c q d gap p g low reach =
     let l = low.1 in
     let first = low.0 in
     let product : pos c *ℤ pos s ≡ pos (c * s) = omega (arith, ints) in
-    let far : gap <ℤ pos (c * s) = (let P : ℤ → Type 0 = λ z. gap <ℤ (pos c *ℤ z) in let Q : ℤ → Type 0 = λ z. gap <ℤ z in subst Q product (subst P (step-is d p) reach)) in
+    let far : gap <ℤ pos (c * s) = (let P : ℤ → Type 0 = λ z. gap <ℤ (pos c *ℤ z) in let Q : ℤ → Type 0 = λ z. gap <ℤ z in subst Q product (subst P (step_is d p) reach)) in
     let h : (q - 1) * s < c * s = omega (arith, ints) in
     let k : q - 1 < c = lt_of_mul-lt-mul_right s h in
     omega (arith, first, k)

@@ -37,9 +37,9 @@ first-append : (xs ys : List PointDifference) → first_of (xs ++ ys) ≡ option
 first-append [] ys = refl
 first-append (x ∷ xs) ys = refl
 
-last-append : (xs ys : List PointDifference) → last_of (xs ++ ys) ≡ option_or (last_of ys) (last_of xs)
-last-append [] ys = sym (or_nothing (last_of ys))
-last-append (x ∷ xs) ys = ap (λ o. option_or o (Some x)) (last-append xs ys) ∙ or_or (last_of ys) (last_of xs) (Some x)
+pub last_append : (xs ys : List PointDifference) → last_of (xs ++ ys) ≡ option_or (last_of ys) (last_of xs)
+last_append [] ys = sym (or_nothing (last_of ys))
+last_append (x ∷ xs) ys = ap (λ o. option_or o (Some x)) (last_append xs ys) ∙ or_or (last_of ys) (last_of xs) (Some x)
 
 pub kind_same : (a b : Counted) → a.count ≡ b.count → a.first ≡ b.first → a.last ≡ b.last → a ≡ b
 kind_same a b c f l =
@@ -69,7 +69,7 @@ kind-twice a xs ys =
     kind_same (joined_kind (joined_kind a (counted xs)) (counted ys)) (joined_kind a (counted (xs ++ ys)))
     (count-append a.count xs ys)
     (or_or a.first (first_of xs) (first_of ys) ∙ ap (option_or a.first) (sym (first-append xs ys)))
-    (sym (or_or (last_of ys) (last_of xs) a.last) ∙ ap (λ o. option_or o a.last) (sym (last-append xs ys)))
+    (sym (or_or (last_of ys) (last_of xs) a.last) ∙ ap (λ o. option_or o a.last) (sym (last_append xs ys)))
 
 kind-parts : (is : SampleMismatch → Bool) (a : Counted) (xs ys : List PointDifference) → joined_kind (joined_kind a (counted (of_kind is xs))) (counted (of_kind is ys)) ≡ joined_kind a (counted (of_kind is (xs ++ ys)))
 kind-parts is a xs ys =

@@ -43,9 +43,9 @@ filter-same : (p q : ℕ → Bool) → ((k : ℕ) → p k ≡ q k) → (ks : Lis
 filter-same p q same [] = refl
 filter-same p q same (k ∷ ks) = rw (same k, filter-same p q same ks) refl
 
-others-same : (p q : ℕ → Bool) → ((k : ℕ) → p k ≡ q k) → (n : ℕ) (places : Option Places) → AreOthers p n places → AreOthers q n places
-others-same p q same n None h = λ k lt. sym (same k) ∙ h k lt
-others-same p q same n (Some x) h = record {
+pub others_same : (p q : ℕ → Bool) → ((k : ℕ) → p k ≡ q k) → (n : ℕ) (places : Option Places) → AreOthers p n places → AreOthers q n places
+others_same p q same n None h = λ k lt. sym (same k) ∙ h k lt
+others_same p q same n (Some x) h = record {
   count_is = h.count_is ∙ ap length (filter-same p q same (range_with_len 0 n));
   first_passes = sym (same x.first) ∙ h.first_passes;
   none_before = λ k lt. sym (same k) ∙ h.none_before k lt;
@@ -55,4 +55,4 @@ others-same p q same n (Some x) h = record {
 }
 
 pub others_of_values : (s : ℕ) (xs ys : List ℕ) (n : ℕ) (places : Option Places) → AreBytes xs → AreBytes ys → AreOthers (differs s xs ys) n places → AreOthers (values_differ s xs ys) n places
-others_of_values s xs ys n places fx fy h = others-same (differs s xs ys) (values_differ s xs ys) (value-differs s xs ys fx fy) n places h
+others_of_values s xs ys n places fx fy h = others_same (differs s xs ys) (values_differ s xs ys) (value-differs s xs ys fx fy) n places h

@@ -4,5 +4,6 @@ pub mod InstantOrder
 pub mod Differences
 pub mod Stretches
 pub mod Shares
+pub mod Strides
 pub mod Others
 pub mod Tallies

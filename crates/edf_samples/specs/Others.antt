@@ -14,6 +14,10 @@ differs stride long short k =
 abbrev pub values_differ : ℕ → List ℕ → List ℕ → ℕ → Bool
 values_differ stride long short k = not (int_eq (digital_value long (stride * k)) (digital_value short k))
 
+-- the value at place p k of the first list differs from that at place q k of the second
+abbrev pub values_differ_at : ℕ → ℕ → List ℕ → List ℕ → ℕ → Bool
+values_differ_at p q first second k = not (int_eq (digital_value first (p * k)) (digital_value second (q * k)))
+
 -- of the numbers below n these pass a test: so many, this one first, and this one last
 pub record ArePlaces (test : ℕ → Bool) (n : ℕ) (places : Places) : Type 0 where
   pub count_is : places.count ≡ length (filter test (range_with_len 0 n))

@@ -1,6 +1,6 @@
 -- Samples of a channel at even distances, as a lane holds them, what of two lanes is alike, and lists of samples that are cut at a time.
 -- EDF (1992), "Data record".
-use Rattle.std.specs.Prelude.{ℕ, suc, ◌+◌, ◌*◌, ◌<◌, ◌≤◌, ◌^◌, ℤ, pos, ◌+ℤ◌, ◌*ℤ◌, ◌<ℤ◌, unsigned_abs, List, [], ◌∷◌, Option, length, drop, Bool, ◌&&◌, if◌then◌else◌, ◌≡◌, ◌≢◌, slice_index, not, filter, int_lt}
+use Rattle.std.specs.Prelude.{ℕ, suc, ◌+◌, ◌*◌, ◌<◌, ◌≤◌, ◌^◌, ℤ, pos, ◌+ℤ◌, ◌*ℤ◌, ◌<ℤ◌, unsigned_abs, List, [], ◌∷◌, Option, length, drop, Bool, ◌&&◌, if◌then◌else◌, ◌≡◌, ◌≢◌, slice_index, not, filter}
 use Rattle.edf_samples.specs.Words.{int_eq, Instant, PointDifference, Point}
 use Rattle.edf_stream.specs.samples.Values.{digital, digital_value}
 use Rattle.edf_samples.specs.declared.counts.head.Head.{Head}
@@ -47,14 +47,6 @@ IsPart s = (unsigned_abs s.num < 3 * 2 ^ 102 + 2 ^ 93) × (unsigned_abs s.step <
 -- the samples stand at the same instants, one by one: the first ones do, and the distances are the same
 abbrev pub are_on_one_grid : Stretch → Stretch → Bool
 are_on_one_grid x y = int_eq (x.num *ℤ pos y.den) (y.num *ℤ pos x.den) && int_eq (x.step *ℤ pos y.den) (y.step *ℤ pos x.den)
-
--- each second sample of the first stretch stands at the instant of a sample of the second, one by one
-abbrev pub are_on_half_grid : Stretch → Stretch → Bool
-are_on_half_grid x y = int_eq (x.num *ℤ pos y.den) (y.num *ℤ pos x.den) && int_eq ((x.step +ℤ x.step) *ℤ pos y.den) (y.step *ℤ pos x.den)
-
--- and the samples between these stand between them
-abbrev pub is_twice_as_dense : Stretch → Stretch → Bool
-is_twice_as_dense x y = int_lt (pos 0) x.step && are_on_half_grid x y
 
 -- how many samples from the front are before t
 abbrev pub front_count : ℕ → List Point → Instant → ℕ

@@ -5,5 +5,7 @@ pub mod count;
 pub mod counted;
 pub mod front;
 pub mod head;
+pub mod numbers;
 pub mod places;
+pub mod strides;
 pub mod tally;

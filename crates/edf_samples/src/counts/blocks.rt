@@ -71,7 +71,7 @@ fn with_block(places: Option<Places>, number: usize, others: u64) -> Option<Plac
 }
 
 /// Those of the values before a number that differ, and the one of this number, if it does.
-fn with_one(places: Option<Places>, number: usize, differs: bool) -> Option<Places>
+pub(crate) fn with_one(places: Option<Places>, number: usize, differs: bool) -> Option<Places>
     requires { number < 2 ^ 62 }
     ensures { (differ : ℕ → Bool) → differs ≡ differ number → AreOthers differ number places →
         AreOthers differ (number + 1) result }

@@ -1,17 +1,22 @@
 //! The front of two stretches whose samples stand at the same instants: its differences are counted at once.
 
-ghost use Rattle.std.specs.Prelude.{◌≡◌, ◌<◌, ◌≤◌, ◌+◌, ◌-◌, ◌*◌, ◌^◌, ℕ, Bool, true, pos, ◌+ℤ◌, unsigned_abs, int_lt, IfSome, if◌then◌else◌, length, map, filter};
+ghost use Rattle.std.specs.Prelude.{◌≡◌, ◌<◌, ◌≤◌, ◌+◌, ◌-◌, ◌*◌, ◌^◌, ℕ, Bool, true, not, pos, ◌*ℤ◌, nat_lt, IfSome, if◌then◌else◌, length, map, filter};
 ghost use Rattle.std.specs.List.{range_with_len};
-ghost use Rattle.edf_samples.specs.Others.{AreOthers, values_differ};
-ghost use Rattle.edf_samples.specs.Stretches.{IsPart, are_on_half_grid, are_on_one_grid, is_twice_as_dense as is_twice_as_dense_stretch};
+ghost use Rattle.std.specs.Ordering.{int_eq};
+ghost use Rattle.edf_stream.specs.samples.Values.{digital_value};
+ghost use Rattle.edf_samples.specs.Others.{AreOthers};
+ghost use Rattle.edf_samples.specs.Stretches.{IsPart, are_on_one_grid};
+ghost use Rattle.edf_samples.specs.Strides.{AreStrides, between};
 ghost use Rattle.edf_samples.specs.Tallies.{alone, change, counted, each_is, with_rest};
 
 use crate::counts::blocks::numbers_of;
 use crate::counts::counted::Counted;
+use crate::counts::numbers::{numbers_at, whole_strides};
 use crate::counts::places::Places;
+use crate::counts::strides::{Strides, strides_of};
 use crate::counts::tally::Tally;
 use crate::difference::PointDifference;
-use crate::stretch::{Stretch, count_in, instant_at, is_one_grid, is_same};
+use crate::stretch::{Stretch, count_in, instant_at, is_one_grid};
 use edf_stream::value_at;
 use edf_verdict::SampleMismatch;
 
@@ -64,20 +69,24 @@ pub(crate) fn alone_behind(x: Stretch, from: usize, mismatch: SampleMismatch) ->
     alone_among(x, places, mismatch)
 }
 
-/// Every second one of the first few samples of a stretch, twice as many as these, from the second on.
+/// The samples of so many strides of a stretch, but for the first one of each.
 #[inline(always)]
-fn alone_between(x: Stretch, count: usize, mismatch: SampleMismatch) -> Counted
+#[tactic(auto, using(crate::proofs::StrideFacts::stride_alone, crate::proofs::StrideFacts::stride_counted))]
+fn alone_between(x: Stretch, stride: usize, count: usize, mismatch: SampleMismatch) -> Counted
     requires x { IsPart x }
+    requires stride { 0 < stride }
     requires some { 0 < count }
-    requires count { 2 * (2 * count) ≤ length x.bytes.now }
-    ensures { result ≡ counted (map (λ k. alone mismatch x.entry (1 + 2 * k)) (range_with_len 0 count)) }
+    requires count { 2 * (stride * count) ≤ length x.bytes.now }
+    ensures { result ≡ counted (map (alone mismatch x.entry) (between stride 0 count)) }
 {
-    let places = Places {
-        count,
-        first: 1,
-        last: 2 * count - 1,
-    };
-    alone_among(x, places, mismatch)
+    if stride == 1 {
+        return Counted::none();
+    }
+    Counted {
+        count: ((stride - 1) * count) as u64,
+        first: Some(alone_at(x, 1, mismatch)),
+        last: Some(alone_at(x, stride * count - 1, mismatch)),
+    }
 }
 
 /// Two samples at one instant that have two values.
@@ -117,56 +126,38 @@ fn changes_at(x: Stretch, here: usize, y: Stretch, there: usize, numbers: Option
     }
 }
 
-/// How far the second sample behind another stands from it, times the denominator.
-fn two_steps(x: Stretch) -> i128
-    requires x { IsPart x }
-    ensures value { result ≡ x.entry.step +ℤ x.entry.step }
-    ensures small { unsigned_abs result < 2 ^ 104 }
-{
-    x.step + x.step
-}
-
-/// Whether each second sample of the first stretch stands at the instant of a sample of the second, one by one.
-fn is_half_grid(x: Stretch, y: Stretch) -> bool
-    requires x { IsPart x }
-    requires y { IsPart y }
-    ensures { result ≡ are_on_half_grid x.entry y.entry }
-{
-    is_same(x.num, x.den, y.num, y.den) && is_same(two_steps(x), x.den, y.step, y.den)
-}
-
-/// Whether a number is above 0.
-fn is_positive(number: i128) -> bool
-    ensures { result ≡ int_lt (pos 0) number }
-{
-    number > 0
-}
-
-/// Whether the first stretch has a sample at the instant of each of the second, and one more behind each of these.
-fn is_twice_as_dense(x: Stretch, y: Stretch) -> bool
-    requires x { IsPart x }
-    requires y { IsPart y }
-    ensures { result ≡ is_twice_as_dense_stretch x.entry y.entry }
-{
-    is_positive(x.step) && is_half_grid(x, y)
-}
-
 /// Whether the first samples of two lanes have two values.
-fn begin_apart(long: &[u8], short: &[u8]) -> bool
-    requires long { 1 < length long.now }
-    requires short { 1 < length short.now }
-    ensures { result ≡ values_differ 2 long.now short.now 0 }
+fn begin_apart(old: &[u8], new: &[u8]) -> bool
+    requires old { 1 < length old.now }
+    requires new { 1 < length new.now }
+    ensures { result ≡ not (int_eq (digital_value old.now 0) (digital_value new.now 0)) }
 {
-    value_at(long, 0) != value_at(short, 0)
+    value_at(old, 0) != value_at(new, 0)
 }
 
-/// The first difference of samples that are compared, and of others, each of which stands behind one of these: that of the
-/// first two samples, if they have two values, else the first of the others.
+/// The first of those that one file has alone: a sample of the one that has more of them in a stride.
 #[inline(always)]
-fn first_of_both(differ: bool, changed: Counted, between: Counted) -> Option<PointDifference>
-    ensures { result ≡ if differ then changed.first else between.first }
+fn first_alone(strides: Strides, missing: Counted, extra: Counted) -> Option<PointDifference>
+    ensures { result ≡ if nat_lt strides.there strides.here then missing.first else extra.first }
 {
-    if differ { changed.first } else { between.first }
+    if strides.there < strides.here {
+        missing.first
+    } else {
+        extra.first
+    }
+}
+
+/// The first difference: that of the first two samples, if they have two values, else the first of those behind them that one
+/// file has alone.
+#[inline(always)]
+fn first_of_both(
+    differ: bool,
+    changed: Counted,
+    alone: Option<PointDifference>,
+) -> Option<PointDifference>
+    ensures { result ≡ if differ then changed.first else alone }
+{
+    if differ { changed.first } else { alone }
 }
 
 /// Counts the differences of as many samples of two stretches as both have, each of which stands at the instant of the
@@ -186,62 +177,39 @@ fn count_each(x: Stretch, y: Stretch, tally: &mut Tally) -> (usize, usize)
     (count, count)
 }
 
-/// The same, where each second sample of the first stretch is missing in the other.
-fn count_halved(x: Stretch, y: Stretch, tally: &mut Tally) -> (usize, usize)
+/// The same of as many whole strides as both have, where both have other rates: what lies between two common instants one of
+/// them has alone.
+fn count_strided(x: Stretch, y: Stretch, strides: Strides, tally: &mut Tally) -> (usize, usize)
     requires x { IsPart x }
     requires y { IsPart y }
-    requires dense { is_twice_as_dense_stretch x y ≡ true }
+    requires start { x.num *ℤ pos y.den ≡ y.num *ℤ pos x.den }
+    requires strides { AreStrides x y strides }
     ensures x_within { 2 * result.0 ≤ length x.entry.bytes.now }
     ensures y_within { 2 * result.1 ≤ length y.entry.bytes.now }
     ensures value { with_rest tally.new x.entry result.0 y.entry result.1 ≡
         with_rest tally.old x.entry 0 y.entry 0 }
 {
-    let count = (count_in(x.bytes) / 2).min(count_in(y.bytes));
+    let count = whole_strides(count_in(x.bytes), count_in(y.bytes), strides);
     if count == 0 {
         return (0, 0);
     }
-    let numbers = numbers_of::<2>(x.bytes, y.bytes, count);
-    let changed = changes_at(x, 2, y, 1, numbers);
-    let missing = alone_between(x, count, SampleMismatch::Missing);
+    let numbers = numbers_at(x.bytes, y.bytes, strides, count);
+    let changed = changes_at(x, strides.here, y, strides.there, numbers);
+    let missing = alone_between(x, strides.here, count, SampleMismatch::Missing);
+    let extra = alone_between(y, strides.there, count, SampleMismatch::Extra);
     let differ = begin_apart(x.bytes, y.bytes);
+    let alone = first_alone(strides, missing, extra);
     tally.add(Tally {
         missing,
-        extra: Counted::none(),
-        changed,
-        first: first_of_both(differ, changed, missing),
-    });
-    (2 * count, count)
-}
-
-/// The same, where each second sample of the second stretch is extra.
-fn count_doubled(x: Stretch, y: Stretch, tally: &mut Tally) -> (usize, usize)
-    requires x { IsPart x }
-    requires y { IsPart y }
-    requires dense { is_twice_as_dense_stretch y x ≡ true }
-    ensures x_within { 2 * result.0 ≤ length x.entry.bytes.now }
-    ensures y_within { 2 * result.1 ≤ length y.entry.bytes.now }
-    ensures value { with_rest tally.new x.entry result.0 y.entry result.1 ≡
-        with_rest tally.old x.entry 0 y.entry 0 }
-{
-    let count = count_in(x.bytes).min(count_in(y.bytes) / 2);
-    if count == 0 {
-        return (0, 0);
-    }
-    let numbers = numbers_of::<2>(y.bytes, x.bytes, count);
-    let changed = changes_at(x, 1, y, 2, numbers);
-    let extra = alone_between(y, count, SampleMismatch::Extra);
-    let differ = begin_apart(y.bytes, x.bytes);
-    tally.add(Tally {
-        missing: Counted::none(),
         extra,
         changed,
-        first: first_of_both(differ, changed, extra),
+        first: first_of_both(differ, changed, alone),
     });
-    (count, 2 * count)
+    (strides.here * count, strides.there * count)
 }
 
-/// Counts the differences at the front of two stretches at once, where the samples of both stand at the same instants, or
-/// those of one at every second one of the other. It answers how many samples of each are done with: elsewhere none.
+/// Counts the differences at the front of two stretches at once, where both begin at one instant and have one rate, or rates
+/// of which one data record has a whole number of strides. It answers how many samples of each are done with: elsewhere none.
 pub(crate) fn count_front(x: Stretch, y: Stretch, tally: &mut Tally) -> (usize, usize)
     requires x { IsPart x }
     requires y { IsPart y }
@@ -251,12 +219,10 @@ pub(crate) fn count_front(x: Stretch, y: Stretch, tally: &mut Tally) -> (usize, 
         with_rest tally.old x.entry 0 y.entry 0 }
 {
     if is_one_grid(x, y) {
-        count_each(x, y, tally)
-    } else if is_twice_as_dense(x, y) {
-        count_halved(x, y, tally)
-    } else if is_twice_as_dense(y, x) {
-        count_doubled(x, y, tally)
-    } else {
-        (0, 0)
+        return count_each(x, y, tally);
+    }
+    match strides_of(x, y) {
+        Some(strides) => count_strided(x, y, strides, tally),
+        None => (0, 0),
     }
 }

@@ -1,0 +1,61 @@
+use Rattle.std.proofs.Common.{◌≡◌, ◌*◌, ◌<◌, ◌≤◌, ◌∙◌, cond, nat_lt, not, length, arith, sym, ap, Option}
+use Rattle.std.specs.Ordering.{int_eq}
+use Rattle.edf_stream.specs.samples.Values.{digital_value}
+use Rattle.edf_samples.specs.declared.counts.places.Places.{Places}
+use Rattle.edf_samples.specs.declared.counts.tally.Tally.{Tally}
+use Rattle.edf_samples.specs.declared.difference.PointDifference.{PointDifference}
+use Rattle.edf_samples.specs.Others.{values_differ_at}
+use Rattle.edf_samples.proofs.NumberFacts.{some_within}
+use Rattle.edf_samples.proofs.StrideFacts.{begins_apart, strided_counted}
+use Rattle.edf_samples.proofs.counts.front.count_strided.Goals as goal
+
+pub changes_at-changed-requires-clause-first_here : goal.changes_at-changed-requires-clause-first_here
+changes_at-changed-requires-clause-first_here c =
+    let within = c.count_in.ensures.within in
+    let here = c.whole_strides-count.ensures.here in
+    some_within c.numbers_at-numbers.result (λ (p : Places). p.first) c.args.strides.here c.whole_strides-count.result (length c.args.x.bytes.now) c.requires.strides.some_here (omega (arith, within, here)) c.numbers_at-numbers.ensures.first
+
+pub changes_at-changed-requires-clause-last_here : goal.changes_at-changed-requires-clause-last_here
+changes_at-changed-requires-clause-last_here c =
+    let within = c.count_in.ensures.within in
+    let here = c.whole_strides-count.ensures.here in
+    some_within c.numbers_at-numbers.result (λ (p : Places). p.last) c.args.strides.here c.whole_strides-count.result (length c.args.x.bytes.now) c.requires.strides.some_here (omega (arith, within, here)) c.numbers_at-numbers.ensures.last
+
+pub changes_at-changed-requires-clause-first_there : goal.changes_at-changed-requires-clause-first_there
+changes_at-changed-requires-clause-first_there c =
+    let within = c.count_in-2.ensures.within in
+    let there = c.whole_strides-count.ensures.there in
+    some_within c.numbers_at-numbers.result (λ (p : Places). p.first) c.args.strides.there c.whole_strides-count.result (length c.args.y.bytes.now) c.requires.strides.some_there (omega (arith, within, there)) c.numbers_at-numbers.ensures.first
+
+pub changes_at-changed-requires-clause-last_there : goal.changes_at-changed-requires-clause-last_there
+changes_at-changed-requires-clause-last_there c =
+    let within = c.count_in-2.ensures.within in
+    let there = c.whole_strides-count.ensures.there in
+    some_within c.numbers_at-numbers.result (λ (p : Places). p.last) c.args.strides.there c.whole_strides-count.result (length c.args.y.bytes.now) c.requires.strides.some_there (omega (arith, within, there)) c.numbers_at-numbers.ensures.last
+
+pub returns-clause-value : goal.returns-clause-value
+returns-clause-value c =
+    let x = c.args.x in
+    let y = c.args.y in
+    let p = c.args.strides.here in
+    let q = c.args.strides.there in
+    let n = c.whole_strides-count.result in
+    let none = c.if-count-eq0.false in
+    let some : 0 < n = omega (arith, none) in
+    let fit-x = c.count_in.ensures.within in
+    let fit-y = c.count_in-2.ensures.within in
+    let here = c.whole_strides-count.ensures.here in
+    let there = c.whole_strides-count.ensures.there in
+    let lx : 2 * (p * n) ≤ length x.bytes.now = omega (arith, fit-x, here) in
+    let ly : 2 * (q * n) ≤ length y.bytes.now = omega (arith, fit-y, there) in
+    let px : 0 < x.den = omega (arith, c.requires.x) in
+    let py : 0 < y.den = omega (arith, c.requires.y) in
+    let changed = c.changes_at-changed.result in
+    let missing = c.alone_between-missing.result in
+    let extra = c.alone_between-extra.result in
+    let test = values_differ_at p q x.bytes.now y.bytes.now in
+    let made : Option PointDifference → Tally = λ first. record { missing = missing; extra = extra; changed = changed; first = first } in
+    strided_counted c.args.tally.now c.add.new.self (made c.first_of_both.result) changed missing extra x y p q n px py c.requires.start c.requires.strides some lx ly
+    (c.changes_at-changed.ensures test n c.numbers_at-numbers.ensures.value) c.alone_between-missing.ensures c.alone_between-extra.ensures
+    (ap made (c.first_of_both.ensures ∙ ap (λ b. cond b changed.first c.first_alone-alone.result) (c.begin_apart-differ.ensures ∙ begins_apart p q x.bytes.now y.bytes.now)
+    ∙ ap (λ o. cond (test 0) changed.first o) c.first_alone-alone.ensures)) c.add.ensures
