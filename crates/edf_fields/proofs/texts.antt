@@ -1,6 +1,7 @@
 pub mod DateFacts
 pub mod DigitFacts
 pub mod DotFacts
+pub mod FieldNumberFacts
 pub mod FrontFacts
 pub mod IdentificationFacts
 pub mod NumberFacts

@@ -9,8 +9,7 @@ use Rattle.std.proofs.lemmas.Int.{ints}
 use Rattle.std.proofs.lemmas.List.{length-take, length-drop}
 use Rattle.std.proofs.lemmas.Slice.Eq.{bytes_eq-Decides}
 use Rattle.edf_fields.specs.Parts.{text_of}
-use Rattle.edf_fields.specs.texts.Numbers.{SpellsWholeNumber}
-use Rattle.edf_fields.specs.texts.NumbersReading.{whole_number_of}
+use Rattle.edf_fields.specs.texts.NumbersReading.{whole_number_of, SpellsWholeNumber}
 use Rattle.edf_fields.specs.texts.Dates.{NamesDashedDay}
 use Rattle.edf_fields.specs.texts.DatesReading.{clock_time_of}
 use Rattle.edf_fields.specs.texts.Printable.{IsPrintable}

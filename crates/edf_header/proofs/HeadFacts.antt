@@ -3,8 +3,7 @@ use Rattle.std.proofs.Common.{◌≡◌, ℕ, zero, suc, ℤ, pos, ◌+◌, ◌*
 use Rattle.std.specs.Str.{bytes_eq}
 use Rattle.std.proofs.lemmas.Slice.Eq.{bytes_eq-Decides}
 use Rattle.edf_fields.specs.Parts.{text_of, part}
-use Rattle.edf_fields.specs.texts.Numbers.{SpellsWholeNumber, SpellsHeaderNumber}
-use Rattle.edf_fields.specs.texts.NumbersReading.{whole_number_of, header_number_of}
+use Rattle.edf_fields.specs.texts.NumbersReading.{whole_number_of, header_number_of, SpellsHeaderNumber, SpellsWholeNumber}
 use Rattle.edf_fields.specs.texts.Dates.{CivilDay, NamesClockTime}
 use Rattle.edf_fields.specs.texts.DatesReading.{clock_time_of}
 use Rattle.edf_fields.specs.texts.Identifications.{Patient, Recording}

@@ -5,7 +5,7 @@ use Rattle.jiff.specs.Types.{Date}
 use Rattle.jiff.specs.Words.{epoch_day}
 use Rattle.jiff_core.specs.Calendar.{days_from_civil}
 use Rattle.edf_fields.specs.Parts.{text_of}
-use Rattle.edf_fields.specs.texts.Numbers.{SpellsWholeNumber, SpellsHeaderNumber}
+use Rattle.edf_fields.specs.texts.NumbersReading.{SpellsHeaderNumber, SpellsWholeNumber}
 use Rattle.edf_fields.specs.texts.Dates.{CivilDay, civil_day, NamesDottedDay, NamesDayMonth, NamesDashedDay, NamesClockTime}
 use Rattle.edf_fields.specs.texts.Identifications.{Patient, Recording, SaysPatient, SaysRecording}
 use Rattle.edf_header.specs.declared.kind.Kind.{Kind}

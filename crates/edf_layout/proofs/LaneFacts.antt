@@ -5,7 +5,8 @@ use Rattle.edf_fields.specs.texts.Onsets.{SpellsOnset}
 use Rattle.edf_header.specs.Heads.{SignalHead, Head, is_annotations}
 use Rattle.edf_header.proofs.ForCallers.{one_head}
 use Rattle.edf_stream.specs.annotation.Notes.{AreLanesOf}
-use Rattle.edf_tal.specs.Tals.{TalValue, SpellsDuration, IsLaneOf, are_zeros, ended}
+use Rattle.edf_tal.specs.Tals.{TalValue, SpellsDuration, IsLaneOf}
+use Rattle.edf_tal.specs.Reading.{ended, are_zeros}
 use Rattle.edf_stream.specs.Conforming.{Conforms}
 use Rattle.edf_stream.specs.records.Records.{lane_at, lane_of, record_at, annotation_lanes}
 use Rattle.edf_layout.specs.BodyLaws.{AreBytes, HaveSameSamples, HaveSameAnnotationLanes}

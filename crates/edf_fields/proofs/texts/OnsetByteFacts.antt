@@ -1,18 +1,17 @@
 -- Which bytes stand in a text that spells an onset or a duration.
-use Rattle.std.proofs.Common.{◌≡◌, ℕ, ℤ, Bool, true, zero, suc, ◌<◌, ◌≤◌, List, [], ◌∷◌, length, drop, slice_index, arith, refl, Some, nat_eq, ◌||◌}
+use Rattle.std.proofs.Common.{◌≡◌, ℕ, ℤ, Bool, true, zero, suc, ◌<◌, ◌≤◌, List, [], ◌∷◌, length, drop, slice_index, arith, refl, Some, nat_eq, ◌||◌, ◌==◌}
 use Rattle.std.specs.List.{list_all}
 use Rattle.std.proofs.lemmas.Bool.Decides.{nat_tests}
 use Rattle.std.proofs.lemmas.Grind.{common_steps}
-use Rattle.edf_fields.specs.texts.Numbers.{is_dot, before_dot, behind_dot}
+use Rattle.edf_fields.specs.texts.Numbers.{before_dot, behind_dot, has_sign}
 use Rattle.edf_fields.specs.texts.NumbersReading.{is_digit}
-use Rattle.edf_fields.specs.texts.Onsets.{has_sign}
 use Rattle.edf_fields.specs.texts.OnsetsReading.{onset_of, span_of}
 use Rattle.edf_fields.proofs.texts.NumberFacts.{digits_tested}
 use Rattle.edf_fields.proofs.texts.OnsetFacts.{and_true, onset_of_some, span_of_some}
 
 -- the byte is a digit or a dot
 abbrev pub is_time_byte : ℕ → Bool
-is_time_byte b = is_digit b || is_dot b
+is_time_byte b = is_digit b || (b == 46)
 
 -- the byte is a digit, a dot or a sign
 abbrev pub is_onset_byte : ℕ → Bool

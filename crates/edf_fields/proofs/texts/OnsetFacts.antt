@@ -1,14 +1,14 @@
 -- The time of a text, as a relation and as a function.
-use Rattle.std.proofs.Common.{◌≡◌, ℕ, ℤ, Bool, true, false, not, [], ◌∷◌, ◌^◌, ◌*◌, ◌-◌, ◌<◌, ◌≤◌, ◌≤ℤ◌, ◌<ℤ◌, lit<, List, length, drop, arith, refl, ap, ◌∙◌, sym, Option, Some, None, MatchOption, nat_le, nat_lt, ◌&&◌, ◌||◌, cond, pos, unsigned_abs, subst}
-use Rattle.std.specs.List.{list_all}
+use Rattle.std.proofs.Common.{◌≡◌, ℕ, ℤ, Bool, true, false, not, [], ◌∷◌, ◌^◌, ◌*◌, ◌-◌, ◌<◌, ◌≤◌, ◌≤ℤ◌, ◌<ℤ◌, lit<, List, length, drop, arith, refl, ap, ◌∙◌, sym, Option, Some, None, MatchOption, nat_le, nat_lt, ◌&&◌, ◌||◌, cond, pos, unsigned_abs, subst, ◌==◌}
+use Rattle.std.specs.List.{list_all, list_any}
 use Rattle.std.proofs.lemmas.Bool.Decides.{nat_tests}
 use Rattle.std.proofs.lemmas.Grind.{common_steps}
 use Rattle.std.proofs.lemmas.Int.{ints}
 use Rattle.std.proofs.Math.Nat.{pow-le-pow_right}
-use Rattle.edf_fields.specs.texts.Numbers.{AreDigits, weight, signed, has_minus, before_dot, behind_dot}
+use Rattle.edf_fields.specs.texts.Numbers.{AreDigits, weight, signed, has_minus, before_dot, behind_dot, has_sign}
 use Rattle.edf_fields.specs.texts.NumbersReading.{is_digit}
-use Rattle.edf_fields.specs.texts.Onsets.{without_leading_zeros, without_trailing_zeros, has_dot, has_sign, AreSeconds, IsFraction, IsTime, time_of, SpellsOnset, SpellsSpan}
-use Rattle.edf_fields.specs.texts.OnsetsReading.{are_seconds, is_fraction, is_time, onset_of, span_of, OnsetIsSpelled, SpanIsSpelled}
+use Rattle.edf_fields.specs.texts.Onsets.{without_leading_zeros, without_trailing_zeros, IsTime, time_of, SpellsOnset}
+use Rattle.edf_fields.specs.texts.OnsetsReading.{are_seconds, is_fraction, is_time, onset_of, span_of, OnsetIsSpelled, SpanIsSpelled, AreSeconds, IsFraction, SpellsSpan}
 use Rattle.edf_fields.proofs.texts.DigitFacts.{below_power}
 use Rattle.edf_fields.proofs.texts.NumberFacts.{digits_tested, tested_digits}
 use Rattle.edf_fields.proofs.texts.ZeroFacts.{leading_digits, digits_leading, trailing_digits, digits_trailing, fraction_under}
@@ -29,7 +29,7 @@ pub fraction_read : (f : List ℕ) → AreDigits (without_trailing_zeros f) → 
 fraction_read f h few = (digits_trailing f h, few)
 
 -- a dot stands in a text that goes on behind what stands before the dot
-pub dot_stands : (u : List ℕ) → has_dot u ≡ nat_lt (length (before_dot u)) (length u)
+pub dot_stands : (u : List ℕ) → list_any (λ b. b == 46) u ≡ nat_lt (length (before_dot u)) (length u)
 dot_stands [] = refl
 dot_stands (c ∷ cs) = grind (arith, nat_tests, common_steps, dot_stands cs)
 
@@ -64,22 +64,22 @@ true_unless false b h e = absurd (cc)
 -- a time, as a relation and as a test
 time_tested : (u : List ℕ) → IsTime u → is_time u ≡ true
 time_tested u h =
-    both (are_seconds (before_dot u)) (is_fraction (behind_dot u) && (not (has_dot u) || nat_lt 0 (length (behind_dot u))))
+    both (are_seconds (before_dot u)) (is_fraction (behind_dot u) && (not (list_any (λ b. b == 46) u) || nat_lt 0 (length (behind_dot u))))
     (both (list_all is_digit (before_dot u)) _ (digits_tested _ h.0.0) (both _ _ (lt_true 0 (length (before_dot u)) h.0.1) (le_true _ _ h.0.2)))
-    (both (is_fraction (behind_dot u)) (not (has_dot u) || nat_lt 0 (length (behind_dot u)))
+    (both (is_fraction (behind_dot u)) (not (list_any (λ b. b == 46) u) || nat_lt 0 (length (behind_dot u)))
     (both (list_all is_digit (behind_dot u)) _ (digits_tested _ h.1.0) (le_true _ _ h.1.1))
-    (unless_true (has_dot u) _ (λ dot. lt_true 0 (length (behind_dot u)) (h.2 dot))))
+    (unless_true (list_any (λ b. b == 46) u) _ (λ dot. lt_true 0 (length (behind_dot u)) (h.2 dot))))
 
 tested_time : (u : List ℕ) → is_time u ≡ true → IsTime u
 tested_time u h =
-    let outer = and_true (are_seconds (before_dot u)) (is_fraction (behind_dot u) && (not (has_dot u) || nat_lt 0 (length (behind_dot u)))) h in
+    let outer = and_true (are_seconds (before_dot u)) (is_fraction (behind_dot u) && (not (list_any (λ b. b == 46) u) || nat_lt 0 (length (behind_dot u)))) h in
     let seconds = and_true (list_all is_digit (before_dot u)) (nat_lt 0 (length (before_dot u)) && nat_le (length (without_leading_zeros (before_dot u))) 9) outer.0 in
     let count = and_true (nat_lt 0 (length (before_dot u))) (nat_le (length (without_leading_zeros (before_dot u))) 9) seconds.1 in
-    let inner = and_true (is_fraction (behind_dot u)) (not (has_dot u) || nat_lt 0 (length (behind_dot u))) outer.1 in
+    let inner = and_true (is_fraction (behind_dot u)) (not (list_any (λ b. b == 46) u) || nat_lt 0 (length (behind_dot u))) outer.1 in
     let fraction = and_true (list_all is_digit (behind_dot u)) (nat_le (length (without_trailing_zeros (behind_dot u))) 12) inner.0 in (
       (tested_digits _ seconds.0, true_lt _ _ count.0, true_le _ _ count.1),
       (tested_digits _ fraction.0, true_le _ _ fraction.1),
-      λ dot. true_lt 0 (length (behind_dot u)) (true_unless (has_dot u) (nat_lt 0 (length (behind_dot u))) inner.1 dot),
+      λ dot. true_lt 0 (length (behind_dot u)) (true_unless (list_any (λ b. b == 46) u) (nat_lt 0 (length (behind_dot u))) inner.1 dot),
     )
 
 -- from the relations to the functions

@@ -1,13 +1,25 @@
 -- Onsets and durations, as they are read.
-use Rattle.std.specs.Prelude.{◌≡◌, ◌<◌, ◌≤◌, slice_index, ℕ, ℤ, Bool, not, Option, Some, None, nat_le, nat_lt, ◌&&◌, ◌||◌, pos, List, length, drop, if◌then◌else◌, ◌↔◌}
-use Rattle.std.specs.List.{list_all}
-use Rattle.edf_fields.specs.texts.Numbers.{before_dot, behind_dot, has_minus, signed}
+use Rattle.std.specs.Prelude.{◌≡◌, ◌<◌, ◌≤◌, slice_index, ℕ, ℤ, Bool, not, ◌==◌, Option, Some, None, nat_le, nat_lt, ◌&&◌, ◌||◌, pos, List, length, drop, if◌then◌else◌, ◌↔◌}
+use Rattle.std.specs.List.{list_all, list_any}
+use Rattle.edf_fields.specs.texts.Numbers.{AreDigits, before_dot, behind_dot, has_minus, has_sign, signed}
 use Rattle.edf_fields.specs.texts.NumbersReading.{is_digit}
-use Rattle.edf_fields.specs.texts.Onsets.{without_leading_zeros, without_trailing_zeros, has_dot, has_sign, time_of, SpellsOnset, SpellsSpan}
+use Rattle.edf_fields.specs.texts.Onsets.{without_leading_zeros, without_trailing_zeros, IsTime, time_of, SpellsOnset}
+
+-- the text is a time with no sign, and has this value in picoseconds
+abbrev pub SpellsSpan : List ℕ → ℤ → Type 0
+SpellsSpan t v = IsTime t × (v ≡ pos (time_of t))
 
 -- the first n bytes are digits
 abbrev pub AreDigitsBefore : ℕ → List ℕ → Type 0
 AreDigitsBefore n u = (k : ℕ) → k < n → (48 ≤ slice_index u k) × (slice_index u k ≤ 57)
+
+-- at least one digit, and at most 9 of them without the zeros in front
+abbrev pub AreSeconds : List ℕ → Type 0
+AreSeconds w = AreDigits w × (0 < length w) × (length (without_leading_zeros w) ≤ 9)
+
+-- digits, at most 12 of them without the zeros at their end
+abbrev pub IsFraction : List ℕ → Type 0
+IsFraction f = AreDigits f × (length (without_trailing_zeros f) ≤ 12)
 
 -- `AreSeconds` as a test
 abbrev pub are_seconds : List ℕ → Bool
@@ -21,7 +33,7 @@ is_fraction f = list_all is_digit f && nat_le (length (without_trailing_zeros f)
 abbrev pub is_time : List ℕ → Bool
 is_time u =
     are_seconds (before_dot u)
-    && (is_fraction (behind_dot u) && (not (has_dot u) || nat_lt 0 (length (behind_dot u))))
+    && (is_fraction (behind_dot u) && (not (list_any (λ b. b == 46) u) || nat_lt 0 (length (behind_dot u))))
 
 -- the onset that a text spells by `SpellsOnset`, or none
 unfoldable pub onset_of : List ℕ → Option ℤ

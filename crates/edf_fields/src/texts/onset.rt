@@ -4,9 +4,9 @@
 //! 'EDF Annotations' signal"). Zeros in front of the seconds and at the end of the fraction don't
 //! count; that 9 digits of seconds and 12 of the fraction may be left is this project's profile.
 ghost use Rattle.std.specs.Prelude.{◌≡◌, ℤ, ◌+◌, ◌-◌, ◌*◌, ◌≤◌, ◌<◌, ◌≤ℤ◌, ◌^◌, pos, drop, length, take, IsTrue, MatchOption, IfSome, unsigned_abs};
-ghost use Rattle.edf_fields.specs.texts.Numbers.{weight, has_minus, signed};
-ghost use Rattle.edf_fields.specs.texts.Onsets.{without_leading_zeros, without_trailing_zeros, has_dot, has_sign, AreSeconds, IsFraction, IsTime, time_of, SpellsOnset, SpellsSpan};
-ghost use Rattle.edf_fields.specs.texts.OnsetsReading.{AreDigitsBefore, onset_of, span_of};
+ghost use Rattle.edf_fields.specs.texts.Numbers.{weight, has_minus, signed, has_sign};
+ghost use Rattle.edf_fields.specs.texts.Onsets.{without_leading_zeros, without_trailing_zeros, IsTime, time_of, SpellsOnset};
+ghost use Rattle.edf_fields.specs.texts.OnsetsReading.{AreDigitsBefore, onset_of, span_of, AreSeconds, IsFraction, SpellsSpan};
 
 use crate::texts::number::{digits, split_dot};
 

@@ -4,7 +4,7 @@ use Rattle.std.proofs.lemmas.Bool.Decides.{nat_tests}
 use Rattle.std.proofs.lemmas.Int.{ints}
 use Rattle.std.proofs.lemmas.List.{append-nil}
 use Rattle.edf_fields.specs.Parts.{text_of}
-use Rattle.edf_fields.specs.texts.Numbers.{SpellsHeaderNumber}
+use Rattle.edf_fields.specs.texts.NumbersReading.{SpellsHeaderNumber}
 use Rattle.edf_fields.specs.texts.Subfields.{HasSubfields}
 use Rattle.edf_fields.specs.declared.faults.fault.Place.{Place}
 use Rattle.edf_fields.specs.declared.faults.fault.Place.TheVariants.{AtField, AtSignal}

@@ -5,8 +5,9 @@ use Rattle.std.specs.Str.{bytes_eq}
 use Rattle.std.proofs.lemmas.Bool.Decides.{nat_tests}
 use Rattle.std.proofs.lemmas.Int.{ints}
 use Rattle.edf_fields.specs.Parts.{text_of}
-use Rattle.edf_fields.specs.texts.Numbers.{AreDigits, weight, has_minus, unsigned, signed, is_dot, before_dot, behind_dot, decimal, SpellsHeaderNumber}
-use Rattle.edf_fields.specs.texts.Onsets.{is_zero, without_leading_zeros, has_sign, time_of, IsTime}
+use Rattle.edf_fields.specs.texts.Numbers.{AreDigits, weight, has_minus, unsigned, signed, before_dot, behind_dot, decimal, has_sign}
+use Rattle.edf_fields.specs.texts.NumbersReading.{SpellsHeaderNumber}
+use Rattle.edf_fields.specs.texts.Onsets.{without_leading_zeros, time_of, IsTime}
 use Rattle.edf_layout.specs.PlainNumbers.{is_plain_unsigned}
 use Rattle.edf_layout.specs.PlainLaws.{is_plain_onset, OnePlainHeaderNumber, OnePlainWholeNumber, OnePlainOnset, OnePlainSpan}
 use Rattle.edf_layout.proofs.DigitFacts.{digits-tail, digit-head}
@@ -23,7 +24,7 @@ unsigned-short t = sides (has_minus t || (slice_index t 0 == 43)) t
     sides false t = omega arith
 
 behind-short : (u : List ℕ) → length (behind_dot u) ≤ length u - 1
-behind-short u = let a = length-drop (position_or_len is_dot u + 1) u in omega (arith, a)
+behind-short u = let a = length-drop (position_or_len (λ b. b == 46) u + 1) u in omega (arith, a)
 
 header-fits : (field : List ℕ) (v : ℤ) → SpellsHeaderNumber field v → Fits (unsigned (text_of field)) 7
 header-fits field v h =
@@ -40,21 +41,21 @@ one_plain_header_number field other v h g p q =
 
 -- ---- whole numbers
 
-digit-no-dot : (c : ℕ) → (48 ≤ c) × (c ≤ 57) → is_dot c ≡ false
+digit-no-dot : (c : ℕ) → (48 ≤ c) × (c ≤ 57) → (c == 46) ≡ false
 digit-no-dot c h = grind (arith, nat_tests, h.0)
 
 no-dot : (u : List ℕ) → AreDigits u → (before_dot u ≡ u) × (behind_dot u ≡ [])
 no-dot [] h = (refl, refl)
 no-dot (c ∷ cs) h =
-    let none : is_dot c ≡ false = digit-no-dot c (digit-head c cs h) in
+    let none : (c == 46) ≡ false = digit-no-dot c (digit-head c cs h) in
     let rest = no-dot cs (digits-tail c cs h) in
     (before-more c cs none ∙ ap (λ r. c ∷ r) rest.0, behind-more c cs none ∙ rest.1)
   where
-    before-more : (c : ℕ) (cs : List ℕ) → is_dot c ≡ false → before_dot (c ∷ cs) ≡ c ∷ before_dot cs
-    before-more c cs h = rw h (ap (λ n. take n (c ∷ cs)) (let e : 1 + position_or_len is_dot cs ≡ suc (position_or_len is_dot cs) = omega arith in e))
+    before-more : (c : ℕ) (cs : List ℕ) → (c == 46) ≡ false → before_dot (c ∷ cs) ≡ c ∷ before_dot cs
+    before-more c cs h = rw h (ap (λ n. take n (c ∷ cs)) (let e : 1 + position_or_len (λ b. b == 46) cs ≡ suc (position_or_len (λ b. b == 46) cs) = omega arith in e))
 
-    behind-more : (c : ℕ) (cs : List ℕ) → is_dot c ≡ false → behind_dot (c ∷ cs) ≡ behind_dot cs
-    behind-more c cs h = rw h (ap (λ n. drop n (c ∷ cs)) (let e : 1 + position_or_len is_dot cs + 1 ≡ suc (position_or_len is_dot cs + 1) = omega arith in e))
+    behind-more : (c : ℕ) (cs : List ℕ) → (c == 46) ≡ false → behind_dot (c ∷ cs) ≡ behind_dot cs
+    behind-more c cs h = rw h (ap (λ n. drop n (c ∷ cs)) (let e : 1 + position_or_len (λ b. b == 46) cs + 1 ≡ suc (position_or_len (λ b. b == 46) cs + 1) = omega arith in e))
 
 whole-fits : (u : List ℕ) → AreDigits u → Fits u 0
 whole-fits u h =
@@ -83,12 +84,12 @@ bool-cases : (b : Bool) → (b ≡ true) ⊎ (b ≡ false)
 bool-cases true = inl refl
 bool-cases false = inr refl
 
-is-48 : (c : ℕ) → is_zero c ≡ true → c ≡ 48
+is-48 : (c : ℕ) → (c == 48) ≡ true → c ≡ 48
 is-48 c h = grind (arith, nat_tests)
 
 led : (w : List ℕ) → weight (without_leading_zeros w) ≡ weight w
 led [] = refl
-led (c ∷ cs) = elim (bool-cases (is_zero c)) [
+led (c ∷ cs) = elim (bool-cases (c == 48)) [
   | inl nought ↦
       let rest = led cs in
       let is : c ≡ 48 = is-48 c nought in
