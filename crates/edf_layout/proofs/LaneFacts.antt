@@ -8,7 +8,8 @@ use Rattle.edf_stream.specs.annotation.Notes.{AreLanesOf}
 use Rattle.edf_tal.specs.Tals.{TalValue, SpellsDuration, IsLaneOf}
 use Rattle.edf_tal.specs.Reading.{ended, are_zeros}
 use Rattle.edf_stream.specs.Conforming.{Conforms}
-use Rattle.edf_stream.specs.records.Records.{lane_at, lane_of, record_at, annotation_lanes}
+use Rattle.edf_stream.specs.records.Records.{lane_of, record_at, annotation_lanes}
+use Rattle.edf_stream.specs.records.RecordsReading.{lane_at}
 use Rattle.edf_layout.specs.BodyLaws.{AreBytes, HaveSameSamples, HaveSameAnnotationLanes}
 use Rattle.edf_layout.specs.HeadLaws.{SayTheSame, header_of}
 use Rattle.edf_layout.specs.HeadLayouts.{head_layout_of}

@@ -3,8 +3,7 @@ use Rattle.std.proofs.Common.{◌≡◌, ◌⊎◌, inl, inr, ℕ, ℤ, zero, su
 use Rattle.std.specs.List.{slice_split, onto_first, list_all, position_or_len}
 use Rattle.std.proofs.lemmas.Bool.Decides.{nat_tests}
 use Rattle.edf_fields.specs.Parts.{text_of}
-use Rattle.edf_fields.specs.texts.Numbers.{AreDigits, IsDecimal, has_minus, unsigned, before_dot, behind_dot}
-use Rattle.edf_fields.specs.texts.NumbersReading.{SpellsHeaderNumber, SpellsWholeNumber}
+use Rattle.edf_fields.specs.texts.Numbers.{AreDigits, IsDecimal, has_minus, unsigned, before_dot, behind_dot, SpellsWhole, SpellsDecimal}
 use Rattle.edf_fields.specs.texts.Printable.{IsPrintable}
 use Rattle.edf_layout.specs.Spaces.{is_other, spaces_of}
 use Rattle.edf_layout.proofs.CutLineFacts.{High, Shown, sum}
@@ -70,13 +69,13 @@ high-decimal-text (c ∷ cs) h k = elim (bool-cases (c == 46)) [
     behind-more : (c : ℕ) (cs : List ℕ) → (c == 46) ≡ false → behind_dot (c ∷ cs) ≡ behind_dot cs
     behind-more c cs h = rw h (ap (λ n. drop n (c ∷ cs)) (let e : 1 + position_or_len (λ b. b == 46) cs + 1 ≡ suc (position_or_len (λ b. b == 46) cs + 1) = omega arith in e))
 
-pub high-whole : (field : List ℕ) (v : ℤ) → SpellsWholeNumber field v → High (text_of field)
-high-whole field v h = high-signed (text_of field) (high-all (unsigned (text_of field)) h.1.0)
+pub high-whole : (field : List ℕ) (v : ℤ) → SpellsWhole (text_of field) v → High (text_of field)
+high-whole field v h = high-signed (text_of field) (high-all (unsigned (text_of field)) h.0)
 
-pub high-number : (field : List ℕ) (v : ℤ) → SpellsHeaderNumber field v → High (text_of field)
+pub high-number : (field : List ℕ) (v : ℤ) → SpellsDecimal 7 (text_of field) v → High (text_of field)
 high-number field v h =
     let u = unsigned (text_of field) in
-    let is : IsDecimal u = h.1.0 in
+    let is : IsDecimal u = h.0 in
     high-signed (text_of field) (high-decimal-text u (high-all (before_dot u) is.0) (high-all (behind_dot u) is.1))
 
 -- how many stretches of spaces a text has, and how long they are
