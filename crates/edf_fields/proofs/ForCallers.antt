@@ -8,7 +8,7 @@ pub use Rattle.edf_fields.proofs.texts.IdentificationFacts.{patient_or_cause, re
 pub use Rattle.edf_fields.proofs.ListFacts.{has-one_of, one_of-has, distinct-tested, distinct-passes}
 pub use Rattle.edf_fields.proofs.texts.NumberFacts.{whole_number_of-spelled, header_number_of-spelled, whole_number_of-some, header_number_of-some, whole_number_is_spelled, header_number_is_spelled}
 pub use Rattle.edf_fields.proofs.texts.OnsetByteFacts.{onset_bytes_from, span_bytes_from}
-pub use Rattle.edf_fields.proofs.texts.OnsetFacts.{onset_of_spelled, onset_of_some, onset_of_none, span_of_spelled, span_of_some, span_of_none, span_small, onset_small, onset_is_spelled, span_is_spelled}
+pub use Rattle.edf_fields.proofs.texts.TimeFacts.{onset_is_read, span_is_read, onset_of_spelled, onset_of_some, onset_of_none, span_of_spelled, span_of_some, span_of_none, span_small, onset_small, onset_is_spelled, span_is_spelled}
 pub use Rattle.edf_fields.proofs.PartFacts.{part-append}
 pub use Rattle.edf_fields.proofs.PlaceFacts.{before_at, behind_at, before_none, behind_none}
 pub use Rattle.edf_fields.proofs.texts.PrintableFacts.{printable_decided}

@@ -10,5 +10,6 @@ pub mod OnsetFacts
 pub mod PrintableFacts
 pub mod SubfieldFacts
 pub mod SubfieldLawFacts
+pub mod TimeFacts
 pub mod ValueFacts
 pub mod ZeroFacts

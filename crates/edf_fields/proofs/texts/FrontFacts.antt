@@ -1,5 +1,6 @@
 -- The digits in front of a text, and the time of a text that has few of them.
 use Rattle.std.proofs.Common.{◌≡◌, ℕ, ◌+◌, ◌-◌, ◌*◌, ◌^◌, ◌<◌, ◌≤◌, true, false, List, [], ◌∷◌, length, take, drop, get_or, nat_lt, arith, refl, sym, ap, subst, ◌∙◌, ◌==◌}
+use Rattle.edf_fields.proofs.texts.ZeroFacts.{weight_leading}
 use Rattle.std.specs.List.{position_or_len, list_any}
 use Rattle.std.proofs.lemmas.Bool.Decides.{nat_tests}
 use Rattle.std.proofs.lemmas.Grind.{common_steps}
@@ -7,14 +8,8 @@ use Rattle.std.proofs.lemmas.List.{get_or-take, length-take, length-drop, take_a
 use Rattle.std.proofs.lemmas.List.Sums.{position_or_len_is}
 use Rattle.std.proofs.Math.ListN.{drop_of_length-le}
 use Rattle.edf_fields.specs.texts.Numbers.{AreDigits, weight, before_dot, behind_dot}
-use Rattle.edf_fields.specs.texts.Onsets.{without_leading_zeros, without_trailing_zeros, IsTime, time_of}
-use Rattle.edf_fields.specs.texts.OnsetsReading.{AreDigitsBefore, AreSeconds, IsFraction}
+use Rattle.edf_fields.specs.texts.OnsetsReading.{AreDigitsBefore, AreSeconds, IsFraction, without_leading_zeros, without_trailing_zeros, IsTimeRead, time_read}
 use Rattle.edf_fields.proofs.texts.OnsetFacts.{dot_stands}
-
--- zeros in front have no weight
-weight_leading : (w : List ℕ) → weight (without_leading_zeros w) ≡ weight w
-weight_leading [] = refl
-weight_leading (c ∷ cs) = grind (arith, nat_tests, common_steps, weight_leading cs)
 
 length_leading : (w : List ℕ) → length (without_leading_zeros w) ≤ length w
 length_leading [] = omega arith
@@ -46,7 +41,7 @@ seconds-taken u n le some few digits =
     (digits-taken u n le digits, omega (arith, size, some), omega (arith, less, size, few))
 
 -- a text of digits, 9 at most
-pub plain_time : (u : List ℕ) (n s v : ℕ) → n ≡ length u → 0 < n → n ≤ 9 → AreDigitsBefore n u → s ≡ weight (take n u) → v ≡ s * 10 ^ 12 + 0 → IsTime u × (v ≡ time_of u)
+pub plain_time : (u : List ℕ) (n s v : ℕ) → n ≡ length u → 0 < n → n ≤ 9 → AreDigitsBefore n u → s ≡ weight (take n u) → v ≡ s * 10 ^ 12 + 0 → IsTimeRead u × (v ≡ time_read u)
 plain_time u n s v all some few digits es ev =
     let le : n ≤ length u = omega (arith, all) in
     let at : position_or_len (λ b. b == 46) u ≡ n = dot-at u n le digits (λ lt. absurd (omega (arith, lt, all))) in
@@ -74,11 +69,11 @@ module _ (u : List ℕ) (n : ℕ) (within : n < length u) (some : 0 < n) (few : 
   rest : behind_dot u ≡ drop (n + 1) u
   rest = ap (λ k. drop (k + 1) u) at
 
-  pub dotted_missing : (IsFraction (drop (n + 1) u) → ⊥) → IsTime u → ⊥
+  pub dotted_missing : (IsFraction (drop (n + 1) u) → ⊥) → IsTimeRead u → ⊥
   dotted_missing h time = h (subst IsFraction rest time.1)
 
   pub dotted_time : (s p v : ℕ) → n + 1 < length u → IsFraction (drop (n + 1) u) → s ≡ weight (take n u)
-      → p ≡ weight (without_trailing_zeros (drop (n + 1) u)) * 10 ^ (12 - length (without_trailing_zeros (drop (n + 1) u))) → v ≡ s * 10 ^ 12 + p → IsTime u × (v ≡ time_of u)
+      → p ≡ weight (without_trailing_zeros (drop (n + 1) u)) * 10 ^ (12 - length (without_trailing_zeros (drop (n + 1) u))) → v ≡ s * 10 ^ 12 + p → IsTimeRead u × (v ≡ time_read u)
   dotted_time s p v more fraction es ep ev =
       let seconds : AreSeconds (before_dot u) = subst AreSeconds (sym front) (seconds-taken u n (omega (arith, within)) some few digits) in
       let behind : IsFraction (behind_dot u) = subst IsFraction (sym rest) fraction in

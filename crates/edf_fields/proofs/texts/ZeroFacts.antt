@@ -7,9 +7,9 @@ use Rattle.std.proofs.lemmas.Nat.{pow-add}
 use Rattle.std.proofs.lemmas.Bool.Decides.{nat_tests}
 use Rattle.std.proofs.lemmas.Grind.{common_steps}
 use Rattle.std.proofs.lemmas.List.{take_more}
-use Rattle.edf_fields.specs.texts.Numbers.{AreDigits}
+use Rattle.edf_fields.specs.texts.Numbers.{AreDigits, weight}
 use Rattle.edf_fields.specs.texts.NumbersReading.{is_digit}
-use Rattle.edf_fields.specs.texts.Onsets.{without_leading_zeros, without_trailing_zeros}
+use Rattle.edf_fields.specs.texts.OnsetsReading.{without_leading_zeros, without_trailing_zeros}
 use Rattle.edf_fields.proofs.texts.NumberFacts.{digits_tested, tested_digits}
 
 -- a byte in front, and the bytes behind it
@@ -54,6 +54,11 @@ trailing_digit xs n some within e =
     let next : n - 1 + 1 ≡ n = omega arith in
     let last : take n xs ≡ take (n - 1) xs ++ get_or xs (n - 1) 0 ∷ [] = ap (λ k. take k xs) (sym next) ∙ take_more xs (n - 1) 0 low in
     last ∙ sym (ap without_trailing_zeros last ∙ trailing_other (take (n - 1) xs) (get_or xs (n - 1) 0) e)
+
+-- zeros in front have no weight
+pub weight_leading : (w : List ℕ) → weight (without_leading_zeros w) ≡ weight w
+weight_leading [] = refl
+weight_leading (c ∷ cs) = grind (arith, nat_tests, common_steps, weight_leading cs)
 
 -- the zeros left out are digits
 leading_tested : (ds : List ℕ) → list_all is_digit (without_leading_zeros ds) ≡ list_all is_digit ds

@@ -11,7 +11,7 @@ use Rattle.std.proofs.lemmas.Nat.{pow-add}
 use Rattle.std.proofs.lemmas.List.{length-append, length-replicate}
 use Rattle.std.proofs.lemmas.List.Sums.{split_at_first, passes_at_first}
 use Rattle.edf_fields.specs.texts.Numbers.{AreDigits, weight, has_minus, unsigned, signed, before_dot, behind_dot, decimal}
-use Rattle.edf_fields.specs.texts.Onsets.{without_trailing_zeros}
+use Rattle.edf_fields.specs.texts.OnsetsReading.{without_trailing_zeros}
 use Rattle.edf_fields.proofs.ForCallers.{before_none, behind_none}
 use Rattle.edf_layout.specs.PlainNumbers.{is_plain_whole, is_plain_fraction, is_plain_unsigned, is_plain_number}
 use Rattle.edf_layout.proofs.DigitFacts.{digits-tail, digit-head, weight-below, split-same, digits-same}
