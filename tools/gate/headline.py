@@ -63,8 +63,7 @@ PARTS = ("What an export keeps", "What bytes say")
 # what stands right behind the headline: laws, each a clause of a call that does nothing
 LAWS = (
     ("edf_header/specs/HeadsReading.antt", "HasOneHead"),
-    ("edf_stream/specs/Laws.antt", "NotesAreRead"),
-    ("edf_stream/specs/Laws.antt", "HasTheseNotes"),
+    ("edf_stream/specs/Laws.antt", "HasItsNotes"),
     ("edf_stream/specs/Laws.antt", "OneAtAnInstant"),
 )
 # what isn't copied, and why
@@ -77,7 +76,7 @@ LEFT_OUT = {
     "Rises": "that a count went up",
 }
 # parts of what is copied that are left out: fields, members and clauses of these names
-CUT = {"Source": ("reads", "failures", "fails"), "HasTheseNotes": ("read",)}
+CUT = {"Source": ("reads", "failures", "fails")}
 # words that stand beside those of the headline in a file of definitions, as contracts of the code name them
 BESIDE = ("SameLine", "is_one_of", "moved_by")
 # what the comments don't say of a definition
@@ -117,10 +116,9 @@ ABOUT = [
     " header, says its annotations in one way, and has no sample twice.",
     "Of a type that the code declares its parts count, and the value that it is to contracts (`impl Model`); how the"
     " code works is no part of it. Where something is left out of a copy a line says `[..]`: the other clauses of"
-    " `check`, what holds of each value of a type, what a source says of reads that fail, and of the law on annotations"
-    " that they are those that are read. What the code derives for its types (`#[derive]`) is left out, too. Words that"
-    " aren't copied are named at the end. That a claim which can be read is a sensible one (`IsClaim`) is proved as well,"
-    " and nothing here needs it.",
+    " `check`, what holds of each value of a type, and what a source says of reads that fail. What the code derives for"
+    " its types (`#[derive]`) is left out, too. Words that aren't copied are named at the end. That a claim which can be"
+    " read is a sensible one (`IsClaim`) is proved as well, and nothing here needs it.",
     "Behind the definitions stand a few sentences that no comment has, and at last the words that no file of this project"
     " defines: those of the toolchain's library.",
 ]
@@ -140,7 +138,7 @@ NOTATION = [
     ("+ℤ, -ℤ, *ℤ, <ℤ, ≤ℤ", "what +, -, *, < and ≤ are on ℕ, on ℤ. No number has a bound. On ℕ, a - b is never below 0;"
      " ^ is to the power of"),
     ("zero, suc n", "0 and n + 1"),
-    ("Bool, true, false", "what a test gives. && is and, || is or, not turns it"),
+    ("Bool, false", "what a test gives, true or false. && is and, || is or, not turns it"),
     ("if b then x else y", "x where the test b gives true, and else y"),
     ("==, nat_le, nat_lt", "tests: two numbers are equal; the first is ≤ the second; it is < it. int_le, int_lt: on ℤ"),
     ("bytes_eq", "a test: two texts are the same, byte for byte"),

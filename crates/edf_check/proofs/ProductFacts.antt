@@ -53,7 +53,7 @@ calibration-of file x c i =
     let within = get-within h.signals at.0 x at.1 in
     let signal : IsSoundSignal x = subst IsSoundSignal (get-index h.signals at.0 x x at.1) ((sound.standard).signals at.0 x within) in
     let numbers : HasShortNumbers x = subst HasShortNumbers (get-index h.signals at.0 x x at.1) ((sound.bounds).signals at.0 x within) in
-    record { extremes = signal.calibration; short = numbers.extremes }
+    record { low = signal.low; high = signal.high; order = signal.order; differ = signal.differ; short = numbers.extremes }
 
 start-near : (file : List ℕ) → Conforms file (head_of file) → unsigned_abs (origin_of file) ≤ 2 ^ 79
 start-near file c =

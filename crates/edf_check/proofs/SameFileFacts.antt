@@ -10,8 +10,8 @@ use Rattle.std.proofs.lemmas.List.Sums.{sum_by-cons}
 use Rattle.edf_claim.specs.Terms.{Terms}
 use Rattle.edf_claim.specs.Keeps.{keeps_annotation}
 use Rattle.edf_header.specs.signals.Channels.{channels_among, channel_labels}
-use Rattle.edf_header.specs.Heads.{SignalHead, start_second}
-use Rattle.edf_header.specs.HeadsReading.{head_of}
+use Rattle.edf_header.specs.Heads.{SignalHead}
+use Rattle.edf_header.specs.HeadsReading.{head_of, start_second}
 use Rattle.edf_stream.specs.declared.times.instant.Instant.{Instant}
 use Rattle.edf_stream.specs.Conforming.{Conforms}
 use Rattle.edf_stream.specs.times.InstantOrder.{IsNotBefore, IsSecondOf}

@@ -3,7 +3,8 @@ use Rattle.std.proofs.Common.{◌≡◌, ◌↔◌, ℕ, ℤ, pos, ◌+◌, ◌*
 use Rattle.std.proofs.lemmas.Int.{ints}
 use borrow.Author.Differences.{up, down}
 use Rattle.edf_claim.specs.Terms.{Terms}
-use Rattle.edf_header.specs.Heads.{Head, day_number, start_second}
+use Rattle.edf_header.specs.Heads.{Head, day_number}
+use Rattle.edf_header.specs.HeadsReading.{start_second}
 use Rattle.edf_stream.specs.declared.times.instant.Instant.{Instant}
 use Rattle.edf_stream.specs.times.InstantOrder.{IsNotBefore, IsSecondOf}
 use Rattle.edf_stream.specs.times.Instants.{IsSame}

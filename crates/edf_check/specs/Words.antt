@@ -12,8 +12,8 @@ pub use Rattle.edf_claim.specs.Claims.{IsClaim, SaysClaimText}
 pub use Rattle.edf_claim.specs.Faults.{FirstClaimFault}
 pub use Rattle.edf_claim.specs.declared.stop.ClaimStop.{ClaimStop}
 pub use Rattle.edf_fields.specs.Lists.{Has}
-pub use Rattle.edf_header.specs.Heads.{samples_together, start_second}
-pub use Rattle.edf_header.specs.HeadsReading.{head_of}
+pub use Rattle.edf_header.specs.Heads.{samples_together}
+pub use Rattle.edf_header.specs.HeadsReading.{head_of, start_second}
 pub use Rattle.edf_heads.specs.HeadVerdicts.{HeadsAgree, IsHeadVerdict}
 pub use Rattle.edf_heads.specs.SameHeads.{AreBlankAlike, AreSameHeads}
 pub use Rattle.edf_verdict.specs.Outcomes.{outcome_of}

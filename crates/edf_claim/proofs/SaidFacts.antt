@@ -6,8 +6,7 @@ use Rattle.std.proofs.lemmas.Bool.Decides.{nat_tests, Decides-int_eq}
 use Rattle.std.proofs.lemmas.Slice.Eq.{bytes_eq-Decides}
 use Rattle.toml.specs.Data.{Data, string, array, Items, Members, no_members, member, get_member, as_str, as_integer, as_array}
 use Rattle.edf_fields.specs.texts.PrintableReading.{is_printable}
-use Rattle.edf_fields.specs.texts.Onsets.{SpellsSpan}
-use Rattle.edf_fields.specs.texts.OnsetsReading.{span_of}
+use Rattle.edf_fields.specs.texts.OnsetsReading.{span_of, SpellsSpan}
 use Rattle.edf_fields.proofs.ForCallers.{le_decided, span_of_spelled, has-one_of, both-true, not-is, distinct-passes, le-passes, lt-passes, printable_decided, which-read, same-name}
 use Rattle.edf_claim.specs.Claims.{text_items, HasOnlyKeys, claim_keys, more_claim_keys, interval_keys, IsLabel, SaysInterval, AreIntervals, IsFollowedBy, AreInOrder, IsInterval, SaysFormat, HasFormat, HasKeysOfFormat, SaysChannels, SaysKeep, SaysAnonymous, SaysShift, SaysRemove, SaysRemovePrefix, SaysBlank, SaysClaim, SaysOneClaim}
 use Rattle.edf_fields.specs.fields.SubfieldNames.{name_of}

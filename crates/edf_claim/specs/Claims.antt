@@ -1,7 +1,7 @@
 -- What a claim says: which channels, annotations and intervals of time an export keeps of its original, what it makes anonymous, and by how much it moves the rest (this project's profile).
 use Rattle.std.specs.Prelude.{◌≡◌, ◌≢◌, ℕ, ℤ, pos, neg_ℤ, ◌-◌, ◌≤ℤ◌, ◌<ℤ◌, ◌≤◌, ◌^◌, ◌⊎◌, List, [], ◌∷◌, length, map, slice_index, Some, None, codes, IsUtf8}
 use Rattle.std.specs.List.{All}
-use Rattle.edf_fields.specs.texts.Onsets.{SpellsSpan}
+use Rattle.edf_fields.specs.texts.OnsetsReading.{SpellsSpan}
 use Rattle.edf_fields.specs.Lists.{Has}
 use Rattle.edf_fields.specs.Distinct.{AreDistinct}
 use Rattle.edf_claim.specs.declared.kept.interval.Interval.{Interval}

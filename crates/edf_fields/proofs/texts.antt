@@ -1,6 +1,7 @@
 pub mod DateFacts
 pub mod DigitFacts
 pub mod DotFacts
+pub mod FieldNumberFacts
 pub mod FrontFacts
 pub mod IdentificationFacts
 pub mod NumberFacts
@@ -9,5 +10,6 @@ pub mod OnsetFacts
 pub mod PrintableFacts
 pub mod SubfieldFacts
 pub mod SubfieldLawFacts
+pub mod TimeFacts
 pub mod ValueFacts
 pub mod ZeroFacts

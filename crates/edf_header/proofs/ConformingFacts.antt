@@ -1,5 +1,7 @@
 -- A header has no fault exactly where it is in order.
-use Rattle.std.proofs.Common.{◌≡◌, ℕ, zero, suc, ℤ, pos, negsuc, ◌+◌, ◌*◌, ◌≤◌, ◌<◌, ◌≤ℤ◌, ◌&&◌, ◌||◌, not, nat_le, Bool, true, false, cond, List, [], ◌∷◌, ◌++◌, length, take, drop, slice_get, unwrap_or, option_map, Some, None, codes, refl, sym, ap, ◌∙◌, subst, arith}
+use Rattle.std.proofs.Common.{◌≡◌, ℕ, zero, suc, ℤ, pos, negsuc, ◌+◌, ◌*◌, ◌≤◌, ◌<◌, ◌≤ℤ◌, ◌&&◌, ◌||◌, not, nat_le, Bool, true, false, cond, List, [], ◌∷◌, ◌++◌, length, take, drop, slice_get, unwrap_or, option_map, Some, None, codes, refl, sym, ap, ◌∙◌, subst, arith, ◌≢◌}
+use Rattle.std.specs.Prelude.{◌*ℤ◌}
+use Rattle.edf_fields.specs.texts.Numbers.{SpellsWhole}
 use Rattle.std.specs.List.{All, list_any, list_all, position_from}
 use Rattle.std.specs.Option.{is_some}
 use Rattle.std.specs.Ordering.{int_eq}
@@ -9,13 +11,12 @@ use Rattle.std.proofs.lemmas.Int.{ints}
 use Rattle.std.proofs.lemmas.List.{length-take, length-drop}
 use Rattle.std.proofs.lemmas.Slice.Eq.{bytes_eq-Decides}
 use Rattle.edf_fields.specs.Parts.{text_of}
-use Rattle.edf_fields.specs.texts.Numbers.{SpellsWholeNumber}
-use Rattle.edf_fields.specs.texts.NumbersReading.{whole_number_of}
+use Rattle.edf_fields.specs.texts.NumbersReading.{whole_number_of, SpellsWholeNumber}
 use Rattle.edf_fields.specs.texts.Dates.{NamesDashedDay}
 use Rattle.edf_fields.specs.texts.DatesReading.{clock_time_of}
 use Rattle.edf_fields.specs.texts.Printable.{IsPrintable}
 use Rattle.edf_fields.specs.texts.PrintableReading.{is_printable}
-use Rattle.edf_fields.proofs.ForCallers.{le_decided, clock_time_read, patient_or_cause, recording_or_cause, whole_number_of-spelled, header_number_of-spelled, whole_number_of-some, first-none, first-cons, and-true, not-true, pass-cons, pass-append, not-is, printable_decided}
+use Rattle.edf_fields.proofs.ForCallers.{le_decided, clock_time_read, patient_or_cause, recording_or_cause, whole_number_of-spelled, header_number_of-spelled, whole_number_of-some, first-none, first-cons, and-true, not-true, pass-cons, pass-append, not-is, printable_decided, whole_in, from_picoseconds}
 use Rattle.edf_fields.specs.declared.faults.fault.Place.{Place}
 use Rattle.edf_fields.specs.declared.faults.fault.Place.TheVariants.{AtField, AtSignal}
 use Rattle.edf_fields.specs.declared.faults.fault.Cause.TheVariants.{NotPrintable, Truncated, BadVersion, BadHeaderSize, NoAnnotationSignal, NoOrdinarySignal, DuplicateLabel, RecordTooLarge}
@@ -23,63 +24,36 @@ use Rattle.edf_fields.specs.declared.fields.layout.FixedField.{FixedField}
 use Rattle.edf_fields.specs.declared.fields.layout.FixedField.TheVariants as fixed
 use Rattle.edf_fields.specs.declared.fields.layout.SignalField.{SignalField}
 use Rattle.edf_fields.specs.declared.fields.layout.SignalField.TheVariants as signal
-use Rattle.edf_header.specs.signals.Channels.{IsChannel, HasDistinctChannels}
+use Rattle.edf_header.specs.signals.Channels.{IsChannel, HasDistinctChannels, channels_among}
 use Rattle.edf_header.specs.signals.ChannelsReading.{is_channel_of, label_at, is_repeated}
 use Rattle.edf_fields.specs.fields.Layout.{fixed_part, fixed_field, columns_part, signal_field}
 use Rattle.edf_fields.specs.fields.LayoutReading.{fixed_fields, columns, fixed_from, fixed_bytes, column_before, column_width}
-use Rattle.edf_header.specs.Heads.{SignalHead, Head, NamesStartdate, HasSignal, header_bytes, in_picoseconds, is_annotations, samples_together}
+use Rattle.edf_header.specs.Heads.{SignalHead, Head, NamesStartdate, HasSignal, header_bytes, is_annotations, samples_together}
 use Rattle.edf_header.specs.HeadsReading.{count_of, line_of, recording_in, signals_of, signals_in, head_of}
 use Rattle.edf_header.specs.Faults.{truncated, fault_unless, not_printable, no_number, version_fault, patient_fault, recording_fault, startdate_fault, starttime_fault, header_bytes_fault, reserved_fault, records_fault, duration_fault, signals_fault, header_size_fault, text_fault, physical_fault, digital_fault, samples_fault, naming_faults, extreme_faults, sampling_faults, agreement_faults, signal_faults, no_annotation_signal, no_ordinary_signal, label_fault, labels_faults, record_too_large, joint_faults, fixed_missing, start_faults, extent_faults, fixed_tests, column_missing, columns_missing, signals_faults, columns_tests, header_fault}
 use Rattle.edf_fields.specs.Tests.{first}
 use Rattle.edf_header.specs.Conforming.{HeaderConforms}
 use Rattle.edf_header.specs.ConformingLaws.{PassingIsConforming, ConformingIsSound}
 use Rattle.edf_header.specs.Sound.{IsSound}
-use Rattle.edf_header.specs.Standard.{IsSoundSignal, HasAnnotationSignal, HasSomeChannel}
+use Rattle.edf_header.specs.Standard.{IsSoundSignal}
 use Rattle.edf_header.proofs.PassedFacts.{fault_unless-passed, number-passed}
 use Rattle.edf_header.proofs.fixed_part.StartdateFacts.{SayTheSame, startdate-read, same-passes}
 use Rattle.edf_header.proofs.PassingFacts.{fault_unless-true, version-passes, patient-passes, recording-passes, startdate-passes, starttime-passes, header_bytes-passes, reserved-passes, records-passes, duration-passes, signals-passes, header_size-passes, signals-pass-tests}
 use Rattle.edf_header.proofs.in_columns.ColumnFacts.{there, column-whole}
-use Rattle.edf_header.proofs.signals.ChannelFacts.{get-within}
+use Rattle.edf_header.proofs.signals.ChannelFacts.{get-within, any-at, none-among}
 use Rattle.edf_header.proofs.SaidFacts.{recording_is}
 use Rattle.edf_header.proofs.signals.SignalFacts.{length-signals}
 use Rattle.edf_header.proofs.HeadFacts.{FixedPasses, fixed-passes, signals-passed, head-read, has-head, sound-head}
 
--- a member that passes a test, and one that fails it
-any-passes : (p : SignalHead → Bool) (signals : List SignalHead) (s : ℕ) (head : SignalHead) → slice_get signals s ≡ Some head → p head ≡ true → list_any p signals ≡ true
-any-passes p [] s head e h = absurd (let z : None ≡ Some head = e in cc)
-any-passes p (x ∷ signals) zero head e h =
-    let z : x ≡ head = (let j : Some x ≡ Some head = e in cc) in
-    ap (λ b. b || list_any p signals) (ap p z ∙ h)
-any-passes p (x ∷ signals) (suc s) head e h = or-true (p x) (list_any p signals) (any-passes p signals s head e h)
-  where
-    or-true : (a b : Bool) → b ≡ true → (a || b) ≡ true
-    or-true true b e = refl
-    or-true false b e = e
-
-all-fails-at : (p : SignalHead → Bool) (signals : List SignalHead) (s : ℕ) (head : SignalHead) → slice_get signals s ≡ Some head → p head ≡ false → list_all p signals ≡ false
-all-fails-at p [] s head e h = absurd (let z : None ≡ Some head = e in cc)
-all-fails-at p (x ∷ signals) zero head e h =
-    let z : x ≡ head = (let j : Some x ≡ Some head = e in cc) in
-    ap (λ b. b && list_all p signals) (ap p z ∙ h)
-all-fails-at p (x ∷ signals) (suc s) head e h = and-false (p x) (list_all p signals) (all-fails-at p signals s head e h)
-  where
-    and-false : (a b : Bool) → b ≡ false → (a && b) ≡ false
-    and-false true b e = e
-    and-false false b e = refl
-
-annotation-passes : (signals : List SignalHead) → HasAnnotationSignal signals → no_annotation_signal signals ≡ None
+annotation-passes : (signals : List SignalHead) → list_any (λ signal. is_annotations signal.label) signals ≡ true → no_annotation_signal signals ≡ None
 unfolding no_annotation_signal
-annotation-passes signals h =
-    let p : SignalHead → Bool = λ head. is_annotations head.label in
-    fault_unless-true (list_any p signals) (AtField fixed.Signals) NoAnnotationSignal (any-passes p signals h.0 h.1 h.2 h.3)
+annotation-passes signals h = fault_unless-true (list_any (λ signal. is_annotations signal.label) signals) (AtField fixed.Signals) NoAnnotationSignal h
 
-channel-passes : (signals : List SignalHead) → HasSomeChannel signals → no_ordinary_signal signals ≡ None
+channel-passes : (signals : List SignalHead) → channels_among signals ≢ [] → no_ordinary_signal signals ≡ None
 unfolding no_ordinary_signal
 channel-passes signals h =
     let p : SignalHead → Bool = λ head. is_annotations head.label in
-    let c = h.2 in
-    let failed : p c.0 ≡ false = ap is_annotations c.2.0 ∙ c.2.1 in
-    fault_unless-true (not (list_all p signals)) (AtField fixed.Signals) NoOrdinarySignal (ap not (all-fails-at p signals h.0 c.0 c.1 failed))
+    fault_unless-true (not (list_all p signals)) (AtField fixed.Signals) NoOrdinarySignal (not-is (list_all p signals) (λ all. h (none-among signals all)))
 
 -- a member that is found
 found-at : (p : SignalHead → Bool) (signals : List SignalHead) (k : ℕ) → is_some (position_from p k signals) ≡ true → (s : ℕ) × (head : SignalHead) × (slice_get signals s ≡ Some head) × (p head ≡ true)
@@ -134,7 +108,7 @@ unfolding record_too_large
 small-passes signals h =
     fault_unless-true (nat_le (samples_together signals) 8388608) (AtField fixed.Signals) RecordTooLarge ((le_decided (samples_together signals) 8388608).1 (omega (arith, h)))
 
-joint-passes : (signals : List SignalHead) → HasAnnotationSignal signals → HasSomeChannel signals → HasDistinctChannels signals → 2 * samples_together signals ≤ 16777216
+joint-passes : (signals : List SignalHead) → list_any (λ signal. is_annotations signal.label) signals ≡ true → channels_among signals ≢ [] → HasDistinctChannels signals → 2 * samples_together signals ≤ 16777216
     → first (joint_faults signals) ≡ None
 joint-passes signals annotations channel distinct small =
     let labels = labels_faults signals 0 (length signals) in
@@ -347,12 +321,12 @@ passing-conforms file h =
           let passed = subst (λ j. first (signal_faults bytes n j) ≡ None) here (signals-at bytes n 0 n s d.0 within) in
           subst P (sym long) (signal-printable bytes n s passed field);
       version = version-said (fixed_field front fixed.Version) p.version;
-      size = subst (λ k. SpellsWholeNumber (fixed_field front fixed.HeaderBytes) (pos k)) size (size-said n (fixed_field front fixed.HeaderBytes) p.size p.whole);
+      size = subst (λ k. SpellsWhole (text_of (fixed_field front fixed.HeaderBytes)) (pos k)) size (size-said n (fixed_field front fixed.HeaderBytes) p.size p.whole).1;
       head = has-head file h;
       standard = (sound-head file h).standard;
     }
 
-units-count : (units : ℤ) → pos 1 ≤ℤ in_picoseconds units → (k : ℕ) × (units ≡ pos k) × (1 ≤ k)
+units-count : (units : ℤ) → pos 1 ≤ℤ (units *ℤ pos 100000) → (k : ℕ) × (units ≡ pos k) × (1 ≤ k)
 units-count (pos k) h = (k, refl, omega (arith, ints, h))
 units-count (negsuc k) h = absurd (omega (arith, ints, h))
 
@@ -371,9 +345,10 @@ fixed-pass file h c count =
     let said : NamesStartdate text date h.day = subst (λ t. NamesStartdate text t h.day) dated has.day in
     let same : SayTheSame text date = same-passes text date h.day said (λ m named. sound.same_day m (subst (λ t. NamesDashedDay t m) (sym dated) named)) in
     let second : Some h.clock ≡ clock_time_of (text_of (at fixed.Starttime)) = clock_time_read (Some h.clock) (text_of (at fixed.Starttime)) has.clock in
-    let units = units-count has.units (subst (λ z. pos 1 ≤ℤ z) has.duration sound.some_time) in
-    let some : 1 ≤ length h.signals = (let r = sound.annotations in let lt = get-within h.signals r.0 r.1 r.2 in omega (arith, lt)) in
-    let spelled_size : whole_number_of (at fixed.HeaderBytes) ≡ Some (pos (header_bytes h)) = whole_number_of-spelled (at fixed.HeaderBytes) (pos (header_bytes h)) c.size in
+    let spelled = from_picoseconds front 244 8 h.duration (omega arith) has.duration in
+    let units = units-count spelled.0 (subst (λ z. pos 1 ≤ℤ z) spelled.2 sound.some_time) in
+    let some : 1 ≤ length h.signals = (let r = any-at (λ signal. is_annotations signal.label) h.signals sound.annotations in let lt = get-within h.signals r.0 r.1 r.2 in omega (arith, lt)) in
+    let spelled_size : whole_number_of (at fixed.HeaderBytes) ≡ Some (pos (header_bytes h)) = whole_number_of-spelled (at fixed.HeaderBytes) (pos (header_bytes h)) (whole_in front 184 8 (pos (header_bytes h)) (omega arith) c.size) in
     let version = version_fault (at fixed.Version) in
     let patient = patient_fault (at fixed.Patient) in
     let recording = recording_fault (at fixed.Recording) in
@@ -394,9 +369,9 @@ fixed-pass file h c count =
     let goes_on : first (extent_faults front) ≡ None =
     pass-cons bytes (reserved ∷ records ∷ duration ∷ signals ∷ whole ∷ []) (header_bytes-passes (at fixed.HeaderBytes) (pos (header_bytes h)) (c.front fixed.HeaderBytes) spelled_size)
     (pass-cons reserved (records ∷ duration ∷ signals ∷ whole ∷ []) (reserved-passes (at fixed.Reserved) h.kind (c.front fixed.Reserved) has.kind)
-    (pass-cons records (duration ∷ signals ∷ whole ∷ []) (records-passes (at fixed.Records) h.records (c.front fixed.Records) (whole_number_of-spelled (at fixed.Records) (pos h.records) has.records) sound.some_records)
-    (pass-cons duration (signals ∷ whole ∷ []) (duration-passes (at fixed.Duration) units.0 (c.front fixed.Duration) (header_number_of-spelled (at fixed.Duration) has.units has.duration_spelled ∙ ap Some units.1) units.2)
-    (pass-cons signals (whole ∷ []) (signals-passes (at fixed.Signals) (length h.signals) (c.front fixed.Signals) (whole_number_of-spelled (at fixed.Signals) (pos (length h.signals)) has.count) some)
+    (pass-cons records (duration ∷ signals ∷ whole ∷ []) (records-passes (at fixed.Records) h.records (c.front fixed.Records) (whole_number_of-spelled (at fixed.Records) (pos h.records) (whole_in front 236 8 (pos h.records) (omega arith) has.records)) sound.some_records)
+    (pass-cons duration (signals ∷ whole ∷ []) (duration-passes (at fixed.Duration) units.0 (c.front fixed.Duration) (header_number_of-spelled (at fixed.Duration) spelled.0 spelled.1 ∙ ap Some units.1) units.2)
+    (pass-cons signals (whole ∷ []) (signals-passes (at fixed.Signals) (length h.signals) (c.front fixed.Signals) (whole_number_of-spelled (at fixed.Signals) (pos (length h.signals)) (whole_in front 252 4 (pos (length h.signals)) (omega arith) has.count)) some)
     (pass-cons whole [] (header_size-passes (signals_of front) (at fixed.HeaderBytes) (spelled_size ∙ ap (λ k. Some (pos (256 * (k + 1)))) (sym count))) refl))))) in
     pass-append (fixed_missing fixed_fields (length front)) (start_faults front ++ extent_faults front) (fixed-there fixed_fields (length front) long)
     (pass-append (start_faults front) (extent_faults front) begins goes_on)
@@ -429,7 +404,7 @@ conforming-passes file h c =
     let front : List ℕ = fixed_part file in
     let n : ℕ = signals_of front in
     let has = c.head in
-    let count : n ≡ length h.signals = ap count_of (whole_number_of-spelled (fixed_field front fixed.Signals) (pos (length h.signals)) has.count) in
+    let count : n ≡ length h.signals = ap count_of (whole_number_of-spelled (fixed_field front fixed.Signals) (pos (length h.signals)) (whole_in front 252 4 (pos (length h.signals)) (omega arith) has.count)) in
     let read : h.signals ≡ signals_in n (columns_part n file) = ap (λ (g : Head). g.signals) (head-read file h has) in
     pass-append (fixed_tests front) (columns_tests n (columns_part n file)) (fixed-pass file h c count) (columns-pass file h n c count read)
 

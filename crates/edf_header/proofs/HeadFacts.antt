@@ -1,15 +1,16 @@
 -- The header that bytes spell: a file that passes its tests has one, and no file has two.
 use Rattle.std.proofs.Common.{◌≡◌, ℕ, zero, suc, ℤ, pos, ◌+◌, ◌*◌, ◌≤◌, ◌||◌, take, Bool, true, false, cond, List, [], ◌∷◌, ◌++◌, length, slice_get, unwrap_or, Option, Some, None, codes, refl, sym, ap, ◌∙◌, subst, arith, ◌<◌, ◌≤ℤ◌, ◌^◌, unsigned_abs}
+use Rattle.std.specs.Prelude.{◌*ℤ◌}
+use Rattle.edf_fields.specs.texts.Numbers.{SpellsWhole}
 use Rattle.std.specs.Str.{bytes_eq}
 use Rattle.std.proofs.lemmas.Slice.Eq.{bytes_eq-Decides}
 use Rattle.edf_fields.specs.Parts.{text_of, part}
-use Rattle.edf_fields.specs.texts.Numbers.{SpellsWholeNumber, SpellsHeaderNumber}
-use Rattle.edf_fields.specs.texts.NumbersReading.{whole_number_of, header_number_of}
+use Rattle.edf_fields.specs.texts.NumbersReading.{whole_number_of, header_number_of, SpellsHeaderNumber, SpellsWholeNumber}
 use Rattle.edf_fields.specs.texts.Dates.{CivilDay, NamesClockTime}
 use Rattle.edf_fields.specs.texts.DatesReading.{clock_time_of}
 use Rattle.edf_fields.specs.texts.Identifications.{Patient, Recording}
 use Rattle.edf_fields.specs.texts.IdentificationsReading.{patient_cause, recording_cause}
-use Rattle.edf_fields.proofs.ForCallers.{clock_time_read, clock_time-some, whole_number_of-some, header_number_of-some, whole_number_of-spelled, header_number_of-spelled, header_number-below, first-none, first-cons}
+use Rattle.edf_fields.proofs.ForCallers.{clock_time_read, clock_time-some, whole_number_of-some, header_number_of-some, whole_number_of-spelled, header_number_of-spelled, header_number-below, first-none, first-cons, whole_in, decimal_in, to_picoseconds, from_picoseconds}
 use Rattle.edf_fields.specs.declared.faults.fault.Place.TheVariants.{AtField}
 use Rattle.edf_fields.specs.declared.faults.fault.Cause.TheVariants.{NotEdfPlus, BadStart, BadSubfields}
 use Rattle.edf_fields.specs.declared.faults.fault.Place.{Place}
@@ -21,7 +22,7 @@ use Rattle.edf_fields.specs.declared.fields.layout.SignalField.TheVariants as si
 use Rattle.edf_header.specs.signals.Calibrations.{Line}
 use Rattle.edf_fields.specs.fields.Layout.{fixed_part, fixed_field, columns_part, signal_field}
 use Rattle.edf_fields.specs.fields.LayoutReading.{fixed_fields, columns}
-use Rattle.edf_header.specs.Heads.{SignalHead, Head, HasSignal, HasHead, NamesStartdate, AreSideBySide, kind_word, in_picoseconds, day_number}
+use Rattle.edf_header.specs.Heads.{SignalHead, Head, HasSignal, HasHead, NamesStartdate, AreSideBySide, kind_word, day_number}
 use Rattle.edf_header.specs.HeadsReading.{HasOneHead, startdate_of, kind_of, count_of, first_day, recording_in, signals_of, line_of, signal_of, signals_from, signals_in, head_in, head_of}
 use Rattle.edf_header.specs.ConformingLaws.{PassingHasHead, PassingIsSound}
 use Rattle.edf_header.specs.Sound.{IsSound}
@@ -51,12 +52,12 @@ passes-says bytes n s before p = record {
   label = refl;
   transducer = refl;
   dimension = refl;
-  physical_minimum = spelled (signal_field bytes n s signal.PhysicalMinimum) (p.physical_minimum).0 (p.physical_minimum).1;
-  physical_maximum = spelled (signal_field bytes n s signal.PhysicalMaximum) (p.physical_maximum).0 (p.physical_maximum).1;
-  digital_minimum = spelled-whole (signal_field bytes n s signal.DigitalMinimum) (p.digital_minimum).0 (p.digital_minimum).1;
-  digital_maximum = spelled-whole (signal_field bytes n s signal.DigitalMaximum) (p.digital_maximum).0 (p.digital_maximum).1;
+  physical_minimum = (spelled (signal_field bytes n s signal.PhysicalMinimum) (p.physical_minimum).0 (p.physical_minimum).1).1;
+  physical_maximum = (spelled (signal_field bytes n s signal.PhysicalMaximum) (p.physical_maximum).0 (p.physical_maximum).1).1;
+  digital_minimum = (spelled-whole (signal_field bytes n s signal.DigitalMinimum) (p.digital_minimum).0 (p.digital_minimum).1).1;
+  digital_maximum = (spelled-whole (signal_field bytes n s signal.DigitalMaximum) (p.digital_maximum).0 (p.digital_maximum).1).1;
   prefilter = refl;
-  samples = spelled-count (signal_field bytes n s signal.Samples) (p.samples).0 (p.samples).1;
+  samples = (spelled-count (signal_field bytes n s signal.Samples) (p.samples).0 (p.samples).1).1;
   reserved = refl;
 }
 
@@ -209,11 +210,10 @@ has-head file h =
       clock = clock-said (fixed_field front fixed.Starttime) clock.0 clock.1;
       kind = kind-said (fixed_field front fixed.Reserved) p.reserved;
       free = refl;
-      records = spelled-count (fixed_field front fixed.Records) records.0 records.1;
-      units = unwrap_or (header_number_of (fixed_field front fixed.Duration)) (pos 0);
-      duration_spelled = spelled (fixed_field front fixed.Duration) (pos duration.0) duration.1;
-      duration = refl;
-      count = subst (λ k. SpellsWholeNumber (fixed_field front fixed.Signals) (pos k)) (sym long) (spelled-count (fixed_field front fixed.Signals) signals.0 signals.1);
+      records = (spelled-count (fixed_field front fixed.Records) records.0 records.1).1;
+      duration = to_picoseconds (fixed_field front fixed.Duration) (unwrap_or (header_number_of (fixed_field front fixed.Duration)) (pos 0))
+          (spelled (fixed_field front fixed.Duration) (pos duration.0) duration.1);
+      count = subst (λ k. SpellsWhole (text_of (fixed_field front fixed.Signals)) (pos k)) (sym long) (spelled-count (fixed_field front fixed.Signals) signals.0 signals.1).1;
       signals = λ s head e.
           subst (λ k. HasSignal (columns_part k file) k s head) (sym long)
           (subst (λ k. HasSignal bytes n k head) (let at : 0 + s ≡ s = omega arith in at) (has-signals bytes n 0 0 n c1.0 s head e));
@@ -241,10 +241,10 @@ read-count field n h = sym (ap count_of (whole_number_of-spelled field (pos n) h
 pub signal-read : (bytes : List ℕ) (n s before : ℕ) (head : SignalHead) → HasSignal bytes n s head → head.offset ≡ before → head ≡ signal_of bytes n s before
 signal-read bytes n s before head h e =
     let line = same-line head.calibration (line_of bytes n s)
-    (read-number (signal_field bytes n s signal.PhysicalMinimum) head.calibration.physical_minimum h.physical_minimum)
-    (read-number (signal_field bytes n s signal.PhysicalMaximum) head.calibration.physical_maximum h.physical_maximum)
-    (read-whole (signal_field bytes n s signal.DigitalMinimum) head.calibration.digital_minimum h.digital_minimum)
-    (read-whole (signal_field bytes n s signal.DigitalMaximum) head.calibration.digital_maximum h.digital_maximum) in
+    (read-number (signal_field bytes n s signal.PhysicalMinimum) head.calibration.physical_minimum (decimal_in bytes (104 * n + 8 * s) 8 head.calibration.physical_minimum (omega arith) h.physical_minimum))
+    (read-number (signal_field bytes n s signal.PhysicalMaximum) head.calibration.physical_maximum (decimal_in bytes (112 * n + 8 * s) 8 head.calibration.physical_maximum (omega arith) h.physical_maximum))
+    (read-whole (signal_field bytes n s signal.DigitalMinimum) head.calibration.digital_minimum (whole_in bytes (120 * n + 8 * s) 8 head.calibration.digital_minimum (omega arith) h.digital_minimum))
+    (read-whole (signal_field bytes n s signal.DigitalMaximum) head.calibration.digital_maximum (whole_in bytes (128 * n + 8 * s) 8 head.calibration.digital_maximum (omega arith) h.digital_maximum)) in
     let made : List ℕ → List ℕ → List ℕ → List ℕ → List ℕ → Line → ℕ → ℕ → SignalHead =
     λ a b d p r l k o. record { label = a; transducer = b; dimension = d; prefilter = p; reserved = r; calibration = l; samples = k; offset = o } in
     let t : SignalHead = signal_of bytes n s before in
@@ -254,7 +254,7 @@ signal-read bytes n s before head h e =
     ∙ ap (λ p. made t.label t.transducer t.dimension p head.reserved head.calibration head.samples head.offset) h.prefilter
     ∙ ap (λ r. made t.label t.transducer t.dimension t.prefilter r head.calibration head.samples head.offset) h.reserved
     ∙ ap (λ l. made t.label t.transducer t.dimension t.prefilter t.reserved l head.samples head.offset) line
-    ∙ ap (λ k. made t.label t.transducer t.dimension t.prefilter t.reserved t.calibration k head.offset) (read-count (signal_field bytes n s signal.Samples) head.samples h.samples)
+    ∙ ap (λ k. made t.label t.transducer t.dimension t.prefilter t.reserved t.calibration k head.offset) (read-count (signal_field bytes n s signal.Samples) head.samples (whole_in bytes (216 * n + 8 * s) 8 (pos head.samples) (omega arith) h.samples))
     ∙ ap (λ o. made t.label t.transducer t.dimension t.prefilter t.reserved t.calibration t.samples o) e
 
 signals-read : (bytes : List ℕ) (n s before : ℕ) (heads : List SignalHead) → ((k : ℕ) (head : SignalHead) → slice_get heads k ≡ Some head → HasSignal bytes n (s + k) head)
@@ -274,7 +274,7 @@ unfolding head_of
 head-read file h has =
     let front : List ℕ = fixed_part file in
     let t : Head = head_in front (columns_part (signals_of front) file) in
-    let count : length h.signals ≡ signals_of front = read-count (fixed_field front fixed.Signals) (length h.signals) has.count in
+    let count : length h.signals ≡ signals_of front = read-count (fixed_field front fixed.Signals) (length h.signals) (whole_in front 252 4 (pos (length h.signals)) (omega arith) has.count) in
     let signals : h.signals ≡ t.signals =
     signals-read (columns_part (length h.signals) file) (length h.signals) 0 0 h.signals
     (λ k head e. subst (λ j. HasSignal (columns_part (length h.signals) file) (length h.signals) j head) (let at : k ≡ 0 + k = omega arith in at) (has.signals k head e)) has.offsets
@@ -282,7 +282,8 @@ head-read file h has =
     let recorded : h.recording.date ≡ t.recording.date = ap (λ r. r.date) (recording_is (fixed_field front fixed.Recording) h.recording has.recording) in
     let day : h.day ≡ t.day = day-read (text_of (fixed_field front fixed.Startdate)) t.recording.date h.day (subst (λ date. NamesStartdate (text_of (fixed_field front fixed.Startdate)) date h.day) recorded has.day) in
     let clock : h.clock ≡ t.clock = clock-read (text_of (fixed_field front fixed.Starttime)) h.clock has.clock in
-    let duration : h.duration ≡ t.duration = has.duration ∙ ap in_picoseconds (read-number (fixed_field front fixed.Duration) has.units has.duration_spelled) in
+    let spelled = from_picoseconds front 244 8 h.duration (omega arith) has.duration in
+    let duration : h.duration ≡ t.duration = spelled.2 ∙ ap (λ units. units *ℤ pos 100000) (read-number (fixed_field front fixed.Duration) spelled.0 spelled.1) in
     let made : Patient → Recording → CivilDay → ℕ → Kind → List ℕ → ℕ → ℤ → List SignalHead → Head =
     λ p r d c k f n u l. record { patient = p; recording = r; day = d; clock = c; kind = k; free = f; records = n; duration = u; signals = l } in
     ap (λ p. made p h.recording h.day h.clock h.kind h.free h.records h.duration h.signals) (patient_is (fixed_field front fixed.Patient) h.patient has.patient)
@@ -291,7 +292,7 @@ head-read file h has =
     ∙ ap (λ c. made t.patient t.recording t.day c h.kind h.free h.records h.duration h.signals) clock
     ∙ ap (λ k. made t.patient t.recording t.day t.clock k h.free h.records h.duration h.signals) (is-kind (fixed_field front fixed.Reserved) h.kind has.kind)
     ∙ ap (λ f. made t.patient t.recording t.day t.clock t.kind f h.records h.duration h.signals) has.free
-    ∙ ap (λ n. made t.patient t.recording t.day t.clock t.kind t.free n h.duration h.signals) (read-count (fixed_field front fixed.Records) h.records has.records)
+    ∙ ap (λ n. made t.patient t.recording t.day t.clock t.kind t.free n h.duration h.signals) (read-count (fixed_field front fixed.Records) h.records (whole_in front 236 8 (pos h.records) (omega arith) has.records))
     ∙ ap (λ u. made t.patient t.recording t.day t.clock t.kind t.free t.records u h.signals) duration
     ∙ ap (λ l. made t.patient t.recording t.day t.clock t.kind t.free t.records t.duration l) signals
   where
@@ -324,19 +325,19 @@ some-count field n e h = subst (λ o. 1 ≤ count_of o) (sym e) h
 few-count : (bytes : List ℕ) (at w n : ℕ) → whole_number_of (part bytes at w) ≡ Some (pos n) → count_of (whole_number_of (part bytes at w)) < 10 ^ w
 few-count bytes at w n e = subst (λ o. count_of o < 10 ^ w) (sym e) (count-below bytes at w n e)
 
-product : (n : ℕ) → in_picoseconds (pos n) ≡ pos (n * 100000)
+product : (n : ℕ) → pos n *ℤ pos 100000 ≡ pos (n * 100000)
 product n = omega (arith, ints)
 
-some-time : (field : List ℕ) (n : ℕ) → header_number_of field ≡ Some (pos n) → 1 ≤ n → pos 1 ≤ℤ in_picoseconds (unwrap_or (header_number_of field) (pos 0))
+some-time : (field : List ℕ) (n : ℕ) → header_number_of field ≡ Some (pos n) → 1 ≤ n → pos 1 ≤ℤ (unwrap_or (header_number_of field) (pos 0) *ℤ pos 100000)
 some-time field n e h =
     let long : pos 1 ≤ℤ pos (n * 100000) = omega (arith, ints, h) in
-    subst (λ o. pos 1 ≤ℤ in_picoseconds (unwrap_or o (pos 0))) (sym e) (subst (λ z. pos 1 ≤ℤ z) (sym (product n)) long)
+    subst (λ o. pos 1 ≤ℤ (unwrap_or o (pos 0) *ℤ pos 100000)) (sym e) (subst (λ z. pos 1 ≤ℤ z) (sym (product n)) long)
 
-little-time : (field : List ℕ) (n : ℕ) → header_number_of field ≡ Some (pos n) → unsigned_abs (in_picoseconds (unwrap_or (header_number_of field) (pos 0))) < 10 ^ 20
+little-time : (field : List ℕ) (n : ℕ) → header_number_of field ≡ Some (pos n) → unsigned_abs (unwrap_or (header_number_of field) (pos 0) *ℤ pos 100000) < 10 ^ 20
 little-time field n e =
     let below : n < 10 ^ 15 = header_number-below field (pos n) (header_number_of-some field (pos n) e) in
     let short : n * 100000 < 10 ^ 20 = omega (arith, below) in
-    subst (λ o. unsigned_abs (in_picoseconds (unwrap_or o (pos 0))) < 10 ^ 20) (sym e) (subst (λ z. unsigned_abs z < 10 ^ 20) (sym (product n)) short)
+    subst (λ o. unsigned_abs (unwrap_or o (pos 0) *ℤ pos 100000) < 10 ^ 20) (sym e) (subst (λ z. unsigned_abs z < 10 ^ 20) (sym (product n)) short)
 
 pub sound-head : (file : List ℕ) → header_fault file ≡ None → IsSound (head_of file)
 unfolding header_fault head_of
@@ -380,7 +381,8 @@ sound-head file h =
         few_signals = subst (λ k. k < 10 ^ 4) (sym long) few;
         signals = signals-short bytes n 0 0 n c1.0;
       };
-      patient = patient.written;
+      sex = patient.sex;
+      birthdate = patient.birthdate;
       date = recording.date;
       offsets = side-by-side bytes n 0 0 n;
     }

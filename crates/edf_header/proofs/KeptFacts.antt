@@ -89,7 +89,8 @@ kept front bytes start extent signals size long s x passed columns-passed e tota
           small_record = rw (sym total) small;
         };
         bounds = record { near = s.near; early = s.early; few_records = x.few_records; little_time = x.little_time; few_signals = rw long-signals x.few_signals; signals = short };
-        patient = patient.written;
+        sex = patient.sex;
+        birthdate = patient.birthdate;
         date = recording.date;
         offsets = beside;
       };

@@ -13,7 +13,7 @@ use Rattle.edf_fields.specs.texts.DatesReading.{dotted_day_of, day_month_of, das
 use Rattle.edf_fields.specs.texts.IdentificationsReading.{patient_cause, recording_cause}
 use Rattle.edf_fields.specs.texts.Printable.{IsPrintable}
 use Rattle.edf_fields.specs.texts.PrintableReading.{is_printable}
-use Rattle.edf_fields.proofs.ForCallers.{whole_number_of-spelled, header_number_of-spelled, pass-cons, pass-append, both-true, not-is, le-passes, lt-passes, printable_decided}
+use Rattle.edf_fields.proofs.ForCallers.{whole_number_of-spelled, header_number_of-spelled, pass-cons, pass-append, both-true, not-is, le-passes, lt-passes, printable_decided, decimal_in, whole_in}
 use Rattle.edf_fields.specs.declared.faults.fault.Place.{Place}
 use Rattle.edf_fields.specs.declared.faults.fault.Place.TheVariants.{AtField, AtSignal}
 use Rattle.edf_fields.specs.declared.faults.fault.Cause.{Cause}
@@ -193,10 +193,9 @@ pub signal-passes-tests : (bytes : List ℕ) (n s before : ℕ) → HasSignal by
 signal-passes-tests bytes n s before says sound p =
     let at : SignalField → List ℕ = λ field. signal_field bytes n s field in
     let line : Line = line_of bytes n s in
-    let c = sound.calibration in
-    let low = c.low in
-    let high = c.high in
-    let order = c.order in
+    let low = sound.low in
+    let high = sound.high in
+    let order = sound.order in
     let plow = physical_fault s signal.PhysicalMinimum (at signal.PhysicalMinimum) in
     let phigh = physical_fault s signal.PhysicalMaximum (at signal.PhysicalMaximum) in
     let dlow = digital_fault s signal.DigitalMinimum (at signal.DigitalMinimum) in
@@ -212,17 +211,17 @@ signal-passes-tests bytes n s before says sound p =
     (pass-cons transducer (dimension ∷ []) (text-passes s signal.Transducer (at signal.Transducer) (p signal.Transducer))
     (pass-cons dimension [] (text-passes s signal.Dimension (at signal.Dimension) (p signal.Dimension)) refl)) in
     let extremes : first (extreme_faults bytes n s) ≡ None =
-    pass-cons plow (phigh ∷ dlow ∷ dhigh ∷ []) (physical-passes s signal.PhysicalMinimum (at signal.PhysicalMinimum) line.physical_minimum (p signal.PhysicalMinimum) (header_number_of-spelled (at signal.PhysicalMinimum) line.physical_minimum says.physical_minimum))
-    (pass-cons phigh (dlow ∷ dhigh ∷ []) (physical-passes s signal.PhysicalMaximum (at signal.PhysicalMaximum) line.physical_maximum (p signal.PhysicalMaximum) (header_number_of-spelled (at signal.PhysicalMaximum) line.physical_maximum says.physical_maximum))
-    (pass-cons dlow (dhigh ∷ []) (digital-passes s signal.DigitalMinimum (at signal.DigitalMinimum) line.digital_minimum (p signal.DigitalMinimum) (whole_number_of-spelled (at signal.DigitalMinimum) line.digital_minimum says.digital_minimum) low (omega (arith, ints, high, order)))
-    (pass-cons dhigh [] (digital-passes s signal.DigitalMaximum (at signal.DigitalMaximum) line.digital_maximum (p signal.DigitalMaximum) (whole_number_of-spelled (at signal.DigitalMaximum) line.digital_maximum says.digital_maximum) (omega (arith, ints, low, order)) high) refl))) in
+    pass-cons plow (phigh ∷ dlow ∷ dhigh ∷ []) (physical-passes s signal.PhysicalMinimum (at signal.PhysicalMinimum) line.physical_minimum (p signal.PhysicalMinimum) (header_number_of-spelled (at signal.PhysicalMinimum) line.physical_minimum (decimal_in bytes (104 * n + 8 * s) 8 line.physical_minimum (omega arith) says.physical_minimum)))
+    (pass-cons phigh (dlow ∷ dhigh ∷ []) (physical-passes s signal.PhysicalMaximum (at signal.PhysicalMaximum) line.physical_maximum (p signal.PhysicalMaximum) (header_number_of-spelled (at signal.PhysicalMaximum) line.physical_maximum (decimal_in bytes (112 * n + 8 * s) 8 line.physical_maximum (omega arith) says.physical_maximum)))
+    (pass-cons dlow (dhigh ∷ []) (digital-passes s signal.DigitalMinimum (at signal.DigitalMinimum) line.digital_minimum (p signal.DigitalMinimum) (whole_number_of-spelled (at signal.DigitalMinimum) line.digital_minimum (whole_in bytes (120 * n + 8 * s) 8 line.digital_minimum (omega arith) says.digital_minimum)) low (omega (arith, ints, high, order)))
+    (pass-cons dhigh [] (digital-passes s signal.DigitalMaximum (at signal.DigitalMaximum) line.digital_maximum (p signal.DigitalMaximum) (whole_number_of-spelled (at signal.DigitalMaximum) line.digital_maximum (whole_in bytes (128 * n + 8 * s) 8 line.digital_maximum (omega arith) says.digital_maximum)) (omega (arith, ints, low, order)) high) refl))) in
     let sampling : first (sampling_faults bytes n s) ≡ None =
     pass-cons (text_fault s signal.Prefilter (at signal.Prefilter)) (count ∷ reserved ∷ []) (text-passes s signal.Prefilter (at signal.Prefilter) (p signal.Prefilter))
-    (pass-cons count (reserved ∷ []) (samples-passes s (at signal.Samples) (signal_of bytes n s before).samples (p signal.Samples) (whole_number_of-spelled (at signal.Samples) (pos (signal_of bytes n s before).samples) says.samples) sound.some_samples)
+    (pass-cons count (reserved ∷ []) (samples-passes s (at signal.Samples) (signal_of bytes n s before).samples (p signal.Samples) (whole_number_of-spelled (at signal.Samples) (pos (signal_of bytes n s before).samples) (whole_in bytes (216 * n + 8 * s) 8 (pos (signal_of bytes n s before).samples) (omega arith) says.samples)) sound.some_samples)
     (pass-cons reserved [] (text-passes s signal.Reserved (at signal.Reserved) (p signal.Reserved)) refl)) in
     let agreement : first (agreement_faults s (at signal.Label) line) ≡ None =
     pass-cons (digital_order_fault s line) (differ ∷ annotation ∷ []) (order-passes s line order)
-    (pass-cons differ (annotation ∷ []) (differ-passes s line c.differ)
+    (pass-cons differ (annotation ∷ []) (differ-passes s line sound.differ)
     (pass-cons annotation [] (annotation-passes s (at signal.Label) line sound.annotations) refl)) in
     pass-append (naming_faults bytes n s) (extreme_faults bytes n s ++ (sampling_faults bytes n s ++ agreement_faults s (at signal.Label) line)) naming
     (pass-append (extreme_faults bytes n s) (sampling_faults bytes n s ++ agreement_faults s (at signal.Label) line) extremes

@@ -119,12 +119,10 @@ count-below bytes at w k e =
 
 pub passes-sound : (bytes : List ℕ) (n s before : ℕ) → Passes bytes n s → IsSoundSignal (signal_of bytes n s before)
 passes-sound bytes n s before p = record {
-  calibration = record {
-    low = rw (p.digital_minimum).1 (p.digital_minimum).2;
-    high = rw (p.digital_maximum).1 (p.digital_maximum).3;
-    order = order-passed s (line_of bytes n s) p.order;
-    differ = differ-passed s (line_of bytes n s) p.differ;
-  };
+  low = rw (p.digital_minimum).1 (p.digital_minimum).2;
+  high = rw (p.digital_maximum).1 (p.digital_maximum).3;
+  order = order-passed s (line_of bytes n s) p.order;
+  differ = differ-passed s (line_of bytes n s) p.differ;
   some_samples = rw (p.samples).1 (p.samples).2;
   annotations = λ e. annotation-passed s (signal_field bytes n s signal.Label) (line_of bytes n s) p.annotations e;
 }

@@ -1,7 +1,7 @@
 -- When the header of a file is in order.
 use Rattle.std.specs.Prelude.{◌≡◌, ℕ, pos, ◌≤◌, ◌<◌, List, length, codes}
 use Rattle.edf_fields.specs.Parts.{text_of}
-use Rattle.edf_fields.specs.texts.Numbers.{SpellsWholeNumber}
+use Rattle.edf_fields.specs.texts.Numbers.{SpellsWhole}
 use Rattle.edf_fields.specs.declared.fields.layout.FixedField.{FixedField}
 use Rattle.edf_fields.specs.declared.fields.layout.FixedField.TheVariants as fixed
 use Rattle.edf_fields.specs.declared.fields.layout.SignalField.{SignalField}
@@ -16,6 +16,6 @@ pub record HeaderConforms (file : List ℕ) (h : Head) : Type 0 where
   pub front : (field : FixedField) → IsPrintable (fixed_field (fixed_part file) field)
   pub columns : (s : ℕ) → s < length h.signals → (field : SignalField) → IsPrintable (signal_field (columns_part (length h.signals) file) (length h.signals) s field)
   pub version : text_of (fixed_field (fixed_part file) fixed.Version) ≡ codes "0"
-  pub size : SpellsWholeNumber (fixed_field (fixed_part file) fixed.HeaderBytes) (pos (header_bytes h))
+  pub size : SpellsWhole (text_of (fixed_field (fixed_part file) fixed.HeaderBytes)) (pos (header_bytes h))
   pub head : HasHead file h
   pub standard : MeetsStandard h

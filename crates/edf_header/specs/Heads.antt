@@ -5,7 +5,7 @@ use Rattle.jiff.specs.Types.{Date}
 use Rattle.jiff.specs.Words.{epoch_day}
 use Rattle.jiff_core.specs.Calendar.{days_from_civil}
 use Rattle.edf_fields.specs.Parts.{text_of}
-use Rattle.edf_fields.specs.texts.Numbers.{SpellsWholeNumber, SpellsHeaderNumber}
+use Rattle.edf_fields.specs.texts.Numbers.{SpellsWhole, SpellsDecimal}
 use Rattle.edf_fields.specs.texts.Dates.{CivilDay, civil_day, NamesDottedDay, NamesDayMonth, NamesDashedDay, NamesClockTime}
 use Rattle.edf_fields.specs.texts.Identifications.{Patient, Recording, SaysPatient, SaysRecording}
 use Rattle.edf_header.specs.declared.kind.Kind.{Kind}
@@ -43,10 +43,6 @@ pub record Head : Type 0 where
 abbrev pub day_number : CivilDay → ℤ
 day_number day = days_from_civil day.year day.month day.day
 
--- the second at which the recording starts, 0 for 1970-01-01 00:00:00 (civil time, without a time zone)
-abbrev pub start_second : Head → ℤ
-start_second h = (pos 86400 *ℤ day_number h.day) +ℤ pos h.clock
-
 -- the startdate says this day of the calendar: by itself where it has a year, and else with the recording date, after 2084 (EDF+, "Additional specifications in EDF+")
 abbrev pub NamesStartdate : List ℕ → List ℕ → CivilDay → Type 0
 NamesStartdate text recorded day =
@@ -59,21 +55,17 @@ abbrev pub kind_word : Kind → List ℕ
 kind_word Contiguous = codes "EDF+C"
 kind_word Interrupted = codes "EDF+D"
 
--- a number in units of 10^-7 s, in picoseconds
-abbrev pub in_picoseconds : ℤ → ℤ
-in_picoseconds units = units *ℤ pos 100000
-
 -- the fields of signal s of n have these texts and numbers
 pub record HasSignal (bytes : List ℕ) (n s : ℕ) (head : SignalHead) : Type 0 where
   pub label : head.label ≡ text_of (signal_field bytes n s signal.Label)
   pub transducer : head.transducer ≡ text_of (signal_field bytes n s signal.Transducer)
   pub dimension : head.dimension ≡ text_of (signal_field bytes n s signal.Dimension)
-  pub physical_minimum : SpellsHeaderNumber (signal_field bytes n s signal.PhysicalMinimum) head.calibration.physical_minimum
-  pub physical_maximum : SpellsHeaderNumber (signal_field bytes n s signal.PhysicalMaximum) head.calibration.physical_maximum
-  pub digital_minimum : SpellsWholeNumber (signal_field bytes n s signal.DigitalMinimum) head.calibration.digital_minimum
-  pub digital_maximum : SpellsWholeNumber (signal_field bytes n s signal.DigitalMaximum) head.calibration.digital_maximum
+  pub physical_minimum : SpellsDecimal 7 (text_of (signal_field bytes n s signal.PhysicalMinimum)) head.calibration.physical_minimum
+  pub physical_maximum : SpellsDecimal 7 (text_of (signal_field bytes n s signal.PhysicalMaximum)) head.calibration.physical_maximum
+  pub digital_minimum : SpellsWhole (text_of (signal_field bytes n s signal.DigitalMinimum)) head.calibration.digital_minimum
+  pub digital_maximum : SpellsWhole (text_of (signal_field bytes n s signal.DigitalMaximum)) head.calibration.digital_maximum
   pub prefilter : head.prefilter ≡ text_of (signal_field bytes n s signal.Prefilter)
-  pub samples : SpellsWholeNumber (signal_field bytes n s signal.Samples) (pos head.samples)
+  pub samples : SpellsWhole (text_of (signal_field bytes n s signal.Samples)) (pos head.samples)
   pub reserved : head.reserved ≡ text_of (signal_field bytes n s signal.Reserved)
 
 -- the first of these signals has so many bytes before it in a data record, and each other one also those of the signals before it, two a sample
@@ -89,11 +81,9 @@ pub record HasHead (file : List ℕ) (h : Head) : Type 0 where
   pub clock : NamesClockTime (text_of (fixed_field (fixed_part file) fixed.Starttime)) h.clock
   pub kind : take 5 (fixed_field (fixed_part file) fixed.Reserved) ≡ kind_word h.kind
   pub free : h.free ≡ text_of (drop 5 (fixed_field (fixed_part file) fixed.Reserved))
-  pub records : SpellsWholeNumber (fixed_field (fixed_part file) fixed.Records) (pos h.records)
-  pub units : ℤ
-  pub duration_spelled : SpellsHeaderNumber (fixed_field (fixed_part file) fixed.Duration) units
-  pub duration : h.duration ≡ in_picoseconds units
-  pub count : SpellsWholeNumber (fixed_field (fixed_part file) fixed.Signals) (pos (length h.signals))
+  pub records : SpellsWhole (text_of (fixed_field (fixed_part file) fixed.Records)) (pos h.records)
+  pub duration : SpellsDecimal 12 (text_of (fixed_field (fixed_part file) fixed.Duration)) h.duration
+  pub count : SpellsWhole (text_of (fixed_field (fixed_part file) fixed.Signals)) (pos (length h.signals))
   pub signals : (s : ℕ) (head : SignalHead) → slice_get h.signals s ≡ Some head → HasSignal (columns_part (length h.signals) file) (length h.signals) s head
   pub offsets : AreSideBySide 0 h.signals
 

@@ -1,5 +1,5 @@
 -- The header of a file, as it is read.
-use Rattle.std.specs.Prelude.{◌≡◌, ℕ, zero, suc, ℤ, pos, negsuc, int_le, ◌+◌, ◌*◌, List, [], ◌∷◌, drop, take, Option, Some, None, unwrap_or, codes, if◌then◌else◌}
+use Rattle.std.specs.Prelude.{◌≡◌, ℕ, zero, suc, ℤ, pos, negsuc, int_le, ◌+◌, ◌*◌, List, [], ◌∷◌, drop, take, Option, Some, None, unwrap_or, codes, if◌then◌else◌, ◌*ℤ◌, ◌+ℤ◌}
 use Rattle.std.specs.Str.{bytes_eq}
 use Rattle.edf_fields.specs.Parts.{text_of}
 use Rattle.edf_fields.specs.texts.NumbersReading.{whole_number_of, header_number_of}
@@ -14,7 +14,7 @@ use Rattle.edf_fields.specs.declared.fields.layout.FixedField.TheVariants as fix
 use Rattle.edf_fields.specs.declared.fields.layout.SignalField.TheVariants as signal
 use Rattle.edf_header.specs.signals.Calibrations.{Line}
 use Rattle.edf_fields.specs.fields.Layout.{fixed_part, fixed_field, columns_part, signal_field}
-use Rattle.edf_header.specs.Heads.{SignalHead, Head, in_picoseconds, HasHead}
+use Rattle.edf_header.specs.Heads.{SignalHead, Head, HasHead, day_number}
 
 -- a number that counts something, or 0 where none is spelled, or one below 0
 abbrev pub count_of : Option ℤ → ℕ
@@ -103,9 +103,13 @@ head_in front bytes = record {
   kind = kind_of (fixed_field front fixed.Reserved);
   free = text_of (drop 5 (fixed_field front fixed.Reserved));
   records = count_of (whole_number_of (fixed_field front fixed.Records));
-  duration = in_picoseconds (unwrap_or (header_number_of (fixed_field front fixed.Duration)) (pos 0));
+  duration = unwrap_or (header_number_of (fixed_field front fixed.Duration)) (pos 0) *ℤ pos 100000;
   signals = signals_in (signals_of front) bytes;
 }
+
+-- the second at which the recording starts, 0 for 1970-01-01 00:00:00 (civil time, without a time zone)
+abbrev pub start_second : Head → ℤ
+start_second h = (pos 86400 *ℤ day_number h.day) +ℤ pos h.clock
 
 -- the header of a file
 unfoldable pub head_of : List ℕ → Head

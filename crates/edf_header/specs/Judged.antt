@@ -1,5 +1,5 @@
 -- What the code holds of the two halves of the fixed part, once their tests have passed.
-use Rattle.std.specs.Prelude.{◌≡◌, ℕ, pos, ◌≤◌, ◌<◌, ◌≤ℤ◌, ◌^◌, List, None, unwrap_or, unsigned_abs}
+use Rattle.std.specs.Prelude.{◌≡◌, ℕ, pos, ◌≤◌, ◌<◌, ◌≤ℤ◌, ◌^◌, List, None, unwrap_or, unsigned_abs, ◌*ℤ◌}
 use Rattle.jiff.specs.Words.{epoch_day}
 use Rattle.edf_fields.specs.Parts.{text_of}
 use Rattle.edf_fields.specs.texts.NumbersReading.{whole_number_of, header_number_of}
@@ -10,7 +10,6 @@ use Rattle.edf_header.specs.declared.fixed_part.fixed.RecordingStart.{RecordingS
 use Rattle.edf_header.specs.declared.fixed_part.fixed.Extent.{Extent}
 use Rattle.edf_fields.specs.declared.fields.layout.FixedField.TheVariants as fixed
 use Rattle.edf_fields.specs.fields.Layout.{fixed_field}
-use Rattle.edf_header.specs.Heads.{in_picoseconds}
 use Rattle.edf_header.specs.HeadsReading.{startdate_of, first_day, recording_in, kind_of, count_of, signals_of}
 
 -- the fields up to the starttime say this
@@ -27,7 +26,7 @@ pub record SaysStart (front : List ℕ) (v : RecordingStart) : Type 0 where
 pub record SaysExtent (front : List ℕ) (v : Extent) : Type 0 where
   pub kind : kind_of (fixed_field front fixed.Reserved) ≡ v.kind
   pub records : count_of (whole_number_of (fixed_field front fixed.Records)) ≡ v.records
-  pub duration : in_picoseconds (unwrap_or (header_number_of (fixed_field front fixed.Duration)) (pos 0)) ≡ v.duration_ps
+  pub duration : unwrap_or (header_number_of (fixed_field front fixed.Duration)) (pos 0) *ℤ pos 100000 ≡ v.duration_ps
   pub signals : signals_of front ≡ v.signals
   pub some_records : 1 ≤ v.records
   pub few_records : v.records < 10 ^ 8

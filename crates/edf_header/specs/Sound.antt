@@ -1,7 +1,7 @@
 -- What holds of every header that was read and passed its tests.
-use Rattle.std.specs.Prelude.{◌<◌, ◌^◌, length, unsigned_abs}
+use Rattle.std.specs.Prelude.{◌≡◌, ◌⊎◌, ◌<◌, ◌^◌, codes, length, unsigned_abs}
 use Rattle.std.specs.List.{All}
-use Rattle.edf_fields.specs.texts.Identifications.{IsPatient, IsDateOrX}
+use Rattle.edf_fields.specs.texts.Identifications.{IsDateOrX}
 use Rattle.edf_header.specs.signals.CalibrationLaws.{AreShort}
 use Rattle.edf_header.specs.Heads.{SignalHead, Head, day_number, AreSideBySide}
 use Rattle.edf_header.specs.Standard.{MeetsStandard}
@@ -24,6 +24,7 @@ pub record HasBounds (h : Head) : Type 0 where
 pub record IsSound (h : Head) : Type 0 where
   pub standard : MeetsStandard h
   pub bounds : HasBounds h
-  pub patient : IsPatient h.patient
+  pub sex : (h.patient.sex ≡ codes "F") ⊎ (h.patient.sex ≡ codes "M") ⊎ (h.patient.sex ≡ codes "X")
+  pub birthdate : IsDateOrX h.patient.birthdate
   pub date : IsDateOrX h.recording.date
   pub offsets : AreSideBySide 0 h.signals

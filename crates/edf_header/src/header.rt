@@ -3,7 +3,8 @@
 ghost use Rattle.std.specs.Prelude.{◌≡◌, ◌<◌, ◌≤◌, ◌≤ℤ◌, ◌^◌, ◌*ℤ◌, ◌+ℤ◌, pos, unsigned_abs};
 ghost use Rattle.edf_fields.specs.texts.Dates.{civil_day};
 ghost use Rattle.edf_fields.specs.texts.IdentificationsReading.{patient_of, recording_of};
-ghost use Rattle.edf_header.specs.Heads.{start_second, record_bytes};
+ghost use Rattle.edf_header.specs.Heads.{record_bytes};
+ghost use Rattle.edf_header.specs.HeadsReading.{start_second};
 ghost use Rattle.edf_header.specs.signals.Lanes.{annotation_places};
 ghost use Rattle.edf_header.specs.Sound.{IsSound};
 

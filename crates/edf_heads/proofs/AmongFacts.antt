@@ -2,7 +2,7 @@
 use Rattle.std.proofs.Common.{◌≡◌, ℕ, zero, suc, ◌≤◌, true, false, List, [], ◌∷◌, ◌++◌, length, length-append, drop, map, filter, Some, None, slice_get, ⊎_elim, refl, sym, ap, ◌∙◌, subst, arith, append_assoc}
 use Rattle.std.proofs.lemmas.List.{append-nil, drop_all, length-map, map-append}
 use Rattle.edf_fields.proofs.ForCallers.{has-append}
-use Rattle.edf_header.specs.signals.Channels.{is_ordinary}
+use Rattle.edf_header.specs.signals.ChannelsReading.{is_ordinary}
 use Rattle.edf_header.specs.Heads.{SignalHead}
 use Rattle.edf_heads.specs.ChannelIndexes.{IsAmong, AreAmong}
 use Rattle.edf_heads.specs.declared.channel_index.Channel.{Channel}

@@ -10,7 +10,7 @@ use Rattle.std.proofs.lemmas.List.Sorted.{searchable_from_sorted, IsPermutation-
 use Rattle.std.proofs.lemmas.Slice.Eq.{bytes_eq-Decides}
 use Rattle.edf_fields.specs.Lists.{Has}
 use Rattle.edf_fields.proofs.ForCallers.{and-true, not-true, at-has, get-index, get-within, has-map, map-has, has-permutation, has-filtered, filtered-has, find-none, find-some}
-use Rattle.edf_header.specs.signals.ChannelsReading.{is_channel_of}
+use Rattle.edf_header.specs.signals.ChannelsReading.{is_channel_of, is_ordinary}
 use Rattle.edf_header.specs.Heads.{SignalHead, Head, is_annotations}
 use Rattle.edf_header.specs.Sound.{IsSound}
 use Rattle.edf_heads.specs.Channels.{IsChannelOf}
@@ -18,7 +18,6 @@ use Rattle.edf_heads.specs.differences.ChannelDifferences.{HasNoChannel}
 use Rattle.edf_heads.specs.ChannelIndexes.{IsAmong, AreAmong, IsChannelAt, AreByLabel, IsChannelIndex}
 use Rattle.edf_heads.specs.Comparisons.{channel_of}
 use Rattle.edf_heads.specs.declared.channel_index.Channel.{Channel}
-use Rattle.edf_header.specs.signals.Channels.{is_ordinary}
 use Rattle.edf_heads.proofs.LabelFacts.{equal-tested, same-label}
 use Rattle.edf_heads.proofs.ListFacts.{has-get}
 

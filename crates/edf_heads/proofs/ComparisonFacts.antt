@@ -12,7 +12,7 @@ use Rattle.edf_heads.specs.differences.ChannelDifferences.{HasChannel, HasAll, H
 use Rattle.edf_heads.specs.ChannelIndexes.{AreByLabel, IsChannelIndex}
 use Rattle.edf_heads.specs.declared.channel_index.Channel.{Channel}
 use Rattle.edf_heads.specs.Comparisons.{channel_of, Claimed, claimed_of, AreSorted, HasNoExtra}
-use Rattle.edf_header.specs.signals.Channels.{is_ordinary}
+use Rattle.edf_header.specs.signals.ChannelsReading.{is_ordinary}
 use Rattle.edf_heads.specs.Firsts.{IsFirstWith}
 use Rattle.edf_heads.specs.Labels.{IsNotAbove}
 use Rattle.edf_heads.proofs.ChannelFacts.{channel-some, channel-none}

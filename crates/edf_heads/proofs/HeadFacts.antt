@@ -4,7 +4,8 @@ use Rattle.std.proofs.lemmas.List.Sorted.{IsPermutation-sym}
 use Rattle.edf_fields.specs.Lists.{Has, is_one_of}
 use Rattle.edf_fields.specs.Distinct.{AreDistinct}
 use Rattle.edf_fields.proofs.ForCallers.{one_of-has, has-one_of, at-has, has-permutation, has-map, map-has, has-filtered, filtered-has, not-true}
-use Rattle.edf_header.specs.signals.Channels.{IsLabelled, HasDistinctChannels, is_ordinary, channels_among, channel_labels}
+use Rattle.edf_header.specs.signals.Channels.{IsLabelled, HasDistinctChannels, channels_among, channel_labels}
+use Rattle.edf_header.specs.signals.ChannelsReading.{is_ordinary}
 use Rattle.edf_header.specs.Heads.{SignalHead, Head, is_annotations}
 use Rattle.edf_header.specs.Sound.{IsSound}
 use Rattle.edf_claim.specs.Claims.{IsClaim}

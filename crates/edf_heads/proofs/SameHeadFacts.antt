@@ -1,5 +1,6 @@
 -- What holds of headers holds of headers that say the same.
 use Rattle.std.proofs.Common.{◌≡◌, ◌↔◌, ℕ, List, [], ◌∷◌, inl, inr, ⊎_elim, refl, sym, ◌∙◌, subst}
+use Rattle.std.specs.Prelude.{◌<ℤ◌}
 use Rattle.std.specs.List.{All}
 use Rattle.std.proofs.lemmas.List.Sorted.{IsPermutation-refl, IsPermutation-sym, IsPermutation-trans}
 use Rattle.edf_claim.specs.Terms.{Terms}
@@ -7,7 +8,6 @@ use Rattle.edf_fields.specs.declared.fields.which.Which.{Which}
 use Rattle.edf_fields.specs.declared.fields.which.Which.TheVariants.{PatientExtras, Date, RecordingExtras}
 use Rattle.edf_fields.specs.texts.Identifications.{Patient, Recording}
 use Rattle.edf_fields.proofs.ForCallers.{has-permutation}
-use Rattle.edf_header.specs.signals.Calibrations.{AreExtremes}
 use Rattle.edf_header.specs.signals.Channels.{channel_labels}
 use Rattle.edf_header.specs.Heads.{SignalHead, Head}
 use Rattle.edf_header.specs.Sound.{IsSound}
@@ -78,8 +78,8 @@ blank-alike-self h sound = record {
 pub there : (h g : Head) → AreSameHeads h g → (l : List ℕ) → HasChannel h l → HasChannel g l
 there h g s l c = label-has g l (has-permutation (channel_labels h.signals) (channel_labels g.signals) l s.channels (has-label h l c))
 
-sound-channel : (h : Head) (l : List ℕ) (x : SignalHead) → IsSound h → IsChannelOf h l x → AreExtremes x.calibration
-sound-channel h l x sound c = (of-all IsSoundSignal h.signals sound.standard.signals x c.there).calibration
+sound-channel : (h : Head) (l : List ℕ) (x : SignalHead) → IsSound h → IsChannelOf h l x → (x.calibration).digital_minimum <ℤ (x.calibration).digital_maximum
+sound-channel h l x sound c = (of-all IsSoundSignal h.signals sound.standard.signals x c.there).order
 
 -- ---- two headers in place of two others
 
@@ -109,7 +109,7 @@ first-carried P Q there back (y ∷ ys) x (inr h) = inr ((λ q. h.0 (back y q)),
 
 -- what holds of a channel of the one and one of the other holds of those in their places
 abbrev pub Carries : (SignalHead → SignalHead → Type 0) → Type 0
-Carries Alike = (x y x' y' : SignalHead) → AreExtremes x.calibration → AreExtremes y.calibration → AreSameChannels x x' → AreSameChannels y y' → Alike x y → Alike x' y'
+Carries Alike = (x y x' y' : SignalHead) → (x.calibration).digital_minimum <ℤ (x.calibration).digital_maximum → (y.calibration).digital_minimum <ℤ (y.calibration).digital_maximum → AreSameChannels x x' → AreSameChannels y y' → Alike x y → Alike x' y'
 
 text-carried : (field : TextField) → Carries (HaveSameText field)
 text-carried Transducer x y x' y' ex ey s r h = sym s.transducer ∙ h ∙ r.transducer
@@ -121,8 +121,8 @@ texts-carried x y x' y' ex ey s r h = (text-carried Transducer x y x' y' ex ey s
 pub calibration-carried : Carries HaveSameCalibration
 calibration-carried x y x' y' ex ey s r h =
     let through = same_line_is_equivalence.2 in
-    let line = through x'.calibration x.calibration y'.calibration ex.order (same_line_is_equivalence.1 x.calibration x'.calibration s.line)
-    (through x.calibration y.calibration y'.calibration ey.order (h.gain, h.offset) r.line) in
+    let line = through x'.calibration x.calibration y'.calibration ex (same_line_is_equivalence.1 x.calibration x'.calibration s.line)
+    (through x.calibration y.calibration y'.calibration ey (h.gain, h.offset) r.line) in
     record { dimension = sym s.dimension ∙ h.dimension ∙ r.dimension; gain = line.0; offset = line.1 }
 
 alike-carried : (Alike : SignalHead → SignalHead → Type 0) → Carries Alike → (o e o' e' : Head) → AreSamePairs o e o' e' → (l : List ℕ) → AreAlike Alike o e l → AreAlike Alike o' e' l

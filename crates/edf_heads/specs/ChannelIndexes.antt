@@ -5,7 +5,8 @@ use Rattle.std.specs.List.Sorted.{IsSorted, IsPermutation}
 use Rattle.std.specs.Ordering.{nat_cmp}
 use Rattle.std.specs.Borrow.{Bor}
 use Rattle.edf_fields.specs.Lists.{Has, is_one_of}
-use Rattle.edf_header.specs.signals.Channels.{is_ordinary, channels_among}
+use Rattle.edf_header.specs.signals.Channels.{channels_among}
+use Rattle.edf_header.specs.signals.ChannelsReading.{is_ordinary}
 use Rattle.edf_header.specs.Heads.{SignalHead, Head}
 use Rattle.edf_header.specs.Sound.{IsSound}
 use Rattle.edf_heads.specs.declared.channel_index.Channel.{Channel}

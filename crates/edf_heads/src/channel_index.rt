@@ -5,7 +5,7 @@ ghost use Rattle.std.specs.Prelude.{◌≡◌, ◌≤◌, ◌^◌, length, map, 
 ghost use Rattle.std.specs.Cmp.Lexicographic.{slice_cmp};
 ghost use Rattle.std.specs.List.Sorted.{IsPermutation};
 ghost use Rattle.std.specs.Ordering.{nat_cmp};
-ghost use Rattle.edf_header.specs.signals.Channels.{is_ordinary};
+ghost use Rattle.edf_header.specs.signals.ChannelsReading.{is_ordinary};
 ghost use Rattle.edf_header.specs.Sound.{IsSound};
 ghost use Rattle.edf_heads.specs.differences.ChannelDifferences.{HasNoChannel};
 ghost use Rattle.edf_heads.specs.ChannelIndexes.{AreAmong, AreByLabel, IsChannelAt, IsOneLabelled, NoneIsLabelled};

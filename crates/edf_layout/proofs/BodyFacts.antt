@@ -15,7 +15,8 @@ use Rattle.edf_tal.specs.Reading.{Item}
 use Rattle.edf_tal.proofs.ForCallers.{lane-read}
 use Rattle.edf_stream.specs.Conforming.{FollowsOn, Conforms}
 use Rattle.edf_stream.specs.annotation.Notes.{NoteValue, AreLanesOf, SaysRecord}
-use Rattle.edf_stream.specs.records.Records.{record_place, record_at, lane_of, lane_at, annotation_lanes}
+use Rattle.edf_stream.specs.records.Records.{record_at, lane_of, annotation_lanes}
+use Rattle.edf_stream.specs.records.RecordsReading.{record_place, lane_at}
 use Rattle.edf_stream.specs.samples.Samples.{SampleValue, IsSample}
 use Rattle.edf_stream.specs.samples.Values.{digital, digital_value}
 use Rattle.edf_stream.specs.times.Starts.{file_start}

@@ -1,9 +1,9 @@
 -- What a header says and its layout give its bytes.
 use Rattle.std.proofs.Common.{◌≡◌, ◌↔◌, ◌⊎◌, inl, inr, ℕ, pos, zero, suc, Bool, true, false, ◌+◌, ◌*◌, ◌<◌, ◌≤◌, List, [], ◌∷◌, ◌++◌, length, take, drop, slice_get, Some, None, codes, arith, refl, ap, ◌∙◌, sym, subst}
+use Rattle.edf_fields.specs.texts.Numbers.{SpellsWhole, SpellsDecimal}
 use Rattle.std.proofs.Math.Seq.{take-add}
 use Rattle.std.proofs.lemmas.List.{length-take, length-drop, take-append-drop}
 use Rattle.edf_fields.specs.Parts.{part, text_of}
-use Rattle.edf_fields.specs.texts.Numbers.{SpellsWholeNumber, SpellsHeaderNumber}
 use Rattle.edf_fields.specs.texts.Dates.{NamesClockTime}
 use Rattle.edf_fields.specs.texts.Identifications.{Patient, Recording, SaysPatient, SaysRecording}
 use Rattle.edf_fields.specs.declared.fields.layout.FixedField.{FixedField}
@@ -249,11 +249,9 @@ has-head-too file other h front columns has = record {
   clock = subst (λ f. NamesClockTime (text_of (fixed_field f fixed.Starttime)) h.clock) front has.clock;
   kind = subst (λ f. take 5 (fixed_field f fixed.Reserved) ≡ kind_word h.kind) front has.kind;
   free = subst (λ f. h.free ≡ text_of (drop 5 (fixed_field f fixed.Reserved))) front has.free;
-  records = subst (λ f. SpellsWholeNumber (fixed_field f fixed.Records) (pos h.records)) front has.records;
-  units = has.units;
-  duration_spelled = subst (λ f. SpellsHeaderNumber (fixed_field f fixed.Duration) has.units) front has.duration_spelled;
-  duration = has.duration;
-  count = subst (λ f. SpellsWholeNumber (fixed_field f fixed.Signals) (pos (length h.signals))) front has.count;
+  records = subst (λ f. SpellsWhole (text_of (fixed_field f fixed.Records)) (pos h.records)) front has.records;
+  duration = subst (λ f. SpellsDecimal 12 (text_of (fixed_field f fixed.Duration)) h.duration) front has.duration;
+  count = subst (λ f. SpellsWhole (text_of (fixed_field f fixed.Signals)) (pos (length h.signals))) front has.count;
   signals = subst (λ bytes. (s : ℕ) (head : SignalHead) → slice_get h.signals s ≡ Some head → HasSignal bytes (length h.signals) s head) columns has.signals;
   offsets = has.offsets;
 }

@@ -5,9 +5,11 @@ use Rattle.edf_fields.specs.texts.Onsets.{SpellsOnset}
 use Rattle.edf_header.specs.Heads.{SignalHead, Head, is_annotations}
 use Rattle.edf_header.proofs.ForCallers.{one_head}
 use Rattle.edf_stream.specs.annotation.Notes.{AreLanesOf}
-use Rattle.edf_tal.specs.Tals.{TalValue, SpellsDuration, IsLaneOf, are_zeros, ended}
+use Rattle.edf_tal.specs.Tals.{TalValue, SpellsDuration, IsLaneOf}
+use Rattle.edf_tal.specs.Reading.{ended, are_zeros}
 use Rattle.edf_stream.specs.Conforming.{Conforms}
-use Rattle.edf_stream.specs.records.Records.{lane_at, lane_of, record_at, annotation_lanes}
+use Rattle.edf_stream.specs.records.Records.{lane_of, record_at, annotation_lanes}
+use Rattle.edf_stream.specs.records.RecordsReading.{lane_at}
 use Rattle.edf_layout.specs.BodyLaws.{AreBytes, HaveSameSamples, HaveSameAnnotationLanes}
 use Rattle.edf_layout.specs.HeadLaws.{SayTheSame, header_of}
 use Rattle.edf_layout.specs.HeadLayouts.{head_layout_of}
@@ -55,11 +57,11 @@ onsets-same t u v h k e = elim (alike (is_plain_onset t) (is_plain_onset u) t u 
 
 durations-same : (t u : List ℕ) (v : Option ℤ) → SpellsDuration t v → SpellsDuration u v → unless_plain (is_plain_duration t) t ≡ unless_plain (is_plain_duration u) u → t ≡ u
 durations-same t u None h k e = h ∙ sym k
-durations-same t u (Some v) (span, is, spelled) (other, too, spelled2) e = elim (alike (is_plain_duration t) (is_plain_duration u) t u e) [
+durations-same t u (Some v) (span, is, time, value) (other, too, time2, value2) e = elim (alike (is_plain_duration t) (is_plain_duration u) t u e) [
   | inl both ↦
       let one : is_plain_unsigned span ≡ true = sym (ap is_plain_duration is) ∙ both.0 in
       let two : is_plain_unsigned other ≡ true = sym (ap is_plain_duration too) ∙ both.1 in
-      is ∙ ap (λ s. 21 ∷ s) (one_plain_span span other v spelled spelled2 one two) ∙ sym too
+      is ∙ ap (λ s. 21 ∷ s) (one_plain_span span other v (time, value) (time2, value2) one two) ∙ sym too
   | inr same ↦ same
 ]
 

@@ -9,7 +9,7 @@ use Rattle.edf_fields.specs.declared.fields.layout.FixedField.TheVariants as fix
 use Rattle.edf_fields.specs.declared.fields.layout.SignalField.TheVariants as signal
 use Rattle.edf_fields.specs.fields.Layout.{fixed_part, fixed_field, columns_part, signal_field}
 use Rattle.edf_fields.specs.texts.NumbersReading.{whole_number_of}
-use Rattle.edf_fields.proofs.ForCallers.{whole_number_of-spelled}
+use Rattle.edf_fields.proofs.ForCallers.{whole_number_of-spelled, whole_in}
 use Rattle.edf_header.specs.Conforming.{HeaderConforms}
 use Rattle.edf_header.specs.Faults.{header_fault}
 use Rattle.edf_header.specs.Heads.{SignalHead, Head, HasSignal}
@@ -232,8 +232,8 @@ counts-same file other h g c d same =
     let less = front-long other g d in
     let field : fixed_field xs fixed.Signals ≡ fixed_field ys fixed.Signals = field-same xs ys 252 4 (omega arith) (omega arith) (ap (λ (l : FrontLayout). l.count) same) in
     let values : Some (pos (length h.signals)) ≡ Some (pos (length g.signals)) =
-    sym (whole_number_of-spelled (fixed_field xs fixed.Signals) (pos (length h.signals)) (c.head).count) ∙ ap whole_number_of field
-    ∙ whole_number_of-spelled (fixed_field ys fixed.Signals) (pos (length g.signals)) (d.head).count in
+    sym (whole_number_of-spelled (fixed_field xs fixed.Signals) (pos (length h.signals)) (whole_in xs 252 4 (pos (length h.signals)) (omega arith) (c.head).count)) ∙ ap whole_number_of field
+    ∙ whole_number_of-spelled (fixed_field ys fixed.Signals) (pos (length g.signals)) (whole_in ys 252 4 (pos (length g.signals)) (omega arith) (d.head).count) in
     let value : pos (length h.signals) ≡ pos (length g.signals) = cc in
     omega (arith, ints, value)
 

@@ -3,7 +3,7 @@ use Rattle.std.proofs.Common.{◌≡◌, ◌⊎◌, inl, inr, ℕ, ℤ, zero, su
 use Rattle.std.specs.List.{slice_split, onto_first, list_all, position_or_len}
 use Rattle.std.proofs.lemmas.Bool.Decides.{nat_tests}
 use Rattle.edf_fields.specs.Parts.{text_of}
-use Rattle.edf_fields.specs.texts.Numbers.{AreDigits, IsDecimal, SpellsWholeNumber, SpellsHeaderNumber, has_minus, unsigned, is_dot, before_dot, behind_dot}
+use Rattle.edf_fields.specs.texts.Numbers.{AreDigits, IsDecimal, has_minus, unsigned, before_dot, behind_dot, SpellsWhole, SpellsDecimal}
 use Rattle.edf_fields.specs.texts.Printable.{IsPrintable}
 use Rattle.edf_layout.specs.Spaces.{is_other, spaces_of}
 use Rattle.edf_layout.proofs.CutLineFacts.{High, Shown, sum}
@@ -50,32 +50,32 @@ high-signed (c ∷ cs) h = high-behind (has_minus (c ∷ cs) || (c == 43)) c cs 
 -- digits with a dot among them
 high-decimal-text : (u : List ℕ) → High (before_dot u) → High (behind_dot u) → High u
 high-decimal-text [] h k = tt
-high-decimal-text (c ∷ cs) h k = elim (bool-cases (is_dot c)) [
+high-decimal-text (c ∷ cs) h k = elim (bool-cases (c == 46)) [
   | inl dot ↦ ((dot-high c dot), subst High (behind-here c cs dot) k)
   | inr none ↦
       let first : High (c ∷ before_dot cs) = subst High (before-more c cs none) h in
       (first.0, high-decimal-text cs first.1 (subst High (behind-more c cs none) k))
 ]
   where
-    dot-high : (c : ℕ) → is_dot c ≡ true → 43 ≤ c
+    dot-high : (c : ℕ) → (c == 46) ≡ true → 43 ≤ c
     dot-high c h = grind (arith, nat_tests)
 
-    behind-here : (c : ℕ) (cs : List ℕ) → is_dot c ≡ true → behind_dot (c ∷ cs) ≡ cs
+    behind-here : (c : ℕ) (cs : List ℕ) → (c == 46) ≡ true → behind_dot (c ∷ cs) ≡ cs
     behind-here c cs h = rw h refl
 
-    before-more : (c : ℕ) (cs : List ℕ) → is_dot c ≡ false → before_dot (c ∷ cs) ≡ c ∷ before_dot cs
-    before-more c cs h = rw h (ap (λ n. take n (c ∷ cs)) (let e : 1 + position_or_len is_dot cs ≡ suc (position_or_len is_dot cs) = omega arith in e))
+    before-more : (c : ℕ) (cs : List ℕ) → (c == 46) ≡ false → before_dot (c ∷ cs) ≡ c ∷ before_dot cs
+    before-more c cs h = rw h (ap (λ n. take n (c ∷ cs)) (let e : 1 + position_or_len (λ b. b == 46) cs ≡ suc (position_or_len (λ b. b == 46) cs) = omega arith in e))
 
-    behind-more : (c : ℕ) (cs : List ℕ) → is_dot c ≡ false → behind_dot (c ∷ cs) ≡ behind_dot cs
-    behind-more c cs h = rw h (ap (λ n. drop n (c ∷ cs)) (let e : 1 + position_or_len is_dot cs + 1 ≡ suc (position_or_len is_dot cs + 1) = omega arith in e))
+    behind-more : (c : ℕ) (cs : List ℕ) → (c == 46) ≡ false → behind_dot (c ∷ cs) ≡ behind_dot cs
+    behind-more c cs h = rw h (ap (λ n. drop n (c ∷ cs)) (let e : 1 + position_or_len (λ b. b == 46) cs + 1 ≡ suc (position_or_len (λ b. b == 46) cs + 1) = omega arith in e))
 
-pub high-whole : (field : List ℕ) (v : ℤ) → SpellsWholeNumber field v → High (text_of field)
-high-whole field v h = high-signed (text_of field) (high-all (unsigned (text_of field)) h.1.0)
+pub high-whole : (field : List ℕ) (v : ℤ) → SpellsWhole (text_of field) v → High (text_of field)
+high-whole field v h = high-signed (text_of field) (high-all (unsigned (text_of field)) h.0)
 
-pub high-number : (field : List ℕ) (v : ℤ) → SpellsHeaderNumber field v → High (text_of field)
+pub high-number : (field : List ℕ) (v : ℤ) → SpellsDecimal 7 (text_of field) v → High (text_of field)
 high-number field v h =
     let u = unsigned (text_of field) in
-    let is : IsDecimal u = h.1.0 in
+    let is : IsDecimal u = h.0 in
     high-signed (text_of field) (high-decimal-text u (high-all (before_dot u) is.0) (high-all (behind_dot u) is.1))
 
 -- how many stretches of spaces a text has, and how long they are

@@ -2,7 +2,7 @@
 use Rattle.std.specs.Prelude.{◌≡◌, ℕ, ◌<◌, ◌↔◌, List, All, Some, true, slice_get}
 use Rattle.edf_header.specs.Heads.{SignalHead, Head, is_annotations}
 use Rattle.edf_stream.specs.Conforming.{Conforms}
-use Rattle.edf_stream.specs.records.Records.{lane_at}
+use Rattle.edf_stream.specs.records.RecordsReading.{lane_at}
 use Rattle.edf_stream.specs.samples.Samples.{SampleValue, IsSample}
 use Rattle.edf_layout.specs.HeadLaws.{header_of}
 

@@ -3,7 +3,7 @@ use Rattle.std.specs.Prelude.{◌≡◌, ℕ, ◌<◌, ◌↔◌, List, length, 
 use Rattle.edf_header.specs.Heads.{SignalHead, Head, is_annotations}
 use Rattle.edf_tal.specs.Tals.{TalValue, IsLaneOf}
 use Rattle.edf_stream.specs.Conforming.{Conforms}
-use Rattle.edf_stream.specs.records.Records.{lane_at}
+use Rattle.edf_stream.specs.records.RecordsReading.{lane_at}
 use Rattle.edf_layout.specs.BodyLaws.{AreBytes, HaveSameSamples}
 use Rattle.edf_layout.specs.HeadLaws.{SayTheSame}
 use Rattle.edf_layout.specs.HeadLayouts.{head_layout_of}

@@ -1,6 +1,7 @@
 -- How the TALs of a lane are spelled. EDF+ (2003), "Time-stamped Annotations Lists (TALs) in an 'EDF Annotations' signal".
 use Rattle.std.specs.Prelude.{◌≡◌, ℕ, Bool, true, List, [], ◌∷◌, ◌++◌, Option, Some, None, if◌then◌else◌}
-use Rattle.edf_tal.specs.Tals.{TalValue, SpellsTal, are_zeros}
+use Rattle.edf_tal.specs.Tals.{TalValue, SpellsTal}
+use Rattle.edf_tal.specs.Reading.{are_zeros}
 use Rattle.edf_layout.specs.PlainNumbers.{is_plain_unsigned}
 use Rattle.edf_layout.specs.PlainLaws.{is_plain_onset}
 

@@ -2,8 +2,10 @@
 use Rattle.std.specs.Prelude.{◌≡◌, ℕ, ℤ, Bool, true, not, ◌&&◌, List, [], drop, codes}
 use Rattle.std.specs.Str.{bytes_eq}
 use Rattle.edf_fields.specs.Parts.{text_of}
-use Rattle.edf_fields.specs.texts.Numbers.{has_minus, SpellsWholeNumber, SpellsHeaderNumber}
-use Rattle.edf_fields.specs.texts.Onsets.{SpellsOnset, SpellsSpan}
+use Rattle.edf_fields.specs.texts.Numbers.{has_minus}
+use Rattle.edf_fields.specs.texts.NumbersReading.{SpellsHeaderNumber, SpellsWholeNumber}
+use Rattle.edf_fields.specs.texts.Onsets.{SpellsOnset}
+use Rattle.edf_fields.specs.texts.OnsetsReading.{SpellsSpan}
 use Rattle.edf_header.specs.Conforming.{HeaderConforms}
 use Rattle.edf_header.specs.Heads.{Head}
 use Rattle.edf_layout.specs.HeadLaws.{header_of}

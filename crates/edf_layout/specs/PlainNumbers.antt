@@ -3,7 +3,7 @@ use Rattle.std.specs.Prelude.{ℕ, Bool, true, not, ◌&&◌, ◌||◌, ◌==◌
 use Rattle.std.specs.List.{position}
 use Rattle.std.specs.Option.{option_map_or}
 use Rattle.std.specs.Str.{bytes_eq}
-use Rattle.edf_fields.specs.texts.Numbers.{has_minus, unsigned, is_dot, before_dot, behind_dot}
+use Rattle.edf_fields.specs.texts.Numbers.{has_minus, unsigned, before_dot, behind_dot}
 
 -- at least one digit, and no zero before others
 abbrev pub is_plain_whole : List ℕ → Bool
@@ -15,7 +15,7 @@ is_plain_fraction f = nat_lt 0 (length f) && not (slice_index f (length f - 1) =
 
 -- what stands behind the sign, or the whole text where there is none
 unfoldable pub is_plain_unsigned : List ℕ → Bool
-is_plain_unsigned u = is_plain_whole (before_dot u) && option_map_or (λ k. is_plain_fraction (behind_dot u)) (position is_dot u) true
+is_plain_unsigned u = is_plain_whole (before_dot u) && option_map_or (λ k. is_plain_fraction (behind_dot u)) (position (λ b. b == 46) u) true
 
 -- the text of a number of a header: it begins with no plus, and 0 has no minus
 unfoldable pub is_plain_number : List ℕ → Bool

@@ -3,7 +3,7 @@
 
 ghost use Rattle.std.specs.Prelude.{◌≡◌, ◌==◌, ◌<◌, length, slice_index, IfSome};
 ghost use Rattle.std.specs.List.{position};
-ghost use Rattle.edf_fields.specs.texts.Numbers.{has_minus, unsigned as unsigned_of, is_dot};
+ghost use Rattle.edf_fields.specs.texts.Numbers.{has_minus, unsigned as unsigned_of};
 ghost use Rattle.edf_layout.specs.PlainNumbers.{is_plain_whole as is_whole, is_plain_fraction as is_fraction, is_plain_unsigned as is_unsigned, is_plain_number as is_plain};
 
 /// Whether there is at least one digit, and no zero before others.
@@ -22,7 +22,7 @@ fn is_plain_fraction(digits: &[u8]) -> bool
 
 /// The place of the first dot.
 fn dot_place(text: &[u8]) -> Option<usize>
-    ensures place { result ≡ position is_dot text.now }
+    ensures place { result ≡ position (λ b. b == 46) text.now }
     ensures within { IfSome result (λ k. k < length text.now) }
 {
     text.iter().position(|byte| *byte == b'.')

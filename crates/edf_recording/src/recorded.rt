@@ -1,7 +1,7 @@
 //! What is held of a file that was read to its end.
 
 ghost use Rattle.std.specs.Prelude.{◌≡◌};
-ghost use Rattle.edf_header.specs.Heads.{start_second as second_of};
+ghost use Rattle.edf_header.specs.HeadsReading.{start_second as second_of};
 
 use crate::stretch::Stretch;
 use crate::times::Times;

@@ -11,7 +11,8 @@ use Rattle.edf_header.specs.declared.kind.Kind.{Kind}
 use Rattle.edf_header.specs.declared.kind.Kind.TheVariants.{Contiguous, Interrupted}
 use Rattle.edf_header.specs.Heads.{Head}
 use Rattle.edf_tal.specs.declared.start.StartCause.{StartCause}
-use Rattle.edf_stream.specs.records.Records.{record_place, record_at, annotation_lanes}
+use Rattle.edf_stream.specs.records.Records.{record_at, annotation_lanes}
+use Rattle.edf_stream.specs.records.RecordsReading.{record_place}
 use Rattle.edf_stream.specs.annotation.NotesReading.{notes_in, notes_before}
 use Rattle.edf_stream.specs.times.StartsReading.{said_start, or_zero, start_in, start_at, end_at, end_before}
 use Rattle.edf_stream.specs.Faults.{cause_of_lanes, lanes_fault, time_fault, may_start, start_fault, notes_fault, record_fault, records_tests}

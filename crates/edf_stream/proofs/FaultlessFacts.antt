@@ -13,7 +13,8 @@ use Rattle.edf_header.specs.Faults.{truncated, header_fault}
 use Rattle.edf_header.specs.Heads.{Head, record_bytes}
 use Rattle.edf_header.specs.HeadsReading.{head_of}
 use Rattle.edf_header.proofs.ForCallers.{passing-conforms, passing_is_conforming, one_head, passing_has_head}
-use Rattle.edf_stream.specs.records.Records.{record_place, record_at, annotation_lanes}
+use Rattle.edf_stream.specs.records.Records.{record_at, annotation_lanes}
+use Rattle.edf_stream.specs.records.RecordsReading.{record_place}
 use Rattle.edf_stream.specs.annotation.NotesReading.{notes_in, notes_before}
 use Rattle.edf_stream.specs.times.StartsReading.{said_start, start_in, start_at, end_at, end_before}
 use Rattle.edf_stream.specs.Faults.{cause_of_lanes, lanes_fault, time_fault, may_start, start_fault, notes_fault, record_fault, records_tests, trailing_fault, body_fault, file_fault}

@@ -1,11 +1,10 @@
 -- What it means that a file conforms to the profile (docs/PROFILE.md).
-use Rattle.std.specs.Prelude.{◌≡◌, ℕ, suc, ℤ, pos, ◌<◌, ◌≤◌, ◌<ℤ◌, ◌≤ℤ◌, ◌+ℤ◌, ◌^◌, List, length}
+use Rattle.std.specs.Prelude.{◌≡◌, ℕ, suc, ℤ, pos, ◌<◌, ◌≤◌, ◌<ℤ◌, ◌≤ℤ◌, ◌+◌, ◌*◌, ◌+ℤ◌, ◌^◌, List, length}
 use Rattle.edf_header.specs.declared.kind.Kind.{Kind}
 use Rattle.edf_header.specs.declared.kind.Kind.TheVariants.{Contiguous, Interrupted}
 use Rattle.edf_header.specs.Conforming.{HeaderConforms}
-use Rattle.edf_header.specs.Heads.{Head}
+use Rattle.edf_header.specs.Heads.{Head, header_bytes, record_bytes}
 use Rattle.edf_stream.specs.annotation.Notes.{NoteValue, SayRecords, together}
-use Rattle.edf_stream.specs.records.Records.{record_place}
 
 -- a data record starts where the one before it ends, or, in an interrupted file, there or later
 abbrev pub FollowsOn : Kind → ℤ → ℤ → Type 0
@@ -24,4 +23,4 @@ pub record Conforms (file : List ℕ) (h : Head) : Type 0 where
   pub in_first_second : starts 0 <ℤ pos (10 ^ 12)
   pub follows : (k : ℕ) → suc k < h.records → FollowsOn h.kind (starts k +ℤ h.duration) (starts (suc k))
   pub few : length (together notes h.records) ≤ 1000000
-  pub size : length file ≡ record_place h h.records
+  pub size : length file ≡ header_bytes h + h.records * record_bytes h

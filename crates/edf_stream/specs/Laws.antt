@@ -3,7 +3,8 @@ use Rattle.std.specs.Prelude.{◌≡◌, ◌↔◌, ℕ, suc, ℤ, pos, ◌*◌,
 use Rattle.edf_fields.specs.declared.faults.fault.Fault.{Fault}
 use Rattle.edf_header.specs.Faults.{header_fault}
 use Rattle.edf_fields.specs.Lists.{Has}
-use Rattle.edf_header.specs.Heads.{SignalHead, Head, start_second, samples_together}
+use Rattle.edf_header.specs.Heads.{SignalHead, Head, samples_together}
+use Rattle.edf_header.specs.HeadsReading.{start_second}
 use Rattle.edf_stream.specs.declared.samples.sample.Sample.{Sample}
 use Rattle.edf_stream.specs.records.Records.{record_at}
 use Rattle.edf_stream.specs.annotation.Notes.{NoteValue, SaysRecord, HasNotes, moved_by}
@@ -32,7 +33,11 @@ abbrev pub NotesAreSaid : Type 0
 NotesAreSaid = (file : List ℕ) (h : Head) → Conforms file h → (k : ℕ) → k < h.records → (start : ℤ) (notes : List NoteValue) →
     SaysRecord h (record_at file h k) start notes ↔ ((start ≡ start_at file h k) × (notes ≡ notes_in h (record_at file h k)))
 
--- a file that conforms has annotations, no others, and they are those that are read of it
+-- a file that conforms has annotations, and no others
+abbrev pub HasItsNotes : Type 0
+HasItsNotes = (file : List ℕ) (h : Head) → Conforms file h → (notes : List NoteValue) × HasNotes file h notes × ((others : List NoteValue) → HasNotes file h others → others ≡ notes)
+
+-- and they are those that are read of it
 pub record HasTheseNotes (file : List ℕ) (h : Head) : Type 0 where
   pub notes : List NoteValue
   pub there : HasNotes file h notes

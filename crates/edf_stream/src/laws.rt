@@ -1,6 +1,6 @@
 //! Laws of the definitions, each the contract of a function that does nothing.
 
-ghost use Rattle.edf_stream.specs.Laws.{ConformingIsFaultless, RecordsFollowOn, NotesAreSaid, NotesAreRead, HeaderFaultIsFirst, BodyFaultIsFirst, SamplesAreListed, SamplesAreOfChannels, SamplesRise, OneAtAnInstant, InstantsFit, StartIsOfLeast, SamplesAreCounted, NotesAreCounted};
+ghost use Rattle.edf_stream.specs.Laws.{ConformingIsFaultless, RecordsFollowOn, NotesAreSaid, HasItsNotes, NotesAreRead, HeaderFaultIsFirst, BodyFaultIsFirst, SamplesAreListed, SamplesAreOfChannels, SamplesRise, OneAtAnInstant, InstantsFit, StartIsOfLeast, SamplesAreCounted, NotesAreCounted};
 
 /// A file conforms, in words, exactly where it has no first fault.
 pub fn conforming_is_being_faultless()
@@ -13,9 +13,10 @@ pub fn data_records_follow_on()
 {}
 
 /// Each data record of a file that conforms says its start and its annotations, in words, and no others; and so
-/// such a file has annotations, and they are those that are read.
+/// such a file has annotations, and no others, and they are those that are read.
 pub fn annotations_are_said()
     ensures said { NotesAreSaid }
+    ensures notes { HasItsNotes }
     ensures read { NotesAreRead }
 {}
 

@@ -1,5 +1,7 @@
 -- A lane that holds the TAL that keeps the time and nothing else.
 use Rattle.std.proofs.Common.{◌≡◌, ℕ, ◌<◌, ◌==◌, Bool, ◌&&◌, List, [], ◌∷◌, ◌++◌, length, refl, sym, ◌∙◌, ap, arith, true, false, cond, lit≤, eqb-true, inl, inr, Option, Some, None, Ok, append_assoc, append-nil, lt-ltb, true≢false, length-append, nat_lt}
+use Rattle.std.proofs.lemmas.List.Elements.{All-nil, All-cons}
+use Rattle.edf_tal.proofs.TextFacts.{bytes_of_text}
 use Rattle.std.specs.Prelude.{ℤ, MatchOption}
 use Rattle.std.specs.List.{position_or_len}
 use Rattle.std.proofs.lemmas.Bool.{cases_Bool}
@@ -7,9 +9,9 @@ use Rattle.std.proofs.lemmas.Bool.Decides.{nat_tests}
 use Rattle.std.proofs.lemmas.Str.{IsUtf8-nil}
 use Rattle.edf_fields.specs.texts.OnsetsReading.{onset_of}
 use Rattle.edf_fields.proofs.ForCallers.{onset_of_spelled, onset_of_some}
-use Rattle.edf_tal.specs.Tals.{SpellsTal, are_zeros}
+use Rattle.edf_tal.specs.Tals.{SpellsTal, IsText}
 use Rattle.edf_tal.specs.Timekeeping.{IsTimeAlone, time_tal}
-use Rattle.edf_tal.specs.Reading.{until, behind, items_of, ends_alone, time_alone_of}
+use Rattle.edf_tal.specs.Reading.{until, behind, items_of, ends_alone, time_alone_of, are_zeros}
 use Rattle.edf_tal.proofs.LawFacts.{parted}
 use Rattle.edf_tal.proofs.ReadFacts.{onset-lacks, position-lacks, before-lacks, after-lacks, lane-read}
 
@@ -38,7 +40,7 @@ of_bytes lane s rest v is zeros onset =
       duration = [];
       onset_is = onset_of_some s v onset;
       duration_is = refl;
-      texts = ((IsUtf8-nil, refl), tt);
+      texts = All-cons IsText [] [] (IsUtf8-nil, bytes_of_text [] refl) (All-nil IsText);
       whole = ap (λ h. h ++ 20 ∷ 20 ∷ []) (sym (append-nil s));
     } in
     (s ++ 20 ∷ 20 ∷ [], rest, spelled, is ∙ sym (append_assoc s (20 ∷ 20 ∷ []) (0 ∷ rest)), zeros)

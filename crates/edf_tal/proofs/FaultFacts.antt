@@ -1,21 +1,21 @@
 -- The first fault of a lane, in words and as it is read.
 use Rattle.std.proofs.Common.{◌≡◌, ◌≢◌, ℕ, suc, ℤ, ◌+◌, ◌-◌, ◌<◌, ◌==◌, ◌&&◌, true, false, cond, List, [], ◌∷◌, ◌++◌, map, length, get_or, Option, Some, None, Result, Ok, Err, inl, inr, refl, sym, ap, ◌∙◌, subst, arith, append_assoc, length-append, eqb-true, lt-ltb, le-ltb, true≢false}
-use Rattle.std.specs.Prelude.{IsUtf8}
+use Rattle.std.proofs.lemmas.List.Elements.{All-nil, All-cons, All-head, All-tail}
+use Rattle.std.specs.Prelude.{IsUtf8, All}
 use Rattle.std.specs.List.{position_or_len, list_any, onto_first}
 use Rattle.std.specs.Option.{ok_or}
 use Rattle.std.specs.Str.{is_utf8}
 use Rattle.std.proofs.lemmas.Bool.{cases_Bool, cases_lt}
 use Rattle.std.proofs.lemmas.List.Splits.{length-slice_split}
 use Rattle.std.proofs.lemmas.Str.{IsUtf8-from_is_utf8, is_utf8-from_IsUtf8}
-use Rattle.edf_fields.specs.texts.Onsets.{SpellsSpan}
-use Rattle.edf_fields.specs.texts.OnsetsReading.{onset_of, span_of}
+use Rattle.edf_fields.specs.texts.OnsetsReading.{onset_of, span_of, SpellsSpan}
 use Rattle.edf_fields.proofs.ForCallers.{onset_of_spelled, onset_of_some, onset_of_none, span_of_spelled, span_of_none}
 use Rattle.edf_fields.specs.declared.faults.cause.TalCause.{TalCause}
 use Rattle.edf_fields.specs.declared.faults.cause.TalCause.TheVariants.{BadOnset, BadDuration, NoEnd, NotUtf8, ControlByte, NotZeroFilled}
-use Rattle.edf_tal.specs.Tals.{TalValue, AreTexts, is_control, ended, are_zeros}
-use Rattle.edf_tal.specs.Reading.{Item, until, behind, pieces, closed, texts_of, duration_of, judge_text, judge_texts, IsClosed, onto, tal_of, tal_of_parts, items_of, ◌then◌}
+use Rattle.edf_tal.specs.Tals.{TalValue, IsText}
+use Rattle.edf_tal.specs.Reading.{Item, until, behind, pieces, closed, texts_of, duration_of, judge_text, judge_texts, IsClosed, onto, tal_of, tal_of_parts, items_of, ◌then◌, is_control, ended, are_zeros}
 use Rattle.edf_tal.specs.Faults.{Lacks, BeginsWith, SpellsHead, FirstBadText, HasFault, FaultAfter}
-use Rattle.edf_tal.proofs.TextFacts.{closed-cons, not_utf8, has_control, is_fine, judged-bad, judged-more, until-more}
+use Rattle.edf_tal.proofs.TextFacts.{closed-cons, not_utf8, has_control, is_fine, judged-bad, judged-more, until-more, no_control, bytes_of_text}
 use Rattle.edf_tal.proofs.LaneFacts.{items_of-nil, items_of-zero, items_of-endless, items_of-tal, spelled-texts_of, judged-ok, closed_cut, closed_after, first-not_nil, open_piece, position-le}
 use Rattle.edf_tal.proofs.ReadFacts.{before-lacks, after-lacks, position-lacks, split-lacks, lacks-text, onset-lacks, duration-read, last-is, tal-lacks, tal-some, tal-read, items_of-front}
 use Rattle.edf_tal.proofs.LawFacts.{head-spelled, parted, onto-ok, tal-spelled, lane-cases}
@@ -67,16 +67,17 @@ one-text text after l =
     ap closed (split-lacks 20 text after refl l)
     ∙ closed-cons text (pieces 20 after) (omega (arith, length-slice_split (λ (b : ℕ). b == 20) after))
 
-bad-read : (before : List (List ℕ)) (text after : List ℕ) (cause : TalCause) → AreTexts before → Lacks 20 text → judge_text text ≡ Err cause → judge_texts (texts_of (ended before ++ (text ++ 20 ∷ after))) ≡ Err cause
+bad-read : (before : List (List ℕ)) (text after : List ℕ) (cause : TalCause) → All IsText before → Lacks 20 text → judge_text text ≡ Err cause → judge_texts (texts_of (ended before ++ (text ++ 20 ∷ after))) ≡ Err cause
 bad-read [] text after cause good l bad = ap judge_texts (one-text text after l) ∙ judged-bad text (texts_of after) cause bad
 bad-read (t ∷ ts) text after cause good l bad =
     let rest = ended ts ++ (text ++ 20 ∷ after) in
+    let first : IsText t = All-head IsText t ts good in
     let whole : ended (t ∷ ts) ++ (text ++ 20 ∷ after) ≡ t ++ 20 ∷ rest =
     ap (λ x. x ++ (text ++ 20 ∷ after)) (append_assoc t (20 ∷ []) (ended ts)) ∙ append_assoc t (20 ∷ ended ts) (text ++ 20 ∷ after) in
     ap (λ x. judge_texts (texts_of x)) whole
-    ∙ ap judge_texts (one-text t rest (lacks-text 20 t refl good.0.1))
-    ∙ judged-more t (texts_of rest) (is_fine t good.0.0 good.0.1)
-    ∙ bad-read ts text after cause good.1 l bad
+    ∙ ap judge_texts (one-text t rest (lacks-text 20 t refl (no_control t first.1)))
+    ∙ judged-more t (texts_of rest) (is_fine t first.0 (no_control t first.1))
+    ∙ bad-read ts text after cause (All-tail IsText t ts good) l bad
 
 -- ---- what a lane begins with
 
@@ -168,7 +169,7 @@ record BadAmong (texts : List (List ℕ)) (cause : TalCause) : Type 0 where
   text : List ℕ
   more : List (List ℕ)
   whole : texts ≡ before ++ text ∷ more
-  good : AreTexts before
+  good : All IsText before
   no_end : Lacks 20 text
   bad : judge_text text ≡ Err cause
 
@@ -179,11 +180,11 @@ bad-among (t ∷ ts) cause l h = cases (judge_text t) refl (λ k. bad-among ts c
     cases : (r : Result (Unit {0}) TalCause) → judge_text t ≡ r → (judge_texts ts ≡ Err cause → BadAmong ts cause) → BadAmong (t ∷ ts) cause
     cases (Err e) is rest =
         let same : e ≡ cause = (let z : Err e ≡ Err cause = sym (judged-bad t ts e is) ∙ h in cc) in
-        record { before = []; text = t; more = ts; whole = refl; good = tt; no_end = l.0; bad = is ∙ ap Err same }
+        record { before = []; text = t; more = ts; whole = refl; good = All-nil IsText; no_end = l.0; bad = is ∙ ap Err same }
     cases (Ok u) is rest =
         let r = rest (sym (judged-more t ts is) ∙ h) in
         let parts = judged-ok t [] (judged-more t [] is) in
-        record { before = t ∷ r.before; text = r.text; more = r.more; whole = ap (λ x. t ∷ x) r.whole; good = ((parts.0, parts.1), r.good); no_end = r.no_end; bad = r.bad }
+        record { before = t ∷ r.before; text = r.text; more = r.more; whole = ap (λ x. t ∷ x) r.whole; good = All-cons IsText t r.before (parts.0, bytes_of_text t parts.1) r.good; no_end = r.no_end; bad = r.bad }
 
 ended-append : (xs ys : List (List ℕ)) → ended (xs ++ ys) ≡ ended xs ++ ended ys
 ended-append [] ys = refl

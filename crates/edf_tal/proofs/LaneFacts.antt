@@ -10,8 +10,8 @@ use Rattle.std.proofs.lemmas.List.Sums.{fails_before_first, count_by-le-length}
 use Rattle.edf_fields.specs.declared.faults.cause.TalCause.{TalCause}
 use Rattle.edf_tal.proofs.TextFacts.{closed-cons}
 use Rattle.edf_fields.specs.declared.faults.cause.TalCause.TheVariants.{NoEnd, NotZeroFilled}
-use Rattle.edf_tal.specs.Tals.{TalValue, is_control, ended, are_zeros}
-use Rattle.edf_tal.specs.Reading.{until, behind, pieces, Item, closed, texts_of, judge_texts, IsClosed, is_nil, onto, tal_of, items_of, items_of_pieces}
+use Rattle.edf_tal.specs.Tals.{TalValue}
+use Rattle.edf_tal.specs.Reading.{until, behind, pieces, Item, closed, texts_of, judge_texts, IsClosed, is_nil, onto, tal_of, items_of, items_of_pieces, is_control, ended, are_zeros}
 
 -- ---- a body that is closed
 

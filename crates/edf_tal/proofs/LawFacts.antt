@@ -1,6 +1,8 @@
 -- What splits so is spelled so, and what is spelled so splits so.
 use Rattle.std.proofs.Common.{◌≡◌, ◌≢◌, ℕ, ◌-◌, ◌<◌, ◌==◌, List, [], ◌∷◌, ◌++◌, map, length, get_or, refl, sym, ◌∙◌, ap, arith, true, cond, subst, eqb-true, inl, inr, Option, Some, None, Result, Ok, Err, take_all, append-nil, lt-ltb, le-ltb, ◌⊎◌, true≢false}
-use Rattle.std.specs.Prelude.{ℤ}
+use Rattle.edf_tal.proofs.TextFacts.{bytes_of_text}
+use Rattle.std.proofs.lemmas.List.Elements.{All-nil, All-cons}
+use Rattle.std.specs.Prelude.{ℤ, All}
 use Rattle.std.specs.List.{position_or_len}
 use Rattle.std.specs.Option.{ok_or}
 use Rattle.std.proofs.lemmas.Bool.{cases_Bool, cases_lt}
@@ -10,8 +12,8 @@ use Rattle.edf_fields.specs.declared.faults.cause.TalCause.TheVariants.{BadOnset
 use Rattle.edf_fields.specs.texts.Onsets.{SpellsOnset}
 use Rattle.edf_fields.specs.texts.OnsetsReading.{onset_of, span_of}
 use Rattle.edf_fields.proofs.ForCallers.{onset_of_some, span_of_some}
-use Rattle.edf_tal.specs.Tals.{TalValue, SpellsTal, SpellsDuration, AreTexts, IsLaneOf, are_zeros}
-use Rattle.edf_tal.specs.Reading.{until, behind, Item, texts_of, duration_of, judge_texts, IsClosed, onto, tal_of, tal_of_parts, items_of, ◌then◌}
+use Rattle.edf_tal.specs.Tals.{TalValue, SpellsTal, SpellsDuration, IsText, IsLaneOf}
+use Rattle.edf_tal.specs.Reading.{until, behind, Item, texts_of, duration_of, judge_texts, IsClosed, onto, tal_of, tal_of_parts, items_of, ◌then◌, are_zeros}
 use Rattle.edf_tal.proofs.LaneFacts.{items_of-nil, items_of-zero, items_of-endless, items_of-tal, spelled-texts_of, judged-ok, closed_cut, closed_after, first-not_nil, position-le}
 
 -- ---- what splits so is spelled so
@@ -24,9 +26,9 @@ ok_or_ok : {A : Type 0} (o : Option A) (e : TalCause) (x : A) → ok_or o e ≡ 
 ok_or_ok None e x h = absurd (cc)
 ok_or_ok (Some y) e x h = cc
 
-judged-texts : (ts : List (List ℕ)) → judge_texts ts ≡ Ok tt → AreTexts ts
-judged-texts [] h = tt
-judged-texts (t ∷ ts) h = let parts = judged-ok t ts h in ((parts.0, parts.1), judged-texts ts parts.2)
+judged-texts : (ts : List (List ℕ)) → judge_texts ts ≡ Ok tt → All IsText ts
+judged-texts [] h = All-nil IsText
+judged-texts (t ∷ ts) h = let parts = judged-ok t ts h in All-cons IsText t ts (parts.0, bytes_of_text t parts.1) (judged-texts ts parts.2)
 
 -- the front, the byte and what follows it
 pub parted : (c : ℕ) (bs : List ℕ) → position_or_len (λ b. b == c) bs < length bs → bs ≡ until c bs ++ c ∷ behind c bs
@@ -48,11 +50,12 @@ head-spelled head onset duration o d = elim (cases_lt (position_or_len (λ b. b 
       let d' = rw (lt-ltb (position_or_len (λ b. b == 21) head) (length head) found) at d in
       let parts = bind_ok (ok_or (span_of (behind 21 head)) BadDuration) (λ d. Ok (Some d)) duration d' in
       let is : Some parts.0 ≡ duration = cc in
+      let span = span_of_some (behind 21 head) parts.0 (ok_or_ok _ BadDuration _ parts.1) in
       record {
         first = until 21 head;
         second = 21 ∷ behind 21 head;
         onset_is = onset_of_some _ onset o;
-        duration_is = subst (SpellsDuration (21 ∷ behind 21 head)) is (behind 21 head, refl, span_of_some _ parts.0 (ok_or_ok _ BadDuration _ parts.1));
+        duration_is = subst (SpellsDuration (21 ∷ behind 21 head)) is (behind 21 head, refl, span.0, span.1);
         whole = parted 21 head found;
       }
   | inr none ↦

@@ -1,6 +1,7 @@
 -- What is spelled so splits so.
 use Rattle.std.proofs.Common.{◌≡◌, ℕ, ◌+◌, ◌-◌, ◌<◌, ◌≤◌, ◌==◌, Bool, ◌&&◌, List, [], ◌∷◌, ◌++◌, map, length, take, drop, get_or, refl, sym, ◌∙◌, ap, arith, true, false, cond, suc, subst, lit≤, ◌||◌, eqb-true, inl, inr, Option, Some, None, Result, Ok, Err, append_assoc, take_all, append-nil, lt-ltb, le-ltb, true≢false, length-append}
-use Rattle.std.specs.Prelude.{ℤ, nat_lt, slice_index}
+use Rattle.std.proofs.lemmas.List.Elements.{All-head, All-tail}
+use Rattle.std.specs.Prelude.{ℤ, nat_lt, slice_index, All}
 use Rattle.std.specs.List.{position_or_len, list_any}
 use Rattle.std.specs.Option.{ok_or}
 use Rattle.std.proofs.lemmas.Bool.{cases_Bool, false_from_ne_true}
@@ -8,13 +9,13 @@ use Rattle.std.proofs.lemmas.List.Splits.{length-slice_split}
 use Rattle.std.proofs.Math.Seq.{take-append_seam, get_or-append_seam}
 use Rattle.edf_fields.specs.declared.faults.cause.TalCause.{TalCause}
 use Rattle.edf_fields.specs.declared.faults.cause.TalCause.TheVariants.{BadDuration, NoEnd, NotZeroFilled}
-use Rattle.edf_fields.specs.texts.Onsets.{SpellsOnset, SpellsSpan}
-use Rattle.edf_fields.specs.texts.OnsetsReading.{onset_of, span_of}
+use Rattle.edf_fields.specs.texts.Onsets.{SpellsOnset}
+use Rattle.edf_fields.specs.texts.OnsetsReading.{onset_of, span_of, SpellsSpan}
 use Rattle.edf_fields.proofs.ForCallers.{onset_of_spelled, span_of_spelled, onset_bytes_from, span_bytes_from}
-use Rattle.edf_tal.specs.Tals.{TalValue, SpellsTal, SpellsDuration, AreTexts, IsLaneOf, is_control, ended, are_zeros}
+use Rattle.edf_tal.specs.Tals.{TalValue, SpellsTal, SpellsDuration, IsText, IsLaneOf}
 use Rattle.edf_tal.specs.Faults.{Lacks}
-use Rattle.edf_tal.specs.Reading.{until, behind, pieces, closed, texts_of, duration_of, judge_texts, onto, tal_of, tal_of_parts, items_of, items_of_pieces, ◌then◌}
-use Rattle.edf_tal.proofs.TextFacts.{closed-cons, is_fine, judged-more}
+use Rattle.edf_tal.specs.Reading.{until, behind, pieces, closed, texts_of, duration_of, judge_texts, onto, tal_of, tal_of_parts, items_of, items_of_pieces, ◌then◌, is_control, ended, are_zeros}
+use Rattle.edf_tal.proofs.TextFacts.{closed-cons, is_fine, judged-more, no_control}
 use Rattle.edf_tal.proofs.LaneFacts.{items_of-nil, items_of-zero, pieces-cons, split-pos, not_nil}
 
 pub lacks-append : (c : ℕ) (xs ys : List ℕ) → Lacks c xs → Lacks c ys → Lacks c (xs ++ ys)
@@ -81,25 +82,27 @@ onset-lacks c s v h e = high-lacks c s (λ k lt. let low = onset_bytes_from s v 
 
 pub duration-lacks : (c : ℕ) (s : List ℕ) (v : Option ℤ) → c ≤ 42 → (21 == c) ≡ false → SpellsDuration s v → Lacks c s
 duration-lacks c s None h k e = rw e tt
-duration-lacks c s (Some v) h k (digits, is, spelled) = rw is (k, span-lacks c digits v h spelled)
+duration-lacks c s (Some v) h k (digits, is, time, value) = rw is (k, span-lacks c digits v h (time, value))
 
-texts-lack : (ts : List (List ℕ)) → AreTexts ts → Lacks 0 (ended ts)
+texts-lack : (ts : List (List ℕ)) → All IsText ts → Lacks 0 (ended ts)
 texts-lack [] h = tt
-texts-lack (t ∷ ts) h = lacks-append 0 (t ++ 20 ∷ []) (ended ts) (lacks-append 0 t (20 ∷ []) (lacks-text 0 t refl h.0.1) (refl, tt)) (texts-lack ts h.1)
+texts-lack (t ∷ ts) h = lacks-append 0 (t ++ 20 ∷ []) (ended ts) (lacks-append 0 t (20 ∷ []) (lacks-text 0 t refl (no_control t (All-head IsText t ts h).1)) (refl, tt)) (texts-lack ts (All-tail IsText t ts h))
 
 -- ---- what is read of what is spelled
 
-pub texts-read : (ts : List (List ℕ)) → AreTexts ts → texts_of (ended ts) ≡ ts
+pub texts-read : (ts : List (List ℕ)) → All IsText ts → texts_of (ended ts) ≡ ts
 texts-read [] h = refl
 texts-read (t ∷ ts) h =
     ap texts_of (append_assoc t (20 ∷ []) (ended ts))
-    ∙ ap closed (split-lacks 20 t (ended ts) refl (lacks-text 20 t refl h.0.1))
+    ∙ ap closed (split-lacks 20 t (ended ts) refl (lacks-text 20 t refl (no_control t (All-head IsText t ts h).1)))
     ∙ closed-cons t (pieces 20 (ended ts)) (omega (arith, length-slice_split (λ (b : ℕ). b == 20) (ended ts)))
-    ∙ ap (λ xs. t ∷ xs) (texts-read ts h.1)
+    ∙ ap (λ xs. t ∷ xs) (texts-read ts (All-tail IsText t ts h))
 
-pub texts-judge_texts : (ts : List (List ℕ)) → AreTexts ts → judge_texts ts ≡ Ok tt
+pub texts-judge_texts : (ts : List (List ℕ)) → All IsText ts → judge_texts ts ≡ Ok tt
 texts-judge_texts [] h = refl
-texts-judge_texts (t ∷ ts) h = judged-more t ts (is_fine t h.0.0 h.0.1) ∙ texts-judge_texts ts h.1
+texts-judge_texts (t ∷ ts) h =
+    let first : IsText t = All-head IsText t ts h in
+    judged-more t ts (is_fine t first.0 (no_control t first.1)) ∙ texts-judge_texts ts (All-tail IsText t ts h)
 
 pub duration-read : (onset s : List ℕ) (v : Option ℤ) → Lacks 21 onset → SpellsDuration s v → (until 21 (onset ++ s) ≡ onset) × (duration_of (onset ++ s) ≡ Ok v)
 duration-read onset s None l e =
@@ -109,11 +112,11 @@ duration-read onset s None l e =
       ap (λ h. until 21 h) whole ∙ take_all _ onset (omega (arith, at_end)),
       ap duration_of whole ∙ ap (λ b. cond b (ok_or (span_of (behind 21 onset)) BadDuration then λ d. Ok (Some d)) (Ok None)) none,
     )
-duration-read onset s (Some v) l (digits, is, spelled) =
+duration-read onset s (Some v) l (digits, is, time, value) =
     let whole : onset ++ s ≡ onset ++ 21 ∷ digits = ap (λ s. onset ++ s) is in
     let found : nat_lt (position_or_len (λ b. b == 21) (onset ++ 21 ∷ digits)) (length (onset ++ 21 ∷ digits)) ≡ true = lt-ltb _ _ (omega (arith, position-lacks 21 onset digits refl l, length-append onset (21 ∷ digits))) in
     let read : (ok_or (span_of (behind 21 (onset ++ 21 ∷ digits))) BadDuration then λ d. Ok (Some d)) ≡ Ok (Some v) =
-    ap (λ a. ok_or (span_of a) BadDuration then λ d. Ok (Some d)) (after-lacks 21 onset digits refl l) ∙ ap (λ o. ok_or o BadDuration then λ d. Ok (Some d)) (span_of_spelled digits v spelled) in (
+    ap (λ a. ok_or (span_of a) BadDuration then λ d. Ok (Some d)) (after-lacks 21 onset digits refl l) ∙ ap (λ o. ok_or o BadDuration then λ d. Ok (Some d)) (span_of_spelled digits v (time, value)) in (
       ap (λ h. until 21 h) whole ∙ before-lacks 21 onset digits refl l,
       ap duration_of whole ∙ ap (λ b. cond b (ok_or (span_of (behind 21 (onset ++ 21 ∷ digits))) BadDuration then λ d. Ok (Some d)) (Ok None)) found ∙ read,
     )
@@ -125,7 +128,7 @@ last-is xs (t ∷ ts) =
     ap (λ ys. xs ++ 20 ∷ ys) (append_assoc t (20 ∷ []) (ended ts)) ∙ sym (append_assoc xs (20 ∷ t) (20 ∷ ended ts)) in
     rw same (last-is (xs ++ 20 ∷ t) ts)
 
-parts-read : (head body : List ℕ) (o s : List ℕ) (t : TalValue) → head ≡ o ++ s → body ≡ ended t.texts → SpellsOnset o t.onset → SpellsDuration s t.duration → AreTexts t.texts → tal_of_parts head body ≡ Ok t
+parts-read : (head body : List ℕ) (o s : List ℕ) (t : TalValue) → head ≡ o ++ s → body ≡ ended t.texts → SpellsOnset o t.onset → SpellsDuration s t.duration → All IsText t.texts → tal_of_parts head body ≡ Ok t
 unfolding tal_of_parts
 parts-read head body o s t e f onset duration texts =
     let d = duration-read o s t.duration (onset-lacks 21 o t.onset (lit≤ tt) onset) duration in

@@ -1,5 +1,7 @@
 -- Texts, cut at the byte 20 and judged one by one.
-use Rattle.std.proofs.Common.{◌≡◌, ℕ, zero, suc, ◌+◌, ◌<◌, ◌≤◌, ◌-◌, ◌==◌, get_or, eqb-true, inl, inr, List, [], ◌∷◌, length, take, drop, refl, sym, ◌∙◌, ap, arith, true, false, not, ◌&&◌, length-drop}
+use Rattle.std.proofs.Common.{◌≡◌, ℕ, zero, suc, ◌+◌, ◌<◌, ◌≤◌, ◌-◌, ◌==◌, get_or, eqb-true, inl, inr, List, [], ◌∷◌, length, take, drop, refl, sym, ◌∙◌, ap, arith, true, false, not, ◌&&◌, length-drop, ◌⊎◌}
+use Rattle.std.proofs.lemmas.List.Folds.{list_any_none}
+use Rattle.std.proofs.lemmas.List.Elements.{All-nil, All-cons}
 use Rattle.std.specs.List.{position_or_len, count_by, list_any}
 use Rattle.std.proofs.lemmas.List.Splits.{slice_split_first, slice_split_none, length-slice_split}
 use Rattle.std.proofs.lemmas.List.Sums.{fails_before_first}
@@ -9,12 +11,11 @@ use Rattle.std.proofs.Math.Bool.{and-true}
 use Rattle.std.proofs.lemmas.Bool.Decides.{nat_tests}
 use Rattle.std.proofs.lemmas.Grind.{common_steps}
 use Rattle.std.specs.Str.{IsUtf8, is_utf8}
-use Rattle.std.specs.Prelude.{Ok, Err, Option, Some, None, MatchOption}
+use Rattle.std.specs.Prelude.{Ok, Err, Option, Some, None, MatchOption, All}
 use Rattle.std.specs.Borrow.{Bor}
 use Rattle.edf_fields.specs.declared.faults.cause.TalCause.{TalCause}
 use Rattle.edf_fields.specs.declared.faults.cause.TalCause.TheVariants.{NotUtf8, ControlByte}
-use Rattle.edf_tal.specs.Tals.{is_control}
-use Rattle.edf_tal.specs.Reading.{until, behind, pieces, closed, texts_of, judge_texts, judge_text, is_foreign}
+use Rattle.edf_tal.specs.Reading.{until, behind, pieces, closed, texts_of, judge_texts, judge_text, is_foreign, is_control}
 
 pub closed-cons : (x : List ℕ) (parts : List (List ℕ)) → 0 < length parts → closed (x ∷ parts) ≡ x ∷ closed parts
 closed-cons x [] h = absurd (omega arith)
@@ -34,6 +35,34 @@ not_utf8 t h = let bad : is_utf8 t ≡ false = false_from_ne_true _ (λ yes. h (
 
 pub has_control : (t : List ℕ) → IsUtf8 t → list_any is_control t ≡ true → judge_text t ≡ Err ControlByte
 has_control t h bad = rw (is_utf8-from_IsUtf8 t h, bad)
+
+-- the bytes of a text, as `IsText` has them and as a test
+pub no_control : (t : List ℕ) → All (λ b. (32 ≤ b) ⊎ (b ≡ 9) ⊎ (b ≡ 10) ⊎ (b ≡ 13)) t → list_any is_control t ≡ false
+no_control t h = list_any_none is_control t (λ k d lt. fine (get_or t k d) (h k d lt))
+  where
+    fine : (b : ℕ) → (32 ≤ b) ⊎ (b ≡ 9) ⊎ (b ≡ 10) ⊎ (b ≡ 13) → is_control b ≡ false
+    fine b (inl high) = grind (arith, nat_tests)
+    fine b (inr (inl tab)) = ap is_control tab
+    fine b (inr (inr (inl line))) = ap is_control line
+    fine b (inr (inr (inr back))) = ap is_control back
+
+pub bytes_of_text : (t : List ℕ) → list_any is_control t ≡ false → All (λ b. (32 ≤ b) ⊎ (b ≡ 9) ⊎ (b ≡ 10) ⊎ (b ≡ 13)) t
+bytes_of_text [] h = All-nil (λ b. (32 ≤ b) ⊎ (b ≡ 9) ⊎ (b ≡ 10) ⊎ (b ≡ 13))
+bytes_of_text (c ∷ cs) h =
+    let parts = or_parts (is_control c) (list_any is_control cs) h in
+    All-cons (λ b. (32 ≤ b) ⊎ (b ≡ 9) ⊎ (b ≡ 10) ⊎ (b ≡ 13)) c cs (fine c parts.0) (bytes_of_text cs parts.1)
+  where
+    fine : (b : ℕ) → is_control b ≡ false → (32 ≤ b) ⊎ (b ≡ 9) ⊎ (b ≡ 10) ⊎ (b ≡ 13)
+    fine b h = elim (cases_lt b 32) [
+      | inr high ↦ inl high
+      | inl low ↦ elim (cases_Bool (b == 9)) [
+        | inl tab ↦ inr (inl (eqb-true b 9 tab))
+        | inr other ↦ elim (cases_Bool (b == 10)) [
+          | inl line ↦ inr (inr (inl (eqb-true b 10 line)))
+          | inr another ↦ inr (inr (inr (grind (arith, nat_tests))))
+        ]
+      ]
+    ]
 
 pub is_fine : (t : List ℕ) → IsUtf8 t → list_any is_control t ≡ false → judge_text t ≡ Ok tt
 is_fine t h good = rw (is_utf8-from_IsUtf8 t h, good)

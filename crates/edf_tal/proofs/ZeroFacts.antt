@@ -1,6 +1,6 @@
 -- Zeros in front of what is left.
 use Rattle.std.proofs.Common.{◌≡◌, ℕ, zero, suc, ◌≤◌, ◌==◌, List, [], ◌∷◌, length, drop, arith, refl, sym, ap, ◌∙◌, ◌&&◌}
-use Rattle.edf_tal.specs.Tals.{are_zeros}
+use Rattle.edf_tal.specs.Reading.{are_zeros}
 use Rattle.edf_tal.specs.Zeros.{HasZerosBefore}
 
 -- zeros in front don't count

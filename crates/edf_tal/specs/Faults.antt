@@ -1,11 +1,12 @@
 -- Why a lane is no list of TALs: the first cause, in words.
-use Rattle.std.specs.Prelude.{◌≡◌, ◌≢◌, ℕ, ◌<◌, ◌==◌, true, false, ℤ, List, [], ◌∷◌, ◌++◌, ◌⊎◌, length, Option, IsUtf8}
+use Rattle.std.specs.Prelude.{◌≡◌, ◌≢◌, ℕ, ◌<◌, ◌==◌, true, false, ℤ, List, [], ◌∷◌, ◌++◌, ◌⊎◌, length, Option, IsUtf8, All}
 use Rattle.std.specs.List.{list_any, position_or_len}
-use Rattle.edf_fields.specs.texts.Onsets.{SpellsOnset, SpellsSpan}
+use Rattle.edf_fields.specs.texts.Onsets.{SpellsOnset}
+use Rattle.edf_fields.specs.texts.OnsetsReading.{SpellsSpan}
 use Rattle.edf_fields.specs.declared.faults.cause.TalCause.{TalCause}
 use Rattle.edf_fields.specs.declared.faults.cause.TalCause.TheVariants.{BadOnset, BadDuration, NoEnd, NotUtf8, ControlByte, NotZeroFilled}
-use Rattle.edf_tal.specs.Tals.{TalValue, SpellsTal, SpellsDuration, AreTexts, IsLaneOf, is_control, ended, are_zeros}
-use Rattle.edf_tal.specs.Reading.{until, behind, IsClosed}
+use Rattle.edf_tal.specs.Tals.{TalValue, SpellsTal, SpellsDuration, IsText, IsLaneOf}
+use Rattle.edf_tal.specs.Reading.{until, behind, IsClosed, is_control, ended, are_zeros}
 
 -- no byte is c
 abbrev pub Lacks : ℕ → List ℕ → Type 0
@@ -36,7 +37,7 @@ pub record FirstBadText (body text : List ℕ) : Type 0 where
   pub before : List (List ℕ)
   pub after : List ℕ
   pub whole : body ≡ ended before ++ (text ++ 20 ∷ after)
-  pub good : AreTexts before
+  pub good : All IsText before
   pub no_end : Lacks 20 text
 
 -- the lane's first TAL has this fault, or a bad filling stands in its place; each cause stands behind those

@@ -1,12 +1,24 @@
 -- What a lane gives to a reader that goes from the left: its TALs, and the first cause why it isn't one.
-use Rattle.std.specs.Prelude.{◌≡◌, ℕ, ◌-◌, ◌<◌, Bool, true, false, not, ◌==◌, nat_lt, ◌&&◌, ℤ, List, [], ◌∷◌, length, drop, slice_index, Option, Some, None, Result, Ok, Err, if◌then◌else◌}
-use Rattle.std.specs.List.{slice_split, before_first, after_first, position_or_len, list_any, list_all}
+use Rattle.std.specs.Prelude.{◌≡◌, ℕ, ◌-◌, ◌<◌, Bool, true, false, not, ◌==◌, nat_lt, ◌&&◌, ◌||◌, ℤ, List, [], ◌∷◌, ◌++◌, length, drop, slice_index, Option, Some, None, Result, Ok, Err, if◌then◌else◌}
+use Rattle.std.specs.List.{slice_split, before_first, after_first, position_or_len, list_any, list_all, flat_map}
 use Rattle.std.specs.Option.{ok_or}
 use Rattle.std.specs.Str.{is_utf8}
 use Rattle.edf_fields.specs.texts.OnsetsReading.{onset_of, span_of}
 use Rattle.edf_fields.specs.declared.faults.cause.TalCause.{TalCause}
 use Rattle.edf_fields.specs.declared.faults.cause.TalCause.TheVariants.{BadOnset, BadDuration, NoEnd, NotUtf8, ControlByte, NotZeroFilled}
-use Rattle.edf_tal.specs.Tals.{TalValue, is_control, are_zeros}
+use Rattle.edf_tal.specs.Tals.{TalValue}
+
+-- a byte from 0 to 31 other than 9, 10 and 13: no text has it
+abbrev pub is_control : ℕ → Bool
+is_control b = nat_lt b 32 && not (b == 9 || (b == 10 || b == 13))
+
+-- each text with the byte 20 behind it
+abbrev pub ended : List (List ℕ) → List ℕ
+ended texts = flat_map (λ text. text ++ 20 ∷ []) texts
+
+-- zeros alone
+abbrev pub are_zeros : List ℕ → Bool
+are_zeros bytes = list_all (λ b. b == 0) bytes
 
 -- what stands before the first byte c
 abbrev pub until : ℕ → List ℕ → List ℕ

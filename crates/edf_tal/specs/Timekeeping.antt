@@ -1,6 +1,7 @@
 -- Lanes by the TAL that keeps the time. EDF+ (2003), "Time keeping of data records".
 use Rattle.std.specs.Prelude.{◌≡◌, ◌≢◌, ◌⊎◌, ℕ, true, ℤ, List, [], ◌∷◌, ◌++◌, None}
-use Rattle.edf_tal.specs.Tals.{TalValue, SpellsTal, are_zeros, IsLaneOf}
+use Rattle.edf_tal.specs.Tals.{TalValue, SpellsTal, IsLaneOf}
+use Rattle.edf_tal.specs.Reading.{are_zeros}
 
 -- the TAL of this onset that only keeps the time
 abbrev pub time_tal : ℤ → TalValue

@@ -2,8 +2,7 @@
 
 ghost use Rattle.std.specs.Prelude.{◌≡◌, ◌<◌, ◌∷◌, [], length, Ok, Err, MatchOption, MatchResult};
 ghost use Rattle.std.specs.List.{list_any};
-ghost use Rattle.edf_tal.specs.Tals.{is_control};
-ghost use Rattle.edf_tal.specs.Reading.{texts_of, judge_text, judge_texts, is_foreign, IsClosed};
+ghost use Rattle.edf_tal.specs.Reading.{texts_of, judge_text, judge_texts, is_foreign, IsClosed, is_control};
 
 use crate::separator::cut;
 use crate::tal_texts::TalTexts;

@@ -2,7 +2,7 @@
 //! signal".
 
 ghost use Rattle.std.specs.Prelude.{◌≡◌, ◌+◌, ◌≤◌, ◌<◌, ℕ, length, slice_index, IsTrue};
-ghost use Rattle.edf_tal.specs.Tals.{are_zeros};
+ghost use Rattle.edf_tal.specs.Reading.{are_zeros};
 ghost use Rattle.edf_tal.specs.Zeros.{HasZerosBefore};
 
 use std::simd::prelude::*;

@@ -1,12 +1,12 @@
 -- What an identification field says, from the tests that it passes.
-use Rattle.std.proofs.Common.{◌≡◌, ◌≢◌, ℕ, Bool, true, false, not, ◌-◌, ◌<◌, ◌≤◌, List, [], ◌∷◌, length, get_or, drop, arith, refl, ap, ◌∙◌, sym, subst, None, nat_le, cond, ◌&&◌, ◌==◌, codes}
+use Rattle.std.proofs.Common.{◌≡◌, ◌≢◌, ◌⊎◌, ℕ, Bool, true, false, not, ◌-◌, ◌<◌, ◌≤◌, List, [], ◌∷◌, length, get_or, drop, arith, refl, ap, ◌∙◌, sym, subst, None, nat_le, cond, ◌&&◌, ◌==◌, codes}
 use Rattle.std.specs.Bool.{Decides}
 use Rattle.std.specs.List.{list_all}
 use Rattle.std.specs.Str.{bytes_eq}
 use Rattle.std.proofs.lemmas.Bool.Decides.{Decides-or, Decides-not, Decides-eqb, nat_tests}
 use Rattle.std.proofs.lemmas.Grind.{common_steps}
 use Rattle.std.proofs.lemmas.Slice.Eq.{bytes_eq-Decides}
-use Rattle.edf_fields.specs.texts.Identifications.{ListsSubfields, IsSex, IsDateOrX, Patient, SaysPatient, Recording, SaysRecording}
+use Rattle.edf_fields.specs.texts.Identifications.{ListsSubfields, IsDateOrX, Patient, SaysPatient, Recording, SaysRecording}
 use Rattle.edf_fields.specs.texts.IdentificationsReading.{is_sex, is_date_or_x, subfield, field_cause, patient_cause, recording_cause, SaysOnePatient, SaysOneRecording, SaysPatientOrCause, SaysRecordingOrCause}
 use Rattle.edf_fields.specs.Parts.{text_of}
 use Rattle.edf_fields.specs.texts.PrintableReading.{is_printable}
@@ -49,7 +49,7 @@ text_ends (c ∷ cs) =
     (λ other nothing space. let rest = nothing_left cs nothing in all_false c _ space rest other)
     (text_ends cs)
 
-sex_decided : (s : List ℕ) → Decides (is_sex s) (IsSex s)
+sex_decided : (s : List ℕ) → Decides (is_sex s) ((s ≡ codes "F") ⊎ (s ≡ codes "M") ⊎ (s ≡ codes "X"))
 sex_decided s =
     Decides-or _ _ (bytes_eq-Decides s (codes "F")) (Decides-or _ _ (bytes_eq-Decides s (codes "M")) (bytes_eq-Decides s (codes "X")))
 
@@ -84,7 +84,8 @@ pub patient_said : (field code sex birthdate name : List ℕ) (extras : List (Li
     → SaysPatient field (record { code = code; sex = sex; birthdate = birthdate; name = name; extras = extras })
 patient_said field code sex birthdate name extras h e sexed dated = record {
   lists = subst (ListsSubfields field) e (field_lists field h);
-  written = record { sex = (sex_decided sex).0 sexed; birthdate = (date_decided birthdate).0 dated };
+  sex = (sex_decided sex).0 sexed;
+  birthdate = (date_decided birthdate).0 dated;
 }
 
 said_patient : (field : List ℕ) (p : Patient) → SaysPatient field p → patient_cause field ≡ None
@@ -94,8 +95,8 @@ said_patient field p h =
     let e : xs ≡ p.code ∷ p.sex ∷ p.birthdate ∷ p.name ∷ p.extras = joined_found _ (text_of field) h.lists.subfields in
     pass-cons (field_cause field) _ (listed_field field _ h.lists)
     (passes-first (nat_le 4 (length xs)) TooFewSubfields _ (ap (λ ys. nat_le 4 (length ys)) e ∙ (le_decided 4 _).1 (omega arith))
-    (passes-first (is_sex (subfield xs 1)) BadSex _ (ap (λ ys. is_sex (subfield ys 1)) e ∙ (sex_decided p.sex).1 h.written.sex)
-    (passes-first (is_date_or_x (subfield xs 2)) BadDate [] (ap (λ ys. is_date_or_x (subfield ys 2)) e ∙ (date_decided p.birthdate).1 h.written.birthdate) refl)))
+    (passes-first (is_sex (subfield xs 1)) BadSex _ (ap (λ ys. is_sex (subfield ys 1)) e ∙ (sex_decided p.sex).1 h.sex)
+    (passes-first (is_date_or_x (subfield xs 2)) BadDate [] (ap (λ ys. is_date_or_x (subfield ys 2)) e ∙ (date_decided p.birthdate).1 h.birthdate) refl)))
 
 -- a list of at least four, and of at least five
 four : (xs : List (List ℕ)) → 4 ≤ length xs → xs ≡ subfield xs 0 ∷ subfield xs 1 ∷ subfield xs 2 ∷ subfield xs 3 ∷ drop 4 xs

@@ -2,8 +2,8 @@
 use Rattle.std.proofs.Common.{◌≡◌, ℕ, ℤ, Bool, true, false, zero, suc, ◌+◌, ◌<◌, ◌≤◌, List, [], ◌∷◌, length, arith, refl, ap, ◌∙◌, sym, Option, Some, None, MatchOption, nat_le, nat_lt, ◌&&◌, cond}
 use Rattle.std.specs.List.{list_all}
 use Rattle.std.proofs.lemmas.Bool.Decides.{nat_tests}
-use Rattle.edf_fields.specs.texts.Numbers.{weight, unsigned, signed, has_minus, whole_part, fraction_part, decimal, AreDigits, SpellsWholeNumber, SpellsHeaderNumber}
-use Rattle.edf_fields.specs.texts.NumbersReading.{SpellsOneHeaderNumber, SpellsOneWholeNumber, is_digit, is_whole, is_decimal, whole_number_of, header_number_of, WholeNumberIsSpelled, HeaderNumberIsSpelled}
+use Rattle.edf_fields.specs.texts.Numbers.{weight, unsigned, signed, has_minus, before_dot, behind_dot, decimal, AreDigits}
+use Rattle.edf_fields.specs.texts.NumbersReading.{SpellsOneHeaderNumber, SpellsOneWholeNumber, is_digit, is_whole, is_decimal, whole_number_of, header_number_of, WholeNumberIsSpelled, HeaderNumberIsSpelled, SpellsHeaderNumber, SpellsWholeNumber}
 use Rattle.edf_fields.specs.Parts.{text_of}
 
 digit_tested : (d : ℕ) → 48 ≤ d → d ≤ 57 → is_digit d ≡ true
@@ -71,19 +71,19 @@ whole_number_read (Some v) field h = sym (whole_number_of-spelled field v h)
 pub header_number_of-spelled : (field : List ℕ) (v : ℤ) → SpellsHeaderNumber field v → header_number_of field ≡ Some v
 unfolding header_number_of
 header_number_of-spelled field v h =
-    let some = lt_true 0 (length (whole_part (text_of field)) + length (fraction_part (text_of field))) h.1.0.2 in
+    let some = lt_true 0 (length (before_dot (unsigned (text_of field))) + length (behind_dot (unsigned (text_of field)))) h.1.0.2 in
     let digits = both_true _ _ (digits_tested _ h.1.0.0) (both_true _ _ (digits_tested _ h.1.0.1) some) in
     let test : (nat_le (length field) 8 && is_decimal (text_of field)) ≡ true = both_true _ _ (le_true _ _ h.0) digits in
-    ap (λ b. cond b (Some (signed (has_minus (text_of field)) (decimal 7 (whole_part (text_of field)) (fraction_part (text_of field))))) None) test ∙ ap Some (sym h.1.1)
+    ap (λ b. cond b (Some (signed (has_minus (text_of field)) (decimal 7 (before_dot (unsigned (text_of field))) (behind_dot (unsigned (text_of field)))))) None) test ∙ ap Some (sym h.1.1)
 
 pub header_number_of-none : (field : List ℕ) → ((v : ℤ) → SpellsHeaderNumber field v → ⊥) → header_number_of field ≡ None
 unfolding header_number_of
 header_number_of-none field h =
-    cond_none (nat_le (length field) 8 && is_decimal (text_of field)) (signed (has_minus (text_of field)) (decimal 7 (whole_part (text_of field)) (fraction_part (text_of field))))
+    cond_none (nat_le (length field) 8 && is_decimal (text_of field)) (signed (has_minus (text_of field)) (decimal 7 (before_dot (unsigned (text_of field))) (behind_dot (unsigned (text_of field)))))
     (λ test.
     let outer = and_true (nat_le (length field) 8) (is_decimal (text_of field)) test in
-    let inner = and_true (list_all is_digit (whole_part (text_of field))) (list_all is_digit (fraction_part (text_of field)) && nat_lt 0 (length (whole_part (text_of field)) + length (fraction_part (text_of field)))) outer.1 in
-    let last = and_true (list_all is_digit (fraction_part (text_of field))) (nat_lt 0 (length (whole_part (text_of field)) + length (fraction_part (text_of field)))) inner.1 in
+    let inner = and_true (list_all is_digit (before_dot (unsigned (text_of field)))) (list_all is_digit (behind_dot (unsigned (text_of field))) && nat_lt 0 (length (before_dot (unsigned (text_of field))) + length (behind_dot (unsigned (text_of field))))) outer.1 in
+    let last = and_true (list_all is_digit (behind_dot (unsigned (text_of field)))) (nat_lt 0 (length (before_dot (unsigned (text_of field))) + length (behind_dot (unsigned (text_of field))))) inner.1 in
     h _ (true_le _ _ outer.0, ((tested_digits _ inner.0, tested_digits _ last.0, true_lt _ _ last.1), refl)))
 
 pub header_number_read : (o : Option ℤ) (field : List ℕ) → MatchOption o ((v : ℤ) → SpellsHeaderNumber field v → ⊥) (SpellsHeaderNumber field) → o ≡ header_number_of field
@@ -113,10 +113,10 @@ whole_number_of-some field v h =
 pub header_number_of-some : (field : List ℕ) (v : ℤ) → header_number_of field ≡ Some v → SpellsHeaderNumber field v
 unfolding header_number_of
 header_number_of-some field v h =
-    let found = cond_is (nat_le (length field) 8 && is_decimal (text_of field)) (signed (has_minus (text_of field)) (decimal 7 (whole_part (text_of field)) (fraction_part (text_of field)))) v h in
+    let found = cond_is (nat_le (length field) 8 && is_decimal (text_of field)) (signed (has_minus (text_of field)) (decimal 7 (before_dot (unsigned (text_of field))) (behind_dot (unsigned (text_of field))))) v h in
     let outer = and_true (nat_le (length field) 8) (is_decimal (text_of field)) found.0 in
-    let inner = and_true (list_all is_digit (whole_part (text_of field))) (list_all is_digit (fraction_part (text_of field)) && nat_lt 0 (length (whole_part (text_of field)) + length (fraction_part (text_of field)))) outer.1 in
-    let last = and_true (list_all is_digit (fraction_part (text_of field))) (nat_lt 0 (length (whole_part (text_of field)) + length (fraction_part (text_of field)))) inner.1 in
+    let inner = and_true (list_all is_digit (before_dot (unsigned (text_of field)))) (list_all is_digit (behind_dot (unsigned (text_of field))) && nat_lt 0 (length (before_dot (unsigned (text_of field))) + length (behind_dot (unsigned (text_of field))))) outer.1 in
+    let last = and_true (list_all is_digit (behind_dot (unsigned (text_of field)))) (nat_lt 0 (length (before_dot (unsigned (text_of field))) + length (behind_dot (unsigned (text_of field))))) inner.1 in
     (true_le _ _ outer.0, ((tested_digits _ inner.0, tested_digits _ last.0, true_lt _ _ last.1), found.1))
 
 -- the number that is read of a field is the one that it spells

@@ -1,18 +1,17 @@
 -- Which bytes stand in a text that spells an onset or a duration.
-use Rattle.std.proofs.Common.{◌≡◌, ℕ, ℤ, Bool, true, zero, suc, ◌<◌, ◌≤◌, List, [], ◌∷◌, length, drop, slice_index, arith, refl, Some, nat_eq, ◌||◌}
+use Rattle.std.proofs.Common.{◌≡◌, ℕ, ℤ, Bool, true, zero, suc, ◌<◌, ◌≤◌, List, [], ◌∷◌, length, drop, slice_index, arith, refl, Some, nat_eq, ◌||◌, ◌==◌}
 use Rattle.std.specs.List.{list_all}
 use Rattle.std.proofs.lemmas.Bool.Decides.{nat_tests}
 use Rattle.std.proofs.lemmas.Grind.{common_steps}
-use Rattle.edf_fields.specs.texts.Numbers.{is_dot, before_dot, behind_dot}
+use Rattle.edf_fields.specs.texts.Numbers.{before_dot, behind_dot, has_sign}
 use Rattle.edf_fields.specs.texts.NumbersReading.{is_digit}
-use Rattle.edf_fields.specs.texts.Onsets.{has_sign}
 use Rattle.edf_fields.specs.texts.OnsetsReading.{onset_of, span_of}
 use Rattle.edf_fields.proofs.texts.NumberFacts.{digits_tested}
-use Rattle.edf_fields.proofs.texts.OnsetFacts.{and_true, onset_of_some, span_of_some}
+use Rattle.edf_fields.proofs.texts.OnsetFacts.{and_true, onset_of_found, span_of_found}
 
 -- the byte is a digit or a dot
 abbrev pub is_time_byte : ℕ → Bool
-is_time_byte b = is_digit b || is_dot b
+is_time_byte b = is_digit b || (b == 46)
 
 -- the byte is a digit, a dot or a sign
 abbrev pub is_onset_byte : ℕ → Bool
@@ -37,13 +36,13 @@ sign_passes (c ∷ cs) h k = grind (arith, nat_tests, common_steps)
 -- what spells a duration is digits and dots
 pub span_bytes : (t : List ℕ) (v : ℤ) → span_of t ≡ Some v → list_all is_time_byte t ≡ true
 span_bytes t v h =
-    let spelled = span_of_some t v h in
+    let spelled = span_of_found t v h in
     around_dot t (digits_tested _ spelled.0.0.0) (digits_tested _ spelled.0.1.0)
 
 -- what spells an onset is digits, dots and signs
 pub onset_bytes : (t : List ℕ) (v : ℤ) → onset_of t ≡ Some v → list_all is_onset_byte t ≡ true
 onset_bytes t v h =
-    let spelled = onset_of_some t v h in
+    let spelled = onset_of_found t v h in
     sign_passes t spelled.0 (times_pass (drop 1 t) (around_dot (drop 1 t) (digits_tested _ spelled.1.0.0) (digits_tested _ spelled.1.1.0)))
 
 time_byte_low : (b : ℕ) → is_time_byte b ≡ true → 46 ≤ b

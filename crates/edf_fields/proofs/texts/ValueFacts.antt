@@ -1,12 +1,13 @@
 -- How large the numbers are that fields spell.
-use Rattle.std.proofs.Common.{◌≡◌, ℕ, ℤ, Bool, true, false, suc, ◌+◌, ◌-◌, ◌*◌, ◌^◌, ◌<◌, ◌≤◌, List, [], ◌∷◌, length, arith, ap, ◌∙◌, lit<, length-drop}
+use Rattle.std.proofs.Common.{◌≡◌, ℕ, ℤ, Bool, true, false, suc, ◌+◌, ◌-◌, ◌*◌, ◌^◌, ◌<◌, ◌≤◌, List, [], ◌∷◌, length, arith, ap, ◌∙◌, lit<, length-drop, ◌==◌}
 use Rattle.std.specs.Prelude.{unsigned_abs}
 use Rattle.std.specs.List.{position_or_len}
 use Rattle.std.proofs.Math.Nat.{pow-succ', mul-le-mul_right}
 use Rattle.std.proofs.lemmas.Int.{ints}
 use Rattle.std.proofs.lemmas.Grind.{common_steps}
 use Rattle.std.proofs.lemmas.List.{length-take}
-use Rattle.edf_fields.specs.texts.Numbers.{weight, unsigned, signed, has_minus, is_dot, before_dot, behind_dot, decimal, AreDigits, SpellsWholeNumber, SpellsHeaderNumber}
+use Rattle.edf_fields.specs.texts.Numbers.{weight, unsigned, signed, has_minus, before_dot, behind_dot, decimal, AreDigits}
+use Rattle.edf_fields.specs.texts.NumbersReading.{SpellsHeaderNumber, SpellsWholeNumber}
 use Rattle.edf_fields.specs.Parts.{text_of}
 use Rattle.edf_fields.proofs.PartFacts.{length-text_of}
 use Rattle.edf_fields.proofs.texts.DigitFacts.{below_power, fraction_below}
@@ -32,10 +33,10 @@ pub length-unsigned : (t : List ℕ) → length (unsigned t) ≤ length t
 length-unsigned t = grind (arith, common_steps)
 
 pub length-before_dot : (u : List ℕ) → length (before_dot u) ≤ length u
-length-before_dot u = omega (arith, length-take (position_or_len is_dot u) u)
+length-before_dot u = omega (arith, length-take (position_or_len (λ b. b == 46) u) u)
 
 pub length-behind_dot : (u : List ℕ) → length (behind_dot u) ≤ length u - 1
-length-behind_dot u = omega (arith, length-drop (position_or_len is_dot u + 1) u)
+length-behind_dot u = omega (arith, length-drop (position_or_len (λ b. b == 46) u + 1) u)
 
 -- a whole number has at most as many digits as its field has bytes
 pub whole_number-below : (field : List ℕ) (v : ℤ) → SpellsWholeNumber field v → unsigned_abs v < 10 ^ length field

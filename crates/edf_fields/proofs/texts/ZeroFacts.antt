@@ -1,5 +1,5 @@
 -- Zeros in front of digits and at their end.
-use Rattle.std.proofs.Common.{◌≡◌, ℕ, true, ◌+◌, ◌-◌, ◌*◌, ◌^◌, ◌<◌, ◌≤◌, ◌≢◌, List, [], ◌∷◌, ◌++◌, length, get_or, take, drop, drop-cons, add-one, arith, refl, ap, ◌∙◌, sym, lit<}
+use Rattle.std.proofs.Common.{◌≡◌, ℕ, true, ◌+◌, ◌-◌, ◌*◌, ◌^◌, ◌<◌, ◌≤◌, ◌≢◌, List, [], ◌∷◌, ◌++◌, length, get_or, take, drop, drop-cons, add-one, arith, refl, ap, ◌∙◌, sym, lit<, ◌==◌}
 use Rattle.std.specs.List.{list_all}
 use Rattle.std.proofs.Math.Nat.{pow-le-pow_right, mul-lt-mul_of_pos_right}
 use Rattle.std.proofs.Math.ListN.{drop_of_length-le}
@@ -7,9 +7,9 @@ use Rattle.std.proofs.lemmas.Nat.{pow-add}
 use Rattle.std.proofs.lemmas.Bool.Decides.{nat_tests}
 use Rattle.std.proofs.lemmas.Grind.{common_steps}
 use Rattle.std.proofs.lemmas.List.{take_more}
-use Rattle.edf_fields.specs.texts.Numbers.{AreDigits}
+use Rattle.edf_fields.specs.texts.Numbers.{AreDigits, weight}
 use Rattle.edf_fields.specs.texts.NumbersReading.{is_digit}
-use Rattle.edf_fields.specs.texts.Onsets.{is_zero, without_leading_zeros, without_trailing_zeros}
+use Rattle.edf_fields.specs.texts.OnsetsReading.{without_leading_zeros, without_trailing_zeros}
 use Rattle.edf_fields.proofs.texts.NumberFacts.{digits_tested, tested_digits}
 
 -- a byte in front, and the bytes behind it
@@ -55,12 +55,17 @@ trailing_digit xs n some within e =
     let last : take n xs ≡ take (n - 1) xs ++ get_or xs (n - 1) 0 ∷ [] = ap (λ k. take k xs) (sym next) ∙ take_more xs (n - 1) 0 low in
     last ∙ sym (ap without_trailing_zeros last ∙ trailing_other (take (n - 1) xs) (get_or xs (n - 1) 0) e)
 
+-- zeros in front have no weight
+pub weight_leading : (w : List ℕ) → weight (without_leading_zeros w) ≡ weight w
+weight_leading [] = refl
+weight_leading (c ∷ cs) = grind (arith, nat_tests, common_steps, weight_leading cs)
+
 -- the zeros left out are digits
 leading_tested : (ds : List ℕ) → list_all is_digit (without_leading_zeros ds) ≡ list_all is_digit ds
 leading_tested [] = refl
 leading_tested (d ∷ ds) = grind (arith, nat_tests, common_steps, leading_tested ds)
 
-zeros_tested : (ds : List ℕ) → list_all is_zero ds ≡ true → list_all is_digit ds ≡ true
+zeros_tested : (ds : List ℕ) → list_all (λ b. b == 48) ds ≡ true → list_all is_digit ds ≡ true
 zeros_tested [] h = refl
 zeros_tested (d ∷ ds) h = grind (arith, nat_tests, common_steps, zeros_tested ds)
 

@@ -1,5 +1,5 @@
 -- What a source of bytes promises of a read.
-use Rattle.std.specs.Prelude.{◌≡◌, ℕ, ◌+◌, ◌-◌, ◌^◌, ◌≤◌, min, Bool, List, ◌++◌, take}
+use Rattle.std.specs.Prelude.{◌≡◌, ℕ, ◌+◌, ◌-◌, ◌^◌, ◌≤◌, min, Bool, List}
 
 -- a count of failures that stops at `u64::MAX` went up
 abbrev pub Rises : ℕ → ℕ → Type 0
@@ -15,7 +15,3 @@ pub record Reads : Type 0 where
 -- a read failed
 abbrev pub Fails : Reads → Reads → Type 0
 Fails old new = Rises old.failed new.failed
-
--- the first k bytes of the buffer were the first that were left, and the others are still left
-abbrev pub Takes : List ℕ → List ℕ → ℕ → List ℕ → Type 0
-Takes left rest k buf = left ≡ take k buf ++ rest

@@ -49,15 +49,11 @@ NamesClockTime t second =
     × (number_at t 0 2 ≤ 23) × (number_at t 3 2 ≤ 59) × (number_at t 6 2 ≤ 59)
     × (second ≡ number_at t 0 2 * 3600 + number_at t 3 2 * 60 + number_at t 6 2)
 
--- the names of the months in order, each three capitals (EDF+, "Additional specifications in EDF+")
-abbrev pub month_names : List (List ℕ)
-month_names =
-    codes "JAN" ∷ codes "FEB" ∷ codes "MAR" ∷ codes "APR" ∷ codes "MAY" ∷ codes "JUN"
-    ∷ codes "JUL" ∷ codes "AUG" ∷ codes "SEP" ∷ codes "OCT" ∷ codes "NOV" ∷ codes "DEC" ∷ []
-
--- the number of the month with this name, from 1 on, and 0 where no month has it
+-- the number of the month with this name of three capitals, from 1 on, and 0 where no month has it (EDF+, "Additional specifications in EDF+")
 abbrev pub month_of : List ℕ → ℕ
-month_of name = option_map_or (λ k. k + 1) (position (bytes_eq name) month_names) 0
+month_of name = option_map_or (λ k. k + 1) (position (bytes_eq name) (
+    codes "JAN" ∷ codes "FEB" ∷ codes "MAR" ∷ codes "APR" ∷ codes "MAY" ∷ codes "JUN"
+    ∷ codes "JUL" ∷ codes "AUG" ∷ codes "SEP" ∷ codes "OCT" ∷ codes "NOV" ∷ codes "DEC" ∷ [])) 0
 
 -- two digits, a minus, three bytes, a minus and four digits
 pub record IsDashed (t : List ℕ) : Type 0 where

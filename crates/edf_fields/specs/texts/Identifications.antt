@@ -12,10 +12,6 @@ pub record ListsSubfields (field : List ℕ) (xs : List (List ℕ)) : Type 0 whe
   pub begins : slice_index field 0 ≢ 32
   pub subfields : HasSubfields (text_of field) xs
 
--- the sex is F, M or X
-abbrev pub IsSex : List ℕ → Type 0
-IsSex s = (s ≡ codes "F") ⊎ (s ≡ codes "M") ⊎ (s ≡ codes "X")
-
 -- an existing day dd-MMM-yyyy, or X
 abbrev pub IsDateOrX : List ℕ → Type 0
 IsDateOrX s = (s ≡ codes "X") ⊎ ((n : ℤ) × NamesDashedDay s n)
@@ -28,15 +24,11 @@ pub record Patient : Type 0 where
   pub name : List ℕ
   pub extras : List (List ℕ)
 
--- the sex and the birthdate of a patient are written as they have to be
-pub record IsPatient (patient : Patient) : Type 0 where
-  pub sex : IsSex patient.sex
-  pub birthdate : IsDateOrX patient.birthdate
-
--- the field says this patient: the code, the sex, the birthdate, the name and any additional subfields
+-- the field says this patient: the code, the sex (F, M or X), the birthdate, the name and any additional subfields
 pub record SaysPatient (field : List ℕ) (patient : Patient) : Type 0 where
   pub lists : ListsSubfields field (patient.code ∷ patient.sex ∷ patient.birthdate ∷ patient.name ∷ patient.extras)
-  pub written : IsPatient patient
+  pub sex : (patient.sex ≡ codes "F") ⊎ (patient.sex ≡ codes "M") ⊎ (patient.sex ≡ codes "X")
+  pub birthdate : IsDateOrX patient.birthdate
 
 -- the subfields of a recording, behind the word
 pub record Recording : Type 0 where

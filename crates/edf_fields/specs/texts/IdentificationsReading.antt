@@ -13,7 +13,7 @@ use Rattle.edf_fields.specs.declared.texts.identification.PatientId.{PatientId}
 use Rattle.edf_fields.specs.declared.texts.identification.RecordingId.{RecordingId}
 use Rattle.edf_fields.specs.texts.Identifications.{Patient, SaysPatient, Recording, SaysRecording}
 
--- `IsSex` as a test
+-- the sex is F, M or X
 abbrev pub is_sex : List ℕ → Bool
 is_sex s = bytes_eq s (codes "F") || (bytes_eq s (codes "M") || bytes_eq s (codes "X"))
 

@@ -1,7 +1,6 @@
 -- Which texts spell a number, and which number.
-use Rattle.std.specs.Prelude.{◌≡◌, ℕ, ℤ, Bool, ◌||◌, ◌==◌, ◌+◌, ◌-◌, ◌*◌, ◌^◌, ◌<◌, ◌≤◌, pos, neg_ℤ, List, [], ◌∷◌, length, slice_index, drop, if◌then◌else◌}
+use Rattle.std.specs.Prelude.{◌≡◌, ℕ, ℤ, Bool, ◌||◌, ◌==◌, ◌+◌, ◌-◌, ◌*◌, ◌^◌, ◌<◌, pos, neg_ℤ, List, [], ◌∷◌, length, slice_index, drop, if◌then◌else◌, ◌≤◌}
 use Rattle.std.specs.List.{before_first, after_first}
-use Rattle.edf_fields.specs.Parts.{text_of}
 
 -- each byte is a decimal digit
 abbrev pub AreDigits : List ℕ → Type 0
@@ -16,39 +15,31 @@ weight (c ∷ cs) = (c - 48) * 10 ^ length cs + weight cs
 abbrev pub has_minus : List ℕ → Bool
 has_minus t = slice_index t 0 == 45
 
+-- the text begins with a plus or a minus
+abbrev pub has_sign : List ℕ → Bool
+has_sign t = has_minus t || (slice_index t 0 == 43)
+
 -- what stands behind a sign, or the whole text where there is none
 abbrev pub unsigned : List ℕ → List ℕ
-unsigned t = if has_minus t || (slice_index t 0 == 43) then drop 1 t else t
+unsigned t = if has_sign t then drop 1 t else t
 
 -- the number with the sign that the text begins with
 abbrev pub signed : Bool → ℕ → ℤ
 signed minus n = if minus then neg_ℤ (pos n) else pos n
 
--- the byte is a dot, the decimal separator (EDF+, "Additional specifications in EDF+")
-abbrev pub is_dot : ℕ → Bool
-is_dot b = b == 46
-
--- what stands before the first dot, or the whole text where there is none
+-- what stands before the first dot, the decimal separator (EDF+, "Additional specifications in EDF+"), or the whole text where there is none
 abbrev pub before_dot : List ℕ → List ℕ
-before_dot u = before_first is_dot u
+before_dot u = before_first (λ b. b == 46) u
 
 -- what stands behind the first dot, or nothing where there is none
 abbrev pub behind_dot : List ℕ → List ℕ
-behind_dot u = after_first is_dot u
-
--- the digits behind the sign and before the dot
-abbrev pub whole_part : List ℕ → List ℕ
-whole_part t = before_dot (unsigned t)
-
--- the digits behind the dot
-abbrev pub fraction_part : List ℕ → List ℕ
-fraction_part t = behind_dot (unsigned t)
+behind_dot u = after_first (λ b. b == 46) u
 
 -- whole digits w and fraction digits f, of which there are at most k, in units of 10^-k
 abbrev pub decimal : ℕ → List ℕ → List ℕ → ℕ
 decimal k w f = weight w * 10 ^ k + weight f * 10 ^ (k - length f)
 
--- the text is an optional sign and at least one digit, and has this value
+-- the text is an optional sign and at least one digit, and has this value (EDF, "Header record": all counts, digital minimum and maximum; which forms spell a number is this project's profile)
 abbrev pub SpellsWhole : List ℕ → ℤ → Type 0
 SpellsWhole t v =
     AreDigits (unsigned t)
@@ -62,16 +53,7 @@ IsDecimal u =
     × AreDigits (behind_dot u)
     × (0 < length (before_dot u) + length (behind_dot u))
 
--- the text is an optional sign and a decimal, and has this value in units of 10^-k
+-- the text is an optional sign and a decimal, and has this value in units of 10^-k (EDF, "Header record": physical extremes, duration; which forms spell a number is this project's profile)
 abbrev pub SpellsDecimal : ℕ → List ℕ → ℤ → Type 0
 SpellsDecimal k t v =
-    IsDecimal (unsigned t) × (v ≡ signed (has_minus t) (decimal k (whole_part t) (fraction_part t)))
-
--- a field of at most 8 bytes whose text is a decimal, in units of 10^-7 (EDF, "Header record": physical extremes, duration)
--- which forms spell a number is this project's profile
-abbrev pub SpellsHeaderNumber : List ℕ → ℤ → Type 0
-SpellsHeaderNumber field v = (length field ≤ 8) × SpellsDecimal 7 (text_of field) v
-
--- a field of at most 8 bytes whose text is a whole number (EDF, "Header record": all counts, digital minimum and maximum; which forms spell a number is this project's profile)
-abbrev pub SpellsWholeNumber : List ℕ → ℤ → Type 0
-SpellsWholeNumber field v = (length field ≤ 8) × SpellsWhole (text_of field) v
+    IsDecimal (unsigned t) × (v ≡ signed (has_minus t) (decimal k (before_dot (unsigned t)) (behind_dot (unsigned t))))

@@ -1,7 +1,7 @@
 //! A source that fails at a read that was chosen beforehand.
 
-ghost use Rattle.std.specs.Prelude.{◌≡◌, ◌-◌, ◌<◌, ◌≤◌, [], length, IsErr, IfOk, OnOk, OnErr, IsTrue};
-ghost use Rattle.edf_fields.specs.in_out.Sources.{Fails, Rises, Takes};
+ghost use Rattle.std.specs.Prelude.{◌≡◌, ◌-◌, ◌<◌, ◌≤◌, [], ◌++◌, length, take, IsErr, IfOk, OnOk, OnErr, IsTrue};
+ghost use Rattle.edf_fields.specs.in_out.Sources.{Fails, Rises};
 ghost use Rattle.edf_fields.specs.in_out.PlainReads.{plain_reads};
 
 use crate::in_out::source::{ReadFault, Source};
@@ -57,7 +57,7 @@ impl<S: Source + Drop> Source for FaultySource<S> {
         ensures honesty { OnOk result (IsTrue (S.is_honest self.old.inner) →
             IsTrue (S.is_honest self.new.inner)) }
         ensures bytes { IfOk result (λ k. IsTrue (S.is_honest self.old.inner) →
-            Takes (S.left self.old.inner) (S.left self.new.inner) k buf.new) }
+            S.left self.old.inner ≡ take k buf.new ++ S.left self.new.inner) }
         ensures ends { IfOk result (λ k. IsTrue (S.is_honest self.old.inner) → k ≡ 0 →
             S.left self.old.inner ≡ []) }
         ensures fails { OnErr result (Fails (plain_reads self.old.failed) (plain_reads self.new.failed)) }

@@ -3,8 +3,8 @@
 //! A source's bytes are known to the proofs where the source is honest. Of a file or a pipe
 //! nothing is known but that its failures are counted. A source may tell in its `reads` what it began with, so that
 //! what is proved of a reader also says that it read on where the source stood, and nothing else.
-ghost use Rattle.std.specs.Prelude.{◌≡◌, ℕ, ◌<◌, ◌≤◌, ◌-◌, ◌^◌, min, List, [], length, take, drop, is_some, unwrap_or, Ok, IfOk, OnOk, OnErr, IsTrue, Bool, true};
-ghost use Rattle.edf_fields.specs.in_out.Sources.{Fails, Reads, Takes};
+ghost use Rattle.std.specs.Prelude.{◌≡◌, ℕ, ◌<◌, ◌≤◌, ◌-◌, ◌^◌, min, List, [], ◌++◌, length, take, drop, is_some, unwrap_or, Ok, IfOk, OnOk, OnErr, IsTrue, Bool, true};
+ghost use Rattle.edf_fields.specs.in_out.Sources.{Fails, Reads};
 ghost use Rattle.edf_fields.specs.in_out.PlainReads.{plain_reads};
 
 use std::io::Read;
@@ -35,7 +35,7 @@ pub trait Source {
         ensures failures { OnOk result (reads self.new ≡ reads self.old) }
         ensures honesty { OnOk result (IsTrue (is_honest self.old) → IsTrue (is_honest self.new)) }
         ensures bytes { IfOk result (λ k. IsTrue (is_honest self.old) →
-            Takes (left self.old) (left self.new) k buf.new) }
+            left self.old ≡ take k buf.new ++ left self.new) }
         ensures ends { IfOk result (λ k. IsTrue (is_honest self.old) → k ≡ 0 → left self.old ≡ []) }
         ensures fails { OnErr result (Fails (reads self.old) (reads self.new)) };
 }
@@ -74,7 +74,7 @@ impl<'a> Source for SliceSource<'a> {
         ensures failures { OnOk result (reads_of self.new ≡ reads_of self.old) }
         ensures honesty { OnOk result (IsTrue (is_known self.old) → IsTrue (is_known self.new)) }
         ensures bytes { IfOk result (λ k. IsTrue (is_known self.old) →
-            Takes (left_of self.old) (left_of self.new) k buf.new) }
+            left_of self.old ≡ take k buf.new ++ left_of self.new) }
         ensures ends { IfOk result (λ k. IsTrue (is_known self.old) → k ≡ 0 → left_of self.old ≡ []) }
         ensures fails { OnErr result (Fails (reads_of self.old) (reads_of self.new)) }
 
@@ -143,7 +143,7 @@ pub fn fill<S: Source>(source: &mut S, buf: &mut [u8]) -> Result<usize, ReadFaul
     // What an honest source gives.
     ensures honesty { OnOk result (IsTrue (S.is_honest source.old) → IsTrue (S.is_honest source.new)) }
     ensures bytes { IfOk result (λ k. IsTrue (S.is_honest source.old) →
-        Takes (S.left source.old) (S.left source.new) k buf.new) }
+        S.left source.old ≡ take k buf.new ++ S.left source.new) }
     ensures ends { IfOk result (λ k. IsTrue (S.is_honest source.old) → k < length buf.old →
         S.left source.new ≡ []) }
     ensures front { IfOk result (λ k. IsTrue (S.is_honest source.old) →

@@ -3,11 +3,11 @@
 //! The fields of a header are ASCII, stand to the left and are filled with spaces (EDF, "Header
 //! record"). Which texts spell a number is this project's profile of EDF and EDF+: plain decimals
 //! with a dot, no exponent, no comma and no space in front.
-ghost use Rattle.std.specs.Prelude.{◌≡◌, ℤ, ◌+◌, ◌-◌, ◌*◌, ◌≤◌, ◌<◌, ◌^◌, length, take, MatchOption, IfSome, unsigned_abs};
+ghost use Rattle.std.specs.Prelude.{◌≡◌, ℤ, ◌+◌, ◌-◌, ◌*◌, ◌≤◌, ◌<◌, ◌^◌, length, take, MatchOption, IfSome, unsigned_abs, ◌==◌};
 ghost use Rattle.std.specs.List.{position};
 ghost use Rattle.edf_fields.specs.Parts.{part, text_of};
-ghost use Rattle.edf_fields.specs.texts.Numbers.{AreDigits, IsDecimal, weight, decimal, before_dot, behind_dot, has_minus, unsigned, signed, is_dot, SpellsHeaderNumber, SpellsWholeNumber};
-ghost use Rattle.edf_fields.specs.texts.NumbersReading.{header_number_of, whole_number_of};
+ghost use Rattle.edf_fields.specs.texts.Numbers.{AreDigits, IsDecimal, weight, decimal, before_dot, behind_dot, has_minus, unsigned, signed};
+ghost use Rattle.edf_fields.specs.texts.NumbersReading.{header_number_of, whole_number_of, SpellsHeaderNumber, SpellsWholeNumber};
 
 /// The `count` bytes from place `at` on.
 pub fn bytes_at(bytes: &[u8], at: usize, count: usize) -> &[u8]
@@ -69,7 +69,7 @@ fn split_sign(text: &[u8]) -> (bool, &[u8])
 
 /// The place of the first dot.
 fn dot_place(text: &[u8]) -> Option<usize>
-    ensures place { result ≡ position is_dot text.now }
+    ensures place { result ≡ position (λ b. b == 46) text.now }
     ensures within { IfSome result (λ k. k < length text.now) }
 {
     text.iter().position(|byte| *byte == b'.')

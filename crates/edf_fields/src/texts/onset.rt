@@ -4,9 +4,9 @@
 //! 'EDF Annotations' signal"). Zeros in front of the seconds and at the end of the fraction don't
 //! count; that 9 digits of seconds and 12 of the fraction may be left is this project's profile.
 ghost use Rattle.std.specs.Prelude.{◌≡◌, ℤ, ◌+◌, ◌-◌, ◌*◌, ◌≤◌, ◌<◌, ◌≤ℤ◌, ◌^◌, pos, drop, length, take, IsTrue, MatchOption, IfSome, unsigned_abs};
-ghost use Rattle.edf_fields.specs.texts.Numbers.{weight, has_minus, signed};
-ghost use Rattle.edf_fields.specs.texts.Onsets.{without_leading_zeros, without_trailing_zeros, has_dot, has_sign, AreSeconds, IsFraction, IsTime, time_of, SpellsOnset, SpellsSpan};
-ghost use Rattle.edf_fields.specs.texts.OnsetsReading.{AreDigitsBefore, onset_of, span_of};
+ghost use Rattle.edf_fields.specs.texts.Numbers.{weight, has_minus, signed, has_sign};
+ghost use Rattle.edf_fields.specs.texts.Onsets.{SpellsOnset};
+ghost use Rattle.edf_fields.specs.texts.OnsetsReading.{AreDigitsBefore, onset_of, span_of, AreSeconds, IsFraction, SpellsSpan, without_leading_zeros, without_trailing_zeros, IsTimeRead, time_read, ReadsOnset, ReadsSpan};
 
 use crate::texts::number::{digits, split_dot};
 
@@ -133,8 +133,8 @@ fn joined(seconds: u64, picoseconds: u64) -> u128
 /// The time that a text with no sign spells, as `time`, by its two parts.
 #[tactic(auto, using(crate::proofs::texts::OnsetFacts::dot_stands))]
 fn time_by_parts(text: &[u8]) -> Option<u128>
-    ensures { MatchOption result (¬ IsTime text.now)
-        (λ v. IsTime text.now × (v ≡ time_of text.now) × (v < 10 ^ 21)) }
+    ensures { MatchOption result (¬ IsTimeRead text.now)
+        (λ v. IsTimeRead text.now × (v ≡ time_read text.now) × (v < 10 ^ 21)) }
 {
     let (whole, fraction) = split_dot(text);
     if fraction.is_empty() && whole.len() < text.len() {
@@ -174,8 +174,8 @@ fn digit_front(text: &[u8]) -> Front
 ///
 /// Most texts have at most 9 digits, and maybe a dot behind them: these are gone through once.
 fn time(text: &[u8]) -> Option<u128>
-    ensures { MatchOption result (¬ IsTime text.now)
-        (λ v. IsTime text.now × (v ≡ time_of text.now) × (v < 10 ^ 21)) }
+    ensures { MatchOption result (¬ IsTimeRead text.now)
+        (λ v. IsTimeRead text.now × (v ≡ time_read text.now) × (v < 10 ^ 21)) }
 {
     let front = digit_front(text);
     if front.count == 0 {
@@ -219,7 +219,7 @@ fn with_sign(is_negative: bool, time: u128) -> i128
 
 /// The onset that a text spells, as `onset`.
 fn onset_of_text(text: &[u8]) -> Option<i128>
-    ensures spelled { MatchOption result ((v : ℤ) → ¬ SpellsOnset text.now v) (SpellsOnset text.now) }
+    ensures read { MatchOption result ((v : ℤ) → ¬ ReadsOnset text.now v) (ReadsOnset text.now) }
     ensures small { IfSome result (λ v. unsigned_abs v < 10 ^ 21) }
 {
     let (is_negative, rest) = behind_sign(text)?;
@@ -229,7 +229,7 @@ fn onset_of_text(text: &[u8]) -> Option<i128>
 
 /// The duration that a text spells, as `span`.
 fn span_of_text(text: &[u8]) -> Option<i128>
-    ensures spelled { MatchOption result ((v : ℤ) → ¬ SpellsSpan text.now v) (SpellsSpan text.now) }
+    ensures read { MatchOption result ((v : ℤ) → ¬ ReadsSpan text.now v) (ReadsSpan text.now) }
     ensures small { IfSome result (λ v. unsigned_abs v < 10 ^ 21) }
     ensures not_negative { IfSome result (λ v. pos 0 ≤ℤ v) }
 {
@@ -244,7 +244,7 @@ fn span_of_text(text: &[u8]) -> Option<i128>
 /// front of the whole part and at the end of the fraction don't count, and of what is left the
 /// whole part has at most 9 digits and the fraction at most 12. Any other text spells none. The
 /// text may have any length.
-#[tactic(auto, using(crate::proofs::texts::OnsetFacts::onset_read))]
+#[tactic(auto, using(crate::proofs::texts::OnsetFacts::onset_read, crate::proofs::texts::TimeFacts::onset_spelled))]
 pub fn onset(text: &[u8]) -> Option<i128>
     ensures spelled { MatchOption result ((v : ℤ) → ¬ SpellsOnset text.now v) (SpellsOnset text.now) }
     ensures value { result ≡ onset_of text.now }
@@ -256,7 +256,7 @@ pub fn onset(text: &[u8]) -> Option<i128>
 /// The duration that a text spells, in picoseconds (10^-12 s): `000.25` is 250,000,000,000.
 ///
 /// The text is as for `onset`, but has no sign; any other text spells none.
-#[tactic(auto, using(crate::proofs::texts::OnsetFacts::span_read))]
+#[tactic(auto, using(crate::proofs::texts::OnsetFacts::span_read, crate::proofs::texts::TimeFacts::span_spelled))]
 pub fn span(text: &[u8]) -> Option<i128>
     ensures spelled { MatchOption result ((v : ℤ) → ¬ SpellsSpan text.now v) (SpellsSpan text.now) }
     ensures value { result ≡ span_of text.now }

@@ -3,7 +3,7 @@ use Rattle.std.proofs.Common.{◌≡◌, ℕ, ◌≤◌, ◌&&◌, ◌||◌, not
 use Rattle.std.specs.Ordering.{int_eq}
 use Rattle.std.proofs.lemmas.Bool.Decides.{nat_tests}
 use Rattle.edf_fields.specs.Parts.{text_of}
-use Rattle.edf_fields.specs.texts.Numbers.{has_minus, unsigned, signed, weight, decimal, whole_part, fraction_part}
+use Rattle.edf_fields.specs.texts.Numbers.{has_minus, unsigned, signed, weight, decimal, before_dot, behind_dot}
 use Rattle.edf_fields.specs.texts.NumbersReading.{header_number_of, whole_number_of, is_whole, is_decimal}
 use Rattle.edf_fields.specs.declared.faults.fault.Place.{Place}
 use Rattle.edf_fields.specs.declared.faults.fault.Cause.TheVariants.{NotPrintable, BadAnnotationSignal}
@@ -32,10 +32,10 @@ same_whole_number front field h short =
 pub same_header_number : (front field : List ℕ) → SaysTheSame front field → length field ≤ 8 → header_number_of front ≡ header_number_of field
 unfolding header_number_of
 same_header_number front field h short =
-    let said : List ℕ → Option ℤ = λ t. cond (is_decimal t) (Some (signed (has_minus t) (decimal 7 (whole_part t) (fraction_part t)))) None in
-    ap (λ b. cond (b && is_decimal (text_of front)) (Some (signed (has_minus (text_of front)) (decimal 7 (whole_part (text_of front)) (fraction_part (text_of front))))) None) (eight (length front) (omega (arith, h.within, short)))
+    let said : List ℕ → Option ℤ = λ t. cond (is_decimal t) (Some (signed (has_minus t) (decimal 7 (before_dot (unsigned t)) (behind_dot (unsigned t))))) None in
+    ap (λ b. cond (b && is_decimal (text_of front)) (Some (signed (has_minus (text_of front)) (decimal 7 (before_dot (unsigned (text_of front))) (behind_dot (unsigned (text_of front)))))) None) (eight (length front) (omega (arith, h.within, short)))
     ∙ ap said h.text
-    ∙ ap (λ b. cond (b && is_decimal (text_of field)) (Some (signed (has_minus (text_of field)) (decimal 7 (whole_part (text_of field)) (fraction_part (text_of field))))) None) (sym (eight (length field) short))
+    ∙ ap (λ b. cond (b && is_decimal (text_of field)) (Some (signed (has_minus (text_of field)) (decimal 7 (before_dot (unsigned (text_of field))) (behind_dot (unsigned (text_of field)))))) None) (sym (eight (length field) short))
 
 pub same_annotation : (s : ℕ) (front field : List ℕ) (line : Line) → SaysTheSame front field → annotation_fault s front line ≡ annotation_fault s field line
 unfolding annotation_fault

@@ -9,7 +9,7 @@ product : (x y : ℤ) (a b : ℕ) → unsigned_abs x ≤ a → unsigned_abs y �
 product x y a b p q = rw (unsigned_abs-mul x y) (mul-le-mul p q)
 
 narrow : (l : Line) → IsCalibration l → unsigned_abs (digital_span l) ≤ 65535
-narrow l c = let low = (c.extremes).low in let high = (c.extremes).high in let order = (c.extremes).order in omega (arith, ints, low, high, order)
+narrow l c = let low = c.low in let high = c.high in let order = c.order in omega (arith, ints, low, high, order)
 
 wide : (l : Line) → IsCalibration l → unsigned_abs (physical_span l) ≤ 2 * 10 ^ 15
 wide l c = let low = (c.short).small_minimum in let high = (c.short).small_maximum in omega (arith, ints, low, high)
@@ -18,7 +18,7 @@ least : (l : Line) → IsCalibration l → unsigned_abs l.physical_minimum ≤ 1
 least l c = let low = (c.short).small_minimum in omega (arith, low)
 
 first : (l : Line) → IsCalibration l → unsigned_abs l.digital_minimum ≤ 32768
-first l c = let low = (c.extremes).low in let high = (c.extremes).high in let order = (c.extremes).order in omega (arith, ints, low, high, order)
+first l c = let low = c.low in let high = c.high in let order = c.order in omega (arith, ints, low, high, order)
 
 minimum : (l : Line) → IsCalibration l → unsigned_abs (l.physical_minimum *ℤ digital_span l) ≤ 10 ^ 15 * 65535
 minimum l c = product l.physical_minimum (digital_span l) (10 ^ 15) 65535 (least l c) (narrow l c)

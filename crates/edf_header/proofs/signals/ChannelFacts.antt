@@ -1,8 +1,8 @@
 -- The channels and the annotation signals of a header whose signals passed their tests together.
-use Rattle.std.proofs.Common.{◌≡◌, ℕ, zero, suc, ◌+◌, ◌<◌, ◌≤◌, ◌&&◌, ◌||◌, not, Bool, true, false, cond, List, [], ◌∷◌, ◌++◌, length, take, slice_get, Some, None, unwrap_or, option_map, inl, inr, refl, sym, ap, ◌∙◌, subst, arith, nat_le}
+use Rattle.std.proofs.Common.{◌≡◌, ℕ, zero, suc, ◌+◌, ◌<◌, ◌≤◌, ◌&&◌, ◌||◌, not, Bool, true, false, cond, List, [], ◌∷◌, ◌++◌, length, take, slice_get, Some, None, unwrap_or, option_map, inl, inr, refl, sym, ap, ◌∙◌, subst, arith, nat_le, ◌≢◌}
 use Rattle.std.specs.List.{list_any, list_all, position_from}
 use Rattle.std.specs.Option.{is_some}
-use Rattle.std.proofs.lemmas.Bool.{cases_lt}
+use Rattle.std.proofs.lemmas.Bool.{cases_lt, false_from_ne_true, cases_Bool}
 use Rattle.std.proofs.lemmas.Slice.Eq.{bytes_eq-Decides}
 use Rattle.edf_fields.specs.declared.faults.fault.Place.TheVariants.{AtField, AtSignal}
 use Rattle.edf_fields.specs.declared.faults.fault.Cause.TheVariants.{NoAnnotationSignal, NoOrdinarySignal, DuplicateLabel, RecordTooLarge}
@@ -10,11 +10,10 @@ use Rattle.edf_fields.specs.declared.fields.layout.FixedField.TheVariants as fix
 use Rattle.edf_fields.specs.declared.fields.layout.SignalField.TheVariants as signal
 use Rattle.edf_fields.proofs.ForCallers.{le_decided, first-none, first-cons, not-true}
 use Rattle.edf_header.specs.Heads.{SignalHead, is_annotations, samples_together}
-use Rattle.edf_header.specs.signals.Channels.{IsChannel, HasDistinctChannels}
+use Rattle.edf_header.specs.signals.Channels.{IsChannel, HasDistinctChannels, channels_among}
 use Rattle.edf_header.specs.signals.ChannelsReading.{is_channel_of, channel_place, label_at, is_repeated}
 use Rattle.edf_header.specs.Faults.{no_annotation_signal, no_ordinary_signal, label_fault, labels_faults, record_too_large, joint_faults}
 use Rattle.edf_fields.specs.Tests.{first}
-use Rattle.edf_header.specs.Standard.{HasAnnotationSignal, HasSomeChannel}
 use Rattle.edf_header.proofs.PassedFacts.{fault_unless-passed}
 
 -- a member with this answer of the test, and its place
@@ -107,8 +106,8 @@ labels-distinct signals passed s t label cs ct =
 
 -- what the tests of the signals together say
 pub record Together (signals : List SignalHead) : Type 0 where
-  pub annotations : HasAnnotationSignal signals
-  pub channel : HasSomeChannel signals
+  pub annotations : list_any (λ signal. is_annotations signal.label) signals ≡ true
+  pub channel : channels_among signals ≢ []
   pub distinct : HasDistinctChannels signals
   pub small : samples_together signals ≤ 8388608
 
@@ -116,18 +115,36 @@ small-record : (signals : List SignalHead) → record_too_large signals ≡ None
 unfolding record_too_large
 small-record signals h = (le_decided (samples_together signals) 8388608).0 (fault_unless-passed (nat_le (samples_together signals) 8388608) (AtField fixed.Signals) RecordTooLarge h)
 
-pub annotation-there : (signals : List SignalHead) → no_annotation_signal signals ≡ None → HasAnnotationSignal signals
+pub annotation-there : (signals : List SignalHead) → no_annotation_signal signals ≡ None → list_any (λ signal. is_annotations signal.label) signals ≡ true
 unfolding no_annotation_signal
-annotation-there signals h =
-    let p : SignalHead → Bool = λ head. is_annotations head.label in
-    let r = any-at p signals (fault_unless-passed (list_any p signals) (AtField fixed.Signals) NoAnnotationSignal h) in
-    (r.0, r.1, r.2, r.3)
+annotation-there signals h = fault_unless-passed (list_any (λ signal. is_annotations signal.label) signals) (AtField fixed.Signals) NoAnnotationSignal h
 
-pub channel-there : (signals : List SignalHead) → no_ordinary_signal signals ≡ None → HasSomeChannel signals
+-- where all signals hold annotations there is no channel
+pub none-among : (signals : List SignalHead) → list_all (λ signal. is_annotations signal.label) signals ≡ true → channels_among signals ≡ []
+none-among [] h = refl
+none-among (x ∷ xs) h = elim (cases_Bool (is_annotations x.label)) [
+  | inl holds ↦ rw holds (none-among xs (rw holds at h))
+  | inr fails ↦ absurd (let e : false ≡ true = rw fails at h in cc)
+]
+
+some-among : (signals : List SignalHead) → list_all (λ signal. is_annotations signal.label) signals ≡ false → channels_among signals ≢ []
+some-among [] h = λ e. absurd (let z : true ≡ false = h in cc)
+some-among (x ∷ xs) h = elim (cases_Bool (is_annotations x.label)) [
+  | inl holds ↦ rw holds (some-among xs (rw holds at h))
+  | inr fails ↦ rw fails (λ e. let z : x ∷ channels_among xs ≡ [] = e in cc)
+]
+
+pub channel-there : (signals : List SignalHead) → no_ordinary_signal signals ≡ None → channels_among signals ≢ []
 unfolding no_ordinary_signal
 channel-there signals h =
     let p : SignalHead → Bool = λ head. is_annotations head.label in
-    let r = all-fails p signals (not-true (list_all p signals) (fault_unless-passed (not (list_all p signals)) (AtField fixed.Signals) NoOrdinarySignal h)) in
+    some-among signals (not-true (list_all p signals) (fault_unless-passed (not (list_all p signals)) (AtField fixed.Signals) NoOrdinarySignal h))
+
+-- where there is a channel one of the signals is it
+pub some_channel : (signals : List SignalHead) → channels_among signals ≢ [] → (s : ℕ) × (label : List ℕ) × IsChannel signals s label
+some_channel signals h =
+    let p : SignalHead → Bool = λ head. is_annotations head.label in
+    let r = all-fails p signals (false_from_ne_true (list_all p signals) (λ all. h (none-among signals all))) in
     (r.0, (r.1).label, (r.1, r.2, (refl, r.3)))
 
 pub joint-passed : (signals : List SignalHead) → first (joint_faults signals) ≡ None → Together signals

@@ -1,15 +1,18 @@
 -- Calibrations that were read, and what being the same line says of the values.
-use Rattle.std.specs.Prelude.{◌≡◌, ◌<◌, ◌^◌, ℤ, ◌+ℤ◌, ◌-ℤ◌, ◌*ℤ◌, ◌<ℤ◌, ◌↔◌, unsigned_abs}
-use Rattle.edf_header.specs.signals.Calibrations.{Line, AreExtremes, digital_span, physical_span, offset_times_span, SameLine}
+use Rattle.std.specs.Prelude.{◌≡◌, ◌≢◌, ◌<◌, ◌^◌, ℤ, ◌+ℤ◌, ◌-ℤ◌, ◌*ℤ◌, ◌<ℤ◌, ◌≤ℤ◌, pos, neg_ℤ, ◌↔◌, unsigned_abs}
+use Rattle.edf_header.specs.signals.Calibrations.{Line, digital_span, physical_span, offset_times_span, SameLine}
 
 -- 8 bytes spell no number of 10^8, which bounds the physical extremes
 pub record AreShort (l : Line) : Type 0 where
   pub small_minimum : unsigned_abs l.physical_minimum < 10 ^ 15
   pub small_maximum : unsigned_abs l.physical_maximum < 10 ^ 15
 
--- a calibration that was read of fields of 8 bytes
+-- a calibration that was read of fields of 8 bytes, with extremes as `IsSoundSignal` asks for them
 pub record IsCalibration (l : Line) : Type 0 where
-  pub extremes : AreExtremes l
+  pub low : neg_ℤ (pos 32768) ≤ℤ l.digital_minimum
+  pub high : l.digital_maximum ≤ℤ pos 32767
+  pub order : l.digital_minimum <ℤ l.digital_maximum
+  pub differ : l.physical_minimum ≢ l.physical_maximum
   pub short : AreShort l
 
 -- being the same line is an equivalence of calibrations

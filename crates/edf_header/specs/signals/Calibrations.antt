@@ -1,5 +1,5 @@
 -- The line from digital to physical values (EDF, "Header record": digital and physical minimum and maximum).
-use Rattle.std.specs.Prelude.{◌≡◌, ◌≢◌, ℤ, pos, ◌-ℤ◌, ◌*ℤ◌, ◌<ℤ◌, ◌≤ℤ◌, neg_ℤ}
+use Rattle.std.specs.Prelude.{◌≡◌, ℤ, ◌-ℤ◌, ◌*ℤ◌}
 
 -- the extremes of a signal: physical ones in units of 10^-7 of the signal's dimension, and the digital values that they are given for
 pub record Line : Type 0 where
@@ -23,11 +23,3 @@ abbrev pub SameLine : Line → Line → Type 0
 SameLine l m =
     (physical_span l *ℤ digital_span m ≡ physical_span m *ℤ digital_span l)
     × (offset_times_span l *ℤ digital_span m ≡ offset_times_span m *ℤ digital_span l)
-
--- digital extremes are from -32768 to 32767, in order; physical ones differ (EDF, "Header record"; EDF+, "Additional specifications in EDF+")
--- that the gain may be negative is this project's profile
-pub record AreExtremes (l : Line) : Type 0 where
-  pub low : neg_ℤ (pos 32768) ≤ℤ l.digital_minimum
-  pub high : l.digital_maximum ≤ℤ pos 32767
-  pub order : l.digital_minimum <ℤ l.digital_maximum
-  pub differ : l.physical_minimum ≢ l.physical_maximum

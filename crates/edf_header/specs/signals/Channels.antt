@@ -1,5 +1,5 @@
 -- The channels of a header, which are its ordinary signals.
-use Rattle.std.specs.Prelude.{◌≡◌, ℕ, Bool, false, not, List, Some, slice_get, map, filter}
+use Rattle.std.specs.Prelude.{◌≡◌, ℕ, false, not, List, Some, slice_get, map, filter}
 use Rattle.edf_header.specs.Heads.{SignalHead, is_annotations}
 
 -- a signal is a channel of this label (EDF, "Header record"; EDF+, "The 'EDF Annotations' signal")
@@ -14,13 +14,9 @@ IsChannel signals s label = (signal : SignalHead) × (slice_get signals s ≡ So
 abbrev pub HasDistinctChannels : List SignalHead → Type 0
 HasDistinctChannels signals = (s t : ℕ) (label : List ℕ) → IsChannel signals s label → IsChannel signals t label → s ≡ t
 
--- a signal that holds no annotations
-abbrev pub is_ordinary : SignalHead → Bool
-is_ordinary signal = not (is_annotations signal.label)
-
--- the channels among the signals
+-- the channels among the signals: those that hold no annotations
 abbrev pub channels_among : List SignalHead → List SignalHead
-channels_among signals = filter is_ordinary signals
+channels_among signals = filter (λ signal. not (is_annotations signal.label)) signals
 
 -- the labels of the channels, in the order of the signals
 abbrev pub channel_labels : List SignalHead → List (List ℕ)

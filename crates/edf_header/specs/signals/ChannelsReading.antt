@@ -5,6 +5,10 @@ use Rattle.std.specs.Option.{is_some}
 use Rattle.std.specs.Str.{bytes_eq}
 use Rattle.edf_header.specs.Heads.{SignalHead, is_annotations}
 
+-- a signal that holds no annotations
+abbrev pub is_ordinary : SignalHead → Bool
+is_ordinary signal = not (is_annotations signal.label)
+
 -- the signal is a channel of this label
 abbrev pub is_channel_of : List ℕ → SignalHead → Bool
 is_channel_of label head = bytes_eq head.label label && not (is_annotations head.label)

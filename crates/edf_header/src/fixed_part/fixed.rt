@@ -12,7 +12,6 @@ ghost use Rattle.edf_fields.specs.declared.faults.fault.Place.TheVariants.{AtFie
 ghost use Rattle.edf_fields.specs.declared.faults.fault.Cause.TheVariants.{Truncated};
 ghost use Rattle.edf_header.specs.HeaderParts.{IsFixed};
 ghost use Rattle.edf_fields.specs.fields.LayoutReading.{fixed_fields};
-ghost use Rattle.edf_header.specs.Heads.{in_picoseconds};
 ghost use Rattle.edf_header.specs.HeadsReading.{first_day, kind_of, recording_in};
 ghost use Rattle.edf_header.specs.Judged.{SaysStart, SaysExtent};
 ghost use Rattle.edf_header.specs.Faults.{fixed_missing, start_faults, extent_faults, fixed_fault, version_fault, patient_fault, recording_fault, startdate_fault, starttime_fault, header_bytes_fault, reserved_fault, records_fault, duration_fault, signals_fault, header_size_fault};

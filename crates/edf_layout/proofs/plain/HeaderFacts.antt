@@ -1,10 +1,12 @@
 -- Plain headers that say the same are the same bytes.
-use Rattle.std.proofs.Common.{◌≡◌, ℕ, zero, suc, ℤ, pos, Bool, true, false, cond, ◌==◌, ◌+◌, List, [], ◌∷◌, ◌++◌, length, replicate, slice_get, Some, codes, arith, refl, ap, ◌∙◌, sym, subst}
+use Rattle.std.proofs.Common.{◌≡◌, ℕ, zero, suc, ℤ, pos, Bool, true, false, cond, ◌==◌, ◌+◌, List, [], ◌∷◌, ◌++◌, length, replicate, slice_get, Some, codes, arith, refl, ap, ◌∙◌, sym, subst, ◌*◌}
+use Rattle.std.specs.Prelude.{◌*ℤ◌}
+use Rattle.edf_fields.proofs.ForCallers.{whole_in, decimal_in, from_picoseconds}
 use Rattle.std.proofs.lemmas.Bool.Decides.{nat_tests}
 use Rattle.std.proofs.lemmas.Int.{ints}
 use Rattle.std.proofs.lemmas.List.{append-nil}
 use Rattle.edf_fields.specs.Parts.{text_of}
-use Rattle.edf_fields.specs.texts.Numbers.{SpellsHeaderNumber}
+use Rattle.edf_fields.specs.texts.NumbersReading.{SpellsHeaderNumber}
 use Rattle.edf_fields.specs.texts.Subfields.{HasSubfields}
 use Rattle.edf_fields.specs.declared.faults.fault.Place.{Place}
 use Rattle.edf_fields.specs.declared.faults.fault.Place.TheVariants.{AtField, AtSignal}
@@ -13,7 +15,7 @@ use Rattle.edf_fields.specs.declared.fields.layout.FixedField.TheVariants as fix
 use Rattle.edf_fields.specs.declared.fields.layout.SignalField.TheVariants as signal
 use Rattle.edf_fields.specs.fields.Layout.{fixed_part, fixed_field, columns_part, signal_field}
 use Rattle.edf_header.specs.Conforming.{HeaderConforms}
-use Rattle.edf_header.specs.Heads.{SignalHead, Head, HasSignal, in_picoseconds, header_bytes}
+use Rattle.edf_header.specs.Heads.{SignalHead, Head, HasSignal, header_bytes}
 use Rattle.edf_layout.specs.HeadLayouts.{SignalLayout, FrontLayout, HeadLayout, signal_layout, signal_layouts, front_layout, head_layout_of}
 use Rattle.edf_layout.specs.HeadReports.{places_of}
 use Rattle.edf_layout.specs.OddPlaces.{odd_line, odd_number, odd_space, odd_spaces, odd_extras, odd_signal, odd_signals, odd_numbers, odd_identification, odd_front, odd_places}
@@ -131,15 +133,15 @@ signal-same xs ys n s a h k p q =
     λ z r t u v w. record { label = z; samples = r; physical_minimum = t; physical_maximum = u; digital_minimum = v; digital_maximum = w } in
     ap (λ z. made z l.samples l.physical_minimum l.physical_maximum l.digital_minimum l.digital_maximum) (sym h.label ∙ k.label)
     ∙ ap (λ r. made m.label r l.physical_minimum l.physical_maximum l.digital_minimum l.digital_maximum)
-    (one_plain_whole_number (signal_field xs n s signal.Samples) (signal_field ys n s signal.Samples) (pos a.samples) h.samples k.samples p.samples q.samples)
+    (one_plain_whole_number (signal_field xs n s signal.Samples) (signal_field ys n s signal.Samples) (pos a.samples) (whole_in xs (216 * n + 8 * s) 8 (pos a.samples) (omega arith) h.samples) (whole_in ys (216 * n + 8 * s) 8 (pos a.samples) (omega arith) k.samples) p.samples q.samples)
     ∙ ap (λ t. made m.label m.samples t l.physical_maximum l.digital_minimum l.digital_maximum)
-    (one_plain_header_number (signal_field xs n s signal.PhysicalMinimum) (signal_field ys n s signal.PhysicalMinimum) a.calibration.physical_minimum h.physical_minimum k.physical_minimum p.physical_minimum q.physical_minimum)
+    (one_plain_header_number (signal_field xs n s signal.PhysicalMinimum) (signal_field ys n s signal.PhysicalMinimum) a.calibration.physical_minimum (decimal_in xs (104 * n + 8 * s) 8 a.calibration.physical_minimum (omega arith) h.physical_minimum) (decimal_in ys (104 * n + 8 * s) 8 a.calibration.physical_minimum (omega arith) k.physical_minimum) p.physical_minimum q.physical_minimum)
     ∙ ap (λ u. made m.label m.samples m.physical_minimum u l.digital_minimum l.digital_maximum)
-    (one_plain_header_number (signal_field xs n s signal.PhysicalMaximum) (signal_field ys n s signal.PhysicalMaximum) a.calibration.physical_maximum h.physical_maximum k.physical_maximum p.physical_maximum q.physical_maximum)
+    (one_plain_header_number (signal_field xs n s signal.PhysicalMaximum) (signal_field ys n s signal.PhysicalMaximum) a.calibration.physical_maximum (decimal_in xs (112 * n + 8 * s) 8 a.calibration.physical_maximum (omega arith) h.physical_maximum) (decimal_in ys (112 * n + 8 * s) 8 a.calibration.physical_maximum (omega arith) k.physical_maximum) p.physical_maximum q.physical_maximum)
     ∙ ap (λ v. made m.label m.samples m.physical_minimum m.physical_maximum v l.digital_maximum)
-    (one_plain_whole_number (signal_field xs n s signal.DigitalMinimum) (signal_field ys n s signal.DigitalMinimum) a.calibration.digital_minimum h.digital_minimum k.digital_minimum p.digital_minimum q.digital_minimum)
+    (one_plain_whole_number (signal_field xs n s signal.DigitalMinimum) (signal_field ys n s signal.DigitalMinimum) a.calibration.digital_minimum (whole_in xs (120 * n + 8 * s) 8 a.calibration.digital_minimum (omega arith) h.digital_minimum) (whole_in ys (120 * n + 8 * s) 8 a.calibration.digital_minimum (omega arith) k.digital_minimum) p.digital_minimum q.digital_minimum)
     ∙ ap (λ w. made m.label m.samples m.physical_minimum m.physical_maximum m.digital_minimum w)
-    (one_plain_whole_number (signal_field xs n s signal.DigitalMaximum) (signal_field ys n s signal.DigitalMaximum) a.calibration.digital_maximum h.digital_maximum k.digital_maximum p.digital_maximum q.digital_maximum)
+    (one_plain_whole_number (signal_field xs n s signal.DigitalMaximum) (signal_field ys n s signal.DigitalMaximum) a.calibration.digital_maximum (whole_in xs (128 * n + 8 * s) 8 a.calibration.digital_maximum (omega arith) h.digital_maximum) (whole_in ys (128 * n + 8 * s) 8 a.calibration.digital_maximum (omega arith) k.digital_maximum) p.digital_maximum q.digital_maximum)
 
 signals-same : (xs ys : List ℕ) (n : ℕ) (heads : List SignalHead) → length heads ≡ n → ((s : ℕ) (a : SignalHead) → slice_get heads s ≡ Some a → HasSignal xs n s a) → ((s : ℕ) (a : SignalHead) → slice_get heads s ≡ Some a → HasSignal ys n s a)
     → (s m : ℕ) → s + m ≡ n → odd_signals s (signal_layouts xs n s m) ≡ [] → odd_signals s (signal_layouts ys n s m) ≡ [] → signal_layouts xs n s m ≡ signal_layouts ys n s m
@@ -152,7 +154,7 @@ signals-same xs ys n heads long has have s (suc m) all p q =
     ∙ ap (λ ls. signal_layout ys n s ∷ ls) (signals-same xs ys n heads long has have (s + 1) m (omega (arith, all)) one.1 two.1)
 
 -- plain fixed parts that say one header have one layout
-units-same : (u v : ℤ) (d : ℤ) → d ≡ in_picoseconds u → d ≡ in_picoseconds v → u ≡ v
+units-same : (u v : ℤ) (d : ℤ) → d ≡ u *ℤ pos 100000 → d ≡ v *ℤ pos 100000 → u ≡ v
 units-same u v d e f = omega (arith, ints, e, f)
 
 front-same : (file other : List ℕ) (h : Head) → HeaderConforms file h → HeaderConforms other h → PlainFront (front_layout (fixed_part file)) → PlainFront (front_layout (fixed_part other)) → front_layout (fixed_part file) ≡ front_layout (fixed_part other)
@@ -163,18 +165,20 @@ front-same file other h c d p q =
     let m = front_layout ys in
     let f : FixedField → List ℕ = λ k. fixed_field xs k in
     let g : FixedField → List ℕ = λ k. fixed_field ys k in
-    let units : (c.head).units ≡ (d.head).units = units-same (c.head).units (d.head).units h.duration (c.head).duration (d.head).duration in
+    let mine = from_picoseconds xs 244 8 h.duration (omega arith) (c.head).duration in
+    let other_one = from_picoseconds ys 244 8 h.duration (omega arith) (d.head).duration in
+    let units : mine.0 ≡ other_one.0 = units-same mine.0 other_one.0 h.duration mine.2 other_one.2 in
     let made : List ℕ → List ℕ → List ℕ → List ℕ → List ℕ → List ℕ → List ℕ → FrontLayout =
     λ z r s t u v w. record { kind = z; size = r; records = s; duration = t; count = u; patient_spaces = v; recording_spaces = w } in
     ap (λ z. made z l.size l.records l.duration l.count l.patient_spaces l.recording_spaces) ((c.head).kind ∙ sym (d.head).kind)
     ∙ ap (λ r. made m.kind r l.records l.duration l.count l.patient_spaces l.recording_spaces)
-    (one_plain_whole_number (f fixed.HeaderBytes) (g fixed.HeaderBytes) (pos (header_bytes h)) c.size d.size p.size q.size)
+    (one_plain_whole_number (f fixed.HeaderBytes) (g fixed.HeaderBytes) (pos (header_bytes h)) (whole_in xs 184 8 (pos (header_bytes h)) (omega arith) c.size) (whole_in ys 184 8 (pos (header_bytes h)) (omega arith) d.size) p.size q.size)
     ∙ ap (λ s. made m.kind m.size s l.duration l.count l.patient_spaces l.recording_spaces)
-    (one_plain_whole_number (f fixed.Records) (g fixed.Records) (pos h.records) (c.head).records (d.head).records p.records q.records)
+    (one_plain_whole_number (f fixed.Records) (g fixed.Records) (pos h.records) (whole_in xs 236 8 (pos h.records) (omega arith) (c.head).records) (whole_in ys 236 8 (pos h.records) (omega arith) (d.head).records) p.records q.records)
     ∙ ap (λ t. made m.kind m.size m.records t l.count l.patient_spaces l.recording_spaces)
-    (one_plain_header_number (f fixed.Duration) (g fixed.Duration) (c.head).units (c.head).duration_spelled (subst (λ v. SpellsHeaderNumber (g fixed.Duration) v) (sym units) (d.head).duration_spelled) p.duration q.duration)
+    (one_plain_header_number (f fixed.Duration) (g fixed.Duration) mine.0 mine.1 (subst (λ v. SpellsHeaderNumber (g fixed.Duration) v) (sym units) other_one.1) p.duration q.duration)
     ∙ ap (λ u. made m.kind m.size m.records m.duration u l.patient_spaces l.recording_spaces)
-    (one_plain_whole_number (f fixed.Signals) (g fixed.Signals) (pos (length h.signals)) (c.head).count (d.head).count p.count q.count)
+    (one_plain_whole_number (f fixed.Signals) (g fixed.Signals) (pos (length h.signals)) (whole_in xs 252 4 (pos (length h.signals)) (omega arith) (c.head).count) (whole_in ys 252 4 (pos (length h.signals)) (omega arith) (d.head).count) p.count q.count)
     ∙ ap (λ v. made m.kind m.size m.records m.duration m.count v l.recording_spaces)
     (spaces-same fixed.Patient (h.patient).code (text_of (f fixed.Patient)) (text_of (g fixed.Patient)) ((h.patient).sex ∷ (h.patient).birthdate ∷ (h.patient).name ∷ (h.patient).extras)
     (((c.head).patient).lists).subfields (((d.head).patient).lists).subfields p.patient q.patient)

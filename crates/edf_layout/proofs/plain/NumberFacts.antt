@@ -10,8 +10,8 @@ use Rattle.std.proofs.lemmas.Int.{ints}
 use Rattle.std.proofs.lemmas.Nat.{pow-add}
 use Rattle.std.proofs.lemmas.List.{length-append, length-replicate}
 use Rattle.std.proofs.lemmas.List.Sums.{split_at_first, passes_at_first}
-use Rattle.edf_fields.specs.texts.Numbers.{AreDigits, weight, has_minus, unsigned, signed, is_dot, before_dot, behind_dot, decimal}
-use Rattle.edf_fields.specs.texts.Onsets.{is_zero, without_trailing_zeros}
+use Rattle.edf_fields.specs.texts.Numbers.{AreDigits, weight, has_minus, unsigned, signed, before_dot, behind_dot, decimal}
+use Rattle.edf_fields.specs.texts.OnsetsReading.{without_trailing_zeros}
 use Rattle.edf_fields.proofs.ForCallers.{before_none, behind_none}
 use Rattle.edf_layout.specs.PlainNumbers.{is_plain_whole, is_plain_fraction, is_plain_unsigned, is_plain_number}
 use Rattle.edf_layout.proofs.DigitFacts.{digits-tail, digit-head, weight-below, split-same, digits-same}
@@ -30,13 +30,13 @@ not-true false h = refl
 
 -- ---- fractions with zeros behind them
 
-all-zeros : (n : ℕ) → list_all is_zero (replicate n 48) ≡ true
+all-zeros : (n : ℕ) → list_all (λ b. b == 48) (replicate n 48) ≡ true
 all-zeros zero = refl
 all-zeros (suc n) = all-zeros n
 
-all-pad : (xs : List ℕ) (n : ℕ) → list_all is_zero (xs ++ replicate n 48) ≡ list_all is_zero xs
+all-pad : (xs : List ℕ) (n : ℕ) → list_all (λ b. b == 48) (xs ++ replicate n 48) ≡ list_all (λ b. b == 48) xs
 all-pad [] n = all-zeros n
-all-pad (c ∷ cs) n = ap (λ b. is_zero c && b) (all-pad cs n)
+all-pad (c ∷ cs) n = ap (λ b. (c == 48) && b) (all-pad cs n)
 
 trim-zeros : (n : ℕ) → without_trailing_zeros (replicate n 48) ≡ []
 trim-zeros zero = refl
@@ -46,11 +46,11 @@ trim-pad : (xs : List ℕ) (n : ℕ) → without_trailing_zeros (xs ++ replicate
 trim-pad [] n = trim-zeros n
 trim-pad (c ∷ cs) n =
     ap (λ b. cond b [] (c ∷ without_trailing_zeros (cs ++ replicate n 48))) (all-pad (c ∷ cs) n)
-    ∙ ap (λ r. cond (list_all is_zero (c ∷ cs)) [] (c ∷ r)) (trim-pad cs n)
+    ∙ ap (λ r. cond (list_all (λ b. b == 48) (c ∷ cs)) [] (c ∷ r)) (trim-pad cs n)
 
 -- a fraction that doesn't end with a zero
-kept-all : (d : ℕ) (ds : List ℕ) → without_trailing_zeros (d ∷ ds) ≡ d ∷ ds → list_all is_zero (d ∷ ds) ≡ false
-kept-all d ds h = elim (bool-cases (list_all is_zero (d ∷ ds))) [
+kept-all : (d : ℕ) (ds : List ℕ) → without_trailing_zeros (d ∷ ds) ≡ d ∷ ds → list_all (λ b. b == 48) (d ∷ ds) ≡ false
+kept-all d ds h = elim (bool-cases (list_all (λ b. b == 48) (d ∷ ds))) [
   | inl all ↦ absurd (let z : [] ≡ d ∷ ds = sym (ap (λ b. cond b [] (d ∷ without_trailing_zeros ds)) all) ∙ h in cc)
   | inr none ↦ none
 ]
@@ -58,12 +58,12 @@ kept-all d ds h = elim (bool-cases (list_all is_zero (d ∷ ds))) [
 trimmed : (f : List ℕ) → (0 < length f → slice_index f (length f - 1) ≢ 48) → without_trailing_zeros f ≡ f
 trimmed [] h = refl
 trimmed (c ∷ []) h =
-    let none : is_zero c ≡ false = (let other : c ≢ 48 = h (omega arith) in grind (arith, nat_tests)) in
+    let none : (c == 48) ≡ false = (let other : c ≢ 48 = h (omega arith) in grind (arith, nat_tests)) in
     ap (λ b. cond (b && true) [] (c ∷ [])) none
 trimmed (c ∷ d ∷ ds) h =
     let rest : without_trailing_zeros (d ∷ ds) ≡ d ∷ ds = trimmed (d ∷ ds) (λ some last. h (omega arith)
     (ap (λ i. slice_index (c ∷ d ∷ ds) i) (let e : suc (suc (length ds)) - 1 ≡ suc (suc (length ds) - 1) = omega arith in e) ∙ last)) in
-    ap (λ b. cond b [] (c ∷ without_trailing_zeros (d ∷ ds))) (ap (λ b. is_zero c && b) (kept-all d ds rest) ∙ none (is_zero c))
+    ap (λ b. cond b [] (c ∷ without_trailing_zeros (d ∷ ds))) (ap (λ b. (c == 48) && b) (kept-all d ds rest) ∙ none (c == 48))
     ∙ ap (λ r. c ∷ r) rest
   where
     none : (a : Bool) → (a && false) ≡ false
@@ -176,25 +176,25 @@ wholes-same v w h k p q same = elim (cases_lt (length v) (length w)) [
 abbrev pub Rejoins : List ℕ → Type 0
 Rejoins u = ((u ≡ before_dot u ++ 46 ∷ behind_dot u) × (is_plain_fraction (behind_dot u) ≡ true)) ⊎ ((u ≡ before_dot u) × (behind_dot u ≡ []))
 
-is-46 : (b : ℕ) → is_dot b ≡ true → b ≡ 46
+is-46 : (b : ℕ) → (b == 46) ≡ true → b ≡ 46
 is-46 b h = grind (arith, nat_tests)
 
 pub rejoins : (u : List ℕ) → is_plain_unsigned u ≡ true → (is_plain_whole (before_dot u) ≡ true) × Rejoins u
 unfolding is_plain_unsigned
 rejoins u h =
-    let parts = and-both (is_plain_whole (before_dot u)) (option_map_or (λ k. is_plain_fraction (behind_dot u)) (position is_dot u) true) h in (
+    let parts = and-both (is_plain_whole (before_dot u)) (option_map_or (λ k. is_plain_fraction (behind_dot u)) (position (λ b. b == 46) u) true) h in (
       parts.0,
-      elim (cases_lt (position_or_len is_dot u) (length u)) [
+      elim (cases_lt (position_or_len (λ b. b == 46) u) (length u)) [
         | inl low ↦
-            let place : position is_dot u ≡ Some (position_or_len is_dot u) = rw (lt-ltb (position_or_len is_dot u) (length u) low) refl in
-            let byte : get_or u (position_or_len is_dot u) 0 ≡ 46 = is-46 _ (passes_at_first is_dot u 0 low) in
+            let place : position (λ b. b == 46) u ≡ Some (position_or_len (λ b. b == 46) u) = rw (lt-ltb (position_or_len (λ b. b == 46) u) (length u) low) refl in
+            let byte : get_or u (position_or_len (λ b. b == 46) u) 0 ≡ 46 = is-46 _ (passes_at_first (λ b. b == 46) u 0 low) in
             inl (
-              split_at_first is_dot u 0 low ∙ ap (λ b. before_dot u ++ b ∷ behind_dot u) byte,
+              split_at_first (λ b. b == 46) u 0 low ∙ ap (λ b. before_dot u ++ b ∷ behind_dot u) byte,
               sym (ap (λ o. option_map_or (λ k. is_plain_fraction (behind_dot u)) o true) place) ∙ parts.1,
             )
         | inr high ↦
-            let place : position is_dot u ≡ None = rw (le-ltb (position_or_len is_dot u) (length u) high) refl in
-            inr (before_none is_dot u place, sym (behind_none is_dot u place))
+            let place : position (λ b. b == 46) u ≡ None = rw (le-ltb (position_or_len (λ b. b == 46) u) (length u) high) refl in
+            inr (before_none (λ b. b == 46) u place, sym (behind_none (λ b. b == 46) u place))
       ],
     )
 

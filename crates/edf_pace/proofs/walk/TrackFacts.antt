@@ -4,7 +4,8 @@ use Rattle.std.specs.Option.{option_map_or}
 use Rattle.edf_fields.proofs.ForCallers.{has-at, get-within, has-filtered, not-true}
 use Rattle.edf_header.specs.Heads.{SignalHead, Head, is_annotations}
 use Rattle.edf_header.specs.Sound.{IsSound}
-use Rattle.edf_header.specs.signals.Channels.{is_ordinary, channels_among}
+use Rattle.edf_header.specs.signals.Channels.{channels_among}
+use Rattle.edf_header.specs.signals.ChannelsReading.{is_ordinary}
 use Rattle.edf_heads.specs.differences.ChannelDifferences.{HasNoChannel}
 use Rattle.edf_heads.specs.ChannelIndexes.{IsChannelAt}
 use Rattle.edf_heads.specs.declared.channel_index.Channel.{Channel}

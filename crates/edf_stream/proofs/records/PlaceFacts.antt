@@ -10,7 +10,8 @@ use Rattle.edf_header.specs.Faults.{fault_unless, truncated, header_fault}
 use Rattle.edf_header.specs.Heads.{Head}
 use Rattle.edf_header.specs.HeadsReading.{head_of}
 use Rattle.edf_tal.specs.declared.start.StartCause.{StartCause}
-use Rattle.edf_stream.specs.records.Records.{record_place, record_at, annotation_lanes}
+use Rattle.edf_stream.specs.records.Records.{record_at, annotation_lanes}
+use Rattle.edf_stream.specs.records.RecordsReading.{record_place}
 use Rattle.edf_stream.specs.annotation.NotesReading.{notes_in, notes_before}
 use Rattle.edf_stream.specs.times.StartsReading.{said_start, start_in, end_before}
 use Rattle.edf_stream.specs.Faults.{cause_of_lanes, lanes_fault, time_fault, start_fault, notes_fault, record_fault, records_tests, trailing_fault, body_fault, file_fault, records_before}

@@ -10,7 +10,7 @@ use Rattle.edf_stream.specs.samples.Samples.{SampleValue, IsSample}
 use Rattle.edf_stream.specs.times.Starts.{file_start}
 use Rattle.edf_stream.specs.times.StartsReading.{start_at, end_at}
 use Rattle.edf_stream.specs.Conforming.{FollowsOn, Conforms}
-use Rattle.edf_stream.specs.Laws.{NotesAreSaid, NotesAreRead}
+use Rattle.edf_stream.specs.Laws.{NotesAreSaid, NotesAreRead, HasItsNotes}
 use Rattle.edf_stream.proofs.records.SaidFacts.{read-notes, notes-said, start-is, say-read, together-count, has-read, notes-moved}
 
 pub sound-of : (file : List ℕ) (h : Head) → Conforms file h → IsSound h
@@ -66,3 +66,6 @@ notes_are_read file h c = record {
   only = λ others has. has-read file h others has;
   read = notes-moved file h;
 }
+
+pub has_its_notes : HasItsNotes
+has_its_notes file h c = let r = notes_are_read file h c in (r.notes, r.there, r.only)

@@ -13,7 +13,8 @@ use Rattle.edf_header.specs.Faults.{truncated, header_fault}
 use Rattle.edf_header.specs.Conforming.{HeaderConforms}
 use Rattle.edf_header.specs.Heads.{Head, header_bytes, record_bytes}
 use Rattle.edf_header.specs.HeadsReading.{head_of}
-use Rattle.edf_stream.specs.records.Records.{record_place, record_at}
+use Rattle.edf_stream.specs.records.Records.{record_at}
+use Rattle.edf_stream.specs.records.RecordsReading.{record_place}
 use Rattle.edf_stream.specs.annotation.NotesReading.{notes_in, notes_before}
 use Rattle.edf_stream.specs.times.StartsReading.{start_in, end_before}
 use Rattle.edf_stream.specs.Faults.{record_fault, records_tests, trailing_fault, body_fault}

@@ -10,7 +10,7 @@ use Rattle.edf_tal.specs.Reading.{items_of}
 use Rattle.edf_tal.specs.Views.{kept_time, start_of}
 use Rattle.edf_tal.proofs.ForCallers.{lane-read, starts-at}
 use Rattle.edf_stream.specs.records.Records.{record_at, annotation_lanes}
-use Rattle.edf_stream.specs.annotation.Notes.{NoteValue, notes_of_tal, AreLanesOf, notes_of_tals, SaysRecord, SayRecords, together, HasNotes, moved_by}
+use Rattle.edf_stream.specs.annotation.Notes.{NoteValue, notes_of_tal, AreLanesOf, SaysRecord, SayRecords, together, HasNotes, moved_by}
 use Rattle.edf_stream.specs.annotation.NotesReading.{notes_of_items, notes_of_lane, notes_of_lanes, notes_in, notes_before, moved_notes_in, moved_notes_before, notes_of}
 use Rattle.edf_stream.specs.times.Starts.{file_start}
 use Rattle.edf_stream.specs.times.StartsReading.{start_by_lanes, said_start, or_zero, start_in}
@@ -27,7 +27,7 @@ items-say (tal ∷ tals) = ap (λ notes. notes_of_tal tal ++ notes) (items-say t
 lane-says : (lane : List ℕ) (tals : List TalValue) → IsLaneOf lane tals → notes_of_lane lane ≡ flat_map notes_of_tal tals
 lane-says lane tals is = ap notes_of_items (lane-read tals lane is) ∙ items-say tals
 
-lanes-say : (lanes : List (List ℕ)) (talss : List (List TalValue)) → AreLanesOf lanes talss → notes_of_lanes lanes ≡ notes_of_tals talss
+lanes-say : (lanes : List (List ℕ)) (talss : List (List TalValue)) → AreLanesOf lanes talss → notes_of_lanes lanes ≡ flat_map (λ tals. flat_map notes_of_tal tals) talss
 lanes-say [] [] are = refl
 lanes-say [] (tals ∷ talss) are = absurd are
 lanes-say (lane ∷ lanes) [] are = absurd are
@@ -39,9 +39,9 @@ pub notes-said : (h : Head) (bytes : List ℕ) (start : ℤ) (notes : List NoteV
 unfolding notes_in
 notes-said h bytes start notes says =
     let first : TalValue = record { onset = start; duration = says.duration; texts = [] ∷ says.texts } in
-    let all : notes_of_lanes (annotation_lanes h.signals bytes) ≡ notes_of_tals ((first ∷ says.tals) ∷ says.talss) = lanes-say (annotation_lanes h.signals bytes) ((first ∷ says.tals) ∷ says.talss) says.lanes in
+    let all : notes_of_lanes (annotation_lanes h.signals bytes) ≡ flat_map (λ tals. flat_map notes_of_tal tals) ((first ∷ says.tals) ∷ says.talss) = lanes-say (annotation_lanes h.signals bytes) ((first ∷ says.tals) ∷ says.talss) says.lanes in
     let rest = notes_of_tal (record { onset = start; duration = says.duration; texts = says.texts }) in
-    says.notes_are ∙ sym (append_assoc rest (flat_map notes_of_tal says.tals) (notes_of_tals says.talss)) ∙ sym (ap (drop 1) all)
+    says.notes_are ∙ sym (append_assoc rest (flat_map notes_of_tal says.tals) (flat_map (λ tals. flat_map notes_of_tal tals) says.talss)) ∙ sym (ap (drop 1) all)
 
 -- the first of lanes of TALs
 first-lane : (lanes : List (List ℕ)) (tals : List TalValue) (talss : List (List TalValue)) → AreLanesOf lanes (tals ∷ talss)
@@ -131,7 +131,7 @@ pub record-says : (h : Head) (bytes : List ℕ) (start : ℤ) → All IsLane (an
 unfolding said_start timed
 record-says h bytes start all said =
     let r = lanes-keep (annotation_lanes h.signals bytes) start all said in
-    let notes = notes_of_tal (record { onset = start; duration = r.0; texts = r.1 }) ++ notes_of_tals (r.2 ∷ r.3) in
+    let notes = notes_of_tal (record { onset = start; duration = r.0; texts = r.1 }) ++ flat_map (λ tals. flat_map notes_of_tal tals) (r.2 ∷ r.3) in
     let says : SaysRecord h bytes start notes = record { duration = r.0; texts = r.1; tals = r.2; talss = r.3; lanes = r.4; notes_are = refl } in
     subst (SaysRecord h bytes start) (notes-said h bytes start notes says) says
 

@@ -1,17 +1,20 @@
 -- How large the instants of a file that conforms are, and where its least one is.
 use Rattle.std.proofs.Common.{◌≡◌, ℕ, zero, suc, ℤ, pos, ◌+◌, ◌*◌, ◌<◌, ◌≤◌, ◌^◌, ◌+ℤ◌, ◌*ℤ◌, ◌≤ℤ◌, ◌<ℤ◌, neg_ℤ, None, List, [], ◌∷◌, Some, slice_get, unsigned_abs, refl, sym, ap, ◌∙◌, subst, arith}
+use Rattle.edf_header.proofs.ForCallers.{some_channel}
 use Rattle.std.specs.List.{All}
 use Rattle.std.proofs.lemmas.Int.{ints, unsigned_abs-mul}
 use Rattle.std.proofs.Math.Nat.{mul-le-mul, mul-le-mul_right}
 use borrow.Author.Differences.{up, down}
 use Rattle.edf_fields.proofs.ForCallers.{get-index, get-within}
 use Rattle.edf_header.specs.Standard.{IsSoundSignal}
-use Rattle.edf_header.specs.Heads.{SignalHead, Head, samples_together, start_second, day_number, record_bytes}
+use Rattle.edf_header.specs.Heads.{SignalHead, Head, samples_together, day_number, record_bytes}
+use Rattle.edf_header.specs.HeadsReading.{start_second}
 use Rattle.edf_tal.proofs.ForCallers.{start_small}
 use Rattle.edf_stream.specs.Conforming.{Conforms}
 use Rattle.edf_stream.specs.Laws.{InstantsFit, StartIsOfLeast}
 use Rattle.edf_stream.specs.annotation.NotesReading.{notes_in}
-use Rattle.edf_stream.specs.records.Records.{record_at, lane_at}
+use Rattle.edf_stream.specs.records.Records.{record_at}
+use Rattle.edf_stream.specs.records.RecordsReading.{lane_at}
 use Rattle.edf_stream.specs.samples.Samples.{SampleValue, IsSample}
 use Rattle.edf_stream.specs.times.Starts.{file_start}
 use Rattle.edf_stream.specs.times.StartsReading.{start_at, end_at}
@@ -103,7 +106,7 @@ sound-signal h s signal all e = subst IsSoundSignal (get-index h.signals s signa
 pub start_is_of_least : StartIsOfLeast
 start_is_of_least file h c =
     let standard = (c.header).standard in
-    let channel = standard.channel in
+    let channel = some_channel h.signals standard.channel in
     let s = channel.0 in
     let label = channel.1 in
     let signal = (channel.2).0 in

@@ -7,7 +7,8 @@ use Rattle.edf_fields.specs.Lists.{Has}
 use Rattle.edf_fields.proofs.ForCallers.{has-append}
 use Rattle.edf_header.specs.Heads.{SignalHead, Head, record_bytes}
 use Rattle.edf_stream.specs.declared.samples.sample.Sample.{Sample}
-use Rattle.edf_stream.specs.records.Records.{record_place, record_at, lane_of}
+use Rattle.edf_stream.specs.records.Records.{record_at, lane_of}
+use Rattle.edf_stream.specs.records.RecordsReading.{record_place}
 use Rattle.edf_stream.specs.times.Starts.{file_start}
 use Rattle.edf_stream.specs.times.StartsReading.{start_in, start_at, end_at}
 use Rattle.edf_header.specs.signals.Channels.{channels_among}

@@ -13,7 +13,8 @@ use Rattle.edf_stream.specs.declared.samples.sample.Sample.{Sample}
 use Rattle.edf_stream.specs.Conforming.{Conforms}
 use Rattle.edf_stream.specs.Laws.{SamplesAreListed, SamplesAreOfChannels, SamplesRise, OneAtAnInstant}
 use Rattle.edf_stream.specs.annotation.NotesReading.{notes_in}
-use Rattle.edf_stream.specs.records.Records.{record_at, lane_of, lane_at, samples_at}
+use Rattle.edf_stream.specs.records.Records.{record_at, lane_of, samples_at}
+use Rattle.edf_stream.specs.records.RecordsReading.{lane_at}
 use Rattle.edf_stream.specs.samples.Samples.{SampleValue, IsSample}
 use Rattle.edf_stream.specs.samples.SamplesReading.{samples_by, samples_before, samples_of, channel_label, labelled}
 use Rattle.edf_stream.specs.times.Starts.{file_start}

@@ -23,10 +23,6 @@ AreLanesOf [] (tals ∷ talss) = ⊥
 AreLanesOf (lane ∷ lanes) [] = ⊥
 AreLanesOf (lane ∷ lanes) (tals ∷ talss) = IsLaneOf lane tals × AreLanesOf lanes talss
 
--- what the TALs of several lanes say, lane by lane
-abbrev pub notes_of_tals : List (List TalValue) → List NoteValue
-notes_of_tals talss = flat_map (λ tals. flat_map notes_of_tal tals) talss
-
 -- the data record of these bytes says that it starts there, and these annotations: its annotation lanes are lanes of TALs; the
 -- first TAL has the start as its onset, and its first text is empty; and the annotations are the other texts of that TAL, then
 -- those of all other TALs
@@ -36,7 +32,7 @@ pub record SaysRecord (h : Head) (bytes : List ℕ) (start : ℤ) (notes : List 
   pub tals : List TalValue
   pub talss : List (List TalValue)
   pub lanes : AreLanesOf (annotation_lanes h.signals bytes) ((record { onset = start; duration = duration; texts = [] ∷ texts } ∷ tals) ∷ talss)
-  pub notes_are : notes ≡ notes_of_tal (record { onset = start; duration = duration; texts = texts }) ++ notes_of_tals (tals ∷ talss)
+  pub notes_are : notes ≡ notes_of_tal (record { onset = start; duration = duration; texts = texts }) ++ flat_map (λ tals. flat_map notes_of_tal tals) (tals ∷ talss)
 
 -- each data record of the file says that it starts there, in picoseconds after the start of the file, and these annotations
 abbrev pub SayRecords : List ℕ → Head → (ℕ → ℤ) → (ℕ → List NoteValue) → Type 0

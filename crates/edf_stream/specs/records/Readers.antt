@@ -12,7 +12,8 @@ use Rattle.edf_header.specs.Heads.{Head}
 use Rattle.edf_header.specs.HeadsReading.{head_of}
 use Rattle.edf_stream.specs.declared.records.status.Status.{Status}
 use Rattle.edf_stream.specs.declared.records.status.Status.TheVariants.{Begun, Current, Ended, Stopped}
-use Rattle.edf_stream.specs.records.Records.{record_place, record_at}
+use Rattle.edf_stream.specs.records.Records.{record_at}
+use Rattle.edf_stream.specs.records.RecordsReading.{record_place}
 use Rattle.edf_stream.specs.times.StartsReading.{end_before}
 use Rattle.edf_stream.specs.annotation.NotesReading.{notes_before}
 use Rattle.edf_stream.specs.Faults.{records_tests, body_fault}

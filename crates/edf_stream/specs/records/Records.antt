@@ -4,13 +4,9 @@ use Rattle.std.specs.Option.{option_map_or}
 use Rattle.edf_fields.specs.Parts.{part}
 use Rattle.edf_header.specs.Heads.{SignalHead, Head, header_bytes, record_bytes, is_annotations}
 
--- where data record k begins in the file, and where the one before it ends
-abbrev pub record_place : Head → ℕ → ℕ
-record_place h k = header_bytes h + k * record_bytes h
-
--- data record k
+-- data record k: the first one stands behind the header, and each other one behind the one before it
 abbrev pub record_at : List ℕ → Head → ℕ → List ℕ
-record_at file h k = part file (record_place h k) (record_bytes h)
+record_at file h k = part file (header_bytes h + k * record_bytes h) (record_bytes h)
 
 -- the lane of a signal in the bytes of a data record: its samples, two bytes each, behind those of the signals before it
 abbrev pub lane_of : SignalHead → List ℕ → List ℕ
@@ -23,10 +19,6 @@ numbered_lane signals bytes s = option_map_or (λ signal. lane_of signal bytes) 
 -- how many samples signal s has in a data record
 abbrev pub samples_at : Head → ℕ → ℕ
 samples_at h s = option_map_or (λ signal. signal.samples) (slice_get h.signals s) 0
-
--- the lane of signal s in data record k
-abbrev pub lane_at : List ℕ → Head → ℕ → ℕ → List ℕ
-lane_at file h k s = numbered_lane h.signals (record_at file h k) s
 
 -- the lanes of those of the signals that hold annotations, in their order. EDF+ (2003), "The 'EDF Annotations' signal"
 abbrev pub annotation_lanes : List SignalHead → List ℕ → List (List ℕ)

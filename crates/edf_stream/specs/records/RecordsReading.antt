@@ -1,7 +1,15 @@
--- A lane of a data record, and how many bytes it has.
-use Rattle.std.specs.Prelude.{ℕ, ◌*◌, List}
-use Rattle.edf_header.specs.Heads.{Head}
-use Rattle.edf_stream.specs.records.Records.{numbered_lane, samples_at}
+-- Where data records begin; a lane of a data record, and how many bytes it has.
+use Rattle.std.specs.Prelude.{ℕ, ◌+◌, ◌*◌, List}
+use Rattle.edf_header.specs.Heads.{Head, header_bytes, record_bytes}
+use Rattle.edf_stream.specs.records.Records.{record_at, numbered_lane, samples_at}
+
+-- where data record k begins in the file, and where the one before it ends
+abbrev pub record_place : Head → ℕ → ℕ
+record_place h k = header_bytes h + k * record_bytes h
+
+-- the lane of signal s in data record k
+abbrev pub lane_at : List ℕ → Head → ℕ → ℕ → List ℕ
+lane_at file h k s = numbered_lane h.signals (record_at file h k) s
 
 -- the lane of signal s in the bytes of a data record
 abbrev pub lane_in : Head → List ℕ → ℕ → List ℕ

@@ -5,7 +5,7 @@ use Rattle.edf_header.specs.signals.Channels.{IsChannel}
 use Rattle.edf_header.specs.Heads.{Head}
 use Rattle.edf_stream.specs.declared.times.instant.Instant.{Instant}
 use Rattle.edf_stream.specs.annotation.Notes.{NoteValue, SaysRecord}
-use Rattle.edf_stream.specs.records.Records.{record_at, lane_at, samples_at}
+use Rattle.edf_stream.specs.records.Records.{record_at, samples_at, numbered_lane}
 use Rattle.edf_stream.specs.times.Starts.{file_start}
 use Rattle.edf_stream.specs.samples.Values.{digital_value}
 
@@ -29,4 +29,4 @@ pub record IsSample (file : List ℕ) (h : Head) (x : SampleValue) : Type 0 wher
   pub in_lane : place < (x.instant).den
   pub says : SaysRecord h (record_at file h data_record) start notes
   pub instant : (x.instant).num ≡ (pos (x.instant).den *ℤ (file_start h +ℤ start)) +ℤ (pos place *ℤ h.duration)
-  pub value_is : x.value ≡ digital_value (lane_at file h data_record signal) place
+  pub value_is : x.value ≡ digital_value (numbered_lane h.signals (record_at file h data_record) signal) place

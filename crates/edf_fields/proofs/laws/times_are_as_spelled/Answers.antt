@@ -1,4 +1,4 @@
-use Rattle.edf_fields.proofs.texts.OnsetFacts.{onset_is_spelled, span_is_spelled}
+use Rattle.edf_fields.proofs.texts.TimeFacts.{onset_is_spelled, span_is_spelled}
 use Rattle.edf_fields.proofs.laws.times_are_as_spelled.Goals as goal
 
 pub returns-clause-onset : goal.returns-clause-onset

@@ -1,7 +1,6 @@
 use Rattle.std.proofs.Common.{sym, ap, ◌∙◌}
 use Rattle.std.specs.List.{list_any}
-use Rattle.edf_tal.specs.Tals.{is_control}
-use Rattle.edf_tal.specs.Reading.{judge_texts}
+use Rattle.edf_tal.specs.Reading.{judge_texts, is_control}
 use Rattle.edf_tal.proofs.TextFacts.{has_control, is_fine, judged-bad, judged-more}
 use Rattle.edf_tal.proofs.annotation_text.judge_utf8.Goals as goal
 

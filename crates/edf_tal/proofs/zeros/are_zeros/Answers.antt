@@ -1,7 +1,7 @@
 use Rattle.std.proofs.Common.{◌∙◌, ap, sym, take, drop}
 use Rattle.std.proofs.Math.Seq.{take-length}
 use Rattle.std.proofs.lemmas.List.{length-drop}
-use Rattle.edf_tal.specs.Tals.{are_zeros}
+use Rattle.edf_tal.specs.Reading.{are_zeros}
 use Rattle.edf_tal.proofs.ZeroFacts.{zeros_behind}
 use Rattle.edf_tal.proofs.zeros.are_zeros.Goals as goal
 

@@ -1,5 +1,5 @@
 use Rattle.std.proofs.Common.{length, ◌-◌, ◌≡◌, ◌≤◌, drop}
-use Rattle.edf_fields.specs.texts.Onsets.{without_leading_zeros}
+use Rattle.edf_fields.specs.texts.OnsetsReading.{without_leading_zeros}
 use Rattle.edf_fields.proofs.texts.onset.leading_zeros.Given as goal
 
 abbrev pub invariant-loop-start : goal.invariant-loop-start

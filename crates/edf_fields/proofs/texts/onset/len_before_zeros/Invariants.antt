@@ -1,5 +1,5 @@
 use Rattle.std.proofs.Common.{length, ◌≡◌, ◌≤◌, take}
-use Rattle.edf_fields.specs.texts.Onsets.{without_trailing_zeros}
+use Rattle.edf_fields.specs.texts.OnsetsReading.{without_trailing_zeros}
 use Rattle.edf_fields.proofs.texts.onset.len_before_zeros.Given as goal
 
 abbrev pub invariant-loop-end : goal.invariant-loop-end

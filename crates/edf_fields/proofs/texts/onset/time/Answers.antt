@@ -1,6 +1,6 @@
 use Rattle.std.proofs.Common.{◌≡◌, ◌+◌, ◌-◌, ◌*◌, ◌^◌, ◌<◌, length, drop, arith, sym, ap, subst, ◌∙◌}
 use Rattle.edf_fields.specs.texts.Numbers.{weight}
-use Rattle.edf_fields.specs.texts.Onsets.{IsFraction, without_trailing_zeros}
+use Rattle.edf_fields.specs.texts.OnsetsReading.{IsFraction, without_trailing_zeros}
 use Rattle.edf_fields.proofs.ReadFacts.{rest_whole}
 use Rattle.edf_fields.proofs.texts.FrontFacts.{plain_time, dotted_missing, dotted_time}
 use Rattle.edf_fields.proofs.texts.onset.time.Goals as goal
