@@ -77,24 +77,6 @@ LEFT_OUT = {
 }
 # parts of what is copied that are left out: fields, members and clauses of these names
 CUT = {"Source": ("reads", "failures", "fails")}
-# words that stand beside those of the headline in a file of definitions, as contracts of the code name them
-BESIDE = ("SameLine", "is_one_of", "moved_by")
-# what the comments don't say of a definition
-UNSAID = [
-    ("IsSample", 'EDF, "Data record"; EDF+, "Time keeping of data records". `instant` counts from 1970-01-01 00:00:00 on.'),
-    ("Source", "Of a file or a pipe nothing is known but that its failures are counted."),
-    ("Conforms", "The profile is docs/PROFILE.md."),
-    ("IsPrintable", 'EDF, "Header record"; EDF+, "Additional specifications in EDF+".'),
-    ("fixed_extent", 'EDF, "Header record", as is the table of the columns.'),
-    ("text_of", 'The fields of a header are ASCII, stand to the left and are filled with spaces (EDF, "Header record").'),
-    ("HasHead", 'EDF, "Header record"; EDF+, "The EDF+ header".'),
-    ("SaysPatient", 'EDF+, "Additional specifications in EDF+", as is what a recording says.'),
-    ("HasSubfields", 'EDF+, "Additional specifications in EDF+"; that more than one space may stand between two subfields is this'
-     " project's profile."),
-    ("SaysRecord", 'EDF+, "Time-stamped Annotations Lists (TALs) in an \'EDF Annotations\' signal", as are TALs themselves, and'
-     ' "Time keeping of data records".'),
-    ("digital_value", 'A sample is a 2-byte integer in two\'s complement, the low byte first (EDF, "Data record").'),
-]
 ABOUT = [
     "edfclaim checks an export of a night against its original and a claim: that the export is the original, cut"
     " and made anonymous as the claim says, and nothing else. The call `check` answers this. If it answers Yes, and"
@@ -119,8 +101,7 @@ ABOUT = [
     " `check`, what holds of each value of a type, and what a source says of reads that fail. What the code derives for"
     " its types (`#[derive]`) is left out, too. Words that aren't copied are named at the end. That a claim which can be"
     " read is a sensible one (`IsClaim`) is proved as well, and nothing here needs it.",
-    "Behind the definitions stand a few sentences that no comment has, and at last the words that no file of this project"
-    " defines: those of the toolchain's library.",
+    "Behind the definitions stand the words that no file of this project defines: those of the toolchain's library.",
 ]
 NOTATION = [
     ("f x y", "the function f of x and y; a word with a capital is a statement, or a kind of values"),
@@ -704,10 +685,7 @@ class Order:
             if file.suffix == ".antt" and file not in laws:
                 # what the headline needs stands in files that hold nothing else
                 others = [name for name, one in opened(file).definitions.items() if not self.has(one.word)]
-                others = [name for name in others if name not in BESIDE]
                 self.faults += [f"{file.relative_to(TOP)}: `{name}` isn't needed by the headline" for name in others]
-        copied = {word.name for word in self.found}
-        self.faults += [f"a sentence tells of `{name}`, which isn't copied" for name, _ in UNSAID if name not in copied]
         for one in self.found.values():
             one.users.sort(key=lambda user: user.number)
 
@@ -734,12 +712,6 @@ def files(definitions):
 def prose(comment):
     """A comment without its marks, line by line."""
     return [re.sub(r"^(?:--|//[/!]) ?", "", line) for line in comment]
-
-
-def unsaid(definitions):
-    """The sentences that no comment has, each with its definition, in the order of these."""
-    sentences = dict(UNSAID)
-    return [(one, sentences[one.word.name]) for one in definitions if one.word.name in sentences]
 
 
 def fitted(lines, room):
@@ -787,9 +759,6 @@ def as_text(order):
             lines += [""] * bool(one.comment) + [plain(one, line) for line in one.lines]
     lines += ["", "", "What isn't copied", ""]
     lines += [f"{word.name}  ({word.home.relative_to(TOP)}): {why}" for word, why in order.left.items()]
-    lines += ["", "", "What no comment says", ""]
-    for one, sentence in unsaid(definitions):
-        lines += textwrap.wrap(f"{one.number} {one.word.name}: {sentence}", WIDTH, break_on_hyphens=False, subsequent_indent="    ")
     lines += ["", "", "Words of the toolchain", ""]
     for home, words in toolchain(definitions).items():
         lines += listed(home, [word.name for word in words], "")
@@ -845,7 +814,6 @@ def page_front(order, anchors):
         for one in those:
             page += f'<div style="padding-left: {one.depth}ch">{link(one, anchors)}</div>\n'
     page += '<div><a href="#left">What isn\'t copied</a></div>\n'
-    page += '<div><a href="#unsaid">What no comment says</a></div>\n'
     return page + '<div><a href="#toolchain">Words of the toolchain</a></div>\n</nav>\n'
 
 
@@ -862,9 +830,7 @@ def as_page(order):
     for word, why in order.left.items():
         page += f"<p><code>{html.escape(word.name)}</code> ({word.home.relative_to(TOP)}): {html.escape(why)}</p>\n"
     page += "</section>\n"
-    page += '<section id="unsaid">\n<h2>What no comment says</h2>\n'
-    page += "".join(f"<p>{link(one, anchors)}: {marked([sentence])}</p>\n" for one, sentence in unsaid(definitions))
-    page += '</section>\n<section id="toolchain">\n<h2>Words of the toolchain</h2>\n'
+    page += '<section id="toolchain">\n<h2>Words of the toolchain</h2>\n'
     for home, words in library.items():
         those = ", ".join(f'<code id="{anchors[word]}">{html.escape(word.name)}</code>' for word in words)
         page += f"<p>{html.escape(home)}: {those}</p>\n"

@@ -3,6 +3,7 @@ use Rattle.std.specs.Prelude.{ℕ, ℤ, pos, ◌*ℤ◌, int_le, int_lt, not, �
 use Rattle.std.specs.Str.{bytes_eq}
 use Rattle.std.specs.List.{list_any}
 use Rattle.edf_claim.specs.Terms.{Terms}
+use Rattle.edf_fields.specs.Lists.{is_one_of}
 
 -- the instant num / den, in picoseconds after the second at which the original starts, is in one of the kept intervals: from its first bound on, and before its second
 abbrev pub keeps_instant : Terms → ℤ → ℕ → Bool
@@ -12,7 +13,7 @@ keeps_instant c num den =
 -- annotations with this text are removed: it is one of the texts of the claim, or begins with one of its prefixes, byte for byte
 abbrev pub removes : Terms → List ℕ → Bool
 removes c text =
-    list_any (λ other. bytes_eq other text) c.remove
+    is_one_of c.remove text
     || list_any (λ prefix. bytes_eq prefix (take (length prefix) text)) c.remove_prefix
 
 -- an annotation with this onset, in picoseconds after the second at which the original starts, and this text is kept: its onset is in one of the kept intervals, and its text isn't removed
@@ -21,4 +22,4 @@ keeps_annotation c onset text = keeps_instant c onset 1 && not (removes c text)
 
 -- what stands in an export in the place of a kept annotation's text: `X` where the claim blanks the text, and else the text itself
 abbrev pub kept_text : Terms → List ℕ → List ℕ
-kept_text c text = if list_any (λ other. bytes_eq other text) c.blank then codes "X" else text
+kept_text c text = if is_one_of c.blank text then codes "X" else text

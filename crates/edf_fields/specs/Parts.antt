@@ -6,7 +6,7 @@ use Rattle.std.specs.List.{list_all}
 abbrev pub part : List ℕ → ℕ → ℕ → List ℕ
 part bytes at n = take n (drop at bytes)
 
--- the bytes without the spaces at their end
+-- the text of a field, without the spaces that fill it behind the text (EDF, "Header record")
 abbrev pub text_of : List ℕ → List ℕ
 text_of [] = []
 text_of (c ∷ cs) = if list_all (λ b. b == 32) (c ∷ cs) then [] else c ∷ text_of cs

@@ -73,7 +73,8 @@ abbrev pub AreSideBySide : ℕ → List SignalHead → Type 0
 AreSideBySide before [] = Unit {0}
 AreSideBySide before (head ∷ heads) = (head.offset ≡ before) × AreSideBySide (before + 2 * head.samples) heads
 
--- the fields of the file, at their places in the two tables of the layout, say what the header says (the version and the size of the header say nothing more: the tests ask for them)
+-- the fields of the file, at their places in the two tables of the layout, say what the header says (EDF, "Header record"; EDF+, "The
+-- EDF+ header"; the version and the size of the header say nothing more)
 pub record HasHead (file : List ℕ) (h : Head) : Type 0 where
   pub patient : SaysPatient (fixed_field (fixed_part file) fixed.Patient) h.patient
   pub recording : SaysRecording (fixed_field (fixed_part file) fixed.Recording) h.recording

@@ -213,7 +213,7 @@ either-not false b = refl
 
 pub other-calibration : (x y : SignalHead) → has_other_calibration x y ≡ true → HaveSameCalibration x y → ⊥
 other-calibration x y t h =
-    let same = (calibration-decided x y).1 (h.dimension, (h.gain, h.offset)) in
+    let same = (calibration-decided x y).1 (h.dimension, h.line) in
     let f : true ≡ false = sym t ∙ either-not (bytes_eq x.dimension y.dimension) (is_same_line x.calibration y.calibration) ∙ ap not same in
     cc
 
@@ -221,7 +221,7 @@ pub same-calibration : (x y : SignalHead) → has_other_calibration x y ≡ fals
 same-calibration x y f =
     let test = bytes_eq x.dimension y.dimension && is_same_line x.calibration y.calibration in
     let both = (calibration-decided x y).0 (untrue test (sym (either-not (bytes_eq x.dimension y.dimension) (is_same_line x.calibration y.calibration)) ∙ f)) in
-    record { dimension = both.0; gain = both.1.0; offset = both.1.1 }
+    record { dimension = both.0; line = both.1 }
 
 pub calibrations-found : (o e : Head) (claim : Terms) → IsSound o → IsSound e
     → MatchOption (find (λ l. of_both has_other_calibration (channel_of l o.signals) (channel_of l e.signals)) claim.channels) (AllAlike HaveSameCalibration o e claim) (IsFirstUnlike HaveSameCalibration o e claim)

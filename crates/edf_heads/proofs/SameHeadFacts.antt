@@ -121,9 +121,11 @@ texts-carried x y x' y' ex ey s r h = (text-carried Transducer x y x' y' ex ey s
 pub calibration-carried : Carries HaveSameCalibration
 calibration-carried x y x' y' ex ey s r h =
     let through = same_line_is_equivalence.2 in
-    let line = through x'.calibration x.calibration y'.calibration ex (same_line_is_equivalence.1 x.calibration x'.calibration s.line)
-    (through x.calibration y.calibration y'.calibration ey (h.gain, h.offset) r.line) in
-    record { dimension = sym s.dimension ∙ h.dimension ∙ r.dimension; gain = line.0; offset = line.1 }
+    record {
+      dimension = sym s.dimension ∙ h.dimension ∙ r.dimension;
+      line = through x'.calibration x.calibration y'.calibration ex (same_line_is_equivalence.1 x.calibration x'.calibration s.line)
+          (through x.calibration y.calibration y'.calibration ey h.line r.line);
+    }
 
 alike-carried : (Alike : SignalHead → SignalHead → Type 0) → Carries Alike → (o e o' e' : Head) → AreSamePairs o e o' e' → (l : List ℕ) → AreAlike Alike o e l → AreAlike Alike o' e' l
 alike-carried Alike carries o e o' e' s l a x' y' cx' cy' =

@@ -5,7 +5,7 @@ use Rattle.edf_claim.specs.Keeps.{keeps_instant, keeps_annotation, kept_text}
 use Rattle.edf_fields.specs.Lists.{Has}
 use Rattle.edf_header.specs.Heads.{Head}
 use Rattle.edf_stream.specs.times.Instants.{IsSame}
-use Rattle.edf_stream.specs.annotation.Notes.{NoteValue}
+use Rattle.edf_stream.specs.annotation.Notes.{NoteValue, moved_by}
 use Rattle.edf_stream.specs.samples.Samples.{SampleValue, IsSample}
 use Rattle.edf_stream.specs.times.Starts.{file_start}
 use Rattle.edf_samples.specs.Instants.{later}
@@ -43,9 +43,4 @@ kept_of claim notes =
 -- the annotations of the export, whose header is g, with the shift taken off: their onsets count from the second at which the
 -- original starts, whose header is h
 abbrev pub unshifted : Head → Head → Terms → List NoteValue → List NoteValue
-unshifted h g claim notes =
-    map (λ note. record {
-      onset = (file_start g -ℤ (file_start h +ℤ shift_ps claim)) +ℤ note.onset;
-      duration = note.duration;
-      text = note.text;
-    }) notes
+unshifted h g claim notes = map (moved_by (file_start g -ℤ (file_start h +ℤ shift_ps claim))) notes

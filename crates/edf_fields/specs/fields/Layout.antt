@@ -6,7 +6,7 @@ use Rattle.edf_fields.specs.declared.fields.layout.FixedField.TheVariants as fix
 use Rattle.edf_fields.specs.declared.fields.layout.SignalField.{SignalField}
 use Rattle.edf_fields.specs.declared.fields.layout.SignalField.TheVariants as signal
 
--- where a field of the fixed part begins, and how many bytes it has
+-- where a field of the fixed part begins, and how many bytes it has (EDF, "Header record")
 abbrev pub fixed_extent : FixedField → ℕ × ℕ
 fixed_extent fixed.Version = (0, 8)
 fixed_extent fixed.Patient = (8, 80)

@@ -24,7 +24,8 @@ pub record Patient : Type 0 where
   pub name : List ℕ
   pub extras : List (List ℕ)
 
--- the field says this patient: the code, the sex (F, M or X), the birthdate, the name and any additional subfields
+-- the field says this patient: the code, the sex (F, M or X), the birthdate, the name and any additional subfields (EDF+,
+-- "Additional specifications in EDF+")
 pub record SaysPatient (field : List ℕ) (patient : Patient) : Type 0 where
   pub lists : ListsSubfields field (patient.code ∷ patient.sex ∷ patient.birthdate ∷ patient.name ∷ patient.extras)
   pub sex : (patient.sex ≡ codes "F") ⊎ (patient.sex ≡ codes "M") ⊎ (patient.sex ≡ codes "X")
@@ -38,7 +39,8 @@ pub record Recording : Type 0 where
   pub equipment : List ℕ
   pub extras : List (List ℕ)
 
--- the field says this recording: the word `Startdate`, the date, the administration code, the technician, the equipment and any additional subfields
+-- the field says this recording: the word `Startdate`, the date, the administration code, the technician, the equipment and any additional
+-- subfields (EDF+, "Additional specifications in EDF+")
 pub record SaysRecording (field : List ℕ) (recording : Recording) : Type 0 where
   pub lists : ListsSubfields field (codes "Startdate" ∷ recording.date ∷ recording.admin ∷ recording.technician ∷ recording.equipment ∷ recording.extras)
   pub date : IsDateOrX recording.date

@@ -6,7 +6,8 @@ use Rattle.std.specs.Prelude.{◌≡◌, ◌≢◌, ℕ, ◌<◌, List, [], ◌�
 abbrev pub IsSubfield : List ℕ → Type 0
 IsSubfield s = (0 < length s) × All (λ b. b ≢ 32) s
 
--- the text is these subfields in order, with at least one space between two of them and nothing else
+-- the text is these subfields in order, with spaces between two of them and nothing else; that there may be more than one
+-- space is this project's profile
 abbrev pub HasSubfields : List ℕ → List (List ℕ) → Type 0
 HasSubfields t [] = t ≡ []
 HasSubfields t (s ∷ []) = IsSubfield s × (t ≡ s)

@@ -17,7 +17,7 @@ pub struct ReadFault;
 ///
 /// In contracts `left` is the bytes that are still to come, `reads` tells how many reads failed so far, up to
 /// `u64::MAX`, and what a source that remembers its start had then, and `is_honest` says that `left` is to be
-/// relied on. A read that doesn't fail leaves `reads` as it is.
+/// relied on: of a file or a pipe this is assumed. A read that doesn't fail leaves `reads` as it is.
 pub trait Source {
     ghost left: { Self → List ℕ };
 

@@ -25,7 +25,8 @@ AreLanesOf (lane ∷ lanes) (tals ∷ talss) = IsLaneOf lane tals × AreLanesOf 
 
 -- the data record of these bytes says that it starts there, and these annotations: its annotation lanes are lanes of TALs; the
 -- first TAL has the start as its onset, and its first text is empty; and the annotations are the other texts of that TAL, then
--- those of all other TALs
+-- those of all other TALs (EDF+, "Time-stamped Annotations Lists (TALs) in an 'EDF Annotations' signal", "Time keeping of data
+-- records")
 pub record SaysRecord (h : Head) (bytes : List ℕ) (start : ℤ) (notes : List NoteValue) : Type 0 where
   pub duration : Option ℤ
   pub texts : List (List ℕ)

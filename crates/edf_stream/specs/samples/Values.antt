@@ -2,7 +2,7 @@
 -- complement, the low byte first.
 use Rattle.std.specs.Prelude.{ℕ, ℤ, ◌+◌, ◌*◌, pos, ◌-ℤ◌, nat_lt, if◌then◌else◌, List, slice_index}
 
--- the number that two bytes give
+-- the number that two bytes give, the low one first, in two's complement (EDF, "Data record")
 abbrev pub digital : ℕ → ℕ → ℤ
 digital low high = if nat_lt high 128 then pos (low + 256 * high) else (pos (low + 256 * high) -ℤ pos 65536)
 
