@@ -2,6 +2,7 @@
 //! original it keeps, what it makes anonymous, which texts it blanks, and by how much it moves the rest.
 #![tactic(auto)]
 
+pub mod claim_key;
 mod drafting;
 mod kept;
 pub mod laws;

@@ -1,5 +1,7 @@
 //! Where something stands in the text of a claim.
 
+use edf_claim::claim_key;
+
 /// A place in a text: its line and its column, both from 1, and the whole line.
 #[derive(Clone, Copy)]
 pub(crate) struct Spotted<'a> {
@@ -130,7 +132,7 @@ fn brace_in(line: &[u8], left: &mut usize) -> Option<usize> {
 
 /// Where the table of an interval begins that stands in a list behind `keep`, by its number from 0 on.
 fn listed_keep_at<'a>(text: &'a [u8], interval: usize) -> Option<Spotted<'a>> {
-    let first = key_at(text, "keep")?.line;
+    let first = key_at(text, claim_key::KEEP)?.line;
     let mut left = interval;
     for (place, line) in text.split(|byte: &u8| *byte == b'\n').enumerate() {
         let number = place.saturating_add(1);

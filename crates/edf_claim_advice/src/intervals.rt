@@ -8,7 +8,7 @@ use crate::refused::Refused;
 use crate::times::{number_fault, say_clock, time_fault};
 use crate::typographic::first_mark;
 use crate::words;
-use edf_claim::MOST_INTERVALS;
+use edf_claim::{MOST_INTERVALS, claim_key};
 use edf_fields::span;
 use edf_sentences::{Piece, Text};
 use std::alloc::AllocError;
@@ -28,14 +28,14 @@ impl<'a> IntervalTable<'a> {
     fn place(&self) -> Option<Spotted<'a>> {
         match keep_at(self.claim_text, self.number) {
             Some(place) => Some(place),
-            None => key_at(self.claim_text, "keep"),
+            None => key_at(self.claim_text, claim_key::KEEP),
         }
     }
 
     /// Where one of its keys stands.
     fn place_of(&self, key: &str) -> Option<Spotted<'a>> {
         let Some(begin) = keep_at(self.claim_text, self.number) else {
-            return key_at(self.claim_text, "keep");
+            return key_at(self.claim_text, claim_key::KEEP);
         };
         match key_from(self.claim_text, key, begin.line) {
             Some(place) if !self.is_behind(place) => Some(place),
@@ -136,7 +136,7 @@ impl<'a> IntervalTable<'a> {
     fn say_keys(&self, text: &mut Text) -> Result<(), AllocError> {
         for key in self.table.keys() {
             let key = key.as_str();
-            if key != "from" && key != "to" {
+            if key != claim_key::FROM && key != claim_key::TO {
                 let sentence = if is_in_front(key) {
                     words::KEEP_HAS_KEY_OF_CLAIM
                 } else {
@@ -151,16 +151,16 @@ impl<'a> IntervalTable<'a> {
     /// Says what is wrong with the interval, and answers where it ends. `before` is where the one before ends.
     fn say_wrong(&self, text: &mut Text, before: i128) -> Result<i128, AllocError> {
         self.say_keys(text)?;
-        let from = self.time(text, "from")?;
-        let to = self.time(text, "to")?;
+        let from = self.time(text, claim_key::FROM)?;
+        let to = self.time(text, claim_key::TO)?;
         if let Some(from) = from
             && let Some(to) = to
         {
             if from >= to {
-                self.say(text, words::KEEP_BACKWARDS, "to")?;
+                self.say(text, words::KEEP_BACKWARDS, claim_key::TO)?;
             }
             if from < before {
-                self.say(text, words::KEEP_OUT_OF_ORDER, "from")?;
+                self.say(text, words::KEEP_OUT_OF_ORDER, claim_key::FROM)?;
             }
         }
         Ok(to.unwrap_or(before))
@@ -180,7 +180,12 @@ fn say_intervals(text: &mut Text, claim_text: &[u8], array: &[Value]) -> Result<
                 };
                 before = kept.say_wrong(text, before)?;
             }
-            None => say_at(text, key_at(claim_text, "keep"), words::KEEP_NO_TABLE, &[])?,
+            None => say_at(
+                text,
+                key_at(claim_text, claim_key::KEEP),
+                words::KEEP_NO_TABLE,
+                &[],
+            )?,
         }
     }
     Ok(())
@@ -207,8 +212,8 @@ fn say_too_many(
 
 /// Says what is wrong with what is kept.
 pub(crate) fn say_keep(text: &mut Text, refused: Refused<'_>) -> Result<(), AllocError> {
-    let place = key_at(refused.claim_text, "keep");
-    match refused.table.get("keep") {
+    let place = key_at(refused.claim_text, claim_key::KEEP);
+    match refused.table.get(claim_key::KEEP) {
         None => say_missing(text, None),
         Some(Value::Table(_)) => say_at(text, place, words::KEEP_SINGLE, &[]),
         Some(Value::Array(array)) if array.is_empty() => say_missing(text, place),

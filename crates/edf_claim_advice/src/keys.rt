@@ -4,14 +4,14 @@ use crate::claim_lines::key_at;
 use crate::placed::say_at;
 use crate::refused::Refused;
 use crate::words;
-use edf_claim::{CLAIM_KEYS, MORE_KEYS};
+use edf_claim::{CLAIM_KEYS, MORE_KEYS, claim_key};
 use edf_sentences::{Piece, Text, nearest};
 use std::alloc::{AllocError, Global};
 use toml::{Table, Value};
 
 /// Whether the integer at `format` is this one.
 fn is_format(table: &Table, format: i64) -> bool {
-    match table.get("format") {
+    match table.get(claim_key::FORMAT) {
         Some(value) => value.as_integer() == Some(format),
         None => false,
     }
@@ -19,8 +19,8 @@ fn is_format(table: &Table, format: i64) -> bool {
 
 /// Says what is wrong with the format.
 pub(crate) fn say_format(text: &mut Text, refused: Refused<'_>) -> Result<(), AllocError> {
-    let place = key_at(refused.claim_text, "format");
-    match refused.table.get("format") {
+    let place = key_at(refused.claim_text, claim_key::FORMAT);
+    match refused.table.get(claim_key::FORMAT) {
         Some(Value::String(_)) => say_at(text, place, words::FORMAT_QUOTED, &[]),
         Some(_) => say_at(text, place, words::FORMAT_OTHER, &[]),
         None if place.is_some() => say_at(text, place, words::FORMAT_IN_TABLE, &[]),
@@ -35,7 +35,7 @@ fn say_key(text: &mut Text, claim_text: &[u8], key: &str) -> Result<(), AllocErr
     if stands_in(&MORE_KEYS, key) {
         return say_at(text, place, words::KEY_OF_FORMAT_2, &[quoted]);
     }
-    if key == "from" || key == "to" {
+    if key == claim_key::FROM || key == claim_key::TO {
         return say_at(text, place, words::KEY_OF_KEEP, &[quoted]);
     }
     match nearest_key(text.alloc(), key)? {
@@ -85,7 +85,7 @@ fn stands_in(words: &[&str], word: &str) -> bool {
 
 /// Whether a key is one of a claim, and belongs in front of the intervals.
 pub(crate) fn is_in_front(key: &str) -> bool {
-    key != "keep" && (stands_in(&CLAIM_KEYS, key) || stands_in(&MORE_KEYS, key))
+    key != claim_key::KEEP && (stands_in(&CLAIM_KEYS, key) || stands_in(&MORE_KEYS, key))
 }
 
 /// Whether a claim of this table may have the key.

@@ -7,7 +7,7 @@ use crate::refused::Refused;
 use crate::shift::{say_amount, say_mark, say_shift};
 use crate::text_lists::{say_anonymous, say_channels, say_texts};
 use crate::words;
-use edf_claim::{Claim, ClaimStop, MOST_CLAIM_BYTES};
+use edf_claim::{Claim, ClaimStop, MOST_CLAIM_BYTES, claim_key};
 use edf_sentences::{Piece, Text, looks_like_a_recording};
 use std::alloc::{AllocError, Global};
 use toml::de::Error;
@@ -36,7 +36,7 @@ fn say_not_toml(text: &mut Text, claim_text: &[u8], fault: &Error) -> Result<(),
         text.say(words::THE_LINE, &[Piece::Plain(content)])?;
     }
     say_mark(text, place.content)?;
-    if let Some(value) = value_behind(place.content, "shift")
+    if let Some(value) = value_behind(place.content, claim_key::SHIFT)
         && say_amount(text, Some(place), value)?
     {
         return Ok(());
@@ -53,9 +53,9 @@ fn say_table(text: &mut Text, refused: Refused<'_>, stop: ClaimStop) -> Result<(
         ClaimStop::BadKeep => say_keep(text, refused),
         ClaimStop::BadAnonymous => say_anonymous(text, refused),
         ClaimStop::BadShift => say_shift(text, refused),
-        ClaimStop::BadRemove => say_texts(text, refused, "remove"),
-        ClaimStop::BadRemovePrefix => say_texts(text, refused, "remove-prefix"),
-        ClaimStop::BadBlank => say_texts(text, refused, "blank"),
+        ClaimStop::BadRemove => say_texts(text, refused, claim_key::REMOVE),
+        ClaimStop::BadRemovePrefix => say_texts(text, refused, claim_key::REMOVE_PREFIX),
+        ClaimStop::BadBlank => say_texts(text, refused, claim_key::BLANK),
         ClaimStop::OutOfMemory | ClaimStop::TooLong | ClaimStop::NotToml => Ok(()),
     }
 }

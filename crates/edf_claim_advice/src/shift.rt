@@ -7,14 +7,15 @@ use crate::placed::say_at;
 use crate::refused::Refused;
 use crate::typographic::first_mark;
 use crate::words;
+use edf_claim::claim_key;
 use edf_sentences::{Piece, Text};
 use std::alloc::AllocError;
 use toml::Value;
 
 /// Says what is wrong with the shift.
 pub(crate) fn say_shift(text: &mut Text, refused: Refused<'_>) -> Result<(), AllocError> {
-    let place = key_at(refused.claim_text, "shift");
-    match refused.table.get("shift") {
+    let place = key_at(refused.claim_text, claim_key::SHIFT);
+    match refused.table.get(claim_key::SHIFT) {
         Some(Value::Integer(_)) => say_too_large(text, place),
         Some(Value::Float(_)) => say_at(text, place, words::SHIFT_NOT_WHOLE, &[]),
         Some(Value::String(said)) => {

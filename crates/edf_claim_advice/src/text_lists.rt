@@ -4,6 +4,7 @@ use crate::claim_lines::{Spotted, key_at, part_from};
 use crate::placed::say_at;
 use crate::refused::Refused;
 use crate::words;
+use edf_claim::claim_key;
 use edf_fields::{ANNOTATIONS, LABEL_BYTES, Which, which_of};
 use edf_sentences::{FULL_STOP, NEXT, Piece, Text, nearest};
 use std::alloc::{AllocError, Global};
@@ -126,7 +127,7 @@ fn label_fault(label: &str) -> Option<&'static str> {
 
 /// Says what is wrong with the channels.
 pub(crate) fn say_channels(text: &mut Text, refused: Refused<'_>) -> Result<(), AllocError> {
-    let Some(list) = TextList::at(text, refused, "channels")? else {
+    let Some(list) = TextList::at(text, refused, claim_key::CHANNELS)? else {
         return Ok(());
     };
     if list.array.is_empty() {
@@ -172,7 +173,7 @@ fn say_all_names(text: &mut Text) -> Result<(), AllocError> {
 
 /// Says what is wrong with what is made anonymous.
 pub(crate) fn say_anonymous(text: &mut Text, refused: Refused<'_>) -> Result<(), AllocError> {
-    let Some(list) = TextList::at(text, refused, "anonymous")? else {
+    let Some(list) = TextList::at(text, refused, claim_key::ANONYMOUS)? else {
         return say_all_names(text);
     };
     list.say_no_texts(text)?;
@@ -198,7 +199,7 @@ pub(crate) fn say_texts(
     };
     list.say_no_texts(text)?;
     for value in list.array {
-        if key == "remove-prefix" && value.as_str() == Some("") {
+        if key == claim_key::REMOVE_PREFIX && value.as_str() == Some("") {
             say_at(text, list.place, words::PREFIX_EMPTY, &[])?;
         }
     }

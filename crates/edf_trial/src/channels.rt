@@ -4,7 +4,7 @@ ghost use Rattle.std.specs.Prelude.{map, IfOk, IfSome, IsTrue};
 ghost use Rattle.edf_trial.specs.Changes.{IsClaimOfChannels};
 
 use crate::changed::{put, table_of, text_of};
-use edf_claim::{Claim, ClaimStop};
+use edf_claim::{Claim, ClaimStop, claim_key};
 use std::alloc::{AllocError, Global};
 use toml::Value;
 
@@ -25,7 +25,7 @@ fn text_with(alloc: Global, claim_text: &[u8], list: Value) -> Result<Option<Vec
     let Some(mut table) = table_of(alloc, claim_text)? else {
         return Ok(None);
     };
-    put(alloc, &mut table, "channels", list)?;
+    put(alloc, &mut table, claim_key::CHANNELS, list)?;
     text_of(alloc, &table)
 }
 

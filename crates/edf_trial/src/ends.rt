@@ -4,7 +4,7 @@ ghost use Rattle.std.specs.Prelude.{IfOk, IfSome, IsTrue};
 ghost use Rattle.edf_trial.specs.Changes.{IsClaimThatKeeps};
 
 use crate::changed::{put, table_of, text_of};
-use edf_claim::{Claim, ClaimStop};
+use edf_claim::{Claim, ClaimStop, claim_key};
 use edf_fields::{SECOND_PS, span};
 use std::alloc::{AllocError, Global};
 use toml::value::Array;
@@ -12,7 +12,7 @@ use toml::{Table, Value};
 
 /// Whether an interval of a claim ends at a time, in picoseconds.
 fn ends_at(interval: &Table, at_ps: i128) -> bool {
-    match interval.get("to") {
+    match interval.get(claim_key::TO) {
         Some(Value::String(text)) => span(text.as_str().as_bytes()) == Some(at_ps),
         _ => false,
     }
@@ -33,7 +33,7 @@ fn move_end(alloc: Global, keep: &mut Array, at_ps: i128) -> Result<bool, AllocE
             && ends_at(table, at_ps)
         {
             let later = seconds_of(alloc, at_ps.saturating_add(1))?;
-            put(alloc, table, "to", later)?;
+            put(alloc, table, claim_key::TO, later)?;
             return Ok(true);
         }
     }
@@ -46,7 +46,7 @@ fn text_with(alloc: Global, claim_text: &[u8], at_ps: i128) -> Result<Option<Vec
     let Some(mut table) = table_of(alloc, claim_text)? else {
         return Ok(None);
     };
-    let is_moved = match table.get_mut("keep") {
+    let is_moved = match table.get_mut(claim_key::KEEP) {
         Some(Value::Array(keep)) => move_end(alloc, keep, at_ps)?,
         _ => false,
     };

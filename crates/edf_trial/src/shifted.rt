@@ -4,7 +4,7 @@ ghost use Rattle.std.specs.Prelude.{IfOk, IfSome, IsTrue};
 ghost use Rattle.edf_trial.specs.Changes.{IsClaimOfShift};
 
 use crate::changed::{put, table_of, text_of};
-use edf_claim::{Claim, ClaimStop};
+use edf_claim::{Claim, ClaimStop, claim_key};
 use std::alloc::{AllocError, Global};
 use toml::Value;
 
@@ -17,7 +17,7 @@ fn text_with(
     let Some(mut table) = table_of(alloc, claim_text)? else {
         return Ok(None);
     };
-    put(alloc, &mut table, "shift", Value::Integer(seconds))?;
+    put(alloc, &mut table, claim_key::SHIFT, Value::Integer(seconds))?;
     text_of(alloc, &table)
 }
 

@@ -2,6 +2,7 @@
 
 use crate::read_texts::ReadTexts;
 use crate::words;
+use edf_claim::claim_key;
 use edf_findings::Notes;
 use edf_sentences::{Piece, Text, look_alike, other_bytes};
 use std::alloc::{AllocError, Global};
@@ -33,9 +34,9 @@ fn texts_seen(alloc: Global, notes: &Notes) -> Result<Vec<&str>, AllocError> {
 
 /// Whether a claim removes or blanks texts.
 fn names_texts(table: &Table) -> bool {
-    texts_at(table, "remove").is_some()
-        || texts_at(table, "remove-prefix").is_some()
-        || texts_at(table, "blank").is_some()
+    texts_at(table, claim_key::REMOVE).is_some()
+        || texts_at(table, claim_key::REMOVE_PREFIX).is_some()
+        || texts_at(table, claim_key::BLANK).is_some()
 }
 
 /// Whether the text of a claim removes or blanks texts, so that it is asked whether annotations have them.
@@ -135,7 +136,7 @@ pub(crate) fn say_misspelt(text: &mut Text, read: ReadTexts<'_>) -> Result<(), A
         return Ok(());
     }
     let seen = texts_seen(text.alloc(), read.notes)?;
-    say_unseen(text, &table, "remove", &seen)?;
-    say_begins_unseen(text, &table, "remove-prefix", &seen)?;
-    say_unseen(text, &table, "blank", &seen)
+    say_unseen(text, &table, claim_key::REMOVE, &seen)?;
+    say_begins_unseen(text, &table, claim_key::REMOVE_PREFIX, &seen)?;
+    say_unseen(text, &table, claim_key::BLANK, &seen)
 }

@@ -4,6 +4,7 @@ ghost use Rattle.std.specs.Prelude.{◌≡◌, [], map, option_map, option_and_t
 ghost use Rattle.toml.specs.View.{view, table_view};
 ghost use Rattle.edf_claim.specs.Reading.{whiches_of, anonymous_of};
 
+use crate::claim_key;
 use crate::reading::table::value_at;
 use crate::reading::text_arrays::distinct_texts;
 use edf_fields::{Which, which_of};
@@ -29,7 +30,7 @@ fn whiches(alloc: Global, names: &[&str]) -> Result<Option<Vec<Which>>, AllocErr
 pub(crate) fn anonymous(alloc: Global, table: &Table) -> Result<Option<Vec<Which>>, AllocError>
     ensures { IfOk result (λ r. option_map (λ v. v.items) r ≡ anonymous_of (table_view table.now)) }
 {
-    let Some(value) = value_at(table, "anonymous") else {
+    let Some(value) = value_at(table, claim_key::ANONYMOUS) else {
         return Ok(Some(Vec::new(alloc)));
     };
     match distinct_texts(alloc, value)? {

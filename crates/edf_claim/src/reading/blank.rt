@@ -4,6 +4,7 @@ ghost use Rattle.std.specs.Prelude.{◌≡◌, [], map, option_map, option_and_t
 ghost use Rattle.toml.specs.View.{view, table_view};
 ghost use Rattle.edf_claim.specs.Reading.{blank_of};
 
+use crate::claim_key;
 use crate::reading::table::value_at;
 use crate::reading::text_arrays::{copies_of, distinct_texts};
 use std::alloc::{AllocError, Global};
@@ -15,7 +16,7 @@ pub(crate) fn blank(alloc: Global, table: &Table) -> Result<Option<Vec<Vec<u8>>>
     ensures { IfOk result (λ r. option_map (λ v. map (λ t. t.items) v.items) r ≡
         blank_of (table_view table.now)) }
 {
-    match value_at(table, "blank") {
+    match value_at(table, claim_key::BLANK) {
         Some(value) => match distinct_texts(alloc, value)? {
             Some(texts) => Ok(Some(copies_of(alloc, &texts)?)),
             None => Ok(None),

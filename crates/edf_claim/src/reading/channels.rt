@@ -5,6 +5,7 @@ ghost use Rattle.std.specs.List.{list_all};
 ghost use Rattle.toml.specs.View.{view, table_view};
 ghost use Rattle.edf_claim.specs.Reading.{is_label as is_label_text, distinct_texts as distinct_texts_of, channels_of};
 
+use crate::claim_key;
 use crate::reading::table::value_at;
 use crate::reading::text_arrays::distinct_texts;
 use edf_fields::{ANNOTATIONS, LABEL_BYTES, SignalLabel, is_printable};
@@ -51,7 +52,7 @@ fn labels_of(alloc: Global, texts: &[&str]) -> Result<Vec<SignalLabel>, AllocErr
 pub(crate) fn channels(alloc: Global, table: &Table) -> Result<Option<Vec<SignalLabel>>, AllocError>
     ensures { IfOk result (λ r. option_map (λ v. v.items) r ≡ channels_of (table_view table.now)) }
 {
-    let Some(value) = value_at(table, "channels") else {
+    let Some(value) = value_at(table, claim_key::CHANNELS) else {
         return Ok(None);
     };
     match distinct_texts(alloc, value)? {

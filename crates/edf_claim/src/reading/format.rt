@@ -4,6 +4,7 @@ ghost use Rattle.std.specs.Prelude.{◌≡◌};
 ghost use Rattle.toml.specs.View.{table_view};
 ghost use Rattle.edf_claim.specs.Reading.{has_format as has_format_table, is_format as is_format_table};
 
+use crate::claim_key;
 use crate::reading::table::integer_at;
 use toml::Table;
 
@@ -11,7 +12,7 @@ use toml::Table;
 pub(crate) fn is_format(table: &Table, wanted: i64) -> bool
     ensures { result ≡ is_format_table wanted (table_view table.now) }
 {
-    match integer_at(table, "format") {
+    match integer_at(table, claim_key::FORMAT) {
         Some(format) => format == wanted,
         None => false,
     }

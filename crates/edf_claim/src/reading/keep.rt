@@ -5,6 +5,7 @@ ghost use Rattle.std.specs.List.{All};
 ghost use Rattle.toml.specs.View.{view, table_view, array_view};
 ghost use Rattle.edf_claim.specs.Reading.{span_at as span_at_key, interval_from as interval_from_bounds, interval_of, intervals_of, is_followed_by as is_followed_by_any, are_in_order as are_in_order_list, keep_of};
 
+use crate::claim_key;
 use crate::kept::interval::Interval;
 use crate::reading::keys::has_interval_keys;
 use crate::reading::table::{text_at, value_at};
@@ -45,8 +46,8 @@ fn interval_in(table: &Table) -> Option<Interval>
     if !has_interval_keys(table) {
         return None;
     }
-    match span_at(table, "from") {
-        Some(from_ps) => match span_at(table, "to") {
+    match span_at(table, claim_key::FROM) {
+        Some(from_ps) => match span_at(table, claim_key::TO) {
             Some(to_ps) => interval_from(from_ps, to_ps),
             None => None,
         },
@@ -99,7 +100,7 @@ fn are_in_order(intervals: &[Interval]) -> bool
 pub(crate) fn keep(alloc: Global, table: &Table) -> Result<Option<Vec<Interval>>, AllocError>
     ensures { IfOk result (λ r. option_map (λ v. v.items) r ≡ keep_of (table_view table.now)) }
 {
-    let Some(value) = value_at(table, "keep") else {
+    let Some(value) = value_at(table, claim_key::KEEP) else {
         return Ok(None);
     };
     let Some(array) = value.as_array() else {

@@ -7,15 +7,23 @@ ghost use Rattle.edf_claim.specs.Claims.{claim_keys, more_claim_keys, interval_k
 ghost use Rattle.edf_fields.specs.Lists.{is_one_of};
 ghost use Rattle.edf_claim.specs.Reading.{has_keys_of_format as has_keys_of_format_table, keys_are};
 
+use crate::claim_key;
 use crate::reading::format::is_format;
 use crate::reading::text_arrays::stands_in;
 use toml::Table;
 
 /// The keys that a claim of format 1 may have.
-pub const CLAIM_KEYS: [&str; 6] = ["format", "channels", "keep", "anonymous", "shift", "remove"];
+pub const CLAIM_KEYS: [&str; 6] = [
+    claim_key::FORMAT,
+    claim_key::CHANNELS,
+    claim_key::KEEP,
+    claim_key::ANONYMOUS,
+    claim_key::SHIFT,
+    claim_key::REMOVE,
+];
 
 /// The keys that a claim of format 2 may have besides.
-pub const MORE_KEYS: [&str; 2] = ["remove-prefix", "blank"];
+pub const MORE_KEYS: [&str; 2] = [claim_key::REMOVE_PREFIX, claim_key::BLANK];
 
 /// Whether the key is one that a claim of format 1 may have.
 fn is_claim_key(key: &str) -> bool
@@ -74,7 +82,7 @@ pub(crate) fn has_keys_of_format(table: &Table) -> bool
 fn is_interval_key(key: &str) -> bool
     ensures { result ≡ is_one_of interval_keys key.now }
 {
-    key == "from" || key == "to"
+    key == claim_key::FROM || key == claim_key::TO
 }
 
 /// Whether the keys are those of an interval, as a test of the table's entries.

@@ -5,6 +5,7 @@ ghost use Rattle.std.specs.List.{list_all};
 ghost use Rattle.toml.specs.View.{view, table_view};
 ghost use Rattle.edf_claim.specs.Reading.{distinct_prefixes as distinct_prefixes_of, remove_of, remove_prefix_of};
 
+use crate::claim_key;
 use crate::reading::table::value_at;
 use crate::reading::text_arrays::{copies_of, distinct_texts};
 use std::alloc::{AllocError, Global};
@@ -16,7 +17,7 @@ pub(crate) fn remove(alloc: Global, table: &Table) -> Result<Option<Vec<Vec<u8>>
     ensures { IfOk result (λ r. option_map (λ v. map (λ t. t.items) v.items) r ≡
         remove_of (table_view table.now)) }
 {
-    match value_at(table, "remove") {
+    match value_at(table, claim_key::REMOVE) {
         Some(value) => match distinct_texts(alloc, value)? {
             Some(texts) => Ok(Some(copies_of(alloc, &texts)?)),
             None => Ok(None),
@@ -61,7 +62,7 @@ pub(crate) fn remove_prefix(
     ensures { IfOk result (λ r. option_map (λ v. map (λ t. t.items) v.items) r ≡
         remove_prefix_of (table_view table.now)) }
 {
-    match value_at(table, "remove-prefix") {
+    match value_at(table, claim_key::REMOVE_PREFIX) {
         Some(value) => match distinct_prefixes(alloc, value)? {
             Some(texts) => Ok(Some(copies_of(alloc, &texts)?)),
             None => Ok(None),

@@ -4,6 +4,7 @@ ghost use Rattle.std.specs.Prelude.{◌≡◌, ℤ, pos, option_and_then, None, 
 ghost use Rattle.toml.specs.View.{view, table_view};
 ghost use Rattle.edf_claim.specs.Reading.{shift_of};
 
+use crate::claim_key;
 use crate::reading::table::value_at;
 use toml::Table;
 
@@ -15,7 +16,7 @@ pub const MOST_SHIFT_SECONDS: i64 = 10_000_000_000;
 pub(crate) fn shift(table: &Table) -> Option<i64>
     ensures { result ≡ shift_of (table_view table.now) }
 {
-    let Some(value) = value_at(table, "shift") else {
+    let Some(value) = value_at(table, claim_key::SHIFT) else {
         return Some(0);
     };
     match value.as_integer() {
