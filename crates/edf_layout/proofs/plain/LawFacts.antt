@@ -77,7 +77,7 @@ one_plain_whole_number field other v (short, (digits, some, value)) (less, (digi
     let t = text_of field in
     let u = text_of other in
     numbers-same t u 0 (whole-fits (unsigned t) digits) (whole-fits (unsigned u) digits2) p q
-    (ap (signed (has_minus t)) (whole-value (unsigned t) digits) ∙ sym mine.2 ∙ other.2 ∙ ap (signed (has_minus u)) (sym (whole-value (unsigned u) digits2)))
+    (ap (signed (has_minus t)) (whole-value (unsigned t) digits) ∙ sym value ∙ value2 ∙ ap (signed (has_minus u)) (sym (whole-value (unsigned u) digits2)))
 
 -- ---- times
 
