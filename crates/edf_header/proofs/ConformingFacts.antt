@@ -25,8 +25,8 @@ use Rattle.edf_fields.specs.declared.fields.layout.FixedField.{FixedField}
 use Rattle.edf_fields.specs.declared.fields.layout.FixedField.TheVariants as fixed
 use Rattle.edf_fields.specs.declared.fields.layout.SignalField.{SignalField}
 use Rattle.edf_fields.specs.declared.fields.layout.SignalField.TheVariants as signal
-use Rattle.edf_header.specs.signals.Channels.{IsChannel, HasDistinctChannels, channels_among}
-use Rattle.edf_header.specs.signals.ChannelsReading.{is_channel_of, label_at, is_repeated}
+use Rattle.edf_header.specs.signals.Channels.{channels_among}
+use Rattle.edf_header.specs.signals.ChannelsReading.{is_channel_of, label_at, is_repeated, IsChannel, HasDistinctChannels}
 use Rattle.edf_fields.specs.fields.Layout.{fixed_field}
 use Rattle.edf_fields.specs.fields.LayoutReading.{fixed_fields, columns, fixed_from, fixed_bytes, column_before, column_width, fixed_part, columns_part, column_field}
 use Rattle.edf_header.specs.Heads.{SignalHead, Head, NamesStartdate, HasSignal, header_bytes, is_annotations, samples_together}
@@ -41,7 +41,7 @@ use Rattle.edf_header.proofs.PassedFacts.{fault_unless-passed, number-passed}
 use Rattle.edf_header.proofs.fixed_part.StartdateFacts.{SayTheSame, startdate-read, same-passes}
 use Rattle.edf_header.proofs.PassingFacts.{fault_unless-true, version-passes, patient-passes, recording-passes, startdate-passes, starttime-passes, header_bytes-passes, reserved-passes, records-passes, duration-passes, signals-passes, header_size-passes, signals-pass-tests}
 use Rattle.edf_header.proofs.in_columns.ColumnFacts.{there, column-whole}
-use Rattle.edf_header.proofs.signals.ChannelFacts.{get-within, any-at, none-among}
+use Rattle.edf_header.proofs.signals.ChannelFacts.{get-within, any-at, none-among, channels_distinct}
 use Rattle.edf_header.proofs.SaidFacts.{recording_is}
 use Rattle.edf_header.proofs.signals.SignalFacts.{length-signals}
 use Rattle.edf_header.proofs.HeadFacts.{FixedPasses, fixed-passes, signals-passed, head-read, has-head, sound-head}
@@ -397,7 +397,7 @@ columns-pass file h n c count read =
     let P : ℕ → Type 0 = λ m. IsPrintable (column_field (columns_part m file) m (0 + k) field) in
     subst P (sym count) (subst (λ j. IsPrintable (column_field (columns_part (length h.signals) file) (length h.signals) j field)) (let at : k ≡ 0 + k = omega arith in at) (c.columns k (omega (arith, lt, count)) field)) in
     let joint : first (joint_faults (signals_in n bytes)) ≡ None =
-    subst (λ (xs : List SignalHead). first (joint_faults xs) ≡ None) read (joint-passes h.signals sound.annotations sound.channel sound.distinct sound.small_record) in
+    subst (λ (xs : List SignalHead). first (joint_faults xs) ≡ None) read (joint-passes h.signals sound.annotations sound.channel (channels_distinct h.signals sound.distinct) sound.small_record) in
     pass-append (columns_missing columns n (length bytes)) (signals_faults bytes n 0 n ++ joint_faults (signals_in n bytes)) (columns-there columns n (length bytes) long)
     (pass-append (signals_faults bytes n 0 n) (joint_faults (signals_in n bytes))
     (signals-pass-tests bytes n 0 0 n says (subst (λ (xs : List SignalHead). All IsSoundSignal xs) read sound.signals) printable) joint)

@@ -56,7 +56,7 @@ abbrev pub kind_word : Kind → List ℕ
 kind_word Contiguous = codes "EDF+C"
 kind_word Interrupted = codes "EDF+D"
 
--- the fields of a signal, of which each has these bytes, have these texts and numbers
+-- the bytes of the fields of a signal say these texts and numbers
 pub record HasSignal (field : SignalField → List ℕ) (head : SignalHead) : Type 0 where
   pub label : head.label ≡ text_of (field signal.Label)
   pub transducer : head.transducer ≡ text_of (field signal.Transducer)

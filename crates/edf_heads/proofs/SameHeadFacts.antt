@@ -10,7 +10,7 @@ use Rattle.edf_fields.specs.declared.fields.which.Which.TheVariants.{PatientExtr
 use Rattle.edf_fields.specs.texts.Identifications.{Patient, Recording}
 use Rattle.edf_fields.specs.Lists.{Has}
 use Rattle.edf_fields.proofs.ForCallers.{has-permutation}
-use Rattle.edf_header.specs.signals.Channels.{channel_labels}
+use Rattle.edf_header.specs.signals.Channels.{channel_labels, IsChannelOf}
 use Rattle.edf_header.specs.Heads.{SignalHead, Head}
 use Rattle.edf_header.specs.Sound.{IsSound}
 use Rattle.edf_header.specs.Standard.{IsSoundSignal}
@@ -19,7 +19,7 @@ use Rattle.edf_verdict.specs.declared.verdict.TextField.{TextField}
 use Rattle.edf_verdict.specs.declared.verdict.TextField.TheVariants.{Transducer, Prefilter}
 use Rattle.edf_heads.specs.differences.BlankDifference.{HasFreeText}
 use Rattle.edf_heads.specs.Calibrations.{HaveSameCalibration}
-use Rattle.edf_heads.specs.Channels.{IsChannelOf, HasChannel, HasAll, SameChannels, AreAlike, AllAlike}
+use Rattle.edf_heads.specs.Channels.{HasChannel, HasAll, SameChannels, AreAlike, AllAlike}
 use Rattle.edf_heads.specs.differences.ChannelDifferences.{HasNoChannel, IsExtra, AreUnlike, IsFirstUnlike}
 use Rattle.edf_heads.specs.Comparisons.{IsAnonymous, IsUnchanged}
 use Rattle.edf_heads.specs.Firsts.{IsFirstWith}

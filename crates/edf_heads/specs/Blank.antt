@@ -2,7 +2,7 @@
 use Rattle.std.specs.Prelude.{◌≡◌, ℕ, IsTrue, List, []}
 use Rattle.edf_fields.specs.Lists.{Has}
 use Rattle.edf_header.specs.Heads.{SignalHead, Head, is_annotations}
-use Rattle.edf_heads.specs.Channels.{IsChannelOf}
+use Rattle.edf_header.specs.signals.Channels.{IsChannelOf}
 
 -- the texts of a signal but its label are empty (EDF, "Header record": transducer type, physical dimension, prefiltering, reserved)
 pub record HasNoTexts (signal : SignalHead) : Type 0 where

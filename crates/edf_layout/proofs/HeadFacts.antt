@@ -14,8 +14,8 @@ use Rattle.edf_fields.specs.fields.Layout.{fixed_field}
 use Rattle.edf_fields.specs.fields.LayoutReading.{fixed_part, columns_part, column_field}
 use Rattle.edf_header.specs.Conforming.{HeaderConforms}
 use Rattle.edf_header.specs.Heads.{SignalHead, Head, HasSignal, NamesStartdate, kind_word, is_annotations}
-use Rattle.edf_header.specs.signals.Channels.{IsChannel, HasDistinctChannels}
-use Rattle.edf_header.proofs.ForCallers.{one_head, HeadInParts, head_in_parts, head_from_parts, in_parts}
+use Rattle.edf_header.specs.signals.ChannelsReading.{IsChannel, HasDistinctChannels}
+use Rattle.edf_header.proofs.ForCallers.{one_head, HeadInParts, head_in_parts, head_from_parts, in_parts, channels_distinct}
 use Rattle.edf_layout.specs.HeadLayouts.{SignalLayout, HeadLayout, fixed_text, signal_layout, signal_layouts, layout_in, head_layout_of}
 use Rattle.edf_layout.specs.HeadLaws.{SignalTexts, texts_of, HasChannel, annotation_texts, SayTheSame, header_of, LayoutIsTheRest}
 use Rattle.edf_layout.specs.Spaces.{spaces_of}
@@ -230,7 +230,7 @@ layout-gives file other h g c d same layout =
     let columns : xs ≡ ys =
     columns-alike xs ys h.signals g.signals n refl (sym count) (columns-long file h c) (columns-long other g d ∙ ap (λ k. 256 * k) (sym count))
     (head_in_parts file h c.head).signals (subst (λ k. (s : ℕ) (b : SignalHead) → slice_get g.signals s ≡ Some b → HasSignal (column_field (columns_part m other) k s) b) (sym count) (head_in_parts other g d.head).signals)
-    (d.standard).distinct same.channels same.annotations (lists ∙ ap (λ k. signal_layouts ys k 0 k) (sym count)) in
+    (channels_distinct g.signals (d.standard).distinct) same.channels same.annotations (lists ∙ ap (λ k. signal_layouts ys k 0 k) (sym count)) in
     whole-header file h ∙ ap (λ f. f ++ xs) front ∙ ap (λ r. fixed_part other ++ r) columns ∙ sym (whole-header other g)
 
 -- the bytes give both

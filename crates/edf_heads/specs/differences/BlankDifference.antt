@@ -2,7 +2,7 @@
 use Rattle.std.specs.Prelude.{◌≢◌, ℕ, List, []}
 use Rattle.edf_header.specs.Heads.{SignalHead, Head}
 use Rattle.edf_claim.specs.Terms.{Terms}
-use Rattle.edf_heads.specs.Channels.{IsChannelOf}
+use Rattle.edf_header.specs.signals.Channels.{IsChannelOf}
 use Rattle.edf_heads.specs.Firsts.{IsFirstWith}
 
 -- the header has free text in the reserved field of a channel of this label (EDF, "Header record": reserved)

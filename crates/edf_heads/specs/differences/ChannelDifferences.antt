@@ -5,7 +5,8 @@ use Rattle.edf_header.specs.Heads.{SignalHead, Head}
 use Rattle.edf_claim.specs.Terms.{Terms}
 use Rattle.edf_heads.specs.Firsts.{IsFirstWith}
 use Rattle.edf_heads.specs.Labels.{IsNotAbove}
-use Rattle.edf_heads.specs.Channels.{IsChannelOf, HasChannel}
+use Rattle.edf_heads.specs.Channels.{HasChannel}
+use Rattle.edf_header.specs.signals.Channels.{IsChannelOf}
 
 -- the header has no channel of this label
 abbrev pub HasNoChannel : Head → List ℕ → Type 0
