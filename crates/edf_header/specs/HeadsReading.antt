@@ -116,6 +116,6 @@ start_second h = (pos 86400 *ℤ day_number h.day) +ℤ pos h.clock
 unfoldable pub head_of : List ℕ → Head
 head_of file = head_in (fixed_part file) (columns_part (signals_of (fixed_part file)) file)
 
--- a file has at most one header
+-- proved: a file has at most one header
 abbrev pub HasOneHead : Type 0
 HasOneHead = (file : List ℕ) (h g : Head) → HasHead file h → HasHead file g → h ≡ g

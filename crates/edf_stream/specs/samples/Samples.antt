@@ -17,7 +17,8 @@ pub record SampleValue : Type 0 where
 
 -- the file has this sample: it stands at some place of a channel's lane in some data record. With den samples in a lane, its
 -- instant is the start of the data record and `place` times the duration of a data record over den; it counts from 1970-01-01
--- 00:00:00 on, civil time (EDF, "Data record"; EDF+, "Time keeping of data records")
+-- 00:00:00 on, civil time (EDF, "Data record"; EDF+, "Time keeping of data records"). `start` and `notes` are what the data record
+-- says, and den isn't 0 (`IsSoundSignal`)
 pub record IsSample (file : List ℕ) (h : Head) (x : SampleValue) : Type 0 where
   pub signal : SignalHead
   pub data_record : ℕ
