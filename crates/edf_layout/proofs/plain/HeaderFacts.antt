@@ -176,7 +176,7 @@ front-same file other h c d p q =
     λ z r s t u v w. record { kind = z; size = r; records = s; duration = t; count = u; patient_spaces = v; recording_spaces = w } in
     ap (λ z. made z l.size l.records l.duration l.count l.patient_spaces l.recording_spaces) ((read.head).kind ∙ sym (too.head).kind)
     ∙ ap (λ r. made m.kind r l.records l.duration l.count l.patient_spaces l.recording_spaces)
-    (one_plain_whole_number (f fixed.HeaderBytes) (g fixed.HeaderBytes) (pos (header_bytes h)) (whole_in xs 184 8 (pos (header_bytes h)) (omega arith) reatoo.size) (whole_in ys 184 8 (pos (header_bytes h)) (omega arith) too.size) p.size q.size)
+    (one_plain_whole_number (f fixed.HeaderBytes) (g fixed.HeaderBytes) (pos (header_bytes h)) (whole_in xs 184 8 (pos (header_bytes h)) (omega arith) read.size) (whole_in ys 184 8 (pos (header_bytes h)) (omega arith) too.size) p.size q.size)
     ∙ ap (λ s. made m.kind m.size s l.duration l.count l.patient_spaces l.recording_spaces)
     (one_plain_whole_number (f fixed.Records) (g fixed.Records) (pos h.records) (whole_in xs 236 8 (pos h.records) (omega arith) (read.head).records) (whole_in ys 236 8 (pos h.records) (omega arith) (too.head).records) p.records q.records)
     ∙ ap (λ t. made m.kind m.size m.records t l.count l.patient_spaces l.recording_spaces)
