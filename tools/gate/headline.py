@@ -58,7 +58,7 @@ GHOST = re.compile(r"^ *(?:(?:ensures|requires)\b *\w*|ghost \w+(?::| =)) *(?=\{
 TITLE = "What a Yes means"
 HEADLINE = "Headline"
 # with these begins what bytes say: they come behind all that an export keeps
-BYTES = ("Conforms", "HasHead", "HasNotes", "SaysRecord", "record_at", "lane_at", "digital_value", "day_number")
+BYTES = ("Conforms", "HasHead", "HasNotes", "SaysRecord", "record_at", "lane_of", "digital_value", "day_number")
 PARTS = ("What an export keeps", "What bytes say")
 # what stands right behind the headline: laws, each a clause of a call that does nothing
 LAWS = (

@@ -392,7 +392,7 @@ claimed-there : (original export : List ℕ) (claim : Terms) (o e : Sampled) (la
 claimed-there original export claim o e label at v a (y, is, named, same, value) =
     let h = head_of export in
     let channel = is.channel in
-    let there : HasChannel h label = (channel.0, record { there = has-at h.signals is.signal channel.0 channel.1; labelled = (channel.2.0 ∙ named, ap is_annotations (sym named) ∙ channel.2.1) }) in
+    let there : HasChannel h label = (is.signal, record { there = channel.there; labelled = (channel.labelled.0 ∙ named, ap is_annotations (sym named) ∙ channel.labelled.1) }) in
     let channels = a.channels in
     has-permutation (channel_labels h.signals) claim.channels label (IsPermutation-sym claim.channels (channel_labels h.signals) channels.in_export) (has-label h label there)
 

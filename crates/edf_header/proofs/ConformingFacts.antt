@@ -1,5 +1,6 @@
 -- A header has no fault exactly where it is in order.
 use Rattle.std.proofs.Common.{◌≡◌, ℕ, zero, suc, ℤ, pos, negsuc, ◌+◌, ◌*◌, ◌≤◌, ◌<◌, ◌≤ℤ◌, ◌&&◌, ◌||◌, not, nat_le, Bool, true, false, cond, List, [], ◌∷◌, ◌++◌, length, take, drop, slice_get, unwrap_or, option_map, Some, None, codes, refl, sym, ap, ◌∙◌, subst, arith, ◌≢◌}
+use Rattle.edf_header.proofs.PartsFacts.{HeaderInParts, in_parts, from_parts, head_in_parts}
 use Rattle.std.specs.Prelude.{◌*ℤ◌}
 use Rattle.edf_fields.specs.texts.Numbers.{SpellsWhole}
 use Rattle.std.specs.List.{All, list_any, list_all, position_from}
@@ -24,10 +25,10 @@ use Rattle.edf_fields.specs.declared.fields.layout.FixedField.{FixedField}
 use Rattle.edf_fields.specs.declared.fields.layout.FixedField.TheVariants as fixed
 use Rattle.edf_fields.specs.declared.fields.layout.SignalField.{SignalField}
 use Rattle.edf_fields.specs.declared.fields.layout.SignalField.TheVariants as signal
-use Rattle.edf_header.specs.signals.Channels.{IsChannel, HasDistinctChannels, channels_among}
-use Rattle.edf_header.specs.signals.ChannelsReading.{is_channel_of, label_at, is_repeated}
-use Rattle.edf_fields.specs.fields.Layout.{fixed_part, fixed_field, columns_part, signal_field}
-use Rattle.edf_fields.specs.fields.LayoutReading.{fixed_fields, columns, fixed_from, fixed_bytes, column_before, column_width}
+use Rattle.edf_header.specs.signals.Channels.{channels_among}
+use Rattle.edf_header.specs.signals.ChannelsReading.{is_channel_of, label_at, is_repeated, IsChannel, HasDistinctChannels}
+use Rattle.edf_fields.specs.fields.Layout.{fixed_field}
+use Rattle.edf_fields.specs.fields.LayoutReading.{fixed_fields, columns, fixed_from, fixed_bytes, column_before, column_width, fixed_part, columns_part, column_field}
 use Rattle.edf_header.specs.Heads.{SignalHead, Head, NamesStartdate, HasSignal, header_bytes, is_annotations, samples_together}
 use Rattle.edf_header.specs.HeadsReading.{count_of, line_of, recording_in, signals_of, signals_in, head_of}
 use Rattle.edf_header.specs.Faults.{truncated, fault_unless, not_printable, no_number, version_fault, patient_fault, recording_fault, startdate_fault, starttime_fault, header_bytes_fault, reserved_fault, records_fault, duration_fault, signals_fault, header_size_fault, text_fault, physical_fault, digital_fault, samples_fault, naming_faults, extreme_faults, sampling_faults, agreement_faults, signal_faults, no_annotation_signal, no_ordinary_signal, label_fault, labels_faults, record_too_large, joint_faults, fixed_missing, start_faults, extent_faults, fixed_tests, column_missing, columns_missing, signals_faults, columns_tests, header_fault}
@@ -40,7 +41,7 @@ use Rattle.edf_header.proofs.PassedFacts.{fault_unless-passed, number-passed}
 use Rattle.edf_header.proofs.fixed_part.StartdateFacts.{SayTheSame, startdate-read, same-passes}
 use Rattle.edf_header.proofs.PassingFacts.{fault_unless-true, version-passes, patient-passes, recording-passes, startdate-passes, starttime-passes, header_bytes-passes, reserved-passes, records-passes, duration-passes, signals-passes, header_size-passes, signals-pass-tests}
 use Rattle.edf_header.proofs.in_columns.ColumnFacts.{there, column-whole}
-use Rattle.edf_header.proofs.signals.ChannelFacts.{get-within, any-at, none-among}
+use Rattle.edf_header.proofs.signals.ChannelFacts.{get-within, any-at, none-among, channels_distinct}
 use Rattle.edf_header.proofs.SaidFacts.{recording_is}
 use Rattle.edf_header.proofs.signals.SignalFacts.{length-signals}
 use Rattle.edf_header.proofs.HeadFacts.{FixedPasses, fixed-passes, signals-passed, head-read, has-head, sound-head}
@@ -220,10 +221,10 @@ signals-at bytes n s (suc m) (suc k) h lt =
     subst (λ j. first (signal_faults bytes n j) ≡ None) next (signals-at bytes n (s + 1) m k (first-none (signal_faults bytes n s) (signals_faults bytes n (s + 1) m) h).1 (omega (arith, lt)))
 
 -- each field of a signal
-signal-printable : (bytes : List ℕ) (n s : ℕ) → first (signal_faults bytes n s) ≡ None → (field : SignalField) → IsPrintable (signal_field bytes n s field)
+signal-printable : (bytes : List ℕ) (n s : ℕ) → first (signal_faults bytes n s) ≡ None → (field : SignalField) → IsPrintable (column_field bytes n s field)
 unfolding text_fault physical_fault digital_fault samples_fault
 signal-printable bytes n s h field =
-    let at : SignalField → List ℕ = λ f. signal_field bytes n s f in
+    let at : SignalField → List ℕ = λ f. column_field bytes n s f in
     let together = agreement_faults s (at signal.Label) (line_of bytes n s) in
     let a = first-none (naming_faults bytes n s) (extreme_faults bytes n s ++ (sampling_faults bytes n s ++ together)) h in
     let b = first-none (extreme_faults bytes n s) (sampling_faults bytes n s ++ together) a.1 in
@@ -248,21 +249,21 @@ signal-printable bytes n s h field =
     let s2 = first-cons reserved [] s1.1 in
     printable-passed (AtSignal s field) (at field) (each field n0.0 n1.0 n2.0 e0.0 e1.0 e2.0 e3.0 s0.0 s1.0 s2.0)
   where
-    each : (f : SignalField) → text_fault s signal.Label (signal_field bytes n s signal.Label) ≡ None → text_fault s signal.Transducer (signal_field bytes n s signal.Transducer) ≡ None
-        → text_fault s signal.Dimension (signal_field bytes n s signal.Dimension) ≡ None → physical_fault s signal.PhysicalMinimum (signal_field bytes n s signal.PhysicalMinimum) ≡ None
-        → physical_fault s signal.PhysicalMaximum (signal_field bytes n s signal.PhysicalMaximum) ≡ None → digital_fault s signal.DigitalMinimum (signal_field bytes n s signal.DigitalMinimum) ≡ None
-        → digital_fault s signal.DigitalMaximum (signal_field bytes n s signal.DigitalMaximum) ≡ None → text_fault s signal.Prefilter (signal_field bytes n s signal.Prefilter) ≡ None
-        → samples_fault s (signal_field bytes n s signal.Samples) ≡ None → text_fault s signal.Reserved (signal_field bytes n s signal.Reserved) ≡ None
-        → not_printable (AtSignal s f) (signal_field bytes n s f) ≡ None
+    each : (f : SignalField) → text_fault s signal.Label (column_field bytes n s signal.Label) ≡ None → text_fault s signal.Transducer (column_field bytes n s signal.Transducer) ≡ None
+        → text_fault s signal.Dimension (column_field bytes n s signal.Dimension) ≡ None → physical_fault s signal.PhysicalMinimum (column_field bytes n s signal.PhysicalMinimum) ≡ None
+        → physical_fault s signal.PhysicalMaximum (column_field bytes n s signal.PhysicalMaximum) ≡ None → digital_fault s signal.DigitalMinimum (column_field bytes n s signal.DigitalMinimum) ≡ None
+        → digital_fault s signal.DigitalMaximum (column_field bytes n s signal.DigitalMaximum) ≡ None → text_fault s signal.Prefilter (column_field bytes n s signal.Prefilter) ≡ None
+        → samples_fault s (column_field bytes n s signal.Samples) ≡ None → text_fault s signal.Reserved (column_field bytes n s signal.Reserved) ≡ None
+        → not_printable (AtSignal s f) (column_field bytes n s f) ≡ None
     each signal.Label a0 a1 a2 b0 b1 b2 b3 d0 d1 d2 = a0
     each signal.Transducer a0 a1 a2 b0 b1 b2 b3 d0 d1 d2 = a1
     each signal.Dimension a0 a1 a2 b0 b1 b2 b3 d0 d1 d2 = a2
-    each signal.PhysicalMinimum a0 a1 a2 b0 b1 b2 b3 d0 d1 d2 = (first-cons (not_printable (AtSignal s signal.PhysicalMinimum) (signal_field bytes n s signal.PhysicalMinimum)) _ b0).0
-    each signal.PhysicalMaximum a0 a1 a2 b0 b1 b2 b3 d0 d1 d2 = (first-cons (not_printable (AtSignal s signal.PhysicalMaximum) (signal_field bytes n s signal.PhysicalMaximum)) _ b1).0
-    each signal.DigitalMinimum a0 a1 a2 b0 b1 b2 b3 d0 d1 d2 = (first-cons (not_printable (AtSignal s signal.DigitalMinimum) (signal_field bytes n s signal.DigitalMinimum)) _ b2).0
-    each signal.DigitalMaximum a0 a1 a2 b0 b1 b2 b3 d0 d1 d2 = (first-cons (not_printable (AtSignal s signal.DigitalMaximum) (signal_field bytes n s signal.DigitalMaximum)) _ b3).0
+    each signal.PhysicalMinimum a0 a1 a2 b0 b1 b2 b3 d0 d1 d2 = (first-cons (not_printable (AtSignal s signal.PhysicalMinimum) (column_field bytes n s signal.PhysicalMinimum)) _ b0).0
+    each signal.PhysicalMaximum a0 a1 a2 b0 b1 b2 b3 d0 d1 d2 = (first-cons (not_printable (AtSignal s signal.PhysicalMaximum) (column_field bytes n s signal.PhysicalMaximum)) _ b1).0
+    each signal.DigitalMinimum a0 a1 a2 b0 b1 b2 b3 d0 d1 d2 = (first-cons (not_printable (AtSignal s signal.DigitalMinimum) (column_field bytes n s signal.DigitalMinimum)) _ b2).0
+    each signal.DigitalMaximum a0 a1 a2 b0 b1 b2 b3 d0 d1 d2 = (first-cons (not_printable (AtSignal s signal.DigitalMaximum) (column_field bytes n s signal.DigitalMaximum)) _ b3).0
     each signal.Prefilter a0 a1 a2 b0 b1 b2 b3 d0 d1 d2 = d0
-    each signal.Samples a0 a1 a2 b0 b1 b2 b3 d0 d1 d2 = (first-cons (not_printable (AtSignal s signal.Samples) (signal_field bytes n s signal.Samples)) _ d1).0
+    each signal.Samples a0 a1 a2 b0 b1 b2 b3 d0 d1 d2 = (first-cons (not_printable (AtSignal s signal.Samples) (column_field bytes n s signal.Samples)) _ d1).0
     each signal.Reserved a0 a1 a2 b0 b1 b2 b3 d0 d1 d2 = d2
 
 -- the version and the size, as the tests say
@@ -296,9 +297,9 @@ length-all file n some h =
     let f = length-drop 256 file in
     omega (arith, e, f, some, h)
 
-pub passing-conforms : (file : List ℕ) → header_fault file ≡ None → HeaderConforms file (head_of file)
+passing-parts : (file : List ℕ) → header_fault file ≡ None → HeaderInParts file (head_of file)
 unfolding header_fault head_of
-passing-conforms file h =
+passing-parts file h =
     let front : List ℕ = fixed_part file in
     let n : ℕ = signals_of front in
     let bytes : List ℕ = columns_part n file in
@@ -315,7 +316,7 @@ passing-conforms file h =
       whole = subst (λ k. k ≤ length file) size (length-all file n some (columns-all n (length bytes) some b.0));
       front = fixed-printable front p;
       columns = λ s lt field.
-          let P : ℕ → Type 0 = λ k. IsPrintable (signal_field (columns_part k file) k s field) in
+          let P : ℕ → Type 0 = λ k. IsPrintable (column_field (columns_part k file) k s field) in
           let within : s < n = omega (arith, lt, long) in
           let here : 0 + s ≡ s = omega arith in
           let passed = subst (λ j. first (signal_faults bytes n j) ≡ None) here (signals-at bytes n 0 n s d.0 within) in
@@ -326,11 +327,14 @@ passing-conforms file h =
       standard = (sound-head file h).standard;
     }
 
+pub passing-conforms : (file : List ℕ) → header_fault file ≡ None → HeaderConforms file (head_of file)
+passing-conforms file h = from_parts file (head_of file) (passing-parts file h)
+
 units-count : (units : ℤ) → pos 1 ≤ℤ (units *ℤ pos 100000) → (k : ℕ) × (units ≡ pos k) × (1 ≤ k)
 units-count (pos k) h = (k, refl, omega (arith, ints, h))
 units-count (negsuc k) h = absurd (omega (arith, ints, h))
 
-fixed-pass : (file : List ℕ) (h : Head) → HeaderConforms file h → signals_of (fixed_part file) ≡ length h.signals → first (fixed_tests (fixed_part file)) ≡ None
+fixed-pass : (file : List ℕ) (h : Head) → HeaderInParts file h → signals_of (fixed_part file) ≡ length h.signals → first (fixed_tests (fixed_part file)) ≡ None
 fixed-pass file h c count =
     let front : List ℕ = fixed_part file in
     let at : FixedField → List ℕ = λ field. fixed_field front field in
@@ -376,7 +380,7 @@ fixed-pass file h c count =
     pass-append (fixed_missing fixed_fields (length front)) (start_faults front ++ extent_faults front) (fixed-there fixed_fields (length front) long)
     (pass-append (start_faults front) (extent_faults front) begins goes_on)
 
-columns-pass : (file : List ℕ) (h : Head) (n : ℕ) → HeaderConforms file h → n ≡ length h.signals → h.signals ≡ signals_in n (columns_part n file)
+columns-pass : (file : List ℕ) (h : Head) (n : ℕ) → HeaderInParts file h → n ≡ length h.signals → h.signals ≡ signals_in n (columns_part n file)
     → first (columns_tests n (columns_part n file)) ≡ None
 columns-pass file h n c count read =
     let bytes : List ℕ = columns_part n file in
@@ -386,21 +390,21 @@ columns-pass file h n c count read =
     let taken = length-take (256 * n) (drop 256 file) in
     let left = length-drop 256 file in
     let long : 256 * n ≤ length bytes = omega (arith, size, taken, left, count) in
-    let says : (k : ℕ) (head : SignalHead) → slice_get (signals_in n bytes) k ≡ Some head → HasSignal bytes n (0 + k) head = λ k head e.
-    let P : ℕ → Type 0 = λ m. HasSignal (columns_part m file) m (0 + k) head in
-    subst P (sym count) (subst (λ j. HasSignal (columns_part (length h.signals) file) (length h.signals) j head) (let at : k ≡ 0 + k = omega arith in at) (has.signals k head (ap (λ xs. slice_get xs k) read ∙ e))) in
-    let printable : (k : ℕ) → k < n → (field : SignalField) → IsPrintable (signal_field bytes n (0 + k) field) = λ k lt field.
-    let P : ℕ → Type 0 = λ m. IsPrintable (signal_field (columns_part m file) m (0 + k) field) in
-    subst P (sym count) (subst (λ j. IsPrintable (signal_field (columns_part (length h.signals) file) (length h.signals) j field)) (let at : k ≡ 0 + k = omega arith in at) (c.columns k (omega (arith, lt, count)) field)) in
+    let says : (k : ℕ) (head : SignalHead) → slice_get (signals_in n bytes) k ≡ Some head → HasSignal (column_field bytes n (0 + k)) head = λ k head e.
+    let P : ℕ → Type 0 = λ m. HasSignal (column_field (columns_part m file) m (0 + k)) head in
+    subst P (sym count) (subst (λ j. HasSignal (column_field (columns_part (length h.signals) file) (length h.signals) j) head) (let at : k ≡ 0 + k = omega arith in at) (has.signals k head (ap (λ xs. slice_get xs k) read ∙ e))) in
+    let printable : (k : ℕ) → k < n → (field : SignalField) → IsPrintable (column_field bytes n (0 + k) field) = λ k lt field.
+    let P : ℕ → Type 0 = λ m. IsPrintable (column_field (columns_part m file) m (0 + k) field) in
+    subst P (sym count) (subst (λ j. IsPrintable (column_field (columns_part (length h.signals) file) (length h.signals) j field)) (let at : k ≡ 0 + k = omega arith in at) (c.columns k (omega (arith, lt, count)) field)) in
     let joint : first (joint_faults (signals_in n bytes)) ≡ None =
-    subst (λ (xs : List SignalHead). first (joint_faults xs) ≡ None) read (joint-passes h.signals sound.annotations sound.channel sound.distinct sound.small_record) in
+    subst (λ (xs : List SignalHead). first (joint_faults xs) ≡ None) read (joint-passes h.signals sound.annotations sound.channel (channels_distinct h.signals sound.distinct) sound.small_record) in
     pass-append (columns_missing columns n (length bytes)) (signals_faults bytes n 0 n ++ joint_faults (signals_in n bytes)) (columns-there columns n (length bytes) long)
     (pass-append (signals_faults bytes n 0 n) (joint_faults (signals_in n bytes))
     (signals-pass-tests bytes n 0 0 n says (subst (λ (xs : List SignalHead). All IsSoundSignal xs) read sound.signals) printable) joint)
 
-conforming-passes : (file : List ℕ) (h : Head) → HeaderConforms file h → header_fault file ≡ None
+parts-pass : (file : List ℕ) (h : Head) → HeaderInParts file h → header_fault file ≡ None
 unfolding header_fault head_of
-conforming-passes file h c =
+parts-pass file h c =
     let front : List ℕ = fixed_part file in
     let n : ℕ = signals_of front in
     let has = c.head in
@@ -408,8 +412,11 @@ conforming-passes file h c =
     let read : h.signals ≡ signals_in n (columns_part n file) = ap (λ (g : Head). g.signals) (head-read file h has) in
     pass-append (fixed_tests front) (columns_tests n (columns_part n file)) (fixed-pass file h c count) (columns-pass file h n c count read)
 
+conforming-passes : (file : List ℕ) (h : Head) → HeaderConforms file h → header_fault file ≡ None
+conforming-passes file h c = parts-pass file h (in_parts file h c)
+
 pub passing_is_conforming : PassingIsConforming
 passing_is_conforming file = (λ h. (head_of file, passing-conforms file h), λ found. conforming-passes file found.0 found.1)
 
 pub conforming_is_sound : ConformingIsSound
-conforming_is_sound file h c = subst IsSound (sym (head-read file h c.head)) (sound-head file (conforming-passes file h c))
+conforming_is_sound file h c = subst IsSound (sym (head-read file h (head_in_parts file h c.head))) (sound-head file (conforming-passes file h c))

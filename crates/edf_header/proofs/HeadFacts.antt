@@ -1,5 +1,6 @@
 -- The header that bytes spell: a file that passes its tests has one, and no file has two.
 use Rattle.std.proofs.Common.{◌≡◌, ℕ, zero, suc, ℤ, pos, ◌+◌, ◌*◌, ◌≤◌, ◌||◌, take, Bool, true, false, cond, List, [], ◌∷◌, ◌++◌, length, slice_get, unwrap_or, Option, Some, None, codes, refl, sym, ap, ◌∙◌, subst, arith, ◌<◌, ◌≤ℤ◌, ◌^◌, unsigned_abs}
+use Rattle.edf_header.proofs.PartsFacts.{HeadInParts, head_in_parts, head_from_parts}
 use Rattle.std.specs.Prelude.{◌*ℤ◌}
 use Rattle.edf_fields.specs.texts.Numbers.{SpellsWhole}
 use Rattle.std.specs.Str.{bytes_eq}
@@ -20,9 +21,9 @@ use Rattle.edf_header.specs.declared.kind.Kind.TheVariants.{Contiguous, Interrup
 use Rattle.edf_fields.specs.declared.fields.layout.FixedField.TheVariants as fixed
 use Rattle.edf_fields.specs.declared.fields.layout.SignalField.TheVariants as signal
 use Rattle.edf_header.specs.signals.Calibrations.{Line}
-use Rattle.edf_fields.specs.fields.Layout.{fixed_part, fixed_field, columns_part, signal_field}
-use Rattle.edf_fields.specs.fields.LayoutReading.{fixed_fields, columns}
-use Rattle.edf_header.specs.Heads.{SignalHead, Head, HasSignal, HasHead, NamesStartdate, AreSideBySide, kind_word, day_number}
+use Rattle.edf_fields.specs.fields.Layout.{fixed_field}
+use Rattle.edf_fields.specs.fields.LayoutReading.{fixed_fields, columns, fixed_part, columns_part, column_field}
+use Rattle.edf_header.specs.Heads.{SignalHead, Head, HasSignal, NamesStartdate, AreSideBySide, kind_word, day_number}
 use Rattle.edf_header.specs.HeadsReading.{HasOneHead, startdate_of, kind_of, count_of, first_day, recording_in, signals_of, line_of, signal_of, signals_from, signals_in, head_in, head_of}
 use Rattle.edf_header.specs.ConformingLaws.{PassingHasHead, PassingIsSound}
 use Rattle.edf_header.specs.Sound.{IsSound}
@@ -47,32 +48,32 @@ spelled-whole field v e = subst (λ o. SpellsWholeNumber field (unwrap_or o (pos
 spelled-count : (field : List ℕ) (n : ℕ) → whole_number_of field ≡ Some (pos n) → SpellsWholeNumber field (pos (count_of (whole_number_of field)))
 spelled-count field n e = subst (λ o. SpellsWholeNumber field (pos (count_of o))) (sym e) (whole_number_of-some field (pos n) e)
 
-pub passes-says : (bytes : List ℕ) (n s before : ℕ) → Passes bytes n s → HasSignal bytes n s (signal_of bytes n s before)
+pub passes-says : (bytes : List ℕ) (n s before : ℕ) → Passes bytes n s → HasSignal (column_field bytes n s) (signal_of bytes n s before)
 passes-says bytes n s before p = record {
   label = refl;
   transducer = refl;
   dimension = refl;
-  physical_minimum = (spelled (signal_field bytes n s signal.PhysicalMinimum) (p.physical_minimum).0 (p.physical_minimum).1).1;
-  physical_maximum = (spelled (signal_field bytes n s signal.PhysicalMaximum) (p.physical_maximum).0 (p.physical_maximum).1).1;
-  digital_minimum = (spelled-whole (signal_field bytes n s signal.DigitalMinimum) (p.digital_minimum).0 (p.digital_minimum).1).1;
-  digital_maximum = (spelled-whole (signal_field bytes n s signal.DigitalMaximum) (p.digital_maximum).0 (p.digital_maximum).1).1;
+  physical_minimum = (spelled (column_field bytes n s signal.PhysicalMinimum) (p.physical_minimum).0 (p.physical_minimum).1).1;
+  physical_maximum = (spelled (column_field bytes n s signal.PhysicalMaximum) (p.physical_maximum).0 (p.physical_maximum).1).1;
+  digital_minimum = (spelled-whole (column_field bytes n s signal.DigitalMinimum) (p.digital_minimum).0 (p.digital_minimum).1).1;
+  digital_maximum = (spelled-whole (column_field bytes n s signal.DigitalMaximum) (p.digital_maximum).0 (p.digital_maximum).1).1;
   prefilter = refl;
-  samples = (spelled-count (signal_field bytes n s signal.Samples) (p.samples).0 (p.samples).1).1;
+  samples = (spelled-count (column_field bytes n s signal.Samples) (p.samples).0 (p.samples).1).1;
   reserved = refl;
 }
 
 pub has-signals : (bytes : List ℕ) (n s before m : ℕ) → first (signals_faults bytes n s m) ≡ None
-    → (k : ℕ) (head : SignalHead) → slice_get (signals_from bytes n s before m) k ≡ Some head → HasSignal bytes n (s + k) head
+    → (k : ℕ) (head : SignalHead) → slice_get (signals_from bytes n s before m) k ≡ Some head → HasSignal (column_field bytes n (s + k)) head
 has-signals bytes n s before zero h k head e = absurd (let z : None ≡ Some head = e in cc)
 has-signals bytes n s before (suc m) h zero head e =
     let parts = first-none (signal_faults bytes n s) (signals_faults bytes n (s + 1) m) h in
     let z : signal_of bytes n s before ≡ head = (let j : Some (signal_of bytes n s before) ≡ Some head = e in cc) in
     let at : s ≡ s + 0 = omega arith in
-    subst (λ k. HasSignal bytes n k head) at (subst (λ (x : SignalHead). HasSignal bytes n s x) z (passes-says bytes n s before (signal-passes bytes n s parts.0)))
+    subst (λ k. HasSignal (column_field bytes n k) head) at (subst (λ (x : SignalHead). HasSignal (column_field bytes n s) x) z (passes-says bytes n s before (signal-passes bytes n s parts.0)))
 has-signals bytes n s before (suc m) h (suc k) head e =
     let parts = first-none (signal_faults bytes n s) (signals_faults bytes n (s + 1) m) h in
     let at : s + 1 + k ≡ s + suc k = omega arith in
-    subst (λ j. HasSignal bytes n j head) at (has-signals bytes n (s + 1) (before + 2 * (signal_of bytes n s before).samples) m parts.1 k head e)
+    subst (λ j. HasSignal (column_field bytes n j) head) at (has-signals bytes n (s + 1) (before + 2 * (signal_of bytes n s before).samples) m parts.1 k head e)
 
 -- the kind of a file that is an EDF+ file
 kind-cases : (xs : List ℕ) (b d : Bool) → bytes_eq xs (codes "EDF+C") ≡ b → bytes_eq xs (codes "EDF+D") ≡ d → (b || d) ≡ true → xs ≡ kind_word (cond b Contiguous Interrupted)
@@ -185,7 +186,7 @@ fixed-passes front h =
     let d5 = first-cons whole [] d4.1 in
     record { version = c0.0; patient = c1.0; recording = c2.0; startdate = c3.0; starttime = c4.0; size = d0.0; reserved = d1.0; records = d2.0; duration = d3.0; signals = d4.0; whole = d5.0 }
 
-pub has-head : (file : List ℕ) → header_fault file ≡ None → HasHead file (head_of file)
+pub has-head : (file : List ℕ) → header_fault file ≡ None → HeadInParts file (head_of file)
 unfolding header_fault head_of
 has-head file h =
     let front : List ℕ = fixed_part file in
@@ -215,8 +216,8 @@ has-head file h =
           (spelled (fixed_field front fixed.Duration) (pos duration.0) duration.1);
       count = subst (λ k. SpellsWhole (text_of (fixed_field front fixed.Signals)) (pos k)) (sym long) (spelled-count (fixed_field front fixed.Signals) signals.0 signals.1).1;
       signals = λ s head e.
-          subst (λ k. HasSignal (columns_part k file) k s head) (sym long)
-          (subst (λ k. HasSignal bytes n k head) (let at : 0 + s ≡ s = omega arith in at) (has-signals bytes n 0 0 n c1.0 s head e));
+          subst (λ k. HasSignal (column_field (columns_part k file) k s) head) (sym long)
+          (subst (λ k. HasSignal (column_field bytes n k) head) (let at : 0 + s ≡ s = omega arith in at) (has-signals bytes n 0 0 n c1.0 s head e));
       offsets = side-by-side bytes n 0 0 n;
     }
 
@@ -238,13 +239,13 @@ read-whole field v h = sym (ap (λ o. unwrap_or o (pos 0)) (whole_number_of-spel
 read-count : (field : List ℕ) (n : ℕ) → SpellsWholeNumber field (pos n) → n ≡ count_of (whole_number_of field)
 read-count field n h = sym (ap count_of (whole_number_of-spelled field (pos n) h))
 
-pub signal-read : (bytes : List ℕ) (n s before : ℕ) (head : SignalHead) → HasSignal bytes n s head → head.offset ≡ before → head ≡ signal_of bytes n s before
+pub signal-read : (bytes : List ℕ) (n s before : ℕ) (head : SignalHead) → HasSignal (column_field bytes n s) head → head.offset ≡ before → head ≡ signal_of bytes n s before
 signal-read bytes n s before head h e =
     let line = same-line head.calibration (line_of bytes n s)
-    (read-number (signal_field bytes n s signal.PhysicalMinimum) head.calibration.physical_minimum (decimal_in bytes (104 * n + 8 * s) 8 head.calibration.physical_minimum (omega arith) h.physical_minimum))
-    (read-number (signal_field bytes n s signal.PhysicalMaximum) head.calibration.physical_maximum (decimal_in bytes (112 * n + 8 * s) 8 head.calibration.physical_maximum (omega arith) h.physical_maximum))
-    (read-whole (signal_field bytes n s signal.DigitalMinimum) head.calibration.digital_minimum (whole_in bytes (120 * n + 8 * s) 8 head.calibration.digital_minimum (omega arith) h.digital_minimum))
-    (read-whole (signal_field bytes n s signal.DigitalMaximum) head.calibration.digital_maximum (whole_in bytes (128 * n + 8 * s) 8 head.calibration.digital_maximum (omega arith) h.digital_maximum)) in
+    (read-number (column_field bytes n s signal.PhysicalMinimum) head.calibration.physical_minimum (decimal_in bytes (104 * n + 8 * s) 8 head.calibration.physical_minimum (omega arith) h.physical_minimum))
+    (read-number (column_field bytes n s signal.PhysicalMaximum) head.calibration.physical_maximum (decimal_in bytes (112 * n + 8 * s) 8 head.calibration.physical_maximum (omega arith) h.physical_maximum))
+    (read-whole (column_field bytes n s signal.DigitalMinimum) head.calibration.digital_minimum (whole_in bytes (120 * n + 8 * s) 8 head.calibration.digital_minimum (omega arith) h.digital_minimum))
+    (read-whole (column_field bytes n s signal.DigitalMaximum) head.calibration.digital_maximum (whole_in bytes (128 * n + 8 * s) 8 head.calibration.digital_maximum (omega arith) h.digital_maximum)) in
     let made : List ℕ → List ℕ → List ℕ → List ℕ → List ℕ → Line → ℕ → ℕ → SignalHead =
     λ a b d p r l k o. record { label = a; transducer = b; dimension = d; prefilter = p; reserved = r; calibration = l; samples = k; offset = o } in
     let t : SignalHead = signal_of bytes n s before in
@@ -254,22 +255,22 @@ signal-read bytes n s before head h e =
     ∙ ap (λ p. made t.label t.transducer t.dimension p head.reserved head.calibration head.samples head.offset) h.prefilter
     ∙ ap (λ r. made t.label t.transducer t.dimension t.prefilter r head.calibration head.samples head.offset) h.reserved
     ∙ ap (λ l. made t.label t.transducer t.dimension t.prefilter t.reserved l head.samples head.offset) line
-    ∙ ap (λ k. made t.label t.transducer t.dimension t.prefilter t.reserved t.calibration k head.offset) (read-count (signal_field bytes n s signal.Samples) head.samples (whole_in bytes (216 * n + 8 * s) 8 (pos head.samples) (omega arith) h.samples))
+    ∙ ap (λ k. made t.label t.transducer t.dimension t.prefilter t.reserved t.calibration k head.offset) (read-count (column_field bytes n s signal.Samples) head.samples (whole_in bytes (216 * n + 8 * s) 8 (pos head.samples) (omega arith) h.samples))
     ∙ ap (λ o. made t.label t.transducer t.dimension t.prefilter t.reserved t.calibration t.samples o) e
 
-signals-read : (bytes : List ℕ) (n s before : ℕ) (heads : List SignalHead) → ((k : ℕ) (head : SignalHead) → slice_get heads k ≡ Some head → HasSignal bytes n (s + k) head)
+signals-read : (bytes : List ℕ) (n s before : ℕ) (heads : List SignalHead) → ((k : ℕ) (head : SignalHead) → slice_get heads k ≡ Some head → HasSignal (column_field bytes n (s + k)) head)
     → AreSideBySide before heads → heads ≡ signals_from bytes n s before (length heads)
 signals-read bytes n s before [] each beside = refl
 signals-read bytes n s before (head ∷ heads) each beside =
-    let first-one : HasSignal bytes n s head = subst (λ k. HasSignal bytes n k head) (let at : s + 0 ≡ s = omega arith in at) (each 0 head refl) in
+    let first-one : HasSignal (column_field bytes n s) head = subst (λ k. HasSignal (column_field bytes n k) head) (let at : s + 0 ≡ s = omega arith in at) (each 0 head refl) in
     let here : head ≡ signal_of bytes n s before = signal-read bytes n s before head first-one beside.0 in
     let rest = signals-read bytes n (s + 1) (before + 2 * head.samples) heads
-    (λ k other e. subst (λ j. HasSignal bytes n j other) (let at : s + suc k ≡ s + 1 + k = omega arith in at) (each (suc k) other e)) beside.1 in
+    (λ k other e. subst (λ j. HasSignal (column_field bytes n j) other) (let at : s + suc k ≡ s + 1 + k = omega arith in at) (each (suc k) other e)) beside.1 in
     ap (λ xs. head ∷ xs) rest
     ∙ ap (λ (x : SignalHead). x ∷ signals_from bytes n (s + 1) (before + 2 * x.samples) (length heads)) here
 
 -- the header that the file has is the one that is read of it
-pub head-read : (file : List ℕ) (h : Head) → HasHead file h → h ≡ head_of file
+pub head-read : (file : List ℕ) (h : Head) → HeadInParts file h → h ≡ head_of file
 unfolding head_of
 head-read file h has =
     let front : List ℕ = fixed_part file in
@@ -277,7 +278,7 @@ head-read file h has =
     let count : length h.signals ≡ signals_of front = read-count (fixed_field front fixed.Signals) (length h.signals) (whole_in front 252 4 (pos (length h.signals)) (omega arith) has.count) in
     let signals : h.signals ≡ t.signals =
     signals-read (columns_part (length h.signals) file) (length h.signals) 0 0 h.signals
-    (λ k head e. subst (λ j. HasSignal (columns_part (length h.signals) file) (length h.signals) j head) (let at : k ≡ 0 + k = omega arith in at) (has.signals k head e)) has.offsets
+    (λ k head e. subst (λ j. HasSignal (column_field (columns_part (length h.signals) file) (length h.signals) j) head) (let at : k ≡ 0 + k = omega arith in at) (has.signals k head e)) has.offsets
     ∙ ap (λ k. signals_in k (columns_part k file)) count in
     let recorded : h.recording.date ≡ t.recording.date = ap (λ r. r.date) (recording_is (fixed_field front fixed.Recording) h.recording has.recording) in
     let day : h.day ≡ t.day = day-read (text_of (fixed_field front fixed.Startdate)) t.recording.date h.day (subst (λ date. NamesStartdate (text_of (fixed_field front fixed.Startdate)) date h.day) recorded has.day) in
@@ -303,10 +304,10 @@ head-read file h has =
     clock-read text n named = ap (λ o. unwrap_or o 0) (clock_time_read (Some n) text named)
 
 pub one_head : HasOneHead
-one_head file h g has has2 = head-read file h has ∙ sym (head-read file g has2)
+one_head file h g has has2 = head-read file h (head_in_parts file h has) ∙ sym (head-read file g (head_in_parts file g has2))
 
 pub passing_has_head : PassingHasHead
-passing_has_head file h = has-head file h
+passing_has_head file h = head_from_parts file (head_of file) (has-head file h)
 
 -- the bounds of a time, a count and a duration that were read
 early-time : (field : List ℕ) (s : ℕ) → clock_time_of (text_of field) ≡ Some s → unwrap_or (clock_time_of (text_of field)) 0 < 86400

@@ -3,6 +3,7 @@ pub mod FirstFacts
 pub mod ForCallers
 pub mod HeadFacts
 pub mod KeptFacts
+pub mod PartsFacts
 pub mod PassedFacts
 pub mod PassingFacts
 pub mod ReadFacts

@@ -24,7 +24,7 @@ use Rattle.edf_fields.specs.declared.fields.layout.FixedField.TheVariants as fix
 use Rattle.edf_fields.specs.declared.fields.layout.SignalField.{SignalField}
 use Rattle.edf_fields.specs.declared.fields.layout.SignalField.TheVariants as signal
 use Rattle.edf_header.specs.signals.Calibrations.{Line}
-use Rattle.edf_fields.specs.fields.Layout.{signal_field}
+use Rattle.edf_fields.specs.fields.LayoutReading.{column_field}
 use Rattle.edf_header.specs.Heads.{SignalHead, HasSignal, kind_word, is_annotations}
 use Rattle.edf_header.specs.HeadsReading.{startdate_of, line_of, signal_of, signals_from}
 use Rattle.edf_header.specs.Faults.{fault_unless, not_printable, no_number, not_within, not_positive, not_named, not_read, is_same_start, start_tests, version_fault, patient_fault, recording_fault, startdate_fault, starttime_fault, header_bytes_fault, reserved_fault, records_fault, duration_fault, signals_fault, header_size_fault, text_fault, physical_fault, digital_fault, samples_fault, digital_order_fault, physical_differ_fault, annotation_fault, naming_faults, extreme_faults, sampling_faults, agreement_faults, signal_faults, signals_faults}
@@ -188,10 +188,10 @@ annotation-passes s label line h =
     either true b f = f refl
     either false b f = refl
 
-pub signal-passes-tests : (bytes : List ℕ) (n s before : ℕ) → HasSignal bytes n s (signal_of bytes n s before) → IsSoundSignal (signal_of bytes n s before)
-    → ((field : SignalField) → IsPrintable (signal_field bytes n s field)) → first (signal_faults bytes n s) ≡ None
+pub signal-passes-tests : (bytes : List ℕ) (n s before : ℕ) → HasSignal (column_field bytes n s) (signal_of bytes n s before) → IsSoundSignal (signal_of bytes n s before)
+    → ((field : SignalField) → IsPrintable (column_field bytes n s field)) → first (signal_faults bytes n s) ≡ None
 signal-passes-tests bytes n s before says sound p =
-    let at : SignalField → List ℕ = λ field. signal_field bytes n s field in
+    let at : SignalField → List ℕ = λ field. column_field bytes n s field in
     let line : Line = line_of bytes n s in
     let low = sound.low in
     let high = sound.high in
@@ -228,9 +228,9 @@ signal-passes-tests bytes n s before says sound p =
     (pass-append (sampling_faults bytes n s) (agreement_faults s (at signal.Label) line) sampling agreement))
 
 pub signals-pass-tests : (bytes : List ℕ) (n s before m : ℕ)
-    → ((k : ℕ) (head : SignalHead) → slice_get (signals_from bytes n s before m) k ≡ Some head → HasSignal bytes n (s + k) head)
+    → ((k : ℕ) (head : SignalHead) → slice_get (signals_from bytes n s before m) k ≡ Some head → HasSignal (column_field bytes n (s + k)) head)
     → All IsSoundSignal (signals_from bytes n s before m)
-    → ((k : ℕ) → k < m → (field : SignalField) → IsPrintable (signal_field bytes n (s + k) field))
+    → ((k : ℕ) → k < m → (field : SignalField) → IsPrintable (column_field bytes n (s + k) field))
     → first (signals_faults bytes n s m) ≡ None
 signals-pass-tests bytes n s before zero says sound p = refl
 signals-pass-tests bytes n s before (suc m) says sound p =
@@ -239,9 +239,9 @@ signals-pass-tests bytes n s before (suc m) says sound p =
     let here : s + 0 ≡ s = omega arith in
     let next : (k : ℕ) → s + suc k ≡ s + 1 + k = λ k. omega arith in
     pass-append (signal_faults bytes n s) (signals_faults bytes n (s + 1) m)
-    (signal-passes-tests bytes n s before (subst (λ j. HasSignal bytes n j head) here (says 0 head refl)) (sound 0 head (omega arith))
-    (λ field. subst (λ j. IsPrintable (signal_field bytes n j field)) here (p 0 (omega arith) field)))
+    (signal-passes-tests bytes n s before (subst (λ j. HasSignal (column_field bytes n j) head) here (says 0 head refl)) (sound 0 head (omega arith))
+    (λ field. subst (λ j. IsPrintable (column_field bytes n j field)) here (p 0 (omega arith) field)))
     (signals-pass-tests bytes n (s + 1) after m
-    (λ k other e. subst (λ j. HasSignal bytes n j other) (next k) (says (suc k) other e))
+    (λ k other e. subst (λ j. HasSignal (column_field bytes n j) other) (next k) (says (suc k) other e))
     (λ k d lt. sound (suc k) d (omega arith))
-    (λ k lt field. subst (λ j. IsPrintable (signal_field bytes n j field)) (next k) (p (suc k) (omega arith) field)))
+    (λ k lt field. subst (λ j. IsPrintable (column_field bytes n j field)) (next k) (p (suc k) (omega arith) field)))

@@ -9,7 +9,8 @@ use Rattle.edf_fields.specs.texts.Identifications.{Patient, Recording}
 use Rattle.edf_fields.specs.texts.Dates.{CivilDay}
 use Rattle.edf_fields.specs.Parts.{text_of}
 use Rattle.edf_fields.specs.declared.fields.layout.FixedField.TheVariants as fixed
-use Rattle.edf_fields.specs.fields.Layout.{fixed_part, fixed_field, columns_part}
+use Rattle.edf_fields.specs.fields.Layout.{fixed_field}
+use Rattle.edf_fields.specs.fields.LayoutReading.{fixed_part, columns_part}
 use Rattle.edf_header.specs.Faults.{fixed_tests, fixed_fault, columns_tests, header_fault}
 use Rattle.edf_fields.specs.Tests.{first}
 use Rattle.edf_header.specs.Heads.{SignalHead, Head, header_bytes}

@@ -14,8 +14,7 @@ use Rattle.edf_fields.specs.declared.fields.layout.SignalField.TheVariants as si
 use Rattle.edf_fields.specs.declared.faults.fault.Place.TheVariants.{AtSignal}
 use Rattle.edf_fields.specs.declared.faults.fault.Cause.TheVariants.{BadRange, BadAnnotationSignal}
 use Rattle.edf_header.specs.signals.Calibrations.{Line}
-use Rattle.edf_fields.specs.fields.Layout.{signal_field}
-use Rattle.edf_fields.specs.fields.LayoutReading.{column_before}
+use Rattle.edf_fields.specs.fields.LayoutReading.{column_before, column_field}
 use Rattle.edf_header.specs.Heads.{AreSideBySide, is_annotations}
 use Rattle.edf_header.specs.HeadsReading.{line_of, signal_of, signals_from}
 use Rattle.edf_header.specs.Faults.{text_fault, physical_fault, digital_fault, samples_fault, digital_order_fault, physical_differ_fault, annotation_fault, naming_faults, extreme_faults, sampling_faults, agreement_faults, signal_faults, signals_faults}
@@ -59,44 +58,44 @@ annotation-passed s label line h e =
 
 -- what the tests of signal s say of its fields
 pub record Passes (bytes : List ℕ) (n s : ℕ) : Type 0 where
-  pub physical_minimum : (v : ℤ) × (header_number_of (signal_field bytes n s signal.PhysicalMinimum) ≡ Some v)
-  pub physical_maximum : (v : ℤ) × (header_number_of (signal_field bytes n s signal.PhysicalMaximum) ≡ Some v)
-  pub digital_minimum : (v : ℤ) × (whole_number_of (signal_field bytes n s signal.DigitalMinimum) ≡ Some v) × (neg_ℤ (pos 32768) ≤ℤ v) × (v ≤ℤ pos 32767)
-  pub digital_maximum : (v : ℤ) × (whole_number_of (signal_field bytes n s signal.DigitalMaximum) ≡ Some v) × (neg_ℤ (pos 32768) ≤ℤ v) × (v ≤ℤ pos 32767)
-  pub samples : (k : ℕ) × (whole_number_of (signal_field bytes n s signal.Samples) ≡ Some (pos k)) × (1 ≤ k)
+  pub physical_minimum : (v : ℤ) × (header_number_of (column_field bytes n s signal.PhysicalMinimum) ≡ Some v)
+  pub physical_maximum : (v : ℤ) × (header_number_of (column_field bytes n s signal.PhysicalMaximum) ≡ Some v)
+  pub digital_minimum : (v : ℤ) × (whole_number_of (column_field bytes n s signal.DigitalMinimum) ≡ Some v) × (neg_ℤ (pos 32768) ≤ℤ v) × (v ≤ℤ pos 32767)
+  pub digital_maximum : (v : ℤ) × (whole_number_of (column_field bytes n s signal.DigitalMaximum) ≡ Some v) × (neg_ℤ (pos 32768) ≤ℤ v) × (v ≤ℤ pos 32767)
+  pub samples : (k : ℕ) × (whole_number_of (column_field bytes n s signal.Samples) ≡ Some (pos k)) × (1 ≤ k)
   pub order : digital_order_fault s (line_of bytes n s) ≡ None
   pub differ : physical_differ_fault s (line_of bytes n s) ≡ None
-  pub annotations : annotation_fault s (signal_field bytes n s signal.Label) (line_of bytes n s) ≡ None
+  pub annotations : annotation_fault s (column_field bytes n s signal.Label) (line_of bytes n s) ≡ None
 
 pub signal-passes : (bytes : List ℕ) (n s : ℕ) → first (signal_faults bytes n s) ≡ None → Passes bytes n s
 signal-passes bytes n s h =
-    let together = agreement_faults s (signal_field bytes n s signal.Label) (line_of bytes n s) in
+    let together = agreement_faults s (column_field bytes n s signal.Label) (line_of bytes n s) in
     let a = first-none (naming_faults bytes n s) (extreme_faults bytes n s ++ (sampling_faults bytes n s ++ together)) h in
     let b = first-none (extreme_faults bytes n s) (sampling_faults bytes n s ++ together) a.1 in
     let d = first-none (sampling_faults bytes n s) together b.1 in
-    let plow = physical_fault s signal.PhysicalMinimum (signal_field bytes n s signal.PhysicalMinimum) in
-    let phigh = physical_fault s signal.PhysicalMaximum (signal_field bytes n s signal.PhysicalMaximum) in
-    let dlow = digital_fault s signal.DigitalMinimum (signal_field bytes n s signal.DigitalMinimum) in
-    let dhigh = digital_fault s signal.DigitalMaximum (signal_field bytes n s signal.DigitalMaximum) in
-    let count = samples_fault s (signal_field bytes n s signal.Samples) in
-    let reserved = text_fault s signal.Reserved (signal_field bytes n s signal.Reserved) in
-    let annotation = annotation_fault s (signal_field bytes n s signal.Label) (line_of bytes n s) in
+    let plow = physical_fault s signal.PhysicalMinimum (column_field bytes n s signal.PhysicalMinimum) in
+    let phigh = physical_fault s signal.PhysicalMaximum (column_field bytes n s signal.PhysicalMaximum) in
+    let dlow = digital_fault s signal.DigitalMinimum (column_field bytes n s signal.DigitalMinimum) in
+    let dhigh = digital_fault s signal.DigitalMaximum (column_field bytes n s signal.DigitalMaximum) in
+    let count = samples_fault s (column_field bytes n s signal.Samples) in
+    let reserved = text_fault s signal.Reserved (column_field bytes n s signal.Reserved) in
+    let annotation = annotation_fault s (column_field bytes n s signal.Label) (line_of bytes n s) in
     let differ = physical_differ_fault s (line_of bytes n s) in
     let e0 = first-cons plow (phigh ∷ dlow ∷ dhigh ∷ []) b.0 in
     let e1 = first-cons phigh (dlow ∷ dhigh ∷ []) e0.1 in
     let e2 = first-cons dlow (dhigh ∷ []) e1.1 in
     let e3 = first-cons dhigh [] e2.1 in
-    let s0 = first-cons (text_fault s signal.Prefilter (signal_field bytes n s signal.Prefilter)) (count ∷ reserved ∷ []) d.0 in
+    let s0 = first-cons (text_fault s signal.Prefilter (column_field bytes n s signal.Prefilter)) (count ∷ reserved ∷ []) d.0 in
     let s1 = first-cons count (reserved ∷ []) s0.1 in
     let t0 = first-cons (digital_order_fault s (line_of bytes n s)) (differ ∷ annotation ∷ []) d.1 in
     let t1 = first-cons differ (annotation ∷ []) t0.1 in
     let t2 = first-cons annotation [] t1.1 in
     record {
-      physical_minimum = physical-passed s signal.PhysicalMinimum (signal_field bytes n s signal.PhysicalMinimum) e0.0;
-      physical_maximum = physical-passed s signal.PhysicalMaximum (signal_field bytes n s signal.PhysicalMaximum) e1.0;
-      digital_minimum = digital-passed s signal.DigitalMinimum (signal_field bytes n s signal.DigitalMinimum) e2.0;
-      digital_maximum = digital-passed s signal.DigitalMaximum (signal_field bytes n s signal.DigitalMaximum) e3.0;
-      samples = samples-passed s (signal_field bytes n s signal.Samples) s1.0;
+      physical_minimum = physical-passed s signal.PhysicalMinimum (column_field bytes n s signal.PhysicalMinimum) e0.0;
+      physical_maximum = physical-passed s signal.PhysicalMaximum (column_field bytes n s signal.PhysicalMaximum) e1.0;
+      digital_minimum = digital-passed s signal.DigitalMinimum (column_field bytes n s signal.DigitalMinimum) e2.0;
+      digital_maximum = digital-passed s signal.DigitalMaximum (column_field bytes n s signal.DigitalMaximum) e3.0;
+      samples = samples-passed s (column_field bytes n s signal.Samples) s1.0;
       order = t0.0;
       differ = t1.0;
       annotations = t2.0;
@@ -124,14 +123,14 @@ passes-sound bytes n s before p = record {
   order = order-passed s (line_of bytes n s) p.order;
   differ = differ-passed s (line_of bytes n s) p.differ;
   some_samples = rw (p.samples).1 (p.samples).2;
-  annotations = λ e. annotation-passed s (signal_field bytes n s signal.Label) (line_of bytes n s) p.annotations e;
+  annotations = λ e. annotation-passed s (column_field bytes n s signal.Label) (line_of bytes n s) p.annotations e;
 }
 
 passes-short : (bytes : List ℕ) (n s before : ℕ) → Passes bytes n s → HasShortNumbers (signal_of bytes n s before)
 passes-short bytes n s before p = record {
   extremes = record {
-    small_minimum = number-small (signal_field bytes n s signal.PhysicalMinimum) (p.physical_minimum).0 (p.physical_minimum).1;
-    small_maximum = number-small (signal_field bytes n s signal.PhysicalMaximum) (p.physical_maximum).0 (p.physical_maximum).1;
+    small_minimum = number-small (column_field bytes n s signal.PhysicalMinimum) (p.physical_minimum).0 (p.physical_minimum).1;
+    small_maximum = number-small (column_field bytes n s signal.PhysicalMaximum) (p.physical_maximum).0 (p.physical_maximum).1;
   };
   few_samples = rw (p.samples).1 (count-below bytes (column_before signal.Samples * n + 8 * s) 8 (p.samples).0 (p.samples).1);
 }

@@ -22,8 +22,8 @@ use Rattle.edf_fields.specs.declared.fields.layout.SignalField.{SignalField}
 use Rattle.edf_fields.specs.declared.fields.layout.SignalField.TheVariants as signal
 use Rattle.edf_header.specs.signals.Calibrations.{Line}
 use Rattle.edf_header.specs.signals.ChannelsReading.{is_repeated}
-use Rattle.edf_fields.specs.fields.Layout.{fixed_part, fixed_field, columns_part, signal_field}
-use Rattle.edf_fields.specs.fields.LayoutReading.{fixed_fields, columns, fixed_from, fixed_bytes, column_before, column_width}
+use Rattle.edf_fields.specs.fields.Layout.{fixed_field}
+use Rattle.edf_fields.specs.fields.LayoutReading.{fixed_fields, columns, fixed_from, fixed_bytes, column_before, column_width, fixed_part, columns_part, column_field}
 use Rattle.edf_header.specs.Heads.{SignalHead, day_number, is_annotations, samples_together}
 use Rattle.edf_header.specs.HeadsReading.{startdate_of, recording_in, signals_of, line_of, signals_in}
 
@@ -229,26 +229,26 @@ annotation_fault s label line =
 -- the tests of the first three fields of signal s of n
 abbrev pub naming_faults : List ℕ → ℕ → ℕ → List (Option Fault)
 naming_faults bytes n s =
-    text_fault s signal.Label (signal_field bytes n s signal.Label)
-    ∷ text_fault s signal.Transducer (signal_field bytes n s signal.Transducer)
-    ∷ text_fault s signal.Dimension (signal_field bytes n s signal.Dimension)
+    text_fault s signal.Label (column_field bytes n s signal.Label)
+    ∷ text_fault s signal.Transducer (column_field bytes n s signal.Transducer)
+    ∷ text_fault s signal.Dimension (column_field bytes n s signal.Dimension)
     ∷ []
 
 -- the tests of its four extremes
 abbrev pub extreme_faults : List ℕ → ℕ → ℕ → List (Option Fault)
 extreme_faults bytes n s =
-    physical_fault s signal.PhysicalMinimum (signal_field bytes n s signal.PhysicalMinimum)
-    ∷ physical_fault s signal.PhysicalMaximum (signal_field bytes n s signal.PhysicalMaximum)
-    ∷ digital_fault s signal.DigitalMinimum (signal_field bytes n s signal.DigitalMinimum)
-    ∷ digital_fault s signal.DigitalMaximum (signal_field bytes n s signal.DigitalMaximum)
+    physical_fault s signal.PhysicalMinimum (column_field bytes n s signal.PhysicalMinimum)
+    ∷ physical_fault s signal.PhysicalMaximum (column_field bytes n s signal.PhysicalMaximum)
+    ∷ digital_fault s signal.DigitalMinimum (column_field bytes n s signal.DigitalMinimum)
+    ∷ digital_fault s signal.DigitalMaximum (column_field bytes n s signal.DigitalMaximum)
     ∷ []
 
 -- the tests of its last three fields
 abbrev pub sampling_faults : List ℕ → ℕ → ℕ → List (Option Fault)
 sampling_faults bytes n s =
-    text_fault s signal.Prefilter (signal_field bytes n s signal.Prefilter)
-    ∷ samples_fault s (signal_field bytes n s signal.Samples)
-    ∷ text_fault s signal.Reserved (signal_field bytes n s signal.Reserved)
+    text_fault s signal.Prefilter (column_field bytes n s signal.Prefilter)
+    ∷ samples_fault s (column_field bytes n s signal.Samples)
+    ∷ text_fault s signal.Reserved (column_field bytes n s signal.Reserved)
     ∷ []
 
 -- the tests of what its fields say together
@@ -265,7 +265,7 @@ signal_faults bytes n s =
     naming_faults bytes n s
     ++ (extreme_faults bytes n s
     ++ (sampling_faults bytes n s
-    ++ agreement_faults s (signal_field bytes n s signal.Label) (line_of bytes n s)))
+    ++ agreement_faults s (column_field bytes n s signal.Label) (line_of bytes n s)))
 
 -- the tests of the m signals from signal s on, of n
 abbrev pub signals_faults : List ℕ → ℕ → ℕ → ℕ → List (Option Fault)

@@ -1,5 +1,6 @@
 -- What a header says (EDF, "Header record"; EDF+, "The EDF+ header").
 use Rattle.std.specs.Prelude.{◌≡◌, ℕ, ℤ, pos, ◌+◌, ◌*◌, ◌+ℤ◌, ◌*ℤ◌, ◌≤ℤ◌, ◌⊎◌, Bool, List, [], ◌∷◌, length, drop, take, Some, slice_get, codes}
+use Rattle.edf_fields.specs.declared.fields.layout.SignalField.{SignalField}
 use Rattle.std.specs.Str.{bytes_eq}
 use Rattle.jiff.specs.Types.{Date}
 use Rattle.jiff.specs.Words.{epoch_day}
@@ -13,7 +14,7 @@ use Rattle.edf_header.specs.declared.kind.Kind.TheVariants.{Contiguous, Interrup
 use Rattle.edf_fields.specs.declared.fields.layout.FixedField.TheVariants as fixed
 use Rattle.edf_fields.specs.declared.fields.layout.SignalField.TheVariants as signal
 use Rattle.edf_header.specs.signals.Calibrations.{Line}
-use Rattle.edf_fields.specs.fields.Layout.{fixed_part, fixed_field, columns_part, signal_field}
+use Rattle.edf_fields.specs.fields.Layout.{fixed_field, signal_field}
 
 -- one signal: the texts of its fields, its calibration, how many samples it has in a data record, and how many bytes stand before them there
 pub record SignalHead : Type 0 where
@@ -55,18 +56,18 @@ abbrev pub kind_word : Kind → List ℕ
 kind_word Contiguous = codes "EDF+C"
 kind_word Interrupted = codes "EDF+D"
 
--- the fields of signal s of n have these texts and numbers
-pub record HasSignal (bytes : List ℕ) (n s : ℕ) (head : SignalHead) : Type 0 where
-  pub label : head.label ≡ text_of (signal_field bytes n s signal.Label)
-  pub transducer : head.transducer ≡ text_of (signal_field bytes n s signal.Transducer)
-  pub dimension : head.dimension ≡ text_of (signal_field bytes n s signal.Dimension)
-  pub physical_minimum : SpellsDecimal 7 (text_of (signal_field bytes n s signal.PhysicalMinimum)) head.calibration.physical_minimum
-  pub physical_maximum : SpellsDecimal 7 (text_of (signal_field bytes n s signal.PhysicalMaximum)) head.calibration.physical_maximum
-  pub digital_minimum : SpellsWhole (text_of (signal_field bytes n s signal.DigitalMinimum)) head.calibration.digital_minimum
-  pub digital_maximum : SpellsWhole (text_of (signal_field bytes n s signal.DigitalMaximum)) head.calibration.digital_maximum
-  pub prefilter : head.prefilter ≡ text_of (signal_field bytes n s signal.Prefilter)
-  pub samples : SpellsWhole (text_of (signal_field bytes n s signal.Samples)) (pos head.samples)
-  pub reserved : head.reserved ≡ text_of (signal_field bytes n s signal.Reserved)
+-- the bytes of the fields of a signal say these texts and numbers
+pub record HasSignal (field : SignalField → List ℕ) (head : SignalHead) : Type 0 where
+  pub label : head.label ≡ text_of (field signal.Label)
+  pub transducer : head.transducer ≡ text_of (field signal.Transducer)
+  pub dimension : head.dimension ≡ text_of (field signal.Dimension)
+  pub physical_minimum : SpellsDecimal 7 (text_of (field signal.PhysicalMinimum)) head.calibration.physical_minimum
+  pub physical_maximum : SpellsDecimal 7 (text_of (field signal.PhysicalMaximum)) head.calibration.physical_maximum
+  pub digital_minimum : SpellsWhole (text_of (field signal.DigitalMinimum)) head.calibration.digital_minimum
+  pub digital_maximum : SpellsWhole (text_of (field signal.DigitalMaximum)) head.calibration.digital_maximum
+  pub prefilter : head.prefilter ≡ text_of (field signal.Prefilter)
+  pub samples : SpellsWhole (text_of (field signal.Samples)) (pos head.samples)
+  pub reserved : head.reserved ≡ text_of (field signal.Reserved)
 
 -- the first of these signals has so many bytes before it in a data record, and each other one also those of the signals before it, two a sample
 abbrev pub AreSideBySide : ℕ → List SignalHead → Type 0
@@ -76,16 +77,16 @@ AreSideBySide before (head ∷ heads) = (head.offset ≡ before) × AreSideBySid
 -- the fields of the file, at their places in the two tables of the layout, say what the header says (EDF, "Header record"; EDF+, "The
 -- EDF+ header"; the version and the size of the header say nothing more)
 pub record HasHead (file : List ℕ) (h : Head) : Type 0 where
-  pub patient : SaysPatient (fixed_field (fixed_part file) fixed.Patient) h.patient
-  pub recording : SaysRecording (fixed_field (fixed_part file) fixed.Recording) h.recording
-  pub day : NamesStartdate (text_of (fixed_field (fixed_part file) fixed.Startdate)) h.recording.date h.day
-  pub clock : NamesClockTime (text_of (fixed_field (fixed_part file) fixed.Starttime)) h.clock
-  pub kind : take 5 (fixed_field (fixed_part file) fixed.Reserved) ≡ kind_word h.kind
-  pub free : h.free ≡ text_of (drop 5 (fixed_field (fixed_part file) fixed.Reserved))
-  pub records : SpellsWhole (text_of (fixed_field (fixed_part file) fixed.Records)) (pos h.records)
-  pub duration : SpellsDecimal 12 (text_of (fixed_field (fixed_part file) fixed.Duration)) h.duration
-  pub count : SpellsWhole (text_of (fixed_field (fixed_part file) fixed.Signals)) (pos (length h.signals))
-  pub signals : (s : ℕ) (head : SignalHead) → slice_get h.signals s ≡ Some head → HasSignal (columns_part (length h.signals) file) (length h.signals) s head
+  pub patient : SaysPatient (fixed_field file fixed.Patient) h.patient
+  pub recording : SaysRecording (fixed_field file fixed.Recording) h.recording
+  pub day : NamesStartdate (text_of (fixed_field file fixed.Startdate)) h.recording.date h.day
+  pub clock : NamesClockTime (text_of (fixed_field file fixed.Starttime)) h.clock
+  pub kind : take 5 (fixed_field file fixed.Reserved) ≡ kind_word h.kind
+  pub free : h.free ≡ text_of (drop 5 (fixed_field file fixed.Reserved))
+  pub records : SpellsWhole (text_of (fixed_field file fixed.Records)) (pos h.records)
+  pub duration : SpellsDecimal 12 (text_of (fixed_field file fixed.Duration)) h.duration
+  pub count : SpellsWhole (text_of (fixed_field file fixed.Signals)) (pos (length h.signals))
+  pub signals : (s : ℕ) (head : SignalHead) → slice_get h.signals s ≡ Some head → HasSignal (signal_field file (length h.signals) s) head
   pub offsets : AreSideBySide 0 h.signals
 
 -- the label says that the signal holds annotations (EDF+, "The 'EDF Annotations' signal")

@@ -13,7 +13,8 @@ use Rattle.edf_header.specs.declared.kind.Kind.TheVariants.{Contiguous, Interrup
 use Rattle.edf_fields.specs.declared.fields.layout.FixedField.TheVariants as fixed
 use Rattle.edf_fields.specs.declared.fields.layout.SignalField.TheVariants as signal
 use Rattle.edf_header.specs.signals.Calibrations.{Line}
-use Rattle.edf_fields.specs.fields.Layout.{fixed_part, fixed_field, columns_part, signal_field}
+use Rattle.edf_fields.specs.fields.Layout.{fixed_field}
+use Rattle.edf_fields.specs.fields.LayoutReading.{fixed_part, columns_part, column_field}
 use Rattle.edf_header.specs.Heads.{SignalHead, Head, HasHead, day_number}
 
 -- a number that counts something, or 0 where none is spelled, or one below 0
@@ -63,22 +64,22 @@ signals_of front = count_of (whole_number_of (fixed_field front fixed.Signals))
 -- the calibration that signal s of n has; where a number isn't spelled it counts as 0
 abbrev pub line_of : List ℕ → ℕ → ℕ → Line
 line_of bytes n s = record {
-  physical_minimum = unwrap_or (header_number_of (signal_field bytes n s signal.PhysicalMinimum)) (pos 0);
-  physical_maximum = unwrap_or (header_number_of (signal_field bytes n s signal.PhysicalMaximum)) (pos 0);
-  digital_minimum = unwrap_or (whole_number_of (signal_field bytes n s signal.DigitalMinimum)) (pos 0);
-  digital_maximum = unwrap_or (whole_number_of (signal_field bytes n s signal.DigitalMaximum)) (pos 0);
+  physical_minimum = unwrap_or (header_number_of (column_field bytes n s signal.PhysicalMinimum)) (pos 0);
+  physical_maximum = unwrap_or (header_number_of (column_field bytes n s signal.PhysicalMaximum)) (pos 0);
+  digital_minimum = unwrap_or (whole_number_of (column_field bytes n s signal.DigitalMinimum)) (pos 0);
+  digital_maximum = unwrap_or (whole_number_of (column_field bytes n s signal.DigitalMaximum)) (pos 0);
 }
 
 -- signal s of n, with so many bytes before it in a data record
 abbrev pub signal_of : List ℕ → ℕ → ℕ → ℕ → SignalHead
 signal_of bytes n s before = record {
-  label = text_of (signal_field bytes n s signal.Label);
-  transducer = text_of (signal_field bytes n s signal.Transducer);
-  dimension = text_of (signal_field bytes n s signal.Dimension);
-  prefilter = text_of (signal_field bytes n s signal.Prefilter);
-  reserved = text_of (signal_field bytes n s signal.Reserved);
+  label = text_of (column_field bytes n s signal.Label);
+  transducer = text_of (column_field bytes n s signal.Transducer);
+  dimension = text_of (column_field bytes n s signal.Dimension);
+  prefilter = text_of (column_field bytes n s signal.Prefilter);
+  reserved = text_of (column_field bytes n s signal.Reserved);
   calibration = line_of bytes n s;
-  samples = count_of (whole_number_of (signal_field bytes n s signal.Samples));
+  samples = count_of (whole_number_of (column_field bytes n s signal.Samples));
   offset = before;
 }
 
@@ -115,6 +116,6 @@ start_second h = (pos 86400 *ℤ day_number h.day) +ℤ pos h.clock
 unfoldable pub head_of : List ℕ → Head
 head_of file = head_in (fixed_part file) (columns_part (signals_of (fixed_part file)) file)
 
--- a file has at most one header
+-- proved: a file has at most one header
 abbrev pub HasOneHead : Type 0
 HasOneHead = (file : List ℕ) (h g : Head) → HasHead file h → HasHead file g → h ≡ g

@@ -1,8 +1,8 @@
 -- What the standard asks of a header that says something.
-use Rattle.std.specs.Prelude.{◌≡◌, ℕ, ℤ, pos, neg_ℤ, ◌≢◌, ◌≤◌, ◌≤ℤ◌, ◌<ℤ◌, IsTrue, []}
+use Rattle.std.specs.Prelude.{◌≡◌, ℕ, ℤ, pos, neg_ℤ, ◌≢◌, ◌≤◌, ◌≤ℤ◌, ◌<ℤ◌, IsTrue, [], Some, slice_get, false}
 use Rattle.std.specs.List.{All, list_any}
 use Rattle.edf_fields.specs.texts.Dates.{NamesDashedDay}
-use Rattle.edf_header.specs.signals.Channels.{channels_among, HasDistinctChannels}
+use Rattle.edf_header.specs.signals.Channels.{channels_among}
 use Rattle.edf_header.specs.Heads.{SignalHead, Head, day_number, is_annotations, record_bytes}
 
 -- what the standard asks of a signal: digital extremes from -32768 to 32767, in order, and physical ones that differ; a number
@@ -17,7 +17,7 @@ pub record IsSoundSignal (head : SignalHead) : Type 0 where
   pub annotations : IsTrue (is_annotations head.label) → (head.calibration.digital_minimum ≡ neg_ℤ (pos 32768)) × (head.calibration.digital_maximum ≡ pos 32767)
 
 -- what the standard asks of a header that says something (EDF, "Header record"; EDF+, "The EDF+ header"): among it a signal
--- that holds annotations and one that is a channel; that no two channels have one label, and the size of a data record, is this
+-- that holds annotations, and one that is a channel; that no two channels have one label, and the size of a data record, is this
 -- project's profile
 pub record MeetsStandard (h : Head) : Type 0 where
   pub same_day : (n : ℤ) → NamesDashedDay h.recording.date n → n ≡ day_number h.day
@@ -25,6 +25,7 @@ pub record MeetsStandard (h : Head) : Type 0 where
   pub some_time : pos 1 ≤ℤ h.duration
   pub annotations : IsTrue (list_any (λ signal. is_annotations signal.label) h.signals)
   pub channel : channels_among h.signals ≢ []
-  pub distinct : HasDistinctChannels h.signals
+  pub distinct : (s t : ℕ) (x y : SignalHead) → slice_get h.signals s ≡ Some x → slice_get h.signals t ≡ Some y
+      → is_annotations x.label ≡ false → x.label ≡ y.label → s ≡ t
   pub signals : All IsSoundSignal h.signals
   pub small_record : record_bytes h ≤ 16777216

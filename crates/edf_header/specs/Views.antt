@@ -12,7 +12,8 @@ use Rattle.edf_header.specs.declared.signals.judge_signal.SignalFields.{SignalFi
 use Rattle.edf_fields.specs.declared.fields.layout.FixedField.TheVariants as fixed
 use Rattle.edf_fields.specs.declared.fields.layout.SignalField.{SignalField}
 use Rattle.edf_header.specs.signals.Calibrations.{Line}
-use Rattle.edf_fields.specs.fields.Layout.{fixed_field, signal_field}
+use Rattle.edf_fields.specs.fields.Layout.{fixed_field}
+use Rattle.edf_fields.specs.fields.LayoutReading.{column_field}
 use Rattle.edf_header.specs.Heads.{SignalHead, Head, record_bytes}
 use Rattle.edf_header.specs.HeadsReading.{patient_in, recording_in}
 use Rattle.edf_header.specs.Sound.{IsSound}
@@ -42,7 +43,7 @@ pub record IsKept (front : List ℕ) (start : RecordingStart) (extent : Extent) 
 
 -- the bytes of a field of the signal
 abbrev pub field_in : SignalFields → SignalField → List ℕ
-field_in fields field = signal_field (fields.columns.now).bytes (fields.columns.now).signals fields.signal field
+field_in fields field = column_field (fields.columns.now).bytes (fields.columns.now).signals fields.signal field
 
 -- what a signal of these texts and this calibration says besides its label
 abbrev pub details_of : TextsOf → Line → Details

@@ -6,7 +6,7 @@ use Rattle.edf_fields.specs.declared.fields.which.Which.{Which}
 use Rattle.edf_fields.specs.Lists.{Has, is_one_of}
 use Rattle.edf_fields.proofs.ForCallers.{and-true, both-true, has-append, has-back, has-front, has-one_of, not-true, one_of-has}
 use Rattle.edf_header.specs.Heads.{SignalHead, Head, is_annotations}
-use Rattle.edf_heads.specs.Channels.{IsChannelOf}
+use Rattle.edf_header.specs.signals.Channels.{IsChannelOf}
 use Rattle.edf_heads.specs.Comparisons.{Claimed, Compared, broken_at, broken_by, breaks, named_at, named_if, named_some, unclaimed_in, IsAsClaimedIn, IsBrokenAmong, IsMismatchIn}
 use Rattle.edf_heads.proofs.OneHeadFacts.{one-side}
 use Rattle.edf_heads.specs.differences.ChannelDifferences.{IsExtra}

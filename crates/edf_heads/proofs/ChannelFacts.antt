@@ -1,5 +1,6 @@
 -- Channels found by their labels.
 use Rattle.std.proofs.Common.{◌≡◌, ◌≢◌, ℕ, ◌<◌, true, false, not, ◌&&◌, List, length, get_or, map, filter, Option, Some, None, option_map, slice_get, IfSome, MatchOption, Ok, Err, inl, inr, refl, sym, ap, ◌∙◌, subst, arith}
+use Rattle.edf_header.proofs.ForCallers.{channels_distinct}
 use Rattle.std.specs.Cmp.Lexicographic.{slice_cmp}
 use Rattle.std.specs.List.Sorted.{IsBinarySearchResult, IsPermutation}
 use Rattle.std.specs.Ordering.{nat_cmp, is_eq}
@@ -13,7 +14,7 @@ use Rattle.edf_fields.proofs.ForCallers.{and-true, not-true, at-has, get-index, 
 use Rattle.edf_header.specs.signals.ChannelsReading.{is_channel_of, is_ordinary}
 use Rattle.edf_header.specs.Heads.{SignalHead, Head, is_annotations}
 use Rattle.edf_header.specs.Sound.{IsSound}
-use Rattle.edf_heads.specs.Channels.{IsChannelOf}
+use Rattle.edf_header.specs.signals.Channels.{IsChannelOf}
 use Rattle.edf_heads.specs.differences.ChannelDifferences.{HasNoChannel}
 use Rattle.edf_heads.specs.ChannelIndexes.{IsAmong, AreAmong, IsChannelAt, AreByLabel, IsChannelIndex}
 use Rattle.edf_heads.specs.Comparisons.{channel_of}
@@ -69,7 +70,7 @@ pub one-channel : (h : Head) (label : List ℕ) (x y : SignalHead) → IsSound h
 one-channel h label x y sound c d =
     let i = at-has h.signals x c.there in
     let j = at-has h.signals y d.there in
-    let same : i.0 ≡ j.0 = sound.standard.distinct i.0 j.0 label (x, i.1, c.labelled) (y, j.1, d.labelled) in
+    let same : i.0 ≡ j.0 = channels_distinct h.signals sound.standard.distinct i.0 j.0 label (x, i.1, c.labelled) (y, j.1, d.labelled) in
     let e : Some x ≡ Some y = sym i.1 ∙ ap (slice_get h.signals) same ∙ j.1 in
     cc
 

@@ -7,7 +7,7 @@ use Rattle.std.proofs.lemmas.List.Sorted.{IsPermutation-sym, sorted_far, ranks_b
 use Rattle.edf_fields.specs.Lists.{Has, is_one_of}
 use Rattle.edf_fields.proofs.ForCallers.{has-one_of, one_of-has, not-true, at-has, get-index, get-within, map-has, has-permutation, has-filtered, filtered-has, find-none, find-some}
 use Rattle.edf_header.specs.Heads.{SignalHead, Head, is_annotations}
-use Rattle.edf_heads.specs.Channels.{IsChannelOf}
+use Rattle.edf_header.specs.signals.Channels.{IsChannelOf}
 use Rattle.edf_heads.specs.differences.ChannelDifferences.{HasChannel, HasAll, HasNoChannel, IsLeastExtra}
 use Rattle.edf_heads.specs.ChannelIndexes.{AreByLabel, IsChannelIndex}
 use Rattle.edf_heads.specs.declared.channel_index.Channel.{Channel}

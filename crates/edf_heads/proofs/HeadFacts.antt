@@ -1,18 +1,20 @@
 -- The labels of the channels of a header, its free text, and channels that are alike in two headers.
 use Rattle.std.proofs.Common.{◌≡◌, ◌≢◌, ℕ, suc, Bool, true, false, not, cond, List, [], ◌∷◌, map, filter, Bor, Option, Some, None, MatchOption, refl, sym, ap, ◌∙◌, subst, arith}
+use Rattle.edf_header.proofs.ForCallers.{channels_distinct}
 use Rattle.std.proofs.lemmas.List.Sorted.{IsPermutation-sym}
 use Rattle.edf_fields.specs.Lists.{Has, is_one_of}
 use Rattle.edf_fields.specs.Distinct.{AreDistinct}
 use Rattle.edf_fields.proofs.ForCallers.{one_of-has, has-one_of, at-has, has-permutation, has-map, map-has, has-filtered, filtered-has, not-true}
-use Rattle.edf_header.specs.signals.Channels.{IsLabelled, HasDistinctChannels, channels_among, channel_labels}
-use Rattle.edf_header.specs.signals.ChannelsReading.{is_ordinary}
+use Rattle.edf_header.specs.signals.Channels.{channels_among, channel_labels}
+use Rattle.edf_header.specs.signals.ChannelsReading.{is_ordinary, HasDistinctChannels}
 use Rattle.edf_header.specs.Heads.{SignalHead, Head, is_annotations}
 use Rattle.edf_header.specs.Sound.{IsSound}
 use Rattle.edf_claim.specs.Claims.{IsClaim}
 use Rattle.edf_claim.specs.Terms.{Terms}
 use Rattle.edf_heads.specs.Blank.{HasNoTexts, IsBlank}
 use Rattle.edf_heads.specs.differences.BlankDifference.{IsBlankHeader}
-use Rattle.edf_heads.specs.Channels.{IsChannelOf, SameChannels, AllAlike}
+use Rattle.edf_heads.specs.Channels.{SameChannels, AllAlike}
+use Rattle.edf_header.specs.signals.Channels.{IsChannelOf}
 use Rattle.edf_heads.specs.differences.ChannelDifferences.{HasChannel, HasAll, IsLeastExtra, AreUnlike, IsFirstUnlike}
 use Rattle.edf_heads.specs.Comparisons.{HasNoExtra, HasOnly, HasNoFreeText}
 use Rattle.edf_heads.proofs.ContentFacts.{alike-differ}
@@ -25,13 +27,13 @@ labels-case : (b : Bool) (x : SignalHead) (xs : List SignalHead) (P : List (List
 labels-case true x xs P f g = f refl
 labels-case false x xs P f g = g refl
 
-labels-of : (signals : List SignalHead) (l : List ℕ) → Has (channel_labels signals) l → (x : SignalHead) × Has signals x × IsLabelled l x
+labels-of : (signals : List SignalHead) (l : List ℕ) → Has (channel_labels signals) l → (x : SignalHead) × Has signals x × ((x.label ≡ l) × (is_annotations l ≡ false))
 labels-of signals l h =
     let m = map-has (λ (s : SignalHead). s.label) (channels_among signals) l h in
     let r = has-filtered is_ordinary signals m.0 m.1 in
     (m.0, r.0, (m.2, ap is_annotations (sym m.2) ∙ not-true (is_annotations m.0.label) r.1))
 
-of-labels : (signals : List SignalHead) (x : SignalHead) (l : List ℕ) → Has signals x → IsLabelled l x → Has (channel_labels signals) l
+of-labels : (signals : List SignalHead) (x : SignalHead) (l : List ℕ) → Has signals x → (x.label ≡ l) × (is_annotations l ≡ false) → Has (channel_labels signals) l
 of-labels signals x l h is =
     subst (Has (channel_labels signals)) is.0
     (has-map (λ (s : SignalHead). s.label) (channels_among signals) x (filtered-has is_ordinary signals x h (ap (λ m. not (is_annotations m)) is.0 ∙ ap not is.1)))
@@ -63,7 +65,7 @@ claimed-unless labels l h = unless-case (is_one_of labels l) refl
 
 pub has_only : (h : Head) (claim : Terms) → IsSound h → IsClaim claim → HasNoExtra h claim.channels → HasOnly h claim.channels
 has_only h claim sound is none = λ there.
-    same-members claim.channels (channel_labels h.signals) is.distinct_channels (labels-distinct h.signals sound.standard.distinct)
+    same-members claim.channels (channel_labels h.signals) is.distinct_channels (labels-distinct h.signals (channels_distinct h.signals sound.standard.distinct))
     (λ l i. has-label h l (there l i))
     (λ l i. claimed-unless claim.channels l (λ out. none l (record { there = label-has h l i; unclaimed = out })))
 

@@ -8,7 +8,7 @@ use Rattle.edf_fields.specs.declared.fields.which.Which.{Which}
 use Rattle.edf_fields.specs.declared.fields.which.Which.TheVariants.{PatientExtras, Date, RecordingExtras}
 use Rattle.edf_fields.specs.texts.Identifications.{Patient, Recording}
 use Rattle.edf_fields.proofs.ForCallers.{has-permutation}
-use Rattle.edf_header.specs.signals.Channels.{channel_labels}
+use Rattle.edf_header.specs.signals.Channels.{channel_labels, IsChannelOf}
 use Rattle.edf_header.specs.Heads.{SignalHead, Head}
 use Rattle.edf_header.specs.Sound.{IsSound}
 use Rattle.edf_header.specs.Standard.{IsSoundSignal}
@@ -17,7 +17,7 @@ use Rattle.edf_verdict.specs.declared.verdict.TextField.{TextField}
 use Rattle.edf_verdict.specs.declared.verdict.TextField.TheVariants.{Transducer, Prefilter}
 use Rattle.edf_heads.specs.differences.BlankDifference.{HasFreeText}
 use Rattle.edf_heads.specs.Calibrations.{HaveSameCalibration}
-use Rattle.edf_heads.specs.Channels.{IsChannelOf, SameChannels, AllAlike}
+use Rattle.edf_heads.specs.Channels.{SameChannels, AllAlike}
 use Rattle.edf_heads.specs.differences.ChannelDifferences.{HasChannel, HasAll, HasNoChannel, IsExtra, AreAlike, AreUnlike, IsFirstUnlike}
 use Rattle.edf_heads.specs.Comparisons.{IsAnonymous, IsUnchanged}
 use Rattle.edf_heads.specs.Firsts.{IsFirstWith}

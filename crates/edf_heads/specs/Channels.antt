@@ -2,14 +2,9 @@
 use Rattle.std.specs.Prelude.{ℕ, List}
 use Rattle.std.specs.List.Sorted.{IsPermutation}
 use Rattle.edf_fields.specs.Lists.{Has}
-use Rattle.edf_header.specs.signals.Channels.{IsLabelled, channel_labels}
+use Rattle.edf_header.specs.signals.Channels.{IsChannelOf, channel_labels}
 use Rattle.edf_header.specs.Heads.{SignalHead, Head}
 use Rattle.edf_claim.specs.Terms.{Terms}
-
--- a signal of the header is a channel of this label
-pub record IsChannelOf (h : Head) (label : List ℕ) (channel : SignalHead) : Type 0 where
-  pub there : Has h.signals channel
-  pub labelled : IsLabelled label channel
 
 -- each claimed label is that of a channel of the original, and the labels of the export's channels are the claimed ones, in some order (this project's profile)
 pub record SameChannels (original export : Head) (claim : Terms) : Type 0 where

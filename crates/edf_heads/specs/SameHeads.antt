@@ -3,10 +3,10 @@ use Rattle.std.specs.Prelude.{◌≡◌, ◌↔◌, ◌⊎◌, ℕ, List, []}
 use Rattle.std.specs.List.Sorted.{IsPermutation}
 use Rattle.edf_fields.specs.texts.Identifications.{Recording}
 use Rattle.edf_header.specs.signals.Calibrations.{SameLine}
-use Rattle.edf_header.specs.signals.Channels.{channel_labels}
+use Rattle.edf_header.specs.signals.Channels.{channel_labels, IsChannelOf}
 use Rattle.edf_header.specs.Heads.{SignalHead, Head}
 use Rattle.edf_heads.specs.differences.BlankDifference.{IsBlankHeader}
-use Rattle.edf_heads.specs.Channels.{IsChannelOf}
+use Rattle.edf_header.specs.signals.Channels.{IsChannelOf}
 use Rattle.edf_heads.specs.Subfields.{IsX}
 
 -- two channels have the same texts, and the same line from digital to physical values; their numbers of samples in a data record may differ

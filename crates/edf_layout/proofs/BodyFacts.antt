@@ -1,5 +1,6 @@
 -- Samples and annotation lanes give the data records.
 use Rattle.std.proofs.Common.{◌≡◌, ◌⊎◌, inl, inr, ℕ, zero, suc, ℤ, pos, Bool, true, false, ◌+◌, ◌*◌, ◌<◌, ◌≤◌, ◌+ℤ◌, ◌-ℤ◌, ◌*ℤ◌, ◌≤ℤ◌, ◌<ℤ◌, List, [], ◌∷◌, ◌++◌, length, take, drop, map, slice_get, slice_index, Some, None, Ok, All, lt-ltb, le-ltb, arith, refl, ap, ◌∙◌, sym, subst}
+use Rattle.edf_fields.proofs.ForCallers.{has-at}
 use Rattle.std.specs.Option.{option_map_or}
 use Rattle.std.proofs.Math.Nat.{mul_comm, mul-le-mul_right}
 use Rattle.std.proofs.lemmas.Bool.{cases_lt}
@@ -117,18 +118,18 @@ sample_there file h start k s p signal = record {
 is-there : (file : List ℕ) (h : Head) (c : Conforms file h) (k s p : ℕ) (signal : SignalHead) → k < h.records → slice_get h.signals s ≡ Some signal → is_annotations signal.label ≡ false → p < signal.samples
     → IsSample file h (sample_there file h (c.starts k) k s p signal)
 is-there file h c k s p signal within get ordinary low = record {
-  signal = s;
+  signal = signal;
   data_record = k;
   place = p;
   start = c.starts k;
   notes = c.notes k;
-  channel = (signal, get, (refl, ordinary));
-  count = sym (ap (λ o. option_map_or (λ (x : SignalHead). x.samples) o 0) get);
+  channel = record { there = has-at h.signals s signal get; labelled = (refl, ordinary) };
+  count = refl;
   in_file = within;
   in_lane = low;
   says = c.say k within;
   instant = refl;
-  value_is = refl;
+  value_is = ap (λ o. digital_value (option_map_or (λ (x : SignalHead). lane_of x (record_at file h k)) o []) p) get;
 }
 
 -- the starts of two files with one header and the same samples

@@ -4,14 +4,15 @@ use Rattle.std.proofs.Math.Seq.{take-add}
 use Rattle.std.proofs.lemmas.List.{length-take, length-append, take-take, take_at, drop-take, drop-drop}
 use Rattle.std.proofs.lemmas.Bool.{cases_lt}
 use Rattle.edf_fields.specs.declared.fields.layout.FixedField.TheVariants as fixed
-use Rattle.edf_fields.specs.fields.Layout.{fixed_part, fixed_field, columns_part}
+use Rattle.edf_fields.specs.fields.Layout.{fixed_field}
+use Rattle.edf_fields.specs.fields.LayoutReading.{fixed_part, columns_part}
 use Rattle.edf_fields.proofs.ForCallers.{whole_number_of-spelled, whole_in}
 use Rattle.edf_fields.specs.Tests.{first}
 use Rattle.edf_header.specs.Conforming.{HeaderConforms}
 use Rattle.edf_header.specs.Faults.{fixed_tests, columns_tests, header_fault}
 use Rattle.edf_header.specs.Heads.{Head}
 use Rattle.edf_header.specs.HeadsReading.{count_of, signals_of, head_in, head_of}
-use Rattle.edf_header.proofs.ForCallers.{passing-conforms}
+use Rattle.edf_header.proofs.ForCallers.{passing-conforms, head_in_parts}
 use Rattle.edf_fields.specs.declared.faults.fault.Fault.{Fault}
 use Rattle.edf_header.specs.declared.stop.Stop.{Stop}
 use Rattle.edf_header.specs.declared.stop.Stop.TheVariants as stops
@@ -62,7 +63,7 @@ cut-head file n count =
 
 -- a header that is in order has as many signals as its fixed part says
 pub signals-said : (file : List ℕ) (h : Head) → HeaderConforms file h → signals_of (fixed_part file) ≡ length h.signals
-signals-said file h c = ap count_of (whole_number_of-spelled (fixed_field (fixed_part file) fixed.Signals) (pos (length h.signals)) (whole_in (fixed_part file) 252 4 (pos (length h.signals)) (omega arith) (c.head).count))
+signals-said file h c = ap count_of (whole_number_of-spelled (fixed_field (fixed_part file) fixed.Signals) (pos (length h.signals)) (whole_in (fixed_part file) 252 4 (pos (length h.signals)) (omega arith) (head_in_parts file h c.head).count))
 
 -- a fixed part and columns that were read, of which the header is in order, are whole
 pub whole-read : (front columns : List ℕ) (h : Head) (n : ℕ) → length front ≤ 256 → length columns ≤ 256 * n → (length front < 256 → n ≡ 0) → (256 ≤ length front → n ≡ signals_of front)

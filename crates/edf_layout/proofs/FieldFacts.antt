@@ -9,7 +9,8 @@ use Rattle.edf_fields.specs.declared.fields.layout.FixedField.{FixedField}
 use Rattle.edf_fields.specs.declared.fields.layout.FixedField.TheVariants as fixed
 use Rattle.edf_fields.specs.declared.fields.layout.SignalField.{SignalField}
 use Rattle.edf_fields.specs.declared.fields.layout.SignalField.TheVariants as signal
-use Rattle.edf_fields.specs.fields.Layout.{fixed_field, signal_field, column_extent}
+use Rattle.edf_fields.specs.fields.Layout.{fixed_field, column_extent}
+use Rattle.edf_fields.specs.fields.LayoutReading.{column_field}
 
 -- spaces alone
 all-spaces : (xs : List ℕ) → list_all (λ b. b == 32) xs ≡ true → xs ≡ replicate (length xs) 32
@@ -69,7 +70,7 @@ column-same xs ys at w s (suc m) each behind =
     join-parts xs ys (at + w * s) w (each s (omega arith) (omega arith)) (subst (λ n. drop n xs ≡ drop n ys) there next)
 
 -- one column
-pub field-column : (xs ys : List ℕ) (n : ℕ) (field : SignalField) → ((s : ℕ) → s < n → signal_field xs n s field ≡ signal_field ys n s field)
+pub field-column : (xs ys : List ℕ) (n : ℕ) (field : SignalField) → ((s : ℕ) → s < n → column_field xs n s field ≡ column_field ys n s field)
     → drop ((column_extent field).0 * n + (column_extent field).1 * n) xs ≡ drop ((column_extent field).0 * n + (column_extent field).1 * n) ys
     → drop ((column_extent field).0 * n) xs ≡ drop ((column_extent field).0 * n) ys
 field-column xs ys n field same behind =
@@ -80,7 +81,7 @@ field-column xs ys n field same behind =
     subst (λ m. drop m xs ≡ drop m ys) (let e : from + w * 0 ≡ from = omega arith in e) all
 
 pub columns-same : (xs ys : List ℕ) (n : ℕ) → length xs ≡ 256 * n → length ys ≡ 256 * n
-    → ((s : ℕ) → s < n → (field : SignalField) → signal_field xs n s field ≡ signal_field ys n s field) → xs ≡ ys
+    → ((s : ℕ) → s < n → (field : SignalField) → column_field xs n s field ≡ column_field ys n s field) → xs ≡ ys
 columns-same xs ys n long other same =
     let end : drop (256 * n) xs ≡ drop (256 * n) ys = nothing-behind xs (256 * n) (omega arith) ∙ sym (nothing-behind ys (256 * n) (omega arith)) in
     let at : (a b : ℕ) → a ≡ b → drop b xs ≡ drop b ys → drop a xs ≡ drop a ys = λ a b e h. subst (λ k. drop k xs ≡ drop k ys) (sym e) h in

@@ -10,11 +10,12 @@ use Rattle.edf_fields.specs.declared.fields.layout.FixedField.{FixedField}
 use Rattle.edf_fields.specs.declared.fields.layout.FixedField.TheVariants as fixed
 use Rattle.edf_fields.specs.declared.fields.layout.SignalField.{SignalField}
 use Rattle.edf_fields.specs.declared.fields.layout.SignalField.TheVariants as signal
-use Rattle.edf_fields.specs.fields.Layout.{fixed_part, fixed_field, columns_part, signal_field}
+use Rattle.edf_fields.specs.fields.Layout.{fixed_field}
+use Rattle.edf_fields.specs.fields.LayoutReading.{fixed_part, columns_part, column_field}
 use Rattle.edf_header.specs.Conforming.{HeaderConforms}
-use Rattle.edf_header.specs.Heads.{SignalHead, Head, HasHead, HasSignal, NamesStartdate, kind_word, is_annotations}
-use Rattle.edf_header.specs.signals.Channels.{IsChannel, HasDistinctChannels}
-use Rattle.edf_header.proofs.ForCallers.{one_head}
+use Rattle.edf_header.specs.Heads.{SignalHead, Head, HasSignal, NamesStartdate, kind_word, is_annotations}
+use Rattle.edf_header.specs.signals.ChannelsReading.{IsChannel, HasDistinctChannels}
+use Rattle.edf_header.proofs.ForCallers.{one_head, HeadInParts, head_in_parts, head_from_parts, in_parts, channels_distinct}
 use Rattle.edf_layout.specs.HeadLayouts.{SignalLayout, HeadLayout, fixed_text, signal_layout, signal_layouts, layout_in, head_layout_of}
 use Rattle.edf_layout.specs.HeadLaws.{SignalTexts, texts_of, HasChannel, annotation_texts, SayTheSame, header_of, LayoutIsTheRest}
 use Rattle.edf_layout.specs.Spaces.{spaces_of}
@@ -61,20 +62,22 @@ fixed-text-same file other h g c d same layout field =
     let ys = fixed_part other in
     let long = front-long file h c in
     let less = front-long other g d in
+    let one = in_parts file h c in
+    let two = in_parts other g d in
     elim field as (λ k. fixed_field xs k ≡ fixed_field ys k) [
-      | fixed.Version ↦ field-same xs ys 0 8 (omega arith) (omega arith) (c.version ∙ sym d.version)
+      | fixed.Version ↦ field-same xs ys 0 8 (omega arith) (omega arith) (one.version ∙ sym two.version)
       | fixed.Patient ↦ field-same xs ys 8 80 (omega arith) (omega arith)
-          (patient-same (fixed_field xs fixed.Patient) (fixed_field ys fixed.Patient) h.patient g.patient (c.head).patient (d.head).patient same.patient (ap (λ (l : HeadLayout). l.front.patient_spaces) layout))
+          (patient-same (fixed_field xs fixed.Patient) (fixed_field ys fixed.Patient) h.patient g.patient (one.head).patient (two.head).patient same.patient (ap (λ (l : HeadLayout). l.front.patient_spaces) layout))
       | fixed.Recording ↦ field-same xs ys 88 80 (omega arith) (omega arith)
-          (recording-same (fixed_field xs fixed.Recording) (fixed_field ys fixed.Recording) h.recording g.recording (c.head).recording (d.head).recording same.recording (ap (λ (l : HeadLayout). l.front.recording_spaces) layout))
+          (recording-same (fixed_field xs fixed.Recording) (fixed_field ys fixed.Recording) h.recording g.recording (one.head).recording (two.head).recording same.recording (ap (λ (l : HeadLayout). l.front.recording_spaces) layout))
       | fixed.Startdate ↦ field-same xs ys 168 8 (omega arith) (omega arith)
-          (startdate-same (fixed_text xs fixed.Startdate) (fixed_text ys fixed.Startdate) (h.recording).date (g.recording).date h.day (c.head).day
-          (subst (λ day. NamesStartdate (fixed_text ys fixed.Startdate) (g.recording).date day) (sym same.day) (d.head).day))
+          (startdate-same (fixed_text xs fixed.Startdate) (fixed_text ys fixed.Startdate) (h.recording).date (g.recording).date h.day (one.head).day
+          (subst (λ day. NamesStartdate (fixed_text ys fixed.Startdate) (g.recording).date day) (sym same.day) (two.head).day))
       | fixed.Starttime ↦ field-same xs ys 176 8 (omega arith) (omega arith)
-          (starttime-same (fixed_text xs fixed.Starttime) (fixed_text ys fixed.Starttime) h.clock (c.head).clock (subst (λ s. NamesClockTime (fixed_text ys fixed.Starttime) s) (sym same.clock) (d.head).clock))
+          (starttime-same (fixed_text xs fixed.Starttime) (fixed_text ys fixed.Starttime) h.clock (one.head).clock (subst (λ s. NamesClockTime (fixed_text ys fixed.Starttime) s) (sym same.clock) (two.head).clock))
       | fixed.HeaderBytes ↦ field-same xs ys 184 8 (omega arith) (omega arith) (ap (λ (l : HeadLayout). l.front.size) layout)
       | fixed.Reserved ↦ worded-same (fixed_field xs fixed.Reserved) (fixed_field ys fixed.Reserved) [] (part-long xs 192 44 (omega arith)) (part-long ys 192 44 (omega arith))
-          (ap (λ (l : HeadLayout). l.front.kind) layout) (sym (c.head).free ∙ same.free ∙ (d.head).free)
+          (ap (λ (l : HeadLayout). l.front.kind) layout) (sym (one.head).free ∙ same.free ∙ (two.head).free)
       | fixed.Records ↦ field-same xs ys 236 8 (omega arith) (omega arith) (ap (λ (l : HeadLayout). l.front.records) layout)
       | fixed.Duration ↦ field-same xs ys 244 8 (omega arith) (omega arith) (ap (λ (l : HeadLayout). l.front.duration) layout)
       | fixed.Signals ↦ field-same xs ys 252 4 (omega arith) (omega arith) (ap (λ (l : HeadLayout). l.front.count) layout)
@@ -167,10 +170,10 @@ texts-same hs gs distinct alike channels annotations k a b e f = elim (bool-case
 ]
 
 -- the fields of one signal
-signal-fields-same : (xs ys : List ℕ) (n s : ℕ) (a b : SignalHead) → length xs ≡ 256 * n → length ys ≡ 256 * n → s < n → HasSignal xs n s a → HasSignal ys n s b
-    → texts_of a ≡ texts_of b → signal_layout xs n s ≡ signal_layout ys n s → (field : SignalField) → signal_field xs n s field ≡ signal_field ys n s field
+signal-fields-same : (xs ys : List ℕ) (n s : ℕ) (a b : SignalHead) → length xs ≡ 256 * n → length ys ≡ 256 * n → s < n → HasSignal (column_field xs n s) a → HasSignal (column_field ys n s) b
+    → texts_of a ≡ texts_of b → signal_layout xs n s ≡ signal_layout ys n s → (field : SignalField) → column_field xs n s field ≡ column_field ys n s field
 signal-fields-same xs ys n s a b long less low h k texts layout field =
-    elim field as (λ f. signal_field xs n s f ≡ signal_field ys n s f) [
+    elim field as (λ f. column_field xs n s f ≡ column_field ys n s f) [
       | signal.Label ↦ field-same xs ys (0 * n + 16 * s) 16 (omega arith) (omega arith) (ap (λ (l : SignalLayout). l.label) layout)
       | signal.Transducer ↦ field-same xs ys (16 * n + 80 * s) 80 (omega arith) (omega arith) (sym h.transducer ∙ ap (λ (t : SignalTexts). t.transducer) texts ∙ k.transducer)
       | signal.Dimension ↦ field-same xs ys (96 * n + 8 * s) 8 (omega arith) (omega arith) (sym h.dimension ∙ ap (λ (t : SignalTexts). t.dimension) texts ∙ k.dimension)
@@ -185,7 +188,7 @@ signal-fields-same xs ys n s a b long less low h k texts layout field =
 
 -- the columns of as many signals
 columns-alike : (xs ys : List ℕ) (hs gs : List SignalHead) (n : ℕ) → length hs ≡ n → length gs ≡ n → length xs ≡ 256 * n → length ys ≡ 256 * n
-    → ((s : ℕ) (a : SignalHead) → slice_get hs s ≡ Some a → HasSignal xs n s a) → ((s : ℕ) (b : SignalHead) → slice_get gs s ≡ Some b → HasSignal ys n s b)
+    → ((s : ℕ) (a : SignalHead) → slice_get hs s ≡ Some a → HasSignal (column_field xs n s) a) → ((s : ℕ) (b : SignalHead) → slice_get gs s ≡ Some b → HasSignal (column_field ys n s) b)
     → HasDistinctChannels gs → ((texts : SignalTexts) → HasChannel hs texts ↔ HasChannel gs texts) → annotation_texts hs ≡ annotation_texts gs
     → signal_layouts xs n 0 n ≡ signal_layouts ys n 0 n → xs ≡ ys
 columns-alike xs ys hs gs n count counts long less has have distinct channels annotations layout =
@@ -226,8 +229,8 @@ layout-gives file other h g c d same layout =
     let front : fixed_part file ≡ fixed_part other = fixed-same (fixed_part file) (fixed_part other) (front-long file h c) (front-long other g d) (fixed-text-same file other h g c d same layout) in
     let columns : xs ≡ ys =
     columns-alike xs ys h.signals g.signals n refl (sym count) (columns-long file h c) (columns-long other g d ∙ ap (λ k. 256 * k) (sym count))
-    (c.head).signals (subst (λ k. (s : ℕ) (b : SignalHead) → slice_get g.signals s ≡ Some b → HasSignal (columns_part m other) k s b) (sym count) (d.head).signals)
-    (d.standard).distinct same.channels same.annotations (lists ∙ ap (λ k. signal_layouts ys k 0 k) (sym count)) in
+    (head_in_parts file h c.head).signals (subst (λ k. (s : ℕ) (b : SignalHead) → slice_get g.signals s ≡ Some b → HasSignal (column_field (columns_part m other) k s) b) (sym count) (head_in_parts other g d.head).signals)
+    (channels_distinct g.signals (d.standard).distinct) same.channels same.annotations (lists ∙ ap (λ k. signal_layouts ys k 0 k) (sym count)) in
     whole-header file h ∙ ap (λ f. f ++ xs) front ∙ ap (λ r. fixed_part other ++ r) columns ∙ sym (whole-header other g)
 
 -- the bytes give both
@@ -241,7 +244,7 @@ append-same (a ∷ us) (b ∷ vs) xs ys long e =
     let more = append-same us vs xs ys (omega arith) rest in
     (ap (λ c. c ∷ us) first ∙ ap (λ r. b ∷ r) more.0, more.1)
 
-has-head-too : (file other : List ℕ) (h : Head) → fixed_part file ≡ fixed_part other → columns_part (length h.signals) file ≡ columns_part (length h.signals) other → HasHead file h → HasHead other h
+has-head-too : (file other : List ℕ) (h : Head) → fixed_part file ≡ fixed_part other → columns_part (length h.signals) file ≡ columns_part (length h.signals) other → HeadInParts file h → HeadInParts other h
 has-head-too file other h front columns has = record {
   patient = subst (λ f. SaysPatient (fixed_field f fixed.Patient) h.patient) front has.patient;
   recording = subst (λ f. SaysRecording (fixed_field f fixed.Recording) h.recording) front has.recording;
@@ -252,7 +255,7 @@ has-head-too file other h front columns has = record {
   records = subst (λ f. SpellsWhole (text_of (fixed_field f fixed.Records)) (pos h.records)) front has.records;
   duration = subst (λ f. SpellsDecimal 12 (text_of (fixed_field f fixed.Duration)) h.duration) front has.duration;
   count = subst (λ f. SpellsWhole (text_of (fixed_field f fixed.Signals)) (pos (length h.signals))) front has.count;
-  signals = subst (λ bytes. (s : ℕ) (head : SignalHead) → slice_get h.signals s ≡ Some head → HasSignal bytes (length h.signals) s head) columns has.signals;
+  signals = subst (λ bytes. (s : ℕ) (head : SignalHead) → slice_get h.signals s ≡ Some head → HasSignal (column_field bytes (length h.signals) s) head) columns has.signals;
   offsets = has.offsets;
 }
 
@@ -266,7 +269,7 @@ head-same file other h g c d e =
     let sizes : 256 * n ≡ 256 * m = sym (columns-long file h c) ∙ ap length parts.1 ∙ columns-long other g d in
     let count : n ≡ m = omega (arith, sizes) in
     let columns : xs ≡ columns_part n other = parts.1 ∙ ap (λ k. columns_part k other) (sym count) in
-    one_head other h g (has-head-too file other h parts.0 columns c.head) d.head
+    one_head other h g (head_from_parts other h (has-head-too file other h parts.0 columns (head_in_parts file h c.head))) d.head
 
 pub say-the-same : (h : Head) → SayTheSame h h
 say-the-same h = record { patient = refl; recording = refl; day = refl; clock = refl; free = refl; channels = λ texts. (λ x. x, λ x. x); annotations = refl }
@@ -281,7 +284,7 @@ bytes-give file other h g c d e =
     let sizes : 256 * n ≡ 256 * m = sym (columns-long file h c) ∙ ap length parts.1 ∙ columns-long other g d in
     let count : n ≡ m = omega (arith, sizes) in
     let columns : xs ≡ columns_part n other = parts.1 ∙ ap (λ k. columns_part k other) (sym count) in
-    let is : h ≡ g = one_head other h g (has-head-too file other h parts.0 columns c.head) d.head in (
+    let is : h ≡ g = one_head other h g (head_from_parts other h (has-head-too file other h parts.0 columns (head_in_parts file h c.head))) d.head in (
       subst (λ k. SayTheSame h k) is (say-the-same h),
       ap (λ f. layout_in f n xs) parts.0 ∙ ap (λ r. layout_in (fixed_part other) n r) parts.1 ∙ ap (λ k. layout_in (fixed_part other) k (columns_part m other)) count,
     )

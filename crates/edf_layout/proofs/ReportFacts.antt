@@ -1,6 +1,6 @@
 -- What is written of a header, by what stopped its reading, or didn't.
 use Rattle.std.proofs.Common.{◌≡◌, ℕ, List, length, Some, Result, Ok, Err, IfOk, sym, ap, ◌∙◌}
-use Rattle.edf_fields.specs.fields.Layout.{fixed_part, columns_part}
+use Rattle.edf_fields.specs.fields.LayoutReading.{fixed_part, columns_part}
 use Rattle.edf_header.specs.Faults.{header_fault}
 use Rattle.edf_header.specs.Heads.{Head}
 use Rattle.edf_header.specs.HeadsReading.{head_of}

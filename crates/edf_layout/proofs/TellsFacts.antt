@@ -7,14 +7,15 @@ use Rattle.edf_fields.specs.Parts.{part, text_of}
 use Rattle.edf_fields.specs.declared.fields.layout.FixedField.{FixedField}
 use Rattle.edf_fields.specs.declared.fields.layout.FixedField.TheVariants as fixed
 use Rattle.edf_fields.specs.declared.fields.layout.SignalField.TheVariants as signal
-use Rattle.edf_fields.specs.fields.Layout.{fixed_part, fixed_field, columns_part, signal_field}
+use Rattle.edf_fields.specs.fields.Layout.{fixed_field}
+use Rattle.edf_fields.specs.fields.LayoutReading.{fixed_part, columns_part, column_field}
 use Rattle.edf_fields.specs.texts.NumbersReading.{whole_number_of}
 use Rattle.edf_fields.proofs.ForCallers.{whole_number_of-spelled, whole_in}
 use Rattle.edf_header.specs.Conforming.{HeaderConforms}
 use Rattle.edf_header.specs.Faults.{header_fault}
 use Rattle.edf_header.specs.Heads.{SignalHead, Head, HasSignal}
 use Rattle.edf_header.specs.HeadsReading.{head_of}
-use Rattle.edf_header.proofs.ForCallers.{one_head, passing_has_head, passing_is_conforming}
+use Rattle.edf_header.proofs.ForCallers.{one_head, passing_has_head, passing_is_conforming, head_in_parts, in_parts}
 use Rattle.edf_report.specs.Reports.{text_or_fault}
 use Rattle.edf_verdict.specs.Quotes.{quoted, with_quoted}
 use Rattle.edf_layout.specs.HeadLayouts.{SignalLayout, FrontLayout, HeadLayout, fixed_text, signal_layout, signal_layouts, front_layout, layout_in, head_layout_of}
@@ -175,9 +176,10 @@ text-short xs at n = let a = length-text_of (part xs at n) in let b = length-tak
 front-written : (file : List ℕ) (h : Head) → HeaderConforms file h → FrontWritten (front_layout (fixed_part file))
 front-written file h c =
     let front = fixed_part file in
-    let text : (field : FixedField) → Shown (fixed_text front field) = λ field. shown-text (fixed_field front field) (shown-all (fixed_field front field) (c.front field)) in
+    let read = in_parts file h c in
+    let text : (field : FixedField) → Shown (fixed_text front field) = λ field. shown-text (fixed_field front field) (shown-all (fixed_field front field) (read.front field)) in
     record {
-      kind = shown-take 5 (fixed_field front fixed.Reserved) (shown-all (fixed_field front fixed.Reserved) (c.front fixed.Reserved));
+      kind = shown-take 5 (fixed_field front fixed.Reserved) (shown-all (fixed_field front fixed.Reserved) (read.front fixed.Reserved));
       duration = text fixed.Duration;
       records = text fixed.Records;
       size = text fixed.HeaderBytes;
@@ -186,14 +188,14 @@ front-written file h c =
       recording = small-spaces (fixed_text front fixed.Recording) (text-short front 88 80);
     }
 
-signal-written : (xs : List ℕ) (n s : ℕ) (a : SignalHead) → HasSignal xs n s a → Shown (text_of (signal_field xs n s signal.Label)) → SignalWritten (signal_layout xs n s)
+signal-written : (xs : List ℕ) (n s : ℕ) (a : SignalHead) → HasSignal (column_field xs n s) a → Shown (text_of (column_field xs n s signal.Label)) → SignalWritten (signal_layout xs n s)
 signal-written xs n s a h label = record {
   label = label;
-  samples = high-whole (signal_field xs n s signal.Samples) (pos a.samples) h.samples;
-  physical_minimum = high-number (signal_field xs n s signal.PhysicalMinimum) a.calibration.physical_minimum h.physical_minimum;
-  physical_maximum = high-number (signal_field xs n s signal.PhysicalMaximum) a.calibration.physical_maximum h.physical_maximum;
-  digital_minimum = high-whole (signal_field xs n s signal.DigitalMinimum) a.calibration.digital_minimum h.digital_minimum;
-  digital_maximum = high-whole (signal_field xs n s signal.DigitalMaximum) a.calibration.digital_maximum h.digital_maximum;
+  samples = high-whole (column_field xs n s signal.Samples) (pos a.samples) h.samples;
+  physical_minimum = high-number (column_field xs n s signal.PhysicalMinimum) a.calibration.physical_minimum h.physical_minimum;
+  physical_maximum = high-number (column_field xs n s signal.PhysicalMaximum) a.calibration.physical_maximum h.physical_maximum;
+  digital_minimum = high-whole (column_field xs n s signal.DigitalMinimum) a.calibration.digital_minimum h.digital_minimum;
+  digital_maximum = high-whole (column_field xs n s signal.DigitalMaximum) a.calibration.digital_maximum h.digital_maximum;
 }
 
 all-written : (xs : List ℕ) (n s m : ℕ) → ((k : ℕ) → k < m → SignalWritten (signal_layout xs n (s + k))) → AllWritten (signal_layouts xs n s m)
@@ -210,7 +212,7 @@ signals-written file h c =
     all-written xs n 0 n (λ k low.
     let a = get-some h.signals k low in
     subst (λ j. SignalWritten (signal_layout xs n j)) (let e : k ≡ 0 + k = omega arith in e)
-    (signal-written xs n k a.0 ((c.head).signals k a.0 a.1) (shown-text (signal_field xs n k signal.Label) (shown-all (signal_field xs n k signal.Label) (c.columns k low signal.Label)))))
+    (signal-written xs n k a.0 ((head_in_parts file h c.head).signals k a.0 a.1) (shown-text (column_field xs n k signal.Label) (shown-all (column_field xs n k signal.Label) ((in_parts file h c).columns k low signal.Label)))))
 
 -- what is written begins with the lines of the layout
 text-begins : (file : List ℕ) (h : Head) → HeaderConforms file h → (rest : List ℕ) × (head_layout_text file
@@ -232,8 +234,8 @@ counts-same file other h g c d same =
     let less = front-long other g d in
     let field : fixed_field xs fixed.Signals ≡ fixed_field ys fixed.Signals = field-same xs ys 252 4 (omega arith) (omega arith) (ap (λ (l : FrontLayout). l.count) same) in
     let values : Some (pos (length h.signals)) ≡ Some (pos (length g.signals)) =
-    sym (whole_number_of-spelled (fixed_field xs fixed.Signals) (pos (length h.signals)) (whole_in xs 252 4 (pos (length h.signals)) (omega arith) (c.head).count)) ∙ ap whole_number_of field
-    ∙ whole_number_of-spelled (fixed_field ys fixed.Signals) (pos (length g.signals)) (whole_in ys 252 4 (pos (length g.signals)) (omega arith) (d.head).count) in
+    sym (whole_number_of-spelled (fixed_field xs fixed.Signals) (pos (length h.signals)) (whole_in xs 252 4 (pos (length h.signals)) (omega arith) (head_in_parts file h c.head).count)) ∙ ap whole_number_of field
+    ∙ whole_number_of-spelled (fixed_field ys fixed.Signals) (pos (length g.signals)) (whole_in ys 252 4 (pos (length g.signals)) (omega arith) (head_in_parts other g d.head).count) in
     let value : pos (length h.signals) ≡ pos (length g.signals) = cc in
     omega (arith, ints, value)
 

@@ -1,6 +1,6 @@
 -- The bytes of a header that was read.
 use Rattle.std.specs.Prelude.{◌≡◌, ℕ, ◌*◌, List, length, drop, None}
-use Rattle.edf_fields.specs.fields.Layout.{fixed_part, columns_part}
+use Rattle.edf_fields.specs.fields.LayoutReading.{fixed_part, columns_part}
 use Rattle.edf_header.specs.Conforming.{HeaderConforms}
 use Rattle.edf_header.specs.Faults.{header_fault}
 use Rattle.edf_header.specs.Heads.{Head, header_bytes}

@@ -5,7 +5,8 @@ use Rattle.edf_fields.specs.declared.fields.layout.FixedField.{FixedField}
 use Rattle.edf_fields.specs.declared.fields.layout.FixedField.TheVariants as fixed
 use Rattle.edf_fields.specs.declared.fields.layout.SignalField.{SignalField}
 use Rattle.edf_fields.specs.declared.fields.layout.SignalField.TheVariants as signal
-use Rattle.edf_fields.specs.fields.Layout.{fixed_part, fixed_field, columns_part, signal_field}
+use Rattle.edf_fields.specs.fields.Layout.{fixed_field}
+use Rattle.edf_fields.specs.fields.LayoutReading.{fixed_part, columns_part, column_field}
 use Rattle.edf_header.specs.Heads.{Head}
 use Rattle.edf_layout.specs.Spaces.{spaces_of}
 
@@ -40,7 +41,7 @@ fixed_text front field = text_of (fixed_field front field)
 
 -- the text of a field of signal s of n
 abbrev pub signal_text : List ℕ → ℕ → ℕ → SignalField → List ℕ
-signal_text bytes n s field = text_of (signal_field bytes n s field)
+signal_text bytes n s field = text_of (column_field bytes n s field)
 
 -- the layout of signal s of n
 abbrev pub signal_layout : List ℕ → ℕ → ℕ → SignalLayout

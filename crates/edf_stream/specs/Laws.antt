@@ -33,7 +33,7 @@ abbrev pub NotesAreSaid : Type 0
 NotesAreSaid = (file : List ℕ) (h : Head) → Conforms file h → (k : ℕ) → k < h.records → (start : ℤ) (notes : List NoteValue) →
     SaysRecord h (record_at file h k) start notes ↔ ((start ≡ start_at file h k) × (notes ≡ notes_in h (record_at file h k)))
 
--- a file that conforms has annotations, and no others
+-- proved: a file that conforms has annotations, and no others
 abbrev pub HasItsNotes : Type 0
 HasItsNotes = (file : List ℕ) (h : Head) → Conforms file h → (notes : List NoteValue) × HasNotes file h notes × ((others : List NoteValue) → HasNotes file h others → others ≡ notes)
 
@@ -68,7 +68,7 @@ SamplesAreOfChannels = (file : List ℕ) (h : Head) (x : Sample) → Has (sample
 abbrev pub SamplesRise : Type 0
 SamplesRise = (file : List ℕ) (h : Head) → Conforms file h → AreRising (samples_of file h)
 
--- in a file that conforms a channel has one sample at an instant at the most
+-- proved: in a file that conforms a channel has one sample at an instant at the most
 abbrev pub OneAtAnInstant : Type 0
 OneAtAnInstant = (file : List ℕ) (h : Head) → Conforms file h → (x y : SampleValue) → IsSample file h x → IsSample file h y → x.label ≡ y.label → IsSame x.instant y.instant → x ≡ y
 

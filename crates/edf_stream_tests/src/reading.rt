@@ -72,6 +72,15 @@ fn seen(reader: &FileReader) -> Option<(i128, i128, Option<u8>, Option<u8>, u32)
 }
 
 #[test]
+fn gives_the_header_away(rt: HostRuntime) -> Result<(), Fail> {
+    let file = recorded(rt.alloc(), &[], LANES)?;
+    let reader = FileReader::begin(rt.alloc(), &mut SliceSource::new(&file))?;
+    let header = reader.into_header();
+    assert_eq!(rt; (header.records(), header.record_bytes()), (4, 52));
+    Ok(())
+}
+
+#[test]
 fn reads_the_reference_file(rt: HostRuntime) -> Result<(), Fail> {
     let file = recorded(rt.alloc(), &[], LANES)?;
     let mut source = SliceSource::new(&file);

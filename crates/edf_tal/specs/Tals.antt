@@ -14,7 +14,7 @@ pub record TalValue : Type 0 where
 abbrev pub IsText : List ℕ → Type 0
 IsText text = IsUtf8 text × All (λ b. (32 ≤ b) ⊎ (b ≡ 9) ⊎ (b ≡ 10) ⊎ (b ≡ 13)) text
 
--- no duration, or the byte 21 and a time with no sign, in picoseconds
+-- no duration, or the byte 21 and a time with no sign, in picoseconds (EDF+, "Time-stamped Annotations Lists (TALs) in an 'EDF Annotations' signal": the duration)
 abbrev pub SpellsDuration : List ℕ → Option ℤ → Type 0
 SpellsDuration bytes None = bytes ≡ []
 SpellsDuration bytes (Some v) = (span : List ℕ) × (bytes ≡ 21 ∷ span) × IsTime span × (v ≡ pos (time_of span))

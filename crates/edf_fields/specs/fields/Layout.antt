@@ -19,13 +19,9 @@ fixed_extent fixed.Records = (236, 8)
 fixed_extent fixed.Duration = (244, 8)
 fixed_extent fixed.Signals = (252, 4)
 
--- the fixed part of a file: its first 256 bytes, or all that there are
-abbrev pub fixed_part : List ℕ → List ℕ
-fixed_part file = part file 0 256
-
--- the bytes of a field of the fixed part
+-- the bytes of a field of the fixed part, the first 256 bytes of a file
 abbrev pub fixed_field : List ℕ → FixedField → List ℕ
-fixed_field front field = part front (fixed_extent field).0 (fixed_extent field).1
+fixed_field file field = part file (fixed_extent field).0 (fixed_extent field).1
 
 -- how many bytes of each signal stand in the columns before this one, and how many in it
 abbrev pub column_extent : SignalField → ℕ × ℕ
@@ -40,10 +36,6 @@ column_extent signal.Prefilter = (136, 80)
 column_extent signal.Samples = (216, 8)
 column_extent signal.Reserved = (224, 32)
 
--- the columns of n signals, one behind the other: 256 bytes for each signal, or all that there are
-abbrev pub columns_part : ℕ → List ℕ → List ℕ
-columns_part n file = part file 256 (256 * n)
-
--- the bytes of a field of signal s, in the columns of n signals
+-- the bytes of a field of signal s of n; the columns stand behind the fixed part
 abbrev pub signal_field : List ℕ → ℕ → ℕ → SignalField → List ℕ
-signal_field bytes n s field = part bytes ((column_extent field).0 * n + (column_extent field).1 * s) (column_extent field).1
+signal_field file n s field = part file (256 + (column_extent field).0 * n + (column_extent field).1 * s) (column_extent field).1

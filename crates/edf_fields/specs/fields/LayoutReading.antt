@@ -1,10 +1,23 @@
 -- The fields of a header, where they stand, their order, and their names.
-use Rattle.std.specs.Prelude.{◌≡◌, ℕ, ◌+◌, List, [], ◌∷◌, codes}
+use Rattle.std.specs.Prelude.{◌≡◌, ℕ, ◌+◌, List, [], ◌∷◌, codes, ◌*◌}
+use Rattle.edf_fields.specs.Parts.{part}
 use Rattle.edf_fields.specs.declared.fields.layout.FixedField.{FixedField}
 use Rattle.edf_fields.specs.declared.fields.layout.FixedField.TheVariants as fixed
 use Rattle.edf_fields.specs.declared.fields.layout.SignalField.{SignalField}
 use Rattle.edf_fields.specs.declared.fields.layout.SignalField.TheVariants as signal
 use Rattle.edf_fields.specs.fields.Layout.{fixed_extent, column_extent}
+
+-- the fixed part of a file: its first 256 bytes, or all that there are
+abbrev pub fixed_part : List ℕ → List ℕ
+fixed_part file = part file 0 256
+
+-- the columns of n signals, one behind the other: 256 bytes for each signal, or all that there are
+abbrev pub columns_part : ℕ → List ℕ → List ℕ
+columns_part n file = part file 256 (256 * n)
+
+-- the bytes of a field of signal s, in the columns of n signals
+abbrev pub column_field : List ℕ → ℕ → ℕ → SignalField → List ℕ
+column_field bytes n s field = part bytes ((column_extent field).0 * n + (column_extent field).1 * s) (column_extent field).1
 
 -- where a field of the fixed part begins
 abbrev pub fixed_from : FixedField → ℕ

@@ -53,7 +53,7 @@ IsDecimal u =
     × AreDigits (behind_dot u)
     × (0 < length (before_dot u) + length (behind_dot u))
 
--- the text is an optional sign and a decimal, and has this value in units of 10^-k (EDF, "Header record": physical extremes, duration; which forms spell a number is this project's profile)
+-- the text is an optional sign and a decimal, and has this value in units of 10^-k (EDF, "Header record": physical extremes, duration; which forms spell a number is this project's profile); a field of 8 bytes has at most 7 digits behind its dot
 abbrev pub SpellsDecimal : ℕ → List ℕ → ℤ → Type 0
 SpellsDecimal k t v =
     IsDecimal (unsigned t) × (v ≡ signed (has_minus t) (decimal k (before_dot (unsigned t)) (behind_dot (unsigned t))))

@@ -7,8 +7,7 @@ use Rattle.edf_fields.specs.Tests.{first}
 use Rattle.edf_fields.proofs.ForCallers.{first-passed, part-append}
 use Rattle.edf_fields.specs.declared.fields.layout.SignalField.{SignalField}
 use Rattle.edf_fields.specs.declared.fields.layout.SignalField.TheVariants as signal
-use Rattle.edf_fields.specs.fields.Layout.{signal_field}
-use Rattle.edf_fields.specs.fields.LayoutReading.{columns, next_before, AreAdjacent, column_before, column_width}
+use Rattle.edf_fields.specs.fields.LayoutReading.{columns, next_before, AreAdjacent, column_before, column_width, column_field}
 use Rattle.edf_header.specs.Faults.{column_missing, columns_missing}
 use Rattle.edf_header.specs.Narrow.{WideColumn, all_bytes, AreColumns}
 use Rattle.edf_header.proofs.in_columns.ColumnFacts.{column-whole, columns-adjacent, columns-begin}
@@ -106,7 +105,7 @@ field-at n (f ∷ fs) (c ∷ cs) (suc i) k s d adjacent h lt within at =
 
 -- a field of a signal, in its column
 pub signal_field-at : (n : ℕ) (cs : List WideColumn) (i s : ℕ) (d : WideColumn) (field : SignalField) → AreColumns n columns cs → i < length columns → get_or columns i signal.Label ≡ field → s < n
-    → signal_field (all_bytes cs) n s field ≡ part (get_or cs i d).bytes ((get_or cs i d).width * s) (get_or cs i d).width
+    → column_field (all_bytes cs) n s field ≡ part (get_or cs i d).bytes ((get_or cs i d).width * s) (get_or cs i d).width
 signal_field-at n cs i s d field h lt e within =
     let w : ℕ = column_width field in
     let width : (get_or cs i d).width ≡ w = (column-said n columns cs i d h lt).0 ∙ ap column_width e in
@@ -117,7 +116,7 @@ signal_field-at n cs i s d field h lt e within =
     ∙ ap (λ k. part (get_or cs i d).bytes (k * s) k) (sym width)
 
 -- a field has no more bytes than its column is wide
-pub field_short : (bytes : List ℕ) (n s : ℕ) (field : SignalField) → length (signal_field bytes n s field) ≤ column_width field
+pub field_short : (bytes : List ℕ) (n s : ℕ) (field : SignalField) → length (column_field bytes n s field) ≤ column_width field
 field_short bytes n s field =
     let long = length-take (column_width field) (drop (column_before field * n + column_width field * s) bytes) in
     omega (arith, long)

@@ -10,8 +10,8 @@ use Rattle.edf_fields.specs.declared.fields.layout.FixedField.TheVariants as fix
 use Rattle.edf_fields.specs.declared.fields.layout.SignalField.TheVariants as signal
 use Rattle.edf_fields.proofs.ForCallers.{le_decided, first-none, first-cons, not-true}
 use Rattle.edf_header.specs.Heads.{SignalHead, is_annotations, samples_together}
-use Rattle.edf_header.specs.signals.Channels.{IsChannel, HasDistinctChannels, channels_among}
-use Rattle.edf_header.specs.signals.ChannelsReading.{is_channel_of, channel_place, label_at, is_repeated}
+use Rattle.edf_header.specs.signals.Channels.{channels_among}
+use Rattle.edf_header.specs.signals.ChannelsReading.{is_channel_of, channel_place, label_at, is_repeated, IsChannel, HasDistinctChannels}
 use Rattle.edf_header.specs.Faults.{no_annotation_signal, no_ordinary_signal, label_fault, labels_faults, record_too_large, joint_faults}
 use Rattle.edf_fields.specs.Tests.{first}
 use Rattle.edf_header.proofs.PassedFacts.{fault_unless-passed}
@@ -104,11 +104,21 @@ labels-distinct signals passed s t label cs ct =
       ]
     ]
 
+-- no two channels have one label, as `MeetsStandard` says it and by `IsChannel`
+abbrev pub AreDistinct : List SignalHead → Type 0
+AreDistinct signals = (s t : ℕ) (x y : SignalHead) → slice_get signals s ≡ Some x → slice_get signals t ≡ Some y → is_annotations x.label ≡ false → x.label ≡ y.label → s ≡ t
+
+pub channels_distinct : (signals : List SignalHead) → AreDistinct signals → HasDistinctChannels signals
+channels_distinct signals d s t label cs ct = d s t cs.0 ct.0 cs.1 ct.1 (ap is_annotations cs.2.0 ∙ cs.2.1) (cs.2.0 ∙ sym ct.2.0)
+
+distinct-signals : (signals : List SignalHead) → HasDistinctChannels signals → AreDistinct signals
+distinct-signals signals d s t x y e f plain same = d s t x.label (x, e, (refl, plain)) (y, f, (sym same, plain))
+
 -- what the tests of the signals together say
 pub record Together (signals : List SignalHead) : Type 0 where
   pub annotations : list_any (λ signal. is_annotations signal.label) signals ≡ true
   pub channel : channels_among signals ≢ []
-  pub distinct : HasDistinctChannels signals
+  pub distinct : AreDistinct signals
   pub small : samples_together signals ≤ 8388608
 
 small-record : (signals : List SignalHead) → record_too_large signals ≡ None → samples_together signals ≤ 8388608
@@ -156,6 +166,6 @@ joint-passed signals h =
     record {
       annotations = annotation-there signals a.0;
       channel = channel-there signals b.0;
-      distinct = labels-distinct signals d.0;
+      distinct = distinct-signals signals (labels-distinct signals d.0);
       small = small-record signals (first-cons (record_too_large signals) [] d.1).0;
     }

@@ -2,7 +2,7 @@
 use Rattle.std.proofs.Common.{◌≡◌, ℕ, zero, suc, refl, length, ◌+◌, ◌-◌, ◌*◌, ◌<◌, List, [], ◌∷◌, ◌++◌, Option, Some, None, sym, ap, ◌∙◌, arith, append_assoc}
 use Rattle.edf_fields.specs.declared.faults.fault.Fault.{Fault}
 use Rattle.edf_fields.specs.declared.fields.layout.SignalField.TheVariants as signal
-use Rattle.edf_fields.specs.fields.Layout.{signal_field}
+use Rattle.edf_fields.specs.fields.LayoutReading.{column_field}
 use Rattle.edf_header.specs.Heads.{SignalHead}
 use Rattle.edf_header.specs.HeadsReading.{line_of, signal_of, signals_from}
 use Rattle.edf_header.specs.Faults.{naming_faults, extreme_faults, sampling_faults, agreement_faults, signal_faults, signals_faults}
@@ -10,7 +10,7 @@ use Rattle.edf_fields.specs.Tests.{first}
 use Rattle.edf_fields.proofs.ForCallers.{first-passed, first-found}
 
 abbrev together : List ℕ → ℕ → ℕ → List (Option Fault)
-together bytes n s = agreement_faults s (signal_field bytes n s signal.Label) (line_of bytes n s)
+together bytes n s = agreement_faults s (column_field bytes n s signal.Label) (line_of bytes n s)
 
 pub naming_found : (bytes : List ℕ) (n s : ℕ) (f : Fault) → first (naming_faults bytes n s) ≡ Some f → first (signal_faults bytes n s) ≡ Some f
 naming_found bytes n s f h = first-found (naming_faults bytes n s) (extreme_faults bytes n s ++ (sampling_faults bytes n s ++ together bytes n s)) f h

@@ -1,9 +1,17 @@
 -- The channels of a header, as they are found.
-use Rattle.std.specs.Prelude.{ℕ, Bool, not, ◌&&◌, List, [], Option, slice_get, unwrap_or, option_map, take}
+use Rattle.std.specs.Prelude.{ℕ, Bool, not, ◌&&◌, List, [], Option, slice_get, unwrap_or, option_map, take, ◌≡◌, Some, false}
 use Rattle.std.specs.List.{position_from}
 use Rattle.std.specs.Option.{is_some}
 use Rattle.std.specs.Str.{bytes_eq}
 use Rattle.edf_header.specs.Heads.{SignalHead, is_annotations}
+
+-- signal s is a channel of this label
+abbrev pub IsChannel : List SignalHead → ℕ → List ℕ → Type 0
+IsChannel signals s label = (signal : SignalHead) × (slice_get signals s ≡ Some signal) × ((signal.label ≡ label) × (is_annotations label ≡ false))
+
+-- no two channels have one label
+abbrev pub HasDistinctChannels : List SignalHead → Type 0
+HasDistinctChannels signals = (s t : ℕ) (label : List ℕ) → IsChannel signals s label → IsChannel signals t label → s ≡ t
 
 -- a signal that holds no annotations
 abbrev pub is_ordinary : SignalHead → Bool

@@ -1,7 +1,7 @@
 //! The columns of a header, which hold the fields of its signals.
 
 ghost use Rattle.std.specs.Prelude.{◌≡◌, ◌<◌};
-ghost use Rattle.edf_fields.specs.fields.Layout.{signal_field as signal_field_of};
+ghost use Rattle.edf_fields.specs.fields.LayoutReading.{column_field};
 ghost use Rattle.edf_header.specs.Narrow.{SaysTheSame};
 
 use crate::in_columns::column::Column;
@@ -39,7 +39,7 @@ impl Columns {
     pub(crate) fn field(&self, signal: u16, field: SignalField) -> &[u8]
         requires { signal < self.now.signals }
         ensures { SaysTheSame result.now
-            (signal_field_of (self.entry.now).bytes (self.entry.now).signals signal field) }
+            (column_field (self.entry.now).bytes (self.entry.now).signals signal field) }
     {
         self.columns[field.place()].field(usize::from(signal))
     }

@@ -4,7 +4,7 @@ use Rattle.edf_fields.specs.Lists.{Has}
 use Rattle.edf_header.specs.Heads.{SignalHead, Head, is_annotations}
 use Rattle.edf_claim.specs.Terms.{Terms}
 use Rattle.edf_heads.specs.Blank.{HasNoTexts}
-use Rattle.edf_heads.specs.Channels.{IsChannelOf}
+use Rattle.edf_header.specs.signals.Channels.{IsChannelOf}
 use Rattle.edf_heads.specs.Firsts.{IsFirstWith}
 
 -- `IsBlank` of what is the header's own: nothing stands behind `EDF+C` or `EDF+D`, and the annotation signals have no texts (EDF+, "The EDF+ header", "The 'EDF Annotations' signal")

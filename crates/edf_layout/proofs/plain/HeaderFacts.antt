@@ -1,5 +1,6 @@
 -- Plain headers that say the same are the same bytes.
 use Rattle.std.proofs.Common.{◌≡◌, ℕ, zero, suc, ℤ, pos, Bool, true, false, cond, ◌==◌, ◌+◌, List, [], ◌∷◌, ◌++◌, length, replicate, slice_get, Some, codes, arith, refl, ap, ◌∙◌, sym, subst, ◌*◌}
+use Rattle.edf_header.proofs.ForCallers.{head_in_parts, in_parts}
 use Rattle.std.specs.Prelude.{◌*ℤ◌}
 use Rattle.edf_fields.proofs.ForCallers.{whole_in, decimal_in, from_picoseconds}
 use Rattle.std.proofs.lemmas.Bool.Decides.{nat_tests}
@@ -13,7 +14,8 @@ use Rattle.edf_fields.specs.declared.faults.fault.Place.TheVariants.{AtField, At
 use Rattle.edf_fields.specs.declared.fields.layout.FixedField.{FixedField}
 use Rattle.edf_fields.specs.declared.fields.layout.FixedField.TheVariants as fixed
 use Rattle.edf_fields.specs.declared.fields.layout.SignalField.TheVariants as signal
-use Rattle.edf_fields.specs.fields.Layout.{fixed_part, fixed_field, columns_part, signal_field}
+use Rattle.edf_fields.specs.fields.Layout.{fixed_field}
+use Rattle.edf_fields.specs.fields.LayoutReading.{fixed_part, columns_part, column_field}
 use Rattle.edf_header.specs.Conforming.{HeaderConforms}
 use Rattle.edf_header.specs.Heads.{SignalHead, Head, HasSignal, header_bytes}
 use Rattle.edf_layout.specs.HeadLayouts.{SignalLayout, FrontLayout, HeadLayout, signal_layout, signal_layouts, front_layout, head_layout_of}
@@ -125,7 +127,7 @@ plain-signal s l h =
     }
 
 -- plain signals with one head have one layout
-signal-same : (xs ys : List ℕ) (n s : ℕ) (a : SignalHead) → HasSignal xs n s a → HasSignal ys n s a → PlainSignal (signal_layout xs n s) → PlainSignal (signal_layout ys n s) → signal_layout xs n s ≡ signal_layout ys n s
+signal-same : (xs ys : List ℕ) (n s : ℕ) (a : SignalHead) → HasSignal (column_field xs n s) a → HasSignal (column_field ys n s) a → PlainSignal (signal_layout xs n s) → PlainSignal (signal_layout ys n s) → signal_layout xs n s ≡ signal_layout ys n s
 signal-same xs ys n s a h k p q =
     let l = signal_layout xs n s in
     let m = signal_layout ys n s in
@@ -133,17 +135,17 @@ signal-same xs ys n s a h k p q =
     λ z r t u v w. record { label = z; samples = r; physical_minimum = t; physical_maximum = u; digital_minimum = v; digital_maximum = w } in
     ap (λ z. made z l.samples l.physical_minimum l.physical_maximum l.digital_minimum l.digital_maximum) (sym h.label ∙ k.label)
     ∙ ap (λ r. made m.label r l.physical_minimum l.physical_maximum l.digital_minimum l.digital_maximum)
-    (one_plain_whole_number (signal_field xs n s signal.Samples) (signal_field ys n s signal.Samples) (pos a.samples) (whole_in xs (216 * n + 8 * s) 8 (pos a.samples) (omega arith) h.samples) (whole_in ys (216 * n + 8 * s) 8 (pos a.samples) (omega arith) k.samples) p.samples q.samples)
+    (one_plain_whole_number (column_field xs n s signal.Samples) (column_field ys n s signal.Samples) (pos a.samples) (whole_in xs (216 * n + 8 * s) 8 (pos a.samples) (omega arith) h.samples) (whole_in ys (216 * n + 8 * s) 8 (pos a.samples) (omega arith) k.samples) p.samples q.samples)
     ∙ ap (λ t. made m.label m.samples t l.physical_maximum l.digital_minimum l.digital_maximum)
-    (one_plain_header_number (signal_field xs n s signal.PhysicalMinimum) (signal_field ys n s signal.PhysicalMinimum) a.calibration.physical_minimum (decimal_in xs (104 * n + 8 * s) 8 a.calibration.physical_minimum (omega arith) h.physical_minimum) (decimal_in ys (104 * n + 8 * s) 8 a.calibration.physical_minimum (omega arith) k.physical_minimum) p.physical_minimum q.physical_minimum)
+    (one_plain_header_number (column_field xs n s signal.PhysicalMinimum) (column_field ys n s signal.PhysicalMinimum) a.calibration.physical_minimum (decimal_in xs (104 * n + 8 * s) 8 a.calibration.physical_minimum (omega arith) h.physical_minimum) (decimal_in ys (104 * n + 8 * s) 8 a.calibration.physical_minimum (omega arith) k.physical_minimum) p.physical_minimum q.physical_minimum)
     ∙ ap (λ u. made m.label m.samples m.physical_minimum u l.digital_minimum l.digital_maximum)
-    (one_plain_header_number (signal_field xs n s signal.PhysicalMaximum) (signal_field ys n s signal.PhysicalMaximum) a.calibration.physical_maximum (decimal_in xs (112 * n + 8 * s) 8 a.calibration.physical_maximum (omega arith) h.physical_maximum) (decimal_in ys (112 * n + 8 * s) 8 a.calibration.physical_maximum (omega arith) k.physical_maximum) p.physical_maximum q.physical_maximum)
+    (one_plain_header_number (column_field xs n s signal.PhysicalMaximum) (column_field ys n s signal.PhysicalMaximum) a.calibration.physical_maximum (decimal_in xs (112 * n + 8 * s) 8 a.calibration.physical_maximum (omega arith) h.physical_maximum) (decimal_in ys (112 * n + 8 * s) 8 a.calibration.physical_maximum (omega arith) k.physical_maximum) p.physical_maximum q.physical_maximum)
     ∙ ap (λ v. made m.label m.samples m.physical_minimum m.physical_maximum v l.digital_maximum)
-    (one_plain_whole_number (signal_field xs n s signal.DigitalMinimum) (signal_field ys n s signal.DigitalMinimum) a.calibration.digital_minimum (whole_in xs (120 * n + 8 * s) 8 a.calibration.digital_minimum (omega arith) h.digital_minimum) (whole_in ys (120 * n + 8 * s) 8 a.calibration.digital_minimum (omega arith) k.digital_minimum) p.digital_minimum q.digital_minimum)
+    (one_plain_whole_number (column_field xs n s signal.DigitalMinimum) (column_field ys n s signal.DigitalMinimum) a.calibration.digital_minimum (whole_in xs (120 * n + 8 * s) 8 a.calibration.digital_minimum (omega arith) h.digital_minimum) (whole_in ys (120 * n + 8 * s) 8 a.calibration.digital_minimum (omega arith) k.digital_minimum) p.digital_minimum q.digital_minimum)
     ∙ ap (λ w. made m.label m.samples m.physical_minimum m.physical_maximum m.digital_minimum w)
-    (one_plain_whole_number (signal_field xs n s signal.DigitalMaximum) (signal_field ys n s signal.DigitalMaximum) a.calibration.digital_maximum (whole_in xs (128 * n + 8 * s) 8 a.calibration.digital_maximum (omega arith) h.digital_maximum) (whole_in ys (128 * n + 8 * s) 8 a.calibration.digital_maximum (omega arith) k.digital_maximum) p.digital_maximum q.digital_maximum)
+    (one_plain_whole_number (column_field xs n s signal.DigitalMaximum) (column_field ys n s signal.DigitalMaximum) a.calibration.digital_maximum (whole_in xs (128 * n + 8 * s) 8 a.calibration.digital_maximum (omega arith) h.digital_maximum) (whole_in ys (128 * n + 8 * s) 8 a.calibration.digital_maximum (omega arith) k.digital_maximum) p.digital_maximum q.digital_maximum)
 
-signals-same : (xs ys : List ℕ) (n : ℕ) (heads : List SignalHead) → length heads ≡ n → ((s : ℕ) (a : SignalHead) → slice_get heads s ≡ Some a → HasSignal xs n s a) → ((s : ℕ) (a : SignalHead) → slice_get heads s ≡ Some a → HasSignal ys n s a)
+signals-same : (xs ys : List ℕ) (n : ℕ) (heads : List SignalHead) → length heads ≡ n → ((s : ℕ) (a : SignalHead) → slice_get heads s ≡ Some a → HasSignal (column_field xs n s) a) → ((s : ℕ) (a : SignalHead) → slice_get heads s ≡ Some a → HasSignal (column_field ys n s) a)
     → (s m : ℕ) → s + m ≡ n → odd_signals s (signal_layouts xs n s m) ≡ [] → odd_signals s (signal_layouts ys n s m) ≡ [] → signal_layouts xs n s m ≡ signal_layouts ys n s m
 signals-same xs ys n heads long has have s zero all p q = refl
 signals-same xs ys n heads long has have s (suc m) all p q =
@@ -161,31 +163,33 @@ front-same : (file other : List ℕ) (h : Head) → HeaderConforms file h → He
 front-same file other h c d p q =
     let xs = fixed_part file in
     let ys = fixed_part other in
+    let read = in_parts file h c in
+    let too = in_parts other h d in
     let l = front_layout xs in
     let m = front_layout ys in
     let f : FixedField → List ℕ = λ k. fixed_field xs k in
     let g : FixedField → List ℕ = λ k. fixed_field ys k in
-    let mine = from_picoseconds xs 244 8 h.duration (omega arith) (c.head).duration in
-    let other_one = from_picoseconds ys 244 8 h.duration (omega arith) (d.head).duration in
+    let mine = from_picoseconds xs 244 8 h.duration (omega arith) (read.head).duration in
+    let other_one = from_picoseconds ys 244 8 h.duration (omega arith) (too.head).duration in
     let units : mine.0 ≡ other_one.0 = units-same mine.0 other_one.0 h.duration mine.2 other_one.2 in
     let made : List ℕ → List ℕ → List ℕ → List ℕ → List ℕ → List ℕ → List ℕ → FrontLayout =
     λ z r s t u v w. record { kind = z; size = r; records = s; duration = t; count = u; patient_spaces = v; recording_spaces = w } in
-    ap (λ z. made z l.size l.records l.duration l.count l.patient_spaces l.recording_spaces) ((c.head).kind ∙ sym (d.head).kind)
+    ap (λ z. made z l.size l.records l.duration l.count l.patient_spaces l.recording_spaces) ((read.head).kind ∙ sym (too.head).kind)
     ∙ ap (λ r. made m.kind r l.records l.duration l.count l.patient_spaces l.recording_spaces)
-    (one_plain_whole_number (f fixed.HeaderBytes) (g fixed.HeaderBytes) (pos (header_bytes h)) (whole_in xs 184 8 (pos (header_bytes h)) (omega arith) c.size) (whole_in ys 184 8 (pos (header_bytes h)) (omega arith) d.size) p.size q.size)
+    (one_plain_whole_number (f fixed.HeaderBytes) (g fixed.HeaderBytes) (pos (header_bytes h)) (whole_in xs 184 8 (pos (header_bytes h)) (omega arith) read.size) (whole_in ys 184 8 (pos (header_bytes h)) (omega arith) too.size) p.size q.size)
     ∙ ap (λ s. made m.kind m.size s l.duration l.count l.patient_spaces l.recording_spaces)
-    (one_plain_whole_number (f fixed.Records) (g fixed.Records) (pos h.records) (whole_in xs 236 8 (pos h.records) (omega arith) (c.head).records) (whole_in ys 236 8 (pos h.records) (omega arith) (d.head).records) p.records q.records)
+    (one_plain_whole_number (f fixed.Records) (g fixed.Records) (pos h.records) (whole_in xs 236 8 (pos h.records) (omega arith) (read.head).records) (whole_in ys 236 8 (pos h.records) (omega arith) (too.head).records) p.records q.records)
     ∙ ap (λ t. made m.kind m.size m.records t l.count l.patient_spaces l.recording_spaces)
     (one_plain_header_number (f fixed.Duration) (g fixed.Duration) mine.0 mine.1 (subst (λ v. SpellsHeaderNumber (g fixed.Duration) v) (sym units) other_one.1) p.duration q.duration)
     ∙ ap (λ u. made m.kind m.size m.records m.duration u l.patient_spaces l.recording_spaces)
-    (one_plain_whole_number (f fixed.Signals) (g fixed.Signals) (pos (length h.signals)) (whole_in xs 252 4 (pos (length h.signals)) (omega arith) (c.head).count) (whole_in ys 252 4 (pos (length h.signals)) (omega arith) (d.head).count) p.count q.count)
+    (one_plain_whole_number (f fixed.Signals) (g fixed.Signals) (pos (length h.signals)) (whole_in xs 252 4 (pos (length h.signals)) (omega arith) (read.head).count) (whole_in ys 252 4 (pos (length h.signals)) (omega arith) (too.head).count) p.count q.count)
     ∙ ap (λ v. made m.kind m.size m.records m.duration m.count v l.recording_spaces)
     (spaces-same fixed.Patient (h.patient).code (text_of (f fixed.Patient)) (text_of (g fixed.Patient)) ((h.patient).sex ∷ (h.patient).birthdate ∷ (h.patient).name ∷ (h.patient).extras)
-    (((c.head).patient).lists).subfields (((d.head).patient).lists).subfields p.patient q.patient)
+    (((read.head).patient).lists).subfields (((too.head).patient).lists).subfields p.patient q.patient)
     ∙ ap (λ w. made m.kind m.size m.records m.duration m.count m.patient_spaces w)
     (spaces-same fixed.Recording (codes "Startdate") (text_of (f fixed.Recording)) (text_of (g fixed.Recording))
     ((h.recording).date ∷ (h.recording).admin ∷ (h.recording).technician ∷ (h.recording).equipment ∷ (h.recording).extras)
-    (((c.head).recording).lists).subfields (((d.head).recording).lists).subfields p.recording q.recording)
+    (((read.head).recording).lists).subfields (((too.head).recording).lists).subfields p.recording q.recording)
 
 layouts-same : (file other : List ℕ) (h : Head) → HeaderConforms file h → HeaderConforms other h → places_of (head_layout_of file h) h ≡ [] → places_of (head_layout_of other h) h ≡ [] → head_layout_of file h ≡ head_layout_of other h
 unfolding head_layout_of odd_places
@@ -198,7 +202,7 @@ layouts-same file other h c d p q =
     let front = front-same file other h c d
     (plain-front (front_layout (fixed_part file)) h.patient.extras h.recording.extras one.0)
     (plain-front (front_layout (fixed_part other)) h.patient.extras h.recording.extras two.0) in
-    let signals = signals-same xs ys n h.signals refl (c.head).signals (d.head).signals 0 n (omega arith) one.1 two.1 in
+    let signals = signals-same xs ys n h.signals refl (head_in_parts file h c.head).signals (head_in_parts other h d.head).signals 0 n (omega arith) one.1 two.1 in
     ap (λ f. joined f (signal_layouts xs n 0 n)) front ∙ ap (λ s. joined (front_layout (fixed_part other)) s) signals
   where
     joined : FrontLayout → List SignalLayout → HeadLayout

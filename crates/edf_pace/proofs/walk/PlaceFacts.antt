@@ -1,5 +1,6 @@
 -- The channel of a label, by its number.
 use Rattle.std.proofs.Common.{◌≡◌, ℕ, zero, suc, ◌+◌, ◌<◌, ◌≤◌, Bool, true, false, not, cond, List, [], ◌∷◌, map, Option, Some, None, slice_get, inl, inr, ⊎_elim, refl, sym, ap, ◌∙◌, subst, arith}
+use Rattle.edf_header.proofs.ForCallers.{channels_distinct}
 use Rattle.std.specs.Str.{bytes_eq}
 use Rattle.std.proofs.lemmas.Slice.Eq.{bytes_eq-Decides}
 use Rattle.edf_fields.specs.Lists.{Has}
@@ -63,7 +64,7 @@ one-number (z ∷ zs) d (suc i) zero x y p q e =
 one-number (z ∷ zs) d (suc i) (suc j) x y p q e = ap suc (one-number zs d.1 i j x y p q e)
 
 pub channels-distinct : (h : Head) → IsSound h → AreDistinct (map (λ s. s.label) (channels_among h.signals))
-channels-distinct h s = labels-distinct h.signals s.standard.distinct
+channels-distinct h s = labels-distinct h.signals (channels_distinct h.signals s.standard.distinct)
 
 -- the place of a label
 pub at-found : (h : Head) (label : List ℕ) (place : ChannelPlace) → channel_at label h ≡ Some place → IsPlace (channels_among h.signals) label 0 place

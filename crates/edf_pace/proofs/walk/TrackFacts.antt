@@ -9,8 +9,8 @@ use Rattle.edf_header.specs.signals.ChannelsReading.{is_ordinary}
 use Rattle.edf_heads.specs.differences.ChannelDifferences.{HasNoChannel}
 use Rattle.edf_heads.specs.ChannelIndexes.{IsChannelAt}
 use Rattle.edf_heads.specs.declared.channel_index.Channel.{Channel}
-use Rattle.edf_stream.specs.records.Records.{lane_of, samples_at}
-use Rattle.edf_stream.specs.records.RecordsReading.{lane_bytes, lane_in}
+use Rattle.edf_stream.specs.records.Records.{lane_of}
+use Rattle.edf_stream.specs.records.RecordsReading.{lane_bytes, lane_in, samples_at}
 use Rattle.edf_pace.specs.declared.walk.channel_place.ChannelPlace.{ChannelPlace}
 use Rattle.edf_pace.specs.declared.walk.track.Track.{Track}
 use Rattle.edf_pace.specs.walk.Columns.{channel_at}

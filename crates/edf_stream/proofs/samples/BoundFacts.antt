@@ -5,7 +5,7 @@ use Rattle.std.specs.List.{All}
 use Rattle.std.proofs.lemmas.Int.{ints, unsigned_abs-mul}
 use Rattle.std.proofs.Math.Nat.{mul-le-mul, mul-le-mul_right}
 use borrow.Author.Differences.{up, down}
-use Rattle.edf_fields.proofs.ForCallers.{get-index, get-within}
+use Rattle.edf_fields.proofs.ForCallers.{get-index, get-within, has-at, at-has}
 use Rattle.edf_header.specs.Standard.{IsSoundSignal}
 use Rattle.edf_header.specs.Heads.{SignalHead, Head, samples_together, day_number, record_bytes}
 use Rattle.edf_header.specs.HeadsReading.{start_second}
@@ -13,15 +13,13 @@ use Rattle.edf_tal.proofs.ForCallers.{start_small}
 use Rattle.edf_stream.specs.Conforming.{Conforms}
 use Rattle.edf_stream.specs.Laws.{InstantsFit, StartIsOfLeast}
 use Rattle.edf_stream.specs.annotation.NotesReading.{notes_in}
-use Rattle.edf_stream.specs.records.Records.{record_at}
-use Rattle.edf_stream.specs.records.RecordsReading.{lane_at}
+use Rattle.edf_stream.specs.records.Records.{record_at, lane_of}
 use Rattle.edf_stream.specs.samples.Samples.{SampleValue, IsSample}
 use Rattle.edf_stream.specs.times.Starts.{file_start}
 use Rattle.edf_stream.specs.times.StartsReading.{start_at, end_at}
 use Rattle.edf_stream.specs.samples.Values.{digital_value}
 use Rattle.edf_stream.proofs.records.ReadFacts.{sound-of, says-read, starts_late, starts_early, sample-at}
 use Rattle.edf_stream.proofs.records.SaidFacts.{begins}
-use Rattle.edf_stream.proofs.samples.SampleLawFacts.{count-is}
 use Rattle.edf_stream.proofs.samples.RisingFacts.{scale-mono, scale-sum, not-before-start, lasts, starts-behind}
 
 -- a signal has no more samples than all together
@@ -33,9 +31,10 @@ few-samples (x ∷ signals) (suc s) signal e = let r = few-samples signals s sig
 -- of a sample of a file that conforms: how many samples its lane has
 few-in-lane : (file : List ℕ) (h : Head) (x : SampleValue) → Conforms file h → IsSample file h x → (x.instant).den ≤ 8388608
 few-in-lane file h x c r =
-    let few = few-samples h.signals r.signal (r.channel).0 (r.channel).1 in
+    let at = at-has h.signals r.signal (r.channel).there in
+    let few = few-samples h.signals at.0 r.signal at.1 in
     let small : record_bytes h ≤ 16777216 = (c.header).standard.small_record in
-    let count = r.count ∙ count-is h r.signal (r.channel).0 (r.channel).1 in
+    let count = r.count in
     omega (arith, few, small, count)
 
 -- the start of the file
@@ -116,18 +115,18 @@ start_is_of_least file h c =
     let start = file_start h +ℤ start_at file h 0 in
     let num : ℤ = (pos n *ℤ start) +ℤ (pos 0 *ℤ h.duration) in
     let records : 1 ≤ h.records = standard.some_records in
-    let x : SampleValue = record { label = label; instant = record { num = num; den = n }; value = digital_value (lane_at file h 0 s) 0 } in
+    let x : SampleValue = record { label = label; instant = record { num = num; den = n }; value = digital_value (lane_of signal (record_at file h 0)) 0 } in
     let z : num ≡ pos n *ℤ start = omega (arith, ints) in (
       x,
       record {
         sample = record {
-          signal = s;
+          signal = signal;
           data_record = 0;
           place = 0;
           start = start_at file h 0;
           notes = notes_in h (record_at file h 0);
-          channel = channel.2;
-          count = sym (count-is h s signal there);
+          channel = record { there = has-at h.signals s signal there; labelled = (channel.2).2 };
+          count = refl;
           in_file = omega (arith, records);
           in_lane = omega (arith, some);
           says = says-read file h c 0 (omega (arith, records));

@@ -6,15 +6,14 @@ use Rattle.std.proofs.Math.Nat.{mul-lt-mul_of_pos_right}
 use borrow.Author.Differences.{up, down}
 use Rattle.std.proofs.lemmas.Bool.{cases_lt}
 use Rattle.edf_fields.specs.Lists.{Has}
-use Rattle.edf_fields.proofs.ForCallers.{has-map, map-has, not-true, not-is}
-use Rattle.edf_header.specs.signals.Channels.{IsChannel, channels_among}
+use Rattle.edf_fields.proofs.ForCallers.{has-map, map-has, not-true, not-is, has-at, at-has}
+use Rattle.edf_header.specs.signals.Channels.{channels_among}
 use Rattle.edf_header.specs.Heads.{SignalHead, Head, is_annotations}
 use Rattle.edf_stream.specs.declared.samples.sample.Sample.{Sample}
 use Rattle.edf_stream.specs.Conforming.{Conforms}
 use Rattle.edf_stream.specs.Laws.{SamplesAreListed, SamplesAreOfChannels, SamplesRise, OneAtAnInstant}
 use Rattle.edf_stream.specs.annotation.NotesReading.{notes_in}
-use Rattle.edf_stream.specs.records.Records.{record_at, lane_of, samples_at}
-use Rattle.edf_stream.specs.records.RecordsReading.{lane_at}
+use Rattle.edf_stream.specs.records.Records.{record_at, lane_of}
 use Rattle.edf_stream.specs.samples.Samples.{SampleValue, IsSample}
 use Rattle.edf_stream.specs.samples.SamplesReading.{samples_by, samples_before, samples_of, channel_label, labelled}
 use Rattle.edf_stream.specs.times.Starts.{file_start}
@@ -37,14 +36,6 @@ list-has file h x i = i
 label-is : (h : Head) (c : ℕ) (signal : SignalHead) → slice_get (channels_among h.signals) c ≡ Some signal → channel_label h c ≡ signal.label
 label-is h c signal e = ap (λ o. option_map_or (λ (x : SignalHead). x.label) o []) e
 
--- the lane of a signal of the file
-lane-is : (file : List ℕ) (h : Head) (k s : ℕ) (signal : SignalHead) → slice_get h.signals s ≡ Some signal → lane_at file h k s ≡ lane_of signal (record_at file h k)
-lane-is file h k s signal e = ap (λ o. option_map_or (λ (x : SignalHead). lane_of x (record_at file h k)) o []) e
-
--- how many samples a signal of the file has in a data record
-pub count-is : (h : Head) (s : ℕ) (signal : SignalHead) → slice_get h.signals s ≡ Some signal → samples_at h s ≡ signal.samples
-count-is h s signal e = ap (λ o. option_map_or (λ (x : SignalHead). x.samples) o 0) e
-
 -- a sample of the list is one of the file
 listed-is : (file : List ℕ) (h : Head) (x : Sample) → Conforms file h → Has (samples_of file h) x → IsSample file h (labelled h x)
 listed-is file h x c i =
@@ -61,18 +52,18 @@ listed-is file h x c i =
     let label : signal.label ≡ channel_label h x.channel = sym (label-is h found.at signal found.there) ∙ ap (channel_label h) (sym at) in
     let start = file_start h +ℤ start_at file h k in
     record {
-      signal = s.0;
+      signal = signal;
       data_record = k;
       place = (found.lane).place;
       start = start_at file h k;
       notes = notes_in h (record_at file h k);
-      channel = (signal, s.1, (label, ap is_annotations (sym label) ∙ not-true (is_annotations signal.label) s.2));
-      count = den ∙ sym (count-is h s.0 signal s.1);
+      channel = record { there = has-at h.signals s.0 signal s.1; labelled = (label, ap is_annotations (sym label) ∙ not-true (is_annotations signal.label) s.2) };
+      count = den;
       in_file = r.below;
       in_lane = (let w = (found.lane).within in omega (arith, full, w, den));
       says = says-read file h c k r.below;
       instant = ap (λ (z : Sample). (z.instant).num) is ∙ ap (λ n. (pos n *ℤ start) +ℤ (pos (found.lane).place *ℤ h.duration)) (sym den);
-      value_is = ap (λ (z : Sample). z.value) is ∙ ap (λ l. digital_value l (found.lane).place) (sym (lane-is file h k s.0 signal s.1));
+      value_is = ap (λ (z : Sample). z.value) is;
     }
 
 same-sample : (x y : SampleValue) → x.label ≡ y.label → (x.instant).num ≡ (y.instant).num → (x.instant).den ≡ (y.instant).den → x.value ≡ y.value → x ≡ y
@@ -86,15 +77,16 @@ same-sample x y label num den value =
 -- a sample of the file is one of the list
 is-listed : (file : List ℕ) (h : Head) (x : SampleValue) → Conforms file h → IsSample file h x → (y : Sample) × Has (samples_of file h) y × (labelled h y ≡ x)
 is-listed file h x c r =
-    let signal = (r.channel).0 in
-    let there = (r.channel).1 in
-    let named : signal.label ≡ x.label = (r.channel).2.0 in
-    let plain : is_annotations x.label ≡ false = (r.channel).2.1 in
-    let count : signal.samples ≡ (x.instant).den = sym (r.count ∙ count-is h r.signal signal there) in
+    let signal = r.signal in
+    let at = at-has h.signals signal (r.channel).there in
+    let there = at.1 in
+    let named : signal.label ≡ x.label = (r.channel).labelled.0 in
+    let plain : is_annotations x.label ≡ false = (r.channel).labelled.1 in
+    let count : signal.samples ≡ (x.instant).den = sym r.count in
     let k = r.data_record in
     let bytes = record_at file h k in
-    let channel = among-channel h.signals r.signal signal there (not-is (is_annotations signal.label) (λ e. let z : true ≡ false = sym e ∙ ap is_annotations named ∙ plain in cc)) in
-    let full = lane-full file h k r.signal signal c r.in_file there in
+    let channel = among-channel h.signals at.0 signal there (not-is (is_annotations signal.label) (λ e. let z : true ≡ false = sym e ∙ ap is_annotations named ∙ plain in cc)) in
+    let full = lane-full file h k at.0 signal c r.in_file there in
     let start = file_start h +ℤ start_at file h k in
     let y = placed channel.0 signal.samples (pos signal.samples *ℤ start) h.duration (lane_of signal bytes) r.place in
     let z : 0 + channel.0 ≡ channel.0 = omega arith in
@@ -105,7 +97,7 @@ is-listed file h x c r =
       list-has file h y (has-file file h h.records k y r.in_file (has-in h bytes y here)),
       same-sample (labelled h y) x (label-is h channel.0 signal channel.1 ∙ named)
           (ap (λ n. (pos n *ℤ start) +ℤ (pos r.place *ℤ h.duration)) count ∙ sym (sample-at file h x r)) count
-          (ap (λ l. digital_value l r.place) (sym (lane-is file h k r.signal signal there)) ∙ sym r.value_is),
+          (sym r.value_is),
     )
 
 pub samples_are_listed : SamplesAreListed
@@ -178,11 +170,14 @@ one-record file h k j n i i' x y c here there few few' ex ey e =
 
 pub one_at_an_instant : OneAtAnInstant
 one_at_an_instant file h c x y p q label same =
-    let one = p.channel in
-    let two = q.channel in
-    let other : IsChannel h.signals q.signal x.label = (two.0, two.1, (two.2.0 ∙ sym label, ap is_annotations label ∙ two.2.1)) in
-    let signal : p.signal ≡ q.signal = ((c.header).standard).distinct p.signal q.signal x.label one other in
-    let den : (y.instant).den ≡ (x.instant).den = q.count ∙ ap (samples_at h) (sym signal) ∙ sym p.count in
+    let one = at-has h.signals p.signal (p.channel).there in
+    let two = at-has h.signals q.signal (q.channel).there in
+    let named : p.signal.label ≡ x.label = (p.channel).labelled.0 in
+    let other : q.signal.label ≡ y.label = (q.channel).labelled.0 in
+    let number : one.0 ≡ two.0 =
+    ((c.header).standard).distinct one.0 two.0 p.signal q.signal one.1 two.1 (ap is_annotations named ∙ (p.channel).labelled.1) (named ∙ label ∙ sym other) in
+    let signal : p.signal ≡ q.signal = (let z : Some p.signal ≡ Some q.signal = sym one.1 ∙ ap (slice_get h.signals) number ∙ two.1 in cc) in
+    let den : (y.instant).den ≡ (x.instant).den = q.count ∙ ap (λ (z : SignalHead). z.samples) (sym signal) ∙ sym p.count in
     let n = (x.instant).den in
     let start : ℕ → ℤ = λ k. pos n *ℤ (file_start h +ℤ start_at file h k) in
     let num : (x.instant).num ≡ (y.instant).num =
@@ -194,7 +189,7 @@ one_at_an_instant file h c x y p q label same =
     one-place p.place q.place h.duration (start q.data_record) (lasts file h c)
     (ap (λ m. start m +ℤ (pos p.place *ℤ h.duration)) (sym k) ∙ sym (sample-at file h x p) ∙ num ∙ at) in
     let value : x.value ≡ y.value =
-    p.value_is ∙ ap (λ m. digital_value (lane_at file h m p.signal) p.place) k
-    ∙ ap (λ m. digital_value (lane_at file h q.data_record m) p.place) signal
-    ∙ ap (digital_value (lane_at file h q.data_record q.signal)) place ∙ sym q.value_is in
+    p.value_is ∙ ap (λ m. digital_value (lane_of p.signal (record_at file h m)) p.place) k
+    ∙ ap (λ (z : SignalHead). digital_value (lane_of z (record_at file h q.data_record)) p.place) signal
+    ∙ ap (digital_value (lane_of q.signal (record_at file h q.data_record))) place ∙ sym q.value_is in
     same-sample x y label num (sym den) value

@@ -6,7 +6,8 @@ use Rattle.edf_header.specs.Heads.{Head}
 use Rattle.edf_tal.specs.Tals.{TalValue, IsLaneOf}
 use Rattle.edf_stream.specs.records.Records.{annotation_lanes, record_at}
 
--- an annotation: its onset and, where it has one, its duration, in picoseconds, and its text
+-- an annotation: its onset, in picoseconds after the second at which its file starts, its duration, where it has one, in picoseconds, and
+-- its text
 pub record NoteValue : Type 0 where
   pub onset : ℤ
   pub duration : Option ℤ

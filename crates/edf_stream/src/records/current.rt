@@ -2,8 +2,7 @@
 
 ghost use Rattle.std.specs.Prelude.{◌≡◌, ◌<◌, ◌^◌, ◌+ℤ◌, IsTrue, length, unsigned_abs};
 ghost use Rattle.edf_stream.specs.records.Readers.{is_current};
-ghost use Rattle.edf_stream.specs.records.Records.{samples_at};
-ghost use Rattle.edf_stream.specs.records.RecordsReading.{lane_bytes, lane_in};
+ghost use Rattle.edf_stream.specs.records.RecordsReading.{lane_bytes, lane_in, samples_at};
 ghost use Rattle.edf_stream.specs.annotation.NotesReading.{notes_in};
 ghost use Rattle.edf_stream.specs.times.StartsReading.{start_in};
 ghost use Rattle.edf_stream.specs.samples.Values.{digital_value};

@@ -4,8 +4,8 @@ ghost use Rattle.std.specs.Prelude.{◌≡◌, ◌+◌, ◌-◌, ◌*◌, ◌≤
 ghost use Rattle.edf_header.specs.Heads.{record_bytes};
 ghost use Rattle.edf_tal.specs.Views.{tal_view, items_left, start_of};
 ghost use Rattle.edf_tal.specs.Reading.{items_of};
-ghost use Rattle.edf_stream.specs.records.Records.{lane_of as lane_of_signal, numbered_lane, annotation_lanes};
-ghost use Rattle.edf_stream.specs.records.RecordsReading.{lane_bytes, lane_in};
+ghost use Rattle.edf_stream.specs.records.Records.{lane_of as lane_of_signal, annotation_lanes};
+ghost use Rattle.edf_stream.specs.records.RecordsReading.{lane_bytes, lane_in, numbered_lane};
 ghost use Rattle.edf_stream.specs.annotation.Keeping.{behind_time};
 ghost use Rattle.edf_stream.specs.annotation.Notes.{notes_of_tal};
 ghost use Rattle.edf_stream.specs.annotation.NotesReading.{notes_of_items, notes_of_lane, notes_of_lanes};

@@ -213,4 +213,12 @@ impl FileReader {
     {
         &self.header
     }
+
+    /// The header of the file; what else the reader has in memory is given back.
+    pub fn into_header(self) -> Header
+        ensures { result ≡ self.head }
+    {
+        let FileReader { header, .. } = self;
+        header
+    }
 }

@@ -9,7 +9,7 @@ returns-in_ok-check_parts_beside-in-Ok-clause-counted g c =
     let parts = c.args.parts.now in
     let claim = c.in-Ok.claim in
     let before = g.L.Onlooker.counted c.args.onlooker.now in
-    let there : (ts : List (List Tally)) → g.L.Onlooker.counted c.check_parts_beside.new.asked.onlooker.now ≡ ts → AreCountedOfAll g.O.Source g.E.Source o parts claim (g.L.Onlooker.looks c.args.onlooker.now) before ts = λ ts is looks ho he conform follow.
-    subst (AreCounted (g.O.Source.left o) (map g.E.Source.left parts) claim before) is (c.in_ok-check_parts_beside-in-Ok.ensures.counted looks ho he conform follow)
+    let there : (ts : List (List Tally)) → g.L.Onlooker.counted c.check_parts_beside.new.asked.onlooker.now ≡ ts → AreCountedOfAll g.O.Source g.E.Source o parts claim (g.L.Onlooker.looks c.args.onlooker.now) before ts =
+    λ ts is looks ho he all follow. subst (AreCounted (g.O.Source.left o) (map g.E.Source.left parts) claim before) is (c.in_ok-check_parts_beside-in-Ok.ensures.counted looks ho he all follow)
     in
     (claim, c.in-Ok.ensures.says, there _ (search rules))

@@ -2,7 +2,7 @@ use Rattle.std.proofs.Common.{◌∙◌, ap, sym, subst, drop}
 use Rattle.edf_header.specs.Conforming.{HeaderConforms}
 use Rattle.edf_header.specs.Heads.{Head, HasHead, header_bytes}
 use Rattle.edf_header.proofs.ConformingFacts.{passing-conforms}
-use Rattle.edf_header.proofs.HeadFacts.{has-head}
+use Rattle.edf_header.proofs.HeadFacts.{passing_has_head}
 use Rattle.edf_header.proofs.KeptFacts.{kept}
 use Rattle.edf_header.proofs.ReadFacts.{columns-left, view-is, head-is, rest-is}
 use Rattle.edf_header.proofs.header.Header.read.Goals as goal
@@ -45,7 +45,7 @@ returns-clause-value g c = λ h.
 pub returns-clause-says : goal.returns-clause-says
 returns-clause-says g c = λ h.
     let b = g.S.Source.left c.args.source.now in
-    subst (λ (head : Head). HasHead b head) (sym (returns-clause-value g c h)) (has-head b (returns-clause-passed g c h))
+    subst (λ (head : Head). HasHead b head) (sym (returns-clause-value g c h)) (passing_has_head b (returns-clause-passed g c h))
 
 pub returns-clause-conforms : goal.returns-clause-conforms
 returns-clause-conforms g c = λ h.

@@ -1,5 +1,5 @@
 use Rattle.std.proofs.Common.{length, ap, ◌∙◌}
-use Rattle.edf_stream.specs.records.Records.{numbered_lane}
+use Rattle.edf_stream.specs.records.RecordsReading.{numbered_lane}
 use Rattle.edf_stream.proofs.records.SignalFacts.{lane_long}
 use Rattle.edf_stream.proofs.records.lanes.lane_at.Goals as goal
 
