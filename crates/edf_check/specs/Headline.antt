@@ -20,8 +20,8 @@ use Rattle.edf_pace.specs.Kept.{SamplesAsKept, kept_of, unshifted}
 -- annotations); the export's channels are exactly the claimed ones, with the original's texts and calibrations; its samples are
 -- exactly the original's samples of those channels in the claimed intervals, value for value, at the claimed shift; its annotations
 -- are exactly the kept ones, in some order; every subfield is `X` where it is claimed anonymous, and else the original's, but for the
--- date, of which it is asked whether it is `X`: that it is the day after the shift follows from the samples, and from `same_day` of
--- `MeetsStandard`; and the fields that hold nothing but free text are empty. Of how the export is cut into data records, of its kind,
+-- date, which is then `X` exactly where the original's is: that it is the original's day, moved by the shift, follows from the samples,
+-- and from `same_day` of `MeetsStandard`; and the fields that hold nothing but free text are empty. Of how the export is cut into data records, of its kind,
 -- `EDF+C` or `EDF+D`, and of the order of its channels nothing is said.
 pub record Headline (original export : List ℕ) (claim : Terms) : Type 0 where
   pub original_head : Head
