@@ -123,20 +123,14 @@ fn say_both<R: Recordings>(
     Ok(())
 }
 
-/// What is seen of both files under another claim, of which this is the text; none where one has a fault now.
+/// What is seen of both files under another claim; none where one has a fault now.
 fn seen_anew<'c, R: Recordings>(
     alloc: Global,
     asked: &Asked<'_, OneExport<'_, R>>,
-    claim_text: &[u8],
-    claim: &'c Claim,
+    wanted: Wanted<'_, 'c>,
 ) -> Result<Option<Findings<'c>>, RunStop> {
     let mut original = asked.tries.recordings.open_original()?;
     let mut export = asked.tries.recordings.open_export()?;
-    let wanted = Wanted {
-        claim_text,
-        claim,
-        hidden: asks_for_texts(alloc, claim_text)?,
-    };
     findings_of(alloc, &mut original, &mut export, wanted)
 }
 
@@ -149,11 +143,17 @@ fn say_reckoned<R: Recordings>(
     seconds: i64,
 ) -> Result<(), RunStop> {
     let alloc = text.alloc();
-    let Some(claim_text) = with_shift(alloc, asked.claim_text, seconds)? else {
+    let Some(changed) = with_shift(alloc, asked.claim_text, seconds)? else {
         return Ok(());
     };
-    let claim = Claim::read(alloc, &claim_text)?;
-    let Some(mut seen) = seen_anew(alloc, asked, &claim_text, &claim)? else {
+    let claim_text = changed.as_slice();
+    let claim = Claim::read(alloc, claim_text)?;
+    let wanted = Wanted {
+        claim_text,
+        claim: &claim,
+        hidden: asks_for_texts(alloc, claim_text)?,
+    };
+    let Some(mut seen) = seen_anew(alloc, asked, wanted)? else {
         text.say(READ_ANEW, &[])?;
         return Ok(());
     };

@@ -1,6 +1,7 @@
 //! Sentences behind the line of a check of several exports, for whoever has to act on it.
 
-ghost use Rattle.std.specs.Prelude.{IsTrue};
+ghost use Rattle.std.specs.Prelude.{IfOk, IsTrue};
+ghost use Rattle.edf_claim.specs.Claims.{SaysClaimText};
 ghost use Rattle.edf_explain.specs.Appending.{Appended};
 
 use crate::differences::annotations::say_annotations;
@@ -208,21 +209,15 @@ fn say_listed<R: PartsRecordings>(
     Ok(())
 }
 
-/// What is seen of all exports under another claim, of which this is the text; none where a file has a fault now.
+/// What is seen of all exports under another claim; none where a file has a fault now.
 fn seen_anew<'c, R: PartsRecordings>(
     alloc: Global,
     parts: &PartsAsked<'_, R>,
-    claim_text: &[u8],
-    claim: &'c Claim,
+    wanted: Wanted<'_, 'c>,
 ) -> Result<Option<Findings<'c>>, PartsRunStop> {
     let recordings = parts.asked.tries.recordings;
     let mut original = recordings.open_original()?;
     let mut exports = recordings.open_exports(alloc)?;
-    let wanted = Wanted {
-        claim_text,
-        claim,
-        hidden: asks_for_texts(alloc, claim_text)?,
-    };
     findings_of_parts(alloc, &mut original, &mut exports, wanted)
 }
 
@@ -234,11 +229,17 @@ fn say_reckoned<R: PartsRecordings>(
     seconds: i64,
 ) -> Result<(), PartsRunStop> {
     let alloc = text.alloc();
-    let Some(claim_text) = with_shift(alloc, parts.asked.claim_text, seconds)? else {
+    let Some(changed) = with_shift(alloc, parts.asked.claim_text, seconds)? else {
         return Ok(());
     };
-    let claim = claim_of(alloc, &claim_text)?;
-    match seen_anew(alloc, parts, &claim_text, &claim)? {
+    let claim_text = changed.as_slice();
+    let claim = claim_of(alloc, claim_text)?;
+    let wanted = Wanted {
+        claim_text,
+        claim: &claim,
+        hidden: asks_for_texts(alloc, claim_text)?,
+    };
+    match seen_anew(alloc, parts, wanted)? {
         Some(mut seen) => say_listed(text, parts, &mut seen, shifts),
         None => Ok(text.say(READ_ANEW, &[])?),
     }
@@ -272,7 +273,9 @@ fn say_seen<R: PartsRecordings>(
 }
 
 /// The claim that a text says.
-fn claim_of(alloc: Global, text: &[u8]) -> Result<Claim, PartsRunStop> {
+fn claim_of(alloc: Global, text: &[u8]) -> Result<Claim, PartsRunStop>
+    ensures { IfOk result (SaysClaimText text.now) }
+{
     match Claim::read(alloc, text) {
         Ok(claim) => Ok(claim),
         Err(ClaimStop::OutOfMemory) => Err(PartsRunStop::OutOfMemory),

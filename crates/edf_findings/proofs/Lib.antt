@@ -1,1 +1,3 @@
+pub mod ClaimFacts
+pub mod LikenessFacts
 pub mod ToldFacts

@@ -2,7 +2,7 @@
 use Rattle.std.proofs.Math.Seq.{take-suc}
 use Rattle.std.proofs.lemmas.List.{append-nil, map-append, length-take}
 use Rattle.std.proofs.lemmas.Option.{get_or_from_slice_get, slice_get_within}
-use Rattle.std.proofs.Common.{IfSome, ◌<◌, get_or, take, ◌≡◌, ◌∙◌, ◌++◌, ◌+◌, ◌&&◌, ◌⊎◌, ℕ, zero, suc, Bor, Bool, true, false, List, [], ◌∷◌, Option, None, Some, is_some, option_map, map, length, slice_get, inl, inr, if◌then◌else◌, refl, sym, ap, arith, subst}
+use Rattle.std.proofs.Common.{IfSome, take, ◌≡◌, ◌∙◌, ◌++◌, ◌+◌, ◌&&◌, ◌⊎◌, ℕ, zero, suc, Bor, Bool, true, false, List, [], ◌∷◌, Option, None, Some, is_some, option_map, map, length, slice_get, inl, inr, if◌then◌else◌, refl, sym, ap, arith, subst}
 use Rattle.edf_claim.specs.Terms.{Terms}
 use Rattle.edf_fields.specs.Lists.{Has}
 use Rattle.edf_fields.proofs.ForCallers.{has-append}
@@ -136,6 +136,13 @@ found-more claim labels h [] [] part more are is = (is, tt)
 found-more claim labels h [] (f ∷ fs) part more are is = absurd are
 found-more claim labels h (p ∷ ps) [] part more are is = absurd are
 found-more claim labels h (p ∷ ps) (f ∷ fs) part more are is = (are.0, found-more claim labels h ps fs part more are.1 is)
+
+-- as many are told of as were read
+pub as-many : (claim : Terms) (labels : List (Bor (List ℕ))) (h : Head) (parts : List ReadPart) (found : List PartFindings) → AreFoundIn claim labels h parts found → length found ≡ length parts
+as-many claim labels h [] [] are = refl
+as-many claim labels h [] (f ∷ fs) are = absurd are
+as-many claim labels h (p ∷ ps) [] are = absurd are
+as-many claim labels h (p ∷ ps) (f ∷ fs) are = ap suc (as-many claim labels h ps fs are.1)
 
 pub if-some : {A : Type 0} {P Q : A → Type 0} (x : Option A) → ((a : A) → P a → Q a) → IfSome x P → IfSome x Q
 if-some None f h = h

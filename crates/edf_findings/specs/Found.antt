@@ -1,7 +1,7 @@
 -- What is found in an original and its exports, of what was counted of each.
-use Rattle.std.specs.Prelude.{◌≡◌, ℕ, List, [], ◌∷◌, map, length, true, MatchOption}
+use Rattle.std.specs.Prelude.{◌≡◌, ℕ, List, [], ◌∷◌, map, length, true, Some, MatchOption}
 use Rattle.std.specs.Borrow.{Bor}
-use Rattle.edf_check.specs.parts.Counted.{AreCountedUnder, IsCountedUnder}
+use Rattle.edf_check.specs.parts.Counted.{AreCountedOfAll, IsCountedOfTwo}
 use Rattle.edf_claim.specs.Terms.{Terms}
 use Rattle.edf_fields.specs.declared.in_out.source.Source.{Ghosts}
 use Rattle.edf_header.specs.Heads.{Head}
@@ -9,6 +9,7 @@ use Rattle.edf_heads.specs.Comparisons.{AreSorted}
 use Rattle.edf_stream.specs.records.Readers.{Reader}
 use Rattle.edf_findings.specs.declared.findings.Findings.{Findings}
 use Rattle.edf_findings.specs.declared.looker.Looker.{Looker}
+use Rattle.edf_findings.specs.declared.notes.both.Notes.{Notes}
 use Rattle.edf_findings.specs.declared.part.PartFindings.{PartFindings}
 use Rattle.edf_findings.specs.declared.part.ReadPart.{ReadPart}
 use Rattle.edf_findings.specs.Told.{AreTold}
@@ -27,10 +28,12 @@ AreFoundIn claim labels h [] (found ∷ more) = ⊥
 AreFoundIn claim labels h (part ∷ parts) [] = ⊥
 AreFoundIn claim labels h (part ∷ parts) (found ∷ more) = IsFoundIn claim labels h part found × AreFoundIn claim labels h parts more
 
--- these are the findings in an original and its exports
-pub record AreFindings (original : Reader) (parts : List PartFindings) (found : Findings) : Type 0 where
+-- these are the findings in an original and its exports, with these annotations, under a claim
+pub record AreFindings (claim : Terms) (original : Reader) (parts : List PartFindings) (notes : Notes) (found : Findings) : Type 0 where
+  pub claim_is : (found.claim).now ≡ claim
   pub original_is : found.original ≡ original
   pub parts_are : found.parts.items ≡ parts
+  pub notes_are : found.notes ≡ notes
 
 -- what somebody who looked on counted of each export that was read to its end
 abbrev pub counted_by : Looker → List (List Tally)
@@ -38,14 +41,17 @@ counted_by looker = map (λ (part : ReadPart). part.tallies.items) looker.parts.
 
 -- the findings are those of somebody who looked on, under a claim: of each export, with the labels of the claim in their order
 pub record AreFoundBy (claim : Terms) (looker : Looker) (found : Findings) : Type 0 where
+  pub claim_is : (found.claim).now ≡ claim
+  pub original_is : looker.original ≡ Some found.original
+  pub notes_are : found.notes ≡ looker.notes
   pub labels : List (Bor (List ℕ))
   pub sorted : AreSorted claim.channels labels
   pub are : AreFoundIn claim labels (found.original).head looker.parts.items found.parts.items
 
--- they are the findings in two files, as a check under the claim that a text says shows them
-abbrev pub AreFindingsOf : {O E : Type 0} → Ghosts O → Ghosts E → O → E → List ℕ → Terms → Findings → Type 0
-AreFindingsOf original export o e text claim found = (looker : Looker) × IsCountedUnder original export o e text true [] (counted_by looker) × AreFoundBy claim looker found
+-- they are the findings in two files, as a check under this claim shows them
+abbrev pub AreFindingsOf : {O E : Type 0} → Ghosts O → Ghosts E → O → E → Terms → Findings → Type 0
+AreFindingsOf original export o e claim found = (looker : Looker) × IsCountedOfTwo original export o e claim true [] (counted_by looker) × AreFoundBy claim looker found
 
 -- the same of several exports
-abbrev pub AreFindingsOfAll : {O E : Type 0} → Ghosts O → Ghosts E → O → List E → List ℕ → Terms → Findings → Type 0
-AreFindingsOfAll original export o parts text claim found = (looker : Looker) × AreCountedUnder original export o parts text true [] (counted_by looker) × AreFoundBy claim looker found
+abbrev pub AreFindingsOfAll : {O E : Type 0} → Ghosts O → Ghosts E → O → List E → Terms → Findings → Type 0
+AreFindingsOfAll original export o parts claim found = (looker : Looker) × AreCountedOfAll original export o parts claim true [] (counted_by looker) × AreFoundBy claim looker found

@@ -1,17 +1,34 @@
 -- What is told of samples that were counted: of each claimed channel that both files have, of each export.
-use Rattle.std.specs.Prelude.{◌≡◌, ℕ, ◌+◌, Bool, ◌&&◌, if◌then◌else◌, List, [], ◌∷◌, ◌++◌, map, length, slice_get, Option, Some, None, is_some}
+use Rattle.std.specs.Prelude.{◌≡◌, ◌==◌, ℕ, ℤ, pos, ◌*ℤ◌, ◌+◌, Bool, ◌&&◌, if◌then◌else◌, List, [], ◌∷◌, ◌++◌, map, slice_get, Option, Some, None, is_some}
 use Rattle.std.specs.Borrow.{Bor}
-use Rattle.edf_claim.specs.Terms.{Terms}
+use Rattle.std.specs.Int.{int_div_euclid, saturate_signed, w128}
 use Rattle.edf_fields.specs.Lists.{Has}
 use Rattle.edf_header.specs.Heads.{Head}
-use Rattle.edf_heads.specs.Comparisons.{AreSorted, IsPlaceOf}
+use Rattle.edf_heads.specs.Comparisons.{IsPlaceOf}
 use Rattle.edf_pace.specs.walk.Columns.{channel_at}
 use Rattle.edf_samples.specs.declared.counts.counted.Counted.{Counted}
 use Rattle.edf_samples.specs.declared.difference.PointDifference.{PointDifference}
 use Rattle.edf_samples.specs.declared.counts.tally.Tally.{Tally}
+use Rattle.edf_stream.specs.declared.times.instant.Instant.{Instant}
+use Rattle.edf_verdict.specs.declared.verdict.SampleMismatch.{SampleMismatch}
+use Rattle.edf_verdict.specs.declared.verdict.SampleMismatch.TheVariants.{Value, Missing, Extra}
 use Rattle.edf_findings.specs.declared.samples.compared.ComparedChannel.{ComparedChannel}
 use Rattle.edf_findings.specs.declared.samples.compared.Samples.{Samples}
 use Rattle.edf_findings.specs.declared.samples.compared.Spot.{Spot}
+
+-- an instant in picoseconds, rounded down; 0 where it is no fraction
+abbrev pub floor_of : Instant → ℤ
+floor_of at = if at.den == 0 then pos 0 else int_div_euclid at.num (pos at.den)
+
+-- the values of the original and the export, where both have one
+abbrev pub values_in : SampleMismatch → Option (ℤ × ℤ)
+values_in (Value kept exported) = Some (kept, exported)
+values_in Missing = None
+values_in Extra = None
+
+-- how many picoseconds so many samples take where a data record lasts so long
+abbrev pub samples_last : ℤ → ℕ → ℤ
+samples_last duration samples = saturate_signed w128 (duration *ℤ pos samples)
 
 -- these are the first and the last, where both are there
 abbrev pub AreEnds : Option PointDifference → Option PointDifference → Option (Spot × Spot) → Type 0

@@ -1,9 +1,14 @@
 //! When a file starts.
 
-use edf_fields::SECOND_PS;
+ghost use Rattle.std.specs.Prelude.{◌≡◌};
+ghost use Rattle.edf_stream.specs.times.Starts.{file_start};
+
 use edf_header::Header;
+use edf_stream::file_start_ps;
 
 /// The second at which a file starts, in picoseconds after 1970-01-01 00:00:00.
-pub fn start_of(header: &Header) -> i128 {
-    i128::from(header.start_second()).saturating_mul(SECOND_PS)
+pub fn start_of(header: &Header) -> i128
+    ensures { result ≡ file_start header.now }
+{
+    file_start_ps(header)
 }

@@ -1,6 +1,6 @@
 //! What an original and its exports differ in that were read to their ends.
 
-ghost use Rattle.std.specs.Prelude.{◌≡◌, ◌<◌, length, IfSome};
+ghost use Rattle.std.specs.Prelude.{◌≡◌, ◌↔◌, ◌<◌, [], length, map, drop, nat_lt, option_map, is_some, Some, IfOk, IfSome};
 
 use crate::notes::both::Notes;
 use crate::part::PartFindings;
@@ -23,6 +23,11 @@ pub struct Findings<'a> {
 }
 
 impl<'a> Findings<'a> {
+    ghost use Rattle.std.specs.List.Sorted.{IsPermutation};
+    ghost use Rattle.edf_pace.specs.Annotations.{SameNotes};
+    ghost use Rattle.edf_pace.specs.notes.OnlyInOne.{AreOnlyInOne};
+    ghost use Rattle.edf_stream.specs.Views.{note_value};
+    ghost use Rattle.edf_findings.specs.Exports.{channels_of, first_of, has_all_of, head_in, keeps_between_in, moved_in, starts_of};
     ghost use Rattle.edf_findings.specs.Found.{AreFindings};
 
     /// Those of these files; none where there is no export.
@@ -32,7 +37,8 @@ impl<'a> Findings<'a> {
         parts: Vec<PartFindings>,
         notes: Notes,
     ) -> Option<Findings<'a>>
-        ensures { IfSome result (AreFindings original parts.items) }
+        ensures some { is_some result ≡ nat_lt 0 (length parts.items) }
+        ensures are { IfSome result (AreFindings claim.entry.now original parts.items notes) }
     {
         if parts.is_empty() {
             return None;
@@ -46,62 +52,97 @@ impl<'a> Findings<'a> {
     }
 
     /// The first export.
-    pub fn first(&self) -> &PartFindings {
+    pub fn first(&self) -> &PartFindings
+        ensures { first_of self.entry.now ≡ Some result.now }
+    {
         &self.parts[0]
     }
 
     /// The exports behind the first one, in their order.
-    pub fn others(&self) -> &[PartFindings] {
+    pub fn others(&self) -> &[PartFindings]
+        ensures { result.now ≡ drop 1 self.entry.now.parts.items }
+    {
         &self.parts[1..]
     }
 
     /// The claimed channels that the original and the first export have, and which of their samples aren't as claimed.
-    pub fn channels(&self) -> &[ComparedChannel] {
+    pub fn channels(&self) -> &[ComparedChannel]
+        ensures { option_map channels_of (first_of self.entry.now) ≡ Some result.now }
+    {
         self.first().channels()
     }
 
     /// The annotations of all files.
-    pub fn notes(&self) -> &Notes {
+    pub fn notes(&self) -> &Notes
+        ensures { result.now ≡ self.entry.now.notes }
+    {
         &self.notes
     }
 
     /// The annotations that only the original or only the exports have. All are put in order before.
-    pub fn only_in_one(&mut self, alloc: Global) -> Result<OnlyInOne, AllocError> {
+    pub fn only_in_one(&mut self, alloc: Global) -> Result<OnlyInOne, AllocError>
+        ensures kept { IfOk result (λ only. IsPermutation self.old.notes.kept.items
+            self.new.notes.kept.items) }
+        ensures exported { IfOk result (λ only. IsPermutation self.old.notes.exported.items
+            self.new.notes.exported.items) }
+        ensures value { IfOk result (λ only. AreOnlyInOne self.new.notes.kept.items
+            self.new.notes.exported.items only) }
+        ensures none { IfOk result (λ only. ((only.missing.items ≡ []) × (only.extra.items ≡ [])) ↔
+            SameNotes (map note_value self.old.notes.kept.items)
+            (map note_value self.old.notes.exported.items)) }
+        ensures hidden { self.new.notes.hidden ≡ self.old.notes.hidden }
+        ensures rest { AreFindings self.old.claim.now self.old.original self.old.parts.items self.new.notes
+            self.new }
+    {
         self.notes.only_in_one(alloc)
     }
 
     /// Where the first export starts; none where the original has no sample that is kept.
-    pub fn starts(&self) -> Option<Starts> {
+    pub fn starts(&self) -> Option<Starts>
+        ensures { option_map starts_of (first_of self.now) ≡ Some result }
+    {
         self.first().starts()
     }
 
     /// Whether an interval was found that has no sample in a data record of the original in which it lies, beside the first export.
-    pub fn keeps_between(&self) -> bool {
+    pub fn keeps_between(&self) -> bool
+        ensures { option_map (λ part. keeps_between_in part.compared) (first_of self.now) ≡ Some result }
+    {
         self.first().keeps_between()
     }
 
     /// The claim.
-    pub fn claim(&self) -> &'a Claim {
+    pub fn claim(&self) -> &'a Claim
+        ensures { result.now ≡ self.entry.now.claim.now }
+    {
         self.claim
     }
 
     /// Whether the original and the first export have all channels of the claim.
-    pub fn has_all_channels(&self) -> bool {
+    pub fn has_all_channels(&self) -> bool
+        ensures { option_map (has_all_of self.now.claim.now) (first_of self.now) ≡ Some result }
+    {
         self.first().has_all_channels(self.claim)
     }
 
     /// The header of the original.
-    pub fn original_header(&self) -> &Header {
+    pub fn original_header(&self) -> &Header
+        ensures { result.now ≡ (self.entry.now.original).head }
+    {
         self.original.header()
     }
 
     /// The header of the first export.
-    pub fn export_header(&self) -> &Header {
+    pub fn export_header(&self) -> &Header
+        ensures { option_map head_in (first_of self.entry.now) ≡ Some result.now }
+    {
         self.first().header()
     }
 
     /// By how much the times of the first export are moved.
-    pub fn moved_ps(&self) -> i128 {
+    pub fn moved_ps(&self) -> i128
+        ensures { option_map (λ part. moved_in part.compared) (first_of self.now) ≡ Some result }
+    {
         self.first().moved_ps()
     }
 }

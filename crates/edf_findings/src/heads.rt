@@ -2,3 +2,4 @@
 
 pub mod cut_off;
 pub mod exchanged;
+mod extremes;

@@ -14,6 +14,7 @@ mod record_time;
 mod samples;
 mod stand;
 mod starts;
+mod wanted;
 
 pub use clock::start_of;
 pub use edf_pace::OnlyInOne;
@@ -25,8 +26,9 @@ pub use looker::Looker;
 pub use notes::both::Notes;
 pub use notes::ends::is_at_end;
 pub use notes::one_way::{OneWay, one_way};
-pub use of_files::{Wanted, findings_of, findings_of_parts};
+pub use of_files::{findings_of, findings_of_parts};
 pub use part::PartFindings;
 pub use samples::compared::{ComparedChannel, Samples, Spot};
 pub use samples::kinds::SampleKinds;
 pub use starts::Starts;
+pub use wanted::Wanted;

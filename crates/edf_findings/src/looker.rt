@@ -1,8 +1,9 @@
 //! Who looks on while an original and its exports are checked, and takes in what they differ in.
 
-ghost use Rattle.std.specs.Prelude.{◌≡◌, [], IfOk, IfSome};
+ghost use Rattle.std.specs.Prelude.{◌≡◌, ◌&&◌, ◌++◌, ◌∷◌, [], is_some, length, nat_lt, IfOk, IfSome, OnOk, None, Some, true};
 ghost use Rattle.edf_heads.specs.Comparisons.{AreSorted};
 ghost use Rattle.edf_findings.specs.Found.{AreFoundBy, AreFoundIn, counted_by};
+ghost use Rattle.edf_findings.specs.Gathered.{HaveNone, exports_of, hidden_at};
 
 use crate::findings::Findings;
 use crate::notes::both::Notes;
@@ -58,7 +59,10 @@ impl Looker {
     /// Nothing was seen so far. Of the texts of annotations that are removed or blanked it is remembered that they are there, if that
     /// is wanted.
     pub fn new(alloc: Global, wants_hidden: bool) -> Looker
-        ensures { counted_by result ≡ [] }
+        ensures counted { counted_by result ≡ [] }
+        ensures original { result.original ≡ None }
+        ensures notes { HaveNone result.notes }
+        ensures hidden { result.wants_hidden ≡ wants_hidden }
     {
         Looker {
             alloc,
@@ -75,10 +79,13 @@ impl Looker {
         }
     }
 
-    /// Takes in the data record of the original at hand, if it is another one than before.
+    /// Takes in the data record of the original at hand, if it is another one than before: where it is wanted, the texts that the
+    /// claim hides.
     fn take_record(&mut self, original: &FileReader, claim: &Claim) -> Result<(), AllocError>
         ensures counts { self.new.counts ≡ self.old.counts }
         ensures parts { self.new.parts ≡ self.old.parts }
+        ensures notes { OnOk result (self.new.notes.hidden.items ≡
+            self.old.notes.hidden.items ++ hidden_at self.old claim.now original.now) }
     {
         if !self.originals.take_in(original) {
             return Ok(());
@@ -100,6 +107,8 @@ impl Looker {
     ) -> Result<(), AllocError>
         ensures counts { self.new.counts ≡ self.old.counts }
         ensures parts { self.new.parts ≡ self.old.parts }
+        ensures notes { OnOk result (self.new.notes.hidden.items ≡ self.old.notes.hidden.items ++
+            hidden_at self.old ((frame.entry.turn).setting.claim).now original.now) }
     {
         let setting = frame.turn.setting;
         self.take_record(original, setting.claim)?;
@@ -112,12 +121,47 @@ impl Looker {
         Ok(())
     }
 
+    /// Keeps an export that was read to its end, with what was counted last.
+    ///
+    /// The error is want of memory.
+    fn keep_export(&mut self, export: FileReader) -> Result<(), AllocError>
+        ensures counted { OnOk result (counted_by self.new ≡
+            counted_by self.old ++ (self.old.counts.tallies.items ∷ [])) }
+        ensures export { OnOk result (exports_of self.new ≡ exports_of self.old ++ (export ∷ [])) }
+        ensures notes { self.new.notes ≡ self.old.notes }
+    {
+        let tallies = mem::replace(&mut self.counts.tallies, Vec::new(self.alloc));
+        let so_far = mem::replace(&mut self.part, PartSoFar::none(self.alloc));
+        self.parts.push(ReadPart {
+            export,
+            so_far,
+            tallies,
+        })?;
+        Ok(())
+    }
+
+    /// Keeps the original, which was read to its end, with those of its annotations that are kept; and the annotations of all exports.
+    fn keep_original(&mut self, original: Reading, exported: Vec<Note>)
+        ensures original { self.new.original ≡ Some original.reader }
+        ensures kept { self.new.notes.kept.items ≡ original.notes.items }
+        ensures exported { self.new.notes.exported.items ≡ exported.items }
+        ensures hidden { self.new.notes.hidden ≡ self.old.notes.hidden }
+        ensures parts { self.new.parts ≡ self.old.parts }
+    {
+        self.original = Some(original.reader);
+        self.notes.kept = original.notes;
+        self.notes.exported = exported;
+    }
+
     /// What an original and its exports differ in that were read to their ends, under this claim. There is none where one of them
     /// has a fault.
     ///
     /// The error is want of memory.
     pub fn findings(self, claim: &Claim) -> Result<Option<Findings<'_>>, AllocError>
-        ensures { IfOk result (λ found. IfSome found (AreFoundBy claim.entry.now self)) }
+        ensures whole { OnOk result (self.is_whole ≡ true) }
+        ensures some { IfOk result (λ found.
+            is_some found ≡ (is_some self.original && nat_lt 0 (length self.parts.items))) }
+        ensures found { IfOk result (λ found. IfSome found (AreFoundBy claim.entry.now self)) }
     {
         let Looker {
             alloc,
@@ -176,19 +220,10 @@ impl Onlooker for Looker {
     }
 
     fn take_export(&mut self, export: FileReader) -> Result<(), AllocError> {
-        let tallies = mem::replace(&mut self.counts.tallies, Vec::new(self.alloc));
-        let so_far = mem::replace(&mut self.part, PartSoFar::none(self.alloc));
-        self.parts.push(ReadPart {
-            export,
-            so_far,
-            tallies,
-        })?;
-        Ok(())
+        self.keep_export(export)
     }
 
     fn take_original(&mut self, original: Reading, exported: Vec<Note>) {
-        self.original = Some(original.reader);
-        self.notes.kept = original.notes;
-        self.notes.exported = exported;
+        self.keep_original(original, exported);
     }
 }

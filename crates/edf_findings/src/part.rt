@@ -1,8 +1,10 @@
 //! What is seen of one export while it is compared.
 
-ghost use Rattle.std.specs.Prelude.{◌≡◌, length, IfOk};
+ghost use Rattle.std.specs.Prelude.{◌≡◌, length, is_some, IfOk};
+ghost use Rattle.std.specs.List.{list_all};
 ghost use Rattle.edf_heads.specs.Comparisons.{AreSorted};
 ghost use Rattle.edf_findings.specs.Told.{AreTold};
+ghost use Rattle.edf_findings.specs.Exports.{channels_of, has_all_of, head_in, is_clean, keeps_between_in, moved_in, starts_of};
 ghost use Rattle.edf_findings.specs.Found.{IsFoundIn};
 
 use crate::record_time::Hands;
@@ -233,17 +235,23 @@ impl PartFindings {
     }
 
     /// The header of the export.
-    pub fn header(&self) -> &Header {
+    pub fn header(&self) -> &Header
+        ensures { result.now ≡ head_in self.entry.now }
+    {
         self.export.header()
     }
 
     /// Whether its samples were compared.
-    pub fn is_compared(&self) -> bool {
+    pub fn is_compared(&self) -> bool
+        ensures { result ≡ is_some self.now.compared }
+    {
         self.compared.is_some()
     }
 
     /// The claimed channels that both files have, and which of their samples aren't as claimed; none where they weren't compared.
-    pub fn channels(&self) -> &[ComparedChannel] {
+    pub fn channels(&self) -> &[ComparedChannel]
+        ensures { result.now ≡ channels_of self.entry.now }
+    {
         match &self.compared {
             Some(compared) => &compared.channels,
             None => &[],
@@ -251,17 +259,23 @@ impl PartFindings {
     }
 
     /// Whether each of these channels is as claimed.
-    pub fn is_as_claimed(&self) -> bool {
+    pub fn is_as_claimed(&self) -> bool
+        ensures { result ≡ list_all is_clean (channels_of self.now) }
+    {
         self.channels().iter().all(|channel: &ComparedChannel| -> bool { channel.is_as_claimed() })
     }
 
     /// Whether the original and it have all channels of a claim.
-    pub fn has_all_channels(&self, claim: &Claim) -> bool {
+    pub fn has_all_channels(&self, claim: &Claim) -> bool
+        ensures { result ≡ has_all_of claim.now self.now }
+    {
         self.channels().len() == claim.channels().len()
     }
 
     /// Where the export starts; none where the original has no sample that is kept.
-    pub fn starts(&self) -> Option<Starts> {
+    pub fn starts(&self) -> Option<Starts>
+        ensures { result ≡ starts_of self.now }
+    {
         match &self.compared {
             Some(compared) => compared.starts,
             None => None,
@@ -269,7 +283,9 @@ impl PartFindings {
     }
 
     /// Whether an interval was found that has no sample in a data record of the original in which it lies.
-    pub fn keeps_between(&self) -> bool {
+    pub fn keeps_between(&self) -> bool
+        ensures { result ≡ keeps_between_in self.now.compared }
+    {
         match &self.compared {
             Some(compared) => compared.keeps_between,
             None => false,
@@ -277,7 +293,9 @@ impl PartFindings {
     }
 
     /// By how much the times of the export are moved.
-    pub fn moved_ps(&self) -> i128 {
+    pub fn moved_ps(&self) -> i128
+        ensures { result ≡ moved_in self.now.compared }
+    {
         match &self.compared {
             Some(compared) => compared.moved_ps,
             None => 0,

@@ -1,8 +1,7 @@
 //! Where a file stands that is read: its data record at hand, on the clock of the original.
 
-ghost use Rattle.std.specs.Prelude.{IsTrue};
-ghost use Rattle.edf_stream.specs.records.Readers.{is_current};
-ghost use Rattle.edf_findings.specs.Hands.{IsHandOf};
+ghost use Rattle.std.specs.Prelude.{◌≡◌, if◌then◌else◌};
+ghost use Rattle.edf_findings.specs.Hands.{IsHandOf, is_another};
 
 use crate::clock::start_of;
 use crate::record_time::{Hand, RecordTime};
@@ -21,7 +20,9 @@ impl RecordCount {
 
     /// Takes in the data record at hand, and answers whether it is another one than before.
     pub(crate) fn take_in(&mut self, reader: &FileReader) -> bool
-        ensures { IsTrue result → IsTrue (is_current reader.now.status) }
+        ensures value { result ≡ is_another self.old.read reader.now }
+        ensures read { self.new.read ≡ if is_another self.old.read reader.now then reader.now.read
+            else self.old.read }
     {
         if !reader.has_current() || self.read == reader.record_count() {
             return false;

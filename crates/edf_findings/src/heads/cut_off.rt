@@ -1,5 +1,9 @@
 //! Numbers of a header of which the last digits were cut off.
 
+ghost use Rattle.std.specs.Prelude.{◌≡◌, ◌↔◌, false, true, IsTrue};
+ghost use Rattle.edf_findings.specs.Likeness.{IsKeptOrNearer, IsNearer, have_same_digital as have_same_digital_of, have_same_physical as have_same_physical_of};
+
+use crate::heads::extremes::{have_same_digital, have_same_physical};
 use edf_header::Calibration;
 
 /// The most digits in front of the dot that are gone through.
@@ -23,25 +27,45 @@ fn last_digit(number: i64) -> i128 {
     unit.min(WHOLE)
 }
 
+/// Whether a number is nearer to 0 than another one, and on the same side of it, or 0.
+fn is_nearer(original: i64, export: i64) -> bool
+    ensures { IsTrue result ↔ IsNearer original export }
+{
+    (0 <= export && export < original) || (original < export && export <= 0)
+}
+
 /// Whether a number is another one with its last digits cut off: nearer to 0, and by one unit of its last digit at most.
-fn is_cut_off(original: i64, export: i64) -> bool {
-    let whole = i128::from(original);
-    let cut = i128::from(export);
-    let lost = whole.saturating_sub(cut);
-    let is_nearer = (whole > 0 && lost > 0 && cut >= 0) || (whole < 0 && lost < 0 && cut <= 0);
-    is_nearer && lost.saturating_abs() <= last_digit(original)
+fn is_cut_off(original: i64, export: i64) -> bool
+    ensures { IsTrue result → IsNearer original export }
+{
+    let lost = i128::from(original).saturating_sub(i128::from(export));
+    is_nearer(original, export) && lost.saturating_abs() <= last_digit(original)
+}
+
+/// Whether a number is another one, or that with its last digits cut off.
+#[tactic(auto, unfolding(crate::specs::Likeness::IsKeptOrNearer))]
+fn is_kept_or_cut_off(original: i64, export: i64) -> bool
+    ensures { IsTrue result → IsKeptOrNearer original export }
+{
+    original == export || is_cut_off(original, export)
 }
 
 /// Whether one of the physical extremes is cut off, and each is cut off or kept, for the same numbers.
-pub fn are_extremes_cut_off(original: &Calibration, export: &Calibration) -> bool {
-    if original.digital() != export.digital() {
+pub fn are_extremes_cut_off(original: &Calibration, export: &Calibration) -> bool
+    ensures minimum { IsTrue result →
+        IsKeptOrNearer original.now.physical_minimum export.now.physical_minimum }
+    ensures maximum { IsTrue result →
+        IsKeptOrNearer original.now.physical_maximum export.now.physical_maximum }
+    ensures changed { IsTrue result → have_same_physical_of original.now export.now ≡ false }
+    ensures digital { IsTrue result → have_same_digital_of original.now export.now ≡ true }
+{
+    if have_same_physical(original, export) {
+        return false;
+    }
+    if !have_same_digital(original, export) {
         return false;
     }
     let (low, high) = original.physical();
     let (new_low, new_high) = export.physical();
-    let is_low_cut = is_cut_off(low, new_low);
-    let is_high_cut = is_cut_off(high, new_high);
-    (is_low_cut || is_high_cut)
-        && (is_low_cut || low == new_low)
-        && (is_high_cut || high == new_high)
+    is_kept_or_cut_off(low, new_low) && is_kept_or_cut_off(high, new_high)
 }

@@ -1,10 +1,11 @@
 //! The annotations of both files, and which of them only one has.
 
-ghost use Rattle.std.specs.Prelude.{◌≡◌, ◌↔◌, [], map, IfOk};
+ghost use Rattle.std.specs.Prelude.{◌≡◌, ◌↔◌, ◌++◌, ◌∷◌, [], map, IfOk, OnOk};
 ghost use Rattle.std.specs.List.Sorted.{IsPermutation};
 ghost use Rattle.edf_pace.specs.Annotations.{SameNotes};
 ghost use Rattle.edf_pace.specs.notes.OnlyInOne.{AreOnlyInOne};
-ghost use Rattle.edf_stream.specs.Views.{note_value};
+ghost use Rattle.edf_stream.specs.Views.{note_value, notes_left};
+ghost use Rattle.edf_findings.specs.Gathered.{HaveNone, hidden_texts, is_hidden as is_hidden_of};
 
 use edf_claim::Claim;
 use edf_pace::{OnlyInOne, only_in_one};
@@ -22,14 +23,33 @@ pub struct Notes {
     pub exported: Vec<Note>,
 }
 
+/// Whether an annotation with this onset and this text is in a kept interval, and the claim removes it or blanks its text.
+fn is_hidden(claim: &Claim, onset: i128, text: &str) -> bool
+    ensures { result ≡ is_hidden_of claim.now onset text.now }
+{
+    claim.keeps_instant(onset, 1) && (!claim.keeps_annotation(onset, text) || claim.blanks(text))
+}
+
 impl Notes {
     /// None so far.
-    pub(crate) fn new(alloc: Global) -> Notes {
+    pub(crate) fn new(alloc: Global) -> Notes
+        ensures { HaveNone result }
+    {
         Notes {
             kept: Vec::new(alloc),
             hidden: Vec::new(alloc),
             exported: Vec::new(alloc),
         }
+    }
+
+    /// Puts a text behind those that are hidden.
+    fn push_hidden(&mut self, alloc: Global, text: &str) -> Result<(), AllocError>
+        ensures hidden { OnOk result (self.new.hidden.items ≡ self.old.hidden.items ++ (text.now ∷ [])) }
+        ensures kept { self.new.kept ≡ self.old.kept }
+        ensures exported { self.new.exported ≡ self.old.exported }
+    {
+        self.hidden.push(OwnText::new(alloc, text)?)?;
+        Ok(())
     }
 
     /// Takes in the texts of those annotations in the kept intervals that the claim removes or blanks.
@@ -38,12 +58,15 @@ impl Notes {
         alloc: Global,
         claim: &Claim,
         annotations: Annotations<'_>,
-    ) -> Result<(), AllocError> {
+    ) -> Result<(), AllocError>
+        ensures hidden { OnOk result (self.new.hidden.items ≡
+            self.old.hidden.items ++ hidden_texts claim.now (notes_left annotations.entry)) }
+        ensures kept { self.new.kept ≡ self.old.kept }
+        ensures exported { self.new.exported ≡ self.old.exported }
+    {
         for note in annotations {
-            if claim.keeps_instant(note.onset, 1)
-                && (!claim.keeps_annotation(note.onset, note.text) || claim.blanks(note.text))
-            {
-                self.hidden.push(OwnText::new(alloc, note.text)?)?;
+            if is_hidden(claim, note.onset, note.text) {
+                self.push_hidden(alloc, note.text)?;
             }
         }
         Ok(())
@@ -56,6 +79,7 @@ impl Notes {
         ensures exported { IfOk result (λ only. IsPermutation self.old.exported.items
             self.new.exported.items) }
         ensures value { IfOk result (λ only. AreOnlyInOne self.new.kept.items self.new.exported.items only) }
+        ensures hidden { self.new.hidden ≡ self.old.hidden }
         ensures none { IfOk result (λ only. ((only.missing.items ≡ []) × (only.extra.items ≡ [])) ↔
             SameNotes (map note_value self.old.kept.items) (map note_value self.old.exported.items)) }
     {

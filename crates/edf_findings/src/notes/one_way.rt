@@ -1,5 +1,7 @@
 //! Annotations that all differ in one way.
 
+ghost use Rattle.std.specs.Prelude.{◌≡◌, ◌<◌, length, IfOk, IfSome};
+
 use crate::notes::both::Notes;
 use edf_pace::OnlyInOne;
 use edf_stream::Note;
@@ -79,11 +81,11 @@ fn are_without_durations(
 }
 
 /// In which one way all annotations differ that only one of the files has, where there are several and there is one.
-pub fn one_way(
-    alloc: Global,
-    notes: &Notes,
-    only: &OnlyInOne,
-) -> Result<Option<OneWay>, AllocError> {
+pub fn one_way(alloc: Global, notes: &Notes, only: &OnlyInOne) -> Result<Option<OneWay>, AllocError>
+    ensures several { IfOk result (λ way. IfSome way (λ found. 1 < length only.now.missing.items)) }
+    ensures pairs { IfOk result (λ way. IfSome way (λ found. length only.now.missing.items ≡
+        length only.now.extra.items)) }
+{
     if only.missing.len() <= LISTED || only.missing.len() != only.extra.len() {
         return Ok(None);
     }

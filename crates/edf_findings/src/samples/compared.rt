@@ -1,7 +1,9 @@
 //! A channel that both files have, and which of its samples aren't as claimed.
 
-ghost use Rattle.std.specs.Prelude.{◌≡◌};
-ghost use Rattle.edf_findings.specs.Told.{AreThose, IsTold};
+ghost use Rattle.std.specs.Prelude.{◌≡◌, ◌*◌, ◌-◌, not};
+ghost use Rattle.std.specs.Ordering.{int_eq};
+ghost use Rattle.edf_findings.specs.Exports.{is_clean};
+ghost use Rattle.edf_findings.specs.Told.{AreThose, IsTold, floor_of, samples_last, values_in};
 
 use crate::record_time::Hands;
 use crate::samples::found_in::{FoundIn, FoundOf};
@@ -21,7 +23,9 @@ pub struct Spot {
 }
 
 /// The time of a difference in picoseconds after the second at which the original starts, rounded down.
-fn floor(difference: PointDifference) -> i128 {
+fn floor(difference: PointDifference) -> i128
+    ensures { result ≡ floor_of difference.at }
+{
     let instant = difference.at;
     instant
         .num
@@ -58,12 +62,16 @@ impl Spot {
     }
 
     /// When it was taken, in picoseconds after the second at which the original starts, rounded down.
-    pub fn at_ps(self) -> i128 {
+    pub fn at_ps(self) -> i128
+        ensures { result ≡ floor_of (self.difference).at }
+    {
         floor(self.difference)
     }
 
     /// The values of the original and the export, where both have one.
-    pub fn values(self) -> Option<(i16, i16)> {
+    pub fn values(self) -> Option<(i16, i16)>
+        ensures { result ≡ values_in (self.difference).mismatch }
+    {
         match self.difference.mismatch {
             SampleMismatch::Value(kept, exported) => Some((kept, exported)),
             SampleMismatch::Missing | SampleMismatch::Extra => None,
@@ -118,7 +126,12 @@ pub struct ComparedChannel {
 }
 
 /// Whether a channel has another number of samples a second in the export than in the original.
-fn has_other_rate((original, export): (&Header, &Header), (here, there): (Track, Track)) -> bool {
+fn has_other_rate(headers: (&Header, &Header), tracks: (Track, Track)) -> bool
+    ensures { result ≡ not (int_eq (samples_last (headers.entry.0).now.duration ((tracks.1).place).samples)
+        (samples_last (headers.entry.1).now.duration ((tracks.0).place).samples)) }
+{
+    let (original, export) = headers;
+    let (here, there) = tracks;
     let step = original
         .duration_ps()
         .saturating_mul(i128::from(there.place.samples));
@@ -129,7 +142,9 @@ fn has_other_rate((original, export): (&Header, &Header), (here, there): (Track,
 }
 
 /// How many samples of the export are taken at the times of kept ones: those of it that aren't extra.
-fn compared_in(export: &Header, there: Track, extra: u64) -> u64 {
+fn compared_in(export: &Header, there: Track, extra: u64) -> u64
+    ensures { result ≡ export.now.records * (there.place).samples - extra }
+{
     let exported = u64::from(export.records()).saturating_mul(u64::from(there.place.samples));
     exported.saturating_sub(extra)
 }
@@ -144,6 +159,11 @@ impl ComparedChannel {
         headers: (&Header, &Header),
     ) -> ComparedChannel
         ensures place { result.place ≡ place }
+        ensures rate { result.has_other_rate ≡
+            not (int_eq (samples_last (headers.entry.0).now.duration ((tracks.1).place).samples)
+            (samples_last (headers.entry.1).now.duration ((tracks.0).place).samples)) }
+        ensures compared { result.compared ≡
+            (headers.entry.1).now.records * ((tracks.1).place).samples - (tally.now.extra).count }
         ensures told { IsTold tally.now result }
     {
         ComparedChannel {
@@ -157,7 +177,9 @@ impl ComparedChannel {
     }
 
     /// Whether nothing was found.
-    pub fn is_as_claimed(&self) -> bool {
+    pub fn is_as_claimed(&self) -> bool
+        ensures { result ≡ is_clean self.now }
+    {
         self.missing.count == 0 && self.extra.count == 0 && self.changed.count == 0
     }
 }

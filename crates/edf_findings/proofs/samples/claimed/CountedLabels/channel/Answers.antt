@@ -1,4 +1,4 @@
-use Rattle.std.proofs.Common.{◌≡◌, ◌∙◌, length, refl}
+use Rattle.std.proofs.Common.{◌∙◌, length, refl}
 use Rattle.std.proofs.lemmas.Option.{slice_get_read}
 use Rattle.edf_findings.proofs.ToldFacts.{both-at, both-there, first-lacks, second-lacks}
 use Rattle.edf_findings.proofs.samples.claimed.CountedLabels.channel.Goals as goal
