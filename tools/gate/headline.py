@@ -80,33 +80,34 @@ CUT = {"Source": ("reads", "failures", "fails")}
 ABOUT = [
     "edfclaim checks an export of a night against its original and a claim: that the export is the original, cut"
     " and made anonymous as the claim says, and nothing else. The call `check` answers this. If it answers Yes, and"
-    " each of its two sources gives the bytes of its file (`is_honest`; `left` are those that it has yet to give, at first"
-    " all), then the statement `Headline` holds of the two files and the claim, and the counts of the Yes are the"
+    " each of its two sources is honest and gives the bytes of its file (`is_honest`; `left` are the bytes still to come, at"
+    " the call the whole file), then the statement `Headline` holds of the two files and the claim, and the counts of the Yes are the"
     " export's. This is proved of the code.",
     "It says this of a Yes alone: what a No says is another clause of `check`, `verdict`. A source over bytes in memory"
     " gives them, and this is proved; that a file on a disk gives its bytes is assumed. How the text of a claim becomes"
     " the claim, and that the line of this verdict is printed, are clauses of `run`. The profile is the definition"
     " `Conforms`: which EDF+ files are judged at all. A channel is a signal whose label isn't `EDF Annotations`; the"
     " lane of a signal is its bytes in a data record; a TAL is a time-stamped annotations list (EDF+ 2003).",
-    "Here stands all of this project that has to be read to know what is proved: first the contract of `check`,"
+    "Here stands all of this project that has to be read to know what a Yes of this call means: first its contract,"
     " then each definition that it stands on, once. A definition comes behind the first that needs it, so it is"
     " plain why it comes. Each has a number. There are two parts: what an export keeps of its original, and what the"
     " bytes of a file say, for who knows EDF, with `Conforms` first. All is copied from the files that are named, but for `abbrev`,"
-    " `unfoldable` and `pub`, which say how other files may use a word. The"
+    " `unfoldable` and, in definitions, `pub`, which say how other files may use a word. The"
     " prose above a definition is its comment: it says in words what the definition says exactly, and the definition is"
     " what counts. Right behind `Headline` stand laws, which are proved to follow from the definitions: a file has one"
     " header, says its annotations in one way, and has no sample twice.",
-    "Of a type that the code declares its parts count, and the value that it is to contracts (`impl Model`); how the"
+    "Of a type of the code its fields count and, where `impl Model` gives one, the value by which contracts know it; how the"
     " code works is no part of it. Where something is left out of a copy a line says `[..]`: the other clauses of"
     " `check`, what holds of each value of a type, and what a source says of reads that fail. What the code derives for"
     " its types (`#[derive]`) is left out, too. Words that aren't copied are named at the end. That a claim which can be"
     " read is a sensible one (`IsClaim`) is proved as well, and nothing here needs it.",
-    "Behind the definitions stand the words that no file of this project defines: those of the toolchain's library.",
+    "Behind the definitions stand their names with their numbers, and the words that no file of this project defines: those"
+    " of the toolchain's library.",
 ]
 NOTATION = [
     ("f x y", "the function f of x and y; a word with a capital is a statement, or a kind of values"),
     ("A → B", "between statements: from A follows B; between kinds of values: the functions from A to B"),
-    ("A × B, A ⊎ B", "A and B; A or B"),
+    ("A × B, A ⊎ B", "A and B, and between kinds of values: the pairs; A or B"),
     ("what binds first", "a call; then ^; *; ∷; +, - and ++; <, ≤, <ℤ, ≤ℤ and ==; &&; ||; *ℤ; +ℤ and -ℤ; ≡ and ≢; ×, ⊎"
      " and ↔, between which brackets stand; and → last. A → B → C is A → (B → C)"),
     ("(x : T) → A", "for each x of the kind T, A holds"),
@@ -138,8 +139,8 @@ NOTATION = [
      " holds no other. It has this year, month and day; its number is 0 for 1970-01-01, as is that of days_from_civil, which"
      " is reckoned from year, month and day"),
     ("λ x. e", "the function that gives e for x"),
-    ("record R .. where ..", "a kind of values that have these fields, or a statement: all of its fields hold, and a field"
-     " that is a value says that there is one"),
+    ("record R .. where ..", "a kind of values that have these fields; where fields are statements, these hold, of some values"
+     " for the others: so IsSample says that there are a signal, a data record, a place, .. of which the rest holds"),
     ("record { a = x }, r.a", "the value with this field; its field a, also of a statement. p.0 and p.1 are the two parts"
      " of a pair"),
     ("fixed.Version, Yes n", "a value of a type that the code declares (FixedField, and so signal of SignalField), here"
@@ -147,6 +148,8 @@ NOTATION = [
     ("several lines", "of one word: one for each form of its arguments, of which the first that fits counts"),
     ("{X : Type 0}", "an argument that isn't written where the word is used"),
     ("x.old, x.new, x.now", "in a contract: what x stood for as the call began; as it ended; what it stands for"),
+    ("requires, ensures, ghost", "in a contract: what has to hold at the call; what is proved to hold at its end; a word for"
+     " contracts alone"),
     ("result, v.items", "in a contract: what the call answers; the list in a Vec"),
     ("IfOk r P, OnOk r A", "in a contract: if the call answered Ok x, then P x; then A. IsTrue b: the test b gives true"),
     ("Result, Global, Model", "in the code: an answer or an error; where a call has its memory; what a type is to contracts"),
@@ -154,7 +157,7 @@ NOTATION = [
 ]
 # rows that say how a definition is read, and name no word
 SAID = ("f x y", "what binds first", "A → B", "(x : T) → A", "(x : T) × A", "λ x. e", "several lines",
-        "record R .. where ..", "record { a = x }, r.a", "{X : Type 0}")
+        "record R .. where ..", "record { a = x }, r.a", "{X : Type 0}", "requires, ensures, ghost")
 STYLE = """
 :root { color-scheme: light dark; --ink: #1c1c1c; --paper: #fdfdfb; --dim: #5f6368; --line: #d8d8d2; --link: #0b57a4; }
 @media (prefers-color-scheme: dark) {
@@ -759,6 +762,8 @@ def as_text(order):
             lines += [""] * bool(one.comment) + [plain(one, line) for line in one.lines]
     lines += ["", "", "What isn't copied", ""]
     lines += [f"{word.name}  ({word.home.relative_to(TOP)}): {why}" for word, why in order.left.items()]
+    names = [f"{one.word.name}:{one.number}" for one in sorted(definitions, key=lambda one: one.word.name.lower())]
+    lines += ["", "", "Names and their numbers", "", *textwrap.wrap(", ".join(names), WIDTH, break_on_hyphens=False)]
     lines += ["", "", "Words of the toolchain", ""]
     for home, words in toolchain(definitions).items():
         lines += listed(home, [word.name for word in words], "")

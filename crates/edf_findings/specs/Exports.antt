@@ -45,4 +45,4 @@ first_of found = slice_get found.parts.items 0
 
 -- its header
 abbrev pub head_in : PartFindings → Head
-head_in part = (part.export).head
+head_in part = part.header

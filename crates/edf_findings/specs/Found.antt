@@ -6,7 +6,6 @@ use Rattle.edf_claim.specs.Terms.{Terms}
 use Rattle.edf_fields.specs.declared.in_out.source.Source.{Ghosts}
 use Rattle.edf_header.specs.Heads.{Head}
 use Rattle.edf_heads.specs.Comparisons.{AreSorted}
-use Rattle.edf_stream.specs.records.Readers.{Reader}
 use Rattle.edf_findings.specs.declared.findings.Findings.{Findings}
 use Rattle.edf_findings.specs.declared.looker.Looker.{Looker}
 use Rattle.edf_findings.specs.declared.notes.both.Notes.{Notes}
@@ -17,9 +16,9 @@ use Rattle.edf_samples.specs.declared.counts.tally.Tally.{Tally}
 
 -- of an export that was read this is found: where something was counted of each label, it is told of the claimed channels that both files have
 pub record IsFoundIn (claim : Terms) (labels : List (Bor (List ℕ))) (h : Head) (part : ReadPart) (found : PartFindings) : Type 0 where
-  pub export : found.export ≡ part.export
+  pub header : found.header ≡ part.header
   pub channels : length part.tallies.items ≡ length labels
-      → MatchOption found.compared ⊥ (λ compared. AreTold claim.channels labels part.tallies.items h (part.export).head compared.channels.items)
+      → MatchOption found.compared ⊥ (λ compared. AreTold claim.channels labels part.tallies.items h part.header compared.channels.items)
 
 -- of each of these exports
 abbrev pub AreFoundIn : Terms → List (Bor (List ℕ)) → Head → List ReadPart → List PartFindings → Type 0
@@ -29,7 +28,7 @@ AreFoundIn claim labels h (part ∷ parts) [] = ⊥
 AreFoundIn claim labels h (part ∷ parts) (found ∷ more) = IsFoundIn claim labels h part found × AreFoundIn claim labels h parts more
 
 -- these are the findings in an original and its exports, with these annotations, under a claim
-pub record AreFindings (claim : Terms) (original : Reader) (parts : List PartFindings) (notes : Notes) (found : Findings) : Type 0 where
+pub record AreFindings (claim : Terms) (original : Head) (parts : List PartFindings) (notes : Notes) (found : Findings) : Type 0 where
   pub claim_is : (found.claim).now ≡ claim
   pub original_is : found.original ≡ original
   pub parts_are : found.parts.items ≡ parts
@@ -46,7 +45,7 @@ pub record AreFoundBy (claim : Terms) (looker : Looker) (found : Findings) : Typ
   pub notes_are : found.notes ≡ looker.notes
   pub labels : List (Bor (List ℕ))
   pub sorted : AreSorted claim.channels labels
-  pub are : AreFoundIn claim labels (found.original).head looker.parts.items found.parts.items
+  pub are : AreFoundIn claim labels found.original looker.parts.items found.parts.items
 
 -- they are the findings in two files, as a check under this claim shows them
 abbrev pub AreFindingsOf : {O E : Type 0} → Ghosts O → Ghosts E → O → E → Terms → Findings → Type 0

@@ -3,6 +3,7 @@ use Rattle.std.specs.Prelude.{◌≡◌, ◌&&◌, ◌||◌, ℕ, ℤ, not, Bool
 use Rattle.edf_claim.specs.Keeps.{keeps_annotation, keeps_instant}
 use Rattle.edf_claim.specs.KeepsReading.{blanks}
 use Rattle.edf_claim.specs.Terms.{Terms}
+use Rattle.edf_header.specs.Heads.{Head}
 use Rattle.edf_stream.specs.annotation.Notes.{NoteValue}
 use Rattle.edf_stream.specs.annotation.NotesReading.{notes_in}
 use Rattle.edf_stream.specs.records.Readers.{Reader}
@@ -26,9 +27,9 @@ abbrev pub hidden_texts : Terms → List NoteValue → List (List ℕ)
 hidden_texts claim [] = []
 hidden_texts claim (note ∷ notes) = if is_hidden claim note.onset note.text then note.text ∷ hidden_texts claim notes else hidden_texts claim notes
 
--- the exports that were read to their ends
-abbrev pub exports_of : Looker → List Reader
-exports_of looker = map (λ (part : ReadPart). part.export) looker.parts.items
+-- the headers of the exports that were read to their ends
+abbrev pub exports_of : Looker → List Head
+exports_of looker = map (λ (part : ReadPart). part.header) looker.parts.items
 
 -- the hidden texts of the data record of the original at hand, where they are wanted and it is another one than before
 abbrev pub hidden_at : Looker → Terms → Reader → List (List ℕ)

@@ -9,14 +9,13 @@ use crate::starts::Starts;
 use edf_claim::Claim;
 use edf_header::Header;
 use edf_pace::OnlyInOne;
-use edf_stream::FileReader;
 use std::alloc::{AllocError, Global};
 
 /// What an original and its exports, one at least, differ in: values, without any sentence.
 #[derive(Drop)]
 pub struct Findings<'a> {
     claim: &'a Claim,
-    original: FileReader,
+    original: Header,
     parts: Vec<PartFindings>,
     notes: Notes,
     ghost some: { 0 < length parts.items },
@@ -33,7 +32,7 @@ impl<'a> Findings<'a> {
     /// Those of these files; none where there is no export.
     pub(crate) fn of(
         claim: &'a Claim,
-        original: FileReader,
+        original: Header,
         parts: Vec<PartFindings>,
         notes: Notes,
     ) -> Option<Findings<'a>>
@@ -127,9 +126,9 @@ impl<'a> Findings<'a> {
 
     /// The header of the original.
     pub fn original_header(&self) -> &Header
-        ensures { result.now ≡ (self.entry.now.original).head }
+        ensures { result.now ≡ self.entry.now.original }
     {
-        self.original.header()
+        &self.original
     }
 
     /// The header of the first export.

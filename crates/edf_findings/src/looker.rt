@@ -10,6 +10,7 @@ use crate::notes::both::Notes;
 use crate::part::{PartFindings, PartSoFar, ReadPart, Under};
 use crate::stand::{RecordCount, Stand};
 use edf_claim::Claim;
+use edf_header::Header;
 use edf_heads::in_order;
 use edf_pace::{Counts, Frame, Onlooker, Reading, Watcher, Window};
 use edf_stream::{FileReader, Note};
@@ -33,7 +34,7 @@ pub struct Looker {
     /// The exports that were read to their ends.
     parts: Vec<ReadPart>,
     notes: Notes,
-    original: Option<FileReader>,
+    original: Option<Header>,
 }
 
 /// What each of these exports differs in.
@@ -127,13 +128,13 @@ impl Looker {
     fn keep_export(&mut self, export: FileReader) -> Result<(), AllocError>
         ensures counted { OnOk result (counted_by self.new ≡
             counted_by self.old ++ (self.old.counts.tallies.items ∷ [])) }
-        ensures export { OnOk result (exports_of self.new ≡ exports_of self.old ++ (export ∷ [])) }
+        ensures export { OnOk result (exports_of self.new ≡ exports_of self.old ++ (export.head ∷ [])) }
         ensures notes { self.new.notes ≡ self.old.notes }
     {
         let tallies = mem::replace(&mut self.counts.tallies, Vec::new(self.alloc));
         let so_far = mem::replace(&mut self.part, PartSoFar::none(self.alloc));
         self.parts.push(ReadPart {
-            export,
+            header: export.into_header(),
             so_far,
             tallies,
         })?;
@@ -142,13 +143,13 @@ impl Looker {
 
     /// Keeps the original, which was read to its end, with those of its annotations that are kept; and the annotations of all exports.
     fn keep_original(&mut self, original: Reading, exported: Vec<Note>)
-        ensures original { self.new.original ≡ Some original.reader }
+        ensures original { self.new.original ≡ Some (original.reader).head }
         ensures kept { self.new.notes.kept.items ≡ original.notes.items }
         ensures exported { self.new.notes.exported.items ≡ exported.items }
         ensures hidden { self.new.notes.hidden ≡ self.old.notes.hidden }
         ensures parts { self.new.parts ≡ self.old.parts }
     {
-        self.original = Some(original.reader);
+        self.original = Some(original.reader.into_header());
         self.notes.kept = original.notes;
         self.notes.exported = exported;
     }
@@ -179,7 +180,7 @@ impl Looker {
         };
         let labels = in_order(alloc, claim.channels())?;
         let under = Under {
-            original: original.header(),
+            original: &original,
             claim,
             labels: &labels,
         };

@@ -144,11 +144,11 @@ pub(crate) struct Under<'a> {
     pub(crate) labels: &'a [&'a [u8]],
 }
 
-/// An export that was read to its end, what was counted in it, and what else was seen of it. Where it wasn't compared, nothing was
+/// The header of an export that was read to its end, what was counted in it, and what else was seen of it. Where it wasn't compared, nothing was
 /// counted of any label.
 #[derive(Drop)]
 pub(crate) struct ReadPart {
-    pub(crate) export: FileReader,
+    pub(crate) header: Header,
     pub(crate) so_far: PartSoFar,
     pub(crate) tallies: Vec<Tally>,
 }
@@ -196,10 +196,10 @@ impl ComparedPart {
     }
 }
 
-/// An export that was read to its end, and what it differs in from what the claim keeps.
+/// The header of an export that was read to its end, and what it differs in from what the claim keeps.
 #[derive(Drop)]
 pub struct PartFindings {
-    export: FileReader,
+    header: Header,
     compared: Option<ComparedPart>,
 }
 
@@ -217,19 +217,19 @@ impl PartFindings {
             (under.entry.original).now part) }
     {
         let ReadPart {
-            export,
+            header,
             so_far,
             tallies,
         } = part;
         if tallies.len() != under.labels.len() {
             return Ok(PartFindings {
-                export,
+                header,
                 compared: None,
             });
         }
-        let compared = ComparedPart::of(alloc, export.header(), &so_far, &tallies, under)?;
+        let compared = ComparedPart::of(alloc, &header, &so_far, &tallies, under)?;
         Ok(PartFindings {
-            export,
+            header,
             compared: Some(compared),
         })
     }
@@ -238,7 +238,7 @@ impl PartFindings {
     pub fn header(&self) -> &Header
         ensures { result.now ≡ head_in self.entry.now }
     {
-        self.export.header()
+        &self.header
     }
 
     /// Whether its samples were compared.
