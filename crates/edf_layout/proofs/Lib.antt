@@ -12,3 +12,4 @@ pub mod TellsFacts
 pub mod BodyFacts
 pub mod LaneFacts
 pub mod plain
+pub mod body

@@ -11,3 +11,6 @@ pub mod BodyLaws
 pub mod PlainLaws
 pub mod LaneLayouts
 pub mod FileLaws
+pub mod NoteOrders
+pub mod BodyLayouts
+pub mod MeaningLaws

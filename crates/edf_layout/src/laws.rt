@@ -4,6 +4,7 @@ ghost use Rattle.edf_layout.specs.BodyLaws.{LanesAreTheRest};
 ghost use Rattle.edf_layout.specs.PlainLaws.{OnePlainHeaderNumber, OnePlainOnset, OnePlainSpan, OnePlainWholeNumber, PlainHeadersAreOne};
 ghost use Rattle.edf_layout.specs.FileLaws.{FileIsItsParts, LaneIsItsTals, LanesHaveLayouts};
 ghost use Rattle.edf_layout.specs.HeadLaws.{LayoutIsTheRest, TextTellsLayout};
+ghost use Rattle.edf_layout.specs.MeaningLaws.{BodyHasOneLayout, LayoutAndMeaningAreTheFile, OneOrder, PlacesTell};
 
 /// Two headers in order are the same bytes exactly where they say the same and have the same layout.
 pub fn layout_is_the_rest()
@@ -44,4 +45,21 @@ pub fn lane_is_its_tals()
 /// samples, and the same TALs in each lane, with the same layouts.
 pub fn file_is_its_parts()
     ensures { FileIsItsParts }
+{}
+
+/// Annotations are put in order in one way, and each stands there at its place.
+pub fn annotations_have_one_order()
+    ensures one { OneOrder }
+    ensures place { PlacesTell }
+{}
+
+/// The data records of a file that conforms have one layout.
+pub fn body_has_one_layout()
+    ensures { BodyHasOneLayout }
+{}
+
+/// Two files that conform are the same bytes exactly where their headers say the same and have the same layout, they
+/// have the same samples and the same annotations, and their data records have the same layout.
+pub fn layout_and_meaning_are_the_file()
+    ensures { LayoutAndMeaningAreTheFile }
 {}

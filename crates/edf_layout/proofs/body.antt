@@ -1,0 +1,4 @@
+pub mod OrderFacts
+pub mod ContentFacts
+pub mod LayoutFacts
+pub mod MeaningFacts
