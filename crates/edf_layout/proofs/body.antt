@@ -2,3 +2,4 @@ pub mod OrderFacts
 pub mod ContentFacts
 pub mod LayoutFacts
 pub mod MeaningFacts
+pub mod PlainFacts

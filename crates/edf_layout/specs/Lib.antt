@@ -14,3 +14,5 @@ pub mod FileLaws
 pub mod NoteOrders
 pub mod BodyLayouts
 pub mod MeaningLaws
+pub mod PlainOrders
+pub mod PlainBodyLaws

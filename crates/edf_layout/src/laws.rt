@@ -5,6 +5,7 @@ ghost use Rattle.edf_layout.specs.PlainLaws.{OnePlainHeaderNumber, OnePlainOnset
 ghost use Rattle.edf_layout.specs.FileLaws.{FileIsItsParts, LaneIsItsTals, LanesHaveLayouts};
 ghost use Rattle.edf_layout.specs.HeadLaws.{LayoutIsTheRest, TextTellsLayout};
 ghost use Rattle.edf_layout.specs.MeaningLaws.{BodyHasOneLayout, LayoutAndMeaningAreTheFile, OneOrder, PlacesTell};
+ghost use Rattle.edf_layout.specs.PlainBodyLaws.{OnePlainTal, PlainBodiesAreOne};
 
 /// Two headers in order are the same bytes exactly where they say the same and have the same layout.
 pub fn layout_is_the_rest()
@@ -62,4 +63,15 @@ pub fn body_has_one_layout()
 /// have the same samples and the same annotations, and their data records have the same layout.
 pub fn layout_and_meaning_are_the_file()
     ensures { LayoutAndMeaningAreTheFile }
+{}
+
+/// Two files that conform and say the same, with headers of one layout and bodies of one plain order, are the same
+/// bytes.
+pub fn plain_bodies_are_one()
+    ensures { PlainBodiesAreOne }
+{}
+
+/// A TAL has one plain spelling.
+pub fn a_tal_has_one_plain_spelling()
+    ensures { OnePlainTal }
 {}

@@ -30,11 +30,11 @@ use Rattle.edf_layout.proofs.body.LayoutFacts.{lanes_one, lanes_hold, one_layout
 -- ---- one layout
 
 -- the annotations of a file that conforms
-one-notes : (file : List ℕ) (h : Head) → Conforms file h → (ns ms : List NoteValue) → HasNotes file h ns → HasNotes file h ms → ns ≡ ms
+pub one-notes : (file : List ℕ) (h : Head) → Conforms file h → (ns ms : List NoteValue) → HasNotes file h ns → HasNotes file h ms → ns ≡ ms
 one-notes file h c ns ms a b = let r = notes_are_read file h c in r.only ns a ∙ sym (r.only ms b)
 
 -- two lists by their members
-members-same : {X : Type 0} (xs ys : List X) → length xs ≡ length ys → ((k : ℕ) (x y : X) → slice_get xs k ≡ Some x → slice_get ys k ≡ Some y → x ≡ y) → xs ≡ ys
+pub members-same : {X : Type 0} (xs ys : List X) → length xs ≡ length ys → ((k : ℕ) (x y : X) → slice_get xs k ≡ Some x → slice_get ys k ≡ Some y → x ≡ y) → xs ≡ ys
 members-same [] [] long each = refl
 members-same [] (y ∷ ys) long each = absurd (omega arith)
 members-same (x ∷ xs) [] long each = absurd (omega arith)
@@ -164,7 +164,7 @@ member-there (x ∷ xs) zero low = (x, refl)
 member-there (x ∷ xs) (suc k) low = member-there xs k (omega arith)
 
 -- the starts of the data records
-starts-same : (file other : List ℕ) (h : Head) (c : Conforms file h) (d : Conforms other h) → HaveSameSamples file h other h → (k : ℕ) → k < h.records → c.starts k ≡ d.starts k
+pub starts-same : (file other : List ℕ) (h : Head) (c : Conforms file h) (d : Conforms other h) → HaveSameSamples file h other h → (k : ℕ) → k < h.records → c.starts k ≡ d.starts k
 starts-same file other h c d same k within =
     let channel = some_channel h.signals ((c.header).standard).channel in
     let there = channel.2 in
