@@ -65,7 +65,7 @@ durations-same t u (Some v) (span, is, time, value) (other, too, time2, value2) 
   | inr same ↦ same
 ]
 
-tal-same : (bytes other : List ℕ) (tal : TalValue) (layout : TalLayout) → IsLaidTal bytes tal layout → IsLaidTal other tal layout → bytes ≡ other
+pub tal-same : (bytes other : List ℕ) (tal : TalValue) (layout : TalLayout) → IsLaidTal bytes tal layout → IsLaidTal other tal layout → bytes ≡ other
 tal-same bytes other tal layout h k =
     let onset = onsets-same (h.spelled).onset (k.spelled).onset tal.onset (h.spelled).onset_is (k.spelled).onset_is (sym h.onset ∙ k.onset) in
     let duration = durations-same (h.spelled).duration (k.spelled).duration tal.duration (h.spelled).duration_is (k.spelled).duration_is (sym h.duration ∙ k.duration) in

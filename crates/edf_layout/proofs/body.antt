@@ -3,3 +3,4 @@ pub mod ContentFacts
 pub mod LayoutFacts
 pub mod MeaningFacts
 pub mod PlainFacts
+pub mod PlainTalFacts

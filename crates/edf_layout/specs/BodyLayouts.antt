@@ -1,5 +1,6 @@
--- What the data records of a file hold besides its samples and its annotations: in which data record, lane and TAL each
--- annotation stands, and how the TALs are spelled. EDF+ (2003), "Time-stamped Annotations Lists (TALs) in an 'EDF Annotations' signal".
+-- What the data records of a file hold besides its samples and its annotations: in which data record, lane
+-- and TAL each annotation stands, and how the TALs are spelled. EDF+ (2003), "Time-stamped Annotations Lists
+-- (TALs) in an 'EDF Annotations' signal".
 use Rattle.std.specs.Prelude.{◌≡◌, ℕ, ℤ, List, [], ◌∷◌, length, map, drop, slice_get, Option, Some}
 use Rattle.edf_header.specs.Heads.{Head}
 use Rattle.edf_tal.specs.Tals.{TalValue}
@@ -8,8 +9,9 @@ use Rattle.edf_stream.specs.records.Records.{annotation_lanes, record_at}
 use Rattle.edf_layout.specs.LaneLayouts.{TalLayout, IsLaidLane}
 use Rattle.edf_layout.specs.NoteOrders.{place_of}
 
--- what a TAL says, by the places of its annotations among all of its file in order: of the TAL that keeps the time its duration
--- besides (EDF+, "Time keeping of data records"); of a TAL with no text, which is no annotation, its onset and its duration
+-- what a TAL says, by the places of its annotations among all of its file in order: of the TAL that keeps the
+-- time its duration besides (EDF+, "Time keeping of data records"); of a TAL with no text, which is no
+-- annotation, its onset and its duration
 pub data TalContent : Type 0 where
   KeepsTime : Option ℤ → List ℕ → TalContent
   SaysNothing : ℤ → Option ℤ → TalContent
@@ -28,11 +30,16 @@ RecordLayout = List (List PlacedTal)
 abbrev pub BodyLayout : Type 0
 BodyLayout = List RecordLayout
 
+-- the places of the annotations that a TAL with this onset, this duration and these texts says
+abbrev pub note_places : List NoteValue → ℤ → Option ℤ → List (List ℕ) → List ℕ
+note_places notes onset duration texts =
+    map (place_of notes) (notes_of_tal (record { onset = onset; duration = duration; texts = texts }))
+
 -- what the texts of a TAL with this onset and this duration say
 abbrev pub content_with : List NoteValue → ℤ → Option ℤ → List (List ℕ) → TalContent
 content_with notes onset duration [] = SaysNothing onset duration
 content_with notes onset duration (text ∷ texts) =
-    Annotates (map (place_of notes) (notes_of_tal (record { onset = onset; duration = duration; texts = text ∷ texts })))
+    Annotates (note_places notes onset duration (text ∷ texts))
 
 -- what a TAL says that doesn't keep the time
 abbrev pub content_of : List NoteValue → TalValue → TalContent
@@ -41,8 +48,7 @@ content_of notes tal = content_with notes tal.onset tal.duration tal.texts
 -- what the TAL says that keeps the time: its first text is none of its annotations
 abbrev pub timekeeping_of : List NoteValue → TalValue → TalContent
 timekeeping_of notes tal =
-    KeepsTime tal.duration
-    (map (place_of notes) (notes_of_tal (record { onset = tal.onset; duration = tal.duration; texts = drop 1 tal.texts })))
+    KeepsTime tal.duration (note_places notes tal.onset tal.duration (drop 1 tal.texts))
 
 -- what the TALs of a lane say
 abbrev pub lane_contents : List NoteValue → List TalValue → List TalContent
@@ -58,18 +64,20 @@ abbrev pub record_contents : List NoteValue → List (List TalValue) → List (L
 record_contents notes [] = []
 record_contents notes (tals ∷ talss) = first_contents notes tals ∷ map (lane_contents notes) talss
 
--- there are as many lanes as lists of TALs and as layouts, and each lane spells the list at its place, with that layout
+-- there are as many lanes as lists of TALs and as layouts, and each lane spells the list at its place, with
+-- that layout
 abbrev pub AreLaidLanes : List (List ℕ) → List (List TalValue) → List (List TalLayout) → Type 0
 AreLaidLanes [] [] [] = Unit {0}
-AreLaidLanes (lane ∷ lanes) (tals ∷ talss) (spelling ∷ spellings) = IsLaidLane lane tals spelling × AreLaidLanes lanes talss spellings
+AreLaidLanes (lane ∷ lanes) (tals ∷ talss) (spelling ∷ spellings) =
+    IsLaidLane lane tals spelling × AreLaidLanes lanes talss spellings
 AreLaidLanes lanes talss spellings = ⊥
 
 -- how TALs are spelled, and what they say
 abbrev pub spellings_in : RecordLayout → List (List TalLayout)
-spellings_in layout = map (λ (lane : List PlacedTal). map (λ (placed : PlacedTal). placed.spelling) lane) layout
+spellings_in layout = map (λ lane. map (λ (placed : PlacedTal). placed.spelling) lane) layout
 
 abbrev pub contents_in : RecordLayout → List (List TalContent)
-contents_in layout = map (λ (lane : List PlacedTal). map (λ (placed : PlacedTal). placed.content) lane) layout
+contents_in layout = map (λ lane. map (λ (placed : PlacedTal). placed.content) lane) layout
 
 -- the data record of these bytes has this layout, in a file with these annotations
 pub record IsRecordLayout (h : Head) (notes : List NoteValue) (bytes : List ℕ) (layout : RecordLayout) : Type 0 where
@@ -82,4 +90,5 @@ pub record HasBodyLayout (file : List ℕ) (h : Head) (layout : BodyLayout) : Ty
   pub notes : List NoteValue
   pub has_notes : HasNotes file h notes
   pub count : length layout ≡ h.records
-  pub records : (k : ℕ) (one : RecordLayout) → slice_get layout k ≡ Some one → IsRecordLayout h notes (record_at file h k) one
+  pub records : (k : ℕ) (one : RecordLayout) → slice_get layout k ≡ Some one
+      → IsRecordLayout h notes (record_at file h k) one

@@ -14,6 +14,7 @@ note_cmp =
     (then_cmp (on (λ (n : NoteValue). n.duration) (option_cmp int_cmp))
     (on (λ (n : NoteValue). n.text) (slice_cmp nat_cmp)))
 
--- how many of these annotations come before one: its place when they are put in order, and of equal ones the first place
+-- how many of these annotations come before one: its place when they are put in order, and of equal ones the
+-- first place
 abbrev pub place_of : List NoteValue → NoteValue → ℕ
 place_of notes note = sum_by (λ other. if is_lt (note_cmp other note) then 1 else 0) notes

@@ -11,11 +11,13 @@ use Rattle.edf_layout.specs.LaneLayouts.{IsLaidTal}
 use Rattle.edf_layout.specs.MeaningLaws.{HaveSameNotes}
 use Rattle.edf_layout.specs.PlainOrders.{PlainOrder, IsPlainBody, plain_tal}
 
--- two files that conform, that say the same, with headers of one layout and bodies of one plain order, are the same bytes
+-- two files that conform, that say the same, with headers of one layout and bodies of one plain order, are
+-- the same bytes
 abbrev pub PlainBodiesAreOne : Type 0
 PlainBodiesAreOne = (file other : List ℕ) (h g : Head) (order : PlainOrder) → AreBytes file → AreBytes other →
     Conforms file h → Conforms other g → SayTheSame h g → head_layout_of file h ≡ head_layout_of other g →
-    HaveSameSamples file h other g → HaveSameNotes file h other g → IsPlainBody order file h → IsPlainBody order other g → file ≡ other
+    HaveSameSamples file h other g → HaveSameNotes file h other g →
+    IsPlainBody order file h → IsPlainBody order other g → file ≡ other
 
 -- a TAL whose times and texts a lane can hold
 pub record CanStand (tal : TalValue) : Type 0 where

@@ -1,5 +1,5 @@
--- The plain orders of the annotations in data records (this project's profile): each in a TAL of its own that is spelled plainly, in one of
--- two orders.
+-- The plain orders of the annotations in data records (this project's profile): each in a TAL of its own that
+-- is spelled plainly, in one of two orders.
 use Rattle.std.specs.Prelude.{◌≡◌, ◌≢◌, ℕ, zero, suc, ◌+◌, ◌-◌, ◌*◌, ◌/◌, ◌%◌, ◌^◌, ◌==◌, nat_le, ℤ, pos, unsigned_abs, int_lt, int_le, List, [], ◌∷◌, ◌++◌, length, map, filter, take, drop, slice_get, Option, Some, None, if◌then◌else◌}
 use Rattle.std.specs.Fmt.{decimal}
 use Rattle.std.specs.List.{count_by, flat_map}
@@ -21,9 +21,11 @@ last_digits zero number = []
 last_digits (suc places) number =
     if number == 0 then [] else (48 + number / 10 ^ places) ∷ last_digits places (number % 10 ^ places)
 
--- so many picoseconds in seconds: no zero before other digits, a dot only where a fraction follows, and no zero at its end
+-- so many picoseconds in seconds: no zero before other digits, a dot only where a fraction follows, and no
+-- zero at its end
 unfoldable pub plain_time : ℕ → List ℕ
-plain_time ps = decimal (ps / 10 ^ 12) ++ (if ps % 10 ^ 12 == 0 then [] else 46 ∷ last_digits 12 (ps % 10 ^ 12))
+plain_time ps =
+    decimal (ps / 10 ^ 12) ++ (if ps % 10 ^ 12 == 0 then [] else 46 ∷ last_digits 12 (ps % 10 ^ 12))
 
 -- a sign, which of 0 is a plus, and a time
 abbrev pub plain_onset : ℤ → List ℕ
@@ -61,8 +63,8 @@ put_first tal (lane ∷ lanes) =
     then Some (with_tal tal lane ∷ lanes)
     else option_map (λ filled. lane ∷ filled) (put_first tal lanes)
 
--- the same, but in the first one that has room from the lane of this number on, and behind the last lane from the first one on; where
--- no lane has room, without the TAL
+-- the same, but in the first one that has room from the lane of this number on, and behind the last lane from
+-- the first one on; where no lane has room, without the TAL
 abbrev pub put_from : ℕ → TalValue → List FilledLane → List FilledLane
 put_from at tal lanes =
     option_map_or (λ filled. take at lanes ++ filled) (put_first tal (drop at lanes))
@@ -70,14 +72,14 @@ put_from at tal lanes =
 
 -- ---- the two orders
 
--- one annotation in each data record, from the first data record on, and behind the last one from the first one on again; or each in the
--- data record in whose time its onset lies
+-- one annotation in each data record, from the first data record on, and behind the last one from the first
+-- one on again; or each in the data record in whose time its onset lies
 pub data PlainOrder : Type 0 where
   OneByOne : PlainOrder
   ByTime : PlainOrder
 
--- the last of the data records with these starts that doesn't start behind the onset, or the first one: that in whose time it lies, or
--- behind whose end it lies, or before which
+-- the last of the data records with these starts that doesn't start behind the onset, or the first one: that
+-- in whose time it lies, or behind whose end it lies, or before which
 abbrev pub record_of_onset : List ℤ → ℤ → ℕ
 record_of_onset starts onset = count_by (λ start. int_le start onset) starts - 1
 
@@ -93,26 +95,32 @@ tal_of_note note = record { onset = note.onset; duration = note.duration; texts 
 abbrev pub tal_of_start : ℤ → TalValue
 tal_of_start start = record { onset = start; duration = None; texts = [] ∷ [] }
 
+-- a lane of this size with nothing in it
+abbrev pub bare_lane : ℕ → FilledLane
+bare_lane size = record { free = size; tals = [] }
+
 -- lanes of these sizes, of a data record with this start, before any annotation stands there
 abbrev pub bare_record : List ℕ → ℤ → List FilledLane
 bare_record [] start = []
 bare_record (size ∷ sizes) start =
-    with_tal (tal_of_start start) (record { free = size; tals = [] }) ∷ map (λ other. record { free = other; tals = [] }) sizes
+    with_tal (tal_of_start start) (bare_lane size) ∷ map bare_lane sizes
 
--- the annotations from number i on go one by one into the lanes of all data records, of which each has `width`: each into its data record,
--- in the first of its lanes that has room, and else on into the next data record that has
+-- the annotations from number i on go one by one into the lanes of all data records, of which each has
+-- `width`: each into its data record, in the first of its lanes that has room, and else on into the next data
+-- record that has
 abbrev pub filled : PlainOrder → List ℤ → ℕ → ℕ → List NoteValue → List FilledLane → List FilledLane
 filled order starts width i [] lanes = lanes
 filled order starts width i (note ∷ notes) lanes =
-    filled order starts width (i + 1) notes (put_from (width * record_for order starts i note) (tal_of_note note) lanes)
+    filled order starts width (i + 1) notes
+    (put_from (width * record_for order starts i note) (tal_of_note note) lanes)
 
 -- n parts of so many members each
 abbrev pub parts_of : {X : Type 0} → ℕ → ℕ → List X → List (List X)
 parts_of width zero xs = []
 parts_of width (suc n) xs = take width xs ∷ parts_of width n (drop width xs)
 
--- the TALs of the lanes of each data record, by annotations in order, the sizes of the annotation lanes of a data record, and the starts
--- of the data records
+-- the TALs of the lanes of each data record, by annotations in order, the sizes of the annotation lanes of a
+-- data record, and the starts of the data records
 unfoldable pub plain_lanes : PlainOrder → List NoteValue → List ℕ → List ℤ → List (List (List TalValue))
 plain_lanes order notes sizes starts =
     parts_of (length sizes) (length starts)
@@ -128,7 +136,8 @@ placed_plainly content = record { spelling = record { onset = None; duration = N
 abbrev pub plain_record : List NoteValue → List (List TalValue) → RecordLayout
 plain_record notes talss = map (λ contents. map placed_plainly contents) (record_contents notes talss)
 
--- the layout of data records with these annotations in order, these sizes of annotation lanes and these starts
+-- the layout of data records with these annotations in order, these sizes of annotation lanes and these
+-- starts
 abbrev pub plain_body : PlainOrder → List NoteValue → List ℕ → List ℤ → BodyLayout
 plain_body order notes sizes starts = map (plain_record notes) (plain_lanes order notes sizes starts)
 
@@ -139,7 +148,8 @@ lane_sizes h = map (λ signal. 2 * signal.samples) (filter (λ signal. is_annota
 -- the data records of the file have these starts
 pub record HaveStarts (file : List ℕ) (h : Head) (starts : List ℤ) : Type 0 where
   pub count : length starts ≡ h.records
-  pub said : (k : ℕ) (start : ℤ) → slice_get starts k ≡ Some start → (notes : List NoteValue) × SaysRecord h (record_at file h k) start notes
+  pub said : (k : ℕ) (start : ℤ) → slice_get starts k ≡ Some start
+      → (notes : List NoteValue) × SaysRecord h (record_at file h k) start notes
 
 -- a layout that fits both orders is of the first one
 abbrev pub IsOfOrder : PlainOrder → List NoteValue → List ℕ → List ℤ → BodyLayout → Type 0

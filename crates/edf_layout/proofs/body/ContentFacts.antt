@@ -1,15 +1,14 @@
 -- What a TAL says by places is what it says.
-use Rattle.std.proofs.Common.{◌≡◌, ◌⊎◌, inl, inr, ℕ, ℤ, zero, suc, ◌<◌, List, [], ◌∷◌, ◌++◌, map, drop, Option, Some, None, refl, ap, ◌∙◌, sym, subst, arith}
+use Rattle.std.proofs.Common.{◌≡◌, inl, inr, ℕ, ℤ, List, [], ◌∷◌, ◌++◌, map, Option, refl, ap, ◌∙◌, sym}
 use Rattle.std.specs.List.{flat_map}
 use Rattle.std.specs.List.Sorted.{IsPermutation}
-use Rattle.std.proofs.lemmas.List.Concat.{flat_map-cons}
 use Rattle.edf_fields.specs.Lists.{Has}
 use Rattle.edf_fields.proofs.ForCallers.{has-front, has-back, has-permutation}
 use Rattle.std.proofs.lemmas.List.Sorted.{IsPermutation-sym}
 use Rattle.edf_tal.specs.Tals.{TalValue}
 use Rattle.edf_stream.specs.annotation.Notes.{NoteValue, notes_of_tal}
 use Rattle.edf_layout.specs.NoteOrders.{place_of}
-use Rattle.edf_layout.specs.BodyLayouts.{TalContent, KeepsTime, SaysNothing, Annotates, content_with, content_of, timekeeping_of, lane_contents, first_contents, record_contents}
+use Rattle.edf_layout.specs.BodyLayouts.{TalContent, KeepsTime, SaysNothing, Annotates, content_with, content_of, lane_contents, first_contents, record_contents}
 use Rattle.edf_layout.proofs.body.OrderFacts.{place-tells, place-permuted}
 
 -- the annotations stand among these

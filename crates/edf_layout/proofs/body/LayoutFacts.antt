@@ -1,10 +1,9 @@
 -- A data record has one layout.
-use Rattle.std.proofs.Common.{◌≡◌, ◌≢◌, ◌⊎◌, inl, inr, ℕ, ℤ, zero, suc, ◌<◌, ◌≤◌, List, [], ◌∷◌, ◌++◌, length, map, slice_get, slice_index, Option, Some, None, Ok, Result, refl, ap, ◌∙◌, sym, subst, arith}
-use Rattle.std.specs.List.{All, flat_map}
+use Rattle.std.proofs.Common.{◌≡◌, ◌≢◌, ◌⊎◌, inl, inr, ℕ, ℤ, suc, ◌<◌, ◌≤◌, List, [], ◌∷◌, ◌++◌, length, map, slice_index, Option, Some, None, Ok, refl, ap, ◌∙◌, sym, subst, arith}
+use Rattle.std.specs.List.{All}
 use Rattle.std.proofs.lemmas.List.{append_assoc}
 use Rattle.std.proofs.lemmas.List.Elements.{All-head, All-tail}
-use Rattle.edf_fields.specs.texts.Onsets.{SpellsOnset, IsTime, time_of}
-use Rattle.edf_fields.specs.texts.OnsetsReading.{onset_of, span_of}
+use Rattle.edf_fields.specs.texts.Onsets.{SpellsOnset}
 use Rattle.edf_fields.proofs.ForCallers.{onset_bytes_from, span_bytes_from, onset_is_spelled, span_is_spelled}
 use Rattle.edf_tal.specs.Tals.{TalValue, IsText, SpellsDuration, SpellsTal, IsLaneOf}
 use Rattle.edf_tal.specs.Reading.{Item, ended}

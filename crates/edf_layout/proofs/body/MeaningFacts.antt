@@ -1,23 +1,22 @@
 -- What a file means and its layout are the file.
-use Rattle.std.proofs.Common.{◌≡◌, ◌⊎◌, inl, inr, ℕ, ℤ, zero, suc, ◌+◌, ◌<◌, ◌≤◌, true, false, Bool, List, [], ◌∷◌, ◌++◌, length, map, slice_get, Option, Some, None, refl, ap, ◌∙◌, sym, subst, arith, length-append}
-use Rattle.std.specs.List.{flat_map}
+use Rattle.std.proofs.Common.{◌≡◌, inl, inr, ℕ, ℤ, zero, suc, ◌<◌, true, List, [], ◌∷◌, ◌++◌, length, slice_get, Some, None, refl, ap, ◌∙◌, sym, subst, arith}
 use Rattle.std.specs.List.Sorted.{IsPermutation}
 use Rattle.std.proofs.lemmas.List.Sorted.{IsPermutation-refl}
 use Rattle.std.proofs.lemmas.Bool.{cases_lt}
 use Rattle.edf_fields.specs.Lists.{Has}
-use Rattle.edf_fields.proofs.ForCallers.{has-front, has-back, get-within}
+use Rattle.edf_fields.proofs.ForCallers.{has-front, has-back}
 use Rattle.edf_header.specs.Heads.{SignalHead, Head, is_annotations}
 use Rattle.edf_header.proofs.ForCallers.{one_head, some_channel}
 use Rattle.edf_tal.specs.Tals.{TalValue}
 use Rattle.edf_stream.specs.Conforming.{Conforms}
-use Rattle.edf_stream.specs.annotation.Notes.{NoteValue, AreLanesOf, SaysRecord, SayRecords, HasNotes, together, notes_of_tal}
+use Rattle.edf_stream.specs.annotation.Notes.{NoteValue, SaysRecord, HasNotes, together, notes_of_tal}
 use Rattle.edf_stream.specs.records.Records.{lane_of, record_at, annotation_lanes}
 use Rattle.edf_stream.specs.records.RecordsReading.{lane_at}
 use Rattle.edf_stream.proofs.ForCallers.{notes_are_read}
 use Rattle.edf_layout.specs.BodyLaws.{AreBytes, HaveSameSamples}
-use Rattle.edf_layout.specs.BodyLayouts.{RecordLayout, BodyLayout, AreLaidLanes, spellings_in, contents_in, record_contents, IsRecordLayout, HasBodyLayout}
+use Rattle.edf_layout.specs.BodyLayouts.{RecordLayout, BodyLayout, AreLaidLanes, spellings_in, record_contents, IsRecordLayout, HasBodyLayout}
 use Rattle.edf_layout.specs.FileLaws.{AreLaidAlike, HaveSameTals}
-use Rattle.edf_layout.specs.HeadLaws.{SayTheSame, header_of}
+use Rattle.edf_layout.specs.HeadLaws.{SayTheSame}
 use Rattle.edf_layout.specs.HeadLayouts.{head_layout_of}
 use Rattle.edf_layout.specs.LaneLayouts.{TalLayout}
 use Rattle.edf_layout.specs.MeaningLaws.{HaveSameNotes, HaveSameBodyLayout, BodyHasOneLayout, LayoutAndMeaningAreTheFile}

@@ -1,16 +1,14 @@
 -- Plain bodies that say the same are one.
-use Rattle.std.proofs.Common.{◌≡◌, ◌≢◌, ℕ, ℤ, zero, suc, ◌<◌, List, [], ◌∷◌, length, slice_get, refl, ap, ◌∙◌, sym, subst, arith}
+use Rattle.std.proofs.Common.{◌≡◌, ℕ, ℤ, ◌<◌, List, ap, ◌∙◌, sym, subst, arith}
 use Rattle.std.specs.List.Sorted.{IsPermutation}
 use Rattle.std.proofs.lemmas.List.Sorted.{IsPermutation-sym, IsPermutation-trans}
 use Rattle.edf_fields.proofs.ForCallers.{get-within}
 use Rattle.edf_header.specs.Heads.{Head}
 use Rattle.edf_stream.specs.Conforming.{Conforms}
-use Rattle.edf_stream.specs.annotation.Notes.{NoteValue, HasNotes, SaysRecord}
+use Rattle.edf_stream.specs.annotation.Notes.{NoteValue}
 use Rattle.edf_stream.specs.records.Records.{record_at}
-use Rattle.edf_layout.specs.BodyLaws.{AreBytes, HaveSameSamples}
+use Rattle.edf_layout.specs.BodyLaws.{HaveSameSamples}
 use Rattle.edf_layout.specs.BodyLayouts.{BodyLayout, HasBodyLayout}
-use Rattle.edf_layout.specs.HeadLaws.{SayTheSame}
-use Rattle.edf_layout.specs.HeadLayouts.{head_layout_of}
 use Rattle.edf_layout.specs.MeaningLaws.{HaveSameNotes, HaveSameBodyLayout}
 use Rattle.edf_layout.specs.PlainOrders.{PlainOrder, OneByOne, ByTime, HaveStarts, IsOfOrder, IsPlainBody, lane_sizes, plain_body}
 use Rattle.edf_layout.specs.PlainBodyLaws.{PlainBodiesAreOne}
