@@ -4,3 +4,5 @@ pub mod LayoutFacts
 pub mod MeaningFacts
 pub mod PlainFacts
 pub mod PlainTalFacts
+pub mod ExampleFacts
+pub mod RoomFacts

@@ -5,7 +5,7 @@ ghost use Rattle.edf_layout.specs.PlainLaws.{OnePlainHeaderNumber, OnePlainOnset
 ghost use Rattle.edf_layout.specs.FileLaws.{FileIsItsParts, LaneIsItsTals, LanesHaveLayouts};
 ghost use Rattle.edf_layout.specs.HeadLaws.{LayoutIsTheRest, TextTellsLayout};
 ghost use Rattle.edf_layout.specs.MeaningLaws.{BodyHasOneLayout, LayoutAndMeaningAreTheFile, OneOrder, PlacesTell};
-ghost use Rattle.edf_layout.specs.PlainBodyLaws.{OnePlainTal, PlainBodiesAreOne};
+ghost use Rattle.edf_layout.specs.PlainBodyLaws.{OnePlainTal, PlainBodiesAreOne, PlainLanesHoldAll};
 
 /// Two headers in order are the same bytes exactly where they say the same and have the same layout.
 pub fn layout_is_the_rest()
@@ -74,4 +74,9 @@ pub fn plain_bodies_are_one()
 /// A TAL has one plain spelling.
 pub fn a_tal_has_one_plain_spelling()
     ensures { OnePlainTal }
+{}
+
+/// Where there is room for all annotations, a plain order has the TAL of each, and that of each start of a data record.
+pub fn plain_lanes_hold_all()
+    ensures { PlainLanesHoldAll }
 {}
