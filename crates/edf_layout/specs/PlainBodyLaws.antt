@@ -21,6 +21,11 @@ PlainBodiesAreOne = (file other : List ℕ) (h g : Head) (order : PlainOrder) �
     HaveSameSamples file h other g → HaveSameNotes file h other g →
     IsPlainBody order file h → IsPlainBody order other g → file ≡ other
 
+-- a file that conforms is in one plain order at the most
+abbrev pub OneOrderAtMost : Type 0
+OneOrderAtMost = (file : List ℕ) (h : Head) → Conforms file h → (order other : PlainOrder) →
+    IsPlainBody order file h → IsPlainBody other file h → order ≡ other
+
 -- a TAL whose times and texts a lane can hold
 pub record CanStand (tal : TalValue) : Type 0 where
   pub onset : unsigned_abs tal.onset < 10 ^ 21

@@ -5,7 +5,7 @@ ghost use Rattle.edf_layout.specs.PlainLaws.{OnePlainHeaderNumber, OnePlainOnset
 ghost use Rattle.edf_layout.specs.FileLaws.{FileIsItsParts, LaneIsItsTals, LanesHaveLayouts};
 ghost use Rattle.edf_layout.specs.HeadLaws.{LayoutIsTheRest, TextTellsLayout};
 ghost use Rattle.edf_layout.specs.MeaningLaws.{BodyHasOneLayout, LayoutAndMeaningAreTheFile, OneOrder, PlacesTell};
-ghost use Rattle.edf_layout.specs.PlainBodyLaws.{OnePlainTal, PlainBodiesAreOne, PlainLanesHoldAll};
+ghost use Rattle.edf_layout.specs.PlainBodyLaws.{OneOrderAtMost, OnePlainTal, PlainBodiesAreOne, PlainLanesHoldAll};
 
 /// Two headers in order are the same bytes exactly where they say the same and have the same layout.
 pub fn layout_is_the_rest()
@@ -69,6 +69,11 @@ pub fn layout_and_meaning_are_the_file()
 /// bytes.
 pub fn plain_bodies_are_one()
     ensures { PlainBodiesAreOne }
+{}
+
+/// The annotations of a file that conforms stand in one plain order at the most.
+pub fn a_body_has_one_plain_order_at_most()
+    ensures { OneOrderAtMost }
 {}
 
 /// A TAL has one plain spelling.

@@ -194,9 +194,9 @@ tals-same file other h c d samples (ns, ms, hasn, hasm, permuted) (layout, left,
 
 -- ---- together
 
-give : (file other : List ℕ) (h g : Head) → AreBytes file → AreBytes other → Conforms file h → Conforms other g → SayTheSame h g → head_layout_of file h ≡ head_layout_of other g
+parts-give : (file other : List ℕ) (h g : Head) → AreBytes file → AreBytes other → Conforms file h → Conforms other g → SayTheSame h g → head_layout_of file h ≡ head_layout_of other g
     → HaveSameSamples file h other g → HaveSameNotes file h other g → HaveSameBodyLayout file h other g → file ≡ other
-give file other h g bytes more c d said layout samples notes body =
+parts-give file other h g bytes more c d said layout samples notes body =
     let front = (layout_is_the_rest file other h g c.header d.header).1 (said, layout) in
     let is : g ≡ h = sym (head-same file other h g c.header d.header front) in
     let tals : HaveSameTals file h other h =
@@ -204,9 +204,9 @@ give file other h g bytes more c d said layout samples notes body =
     (subst (λ (k : Head). HaveSameNotes file h other k) is notes) (subst (λ (k : Head). HaveSameBodyLayout file h other k) is body) in
     (file_is_its_parts file other h g bytes more c d).1 (said, layout, samples, subst (λ (k : Head). HaveSameTals file h other k) (sym is) tals)
 
-take : (file other : List ℕ) (h g : Head) → AreBytes file → AreBytes other → Conforms file h → Conforms other g → file ≡ other
+same-bytes-give : (file other : List ℕ) (h g : Head) → AreBytes file → AreBytes other → Conforms file h → Conforms other g → file ≡ other
     → SayTheSame h g × (head_layout_of file h ≡ head_layout_of other g) × HaveSameSamples file h other g × HaveSameNotes file h other g × HaveSameBodyLayout file h other g
-take file other h g bytes more c d same =
+same-bytes-give file other h g bytes more c d same =
     let parts = (file_is_its_parts file other h g bytes more c d).0 same in
     let again : Conforms file g = subst (λ f. Conforms f g) (sym same) d in
     let is : h ≡ g = one_head file h g (c.header).head (again.header).head in
@@ -223,4 +223,4 @@ take file other h g bytes more c d same =
 
 pub layout_and_meaning_are_the_file : LayoutAndMeaningAreTheFile
 layout_and_meaning_are_the_file file other h g bytes more c d =
-    (take file other h g bytes more c d, λ all. give file other h g bytes more c d all.0 all.1 all.2 all.3 all.4)
+    (same-bytes-give file other h g bytes more c d, λ all. parts-give file other h g bytes more c d all.0 all.1 all.2 all.3 all.4)

@@ -1,5 +1,5 @@
 -- Plain bodies that say the same are one.
-use Rattle.std.proofs.Common.{◌≡◌, ℕ, ℤ, ◌<◌, List, ap, ◌∙◌, sym, subst, arith}
+use Rattle.std.proofs.Common.{◌≡◌, ℕ, ℤ, ◌<◌, List, refl, ap, ◌∙◌, sym, subst, arith}
 use Rattle.std.specs.List.Sorted.{IsPermutation}
 use Rattle.std.proofs.lemmas.List.Sorted.{IsPermutation-sym, IsPermutation-trans}
 use Rattle.edf_fields.proofs.ForCallers.{get-within}
@@ -11,10 +11,10 @@ use Rattle.edf_layout.specs.BodyLaws.{HaveSameSamples}
 use Rattle.edf_layout.specs.BodyLayouts.{BodyLayout, HasBodyLayout}
 use Rattle.edf_layout.specs.MeaningLaws.{HaveSameNotes, HaveSameBodyLayout}
 use Rattle.edf_layout.specs.PlainOrders.{PlainOrder, OneByOne, ByTime, HaveStarts, IsOfOrder, IsPlainBody, lane_sizes, plain_body}
-use Rattle.edf_layout.specs.PlainBodyLaws.{PlainBodiesAreOne}
+use Rattle.edf_layout.specs.PlainBodyLaws.{OneOrderAtMost, PlainBodiesAreOne}
 use Rattle.edf_layout.proofs.BodyFacts.{start-one}
 use Rattle.edf_layout.proofs.HeadFacts.{head-same, layout_is_the_rest}
-use Rattle.edf_layout.proofs.body.MeaningFacts.{one-notes, members-same, starts-same, layout_and_meaning_are_the_file}
+use Rattle.edf_layout.proofs.body.MeaningFacts.{one-notes, members-same, starts-same, body_has_one_layout, layout_and_meaning_are_the_file}
 use Rattle.edf_layout.proofs.body.OrderFacts.{one_order}
 
 -- a layout of an order is the one of this order
@@ -59,3 +59,23 @@ plain_bodies_are_one file other h g order bytes more c d said layout samples not
     bodies-alike file other h order c (subst (λ (k : Head). Conforms other k) is d) (subst (λ (k : Head). HaveSameSamples file h other k) is samples)
     (subst (λ (k : Head). HaveSameNotes file h other k) is notes) a (subst (λ (k : Head). IsPlainBody order other k) is b) in
     (layout_and_meaning_are_the_file file other h g bytes more c d).1 (said, layout, samples, notes, subst (λ (k : Head). HaveSameBodyLayout file h other k) (sym is) body)
+
+-- a layout that fits both orders is of the first one alone
+not-both : (file : List ℕ) (h : Head) → Conforms file h → IsPlainBody OneByOne file h → IsPlainBody ByTime file h → ⊥
+not-both file h c a b =
+    let notes : a.notes ≡ b.notes = one-notes file h c a.notes b.notes a.has_notes b.has_notes in
+    let between : IsPermutation a.ordered b.notes = subst (IsPermutation a.ordered) notes (IsPermutation-sym a.notes a.ordered a.rearranged) in
+    let ordered : a.ordered ≡ b.ordered = one_order a.ordered b.ordered (IsPermutation-trans a.ordered b.notes b.ordered between b.rearranged) a.in_order b.in_order in
+    let starts : a.starts ≡ b.starts = starts-alike file file h c c (λ x. (λ y. y, λ y. y)) a.starts b.starts a.has_starts b.has_starts in
+    let some = body_has_one_layout file h c in
+    let layout : b.layout ≡ a.layout = some.2 b.layout b.has_layout ∙ sym (some.2 a.layout a.has_layout) in
+    (b.plain).1
+    (layout ∙ a.plain
+    ∙ ap (λ xs. plain_body OneByOne xs (lane_sizes h) a.starts) ordered
+    ∙ ap (λ xs. plain_body OneByOne b.ordered (lane_sizes h) xs) starts)
+
+pub one_order_at_most : OneOrderAtMost
+one_order_at_most file h c OneByOne OneByOne a b = refl
+one_order_at_most file h c OneByOne ByTime a b = absurd (not-both file h c a b)
+one_order_at_most file h c ByTime OneByOne a b = absurd (not-both file h c b a)
+one_order_at_most file h c ByTime ByTime a b = refl
