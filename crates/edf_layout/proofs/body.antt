@@ -1,3 +1,5 @@
+pub mod BodyFacts
+pub mod LaneFacts
 pub mod OrderFacts
 pub mod ContentFacts
 pub mod LayoutFacts

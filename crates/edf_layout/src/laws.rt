@@ -1,11 +1,11 @@
 //! Laws of the definitions, each the contract of a function that does nothing.
 
-ghost use Rattle.edf_layout.specs.BodyLaws.{LanesAreTheRest};
+ghost use Rattle.edf_layout.specs.body.BodyLaws.{LanesAreTheRest};
 ghost use Rattle.edf_layout.specs.PlainLaws.{OnePlainHeaderNumber, OnePlainOnset, OnePlainSpan, OnePlainWholeNumber, PlainHeadersAreOne};
-ghost use Rattle.edf_layout.specs.FileLaws.{FileIsItsParts, LaneIsItsTals, LanesHaveLayouts};
+ghost use Rattle.edf_layout.specs.body.FileLaws.{FileIsItsParts, LaneIsItsTals, LanesHaveLayouts};
 ghost use Rattle.edf_layout.specs.HeadLaws.{LayoutIsTheRest, TextTellsLayout};
-ghost use Rattle.edf_layout.specs.MeaningLaws.{BodyHasOneLayout, LayoutAndMeaningAreTheFile, OneOrder, PlacesTell};
-ghost use Rattle.edf_layout.specs.PlainBodyLaws.{OneOrderAtMost, OnePlainTal, PlainBodiesAreOne, PlainLanesHoldAll};
+ghost use Rattle.edf_layout.specs.body.MeaningLaws.{BodyHasOneLayout, LayoutAndMeaningAreTheFile, OneOrder, PlacesTell};
+ghost use Rattle.edf_layout.specs.body.PlainBodyLaws.{OneOrderAtMost, OnePlainTal, PlainBodiesAreOne, PlainLanesHoldAll};
 
 /// Two headers in order are the same bytes exactly where they say the same and have the same layout.
 pub fn layout_is_the_rest()

@@ -7,8 +7,8 @@ use Rattle.edf_fields.proofs.ForCallers.{has-front, has-back, has-permutation}
 use Rattle.std.proofs.lemmas.List.Sorted.{IsPermutation-sym}
 use Rattle.edf_tal.specs.Tals.{TalValue}
 use Rattle.edf_stream.specs.annotation.Notes.{NoteValue, notes_of_tal}
-use Rattle.edf_layout.specs.NoteOrders.{place_of}
-use Rattle.edf_layout.specs.BodyLayouts.{TalContent, KeepsTime, SaysNothing, Annotates, content_with, content_of, lane_contents, first_contents, record_contents}
+use Rattle.edf_layout.specs.body.NoteOrders.{place_of}
+use Rattle.edf_layout.specs.body.BodyLayouts.{TalContent, KeepsTime, SaysNothing, Annotates, content_with, content_of, lane_contents, first_contents, record_contents}
 use Rattle.edf_layout.proofs.body.OrderFacts.{place-tells, place-permuted}
 
 -- the annotations stand among these

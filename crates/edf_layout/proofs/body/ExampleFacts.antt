@@ -2,7 +2,7 @@
 use Rattle.std.proofs.Common.{◌≡◌, ℕ, ℤ, pos, List, [], ◌∷◌, None, refl, codes}
 use Rattle.std.specs.Fmt.{digits}
 use Rattle.edf_stream.specs.annotation.Notes.{NoteValue}
-use Rattle.edf_layout.specs.PlainOrders.{OneByOne, ByTime, plain_lanes, plain_time, tal_of_note, tal_of_start}
+use Rattle.edf_layout.specs.body.PlainOrders.{OneByOne, ByTime, plain_lanes, plain_time, tal_of_note, tal_of_start}
 
 abbrev note : ℕ → List ℕ → NoteValue
 note onset text = record { onset = pos onset; duration = None; text = text }

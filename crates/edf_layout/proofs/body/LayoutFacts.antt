@@ -9,10 +9,10 @@ use Rattle.edf_tal.specs.Tals.{TalValue, IsText, SpellsDuration, SpellsTal, IsLa
 use Rattle.edf_tal.specs.Reading.{Item, ended}
 use Rattle.edf_tal.proofs.ForCallers.{lane-read}
 use Rattle.edf_stream.specs.annotation.Notes.{AreLanesOf}
-use Rattle.edf_layout.specs.LaneLayouts.{TalLayout, IsLaidTal, IsLaidLane, is_plain_duration, unless_plain}
+use Rattle.edf_layout.specs.body.LaneLayouts.{TalLayout, IsLaidTal, IsLaidLane, is_plain_duration, unless_plain}
 use Rattle.edf_layout.specs.PlainLaws.{is_plain_onset}
-use Rattle.edf_layout.specs.BodyLayouts.{TalContent, PlacedTal, RecordLayout, AreLaidLanes, spellings_in, contents_in, timekeeping_of, lane_contents, first_contents, record_contents, content_of}
-use Rattle.edf_layout.proofs.LaneFacts.{laid, unlaid}
+use Rattle.edf_layout.specs.body.BodyLayouts.{TalContent, PlacedTal, RecordLayout, AreLaidLanes, spellings_in, contents_in, timekeeping_of, lane_contents, first_contents, record_contents, content_of}
+use Rattle.edf_layout.proofs.body.LaneFacts.{laid, unlaid}
 use Rattle.edf_layout.proofs.body.ContentFacts.{cons-first, cons-rest, not-nil}
 use Rattle.edf_stream.specs.annotation.Notes.{NoteValue}
 

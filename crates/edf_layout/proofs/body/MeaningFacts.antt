@@ -13,16 +13,16 @@ use Rattle.edf_stream.specs.annotation.Notes.{NoteValue, SaysRecord, HasNotes, t
 use Rattle.edf_stream.specs.records.Records.{lane_of, record_at, annotation_lanes}
 use Rattle.edf_stream.specs.records.RecordsReading.{lane_at}
 use Rattle.edf_stream.proofs.ForCallers.{notes_are_read}
-use Rattle.edf_layout.specs.BodyLaws.{AreBytes, HaveSameSamples}
-use Rattle.edf_layout.specs.BodyLayouts.{RecordLayout, BodyLayout, AreLaidLanes, spellings_in, record_contents, IsRecordLayout, HasBodyLayout}
-use Rattle.edf_layout.specs.FileLaws.{AreLaidAlike, HaveSameTals}
+use Rattle.edf_layout.specs.body.BodyLaws.{AreBytes, HaveSameSamples}
+use Rattle.edf_layout.specs.body.BodyLayouts.{RecordLayout, BodyLayout, AreLaidLanes, spellings_in, record_contents, IsRecordLayout, HasBodyLayout}
+use Rattle.edf_layout.specs.body.FileLaws.{AreLaidAlike, HaveSameTals}
 use Rattle.edf_layout.specs.HeadLaws.{SayTheSame}
 use Rattle.edf_layout.specs.HeadLayouts.{head_layout_of}
-use Rattle.edf_layout.specs.LaneLayouts.{TalLayout}
-use Rattle.edf_layout.specs.MeaningLaws.{HaveSameNotes, HaveSameBodyLayout, BodyHasOneLayout, LayoutAndMeaningAreTheFile}
-use Rattle.edf_layout.proofs.BodyFacts.{lane-is, starts-equal, sound-at}
+use Rattle.edf_layout.specs.body.LaneLayouts.{TalLayout}
+use Rattle.edf_layout.specs.body.MeaningLaws.{HaveSameNotes, HaveSameBodyLayout, BodyHasOneLayout, LayoutAndMeaningAreTheFile}
+use Rattle.edf_layout.proofs.body.BodyFacts.{lane-is, starts-equal, sound-at}
 use Rattle.edf_layout.proofs.HeadFacts.{head-same, layout_is_the_rest}
-use Rattle.edf_layout.proofs.LaneFacts.{bool-cases, lanes-first, lanes-other, file_is_its_parts}
+use Rattle.edf_layout.proofs.body.LaneFacts.{bool-cases, lanes-first, lanes-other, file_is_its_parts}
 use Rattle.edf_layout.proofs.body.ContentFacts.{AreAmong, tal_with, said_in, record_told}
 use Rattle.edf_layout.proofs.body.LayoutFacts.{lanes_one, lanes_hold, one_layout, some_layout}
 

@@ -13,8 +13,8 @@ use Rattle.std.proofs.lemmas.Map.Lookups.{exact_signed, exact_bytes}
 use Rattle.edf_fields.specs.Lists.{Has}
 use Rattle.edf_fields.proofs.ForCallers.{at-has, get-within, get-index, has-permutation}
 use Rattle.edf_stream.specs.annotation.Notes.{NoteValue}
-use Rattle.edf_layout.specs.MeaningLaws.{AreInOrder, OneOrder, PlacesTell}
-use Rattle.edf_layout.specs.NoteOrders.{note_cmp, place_of}
+use Rattle.edf_layout.specs.body.MeaningLaws.{AreInOrder, OneOrder, PlacesTell}
+use Rattle.edf_layout.specs.body.NoteOrders.{note_cmp, place_of}
 
 pub note_total : IsTotalOrder note_cmp
 note_total = then_total (on_total (λ (n : NoteValue). n.onset) int_cmp_total) (then_total (on_total (λ (n : NoteValue). n.duration) (options_total int_cmp_total)) (on_texts (λ (n : NoteValue). n.text)))

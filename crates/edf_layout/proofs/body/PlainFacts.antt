@@ -7,12 +7,12 @@ use Rattle.edf_header.specs.Heads.{Head}
 use Rattle.edf_stream.specs.Conforming.{Conforms}
 use Rattle.edf_stream.specs.annotation.Notes.{NoteValue}
 use Rattle.edf_stream.specs.records.Records.{record_at}
-use Rattle.edf_layout.specs.BodyLaws.{HaveSameSamples}
-use Rattle.edf_layout.specs.BodyLayouts.{BodyLayout, HasBodyLayout}
-use Rattle.edf_layout.specs.MeaningLaws.{HaveSameNotes, HaveSameBodyLayout}
-use Rattle.edf_layout.specs.PlainOrders.{PlainOrder, OneByOne, ByTime, HaveStarts, IsOfOrder, IsPlainBody, lane_sizes, plain_body}
-use Rattle.edf_layout.specs.PlainBodyLaws.{OneOrderAtMost, PlainBodiesAreOne}
-use Rattle.edf_layout.proofs.BodyFacts.{start-one}
+use Rattle.edf_layout.specs.body.BodyLaws.{HaveSameSamples}
+use Rattle.edf_layout.specs.body.BodyLayouts.{BodyLayout, HasBodyLayout}
+use Rattle.edf_layout.specs.body.MeaningLaws.{HaveSameNotes, HaveSameBodyLayout}
+use Rattle.edf_layout.specs.body.PlainOrders.{PlainOrder, OneByOne, ByTime, HaveStarts, IsOfOrder, IsPlainBody, lane_sizes, plain_body}
+use Rattle.edf_layout.specs.body.PlainBodyLaws.{OneOrderAtMost, PlainBodiesAreOne}
+use Rattle.edf_layout.proofs.body.BodyFacts.{start-one}
 use Rattle.edf_layout.proofs.HeadFacts.{head-same, layout_is_the_rest}
 use Rattle.edf_layout.proofs.body.MeaningFacts.{one-notes, members-same, starts-same, body_has_one_layout, layout_and_meaning_are_the_file}
 use Rattle.edf_layout.proofs.body.OrderFacts.{one_order}

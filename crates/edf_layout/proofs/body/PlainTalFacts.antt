@@ -19,12 +19,12 @@ use Rattle.edf_fields.specs.texts.Numbers.{AreDigits, weight, before_dot, behind
 use Rattle.edf_fields.specs.texts.Onsets.{IsTime, time_of, SpellsOnset}
 use Rattle.edf_layout.specs.PlainNumbers.{is_plain_whole, is_plain_fraction, is_plain_unsigned}
 use Rattle.edf_tal.specs.Tals.{TalValue, SpellsDuration}
-use Rattle.edf_layout.specs.LaneLayouts.{IsLaidTal, is_plain_duration, unless_plain}
+use Rattle.edf_layout.specs.body.LaneLayouts.{IsLaidTal, is_plain_duration, unless_plain}
 use Rattle.edf_layout.specs.PlainLaws.{is_plain_onset}
-use Rattle.edf_layout.specs.PlainOrders.{last_digits, plain_time, plain_onset, plain_duration, plain_tal}
-use Rattle.edf_layout.specs.PlainBodyLaws.{CanStand, OnePlainTal}
+use Rattle.edf_layout.specs.body.PlainOrders.{last_digits, plain_time, plain_onset, plain_duration, plain_tal}
+use Rattle.edf_layout.specs.body.PlainBodyLaws.{CanStand, OnePlainTal}
 use Rattle.edf_layout.proofs.DigitFacts.{digits-tail, digit-head}
-use Rattle.edf_layout.proofs.LaneFacts.{tal-same}
+use Rattle.edf_layout.proofs.body.LaneFacts.{tal-same}
 use Rattle.edf_layout.proofs.plain.NumberFacts.{spread}
 use Rattle.edf_layout.proofs.plain.LawFacts.{no-dot, digit-no-dot}
 

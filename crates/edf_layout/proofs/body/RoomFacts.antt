@@ -8,8 +8,8 @@ use Rattle.std.proofs.lemmas.Grind.{flat_map-append}
 use Rattle.std.proofs.lemmas.List.Sorted.{IsPermutation-refl, IsPermutation-trans, IsPermutation-sym, IsPermutation-middle, IsPermutation-append_left, IsPermutation-append_right}
 use Rattle.edf_tal.specs.Tals.{TalValue}
 use Rattle.edf_stream.specs.annotation.Notes.{NoteValue}
-use Rattle.edf_layout.specs.PlainOrders.{PlainOrder, FilledLane, tal_bytes, with_tal, put_first, put_from, record_for, tal_of_note, tal_of_start, bare_lane, bare_record, filled, parts_of, plain_lanes}
-use Rattle.edf_layout.specs.PlainBodyLaws.{AllHaveRoom, PlainLanesHoldAll}
+use Rattle.edf_layout.specs.body.PlainOrders.{PlainOrder, FilledLane, tal_bytes, with_tal, put_first, put_from, record_for, tal_of_note, tal_of_start, bare_lane, bare_record, filled, parts_of, plain_lanes}
+use Rattle.edf_layout.specs.body.PlainBodyLaws.{AllHaveRoom, PlainLanesHoldAll}
 
 -- the TALs in lanes, one behind the other
 abbrev tals_in : List FilledLane → List TalValue

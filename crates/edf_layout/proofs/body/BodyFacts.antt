@@ -22,7 +22,7 @@ use Rattle.edf_stream.specs.samples.Samples.{SampleValue, IsSample}
 use Rattle.edf_stream.specs.samples.Values.{digital, digital_value}
 use Rattle.edf_stream.specs.times.Starts.{file_start}
 use Rattle.edf_stream.proofs.ForCallers.{one_at_an_instant}
-use Rattle.edf_layout.specs.BodyLaws.{AreBytes, HaveSameSamples, HaveSameAnnotationLanes, LanesAreTheRest}
+use Rattle.edf_layout.specs.body.BodyLaws.{AreBytes, HaveSameSamples, HaveSameAnnotationLanes, LanesAreTheRest}
 use Rattle.edf_layout.proofs.HeadFacts.{head-same}
 use Rattle.edf_layout.proofs.FieldFacts.{join-parts, nothing-behind, column-same}
 

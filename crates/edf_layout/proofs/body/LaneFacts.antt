@@ -10,14 +10,14 @@ use Rattle.edf_tal.specs.Reading.{ended, are_zeros}
 use Rattle.edf_stream.specs.Conforming.{Conforms}
 use Rattle.edf_stream.specs.records.Records.{lane_of, record_at, annotation_lanes}
 use Rattle.edf_stream.specs.records.RecordsReading.{lane_at}
-use Rattle.edf_layout.specs.BodyLaws.{AreBytes, HaveSameSamples, HaveSameAnnotationLanes}
+use Rattle.edf_layout.specs.body.BodyLaws.{AreBytes, HaveSameSamples, HaveSameAnnotationLanes}
 use Rattle.edf_layout.specs.HeadLaws.{SayTheSame, header_of}
 use Rattle.edf_layout.specs.HeadLayouts.{head_layout_of}
-use Rattle.edf_layout.specs.FileLaws.{LanesHaveLayouts, LaneIsItsTals, HaveSameTals, FileIsItsParts}
-use Rattle.edf_layout.specs.LaneLayouts.{TalLayout, IsLaidTal, IsLaidLane, is_plain_duration, unless_plain}
+use Rattle.edf_layout.specs.body.FileLaws.{LanesHaveLayouts, LaneIsItsTals, HaveSameTals, FileIsItsParts}
+use Rattle.edf_layout.specs.body.LaneLayouts.{TalLayout, IsLaidTal, IsLaidLane, is_plain_duration, unless_plain}
 use Rattle.edf_layout.specs.PlainNumbers.{is_plain_unsigned}
 use Rattle.edf_layout.specs.PlainLaws.{is_plain_onset}
-use Rattle.edf_layout.proofs.BodyFacts.{lane-long, lane-is, lanes_are_the_rest}
+use Rattle.edf_layout.proofs.body.BodyFacts.{lane-long, lane-is, lanes_are_the_rest}
 use Rattle.edf_layout.proofs.HeadFacts.{head-same, layout_is_the_rest}
 use Rattle.edf_layout.proofs.plain.LawFacts.{one_plain_onset, one_plain_span}
 

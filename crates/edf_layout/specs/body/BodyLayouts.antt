@@ -6,8 +6,8 @@ use Rattle.edf_header.specs.Heads.{Head}
 use Rattle.edf_tal.specs.Tals.{TalValue}
 use Rattle.edf_stream.specs.annotation.Notes.{NoteValue, HasNotes, notes_of_tal}
 use Rattle.edf_stream.specs.records.Records.{annotation_lanes, record_at}
-use Rattle.edf_layout.specs.LaneLayouts.{TalLayout, IsLaidLane}
-use Rattle.edf_layout.specs.NoteOrders.{place_of}
+use Rattle.edf_layout.specs.body.LaneLayouts.{TalLayout, IsLaidLane}
+use Rattle.edf_layout.specs.body.NoteOrders.{place_of}
 
 -- what a TAL says, by the places of its annotations among all of its file in order: of the TAL that keeps the
 -- time its duration besides (EDF+, "Time keeping of data records"); of a TAL with no text, which is no

@@ -10,8 +10,8 @@ use Rattle.edf_tal.specs.Reading.{ended}
 use Rattle.edf_tal.specs.Tals.{TalValue}
 use Rattle.edf_stream.specs.annotation.Notes.{NoteValue, HasNotes, SaysRecord}
 use Rattle.edf_stream.specs.records.Records.{record_at}
-use Rattle.edf_layout.specs.BodyLayouts.{TalContent, PlacedTal, RecordLayout, BodyLayout, record_contents, HasBodyLayout}
-use Rattle.edf_layout.specs.MeaningLaws.{AreInOrder}
+use Rattle.edf_layout.specs.body.BodyLayouts.{TalContent, PlacedTal, RecordLayout, BodyLayout, record_contents, HasBodyLayout}
+use Rattle.edf_layout.specs.body.MeaningLaws.{AreInOrder}
 
 -- ---- the plain spelling of a TAL
 

@@ -5,11 +5,11 @@ use Rattle.edf_fields.specs.Lists.{Has}
 use Rattle.edf_header.specs.Heads.{Head}
 use Rattle.edf_stream.specs.Conforming.{Conforms}
 use Rattle.edf_stream.specs.annotation.Notes.{NoteValue, HasNotes}
-use Rattle.edf_layout.specs.BodyLaws.{AreBytes, HaveSameSamples}
-use Rattle.edf_layout.specs.BodyLayouts.{BodyLayout, HasBodyLayout}
+use Rattle.edf_layout.specs.body.BodyLaws.{AreBytes, HaveSameSamples}
+use Rattle.edf_layout.specs.body.BodyLayouts.{BodyLayout, HasBodyLayout}
 use Rattle.edf_layout.specs.HeadLaws.{SayTheSame}
 use Rattle.edf_layout.specs.HeadLayouts.{head_layout_of}
-use Rattle.edf_layout.specs.NoteOrders.{note_cmp, place_of}
+use Rattle.edf_layout.specs.body.NoteOrders.{note_cmp, place_of}
 
 -- no annotation comes before one that stands ahead of it
 abbrev pub AreInOrder : List NoteValue → Type 0

@@ -6,12 +6,12 @@ use Rattle.edf_header.specs.Heads.{Head}
 use Rattle.edf_tal.specs.Tals.{TalValue, IsText}
 use Rattle.edf_stream.specs.Conforming.{Conforms}
 use Rattle.edf_stream.specs.annotation.Notes.{NoteValue}
-use Rattle.edf_layout.specs.BodyLaws.{AreBytes, HaveSameSamples}
+use Rattle.edf_layout.specs.body.BodyLaws.{AreBytes, HaveSameSamples}
 use Rattle.edf_layout.specs.HeadLaws.{SayTheSame}
 use Rattle.edf_layout.specs.HeadLayouts.{head_layout_of}
-use Rattle.edf_layout.specs.LaneLayouts.{IsLaidTal}
-use Rattle.edf_layout.specs.MeaningLaws.{HaveSameNotes}
-use Rattle.edf_layout.specs.PlainOrders.{PlainOrder, FilledLane, IsPlainBody, plain_tal, tal_bytes, tal_of_note, tal_of_start, put_from, record_for, bare_record, plain_lanes}
+use Rattle.edf_layout.specs.body.LaneLayouts.{IsLaidTal}
+use Rattle.edf_layout.specs.body.MeaningLaws.{HaveSameNotes}
+use Rattle.edf_layout.specs.body.PlainOrders.{PlainOrder, FilledLane, IsPlainBody, plain_tal, tal_bytes, tal_of_note, tal_of_start, put_from, record_for, bare_record, plain_lanes}
 
 -- two files that conform, that say the same, with headers of one layout and bodies of one plain order, are
 -- the same bytes
