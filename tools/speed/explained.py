@@ -4,8 +4,8 @@
 usage: explained.py PROGRAM FOLDER [SECONDS [TURNS]]
 
 It writes to FOLDER a night of 22 channels, of 8 hours where no SECONDS are said, and exports of it: a copy; one with another
-value in its middle; one in which all channels have half as many samples, and one twice as many; and one in which each value is
-another one. PROGRAM checks and explains each by turns, nine times where no TURNS are said. A line for each says the medians of the
+value in its middle; one in which all channels have half as many samples, one twice as many, and one that has 128 for 170; and one
+in which each value is another one. PROGRAM checks and explains each by turns, nine times where no TURNS are said. A line for each says the medians of the
 processor's time, and how many times that of the check the explanation takes. Each claim keeps all, so no shift and no interval is
 tried. The last line is the largest of these numbers.
 """
@@ -24,6 +24,8 @@ sys.path.insert(0, str(pathlib.Path(__file__).resolve().parent.parent.parent))
 from tests.long_nights import Night, write  # noqa: E402
 
 EIGHT_HOURS = 28800
+# beside the 170 samples a second of a night: both have a sample at the same instant twice a second
+OTHER_RATE = 128
 
 
 def changed(path, other, whole):
@@ -58,7 +60,8 @@ def main():
     path = folder / "night.edf"
     write(path, night)
     exports = {"a copy": path}
-    for name, rate in (("half as many samples", night.rate // 2), ("twice as many samples", night.rate * 2)):
+    rates = {"half as many samples": night.rate // 2, "twice as many samples": night.rate * 2, "samples at another rate": OTHER_RATE}
+    for name, rate in rates.items():
         exports[name] = folder / f"rate-{rate}.edf"
         write(exports[name], dataclasses.replace(night, rate=rate))
     for name, whole in (("one other value", False), ("all other values", True)):
