@@ -9,6 +9,5 @@ pub mod ReportFacts
 pub mod CutLineFacts
 pub mod TextLawFacts
 pub mod TellsFacts
-pub mod BodyFacts
-pub mod LaneFacts
 pub mod plain
+pub mod body

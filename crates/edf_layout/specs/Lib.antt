@@ -7,7 +7,5 @@ pub mod HeadLaws
 pub mod RawSignals
 pub mod HeadFiles
 pub mod HeadReports
-pub mod BodyLaws
+pub mod body
 pub mod PlainLaws
-pub mod LaneLayouts
-pub mod FileLaws

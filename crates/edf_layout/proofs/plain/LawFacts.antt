@@ -42,10 +42,10 @@ one_plain_header_number field other v h g p q =
 
 -- ---- whole numbers
 
-digit-no-dot : (c : ℕ) → (48 ≤ c) × (c ≤ 57) → (c == 46) ≡ false
+pub digit-no-dot : (c : ℕ) → (48 ≤ c) × (c ≤ 57) → (c == 46) ≡ false
 digit-no-dot c h = grind (arith, nat_tests, h.0)
 
-no-dot : (u : List ℕ) → AreDigits u → (before_dot u ≡ u) × (behind_dot u ≡ [])
+pub no-dot : (u : List ℕ) → AreDigits u → (before_dot u ≡ u) × (behind_dot u ≡ [])
 no-dot [] h = (refl, refl)
 no-dot (c ∷ cs) h =
     let none : (c == 46) ≡ false = digit-no-dot c (digit-head c cs h) in

@@ -102,7 +102,7 @@ zeros-weight : (n : ℕ) → weight (replicate n 48) ≡ 0
 zeros-weight zero = refl
 zeros-weight (suc n) = let rest = zeros-weight n in omega (arith, rest)
 
-spread : (a p w q : ℕ) → a * (p * q) + w * q ≡ (a * p + w) * q
+pub spread : (a p w q : ℕ) → a * (p * q) + w * q ≡ (a * p + w) * q
 spread a p w q = grind arith
 
 pad-weight : (ds : List ℕ) (n : ℕ) → weight (ds ++ replicate n 48) ≡ weight ds * 10 ^ n

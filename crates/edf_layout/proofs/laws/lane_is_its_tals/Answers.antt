@@ -1,4 +1,4 @@
-use Rattle.edf_layout.proofs.LaneFacts.{lanes_have_layouts, lane_is_its_tals}
+use Rattle.edf_layout.proofs.body.LaneFacts.{lanes_have_layouts, lane_is_its_tals}
 use Rattle.edf_layout.proofs.laws.lane_is_its_tals.Goals as goal
 
 pub returns-clause-some : goal.returns-clause-some

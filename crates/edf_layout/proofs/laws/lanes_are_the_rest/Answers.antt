@@ -1,4 +1,4 @@
-use Rattle.edf_layout.proofs.BodyFacts.{lanes_are_the_rest}
+use Rattle.edf_layout.proofs.body.BodyFacts.{lanes_are_the_rest}
 use Rattle.edf_layout.proofs.laws.lanes_are_the_rest.Goals as goal
 
 pub returns : goal.returns

@@ -22,7 +22,7 @@ use Rattle.edf_stream.specs.samples.Samples.{SampleValue, IsSample}
 use Rattle.edf_stream.specs.samples.Values.{digital, digital_value}
 use Rattle.edf_stream.specs.times.Starts.{file_start}
 use Rattle.edf_stream.proofs.ForCallers.{one_at_an_instant}
-use Rattle.edf_layout.specs.BodyLaws.{AreBytes, HaveSameSamples, HaveSameAnnotationLanes, LanesAreTheRest}
+use Rattle.edf_layout.specs.body.BodyLaws.{AreBytes, HaveSameSamples, HaveSameAnnotationLanes, LanesAreTheRest}
 use Rattle.edf_layout.proofs.HeadFacts.{head-same}
 use Rattle.edf_layout.proofs.FieldFacts.{join-parts, nothing-behind, column-same}
 
@@ -82,7 +82,7 @@ tals-one : (lanes : List (List ℕ)) (t u : TalValue) (ts us : List TalValue) (t
 tals-one [] t u ts us tss uss h k = absurd h
 tals-one (lane ∷ lanes) t u ts us tss uss h k = first-one t u ts us (sym (lane-read (t ∷ ts) lane h.0) ∙ lane-read (u ∷ us) lane k.0)
 
-start-one : (h : Head) (bytes : List ℕ) (start other : ℤ) (ns ms : List NoteValue) → SaysRecord h bytes start ns → SaysRecord h bytes other ms → start ≡ other
+pub start-one : (h : Head) (bytes : List ℕ) (start other : ℤ) (ns ms : List NoteValue) → SaysRecord h bytes start ns → SaysRecord h bytes other ms → start ≡ other
 start-one h bytes start other ns ms s r =
     ap (λ (t : TalValue). t.onset) (tals-one (annotation_lanes h.signals bytes)
     (record { onset = start; duration = s.duration; texts = [] ∷ s.texts }) (record { onset = other; duration = r.duration; texts = [] ∷ r.texts }) s.tals r.tals s.talss r.talss s.lanes r.lanes)
@@ -169,7 +169,7 @@ not-later file other h c d same k s signal get ordinary some within before =
 flip : (file other : List ℕ) (h : Head) → HaveSameSamples file h other h → HaveSameSamples other h file h
 flip file other h same x = ((same x).1, (same x).0)
 
-starts-equal : (file other : List ℕ) (h : Head) (c : Conforms file h) (d : Conforms other h) → HaveSameSamples file h other h → (s : ℕ) (signal : SignalHead) → slice_get h.signals s ≡ Some signal
+pub starts-equal : (file other : List ℕ) (h : Head) (c : Conforms file h) (d : Conforms other h) → HaveSameSamples file h other h → (s : ℕ) (signal : SignalHead) → slice_get h.signals s ≡ Some signal
     → is_annotations signal.label ≡ false → 0 < signal.samples → (n k : ℕ) → k < n → k < h.records → c.starts k ≡ d.starts k
 starts-equal file other h c d same s signal get ordinary some zero k low within = absurd (omega arith)
 starts-equal file other h c d same s signal get ordinary some (suc n) k low within =
@@ -315,7 +315,7 @@ lane-long file h k s signal c within get =
 pub lane-is : (file : List ℕ) (h : Head) (k s : ℕ) (signal : SignalHead) → slice_get h.signals s ≡ Some signal → lane_at file h k s ≡ lane_of signal (record_at file h k)
 lane-is file h k s signal get = ap (λ o. option_map_or (λ (x : SignalHead). lane_of x (record_at file h k)) o []) get
 
-sound-at : (signals : List SignalHead) (s : ℕ) (signal : SignalHead) → All IsSoundSignal signals → slice_get signals s ≡ Some signal → 0 < signal.samples
+pub sound-at : (signals : List SignalHead) (s : ℕ) (signal : SignalHead) → All IsSoundSignal signals → slice_get signals s ≡ Some signal → 0 < signal.samples
 sound-at [] s signal h e = absurd (let z : None ≡ Some signal = e in cc)
 sound-at (x ∷ xs) zero signal h e =
     let is : x ≡ signal = cc in

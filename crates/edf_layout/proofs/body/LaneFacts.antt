@@ -10,14 +10,14 @@ use Rattle.edf_tal.specs.Reading.{ended, are_zeros}
 use Rattle.edf_stream.specs.Conforming.{Conforms}
 use Rattle.edf_stream.specs.records.Records.{lane_of, record_at, annotation_lanes}
 use Rattle.edf_stream.specs.records.RecordsReading.{lane_at}
-use Rattle.edf_layout.specs.BodyLaws.{AreBytes, HaveSameSamples, HaveSameAnnotationLanes}
+use Rattle.edf_layout.specs.body.BodyLaws.{AreBytes, HaveSameSamples, HaveSameAnnotationLanes}
 use Rattle.edf_layout.specs.HeadLaws.{SayTheSame, header_of}
 use Rattle.edf_layout.specs.HeadLayouts.{head_layout_of}
-use Rattle.edf_layout.specs.FileLaws.{LanesHaveLayouts, LaneIsItsTals, HaveSameTals, FileIsItsParts}
-use Rattle.edf_layout.specs.LaneLayouts.{TalLayout, IsLaidTal, IsLaidLane, is_plain_duration, unless_plain}
+use Rattle.edf_layout.specs.body.FileLaws.{LanesHaveLayouts, LaneIsItsTals, HaveSameTals, FileIsItsParts}
+use Rattle.edf_layout.specs.body.LaneLayouts.{TalLayout, IsLaidTal, IsLaidLane, is_plain_duration, unless_plain}
 use Rattle.edf_layout.specs.PlainNumbers.{is_plain_unsigned}
 use Rattle.edf_layout.specs.PlainLaws.{is_plain_onset}
-use Rattle.edf_layout.proofs.BodyFacts.{lane-long, lane-is, lanes_are_the_rest}
+use Rattle.edf_layout.proofs.body.BodyFacts.{lane-long, lane-is, lanes_are_the_rest}
 use Rattle.edf_layout.proofs.HeadFacts.{head-same, layout_is_the_rest}
 use Rattle.edf_layout.proofs.plain.LawFacts.{one_plain_onset, one_plain_span}
 
@@ -65,7 +65,7 @@ durations-same t u (Some v) (span, is, time, value) (other, too, time2, value2) 
   | inr same ↦ same
 ]
 
-tal-same : (bytes other : List ℕ) (tal : TalValue) (layout : TalLayout) → IsLaidTal bytes tal layout → IsLaidTal other tal layout → bytes ≡ other
+pub tal-same : (bytes other : List ℕ) (tal : TalValue) (layout : TalLayout) → IsLaidTal bytes tal layout → IsLaidTal other tal layout → bytes ≡ other
 tal-same bytes other tal layout h k =
     let onset = onsets-same (h.spelled).onset (k.spelled).onset tal.onset (h.spelled).onset_is (k.spelled).onset_is (sym h.onset ∙ k.onset) in
     let duration = durations-same (h.spelled).duration (k.spelled).duration tal.duration (h.spelled).duration_is (k.spelled).duration_is (sym h.duration ∙ k.duration) in
@@ -88,7 +88,7 @@ lane_is_its_tals lane other (tal ∷ tals) (layout ∷ layouts) long (bytes, res
     whole ∙ ap (λ b. b ++ 0 ∷ rest) first ∙ ap (λ r. bytes2 ++ 0 ∷ r) behind ∙ sym whole2
 
 -- each lane has a layout
-laid : (lane : List ℕ) (tals : List TalValue) → IsLaneOf lane tals → (layouts : List TalLayout) × IsLaidLane lane tals layouts
+pub laid : (lane : List ℕ) (tals : List TalValue) → IsLaneOf lane tals → (layouts : List TalLayout) × IsLaidLane lane tals layouts
 laid lane [] h = ([], h)
 laid lane (tal ∷ tals) (bytes, rest, spelled, whole, more) =
     let behind = laid rest tals more in (
@@ -96,7 +96,7 @@ laid lane (tal ∷ tals) (bytes, rest, spelled, whole, more) =
       (bytes, rest, record { spelled = spelled; onset = refl; duration = refl }, whole, behind.1),
     )
 
-unlaid : (lane : List ℕ) (tals : List TalValue) (layouts : List TalLayout) → IsLaidLane lane tals layouts → IsLaneOf lane tals
+pub unlaid : (lane : List ℕ) (tals : List TalValue) (layouts : List TalLayout) → IsLaidLane lane tals layouts → IsLaneOf lane tals
 unlaid lane [] [] h = h
 unlaid lane [] (layout ∷ layouts) h = absurd h
 unlaid lane (tal ∷ tals) [] h = absurd h
@@ -126,14 +126,14 @@ parts-give file other h g bytes more c d said layout samples tals =
     lanes_are_the_rest file other h g bytes more c d front samples lanes
 
 -- the lane of each annotation signal holds TALs
-bool-cases : (b : Bool) → (b ≡ true) ⊎ (b ≡ false)
+pub bool-cases : (b : Bool) → (b ≡ true) ⊎ (b ≡ false)
 bool-cases true = inl refl
 bool-cases false = inr refl
 
-lanes-first : (x : SignalHead) (xs : List SignalHead) (bytes : List ℕ) → is_annotations x.label ≡ true → annotation_lanes (x ∷ xs) bytes ≡ lane_of x bytes ∷ annotation_lanes xs bytes
+pub lanes-first : (x : SignalHead) (xs : List SignalHead) (bytes : List ℕ) → is_annotations x.label ≡ true → annotation_lanes (x ∷ xs) bytes ≡ lane_of x bytes ∷ annotation_lanes xs bytes
 lanes-first x xs bytes h = rw h refl
 
-lanes-other : (x : SignalHead) (xs : List SignalHead) (bytes : List ℕ) → is_annotations x.label ≡ false → annotation_lanes (x ∷ xs) bytes ≡ annotation_lanes xs bytes
+pub lanes-other : (x : SignalHead) (xs : List SignalHead) (bytes : List ℕ) → is_annotations x.label ≡ false → annotation_lanes (x ∷ xs) bytes ≡ annotation_lanes xs bytes
 lanes-other x xs bytes h = rw h refl
 
 some-tals : (lane : List ℕ) (lanes : List (List ℕ)) (talss : List (List TalValue)) → AreLanesOf (lane ∷ lanes) talss → (tals : List TalValue) × (rest : List (List TalValue)) × IsLaneOf lane tals × AreLanesOf lanes rest

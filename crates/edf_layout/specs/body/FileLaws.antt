@@ -4,10 +4,10 @@ use Rattle.edf_header.specs.Heads.{SignalHead, Head, is_annotations}
 use Rattle.edf_tal.specs.Tals.{TalValue, IsLaneOf}
 use Rattle.edf_stream.specs.Conforming.{Conforms}
 use Rattle.edf_stream.specs.records.RecordsReading.{lane_at}
-use Rattle.edf_layout.specs.BodyLaws.{AreBytes, HaveSameSamples}
+use Rattle.edf_layout.specs.body.BodyLaws.{AreBytes, HaveSameSamples}
 use Rattle.edf_layout.specs.HeadLaws.{SayTheSame}
 use Rattle.edf_layout.specs.HeadLayouts.{head_layout_of}
-use Rattle.edf_layout.specs.LaneLayouts.{TalLayout, IsLaidLane}
+use Rattle.edf_layout.specs.body.LaneLayouts.{TalLayout, IsLaidLane}
 
 -- a lane that holds TALs has a layout
 abbrev pub LanesHaveLayouts : Type 0

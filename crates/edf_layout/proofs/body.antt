@@ -1,0 +1,10 @@
+pub mod BodyFacts
+pub mod LaneFacts
+pub mod OrderFacts
+pub mod ContentFacts
+pub mod LayoutFacts
+pub mod MeaningFacts
+pub mod PlainFacts
+pub mod PlainTalFacts
+pub mod ExampleFacts
+pub mod RoomFacts
