@@ -11,6 +11,4 @@ pub mod BlockFacts
 pub mod PlaceCountFacts
 pub mod ValueFacts
 pub mod FrontFacts
-pub mod StrideFacts
-pub mod NumberFacts
-pub mod HeadFacts
+pub mod rates

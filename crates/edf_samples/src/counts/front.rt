@@ -71,7 +71,7 @@ pub(crate) fn alone_behind(x: Stretch, from: usize, mismatch: SampleMismatch) ->
 
 /// The samples of so many strides of a stretch, but for the first one of each.
 #[inline(always)]
-#[tactic(auto, using(crate::proofs::StrideFacts::stride_alone, crate::proofs::StrideFacts::stride_counted))]
+#[tactic(auto, using(crate::proofs::rates::StrideFacts::stride_alone, crate::proofs::rates::StrideFacts::stride_counted))]
 fn alone_between(x: Stretch, stride: usize, count: usize, mismatch: SampleMismatch) -> Counted
     requires x { IsPart x }
     requires stride { 0 < stride }

@@ -55,7 +55,7 @@ fn next_head(head: Head) -> Head
 }
 
 /// The next sample, if this one is passed.
-#[tactic(auto, using(crate::proofs::HeadFacts::next_small, crate::proofs::HeadFacts::next_is))]
+#[tactic(auto, using(crate::proofs::rates::HeadFacts::next_small, crate::proofs::rates::HeadFacts::next_is))]
 pub(crate) fn head_behind(x: Stretch, den: u32, head: Head, is_passed: bool) -> Head
     requires x { IsPart x }
     requires place { head.place < 2 ^ 23 }
@@ -84,7 +84,7 @@ fn change_of(x: Stretch, here: usize, y: Stretch, there: usize) -> Option<PointD
 }
 
 /// The difference of two samples, each the first that is left of its stretch.
-#[tactic(auto, using(crate::proofs::HeadFacts::head_missing, crate::proofs::HeadFacts::head_extra, crate::proofs::HeadFacts::head_both))]
+#[tactic(auto, using(crate::proofs::rates::HeadFacts::head_missing, crate::proofs::rates::HeadFacts::head_extra, crate::proofs::rates::HeadFacts::head_both))]
 pub(crate) fn difference_at(
     x: Stretch,
     here: Head,

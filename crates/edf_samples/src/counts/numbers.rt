@@ -9,7 +9,7 @@ use crate::counts::strides::Strides;
 use edf_stream::value_at;
 
 /// How many whole strides both of two stretches have, of so many samples each.
-#[tactic(auto, using(crate::proofs::NumberFacts::strides_within))]
+#[tactic(auto, using(crate::proofs::rates::NumberFacts::strides_within))]
 pub(crate) fn whole_strides(here: usize, there: usize, strides: Strides) -> usize
     requires some_here { 0 < strides.here }
     requires some_there { 0 < strides.there }
@@ -20,7 +20,7 @@ pub(crate) fn whole_strides(here: usize, there: usize, strides: Strides) -> usiz
 }
 
 /// Whether the values of a number differ.
-#[tactic(auto, using(crate::proofs::NumberFacts::place_within))]
+#[tactic(auto, using(crate::proofs::rates::NumberFacts::place_within))]
 fn differ_at(old: &[u8], new: &[u8], strides: Strides, number: usize, count: usize) -> bool
     requires number { number < count }
     requires some_here { 0 < strides.here }
@@ -48,7 +48,7 @@ fn numbers_by_one(old: &[u8], new: &[u8], strides: Strides, count: usize) -> Opt
 }
 
 /// The numbers of those of so many values that differ: the first ones of the strides of two lanes.
-#[tactic(auto, using(crate::proofs::PlaceCountFacts::first_within, crate::proofs::PlaceCountFacts::last_within, crate::proofs::NumberFacts::others_at_half, crate::proofs::NumberFacts::others_at_double))]
+#[tactic(auto, using(crate::proofs::PlaceCountFacts::first_within, crate::proofs::PlaceCountFacts::last_within, crate::proofs::rates::NumberFacts::others_at_half, crate::proofs::rates::NumberFacts::others_at_double))]
 pub(crate) fn numbers_at(old: &[u8], new: &[u8], strides: Strides, count: usize) -> Option<Places>
     requires some_here { 0 < strides.here }
     requires some_there { 0 < strides.there }

@@ -5,8 +5,8 @@ use Rattle.edf_samples.specs.declared.counts.places.Places.{Places}
 use Rattle.edf_samples.specs.declared.counts.tally.Tally.{Tally}
 use Rattle.edf_samples.specs.declared.difference.PointDifference.{PointDifference}
 use Rattle.edf_samples.specs.Others.{values_differ_at}
-use Rattle.edf_samples.proofs.NumberFacts.{some_within}
-use Rattle.edf_samples.proofs.StrideFacts.{begins_apart, strided_counted}
+use Rattle.edf_samples.proofs.rates.NumberFacts.{some_within}
+use Rattle.edf_samples.proofs.rates.StrideFacts.{begins_apart, strided_counted}
 use Rattle.edf_samples.proofs.counts.front.count_strided.Goals as goal
 
 pub changes_at-changed-requires-clause-first_here : goal.changes_at-changed-requires-clause-first_here

@@ -1,5 +1,5 @@
 use Rattle.std.proofs.Common.{arith}
-use Rattle.edf_samples.proofs.StrideFacts.{divisor_above, divisor_end, divisor_step}
+use Rattle.edf_samples.proofs.rates.StrideFacts.{divisor_above, divisor_end, divisor_step}
 use Rattle.edf_samples.proofs.counts.strides.common_divisor.Goals as goal
 
 pub loop-rest-preserved : goal.loop-rest-preserved

@@ -1,5 +1,5 @@
 use Rattle.std.proofs.Common.{◌<◌, refl, arith}
-use Rattle.edf_samples.proofs.StrideFacts.{are_strides}
+use Rattle.edf_samples.proofs.rates.StrideFacts.{are_strides}
 use Rattle.edf_samples.proofs.counts.strides.strides_by.Goals as goal
 
 pub returns : goal.returns

@@ -1,0 +1,3 @@
+pub mod StrideFacts
+pub mod NumberFacts
+pub mod HeadFacts
