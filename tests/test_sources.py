@@ -1,6 +1,8 @@
 """What the scripts of tools/gate and tools/release find in the sources: each is run as it is, and has to find no fault."""
 
+import importlib.util
 import pathlib
+import re
 import shutil
 import tempfile
 
@@ -68,3 +70,23 @@ class Program(ProgramCase):
     def test_tables(self):
         ran = run(TOP / "tools" / "gate" / "tables.py", "--check", self.program, cwd=TOP)
         self.assertEqual(ran.status, 0, str(ran))
+
+    def test_examples(self):
+        """The header and the lane that the document of a Yes spells are those of a file that conforms and says that."""
+        place = importlib.util.spec_from_file_location("headline", TOP / "tools" / "gate" / "headline.py")
+        headline = importlib.util.module_from_spec(place)
+        place.loader.exec_module(headline)
+        texts = [re.findall("`([^`]*)`", example) for example in headline.EXAMPLES]
+        widths = (8, 80, 80, 8, 8, 8, 44, 8, 8, 4)
+        front = "".join(text.rstrip("·").ljust(width) for text, width in zip(texts[0][1:11], widths, strict=True))
+        columns = "".join(text.rstrip("·").ljust(16) for text in texts[0][12:14]) + " " * 160 + "uV".ljust(16)
+        columns += "".join(text.ljust(8) for text in "-100 -1 100 1 -2048 -32768 2047 32767".split()) + " " * 160
+        columns += "2".ljust(8) + "20".ljust(8) + " " * 64
+        lane = re.sub("⟨([0-9]+)⟩", lambda byte: chr(int(byte[1])), texts[1][0])
+        records = ["\1\0\2\0" + one.ljust(40, "\0") for one in ("+0\x14\x14\0", lane)]
+        with tempfile.TemporaryDirectory() as room:
+            path = pathlib.Path(room) / "spelled.edf"
+            path.write_bytes((front + columns + "".join(records)).encode())
+            said = run(self.program, "conform", str(path)), run(self.program, "notes", str(path))
+        self.assertEqual(said[0].out, b"CONFORMS records 2 channels 1 samples 4 annotations 1\n")
+        self.assertEqual(said[1].out, b'1500000000000 ps duration 30000000000000 ps text "Apnea"\n')

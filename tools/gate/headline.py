@@ -101,8 +101,8 @@ ABOUT = [
     " `check`, what holds of each value of a type, and what a source says of reads that fail. What the code derives for"
     " its types (`#[derive]`) is left out, too. Words that aren't copied are named at the end. That a claim which can be"
     " read is a sensible one (`IsClaim`) is proved as well, and nothing here needs it.",
-    "Behind the definitions stand their names with their numbers, and the words that no file of this project defines: those"
-    " of the toolchain's library.",
+    "Behind the definitions stand a header and a lane as examples, the names with their numbers, and the words that no file of"
+    " this project defines: those of the toolchain's library.",
 ]
 NOTATION = [
     ("f x y", "the function f of x and y; a word with a capital is a statement, or a kind of values"),
@@ -154,6 +154,16 @@ NOTATION = [
     ("IfOk r P, OnOk r A", "in a contract: if the call answered Ok x, then P x; then A. IsTrue b: the test b gives true"),
     ("Result, Global, Model", "in the code: an answer or an error; where a call has its memory; what a type is to contracts"),
     ("u8, u32, u64, usize", "whole numbers of the code, which a contract takes for those of ℕ; i64 and i128 for those of ℤ"),
+]
+# a header and a lane as they stand in a file, and what they say: ⟨20⟩ is the byte 20
+EXAMPLES = [
+    "The fixed part of a header (`fixed_extent`), · for each run of spaces: `0·`, `MCH-0234567 F X X·`, `Startdate 02-MAR-2002 X X X·`,"
+    " `02.03.02`, `22.00.00`, `768·`, `EDF+C·`, `2·`, `1·`, `2·`. It says (`HasHead`): a patient of that code, sex F, no birthdate and"
+    " name told; the day 2002-03-02, the clock 79200; Contiguous, no free text; 2 data records of 10^12 picoseconds; 2 signals, whose"
+    " columns are the 512 bytes behind it: `ECG·`, `EDF Annotations·`, and so on.",
+    "A lane of its second data record: `+1⟨20⟩⟨20⟩⟨0⟩+1.5⟨21⟩30⟨20⟩Apnea⟨20⟩⟨0⟩`, and zeros to its end. It is a spelling"
+    " (`IsLaneOf`) of two TALs, of onset 10^12 with one empty text, and of onset 15 * 10^11 and duration 30 * 10^12 with the text"
+    " Apnea. So (`SaysRecord`) the data record starts at 10^12, and Apnea is its one annotation.",
 ]
 # rows that say how a definition is read, and name no word
 SAID = ("f x y", "what binds first", "A → B", "(x : T) → A", "(x : T) × A", "λ x. e", "several lines",
@@ -762,8 +772,11 @@ def as_text(order):
             lines += [""] * bool(one.comment) + [plain(one, line) for line in one.lines]
     lines += ["", "", "What isn't copied", ""]
     lines += [f"{word.name}  ({word.home.relative_to(TOP)}): {why}" for word, why in order.left.items()]
+    lines += ["", "", "A header and a lane", ""]
+    for example in EXAMPLES:
+        lines += textwrap.wrap(example, WIDTH, break_on_hyphens=False) + [""]
     names = [f"{one.word.name}:{one.number}" for one in sorted(definitions, key=lambda one: one.word.name.lower())]
-    lines += ["", "", "Names and their numbers", "", *textwrap.wrap(", ".join(names), WIDTH, break_on_hyphens=False)]
+    lines += ["", "Names and their numbers", "", *textwrap.wrap(", ".join(names), WIDTH, break_on_hyphens=False)]
     lines += ["", "", "Words of the toolchain", ""]
     for home, words in toolchain(definitions).items():
         lines += listed(home, [word.name for word in words], "")
@@ -818,7 +831,7 @@ def page_front(order, anchors):
         page += f"<div><b>{part}</b></div>\n"
         for one in those:
             page += f'<div style="padding-left: {one.depth}ch">{link(one, anchors)}</div>\n'
-    page += '<div><a href="#left">What isn\'t copied</a></div>\n'
+    page += '<div><a href="#left">What isn\'t copied</a></div>\n<div><a href="#examples">A header and a lane</a></div>\n'
     return page + '<div><a href="#toolchain">Words of the toolchain</a></div>\n</nav>\n'
 
 
@@ -835,7 +848,9 @@ def as_page(order):
     for word, why in order.left.items():
         page += f"<p><code>{html.escape(word.name)}</code> ({word.home.relative_to(TOP)}): {html.escape(why)}</p>\n"
     page += "</section>\n"
-    page += '<section id="toolchain">\n<h2>Words of the toolchain</h2>\n'
+    page += '<section id="examples">\n<h2>A header and a lane</h2>\n'
+    page += "".join(f"<p>{marked([example])}</p>\n" for example in EXAMPLES)
+    page += '</section>\n<section id="toolchain">\n<h2>Words of the toolchain</h2>\n'
     for home, words in library.items():
         those = ", ".join(f'<code id="{anchors[word]}">{html.escape(word.name)}</code>' for word in words)
         page += f"<p>{html.escape(home)}: {those}</p>\n"
