@@ -4,7 +4,7 @@ use Rattle.std.proofs.lemmas.Int.{ints}
 use Rattle.std.proofs.lemmas.List.{length-map, map-id}
 use Rattle.std.proofs.lemmas.Simd.{map-map}
 use Rattle.std.specs.List.Sorted.{IsPermutation}
-use Rattle.edf_claim.specs.Terms.{Terms}
+use Rattle.edf_claim.specs.ClaimValues.{ClaimValue}
 use Rattle.edf_header.specs.Heads.{Head}
 use Rattle.edf_header.specs.HeadsReading.{head_of}
 use Rattle.edf_heads.specs.HeadVerdicts.{HeadsAgree}
@@ -52,14 +52,14 @@ read-so file notes c has =
     let these = notes_are_read file (head_of file) c in
     these.read ∙ ap (λ ns. map (moved_by (file_start (head_of file))) ns) (sym (these.only notes has))
 
-kept-so : (o : List ℕ) (claim : Terms) (notes : List NoteValue) → Conforms o (head_of o) → HasNotes o (head_of o) notes → kept_notes o claim ≡ kept_of claim notes
+kept-so : (o : List ℕ) (claim : ClaimValue) (notes : List NoteValue) → Conforms o (head_of o) → HasNotes o (head_of o) notes → kept_notes o claim ≡ kept_of claim notes
 kept-so o claim notes c has =
     let s = file_start (head_of o) in
     let back : map (moved_by (neg_ℤ s)) (notes_of o (head_of o)) ≡ notes =
     ap (λ ns. map (moved_by (neg_ℤ s)) ns) (read-so o notes c has) ∙ moved-back (neg_ℤ s) s notes (omega (arith, ints)) in
     ap (kept_of claim) back
 
-exported-so : (o e : List ℕ) (claim : Terms) (notes : List NoteValue) → Conforms e (head_of e) → HasNotes e (head_of e) notes
+exported-so : (o e : List ℕ) (claim : ClaimValue) (notes : List NoteValue) → Conforms e (head_of e) → HasNotes e (head_of e) notes
     → exported_notes o e claim ≡ unshifted (head_of o) (head_of e) claim notes
 exported-so o e claim notes c has =
     let s = file_start (head_of o) in
@@ -69,7 +69,7 @@ exported-so o e claim notes c has =
     ∙ moved-twice (neg_ℤ (s +ℤ d)) t (t -ℤ (s +ℤ d)) notes (omega (arith, ints))
 
 -- an export is one by the headline
-pub headline-of : (o e : List ℕ) (claim : Terms) → BothConform o e → IsExport o e claim → Headline o e claim
+pub headline-of : (o e : List ℕ) (claim : ClaimValue) → BothConform o e → IsExport o e claim → Headline o e claim
 headline-of o e claim both is =
     let these = notes_are_read o (head_of o) both.original_conforms in
     let those = notes_are_read e (head_of e) both.export_conforms in
@@ -96,11 +96,11 @@ headline-of o e claim both is =
     }
 
 -- what the headline says of its two headers and annotations
-abbrev Says : List ℕ → List ℕ → Terms → List NoteValue → List NoteValue → Head → Head → Type 0
+abbrev Says : List ℕ → List ℕ → ClaimValue → List NoteValue → List NoteValue → Head → Head → Type 0
 Says o e claim ns ms h g =
     (Conforms o h × Conforms e g × HasNotes o h ns × HasNotes e g ms) × HeadsAgree h g claim × SamplesAsKept o e h g claim × IsPermutation (kept_of claim ns) (unshifted h g claim ms)
 
-says-of : (o e : List ℕ) (claim : Terms) (r : Headline o e claim) → Says o e claim r.original_notes r.export_notes (head_of o) (head_of e)
+says-of : (o e : List ℕ) (claim : ClaimValue) (r : Headline o e claim) → Says o e claim r.original_notes r.export_notes (head_of o) (head_of e)
 says-of o e claim r =
     let ho = (head-is o r.original_head (r.original_conforms).header).1 in
     let he = (head-is e r.export_head (r.export_conforms).header).1 in
@@ -108,7 +108,7 @@ says-of o e claim r =
     let all : Says o e claim r.original_notes r.export_notes r.original_head r.export_head = ((r.original_conforms, r.export_conforms, r.original_says, r.export_says), heads, r.samples, r.annotations) in
     subst (Says o e claim r.original_notes r.export_notes (head_of o)) he (subst (λ h. Says o e claim r.original_notes r.export_notes h r.export_head) ho all)
 
-export-of : (o e : List ℕ) (claim : Terms) → Headline o e claim → BothConform o e × IsExport o e claim
+export-of : (o e : List ℕ) (claim : ClaimValue) → Headline o e claim → BothConform o e × IsExport o e claim
 export-of o e claim r =
     let s = says-of o e claim r in
     let ns = r.original_notes in
@@ -129,7 +129,7 @@ pub headline_exactly : HeadlineExactly
 headline_exactly o e claim = (export-of o e claim, λ both. headline-of o e claim both.0 both.1)
 
 -- a Yes means the headline
-pub yes_means : (o e : List ℕ) (claim : Terms) (v : Verdict) → IsVerdict o e claim v → YesMeans o e claim v
+pub yes_means : (o e : List ℕ) (claim : ClaimValue) (v : Verdict) → IsVerdict o e claim v → YesMeans o e claim v
 unfolding headline-of
 yes_means o e claim (No difference) is = tt
 yes_means o e claim (Yes channels samples annotations) (both, is, counts) =

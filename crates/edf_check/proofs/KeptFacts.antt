@@ -2,7 +2,7 @@
 use Rattle.std.proofs.Common.{◌≡◌, IsTrue, ℕ, ◌<◌, ◌+◌, ◌*◌, ℤ, pos, ◌+ℤ◌, ◌*ℤ◌, List, refl, sym, ap, ◌∙◌, arith}
 use Rattle.std.proofs.lemmas.Int.{ints}
 use borrow.Author.Differences.{up, down}
-use Rattle.edf_claim.specs.Terms.{Terms}
+use Rattle.edf_claim.specs.ClaimValues.{ClaimValue}
 use Rattle.edf_claim.specs.Keeps.{keeps_instant}
 use Rattle.edf_claim.specs.KeepsReading.{KeepsInstant}
 use Rattle.edf_claim.proofs.ForCallers.{instant_kept}
@@ -41,7 +41,7 @@ sums a b z w d n m ez ew e =
 pub later-same : (ps : ℤ) (t u : Instant) → IsSame t u → IsSame (later ps t) (later ps u)
 later-same ps t u s = sums t.num u.num (t.num +ℤ (pos t.den *ℤ ps)) (u.num +ℤ (pos u.den *ℤ ps)) ps t.den u.den refl refl s
 
-in-same : (claim : Terms) (t u : Instant) → 0 < t.den → 0 < u.den → IsSame t u → KeepsInstant claim t.num t.den → KeepsInstant claim u.num u.den
+in-same : (claim : ClaimValue) (t u : Instant) → 0 < t.den → 0 < u.den → IsSame t u → KeepsInstant claim t.num t.den → KeepsInstant claim u.num u.den
 in-same claim t u pt pu s (interval, there, within) =
     let from : Instant = record { num = interval.from_ps; den = 1 } in
     let to : Instant = record { num = interval.to_ps; den = 1 } in
@@ -51,12 +51,12 @@ in-same claim t u pt pu s (interval, there, within) =
     let high : IsBefore u to = same_before u t to pu (same_back t u s) (omega (arith, ints, b)) in
     (interval, there, (omega (arith, ints, low), omega (arith, ints, high)))
 
-pub keeps-same : (claim : Terms) (t u : Instant) → 0 < t.den → 0 < u.den → IsSame t u → IsTrue (keeps_instant claim t.num t.den) → IsTrue (keeps_instant claim u.num u.den)
+pub keeps-same : (claim : ClaimValue) (t u : Instant) → 0 < t.den → 0 < u.den → IsSame t u → IsTrue (keeps_instant claim t.num t.den) → IsTrue (keeps_instant claim u.num u.den)
 keeps-same claim t u pt pu s h =
     (instant_kept claim u.num u.den (keeps_instant claim u.num u.den) refl).1
     (in-same claim t u pt pu s ((instant_kept claim t.num t.den (keeps_instant claim t.num t.den) refl).0 h))
 
-pub kept-course : (o : List ℕ) (claim : Terms) → Conforms o (head_of o) → IsCourse (KeptAt o claim)
+pub kept-course : (o : List ℕ) (claim : ClaimValue) → Conforms o (head_of o) → IsCourse (KeptAt o claim)
 kept-course o claim c = record {
   moves = λ l t u v pt pu s h.
       let ps = origin_of o in
@@ -64,7 +64,7 @@ kept-course o claim c = record {
   one = λ l t v w p g h. one-value o c l (later (origin_of o) t) v w p g.2 h.2;
 }
 
-pub exported-course : (o e : List ℕ) (claim : Terms) → Conforms e (head_of e) → IsCourse (ExportedAt o e claim)
+pub exported-course : (o e : List ℕ) (claim : ClaimValue) → Conforms e (head_of e) → IsCourse (ExportedAt o e claim)
 exported-course o e claim c = record {
   moves = λ l t u v pt pu s h.
       let ps = origin_of o +ℤ shift_ps claim in

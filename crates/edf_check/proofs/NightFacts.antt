@@ -7,7 +7,7 @@ use Rattle.std.specs.Ordering.{nat_cmp, is_lt}
 use Rattle.std.proofs.lemmas.Bool.Decides.{nat_tests}
 use Rattle.std.proofs.lemmas.Cmp.{nat_list_cmp_total}
 use Rattle.std.proofs.lemmas.List.Sorted.{sorted_far, ranks_by, IsPermutation-sym}
-use Rattle.edf_claim.specs.Terms.{Terms}
+use Rattle.edf_claim.specs.ClaimValues.{ClaimValue}
 use Rattle.edf_claim.specs.Keeps.{keeps_instant}
 use Rattle.edf_fields.specs.Lists.{Has}
 use Rattle.edf_fields.proofs.ForCallers.{and-true, both-true, has-map, map-has, has-filtered, filtered-has, has-at, get-index, get-within, has-one_of, one_of-has, has-permutation, map-get, get-map}
@@ -49,12 +49,12 @@ use Rattle.std.proofs.lemmas.Simd.{map-map}
 use Rattle.edf_pace.proofs.ForCallers.{ascending, difference_at}
 
 -- the first difference of the channels of this label
-unfoldable pub label_difference : Terms → Sampled → Sampled → List ℕ → Option PointDifference
+unfoldable pub label_difference : ClaimValue → Sampled → Sampled → List ℕ → Option PointDifference
 label_difference claim o e label = difference_at claim o e (channel_at label o.head) (channel_at label e.head)
 
 -- these are the samples of an original and an export that conform and have the claimed channels, counted from the second at which the
 -- original starts, before the shift
-pub record AreNights (original export : List ℕ) (claim : Terms) (o e : Sampled) : Type 0 where
+pub record AreNights (original export : List ℕ) (claim : ClaimValue) (o e : Sampled) : Type 0 where
   pub conform : BothConform original export
   pub channels : SameChannels (head_of original) (head_of export) claim
   pub original_head : o.head ≡ head_of original
@@ -180,7 +180,7 @@ column-rises file label place test ps c e of =
 -- ---- both files
 
 -- the column of a label
-abbrev column_at : Terms → Sampled → Sampled → List ℕ → ChannelPlace → ChannelPlace → Column
+abbrev column_at : ClaimValue → Sampled → Sampled → List ℕ → ChannelPlace → ChannelPlace → Column
 column_at claim o e label s t = record {
   label = label;
   n = s.samples;
@@ -193,7 +193,7 @@ abbrev place_or : Option ChannelPlace → ChannelPlace
 place_or None = record { number = 0; samples = 1 }
 place_or (Some place) = place
 
-abbrev pub column_of : Terms → Sampled → Sampled → List ℕ → Column
+abbrev pub column_of : ClaimValue → Sampled → Sampled → List ℕ → Column
 column_of claim o e label = column_at claim o e label (place_or (channel_at label o.head)) (place_or (channel_at label e.head))
 
 -- a label that is claimed has its channel in both files
@@ -213,7 +213,7 @@ place-there h label (x, is) = cases (channel_at label h) refl
     cases None e = absurd (at-there h label e x (filtered-has (λ (y : SignalHead). not (is_annotations y.label)) h.signals x is.there ordinary) is.labelled.0)
     cases (Some place) e = (place, e)
 
-places : (original export : List ℕ) (claim : Terms) (o e : Sampled) (label : List ℕ) → AreNights original export claim o e → Has claim.channels label → HasPlaces o e label
+places : (original export : List ℕ) (claim : ClaimValue) (o e : Sampled) (label : List ℕ) → AreNights original export claim o e → Has claim.channels label → HasPlaces o e label
 places original export claim o e label a i =
     let channels = a.channels in
     let here = place-there (head_of original) label (channels.in_original label i) in
@@ -221,7 +221,7 @@ places original export claim o e label a i =
     record { s = here.0; t = there.0; original = ap (channel_at label) a.original_head ∙ here.1; export = ap (channel_at label) a.export_head ∙ there.1 }
 
 -- what is compared for a label is the difference of its column
-difference-is : (claim : Terms) (o e : Sampled) (label : List ℕ) → HasPlaces o e label → label_difference claim o e label ≡ difference_of (column_of claim o e label)
+difference-is : (claim : ClaimValue) (o e : Sampled) (label : List ℕ) → HasPlaces o e label → label_difference claim o e label ≡ difference_of (column_of claim o e label)
 unfolding label_difference
 difference-is claim o e label p =
     ap (λ s. difference_at claim o e s (channel_at label e.head)) p.original
@@ -236,16 +236,16 @@ differences-are f g (x ∷ xs) h = ap (λ y. y ∷ map f xs) (h x (inl refl)) �
 -- ---- what the columns hold
 
 -- the columns of these labels, which are the claimed ones
-abbrev pub columns_of : Terms → Sampled → Sampled → List (List ℕ) → List Column
+abbrev pub columns_of : ClaimValue → Sampled → Sampled → List (List ℕ) → List Column
 columns_of claim o e labels = map (column_of claim o e) labels
 
-abbrev pub AreClaimed : Terms → List (List ℕ) → Type 0
+abbrev pub AreClaimed : ClaimValue → List (List ℕ) → Type 0
 AreClaimed claim labels = (label : List ℕ) → (Has labels label → Has claim.channels label) × (Has claim.channels label → Has labels label)
 
-kept-of : (claim : Terms) (c : ℕ) (ps : ℤ) (x : Sample) → is_kept claim c ps x ≡ true → is_of c x ≡ true
+kept-of : (claim : ClaimValue) (c : ℕ) (ps : ℤ) (x : Sample) → is_kept claim c ps x ≡ true → is_of c x ≡ true
 kept-of claim c ps x t = (and-true (is_of c x) (keeps_instant claim (later ps x.instant).num (x.instant).den) t).0
 
-kept-instant : (claim : Terms) (c : ℕ) (ps : ℤ) (x : Sample) → is_kept claim c ps x ≡ true → keeps_instant claim (later ps x.instant).num (x.instant).den ≡ true
+kept-instant : (claim : ClaimValue) (c : ℕ) (ps : ℤ) (x : Sample) → is_kept claim c ps x ≡ true → keeps_instant claim (later ps x.instant).num (x.instant).den ≡ true
 kept-instant claim c ps x t = (and-true (is_of c x) (keeps_instant claim (later ps x.instant).num (x.instant).den) t).1
 
 positive-sample : (file : List ℕ) (x : Sample) → Conforms file (head_of file) → Has (samples_of file (head_of file)) x → 0 < (x.instant).den
@@ -257,20 +257,20 @@ positive-sample file x c i =
     omega (arith, some, e)
 
 -- the words of `AreNights` put in place
-kept-list : (original export : List ℕ) (claim : Terms) (o e : Sampled) (c : ℕ) → AreNights original export claim o e
+kept-list : (original export : List ℕ) (claim : ClaimValue) (o e : Sampled) (c : ℕ) → AreNights original export claim o e
     → points_of (is_kept claim c o.moved) o.moved o.samples ≡ points_of (is_kept claim c (neg_ℤ (origin_of original))) (neg_ℤ (origin_of original)) (samples_of original (head_of original))
 kept-list original export claim o e c a =
     ap (λ ps. points_of (is_kept claim c ps) ps o.samples) a.original_moved
     ∙ ap (λ xs. points_of (is_kept claim c (neg_ℤ (origin_of original))) (neg_ℤ (origin_of original)) xs) a.original_samples
 
-exported-list : (original export : List ℕ) (claim : Terms) (o e : Sampled) (c : ℕ) → AreNights original export claim o e
+exported-list : (original export : List ℕ) (claim : ClaimValue) (o e : Sampled) (c : ℕ) → AreNights original export claim o e
     → points_of (is_of c) e.moved e.samples ≡ points_of (is_of c) (neg_ℤ (origin_of original +ℤ shift_ps claim)) (samples_of export (head_of export))
 exported-list original export claim o e c a =
     ap (λ ps. points_of (is_of c) ps e.samples) a.export_moved
     ∙ ap (λ xs. points_of (is_of c) (neg_ℤ (origin_of original +ℤ shift_ps claim)) xs) a.export_samples
 
 -- the column of a claimed label, with its places
-record IsColumnOf (original export : List ℕ) (claim : Terms) (c : Column) : Type 0 where
+record IsColumnOf (original export : List ℕ) (claim : ClaimValue) (c : Column) : Type 0 where
   s : ChannelPlace
   t : ChannelPlace
   original_place : channel_at c.label (head_of original) ≡ Some s
@@ -280,7 +280,7 @@ record IsColumnOf (original export : List ℕ) (claim : Terms) (c : Column) : Ty
   m_is : c.m ≡ t.samples
   exported_is : c.exported ≡ points_of (is_of t.number) (neg_ℤ (origin_of original +ℤ shift_ps claim)) (samples_of export (head_of export))
 
-column-is : (original export : List ℕ) (claim : Terms) (o e : Sampled) (label : List ℕ) → AreNights original export claim o e → Has claim.channels label → IsColumnOf original export claim (column_of claim o e label)
+column-is : (original export : List ℕ) (claim : ClaimValue) (o e : Sampled) (label : List ℕ) → AreNights original export claim o e → Has claim.channels label → IsColumnOf original export claim (column_of claim o e label)
 column-is original export claim o e label a i =
     let p = places original export claim o e label a i in
     let s = place_or (channel_at label o.head) in
@@ -297,7 +297,7 @@ column-is original export claim o e label a i =
     }
 
 -- a column that stands among those of the labels
-among : (original export : List ℕ) (claim : Terms) (o e : Sampled) (labels : List (List ℕ)) (c : Column) → AreNights original export claim o e → AreClaimed claim labels
+among : (original export : List ℕ) (claim : ClaimValue) (o e : Sampled) (labels : List (List ℕ)) (c : Column) → AreNights original export claim o e → AreClaimed claim labels
     → Has (columns_of claim o e labels) c → Has claim.channels c.label × (column_of claim o e c.label ≡ c) × IsColumnOf original export claim c
 among original export claim o e labels c a l i =
     let m = map-has (column_of claim o e) labels c i in
@@ -305,7 +305,7 @@ among original export claim o e labels c a l i =
     let named : m.0 ≡ c.label = ap label_of m.2 in
     (subst (Has claim.channels) named claimed, ap (column_of claim o e) (sym named) ∙ m.2, subst (IsColumnOf original export claim) m.2 (column-is original export claim o e m.0 a claimed))
 
-is-column : (original export : List ℕ) (claim : Terms) (c : Column) → Conforms original (head_of original) → Conforms export (head_of export) → IsColumnOf original export claim c → IsColumn c
+is-column : (original export : List ℕ) (claim : ClaimValue) (c : Column) → Conforms original (head_of original) → Conforms export (head_of export) → IsColumnOf original export claim c → IsColumn c
 is-column original export claim c co ce is =
     let s = is.s in
     let t = is.t in
@@ -326,7 +326,7 @@ is-column original export claim c co ce is =
     }
 
 -- what a column keeps is kept
-kept-there : (original export : List ℕ) (claim : Terms) (c : Column) (at : Instant) (v : ℤ) → Conforms original (head_of original) → IsColumnOf original export claim c → Has claim.channels c.label → 0 < at.den
+kept-there : (original export : List ℕ) (claim : ClaimValue) (c : Column) (at : Instant) (v : ℤ) → Conforms original (head_of original) → IsColumnOf original export claim c → Has claim.channels c.label → 0 < at.den
     → HasValue c.n c.kept at v → KeptAt original claim c.label at v
 kept-there original export claim c at v co is claimed p h =
     let s = is.s in
@@ -338,7 +338,7 @@ kept-there original export claim c at v co is claimed p h =
     let kept = kept-instant claim s.number ps r.x r.passes in
     (claimed, keeps-same claim (later ps (r.x).instant) at px p r.same kept, sampled-value original (origin_of original) c.label test at v co r)
 
-there-kept : (original export : List ℕ) (claim : Terms) (c : Column) (at : Instant) (v : ℤ) → Conforms original (head_of original) → IsColumnOf original export claim c → 0 < at.den
+there-kept : (original export : List ℕ) (claim : ClaimValue) (c : Column) (at : Instant) (v : ℤ) → Conforms original (head_of original) → IsColumnOf original export claim c → 0 < at.den
     → KeptAt original claim c.label at v → HasValue c.n c.kept at v
 there-kept original export claim c at v co is p (claimed, kept, value) =
     let s = is.s in
@@ -356,7 +356,7 @@ there-kept original export claim c at v co is p (claimed, kept, value) =
     let found = sampled-column original h c.label s test ps at v is.original_place (sound-head original co) (kept-of claim s.number ps) r in
     subst (λ n. HasValue n c.kept at v) (sym is.n_is) (subst (λ xs. HasValue s.samples xs at v) (sym is.kept_is) found)
 
-exported-there : (original export : List ℕ) (claim : Terms) (c : Column) (at : Instant) (v : ℤ) → Conforms export (head_of export) → IsColumnOf original export claim c
+exported-there : (original export : List ℕ) (claim : ClaimValue) (c : Column) (at : Instant) (v : ℤ) → Conforms export (head_of export) → IsColumnOf original export claim c
     → HasValue c.m c.exported at v → ExportedAt original export claim c.label at v
 exported-there original export claim c at v ce is h =
     let t = is.t in
@@ -365,7 +365,7 @@ exported-there original export claim c at v ce is h =
     let r = column-sampled export (head_of export) c.label t (is_of t.number) (neg_ℤ d) at v is.export_place (λ x i. i) found in
     sampled-value export d c.label (is_of t.number) at v ce r
 
-there-exported : (original export : List ℕ) (claim : Terms) (c : Column) (at : Instant) (v : ℤ) → Conforms export (head_of export) → IsColumnOf original export claim c
+there-exported : (original export : List ℕ) (claim : ClaimValue) (c : Column) (at : Instant) (v : ℤ) → Conforms export (head_of export) → IsColumnOf original export claim c
     → ExportedAt original export claim c.label at v → HasValue c.m c.exported at v
 there-exported original export claim c at v ce is value =
     let t = is.t in
@@ -375,7 +375,7 @@ there-exported original export claim c at v ce is value =
     let found = sampled-column export h c.label t (is_of t.number) (neg_ℤ d) at v is.export_place (sound-head export ce) (λ x i. i) r in
     subst (λ n. HasValue n c.exported at v) (sym is.m_is) (subst (λ xs. HasValue t.samples xs at v) (sym is.exported_is) found)
 
-pub kept-agree : (original export : List ℕ) (claim : Terms) (o e : Sampled) (labels : List (List ℕ)) → AreNights original export claim o e → AreClaimed claim labels
+pub kept-agree : (original export : List ℕ) (claim : ClaimValue) (o e : Sampled) (labels : List (List ℕ)) → AreNights original export claim o e → AreClaimed claim labels
     → Agree (KeptIn (columns_of claim o e labels)) (KeptAt original claim)
 kept-agree original export claim o e labels a l label at v p = (
   λ (c, i, named, h).
@@ -388,7 +388,7 @@ kept-agree original export claim o e labels a l label at v p = (
 )
 
 -- a value of the export is one of a claimed channel
-claimed-there : (original export : List ℕ) (claim : Terms) (o e : Sampled) (label : List ℕ) (at : Instant) (v : ℤ) → AreNights original export claim o e → ExportedAt original export claim label at v → Has claim.channels label
+claimed-there : (original export : List ℕ) (claim : ClaimValue) (o e : Sampled) (label : List ℕ) (at : Instant) (v : ℤ) → AreNights original export claim o e → ExportedAt original export claim label at v → Has claim.channels label
 claimed-there original export claim o e label at v a (y, is, named, same, value) =
     let h = head_of export in
     let channel = is.channel in
@@ -396,7 +396,7 @@ claimed-there original export claim o e label at v a (y, is, named, same, value)
     let channels = a.channels in
     has-permutation (channel_labels h.signals) claim.channels label (IsPermutation-sym claim.channels (channel_labels h.signals) channels.in_export) (has-label h label there)
 
-pub exported-agree : (original export : List ℕ) (claim : Terms) (o e : Sampled) (labels : List (List ℕ)) → AreNights original export claim o e → AreClaimed claim labels
+pub exported-agree : (original export : List ℕ) (claim : ClaimValue) (o e : Sampled) (labels : List (List ℕ)) → AreNights original export claim o e → AreClaimed claim labels
     → Agree (ExportedIn (columns_of claim o e labels)) (ExportedAt original export claim)
 exported-agree original export claim o e labels a l label at v p = (
   λ (c, i, named, h).
@@ -408,11 +408,11 @@ exported-agree original export claim o e labels a l label at v p = (
       (c, has-map (column_of claim o e) labels label ((l label).1 claimed), refl, there-exported original export claim c at v (a.conform).export_conforms (column-is original export claim o e label a claimed) k),
 )
 
-labels-back : (claim : Terms) (o e : Sampled) (labels : List (List ℕ)) → map label_of (columns_of claim o e labels) ≡ labels
+labels-back : (claim : ClaimValue) (o e : Sampled) (labels : List (List ℕ)) → map label_of (columns_of claim o e labels) ≡ labels
 labels-back claim o e [] = refl
 labels-back claim o e (x ∷ xs) = ap (λ ys. x ∷ ys) (labels-back claim o e xs)
 
-pub are-columns : (original export : List ℕ) (claim : Terms) (o e : Sampled) (labels : List (List ℕ)) → AreNights original export claim o e → AreClaimed claim labels → LabelsRise labels → AreColumns (columns_of claim o e labels)
+pub are-columns : (original export : List ℕ) (claim : ClaimValue) (o e : Sampled) (labels : List (List ℕ)) → AreNights original export claim o e → AreClaimed claim labels → LabelsRise labels → AreColumns (columns_of claim o e labels)
 are-columns original export claim o e labels a l up = record {
   each = λ c i. is-column original export claim c (a.conform).original_conforms (a.conform).export_conforms (among original export claim o e labels c a l i).2;
   distinct = λ c d i j same.
@@ -432,7 +432,7 @@ sorted_rising labels up i j label other le a b =
     ap (λ l. below l p.0) (sym (get-index labels j q.0 p.0 q.1)) ∙ ap (below (get_or labels j p.0)) (sym (get-index labels i p.0 p.0 p.1)) ∙ far in
     subst (λ l. IsNotAbove l other) p.2 (subst (IsNotAbove (p.0).now) q.2 (not_below (p.0).now (q.0).now near))
 
-pub are-claimed : (claim : Terms) (sorted : List (Bor (List ℕ))) → AreSorted claim.channels sorted → AreClaimed claim (map (λ label. label.now) sorted)
+pub are-claimed : (claim : ClaimValue) (sorted : List (Bor (List ℕ))) → AreSorted claim.channels sorted → AreClaimed claim (map (λ label. label.now) sorted)
 are-claimed claim sorted s label =
     let labels = map (λ (l : Bor (List ℕ)). l.now) sorted in (
       λ i. one_of-has claim.channels label (sym (s.same label) ∙ has-one_of labels label i),
@@ -442,7 +442,7 @@ are-claimed claim sorted s label =
 -- ---- the first mismatch
 
 -- what is compared for the labels are the differences of the columns
-compared-columns : (original export : List ℕ) (claim : Terms) (o e : Sampled) (labels : List (List ℕ)) → AreNights original export claim o e → AreClaimed claim labels
+compared-columns : (original export : List ℕ) (claim : ClaimValue) (o e : Sampled) (labels : List (List ℕ)) → AreNights original export claim o e → AreClaimed claim labels
     → map (label_difference claim o e) labels ≡ map difference_of (columns_of claim o e labels)
 compared-columns original export claim o e labels a l =
     differences-are (label_difference claim o e) (λ label. difference_of (column_of claim o e label)) labels
@@ -450,11 +450,11 @@ compared-columns original export claim o e labels a l =
     ∙ sym (map-map difference_of (column_of claim o e) labels)
 
 -- a label at its place among the columns
-named-label : (claim : Terms) (o e : Sampled) (labels : List (List ℕ)) (f : Found) (label : List ℕ) → slice_get labels f.channel ≡ Some label → (named (columns_of claim o e labels) f).label ≡ label
+named-label : (claim : ClaimValue) (o e : Sampled) (labels : List (List ℕ)) (f : Found) (label : List ℕ) → slice_get labels f.channel ≡ Some label → (named (columns_of claim o e labels) f).label ≡ label
 named-label claim o e labels f label at =
     ap (λ x. unwrap_or (option_map label_of x) []) (get-map (column_of claim o e) labels f.channel label at)
 
-pub first-found : (original export : List ℕ) (claim : Terms) (o e : Sampled) (sorted : List (Bor (List ℕ))) (found : Option Found) → AreNights original export claim o e → AreSorted claim.channels sorted
+pub first-found : (original export : List ℕ) (claim : ClaimValue) (o e : Sampled) (sorted : List (Bor (List ℕ))) (found : Option Found) → AreNights original export claim o e → AreSorted claim.channels sorted
     → found ≡ earliest 0 (map (λ label. label_difference claim o e label.now) sorted)
     → MatchOption found (SameSamples original export claim)
     (λ f. (label : List ℕ) → slice_get (map (λ l. l.now) sorted) f.channel ≡ Some label → IsFirstMismatch (KeptAt original claim) (ExportedAt original export claim) label (floor_of f.difference.at) f.difference.mismatch)

@@ -3,7 +3,7 @@ use Rattle.std.proofs.Common.{ℕ, ◌≤◌, ◌+◌, ◌*◌, ◌^◌, ℤ, po
 use Rattle.std.proofs.lemmas.Int.{ints, unsigned_abs-mul}
 use Rattle.std.proofs.Math.Nat.{mul-le-mul}
 use Rattle.edf_claim.specs.Claims.{IsClaim, IsInterval}
-use Rattle.edf_claim.specs.Terms.{Terms}
+use Rattle.edf_claim.specs.ClaimValues.{ClaimValue}
 use Rattle.edf_claim.specs.declared.kept.interval.Interval.{Interval}
 use Rattle.edf_fields.specs.Lists.{Has}
 use Rattle.edf_fields.proofs.ForCallers.{at-has, get-index, get-within}
@@ -40,7 +40,7 @@ moved-small t ps s p =
 small-of : (file : List ℕ) (x : SampleValue) → Conforms file (head_of file) → IsSample file (head_of file) x → IsSmall x.instant
 small-of file x c s = (instants_fit file file (head_of file) (head_of file) c c x x s s).0
 
-interval-of : (claim : Terms) (i : Interval) → IsClaim claim → Has claim.keep i → IsInterval i
+interval-of : (claim : ClaimValue) (i : Interval) → IsClaim claim → Has claim.keep i → IsInterval i
 interval-of claim i c h =
     let at = at-has claim.keep i h in
     subst IsInterval (get-index claim.keep at.0 i i at.1) (c.intervals at.0 i (get-within claim.keep at.0 i at.1))
@@ -62,7 +62,7 @@ start-near file c =
     let early = bounds.early in
     omega (arith, ints, near, early)
 
-pub shift-small : (claim : Terms) → IsClaim claim → unsigned_abs (shift_ps claim) ≤ 2 ^ 79
+pub shift-small : (claim : ClaimValue) → IsClaim claim → unsigned_abs (shift_ps claim) ≤ 2 ^ 79
 shift-small claim c = let low = c.not_far_back in let high = c.not_far_on in omega (arith, ints, low, high)
 
 pub products_fit : AllProductsFit

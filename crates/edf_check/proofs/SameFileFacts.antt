@@ -7,7 +7,7 @@ use Rattle.std.proofs.lemmas.Int.{ints}
 use Rattle.std.proofs.lemmas.List.Sorted.{sum_by-IsPermutation, IsPermutation-map, IsPermutation-refl, length_permutation}
 use Rattle.std.proofs.lemmas.List.{length-map}
 use Rattle.std.proofs.lemmas.List.Sums.{sum_by-cons}
-use Rattle.edf_claim.specs.Terms.{Terms}
+use Rattle.edf_claim.specs.ClaimValues.{ClaimValue}
 use Rattle.edf_claim.specs.Keeps.{keeps_annotation}
 use Rattle.edf_header.specs.signals.Channels.{channels_among, channel_labels}
 use Rattle.edf_header.specs.Heads.{SignalHead}
@@ -89,14 +89,14 @@ same-origin a b s = ap (λ t. t *ℤ pos (10 ^ 12)) (same-start a b s)
 
 -- ---- what is kept and exported
 
-kept-agree : (o o' : List ℕ) (c : Terms) → HoldTheSame o o' → Agree (KeptAt o c) (KeptAt o' c)
+kept-agree : (o o' : List ℕ) (c : ClaimValue) → HoldTheSame o o' → Agree (KeptAt o c) (KeptAt o' c)
 kept-agree o o' c s l t v p =
     let same = same-origin o o' s in (
       λ h. (h.0, h.1, (s.samples l (later (origin_of o') t) v p).0 (subst (λ z. ValueAt o l (later z t) v) same h.2)),
       λ h. (h.0, h.1, subst (λ z. ValueAt o l (later z t) v) (sym same) ((s.samples l (later (origin_of o') t) v p).1 h.2)),
     )
 
-exported-agree : (o e o' e' : List ℕ) (c : Terms) → HoldTheSame o o' → HoldTheSame e e' → Agree (ExportedAt o e c) (ExportedAt o' e' c)
+exported-agree : (o e o' e' : List ℕ) (c : ClaimValue) → HoldTheSame o o' → HoldTheSame e e' → Agree (ExportedAt o e c) (ExportedAt o' e' c)
 exported-agree o e o' e' c s r l t v p =
     let same = same-origin o o' s in (
       λ h. (r.samples l (later (origin_of o' +ℤ shift_ps c) t) v p).0 (subst (λ z. ValueAt e l (later (z +ℤ shift_ps c) t) v) same h),
@@ -122,14 +122,14 @@ passed-times test f (x ∷ xs) n = cases (test x) (passed-times test f xs n) ∙
 passed-same : (test : NoteValue → Bool) (f : NoteValue → NoteValue) (xs ys : List NoteValue) → IsPermutation xs ys → (n : NoteValue) → times (map f (filter test xs)) n ≡ times (map f (filter test ys)) n
 passed-same test f xs ys p n = passed-times test f xs n ∙ sym (sum_by-IsPermutation (weight test f n) xs ys p) ∙ sym (passed-times test f ys n)
 
-kept-notes-same : (o o' : List ℕ) (c : Terms) → HoldTheSame o o' → (n : NoteValue) → times (kept_notes o c) n ≡ times (kept_notes o' c) n
+kept-notes-same : (o o' : List ℕ) (c : ClaimValue) → HoldTheSame o o' → (n : NoteValue) → times (kept_notes o c) n ≡ times (kept_notes o' c) n
 kept-notes-same o o' c s n =
     let test : NoteValue → Bool = λ note. keeps_annotation c note.onset note.text in
     ap (λ z. times (kept_of c (map (moved_by (neg_ℤ z)) (notes_of o (head_of o)))) n) (same-origin o o' s)
     ∙ passed-same test (as_kept c) (map (moved_by (neg_ℤ (origin_of o'))) (notes_of o (head_of o))) (map (moved_by (neg_ℤ (origin_of o'))) (notes_of o' (head_of o')))
     (IsPermutation-map (moved_by (neg_ℤ (origin_of o'))) (notes_of o (head_of o)) (notes_of o' (head_of o')) s.notes) n
 
-exported-notes-same : (o e o' e' : List ℕ) (c : Terms) → HoldTheSame o o' → HoldTheSame e e' → (n : NoteValue) → times (exported_notes o e c) n ≡ times (exported_notes o' e' c) n
+exported-notes-same : (o e o' e' : List ℕ) (c : ClaimValue) → HoldTheSame o o' → HoldTheSame e e' → (n : NoteValue) → times (exported_notes o e c) n ≡ times (exported_notes o' e' c) n
 exported-notes-same o e o' e' c s r n =
     let moved : ℤ → NoteValue → NoteValue = λ z. moved_by (neg_ℤ (z +ℤ shift_ps c)) in
     ap (λ z. times (map (moved z) (notes_of e (head_of e))) n) (same-origin o o' s)
@@ -151,7 +151,7 @@ pairs-of o e o' e' s r = record {
   other_export_sound = sound-head e' r.second_conforms;
 }
 
-carried : (o e o' e' : List ℕ) (c : Terms) (v : Verdict) → HoldTheSame o o' → HoldTheSame e e' → AreBlankAlike (head_of e) (head_of e') → IsVerdict o e c v → IsVerdict o' e' c v
+carried : (o e o' e' : List ℕ) (c : ClaimValue) (v : Verdict) → HoldTheSame o o' → HoldTheSame e e' → AreBlankAlike (head_of e) (head_of e') → IsVerdict o e c v → IsVerdict o' e' c v
 carried o e o' e' c v s r b = by-kind v
   where
     both : BothConform o' e'

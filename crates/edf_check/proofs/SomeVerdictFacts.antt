@@ -5,7 +5,7 @@ use Rattle.std.specs.Ordering.{is_eq, is_gt}
 use Rattle.std.proofs.lemmas.Cmp.{upto}
 use Rattle.std.proofs.lemmas.List.Sorted.{IsPermutation-refl, IsPermutation-sym, IsPermutation-cons, IsPermutation-trans, IsPermutation-middle, sum_by-IsPermutation}
 use Rattle.edf_claim.specs.Claims.{IsClaim}
-use Rattle.edf_claim.specs.Terms.{Terms}
+use Rattle.edf_claim.specs.ClaimValues.{ClaimValue}
 use Rattle.edf_fields.specs.declared.faults.fault.Fault.{Fault}
 use Rattle.edf_fields.specs.Lists.{Has}
 use Rattle.edf_fields.proofs.ForCallers.{has-at, has-permutation}
@@ -132,10 +132,10 @@ same-or-first kept exported =
 
 -- ---- samples
 
-abbrev OrMismatch : List ℕ → List ℕ → Terms → Type 0
+abbrev OrMismatch : List ℕ → List ℕ → ClaimValue → Type 0
 OrMismatch o e c = SameSamples o e c ⊎ ((l : List ℕ) × (ps : ℤ) × (m : SampleMismatch) × IsFirstMismatch (KeptAt o c) (ExportedAt o e c) l ps m)
 
-agree-or-mismatch : (o e : List ℕ) (c : Terms) → BothConform o e → HeadsAgree (head_of o) (head_of e) c → OrMismatch o e c
+agree-or-mismatch : (o e : List ℕ) (c : ClaimValue) → BothConform o e → HeadsAgree (head_of o) (head_of e) c → OrMismatch o e c
 agree-or-mismatch o e c both agree = cases (earliest 0 (map difference_of cs)) (first-is-first cs (are-columns o e c x y labels nights claimed (labels-rise labels sorted.1)))
   where
     x : Sampled
@@ -176,10 +176,10 @@ agree-or-mismatch o e c both agree = cases (earliest 0 (map difference_of cs)) (
 
 -- ---- the verdict, from its last kind to the first
 
-abbrev HasVerdict : List ℕ → List ℕ → Terms → Type 0
+abbrev HasVerdict : List ℕ → List ℕ → ClaimValue → Type 0
 HasVerdict o e c = (v : Verdict) × IsVerdict o e c v
 
-from-notes : (o e : List ℕ) (c : Terms) → BothConform o e → HeadsAgree (head_of o) (head_of e) c → SameSamples o e c → HasVerdict o e c
+from-notes : (o e : List ℕ) (c : ClaimValue) → BothConform o e → HeadsAgree (head_of o) (head_of e) c → SameSamples o e c → HasVerdict o e c
 from-notes o e c both agree samples =
     ⊎_elim
     (λ same. (
@@ -189,11 +189,11 @@ from-notes o e c both agree samples =
     (λ r. (No (differences.Annotation r.0 (r.1).onset (r.1).duration (r.1).text), (both, agree, samples, r.2)))
     (same-or-first (kept_notes o c) (exported_notes o e c))
 
-from-samples : (o e : List ℕ) (c : Terms) → BothConform o e → HeadsAgree (head_of o) (head_of e) c → HasVerdict o e c
+from-samples : (o e : List ℕ) (c : ClaimValue) → BothConform o e → HeadsAgree (head_of o) (head_of e) c → HasVerdict o e c
 from-samples o e c both agree =
     ⊎_elim (λ same. from-notes o e c both agree same) (λ r. (No (differences.Sample r.0 r.1 r.2), (both, agree, r.3))) (agree-or-mismatch o e c both agree)
 
-from-heads : (o e : List ℕ) (c : Terms) → IsClaim c → BothConform o e → HasVerdict o e c
+from-heads : (o e : List ℕ) (c : ClaimValue) → IsClaim c → BothConform o e → HasVerdict o e c
 from-heads o e c is both =
     ⊎_elim (λ agree. from-samples o e c both agree) (λ r. (r.0, of_heads o e c r.0 both r.1))
     (agree_or_differ (head_of o) (head_of e) c (sound-head o both.original_conforms) (sound-head e both.export_conforms) is)

@@ -2,7 +2,7 @@
 use Rattle.std.proofs.Common.{◌≡◌, ◌↔◌, ℕ, ℤ, pos, ◌+◌, ◌*◌, ◌<◌, ◌+ℤ◌, ◌*ℤ◌, ◌≤ℤ◌, ◌<ℤ◌, ◌^◌, List, refl, ap, arith}
 use Rattle.std.proofs.lemmas.Int.{ints}
 use borrow.Author.Differences.{up, down}
-use Rattle.edf_claim.specs.Terms.{Terms}
+use Rattle.edf_claim.specs.ClaimValues.{ClaimValue}
 use Rattle.edf_header.specs.Heads.{Head, day_number}
 use Rattle.edf_header.specs.HeadsReading.{start_second}
 use Rattle.edf_stream.specs.declared.times.instant.Instant.{Instant}
@@ -55,7 +55,7 @@ unshifted : (d : ℤ) (t u : Instant) → IsNotBefore (later d t) (later d u) �
 unshifted d t u le = unshifted-order u.num t.num (u.num +ℤ (pos u.den *ℤ d)) (t.num +ℤ (pos t.den *ℤ d)) d u.den t.den refl refl le
 
 -- the first sample of an export is the first kept one
-first-kept : (o e : List ℕ) (h g : Head) (claim : Terms) (x y : SampleValue) → SamplesAsKept o e h g claim → IsKeptSample o h claim x
+first-kept : (o e : List ℕ) (h g : Head) (claim : ClaimValue) (x y : SampleValue) → SamplesAsKept o e h g claim → IsKeptSample o h claim x
     → IsSame (later (shift_ps claim) x.instant) y.instant → 0 < (y.instant).den → ((w : SampleValue) → IsSample e g w → IsNotBefore w.instant y.instant)
     → IsFirstKept o h claim x
 first-kept o e h g claim x y samples kept same some least = record {

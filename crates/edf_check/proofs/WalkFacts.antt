@@ -1,6 +1,6 @@
 -- From the parts of a walk to what it found.
 use Rattle.std.proofs.Common.{◌≡◌, ℕ, List, []}
-use Rattle.edf_claim.specs.Terms.{Terms}
+use Rattle.edf_claim.specs.ClaimValues.{ClaimValue}
 use Rattle.edf_header.specs.HeadsReading.{head_of}
 use Rattle.edf_verdict.specs.declared.verdict.Verdict.{Verdict}
 use Rattle.edf_verdict.specs.declared.verdict.Verdict.TheVariants.{Yes, No}
@@ -13,7 +13,7 @@ use Rattle.edf_check.specs.Verdicts.{IsVerdict}
 -- ---- what was walked, in the words of both files
 
 -- a verdict on the headers is the verdict on the files
-pub of_heads : (o e : List ℕ) (claim : Terms) (v : Verdict) → BothConform o e → IsHeadVerdict (head_of o) (head_of e) claim v → IsVerdict o e claim v
+pub of_heads : (o e : List ℕ) (claim : ClaimValue) (v : Verdict) → BothConform o e → IsHeadVerdict (head_of o) (head_of e) claim v → IsVerdict o e claim v
 of_heads o e claim (Yes channels samples annotations) both is = absurd is
 of_heads o e claim (No (differences.OriginalFault fault)) both is = absurd is
 of_heads o e claim (No (differences.ExportFault fault)) both is = absurd is

@@ -1,7 +1,7 @@
 -- That the samples agree, in the words of samples.
 use Rattle.std.proofs.Common.{◌≡◌, ℕ, ℤ, pos, ◌+ℤ◌, ◌*ℤ◌, neg_ℤ, List, refl, sym, ap, ◌∙◌, subst, arith}
 use Rattle.std.proofs.lemmas.Int.{ints}
-use Rattle.edf_claim.specs.Terms.{Terms}
+use Rattle.edf_claim.specs.ClaimValues.{ClaimValue}
 use Rattle.edf_fields.specs.Lists.{Has}
 use Rattle.edf_header.specs.HeadsReading.{head_of}
 use Rattle.edf_stream.specs.declared.times.instant.Instant.{Instant}
@@ -56,7 +56,7 @@ unshifted-same s h x t g =
     let e : later (neg_ℤ h) (later (s +ℤ h) t) ≡ later s t = later-later (s +ℤ h) (neg_ℤ h) s t (omega (arith, ints)) in
     subst (λ z. IsSame z (later s t)) (later-forth h x) (subst (IsSame (later (neg_ℤ h) (later h x))) e k)
 
-to-words : (o e : List ℕ) (c : Terms) → SameSamples o e c → SamplesAsKept o e (head_of o) (head_of e) c
+to-words : (o e : List ℕ) (c : ClaimValue) → SameSamples o e c → SamplesAsKept o e (head_of o) (head_of e) c
 to-words o e c a = record {
   all_kept = λ x k.
       let s = origin_of o in
@@ -83,7 +83,7 @@ to-words o e c a = record {
       (x, record { sample = found.1; channel = channel; instant = instant }, record { label = sym found.2; value = sym found.4; instant = subst (IsSame (later (shift_ps c) x.instant)) (later-back d y.instant) z });
 }
 
-of-words : (o e : List ℕ) (c : Terms) → SamplesAsKept o e (head_of o) (head_of e) c → SameSamples o e c
+of-words : (o e : List ℕ) (c : ClaimValue) → SamplesAsKept o e (head_of o) (head_of e) c → SameSamples o e c
 of-words o e c a l t v p = (
   λ k.
       let s = origin_of o in

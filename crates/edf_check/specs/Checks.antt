@@ -1,6 +1,6 @@
 -- What a check leaves.
 use Rattle.std.specs.Prelude.{◌≡◌, ℕ, List, [], IsTrue}
-use Rattle.edf_check.specs.Words.{Terms, Fails, Ghosts, Verdict}
+use Rattle.edf_check.specs.Words.{ClaimValue, Fails, Ghosts, Verdict}
 use Rattle.edf_check.specs.Headline.{YesMeans}
 use Rattle.edf_check.specs.Verdicts.{IsVerdict}
 use Rattle.edf_stop.specs.declared.stops.CheckStop.{CheckStop}
@@ -24,12 +24,12 @@ CheckStops original export none (ReadFailed sides.Export) = export
 -- ---- the same of two sources, before and behind
 
 -- where both are honest, the headline holds of the files that they give
-abbrev pub IsHeadlineOfTwo : {O E : Type 0} → Ghosts O → Ghosts E → O → E → Terms → Verdict → Type 0
+abbrev pub IsHeadlineOfTwo : {O E : Type 0} → Ghosts O → Ghosts E → O → E → ClaimValue → Verdict → Type 0
 IsHeadlineOfTwo original export o e claim verdict =
     IsTrue (original.is_honest o) → IsTrue (export.is_honest e) → YesMeans (original.left o) (export.left e) claim verdict
 
 -- and this is the verdict on them
-abbrev pub IsVerdictOfTwo : {O E : Type 0} → Ghosts O → Ghosts E → O → E → Terms → Verdict → Type 0
+abbrev pub IsVerdictOfTwo : {O E : Type 0} → Ghosts O → Ghosts E → O → E → ClaimValue → Verdict → Type 0
 IsVerdictOfTwo original export o e claim verdict =
     IsTrue (original.is_honest o) → IsTrue (export.is_honest e) → IsVerdict (original.left o) (export.left e) claim verdict
 

@@ -1,6 +1,6 @@
 -- When a file is the export of an original under a claim.
 use Rattle.std.specs.Prelude.{ℕ, List}
-use Rattle.edf_claim.specs.Terms.{Terms}
+use Rattle.edf_claim.specs.ClaimValues.{ClaimValue}
 use Rattle.edf_header.specs.HeadsReading.{head_of}
 use Rattle.edf_stream.specs.Conforming.{Conforms}
 use Rattle.edf_pace.specs.Annotations.{SameNotes}
@@ -14,12 +14,12 @@ pub record BothConform (original export : List ℕ) : Type 0 where
   pub export_conforms : Conforms export (head_of export)
 
 -- the export's samples are exactly those that the claim keeps of the original, at the instants moved by the shift, value for value
-abbrev pub SameSamples : List ℕ → List ℕ → Terms → Type 0
+abbrev pub SameSamples : List ℕ → List ℕ → ClaimValue → Type 0
 SameSamples original export claim = Agree (KeptAt original claim) (ExportedAt original export claim)
 
 -- the export is the original, cut and made anonymous as the claim says, and nothing else: the headers agree (channels, texts,
 -- calibrations, subfields, free text), the samples are the kept ones, and so are the annotations, each as often
-pub record IsExport (original export : List ℕ) (claim : Terms) : Type 0 where
+pub record IsExport (original export : List ℕ) (claim : ClaimValue) : Type 0 where
   pub heads : HeadsAgree (head_of original) (head_of export) claim
   pub samples : SameSamples original export claim
   pub notes : SameNotes (kept_notes original claim) (exported_notes original export claim)

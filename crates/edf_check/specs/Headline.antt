@@ -1,7 +1,7 @@
 -- What a Yes means.
 use Rattle.std.specs.Prelude.{◌≡◌, ℕ, ◌*◌, List, length}
 use Rattle.std.specs.List.Sorted.{IsPermutation}
-use Rattle.edf_claim.specs.Terms.{Terms}
+use Rattle.edf_claim.specs.ClaimValues.{ClaimValue}
 use Rattle.edf_header.specs.Heads.{Head, samples_together}
 use Rattle.edf_heads.specs.Blank.{IsBlank}
 use Rattle.edf_fields.specs.declared.fields.which.Which.{Which}
@@ -24,7 +24,7 @@ use Rattle.edf_pace.specs.Kept.{SamplesAsKept, kept_of, unshifted}
 -- from the samples, and from `same_day` of `MeetsStandard`; and what `IsBlank` names is empty. Of the export's layout nothing is said:
 -- how it is cut into data records, its kind, the order of its channels, how numbers are spelled, extremes on the same line, TALs
 -- without a text, and what else docs/CLAIM.md lists.
-pub record Headline (original export : List ℕ) (claim : Terms) : Type 0 where
+pub record Headline (original export : List ℕ) (claim : ClaimValue) : Type 0 where
   pub original_head : Head
   pub export_head : Head
   pub original_notes : List NoteValue
@@ -48,7 +48,7 @@ pub record AreCounts (h : Head) (notes : List NoteValue) (channels samples annot
   pub annotations_are : annotations ≡ length notes
 
 -- what a Yes means: the headline, and its counts are the export's
-abbrev pub YesMeans : List ℕ → List ℕ → Terms → Verdict → Type 0
+abbrev pub YesMeans : List ℕ → List ℕ → ClaimValue → Verdict → Type 0
 YesMeans original export claim (No difference) = Unit {0}
 YesMeans original export claim (Yes channels samples annotations) =
     (headline : Headline original export claim)

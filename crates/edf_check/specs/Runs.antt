@@ -1,6 +1,6 @@
 -- What a check under the claim of a text says, and what a run writes: of one export, and of several.
 use Rattle.std.specs.Prelude.{◌≡◌, ◌≢◌, ℕ, List, ◌++◌, Bool, IsTrue, length, map}
-use Rattle.edf_check.specs.Words.{SaysClaimText, FirstClaimFault, Terms, ClaimStop, Fails, Reads, Ghosts, outcome_of, Outcome, Verdict, AllByRecursion, PartsVerdict}
+use Rattle.edf_check.specs.Words.{SaysClaimText, FirstClaimFault, ClaimValue, ClaimStop, Fails, Reads, Ghosts, outcome_of, Outcome, Verdict, AllByRecursion, PartsVerdict}
 use Rattle.edf_fields.specs.in_out.Sinks.{HoldsPrefix}
 use Rattle.edf_stop.specs.declared.stops.RunStop.{RunStop}
 use Rattle.edf_stop.specs.declared.stops.RunStop.TheVariants.{OutOfMemory, ReadFailed, Claim, WriteFailed}
@@ -18,7 +18,7 @@ use Rattle.edf_stop.specs.declared.parts_stops.PartSide.TheVariants as part_side
 
 -- this is the verdict on two files under the claim that a text says
 pub record IsVerdictUnder (original export text : List ℕ) (verdict : Verdict) : Type 0 where
-  pub claim : Terms
+  pub claim : ClaimValue
   pub says : SaysClaimText text claim
   pub is : IsVerdict original export claim verdict
   pub means : YesMeans original export claim verdict
@@ -77,7 +77,7 @@ JudgeStopsOf original export o o' e e' text = JudgeStops text (original.reads o)
 
 -- this is the verdict on an original and several exports under the claim that a text says
 pub record IsPartsVerdictUnder (original : List ℕ) (parts : List (List ℕ)) (text : List ℕ) (verdict : PartsVerdict) : Type 0 where
-  pub claim : Terms
+  pub claim : ClaimValue
   pub says : SaysClaimText text claim
   pub is : IsPartsVerdict original parts claim verdict
 

@@ -1,6 +1,6 @@
 -- The verdict on an original and an export: the first difference in the order of `Difference`, or Yes.
 use Rattle.std.specs.Prelude.{◌≡◌, ℕ, List, None, Some}
-use Rattle.edf_check.specs.Words.{Terms, head_of, HeadsAgree, IsHeadVerdict, file_fault, notes_of, Verdict}
+use Rattle.edf_check.specs.Words.{ClaimValue, head_of, HeadsAgree, IsHeadVerdict, file_fault, notes_of, Verdict}
 use Rattle.edf_pace.specs.Annotations.{IsFirstNote}
 use Rattle.edf_check.specs.Courses.{IsFirstMismatch}
 use Rattle.edf_check.specs.Exports.{BothConform, SameSamples, IsExport}
@@ -10,7 +10,7 @@ use Rattle.edf_verdict.specs.declared.verdict.Verdict.TheVariants.{Yes, No}
 use Rattle.edf_verdict.specs.declared.verdict.Difference.TheVariants.{OriginalFault, ExportFault, PartOrder, Sample, Annotation}
 
 -- this is the verdict; each says that those before it don't apply. Any other than those named here is a rule of two headers
-abbrev pub IsVerdict : List ℕ → List ℕ → Terms → Verdict → Type 0
+abbrev pub IsVerdict : List ℕ → List ℕ → ClaimValue → Verdict → Type 0
 IsVerdict original export claim (No (OriginalFault fault)) = file_fault original ≡ Some fault
 IsVerdict original export claim (No (ExportFault fault)) = (file_fault original ≡ None) × (file_fault export ≡ Some fault)
 IsVerdict original export claim (No PartOrder) = ⊥

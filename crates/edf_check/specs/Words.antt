@@ -1,5 +1,5 @@
 -- The words of lower crates, and the types of the code, that most definitions here name.
-pub use Rattle.edf_pace.specs.Words.{Bor, option_or, Terms, Fails, Reads, Fault, Ghosts, channels_among, Head, SignalHead, Conforms, body_fault, file_fault, NoteValue, notes_of, Reader, note_value}
+pub use Rattle.edf_pace.specs.Words.{Bor, option_or, ClaimValue, Fails, Reads, Fault, Ghosts, channels_among, Head, SignalHead, Conforms, body_fault, file_fault, NoteValue, notes_of, Reader, note_value}
 pub use Rattle.edf_pace.specs.declared.walk.fault_of.FaultOf.{FaultOf}
 pub use Rattle.edf_samples.specs.declared.earliest.Found.{Found}
 pub use Rattle.edf_pace.specs.declared.walk.reading.Reading.{Reading}

@@ -7,7 +7,7 @@ use Rattle.std.proofs.lemmas.Int.{ints}
 use Rattle.std.proofs.Math.Nat.{mul-le-mul_right, lt_of_mul-lt-mul_right}
 use borrow.Author.Differences.{up, down}
 use Rattle.edf_claim.specs.Claims.{IsInterval}
-use Rattle.edf_claim.specs.Terms.{Terms}
+use Rattle.edf_claim.specs.ClaimValues.{ClaimValue}
 use Rattle.edf_claim.specs.declared.kept.interval.Interval.{Interval}
 use Rattle.edf_claim.specs.Keeps.{keeps_instant}
 use Rattle.edf_claim.specs.KeepsReading.{AreKept, IsOutside, IsUncut, HasBorder, is_within}
@@ -143,5 +143,5 @@ same-within (i ∷ is) n num t u o f g =
     ∙ ap (λ a. (int_le (i.from_ps *ℤ pos 1) t && a) || list_any (λ j. is_within j num n) is) (same-end n num i.to_ps t u o.1 f g)
     ∙ ap (λ a. is_within i t 1 || a) (same-within is n num t u o.2 f g)
 
-pub kept-alike : (c : Terms) (n : ℕ) (num t u : ℤ) → IsUncut c.keep t u → (t *ℤ pos n) ≤ℤ num → num <ℤ (u *ℤ pos n) → keeps_instant c num n ≡ keeps_instant c t 1
+pub kept-alike : (c : ClaimValue) (n : ℕ) (num t u : ℤ) → IsUncut c.keep t u → (t *ℤ pos n) ≤ℤ num → num <ℤ (u *ℤ pos n) → keeps_instant c num n ≡ keeps_instant c t 1
 kept-alike c n num t u o f g = same-within c.keep n num t u o f g

@@ -2,10 +2,10 @@
 use Rattle.std.proofs.Common.{◌≡◌, true, Some, None, refl}
 use Rattle.toml.specs.Data.{Members}
 use Rattle.edf_claim.specs.Reading.{has_format, has_keys_of_format, channels_of, keep_of, anonymous_of, shift_of, remove_of, remove_prefix_of, blank_of, claim_fault}
-use Rattle.edf_claim.specs.Terms.{Terms}
+use Rattle.edf_claim.specs.ClaimValues.{ClaimValue}
 
 -- the parts that are read of a table are those of this claim
-pub record AreParts (m : Members) (c : Terms) : Type 0 where
+pub record AreParts (m : Members) (c : ClaimValue) : Type 0 where
   pub channels : channels_of m ≡ Some c.channels
   pub keep : keep_of m ≡ Some c.keep
   pub anonymous : anonymous_of m ≡ Some c.anonymous
@@ -14,6 +14,6 @@ pub record AreParts (m : Members) (c : Terms) : Type 0 where
   pub remove_prefix : remove_prefix_of m ≡ Some c.remove_prefix
   pub blank : blank_of m ≡ Some c.blank
 
-pub all-passed : (m : Members) (c : Terms) → has_format m ≡ true → has_keys_of_format m ≡ true → AreParts m c → claim_fault m ≡ None
+pub all-passed : (m : Members) (c : ClaimValue) → has_format m ≡ true → has_keys_of_format m ≡ true → AreParts m c → claim_fault m ≡ None
 unfolding claim_fault
 all-passed m c f k p = rw (f, k, p.channels, p.keep, p.anonymous, p.shift, p.remove, p.remove_prefix, p.blank) refl

@@ -3,7 +3,7 @@ use Rattle.std.proofs.Common.{◌≡◌, ◌≢◌, ◌↔◌, ℕ, ℤ, pos, �
 use Rattle.std.specs.List.{All, list_any}
 use Rattle.std.proofs.lemmas.Int.{ints}
 use Rattle.edf_claim.specs.Claims.{IsInterval}
-use Rattle.edf_claim.specs.Terms.{Terms}
+use Rattle.edf_claim.specs.ClaimValues.{ClaimValue}
 use Rattle.edf_claim.specs.declared.kept.interval.Interval.{Interval}
 use Rattle.edf_fields.specs.declared.fields.which.Which.{Which}
 use Rattle.edf_claim.specs.Keeps.{keeps_instant, keeps_annotation, removes}
@@ -63,7 +63,7 @@ within-any [] num den i there h = absurd there
 within-any (j ∷ is) num den i (inl e) h = ap (λ b. b || list_any (λ k. is_within k num den) is) (within-tested j num den (subst (λ (k : Interval). IsWithin k num den) (sym e) h))
 within-any (j ∷ is) num den i (inr there) h = or-true (is_within j num den) (list_any (λ k. is_within k num den) is) (within-any is num den i there h)
 
-pub instant_kept : (c : Terms) (num : ℤ) (den : ℕ) (b : Bool) → b ≡ keeps_instant c num den → (b ≡ true) ↔ KeepsInstant c num den
+pub instant_kept : (c : ClaimValue) (num : ℤ) (den : ℕ) (b : Bool) → b ≡ keeps_instant c num den → (b ≡ true) ↔ KeepsInstant c num den
 instant_kept c num den b e = (
   λ h. any-within c.keep num den (sym e ∙ h),
   λ h. e ∙ within-any c.keep num den h.0 h.1 h.2,
@@ -81,24 +81,24 @@ prefix-tested : (prefix text : List ℕ) → BeginsWith prefix text → begins_w
 prefix-tested prefix text h =
     (bytes_eq-Decides prefix (take (length prefix) text)).1 (sym (take-append_seam prefix h.0) ∙ ap (take (length prefix)) (sym h.1))
 
-removed-said : (c : Terms) (text : List ℕ) → removes c text ≡ true → Removes c text
+removed-said : (c : ClaimValue) (text : List ℕ) → removes c text ≡ true → Removes c text
 removed-said c text h = either (is_one_of c.remove text) refl h
   where
     either : (b : Bool) → is_one_of c.remove text ≡ b → (b || list_any (λ prefix. begins_with prefix text) c.remove_prefix) ≡ true → Removes c text
     either true e t = inl (one_of-has c.remove text e)
     either false e t = let found = any-has (λ prefix. begins_with prefix text) c.remove_prefix t in inr (found.0, found.1, prefix-said found.0 text found.2)
 
-removed-tested : (c : Terms) (text : List ℕ) → Removes c text → removes c text ≡ true
+removed-tested : (c : ClaimValue) (text : List ℕ) → Removes c text → removes c text ≡ true
 removed-tested c text (inl there) = ap (λ b. b || list_any (λ prefix. begins_with prefix text) c.remove_prefix) (has-one_of c.remove text there)
 removed-tested c text (inr found) =
     or-true (is_one_of c.remove text) (list_any (λ prefix. begins_with prefix text) c.remove_prefix) (has-any (λ prefix. begins_with prefix text) c.remove_prefix found.0 found.1 (prefix-tested found.0 text found.2))
 
-pub annotation_kept : (c : Terms) (onset : ℤ) (text : List ℕ) (b : Bool) → b ≡ keeps_annotation c onset text → (b ≡ true) ↔ KeepsAnnotation c onset text
+pub annotation_kept : (c : ClaimValue) (onset : ℤ) (text : List ℕ) (b : Bool) → b ≡ keeps_annotation c onset text → (b ≡ true) ↔ KeepsAnnotation c onset text
 annotation_kept c onset text b e = (
   λ h. let both = and-true (keeps_instant c onset 1) (not (removes c text)) (sym e ∙ h) in
       (any-within c.keep onset 1 both.0, λ there. let z : true ≡ false = sym (removed-tested c text there) ∙ not-true (removes c text) both.1 in cc),
   λ h. e ∙ both-true (keeps_instant c onset 1) (not (removes c text)) (within-any c.keep onset 1 h.0.0 h.0.1 h.0.2) (not-is (removes c text) (λ t. h.1 (removed-said c text t))),
 )
 
-pub text_blanked : (c : Terms) (text : List ℕ) (b : Bool) → b ≡ blanks c text → (b ≡ true) ↔ Blanks c text
+pub text_blanked : (c : ClaimValue) (text : List ℕ) (b : Bool) → b ≡ blanks c text → (b ≡ true) ↔ Blanks c text
 text_blanked c text b e = channel_kept c.blank text b e

@@ -12,7 +12,7 @@ use Rattle.edf_fields.specs.texts.OnsetsReading.{span_of}
 use Rattle.edf_fields.proofs.ForCallers.{le_decided, span_of_some, span_small, and-true, not-true, one_of-has, distinct-tested, first-cons, unless-passed, printable_decided}
 use Rattle.edf_claim.specs.Claims.{text_items, HasOnlyKeys, claim_keys, more_claim_keys, interval_keys, IsLabel, SaysInterval, AreIntervals, IsFollowedBy, AreInOrder, IsInterval, IsClaim, SaysFormat, HasFormat, HasKeysOfFormat, SaysChannels, SaysKeep, SaysAnonymous, SaysShift, SaysRemove, SaysRemovePrefix, SaysBlank, SaysClaim}
 use Rattle.edf_fields.specs.fields.SubfieldNames.{name_of}
-use Rattle.edf_claim.specs.Terms.{Terms}
+use Rattle.edf_claim.specs.ClaimValues.{ClaimValue}
 use Rattle.edf_fields.specs.Lists.{Has, is_one_of}
 use Rattle.edf_fields.specs.Distinct.{AreDistinct, are_distinct}
 use Rattle.edf_claim.specs.Reading.{integer_of, text_at, keys_are, texts_of, distinct_texts, distinct_prefixes, option_is, is_format, has_format, has_keys_of_format, is_label, channels_of, span_at, interval_from, interval_of, intervals_of, is_followed_by, are_in_order, keep_of, whiches_of, or_default, anonymous_of, shift_within, shift_of, remove_of, remove_prefix_of, blank_of, claim_fault, terms_of}
@@ -345,7 +345,7 @@ blank-said entries ts h =
     ]
 
 -- what a table says is a claim
-pub said-sound : (entries : Members) (c : Terms) → SaysClaim entries c → IsClaim c
+pub said-sound : (entries : Members) (c : ClaimValue) → SaysClaim entries c → IsClaim c
 said-sound entries c s = record {
   some_channels = s.channels.some;
   labels = s.channels.each;
@@ -394,7 +394,7 @@ keys-said entries h =
     (or-either (is_format (pos 1) entries && keys_are claim_keys entries) (is_format (pos 2) entries && keys_are more_claim_keys entries) h)
 
 -- the parts that are read are those of the claim that is read
-pub terms-are : (entries : Members) (c : Terms) → AreParts entries c → c ≡ terms_of entries
+pub terms-are : (entries : Members) (c : ClaimValue) → AreParts entries c → c ≡ terms_of entries
 terms-are entries c p =
     let t = terms_of entries in
     ap (λ o. record { channels = unwrap_or o []; keep = c.keep; anonymous = c.anonymous; shift = c.shift; remove = c.remove; remove_prefix = c.remove_prefix; blank = c.blank }) (sym p.channels)
@@ -433,7 +433,7 @@ table-says entries h =
     let remove = is-some (remove_of entries) (unless-passed (is_some (remove_of entries)) BadRemove p7.0) in
     let prefix = is-some (remove_prefix_of entries) (unless-passed (is_some (remove_prefix_of entries)) BadRemovePrefix p8.0) in
     let blank = is-some (blank_of entries) (unless-passed (is_some (blank_of entries)) BadBlank p9.0) in
-    let c : Terms = record { channels = channels.0; keep = keep.0; anonymous = anonymous.0; shift = shift.0; remove = remove.0; remove_prefix = prefix.0; blank = blank.0 } in
+    let c : ClaimValue = record { channels = channels.0; keep = keep.0; anonymous = anonymous.0; shift = shift.0; remove = remove.0; remove_prefix = prefix.0; blank = blank.0 } in
     let same : c ≡ terms_of entries = terms-are entries c (record {
       channels = channels.1;
       keep = keep.1;
@@ -443,7 +443,7 @@ table-says entries h =
       remove_prefix = prefix.1;
       blank = blank.1;
     }) in
-    subst (λ (t : Terms). SaysClaim entries t) same (record {
+    subst (λ (t : ClaimValue). SaysClaim entries t) same (record {
       keys = keys-said entries (unless-passed (has_keys_of_format entries) UnknownKey p2.0);
       channels = channels-said entries channels.0 channels.1;
       keep = keep-said entries keep.0 keep.1;

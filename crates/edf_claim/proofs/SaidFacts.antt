@@ -10,7 +10,7 @@ use Rattle.edf_fields.specs.texts.OnsetsReading.{span_of, SpellsSpan}
 use Rattle.edf_fields.proofs.ForCallers.{le_decided, span_of_spelled, has-one_of, both-true, not-is, distinct-passes, le-passes, lt-passes, printable_decided, which-read, same-name}
 use Rattle.edf_claim.specs.Claims.{text_items, HasOnlyKeys, claim_keys, more_claim_keys, interval_keys, IsLabel, SaysInterval, AreIntervals, IsFollowedBy, AreInOrder, IsInterval, SaysFormat, HasFormat, HasKeysOfFormat, SaysChannels, SaysKeep, SaysAnonymous, SaysShift, SaysRemove, SaysRemovePrefix, SaysBlank, SaysClaim, SaysOneClaim}
 use Rattle.edf_fields.specs.fields.SubfieldNames.{name_of}
-use Rattle.edf_claim.specs.Terms.{Terms}
+use Rattle.edf_claim.specs.ClaimValues.{ClaimValue}
 use Rattle.edf_claim.specs.Faults.{FailsOr, FirstTableFault, ThereIs, SaysClaimOrFault, FaultIsFirst}
 use Rattle.edf_fields.specs.Lists.{Has, is_one_of}
 use Rattle.edf_fields.specs.Distinct.{AreDistinct, are_distinct}
@@ -201,7 +201,7 @@ keys-of-format entries h =
 has-format : (entries : Members) → HasKeysOfFormat entries → HasFormat entries
 has-format entries h = ⊎_elim (λ e. inl e.0) (λ e. inr e.0) h
 
-parts-read : (entries : Members) (c : Terms) → SaysClaim entries c → AreParts entries c
+parts-read : (entries : Members) (c : ClaimValue) → SaysClaim entries c → AreParts entries c
 parts-read entries c s = record {
   channels = channels-read entries c.channels s.channels;
   keep = keep-read entries c.keep s.keep;
@@ -212,7 +212,7 @@ parts-read entries c s = record {
   blank = blank-read entries c.blank s.blank;
 }
 
-pub said-passes : (entries : Members) (c : Terms) → SaysClaim entries c → (claim_fault entries ≡ None) × (c ≡ terms_of entries)
+pub said-passes : (entries : Members) (c : ClaimValue) → SaysClaim entries c → (claim_fault entries ≡ None) × (c ≡ terms_of entries)
 said-passes entries c s =
     let parts = parts-read entries c s in
     (all-passed entries c (format-passes entries (has-format entries s.keys)) (keys-of-format entries s.keys) parts, terms-are entries c parts)
@@ -222,7 +222,7 @@ one-claim entries c d s t = (said-passes entries c s).1 ∙ sym (said-passes ent
 
 pub claim-or-fault : SaysClaimOrFault
 claim-or-fault entries c =
-    (said-passes entries c, λ h. subst (λ (t : Terms). SaysClaim entries t) (sym h.1) (table-says entries h.0))
+    (said-passes entries c, λ h. subst (λ (t : ClaimValue). SaysClaim entries t) (sym h.1) (table-says entries h.0))
 
 -- a test as a boolean, and in words
 abbrev Tests : Bool → Type 0 → Type 0

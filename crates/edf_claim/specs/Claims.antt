@@ -10,7 +10,7 @@ use Rattle.edf_fields.specs.fields.SubfieldNames.{name_of}
 use Rattle.toml.specs.Data.{string, integer, array, table, Items, no_items, item, Members, no_members, member, get_member}
 use Rattle.toml.specs.Parse.{parse_document}
 use Rattle.edf_fields.specs.texts.Printable.{IsPrintable}
-use Rattle.edf_claim.specs.Terms.{Terms}
+use Rattle.edf_claim.specs.ClaimValues.{ClaimValue}
 
 -- the array of these texts
 abbrev pub text_items : List (List ℕ) → Items
@@ -130,7 +130,7 @@ pub record SaysBlank (entries : Members) (texts : List (List ℕ)) : Type 0 wher
   pub distinct : AreDistinct texts
 
 -- the table says this claim: it is of format 1 or 2 and has no other keys than those of its format, and each key has its value, or is absent and has its default
-pub record SaysClaim (entries : Members) (c : Terms) : Type 0 where
+pub record SaysClaim (entries : Members) (c : ClaimValue) : Type 0 where
   pub keys : HasKeysOfFormat entries
   pub channels : SaysChannels entries c.channels
   pub keep : SaysKeep entries c.keep
@@ -141,7 +141,7 @@ pub record SaysClaim (entries : Members) (c : Terms) : Type 0 where
   pub blank : SaysBlank entries c.blank
 
 -- what holds of every claim, whatever table says it
-pub record IsClaim (c : Terms) : Type 0 where
+pub record IsClaim (c : ClaimValue) : Type 0 where
   pub some_channels : c.channels ≢ []
   pub labels : All IsLabel c.channels
   pub distinct_channels : AreDistinct c.channels
@@ -158,7 +158,7 @@ pub record IsClaim (c : Terms) : Type 0 where
   pub distinct_blank : AreDistinct c.blank
 
 -- the text is TOML that says this claim, in 65,536 bytes at the most
-pub record SaysClaimText (text : List ℕ) (c : Terms) : Type 0 where
+pub record SaysClaimText (text : List ℕ) (c : ClaimValue) : Type 0 where
   pub short : length text ≤ 65536
   pub utf8 : IsUtf8 text
   pub entries : Members
@@ -166,7 +166,7 @@ pub record SaysClaimText (text : List ℕ) (c : Terms) : Type 0 where
   pub says : SaysClaim entries c
 
 -- the text is TOML that says this claim, however long it is
-pub record SaysClaimAtAnyLength (text : List ℕ) (c : Terms) : Type 0 where
+pub record SaysClaimAtAnyLength (text : List ℕ) (c : ClaimValue) : Type 0 where
   pub utf8 : IsUtf8 text
   pub entries : Members
   pub parsed : parse_document text ≡ Some entries
@@ -174,4 +174,4 @@ pub record SaysClaimAtAnyLength (text : List ℕ) (c : Terms) : Type 0 where
 
 -- a table says at most one claim
 abbrev pub SaysOneClaim : Type 0
-SaysOneClaim = (entries : Members) (c d : Terms) → SaysClaim entries c → SaysClaim entries d → c ≡ d
+SaysOneClaim = (entries : Members) (c d : ClaimValue) → SaysClaim entries c → SaysClaim entries d → c ≡ d

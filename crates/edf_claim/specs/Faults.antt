@@ -3,7 +3,7 @@ use Rattle.std.specs.Prelude.{◌≡◌, ℕ, ◌<◌, ◌≤◌, ◌⊎◌, ◌
 use Rattle.edf_claim.specs.declared.stop.ClaimStop.{ClaimStop}
 use Rattle.edf_claim.specs.declared.stop.ClaimStop.TheVariants as stops
 use Rattle.edf_claim.specs.Claims.{HasFormat, HasKeysOfFormat, SaysChannels, SaysKeep, SaysAnonymous, SaysShift, SaysRemove, SaysRemovePrefix, SaysBlank, SaysClaim}
-use Rattle.edf_claim.specs.Terms.{Terms}
+use Rattle.edf_claim.specs.ClaimValues.{ClaimValue}
 use Rattle.edf_claim.specs.Reading.{claim_fault, terms_of}
 use Rattle.toml.specs.Data.{Members}
 use Rattle.toml.specs.Parse.{parse_document}
@@ -42,7 +42,7 @@ FirstClaimFault text stop =
 
 -- a table says a claim exactly where its list of tests has no fault, and the claim is the one that is read of it
 abbrev pub SaysClaimOrFault : Type 0
-SaysClaimOrFault = (entries : Members) (c : Terms) → SaysClaim entries c ↔ ((claim_fault entries ≡ None) × (c ≡ terms_of entries))
+SaysClaimOrFault = (entries : Members) (c : ClaimValue) → SaysClaim entries c ↔ ((claim_fault entries ≡ None) × (c ≡ terms_of entries))
 
 -- the fault of the list of tests is the first test that fails
 abbrev pub FaultIsFirst : Type 0

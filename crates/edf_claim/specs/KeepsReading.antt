@@ -8,7 +8,7 @@ use Rattle.std.specs.List.Sorted.{IsSorted, IsSortedBy}
 use Rattle.std.specs.Ordering.{nat_cmp}
 use Rattle.std.specs.Str.{bytes_eq}
 use Rattle.edf_claim.specs.Claims.{IsInterval, AreInOrder}
-use Rattle.edf_claim.specs.Terms.{Terms}
+use Rattle.edf_claim.specs.ClaimValues.{ClaimValue}
 use Rattle.edf_fields.specs.Lists.{Has, is_one_of}
 use Rattle.edf_claim.specs.declared.kept.interval.Interval.{Interval}
 
@@ -21,7 +21,7 @@ abbrev pub IsWithin : Interval → ℤ → ℕ → Type 0
 IsWithin interval num den = ((interval.from_ps *ℤ pos den) ≤ℤ num) × (num <ℤ (interval.to_ps *ℤ pos den))
 
 -- `keeps_instant` in words: the instant num / den, in picoseconds after the second at which the original starts, is in one of the kept intervals
-abbrev pub KeepsInstant : Terms → ℤ → ℕ → Type 0
+abbrev pub KeepsInstant : ClaimValue → ℤ → ℕ → Type 0
 KeepsInstant c num den = (interval : Interval) × Has c.keep interval × IsWithin interval num den
 
 -- the text begins with the prefix, byte for byte
@@ -57,19 +57,19 @@ abbrev pub BeginsWith : List ℕ → List ℕ → Type 0
 BeginsWith prefix text = (rest : List ℕ) × (text ≡ prefix ++ rest)
 
 -- `removes` in words: the text is one of the claim's, or begins with one of its prefixes
-abbrev pub Removes : Terms → List ℕ → Type 0
+abbrev pub Removes : ClaimValue → List ℕ → Type 0
 Removes c text = Has c.remove text ⊎ ((prefix : List ℕ) × Has c.remove_prefix prefix × BeginsWith prefix text)
 
 -- `keeps_annotation` in words: its onset is in one of the kept intervals, and its text isn't removed
-abbrev pub KeepsAnnotation : Terms → ℤ → List ℕ → Type 0
+abbrev pub KeepsAnnotation : ClaimValue → ℤ → List ℕ → Type 0
 KeepsAnnotation c onset text = KeepsInstant c onset 1 × (Removes c text → ⊥)
 
 -- the text of a kept annotation is blanked
-abbrev pub Blanks : Terms → List ℕ → Type 0
+abbrev pub Blanks : ClaimValue → List ℕ → Type 0
 Blanks c text = Has c.blank text
 
 -- `Blanks` as a test
-abbrev pub blanks : Terms → List ℕ → Bool
+abbrev pub blanks : ClaimValue → List ℕ → Bool
 blanks c text = is_one_of c.blank text
 
 -- b doesn't lie between t and u, but may be one of them

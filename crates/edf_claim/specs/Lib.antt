@@ -1,5 +1,5 @@
 pub mod Claims
-pub mod Terms
+pub mod ClaimValues
 pub mod Faults
 pub mod Keeps
 pub mod KeepsReading

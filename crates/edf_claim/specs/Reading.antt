@@ -7,7 +7,7 @@ use Rattle.edf_fields.specs.texts.PrintableReading.{is_printable}
 use Rattle.edf_fields.specs.texts.OnsetsReading.{span_of}
 use Rattle.edf_claim.specs.Claims.{claim_keys, more_claim_keys, interval_keys}
 use Rattle.edf_fields.specs.fields.SubfieldNamesReading.{which_of}
-use Rattle.edf_claim.specs.Terms.{Terms}
+use Rattle.edf_claim.specs.ClaimValues.{ClaimValue}
 use Rattle.edf_fields.specs.Lists.{is_one_of}
 use Rattle.edf_fields.specs.Distinct.{are_distinct}
 use Rattle.edf_claim.specs.declared.kept.interval.Interval.{Interval}
@@ -164,7 +164,7 @@ claim_fault entries =
     )
 
 -- the claim that is read of a table; what is none counts as absent
-abbrev pub terms_of : Members → Terms
+abbrev pub terms_of : Members → ClaimValue
 terms_of entries = record {
   channels = unwrap_or (channels_of entries) [];
   keep = unwrap_or (keep_of entries) [];

@@ -1,9 +1,9 @@
 -- The keys that format 2 has besides, one behind the other.
 use Rattle.std.proofs.Common.{◌≡◌, ◌++◌, ℕ, List, codes, ap, ◌∙◌, append_assoc}
-use Rattle.edf_claim.specs.Terms.{Terms}
+use Rattle.edf_claim.specs.ClaimValues.{ClaimValue}
 use Rattle.edf_claim_text.specs.PlainTexts.{both_keys, texts_array}
 
-pub both_said : (old first second : List ℕ) (c : Terms) (prefixes blank : List (List ℕ)) → prefixes ≡ c.remove_prefix → blank ≡ c.blank
+pub both_said : (old first second : List ℕ) (c : ClaimValue) (prefixes blank : List (List ℕ)) → prefixes ≡ c.remove_prefix → blank ≡ c.blank
     → first ≡ old ++ texts_array (codes "remove-prefix") prefixes → second ≡ first ++ texts_array (codes "blank") blank
     → second ≡ old ++ both_keys c
 unfolding both_keys

@@ -5,7 +5,7 @@ use Rattle.edf_check.specs.Headline.{YesMeans}
 use Rattle.edf_check.specs.Verdicts.{IsVerdict}
 use Rattle.edf_check.specs.parts.PartsVerdicts.{IsPartsVerdict}
 use Rattle.edf_claim.specs.Claims.{SaysClaim, SaysClaimText, SaysOneClaim}
-use Rattle.edf_claim.specs.Terms.{Terms}
+use Rattle.edf_claim.specs.ClaimValues.{ClaimValue}
 use Rattle.edf_fields.specs.declared.faults.fault.Fault.{Fault}
 use Rattle.edf_stop.specs.declared.sides.Side.{Side}
 use Rattle.edf_stop.specs.declared.sides.Side.TheVariants.{Original, Export}
@@ -47,7 +47,7 @@ pub none_is_true : (again : Anew) (text : List ℕ) → text ≡ none_text → I
 none_is_true again text is = λ honest says. let letters : 110 ≡ 87 = ap third (sym is ∙ says.1) in absurd (omega (arith, letters))
 
 -- a text says at most one claim
-one_text_claim : (text : List ℕ) (c d : Terms) → SaysOneClaim → SaysClaimText text c → SaysClaimText text d → c ≡ d
+one_text_claim : (text : List ℕ) (c d : ClaimValue) → SaysOneClaim → SaysClaimText text c → SaysClaimText text d → c ≡ d
 one_text_claim text c d one first second =
     let p = first.parsed in
     let q = second.parsed in
@@ -55,7 +55,7 @@ one_text_claim text c d one first second =
     one second.entries c d (subst (λ m. SaysClaim m c) same first.says) second.says
 
 -- the verdict under the claim of a text is that under the claim of another text that says the same
-verdict_on_whole : (original : List ℕ) (exports : Exports) (claim : Terms) (text whole : List ℕ) (verdict : Verdict) → SaysOneClaim → SaysClaimText text claim
+verdict_on_whole : (original : List ℕ) (exports : Exports) (claim : ClaimValue) (text whole : List ℕ) (verdict : Verdict) → SaysOneClaim → SaysClaimText text claim
     → SaysClaimText whole claim → IsVerdictOn original exports text verdict → IsVerdictOn original exports whole verdict
 verdict_on_whole original (single export) claim text whole verdict one before behind under =
     let same : under.claim ≡ claim = one_text_claim text under.claim claim one under.says before in
@@ -69,19 +69,19 @@ verdict_on_whole original (several exports) claim text whole verdict one before 
     let same : under.claim ≡ claim = one_text_claim text under.claim claim one under.says before in
     (part, record { claim = claim; says = behind; is = subst (λ c. IsPartsVerdict original exports c (record { part = part; verdict = verdict })) same under.is })
 
-tried_whole : (again : Anew) (claim : Terms) (text whole : List ℕ) (verdict : Verdict) → SaysOneClaim → SaysClaimText text claim → SaysClaimText whole claim
+tried_whole : (again : Anew) (claim : ClaimValue) (text whole : List ℕ) (verdict : Verdict) → SaysOneClaim → SaysClaimText text claim → SaysClaimText whole claim
     → IsTried again text verdict → IsTried again whole verdict
 tried_whole again claim text whole verdict one before behind tried = λ honest.
     verdict_on_whole again.original again.exports claim text whole verdict one before behind (tried honest)
 
-pub said_of_whole : (again : Anew) (claim : Terms) (text whole : List ℕ) (said : Option Said) (verdict : Option Verdict) → SaysOneClaim
+pub said_of_whole : (again : Anew) (claim : ClaimValue) (text whole : List ℕ) (said : Option Said) (verdict : Option Verdict) → SaysOneClaim
     → SaysClaimText text claim → SaysClaimText whole claim → verdict ≡ verdict_said said → IfSome said (IsSaid again text) → IfSome verdict (IsTried again whole)
 said_of_whole again claim text whole None verdict one before behind is tried = subst (λ v. IfSome v (IsTried again whole)) (sym is) tt
 said_of_whole again claim text whole (Some said) verdict one before behind is tried =
     subst (λ v. IfSome v (IsTried again whole)) (sym is) (tried_whole again claim text whole said.verdict one before behind tried.verdict)
 
 -- the first line of a draft is true of the whole text, where the text behind it was tried
-line_is_true : (again : Anew) (claim : Terms) (said line text whole : List ℕ) (verdict : Verdict) → SaysOneClaim → SaysClaimText text claim
+line_is_true : (again : Anew) (claim : ClaimValue) (said line text whole : List ℕ) (verdict : Verdict) → SaysOneClaim → SaysClaimText text claim
     → SaysClaimText whole claim → IsTried again text verdict → (IsTrue again.are_honest → IsLineOfYes again.exports verdict said) → IsFirstLine verdict said line
     → whole ≡ line ++ text → IsTrueOfYes again whole
 line_is_true again claim said line text whole (No difference) one before behind tried of_yes first is = λ honest says. absurd (says_no_yes whole line text first is says)
@@ -94,7 +94,7 @@ line_is_true again claim said line text whole (Yes channels samples annotations)
   under = tried_whole again claim text whole (Yes channels samples annotations) one before behind tried honest;
 }
 
-pub first_is_true : (again : Anew) (claim : Terms) (line text whole : List ℕ) (said : Option Said) → SaysOneClaim → SaysClaimText text claim
+pub first_is_true : (again : Anew) (claim : ClaimValue) (line text whole : List ℕ) (said : Option Said) → SaysOneClaim → SaysClaimText text claim
     → SaysClaimText whole claim → IfSome said (IsSaid again text) → IsFirstLineOf said line → whole ≡ line ++ text → IsTrueOfYes again whole
 first_is_true again claim line text whole None one before behind tried first is = λ honest says. absurd (says_no_yes whole line text first is says)
 first_is_true again claim line text whole (Some said) one before behind tried first is =

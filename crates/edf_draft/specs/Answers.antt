@@ -1,7 +1,7 @@
 -- What is written of two files: the draft of a claim, or the fault of one of them; and why nothing is.
 use Rattle.std.specs.Prelude.{◌≡◌, ℕ, ℤ, Bool, IsTrue, List, [], ◌∷◌, ◌++◌, ◌⊎◌, None, Some, codes}
 use Rattle.edf_claim.specs.Claims.{SaysClaimText}
-use Rattle.edf_claim.specs.Terms.{Terms}
+use Rattle.edf_claim.specs.ClaimValues.{ClaimValue}
 use Rattle.edf_fields.specs.FaultTexts.{fault_text}
 use Rattle.edf_fields.specs.declared.faults.fault.Fault.{Fault}
 use Rattle.edf_fields.specs.declared.in_out.source.Source.{Ghosts}
@@ -36,7 +36,7 @@ IsShiftBetween o e shift =
 
 -- a text says just what is drafted of the files that were read
 pub record IsTextOf (again : Anew) (o : Recorded) (e : Exported) (text : List ℕ) : Type 0 where
-  pub claim : Terms
+  pub claim : ClaimValue
   pub says : SaysClaimText text claim
   pub drafts : IsDraftFor (o.reader).head (heads_of e) claim.shift claim
   pub moved : IsMoved again (o.reader).head (heads_of e) (IsShiftBetween o e) text claim.shift

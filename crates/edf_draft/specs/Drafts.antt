@@ -1,7 +1,7 @@
 -- What a draft of a claim says of two files.
 use Rattle.std.specs.Prelude.{◌≡◌, ◌↔◌, ◌⊎◌, ℕ, ℤ, IsTrue, List, [], ◌∷◌, Bool, Option, Some, IfSome}
 use Rattle.edf_claim.specs.Claims.{SaysClaimText}
-use Rattle.edf_claim.specs.Terms.{Terms}
+use Rattle.edf_claim.specs.ClaimValues.{ClaimValue}
 use Rattle.edf_fields.specs.Lists.{Has}
 use Rattle.edf_fields.specs.declared.fields.which.Which.{Which}
 use Rattle.edf_header.specs.signals.Channels.{channel_labels}
@@ -21,7 +21,7 @@ first_labels (export ∷ others) = channel_labels export.signals
 
 -- a claim of this shift has the channels of the first export, in its order; what is anonymous in it are the subfields that all exports
 -- hide; and it removes no texts by how they begin
-pub record IsDraftFor (original : Head) (exports : List Head) (shift : ℤ) (claim : Terms) : Type 0 where
+pub record IsDraftFor (original : Head) (exports : List Head) (shift : ℤ) (claim : ClaimValue) : Type 0 where
   pub channels : claim.channels ≡ first_labels exports
   pub anonymous : (which : Which) → Has claim.anonymous which ↔ IsHiddenInAll original exports which
   pub moved : claim.shift ≡ shift
@@ -36,7 +36,7 @@ IsShiftOf original o export e shift =
 -- the verdict with a draft of an original and exports, by their headers, whose shift is told by days
 pub record IsVerdictByDays (again : Anew) (o : Head) (e : List Head) (ByDays : ℤ → Type 0) (verdict : Verdict) : Type 0 where
   pub text : List ℕ
-  pub claim : Terms
+  pub claim : ClaimValue
   pub says : SaysClaimText text claim
   pub drafts : IsDraftFor o e claim.shift claim
   pub moved : ByDays claim.shift
@@ -58,7 +58,7 @@ IsMoved again o e ByDays text shift = ByDays shift ⊎ IsNoWorse again o e ByDay
 pub record IsDraftText (again : Anew) (original export text : List ℕ) : Type 0 where
   pub o : Head
   pub e : Head
-  pub claim : Terms
+  pub claim : ClaimValue
   pub original_conforms : Conforms original o
   pub export_conforms : Conforms export e
   pub says : SaysClaimText text claim

@@ -3,7 +3,7 @@ use Rattle.std.proofs.Math.Seq.{take-suc}
 use Rattle.std.proofs.lemmas.List.{append-nil, map-append, length-take}
 use Rattle.std.proofs.lemmas.Option.{get_or_from_slice_get, slice_get_within}
 use Rattle.std.proofs.Common.{IfSome, take, ◌≡◌, ◌∙◌, ◌++◌, ◌+◌, ◌&&◌, ◌⊎◌, ℕ, zero, suc, Bor, Bool, true, false, List, [], ◌∷◌, Option, None, Some, is_some, option_map, map, length, slice_get, inl, inr, if◌then◌else◌, refl, sym, ap, arith, subst}
-use Rattle.edf_claim.specs.Terms.{Terms}
+use Rattle.edf_claim.specs.ClaimValues.{ClaimValue}
 use Rattle.edf_fields.specs.Lists.{Has}
 use Rattle.edf_fields.proofs.ForCallers.{has-append}
 use Rattle.edf_samples.specs.declared.counts.tally.Tally.{Tally}
@@ -130,7 +130,7 @@ each-more claimed labels tallies k label (Some one) channels at place told befor
     by (inr (inr none)) = absurd none
 
 -- one export more
-pub found-more : (claim : Terms) (labels : List (Bor (List ℕ))) (h : Head) (parts : List ReadPart) (found : List PartFindings) (part : ReadPart) (more : PartFindings) → AreFoundIn claim labels h parts found → IsFoundIn claim labels h part more
+pub found-more : (claim : ClaimValue) (labels : List (Bor (List ℕ))) (h : Head) (parts : List ReadPart) (found : List PartFindings) (part : ReadPart) (more : PartFindings) → AreFoundIn claim labels h parts found → IsFoundIn claim labels h part more
     → AreFoundIn claim labels h (parts ++ part ∷ []) (found ++ more ∷ [])
 found-more claim labels h [] [] part more are is = (is, tt)
 found-more claim labels h [] (f ∷ fs) part more are is = absurd are
@@ -138,7 +138,7 @@ found-more claim labels h (p ∷ ps) [] part more are is = absurd are
 found-more claim labels h (p ∷ ps) (f ∷ fs) part more are is = (are.0, found-more claim labels h ps fs part more are.1 is)
 
 -- as many are told of as were read
-pub as-many : (claim : Terms) (labels : List (Bor (List ℕ))) (h : Head) (parts : List ReadPart) (found : List PartFindings) → AreFoundIn claim labels h parts found → length found ≡ length parts
+pub as-many : (claim : ClaimValue) (labels : List (Bor (List ℕ))) (h : Head) (parts : List ReadPart) (found : List PartFindings) → AreFoundIn claim labels h parts found → length found ≡ length parts
 as-many claim labels h [] [] are = refl
 as-many claim labels h [] (f ∷ fs) are = absurd are
 as-many claim labels h (p ∷ ps) [] are = absurd are

@@ -1,6 +1,6 @@
 -- What callers are shown of what was found.
 use Rattle.std.specs.Prelude.{◌==◌, ◌&&◌, ℤ, pos, Bool, false, List, [], length, slice_get, Option, None, Some, option_and_then}
-use Rattle.edf_claim.specs.Terms.{Terms}
+use Rattle.edf_claim.specs.ClaimValues.{ClaimValue}
 use Rattle.edf_header.specs.Heads.{Head}
 use Rattle.edf_findings.specs.declared.findings.Findings.{Findings}
 use Rattle.edf_findings.specs.declared.part.ComparedPart.{ComparedPart}
@@ -36,7 +36,7 @@ moved_in None = pos 0
 moved_in (Some part) = part.moved_ps
 
 -- the original and an export have all channels of a claim
-abbrev pub has_all_of : Terms → PartFindings → Bool
+abbrev pub has_all_of : ClaimValue → PartFindings → Bool
 has_all_of claim part = length (channels_of part) == length claim.channels
 
 -- the first export

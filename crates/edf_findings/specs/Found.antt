@@ -2,7 +2,7 @@
 use Rattle.std.specs.Prelude.{◌≡◌, ℕ, List, [], ◌∷◌, map, length, true, Some, MatchOption}
 use Rattle.std.specs.Borrow.{Bor}
 use Rattle.edf_check.specs.parts.Counted.{AreCountedOfAll, IsCountedOfTwo}
-use Rattle.edf_claim.specs.Terms.{Terms}
+use Rattle.edf_claim.specs.ClaimValues.{ClaimValue}
 use Rattle.edf_fields.specs.declared.in_out.source.Source.{Ghosts}
 use Rattle.edf_header.specs.Heads.{Head}
 use Rattle.edf_heads.specs.Comparisons.{AreSorted}
@@ -15,20 +15,20 @@ use Rattle.edf_findings.specs.Told.{AreTold}
 use Rattle.edf_samples.specs.declared.counts.tally.Tally.{Tally}
 
 -- of an export that was read this is found: where something was counted of each label, it is told of the claimed channels that both files have
-pub record IsFoundIn (claim : Terms) (labels : List (Bor (List ℕ))) (h : Head) (part : ReadPart) (found : PartFindings) : Type 0 where
+pub record IsFoundIn (claim : ClaimValue) (labels : List (Bor (List ℕ))) (h : Head) (part : ReadPart) (found : PartFindings) : Type 0 where
   pub header : found.header ≡ part.header
   pub channels : length part.tallies.items ≡ length labels
       → MatchOption found.compared ⊥ (λ compared. AreTold claim.channels labels part.tallies.items h part.header compared.channels.items)
 
 -- of each of these exports
-abbrev pub AreFoundIn : Terms → List (Bor (List ℕ)) → Head → List ReadPart → List PartFindings → Type 0
+abbrev pub AreFoundIn : ClaimValue → List (Bor (List ℕ)) → Head → List ReadPart → List PartFindings → Type 0
 AreFoundIn claim labels h [] [] = Unit {0}
 AreFoundIn claim labels h [] (found ∷ more) = ⊥
 AreFoundIn claim labels h (part ∷ parts) [] = ⊥
 AreFoundIn claim labels h (part ∷ parts) (found ∷ more) = IsFoundIn claim labels h part found × AreFoundIn claim labels h parts more
 
 -- these are the findings in an original and its exports, with these annotations, under a claim
-pub record AreFindings (claim : Terms) (original : Head) (parts : List PartFindings) (notes : Notes) (found : Findings) : Type 0 where
+pub record AreFindings (claim : ClaimValue) (original : Head) (parts : List PartFindings) (notes : Notes) (found : Findings) : Type 0 where
   pub claim_is : (found.claim).now ≡ claim
   pub original_is : found.original ≡ original
   pub parts_are : found.parts.items ≡ parts
@@ -39,7 +39,7 @@ abbrev pub counted_by : Looker → List (List Tally)
 counted_by looker = map (λ (part : ReadPart). part.tallies.items) looker.parts.items
 
 -- the findings are those of somebody who looked on, under a claim: of each export, with the labels of the claim in their order
-pub record AreFoundBy (claim : Terms) (looker : Looker) (found : Findings) : Type 0 where
+pub record AreFoundBy (claim : ClaimValue) (looker : Looker) (found : Findings) : Type 0 where
   pub claim_is : (found.claim).now ≡ claim
   pub original_is : looker.original ≡ Some found.original
   pub notes_are : found.notes ≡ looker.notes
@@ -48,9 +48,9 @@ pub record AreFoundBy (claim : Terms) (looker : Looker) (found : Findings) : Typ
   pub are : AreFoundIn claim labels found.original looker.parts.items found.parts.items
 
 -- they are the findings in two files, as a check under this claim shows them
-abbrev pub AreFindingsOf : {O E : Type 0} → Ghosts O → Ghosts E → O → E → Terms → Findings → Type 0
+abbrev pub AreFindingsOf : {O E : Type 0} → Ghosts O → Ghosts E → O → E → ClaimValue → Findings → Type 0
 AreFindingsOf original export o e claim found = (looker : Looker) × IsCountedOfTwo original export o e claim true [] (counted_by looker) × AreFoundBy claim looker found
 
 -- the same of several exports
-abbrev pub AreFindingsOfAll : {O E : Type 0} → Ghosts O → Ghosts E → O → List E → Terms → Findings → Type 0
+abbrev pub AreFindingsOfAll : {O E : Type 0} → Ghosts O → Ghosts E → O → List E → ClaimValue → Findings → Type 0
 AreFindingsOfAll original export o parts claim found = (looker : Looker) × AreCountedOfAll original export o parts claim true [] (counted_by looker) × AreFoundBy claim looker found

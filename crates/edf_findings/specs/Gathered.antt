@@ -2,7 +2,7 @@
 use Rattle.std.specs.Prelude.{◌≡◌, ◌&&◌, ◌||◌, ℕ, ℤ, not, Bool, List, [], ◌∷◌, map, if◌then◌else◌}
 use Rattle.edf_claim.specs.Keeps.{keeps_annotation, keeps_instant}
 use Rattle.edf_claim.specs.KeepsReading.{blanks}
-use Rattle.edf_claim.specs.Terms.{Terms}
+use Rattle.edf_claim.specs.ClaimValues.{ClaimValue}
 use Rattle.edf_header.specs.Heads.{Head}
 use Rattle.edf_stream.specs.annotation.Notes.{NoteValue}
 use Rattle.edf_stream.specs.annotation.NotesReading.{notes_in}
@@ -19,11 +19,11 @@ pub record HaveNone (notes : Notes) : Type 0 where
   pub exported : notes.exported.items ≡ []
 
 -- an annotation in a kept interval is removed, or its text blanked
-abbrev pub is_hidden : Terms → ℤ → List ℕ → Bool
+abbrev pub is_hidden : ClaimValue → ℤ → List ℕ → Bool
 is_hidden claim onset text = keeps_instant claim onset 1 && (not (keeps_annotation claim onset text) || blanks claim text)
 
 -- the texts of those of these annotations
-abbrev pub hidden_texts : Terms → List NoteValue → List (List ℕ)
+abbrev pub hidden_texts : ClaimValue → List NoteValue → List (List ℕ)
 hidden_texts claim [] = []
 hidden_texts claim (note ∷ notes) = if is_hidden claim note.onset note.text then note.text ∷ hidden_texts claim notes else hidden_texts claim notes
 
@@ -32,5 +32,5 @@ abbrev pub exports_of : Looker → List Head
 exports_of looker = map (λ (part : ReadPart). part.header) looker.parts.items
 
 -- the hidden texts of the data record of the original at hand, where they are wanted and it is another one than before
-abbrev pub hidden_at : Looker → Terms → Reader → List (List ℕ)
+abbrev pub hidden_at : Looker → ClaimValue → Reader → List (List ℕ)
 hidden_at looker claim r = if looker.wants_hidden && is_another looker.originals.read r then hidden_texts claim (notes_in r.head r.current) else []

@@ -5,7 +5,7 @@ use Rattle.std.specs.Str.{bytes_eq}
 use Rattle.edf_fields.specs.declared.fields.which.Which.{Which}
 use Rattle.edf_fields.specs.declared.fields.which.Which.TheVariants.{PatientExtras, RecordingExtras}
 use Rattle.edf_header.specs.Heads.{Head, SignalHead}
-use Rattle.edf_header.specs.signals.Calibrations.{Line}
+use Rattle.edf_header.specs.signals.Calibrations.{CalibrationValue}
 use Rattle.edf_heads.specs.Comparisons.{IsUnchanged}
 use Rattle.edf_stream.specs.times.Starts.{file_start}
 use Rattle.edf_findings.specs.declared.heads.exchanged.Exchange.{Exchange}
@@ -24,10 +24,10 @@ abbrev pub have_same_texts_of : SignalHead → SignalHead → Bool
 have_same_texts_of x y = bytes_eq x.label y.label && bytes_eq x.transducer y.transducer && bytes_eq x.prefilter y.prefilter
 
 -- they have the same physical extremes, or the same digital ones
-abbrev pub have_same_physical : Line → Line → Bool
+abbrev pub have_same_physical : CalibrationValue → CalibrationValue → Bool
 have_same_physical l m = int_eq l.physical_minimum m.physical_minimum && int_eq l.physical_maximum m.physical_maximum
 
-abbrev pub have_same_digital : Line → Line → Bool
+abbrev pub have_same_digital : CalibrationValue → CalibrationValue → Bool
 have_same_digital l m = int_eq l.digital_minimum m.digital_minimum && int_eq l.digital_maximum m.digital_maximum
 
 -- a header says the same of them, but for free text

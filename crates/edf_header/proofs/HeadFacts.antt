@@ -20,7 +20,7 @@ use Rattle.edf_header.specs.declared.kind.Kind.{Kind}
 use Rattle.edf_header.specs.declared.kind.Kind.TheVariants.{Contiguous, Interrupted}
 use Rattle.edf_fields.specs.declared.fields.layout.FixedField.TheVariants as fixed
 use Rattle.edf_fields.specs.declared.fields.layout.SignalField.TheVariants as signal
-use Rattle.edf_header.specs.signals.Calibrations.{Line}
+use Rattle.edf_header.specs.signals.Calibrations.{CalibrationValue}
 use Rattle.edf_fields.specs.fields.Layout.{fixed_field}
 use Rattle.edf_fields.specs.fields.LayoutReading.{fixed_fields, columns, fixed_part, columns_part, column_field}
 use Rattle.edf_header.specs.Heads.{SignalHead, Head, HasSignal, NamesStartdate, AreSideBySide, kind_word, day_number}
@@ -222,9 +222,9 @@ has-head file h =
     }
 
 -- the signals that have these fields are those that are read of them
-same-line : (l m : Line) → l.physical_minimum ≡ m.physical_minimum → l.physical_maximum ≡ m.physical_maximum → l.digital_minimum ≡ m.digital_minimum → l.digital_maximum ≡ m.digital_maximum → l ≡ m
+same-line : (l m : CalibrationValue) → l.physical_minimum ≡ m.physical_minimum → l.physical_maximum ≡ m.physical_maximum → l.digital_minimum ≡ m.digital_minimum → l.digital_maximum ≡ m.digital_maximum → l ≡ m
 same-line l m a b d e =
-    let made : ℤ → ℤ → ℤ → ℤ → Line = λ w x y z. record { physical_minimum = w; physical_maximum = x; digital_minimum = y; digital_maximum = z } in
+    let made : ℤ → ℤ → ℤ → ℤ → CalibrationValue = λ w x y z. record { physical_minimum = w; physical_maximum = x; digital_minimum = y; digital_maximum = z } in
     ap (λ w. made w l.physical_maximum l.digital_minimum l.digital_maximum) a
     ∙ ap (λ x. made m.physical_minimum x l.digital_minimum l.digital_maximum) b
     ∙ ap (λ y. made m.physical_minimum m.physical_maximum y l.digital_maximum) d
@@ -246,7 +246,7 @@ signal-read bytes n s before head h e =
     (read-number (column_field bytes n s signal.PhysicalMaximum) head.calibration.physical_maximum (decimal_in bytes (112 * n + 8 * s) 8 head.calibration.physical_maximum (omega arith) h.physical_maximum))
     (read-whole (column_field bytes n s signal.DigitalMinimum) head.calibration.digital_minimum (whole_in bytes (120 * n + 8 * s) 8 head.calibration.digital_minimum (omega arith) h.digital_minimum))
     (read-whole (column_field bytes n s signal.DigitalMaximum) head.calibration.digital_maximum (whole_in bytes (128 * n + 8 * s) 8 head.calibration.digital_maximum (omega arith) h.digital_maximum)) in
-    let made : List ℕ → List ℕ → List ℕ → List ℕ → List ℕ → Line → ℕ → ℕ → SignalHead =
+    let made : List ℕ → List ℕ → List ℕ → List ℕ → List ℕ → CalibrationValue → ℕ → ℕ → SignalHead =
     λ a b d p r l k o. record { label = a; transducer = b; dimension = d; prefilter = p; reserved = r; calibration = l; samples = k; offset = o } in
     let t : SignalHead = signal_of bytes n s before in
     ap (λ a. made a head.transducer head.dimension head.prefilter head.reserved head.calibration head.samples head.offset) h.label

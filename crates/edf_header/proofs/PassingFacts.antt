@@ -23,7 +23,7 @@ use Rattle.edf_header.specs.declared.kind.Kind.TheVariants.{Contiguous, Interrup
 use Rattle.edf_fields.specs.declared.fields.layout.FixedField.TheVariants as fixed
 use Rattle.edf_fields.specs.declared.fields.layout.SignalField.{SignalField}
 use Rattle.edf_fields.specs.declared.fields.layout.SignalField.TheVariants as signal
-use Rattle.edf_header.specs.signals.Calibrations.{Line}
+use Rattle.edf_header.specs.signals.Calibrations.{CalibrationValue}
 use Rattle.edf_fields.specs.fields.LayoutReading.{column_field}
 use Rattle.edf_header.specs.Heads.{SignalHead, HasSignal, kind_word, is_annotations}
 use Rattle.edf_header.specs.HeadsReading.{startdate_of, line_of, signal_of, signals_from}
@@ -163,18 +163,18 @@ samples-passes s bytes n p e h =
     pass-cons (not_printable (AtSignal s signal.Samples) bytes) (test ∷ []) (printable-passes (AtSignal s signal.Samples) bytes p)
     (pass-cons test [] (positive-passes (AtSignal s signal.Samples) (whole_number_of bytes) n e h) refl)
 
-order-passes : (s : ℕ) (line : Line) → line.digital_minimum <ℤ line.digital_maximum → digital_order_fault s line ≡ None
+order-passes : (s : ℕ) (line : CalibrationValue) → line.digital_minimum <ℤ line.digital_maximum → digital_order_fault s line ≡ None
 unfolding digital_order_fault
 order-passes s line h =
     fault_unless-true (int_lt line.digital_minimum line.digital_maximum) (AtSignal s signal.DigitalMaximum) BadRange (lt-passes line.digital_minimum line.digital_maximum h)
 
-differ-passes : (s : ℕ) (line : Line) → line.physical_minimum ≢ line.physical_maximum → physical_differ_fault s line ≡ None
+differ-passes : (s : ℕ) (line : CalibrationValue) → line.physical_minimum ≢ line.physical_maximum → physical_differ_fault s line ≡ None
 unfolding physical_differ_fault
 differ-passes s line h =
     let same : Bool = int_eq line.physical_minimum line.physical_maximum in
     fault_unless-true (not same) (AtSignal s signal.PhysicalMaximum) BadRange (not-is same (λ e. h ((Decides-int_eq line.physical_minimum line.physical_maximum).0 e)))
 
-annotation-passes : (s : ℕ) (label : List ℕ) (line : Line)
+annotation-passes : (s : ℕ) (label : List ℕ) (line : CalibrationValue)
     → (is_annotations (text_of label) ≡ true → (line.digital_minimum ≡ neg_ℤ (pos 32768)) × (line.digital_maximum ≡ pos 32767)) → annotation_fault s label line ≡ None
 unfolding annotation_fault
 annotation-passes s label line h =
@@ -192,7 +192,7 @@ pub signal-passes-tests : (bytes : List ℕ) (n s before : ℕ) → HasSignal (c
     → ((field : SignalField) → IsPrintable (column_field bytes n s field)) → first (signal_faults bytes n s) ≡ None
 signal-passes-tests bytes n s before says sound p =
     let at : SignalField → List ℕ = λ field. column_field bytes n s field in
-    let line : Line = line_of bytes n s in
+    let line : CalibrationValue = line_of bytes n s in
     let low = sound.low in
     let high = sound.high in
     let order = sound.order in

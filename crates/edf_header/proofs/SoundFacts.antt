@@ -13,7 +13,7 @@ use Rattle.edf_fields.proofs.ForCallers.{whole_number_of-some, header_number_of-
 use Rattle.edf_fields.specs.declared.fields.layout.SignalField.TheVariants as signal
 use Rattle.edf_fields.specs.declared.faults.fault.Place.TheVariants.{AtSignal}
 use Rattle.edf_fields.specs.declared.faults.fault.Cause.TheVariants.{BadRange, BadAnnotationSignal}
-use Rattle.edf_header.specs.signals.Calibrations.{Line}
+use Rattle.edf_header.specs.signals.Calibrations.{CalibrationValue}
 use Rattle.edf_fields.specs.fields.LayoutReading.{column_before, column_field}
 use Rattle.edf_header.specs.Heads.{AreSideBySide, is_annotations}
 use Rattle.edf_header.specs.HeadsReading.{line_of, signal_of, signals_from}
@@ -27,13 +27,13 @@ pub side-by-side : (bytes : List ℕ) (n s before m : ℕ) → AreSideBySide bef
 side-by-side bytes n s before zero = tt
 side-by-side bytes n s before (suc m) = (refl, side-by-side bytes n (s + 1) (before + 2 * (signal_of bytes n s before).samples) m)
 
-pub order-passed : (s : ℕ) (line : Line) → digital_order_fault s line ≡ None → line.digital_minimum <ℤ line.digital_maximum
+pub order-passed : (s : ℕ) (line : CalibrationValue) → digital_order_fault s line ≡ None → line.digital_minimum <ℤ line.digital_maximum
 unfolding digital_order_fault
 order-passed s line h =
     let t : int_lt line.digital_minimum line.digital_maximum ≡ true = fault_unless-passed (int_lt line.digital_minimum line.digital_maximum) (AtSignal s signal.DigitalMaximum) BadRange h in
     omega (arith, ints, t)
 
-pub differ-passed : (s : ℕ) (line : Line) → physical_differ_fault s line ≡ None → line.physical_minimum ≢ line.physical_maximum
+pub differ-passed : (s : ℕ) (line : CalibrationValue) → physical_differ_fault s line ≡ None → line.physical_minimum ≢ line.physical_maximum
 unfolding physical_differ_fault
 differ-passed s line h e =
     let t : int_eq line.physical_minimum line.physical_maximum ≡ false =
@@ -46,7 +46,7 @@ or-else : (a b : Bool) → (not a || b) ≡ true → a ≡ true → b ≡ true
 or-else true b h e = h
 or-else false b h e = absurd (let z : false ≡ true = e in cc)
 
-pub annotation-passed : (s : ℕ) (label : List ℕ) (line : Line) → annotation_fault s label line ≡ None → is_annotations (text_of label) ≡ true
+pub annotation-passed : (s : ℕ) (label : List ℕ) (line : CalibrationValue) → annotation_fault s label line ≡ None → is_annotations (text_of label) ≡ true
     → (line.digital_minimum ≡ neg_ℤ (pos 32768)) × (line.digital_maximum ≡ pos 32767)
 unfolding annotation_fault
 annotation-passed s label line h e =

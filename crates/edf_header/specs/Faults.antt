@@ -20,7 +20,7 @@ use Rattle.edf_fields.specs.declared.fields.layout.FixedField.{FixedField}
 use Rattle.edf_fields.specs.declared.fields.layout.FixedField.TheVariants as fixed
 use Rattle.edf_fields.specs.declared.fields.layout.SignalField.{SignalField}
 use Rattle.edf_fields.specs.declared.fields.layout.SignalField.TheVariants as signal
-use Rattle.edf_header.specs.signals.Calibrations.{Line}
+use Rattle.edf_header.specs.signals.Calibrations.{CalibrationValue}
 use Rattle.edf_header.specs.signals.ChannelsReading.{is_repeated}
 use Rattle.edf_fields.specs.fields.Layout.{fixed_field}
 use Rattle.edf_fields.specs.fields.LayoutReading.{fixed_fields, columns, fixed_from, fixed_bytes, column_before, column_width, fixed_part, columns_part, column_field}
@@ -212,16 +212,16 @@ samples_fault s bytes =
     first (not_printable (AtSignal s signal.Samples) bytes ∷ not_positive (AtSignal s signal.Samples) (whole_number_of bytes) ∷ [])
 
 -- the digital extremes of signal s are in order
-unfoldable pub digital_order_fault : ℕ → Line → Option Fault
+unfoldable pub digital_order_fault : ℕ → CalibrationValue → Option Fault
 digital_order_fault s line = fault_unless (int_lt line.digital_minimum line.digital_maximum) (AtSignal s signal.DigitalMaximum) BadRange
 
 -- the physical extremes of signal s differ
-unfoldable pub physical_differ_fault : ℕ → Line → Option Fault
+unfoldable pub physical_differ_fault : ℕ → CalibrationValue → Option Fault
 physical_differ_fault s line =
     fault_unless (not (int_eq line.physical_minimum line.physical_maximum)) (AtSignal s signal.PhysicalMaximum) BadRange
 
 -- an annotation signal has all that two bytes can hold as its digital extremes (EDF+, "The 'EDF Annotations' signal")
-unfoldable pub annotation_fault : ℕ → List ℕ → Line → Option Fault
+unfoldable pub annotation_fault : ℕ → List ℕ → CalibrationValue → Option Fault
 annotation_fault s label line =
     fault_unless (not (is_annotations (text_of label)) || (int_eq line.digital_minimum (neg_ℤ (pos 32768)) && int_eq line.digital_maximum (pos 32767)))
     (AtSignal s signal.Label) BadAnnotationSignal
@@ -252,7 +252,7 @@ sampling_faults bytes n s =
     ∷ []
 
 -- the tests of what its fields say together
-abbrev pub agreement_faults : ℕ → List ℕ → Line → List (Option Fault)
+abbrev pub agreement_faults : ℕ → List ℕ → CalibrationValue → List (Option Fault)
 agreement_faults s label line =
     digital_order_fault s line
     ∷ physical_differ_fault s line

@@ -13,7 +13,7 @@ use Rattle.edf_header.specs.declared.kind.Kind.{Kind}
 use Rattle.edf_header.specs.declared.kind.Kind.TheVariants.{Contiguous, Interrupted}
 use Rattle.edf_fields.specs.declared.fields.layout.FixedField.TheVariants as fixed
 use Rattle.edf_fields.specs.declared.fields.layout.SignalField.TheVariants as signal
-use Rattle.edf_header.specs.signals.Calibrations.{Line}
+use Rattle.edf_header.specs.signals.Calibrations.{CalibrationValue}
 use Rattle.edf_fields.specs.fields.Layout.{fixed_field, signal_field}
 
 -- one signal: the texts of its fields, its calibration, how many samples it has in a data record, and how many bytes stand before them there
@@ -23,7 +23,7 @@ pub record SignalHead : Type 0 where
   pub dimension : List ℕ
   pub prefilter : List ℕ
   pub reserved : List ℕ
-  pub calibration : Line
+  pub calibration : CalibrationValue
   pub samples : ℕ
   pub offset : ℕ
 
@@ -51,7 +51,7 @@ NamesStartdate text recorded day =
     × (NamesDottedDay text (epoch_day date)
     ⊎ (NamesDayMonth text day.day day.month × NamesDashedDay recorded (epoch_day date) × (pos 2085 ≤ℤ day.year)))
 
--- the reserved field begins with the word of this kind (EDF+, "The EDF+ header")
+-- the word with which the reserved field of a file of this kind begins (EDF+, "The EDF+ header")
 abbrev pub kind_word : Kind → List ℕ
 kind_word Contiguous = codes "EDF+C"
 kind_word Interrupted = codes "EDF+D"

@@ -12,7 +12,7 @@ use Rattle.edf_header.specs.declared.kind.Kind.{Kind}
 use Rattle.edf_header.specs.declared.kind.Kind.TheVariants.{Contiguous, Interrupted}
 use Rattle.edf_fields.specs.declared.fields.layout.FixedField.TheVariants as fixed
 use Rattle.edf_fields.specs.declared.fields.layout.SignalField.TheVariants as signal
-use Rattle.edf_header.specs.signals.Calibrations.{Line}
+use Rattle.edf_header.specs.signals.Calibrations.{CalibrationValue}
 use Rattle.edf_fields.specs.fields.Layout.{fixed_field}
 use Rattle.edf_fields.specs.fields.LayoutReading.{fixed_part, columns_part, column_field}
 use Rattle.edf_header.specs.Heads.{SignalHead, Head, HasHead, day_number}
@@ -62,7 +62,7 @@ abbrev pub signals_of : List ℕ → ℕ
 signals_of front = count_of (whole_number_of (fixed_field front fixed.Signals))
 
 -- the calibration that signal s of n has; where a number isn't spelled it counts as 0
-abbrev pub line_of : List ℕ → ℕ → ℕ → Line
+abbrev pub line_of : List ℕ → ℕ → ℕ → CalibrationValue
 line_of bytes n s = record {
   physical_minimum = unwrap_or (header_number_of (column_field bytes n s signal.PhysicalMinimum)) (pos 0);
   physical_maximum = unwrap_or (header_number_of (column_field bytes n s signal.PhysicalMaximum)) (pos 0);

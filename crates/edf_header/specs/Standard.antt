@@ -1,4 +1,4 @@
--- What the standard asks of a header that says something.
+-- What a header has to meet, by the standard and by this project's profile.
 use Rattle.std.specs.Prelude.{◌≡◌, ℕ, ℤ, pos, neg_ℤ, ◌≢◌, ◌≤◌, ◌≤ℤ◌, ◌<ℤ◌, IsTrue, [], Some, slice_get, false}
 use Rattle.std.specs.List.{All, list_any}
 use Rattle.edf_fields.specs.texts.Dates.{NamesDashedDay}
@@ -16,9 +16,9 @@ pub record IsSoundSignal (head : SignalHead) : Type 0 where
   pub some_samples : 1 ≤ head.samples
   pub annotations : IsTrue (is_annotations head.label) → (head.calibration.digital_minimum ≡ neg_ℤ (pos 32768)) × (head.calibration.digital_maximum ≡ pos 32767)
 
--- what the standard asks of a header that says something (EDF, "Header record"; EDF+, "The EDF+ header"): among it a signal
--- that holds annotations, and one that is a channel; that no two channels have one label, and the size of a data record, is this
--- project's profile
+-- what a header has to meet: by the standard, that the recording date is the day of the start, or no day, that a signal holds
+-- annotations, and that each is sound (EDF, "Header record"; EDF+, "The EDF+ header"); by this project's profile, a data record, a
+-- duration above 0, a channel, no two of one label, and data records of 16 MiB at the most
 pub record MeetsStandard (h : Head) : Type 0 where
   pub same_day : (n : ℤ) → NamesDashedDay h.recording.date n → n ≡ day_number h.day
   pub some_records : 1 ≤ h.records

@@ -11,7 +11,7 @@ use Rattle.edf_header.specs.declared.fixed_part.fixed.Extent.{Extent}
 use Rattle.edf_header.specs.declared.signals.judge_signal.SignalFields.{SignalFields}
 use Rattle.edf_fields.specs.declared.fields.layout.FixedField.TheVariants as fixed
 use Rattle.edf_fields.specs.declared.fields.layout.SignalField.{SignalField}
-use Rattle.edf_header.specs.signals.Calibrations.{Line}
+use Rattle.edf_header.specs.signals.Calibrations.{CalibrationValue}
 use Rattle.edf_fields.specs.fields.Layout.{fixed_field}
 use Rattle.edf_fields.specs.fields.LayoutReading.{column_field}
 use Rattle.edf_header.specs.Heads.{SignalHead, Head, record_bytes}
@@ -46,7 +46,7 @@ abbrev pub field_in : SignalFields → SignalField → List ℕ
 field_in fields field = column_field (fields.columns.now).bytes (fields.columns.now).signals fields.signal field
 
 -- what a signal of these texts and this calibration says besides its label
-abbrev pub details_of : TextsOf → Line → Details
+abbrev pub details_of : TextsOf → CalibrationValue → Details
 details_of texts calibration = record {
   texts = record { transducer = texts.transducer.now; dimension = texts.dimension.now; prefilter = texts.prefilter.now; reserved = texts.reserved.now };
   calibration = calibration;

@@ -9,10 +9,10 @@ use Rattle.std.proofs.lemmas.Bool.Decides.{Decides-and, Decides-eqb, Decides-int
 use Rattle.std.proofs.lemmas.Slice.Eq.{bytes_eq-Decides}
 use Rattle.edf_fields.specs.Lists.{Has}
 use Rattle.edf_fields.proofs.ForCallers.{and-true, both-true}
-use Rattle.edf_header.specs.signals.Calibrations.{Line, SameLine, physical_span, digital_span, offset_times_span}
+use Rattle.edf_header.specs.signals.Calibrations.{CalibrationValue, SameLine, physical_span, digital_span, offset_times_span}
 use Rattle.edf_header.specs.Heads.{SignalHead, Head, is_annotations}
 use Rattle.edf_header.specs.Sound.{IsSound}
-use Rattle.edf_claim.specs.Terms.{Terms}
+use Rattle.edf_claim.specs.ClaimValues.{ClaimValue}
 use Rattle.edf_heads.specs.Blank.{HasNoTexts}
 use Rattle.edf_heads.specs.differences.BlankDifference.{IsBlankHeader, HasFreeText, IsFirstWithFreeText}
 use Rattle.edf_heads.specs.Calibrations.{HaveSameCalibration}
@@ -108,7 +108,7 @@ texts-found o e so se (l ∷ ls) =
     step None here (Some d) rest = (inr ((λ h. alike-differ HaveSameTexts o e l here h), rest.0), rest.1)
     step (Some field) here rest said = (inl (refl, here.0), here.1)
 
-pub texts_said : (o e : Head) (claim : Terms) (claimed : List ClaimedChannel) (labels : List (Bor (List ℕ))) (seen : List ClaimedChannel) (r : Option TextDifference) → IsComparison o e claim claimed labels → seen ≡ claimed
+pub texts_said : (o e : Head) (claim : ClaimValue) (claimed : List ClaimedChannel) (labels : List (Bor (List ℕ))) (seen : List ClaimedChannel) (r : Option TextDifference) → IsComparison o e claim claimed labels → seen ≡ claimed
     → option_map (λ (d : TextDifference). (d.label.now, d.field)) r ≡ first_text_difference (map claimed_view seen)
     → MatchOption r (AllAlike HaveSameTexts o e claim) (λ d. IsTextDifference o e claim d.label.now d.field)
 texts_said o e claim claimed labels seen r is all found =
@@ -146,7 +146,7 @@ no-text e l se f h =
     let g : not (length (h.0).reserved == 0) ≡ false = sym (ap has_text (channel-is e l h.0 se h.1)) ∙ f in
     h.2 (empty-is (h.0).reserved (untrue (length (h.0).reserved == 0) g))
 
-pub free-found : (e : Head) (claim : Terms) → IsSound e → MatchOption (find (λ l. has_text (channel_of l e.signals)) claim.channels) (HasNoFreeText e claim) (IsFirstWithFreeText e claim)
+pub free-found : (e : Head) (claim : ClaimValue) → IsSound e → MatchOption (find (λ l. has_text (channel_of l e.signals)) claim.channels) (HasNoFreeText e claim) (IsFirstWithFreeText e claim)
 free-found e claim se =
     first-found (λ l. has_text (channel_of l e.signals)) (HasFreeText e) (λ l. HasFreeText e l → ⊥) claim.channels
     (λ l there t. text-there e l t) (λ l there f. no-text e l se f) (λ l none h. none h)
@@ -195,12 +195,12 @@ blank_decided h b is = (
 
 -- ---- calibrations
 
-line-decided : (l m : Line) → Decides (is_same_line l m) (SameLine l m)
+line-decided : (l m : CalibrationValue) → Decides (is_same_line l m) (SameLine l m)
 line-decided l m =
     Decides-and (int_eq (physical_span l *ℤ digital_span m) (physical_span m *ℤ digital_span l)) (int_eq (offset_times_span l *ℤ digital_span m) (offset_times_span m *ℤ digital_span l))
     (Decides-int_eq (physical_span l *ℤ digital_span m) (physical_span m *ℤ digital_span l)) (Decides-int_eq (offset_times_span l *ℤ digital_span m) (offset_times_span m *ℤ digital_span l))
 
-pub line_tested : (l m : Line) (b : Bool) → IsTrue b ↔ SameLine l m → b ≡ is_same_line l m
+pub line_tested : (l m : CalibrationValue) (b : Bool) → IsTrue b ↔ SameLine l m → b ≡ is_same_line l m
 line_tested l m b h = same_from_decides b (is_same_line l m) (h.0, h.1) (line-decided l m)
 
 calibration-decided : (x y : SignalHead) → Decides (bytes_eq x.dimension y.dimension && is_same_line x.calibration y.calibration) ((x.dimension ≡ y.dimension) × SameLine x.calibration y.calibration)
@@ -223,7 +223,7 @@ same-calibration x y f =
     let both = (calibration-decided x y).0 (untrue test (sym (either-not (bytes_eq x.dimension y.dimension) (is_same_line x.calibration y.calibration)) ∙ f)) in
     record { dimension = both.0; line = both.1 }
 
-pub calibrations-found : (o e : Head) (claim : Terms) → IsSound o → IsSound e
+pub calibrations-found : (o e : Head) (claim : ClaimValue) → IsSound o → IsSound e
     → MatchOption (find (λ l. of_both has_other_calibration (channel_of l o.signals) (channel_of l e.signals)) claim.channels) (AllAlike HaveSameCalibration o e claim) (IsFirstUnlike HaveSameCalibration o e claim)
 calibrations-found o e claim so se =
     first-found (λ l. of_both has_other_calibration (channel_of l o.signals) (channel_of l e.signals)) (AreUnlike HaveSameCalibration o e) (AreAlike HaveSameCalibration o e) claim.channels
@@ -239,7 +239,7 @@ other-text field x y t same = let f : true ≡ false = sym t ∙ ap not ((bytes_
 pub same-text : (field : TextField) (x y : SignalHead) → has_other_text field x y ≡ false → HaveSameText field x y
 same-text field x y f = (bytes_eq-Decides (text_in field x) (text_in field y)).0 (untrue (bytes_eq (text_in field x) (text_in field y)) f)
 
-pub one-text-found : (field : TextField) (o e : Head) (claim : Terms) → IsSound o → IsSound e
+pub one-text-found : (field : TextField) (o e : Head) (claim : ClaimValue) → IsSound o → IsSound e
     → MatchOption (find (λ l. of_both (has_other_text field) (channel_of l o.signals) (channel_of l e.signals)) claim.channels) (AllAlike (HaveSameText field) o e claim) (IsFirstUnlike (HaveSameText field) o e claim)
 one-text-found field o e claim so se =
     first-found (λ l. of_both (has_other_text field) (channel_of l o.signals) (channel_of l e.signals)) (AreUnlike (HaveSameText field) o e) (AreAlike (HaveSameText field) o e) claim.channels

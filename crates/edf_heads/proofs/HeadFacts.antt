@@ -10,7 +10,7 @@ use Rattle.edf_header.specs.signals.ChannelsReading.{is_ordinary, HasDistinctCha
 use Rattle.edf_header.specs.Heads.{SignalHead, Head, is_annotations}
 use Rattle.edf_header.specs.Sound.{IsSound}
 use Rattle.edf_claim.specs.Claims.{IsClaim}
-use Rattle.edf_claim.specs.Terms.{Terms}
+use Rattle.edf_claim.specs.ClaimValues.{ClaimValue}
 use Rattle.edf_heads.specs.Blank.{HasNoTexts, IsBlank}
 use Rattle.edf_heads.specs.differences.BlankDifference.{IsBlankHeader}
 use Rattle.edf_heads.specs.Channels.{SameChannels, AllAlike}
@@ -63,24 +63,24 @@ claimed-unless labels l h = unless-case (is_one_of labels l) refl
     unless-case true t = one_of-has labels l t
     unless-case false f = absurd (h (λ i. let g : true ≡ false = sym (has-one_of labels l i) ∙ f in cc))
 
-pub has_only : (h : Head) (claim : Terms) → IsSound h → IsClaim claim → HasNoExtra h claim.channels → HasOnly h claim.channels
+pub has_only : (h : Head) (claim : ClaimValue) → IsSound h → IsClaim claim → HasNoExtra h claim.channels → HasOnly h claim.channels
 has_only h claim sound is none = λ there.
     same-members claim.channels (channel_labels h.signals) is.distinct_channels (labels-distinct h.signals (channels_distinct h.signals sound.standard.distinct))
     (λ l i. has-label h l (there l i))
     (λ l i. claimed-unless claim.channels l (λ out. none l (record { there = label-has h l i; unclaimed = out })))
 
-pub only_said : (h : Head) (claim : Terms) (o : Option (Bor (List ℕ))) → IsSound h → IsClaim claim
+pub only_said : (h : Head) (claim : ClaimValue) (o : Option (Bor (List ℕ))) → IsSound h → IsClaim claim
     → MatchOption o (HasNoExtra h claim.channels) (λ label. IsLeastExtra h claim.channels label.now) → MatchOption o (HasOnly h claim.channels) (λ label. IsLeastExtra h claim.channels label.now)
 only_said h claim None sound is none = has_only h claim sound is none
 only_said h claim (Some x) sound is extra = extra
 
-pub same_channels : (o e : Head) (claim : Terms) → HasAll o claim.channels → HasAll e claim.channels → HasOnly e claim.channels → SameChannels o e claim
+pub same_channels : (o e : Head) (claim : ClaimValue) → HasAll o claim.channels → HasAll e claim.channels → HasOnly e claim.channels → SameChannels o e claim
 same_channels o e claim there here only = record { in_original = there; in_export = only here }
 
-pub in-export : (o e : Head) (claim : Terms) → SameChannels o e claim → HasAll e claim.channels
+pub in-export : (o e : Head) (claim : ClaimValue) → SameChannels o e claim → HasAll e claim.channels
 in-export o e claim same l i = label-has e l (has-permutation claim.channels (channel_labels e.signals) l same.in_export i)
 
-pub claimed-in : (o e : Head) (claim : Terms) → SameChannels o e claim → (l : List ℕ) → HasChannel e l → Has claim.channels l
+pub claimed-in : (o e : Head) (claim : ClaimValue) → SameChannels o e claim → (l : List ℕ) → HasChannel e l → Has claim.channels l
 claimed-in o e claim same l c = has-permutation (channel_labels e.signals) claim.channels l (IsPermutation-sym claim.channels (channel_labels e.signals) same.in_export) (has-label e l c)
 
 -- ---- free text
@@ -114,13 +114,13 @@ blank-channel h blank l x c =
     of-all (λ (s : SignalHead). s.reserved ≡ []) (channels_among h.signals) blank.channels x
     (filtered-has is_ordinary h.signals x c.there (ap (λ m. not (is_annotations m)) c.labelled.0 ∙ ap not c.labelled.1))
 
-pub is_blank : (o e : Head) (claim : Terms) → SameChannels o e claim → IsBlankHeader e → HasNoFreeText e claim → IsBlank e
+pub is_blank : (o e : Head) (claim : ClaimValue) → SameChannels o e claim → IsBlankHeader e → HasNoFreeText e claim → IsBlank e
 is_blank o e claim same blank none =
     blank-of e blank (λ l x c. empty-unless x.reserved (λ text. none l (claimed-in o e claim same l (x, c)) (x, c, text)))
 
 -- ---- channels that are alike
 
-pub unlike-alike : (Alike : SignalHead → SignalHead → Type 0) (o e : Head) (claim : Terms) (l : List ℕ) → AllAlike Alike o e claim → IsFirstUnlike Alike o e claim l → ⊥
+pub unlike-alike : (Alike : SignalHead → SignalHead → Type 0) (o e : Head) (claim : ClaimValue) (l : List ℕ) → AllAlike Alike o e claim → IsFirstUnlike Alike o e claim l → ⊥
 unlike-alike Alike o e claim l all first =
     let r = first-has (AreUnlike Alike o e) claim.channels l first in
     alike-differ Alike o e l (all l r.0) r.1

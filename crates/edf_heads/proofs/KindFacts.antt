@@ -7,7 +7,7 @@ use Rattle.edf_header.specs.signals.Channels.{channel_labels}
 use Rattle.edf_header.specs.Heads.{SignalHead, Head}
 use Rattle.edf_header.specs.Sound.{IsSound}
 use Rattle.edf_claim.specs.Claims.{IsClaim}
-use Rattle.edf_claim.specs.Terms.{Terms}
+use Rattle.edf_claim.specs.ClaimValues.{ClaimValue}
 use Rattle.edf_heads.specs.differences.BlankDifference.{IsBlankHeader, HasFreeText, IsFirstWithFreeText}
 use Rattle.edf_heads.specs.Calibrations.{HaveSameCalibration}
 use Rattle.edf_heads.specs.Channels.{SameChannels, AllAlike}
@@ -100,7 +100,7 @@ keeps-said Clean c l so se f = no-text c.export l se f
 
 -- ---- the headers agree
 
-pub heads_agree : (o e : Head) (claim : Terms) → SignalsAgree o e claim → ((w : Which) → IsAsClaimed o e claim w) → IsBlankHeader e → HasNoFreeText e claim → HeadsAgree o e claim
+pub heads_agree : (o e : Head) (claim : ClaimValue) → SignalsAgree o e claim → ((w : Which) → IsAsClaimed o e claim w) → IsBlankHeader e → HasNoFreeText e claim → HeadsAgree o e claim
 heads_agree o e claim agree subfields blank none = record {
   channels = agree.channels;
   texts = agree.texts;
@@ -111,31 +111,31 @@ heads_agree o e claim agree subfields blank none = record {
 
 -- ---- the kinds of differences of two headers
 
-abbrev FromSubfield : Head → Head → Terms → Verdict → Type 0
+abbrev FromSubfield : Head → Head → ClaimValue → Verdict → Type 0
 FromSubfield o e c =
     Else (Made (λ (d : Which × SubfieldMismatch). No (differences.Subfield d.0 d.1)) (λ d. IsSubfieldDifference o e c d.0 d.1)) ((w : Which) → IsAsClaimed o e c w)
     (Else (Made (λ (u : Unit {0}). No (differences.NotClean Header)) (λ u. IsBlankHeader e → ⊥)) (IsBlankHeader e)
     (Made (λ l. No (differences.NotClean (Channel l))) (IsFirstWithFreeText e c)))
 
-abbrev FromText : Head → Head → Terms → Verdict → Type 0
+abbrev FromText : Head → Head → ClaimValue → Verdict → Type 0
 FromText o e c =
     Else (Made (λ (d : List ℕ × TextField). No (differences.ChannelText d.0 d.1)) (λ d. IsTextDifference o e c d.0 d.1)) (AllAlike HaveSameTexts o e c)
     (Else (Made (λ l. No (differences.Calibration l)) (IsFirstUnlike HaveSameCalibration o e c)) (AllAlike HaveSameCalibration o e c) (FromSubfield o e c))
 
-abbrev FromUnknown : Head → Head → Terms → Verdict → Type 0
+abbrev FromUnknown : Head → Head → ClaimValue → Verdict → Type 0
 FromUnknown o e c =
     Else (Made (λ l. No (differences.UnknownChannel l)) (IsFirstWith (HasNoChannel o) c.channels)) (HasAll o c.channels)
     (Else (Made (λ l. No (differences.MissingChannel l)) (IsFirstWith (HasNoChannel e) c.channels)) (HasAll e c.channels)
     (Else (Made (λ l. No (differences.ExtraChannel l)) (IsLeastExtra e c.channels)) (SameChannels o e c) (FromText o e c)))
 
 -- each verdict is of its kind, and those before it don't apply
-from-text : (o e : Head) (c : Terms) (v : Verdict) → SameChannels o e c → FromText o e c v → FromUnknown o e c v
+from-text : (o e : Head) (c : ClaimValue) (v : Verdict) → SameChannels o e c → FromText o e c v → FromUnknown o e c v
 from-text o e c v same kind = inr (same.in_original, inr (in-export o e c same, inr (same, kind)))
 
-from-subfield : (o e : Head) (c : Terms) (v : Verdict) → SignalsAgree o e c → FromSubfield o e c v → FromUnknown o e c v
+from-subfield : (o e : Head) (c : ClaimValue) (v : Verdict) → SignalsAgree o e c → FromSubfield o e c v → FromUnknown o e c v
 from-subfield o e c v agree kind = from-text o e c v agree.channels (inr (agree.texts, inr (agree.calibrations, kind)))
 
-kind-of : (o e : Head) (c : Terms) (v : Verdict) → IsHeadVerdict o e c v → FromUnknown o e c v
+kind-of : (o e : Head) (c : ClaimValue) (v : Verdict) → IsHeadVerdict o e c v → FromUnknown o e c v
 kind-of o e c (No (differences.UnknownChannel l)) h = inl (l, refl, h)
 kind-of o e c (No (differences.MissingChannel l)) h = inr (h.0, inl (l, refl, h.1))
 kind-of o e c (No (differences.ExtraChannel l)) h = inr (h.0, inr (h.1, inl (l, refl, h.2)))
@@ -148,7 +148,7 @@ kind-of o e c v h = absurd h
 
 -- ---- no verdict applies where the headers agree
 
-pub agree-apart : (o e : Head) (claim : Terms) (v : Verdict) → IsHeadVerdict o e claim v → HeadsAgree o e claim → ⊥
+pub agree-apart : (o e : Head) (claim : ClaimValue) (v : Verdict) → IsHeadVerdict o e claim v → HeadsAgree o e claim → ⊥
 agree-apart o e claim (No (differences.UnknownChannel label)) v h =
     let r = first-has (HasNoChannel o) claim.channels label v in
     r.1 (h.channels.in_original label r.0)
@@ -170,13 +170,13 @@ agree-apart o e claim (No (differences.NotClean (Channel label))) v h =
 agree-apart o e claim w v h = v
 
 -- none is answered exactly where the headers agree
-pub none_or_differ : (o e : Head) (claim : Terms) (found : Option Verdict) → MatchOption found (HeadsAgree o e claim) (IsHeadVerdict o e claim) → (found ≡ None) ↔ HeadsAgree o e claim
+pub none_or_differ : (o e : Head) (claim : ClaimValue) (found : Option Verdict) → MatchOption found (HeadsAgree o e claim) (IsHeadVerdict o e claim) → (found ≡ None) ↔ HeadsAgree o e claim
 none_or_differ o e claim None h = (λ q. h, λ q. refl)
 none_or_differ o e claim (Some v) h = (λ q. absurd (let f : Some v ≡ None = q in cc), λ agree. absurd (agree-apart o e claim v h agree))
 
 -- ---- two headers have one first difference at most
 
-one-from-text : (o e : Head) (c : Terms) → One (FromText o e c)
+one-from-text : (o e : Head) (c : ClaimValue) → One (FromText o e c)
 one-from-text o e c =
     either-one (one-made (one-text o e c)) (λ v x all. unlike-alike HaveSameTexts o e c (x.0).0 all (x.2).channel)
     (λ texts. either-one (one-made (one-of-first (AreUnlike HaveSameCalibration o e) c.channels)) (λ v x all. unlike-alike HaveSameCalibration o e c x.0 all x.2)
@@ -184,7 +184,7 @@ one-from-text o e c =
     (λ subfields. either-one (one-made (λ u v p q. refl)) (λ v x. x.2)
     (λ blank. one-made (one-of-first (HasFreeText e) c.channels)))))
 
-one-from-unknown : (o e : Head) (c : Terms) → One (FromUnknown o e c)
+one-from-unknown : (o e : Head) (c : ClaimValue) → One (FromUnknown o e c)
 one-from-unknown o e c =
     either-one (one-made (one-of-first (HasNoChannel o) c.channels)) (λ v x. first-apart o c.channels x.0 x.2)
     (λ there. either-one (one-made (one-of-first (HasNoChannel e) c.channels)) (λ v x. first-apart e c.channels x.0 x.2)
@@ -192,43 +192,43 @@ one-from-unknown o e c =
     (λ v x same. let a = (x.2).extra in a.unclaimed (claimed-in o e c same x.0 a.there))
     (λ same. one-from-text o e c)))
 
-pub one_head_verdict : (o e : Head) (c : Terms) (v w : Verdict) → IsHeadVerdict o e c v → IsHeadVerdict o e c w → v ≡ w
+pub one_head_verdict : (o e : Head) (c : ClaimValue) (v w : Verdict) → IsHeadVerdict o e c v → IsHeadVerdict o e c w → v ≡ w
 one_head_verdict o e c v w p q = one-from-unknown o e c v w (kind-of o e c v p) (kind-of o e c w q)
 
 -- ---- two sound headers agree, or have a first difference: from the last kind to the first
 
-abbrev pub AgreeOrDiffer : Head → Head → Terms → Type 0
+abbrev pub AgreeOrDiffer : Head → Head → ClaimValue → Type 0
 AgreeOrDiffer o e c = HeadsAgree o e c ⊎ ((v : Verdict) × IsHeadVerdict o e c v)
 
-some-free : (o e : Head) (c : Terms) → IsSound e → SignalsAgree o e c → ((w : Which) → IsAsClaimed o e c w) → IsBlankHeader e → AgreeOrDiffer o e c
+some-free : (o e : Head) (c : ClaimValue) → IsSound e → SignalsAgree o e c → ((w : Which) → IsAsClaimed o e c w) → IsBlankHeader e → AgreeOrDiffer o e c
 some-free o e c se agree subfields blank =
     ⊎_elim (λ none. inl (heads_agree o e c agree subfields blank none)) (λ r. inr (No (differences.NotClean (Channel r.0)), (agree, subfields, blank, r.1)))
     (found-or-not (HasNoFreeText e c) (IsFirstWithFreeText e c) (find (λ l. has_text (channel_of l e.signals)) c.channels) (free-found e c se))
 
-some-header : (o e : Head) (c : Terms) → IsSound e → SignalsAgree o e c → ((w : Which) → IsAsClaimed o e c w) → AgreeOrDiffer o e c
+some-header : (o e : Head) (c : ClaimValue) → IsSound e → SignalsAgree o e c → ((w : Which) → IsAsClaimed o e c w) → AgreeOrDiffer o e c
 some-header o e c se agree subfields =
     let b = (length e.free == 0) && list_all is_blank_signal e.signals in
     let said = blank_decided e b refl in
     ⊎_elim (λ blank. some-free o e c se agree subfields blank) (λ text. inr (No (differences.NotClean Header), (agree, subfields, text))) (tested b said.0 said.1)
 
-some-subfield : (o e : Head) (c : Terms) → IsSound e → SignalsAgree o e c → AgreeOrDiffer o e c
+some-subfield : (o e : Head) (c : ClaimValue) → IsSound e → SignalsAgree o e c → AgreeOrDiffer o e c
 some-subfield o e c se agree = ⊎_elim (λ all. some-header o e c se agree (λ w. all w (has-all w))) (λ r. side r.0 r.1 (has-which c.anonymous r.0)) (all-or-first (IsAsClaimed o e c) (is-as-claimed o e c) all_subfields)
   where
     side : (w : Which) → IsFirstWith (λ w. IsAsClaimed o e c w → ⊥) all_subfields w → Decided (Has c.anonymous w) → AgreeOrDiffer o e c
     side w first (inl there) = inr (No (differences.Subfield w NotX), (agree, record { subfield = first; mismatch_is = there }))
     side w first (inr out) = inr (No (differences.Subfield w Changed), (agree, record { subfield = first; mismatch_is = out }))
 
-some-calibration : (o e : Head) (c : Terms) → IsSound o → IsSound e → SameChannels o e c → AllAlike HaveSameTexts o e c → AgreeOrDiffer o e c
+some-calibration : (o e : Head) (c : ClaimValue) → IsSound o → IsSound e → SameChannels o e c → AllAlike HaveSameTexts o e c → AgreeOrDiffer o e c
 some-calibration o e c so se same texts =
     ⊎_elim (λ all. some-subfield o e c se (record { channels = same; texts = texts; calibrations = all })) (λ r. inr (No (differences.Calibration r.0), (same, texts, r.1)))
     (found-or-not (AllAlike HaveSameCalibration o e c) (IsFirstUnlike HaveSameCalibration o e c) (find (λ l. of_both has_other_calibration (channel_of l o.signals) (channel_of l e.signals)) c.channels) (calibrations-found o e c so se))
 
-some-text : (o e : Head) (c : Terms) → IsSound o → IsSound e → SameChannels o e c → AgreeOrDiffer o e c
+some-text : (o e : Head) (c : ClaimValue) → IsSound o → IsSound e → SameChannels o e c → AgreeOrDiffer o e c
 some-text o e c so se same =
     ⊎_elim (λ all. some-calibration o e c so se same all) (λ r. inr (No (differences.ChannelText (r.0).0 (r.0).1), (same, record { channel = (r.1).0; text = (r.1).1 })))
     (found-or-not (AllAlike HaveSameTexts o e c) (λ d. IsFirstWith (AreUnlike HaveSameTexts o e) c.channels d.0 × IsFirstText o e d.0 d.1) (first_text_difference (map (claimed_of o.signals e.signals) c.channels)) (texts-found o e so se c.channels))
 
-some-extra : (o e : Head) (c : Terms) → IsSound o → IsSound e → IsClaim c → HasAll o c.channels → HasAll e c.channels → AgreeOrDiffer o e c
+some-extra : (o e : Head) (c : ClaimValue) → IsSound o → IsSound e → IsClaim c → HasAll o c.channels → HasAll e c.channels → AgreeOrDiffer o e c
 some-extra o e c so se is there here =
     cases (least-or-none (λ l. Has c.channels l → ⊥)
     (λ l. ⊎_elim (λ h. inr (λ out. out h)) inl (tested (is_one_of c.channels l) (one_of-has c.channels l) (has-one_of c.channels l))) (channel_labels e.signals))
@@ -243,7 +243,7 @@ some-extra o e c so se is there here =
 all-channels : (h : Head) (ls : List (List ℕ)) → HasAll h ls ⊎ ((l : List ℕ) × IsFirstWith (HasNoChannel h) ls l)
 all-channels h ls = found-or-not (HasAll h ls) (IsFirstWith (HasNoChannel h) ls) (find (λ l. is_none (channel_of l h.signals)) ls) (absent-first h ls)
 
-pub agree_or_differ : (o e : Head) (c : Terms) → IsSound o → IsSound e → IsClaim c → AgreeOrDiffer o e c
+pub agree_or_differ : (o e : Head) (c : ClaimValue) → IsSound o → IsSound e → IsClaim c → AgreeOrDiffer o e c
 agree_or_differ o e c so se is =
     ⊎_elim
     (λ there. ⊎_elim (λ here. some-extra o e c so se is there here) (λ r. inr (No (differences.MissingChannel r.0), (there, r.1))) (all-channels e c.channels))
@@ -251,14 +251,14 @@ agree_or_differ o e c so se is =
 
 -- ---- headers that say the same agree, or differ first, in the same way
 
-signals-carried : (o e o' e' : Head) → AreSamePairs o e o' e' → (c : Terms) → SignalsAgree o e c → SignalsAgree o' e' c
+signals-carried : (o e o' e' : Head) → AreSamePairs o e o' e' → (c : ClaimValue) → SignalsAgree o e c → SignalsAgree o' e' c
 signals-carried o e o' e' s c h = record {
   channels = same-channels-carried o e o' e' s c h.channels;
   texts = all-alike-carried HaveSameTexts texts-carried o e o' e' s c h.texts;
   calibrations = all-alike-carried HaveSameCalibration calibration-carried o e o' e' s c h.calibrations;
 }
 
-pub agree_carried : (o e o' e' : Head) → AreSamePairs o e o' e' → AreBlankAlike e e' → (c : Terms) → HeadsAgree o e c → HeadsAgree o' e' c
+pub agree_carried : (o e o' e' : Head) → AreSamePairs o e o' e' → AreBlankAlike e e' → (c : ClaimValue) → HeadsAgree o e c → HeadsAgree o' e' c
 agree_carried o e o' e' s b c h =
     let signals = signals-carried o e o' e' s c (record { channels = h.channels; texts = h.texts; calibrations = h.calibrations }) in
     record {
@@ -271,7 +271,7 @@ agree_carried o e o' e' s b c h =
           (b.channels l d.0 y' d.1 cy').0 (blank-channel e h.blank l d.0 d.1));
     }
 
-pub head_verdict_carried : (o e o' e' : Head) → AreSamePairs o e o' e' → AreBlankAlike e e' → (c : Terms) (v : Verdict) → IsHeadVerdict o e c v → IsHeadVerdict o' e' c v
+pub head_verdict_carried : (o e o' e' : Head) → AreSamePairs o e o' e' → AreBlankAlike e e' → (c : ClaimValue) (v : Verdict) → IsHeadVerdict o e c v → IsHeadVerdict o' e' c v
 head_verdict_carried o e o' e' s b c (No (differences.UnknownChannel l)) h = first-nowhere-carried o o' s.original c.channels l h
 head_verdict_carried o e o' e' s b c (No (differences.MissingChannel l)) h = (all-there o o' s.original c.channels h.0, first-nowhere-carried e e' s.export c.channels l h.1)
 head_verdict_carried o e o' e' s b c (No (differences.ExtraChannel l)) h = (
@@ -420,7 +420,7 @@ all_broken_in c m claimed labels seen signals whiches none channels others subfi
 
 -- ---- the rule that a verdict names is broken, and where the headers agree none is
 
-pub first_is_broken : (o e : Head) (c : Terms) (rule : Difference) → IsHeadVerdict o e c (No rule) → IsBroken o e c rule
+pub first_is_broken : (o e : Head) (c : ClaimValue) (rule : Difference) → IsHeadVerdict o e c (No rule) → IsBroken o e c rule
 first_is_broken o e c (differences.UnknownChannel l) v = first-has (HasNoChannel o) c.channels l v
 first_is_broken o e c (differences.MissingChannel l) v = first-has (HasNoChannel e) c.channels l v.1
 first_is_broken o e c (differences.ExtraChannel l) v = (v.2).extra
@@ -432,7 +432,7 @@ first_is_broken o e c (differences.NotClean Header) v = v.2
 first_is_broken o e c (differences.NotClean (Channel l)) v = first-has (HasFreeText e) c.channels l v.3
 first_is_broken o e c rule v = absurd v
 
-pub none-broken : (o e : Head) (c : Terms) → HeadsAgree o e c → (rule : Difference) → IsBroken o e c rule → ⊥
+pub none-broken : (o e : Head) (c : ClaimValue) → HeadsAgree o e c → (rule : Difference) → IsBroken o e c rule → ⊥
 none-broken o e c agree (differences.UnknownChannel l) b = b.1 (agree.channels.in_original l b.0)
 none-broken o e c agree (differences.MissingChannel l) b = b.1 (in-export o e c agree.channels l b.0)
 none-broken o e c agree (differences.ExtraChannel l) b = b.unclaimed (claimed-in o e c agree.channels l b.there)
@@ -444,7 +444,7 @@ none-broken o e c agree (differences.NotClean Header) b = b (blank-header e agre
 none-broken o e c agree (differences.NotClean (Channel l)) b = let t = b.1 in t.2 (blank-channel e agree.blank l t.0 t.1)
 none-broken o e c agree rule b = absurd b
 
-pub nothing_is_broken : (o e : Head) (c : Terms) (found : List Difference) → IsSound o → IsSound e → IsClaim c → AreAllBroken o e c found → (found ≡ []) ↔ HeadsAgree o e c
+pub nothing_is_broken : (o e : Head) (c : ClaimValue) (found : List Difference) → IsSound o → IsSound e → IsClaim c → AreAllBroken o e c found → (found ≡ []) ↔ HeadsAgree o e c
 nothing_is_broken o e c found so se is are = (λ none. agrees none (agree_or_differ o e c so se is), λ agree. empty found (λ rule h. none-broken o e c agree rule ((are rule).0 h)))
   where
     nowhere : found ≡ [] → (v : Verdict) → IsHeadVerdict o e c v → ⊥

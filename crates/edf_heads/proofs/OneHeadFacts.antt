@@ -1,6 +1,6 @@
 -- Two differences of one kind are the same; and kinds, one behind the other.
 use Rattle.std.proofs.Common.{◌≡◌, ℕ, List, [], ◌∷◌, ◌⊎◌, inl, inr, refl, sym, ap, ◌∙◌, subst}
-use Rattle.edf_claim.specs.Terms.{Terms}
+use Rattle.edf_claim.specs.ClaimValues.{ClaimValue}
 use Rattle.edf_fields.specs.declared.fields.which.Which.{Which}
 use Rattle.edf_header.specs.Heads.{Head}
 use Rattle.edf_verdict.specs.declared.verdict.TextField.{TextField}
@@ -57,19 +57,19 @@ one-field o e l Transducer Prefilter h i = absurd (alike-differ (HaveSameText Tr
 one-field o e l Prefilter Transducer h i = absurd (alike-differ (HaveSameText Transducer) o e l h.0 i)
 one-field o e l Prefilter Prefilter h i = refl
 
-pub one-text : (o e : Head) (c : Terms) (d f : List ℕ × TextField) → IsTextDifference o e c d.0 d.1 → IsTextDifference o e c f.0 f.1 → d ≡ f
+pub one-text : (o e : Head) (c : ClaimValue) (d f : List ℕ × TextField) → IsTextDifference o e c d.0 d.1 → IsTextDifference o e c f.0 f.1 → d ≡ f
 one-text o e c (l, p) (m, q) a b =
     let label : l ≡ m = one-of-first (AreUnlike HaveSameTexts o e) c.channels l m a.channel b.channel in
     let field : p ≡ q = one-field o e m p q (subst (λ k. IsFirstText o e k p) label a.text) b.text in
     cc
 
-pub one-side : (c : Terms) (which : Which) (p q : SubfieldMismatch) → IsMismatch c which p → IsMismatch c which q → p ≡ q
+pub one-side : (c : ClaimValue) (which : Which) (p q : SubfieldMismatch) → IsMismatch c which p → IsMismatch c which q → p ≡ q
 one-side c which NotX NotX h i = refl
 one-side c which NotX Changed h i = absurd (i h)
 one-side c which Changed NotX h i = absurd (h i)
 one-side c which Changed Changed h i = refl
 
-pub one-subfield : (o e : Head) (c : Terms) (d f : Which × SubfieldMismatch) → IsSubfieldDifference o e c d.0 d.1 → IsSubfieldDifference o e c f.0 f.1 → d ≡ f
+pub one-subfield : (o e : Head) (c : ClaimValue) (d f : Which × SubfieldMismatch) → IsSubfieldDifference o e c d.0 d.1 → IsSubfieldDifference o e c f.0 f.1 → d ≡ f
 one-subfield o e c (v, p) (w, q) a b =
     let which : v ≡ w = one-of-first (λ u. IsAsClaimed o e c u → ⊥) all_subfields v w a.subfield b.subfield in
     let side : p ≡ q = one-side c w p q (subst (λ u. IsMismatch c u p) which a.mismatch_is) b.mismatch_is in

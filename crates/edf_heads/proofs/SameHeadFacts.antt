@@ -3,7 +3,7 @@ use Rattle.std.proofs.Common.{◌≡◌, ◌↔◌, ℕ, List, [], ◌∷◌, in
 use Rattle.std.specs.Prelude.{◌<ℤ◌}
 use Rattle.std.specs.List.{All}
 use Rattle.std.proofs.lemmas.List.Sorted.{IsPermutation-refl, IsPermutation-sym, IsPermutation-trans}
-use Rattle.edf_claim.specs.Terms.{Terms}
+use Rattle.edf_claim.specs.ClaimValues.{ClaimValue}
 use Rattle.edf_fields.specs.declared.fields.which.Which.{Which}
 use Rattle.edf_fields.specs.declared.fields.which.Which.TheVariants.{PatientExtras, Date, RecordingExtras}
 use Rattle.edf_fields.specs.texts.Identifications.{Patient, Recording}
@@ -148,17 +148,17 @@ unlike-carried Alike carries o e o' e' s l u =
           (same-line-back x c.0 (s.original.alike l x c.0 u.2 c.1)) (same-line-back y d.0 (s.export.alike l y d.0 u.3 d.1)) h),
     )
 
-pub first-unlike-carried : (Alike : SignalHead → SignalHead → Type 0) → Carries Alike → (o e o' e' : Head) → AreSamePairs o e o' e' → (c : Terms) (l : List ℕ) → IsFirstUnlike Alike o e c l → IsFirstUnlike Alike o' e' c l
+pub first-unlike-carried : (Alike : SignalHead → SignalHead → Type 0) → Carries Alike → (o e o' e' : Head) → AreSamePairs o e o' e' → (c : ClaimValue) (l : List ℕ) → IsFirstUnlike Alike o e c l → IsFirstUnlike Alike o' e' c l
 first-unlike-carried Alike carries o e o' e' s c l h =
     first-carried (AreUnlike Alike o e) (AreUnlike Alike o' e') (unlike-carried Alike carries o e o' e' s) (unlike-carried Alike carries o' e' o e (pairs-back o e o' e' s)) c.channels l h
 
-pub all-alike-carried : (Alike : SignalHead → SignalHead → Type 0) → Carries Alike → (o e o' e' : Head) → AreSamePairs o e o' e' → (c : Terms) → AllAlike Alike o e c → AllAlike Alike o' e' c
+pub all-alike-carried : (Alike : SignalHead → SignalHead → Type 0) → Carries Alike → (o e o' e' : Head) → AreSamePairs o e o' e' → (c : ClaimValue) → AllAlike Alike o e c → AllAlike Alike o' e' c
 all-alike-carried Alike carries o e o' e' s c all l i = alike-carried Alike carries o e o' e' s l (all l i)
 
 pub all-there : (h g : Head) → AreSameHeads h g → (ls : List (List ℕ)) → HasAll h ls → HasAll g ls
 all-there h g s ls all l i = there h g s l (all l i)
 
-pub same-channels-carried : (o e o' e' : Head) → AreSamePairs o e o' e' → (c : Terms) → SameChannels o e c → SameChannels o' e' c
+pub same-channels-carried : (o e o' e' : Head) → AreSamePairs o e o' e' → (c : ClaimValue) → SameChannels o e c → SameChannels o' e' c
 same-channels-carried o e o' e' s c h = record {
   in_original = all-there o o' s.original c.channels h.in_original;
   in_export = IsPermutation-trans c.channels (channel_labels e.signals) (channel_labels e'.signals) h.in_export s.export.channels;
@@ -189,7 +189,7 @@ unchanged-carried o e o' e' s r Date h = (
 )
 unchanged-carried o e o' e' s r w h = cc
 
-pub claimed-carried : (o e o' e' : Head) → AreSamePairs o e o' e' → (c : Terms) (w : Which) → IsAsClaimed o e c w → IsAsClaimed o' e' c w
+pub claimed-carried : (o e o' e' : Head) → AreSamePairs o e o' e' → (c : ClaimValue) (w : Which) → IsAsClaimed o e c w → IsAsClaimed o' e' c w
 claimed-carried o e o' e' s c w h =
     let by = of-claimed o e c w h in
     to-claimed o' e' c w (record { claimed = λ i. anonymous-carried e e' s.export w (by.claimed i); unclaimed = λ n. unchanged-carried o e o' e' s.original s.export w (by.unclaimed n) })

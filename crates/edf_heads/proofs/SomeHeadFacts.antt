@@ -4,7 +4,7 @@ use Rattle.std.specs.List.{All, list_all}
 use Rattle.std.specs.Str.{bytes_eq}
 use Rattle.std.proofs.lemmas.Bool.{cases_lt}
 use Rattle.std.proofs.lemmas.Slice.Eq.{bytes_eq-Decides}
-use Rattle.edf_claim.specs.Terms.{Terms}
+use Rattle.edf_claim.specs.ClaimValues.{ClaimValue}
 use Rattle.edf_fields.specs.declared.fields.which.Which.{Which}
 use Rattle.edf_fields.specs.declared.fields.which.Which.TheVariants.{PatientExtras, Date, RecordingExtras}
 use Rattle.edf_fields.specs.Lists.{Has}
@@ -126,7 +126,7 @@ is-unchanged o e Date = both-or-none (same-text e.recording.date _) (same-text o
 is-unchanged o e RecordingExtras = same-texts _ _
 is-unchanged o e w = same-text _ _
 
-pub is-as-claimed : (o e : Head) (c : Terms) (w : Which) → Decided (IsAsClaimed o e c w)
+pub is-as-claimed : (o e : Head) (c : ClaimValue) (w : Which) → Decided (IsAsClaimed o e c w)
 is-as-claimed o e c w = cases (has-which c.anonymous w)
   where
     cases : Decided (Has c.anonymous w) → Decided (IsAsClaimed o e c w)

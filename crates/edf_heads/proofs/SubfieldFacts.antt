@@ -9,7 +9,7 @@ use Rattle.std.proofs.lemmas.Slice.Eq.{bytes_eq-Decides}
 use Rattle.edf_fields.specs.Lists.{Has}
 use Rattle.edf_fields.proofs.ForCallers.{and-true, both-true, which-read}
 use Rattle.edf_header.specs.Heads.{Head}
-use Rattle.edf_claim.specs.Terms.{Terms}
+use Rattle.edf_claim.specs.ClaimValues.{ClaimValue}
 use Rattle.edf_fields.specs.declared.fields.which.Which.{Which}
 use Rattle.edf_fields.specs.declared.fields.which.Which.TheVariants.{Code}
 use Rattle.edf_heads.specs.Comparisons.{is_x, are_same, IsAnonymous, IsUnchanged, IsFoundAmong}
@@ -56,24 +56,24 @@ same_tested b ts us e = (λ h. same-is ts us (sym e ∙ h), λ h. e ∙ subst (�
 -- ---- a subfield is as claimed
 
 -- it is `X` where it is claimed anonymous, and else the original's
-pub to-claimed : (o e : Head) (claim : Terms) (w : Which) → ByClaim claim w (IsAnonymous e w) (IsUnchanged o e w) → IsAsClaimed o e claim w
+pub to-claimed : (o e : Head) (claim : ClaimValue) (w : Which) → ByClaim claim w (IsAnonymous e w) (IsUnchanged o e w) → IsAsClaimed o e claim w
 to-claimed o e claim Code h = h
 to-claimed o e claim w h = h
 
-pub of-claimed : (o e : Head) (claim : Terms) (w : Which) → IsAsClaimed o e claim w → ByClaim claim w (IsAnonymous e w) (IsUnchanged o e w)
+pub of-claimed : (o e : Head) (claim : ClaimValue) (w : Which) → IsAsClaimed o e claim w → ByClaim claim w (IsAnonymous e w) (IsUnchanged o e w)
 of-claimed o e claim Code h = h
 of-claimed o e claim w h = h
 
-pub claimed_anonymous : (o e : Head) (claim : Terms) (w : Which) → Has claim.anonymous w → IsAnonymous e w → IsAsClaimed o e claim w
+pub claimed_anonymous : (o e : Head) (claim : ClaimValue) (w : Which) → Has claim.anonymous w → IsAnonymous e w → IsAsClaimed o e claim w
 claimed_anonymous o e claim w there h = to-claimed o e claim w (record { claimed = λ i. h; unclaimed = λ out. absurd (out there) })
 
-pub claimed_unchanged : (o e : Head) (claim : Terms) (w : Which) → (Has claim.anonymous w → ⊥) → IsUnchanged o e w → IsAsClaimed o e claim w
+pub claimed_unchanged : (o e : Head) (claim : ClaimValue) (w : Which) → (Has claim.anonymous w → ⊥) → IsUnchanged o e w → IsAsClaimed o e claim w
 claimed_unchanged o e claim w out h = to-claimed o e claim w (record { claimed = λ i. absurd (out i); unclaimed = λ i. h })
 
-pub not_anonymous : (o e : Head) (claim : Terms) (w : Which) → Has claim.anonymous w → (IsAnonymous e w → ⊥) → IsAsClaimed o e claim w → ⊥
+pub not_anonymous : (o e : Head) (claim : ClaimValue) (w : Which) → Has claim.anonymous w → (IsAnonymous e w → ⊥) → IsAsClaimed o e claim w → ⊥
 not_anonymous o e claim w there other h = other ((of-claimed o e claim w h).claimed there)
 
-pub not_unchanged : (o e : Head) (claim : Terms) (w : Which) → (Has claim.anonymous w → ⊥) → (IsUnchanged o e w → ⊥) → IsAsClaimed o e claim w → ⊥
+pub not_unchanged : (o e : Head) (claim : ClaimValue) (w : Which) → (Has claim.anonymous w → ⊥) → (IsUnchanged o e w → ⊥) → IsAsClaimed o e claim w → ⊥
 not_unchanged o e claim w out other h = other ((of-claimed o e claim w h).unclaimed out)
 
 -- ---- the first that isn't
@@ -82,13 +82,13 @@ not_unchanged o e claim w out other h = other ((of-claimed o e claim w h).unclai
 cut-at : (ws : List Which) (i : ℕ) (d : Which) → i < length ws → drop i ws ≡ get_or ws i d ∷ drop (i + 1) ws
 cut-at ws i d lt = drop-cons ws i d lt ∙ ap (λ k. get_or ws i d ∷ drop k ws) (sym (add-one i))
 
-pub found_here : (o e : Head) (claim : Terms) (ws : List Which) (i : ℕ) (d w : Which) (mismatch : SubfieldMismatch) → i < length ws → get_or ws i d ≡ w → (IsAsClaimed o e claim w → ⊥) → IsMismatch claim w mismatch
+pub found_here : (o e : Head) (claim : ClaimValue) (ws : List Which) (i : ℕ) (d w : Which) (mismatch : SubfieldMismatch) → i < length ws → get_or ws i d ≡ w → (IsAsClaimed o e claim w → ⊥) → IsMismatch claim w mismatch
     → IsFoundAmong o e claim (drop i ws) (Some (record { which = w; mismatch = mismatch }))
 found_here o e claim ws i d w mismatch lt here other is =
     subst (λ (xs : List Which). IsFoundAmong o e claim xs (Some (record { which = w; mismatch = mismatch }))) (sym (cut-at ws i d lt))
     (inl (here, subst (λ (v : Which). IsAsClaimed o e claim v → ⊥) (sym here) other), is)
 
-pub found_later : (o e : Head) (claim : Terms) (ws : List Which) (i : ℕ) (d w : Which) (r : Option SubfieldDifference) → i < length ws → get_or ws i d ≡ w → IsAsClaimed o e claim w
+pub found_later : (o e : Head) (claim : ClaimValue) (ws : List Which) (i : ℕ) (d w : Which) (r : Option SubfieldDifference) → i < length ws → get_or ws i d ≡ w → IsAsClaimed o e claim w
     → IsFoundAmong o e claim (drop (i + 1) ws) r → IsFoundAmong o e claim (drop i ws) r
 found_later o e claim ws i d w r lt here same rest =
     subst (λ (xs : List Which). IsFoundAmong o e claim xs r) (sym (cut-at ws i d lt)) (later r rest)
@@ -100,7 +100,7 @@ found_later o e claim ws i d w r lt here same rest =
     later None h = λ v there. ⊎_elim (λ q. subst (λ (u : Which). IsAsClaimed o e claim u) q at) (λ j. h v j) there
     later (Some x) h = (inr ((λ other. other at), h.0), h.1)
 
-pub found_none : (o e : Head) (claim : Terms) (ws : List Which) (i : ℕ) → length ws ≤ i → IsFoundAmong o e claim (drop i ws) None
+pub found_none : (o e : Head) (claim : ClaimValue) (ws : List Which) (i : ℕ) → length ws ≤ i → IsFoundAmong o e claim (drop i ws) None
 found_none o e claim ws i le = subst (λ (xs : List Which). IsFoundAmong o e claim xs None) (sym (drop_all i ws le)) (λ w h. absurd h)
 
 -- a subfield that is found by its name among some is one of them
@@ -117,7 +117,7 @@ pub has-all : (w : Which) → Has all_subfields w
 unfolding which_of
 has-all w = named-has all_subfields (name_of w) w (which-read w)
 
-pub subfields_said : (o e : Head) (claim : Terms) (r : Option SubfieldDifference) → IsFoundAmong o e claim all_subfields r
+pub subfields_said : (o e : Head) (claim : ClaimValue) (r : Option SubfieldDifference) → IsFoundAmong o e claim all_subfields r
     → MatchOption r ((w : Which) → IsAsClaimed o e claim w) (λ d. IsSubfieldDifference o e claim d.which d.mismatch)
 subfields_said o e claim None h = λ w. h w (has-all w)
 subfields_said o e claim (Some d) h = record { subfield = h.0; mismatch_is = h.1 }

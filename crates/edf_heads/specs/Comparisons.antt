@@ -8,13 +8,13 @@ use Rattle.std.specs.Option.{option_or}
 use Rattle.std.specs.Ordering.{nat_cmp, int_eq}
 use Rattle.std.specs.Str.{bytes_eq}
 use Rattle.edf_fields.specs.Lists.{Has, is_one_of}
-use Rattle.edf_header.specs.signals.Calibrations.{Line, physical_span, digital_span, offset_times_span}
+use Rattle.edf_header.specs.signals.Calibrations.{CalibrationValue, physical_span, digital_span, offset_times_span}
 use Rattle.edf_header.specs.signals.ChannelsReading.{is_channel_of}
 use Rattle.edf_header.specs.signals.Channels.{channel_labels}
 use Rattle.edf_header.specs.Heads.{SignalHead, Head, is_annotations}
 use Rattle.edf_header.specs.Sound.{IsSound}
 use Rattle.edf_claim.specs.Claims.{IsClaim}
-use Rattle.edf_claim.specs.Terms.{Terms}
+use Rattle.edf_claim.specs.ClaimValues.{ClaimValue}
 use Rattle.edf_fields.specs.declared.fields.which.Which.{Which}
 use Rattle.edf_fields.specs.declared.fields.which.Which.TheVariants.{Code, Sex, Birthdate, Name, PatientExtras, Date, Administration, Technician, Equipment, RecordingExtras}
 use Rattle.edf_heads.specs.differences.BlankDifference.{HasFreeText}
@@ -63,9 +63,9 @@ claimed_of original export label = record { label = label; original = channel_of
 pub record Compared : Type 0 where
   pub original : Head
   pub export : Head
-  pub claim : Terms
+  pub claim : ClaimValue
 
-abbrev pub compared : Head → Head → Terms → Compared
+abbrev pub compared : Head → Head → ClaimValue → Compared
 compared original export claim = record { original = original; export = export; claim = claim }
 
 -- the claimed labels, each with its channels in the two headers
@@ -87,7 +87,7 @@ abbrev pub IsPlaceOf : List (Bor (List ℕ)) → List ℕ → ℕ → Type 0
 IsPlaceOf sorted label place = slice_get (map (λ t. t.now) sorted) place ≡ Some label
 
 -- what holds of every comparison
-pub record IsComparison (original export : Head) (claim : Terms) (claimed : List ClaimedChannel) (labels : List (Bor (List ℕ))) : Type 0 where
+pub record IsComparison (original export : Head) (claim : ClaimValue) (claimed : List ClaimedChannel) (labels : List (Bor (List ℕ))) : Type 0 where
   pub original_sound : IsSound original
   pub export_sound : IsSound export
   pub claim_sound : IsClaim claim
@@ -124,7 +124,7 @@ abbrev pub HasOnly : Head → List (List ℕ) → Type 0
 HasOnly h labels = HasAll h labels → IsPermutation labels (channel_labels h.signals)
 
 -- `SameLine` as a test
-abbrev pub is_same_line : Line → Line → Bool
+abbrev pub is_same_line : CalibrationValue → CalibrationValue → Bool
 is_same_line l m =
     int_eq (physical_span l *ℤ digital_span m) (physical_span m *ℤ digital_span l)
     && int_eq (offset_times_span l *ℤ digital_span m) (offset_times_span m *ℤ digital_span l)
@@ -149,7 +149,7 @@ has_text None = false
 has_text (Some x) = not (length x.reserved == 0)
 
 -- no claimed channel has free text in the export
-abbrev pub HasNoFreeText : Head → Terms → Type 0
+abbrev pub HasNoFreeText : Head → ClaimValue → Type 0
 HasNoFreeText export claim = (label : List ℕ) → Has claim.channels label → HasFreeText export label → ⊥
 
 -- the channel breaks the rule
@@ -256,7 +256,7 @@ IsUnchanged original export Equipment = export.recording.equipment ≡ original.
 IsUnchanged original export RecordingExtras = export.recording.extras ≡ original.recording.extras
 
 -- the first of these subfields that isn't as claimed, and how it isn't; or all are as claimed
-abbrev pub IsFoundAmong : Head → Head → Terms → List Which → Option SubfieldDifference → Type 0
+abbrev pub IsFoundAmong : Head → Head → ClaimValue → List Which → Option SubfieldDifference → Type 0
 IsFoundAmong original export claim whiches found =
     MatchOption found ((which : Which) → Has whiches which → IsAsClaimed original export claim which)
     (λ d. IsFirstWith (λ w. IsAsClaimed original export claim w → ⊥) whiches d.which × IsMismatch claim d.which d.mismatch)
@@ -273,7 +273,7 @@ difference_of heads.FreeTextInHeader = NotClean Header
 difference_of (heads.FreeTextInChannel label) = NotClean (Channel label.now)
 
 -- it is the first difference of the headers
-abbrev pub IsHeadDifference : Head → Head → Terms → HeadDifference → Type 0
+abbrev pub IsHeadDifference : Head → Head → ClaimValue → HeadDifference → Type 0
 IsHeadDifference original export claim difference = IsHeadVerdict original export claim (No (difference_of difference))
 
 -- ---- the same of two headers and a claim that are compared

@@ -2,7 +2,7 @@
 use Rattle.std.specs.Prelude.{◌↔◌, List}
 use Rattle.edf_fields.specs.Lists.{Has}
 use Rattle.edf_header.specs.Heads.{Head}
-use Rattle.edf_claim.specs.Terms.{Terms}
+use Rattle.edf_claim.specs.ClaimValues.{ClaimValue}
 use Rattle.edf_heads.specs.Firsts.{IsFirstWith}
 use Rattle.edf_heads.specs.Channels.{SameChannels, AllAlike}
 use Rattle.edf_heads.specs.differences.ChannelDifferences.{AreUnlike, HasAll, HasNoChannel, IsExtra, IsFirstUnlike, IsLeastExtra}
@@ -21,7 +21,7 @@ use Rattle.edf_verdict.specs.declared.verdict.Difference.TheVariants.{UnknownCha
 use Rattle.edf_verdict.specs.declared.verdict.FreeText.TheVariants.{Header, Channel}
 
 -- the export's header is what the claim says of the original's
-pub record HeadsAgree (original export : Head) (claim : Terms) : Type 0 where
+pub record HeadsAgree (original export : Head) (claim : ClaimValue) : Type 0 where
   pub channels : SameChannels original export claim
   pub texts : AllAlike HaveSameTexts original export claim
   pub calibrations : AllAlike HaveSameCalibration original export claim
@@ -29,13 +29,13 @@ pub record HeadsAgree (original export : Head) (claim : Terms) : Type 0 where
   pub blank : IsBlank export
 
 -- the headers agree up to their calibrations
-pub record SignalsAgree (original export : Head) (claim : Terms) : Type 0 where
+pub record SignalsAgree (original export : Head) (claim : ClaimValue) : Type 0 where
   pub channels : SameChannels original export claim
   pub texts : AllAlike HaveSameTexts original export claim
   pub calibrations : AllAlike HaveSameCalibration original export claim
 
 -- the verdict is the first rule of two headers that is broken; each says that those before it aren't, and no other verdict is on headers
-abbrev pub IsHeadVerdict : Head → Head → Terms → Verdict → Type 0
+abbrev pub IsHeadVerdict : Head → Head → ClaimValue → Verdict → Type 0
 IsHeadVerdict original export claim (No (UnknownChannel label)) =
     IsFirstWith (HasNoChannel original) claim.channels label
 IsHeadVerdict original export claim (No (MissingChannel label)) =
@@ -56,7 +56,7 @@ IsHeadVerdict original export claim (No (NotClean (Channel label))) =
 IsHeadVerdict original export claim verdict = ⊥
 
 -- the rule that a verdict names is broken, whether or not another one is broken before it; samples and annotations break none of headers
-abbrev pub IsBroken : Head → Head → Terms → Difference → Type 0
+abbrev pub IsBroken : Head → Head → ClaimValue → Difference → Type 0
 IsBroken original export claim (UnknownChannel label) = Has claim.channels label × HasNoChannel original label
 IsBroken original export claim (MissingChannel label) = Has claim.channels label × HasNoChannel export label
 IsBroken original export claim (ExtraChannel label) = IsExtra export claim.channels label
@@ -68,5 +68,5 @@ IsBroken original export claim (NotClean (Channel label)) = Has claim.channels l
 IsBroken original export claim rule = ⊥
 
 -- each rule of two headers that is broken stands there, and no other
-abbrev pub AreAllBroken : Head → Head → Terms → List Difference → Type 0
+abbrev pub AreAllBroken : Head → Head → ClaimValue → List Difference → Type 0
 AreAllBroken original export claim found = (rule : Difference) → Has found rule ↔ IsBroken original export claim rule

@@ -3,7 +3,7 @@ use Rattle.std.specs.Prelude.{◌≡◌, ℕ, ◌↔◌, List, codes}
 use Rattle.std.specs.List.{All}
 use Rattle.edf_fields.specs.Lists.{Has}
 use Rattle.edf_header.specs.Heads.{Head}
-use Rattle.edf_claim.specs.Terms.{Terms}
+use Rattle.edf_claim.specs.ClaimValues.{ClaimValue}
 use Rattle.edf_fields.specs.declared.fields.which.Which.{Which}
 use Rattle.edf_fields.specs.declared.fields.which.Which.TheVariants.{Code, Sex, Birthdate, Name, PatientExtras, Date, Administration, Technician, Equipment, RecordingExtras}
 
@@ -12,16 +12,16 @@ abbrev pub IsX : List ℕ → Type 0
 IsX text = text ≡ codes "X"
 
 -- the first statement holds where the claim makes the subfield anonymous, and the second one where it doesn't
-pub record ByClaim (claim : Terms) (which : Which) (Anonymous Kept : Type 0) : Type 0 where
+pub record ByClaim (claim : ClaimValue) (which : Which) (Anonymous Kept : Type 0) : Type 0 where
   pub claimed : Has claim.anonymous which → Anonymous
   pub unclaimed : (Has claim.anonymous which → ⊥) → Kept
 
 -- the export's text is `X`, or else the original's
-abbrev pub IsXOrElse : Terms → Which → List ℕ → List ℕ → Type 0
+abbrev pub IsXOrElse : ClaimValue → Which → List ℕ → List ℕ → Type 0
 IsXOrElse claim which exported original = ByClaim claim which (IsX exported) (exported ≡ original)
 
 -- in the export this subfield is as the claim says (what a claim makes anonymous, and that all else stays, is this project's profile); where additional ones are anonymous there may be none; a date that isn't is `X` exactly where the original's is: which day it is follows from the samples that are kept
-abbrev pub IsAsClaimed : Head → Head → Terms → Which → Type 0
+abbrev pub IsAsClaimed : Head → Head → ClaimValue → Which → Type 0
 IsAsClaimed original export claim Code = IsXOrElse claim Code export.patient.code original.patient.code
 IsAsClaimed original export claim Sex = IsXOrElse claim Sex export.patient.sex original.patient.sex
 IsAsClaimed original export claim Birthdate = IsXOrElse claim Birthdate export.patient.birthdate original.patient.birthdate

@@ -4,7 +4,7 @@ pub use Rattle.std.specs.List.{All}
 pub use Rattle.std.specs.Option.{option_map, option_or}
 pub use Rattle.std.specs.Ordering.{int_eq}
 pub use Rattle.edf_claim.specs.Keeps.{keeps_annotation, keeps_instant, kept_text}
-pub use Rattle.edf_claim.specs.Terms.{Terms}
+pub use Rattle.edf_claim.specs.ClaimValues.{ClaimValue}
 pub use Rattle.edf_fields.specs.in_out.Sources.{Fails, Reads}
 pub use Rattle.edf_fields.specs.declared.faults.fault.Fault.{Fault}
 pub use Rattle.edf_fields.specs.declared.in_out.source.Source.{Ghosts}

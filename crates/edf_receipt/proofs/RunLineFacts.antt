@@ -6,7 +6,7 @@ use Rattle.edf_check.specs.Runs.{IsPartsVerdictUnder, IsVerdictUnder, IsWritten}
 use Rattle.edf_check.specs.parts.PartsVerdicts.{IsPartsVerdict}
 use Rattle.edf_check.specs.Verdicts.{IsVerdict}
 use Rattle.edf_claim.specs.Claims.{SaysClaim, SaysClaimText, SaysOneClaim}
-use Rattle.edf_claim.specs.Terms.{Terms}
+use Rattle.edf_claim.specs.ClaimValues.{ClaimValue}
 use Rattle.edf_receipt.specs.Laws.{EndsInLine, PartsRunIsLastLine, RunIsLastLine}
 use Rattle.edf_receipt.specs.Receipts.{file_line, file_words, files_of, line_of, part_lines, receipt, version_line}
 use Rattle.edf_receipt.specs.declared.file_line.FileLine.{FileLine}
@@ -22,7 +22,7 @@ same_in : {A : Type 0} → (a b : A) → Some a ≡ Some b → a ≡ b
 same_in a b e = ap (λ o. unwrap_or o a) e
 
 -- one text says one claim
-one_claim : SaysOneClaim → (text : List ℕ) (a b : Terms) → SaysClaimText text a → SaysClaimText text b → a ≡ b
+one_claim : SaysOneClaim → (text : List ℕ) (a b : ClaimValue) → SaysClaimText text a → SaysClaimText text b → a ≡ b
 one_claim claims text a b s t =
     let entries = same_in s.entries t.entries (sym s.parsed ∙ t.parsed) in
     claims t.entries a b (subst (λ e. SaysClaim e a) entries s.says) t.says

@@ -5,7 +5,7 @@ use Rattle.std.specs.List.{flat_map}
 use Rattle.edf_fields.specs.declared.in_out.source.Source.{Ghosts}
 use Rattle.edf_fields.specs.texts.Dates.{CivilDay}
 use Rattle.edf_fields.specs.texts.Identifications.{Patient, Recording}
-use Rattle.edf_header.specs.signals.Calibrations.{Line}
+use Rattle.edf_header.specs.signals.Calibrations.{CalibrationValue}
 use Rattle.edf_header.specs.Faults.{header_fault}
 use Rattle.edf_header.specs.Heads.{SignalHead, Head, header_bytes, kind_word}
 use Rattle.edf_header.specs.HeadsReading.{head_of}
@@ -70,7 +70,7 @@ recording_text recording =
     ++ extras_text (codes "recording-extra") recording.extras)))
 
 -- the number of samples in a data record, and the extremes: physical ones in units of 10^-7 of the dimension
-unfoldable pub numbers_text : ℕ → Line → List ℕ
+unfoldable pub numbers_text : ℕ → CalibrationValue → List ℕ
 numbers_text samples line =
     codes " samples " ++ (decimal samples
     ++ (codes " physical " ++ (signed_decimal line.physical_minimum ++ (codes " " ++ (signed_decimal line.physical_maximum

@@ -20,6 +20,7 @@ use Rattle.edf_stream.specs.Conforming.{FollowsOn, Conforms}
 use Rattle.edf_stream.specs.records.Readers.{HasPassed, StandsAt}
 use Rattle.edf_stream.proofs.annotation.ItemFacts.{IsLane, lanes-are}
 use Rattle.edf_stream.proofs.records.SaidFacts.{read-notes, record-says, together-count}
+use Rattle.edf_stream.specs.annotation.Notes.{together}
 
 -- what one data record says that passes its tests
 record Passes (file : List ℕ) (h : Head) (k : ℕ) : Type 0 where
@@ -96,9 +97,13 @@ conforms file h k ended notes left some passed at le none =
     let front = and-true (int_le (pos 0) (start_at file h 0)) (int_lt (start_at file h 0) (pos (10 ^ 12))) (each 0 (omega (arith, some))).on_time in
     record {
       header = passed.in_order;
-      starts = λ j. start_at file h j;
-      notes = read-notes file h;
-      say = λ j lt. record-says h (record_at file h j) (start_at file h j) (each j lt).lanes (each j lt).said;
+      notes = together (read-notes file h) h.records;
+      says = record {
+        starts = λ j. start_at file h j;
+        notes = read-notes file h;
+        say = λ j lt. record-says h (record_at file h j) (start_at file h j) (each j lt).lanes (each j lt).said;
+        all_are = refl;
+      };
       not_early = le-tested (pos 0) (start_at file h 0) front.0;
       in_first_second = lt-tested (start_at file h 0) (pos (10 ^ 12)) front.1;
       follows = λ j lt. follows-on h.kind j (end_at file h j) (start_at file h (suc j)) (each (suc j) lt).on_time;

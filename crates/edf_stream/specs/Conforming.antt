@@ -4,7 +4,7 @@ use Rattle.edf_header.specs.declared.kind.Kind.{Kind}
 use Rattle.edf_header.specs.declared.kind.Kind.TheVariants.{Contiguous, Interrupted}
 use Rattle.edf_header.specs.Conforming.{HeaderConforms}
 use Rattle.edf_header.specs.Heads.{Head, header_bytes, record_bytes}
-use Rattle.edf_stream.specs.annotation.Notes.{NoteValue, SayRecords, together}
+use Rattle.edf_stream.specs.annotation.Notes.{NoteValue, HasNotes}
 
 -- a data record starts where the one before it ends, or, in an interrupted file, there or later
 abbrev pub FollowsOn : Kind → ℤ → ℤ → Type 0
@@ -16,11 +16,10 @@ FollowsOn Interrupted ended start = ended ≤ℤ start
 -- at the most; and the file ends where its last data record does
 pub record Conforms (file : List ℕ) (h : Head) : Type 0 where
   pub header : HeaderConforms file h
-  pub starts : ℕ → ℤ
-  pub notes : ℕ → List NoteValue
-  pub say : SayRecords file h starts notes
-  pub not_early : pos 0 ≤ℤ starts 0
-  pub in_first_second : starts 0 <ℤ pos (10 ^ 12)
-  pub follows : (k : ℕ) → suc k < h.records → FollowsOn h.kind (starts k +ℤ h.duration) (starts (suc k))
-  pub few : length (together notes h.records) ≤ 1000000
+  pub notes : List NoteValue
+  pub says : HasNotes file h notes
+  pub not_early : pos 0 ≤ℤ says.starts 0
+  pub in_first_second : says.starts 0 <ℤ pos (10 ^ 12)
+  pub follows : (k : ℕ) → suc k < h.records → FollowsOn h.kind (says.starts k +ℤ h.duration) (says.starts (suc k))
+  pub few : length notes ≤ 1000000
   pub size : length file ≡ header_bytes h + h.records * record_bytes h

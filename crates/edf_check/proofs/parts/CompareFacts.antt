@@ -1,6 +1,6 @@
 -- A part that is read beside the original: what goes on behind it, and what it came to.
 use Rattle.std.proofs.Common.{◌≡◌, ◌↔◌, ℕ, ℤ, Bool, true, false, not, ◌&&◌, ◌||◌, is_some, List, Option, None, Some, Result, Ok, Err, IfSome, MatchOption, refl, ◌∙◌, ap, subst}
-use Rattle.edf_claim.specs.Terms.{Terms}
+use Rattle.edf_claim.specs.ClaimValues.{ClaimValue}
 use Rattle.edf_fields.specs.in_out.Sources.{Reads}
 use Rattle.edf_header.specs.Heads.{Head}
 use Rattle.edf_heads.specs.HeadVerdicts.{HeadsAgree, IsHeadVerdict}
@@ -48,7 +48,7 @@ passes_on turn old mid new x y z f g left mid-left left' notes notes' flag t end
 }
 
 -- a turn in which less is compared
-pub beside_less : (r : Reader) (left : List ℕ) (notes : List NoteValue) (file : List ℕ) (claim : Terms) (ps t : ℤ) (more less : Bool) → (less ≡ true → more ≡ true) → IsBeside more r left notes file claim ps t → IsBeside less r left notes file claim ps t
+pub beside_less : (r : Reader) (left : List ℕ) (notes : List NoteValue) (file : List ℕ) (claim : ClaimValue) (ps t : ℤ) (more less : Bool) → (less ≡ true → more ≡ true) → IsBeside more r left notes file claim ps t → IsBeside less r left notes file claim ps t
 beside_less r left notes file claim ps t more less is b = record { there = b.there; at = λ e. b.at (is e) }
 
 pub passes_less : (turn : Turn) (less : Bool) (old new : Reader) (x z : Bool) (left left' : List ℕ) (notes notes' : List NoteValue) (flag other : Bool) (end : Time) → (less ≡ true → turn.is_compared ≡ true) → (other ≡ true → flag ≡ true)
@@ -75,7 +75,7 @@ matched_less turn less o h notes e g g' notes' found same m =
     subst P same (record { first = m.first; gathered = m.gathered; kept = m.kept })
 
 -- the headers agree, or differ so
-pub heads_match : (heads : Option Verdict) (h h' g g' : Head) (claim : Terms) → h' ≡ h → g' ≡ g → ((heads ≡ None) ↔ HeadsAgree h' g' claim) → IfSome heads (IsHeadVerdict h' g' claim) → MatchOption heads (HeadsAgree h g claim) (IsHeadVerdict h g claim)
+pub heads_match : (heads : Option Verdict) (h h' g g' : Head) (claim : ClaimValue) → h' ≡ h → g' ≡ g → ((heads ≡ None) ↔ HeadsAgree h' g' claim) → IfSome heads (IsHeadVerdict h' g' claim) → MatchOption heads (HeadsAgree h g claim) (IsHeadVerdict h g claim)
 heads_match None h h' g g' claim eh eg none least = let P : Head → Type 0 = λ x. HeadsAgree x g claim in let Q : Head → Type 0 = λ y. HeadsAgree h' y claim in subst P eh (subst Q eg (none.0 refl))
 heads_match (Some v) h h' g g' claim eh eg none least = let P : Head → Type 0 = λ x. IsHeadVerdict x g claim v in let Q : Head → Type 0 = λ y. IsHeadVerdict h' y claim v in subst P eh (subst Q eg least)
 

@@ -1,7 +1,7 @@
 -- What is found first in several exports is found in the first of them, or else in the others.
 use Rattle.std.proofs.Common.{◌≡◌, ℕ, zero, suc, ◌+◌, ◌<◌, ◌≤◌, ◌⊎◌, ℤ, ◌≤ℤ◌, ◌<ℤ◌, nat_lt, Bool, true, false, if◌then◌else◌, List, ◌∷◌, Option, None, Some, MatchOption, slice_get, inl, inr, ⊎_elim, refl, sym, ap, arith, subst}
 use Rattle.std.proofs.lemmas.Bool.Decides.{nat_tests}
-use Rattle.edf_claim.specs.Terms.{Terms}
+use Rattle.edf_claim.specs.ClaimValues.{ClaimValue}
 use Rattle.edf_fields.specs.declared.faults.fault.Fault.{Fault}
 use Rattle.edf_header.specs.Heads.{Head}
 use Rattle.edf_header.specs.HeadsReading.{head_of}
@@ -40,12 +40,12 @@ fault_later first part parts k fault none f = record { at = suc f.at; file = f.f
 
 -- ---- headers
 
-pub agree_more : (h : Head) (claim : Terms) (part : List ℕ) (parts : List (List ℕ)) → HeadsAgree h (head_of part) claim → AllAgree h claim parts → AllAgree h claim (part ∷ parts)
+pub agree_more : (h : Head) (claim : ClaimValue) (part : List ℕ) (parts : List (List ℕ)) → HeadsAgree h (head_of part) claim → AllAgree h claim parts → AllAgree h claim (part ∷ parts)
 agree_more h claim part parts a all zero file there = let P : List ℕ → Type 0 = λ x. HeadsAgree h (head_of x) claim in subst P (same-file part file there) a
 agree_more h claim part parts a all (suc j) file there = all j file there
 
 -- the header of the first part differs, and those of the others don't, or with no lower number
-pub head_alone : (h : Head) (claim : Terms) (first : ℕ) (part : List ℕ) (parts : List (List ℕ)) (v : Verdict) → IsHeadVerdict h (head_of part) claim v → AllAgree h claim parts → IsFirstHead h claim first (part ∷ parts) first v
+pub head_alone : (h : Head) (claim : ClaimValue) (first : ℕ) (part : List ℕ) (parts : List (List ℕ)) (v : Verdict) → IsHeadVerdict h (head_of part) claim v → AllAgree h claim parts → IsFirstHead h claim first (part ∷ parts) first v
 head_alone h claim first part parts v is all = record { at = 0; file = part; is = first-is first part parts; differs = is; least = least }
   where
     least : (j : ℕ) (other : List ℕ) (w : Verdict) → slice_get (part ∷ parts) j ≡ Some other → IsHeadVerdict h (head_of other) claim w → GoesFirst (rank v) 0 (rank w) j
@@ -65,7 +65,7 @@ less-or-same (suc a) (suc b) p = ⊎_elim (λ lt. inl (omega (arith, lt))) (λ e
 goes-first : (a b c i : ℕ) → a ≤ b → b ≡ c → GoesFirst a 0 c (suc i)
 goes-first a b c i p q = ⊎_elim (λ lt. inl (omega (arith, lt, q))) (λ e. inr (omega (arith, e, q), omega arith)) (less-or-same a b p)
 
-pub head_here : (h : Head) (claim : Terms) (first : ℕ) (part : List ℕ) (parts : List (List ℕ)) (v : Verdict) (k : ℕ) (w : Verdict) → IsHeadVerdict h (head_of part) claim v → IsFirstHead h claim (first + 1) parts k w → rank v ≤ rank w
+pub head_here : (h : Head) (claim : ClaimValue) (first : ℕ) (part : List ℕ) (parts : List (List ℕ)) (v : Verdict) (k : ℕ) (w : Verdict) → IsHeadVerdict h (head_of part) claim v → IsFirstHead h claim (first + 1) parts k w → rank v ≤ rank w
     → IsFirstHead h claim first (part ∷ parts) first v
 head_here h claim first part parts v k w is f le = record { at = 0; file = part; is = first-is first part parts; differs = is; least = least }
   where
@@ -77,7 +77,7 @@ head_here h claim first part parts v k w is f le = record { at = 0; file = part;
     least (suc j) other x there d = ⊎_elim (λ lt. inl (omega (arith, lt, le))) (λ e. goes-first (rank v) (rank w) (rank x) j le e.0) (f.least j other x there d)
 
 -- the first one is in the others: the header of the first part agrees, or differs with a higher number
-pub head_later : (h : Head) (claim : Terms) (first : ℕ) (part : List ℕ) (parts : List (List ℕ)) (k : ℕ) (w : Verdict) → ((v : Verdict) → IsHeadVerdict h (head_of part) claim v → rank w < rank v) → IsFirstHead h claim (first + 1) parts k w
+pub head_later : (h : Head) (claim : ClaimValue) (first : ℕ) (part : List ℕ) (parts : List (List ℕ)) (k : ℕ) (w : Verdict) → ((v : Verdict) → IsHeadVerdict h (head_of part) claim v → rank w < rank v) → IsFirstHead h claim (first + 1) parts k w
     → IsFirstHead h claim first (part ∷ parts) k w
 head_later h claim first part parts k w above f = record { at = suc f.at; file = f.file; is = next-is first part parts k f.at f.file f.is; differs = f.differs; least = least }
   where
@@ -104,7 +104,7 @@ conform_more part parts c all zero file there = subst (λ x. Conforms x (head_of
 conform_more part parts c all (suc j) file there = all j file there
 
 -- a part whose header differs, and those behind it
-pub head_more : (h : Head) (claim : Terms) (first : ℕ) (part : List ℕ) (parts : List (List ℕ)) (v : Verdict) (later : Option PartVerdict) → IsHeadVerdict h (head_of part) claim v → IsHeadsFound h claim (first + 1) parts later
+pub head_more : (h : Head) (claim : ClaimValue) (first : ℕ) (part : List ℕ) (parts : List (List ℕ)) (v : Verdict) (later : Option PartVerdict) → IsHeadVerdict h (head_of part) claim v → IsHeadsFound h claim (first + 1) parts later
     → IsFirstHead h claim first (part ∷ parts) (earlier_of first v later).part (earlier_of first v later).verdict
 head_more h claim first part parts v None is all = head_alone h claim first part parts v is all
 head_more h claim first part parts v (Some p) is rest =
@@ -114,7 +114,7 @@ head_more h claim first part parts v (Some p) is rest =
     (λ e. head_here h claim first part parts v p.part p.verdict is rest (let le : rank v ≤ rank p.verdict = grind (arith, nat_tests, e) in le))
 
 -- the first difference of headers, of one part and of those behind it
-pub heads_more : (h : Head) (claim : Terms) (first : ℕ) (part : List ℕ) (parts : List (List ℕ)) (mine : Option Verdict) (later : Option PartVerdict) → MatchOption mine (HeadsAgree h (head_of part) claim) (IsHeadVerdict h (head_of part) claim)
+pub heads_more : (h : Head) (claim : ClaimValue) (first : ℕ) (part : List ℕ) (parts : List (List ℕ)) (mine : Option Verdict) (later : Option PartVerdict) → MatchOption mine (HeadsAgree h (head_of part) claim) (IsHeadVerdict h (head_of part) claim)
     → IsHeadsFound h claim (first + 1) parts later → IsHeadsFound h claim first (part ∷ parts) (first_of first mine later)
 heads_more h claim first part parts None None agree all = agree_more h claim part parts agree all
 heads_more h claim first part parts None (Some p) agree rest = head_later h claim first part parts p.part p.verdict (λ v d. absurd (agree-apart h (head_of part) claim v d agree)) rest

@@ -3,7 +3,7 @@ use Rattle.std.proofs.Common.{◌≡◌, ◌↔◌, ℕ, zero, suc, ◌<◌, ℤ
 use Rattle.std.proofs.lemmas.List.{length-map}
 use Rattle.std.specs.List.{AllByRecursion}
 use Rattle.std.specs.Option.{option_or}
-use Rattle.edf_claim.specs.Terms.{Terms}
+use Rattle.edf_claim.specs.ClaimValues.{ClaimValue}
 use Rattle.edf_fields.specs.Lists.{Has}
 use Rattle.edf_header.specs.Heads.{Head}
 use Rattle.edf_header.specs.HeadsReading.{head_of}
@@ -43,7 +43,7 @@ none-or : {X : Type 0} (x y : Option X) → x ≡ None → y ≡ None → option
 none-or x y a b = rw (a, b) refl
 
 -- there is no first difference exactly where nothing is counted
-none-counted : (claim : Terms) (o : List ℕ) (h : Head) (a b : ℤ) (labels : List (Bor (List ℕ))) (t : ℤ) (parts : List (List ℕ)) → (serial_difference claim o h a b labels t parts ≡ None) ↔ HasNothing (serial_counts claim o h a b labels t parts)
+none-counted : (claim : ClaimValue) (o : List ℕ) (h : Head) (a b : ℤ) (labels : List (Bor (List ℕ))) (t : ℤ) (parts : List (List ℕ)) → (serial_difference claim o h a b labels t parts ≡ None) ↔ HasNothing (serial_counts claim o h a b labels t parts)
 none-counted claim o h a b labels t [] = (λ e. tt, λ n. refl)
 none-counted claim o h a b labels t (part ∷ parts) =
     let v = last_end_by part (head_of part) b in
@@ -58,7 +58,7 @@ or-among None y n a b = b
 or-among (Some f) y n a b = a
 
 -- the first difference is one of a label's channels
-serial-among : (claim : Terms) (o : List ℕ) (h : Head) (a b : ℤ) (labels : List (Bor (List ℕ))) (t : ℤ) (parts : List (List ℕ)) → IfSome (serial_difference claim o h a b labels t parts) (λ f. f.channel < length labels)
+serial-among : (claim : ClaimValue) (o : List ℕ) (h : Head) (a b : ℤ) (labels : List (Bor (List ℕ))) (t : ℤ) (parts : List (List ℕ)) → IfSome (serial_difference claim o h a b labels t parts) (λ f. f.channel < length labels)
 serial-among claim o h a b labels t [] = tt
 serial-among claim o h a b labels t (part ∷ parts) =
     let v = last_end_by part (head_of part) b in
@@ -72,7 +72,7 @@ there-at [] k lt = absurd (omega (arith, lt))
 there-at (x ∷ xs) zero lt = (x, refl)
 there-at (x ∷ xs) (suc k) lt = there-at xs k (omega (arith, lt))
 
-pub nothing_counted : (o : List ℕ) (parts : List (List ℕ)) (claim : Terms) (counts : List (List Tally)) → IsClaim claim → 0 < length parts → AllAgreed o parts claim → FollowOneAnother parts → AreCounted o parts claim [] counts
+pub nothing_counted : (o : List ℕ) (parts : List (List ℕ)) (claim : ClaimValue) (counts : List (List Tally)) → IsClaim claim → 0 < length parts → AllAgreed o parts claim → FollowOneAnother parts → AreCounted o parts claim [] counts
     → HasNothing counts ↔ Agree (KeptAt o claim) (ExportedByOne o parts claim)
 nothing_counted o [] claim counts sound some all follow c = absurd (omega (arith, some))
 nothing_counted o (part ∷ parts) claim counts sound some all follow c = (
@@ -107,7 +107,7 @@ nothing_counted o (part ∷ parts) claim counts sound some all follow c = (
         absurd (first-apart (KeptAt o claim) (ExportedByOne o (part ∷ parts) claim) at.0 (floor_of f.difference.at) f.difference.mismatch (ordered-course o claim (part ∷ parts) (all.conform).parts_conform follow) agree mismatch)
 
 -- no rule is broken exactly where the headers agree
-heads-agree : (o : List ℕ) (parts : List (List ℕ)) (claim : Terms) → IsClaim claim → AllConform o parts → (part : List ℕ) → Has parts part
+heads-agree : (o : List ℕ) (parts : List (List ℕ)) (claim : ClaimValue) → IsClaim claim → AllConform o parts → (part : List ℕ) → Has parts part
     → ((rule : Difference) → IsBroken (head_of o) (head_of part) claim rule → ⊥) ↔ HeadsAgree (head_of o) (head_of part) claim
 heads-agree o parts claim is all part has = (
   λ none. (nothing_is_broken (head_of o) (head_of part) claim [] (sound-of o (head_of o) all.original_conforms) (sound-of part (head_of part) (all.parts_conform part has)) is (λ rule. (λ x. absurd x, λ x. absurd (none rule x)))).0 refl,

@@ -2,7 +2,7 @@
 use Rattle.std.proofs.Common.{◌≡◌, ℕ, suc, ◌+◌, ◌<◌, ℤ, ◌≤ℤ◌, List, [], ◌∷◌, length, None, Some, slice_get, inl, inr, refl, sym, ap, ◌∙◌, arith, subst}
 use Rattle.std.proofs.lemmas.Bool.{cases_lt}
 use Rattle.std.proofs.lemmas.Int.{ints}
-use Rattle.edf_claim.specs.Terms.{Terms}
+use Rattle.edf_claim.specs.ClaimValues.{ClaimValue}
 use Rattle.edf_fields.specs.declared.faults.fault.Fault.{Fault}
 use Rattle.edf_fields.specs.Lists.{Has}
 use Rattle.edf_fields.proofs.ForCallers.{has-at}
@@ -53,10 +53,10 @@ cut-course u E F G c f g = record {
       (λ b. g.one l t v w p (back-of (whole u) E F G c l t v p b x) (back-of (whole u) E F G c l t w p b y));
 }
 
-none-course : (o : List ℕ) (c : Terms) → IsCourse (ExportedByOne o [] c)
+none-course : (o : List ℕ) (c : ClaimValue) → IsCourse (ExportedByOne o [] c)
 none-course o c = record { moves = λ l t u v pt pu s (part, i, h). absurd i; one = λ l t v w p (part, i, h) y. absurd i }
 
-parts-course : (o : List ℕ) (c : Terms) (t : ℤ) (parts : List (List ℕ)) → ((part : List ℕ) → Has parts part → Conforms part (head_of part)) → AreOrdered (moved_part o c) t parts → IsCourse (ExportedByOne o parts c)
+parts-course : (o : List ℕ) (c : ClaimValue) (t : ℤ) (parts : List (List ℕ)) → ((part : List ℕ) → Has parts part → Conforms part (head_of part)) → AreOrdered (moved_part o c) t parts → IsCourse (ExportedByOne o parts c)
 parts-course o c t [] conform order = none-course o c
 parts-course o c t (part ∷ parts) conform order =
     cut-course (part_end o c part) _ _ _ (parts-cut o c t part parts conform order) (exported-course o part c (conform part (inl refl)))
@@ -69,7 +69,7 @@ further j = omega arith
 follow-tail : (part : List ℕ) (parts : List (List ℕ)) → FollowOneAnother (part ∷ parts) → FollowOneAnother parts
 follow-tail part parts follow j x y p q = follow (suc j) x y p (subst (λ n. slice_get (part ∷ parts) n ≡ Some y) (further j) q)
 
-pub from-first : (o : List ℕ) (c : Terms) (t : ℤ) (part : List ℕ) (parts : List (List ℕ)) → FollowOneAnother (part ∷ parts) → t ≤ℤ part_begin o c part → AreOrdered (moved_part o c) t (part ∷ parts)
+pub from-first : (o : List ℕ) (c : ClaimValue) (t : ℤ) (part : List ℕ) (parts : List (List ℕ)) → FollowOneAnother (part ∷ parts) → t ≤ℤ part_begin o c part → AreOrdered (moved_part o c) t (part ∷ parts)
 from-first o c t part [] follow le = (le, tt)
 from-first o c t part (next ∷ parts) follow le =
     let b = begin-moved next (moved_part o c) in
@@ -80,7 +80,7 @@ from-first o c t part (next ∷ parts) follow le =
 same-time : (x : ℤ) → x ≤ℤ x
 same-time x = omega (arith, ints)
 
-pub ordered-course : (o : List ℕ) (c : Terms) (parts : List (List ℕ)) → ((part : List ℕ) → Has parts part → Conforms part (head_of part)) → FollowOneAnother parts → IsCourse (ExportedByOne o parts c)
+pub ordered-course : (o : List ℕ) (c : ClaimValue) (parts : List (List ℕ)) → ((part : List ℕ) → Has parts part → Conforms part (head_of part)) → FollowOneAnother parts → IsCourse (ExportedByOne o parts c)
 ordered-course o c [] conform follow = none-course o c
 ordered-course o c (part ∷ parts) conform follow = parts-course o c (part_begin o c part) (part ∷ parts) conform (from-first o c (part_begin o c part) part parts follow (same-time (part_begin o c part)))
 
@@ -117,10 +117,10 @@ one-place a b i j (inr e) (inr f) = let p = e.1 in let q = f.1 in omega (arith, 
 abbrev said : ℕ → Verdict → PartsVerdict
 said part verdict = record { part = part; verdict = verdict }
 
-abbrev OfHead : List ℕ → List (List ℕ) → Terms → PartsVerdict → Type 0
+abbrev OfHead : List ℕ → List (List ℕ) → ClaimValue → PartsVerdict → Type 0
 OfHead o parts c v = IsFirstHead (head_of o) c 0 parts v.part v.verdict
 
-one-head : (o : List ℕ) (c : Terms) (parts : List (List ℕ)) → One (OfHead o parts c)
+one-head : (o : List ℕ) (c : ClaimValue) (parts : List (List ℕ)) → One (OfHead o parts c)
 one-head o c parts x y f g =
     let v = x.verdict in
     let w = y.verdict in
@@ -142,7 +142,7 @@ one-overlap parts k j f g =
 
 -- ---- kinds of verdicts, from each on
 
-abbrev FromSamples : List ℕ → List (List ℕ) → Terms → PartsVerdict → Type 0
+abbrev FromSamples : List ℕ → List (List ℕ) → ClaimValue → PartsVerdict → Type 0
 FromSamples o parts c =
     Else (Made (λ (d : List ℕ × ℤ × SampleMismatch). said 0 (No (differences.Sample d.0 d.1 d.2))) (λ d. IsFirstMismatch (KeptAt o c) (ExportedByOne o parts c) d.0 d.1 d.2))
     (Agree (KeptAt o c) (ExportedByOne o parts c))
@@ -150,26 +150,26 @@ FromSamples o parts c =
     (SameNotes (kept_notes o c) (exported_by_all o parts c))
     (Made (λ (n : ℕ × ℕ × ℕ). said 0 (Yes n.0 n.1 n.2)) (λ n. HaveCounts o parts c n.0 n.1 n.2)))
 
-abbrev AllHeadsAgree : List ℕ → List (List ℕ) → Terms → Type 0
+abbrev AllHeadsAgree : List ℕ → List (List ℕ) → ClaimValue → Type 0
 AllHeadsAgree o parts c = (part : List ℕ) → Has parts part → HeadsAgree (head_of o) (head_of part) c
 
-abbrev FromHead : List ℕ → List (List ℕ) → Terms → PartsVerdict → Type 0
+abbrev FromHead : List ℕ → List (List ℕ) → ClaimValue → PartsVerdict → Type 0
 FromHead o parts c =
     Else (OfHead o parts c) (AllHeadsAgree o parts c)
     (Else (Made (λ part. said part (No differences.PartOrder)) (IsFirstOverlap parts)) (FollowOneAnother parts) (FromSamples o parts c))
 
-abbrev FromOriginal : List ℕ → List (List ℕ) → Terms → PartsVerdict → Type 0
+abbrev FromOriginal : List ℕ → List (List ℕ) → ClaimValue → PartsVerdict → Type 0
 FromOriginal o parts c =
     Else (Made (λ fault. said 0 (No (differences.OriginalFault fault))) (λ fault. file_fault o ≡ Some fault)) (file_fault o ≡ None)
     (Else (Made (λ (d : ℕ × Fault). said d.0 (No (differences.ExportFault d.1))) (λ d. IsFirstFault 0 parts d.0 d.1)) (AllConform o parts) (FromHead o parts c))
 
-conforming : (o : List ℕ) (parts : List (List ℕ)) (c : Terms) (v : PartsVerdict) → AllConform o parts → FromHead o parts c v → FromOriginal o parts c v
+conforming : (o : List ℕ) (parts : List (List ℕ)) (c : ClaimValue) (v : PartsVerdict) → AllConform o parts → FromHead o parts c v → FromOriginal o parts c v
 conforming o parts c v all kind = inr (faultless_part o all.original_conforms, inr (all, kind))
 
-ordered : (o : List ℕ) (parts : List (List ℕ)) (c : Terms) (v : PartsVerdict) → AllInOrder o parts c → FromSamples o parts c v → FromOriginal o parts c v
+ordered : (o : List ℕ) (parts : List (List ℕ)) (c : ClaimValue) (v : PartsVerdict) → AllInOrder o parts c → FromSamples o parts c v → FromOriginal o parts c v
 ordered o parts c v all kind = conforming o parts c v (all.agreed).conform (inr ((all.agreed).agree, inr (all.order, kind)))
 
-kind-of : (o : List ℕ) (parts : List (List ℕ)) (c : Terms) (part : ℕ) (v : Verdict) → IsVerdictOnParts o parts c part v → FromOriginal o parts c (said part v)
+kind-of : (o : List ℕ) (parts : List (List ℕ)) (c : ClaimValue) (part : ℕ) (v : Verdict) → IsVerdictOnParts o parts c part v → FromOriginal o parts c (said part v)
 kind-of o parts c part (Yes channels samples annotations) h =
     let t = h.2 in
     ordered o parts c _ (record { agreed = record { conform = h.1; agree = t.heads }; order = t.order })
@@ -186,7 +186,7 @@ kind-of o parts c part v h = conforming o parts c (said part v) h.0 (inl h.1)
 
 -- ---- of each kind there is one, and it excludes those behind
 
-one-sample : (o : List ℕ) (parts : List (List ℕ)) (c : Terms) → AllConform o parts → FollowOneAnother parts → (d e : List ℕ × ℤ × SampleMismatch)
+one-sample : (o : List ℕ) (parts : List (List ℕ)) (c : ClaimValue) → AllConform o parts → FollowOneAnother parts → (d e : List ℕ × ℤ × SampleMismatch)
     → IsFirstMismatch (KeptAt o c) (ExportedByOne o parts c) d.0 d.1 d.2 → IsFirstMismatch (KeptAt o c) (ExportedByOne o parts c) e.0 e.1 e.2 → d ≡ e
 one-sample o parts c all follow (l, p, m) (l', p', m') f g =
     let r = one-first (KeptAt o c) (ExportedByOne o parts c) (kept-course o c all.original_conforms) (ordered-course o c parts all.parts_conform follow) l l' p p' m m' f g in
@@ -202,28 +202,28 @@ one-difference kept exported (m, x) (n, y) f g =
     let b : x ≡ y = r.1 in
     cc
 
-one-count : (o : List ℕ) (parts : List (List ℕ)) (c : Terms) (n m : ℕ × ℕ × ℕ) → HaveCounts o parts c n.0 n.1 n.2 → HaveCounts o parts c m.0 m.1 m.2 → n ≡ m
+one-count : (o : List ℕ) (parts : List (List ℕ)) (c : ClaimValue) (n m : ℕ × ℕ × ℕ) → HaveCounts o parts c n.0 n.1 n.2 → HaveCounts o parts c m.0 m.1 m.2 → n ≡ m
 one-count o parts c (x, y, z) (x', y', z') f g =
     let a : x ≡ x' = f.channels_are ∙ sym g.channels_are in
     let b : y ≡ y' = f.samples_are ∙ sym g.samples_are in
     let d : z ≡ z' = f.annotations_are ∙ sym g.annotations_are in
     cc
 
-one-from-samples : (o : List ℕ) (parts : List (List ℕ)) (c : Terms) → AllConform o parts → FollowOneAnother parts → One (FromSamples o parts c)
+one-from-samples : (o : List ℕ) (parts : List (List ℕ)) (c : ClaimValue) → AllConform o parts → FollowOneAnother parts → One (FromSamples o parts c)
 one-from-samples o parts c all follow =
     either-one (one-made (one-sample o parts c all follow))
     (λ v x same. first-apart (KeptAt o c) (ExportedByOne o parts c) (x.0).0 (x.0).1 (x.0).2 (agreeing-course (KeptAt o c) (ExportedByOne o parts c) (kept-course o c all.original_conforms) same) same x.2)
     (λ same. either-one (one-made (one-difference (kept_notes o c) (exported_by_all o parts c)))
     (λ v x notes. note-apart (kept_notes o c) (exported_by_all o parts c) (x.0).0 (x.0).1 notes x.2) (λ notes. one-made (one-count o parts c)))
 
-one-from-head : (o : List ℕ) (parts : List (List ℕ)) (c : Terms) → AllConform o parts → One (FromHead o parts c)
+one-from-head : (o : List ℕ) (parts : List (List ℕ)) (c : ClaimValue) → AllConform o parts → One (FromHead o parts c)
 one-from-head o parts c all =
     either-one (one-head o c parts) (λ v f agree. agree-apart (head_of o) (head_of f.file) c v.verdict f.differs (agree f.file (has-at parts f.at f.file (f.is).there)))
     (λ agree. either-one (one-made (one-overlap parts))
     (λ v x follow. let p = x.2 in let le = follow p.before p.one p.next p.one_is p.next_is in let lt = p.early in omega (arith, ints, le, lt))
     (λ follow. one-from-samples o parts c all follow))
 
-one-from-original : (o : List ℕ) (parts : List (List ℕ)) (c : Terms) → One (FromOriginal o parts c)
+one-from-original : (o : List ℕ) (parts : List (List ℕ)) (c : ClaimValue) → One (FromOriginal o parts c)
 one-from-original o parts c =
     either-one (one-made (λ x y p q. let z : Some x ≡ Some y = sym p ∙ q in cc)) (λ v x none. no-fault o x.0 x.2 none)
     (λ none. either-one (one-made (one-fault parts))

@@ -2,7 +2,7 @@
 use Rattle.std.proofs.Common.{◌≡◌, ◌↔◌, ◌+◌, ℕ, zero, suc, neg_ℤ, ◌+ℤ◌, List, [], ◌∷◌, length, None, Some, inl, ⊎_elim, refl, sym, ap, ◌∙◌, arith, subst}
 use Rattle.std.proofs.lemmas.List.{append-nil, length-map}
 use Rattle.std.proofs.lemmas.List.Sorted.{length_permutation}
-use Rattle.edf_claim.specs.Terms.{Terms}
+use Rattle.edf_claim.specs.ClaimValues.{ClaimValue}
 use Rattle.edf_fields.specs.declared.faults.fault.Fault.{Fault}
 use Rattle.edf_fields.specs.Lists.{Has}
 use Rattle.edf_header.specs.signals.Channels.{channel_labels, channels_among}
@@ -53,16 +53,16 @@ one-conforms o e both = record { original_conforms = both.original_conforms; par
 pub conforms-alone : (o e : List ℕ) → AllConform o (e ∷ []) → BothConform o e
 conforms-alone o e all = record { original_conforms = all.original_conforms; export_conforms = all.parts_conform e (inl refl) }
 
-one-in-order : (o e : List ℕ) (c : Terms) → BothConform o e → HeadsAgree (head_of o) (head_of e) c → AllInOrder o (e ∷ []) c
+one-in-order : (o e : List ℕ) (c : ClaimValue) → BothConform o e → HeadsAgree (head_of o) (head_of e) c → AllInOrder o (e ∷ []) c
 one-in-order o e c both agree = record {
   agreed = record { conform = one-conforms o e both; agree = λ part i. alone (λ x. HeadsAgree (head_of o) (head_of x) c) e part i agree };
   order = alone-in-order e;
 }
 
-none-agree : (o : List ℕ) (c : Terms) → AllAgree (head_of o) c []
+none-agree : (o : List ℕ) (c : ClaimValue) → AllAgree (head_of o) c []
 none-agree o c j file there = absurd (let z : None ≡ Some file = there in cc)
 
-one-differs : (o e : List ℕ) (c : Terms) (v : Verdict) → BothConform o e × IsHeadVerdict (head_of o) (head_of e) c v → HeadDiffers o (e ∷ []) c 0 v
+one-differs : (o e : List ℕ) (c : ClaimValue) (v : Verdict) → BothConform o e × IsHeadVerdict (head_of o) (head_of e) c v → HeadDiffers o (e ∷ []) c 0 v
 one-differs o e c v h = (one-conforms o e h.0, head_alone (head_of o) c 0 e [] v h.1 (none-agree o c))
 
 -- of one part all is said of part 0
@@ -70,22 +70,22 @@ the-one : (e file : List ℕ) (part at : ℕ) → IsPart 0 (e ∷ []) part at fi
 the-one e file part zero is = (is.number, (let z : Some e ≡ Some file = is.there in cc))
 the-one e file part (suc k) is = absurd (let z : None ≡ Some file = is.there in cc)
 
-differs-alone : (o e : List ℕ) (c : Terms) (part : ℕ) (v : Verdict) → HeadDiffers o (e ∷ []) c part v → (part ≡ 0) × BothConform o e × IsHeadVerdict (head_of o) (head_of e) c v
+differs-alone : (o e : List ℕ) (c : ClaimValue) (part : ℕ) (v : Verdict) → HeadDiffers o (e ∷ []) c part v → (part ≡ 0) × BothConform o e × IsHeadVerdict (head_of o) (head_of e) c v
 differs-alone o e c part v h =
     let f = h.1 in
     let one = the-one e f.file part f.at f.is in
     (one.0, conforms-alone o e h.0, subst (λ x. IsHeadVerdict (head_of o) (head_of x) c v) one.1 f.differs)
 
-all-of-one : (o e : List ℕ) (c : Terms) → exported_by_all o (e ∷ []) c ≡ exported_notes o e c
+all-of-one : (o e : List ℕ) (c : ClaimValue) → exported_by_all o (e ∷ []) c ≡ exported_notes o e c
 all-of-one o e c = append-nil (exported_notes o e c)
 
-channels-claimed : (o e : List ℕ) (c : Terms) → HeadsAgree (head_of o) (head_of e) c → length c.channels ≡ length (channels_among (head_of e).signals)
+channels-claimed : (o e : List ℕ) (c : ClaimValue) → HeadsAgree (head_of o) (head_of e) c → length c.channels ≡ length (channels_among (head_of e).signals)
 channels-claimed o e c agree = sym (length_permutation c.channels (channel_labels (head_of e).signals) (agree.channels).in_export) ∙ length-map (channels_among (head_of e).signals) (λ channel. channel.label)
 
-annotations-of-one : (o e : List ℕ) (c : Terms) → length (exported_by_all o (e ∷ []) c) ≡ length (notes_of e (head_of e))
+annotations-of-one : (o e : List ℕ) (c : ClaimValue) → length (exported_by_all o (e ∷ []) c) ≡ length (notes_of e (head_of e))
 annotations-of-one o e c = ap length (all-of-one o e c) ∙ length-map (notes_of e (head_of e)) (moved_by (neg_ℤ (origin_of o +ℤ shift_ps c)))
 
-counts-alone : (o e : List ℕ) (c : Terms) (channels samples annotations : ℕ) → HeadsAgree (head_of o) (head_of e) c
+counts-alone : (o e : List ℕ) (c : ClaimValue) (channels samples annotations : ℕ) → HeadsAgree (head_of o) (head_of e) c
     → AreCounts (head_of e) (notes_of e (head_of e)) channels samples annotations ↔ HaveCounts o (e ∷ []) c channels samples annotations
 counts-alone o e c channels samples annotations agree =
     let k = channels-claimed o e c agree in
@@ -94,7 +94,7 @@ counts-alone o e c channels samples annotations agree =
       λ h. (let s = h.samples_are in record { channels_are = h.channels_are ∙ k; samples_are = omega (arith, s); annotations_are = h.annotations_are ∙ n }),
     )
 
-pub to-parts : (o e : List ℕ) (c : Terms) (v : Verdict) → IsVerdict o e c v → IsVerdictOnParts o (e ∷ []) c 0 v
+pub to-parts : (o e : List ℕ) (c : ClaimValue) (v : Verdict) → IsVerdict o e c v → IsVerdictOnParts o (e ∷ []) c 0 v
 to-parts o e c (Yes channels samples annotations) h = (refl, one-conforms o e h.0, (one_part o e c).1 h.1, (counts-alone o e c channels samples annotations (h.1).heads).0 h.2)
 to-parts o e c (No (differences.OriginalFault fault)) h = (refl, h)
 to-parts o e c (No (differences.ExportFault fault)) h = (h.0, fault_here 0 e [] fault h.1)
@@ -110,7 +110,7 @@ to-parts o e c (No (differences.Annotation mismatch onset duration text)) h =
     )
 to-parts o e c v h = one-differs o e c v h
 
-of-parts : (o e : List ℕ) (c : Terms) (part : ℕ) (v : Verdict) → IsVerdictOnParts o (e ∷ []) c part v → (part ≡ 0) × IsVerdict o e c v
+of-parts : (o e : List ℕ) (c : ClaimValue) (part : ℕ) (v : Verdict) → IsVerdictOnParts o (e ∷ []) c part v → (part ≡ 0) × IsVerdict o e c v
 of-parts o e c part (Yes channels samples annotations) h =
     let x = (one_part o e c).0 h.2 in
     (h.0, (conforms-alone o e h.1, x, (counts-alone o e c channels samples annotations x.heads).1 h.3))

@@ -2,7 +2,7 @@
 use Rattle.std.proofs.Common.{◌≡◌, ℕ, ◌+◌, ℤ, Bool, true, false, not, ◌&&◌, is_some, if◌then◌else◌, Bor, List, [], ◌∷◌, ◌++◌, map, Option, None, Some, refl, arith, sym, ap, ◌∙◌, subst, append_assoc}
 use Rattle.std.proofs.lemmas.List.{append-nil}
 use Rattle.std.specs.Option.{option_or}
-use Rattle.edf_claim.specs.Terms.{Terms}
+use Rattle.edf_claim.specs.ClaimValues.{ClaimValue}
 use Rattle.edf_header.specs.Heads.{Head}
 use Rattle.edf_header.specs.HeadsReading.{head_of}
 use Rattle.edf_stream.specs.Conforming.{Conforms}
@@ -107,7 +107,7 @@ read_more turn last compared part o h left mid-left notes mid-notes e left' part
       counted = (let more = r.counted in let here = p.samples_are in omega (arith, more, here, samples));
     }
   where
-    claim : Terms
+    claim : ClaimValue
     claim = ((turn.setting).claim).now
 
     a : ℤ

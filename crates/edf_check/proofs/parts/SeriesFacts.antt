@@ -4,7 +4,7 @@ use Rattle.std.proofs.lemmas.Bool.Decides.{nat_tests}
 use Rattle.std.proofs.lemmas.Int.{ints}
 use Rattle.std.specs.Option.{option_or}
 use Rattle.edf_claim.specs.Keeps.{keeps_instant}
-use Rattle.edf_claim.specs.Terms.{Terms}
+use Rattle.edf_claim.specs.ClaimValues.{ClaimValue}
 use Rattle.edf_fields.specs.Lists.{Has}
 use Rattle.edf_fields.proofs.ForCallers.{has-at, has-map, filtered-has}
 use Rattle.edf_header.specs.Heads.{Head}
@@ -45,18 +45,18 @@ use Rattle.edf_check.specs.parts.PartsFound.{AreOrdered}
 use Rattle.edf_check.specs.parts.Together.{serial_difference}
 
 -- by how much a part is moved, so that it counts from the second at which the original starts, before the shift
-abbrev pub moved_part : List ℕ → Terms → ℤ
+abbrev pub moved_part : List ℕ → ClaimValue → ℤ
 moved_part original claim = neg_ℤ (origin_of original +ℤ shift_ps claim)
 
 -- where the first data record of a part begins, and where its last one ends
-abbrev pub part_begin : List ℕ → Terms → List ℕ → ℤ
+abbrev pub part_begin : List ℕ → ClaimValue → List ℕ → ℤ
 part_begin original claim part = begin_by part (head_of part) (moved_part original claim) 0
 
-abbrev pub part_end : List ℕ → Terms → List ℕ → ℤ
+abbrev pub part_end : List ℕ → ClaimValue → List ℕ → ℤ
 part_end original claim part = last_end_by part (head_of part) (moved_part original claim)
 
 -- the first difference of the original and a part, of what is kept from t on, and, where others follow, before the end of the part
-abbrev part_difference : Bool → List ℕ → Terms → List (Bor (List ℕ)) → ℤ → List ℕ → Option Found
+abbrev part_difference : Bool → List ℕ → ClaimValue → List (Bor (List ℕ)) → ℤ → List ℕ → Option Found
 part_difference last original claim labels t part =
     span_difference last claim (sampled original (head_of original) (neg_ℤ (origin_of original))) (sampled part (head_of part) (moved_part original claim))
     (places_in (head_of original) (head_of part) labels) t (part_end original claim part)
@@ -104,21 +104,21 @@ value-before file d u label at v p c end value =
 -- ---- what is kept of a span
 
 -- what the claim keeps from t on
-abbrev KeptFrom : List ℕ → Terms → ℤ → Course
+abbrev KeptFrom : List ℕ → ClaimValue → ℤ → Course
 KeptFrom original claim t = KeptAt original (claim_within true t t claim)
 
 -- and before u
-abbrev KeptUntil : List ℕ → Terms → ℤ → ℤ → Course
+abbrev KeptUntil : List ℕ → ClaimValue → ℤ → ℤ → Course
 KeptUntil original claim t u = KeptAt original (claim_within false t u claim)
 
-as-test : (claim : Terms) (t : Instant) (label : List ℕ) (v : ℤ) (original : List ℕ) → KeptAt original claim label t v → keeps_instant claim t.num t.den ≡ true
+as-test : (claim : ClaimValue) (t : Instant) (label : List ℕ) (v : ℤ) (original : List ℕ) → KeptAt original claim label t v → keeps_instant claim t.num t.den ≡ true
 as-test claim t label v original h = h.1
 
 -- an instant that one claim keeps and the other as well
-kept-so : (original : List ℕ) (c d : Terms) (label : List ℕ) (t : Instant) (v : ℤ) → d.channels ≡ c.channels → keeps_instant d t.num t.den ≡ true → KeptAt original c label t v → KeptAt original d label t v
+kept-so : (original : List ℕ) (c d : ClaimValue) (label : List ℕ) (t : Instant) (v : ℤ) → d.channels ≡ c.channels → keeps_instant d t.num t.den ≡ true → KeptAt original c label t v → KeptAt original d label t v
 kept-so original c d label t v same keeps h = (subst (λ (ls : List (List ℕ)). Has ls label) (sym same) h.0, keeps, h.2)
 
-kept-cut : (original : List ℕ) (claim : Terms) (t u : ℤ) → t ≤ℤ u → IsCutAt (whole u) (KeptFrom original claim t) (KeptUntil original claim t u) (KeptFrom original claim u)
+kept-cut : (original : List ℕ) (claim : ClaimValue) (t u : ℤ) → t ≤ℤ u → IsCutAt (whole u) (KeptFrom original claim t) (KeptUntil original claim t u) (KeptFrom original claim u)
 kept-cut original claim t u l = record {
   front = λ label at v p h.
       let test = as-test (claim_within false t u claim) at label v original h in
@@ -146,7 +146,7 @@ kept-cut original claim t u l = record {
 }
 
 -- from a time on at which the original hasn't begun all is kept
-pub all-kept : (original : List ℕ) (claim : Terms) (t : ℤ) → Conforms original (head_of original) → t ≤ℤ begin_by original (head_of original) (neg_ℤ (origin_of original)) 0 → Agree (KeptFrom original claim t) (KeptAt original claim)
+pub all-kept : (original : List ℕ) (claim : ClaimValue) (t : ℤ) → Conforms original (head_of original) → t ≤ℤ begin_by original (head_of original) (neg_ℤ (origin_of original)) 0 → Agree (KeptFrom original claim t) (KeptAt original claim)
 all-kept original claim t c from label at v p = (
   λ h.
       let test = as-test (claim_within true t t claim) at label v original h in
@@ -159,17 +159,17 @@ all-kept original claim t c from label at v p = (
 
 -- ---- what the parts hold
 
-exported-from : (original part : List ℕ) (claim : Terms) (t : ℤ) (label : List ℕ) (at : Instant) (v : ℤ) → 0 < at.den → Conforms part (head_of part) → t ≤ℤ part_begin original claim part → ExportedAt original part claim label at v → IsNotBefore at (whole t)
+exported-from : (original part : List ℕ) (claim : ClaimValue) (t : ℤ) (label : List ℕ) (at : Instant) (v : ℤ) → 0 < at.den → Conforms part (head_of part) → t ≤ℤ part_begin original claim part → ExportedAt original part claim label at v → IsNotBefore at (whole t)
 exported-from original part claim t label at v p c from h = value-from part (origin_of original +ℤ shift_ps claim) t label at v p c from h
 
-in-order-later : (original : List ℕ) (claim : Terms) (s t : ℤ) (parts : List (List ℕ)) → s ≤ℤ t → AreOrdered (moved_part original claim) t parts → AreOrdered (moved_part original claim) s parts
+in-order-later : (original : List ℕ) (claim : ClaimValue) (s t : ℤ) (parts : List (List ℕ)) → s ≤ℤ t → AreOrdered (moved_part original claim) t parts → AreOrdered (moved_part original claim) s parts
 in-order-later original claim s t [] l h = tt
 in-order-later original claim s t (part ∷ parts) l h = (let f = h.0 in omega (arith, ints, l, f), h.1)
 
-part-order : (original part : List ℕ) (claim : Terms) → Conforms part (head_of part) → part_begin original claim part ≤ℤ part_end original claim part
+part-order : (original part : List ℕ) (claim : ClaimValue) → Conforms part (head_of part) → part_begin original claim part ≤ℤ part_end original claim part
 part-order original part claim c = ends_behind part (head_of part) (moved_part original claim) c
 
-one-from : (original : List ℕ) (claim : Terms) (t : ℤ) (parts : List (List ℕ)) (label : List ℕ) (at : Instant) (v : ℤ) → 0 < at.den → ((part : List ℕ) → Has parts part → Conforms part (head_of part)) → AreOrdered (moved_part original claim) t parts
+one-from : (original : List ℕ) (claim : ClaimValue) (t : ℤ) (parts : List (List ℕ)) (label : List ℕ) (at : Instant) (v : ℤ) → 0 < at.den → ((part : List ℕ) → Has parts part → Conforms part (head_of part)) → AreOrdered (moved_part original claim) t parts
     → ExportedByOne original parts claim label at v → IsNotBefore at (whole t)
 one-from original claim t [] label at v p c order (part, i, h) = absurd i
 one-from original claim t (first ∷ parts) label at v p c order (part, i, h) =
@@ -179,7 +179,7 @@ one-from original claim t (first ∷ parts) label at v p c order (part, i, h) =
     let from : t ≤ℤ part_end original claim first = (let f = order.0 in let g = part-order original first claim (c first (inl refl)) in omega (arith, ints, f, g)) in
     one-from original claim t parts label at v p (λ x k. c x (inr k)) (in-order-later original claim t (part_end original claim first) parts from order.1) (part, j, h)) i
 
-pub parts-cut : (original : List ℕ) (claim : Terms) (t : ℤ) (part : List ℕ) (parts : List (List ℕ)) → ((x : List ℕ) → Has (part ∷ parts) x → Conforms x (head_of x)) → AreOrdered (moved_part original claim) t (part ∷ parts)
+pub parts-cut : (original : List ℕ) (claim : ClaimValue) (t : ℤ) (part : List ℕ) (parts : List (List ℕ)) → ((x : List ℕ) → Has (part ∷ parts) x → Conforms x (head_of x)) → AreOrdered (moved_part original claim) t (part ∷ parts)
     → IsCutAt (whole (part_end original claim part)) (ExportedByOne original (part ∷ parts) claim) (ExportedAt original part claim) (ExportedByOne original parts claim)
 parts-cut original claim t part parts c order = record {
   front = λ label at v p h. ((part, inl refl, h), value-before part (origin_of original +ℤ shift_ps claim) (part_end original claim part) label at v p (c part (inl refl)) refl h);
@@ -211,7 +211,7 @@ IsFirst kept exported labels found =
     (λ f. (label : List ℕ) → slice_get (map (λ l. l.now) labels) f.channel ≡ Some label → IsFirstMismatch kept exported label (floor_of f.difference.at) f.difference.mismatch)
 
 -- the difference of the channels is that of the labels
-labels-walked : (claim : Terms) (o e : Sampled) (h g : Head) (labels : List (Bor (List ℕ))) → o.head ≡ h → e.head ≡ g
+labels-walked : (claim : ClaimValue) (o e : Sampled) (h g : Head) (labels : List (Bor (List ℕ))) → o.head ≡ h → e.head ≡ g
     → whole_difference claim o e (map (λ label. (channel_at label.now h, channel_at label.now g)) labels) ≡ earliest 0 (map (λ label. label_difference claim o e label.now) labels)
 unfolding whole_difference label_difference
 labels-walked claim o e h g labels eo ee =
@@ -219,7 +219,7 @@ labels-walked claim o e h g labels eo ee =
     ∙ ap (λ (x : Head). earliest 0 (map (λ (label : Bor (List ℕ)). difference_at claim o e (channel_at label.now x) (channel_at label.now g)) labels)) (sym eo)
     ∙ ap (λ (x : Head). earliest 0 (map (λ (label : Bor (List ℕ)). difference_at claim o e (channel_at label.now o.head) (channel_at label.now x)) labels)) (sym ee)
 
-part-first : (last : Bool) (original part : List ℕ) (claim : Terms) (labels : List (Bor (List ℕ))) (t : ℤ) → Conforms original (head_of original) → Conforms part (head_of part) → HeadsAgree (head_of original) (head_of part) claim
+part-first : (last : Bool) (original part : List ℕ) (claim : ClaimValue) (labels : List (Bor (List ℕ))) (t : ℤ) → Conforms original (head_of original) → Conforms part (head_of part) → HeadsAgree (head_of original) (head_of part) claim
     → AreSorted claim.channels labels → t ≤ℤ part_begin original claim part
     → IsFirst (KeptAt original (claim_within last t (part_end original claim part) claim)) (ExportedAt original part claim) labels (part_difference last original claim labels t part)
 part-first last original part claim labels t co cp agree sorted from =
@@ -246,7 +246,7 @@ part-first last original part claim labels t co cp agree sorted from =
 
 -- ---- all parts
 
-pub one-alone : (original part : List ℕ) (claim : Terms) → Agree (ExportedAt original part claim) (ExportedByOne original (part ∷ []) claim)
+pub one-alone : (original part : List ℕ) (claim : ClaimValue) → Agree (ExportedAt original part claim) (ExportedByOne original (part ∷ []) claim)
 one-alone original part claim label at v p = (
   λ h. (part, inl refl, h),
   λ (x, i, h). ⊎_elim (λ e. subst (λ y. ExportedAt original y claim label at v) (sym e) h) (λ j. absurd j) i,
@@ -265,7 +265,7 @@ joined u K A B E F G labels None None c d one p q = join-agree (whole u) K A B E
 joined u K A B E F G labels None (Some g) c d one p q = λ label at. join-later (whole u) K A B E F G (lit< tt) c d one p label (floor_of g.difference.at) g.difference.mismatch (q label at)
 joined u K A B E F G labels (Some f) y c d one p q = λ label at. join-first (whole u) K A B E F G (lit< tt) c d label (floor_of f.difference.at) f.difference.mismatch (p label at)
 
-parts-first : (original : List ℕ) (claim : Terms) (labels : List (Bor (List ℕ))) (t : ℤ) (part : List ℕ) (parts : List (List ℕ)) → Conforms original (head_of original) → ((x : List ℕ) → Has (part ∷ parts) x → Conforms x (head_of x))
+parts-first : (original : List ℕ) (claim : ClaimValue) (labels : List (Bor (List ℕ))) (t : ℤ) (part : List ℕ) (parts : List (List ℕ)) → Conforms original (head_of original) → ((x : List ℕ) → Has (part ∷ parts) x → Conforms x (head_of x))
     → ((x : List ℕ) → Has (part ∷ parts) x → HeadsAgree (head_of original) (head_of x) claim) → AreSorted claim.channels labels → AreOrdered (moved_part original claim) t (part ∷ parts)
     → IsFirst (KeptFrom original claim t) (ExportedByOne original (part ∷ parts) claim) labels (serial_difference claim original (head_of original) (neg_ℤ (origin_of original)) (moved_part original claim) labels t (part ∷ parts))
 parts-first original claim labels t part [] co cp agree sorted order =
@@ -285,7 +285,7 @@ parts-first original claim labels t part (next ∷ parts) co cp agree sorted ord
     (parts-first original claim labels u next parts co (λ x i. cp x (inr i)) (λ x i. agree x (inr i)) sorted order.1)
 
 -- the first difference of an original and all parts, from a time on at which it hasn't begun
-pub parts_first : (original : List ℕ) (claim : Terms) (labels : List (Bor (List ℕ))) (t : ℤ) (part : List ℕ) (parts : List (List ℕ)) → Conforms original (head_of original) → ((x : List ℕ) → Has (part ∷ parts) x → Conforms x (head_of x))
+pub parts_first : (original : List ℕ) (claim : ClaimValue) (labels : List (Bor (List ℕ))) (t : ℤ) (part : List ℕ) (parts : List (List ℕ)) → Conforms original (head_of original) → ((x : List ℕ) → Has (part ∷ parts) x → Conforms x (head_of x))
     → ((x : List ℕ) → Has (part ∷ parts) x → HeadsAgree (head_of original) (head_of x) claim) → AreSorted claim.channels labels → AreOrdered (moved_part original claim) t (part ∷ parts)
     → t ≤ℤ begin_by original (head_of original) (neg_ℤ (origin_of original)) 0
     → IsFirst (KeptAt original claim) (ExportedByOne original (part ∷ parts) claim) labels (serial_difference claim original (head_of original) (neg_ℤ (origin_of original)) (moved_part original claim) labels t (part ∷ parts))

@@ -1,7 +1,7 @@
 -- From an original and its parts, as they were walked through, to the words of their bytes.
 use Rattle.std.proofs.Common.{◌≡◌, ℕ, zero, suc, ◌+◌, ◌<◌, ◌^◌, ℤ, pos, neg_ℤ, ◌+ℤ◌, ◌≤ℤ◌, ◌<ℤ◌, unsigned_abs, Bor, List, [], ◌∷◌, ◌++◌, length, map, Option, None, Some, slice_get, inl, inr, true, refl, sym, ap, ◌∙◌, arith, subst}
 use Rattle.std.proofs.lemmas.Int.{ints}
-use Rattle.edf_claim.specs.Terms.{Terms}
+use Rattle.edf_claim.specs.ClaimValues.{ClaimValue}
 use Rattle.edf_fields.specs.Lists.{Has}
 use Rattle.edf_header.specs.Heads.{Head}
 use Rattle.edf_header.specs.HeadsReading.{head_of}
@@ -59,7 +59,7 @@ at-all P (x ∷ parts) all part (inr i) = at-all P parts (λ j file there. all (
 all-conform : (o : List ℕ) (parts : List (List ℕ)) → Conforms o (head_of o) → AllConformAt parts → AllConform o parts
 all-conform o parts c cs = record { original_conforms = c; parts_conform = at-all (λ part. Conforms part (head_of part)) parts cs }
 
-all-agreed : (o : List ℕ) (parts : List (List ℕ)) (claim : Terms) → Conforms o (head_of o) → AllConformAt parts → AllAgree (head_of o) claim parts → AllAgreed o parts claim
+all-agreed : (o : List ℕ) (parts : List (List ℕ)) (claim : ClaimValue) → Conforms o (head_of o) → AllConformAt parts → AllAgree (head_of o) claim parts → AllAgreed o parts claim
 all-agreed o parts claim c cs as' = record { conform = all-conform o parts c cs; agree = at-all (λ part. HeadsAgree (head_of o) (head_of part) claim) parts as' }
 
 -- ---- the order
@@ -140,7 +140,7 @@ overlap by t parts part is near cs e (suc j) z =
 
 -- ---- the samples and the annotations
 
-gathered-is : (o : List ℕ) (claim : Terms) (parts : List (List ℕ)) → gathered_of_all (moved_part o claim) parts ≡ exported_by_all o parts claim
+gathered-is : (o : List ℕ) (claim : ClaimValue) (parts : List (List ℕ)) → gathered_of_all (moved_part o claim) parts ≡ exported_by_all o parts claim
 gathered-is o claim [] = refl
 gathered-is o claim (part ∷ parts) = ap (λ ns. gathered_of None (moved_part o claim) (notes_of part (head_of part)) ++ ns) (gathered-is o claim parts)
 
@@ -149,7 +149,7 @@ pub before-all : (o : List ℕ) (t : ℤ) → Conforms o (head_of o) → t ≡ n
 before-all o t c is = let late = starts_late o (head_of o) c in omega (arith, ints, is, late)
 
 -- parts of which no header differs and none begins early
-serial-first : (claim : Terms) (o : List ℕ) (labels : List (Bor (List ℕ))) (t : ℤ) (parts : List (List ℕ)) (found : Option Found) → t ≡ neg_ℤ (pos (2 ^ 90)) → AreSorted claim.channels labels → 0 < length parts → Conforms o (head_of o) → AllConformAt parts
+serial-first : (claim : ClaimValue) (o : List ℕ) (labels : List (Bor (List ℕ))) (t : ℤ) (parts : List (List ℕ)) (found : Option Found) → t ≡ neg_ℤ (pos (2 ^ 90)) → AreSorted claim.channels labels → 0 < length parts → Conforms o (head_of o) → AllConformAt parts
     → AllAgree (head_of o) claim parts → AreOrdered (moved_part o claim) t parts → serial_difference claim o (head_of o) (neg_ℤ (origin_of o)) (moved_part o claim) labels t parts ≡ found
     → AllInOrder o parts claim × IsFirst (KeptAt o claim) (ExportedByOne o parts claim) labels found
 serial-first claim o labels t [] found is sorted some c cs agree ordered s = absurd (omega (arith, some))
@@ -182,7 +182,7 @@ found-so turn o left notes parts lefts before behind found is zero' compared ha 
     (all-agreed o parts claim (r.through).conforms r.conform (subst P eh r.heads_are), overlap (moved_export turn) (turn.from).ps parts part is near r.conform e e.at refl)
 found-so turn o left notes parts lefts before behind found is zero' compared ha hb near sorted some none r None None first eh ee ef = by first ef
   where
-    claim : Terms
+    claim : ClaimValue
     claim = ((turn.setting).claim).now
 
     P : Option PartVerdict → Type 0
@@ -229,7 +229,7 @@ pub first_of_all : (o : List ℕ) (h : Head) (left : List ℕ) (parts : List (Li
 first_of_all o h left parts (faults.Original fault) is w = (is ∙ w, tt)
 first_of_all o h left parts (faults.Part part fault) is w = ((is ∙ w.0, w.1), w.2)
 
-pub fault_verdict : (o : List ℕ) (parts : List (List ℕ)) (claim : Terms) (w : FaultOf) → IsFirstOfAll o parts w → IsPartsVerdict o parts claim (verdict_on (findings.Fault w))
+pub fault_verdict : (o : List ℕ) (parts : List (List ℕ)) (claim : ClaimValue) (w : FaultOf) → IsFirstOfAll o parts w → IsPartsVerdict o parts claim (verdict_on (findings.Fault w))
 fault_verdict o parts claim (faults.Original fault) is = (refl, is)
 fault_verdict o parts claim (faults.Part part fault) is = is
 
@@ -242,7 +242,7 @@ found_as o parts setting kept exported found heads early first p q r judged =
     subst (F heads early) r (subst (λ e. F heads e found.found) q (subst (λ h. F h found.early found.found) p judged.found_are))
 
 -- where nothing was found, the verdict is a Yes
-pub nothing_found : (o : List ℕ) (parts : List (List ℕ)) (claim : Terms) (labels : List (List ℕ)) (kept : List NoteValue) (notes : List Note) (samples : ℕ)
+pub nothing_found : (o : List ℕ) (parts : List (List ℕ)) (claim : ClaimValue) (labels : List (List ℕ)) (kept : List NoteValue) (notes : List Note) (samples : ℕ)
     → AreFoundIn o parts claim labels kept (map note_value notes) None None None → SameNotes kept (map note_value notes) → samples ≡ samples_of_all parts
     → IsVerdictOnParts o parts claim 0 (Yes (length claim.channels) samples (length notes))
 nothing_found o parts claim labels kept notes samples found same counted =
@@ -259,7 +259,7 @@ nothing_found o parts claim labels kept notes samples found same counted =
     )
 
 -- the first difference of headers is the verdict
-pub of_head : (o : List ℕ) (parts : List (List ℕ)) (claim : Terms) (part : ℕ) (v : Verdict) → HeadDiffers o parts claim part v → IsVerdictOnParts o parts claim part v
+pub of_head : (o : List ℕ) (parts : List (List ℕ)) (claim : ClaimValue) (part : ℕ) (v : Verdict) → HeadDiffers o parts claim part v → IsVerdictOnParts o parts claim part v
 of_head o parts claim part (Yes channels samples annotations) h = absurd (h.1).differs
 of_head o parts claim part (No (differences.OriginalFault fault)) h = absurd (h.1).differs
 of_head o parts claim part (No (differences.ExportFault fault)) h = absurd (h.1).differs

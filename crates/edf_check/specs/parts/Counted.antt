@@ -1,6 +1,6 @@
 -- What an onlooker counted of an original and the parts of its export, by channel. These are steps between the definitions and the code.
 use Rattle.std.specs.Prelude.{◌≡◌, ◌++◌, ℕ, ℤ, neg_ℤ, ◌+ℤ◌, Bool, true, false, IsTrue, List, [], ◌∷◌, map, None}
-use Rattle.edf_check.specs.Words.{AllByRecursion, Bor, Conforms, Course, Ghosts, Head, PartsFound, ReadSoFar, Reading, SaysClaimText, Setting, Terms, Turn, head_of}
+use Rattle.edf_check.specs.Words.{AllByRecursion, Bor, Conforms, Course, Ghosts, Head, PartsFound, ReadSoFar, Reading, SaysClaimText, Setting, ClaimValue, Turn, head_of}
 use Rattle.edf_check.specs.KeptReading.{origin_of}
 use Rattle.edf_check.specs.declared.parts.part.PartRead.{PartRead}
 use Rattle.edf_check.specs.parts.Ends.{at_part, beside}
@@ -18,7 +18,7 @@ use Rattle.edf_pace.specs.walk.Shown.{last_end_by}
 use Rattle.edf_pace.specs.walk.Windows.{is_last, sampled}
 
 -- what differs between the original, moved by a, and each of the parts, moved by b, from t on, by channel
-abbrev pub serial_counts : Terms → List ℕ → Head → ℤ → ℤ → List (Bor (List ℕ)) → ℤ → List (List ℕ) → List (List Tally)
+abbrev pub serial_counts : ClaimValue → List ℕ → Head → ℤ → ℤ → List (Bor (List ℕ)) → ℤ → List (List ℕ) → List (List Tally)
 serial_counts claim o h a b labels t [] = []
 serial_counts claim o h a b labels t (part ∷ parts) =
     span_counts (is_last parts) claim (sampled o h a) (sampled part (head_of part) b) (places_in h (head_of part) labels) t (last_end_by part (head_of part) b)
@@ -62,7 +62,7 @@ AreCountedBehind original export turn r s parts looks before behind found = look
     → behind ≡ before ++ serial_counts ((turn.setting).claim).now o (r.reader).head (moved_original turn) (moved_export turn) ((turn.setting).labels).now (turn.from).ps (map export.left parts))
 
 -- what was counted of an original and its parts, of each label of the claim in their order, stands behind what was counted before
-pub record AreCounted (o : List ℕ) (parts : List (List ℕ)) (claim : Terms) (before behind : List (List Tally)) : Type 0 where
+pub record AreCounted (o : List ℕ) (parts : List (List ℕ)) (claim : ClaimValue) (before behind : List (List Tally)) : Type 0 where
   pub labels : List (Bor (List ℕ))
   pub sorted : AreSorted claim.channels labels
   pub are : behind ≡ before ++ serial_counts claim o (head_of o) (neg_ℤ (origin_of o)) (neg_ℤ (origin_of o +ℤ shift_ps claim)) labels beginning parts
@@ -75,20 +75,20 @@ SeriesCounted original export setting so_far o parts looks before behind = looks
     → FollowOneAnother (map export.left parts) → AreCounted file (map export.left parts) (setting.claim).now before behind)
 
 -- none has a fault
-abbrev pub AreCountedOfAll : {O E : Type 0} → Ghosts O → Ghosts E → O → List E → Terms → Bool → List (List Tally) → List (List Tally) → Type 0
+abbrev pub AreCountedOfAll : {O E : Type 0} → Ghosts O → Ghosts E → O → List E → ClaimValue → Bool → List (List Tally) → List (List Tally) → Type 0
 AreCountedOfAll original export o parts claim looks before behind = looks ≡ true → IsTrue (original.is_honest o) → AllByRecursion IsTrue (map export.is_honest parts)
     → AllConform (original.left o) (map export.left parts) → FollowOneAnother (map export.left parts) → AreCounted (original.left o) (map export.left parts) claim before behind
 
 -- of one export
-abbrev pub IsCountedOfTwo : {O E : Type 0} → Ghosts O → Ghosts E → O → E → Terms → Bool → List (List Tally) → List (List Tally) → Type 0
+abbrev pub IsCountedOfTwo : {O E : Type 0} → Ghosts O → Ghosts E → O → E → ClaimValue → Bool → List (List Tally) → List (List Tally) → Type 0
 IsCountedOfTwo original export o e claim looks before behind = looks ≡ true → IsTrue (original.is_honest o) → IsTrue (export.is_honest e)
     → Conforms (original.left o) (head_of (original.left o)) → Conforms (export.left e) (head_of (export.left e)) → AreCounted (original.left o) (export.left e ∷ []) claim before behind
 
 -- the same under the claim that a text says
 abbrev pub AreCountedUnder : {O E : Type 0} → Ghosts O → Ghosts E → O → List E → List ℕ → Bool → List (List Tally) → List (List Tally) → Type 0
 AreCountedUnder original export o parts text looks before behind =
-    (claim : Terms) × SaysClaimText text claim × AreCountedOfAll original export o parts claim looks before behind
+    (claim : ClaimValue) × SaysClaimText text claim × AreCountedOfAll original export o parts claim looks before behind
 
 abbrev pub IsCountedUnder : {O E : Type 0} → Ghosts O → Ghosts E → O → E → List ℕ → Bool → List (List Tally) → List (List Tally) → Type 0
 IsCountedUnder original export o e text looks before behind =
-    (claim : Terms) × SaysClaimText text claim × IsCountedOfTwo original export o e claim looks before behind
+    (claim : ClaimValue) × SaysClaimText text claim × IsCountedOfTwo original export o e claim looks before behind

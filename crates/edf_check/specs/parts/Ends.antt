@@ -1,7 +1,7 @@
 -- How a part is read to its end beside an original, compared or passed over, and what follows behind it. By `ps` a file is moved, as in the
 -- walk. These are steps between the definitions and the code.
 use Rattle.std.specs.Prelude.{◌≡◌, ℕ, ℤ, ◌≤ℤ◌, ◌<ℤ◌, Bool, true, false, not, ◌&&◌, IsTrue, is_some, List, map, None, Some, MatchOption}
-use Rattle.edf_check.specs.Words.{Terms, Ghosts, Head, head_of, HeadsAgree, IsHeadVerdict, NoteValue, Reader, note_value, Course, Reading, Time, Turn, FaultOf}
+use Rattle.edf_check.specs.Words.{ClaimValue, Ghosts, Head, head_of, HeadsAgree, IsHeadVerdict, NoteValue, Reader, note_value, Course, Reading, Time, Turn, FaultOf}
 use Rattle.edf_check.specs.declared.parts.part.PartRead.{PartRead}
 use Rattle.edf_check.specs.parts.PartsVerdicts.{samples_in}
 use Rattle.edf_pace.specs.Premises.{Known, OfFile, OfFiles}
@@ -30,7 +30,7 @@ pub record IsPartRead (turn : Turn) (o : List ℕ) (h : Head) (left : List ℕ) 
   pub samples_are : part.samples ≡ samples_in (head_of e)
 
 -- a reader goes through the original, and where parts are compared it has come to t
-pub record IsBeside (compared : Bool) (r : Reader) (left : List ℕ) (notes : List NoteValue) (file : List ℕ) (claim : Terms) (ps t : ℤ) : Type 0 where
+pub record IsBeside (compared : Bool) (r : Reader) (left : List ℕ) (notes : List NoteValue) (file : List ℕ) (claim : ClaimValue) (ps t : ℤ) : Type 0 where
   pub there : IsThere r left file
   pub at : compared ≡ true → IsAt r left notes file (Some claim) ps t
 

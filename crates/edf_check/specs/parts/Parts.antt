@@ -1,6 +1,6 @@
 -- When several files, one after the other, are together the export of an original under a claim.
 use Rattle.std.specs.Prelude.{◌≡◌, ℕ, ◌+◌, ℤ, ◌+ℤ◌, ◌≤ℤ◌, List, [], ◌∷◌, ◌++◌, Some, slice_get}
-use Rattle.edf_claim.specs.Terms.{Terms}
+use Rattle.edf_claim.specs.ClaimValues.{ClaimValue}
 use Rattle.edf_fields.specs.Lists.{Has}
 use Rattle.edf_header.specs.HeadsReading.{head_of}
 use Rattle.edf_heads.specs.HeadVerdicts.{HeadsAgree}
@@ -12,11 +12,11 @@ use Rattle.edf_check.specs.Courses.{Course, Agree}
 use Rattle.edf_check.specs.KeptReading.{origin_of, KeptAt, ExportedAt, kept_notes, exported_notes}
 
 -- one of the parts has a value at the instant moved by the shift
-abbrev pub ExportedByOne : List ℕ → List (List ℕ) → Terms → Course
+abbrev pub ExportedByOne : List ℕ → List (List ℕ) → ClaimValue → Course
 ExportedByOne original parts claim label at value = (part : List ℕ) × Has parts part × ExportedAt original part claim label at value
 
 -- the annotations of all parts with the shift taken off
-abbrev pub exported_by_all : List ℕ → List (List ℕ) → Terms → List NoteValue
+abbrev pub exported_by_all : List ℕ → List (List ℕ) → ClaimValue → List NoteValue
 exported_by_all original [] claim = []
 exported_by_all original (part ∷ parts) claim = exported_notes original part claim ++ exported_by_all original parts claim
 
@@ -39,7 +39,7 @@ pub record AllConform (original : List ℕ) (parts : List (List ℕ)) : Type 0 w
 -- the parts, of which there is at least one, are together the original, cut and made anonymous as the claim says, and nothing else: the
 -- header of each agrees (channels, texts, calibrations, subfields, free text), they follow one another, the samples of all of them are the
 -- kept ones, and so are the annotations of all of them, each as often, whichever part holds it
-pub record AreTogether (original : List ℕ) (parts : List (List ℕ)) (claim : Terms) : Type 0 where
+pub record AreTogether (original : List ℕ) (parts : List (List ℕ)) (claim : ClaimValue) : Type 0 where
   pub heads : (part : List ℕ) → Has parts part → HeadsAgree (head_of original) (head_of part) claim
   pub order : FollowOneAnother parts
   pub samples : Agree (KeptAt original claim) (ExportedByOne original parts claim)

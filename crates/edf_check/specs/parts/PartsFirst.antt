@@ -1,6 +1,6 @@
 -- Which fault, and which difference of a header, is the first one of several exports of one original, of which the first has a number.
 use Rattle.std.specs.Prelude.{◌≡◌, ℕ, ◌+◌, ◌<◌, ◌≤◌, ◌⊎◌, List, None, Some, slice_get}
-use Rattle.edf_check.specs.Words.{Terms, Fault, Head, head_of, IsHeadVerdict, file_fault, Verdict}
+use Rattle.edf_check.specs.Words.{ClaimValue, Fault, Head, head_of, IsHeadVerdict, file_fault, Verdict}
 use Rattle.edf_verdict.specs.declared.verdict.Verdict.TheVariants.{Yes, No}
 use Rattle.edf_verdict.specs.Lines.{number_of}
 
@@ -27,7 +27,7 @@ abbrev pub GoesFirst : ℕ → ℕ → ℕ → ℕ → Type 0
 GoesFirst number at other j = (number < other) ⊎ ((number ≡ other) × (at ≤ j))
 
 -- this is the first difference of a header: the one with the lowest number, and of several with that number the one of the first part
-pub record IsFirstHead (h : Head) (claim : Terms) (first : ℕ) (parts : List (List ℕ)) (part : ℕ) (verdict : Verdict) : Type 0 where
+pub record IsFirstHead (h : Head) (claim : ClaimValue) (first : ℕ) (parts : List (List ℕ)) (part : ℕ) (verdict : Verdict) : Type 0 where
   pub at : ℕ
   pub file : List ℕ
   pub is : IsPart first parts part at file

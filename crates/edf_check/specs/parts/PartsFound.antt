@@ -3,11 +3,11 @@
 -- from there. These are steps between the definitions and the code.
 use Rattle.edf_check.specs.parts.PartsFirst.{IsPart, rank, IsFirstHead}
 use Rattle.std.specs.Prelude.{◌≡◌, ℕ, zero, suc, ◌<◌, ℤ, ◌≤ℤ◌, ◌<ℤ◌, nat_lt, if◌then◌else◌, List, [], ◌∷◌, Option, None, Some, MatchOption, slice_get}
-use Rattle.edf_check.specs.Words.{option_or, Terms, Head, head_of, HeadsAgree, Conforms, Verdict, PartVerdict, PartsFound, Course}
+use Rattle.edf_check.specs.Words.{option_or, ClaimValue, Head, head_of, HeadsAgree, Conforms, Verdict, PartVerdict, PartsFound, Course}
 use Rattle.edf_pace.specs.walk.Shown.{begin_by, last_end_by}
 
 -- the headers of all parts agree
-abbrev pub AllAgree : Head → Terms → List (List ℕ) → Type 0
+abbrev pub AllAgree : Head → ClaimValue → List (List ℕ) → Type 0
 AllAgree h claim parts = (j : ℕ) (file : List ℕ) → slice_get parts j ≡ Some file → HeadsAgree h (head_of file) claim
 
 -- where the part ends that stands before the one at this place; before the first one, t
@@ -34,7 +34,7 @@ abbrev pub AllConformAt : List (List ℕ) → Type 0
 AllConformAt parts = (j : ℕ) (file : List ℕ) → slice_get parts j ≡ Some file → Conforms file (head_of file)
 
 -- the headers of all parts agree, or this is their first difference
-abbrev pub IsHeadsFound : Head → Terms → ℕ → List (List ℕ) → Option PartVerdict → Type 0
+abbrev pub IsHeadsFound : Head → ClaimValue → ℕ → List (List ℕ) → Option PartVerdict → Type 0
 IsHeadsFound h claim first parts found = MatchOption found (AllAgree h claim parts) (λ p. IsFirstHead h claim first parts p.part p.verdict)
 
 -- each part begins where the one before it ends or later, or this is the first one that doesn't

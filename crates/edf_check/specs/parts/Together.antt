@@ -1,7 +1,7 @@
 -- An original and the parts of its export as they are read, one after the other, each in what it is moved by, and what was found in them when
 -- all were read to their ends, in the words of their bytes. These are steps between the definitions and the code.
 use Rattle.std.specs.Prelude.{◌≡◌, ℕ, List, [], IsTrue, length, map, Option, None, Some, slice_get, ◌+◌, ℤ, true, ◌∷◌, ◌++◌}
-use Rattle.edf_check.specs.Words.{AllByRecursion, Terms, Ghosts, head_of, file_fault, NoteValue, note_value, PartsVerdict, PartsStop, Finding, PartVerdict, PartsFound, Exported, ReadSoFar, Found, Reading, Setting, FaultOf, Bor, option_or, Head, body_fault, notes_of, Turn}
+use Rattle.edf_check.specs.Words.{AllByRecursion, ClaimValue, Ghosts, head_of, file_fault, NoteValue, note_value, PartsVerdict, PartsStop, Finding, PartVerdict, PartsFound, Exported, ReadSoFar, Found, Reading, Setting, FaultOf, Bor, option_or, Head, body_fault, notes_of, Turn}
 use Rattle.edf_pace.specs.declared.walk.fault_of.FaultOf.TheVariants.{Original as OfOriginal, Part as OfPart}
 use Rattle.edf_verdict.specs.declared.verdict.Verdict.TheVariants.{Yes}
 use Rattle.edf_check.specs.Checks.{AreRead as AreLeft}
@@ -24,7 +24,7 @@ use Rattle.edf_pace.specs.walk.Shown.{last_end_by}
 use Rattle.edf_pace.specs.walk.Windows.{sampled, span_difference, is_last}
 
 -- the first difference of the original, moved by a, and of the parts, moved by b, from t on
-abbrev pub serial_difference : Terms → List ℕ → Head → ℤ → ℤ → List (Bor (List ℕ)) → ℤ → List (List ℕ) → Option Found
+abbrev pub serial_difference : ClaimValue → List ℕ → Head → ℤ → ℤ → List (Bor (List ℕ)) → ℤ → List (List ℕ) → Option Found
 serial_difference claim o h a b labels t [] = None
 serial_difference claim o h a b labels t (part ∷ parts) =
     option_or
@@ -88,7 +88,7 @@ IsFirstOfAll original parts (OfPart part fault) = (file_fault original ≡ None)
 
 -- this was found: a header that differs, or else a part that begins early, or else a difference at a place of the labels, or else none; then
 -- these are the annotations that are compared
-abbrev pub AreFoundIn : List ℕ → List (List ℕ) → Terms → List (List ℕ) → List NoteValue → List NoteValue → Option PartVerdict → Option ℕ → Option Found → Type 0
+abbrev pub AreFoundIn : List ℕ → List (List ℕ) → ClaimValue → List (List ℕ) → List NoteValue → List NoteValue → Option PartVerdict → Option ℕ → Option Found → Type 0
 AreFoundIn original parts claim labels kept exported (Some heads) early found =
     AllConform original parts × IsFirstHead (head_of original) claim 0 parts heads.part heads.verdict
 AreFoundIn original parts claim labels kept exported None (Some part) found = AllAgreed original parts claim × IsFirstOverlap parts part
@@ -123,7 +123,7 @@ IsFindingOf setting kept exported found finding = FollowsFrom setting kept expor
 -- ---- the same of readers and their sources, before and behind
 
 -- this is the verdict on the files that honest sources give; and they were read as far as it says
-abbrev pub IsVerdictOf : {O E : Type 0} → Ghosts O → Ghosts E → O → List E → Terms → PartsVerdict → Type 0
+abbrev pub IsVerdictOf : {O E : Type 0} → Ghosts O → Ghosts E → O → List E → ClaimValue → PartsVerdict → Type 0
 IsVerdictOf original export o parts claim verdict =
     IsTrue (original.is_honest o) → AllByRecursion IsTrue (map export.is_honest parts) → IsPartsVerdict (original.left o) (map export.left parts) claim verdict
 

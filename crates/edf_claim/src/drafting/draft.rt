@@ -45,9 +45,9 @@ pub struct Comments<'a> {
 
 impl Model for Draft {
     ghost use Rattle.std.specs.Prelude.{[], map};
-    ghost use Rattle.edf_claim.specs.Terms.{Terms};
+    ghost use Rattle.edf_claim.specs.ClaimValues.{ClaimValue};
 
-    ghost Value = { Terms };
+    ghost Value = { ClaimValue };
 
     ghost view = { λ d. record {
       channels = map (λ t. t.items) d.channels.items;

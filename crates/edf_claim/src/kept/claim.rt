@@ -32,9 +32,9 @@ pub struct Claim {
 impl Model for Claim {
     ghost use Rattle.std.specs.Prelude.{map};
     ghost use Rattle.edf_claim.specs.Claims.{IsClaim};
-    ghost use Rattle.edf_claim.specs.Terms.{Terms};
+    ghost use Rattle.edf_claim.specs.ClaimValues.{ClaimValue};
 
-    ghost Value = { Terms };
+    ghost Value = { ClaimValue };
 
     ghost view = { λ c. record {
       channels = c.channels.items;

@@ -1,7 +1,7 @@
 //! Reading a claim from its text.
 
 ghost use Rattle.std.specs.Prelude.{◌≡◌, ◌≢◌, map, IfOk, IfErr, OnOk, None, Some, IsUtf8};
-ghost use Rattle.edf_claim.specs.Terms.{Terms};
+ghost use Rattle.edf_claim.specs.ClaimValues.{ClaimValue};
 ghost use Rattle.toml.specs.Parse.{parse_document};
 ghost use Rattle.toml.specs.View.{table_view};
 ghost use Rattle.edf_claim.specs.declared.stop.ClaimStop.TheVariants as stops;
@@ -132,7 +132,7 @@ impl Claim {
     /// A text that is no longer than a claim may be is one that `read` takes, or that it refuses for the same cause.
     pub fn read_at_any_length(alloc: Global, text: &[u8]) -> Result<Claim, ClaimStop>
         ensures says { IfOk result (SaysClaimAtAnyLength text.now) }
-        ensures none { IfErr result (λ e. e ≢ stops.OutOfMemory → (c : Terms) →
+        ensures none { IfErr result (λ e. e ≢ stops.OutOfMemory → (c : ClaimValue) →
             ¬ SaysClaimAtAnyLength text.now c) }
     {
         let said = read_table(alloc, text)?;

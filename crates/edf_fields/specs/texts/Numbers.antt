@@ -23,7 +23,7 @@ has_sign t = has_minus t || (slice_index t 0 == 43)
 abbrev pub unsigned : List ℕ → List ℕ
 unsigned t = if has_sign t then drop 1 t else t
 
--- the number with the sign that the text begins with
+-- -n where there is a minus, and else n
 abbrev pub signed : Bool → ℕ → ℤ
 signed minus n = if minus then neg_ℤ (pos n) else pos n
 

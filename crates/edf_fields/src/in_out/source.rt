@@ -15,9 +15,9 @@ pub struct ReadFault;
 
 /// A source of bytes, read from front to back.
 ///
-/// In contracts `left` is the bytes that are still to come, `reads` tells how many reads failed so far, up to
-/// `u64::MAX`, and what a source that remembers its start had then, and `is_honest` says that `left` is to be
-/// relied on: of a file or a pipe this is assumed. A read that doesn't fail leaves `reads` as it is.
+/// In contracts `left` is the bytes that are still to come, and `is_honest` says that `left` is to be relied on: of a
+/// file or a pipe this is assumed. `reads` tells how many reads failed, up to `u64::MAX`, and, where a source remembers
+/// it, what was left at its start.
 pub trait Source {
     ghost left: { Self → List ℕ };
 

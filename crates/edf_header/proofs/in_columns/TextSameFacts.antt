@@ -9,7 +9,7 @@ use Rattle.edf_fields.specs.declared.faults.fault.Place.{Place}
 use Rattle.edf_fields.specs.declared.faults.fault.Cause.TheVariants.{NotPrintable, BadAnnotationSignal}
 use Rattle.edf_fields.specs.declared.faults.fault.Place.TheVariants.{AtSignal}
 use Rattle.edf_fields.specs.declared.fields.layout.SignalField.TheVariants as signal
-use Rattle.edf_header.specs.signals.Calibrations.{Line}
+use Rattle.edf_header.specs.signals.Calibrations.{CalibrationValue}
 use Rattle.edf_header.specs.Faults.{fault_unless, not_printable, annotation_fault, digital_order_fault, physical_differ_fault, agreement_faults}
 use Rattle.edf_header.specs.Heads.{is_annotations}
 use Rattle.edf_header.specs.Narrow.{SaysTheSame}
@@ -37,11 +37,11 @@ same_header_number front field h short =
     ∙ ap said h.text
     ∙ ap (λ b. cond (b && is_decimal (text_of field)) (Some (signed (has_minus (text_of field)) (decimal 7 (before_dot (unsigned (text_of field))) (behind_dot (unsigned (text_of field)))))) None) (sym (eight (length field) short))
 
-pub same_annotation : (s : ℕ) (front field : List ℕ) (line : Line) → SaysTheSame front field → annotation_fault s front line ≡ annotation_fault s field line
+pub same_annotation : (s : ℕ) (front field : List ℕ) (line : CalibrationValue) → SaysTheSame front field → annotation_fault s front line ≡ annotation_fault s field line
 unfolding annotation_fault
 same_annotation s front field line h = ap (λ t. fault_unless (not (is_annotations t) || (int_eq line.digital_minimum (neg_ℤ (pos 32768)) && int_eq line.digital_maximum (pos 32767))) (AtSignal s signal.Label) BadAnnotationSignal) h.text
 
 -- the tests of what the fields say together ask the label for its text alone
-pub same_agreement : (s : ℕ) (front field : List ℕ) (line : Line) → SaysTheSame front field → agreement_faults s front line ≡ agreement_faults s field line
+pub same_agreement : (s : ℕ) (front field : List ℕ) (line : CalibrationValue) → SaysTheSame front field → agreement_faults s front line ≡ agreement_faults s field line
 same_agreement s front field line h =
     ap (λ t. digital_order_fault s line ∷ physical_differ_fault s line ∷ t ∷ []) (same_annotation s front field line h)

@@ -4,7 +4,7 @@ use Rattle.std.proofs.Math.Nat.{mul-div_cancel}
 use Rattle.std.proofs.lemmas.Int.{ints}
 use borrow.Author.Differences.{up, down}
 use Rattle.edf_header.specs.signals.CalibrationLaws.{SameLineIsEquivalence}
-use Rattle.edf_header.specs.signals.Calibrations.{Line, SameLine, digital_span, physical_span, offset_times_span}
+use Rattle.edf_header.specs.signals.Calibrations.{CalibrationValue, SameLine, digital_span, physical_span, offset_times_span}
 
 -- a positive factor is taken away
 cancelled : (x y e : ℕ) → 0 < e → x * e ≡ y * e → x ≡ y
@@ -27,10 +27,10 @@ same_through a d b (pos n) c f p g h =
     omega (arith, ints)
 same_through a d b (negsuc n) c f p g h = absurd (omega (arith, ints))
 
-span_above : (l : Line) → l.digital_minimum <ℤ l.digital_maximum → pos 0 <ℤ digital_span l
+span_above : (l : CalibrationValue) → l.digital_minimum <ℤ l.digital_maximum → pos 0 <ℤ digital_span l
 span_above l h = omega (arith, ints)
 
-through : (l m k : Line) → m.digital_minimum <ℤ m.digital_maximum → SameLine l m → SameLine m k → SameLine l k
+through : (l m k : CalibrationValue) → m.digital_minimum <ℤ m.digital_maximum → SameLine l m → SameLine m k → SameLine l k
 through l m k h s t = (
   same_through (physical_span l) (digital_span l) (physical_span m) (digital_span m) (physical_span k) (digital_span k) (span_above m h) s.0 t.0,
   same_through (offset_times_span l) (digital_span l) (offset_times_span m) (digital_span m) (offset_times_span k) (digital_span k) (span_above m h) s.1 t.1,

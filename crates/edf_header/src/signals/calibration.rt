@@ -22,9 +22,9 @@ pub struct Calibration {
 
 impl Model for Calibration {
     ghost use Rattle.edf_header.specs.signals.CalibrationLaws.{IsCalibration};
-    ghost use Rattle.edf_header.specs.signals.Calibrations.{Line};
+    ghost use Rattle.edf_header.specs.signals.Calibrations.{CalibrationValue};
 
-    ghost Value = { Line };
+    ghost Value = { CalibrationValue };
 
     ghost view = { λ c. record {
       physical_minimum = c.physical_minimum;

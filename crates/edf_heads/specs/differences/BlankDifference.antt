@@ -2,7 +2,7 @@
 use Rattle.std.specs.Prelude.{◌≡◌, ◌≢◌, ℕ, IsTrue, List, []}
 use Rattle.edf_fields.specs.Lists.{Has}
 use Rattle.edf_header.specs.Heads.{SignalHead, Head, is_annotations}
-use Rattle.edf_claim.specs.Terms.{Terms}
+use Rattle.edf_claim.specs.ClaimValues.{ClaimValue}
 use Rattle.edf_heads.specs.Blank.{HasNoTexts}
 use Rattle.edf_header.specs.signals.Channels.{IsChannelOf}
 use Rattle.edf_heads.specs.Firsts.{IsFirstWith}
@@ -17,5 +17,5 @@ abbrev pub HasFreeText : Head → List ℕ → Type 0
 HasFreeText h label = (channel : SignalHead) × IsChannelOf h label channel × (channel.reserved ≢ [])
 
 -- the first claimed channel that has free text in the export
-abbrev pub IsFirstWithFreeText : Head → Terms → List ℕ → Type 0
+abbrev pub IsFirstWithFreeText : Head → ClaimValue → List ℕ → Type 0
 IsFirstWithFreeText export claim label = IsFirstWith (HasFreeText export) claim.channels label

@@ -2,7 +2,7 @@
 use Rattle.std.specs.Prelude.{ℕ, List}
 use Rattle.edf_fields.specs.Lists.{Has}
 use Rattle.edf_header.specs.Heads.{SignalHead, Head}
-use Rattle.edf_claim.specs.Terms.{Terms}
+use Rattle.edf_claim.specs.ClaimValues.{ClaimValue}
 use Rattle.edf_heads.specs.Firsts.{IsFirstWith}
 use Rattle.edf_heads.specs.Labels.{IsNotAbove}
 use Rattle.edf_header.specs.signals.Channels.{IsChannelOf}
@@ -40,5 +40,5 @@ AreUnlike Alike original export label =
     (x : SignalHead) × (y : SignalHead) × IsChannelOf original label x × IsChannelOf export label y × (Alike x y → ⊥)
 
 -- the first claimed label whose channels aren't alike in the two headers
-abbrev pub IsFirstUnlike : (SignalHead → SignalHead → Type 0) → Head → Head → Terms → List ℕ → Type 0
+abbrev pub IsFirstUnlike : (SignalHead → SignalHead → Type 0) → Head → Head → ClaimValue → List ℕ → Type 0
 IsFirstUnlike Alike original export claim label = IsFirstWith (AreUnlike Alike original export) claim.channels label

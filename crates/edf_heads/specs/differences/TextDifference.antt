@@ -1,7 +1,7 @@
 -- The first text that differs.
 use Rattle.std.specs.Prelude.{◌≡◌, ℕ, List}
 use Rattle.edf_header.specs.Heads.{SignalHead, Head}
-use Rattle.edf_claim.specs.Terms.{Terms}
+use Rattle.edf_claim.specs.ClaimValues.{ClaimValue}
 use Rattle.edf_heads.specs.differences.ChannelDifferences.{AreAlike, AreUnlike, IsFirstUnlike}
 use Rattle.edf_verdict.specs.declared.verdict.TextField.{TextField}
 use Rattle.edf_verdict.specs.declared.verdict.TextField.TheVariants.{Transducer, Prefilter}
@@ -23,6 +23,6 @@ IsFirstText original export label Prefilter =
     AreAlike (HaveSameText Transducer) original export label × AreUnlike (HaveSameText Prefilter) original export label
 
 -- the first claimed channel that hasn't the original's texts in the export, and its first such text
-pub record IsTextDifference (original export : Head) (claim : Terms) (label : List ℕ) (field : TextField) : Type 0 where
+pub record IsTextDifference (original export : Head) (claim : ClaimValue) (label : List ℕ) (field : TextField) : Type 0 where
   pub channel : IsFirstUnlike HaveSameTexts original export claim label
   pub text : IsFirstText original export label field

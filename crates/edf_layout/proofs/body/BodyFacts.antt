@@ -85,7 +85,7 @@ tals-one (lane ∷ lanes) t u ts us tss uss h k = first-one t u ts us (sym (lane
 pub start-one : (h : Head) (bytes : List ℕ) (start other : ℤ) (ns ms : List NoteValue) → SaysRecord h bytes start ns → SaysRecord h bytes other ms → start ≡ other
 start-one h bytes start other ns ms s r =
     ap (λ (t : TalValue). t.onset) (tals-one (annotation_lanes h.signals bytes)
-    (record { onset = start; duration = s.duration; texts = [] ∷ s.texts }) (record { onset = other; duration = r.duration; texts = [] ∷ r.texts }) s.tals r.tals s.talss r.talss s.lanes r.lanes)
+    (record { onset = start; duration = s.duration; texts = [] ∷ s.texts }) (record { onset = other; duration = r.duration; texts = [] ∷ r.texts }) s.beside r.beside s.others r.others s.lanes r.lanes)
 
 -- data records follow one another
 lasts : (file : List ℕ) (h : Head) → Conforms file h → pos 0 <ℤ h.duration
@@ -95,16 +95,16 @@ follows-later : (kind : Kind) (ended start : ℤ) → FollowsOn kind ended start
 follows-later Contiguous ended start e = subst (λ s. ended ≤ℤ s) (sym e) (omega (arith, ints))
 follows-later Interrupted ended start e = e
 
-starts-rise : (file : List ℕ) (h : Head) (c : Conforms file h) (k j : ℕ) → k < j → j < h.records → (c.starts k +ℤ h.duration) ≤ℤ c.starts j
+starts-rise : (file : List ℕ) (h : Head) (c : Conforms file h) (k j : ℕ) → k < j → j < h.records → ((c.says).starts k +ℤ h.duration) ≤ℤ (c.says).starts j
 starts-rise file h c k zero lt within = absurd (omega (arith, lt))
 starts-rise file h c k (suc j) lt within =
-    let next : (c.starts j +ℤ h.duration) ≤ℤ c.starts (suc j) = follows-later h.kind (c.starts j +ℤ h.duration) (c.starts (suc j)) (c.follows j within) in
+    let next : ((c.says).starts j +ℤ h.duration) ≤ℤ (c.says).starts (suc j) = follows-later h.kind ((c.says).starts j +ℤ h.duration) ((c.says).starts (suc j)) (c.follows j within) in
     elim (cases_lt k j) [
       | inl less ↦
-          let q : (c.starts k +ℤ h.duration) ≤ℤ c.starts j = starts-rise file h c k j less (omega (arith, within)) in
+          let q : ((c.says).starts k +ℤ h.duration) ≤ℤ (c.says).starts j = starts-rise file h c k j less (omega (arith, within)) in
           let p = lasts file h c in
           omega (arith, ints, q, p, next)
-      | inr le ↦ let e : k ≡ j = omega (arith, lt, le) in subst (λ m. (c.starts m +ℤ h.duration) ≤ℤ c.starts (suc j)) (sym e) next
+      | inr le ↦ let e : k ≡ j = omega (arith, lt, le) in subst (λ m. ((c.says).starts m +ℤ h.duration) ≤ℤ (c.says).starts (suc j)) (sym e) next
     ]
 
 -- the sample at a place of a lane
@@ -116,52 +116,52 @@ sample_there file h start k s p signal = record {
 }
 
 is-there : (file : List ℕ) (h : Head) (c : Conforms file h) (k s p : ℕ) (signal : SignalHead) → k < h.records → slice_get h.signals s ≡ Some signal → is_annotations signal.label ≡ false → p < signal.samples
-    → IsSample file h (sample_there file h (c.starts k) k s p signal)
+    → IsSample file h (sample_there file h ((c.says).starts k) k s p signal)
 is-there file h c k s p signal within get ordinary low = record {
   signal = signal;
   data_record = k;
   place = p;
-  start = c.starts k;
-  notes = c.notes k;
+  start = (c.says).starts k;
+  notes = (c.says).notes k;
   channel = record { there = has-at h.signals s signal get; labelled = (refl, ordinary) };
   count = refl;
   in_file = within;
   in_lane = low;
-  says = c.say k within;
+  says = (c.says).say k within;
   instant = refl;
   value_is = ap (λ o. digital_value (option_map_or (λ (x : SignalHead). lane_of x (record_at file h k)) o []) p) get;
 }
 
 -- the starts of two files with one header and the same samples
 not-later : (file other : List ℕ) (h : Head) (c : Conforms file h) (d : Conforms other h) → HaveSameSamples file h other h → (k s : ℕ) (signal : SignalHead) → slice_get h.signals s ≡ Some signal
-    → is_annotations signal.label ≡ false → 0 < signal.samples → k < h.records → ((i : ℕ) → i < k → c.starts i ≡ d.starts i) → d.starts k ≤ℤ c.starts k
+    → is_annotations signal.label ≡ false → 0 < signal.samples → k < h.records → ((i : ℕ) → i < k → (c.says).starts i ≡ (d.says).starts i) → (d.says).starts k ≤ℤ (c.says).starts k
 not-later file other h c d same k s signal get ordinary some within before =
     let n = signal.samples in
-    let x = sample_there file h (c.starts k) k s 0 signal in
+    let x = sample_there file h ((c.says).starts k) k s 0 signal in
     let r : IsSample other h x = (same x).0 (is-there file h c k s 0 signal within get ordinary some) in
     let j : ℕ = r.data_record in
-    let start : r.start ≡ d.starts j = start-one h (record_at other h j) r.start (d.starts j) r.notes (d.notes j) r.says (d.say j r.in_file) in
+    let start : r.start ≡ (d.says).starts j = start-one h (record_at other h j) r.start ((d.says).starts j) r.notes ((d.says).notes j) r.says ((d.says).say j r.in_file) in
     let lasting = lasts file h c in
     let fs = file_start h in
-    let num = (pos n *ℤ (fs +ℤ c.starts k)) +ℤ (pos 0 *ℤ h.duration) in
-    let is : num ≡ (pos n *ℤ (fs +ℤ d.starts j)) +ℤ (pos r.place *ℤ h.duration) = r.instant ∙ ap (λ z. (pos n *ℤ (fs +ℤ z)) +ℤ (pos r.place *ℤ h.duration)) start in
-    let from : (pos n *ℤ (fs +ℤ c.starts k)) ≤ℤ num = not-before-start n 0 (fs +ℤ c.starts k) h.duration num lasting refl in
+    let num = (pos n *ℤ (fs +ℤ (c.says).starts k)) +ℤ (pos 0 *ℤ h.duration) in
+    let is : num ≡ (pos n *ℤ (fs +ℤ (d.says).starts j)) +ℤ (pos r.place *ℤ h.duration) = r.instant ∙ ap (λ z. (pos n *ℤ (fs +ℤ z)) +ℤ (pos r.place *ℤ h.duration)) start in
+    let from : (pos n *ℤ (fs +ℤ (c.says).starts k)) ≤ℤ num = not-before-start n 0 (fs +ℤ (c.says).starts k) h.duration num lasting refl in
     let none : pos 0 *ℤ h.duration ≡ pos 0 = omega (arith, ints) in
     elim (cases_lt j k) [
       | inl early ↦
-          let rise : (c.starts j +ℤ h.duration) ≤ℤ c.starts k = starts-rise file h c j k early within in
+          let rise : ((c.says).starts j +ℤ h.duration) ≤ℤ (c.says).starts k = starts-rise file h c j k early within in
           let equal = before j early in
-          let behind : ((fs +ℤ d.starts j) +ℤ h.duration) ≤ℤ (fs +ℤ c.starts k) = omega (arith, ints, rise, equal) in
-          let far : (pos n *ℤ ((fs +ℤ d.starts j) +ℤ h.duration)) ≤ℤ (pos n *ℤ (fs +ℤ c.starts k)) = scale-mono n ((fs +ℤ d.starts j) +ℤ h.duration) (fs +ℤ c.starts k) behind in
-          let inside : num <ℤ (pos n *ℤ ((fs +ℤ d.starts j) +ℤ h.duration)) = before-end n r.place (fs +ℤ d.starts j) h.duration num lasting r.in_lane is in
+          let behind : ((fs +ℤ (d.says).starts j) +ℤ h.duration) ≤ℤ (fs +ℤ (c.says).starts k) = omega (arith, ints, rise, equal) in
+          let far : (pos n *ℤ ((fs +ℤ (d.says).starts j) +ℤ h.duration)) ≤ℤ (pos n *ℤ (fs +ℤ (c.says).starts k)) = scale-mono n ((fs +ℤ (d.says).starts j) +ℤ h.duration) (fs +ℤ (c.says).starts k) behind in
+          let inside : num <ℤ (pos n *ℤ ((fs +ℤ (d.says).starts j) +ℤ h.duration)) = before-end n r.place (fs +ℤ (d.says).starts j) h.duration num lasting r.in_lane is in
           absurd (omega (arith, ints, far, inside, from))
       | inr late ↦
-          let reach : (pos n *ℤ (fs +ℤ d.starts j)) ≤ℤ num = not-before-start n r.place (fs +ℤ d.starts j) h.duration num lasting is in
-          let all : (pos n *ℤ (fs +ℤ d.starts j)) ≤ℤ (pos n *ℤ (fs +ℤ c.starts k)) = omega (arith, ints, reach, none) in
-          let least : (fs +ℤ d.starts j) ≤ℤ (fs +ℤ c.starts k) = scale-strict n (fs +ℤ d.starts j) (fs +ℤ c.starts k) some all in
-          let up : d.starts k ≤ℤ d.starts j = elim (cases_lt k j) [
-            | inl less ↦ (let rise : (d.starts k +ℤ h.duration) ≤ℤ d.starts j = starts-rise other h d k j less r.in_file in omega (arith, ints, rise, lasting))
-            | inr eq ↦ (let e : k ≡ j = omega (arith, late, eq) in subst (λ m. d.starts k ≤ℤ d.starts m) e (omega (arith, ints)))
+          let reach : (pos n *ℤ (fs +ℤ (d.says).starts j)) ≤ℤ num = not-before-start n r.place (fs +ℤ (d.says).starts j) h.duration num lasting is in
+          let all : (pos n *ℤ (fs +ℤ (d.says).starts j)) ≤ℤ (pos n *ℤ (fs +ℤ (c.says).starts k)) = omega (arith, ints, reach, none) in
+          let least : (fs +ℤ (d.says).starts j) ≤ℤ (fs +ℤ (c.says).starts k) = scale-strict n (fs +ℤ (d.says).starts j) (fs +ℤ (c.says).starts k) some all in
+          let up : (d.says).starts k ≤ℤ (d.says).starts j = elim (cases_lt k j) [
+            | inl less ↦ (let rise : ((d.says).starts k +ℤ h.duration) ≤ℤ (d.says).starts j = starts-rise other h d k j less r.in_file in omega (arith, ints, rise, lasting))
+            | inr eq ↦ (let e : k ≡ j = omega (arith, late, eq) in subst (λ m. (d.says).starts k ≤ℤ (d.says).starts m) e (omega (arith, ints)))
           ] in
           omega (arith, ints, least, up)
     ]
@@ -170,10 +170,10 @@ flip : (file other : List ℕ) (h : Head) → HaveSameSamples file h other h →
 flip file other h same x = ((same x).1, (same x).0)
 
 pub starts-equal : (file other : List ℕ) (h : Head) (c : Conforms file h) (d : Conforms other h) → HaveSameSamples file h other h → (s : ℕ) (signal : SignalHead) → slice_get h.signals s ≡ Some signal
-    → is_annotations signal.label ≡ false → 0 < signal.samples → (n k : ℕ) → k < n → k < h.records → c.starts k ≡ d.starts k
+    → is_annotations signal.label ≡ false → 0 < signal.samples → (n k : ℕ) → k < n → k < h.records → (c.says).starts k ≡ (d.says).starts k
 starts-equal file other h c d same s signal get ordinary some zero k low within = absurd (omega arith)
 starts-equal file other h c d same s signal get ordinary some (suc n) k low within =
-    let before : (i : ℕ) → i < k → c.starts i ≡ d.starts i = λ i less. starts-equal file other h c d same s signal get ordinary some n i (omega (arith, low, less)) (omega (arith, within, less)) in
+    let before : (i : ℕ) → i < k → (c.says).starts i ≡ (d.says).starts i = λ i less. starts-equal file other h c d same s signal get ordinary some n i (omega (arith, low, less)) (omega (arith, within, less)) in
     let one = not-later file other h c d same k s signal get ordinary some within before in
     let two = not-later other file h d c (flip file other h same) k s signal get ordinary some within (λ i less. sym (before i less)) in
     omega (arith, ints, one, two)
@@ -330,10 +330,10 @@ channel-lane : (file other : List ℕ) (h : Head) (c : Conforms file h) (d : Con
 channel-lane file other h c d bytes more same k s signal within get ordinary =
     let some = sound-at h.signals s signal ((c.header).standard).signals get in
     let n = signal.samples in
-    let start : c.starts k ≡ d.starts k = starts-equal file other h c d same s signal get ordinary some (suc k) k (omega arith) within in
+    let start : (c.says).starts k ≡ (d.says).starts k = starts-equal file other h c d same s signal get ordinary some (suc k) k (omega arith) within in
     let values : (p : ℕ) → p < n → digital_value (lane_at file h k s) p ≡ digital_value (lane_at other h k s) p = λ p low.
-    let x = sample_there file h (c.starts k) k s p signal in
-    let y = sample_there other h (d.starts k) k s p signal in
+    let x = sample_there file h ((c.says).starts k) k s p signal in
+    let y = sample_there other h ((d.says).starts k) k s p signal in
     let one : IsSample other h x = (same x).0 (is-there file h c k s p signal within get ordinary low) in
     let two : IsSample other h y = is-there other h d k s p signal within get ordinary low in
     let instant : (x.instant).num *ℤ pos (y.instant).den ≡ (y.instant).num *ℤ pos (x.instant).den =

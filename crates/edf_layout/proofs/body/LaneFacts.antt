@@ -157,7 +157,7 @@ lane-holds (x ∷ xs) bytes talss (suc s) signal lanes e notes = elim (bool-case
 
 same-tals : (file : List ℕ) (h : Head) → Conforms file h → HaveSameTals file h file h
 same-tals file h c k s signal within get notes =
-    let says = c.say k within in
+    let says = (c.says).say k within in
     let holds = lane-holds h.signals (record_at file h k) _ s signal says.lanes get notes in
     let layouts = laid (lane_of signal (record_at file h k)) holds.0 holds.1 in
     let is : IsLaidLane (lane_at file h k s) holds.0 layouts.0 = subst (λ lane. IsLaidLane lane holds.0 layouts.0) (sym (lane-is file h k s signal get)) layouts.1 in

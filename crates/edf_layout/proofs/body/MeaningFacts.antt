@@ -73,10 +73,10 @@ record-has h notes bytes start said s =
 
 at-least : (file : List ℕ) (h : Head) → Conforms file h → (layout : BodyLayout) × HasBodyLayout file h layout
 at-least file h c =
-    let notes : List NoteValue = together c.notes h.records in
-    let r = collected (λ k one. IsRecordLayout h notes (record_at file h k) one) h.records (λ k within. record-has h notes (record_at file h k) (c.starts k) (c.notes k) (c.say k within)) in (
+    let notes : List NoteValue = together (c.says).notes h.records in
+    let r = collected (λ k one. IsRecordLayout h notes (record_at file h k) one) h.records (λ k within. record-has h notes (record_at file h k) ((c.says).starts k) ((c.says).notes k) ((c.says).say k within)) in (
       r.0,
-      record { notes = notes; has_notes = record { starts = c.starts; notes = c.notes; say = c.say; all_are = refl }; count = r.1; records = r.2 },
+      record { notes = notes; has_notes = record { starts = (c.says).starts; notes = (c.says).notes; say = (c.says).say; all_are = refl }; count = r.1; records = r.2 },
     )
 
 pub body_has_one_layout : BodyHasOneLayout
@@ -94,10 +94,10 @@ together-has notes (suc n) k x low has = elim (cases_lt k n) [
 
 -- the TALs of a data record that says something
 abbrev begun : {h : Head} {bytes : List ℕ} {start : ℤ} {notes : List NoteValue} → SaysRecord h bytes start notes → List (List TalValue)
-begun {start = start} s = (tal_with start s.duration ([] ∷ s.texts) ∷ s.tals) ∷ s.talss
+begun {start = start} s = (tal_with start s.duration ([] ∷ s.texts) ∷ s.beside) ∷ s.others
 
 said-among : (h : Head) (bytes : List ℕ) (start : ℤ) (notes all : List NoteValue) → (s : SaysRecord h bytes start notes) → AreAmong all notes
-    → AreAmong all (notes_of_tal (tal_with start s.duration s.texts) ++ said_in (s.tals ∷ s.talss))
+    → AreAmong all (notes_of_tal (tal_with start s.duration s.texts) ++ said_in (s.beside ∷ s.others))
 said-among h bytes start notes all s among n has = among n (subst (λ xs. Has xs n) (sym s.notes_are) has)
 
 -- two data records that start together and have one layout have the same TALs
@@ -112,7 +112,7 @@ records-alike h bytes other start ns ms all more layout p s r left right a b =
     let theirs : b.talss ≡ begun r = lanes_one others b.talss (begun r) (lanes_hold others b.talss (spellings_in layout) b.laid) r.lanes in
     let said : record_contents all (begun s) ≡ record_contents more (begun r) =
     ap (record_contents all) (sym mine) ∙ sym a.said ∙ b.said ∙ ap (record_contents more) theirs in
-    let same : begun s ≡ begun r = record_told all more p start s.duration r.duration s.texts r.texts s.tals r.tals s.talss r.talss
+    let same : begun s ≡ begun r = record_told all more p start s.duration r.duration s.texts r.texts s.beside r.beside s.others r.others
     (said-among h bytes start ns all s left) (said-among h other start ms more r right) said in (
       a.talss,
       a.laid,
@@ -163,7 +163,7 @@ member-there (x ∷ xs) zero low = (x, refl)
 member-there (x ∷ xs) (suc k) low = member-there xs k (omega arith)
 
 -- the starts of the data records
-pub starts-same : (file other : List ℕ) (h : Head) (c : Conforms file h) (d : Conforms other h) → HaveSameSamples file h other h → (k : ℕ) → k < h.records → c.starts k ≡ d.starts k
+pub starts-same : (file other : List ℕ) (h : Head) (c : Conforms file h) (d : Conforms other h) → HaveSameSamples file h other h → (k : ℕ) → k < h.records → (c.says).starts k ≡ (d.says).starts k
 starts-same file other h c d same k within =
     let channel = some_channel h.signals ((c.header).standard).channel in
     let there = channel.2 in
@@ -172,10 +172,10 @@ starts-same file other h c d same k within =
     (let some = sound-at h.signals channel.0 signal ((c.header).standard).signals there.1 in omega (arith, some)) (suc k) k (omega arith) within
 
 -- the annotations of a data record stand among those of the file
-among-all : (file : List ℕ) (h : Head) (c : Conforms file h) (all : List NoteValue) → HasNotes file h all → (k : ℕ) → k < h.records → AreAmong all (c.notes k)
+among-all : (file : List ℕ) (h : Head) (c : Conforms file h) (all : List NoteValue) → HasNotes file h all → (k : ℕ) → k < h.records → AreAmong all ((c.says).notes k)
 among-all file h c all has k within n there =
-    let own : HasNotes file h (together c.notes h.records) = record { starts = c.starts; notes = c.notes; say = c.say; all_are = refl } in
-    subst (λ ns. Has ns n) (one-notes file h c (together c.notes h.records) all own has) (together-has c.notes h.records k n within there)
+    let own : HasNotes file h (together (c.says).notes h.records) = record { starts = (c.says).starts; notes = (c.says).notes; say = (c.says).say; all_are = refl } in
+    subst (λ ns. Has ns n) (one-notes file h c (together (c.says).notes h.records) all own has) (together-has (c.says).notes h.records k n within there)
 
 tals-same : (file other : List ℕ) (h : Head) → Conforms file h → Conforms other h → HaveSameSamples file h other h → HaveSameNotes file h other h → HaveSameBodyLayout file h other h → HaveSameTals file h other h
 tals-same file other h c d samples (ns, ms, hasn, hasm, permuted) (layout, left, right) k s signal within get notes =
@@ -184,9 +184,9 @@ tals-same file other h c d samples (ns, ms, hasn, hasm, permuted) (layout, left,
     let second : right.notes ≡ ms = one-notes other h d right.notes ms right.has_notes hasm in
     let a : IsRecordLayout h ns (record_at file h k) one.0 = subst (λ all. IsRecordLayout h all (record_at file h k) one.0) first (left.records k one.0 one.1) in
     let b : IsRecordLayout h ms (record_at other h k) one.0 = subst (λ all. IsRecordLayout h all (record_at other h k) one.0) second (right.records k one.0 one.1) in
-    let start : d.starts k ≡ c.starts k = sym (starts-same file other h c d samples k within) in
-    let says : SaysRecord h (record_at other h k) (c.starts k) (d.notes k) = subst (λ z. SaysRecord h (record_at other h k) z (d.notes k)) start (d.say k within) in
-    let r = records-alike h (record_at file h k) (record_at other h k) (c.starts k) (c.notes k) (d.notes k) ns ms one.0 permuted (c.say k within) says
+    let start : (d.says).starts k ≡ (c.says).starts k = sym (starts-same file other h c d samples k within) in
+    let says : SaysRecord h (record_at other h k) ((c.says).starts k) ((d.says).notes k) = subst (λ z. SaysRecord h (record_at other h k) z ((d.says).notes k)) start ((d.says).say k within) in
+    let r = records-alike h (record_at file h k) (record_at other h k) ((c.says).starts k) ((c.says).notes k) ((d.says).notes k) ns ms one.0 permuted ((c.says).say k within) says
     (among-all file h c ns hasn k within) (among-all other h d ms hasm k within) a b in
     let both = lane-alike h.signals (record_at file h k) (record_at other h k) r.0 (spellings_in one.0) s signal r.1 r.2 get notes in
     subst (λ lane. AreLaidAlike lane (lane_at other h k s)) (sym (lane-is file h k s signal get))

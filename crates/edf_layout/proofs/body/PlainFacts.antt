@@ -30,9 +30,9 @@ starts-alike file other h c d same xs ys a b =
     let within : k < h.records = (let low = get-within xs k x e in let count = a.count in omega (arith, low, count)) in
     let mine = a.said k x e in
     let theirs = b.said k y f in
-    start-one h (record_at file h k) x (c.starts k) mine.0 (c.notes k) mine.1 (c.say k within)
+    start-one h (record_at file h k) x ((c.says).starts k) mine.0 ((c.says).notes k) mine.1 ((c.says).say k within)
     ∙ starts-same file other h c d same k within
-    ∙ start-one h (record_at other h k) (d.starts k) y (d.notes k) theirs.0 (d.say k within) theirs.1)
+    ∙ start-one h (record_at other h k) ((d.says).starts k) y ((d.says).notes k) theirs.0 ((d.says).say k within) theirs.1)
 
 bodies-alike : (file other : List ℕ) (h : Head) (order : PlainOrder) → Conforms file h → Conforms other h → HaveSameSamples file h other h → HaveSameNotes file h other h
     → IsPlainBody order file h → IsPlainBody order other h → HaveSameBodyLayout file h other h

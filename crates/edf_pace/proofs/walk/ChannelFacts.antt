@@ -1,7 +1,7 @@
 -- The samples of a channel rise, and the difference of two channels.
 use Rattle.std.proofs.Common.{◌≡◌, ℕ, ◌<ℤ◌, ◌+ℤ◌, ◌*ℤ◌, ℤ, pos, Bool, true, false, cond, List, [], ◌∷◌, map, filter, Option, Some, None, inl, inr, refl, sym, ap, ◌∙◌, subst, arith}
 use Rattle.std.proofs.lemmas.Int.{ints}
-use Rattle.edf_claim.specs.Terms.{Terms}
+use Rattle.edf_claim.specs.ClaimValues.{ClaimValue}
 use Rattle.edf_fields.specs.Lists.{Has}
 use Rattle.edf_fields.proofs.ForCallers.{map-has, has-filtered}
 use Rattle.edf_stream.specs.declared.samples.sample.Sample.{Sample}
@@ -14,7 +14,7 @@ use Rattle.edf_samples.specs.declared.difference.PointDifference.{PointDifferenc
 use Rattle.edf_samples.proofs.ForCallers.{IsAscending}
 
 -- the first difference of two channels; none where one of them isn't there
-abbrev pub difference_at : Terms → Sampled → Sampled → Option ChannelPlace → Option ChannelPlace → Option PointDifference
+abbrev pub difference_at : ClaimValue → Sampled → Sampled → Option ChannelPlace → Option ChannelPlace → Option PointDifference
 difference_at claim o e None t = None
 difference_at claim o e (Some s) None = None
 difference_at claim o e (Some s) (Some t) =

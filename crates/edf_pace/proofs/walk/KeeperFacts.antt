@@ -1,7 +1,7 @@
 -- What is gathered of one data record more.
 use Rattle.std.proofs.Common.{◌≡◌, ℤ, ◌+ℤ◌, Bool, true, false, List, ◌++◌, map, Option, None, Some, IfNone, IsTrue, refl, sym, ap, ◌∙◌}
 use Rattle.std.proofs.lemmas.List.{append-nil}
-use Rattle.edf_claim.specs.Terms.{Terms}
+use Rattle.edf_claim.specs.ClaimValues.{ClaimValue}
 use Rattle.edf_fields.specs.declared.faults.fault.Fault.{Fault}
 use Rattle.edf_stream.specs.annotation.Notes.{NoteValue}
 use Rattle.edf_stream.specs.annotation.NotesReading.{notes_in}
@@ -14,7 +14,7 @@ use Rattle.edf_pace.specs.walk.Keepers.{GotCounted, terms_in}
 use Rattle.edf_pace.proofs.walk.PassFacts.{gathered_here, gathered_nothing}
 
 -- where a data record came, it was given; where the file has ended, nothing was
-pub gathered-more : (claim : Option Terms) (ps : ℤ) (r : Reader) (before after : Gathering) → terms_in before ≡ claim → before.by.ps ≡ file_start r.head +ℤ ps → IsTrue after.whole
+pub gathered-more : (claim : Option ClaimValue) (ps : ℤ) (r : Reader) (before after : Gathering) → terms_in before ≡ claim → before.by.ps ≡ file_start r.head +ℤ ps → IsTrue after.whole
     → (is_current r.status ≡ true → GotCounted before (notes_in r.head r.current) after) → (is_current r.status ≡ false → after ≡ before)
     → map note_value after.notes.items ≡ map note_value before.notes.items ++ gathered_in claim ps r
 gathered-more claim ps r before after view by whole came ended = go (is_current r.status) refl

@@ -7,7 +7,7 @@ use Rattle.std.proofs.lemmas.Bool.{cases_lt}
 use Rattle.std.proofs.lemmas.Bool.Decides.{Decides-int_eq}
 use Rattle.std.proofs.lemmas.Int.{ints}
 use Rattle.std.proofs.lemmas.List.Elements.{All-head, All-tail}
-use Rattle.edf_claim.specs.Terms.{Terms}
+use Rattle.edf_claim.specs.ClaimValues.{ClaimValue}
 use Rattle.edf_claim.specs.Keeps.{keeps_instant}
 use Rattle.edf_claim.specs.KeepsReading.{IsUncut}
 use Rattle.edf_fields.specs.Parts.{part}
@@ -132,7 +132,7 @@ same-shown r s n a b pair x y alike laid ex ey tx ty =
 
 -- ---- no difference
 
-none-window : (claim : Terms) (o e : List ℕ) (r s : Reader) (n : ℕ) (a b t u : ℤ) (pair : Pair) → AreRecordsAlike r s n a b → AreLaidAlike r.head s.head n pair → IfSome pair.original (IsTrack r.head) → IfSome pair.export (IsTrack s.head)
+none-window : (claim : ClaimValue) (o e : List ℕ) (r s : Reader) (n : ℕ) (a b t u : ℤ) (pair : Pair) → AreRecordsAlike r s n a b → AreLaidAlike r.head s.head n pair → IfSome pair.original (IsTrack r.head) → IfSome pair.export (IsTrack s.head)
     → IsUncut claim.keep t u → keeps_instant claim t 1 ≡ true → Covers r o a t u → Covers s e b t u
     → window_of claim (sampled o r.head a) (sampled e s.head b) t u (places_of pair).0 (places_of pair).1 ≡ None
 none-window claim o e r s n a b t u pair alike laid here there uncut keeps ro se = by-case pair.original pair.export refl refl here there
@@ -162,7 +162,7 @@ none-earliest k of (p ∷ ps) none =
     let here : of (places_of p) ≡ None = All-head (λ q. of (places_of q) ≡ None) p ps none in
     rw here (none-earliest (k + 1) of ps (All-tail (λ q. of (places_of q) ≡ None) p ps none))
 
-pub none_different : (claim : Terms) (o e : List ℕ) (r s : Reader) (n : ℕ) (a b t u : ℤ) (pairs : List Pair) → AreRecordsAlike r s n a b → All (AreLaidAlike r.head s.head n) pairs → ArePairs r.head s.head pairs
+pub none_different : (claim : ClaimValue) (o e : List ℕ) (r s : Reader) (n : ℕ) (a b t u : ℤ) (pairs : List Pair) → AreRecordsAlike r s n a b → All (AreLaidAlike r.head s.head n) pairs → ArePairs r.head s.head pairs
     → IsUncut claim.keep t u → keeps_instant claim t 1 ≡ true → Covers r o a t u → Covers s e b t u
     → None ≡ window_difference claim (sampled o r.head a) (sampled e s.head b) (map places_of pairs) t u
 unfolding window_difference

@@ -2,7 +2,7 @@
 use Rattle.std.proofs.Common.{◌≡◌, ℕ, ℤ, ◌≤ℤ◌, false, List, [], ◌∷◌, map, Option, None, Some, option_map, IfSome, refl, sym, ap, ◌∙◌, arith, subst}
 use Rattle.std.proofs.lemmas.Int.{ints}
 use Rattle.std.proofs.lemmas.List.Elements.{All-head, All-tail}
-use Rattle.edf_claim.specs.Terms.{Terms}
+use Rattle.edf_claim.specs.ClaimValues.{ClaimValue}
 use Rattle.edf_fields.specs.declared.faults.fault.Fault.{Fault}
 use Rattle.edf_header.specs.Heads.{Head}
 use Rattle.edf_stream.specs.declared.records.status.Status.{Status}
@@ -41,7 +41,7 @@ are_places h g (p ∷ ps) all =
 
 -- ---- a step
 
-pub covers_at : (first now : Reader) (left : List ℕ) (notes : List NoteValue) (file : List ℕ) (claim : Option Terms) (ps t u end : ℤ) → now.head ≡ first.head → Conforms file first.head → IsAt now left notes file claim ps t → Reaches now ps end → u ≤ℤ end → Covers now file ps t u
+pub covers_at : (first now : Reader) (left : List ℕ) (notes : List NoteValue) (file : List ℕ) (claim : Option ClaimValue) (ps t u end : ℤ) → now.head ≡ first.head → Conforms file first.head → IsAt now left notes file claim ps t → Reaches now ps end → u ≤ℤ end → Covers now file ps t u
 covers_at first now left notes file claim ps t u end head conforms at reaches l =
     let P : Head → Type 0 = λ h. Conforms file h in
     record { conforms = subst P (sym head) conforms; shows = at.shows; reaches = λ e. (let r = reaches e in omega (arith, ints, r, l)) }
@@ -49,16 +49,16 @@ covers_at first now left notes file claim ps t u end head conforms at reaches l 
 -- ---- the end
 
 -- a reader that has no data record at hand has gone through a file that conforms, and gathered its annotations
-pub record HasEnded (left : List ℕ) (notes : List NoteValue) (file : List ℕ) (h : Head) (claim : Option Terms) (ps t : ℤ) : Type 0 where
+pub record HasEnded (left : List ℕ) (notes : List NoteValue) (file : List ℕ) (h : Head) (claim : Option ClaimValue) (ps t : ℤ) : Type 0 where
   pub through : IsReadThrough file h left
   pub gathered : notes ≡ gathered_of claim ps (notes_of file h)
   pub past : ArePast file h ps h.records t
 
-all-gathered : (claim : Option Terms) (ps : ℤ) (file : List ℕ) (h : Head) (k : ℕ) (notes : List NoteValue) → notes ≡ gathered_of claim ps (moved_notes_before file h k) → k ≡ h.records → notes ≡ gathered_of claim ps (notes_of file h)
+all-gathered : (claim : Option ClaimValue) (ps : ℤ) (file : List ℕ) (h : Head) (k : ℕ) (notes : List NoteValue) → notes ≡ gathered_of claim ps (moved_notes_before file h k) → k ≡ h.records → notes ≡ gathered_of claim ps (notes_of file h)
 unfolding notes_of
 all-gathered claim ps file h k notes e read = e ∙ ap (λ j. gathered_of claim ps (moved_notes_before file h j)) read
 
-pub has_ended : (first now : Reader) (left : List ℕ) (notes : List NoteValue) (file : List ℕ) (claim : Option Terms) (ps t : ℤ) → now.head ≡ first.head → IsGoing now.status → is_current now.status ≡ false → IsAt now left notes file claim ps t → HasEnded left notes file first.head claim ps t
+pub has_ended : (first now : Reader) (left : List ℕ) (notes : List NoteValue) (file : List ℕ) (claim : Option ClaimValue) (ps t : ℤ) → now.head ≡ first.head → IsGoing now.status → is_current now.status ≡ false → IsAt now left notes file claim ps t → HasEnded left notes file first.head claim ps t
 has_ended first now left notes file claim ps t head going none at =
     let ended : now.status ≡ Ended = ended_is now.status going none in
     let P : Status → Type 0 = λ s. Shows s now file ps t in

@@ -3,7 +3,7 @@ use Rattle.std.proofs.Common.{◌≡◌, ℕ, zero, suc, ◌<◌, ◌≤◌, ℤ
 use Rattle.std.proofs.lemmas.Bool.{cases_lt}
 use Rattle.std.proofs.lemmas.Int.{ints}
 use Rattle.std.specs.Option.{option_or}
-use Rattle.edf_claim.specs.Terms.{Terms}
+use Rattle.edf_claim.specs.ClaimValues.{ClaimValue}
 use Rattle.edf_header.specs.Heads.{Head}
 use Rattle.edf_stream.specs.declared.records.status.Status.{Status}
 use Rattle.edf_stream.specs.declared.records.status.Status.TheVariants.{Current}
@@ -65,7 +65,7 @@ pub shown_current : (r : Reader) (file : List ℕ) (ps t : ℤ) → is_current r
 shown_current r file ps t current shows = let P : Status → Type 0 = λ s. Shows s r file ps t in subst P (current_is r.status current) shows
 
 -- the data record at hand ends where its file does, or before
-pub within_file : (r : Reader) (left : List ℕ) (ns : List NoteValue) (file : List ℕ) (claim : Option Terms) (ps t : ℤ) → is_current r.status ≡ true → Conforms file r.head → IsAt r left ns file claim ps t → ends_at r ps ≤ℤ last_end_by file r.head ps
+pub within_file : (r : Reader) (left : List ℕ) (ns : List NoteValue) (file : List ℕ) (claim : Option ClaimValue) (ps t : ℤ) → is_current r.status ≡ true → Conforms file r.head → IsAt r left ns file claim ps t → ends_at r ps ≤ℤ last_end_by file r.head ps
 within_file r left ns file claim ps t current c at =
     let shown = shown_current r file ps t current at.shows in
     let end = shown.4 in
@@ -73,7 +73,7 @@ within_file r left ns file claim ps t current c at =
     omega (arith, ints, end, within)
 
 -- the first data record at hand begins where its file does
-pub begin_is : (first now : Reader) (left : List ℕ) (ns : List NoteValue) (file : List ℕ) (claim : Option Terms) (ps t : ℤ) → now.head ≡ first.head → is_current now.status ≡ true → now.read ≡ 1 → IsAt now left ns file claim ps t
+pub begin_is : (first now : Reader) (left : List ℕ) (ns : List NoteValue) (file : List ℕ) (claim : Option ClaimValue) (ps t : ℤ) → now.head ≡ first.head → is_current now.status ≡ true → now.read ≡ 1 → IsAt now left ns file claim ps t
     → (file_start now.head +ℤ ps) +ℤ start_in now.head now.current ≡ begin_by file first.head ps 0
 begin_is first now left ns file claim ps t head current read at =
     let shown = shown_current now file ps t current at.shows in
@@ -82,7 +82,7 @@ begin_is first now left ns file claim ps t head current read at =
     ap (λ bytes. (file_start now.head +ℤ ps) +ℤ start_in now.head bytes) (shown.3 ∙ ap (record_at file now.head) zero) ∙ ap (λ h. begin_by file h ps 0) head
 
 -- a reader whose data record ended at u or later, and that has none left at u, is at the end of its file
-pub ends_there : (first old new : Reader) (left left' : List ℕ) (ns ms : List NoteValue) (file : List ℕ) (claim : Option Terms) (ps t u : ℤ) → old.head ≡ first.head → new.head ≡ first.head → is_current old.status ≡ true → IsGoing new.status
+pub ends_there : (first old new : Reader) (left left' : List ℕ) (ns ms : List NoteValue) (file : List ℕ) (claim : Option ClaimValue) (ps t u : ℤ) → old.head ≡ first.head → new.head ≡ first.head → is_current old.status ≡ true → IsGoing new.status
     → is_current new.status ≡ false → Reaches old ps u → IsAt old left ns file claim ps t → IsAt new left' ms file claim ps u → u ≡ last_end_by file first.head ps
 ends_there first old new left left' ns ms file claim ps t u ho hn current going none reaches before now =
     let done = has_ended first new left' ms file claim ps u hn going none now in
@@ -157,7 +157,7 @@ module _ (frame : Frame) (x : List ℕ) (h : Head) (ns : List NoteValue) (y : Li
   abbrev ps : List Places
   ps = map places_of (frame.pairs).now
 
-  abbrev claim : Terms
+  abbrev claim : ClaimValue
   claim = ((turn.setting).claim).now
 
   abbrev a : ℤ

@@ -5,7 +5,7 @@ use Rattle.std.proofs.lemmas.Int.{ints}
 use Rattle.std.proofs.lemmas.Bool.{cases_lt}
 use Rattle.std.proofs.lemmas.List.{append-nil, map-append}
 use Rattle.edf_claim.specs.Keeps.{keeps_annotation, kept_text}
-use Rattle.edf_claim.specs.Terms.{Terms}
+use Rattle.edf_claim.specs.ClaimValues.{ClaimValue}
 use Rattle.edf_header.specs.Heads.{Head}
 use Rattle.edf_stream.specs.declared.records.status.Status.{Status}
 use Rattle.edf_stream.specs.declared.records.status.Status.TheVariants.{Begun, Current, Ended, Stopped}
@@ -60,7 +60,7 @@ shows_later Current r file ps t u l h = (h.0, h.1, h.2, h.3, h.4, later_past fil
 shows_later Ended r file ps t u l h = later_past file r.head ps (r.head).records t u l h
 shows_later (Stopped x) r file ps t u l h = absurd h
 
-pub at_later : (r : Reader) (left : List ℕ) (notes : List NoteValue) (file : List ℕ) (claim : Option Terms) (ps t u : ℤ) → t ≤ℤ u → IsAt r left notes file claim ps t → IsAt r left notes file claim ps u
+pub at_later : (r : Reader) (left : List ℕ) (notes : List NoteValue) (file : List ℕ) (claim : Option ClaimValue) (ps t u : ℤ) → t ≤ℤ u → IsAt r left notes file claim ps t → IsAt r left notes file claim ps u
 at_later r left notes file claim ps t u l at = record { shows = shows_later r.status r file ps t u l at.shows; there = at.there; gathered = at.gathered }
 
 -- all data records that a reader has read, of which the last ends at u or before
@@ -107,11 +107,11 @@ ended_next Ended old new left file g e comes o =
     let P : Head → Type 0 = λ h. (body_fault file h ≡ None) × Conforms file h × (left ≡ []) × (new.read ≡ h.records) × (new.ended ≡ end_before file h h.records) in
     subst P (sym e) (comes.2, comes.3, comes.4, comes.1, ended)
 
-pub gathered_append : (claim : Option Terms) (ps : ℤ) (xs ys : List NoteValue) → gathered_of claim ps (xs ++ ys) ≡ gathered_of claim ps xs ++ gathered_of claim ps ys
+pub gathered_append : (claim : Option ClaimValue) (ps : ℤ) (xs ys : List NoteValue) → gathered_of claim ps (xs ++ ys) ≡ gathered_of claim ps xs ++ gathered_of claim ps ys
 gathered_append claim ps xs ys = counted_parts claim ps xs ys
 
 -- one annotation that counts, and one that doesn't
-pub gathered_one : (claim : Option Terms) (ps : ℤ) (n : NoteValue) (text : List ℕ) → Some text ≡ counted_text claim (ps +ℤ n.onset) n.text
+pub gathered_one : (claim : Option ClaimValue) (ps : ℤ) (n : NoteValue) (text : List ℕ) → Some text ≡ counted_text claim (ps +ℤ n.onset) n.text
     → record { onset = ps +ℤ n.onset; duration = n.duration; text = text } ∷ [] ≡ gathered_of claim ps (n ∷ [])
 gathered_one None ps n text e = let same : text ≡ n.text = cc in ap (λ t. record { onset = ps +ℤ n.onset; duration = n.duration; text = t } ∷ []) same
 gathered_one (Some claim) ps n text e = kept (keeps_annotation claim (ps +ℤ n.onset) n.text) e
@@ -124,14 +124,14 @@ gathered_one (Some claim) ps n text e = kept (keeps_annotation claim (ps +ℤ n.
     kept false e = absurd (let z : Some text ≡ None = e in cc)
 
 -- one more that counts, behind those that are held
-pub pushed_one : (before after : List Note) (v : Note) (claim : Option Terms) (ps : ℤ) (n : NoteValue) (text : List ℕ) → after ≡ before ++ (v ∷ [])
+pub pushed_one : (before after : List Note) (v : Note) (claim : Option ClaimValue) (ps : ℤ) (n : NoteValue) (text : List ℕ) → after ≡ before ++ (v ∷ [])
     → note_value v ≡ record { onset = ps +ℤ n.onset; duration = n.duration; text = text } → Some text ≡ counted_text claim (ps +ℤ n.onset) n.text
     → map note_value after ≡ map note_value before ++ gathered_of claim ps (n ∷ [])
 pushed_one before after v claim ps n text items value counts =
     let had : List NoteValue = map note_value before in
     ap (map note_value) items ∙ map-append note_value before (v ∷ []) ∙ ap (λ x. had ++ (x ∷ [])) value ∙ ap (λ more. had ++ more) (gathered_one claim ps n text counts)
 
-pub gathered_none : (claim : Option Terms) (ps : ℤ) (n : NoteValue) → None ≡ counted_text claim (ps +ℤ n.onset) n.text → [] ≡ gathered_of claim ps (n ∷ [])
+pub gathered_none : (claim : Option ClaimValue) (ps : ℤ) (n : NoteValue) → None ≡ counted_text claim (ps +ℤ n.onset) n.text → [] ≡ gathered_of claim ps (n ∷ [])
 gathered_none None ps n e = absurd (let z : None ≡ Some n.text = e in cc)
 gathered_none (Some claim) ps n e = left (keeps_annotation claim (ps +ℤ n.onset) n.text) e
   where
@@ -150,15 +150,15 @@ all-moved-twice a b [] = refl
 all-moved-twice a b (n ∷ ns) = rw (moved-twice a b n, all-moved-twice a b ns) refl
 
 -- the annotations of a data record, moved at once
-pub gathered_here : (claim : Option Terms) (ps : ℤ) (r : Reader) → is_current r.status ≡ true → gathered_in claim ps r ≡ gathered_of claim (file_start r.head +ℤ ps) (notes_in r.head r.current)
+pub gathered_here : (claim : Option ClaimValue) (ps : ℤ) (r : Reader) → is_current r.status ≡ true → gathered_in claim ps r ≡ gathered_of claim (file_start r.head +ℤ ps) (notes_in r.head r.current)
 unfolding moved_notes_in
 gathered_here claim ps r e = rw e (ap (counted_of claim) (all-moved-twice ps (file_start r.head) (notes_in r.head r.current)))
 
-pub gathered_nothing : (claim : Option Terms) (ps : ℤ) (r : Reader) → is_current r.status ≡ false → gathered_in claim ps r ≡ []
+pub gathered_nothing : (claim : Option ClaimValue) (ps : ℤ) (r : Reader) → is_current r.status ≡ false → gathered_in claim ps r ≡ []
 gathered_nothing claim ps r e = rw e refl
 
 -- the annotations of one data record more
-gathered_next : (s : Status) (old new : Reader) (left file : List ℕ) (claim : Option Terms) (ps : ℤ) (notes notes' : List NoteValue) → IsGoing s → new.status ≡ s → new.head ≡ old.head
+gathered_next : (s : Status) (old new : Reader) (left file : List ℕ) (claim : Option ClaimValue) (ps : ℤ) (notes notes' : List NoteValue) → IsGoing s → new.status ≡ s → new.head ≡ old.head
     → (is_current s ≡ true → (new.read ≡ old.read + 1) × (new.read ≤ (new.head).records)) → Comes (is_current s) old new left file
     → notes ≡ gathered_of claim ps (moved_notes_before file old.head old.read) → notes' ≡ notes ++ gathered_in claim ps new
     → notes' ≡ gathered_of claim ps (moved_notes_before file new.head new.read)
@@ -183,7 +183,7 @@ gathered_next Ended old new left file claim ps notes notes' g same e count comes
 pub there_next : (old new : Reader) (left file : List ℕ) → IsGoing new.status → new.head ≡ old.head → Comes (is_current new.status) old new left file → IsThere new left file
 there_next old new left file g head comes = record { stands = stands_next new.status old new left file g comes; ended = ended_next new.status old new left file g head comes }
 
-pub at_next : (old new : Reader) (left left' : List ℕ) (notes notes' : List NoteValue) (file : List ℕ) (claim : Option Terms) (ps t u : ℤ) → is_current old.status ≡ true → t ≤ℤ u → ends_at old ps ≤ℤ u → IsGoing new.status → new.head ≡ old.head
+pub at_next : (old new : Reader) (left left' : List ℕ) (notes notes' : List NoteValue) (file : List ℕ) (claim : Option ClaimValue) (ps t u : ℤ) → is_current old.status ≡ true → t ≤ℤ u → ends_at old ps ≤ℤ u → IsGoing new.status → new.head ≡ old.head
     → (is_current new.status ≡ true → (new.read ≡ old.read + 1) × (new.read ≤ (new.head).records)) → notes' ≡ notes ++ gathered_in claim ps new
     → IsAt old left notes file claim ps t → Comes (is_current new.status) old new left' file → IsAt new left' notes' file claim ps u
 at_next old new left left' notes notes' file claim ps t u cur l e g head count more at comes =
@@ -195,11 +195,11 @@ at_next old new left left' notes notes' file claim ps t u cur l e g head count m
       gathered = gathered_next new.status old new left' file claim ps notes notes' g refl head count comes at.gathered more;
     }
 
-none_gathered : (claim : Option Terms) (ps : ℤ) (file : List ℕ) (h : Head) (k : ℕ) → k ≡ 0 → [] ≡ gathered_of claim ps (moved_notes_before file h k)
+none_gathered : (claim : Option ClaimValue) (ps : ℤ) (file : List ℕ) (h : Head) (k : ℕ) → k ≡ 0 → [] ≡ gathered_of claim ps (moved_notes_before file h k)
 none_gathered claim ps file h k e = let P : ℕ → Type 0 = λ j. [] ≡ gathered_of claim ps (moved_notes_before file h j) in subst P (sym e) (gathered_nil claim ps)
 
 -- the first data record, or the end
-pub at_first : (old new : Reader) (left : List ℕ) (notes' : List NoteValue) (file : List ℕ) (claim : Option Terms) (ps u : ℤ) → old.read ≡ 0 → IsGoing new.status → new.head ≡ old.head
+pub at_first : (old new : Reader) (left : List ℕ) (notes' : List NoteValue) (file : List ℕ) (claim : Option ClaimValue) (ps u : ℤ) → old.read ≡ 0 → IsGoing new.status → new.head ≡ old.head
     → (is_current new.status ≡ true → (new.read ≡ old.read + 1) × (new.read ≤ (new.head).records)) → notes' ≡ gathered_in claim ps new
     → Comes (is_current new.status) old new left file → IsAt new left notes' file claim ps u
 at_first old new left notes' file claim ps u none g head count more comes =
@@ -222,7 +222,7 @@ begins-so Ended old new left file none g comes =
 pub begins_with_one : (old new : Reader) (left file : List ℕ) → old.read ≡ 0 → IsGoing new.status → Comes (is_current new.status) old new left file → is_current new.status ≡ true
 begins_with_one old new left file none g comes = begins-so new.status old new left file none g comes
 
-pub moves_on : (first old new : Reader) (a b c : Bool) (f g h : Reads) (left left' left'' : List ℕ) (notes notes' notes'' : List NoteValue) (claim : Option Terms) (ps s t u : ℤ)
+pub moves_on : (first old new : Reader) (a b c : Bool) (f g h : Reads) (left left' left'' : List ℕ) (notes notes' notes'' : List NoteValue) (claim : Option ClaimValue) (ps s t u : ℤ)
     → Moves first old a b f g left left' notes notes' claim ps s t → Moves old new b c g h left' left'' notes' notes'' claim ps t u → Moves first new a c f h left left'' notes notes'' claim ps s u
 moves_on first old new a b c f g h left left' left'' notes notes' notes'' claim ps s t u p q = record {
   head = q.head ∙ p.head;
@@ -234,7 +234,7 @@ moves_on first old new a b c f g h left left' left'' notes notes' notes'' claim 
 }
 
 -- nobody has read on yet
-pub moves_none : (r : Reader) (honest : Bool) (fails : Reads) (left : List ℕ) (notes : List NoteValue) (claim : Option Terms) (ps t : ℤ) → IsGoing r.status → IsAhead r ps t → Moves r r honest honest fails fails left left notes notes claim ps t t
+pub moves_none : (r : Reader) (honest : Bool) (fails : Reads) (left : List ℕ) (notes : List NoteValue) (claim : Option ClaimValue) (ps t : ℤ) → IsGoing r.status → IsAhead r ps t → Moves r r honest honest fails fails left left notes notes claim ps t t
 moves_none r honest fails left notes claim ps t going ahead = record { head = refl; going = going; ahead = ahead; honesty = λ x. x; failures = refl; comes = λ x file at. at }
 
 -- the next data record ends later

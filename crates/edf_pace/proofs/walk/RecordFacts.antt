@@ -6,7 +6,7 @@ use Rattle.std.proofs.lemmas.Int.{ints}
 use Rattle.std.proofs.lemmas.List.{append-nil, map-append}
 use Rattle.std.proofs.lemmas.List.Elements.{filter-append}
 use borrow.Author.Differences.{up, down}
-use Rattle.edf_claim.specs.Terms.{Terms}
+use Rattle.edf_claim.specs.ClaimValues.{ClaimValue}
 use Rattle.edf_claim.specs.Keeps.{keeps_instant}
 use Rattle.edf_fields.specs.Lists.{Has}
 use Rattle.edf_fields.proofs.ForCallers.{has-append, has-filtered}
@@ -62,14 +62,14 @@ kept-cons ps true k x some all keeps is rest =
 kept-cons ps false k x some all keeps is rest = rest
 
 -- the samples that are kept, where all those of a channel have one denominator
-kept-of : (claim : Terms) (ps : ℤ) (c n : ℕ) (xs : List Sample) → ((x : Sample) → Has xs x → is_of c x ≡ true → (x.instant).den ≡ n)
+kept-of : (claim : ClaimValue) (ps : ℤ) (c n : ℕ) (xs : List Sample) → ((x : Sample) → Has xs x → is_of c x ≡ true → (x.instant).den ≡ n)
     → points_of (is_kept claim c ps) ps xs ≡ filter (λ x. keeps_instant claim x.num n) (points_of (is_of c) ps xs)
 kept-of claim ps c n [] of = refl
 kept-of claim ps c n (x ∷ xs) of =
     kept-cons ps (is_of c x) (keeps_instant claim (point_of ps x).num (x.instant).den) x (filter (is_kept claim c ps) xs) (filter (is_of c) xs) (λ y. keeps_instant claim y.num n)
     (λ t. ap (keeps_instant claim (point_of ps x).num) (of x (inl refl) t)) (kept-of claim ps c n xs (λ y i. of y (inr i)))
 
-pub points-are-kept : (claim : Terms) (file : List ℕ) (h : Head) (place : ChannelPlace) (ps : ℤ) → Conforms file h → IsPlaceIn h place
+pub points-are-kept : (claim : ClaimValue) (file : List ℕ) (h : Head) (place : ChannelPlace) (ps : ℤ) → Conforms file h → IsPlaceIn h place
     → kept_at claim (sampled file h ps) place ≡ filter (λ x. keeps_instant claim x.num place.samples) (points_at (sampled file h ps) place)
 points-are-kept claim file h place ps c p =
     kept-of claim ps place.number place.samples (samples_of file h) (λ x i t. (of-place file h place x p i t).1)
@@ -263,7 +263,7 @@ unfolding samples_of
 nothing-left file h place ps t c p past =
     since_none place.samples t (points_before file h place ps h.records) (before-past file h place ps h.records t c p past)
 
-pub nothing-kept : (claim : Terms) (file : List ℕ) (h : Head) (place : ChannelPlace) (ps t : ℤ) → Conforms file h → IsPlaceIn h place → ArePast file h ps h.records t
+pub nothing-kept : (claim : ClaimValue) (file : List ℕ) (h : Head) (place : ChannelPlace) (ps t : ℤ) → Conforms file h → IsPlaceIn h place → ArePast file h ps h.records t
     → since place.samples t (kept_at claim (sampled file h ps) place) ≡ []
 nothing-kept claim file h place ps t c p past =
     let n = place.samples in

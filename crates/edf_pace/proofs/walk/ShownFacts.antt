@@ -1,7 +1,7 @@
 -- What a reader shows between two times.
 use Rattle.std.proofs.Common.{◌≡◌, ℕ, ◌<◌, ℤ, ◌≤ℤ◌, true, false, not, List, [], Option, Some, None, IfSome, option_map, map, drop, filter, sym, ap, ◌∙◌, arith, subst}
 use Rattle.std.proofs.lemmas.Int.{ints}
-use Rattle.edf_claim.specs.Terms.{Terms}
+use Rattle.edf_claim.specs.ClaimValues.{ClaimValue}
 use Rattle.edf_claim.specs.Keeps.{keeps_instant}
 use Rattle.edf_claim.specs.KeepsReading.{IsUncut}
 use Rattle.edf_claim.proofs.ForCallers.{kept-alike}
@@ -67,18 +67,18 @@ shown_by r ps place p lane e =
 
 -- ---- what a claim keeps between two times
 
-kept-first : (claim : Terms) (n : ℕ) (t u : ℤ) (xs : List Point) → until n u (since n t (filter (λ x. keeps_instant claim x.num n) xs)) ≡ filter (λ x. keeps_instant claim x.num n) (until n u (since n t xs))
+kept-first : (claim : ClaimValue) (n : ℕ) (t u : ℤ) (xs : List Point) → until n u (since n t (filter (λ x. keeps_instant claim x.num n) xs)) ≡ filter (λ x. keeps_instant claim x.num n) (until n u (since n t xs))
 kept-first claim n t u xs =
     ap (until n u) (filters_swap (λ x. not (is_before (instant n x) (whole t))) (λ x. keeps_instant claim x.num n) xs)
     ∙ filters_swap (λ x. is_before (instant n x) (whole u)) (λ x. keeps_instant claim x.num n) (since n t xs)
 
-alike : (claim : Terms) (n : ℕ) (t u : ℤ) (xs : List Point) (x : Point) → IsUncut claim.keep t u → Has (until n u (since n t xs)) x → keeps_instant claim x.num n ≡ keeps_instant claim t 1
+alike : (claim : ClaimValue) (n : ℕ) (t u : ℤ) (xs : List Point) (x : Point) → IsUncut claim.keep t u → Has (until n u (since n t xs)) x → keeps_instant claim x.num n ≡ keeps_instant claim t 1
 alike claim n t u xs x o h =
     let low = since-from n t xs x (has-filtered (λ y. is_before (instant n y) (whole u)) (since n t xs) x h).0 in
     let high = until-before n u (since n t xs) x h in
     kept-alike claim n x.num t u o (omega (arith, ints, low)) (omega (arith, ints, high))
 
-pub kept_all : (claim : Terms) (file : List ℕ) (r : Reader) (place : ChannelPlace) (ps t u : ℤ) → Conforms file r.head → IsPlaceIn r.head place → IsUncut claim.keep t u → keeps_instant claim t 1 ≡ true
+pub kept_all : (claim : ClaimValue) (file : List ℕ) (r : Reader) (place : ChannelPlace) (ps t u : ℤ) → Conforms file r.head → IsPlaceIn r.head place → IsUncut claim.keep t u → keeps_instant claim t 1 ≡ true
     → until place.samples u (since place.samples t (kept_at claim (sampled file r.head ps) place)) ≡ until place.samples u (since place.samples t (points_at (sampled file r.head ps) place))
 kept_all claim file r place ps t u c p o e =
     let n = place.samples in
@@ -86,7 +86,7 @@ kept_all claim file r place ps t u c p o e =
     ap (λ ys. until n u (since n t ys)) (points-are-kept claim file r.head place ps c p) ∙ kept-first claim n t u xs
     ∙ filter_all (λ x. keeps_instant claim x.num n) (until n u (since n t xs)) (λ x h. alike claim n t u xs x o h ∙ e)
 
-pub kept_none : (claim : Terms) (file : List ℕ) (r : Reader) (place : ChannelPlace) (ps t u : ℤ) → Conforms file r.head → IsPlaceIn r.head place → IsUncut claim.keep t u → keeps_instant claim t 1 ≡ false
+pub kept_none : (claim : ClaimValue) (file : List ℕ) (r : Reader) (place : ChannelPlace) (ps t u : ℤ) → Conforms file r.head → IsPlaceIn r.head place → IsUncut claim.keep t u → keeps_instant claim t 1 ≡ false
     → until place.samples u (since place.samples t (kept_at claim (sampled file r.head ps) place)) ≡ []
 kept_none claim file r place ps t u c p o e =
     let n = place.samples in
@@ -96,7 +96,7 @@ kept_none claim file r place ps t u c p o e =
 
 -- ---- the channels of all pairs
 
-pub windows_are : (claim : Terms) (o e : Sampled) (t u : ℤ) (pairs : List Pair) (i : ℕ) (held : Option Found) → i ≡ 0
+pub windows_are : (claim : ClaimValue) (o e : Sampled) (t u : ℤ) (pairs : List Pair) (i : ℕ) (held : Option Found) → i ≡ 0
     → held ≡ earliest i (map (λ p. window_of claim o e t u (places_of p).0 (places_of p).1) (drop i pairs)) → held ≡ window_difference claim o e (map places_of pairs) t u
 unfolding window_difference
 windows_are claim o e t u pairs i held z h =
@@ -104,7 +104,7 @@ windows_are claim o e t u pairs i held z h =
     ∙ ap (earliest 0) (sym (map-map (λ (p : Places). window_of claim o e t u p.0 p.1) places_of pairs))
 
 -- the difference of the channels of a pair that has both
-pub pair_window : (claim : Terms) (o e : Sampled) (t u : ℤ) (pair : Pair) (here there : Track) (n m : ℕ) (xs ys : List Point) (d : Option PointDifference) → pair.original ≡ Some here → pair.export ≡ Some there
+pub pair_window : (claim : ClaimValue) (o e : Sampled) (t u : ℤ) (pair : Pair) (here there : Track) (n m : ℕ) (xs ys : List Point) (d : Option PointDifference) → pair.original ≡ Some here → pair.export ≡ Some there
     → n ≡ here.place.samples → m ≡ there.place.samples
     → xs ≡ until here.place.samples u (since here.place.samples t (kept_at claim o here.place)) → ys ≡ until there.place.samples u (since there.place.samples t (points_at e there.place))
     → d ≡ first_difference_of n xs m ys → d ≡ window_of claim o e t u (places_of pair).0 (places_of pair).1

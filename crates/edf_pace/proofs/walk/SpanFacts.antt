@@ -4,7 +4,7 @@ use Rattle.std.proofs.lemmas.Int.{ints}
 use Rattle.std.proofs.Math.Nat.{mul-le-mul_right}
 use Rattle.std.specs.List.{list_any}
 use borrow.Author.Differences.{up, down}
-use Rattle.edf_claim.specs.Terms.{Terms}
+use Rattle.edf_claim.specs.ClaimValues.{ClaimValue}
 use Rattle.edf_claim.specs.Keeps.{keeps_instant}
 use Rattle.edf_claim.specs.KeepsReading.{is_within}
 use Rattle.edf_claim.specs.declared.kept.interval.Interval.{Interval}
@@ -41,11 +41,11 @@ span true t u keep = cut_from t keep
 span false t u keep = cut_until u (cut_from t keep)
 
 -- the claim that keeps only this
-abbrev pub claim_within : Bool → ℤ → ℤ → Terms → Terms
+abbrev pub claim_within : Bool → ℤ → ℤ → ClaimValue → ClaimValue
 claim_within is_last t u claim = record { channels = claim.channels; keep = span is_last t u claim.keep; anonymous = claim.anonymous; shift = claim.shift; remove = claim.remove; remove_prefix = claim.remove_prefix; blank = claim.blank }
 
 -- the earliest difference of these channels, of all samples
-unfoldable pub whole_difference : Terms → Sampled → Sampled → List Places → Option Found
+unfoldable pub whole_difference : ClaimValue → Sampled → Sampled → List Places → Option Found
 whole_difference claim o e places = earliest 0 (map (λ p. difference_at claim o e p.0 p.1) places)
 
 -- ---- intervals that are cut
@@ -119,11 +119,11 @@ until-none (i ∷ is) u num n h = rw (no-end n num i.to_ps u h, and-false (int_l
 -- ---- the claim within a span
 
 -- within its span it keeps what it kept
-pub within-keeps : (is_last : Bool) (claim : Terms) (t u num : ℤ) (n : ℕ) → (t *ℤ pos n) ≤ℤ num → (is_last ≡ false → num <ℤ (u *ℤ pos n)) → keeps_instant (claim_within is_last t u claim) num n ≡ keeps_instant claim num n
+pub within-keeps : (is_last : Bool) (claim : ClaimValue) (t u num : ℤ) (n : ℕ) → (t *ℤ pos n) ≤ℤ num → (is_last ≡ false → num <ℤ (u *ℤ pos n)) → keeps_instant (claim_within is_last t u claim) num n ≡ keeps_instant claim num n
 within-keeps true claim t u num n h k = from-keeps claim.keep t num n h
 within-keeps false claim t u num n h k = until-keeps (cut_from t claim.keep) u num n (k refl) ∙ from-keeps claim.keep t num n h
 
-none-before : (is_last : Bool) (claim : Terms) (t u num : ℤ) (n : ℕ) → num <ℤ (t *ℤ pos n) → keeps_instant (claim_within is_last t u claim) num n ≡ false
+none-before : (is_last : Bool) (claim : ClaimValue) (t u num : ℤ) (n : ℕ) → num <ℤ (t *ℤ pos n) → keeps_instant (claim_within is_last t u claim) num n ≡ false
 none-before true claim t u num n h = from-none claim.keep t num n h
 none-before false claim t u num n h =
     by_test (int_lt num (u *ℤ pos n)) (λ b. keeps_instant (claim_within false t u claim) num n ≡ false)
@@ -131,13 +131,13 @@ none-before false claim t u num n h =
     (λ e. until-none (cut_from t claim.keep) u num n (omega (arith, ints, e)))
 
 -- before and behind it nothing
-pub within-from : (is_last : Bool) (claim : Terms) (t u num : ℤ) (n : ℕ) → keeps_instant (claim_within is_last t u claim) num n ≡ true → (t *ℤ pos n) ≤ℤ num
+pub within-from : (is_last : Bool) (claim : ClaimValue) (t u num : ℤ) (n : ℕ) → keeps_instant (claim_within is_last t u claim) num n ≡ true → (t *ℤ pos n) ≤ℤ num
 within-from is_last claim t u num n h =
     by_test (int_lt num (t *ℤ pos n)) (λ b. (t *ℤ pos n) ≤ℤ num)
     (λ e. absurd (other_way (keeps_instant (claim_within is_last t u claim) num n) h (none-before is_last claim t u num n (omega (arith, ints, e)))))
     (λ e. omega (arith, ints, e))
 
-pub within-until : (claim : Terms) (t u num : ℤ) (n : ℕ) → keeps_instant (claim_within false t u claim) num n ≡ true → num <ℤ (u *ℤ pos n)
+pub within-until : (claim : ClaimValue) (t u num : ℤ) (n : ℕ) → keeps_instant (claim_within false t u claim) num n ≡ true → num <ℤ (u *ℤ pos n)
 within-until claim t u num n h =
     by_test (int_lt num (u *ℤ pos n)) (λ b. num <ℤ (u *ℤ pos n))
     (λ e. omega (arith, ints, e))
@@ -145,7 +145,7 @@ within-until claim t u num n h =
 
 -- ---- the samples that are kept within a span
 
-abbrev keeps_point : Terms → ℕ → Point → Bool
+abbrev keeps_point : ClaimValue → ℕ → Point → Bool
 keeps_point claim n x = keeps_instant claim x.num n
 
 abbrev not_before : ℕ → ℤ → Point → Bool
@@ -157,7 +157,7 @@ passes-from n t x h = ap not (false-is_before (instant n x) (whole t) (omega (ar
 from-passes : (n : ℕ) (t : ℤ) (x : Point) → not_before n t x ≡ true → (t *ℤ pos n) ≤ℤ x.num
 from-passes n t x h = let b = is_before-false (instant n x) (whole t) (not-true (is_before (instant n x) (whole t)) h) in omega (arith, ints, b)
 
-rest-kept : (claim : Terms) (n : ℕ) (t u : ℤ) (xs : List Point) → since n t (filter (keeps_point claim n) xs) ≡ filter (keeps_point (claim_within true t u claim) n) xs
+rest-kept : (claim : ClaimValue) (n : ℕ) (t u : ℤ) (xs : List Point) → since n t (filter (keeps_point claim n) xs) ≡ filter (keeps_point (claim_within true t u claim) n) xs
 rest-kept claim n t u xs =
     let K = keeps_point claim n in
     let L = keeps_point (claim_within true t u claim) n in
@@ -169,7 +169,7 @@ rest-kept claim n t u xs =
     ∙ filter_implied L A (filter K xs) (λ x h. passes-from n t x (within-from true claim t u x.num n h))
     ∙ filter_implied L K xs (λ x h. sym (within-keeps true claim t u x.num n (within-from true claim t u x.num n h) (none x)) ∙ h)
 
-window-kept : (claim : Terms) (n : ℕ) (t u : ℤ) (xs : List Point) → until n u (since n t (filter (keeps_point claim n) xs)) ≡ filter (keeps_point (claim_within false t u claim) n) xs
+window-kept : (claim : ClaimValue) (n : ℕ) (t u : ℤ) (xs : List Point) → until n u (since n t (filter (keeps_point claim n) xs)) ≡ filter (keeps_point (claim_within false t u claim) n) xs
 window-kept claim n t u xs =
     let K = keeps_point claim n in
     let L = keeps_point (claim_within false t u claim) n in
@@ -189,7 +189,7 @@ until-all n t xs h = filter_all (λ x. is_before (instant n x) (whole t)) xs (λ
 
 -- ---- one channel
 
-place-within : (is_last : Bool) (claim : Terms) (o e : List ℕ) (h g : Head) (a b t u : ℤ) (p q : Option ChannelPlace) → Conforms o h → Conforms e g → IfSome p (IsPlaceIn h) → IfSome q (IsPlaceIn g)
+place-within : (is_last : Bool) (claim : ClaimValue) (o e : List ℕ) (h g : Head) (a b t u : ℤ) (p q : Option ChannelPlace) → Conforms o h → Conforms e g → IfSome p (IsPlaceIn h) → IfSome q (IsPlaceIn g)
     → t ≤ℤ begin_by e g b 0 → u ≡ last_end_by e g b
     → (if is_last then rest_of claim (sampled o h a) (sampled e g b) t p q else window_of claim (sampled o h a) (sampled e g b) t u p q) ≡ difference_at (claim_within is_last t u claim) (sampled o h a) (sampled e g b) p q
 place-within true claim o e h g a b t u None q co ce ip iq from end = refl
@@ -219,19 +219,19 @@ place-within false claim o e h g a b t u (Some p) (Some q) co ce ip iq from end 
 
 -- ---- all channels
 
-rests-within : (claim : Terms) (o e : List ℕ) (h g : Head) (a b t u : ℤ) (ps : List Places) → Conforms o h → Conforms e g → ArePlaces h g ps → t ≤ℤ begin_by e g b 0 → u ≡ last_end_by e g b
+rests-within : (claim : ClaimValue) (o e : List ℕ) (h g : Head) (a b t u : ℤ) (ps : List Places) → Conforms o h → Conforms e g → ArePlaces h g ps → t ≤ℤ begin_by e g b 0 → u ≡ last_end_by e g b
     → map (λ p. rest_of claim (sampled o h a) (sampled e g b) t p.0 p.1) ps ≡ map (λ p. difference_at (claim_within true t u claim) (sampled o h a) (sampled e g b) p.0 p.1) ps
 unfolding ArePlaces
 rests-within claim o e h g a b t u [] co ce all from end = refl
 rests-within claim o e h g a b t u (p ∷ ps) co ce all from end = rw (place-within true claim o e h g a b t u p.0 p.1 co ce all.0 all.1 from end, rests-within claim o e h g a b t u ps co ce all.2 from end) refl
 
-windows-within : (claim : Terms) (o e : List ℕ) (h g : Head) (a b t u : ℤ) (ps : List Places) → Conforms o h → Conforms e g → ArePlaces h g ps → t ≤ℤ begin_by e g b 0 → u ≡ last_end_by e g b
+windows-within : (claim : ClaimValue) (o e : List ℕ) (h g : Head) (a b t u : ℤ) (ps : List Places) → Conforms o h → Conforms e g → ArePlaces h g ps → t ≤ℤ begin_by e g b 0 → u ≡ last_end_by e g b
     → map (λ p. window_of claim (sampled o h a) (sampled e g b) t u p.0 p.1) ps ≡ map (λ p. difference_at (claim_within false t u claim) (sampled o h a) (sampled e g b) p.0 p.1) ps
 unfolding ArePlaces
 windows-within claim o e h g a b t u [] co ce all from end = refl
 windows-within claim o e h g a b t u (p ∷ ps) co ce all from end = rw (place-within false claim o e h g a b t u p.0 p.1 co ce all.0 all.1 from end, windows-within claim o e h g a b t u ps co ce all.2 from end) refl
 
-pub span_is_whole : (is_last : Bool) (claim : Terms) (o e : List ℕ) (h g : Head) (a b t u : ℤ) (ps : List Places) → Conforms o h → Conforms e g → ArePlaces h g ps → t ≤ℤ begin_by e g b 0 → u ≡ last_end_by e g b
+pub span_is_whole : (is_last : Bool) (claim : ClaimValue) (o e : List ℕ) (h g : Head) (a b t u : ℤ) (ps : List Places) → Conforms o h → Conforms e g → ArePlaces h g ps → t ≤ℤ begin_by e g b 0 → u ≡ last_end_by e g b
     → span_difference is_last claim (sampled o h a) (sampled e g b) ps t u ≡ whole_difference (claim_within is_last t u claim) (sampled o h a) (sampled e g b) ps
 unfolding whole_difference rest_difference window_difference
 span_is_whole true claim o e h g a b t u ps co ce places from end = ap (earliest 0) (rests-within claim o e h g a b t u ps co ce places from end)

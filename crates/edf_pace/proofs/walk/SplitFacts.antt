@@ -1,7 +1,7 @@
 -- The earliest difference from a time on is that before a later time, or else that from there on.
 use Rattle.std.proofs.Common.{◌≡◌, ℕ, ◌+◌, ◌<◌, ℤ, ◌≤ℤ◌, Bool, true, false, cond, List, [], ◌∷◌, ◌++◌, map, Option, Some, None, option_map, IfSome, refl, sym, ap, ◌∙◌, lit<, subst}
 use Rattle.std.specs.Option.{option_or}
-use Rattle.edf_claim.specs.Terms.{Terms}
+use Rattle.edf_claim.specs.ClaimValues.{ClaimValue}
 use Rattle.edf_claim.specs.Keeps.{keeps_instant}
 use Rattle.edf_header.specs.Heads.{Head}
 use Rattle.edf_stream.specs.declared.times.instant.Instant.{Instant}
@@ -95,12 +95,12 @@ earliest-splits t k (p ∷ ps) s =
 -- ---- one channel of both files
 
 -- where both are there, each has samples, and they rise
-unfoldable pub AreSound : Terms → Sampled → Sampled → Option ChannelPlace → Option ChannelPlace → Type 0
+unfoldable pub AreSound : ClaimValue → Sampled → Sampled → Option ChannelPlace → Option ChannelPlace → Type 0
 AreSound claim o e None q = Unit {0}
 AreSound claim o e (Some p) None = Unit {0}
 AreSound claim o e (Some p) (Some q) = (0 < p.samples) × (0 < q.samples) × IsAscending (kept_at claim o p) × IsAscending (points_at e q)
 
-place_splits : (claim : Terms) (o e : Sampled) (p q : Option ChannelPlace) (t u : ℤ) → AreSound claim o e p q → t ≤ℤ u → rest_of claim o e t p q ≡ option_or (window_of claim o e t u p q) (rest_of claim o e u p q)
+place_splits : (claim : ClaimValue) (o e : Sampled) (p q : Option ChannelPlace) (t u : ℤ) → AreSound claim o e p q → t ≤ℤ u → rest_of claim o e t p q ≡ option_or (window_of claim o e t u p q) (rest_of claim o e u p q)
 unfolding AreSound
 place_splits claim o e None q t u sound l = refl
 place_splits claim o e (Some p) None t u sound l = refl
@@ -114,7 +114,7 @@ place_splits claim o e (Some p) (Some q) t u sound l =
     ∙ difference_splits n m (until n u (since n t xs)) (since n u xs) (until m u (since m t ys)) (since m u ys) (whole u) sound.0 sound.1 (lit< tt)
     (until-before n u (since n t xs)) (until-before m u (since m t ys)) (since-from n u xs) (since-from m u ys)
 
-pub place_before : (claim : Terms) (o e : Sampled) (p q : Option ChannelPlace) (t u : ℤ) → AreSound claim o e p q → IfSome (window_of claim o e t u p q) (λ d. IsBefore d.at (whole u))
+pub place_before : (claim : ClaimValue) (o e : Sampled) (p q : Option ChannelPlace) (t u : ℤ) → AreSound claim o e p q → IfSome (window_of claim o e t u p q) (λ d. IsBefore d.at (whole u))
 unfolding AreSound
 place_before claim o e None q t u sound = tt
 place_before claim o e (Some p) None t u sound = tt
@@ -123,7 +123,7 @@ place_before claim o e (Some p) (Some q) t u sound =
     let m = q.samples in
     difference-before n (until n u (since n t (kept_at claim o p))) m (until m u (since m t (points_at e q))) (whole u) (until-before n u (since n t (kept_at claim o p))) (until-before m u (since m t (points_at e q)))
 
-place_from : (claim : Terms) (o e : Sampled) (p q : Option ChannelPlace) (u : ℤ) → AreSound claim o e p q → IfSome (rest_of claim o e u p q) (λ d. (0 < d.at.den) × IsNotBefore d.at (whole u))
+place_from : (claim : ClaimValue) (o e : Sampled) (p q : Option ChannelPlace) (u : ℤ) → AreSound claim o e p q → IfSome (rest_of claim o e u p q) (λ d. (0 < d.at.den) × IsNotBefore d.at (whole u))
 unfolding AreSound
 place_from claim o e None q u sound = tt
 place_from claim o e (Some p) None u sound = tt
@@ -133,24 +133,24 @@ place_from claim o e (Some p) (Some q) u sound =
 
 -- ---- all channels
 
-unfoldable pub AllSound : Terms → Sampled → Sampled → List Places → Type 0
+unfoldable pub AllSound : ClaimValue → Sampled → Sampled → List Places → Type 0
 AllSound claim o e [] = Unit {0}
 AllSound claim o e (p ∷ ps) = AreSound claim o e p.0 p.1 × AllSound claim o e ps
 
-sides_of : Terms → Sampled → Sampled → ℤ → ℤ → Places → Option PointDifference × Option PointDifference
+sides_of : ClaimValue → Sampled → Sampled → ℤ → ℤ → Places → Option PointDifference × Option PointDifference
 sides_of claim o e t u p = (window_of claim o e t u p.0 p.1, rest_of claim o e u p.0 p.1)
 
-are_sides : (claim : Terms) (o e : Sampled) (ps : List Places) (t u : ℤ) → AllSound claim o e ps → AreSides (whole u) (map (sides_of claim o e t u) ps)
+are_sides : (claim : ClaimValue) (o e : Sampled) (ps : List Places) (t u : ℤ) → AllSound claim o e ps → AreSides (whole u) (map (sides_of claim o e t u) ps)
 unfolding AllSound sides_of
 are_sides claim o e [] t u sound = tt
 are_sides claim o e (p ∷ ps) t u sound = (place_before claim o e p.0 p.1 t u sound.0, place_from claim o e p.0 p.1 u sound.0, are_sides claim o e ps t u sound.1)
 
-rests : (claim : Terms) (o e : Sampled) (ps : List Places) (t u : ℤ) → AllSound claim o e ps → t ≤ℤ u → map (λ p. rest_of claim o e t p.0 p.1) ps ≡ map (λ q. option_or q.0 q.1) (map (sides_of claim o e t u) ps)
+rests : (claim : ClaimValue) (o e : Sampled) (ps : List Places) (t u : ℤ) → AllSound claim o e ps → t ≤ℤ u → map (λ p. rest_of claim o e t p.0 p.1) ps ≡ map (λ q. option_or q.0 q.1) (map (sides_of claim o e t u) ps)
 unfolding AllSound sides_of
 rests claim o e [] t u sound l = refl
 rests claim o e (p ∷ ps) t u sound l = rw (place_splits claim o e p.0 p.1 t u sound.0 l, rests claim o e ps t u sound.1 l) refl
 
-pub all_splits : (claim : Terms) (o e : Sampled) (ps : List Places) (t u : ℤ) → AllSound claim o e ps → t ≤ℤ u → rest_difference claim o e ps t ≡ option_or (window_difference claim o e ps t u) (rest_difference claim o e ps u)
+pub all_splits : (claim : ClaimValue) (o e : Sampled) (ps : List Places) (t u : ℤ) → AllSound claim o e ps → t ≤ℤ u → rest_difference claim o e ps t ≡ option_or (window_difference claim o e ps t u) (rest_difference claim o e ps u)
 unfolding rest_difference window_difference sides_of
 all_splits claim o e ps t u sound l =
     ap (earliest 0) (rests claim o e ps t u sound l)
@@ -163,24 +163,24 @@ unfoldable pub ArePlaces : Head → Head → List Places → Type 0
 ArePlaces h g [] = Unit {0}
 ArePlaces h g (p ∷ ps) = IfSome p.0 (IsPlaceIn h) × IfSome p.1 (IsPlaceIn g) × ArePlaces h g ps
 
-pub kept-ascend : (claim : Terms) (file : List ℕ) (h : Head) (p : ChannelPlace) (ps : ℤ) → Conforms file h → IsPlaceIn h p → IsAscending (kept_at claim (sampled file h ps) p)
+pub kept-ascend : (claim : ClaimValue) (file : List ℕ) (h : Head) (p : ChannelPlace) (ps : ℤ) → Conforms file h → IsPlaceIn h p → IsAscending (kept_at claim (sampled file h ps) p)
 kept-ascend claim file h p ps c is =
     let P : List Point → Type 0 = IsAscending in
     subst P (sym (points-are-kept claim file h p ps c is)) (filter-ascending (λ x. keeps_instant claim x.num p.samples) (points_at (sampled file h ps) p) (points-ascend file h p ps c is))
 
-sound_place : (claim : Terms) (o e : List ℕ) (h g : Head) (a b : ℤ) (p q : Option ChannelPlace) → Conforms o h → Conforms e g → IfSome p (IsPlaceIn h) → IfSome q (IsPlaceIn g) → AreSound claim (sampled o h a) (sampled e g b) p q
+sound_place : (claim : ClaimValue) (o e : List ℕ) (h g : Head) (a b : ℤ) (p q : Option ChannelPlace) → Conforms o h → Conforms e g → IfSome p (IsPlaceIn h) → IfSome q (IsPlaceIn g) → AreSound claim (sampled o h a) (sampled e g b) p q
 unfolding AreSound
 sound_place claim o e h g a b None q co ce ip iq = tt
 sound_place claim o e h g a b (Some p) None co ce ip iq = tt
 sound_place claim o e h g a b (Some p) (Some q) co ce ip iq = (ip.some, iq.some, kept-ascend claim o h p a co ip, points-ascend e g q b ce iq)
 
-pub all_sound : (claim : Terms) (o e : List ℕ) (h g : Head) (a b : ℤ) (ps : List Places) → Conforms o h → Conforms e g → ArePlaces h g ps → AllSound claim (sampled o h a) (sampled e g b) ps
+pub all_sound : (claim : ClaimValue) (o e : List ℕ) (h g : Head) (a b : ℤ) (ps : List Places) → Conforms o h → Conforms e g → ArePlaces h g ps → AllSound claim (sampled o h a) (sampled e g b) ps
 unfolding AllSound ArePlaces
 all_sound claim o e h g a b [] co ce all = tt
 all_sound claim o e h g a b (p ∷ ps) co ce all = (sound_place claim o e h g a b p.0 p.1 co ce all.0 all.1, all_sound claim o e h g a b ps co ce all.2)
 
 -- what is held so far, and what is left
-pub step : (claim : Terms) (o e : List ℕ) (h g : Head) (a b : ℤ) (ps : List Places) (t u : ℤ) (held all : Option Found) → Conforms o h → Conforms e g → ArePlaces h g ps → t ≤ℤ u
+pub step : (claim : ClaimValue) (o e : List ℕ) (h g : Head) (a b : ℤ) (ps : List Places) (t u : ℤ) (held all : Option Found) → Conforms o h → Conforms e g → ArePlaces h g ps → t ≤ℤ u
     → all ≡ option_or held (rest_difference claim (sampled o h a) (sampled e g b) ps t)
     → all ≡ option_or (option_or held (window_difference claim (sampled o h a) (sampled e g b) ps t u)) (rest_difference claim (sampled o h a) (sampled e g b) ps u)
 step claim o e h g a b ps t u held all co ce places l before =
@@ -189,7 +189,7 @@ step claim o e h g a b ps t u held all co ce places l before =
 
 -- ---- at the end
 
-place_end : (claim : Terms) (o e : List ℕ) (h g : Head) (a b t : ℤ) (p q : Option ChannelPlace) → Conforms o h → Conforms e g → IfSome p (IsPlaceIn h) → IfSome q (IsPlaceIn g)
+place_end : (claim : ClaimValue) (o e : List ℕ) (h g : Head) (a b t : ℤ) (p q : Option ChannelPlace) → Conforms o h → Conforms e g → IfSome p (IsPlaceIn h) → IfSome q (IsPlaceIn g)
     → ArePast o h a h.records t → ArePast e g b g.records t → rest_of claim (sampled o h a) (sampled e g b) t p q ≡ None
 place_end claim o e h g a b t None q co ce ip iq po pe = refl
 place_end claim o e h g a b t (Some p) None co ce ip iq po pe = refl
@@ -197,7 +197,7 @@ place_end claim o e h g a b t (Some p) (Some q) co ce ip iq po pe =
     ap (λ xs. first_difference_of p.samples xs q.samples (since q.samples t (points_at (sampled e g b) q))) (nothing-kept claim o h p a t co ip po)
     ∙ ap (λ ys. first_difference_of p.samples [] q.samples ys) (nothing-left e g q b t ce iq pe)
 
-places_end : (claim : Terms) (o e : List ℕ) (h g : Head) (a b t : ℤ) (k : ℕ) (ps : List Places) → Conforms o h → Conforms e g → ArePlaces h g ps → ArePast o h a h.records t → ArePast e g b g.records t
+places_end : (claim : ClaimValue) (o e : List ℕ) (h g : Head) (a b t : ℤ) (k : ℕ) (ps : List Places) → Conforms o h → Conforms e g → ArePlaces h g ps → ArePast o h a h.records t → ArePast e g b g.records t
     → earliest k (map (λ p. rest_of claim (sampled o h a) (sampled e g b) t p.0 p.1) ps) ≡ None
 unfolding ArePlaces
 places_end claim o e h g a b t k [] co ce all po pe = refl
@@ -208,7 +208,7 @@ or_none None = refl
 or_none (Some x) = refl
 
 -- where both files are past, what is held is all
-pub at_end : (claim : Terms) (o e : List ℕ) (h g : Head) (a b : ℤ) (ps : List Places) (t : ℤ) (held all : Option Found) → Conforms o h → Conforms e g → ArePlaces h g ps → ArePast o h a h.records t → ArePast e g b g.records t
+pub at_end : (claim : ClaimValue) (o e : List ℕ) (h g : Head) (a b : ℤ) (ps : List Places) (t : ℤ) (held all : Option Found) → Conforms o h → Conforms e g → ArePlaces h g ps → ArePast o h a h.records t → ArePast e g b g.records t
     → all ≡ option_or held (rest_difference claim (sampled o h a) (sampled e g b) ps t) → held ≡ all
 unfolding rest_difference
 at_end claim o e h g a b ps t held all co ce places po pe before =

@@ -2,7 +2,7 @@
 use Rattle.std.proofs.Common.{◌≡◌, ℕ, ◌+◌, ◌<◌, ℤ, ◌≤ℤ◌, List, [], ◌∷◌, ◌++◌, map, Option, Some, None, IfSome, refl, ap, ◌∙◌, lit<}
 use Rattle.std.proofs.lemmas.List.Elements.{filter-append}
 use Rattle.std.specs.Option.{option_or}
-use Rattle.edf_claim.specs.Terms.{Terms}
+use Rattle.edf_claim.specs.ClaimValues.{ClaimValue}
 use Rattle.edf_fields.proofs.ForCallers.{has-filtered}
 use Rattle.edf_header.specs.Heads.{Head}
 use Rattle.edf_stream.specs.Conforming.{Conforms}
@@ -34,7 +34,7 @@ window_split n t u v xs pn a l r =
 pub until-from : (n : ℕ) (u v : ℤ) (xs : List Point) → AreFrom n (until n v (since n u xs)) (whole u)
 until-from n u v xs x i = since-from n u xs x (has-filtered (λ y. is_before (instant n y) (whole v)) (since n u xs) x i).0
 
-place_parts : (claim : Terms) (o e : Sampled) (p q : Option ChannelPlace) (t u v : ℤ) → AreSound claim o e p q → t ≤ℤ u → u ≤ℤ v → window_of claim o e t v p q ≡ option_or (window_of claim o e t u p q) (window_of claim o e u v p q)
+place_parts : (claim : ClaimValue) (o e : Sampled) (p q : Option ChannelPlace) (t u v : ℤ) → AreSound claim o e p q → t ≤ℤ u → u ≤ℤ v → window_of claim o e t v p q ≡ option_or (window_of claim o e t u p q) (window_of claim o e u v p q)
 unfolding AreSound
 place_parts claim o e None q t u v sound l r = refl
 place_parts claim o e (Some p) None t u v sound l r = refl
@@ -48,7 +48,7 @@ place_parts claim o e (Some p) (Some q) t u v sound l r =
     ∙ difference_splits n m (until n u (since n t xs)) (until n v (since n u xs)) (until m u (since m t ys)) (until m v (since m u ys)) (whole u) sound.0 sound.1 (lit< tt)
     (until-before n u (since n t xs)) (until-before m u (since m t ys)) (until-from n u v xs) (until-from m u v ys)
 
-place_from : (claim : Terms) (o e : Sampled) (p q : Option ChannelPlace) (u v : ℤ) → AreSound claim o e p q → IfSome (window_of claim o e u v p q) (λ d. (0 < d.at.den) × IsNotBefore d.at (whole u))
+place_from : (claim : ClaimValue) (o e : Sampled) (p q : Option ChannelPlace) (u v : ℤ) → AreSound claim o e p q → IfSome (window_of claim o e u v p q) (λ d. (0 < d.at.den) × IsNotBefore d.at (whole u))
 unfolding AreSound
 place_from claim o e None q u v sound = tt
 place_from claim o e (Some p) None u v sound = tt
@@ -60,20 +60,20 @@ place_from claim o e (Some p) (Some q) u v sound =
 
 -- ---- all channels
 
-parts_of : Terms → Sampled → Sampled → ℤ → ℤ → ℤ → Places → Option PointDifference × Option PointDifference
+parts_of : ClaimValue → Sampled → Sampled → ℤ → ℤ → ℤ → Places → Option PointDifference × Option PointDifference
 parts_of claim o e t u v p = (window_of claim o e t u p.0 p.1, window_of claim o e u v p.0 p.1)
 
-are_parts : (claim : Terms) (o e : Sampled) (ps : List Places) (t u v : ℤ) → AllSound claim o e ps → AreSides (whole u) (map (parts_of claim o e t u v) ps)
+are_parts : (claim : ClaimValue) (o e : Sampled) (ps : List Places) (t u v : ℤ) → AllSound claim o e ps → AreSides (whole u) (map (parts_of claim o e t u v) ps)
 unfolding AllSound parts_of
 are_parts claim o e [] t u v sound = tt
 are_parts claim o e (p ∷ ps) t u v sound = (place_before claim o e p.0 p.1 t u sound.0, place_from claim o e p.0 p.1 u v sound.0, are_parts claim o e ps t u v sound.1)
 
-windows : (claim : Terms) (o e : Sampled) (ps : List Places) (t u v : ℤ) → AllSound claim o e ps → t ≤ℤ u → u ≤ℤ v → map (λ p. window_of claim o e t v p.0 p.1) ps ≡ map (λ q. option_or q.0 q.1) (map (parts_of claim o e t u v) ps)
+windows : (claim : ClaimValue) (o e : Sampled) (ps : List Places) (t u v : ℤ) → AllSound claim o e ps → t ≤ℤ u → u ≤ℤ v → map (λ p. window_of claim o e t v p.0 p.1) ps ≡ map (λ q. option_or q.0 q.1) (map (parts_of claim o e t u v) ps)
 unfolding AllSound parts_of
 windows claim o e [] t u v sound l r = refl
 windows claim o e (p ∷ ps) t u v sound l r = rw (place_parts claim o e p.0 p.1 t u v sound.0 l r, windows claim o e ps t u v sound.1 l r) refl
 
-all_parts : (claim : Terms) (o e : Sampled) (ps : List Places) (t u v : ℤ) → AllSound claim o e ps → t ≤ℤ u → u ≤ℤ v → window_difference claim o e ps t v ≡ option_or (window_difference claim o e ps t u) (window_difference claim o e ps u v)
+all_parts : (claim : ClaimValue) (o e : Sampled) (ps : List Places) (t u v : ℤ) → AllSound claim o e ps → t ≤ℤ u → u ≤ℤ v → window_difference claim o e ps t v ≡ option_or (window_difference claim o e ps t u) (window_difference claim o e ps u v)
 unfolding window_difference parts_of
 all_parts claim o e ps t u v sound l r =
     ap (earliest 0) (windows claim o e ps t u v sound l r)
@@ -81,11 +81,11 @@ all_parts claim o e ps t u v sound l r =
     ∙ ap (λ ds. option_or (earliest 0 ds) (earliest 0 (map (λ q. q.1) (map (parts_of claim o e t u v) ps)))) (map-map (λ q. q.0) (parts_of claim o e t u v) ps)
     ∙ ap (λ ds. option_or (earliest 0 (map (λ p. window_of claim o e t u p.0 p.1) ps)) (earliest 0 ds)) (map-map (λ q. q.1) (parts_of claim o e t u v) ps)
 
-pub window_parts : (claim : Terms) (o e : List ℕ) (h g : Head) (a b : ℤ) (ps : List Places) (t u v : ℤ) → Conforms o h → Conforms e g → ArePlaces h g ps → t ≤ℤ u → u ≤ℤ v
+pub window_parts : (claim : ClaimValue) (o e : List ℕ) (h g : Head) (a b : ℤ) (ps : List Places) (t u v : ℤ) → Conforms o h → Conforms e g → ArePlaces h g ps → t ≤ℤ u → u ≤ℤ v
     → window_difference claim (sampled o h a) (sampled e g b) ps t v ≡ option_or (window_difference claim (sampled o h a) (sampled e g b) ps t u) (window_difference claim (sampled o h a) (sampled e g b) ps u v)
 window_parts claim o e h g a b ps t u v co ce places l r = all_parts claim (sampled o h a) (sampled e g b) ps t u v (all_sound claim o e h g a b ps co ce places) l r
 
-pub rest_parts : (claim : Terms) (o e : List ℕ) (h g : Head) (a b : ℤ) (ps : List Places) (t u : ℤ) → Conforms o h → Conforms e g → ArePlaces h g ps → t ≤ℤ u
+pub rest_parts : (claim : ClaimValue) (o e : List ℕ) (h g : Head) (a b : ℤ) (ps : List Places) (t u : ℤ) → Conforms o h → Conforms e g → ArePlaces h g ps → t ≤ℤ u
     → rest_difference claim (sampled o h a) (sampled e g b) ps t ≡ option_or (window_difference claim (sampled o h a) (sampled e g b) ps t u) (rest_difference claim (sampled o h a) (sampled e g b) ps u)
 rest_parts claim o e h g a b ps t u co ce places l = all_splits claim (sampled o h a) (sampled e g b) ps t u (all_sound claim o e h g a b ps co ce places) l
 
@@ -94,17 +94,17 @@ rest_parts claim o e h g a b ps t u co ce places l = all_splits claim (sampled o
 pub nothing_between : (n : ℕ) (t : ℤ) (xs : List Point) → until n t (since n t xs) ≡ []
 nothing_between n t xs = until_none n t (since n t xs) (since-from n t xs)
 
-place_none : (claim : Terms) (o e : Sampled) (p q : Option ChannelPlace) (t : ℤ) → window_of claim o e t t p q ≡ None
+place_none : (claim : ClaimValue) (o e : Sampled) (p q : Option ChannelPlace) (t : ℤ) → window_of claim o e t t p q ≡ None
 place_none claim o e None q t = refl
 place_none claim o e (Some p) None t = refl
 place_none claim o e (Some p) (Some q) t =
     ap (λ xs. first_difference_of p.samples xs q.samples (until q.samples t (since q.samples t (points_at e q)))) (nothing_between p.samples t (kept_at claim o p))
     ∙ ap (λ ys. first_difference_of p.samples [] q.samples ys) (nothing_between q.samples t (points_at e q))
 
-places_none : (claim : Terms) (o e : Sampled) (k : ℕ) (ps : List Places) (t : ℤ) → earliest k (map (λ p. window_of claim o e t t p.0 p.1) ps) ≡ None
+places_none : (claim : ClaimValue) (o e : Sampled) (k : ℕ) (ps : List Places) (t : ℤ) → earliest k (map (λ p. window_of claim o e t t p.0 p.1) ps) ≡ None
 places_none claim o e k [] t = refl
 places_none claim o e k (p ∷ ps) t = rw (place_none claim o e p.0 p.1 t, places_none claim o e (k + 1) ps t) refl
 
-pub window_none : (claim : Terms) (o e : Sampled) (ps : List Places) (t : ℤ) → window_difference claim o e ps t t ≡ None
+pub window_none : (claim : ClaimValue) (o e : Sampled) (ps : List Places) (t : ℤ) → window_difference claim o e ps t t ≡ None
 unfolding window_difference
 window_none claim o e ps t = places_none claim o e 0 ps t

@@ -1,6 +1,6 @@
 -- What the code compares: which channel of a file has a label, and those of its samples that count, as a list.
 use Rattle.std.specs.Prelude.{ℕ, ◌+◌, ◌==◌, ℤ, Bool, ◌&&◌, if◌then◌else◌, List, [], ◌∷◌, map, filter, Option, Some, None}
-use Rattle.edf_pace.specs.Words.{keeps_instant, Terms, channels_among, SignalHead, Head, Point, ChannelPlace}
+use Rattle.edf_pace.specs.Words.{keeps_instant, ClaimValue, channels_among, SignalHead, Head, Point, ChannelPlace}
 use Rattle.std.specs.Str.{bytes_eq}
 use Rattle.edf_stream.specs.declared.samples.sample.Sample.{Sample}
 use Rattle.edf_samples.specs.Instants.{later}
@@ -30,7 +30,7 @@ abbrev pub is_of : ℕ → Sample → Bool
 is_of channel x = x.channel == channel
 
 -- it is, and its instant, so many picoseconds later, is in an interval of the claim
-abbrev pub is_kept : Terms → ℕ → ℤ → Sample → Bool
+abbrev pub is_kept : ClaimValue → ℕ → ℤ → Sample → Bool
 is_kept claim channel ps x = is_of channel x && keeps_instant claim (later ps x.instant).num (x.instant).den
 
 -- those of the samples that pass a test

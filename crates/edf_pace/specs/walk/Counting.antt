@@ -1,6 +1,6 @@
 -- What a watcher counts that looks at each channel.
 use Rattle.std.specs.Prelude.{◌≡◌, ℕ, ℤ, Bool, true, false, List, [], ◌∷◌, map, Option, None, Some}
-use Rattle.edf_pace.specs.Words.{keeps_instant, Terms, PointDifference, ChannelPlace, Clock, Frame, Pair, Reader, Window}
+use Rattle.edf_pace.specs.Words.{keeps_instant, ClaimValue, PointDifference, ChannelPlace, Clock, Frame, Pair, Reader, Window}
 use Rattle.edf_claim.specs.KeepsReading.{IsUncut}
 use Rattle.edf_samples.specs.declared.counts.tally.Tally.{Tally}
 use Rattle.edf_pace.specs.declared.walk.shares.Shares.{Shares}
@@ -13,7 +13,7 @@ use Rattle.edf_pace.specs.walk.Watching.{TwoFiles, moved_export, moved_original}
 use Rattle.edf_pace.specs.walk.Windows.{IsShareIn, kept_at, points_at, sampled}
 
 -- all differences of two channels, of the samples from t on and before u; none where one of them isn't there
-unfoldable pub differences_in : Terms → Sampled → Sampled → ℤ → ℤ → Option ChannelPlace → Option ChannelPlace → List PointDifference
+unfoldable pub differences_in : ClaimValue → Sampled → Sampled → ℤ → ℤ → Option ChannelPlace → Option ChannelPlace → List PointDifference
 differences_in claim o e t u None q = []
 differences_in claim o e t u (Some p) None = []
 differences_in claim o e t u (Some p) (Some q) =
@@ -30,19 +30,19 @@ abbrev pub AreTallies : List Tally → Frame → TwoFiles → ℤ → ℤ → Ty
 AreTallies tallies frame files t u = tallies ≡ counts_between frame files t u
 
 -- all differences of two channels, of the samples from t on
-unfoldable pub differences_since : Terms → Sampled → Sampled → ℤ → Option ChannelPlace → Option ChannelPlace → List PointDifference
+unfoldable pub differences_since : ClaimValue → Sampled → Sampled → ℤ → Option ChannelPlace → Option ChannelPlace → List PointDifference
 differences_since claim o e t None q = []
 differences_since claim o e t (Some p) None = []
 differences_since claim o e t (Some p) (Some q) = differences_of p.samples (since p.samples t (kept_at claim o p)) q.samples (since q.samples t (points_at e q))
 
 -- the tally of each of these channels, of the samples from t on; where further exports follow, of those before u alone
-abbrev pub span_counts : Bool → Terms → Sampled → Sampled → List Places → ℤ → ℤ → List Tally
+abbrev pub span_counts : Bool → ClaimValue → Sampled → Sampled → List Places → ℤ → ℤ → List Tally
 span_counts true claim o e places t u = map (λ (p : Places). tally_of (differences_since claim o e t p.0 p.1)) places
 span_counts false claim o e places t u = map (λ (p : Places). tally_of (differences_in claim o e t u p.0 p.1)) places
 
 -- the differences of a pair of channels were counted that two readers show in a window of which these are the shares
 abbrev pub IsPairCounted : Reader → Reader → Shares → Pair → Tally → Tally → Type 0
-IsPairCounted r s shares pair before after = (claim : Terms) (clock : Clock) (w : Window)
+IsPairCounted r s shares pair before after = (claim : ClaimValue) (clock : Clock) (w : Window)
     → IsShareIn r (clock.original).ps w shares.original → IsShareIn s (clock.export).ps w shares.export
     → IsUncut claim.keep (w.from).ps (w.to).ps → shares.is_kept ≡ keeps_instant claim (w.from).ps 1
     → (o e : List ℕ) → Covers r o (clock.original).ps (w.from).ps (w.to).ps → Covers s e (clock.export).ps (w.from).ps (w.to).ps

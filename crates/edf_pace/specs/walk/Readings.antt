@@ -1,7 +1,7 @@
 -- A reader that goes through a file, as far as the walk has come. Times are picoseconds after the second at which the original
 -- starts, before the shift. These are steps between the definitions and the code.
 use Rattle.std.specs.Prelude.{◌≡◌, ◌^◌, neg_ℤ, pos, ℕ, ℤ, IsTrue, Bool, true, List, [], ◌++◌, map, Option, None, Some, ◌+ℤ◌}
-use Rattle.edf_pace.specs.Words.{Terms, Reads, Ghosts, Conforms, body_fault, NoteValue, moved_notes_before, Comes, Reader, IsOpen, StandsIn, is_current, end_before, note_value, View, Reading, Time, Window, Setting, Turn, Head, file_start, Clock}
+use Rattle.edf_pace.specs.Words.{ClaimValue, Reads, Ghosts, Conforms, body_fault, NoteValue, moved_notes_before, Comes, Reader, IsOpen, StandsIn, is_current, end_before, note_value, View, Reading, Time, Window, Setting, Turn, Head, file_start, Clock}
 use Rattle.edf_stream.specs.annotation.NotesReading.{notes_in}
 use Rattle.edf_stream.specs.declared.records.status.Status.TheVariants.{Ended}
 use Rattle.edf_heads.specs.Comparisons.{AreSorted}
@@ -25,13 +25,13 @@ pub record IsThere (r : Reader) (left file : List ℕ) : Type 0 where
   pub ended : r.status ≡ Ended → (body_fault file r.head ≡ None) × Conforms file r.head × (left ≡ []) × (r.read ≡ (r.head).records) × (r.ended ≡ end_before file r.head (r.head).records)
 
 -- the same; it stands at t, and these are the annotations that were gathered
-pub record IsAt (r : Reader) (left : List ℕ) (notes : List NoteValue) (file : List ℕ) (claim : Option Terms) (ps t : ℤ) : Type 0 where
+pub record IsAt (r : Reader) (left : List ℕ) (notes : List NoteValue) (file : List ℕ) (claim : Option ClaimValue) (ps t : ℤ) : Type 0 where
   pub shows : Shows r.status r file ps t
   pub there : IsThere r left file
   pub gathered : notes ≡ gathered_of claim ps (moved_notes_before file r.head r.read)
 
 -- from t to u: whatever file the reader went through, it still does; of each pair the first is before
-pub record Moves (old new : Reader) (honest honest' : Bool) (fails fails' : Reads) (left left' : List ℕ) (notes notes' : List NoteValue) (claim : Option Terms) (ps t u : ℤ) : Type 0 where
+pub record Moves (old new : Reader) (honest honest' : Bool) (fails fails' : Reads) (left left' : List ℕ) (notes notes' : List NoteValue) (claim : Option ClaimValue) (ps t u : ℤ) : Type 0 where
   pub head : new.head ≡ old.head
   pub going : IsGoing new.status
   pub ahead : IsAhead new ps u
@@ -40,7 +40,7 @@ pub record Moves (old new : Reader) (honest honest' : Bool) (fails fails' : Read
   pub comes : IsTrue honest → (file : List ℕ) → IsAt old left notes file claim ps t → IsAt new left' notes' file claim ps u
 
 -- from the start to t: whatever file the reader stood in, it goes through that
-pub record Follows (old new : Reader) (honest honest' : Bool) (fails fails' : Reads) (left left' : List ℕ) (notes' : List NoteValue) (claim : Option Terms) (ps t : ℤ) : Type 0 where
+pub record Follows (old new : Reader) (honest honest' : Bool) (fails fails' : Reads) (left left' : List ℕ) (notes' : List NoteValue) (claim : Option ClaimValue) (ps t : ℤ) : Type 0 where
   pub head : new.head ≡ old.head
   pub going : IsGoing new.status
   pub ahead : IsAhead new ps t
@@ -66,7 +66,7 @@ abbrev pub going : {S : Type 0} → Ghosts S → Reader → S → Known
 going source r s = record { honest = source.is_honest s; head = r.head; goes = IsThere r (source.left s) }
 
 -- one that a reader goes through, and of which it has come to a time
-abbrev pub at_time : {S : Type 0} → Ghosts S → Reading → S → Option Terms → Offset → Time → Known
+abbrev pub at_time : {S : Type 0} → Ghosts S → Reading → S → Option ClaimValue → Offset → Time → Known
 at_time source r s claim by t = record {
   honest = source.is_honest s;
   head = (r.reader).head;
@@ -80,7 +80,7 @@ abbrev pub export_at : {S : Type 0} → Ghosts S → Reading → S → Setting �
 export_at source r s setting t = at_time source r s None (setting.clock).export t
 
 -- it moves from a time to another; of each pair the first is before
-abbrev pub HasMoved : {S : Type 0} → Ghosts S → Reading → S → Reading → S → Option Terms → Offset → Time → Time → Type 0
+abbrev pub HasMoved : {S : Type 0} → Ghosts S → Reading → S → Reading → S → Option ClaimValue → Offset → Time → Time → Type 0
 HasMoved source r s r' s' claim by t u =
     Moves r.reader r'.reader (source.is_honest s) (source.is_honest s') (source.reads s) (source.reads s') (source.left s) (source.left s')
     (map note_value (r.notes).items) (map note_value (r'.notes).items) claim by.ps t.ps u.ps
@@ -133,7 +133,7 @@ abbrev pub HasGoneOn : {S : Type 0} → Ghosts S → Reader → S → Reader →
 HasGoneOn source r s r' s' = GoesOn r r' (source.is_honest s) (source.is_honest s') (source.left s) (source.left s')
 
 -- by how much the two files are moved, so that both count from the second at which the original starts, before the shift
-pub record IsClock (h : Head) (claim : Terms) (clock : Clock) : Type 0 where
+pub record IsClock (h : Head) (claim : ClaimValue) (clock : Clock) : Type 0 where
   pub original : (clock.original).ps ≡ neg_ℤ (file_start h)
   pub export : (clock.export).ps ≡ neg_ℤ (file_start h +ℤ shift_ps claim)
 

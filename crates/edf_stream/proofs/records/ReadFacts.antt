@@ -20,12 +20,12 @@ sound-of file h c = conforming_is_sound file h c.header
 pub says-read : (file : List ℕ) (h : Head) → Conforms file h → (k : ℕ) → k < h.records → SaysRecord h (record_at file h k) (start_at file h k) (notes_in h (record_at file h k))
 says-read file h c k lt =
     let bytes = record_at file h k in
-    let says = c.say k lt in
-    subst (SaysRecord h bytes (start_at file h k)) (notes-said h bytes (c.starts k) (c.notes k) says)
-    (subst (λ start. SaysRecord h bytes start (c.notes k)) (start-is h bytes (c.starts k) (c.notes k) says) says)
+    let says = (c.says).say k lt in
+    subst (SaysRecord h bytes (start_at file h k)) (notes-said h bytes ((c.says).starts k) ((c.says).notes k) says)
+    (subst (λ start. SaysRecord h bytes start ((c.says).notes k)) (start-is h bytes ((c.says).starts k) ((c.says).notes k) says) says)
 
-starts-read : (file : List ℕ) (h : Head) (c : Conforms file h) → (k : ℕ) → k < h.records → c.starts k ≡ start_at file h k
-starts-read file h c k lt = start-is h (record_at file h k) (c.starts k) (c.notes k) (c.say k lt)
+starts-read : (file : List ℕ) (h : Head) (c : Conforms file h) → (k : ℕ) → k < h.records → (c.says).starts k ≡ start_at file h k
+starts-read file h c k lt = start-is h (record_at file h k) ((c.says).starts k) ((c.says).notes k) ((c.says).say k lt)
 
 some-records : (file : List ℕ) (h : Head) → Conforms file h → 0 < h.records
 some-records file h c = let some : 1 ≤ h.records = ((c.header).standard).some_records in omega (arith, some)
@@ -40,10 +40,10 @@ starts_early file h c = subst (λ start. start <ℤ pos (10 ^ 12)) (starts-read 
 pub follows-read : (file : List ℕ) (h : Head) → Conforms file h → (k : ℕ) → suc k < h.records → FollowsOn h.kind (end_at file h k) (start_at file h (suc k))
 follows-read file h c k lt =
     subst (FollowsOn h.kind (end_at file h k)) (starts-read file h c (suc k) lt)
-    (subst (λ start. FollowsOn h.kind (start +ℤ h.duration) (c.starts (suc k))) (starts-read file h c k (omega (arith, lt))) (c.follows k lt))
+    (subst (λ start. FollowsOn h.kind (start +ℤ h.duration) ((c.says).starts (suc k))) (starts-read file h c k (omega (arith, lt))) (c.follows k lt))
 
 pub few-read : (file : List ℕ) (h : Head) → Conforms file h → notes_before file h h.records ≤ 1000000
-few-read file h c = subst (λ n. n ≤ 1000000) (ap length (say-read file h c.starts c.notes c.say) ∙ together-count file h h.records) c.few
+few-read file h c = subst (λ n. n ≤ 1000000) (ap length (has-read file h c.notes c.says) ∙ together-count file h h.records) c.few
 
 -- the instant of a sample, by the start that is read
 pub sample-at : (file : List ℕ) (h : Head) (x : SampleValue) (r : IsSample file h x)

@@ -27,27 +27,27 @@ items-say (tal ∷ tals) = ap (λ notes. notes_of_tal tal ++ notes) (items-say t
 lane-says : (lane : List ℕ) (tals : List TalValue) → IsLaneOf lane tals → notes_of_lane lane ≡ flat_map notes_of_tal tals
 lane-says lane tals is = ap notes_of_items (lane-read tals lane is) ∙ items-say tals
 
-lanes-say : (lanes : List (List ℕ)) (talss : List (List TalValue)) → AreLanesOf lanes talss → notes_of_lanes lanes ≡ flat_map (λ tals. flat_map notes_of_tal tals) talss
+lanes-say : (lanes : List (List ℕ)) (others : List (List TalValue)) → AreLanesOf lanes others → notes_of_lanes lanes ≡ flat_map (λ tals. flat_map notes_of_tal tals) others
 lanes-say [] [] are = refl
-lanes-say [] (tals ∷ talss) are = absurd are
+lanes-say [] (tals ∷ others) are = absurd are
 lanes-say (lane ∷ lanes) [] are = absurd are
-lanes-say (lane ∷ lanes) (tals ∷ talss) are =
-    ap (λ notes. notes ++ notes_of_lanes lanes) (lane-says lane tals are.0) ∙ ap (λ notes. flat_map notes_of_tal tals ++ notes) (lanes-say lanes talss are.1)
+lanes-say (lane ∷ lanes) (tals ∷ others) are =
+    ap (λ notes. notes ++ notes_of_lanes lanes) (lane-says lane tals are.0) ∙ ap (λ notes. flat_map notes_of_tal tals ++ notes) (lanes-say lanes others are.1)
 
 -- what is said in words is what is read: the annotations
 pub notes-said : (h : Head) (bytes : List ℕ) (start : ℤ) (notes : List NoteValue) → SaysRecord h bytes start notes → notes ≡ notes_in h bytes
 unfolding notes_in
 notes-said h bytes start notes says =
     let first : TalValue = record { onset = start; duration = says.duration; texts = [] ∷ says.texts } in
-    let all : notes_of_lanes (annotation_lanes h.signals bytes) ≡ flat_map (λ tals. flat_map notes_of_tal tals) ((first ∷ says.tals) ∷ says.talss) = lanes-say (annotation_lanes h.signals bytes) ((first ∷ says.tals) ∷ says.talss) says.lanes in
+    let all : notes_of_lanes (annotation_lanes h.signals bytes) ≡ flat_map (λ tals. flat_map notes_of_tal tals) ((first ∷ says.beside) ∷ says.besides) = lanes-say (annotation_lanes h.signals bytes) ((first ∷ says.beside) ∷ says.besides) says.lanes in
     let rest = notes_of_tal (record { onset = start; duration = says.duration; texts = says.texts }) in
-    says.notes_are ∙ sym (append_assoc rest (flat_map notes_of_tal says.tals) (flat_map (λ tals. flat_map notes_of_tal tals) says.talss)) ∙ sym (ap (drop 1) all)
+    says.notes_are ∙ sym (append_assoc rest (flat_map notes_of_tal says.beside) (flat_map (λ tals. flat_map notes_of_tal tals) says.besides)) ∙ sym (ap (drop 1) all)
 
 -- the first of lanes of TALs
-first-lane : (lanes : List (List ℕ)) (tals : List TalValue) (talss : List (List TalValue)) → AreLanesOf lanes (tals ∷ talss)
+first-lane : (lanes : List (List ℕ)) (tals : List TalValue) (others : List (List TalValue)) → AreLanesOf lanes (tals ∷ others)
     → (lane : List ℕ) × (more : List (List ℕ)) × (lanes ≡ lane ∷ more) × IsLaneOf lane tals
-first-lane [] tals talss are = absurd are
-first-lane (lane ∷ lanes) tals talss are = (lane, lanes, refl, are.0)
+first-lane [] tals others are = absurd are
+first-lane (lane ∷ lanes) tals others are = (lane, lanes, refl, are.0)
 
 lane-starts : (lane : List ℕ) (start : ℤ) (duration : Option ℤ) (texts : List (List ℕ)) (tals : List TalValue)
     → IsLaneOf lane (record { onset = start; duration = duration; texts = [] ∷ texts } ∷ tals) → StartsAt lane start
@@ -67,8 +67,8 @@ pub begins : (h : Head) (bytes : List ℕ) (start : ℤ) (notes : List NoteValue
     → (lane : List ℕ) × (more : List (List ℕ)) × (annotation_lanes h.signals bytes ≡ lane ∷ more) × StartsAt lane start
 begins h bytes start notes says =
     let first : TalValue = record { onset = start; duration = says.duration; texts = [] ∷ says.texts } in
-    let found = first-lane (annotation_lanes h.signals bytes) (first ∷ says.tals) says.talss says.lanes in
-    (found.0, found.1, found.2, lane-starts found.0 start says.duration says.texts says.tals found.3)
+    let found = first-lane (annotation_lanes h.signals bytes) (first ∷ says.beside) says.besides says.lanes in
+    (found.0, found.1, found.2, lane-starts found.0 start says.duration says.texts says.beside found.3)
 
 -- the start
 pub start-said : (h : Head) (bytes : List ℕ) (start : ℤ) (notes : List NoteValue) → SaysRecord h bytes start notes → said_start h bytes ≡ Ok start
@@ -81,18 +81,18 @@ pub start-is : (h : Head) (bytes : List ℕ) (start : ℤ) (notes : List NoteVal
 start-is h bytes start notes says = sym (ap or_zero (start-said h bytes start notes says))
 
 -- its lanes are lanes of TALs
-are-lanes : (lanes : List (List ℕ)) (talss : List (List TalValue)) → AreLanesOf lanes talss → All IsLane lanes
-are-lanes [] talss are = All-nil IsLane
+are-lanes : (lanes : List (List ℕ)) (others : List (List TalValue)) → AreLanesOf lanes others → All IsLane lanes
+are-lanes [] others are = All-nil IsLane
 are-lanes (lane ∷ lanes) [] are = absurd are
-are-lanes (lane ∷ lanes) (tals ∷ talss) are = All-cons IsLane lane lanes (tals, are.0) (are-lanes lanes talss are.1)
+are-lanes (lane ∷ lanes) (tals ∷ others) are = All-cons IsLane lane lanes (tals, are.0) (are-lanes lanes others are.1)
 
 pub lanes-said : (h : Head) (bytes : List ℕ) (start : ℤ) (notes : List NoteValue) → SaysRecord h bytes start notes → All IsLane (annotation_lanes h.signals bytes)
 lanes-said h bytes start notes says =
     let first : TalValue = record { onset = start; duration = says.duration; texts = [] ∷ says.texts } in
-    are-lanes (annotation_lanes h.signals bytes) ((first ∷ says.tals) ∷ says.talss) says.lanes
+    are-lanes (annotation_lanes h.signals bytes) ((first ∷ says.beside) ∷ says.besides) says.lanes
 
 -- and back: the TALs of lanes that are lanes of TALs
-tals-of : (lanes : List (List ℕ)) → All IsLane lanes → (talss : List (List TalValue)) × AreLanesOf lanes talss
+tals-of : (lanes : List (List ℕ)) → All IsLane lanes → (others : List (List TalValue)) × AreLanesOf lanes others
 tals-of [] all = ([], tt)
 tals-of (lane ∷ lanes) all =
     let is = All-head IsLane lane lanes all in
@@ -117,7 +117,7 @@ first-keeps (tal ∷ tals) start e =
 
 -- what lanes say that are lanes of TALs, of which the first keeps the time
 lanes-keep : (lanes : List (List ℕ)) (start : ℤ) → All IsLane lanes → start_by_lanes lanes ≡ Ok start
-    → (duration : Option ℤ) × (texts : List (List ℕ)) × (tals : List TalValue) × (talss : List (List TalValue)) × AreLanesOf lanes ((timed start duration texts ∷ tals) ∷ talss)
+    → (duration : Option ℤ) × (texts : List (List ℕ)) × (tals : List TalValue) × (others : List (List TalValue)) × AreLanesOf lanes ((timed start duration texts ∷ tals) ∷ others)
 lanes-keep [] start all e = absurd (let z : Err _ ≡ Ok start = e in cc)
 lanes-keep (lane ∷ lanes) start all e =
     let is = All-head IsLane lane lanes all in
@@ -132,7 +132,7 @@ unfolding said_start timed
 record-says h bytes start all said =
     let r = lanes-keep (annotation_lanes h.signals bytes) start all said in
     let notes = notes_of_tal (record { onset = start; duration = r.0; texts = r.1 }) ++ flat_map (λ tals. flat_map notes_of_tal tals) (r.2 ∷ r.3) in
-    let says : SaysRecord h bytes start notes = record { duration = r.0; texts = r.1; tals = r.2; talss = r.3; lanes = r.4; notes_are = refl } in
+    let says : SaysRecord h bytes start notes = record { duration = r.0; texts = r.1; beside = r.2; others = r.3; lanes = r.4; notes_are = refl } in
     subst (SaysRecord h bytes start) (notes-said h bytes start notes says) says
 
 -- the annotations of all data records, by those of each

@@ -20,21 +20,21 @@ notes_of_tal tal = map (λ text. record { onset = tal.onset; duration = tal.dura
 -- there are as many lanes as lists of TALs, and each lane spells the list at its place
 abbrev pub AreLanesOf : List (List ℕ) → List (List TalValue) → Type 0
 AreLanesOf [] [] = Unit {0}
-AreLanesOf [] (tals ∷ talss) = ⊥
+AreLanesOf [] (tals ∷ others) = ⊥
 AreLanesOf (lane ∷ lanes) [] = ⊥
-AreLanesOf (lane ∷ lanes) (tals ∷ talss) = IsLaneOf lane tals × AreLanesOf lanes talss
+AreLanesOf (lane ∷ lanes) (tals ∷ others) = IsLaneOf lane tals × AreLanesOf lanes others
 
 -- the data record of these bytes says that it starts there, and these annotations: its annotation lanes are lanes of TALs; the
--- first TAL has the start as its onset, and its first text is empty; and the annotations are the other texts of that TAL, then
--- those of all other TALs (EDF+, "Time-stamped Annotations Lists (TALs) in an 'EDF Annotations' signal", "Time keeping of data
--- records")
+-- first TAL of the first lane keeps the time: it has the start as its onset, any duration or none, and its first text is empty;
+-- the annotations are its other texts, with its duration, then those of the other TALs of its lane, then those of the other lanes
+-- (EDF+, "Time-stamped Annotations Lists (TALs) in an 'EDF Annotations' signal", "Time keeping of data records")
 pub record SaysRecord (h : Head) (bytes : List ℕ) (start : ℤ) (notes : List NoteValue) : Type 0 where
   pub duration : Option ℤ
   pub texts : List (List ℕ)
-  pub tals : List TalValue
-  pub talss : List (List TalValue)
-  pub lanes : AreLanesOf (annotation_lanes h.signals bytes) ((record { onset = start; duration = duration; texts = [] ∷ texts } ∷ tals) ∷ talss)
-  pub notes_are : notes ≡ notes_of_tal (record { onset = start; duration = duration; texts = texts }) ++ flat_map (λ tals. flat_map notes_of_tal tals) (tals ∷ talss)
+  pub beside : List TalValue
+  pub others : List (List TalValue)
+  pub lanes : AreLanesOf (annotation_lanes h.signals bytes) ((record { onset = start; duration = duration; texts = [] ∷ texts } ∷ beside) ∷ others)
+  pub notes_are : notes ≡ notes_of_tal (record { onset = start; duration = duration; texts = texts }) ++ flat_map (λ tals. flat_map notes_of_tal tals) (beside ∷ others)
 
 -- each data record of the file says that it starts there, in picoseconds after the start of the file, and these annotations
 abbrev pub SayRecords : List ℕ → Head → (ℕ → ℤ) → (ℕ → List NoteValue) → Type 0

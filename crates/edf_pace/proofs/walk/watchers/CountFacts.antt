@@ -1,6 +1,6 @@
 -- What a watcher counts window by window is what it counts at once; and the first of what it counts is what a check finds.
 use Rattle.std.proofs.Common.{◌≡◌, cond, ℕ, zero, suc, ◌+◌, ◌<◌, ℤ, ◌≤ℤ◌, List, [], ◌∷◌, ◌++◌, map, take, drop, get_or, replicate, set, length, Option, Some, None, option_map, refl, sym, ap, ◌∙◌, arith, lit<}
-use Rattle.edf_claim.specs.Terms.{Terms}
+use Rattle.edf_claim.specs.ClaimValues.{ClaimValue}
 use Rattle.edf_samples.specs.declared.difference.PointDifference.{PointDifference}
 use Rattle.edf_samples.specs.declared.counts.tally.Tally.{Tally}
 use Rattle.edf_pace.specs.declared.walk.channel_place.ChannelPlace.{ChannelPlace}
@@ -30,7 +30,7 @@ use Rattle.edf_pace.proofs.walk.WindowFacts.{nothing_between, until-from, window
 -- ---- the first of what is counted
 
 -- what a check finds in a channel is the first of its differences
-pub channel_first : (claim : Terms) (o e : Sampled) (t u : ℤ) (p q : Option ChannelPlace) → window_of claim o e t u p q ≡ first_of (differences_in claim o e t u p q)
+pub channel_first : (claim : ClaimValue) (o e : Sampled) (t u : ℤ) (p q : Option ChannelPlace) → window_of claim o e t u p q ≡ first_of (differences_in claim o e t u p q)
 unfolding differences_in
 channel_first claim o e t u None q = refl
 channel_first claim o e t u (Some p) None = refl
@@ -42,7 +42,7 @@ pub earliest_is_counted : (frame : Frame) (files : TwoFiles) (t u : ℤ) → fir
 unfolding window_difference tally_of
 earliest_is_counted frame files t u = ap (earliest 0) (each (frame.pairs).now)
   where
-    claim : Terms
+    claim : ClaimValue
     claim = ((frame.turn).setting.claim).now
 
     o : Sampled
@@ -57,7 +57,7 @@ earliest_is_counted frame files t u = ap (earliest 0) (each (frame.pairs).now)
 
 -- ---- one channel
 
-counted_parts : (claim : Terms) (o e : Sampled) (p q : Option ChannelPlace) (t u v : ℤ) → AreSound claim o e p q → t ≤ℤ u → u ≤ℤ v → differences_in claim o e t v p q ≡ differences_in claim o e t u p q ++ differences_in claim o e u v p q
+counted_parts : (claim : ClaimValue) (o e : Sampled) (p q : Option ChannelPlace) (t u v : ℤ) → AreSound claim o e p q → t ≤ℤ u → u ≤ℤ v → differences_in claim o e t v p q ≡ differences_in claim o e t u p q ++ differences_in claim o e u v p q
 unfolding AreSound differences_in
 counted_parts claim o e None q t u v sound l r = refl
 counted_parts claim o e (Some p) None t u v sound l r = refl
@@ -71,7 +71,7 @@ counted_parts claim o e (Some p) (Some q) t u v sound l r =
     ∙ differences_split n m (until n u (since n t xs)) (until n v (since n u xs)) (until m u (since m t ys)) (until m v (since m u ys)) (whole u) sound.0 sound.1 (lit< tt)
     (until-before n u (since n t xs)) (until-before m u (since m t ys)) (until-from n u v xs) (until-from m u v ys)
 
-counted_none : (claim : Terms) (o e : Sampled) (p q : Option ChannelPlace) (t : ℤ) → differences_in claim o e t t p q ≡ []
+counted_none : (claim : ClaimValue) (o e : Sampled) (p q : Option ChannelPlace) (t : ℤ) → differences_in claim o e t t p q ≡ []
 unfolding differences_in differences_of
 counted_none claim o e None q t = refl
 counted_none claim o e (Some p) None t = refl
@@ -81,7 +81,7 @@ counted_none claim o e (Some p) (Some q) t =
 
 -- ---- all channels
 
-pub counts_parts : (claim : Terms) (o e : Sampled) (pairs : List Pair) (t u v : ℤ) → AllSound claim o e (map places_of pairs) → t ≤ℤ u → u ≤ℤ v
+pub counts_parts : (claim : ClaimValue) (o e : Sampled) (pairs : List Pair) (t u v : ℤ) → AllSound claim o e (map places_of pairs) → t ≤ℤ u → u ≤ℤ v
     → map (λ (p : Pair). tally_of (differences_in claim o e t v (places_of p).0 (places_of p).1)) pairs
     ≡ joined_each (map (λ (p : Pair). tally_of (differences_in claim o e t u (places_of p).0 (places_of p).1)) pairs) (map (λ (p : Pair). differences_in claim o e u v (places_of p).0 (places_of p).1) pairs)
 unfolding AllSound
@@ -93,7 +93,7 @@ counts_parts claim o e (p ∷ ps) t u v sound l r =
       counts_parts claim o e ps t u v sound.1 l r,
     ) refl
 
-pub counts_none : (claim : Terms) (o e : Sampled) (pairs : List Pair) (t : ℤ) → map (λ (p : Pair). tally_of (differences_in claim o e t t (places_of p).0 (places_of p).1)) pairs ≡ map (λ p. tally_of []) pairs
+pub counts_none : (claim : ClaimValue) (o e : Sampled) (pairs : List Pair) (t : ℤ) → map (λ (p : Pair). tally_of (differences_in claim o e t t (places_of p).0 (places_of p).1)) pairs ≡ map (λ p. tally_of []) pairs
 counts_none claim o e [] t = refl
 counts_none claim o e (p ∷ ps) t = rw (counted_none claim o e (places_of p).0 (places_of p).1 t, counts_none claim o e ps t) refl
 
@@ -105,7 +105,7 @@ set_there zero (x ∷ xs) zs v lt = refl
 set_there (suc k) (x ∷ xs) zs v lt = ap (λ ys. x ∷ ys) (set_there k xs zs v (omega (arith, lt)))
 
 -- the differences of a pair were counted
-pub pair_counted : (claim : Terms) (o e : Sampled) (t u : ℤ) (pair : Pair) (here there : Track) (n m : ℕ) (xs ys : List Point) (before after : Tally) → pair.original ≡ Some here → pair.export ≡ Some there
+pub pair_counted : (claim : ClaimValue) (o e : Sampled) (t u : ℤ) (pair : Pair) (here there : Track) (n m : ℕ) (xs ys : List Point) (before after : Tally) → pair.original ≡ Some here → pair.export ≡ Some there
     → n ≡ here.place.samples → m ≡ there.place.samples
     → xs ≡ until here.place.samples u (since here.place.samples t (kept_at claim o here.place)) → ys ≡ until there.place.samples u (since there.place.samples t (points_at e there.place))
     → after ≡ joined before (tally_of (differences_of n xs m ys)) → after ≡ joined before (tally_of (differences_in claim o e t u (places_of pair).0 (places_of pair).1))
@@ -118,12 +118,12 @@ pair_counted claim o e t u pair here there n m xs ys before after eo ee en em ex
     ∙ ap (λ x. J (differences_in claim o e t u (option_map (λ (track : Track). track.place) x) (Some there.place))) (sym eo)
     ∙ ap (λ y. J (differences_in claim o e t u (places_of pair).0 (option_map (λ (track : Track). track.place) y))) (sym ee)
 
-pub none_here : (claim : Terms) (o e : Sampled) (t u : ℤ) (pair : Pair) (before : Tally) → pair.original ≡ None → before ≡ joined before (tally_of (differences_in claim o e t u (places_of pair).0 (places_of pair).1))
+pub none_here : (claim : ClaimValue) (o e : Sampled) (t u : ℤ) (pair : Pair) (before : Tally) → pair.original ≡ None → before ≡ joined before (tally_of (differences_in claim o e t u (places_of pair).0 (places_of pair).1))
 unfolding differences_in
 none_here claim o e t u pair before eo =
     sym (joined_none before) ∙ ap (λ x. joined before (tally_of (differences_in claim o e t u (option_map (λ (track : Track). track.place) x) (places_of pair).1))) (sym eo)
 
-pub none_there : (claim : Terms) (o e : Sampled) (t u : ℤ) (pair : Pair) (here : Track) (before : Tally) → pair.original ≡ Some here → pair.export ≡ None → before ≡ joined before (tally_of (differences_in claim o e t u (places_of pair).0 (places_of pair).1))
+pub none_there : (claim : ClaimValue) (o e : Sampled) (t u : ℤ) (pair : Pair) (here : Track) (before : Tally) → pair.original ≡ Some here → pair.export ≡ None → before ≡ joined before (tally_of (differences_in claim o e t u (places_of pair).0 (places_of pair).1))
 unfolding differences_in
 none_there claim o e t u pair here before eo ee =
     sym (joined_none before)
@@ -236,10 +236,10 @@ pub none-first : (ds : List PointDifference) → first_of ds ≡ None → ds ≡
 none-first [] e = refl
 none-first (d ∷ ds) e = absurd (let z : Some d ≡ None = e in cc)
 
-none-channel : (claim : Terms) (o e : Sampled) (t u : ℤ) (p q : Option ChannelPlace) → window_of claim o e t u p q ≡ None → differences_in claim o e t u p q ≡ []
+none-channel : (claim : ClaimValue) (o e : Sampled) (t u : ℤ) (p q : Option ChannelPlace) → window_of claim o e t u p q ≡ None → differences_in claim o e t u p q ≡ []
 none-channel claim o e t u p q none = none-first (differences_in claim o e t u p q) (sym (channel_first claim o e t u p q) ∙ none)
 
-none-counted : (claim : Terms) (o e : Sampled) (t u : ℤ) (k : ℕ) (pairs : List Pair) (held : List Tally) → earliest k (map (λ (p : Places). window_of claim o e t u p.0 p.1) (map places_of pairs)) ≡ None
+none-counted : (claim : ClaimValue) (o e : Sampled) (t u : ℤ) (k : ℕ) (pairs : List Pair) (held : List Tally) → earliest k (map (λ (p : Places). window_of claim o e t u p.0 p.1) (map places_of pairs)) ≡ None
     → held ≡ joined_each held (map (λ (pair : Pair). differences_in claim o e t u (places_of pair).0 (places_of pair).1) pairs)
 none-counted claim o e t u k pairs [] none = refl
 none-counted claim o e t u k [] (a ∷ more) none = refl
@@ -251,7 +251,7 @@ none-counted claim o e t u k (p ∷ ps) (a ∷ more) none =
     ∙ ap (λ xs. joined a (tally_of (differences_in claim o e t u (places_of p).0 (places_of p).1)) ∷ xs) (none-counted claim o e t u (k + 1) ps more both.1)
 
 -- of what shows no difference nothing is counted
-pub nothing_counted : (claim : Terms) (o e : Sampled) (t u : ℤ) (pairs : List Pair) (held : List Tally) → None ≡ window_difference claim o e (map places_of pairs) t u
+pub nothing_counted : (claim : ClaimValue) (o e : Sampled) (t u : ℤ) (pairs : List Pair) (held : List Tally) → None ≡ window_difference claim o e (map places_of pairs) t u
     → held ≡ joined_each held (map (λ (pair : Pair). differences_in claim o e t u (places_of pair).0 (places_of pair).1) pairs)
 unfolding window_difference
 nothing_counted claim o e t u pairs held none = none-counted claim o e t u 0 pairs held (sym none)

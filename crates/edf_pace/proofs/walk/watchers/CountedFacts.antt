@@ -4,7 +4,7 @@ use Rattle.std.proofs.lemmas.Int.{ints}
 use Rattle.std.proofs.lemmas.List.{append-nil, length-map}
 use Rattle.std.specs.List.{AllByRecursion}
 use Rattle.std.proofs.lemmas.Simd.{map-map}
-use Rattle.edf_claim.specs.Terms.{Terms}
+use Rattle.edf_claim.specs.ClaimValues.{ClaimValue}
 use Rattle.edf_header.specs.Heads.{Head}
 use Rattle.edf_stream.specs.Conforming.{Conforms}
 use Rattle.edf_stream.specs.annotation.Notes.{NoteValue}
@@ -39,7 +39,7 @@ use Rattle.edf_pace.proofs.walk.WindowFacts.{window_none}
 none-behind : (n : ℕ) (t u : ℤ) (xs : List Point) → 0 < n → IsAscending xs → t ≤ℤ u → since n u xs ≡ [] → since n t xs ≡ until n u (since n t xs)
 none-behind n t u xs pn asc le none = since_split n t u xs pn asc le ∙ ap (λ ys. until n u (since n t xs) ++ ys) none ∙ append-nil (until n u (since n t xs))
 
-all-before : (claim : Terms) (o e : List ℕ) (h g : Head) (a b t u : ℤ) (p q : Option ChannelPlace) → Conforms o h → Conforms e g → IfSome p (IsPlaceIn h) → IfSome q (IsPlaceIn g) → t ≤ℤ u
+all-before : (claim : ClaimValue) (o e : List ℕ) (h g : Head) (a b t u : ℤ) (p q : Option ChannelPlace) → Conforms o h → Conforms e g → IfSome p (IsPlaceIn h) → IfSome q (IsPlaceIn g) → t ≤ℤ u
     → ArePast o h a h.records u → ArePast e g b g.records u → differences_in claim (sampled o h a) (sampled e g b) t u p q ≡ differences_since claim (sampled o h a) (sampled e g b) t p q
 unfolding differences_in differences_since
 all-before claim o e h g a b t u None q co ce ip iq le po pe = refl
@@ -52,7 +52,7 @@ all-before claim o e h g a b t u (Some p) (Some q) co ce ip iq le po pe =
     ap (λ zs. differences_of n zs m (until m u (since m t ys))) (sym (none-behind n t u xs ip.some (kept-ascend claim o h p a co ip) le (nothing-kept claim o h p a u co ip po)))
     ∙ ap (λ zs. differences_of n (since n t xs) m zs) (sym (none-behind m t u ys iq.some (points-ascend e g q b ce iq) le (nothing-left e g q b u ce iq pe)))
 
-counts-to-the-end : (claim : Terms) (o e : List ℕ) (h g : Head) (a b t u v : ℤ) (ps : List Places) → Conforms o h → Conforms e g → ArePlaces h g ps → t ≤ℤ u → ArePast o h a h.records u → ArePast e g b g.records u
+counts-to-the-end : (claim : ClaimValue) (o e : List ℕ) (h g : Head) (a b t u v : ℤ) (ps : List Places) → Conforms o h → Conforms e g → ArePlaces h g ps → t ≤ℤ u → ArePast o h a h.records u → ArePast e g b g.records u
     → span_counts false claim (sampled o h a) (sampled e g b) ps t u ≡ span_counts true claim (sampled o h a) (sampled e g b) ps t v
 unfolding ArePlaces
 counts-to-the-end claim o e h g a b t u v [] co ce all le po pe = refl
@@ -81,7 +81,7 @@ tallies_walked frame files found looks looks' before tallies enough walked so is
 
 -- ---- nothing is the first exactly where nothing is counted
 
-since-first : (claim : Terms) (o e : Sampled) (t : ℤ) (p q : Option ChannelPlace) → rest_of claim o e t p q ≡ first_of (differences_since claim o e t p q)
+since-first : (claim : ClaimValue) (o e : Sampled) (t : ℤ) (p q : Option ChannelPlace) → rest_of claim o e t p q ≡ first_of (differences_since claim o e t p q)
 unfolding differences_since
 since-first claim o e t None q = refl
 since-first claim o e t (Some p) None = refl
@@ -107,7 +107,7 @@ none-earliest f g same k (p ∷ ps) = (
 )
 
 -- between two times, or from one on, there is no difference exactly where each tally is that of none
-pub none_in_span : (last : Bool) (claim : Terms) (o e : Sampled) (places : List Places) (t u : ℤ) → (span_difference last claim o e places t u ≡ None) ↔ AllByRecursion (λ (tally : Tally). tally ≡ tally_of []) (span_counts last claim o e places t u)
+pub none_in_span : (last : Bool) (claim : ClaimValue) (o e : Sampled) (places : List Places) (t u : ℤ) → (span_difference last claim o e places t u ≡ None) ↔ AllByRecursion (λ (tally : Tally). tally ≡ tally_of []) (span_counts last claim o e places t u)
 unfolding rest_difference window_difference
 none_in_span true claim o e places t u = none-earliest (λ p. rest_of claim o e t p.0 p.1) (λ p. differences_since claim o e t p.0 p.1) (λ p. since-first claim o e t p.0 p.1) 0 places
 none_in_span false claim o e places t u = none-earliest (λ p. window_of claim o e t u p.0 p.1) (λ p. differences_in claim o e t u p.0 p.1) (λ p. channel_first claim o e t u p.0 p.1) 0 places
@@ -126,7 +126,7 @@ among-all k (d ∷ ds) =
 among-first : (ds : List (Option PointDifference)) → IfSome (earliest 0 ds) (λ f. f.channel < length ds)
 among-first ds = subst (λ n. IfSome (earliest 0 ds) (λ f. f.channel < n)) (let e : 0 + length ds ≡ length ds = omega arith in e) (among-all 0 ds)
 
-pub found_among : (last : Bool) (claim : Terms) (o e : Sampled) (places : List Places) (t u : ℤ) → IfSome (span_difference last claim o e places t u) (λ f. f.channel < length places)
+pub found_among : (last : Bool) (claim : ClaimValue) (o e : Sampled) (places : List Places) (t u : ℤ) → IfSome (span_difference last claim o e places t u) (λ f. f.channel < length places)
 unfolding rest_difference window_difference
 found_among true claim o e places t u = subst (λ n. IfSome (earliest 0 (map (λ (p : Places). rest_of claim o e t p.0 p.1) places)) (λ f. f.channel < n)) (length-map places (λ (p : Places). rest_of claim o e t p.0 p.1)) (among-first (map (λ (p : Places). rest_of claim o e t p.0 p.1) places))
 found_among false claim o e places t u = subst (λ n. IfSome (earliest 0 (map (λ (p : Places). window_of claim o e t u p.0 p.1) places)) (λ f. f.channel < n)) (length-map places (λ (p : Places). window_of claim o e t u p.0 p.1)) (among-first (map (λ (p : Places). window_of claim o e t u p.0 p.1) places))
@@ -144,7 +144,7 @@ module _ (frame : Frame) (x : List ℕ) (h : Head) (y : List ℕ) (g : Head) (w 
   abbrev ps : List Places
   ps = map places_of (frame.pairs).now
 
-  abbrev claim : Terms
+  abbrev claim : ClaimValue
   claim = ((turn.setting).claim).now
 
   abbrev a : ℤ

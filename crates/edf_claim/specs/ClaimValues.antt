@@ -6,7 +6,7 @@ use Rattle.edf_fields.specs.declared.fields.which.Which.{Which}
 -- a claim: the labels of the channels, the intervals that are kept, what is made anonymous, the shift in seconds, the texts of annotations that are
 -- removed and those with which such a text begins, and the texts that are blanked
 -- intervals count picoseconds after the second at which the original starts
-pub record Terms : Type 0 where
+pub record ClaimValue : Type 0 where
   pub channels : List (List ℕ)
   pub keep : List Interval
   pub anonymous : List Which
