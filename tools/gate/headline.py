@@ -89,10 +89,9 @@ ABOUT = [
     " `Conforms`: which EDF+ files are judged at all. A channel is a signal whose label isn't `EDF Annotations`; the"
     " lane of a signal is its bytes in a data record; a TAL is a time-stamped annotations list (EDF+ 2003).",
     "Here stands all of this project that has to be read to know what a Yes of this call means: first its contract,"
-    " then each definition that it stands on, once. A definition comes behind the first that needs it, so it is"
-    " plain why it comes. Each has a number. There are two parts: what an export keeps of its original, and what the"
-    " bytes of a file say, for who knows EDF, with `Conforms` first. All is copied from the files that are named, but for `abbrev`,"
-    " `unfoldable` and, in definitions, `pub`, which say how other files may use a word. The"
+    " then each definition that it stands on, once, numbered, behind the first that needs it. There are two parts: what an"
+    " export keeps of its original, and what the bytes of a file say, for who knows EDF, with `Conforms` first. All is copied"
+    " from the files that are named, but for words that say how other files may use a definition. The"
     " prose above a definition is its comment: it says in words what the definition says exactly, and the definition is"
     " what counts. Right behind `Headline` stand laws, which are proved to follow from the definitions: a file has one"
     " header, says its annotations in one way, and has no sample twice.",
@@ -100,7 +99,7 @@ ABOUT = [
     " code works is no part of it. Where something is left out of a copy a line says `[..]`: the other clauses of"
     " `check`, what holds of each value of a type, and what a source says of reads that fail. What the code derives for"
     " its types (`#[derive]`) is left out, too. Words that aren't copied are named at the end. That a claim which can be"
-    " read is a sensible one (`IsClaim`) is proved as well, and nothing here needs it.",
+    " read is sensible (`IsClaim`) is proved, and nothing here needs it.",
     "Behind the definitions stand a header and a lane as examples, the names with their numbers, and the words that no file of"
     " this project defines: those of the toolchain's library.",
 ]
@@ -151,7 +150,7 @@ NOTATION = [
     ("requires, ensures, ghost", "in a contract: what has to hold at the call; what is proved to hold at its end; a word for"
      " contracts alone"),
     ("result, v.items", "in a contract: what the call answers; the list in a Vec"),
-    ("IfOk r P, OnOk r A", "in a contract: if the call answered Ok x, then P x; then A. IsTrue b: the test b gives true"),
+    ("IfOk r P, OnOk r A", "in a contract: if the call answered Ok x, P x holds; if Ok, A holds. IsTrue b: the test b gives true"),
     ("Result, Global, Model", "in the code: an answer or an error; where a call has its memory; what a type is to contracts"),
     ("u8, u32, u64, usize", "whole numbers of the code, which a contract takes for those of ℕ; i64 and i128 for those of ℤ"),
 ]
@@ -429,7 +428,7 @@ def without_ghosts(lines):
 
 
 def without_parts(lines, names):
-    """The lines of a definition without its parts of these names, each of which goes on over lines that stand deeper."""
+    """The lines of a definition without its parts of these names, each with its comment and the lines that stand deeper."""
     kept, room = [], None
     for line in lines:
         depth = len(line) - len(line.lstrip())
@@ -439,8 +438,11 @@ def without_parts(lines, names):
         room = depth if of and of[1] in names else None
         if room is None:
             kept.append(line)
-        elif kept[-1].strip() != "[..]":
-            kept.append(" " * depth + "[..]")
+        else:
+            while kept[-1].lstrip().startswith("///"):
+                kept.pop()
+            if kept[-1].strip() != "[..]":
+                kept.append(" " * depth + "[..]")
     return kept
 
 
@@ -640,7 +642,8 @@ class Order:
     """The definitions that one needs, each behind the first that needs it, and what is wrong with them."""
 
     def __init__(self, first):
-        self.first, self.found, self.faults, self.left, self.put_off = first, {first.word: first}, [], {}, []
+        self.first, self.found, self.faults, self.left = first, {first.word: first}, [], {}
+        self.laws, self.put_off = [], []
         first.number = 1
         self.go_on(first)
         # what bytes say comes behind all that an export keeps
@@ -673,19 +676,18 @@ class Order:
                 yield word
 
     def go_on(self, definition):
-        """Takes what a definition needs; of the headline all parts come first, and then what each of them needs."""
-        later = []
+        """Takes what a definition needs, each followed by what it needs in turn; the laws stand right behind the headline."""
         if definition.word.name == HEADLINE:
-            later += [self.take(Word(CRATES / file, name), 1) for file, name in LAWS]
+            for law in [self.take(Word(CRATES / file, name), 1) for file, name in LAWS]:
+                self.laws.append(law)
         for word in self.needs(definition):
             if word.name in BYTES and not self.is_in_bytes():
                 self.put_off.append(word)
             elif word not in self.found:
-                later.append(self.take(word, definition.depth + 1))
-                if definition.word.name != HEADLINE:
-                    self.go_on(later.pop())
-        for needed in later:
-            self.go_on(needed)
+                self.go_on(self.take(word, definition.depth + 1))
+        if definition.word.name == HEADLINE:
+            for law in self.laws:
+                self.go_on(law)
 
     def is_in_bytes(self):
         return hasattr(self, "begin_bytes")

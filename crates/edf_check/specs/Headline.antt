@@ -16,14 +16,14 @@ use Rattle.edf_verdict.specs.declared.verdict.Verdict.{Verdict}
 use Rattle.edf_verdict.specs.declared.verdict.Verdict.TheVariants.{Yes, No}
 use Rattle.edf_pace.specs.Kept.{SamplesAsKept, kept_of, unshifted}
 
--- The headline. Both files conform to the profile, and say these headers and annotations (a file says one header, and one list of
--- annotations); the export's channels are exactly the claimed ones, with the original's texts, and with calibrations that give each
--- digital value the same physical one; its samples are exactly the original's samples of those channels in the claimed intervals, value
--- for value, at the claimed shift; its annotations are exactly the kept ones, in some order; every subfield is `X` where it is claimed
--- anonymous, and else the original's, but for the date, which is then `X` exactly where the original's is: which day it says follows
--- from the samples, and from `same_day` of `MeetsStandard`; and what `IsBlank` names is empty. Of the export's layout nothing is said:
--- how it is cut into data records, its kind, the order of its channels, how numbers are spelled, extremes on the same line, TALs
--- without a text, and what else docs/CLAIM.md lists.
+-- The headline. Both files conform to the profile, and say these headers and annotations; the export's channels are exactly the claimed
+-- ones, with the original's texts, and with calibrations that give each digital value the same physical one; its samples are exactly the
+-- original's samples of those channels in the claimed intervals, value for value, at the claimed shift; its annotations are exactly the
+-- kept ones, in some order; every subfield is as claimed: `X` where it is anonymous, and else the original's, but for the date, which is
+-- then `X` exactly where the original's is: its day follows from the samples, and from `same_day` of `MeetsStandard`; and what `IsBlank`
+-- names is empty. Of the export's layout nothing is said: the cut into data records, the kind, the order of signals, the spelling of
+-- numbers and times, extremes on the same line, those of an annotation signal and its size, spaces between subfields, how many `X`, where
+-- annotations stand, TALs without any text, not even an empty one, the duration of a TAL that keeps the time.
 pub record Headline (original export : List ℕ) (claim : ClaimValue) : Type 0 where
   pub original_head : Head
   pub export_head : Head

@@ -27,8 +27,8 @@ pub record SignalHead : Type 0 where
   pub samples : ℕ
   pub offset : ℕ
 
--- a header; the day is one of the calendar, and the clock counts the seconds of that day
--- the free text stands behind `EDF+C` or `EDF+D`, and the duration is that of a data record, in picoseconds
+-- a header: the clock counts the seconds of the day, the free text stands behind `EDF+C` or `EDF+D`, and the duration, in
+-- picoseconds, is that of a data record
 pub record Head : Type 0 where
   pub patient : Patient
   pub recording : Recording
@@ -40,7 +40,7 @@ pub record Head : Type 0 where
   pub duration : ℤ
   pub signals : List SignalHead
 
--- the number of a day, 0 for 1970-01-01, as `jiff` numbers days
+-- the number of a day, 0 for 1970-01-01
 abbrev pub day_number : CivilDay → ℤ
 day_number day = days_from_civil day.year day.month day.day
 

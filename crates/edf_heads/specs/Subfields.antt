@@ -16,11 +16,13 @@ pub record ByClaim (claim : ClaimValue) (which : Which) (Anonymous Kept : Type 0
   pub claimed : Has claim.anonymous which → Anonymous
   pub unclaimed : (Has claim.anonymous which → ⊥) → Kept
 
--- the export's text is `X`, or else the original's
+-- the export's text is `X` where the subfield is claimed anonymous, and else the original's
 abbrev pub IsXOrElse : ClaimValue → Which → List ℕ → List ℕ → Type 0
 IsXOrElse claim which exported original = ByClaim claim which (IsX exported) (exported ≡ original)
 
--- in the export this subfield is as the claim says (what a claim makes anonymous, and that all else stays, is this project's profile); where additional ones are anonymous there may be none; a date that isn't is `X` exactly where the original's is: which day it is follows from the samples that are kept
+-- in the export this subfield is as the claim says (what a claim makes anonymous, and that all else stays, is this project's profile);
+-- of additional ones that are anonymous each is `X`, however many there are; a date that isn't is `X` exactly where the original's is:
+-- which day it is follows from the samples that are kept
 abbrev pub IsAsClaimed : Head → Head → ClaimValue → Which → Type 0
 IsAsClaimed original export claim Code = IsXOrElse claim Code export.patient.code original.patient.code
 IsAsClaimed original export claim Sex = IsXOrElse claim Sex export.patient.sex original.patient.sex

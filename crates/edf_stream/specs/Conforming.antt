@@ -11,7 +11,7 @@ abbrev pub FollowsOn : Kind → ℤ → ℤ → Type 0
 FollowsOn Contiguous ended start = start ≡ ended
 FollowsOn Interrupted ended start = ended ≤ℤ start
 
--- the file conforms to the profile (docs/PROFILE.md), and this is its header: the header is in order; each data record says when it starts, and its
+-- the file conforms to the profile, and this is its header: the header is in order; each data record says when it starts, and its
 -- annotations; the first one starts in the first second, and each other one follows on; there are 1,000,000 annotations
 -- at the most; and the file ends where its last data record does
 pub record Conforms (file : List ℕ) (h : Head) : Type 0 where

@@ -1,7 +1,7 @@
 -- Time-stamped annotation lists (TALs), as they are spelled. EDF+ (2003), "Time-stamped Annotations Lists
 -- (TALs) in an 'EDF Annotations' signal".
-use Rattle.std.specs.Prelude.{◌≡◌, ℕ, ◌≤◌, ◌⊎◌, ◌==◌, ℤ, pos, IsTrue, List, [], ◌∷◌, ◌++◌, All, Option, Some, None, IsUtf8}
-use Rattle.std.specs.List.{list_all, flat_map}
+use Rattle.std.specs.Prelude.{◌≡◌, ℕ, ◌≤◌, ◌⊎◌, ◌==◌, ℤ, pos, IsTrue, List, [], ◌∷◌, ◌++◌, Option, Some, None, IsUtf8}
+use Rattle.std.specs.List.{All, list_all, flat_map}
 use Rattle.edf_fields.specs.texts.Onsets.{SpellsOnset, IsTime, time_of}
 
 -- a TAL: its onset and, where there is one, its duration, in picoseconds, and its texts

@@ -12,7 +12,7 @@ use Rattle.edf_fields.specs.Parts.{part}
 abbrev pub number_at : List ℕ → ℕ → ℕ → ℕ
 number_at t at n = weight (part t at n)
 
--- the day with this year, month and day exists and has this number, 0 for 1970-01-01 (in the proleptic Gregorian calendar, as `jiff` numbers its days)
+-- the day with this year, month and day exists and has this number, 0 for 1970-01-01 (in the proleptic Gregorian calendar)
 abbrev pub IsDayNumber : ℕ → ℕ → ℕ → ℤ → Type 0
 IsDayNumber year month day n = (date : Date) × IsYmd (pos year) (pos month) (pos day) date × (n ≡ epoch_day date)
 

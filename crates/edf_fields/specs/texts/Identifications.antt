@@ -5,8 +5,8 @@ use Rattle.edf_fields.specs.Parts.{text_of}
 use Rattle.edf_fields.specs.texts.Printable.{IsPrintable}
 use Rattle.edf_fields.specs.texts.Subfields.{HasSubfields}
 
--- a field of printable ASCII has these subfields, and behind them spaces alone (EDF, "Header record"); that it doesn't begin with
--- a space, which follows from them, is this project's profile
+-- a field of printable ASCII has these subfields, and behind them spaces alone (EDF, "Header record"); that none stands before
+-- them is this project's profile
 pub record ListsSubfields (field : List ℕ) (xs : List (List ℕ)) : Type 0 where
   pub printable : IsPrintable field
   pub begins : slice_index field 0 ≢ 32
@@ -31,7 +31,7 @@ pub record SaysPatient (field : List ℕ) (patient : Patient) : Type 0 where
   pub sex : (patient.sex ≡ codes "F") ⊎ (patient.sex ≡ codes "M") ⊎ (patient.sex ≡ codes "X")
   pub birthdate : IsDateOrX patient.birthdate
 
--- the subfields of a recording, behind the word
+-- the subfields of a recording, behind the word `Startdate`
 pub record Recording : Type 0 where
   pub date : List ℕ
   pub admin : List ℕ

@@ -3,8 +3,9 @@ use Rattle.std.specs.Prelude.{◌≡◌, ℕ, ℤ, IsTrue, ◌==◌, ◌<◌, �
 use Rattle.std.specs.List.{list_all, list_any}
 use Rattle.edf_fields.specs.texts.Numbers.{weight, before_dot, behind_dot, IsDecimal, decimal, has_minus, has_sign, signed}
 
--- the text is seconds of at least one digit, and maybe a dot and a fraction of at least one digit (EDF+, "Time-stamped Annotations Lists (TALs) in an 'EDF Annotations' signal")
--- that the seconds are below 10^9, and that zeros alone stand behind the 12th digit of the fraction, is this project's profile
+-- the text is seconds of at least one digit, and maybe a dot and a fraction of at least one digit (EDF+, "Time-stamped Annotations Lists
+-- (TALs) in an 'EDF Annotations' signal"); that the seconds are below 10^9, and that zeros alone stand behind the 12th digit of the
+-- fraction, is this project's profile
 abbrev pub IsTime : List ℕ → Type 0
 IsTime u =
     IsDecimal u

@@ -1,6 +1,7 @@
 -- The subfields of a text, which contain no spaces and are separated by them (EDF+, "Additional specifications in EDF+").
 -- That more than one space may stand between two is this project's profile.
-use Rattle.std.specs.Prelude.{◌≡◌, ◌≢◌, ℕ, ◌<◌, List, [], ◌∷◌, ◌++◌, length, replicate, All}
+use Rattle.std.specs.Prelude.{◌≡◌, ◌≢◌, ℕ, ◌<◌, List, [], ◌∷◌, ◌++◌, length, replicate}
+use Rattle.std.specs.List.{All}
 
 -- at least one byte, and none of them a space
 abbrev pub IsSubfield : List ℕ → Type 0

@@ -16,11 +16,11 @@ pub struct ReadFault;
 /// A source of bytes, read from front to back.
 ///
 /// In contracts `left` is the bytes that are still to come, and `is_honest` says that `left` is to be relied on: of a
-/// file or a pipe this is assumed. `reads` tells how many reads failed, up to `u64::MAX`, and, where a source remembers
-/// it, what was left at its start.
+/// file or a pipe this is assumed.
 pub trait Source {
     ghost left: { Self → List ℕ };
 
+    /// How many reads failed so far, up to `u64::MAX`, and, where a source remembers it, what was left at its start.
     ghost reads: { Self → Reads };
 
     ghost is_honest: { Self → Bool };

@@ -39,9 +39,9 @@ pub notes-said : (h : Head) (bytes : List ℕ) (start : ℤ) (notes : List NoteV
 unfolding notes_in
 notes-said h bytes start notes says =
     let first : TalValue = record { onset = start; duration = says.duration; texts = [] ∷ says.texts } in
-    let all : notes_of_lanes (annotation_lanes h.signals bytes) ≡ flat_map (λ tals. flat_map notes_of_tal tals) ((first ∷ says.beside) ∷ says.besides) = lanes-say (annotation_lanes h.signals bytes) ((first ∷ says.beside) ∷ says.besides) says.lanes in
+    let all : notes_of_lanes (annotation_lanes h.signals bytes) ≡ flat_map (λ tals. flat_map notes_of_tal tals) ((first ∷ says.beside) ∷ says.others) = lanes-say (annotation_lanes h.signals bytes) ((first ∷ says.beside) ∷ says.others) says.lanes in
     let rest = notes_of_tal (record { onset = start; duration = says.duration; texts = says.texts }) in
-    says.notes_are ∙ sym (append_assoc rest (flat_map notes_of_tal says.beside) (flat_map (λ tals. flat_map notes_of_tal tals) says.besides)) ∙ sym (ap (drop 1) all)
+    says.notes_are ∙ sym (append_assoc rest (flat_map notes_of_tal says.beside) (flat_map (λ tals. flat_map notes_of_tal tals) says.others)) ∙ sym (ap (drop 1) all)
 
 -- the first of lanes of TALs
 first-lane : (lanes : List (List ℕ)) (tals : List TalValue) (others : List (List TalValue)) → AreLanesOf lanes (tals ∷ others)
@@ -67,7 +67,7 @@ pub begins : (h : Head) (bytes : List ℕ) (start : ℤ) (notes : List NoteValue
     → (lane : List ℕ) × (more : List (List ℕ)) × (annotation_lanes h.signals bytes ≡ lane ∷ more) × StartsAt lane start
 begins h bytes start notes says =
     let first : TalValue = record { onset = start; duration = says.duration; texts = [] ∷ says.texts } in
-    let found = first-lane (annotation_lanes h.signals bytes) (first ∷ says.beside) says.besides says.lanes in
+    let found = first-lane (annotation_lanes h.signals bytes) (first ∷ says.beside) says.others says.lanes in
     (found.0, found.1, found.2, lane-starts found.0 start says.duration says.texts says.beside found.3)
 
 -- the start
@@ -89,7 +89,7 @@ are-lanes (lane ∷ lanes) (tals ∷ others) are = All-cons IsLane lane lanes (t
 pub lanes-said : (h : Head) (bytes : List ℕ) (start : ℤ) (notes : List NoteValue) → SaysRecord h bytes start notes → All IsLane (annotation_lanes h.signals bytes)
 lanes-said h bytes start notes says =
     let first : TalValue = record { onset = start; duration = says.duration; texts = [] ∷ says.texts } in
-    are-lanes (annotation_lanes h.signals bytes) ((first ∷ says.beside) ∷ says.besides) says.lanes
+    are-lanes (annotation_lanes h.signals bytes) ((first ∷ says.beside) ∷ says.others) says.lanes
 
 -- and back: the TALs of lanes that are lanes of TALs
 tals-of : (lanes : List (List ℕ)) → All IsLane lanes → (others : List (List TalValue)) × AreLanesOf lanes others

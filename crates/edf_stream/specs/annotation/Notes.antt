@@ -13,6 +13,10 @@ pub record NoteValue : Type 0 where
   pub duration : Option ℤ
   pub text : List ℕ
 
+-- the TAL with this onset, this duration and these texts
+abbrev pub tal_with : ℤ → Option ℤ → List (List ℕ) → TalValue
+tal_with onset duration texts = record { onset = onset; duration = duration; texts = texts }
+
 -- what a TAL says: each of its texts, at its onset and with its duration
 abbrev pub notes_of_tal : TalValue → List NoteValue
 notes_of_tal tal = map (λ text. record { onset = tal.onset; duration = tal.duration; text = text }) tal.texts
@@ -25,16 +29,17 @@ AreLanesOf (lane ∷ lanes) [] = ⊥
 AreLanesOf (lane ∷ lanes) (tals ∷ others) = IsLaneOf lane tals × AreLanesOf lanes others
 
 -- the data record of these bytes says that it starts there, and these annotations: its annotation lanes are lanes of TALs; the
--- first TAL of the first lane keeps the time: it has the start as its onset, any duration or none, and its first text is empty;
--- the annotations are its other texts, with its duration, then those of the other TALs of its lane, then those of the other lanes
+-- first TAL of the first lane keeps the time: its onset is the start, it has any duration or none, and its first text is empty; the
+-- annotations are its other texts, with its duration, then those of the TALs beside it, then those of the other lanes: any other text,
+-- also an empty one, is an annotation
 -- (EDF+, "Time-stamped Annotations Lists (TALs) in an 'EDF Annotations' signal", "Time keeping of data records")
 pub record SaysRecord (h : Head) (bytes : List ℕ) (start : ℤ) (notes : List NoteValue) : Type 0 where
   pub duration : Option ℤ
   pub texts : List (List ℕ)
   pub beside : List TalValue
   pub others : List (List TalValue)
-  pub lanes : AreLanesOf (annotation_lanes h.signals bytes) ((record { onset = start; duration = duration; texts = [] ∷ texts } ∷ beside) ∷ others)
-  pub notes_are : notes ≡ notes_of_tal (record { onset = start; duration = duration; texts = texts }) ++ flat_map (λ tals. flat_map notes_of_tal tals) (beside ∷ others)
+  pub lanes : AreLanesOf (annotation_lanes h.signals bytes) ((tal_with start duration ([] ∷ texts) ∷ beside) ∷ others)
+  pub notes_are : notes ≡ notes_of_tal (tal_with start duration texts) ++ flat_map (λ tals. flat_map notes_of_tal tals) (beside ∷ others)
 
 -- each data record of the file says that it starts there, in picoseconds after the start of the file, and these annotations
 abbrev pub SayRecords : List ℕ → Head → (ℕ → ℤ) → (ℕ → List NoteValue) → Type 0
