@@ -10,3 +10,4 @@ pub mod WordsFacts
 pub mod ProductFacts
 pub mod HeadlineFacts
 pub mod StartFacts
+pub mod ForCallers

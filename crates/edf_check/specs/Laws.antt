@@ -19,7 +19,7 @@ use Rattle.edf_check.specs.Courses.{Agree}
 use Rattle.edf_check.specs.parts.Counted.{AreCounted, HasNothing}
 use Rattle.edf_check.specs.parts.Parts.{AllConform, AreTogether, ExportedByOne, FollowOneAnother, exported_by_all}
 use Rattle.edf_check.specs.parts.PartsVerdicts.{AllAgreed, IsPartsVerdict}
-use Rattle.edf_samples.specs.declared.counts.tally.Tally.{Tally}
+use Rattle.edf_pace.specs.walk.Watching.{ExportCount}
 use Rattle.edf_check.specs.SameFiles.{HoldTheSame}
 use Rattle.edf_check.specs.Verdicts.{IsVerdict}
 
@@ -123,12 +123,12 @@ AnyCutOfOriginal = (original other export : List ℕ) (claim : ClaimValue) (v : 
 
 -- of parts whose headers agree and that follow one another nothing is counted exactly where the samples of all together are as the claim says
 abbrev pub NothingIsCounted : Type 0
-NothingIsCounted = (original : List ℕ) (parts : List (List ℕ)) (claim : ClaimValue) (counts : List (List Tally)) → IsClaim claim → 0 < length parts → AllAgreed original parts claim → FollowOneAnother parts
+NothingIsCounted = (original : List ℕ) (parts : List (List ℕ)) (claim : ClaimValue) (counts : List ExportCount) → IsClaim claim → 0 < length parts → AllAgreed original parts claim → FollowOneAnother parts
     → AreCounted original parts claim [] counts → HasNothing counts ↔ Agree (KeptAt original claim) (ExportedByOne original parts claim)
 
 -- of an original and exports that conform nothing was found: no rule of the two headers is broken in any of them, none begins before the one
 -- before it ends, nothing was counted of any channel, and no annotation is in the original or the exports alone
-pub record NothingIsFoundIn (original : List ℕ) (parts : List (List ℕ)) (claim : ClaimValue) (counts : List (List Tally)) : Type 0 where
+pub record NothingIsFoundIn (original : List ℕ) (parts : List (List ℕ)) (claim : ClaimValue) (counts : List ExportCount) : Type 0 where
   pub heads : (part : List ℕ) (rule : Difference) → Has parts part → IsBroken (head_of original) (head_of part) claim rule → ⊥
   pub order : FollowOneAnother parts
   pub samples : HasNothing counts
@@ -136,5 +136,5 @@ pub record NothingIsFoundIn (original : List ℕ) (parts : List (List ℕ)) (cla
 
 -- nothing is found exactly where the verdict is a Yes
 abbrev pub NothingIsFound : Type 0
-NothingIsFound = (original : List ℕ) (parts : List (List ℕ)) (claim : ClaimValue) (counts : List (List Tally)) (v : PartsVerdict) → IsClaim claim → 0 < length parts → AllConform original parts
+NothingIsFound = (original : List ℕ) (parts : List (List ℕ)) (claim : ClaimValue) (counts : List ExportCount) (v : PartsVerdict) → IsClaim claim → 0 < length parts → AllConform original parts
     → IsPartsVerdict original parts claim v → AreCounted original parts claim [] counts → NothingIsFoundIn original parts claim counts ↔ IsYes v.verdict

@@ -2,7 +2,7 @@
 
 ghost use Rattle.std.specs.Prelude.{◌≡◌, ◌<◌, ◌≤◌, map, length, IfOk, IfErr, OnOk};
 ghost use Rattle.edf_check.specs.Runs.{ArePartsJudgedBy, IsJudgedBy, JudgeStopsOf, JudgeStopsOfAll};
-ghost use Rattle.edf_check.specs.parts.Counted.{AreCountedUnder, IsCountedUnder};
+ghost use Rattle.edf_check.specs.parts.Counted.{AreCountedUnder, IsCountedUnder, looked_on};
 
 use crate::of_one::check_beside;
 use crate::of_several::{Asked, check_parts_beside};
@@ -26,7 +26,8 @@ pub fn judge_beside<O: Source, E: Source, L: Onlooker>(
 ) -> Result<Verdict, RunStop>
     ensures under { IfOk result (IsJudgedBy O.Source E.Source original.old export.old claim_text.now) }
     ensures counted { IfOk result (λ v. IsCountedUnder O.Source E.Source original.old export.old
-        claim_text.now (L.looks onlooker.old) (L.counted onlooker.old) (L.counted onlooker.new)) }
+        claim_text.now (L.looks onlooker.old) (looked_on (L.counted onlooker.old) (L.counted onlooker.new)
+        (L.shown onlooker.new))) }
     ensures failures { OnOk result ((O.reads original.new ≡ O.reads original.old)
         × (E.reads export.new ≡ E.reads export.old)) }
     ensures stop { IfErr result (JudgeStopsOf O.Source E.Source original.old original.new export.old
@@ -79,7 +80,8 @@ pub fn judge_parts_beside<O: Source, E: Source, L: Onlooker>(
     requires few { length parts.old ≤ 64 }
     ensures under { IfOk result (ArePartsJudgedBy O.Source E.Source original.old parts.old claim_text.now) }
     ensures counted { IfOk result (λ v. AreCountedUnder O.Source E.Source original.old parts.old
-        claim_text.now (L.looks onlooker.old) (L.counted onlooker.old) (L.counted onlooker.new)) }
+        claim_text.now (L.looks onlooker.old) (looked_on (L.counted onlooker.old) (L.counted onlooker.new)
+        (L.shown onlooker.new))) }
     ensures failures { OnOk result ((O.reads original.new ≡ O.reads original.old)
         × (map E.reads parts.new ≡ map E.reads parts.old)) }
     ensures size { length parts.new ≡ length parts.old }

@@ -5,7 +5,7 @@ ghost use Rattle.edf_fields.specs.in_out.Sources.{Fails};
 ghost use Rattle.edf_check.specs.Checks.{AreRead, AreReadOfTwo, CheckStops, CheckStopsOf, IsHeadlineOfTwo, IsVerdictOfTwo};
 ghost use Rattle.edf_check.specs.Headline.{YesMeans};
 ghost use Rattle.edf_check.specs.Verdicts.{IsVerdict};
-ghost use Rattle.edf_check.specs.parts.Counted.{IsCountedOfTwo};
+ghost use Rattle.edf_check.specs.parts.Counted.{IsCountedOfTwo, looked_on};
 
 use crate::of_several::{Asked, check_series};
 use edf_claim::Claim;
@@ -29,8 +29,9 @@ pub(crate) fn check_beside<O: Source, E: Source, L: Onlooker>(
         (asked.old.claim).now) }
     ensures lender { asked.new.onlooker.ghost_name ≡ asked.old.onlooker.ghost_name }
     ensures counted { IfOk result (λ v. IsCountedOfTwo O.Source E.Source original.old export.old
-        (asked.old.claim).now (L.looks asked.old.onlooker.now) (L.counted asked.old.onlooker.now)
-        (L.counted asked.new.onlooker.now)) }
+        (asked.old.claim).now (L.looks asked.old.onlooker.now) (looked_on
+        (L.counted asked.old.onlooker.now) (L.counted asked.new.onlooker.now)
+        (L.shown asked.new.onlooker.now))) }
     ensures read { IfOk result (AreReadOfTwo O.Source E.Source original.old original.new export.old
         export.new) }
     ensures failures { OnOk result ((O.reads original.new ≡ O.reads original.old) ×

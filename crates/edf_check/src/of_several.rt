@@ -5,7 +5,7 @@ ghost use Rattle.std.specs.List.{AllByRecursion};
 ghost use Rattle.edf_fields.specs.in_out.Sources.{Fails};
 ghost use Rattle.edf_check.specs.Checks.{AreRead};
 ghost use Rattle.edf_pace.specs.PartsStops.{NoneFailed, PartsStops, StopsOfAll};
-ghost use Rattle.edf_check.specs.parts.Counted.{AreCountedOfAll};
+ghost use Rattle.edf_check.specs.parts.Counted.{AreCountedOfAll, looked_on};
 ghost use Rattle.edf_check.specs.parts.PartsVerdicts.{IsPartsVerdict};
 ghost use Rattle.edf_check.specs.parts.Together.{IsReadBy, IsVerdictOf, SeriesLeft, SeriesStop};
 
@@ -42,8 +42,9 @@ pub(crate) fn check_series<O: Source, E: Source, L: Onlooker>(
         (asked.old.claim).now) }
     ensures lender { asked.new.onlooker.ghost_name ≡ asked.old.onlooker.ghost_name }
     ensures counted { IfOk result (λ v. AreCountedOfAll O.Source E.Source original.old (part.old ∷ others.old)
-        (asked.old.claim).now (L.looks asked.old.onlooker.now) (L.counted asked.old.onlooker.now)
-        (L.counted asked.new.onlooker.now)) }
+        (asked.old.claim).now (L.looks asked.old.onlooker.now) (looked_on
+        (L.counted asked.old.onlooker.now) (L.counted asked.new.onlooker.now)
+        (L.shown asked.new.onlooker.now))) }
     ensures read { IfOk result (SeriesLeft O.Source E.Source original.old original.new part.old part.new
         others.old others.new) }
     ensures failures { OnOk result (NoneFailed O.Source original.old original.new E.Source part.old part.new
@@ -104,8 +105,9 @@ pub(crate) fn check_parts_beside<O: Source, E: Source, L: Onlooker>(
         (asked.old.claim).now) }
     ensures lender { asked.new.onlooker.ghost_name ≡ asked.old.onlooker.ghost_name }
     ensures counted { IfOk result (λ v. AreCountedOfAll O.Source E.Source original.old parts.old
-        (asked.old.claim).now (L.looks asked.old.onlooker.now) (L.counted asked.old.onlooker.now)
-        (L.counted asked.new.onlooker.now)) }
+        (asked.old.claim).now (L.looks asked.old.onlooker.now) (looked_on
+        (L.counted asked.old.onlooker.now) (L.counted asked.new.onlooker.now)
+        (L.shown asked.new.onlooker.now))) }
     ensures read { IfOk result (IsReadBy O.Source E.Source original.old original.new parts.old parts.new) }
     ensures failures { OnOk result ((O.reads original.new ≡ O.reads original.old) ×
         (map E.reads parts.new ≡ map E.reads parts.old)) }

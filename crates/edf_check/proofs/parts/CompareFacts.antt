@@ -14,9 +14,12 @@ use Rattle.edf_pace.specs.declared.walk.turn.Turn.{Turn}
 use Rattle.edf_pace.specs.Premises.{IfFaulty, IfRead}
 use Rattle.edf_check.specs.parts.Ends.{IsBeside, IsPassed, Passes}
 use Rattle.edf_pace.specs.declared.walk.lockstep.ReadOn.{ReadOn}
-use Rattle.edf_pace.specs.walk.Ends.{IsMatched, IsWalked, moved_original}
+use Rattle.edf_pace.specs.walk.Ends.{AreGathered, IsMatched, IsWalked, moved_original}
 use Rattle.edf_pace.specs.walk.Watching.{TwoFiles}
-use Rattle.edf_pace.specs.walk.Readings.{GoesOn, Moves}
+use Rattle.edf_pace.specs.walk.Readings.{GoesOn, Moves, gathered_so_far}
+use Rattle.edf_pace.specs.declared.walk.reading.Reading.{Reading}
+use Rattle.edf_samples.specs.declared.counts.tally.Tally.{Tally}
+use Rattle.edf_check.specs.parts.Counted.{IsShown}
 use Rattle.edf_pace.proofs.ForCallers.{other_way}
 
 -- ---- what goes on behind a part
@@ -68,11 +71,21 @@ passed_less turn less e g g' left course same p =
     let P : Head → Type 0 = λ k. IsPassed turn e k left course in
     subst P same (record { ended = record { through = (p.ended).through; end_is = (p.ended).end_is }; early = p.early; later = p.later })
 
+gathered_less : (turn : Turn) (less : Bool) (o : List ℕ) (h : Head) (notes : List NoteValue) (e : List ℕ) (g : Head) (notes' : List NoteValue) → AreGathered (record turn { is_compared = less }) o h notes e g notes'
+    → AreGathered turn o h notes e g notes'
+gathered_less turn less o h notes e g notes' m = record { exported = m.exported; kept = m.kept }
+
+pub shown_less : (turn : Turn) (less : Bool) (o : List ℕ) (h : Head) (r : Reading) (e : List ℕ) (g g' : Head) (notes : List NoteValue) (tallies : List Tally) → g ≡ g' → IsShown (record turn { is_compared = less }) o h r e g notes tallies
+    → IsShown turn o h r e g' notes tallies
+shown_less turn less o h r e g g' notes tallies same m =
+    let P : Head → Type 0 = λ k. IsShown turn o h r e k notes tallies in
+    subst P same (record { counted = m.counted; gathered = gathered_less turn less o h (gathered_so_far r) e g notes m.gathered; head = m.head })
+
 pub matched_less : (turn : Turn) (less : Bool) (o : List ℕ) (h : Head) (notes : List NoteValue) (e : List ℕ) (g g' : Head) (notes' : List NoteValue) (found : Option Found) → g ≡ g' → IsMatched (record turn { is_compared = less }) o h notes e g notes' found
     → IsMatched turn o h notes e g' notes' found
 matched_less turn less o h notes e g g' notes' found same m =
     let P : Head → Type 0 = λ k. IsMatched turn o h notes e k notes' found in
-    subst P same (record { first = m.first; gathered = m.gathered; kept = m.kept })
+    subst P same (record { first = m.first; gathered = λ none. gathered_less turn less o h notes e g notes' (m.gathered none) })
 
 -- the headers agree, or differ so
 pub heads_match : (heads : Option Verdict) (h h' g g' : Head) (claim : ClaimValue) → h' ≡ h → g' ≡ g → ((heads ≡ None) ↔ HeadsAgree h' g' claim) → IfSome heads (IsHeadVerdict h' g' claim) → MatchOption heads (HeadsAgree h g claim) (IsHeadVerdict h g claim)

@@ -8,7 +8,7 @@ use Rattle.edf_fields.specs.Lists.{Has}
 use Rattle.edf_header.specs.Heads.{Head}
 use Rattle.edf_header.specs.HeadsReading.{head_of}
 use Rattle.edf_samples.specs.declared.earliest.Found.{Found}
-use Rattle.edf_samples.specs.declared.counts.tally.Tally.{Tally}
+use Rattle.edf_pace.specs.walk.Watching.{ExportCount}
 use Rattle.edf_samples.specs.InstantOrder.{floor_of}
 use Rattle.edf_samples.specs.Tallies.{tally_of}
 use Rattle.edf_pace.specs.walk.Pairs.{places_in}
@@ -72,7 +72,7 @@ there-at [] k lt = absurd (omega (arith, lt))
 there-at (x ∷ xs) zero lt = (x, refl)
 there-at (x ∷ xs) (suc k) lt = there-at xs k (omega (arith, lt))
 
-pub nothing_counted : (o : List ℕ) (parts : List (List ℕ)) (claim : ClaimValue) (counts : List (List Tally)) → IsClaim claim → 0 < length parts → AllAgreed o parts claim → FollowOneAnother parts → AreCounted o parts claim [] counts
+pub nothing_counted : (o : List ℕ) (parts : List (List ℕ)) (claim : ClaimValue) (counts : List ExportCount) → IsClaim claim → 0 < length parts → AllAgreed o parts claim → FollowOneAnother parts → AreCounted o parts claim [] counts
     → HasNothing counts ↔ Agree (KeptAt o claim) (ExportedByOne o parts claim)
 nothing_counted o [] claim counts sound some all follow c = absurd (omega (arith, some))
 nothing_counted o (part ∷ parts) claim counts sound some all follow c = (

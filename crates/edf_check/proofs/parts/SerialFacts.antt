@@ -14,6 +14,7 @@ use Rattle.edf_check.specs.declared.parts.found.PartsFound.{PartsFound}
 use Rattle.edf_check.specs.declared.parts.part.PartRead.{PartRead}
 use Rattle.edf_check.specs.declared.parts.series.Exported.{Exported}
 use Rattle.edf_samples.specs.declared.earliest.Found.{Found}
+use Rattle.edf_pace.specs.declared.walk.turn.Setting.{Setting}
 use Rattle.edf_pace.specs.declared.walk.turn.Turn.{Turn}
 use Rattle.edf_pace.specs.declared.walk.fault_of.FaultOf.{FaultOf}
 use Rattle.edf_pace.specs.declared.walk.fault_of.FaultOf.TheVariants as faults
@@ -24,7 +25,13 @@ use Rattle.edf_pace.specs.walk.Ends.{IsFaultBy, moved_export, moved_original}
 use Rattle.edf_check.specs.parts.Together.{AreRead, HaveFault, gathered_of_all, serial_difference}
 use Rattle.edf_samples.specs.declared.counts.tally.Tally.{Tally}
 use Rattle.edf_samples.specs.declared.times.Time.{Time}
-use Rattle.edf_check.specs.parts.Counted.{IsCountedBehind, serial_counts}
+use Rattle.edf_check.specs.parts.Counted.{AreGatheredBehind, count_of, serial_counts}
+use Rattle.edf_pace.specs.declared.walk.reading.Reading.{Reading}
+use Rattle.edf_pace.specs.walk.Ends.{AreGathered}
+use Rattle.edf_pace.specs.walk.Gathered.{gathered_of}
+use Rattle.edf_pace.specs.walk.Readings.{gathered_so_far}
+use Rattle.edf_pace.specs.walk.Watching.{ExportCount}
+use Rattle.edf_stream.specs.annotation.NotesReading.{notes_of}
 use Rattle.edf_pace.specs.walk.Counting.{span_counts}
 use Rattle.edf_pace.specs.walk.Pairs.{places_in}
 use Rattle.edf_pace.specs.walk.Shown.{last_end_by}
@@ -78,7 +85,7 @@ read_none turn last part o h left notes e left' mid is p = record {
   first = λ c x y. refl;
   same = λ c x y z.
       let same = same-parts part.heads (part.course).is_early (part.course).found (and-right turn.is_compared (is_same part) c) in
-      ((p.matched (and-left turn.is_compared (is_same part) c) same.0 same.1).kept is same.2, sym (append-nil (map note_value (mid.notes).items)));
+      (((p.matched (and-left turn.is_compared (is_same part) c) same.0 same.1).gathered same.2).kept is, sym (append-nil (map note_value (mid.notes).items)));
   counted = omega arith;
 }
 
@@ -102,7 +109,7 @@ read_more turn last compared part o h left mid-left notes mid-notes e left' part
           let more = r.same (so c x.0 y.0 z.0) x.1 y.1 z.1 in (
             more.0,
             more.1 ∙ ap (λ ns. ns ++ gathered_of_all b parts) added ∙ append_assoc (map note_value (before.notes).items) (map note_value (part.notes).items) (gathered_of_all b parts)
-                ∙ ap (λ ns. map note_value (before.notes).items ++ (ns ++ gathered_of_all b parts)) ((p.matched c x.0 y.0).gathered z.0),
+                ∙ ap (λ ns. map note_value (before.notes).items ++ (ns ++ gathered_of_all b parts)) (((p.matched c x.0 y.0).gathered z.0).exported),
           );
       counted = (let more = r.counted in let here = p.samples_are in omega (arith, more, here, samples));
     }
@@ -163,8 +170,8 @@ fault_behind o h left first part parts (faults.Part other fault) c p = (p.0, fau
 -- ---- what was counted
 
 -- of the last part
-pub counted_last : (turn : Turn) (last : Bool) (o : List ℕ) (h : Head) (e : List ℕ) (parts : List (List ℕ)) (before behind : List (List Tally)) → last ≡ true → parts ≡ []
-    → behind ≡ before ++ (span_counts last ((turn.setting).claim).now (sampled o h (moved_original turn)) (sampled e (head_of e) (moved_export turn)) (places_in h (head_of e) ((turn.setting).labels).now) (turn.from).ps (last_end_by e (head_of e) (moved_export turn)) ∷ [])
+pub counted_last : (turn : Turn) (last : Bool) (o : List ℕ) (h : Head) (e : List ℕ) (parts : List (List ℕ)) (before behind : List ExportCount) → last ≡ true → parts ≡ []
+    → behind ≡ before ++ (count_of e (span_counts last ((turn.setting).claim).now (sampled o h (moved_original turn)) (sampled e (head_of e) (moved_export turn)) (places_in h (head_of e) ((turn.setting).labels).now) (turn.from).ps (last_end_by e (head_of e) (moved_export turn))) ∷ [])
     → behind ≡ before ++ serial_counts ((turn.setting).claim).now o h (moved_original turn) (moved_export turn) ((turn.setting).labels).now (turn.from).ps (e ∷ parts)
 counted_last turn last o h e parts before behind is none here =
     let claim = ((turn.setting).claim).now in
@@ -172,14 +179,14 @@ counted_last turn last o h e parts before behind is none here =
     let b = moved_export turn in
     let labels = ((turn.setting).labels).now in
     let t = (turn.from).ps in
-    let F : Bool → Type 0 = λ l. behind ≡ before ++ (span_counts l claim (sampled o h a) (sampled e (head_of e) b) (places_in h (head_of e) labels) t (last_end_by e (head_of e) b) ∷ []) in
+    let F : Bool → Type 0 = λ l. behind ≡ before ++ (count_of e (span_counts l claim (sampled o h a) (sampled e (head_of e) b) (places_in h (head_of e) labels) t (last_end_by e (head_of e) b)) ∷ []) in
     let P : List (List ℕ) → Type 0 = λ all. behind ≡ before ++ serial_counts claim o h a b labels t (e ∷ all) in
     subst P (sym none) (subst F is here)
 
 -- of a part, and of those behind it
-pub counted_more : (turn : Turn) (last : Bool) (o : List ℕ) (h k : Head) (e : List ℕ) (parts more : List (List ℕ)) (end : Time) (before mid behind : List (List Tally)) → last ≡ false → is_last more ≡ false → k ≡ h
+pub counted_more : (turn : Turn) (last : Bool) (o : List ℕ) (h k : Head) (e : List ℕ) (parts more : List (List ℕ)) (end : Time) (before mid behind : List ExportCount) → last ≡ false → is_last more ≡ false → k ≡ h
     → end.ps ≡ last_end_by e (head_of e) (moved_export turn) → parts ≡ more
-    → mid ≡ before ++ (span_counts last ((turn.setting).claim).now (sampled o h (moved_original turn)) (sampled e (head_of e) (moved_export turn)) (places_in h (head_of e) ((turn.setting).labels).now) (turn.from).ps (last_end_by e (head_of e) (moved_export turn)) ∷ [])
+    → mid ≡ before ++ (count_of e (span_counts last ((turn.setting).claim).now (sampled o h (moved_original turn)) (sampled e (head_of e) (moved_export turn)) (places_in h (head_of e) ((turn.setting).labels).now) (turn.from).ps (last_end_by e (head_of e) (moved_export turn))) ∷ [])
     → behind ≡ mid ++ serial_counts ((turn.setting).claim).now o k (moved_original turn) (moved_export turn) ((turn.setting).labels).now end.ps more
     → behind ≡ before ++ serial_counts ((turn.setting).claim).now o h (moved_original turn) (moved_export turn) ((turn.setting).labels).now (turn.from).ps (e ∷ parts)
 counted_more turn last o h k e parts more end before mid behind is some head ends same here rest =
@@ -189,7 +196,7 @@ counted_more turn last o h k e parts more end before mid behind is some head end
     let labels = ((turn.setting).labels).now in
     let t = (turn.from).ps in
     let v = last_end_by e (head_of e) b in
-    let first : Bool → List Tally = λ l. span_counts l claim (sampled o h a) (sampled e (head_of e) b) (places_in h (head_of e) labels) t v in
+    let first : Bool → ExportCount = λ l. count_of e (span_counts l claim (sampled o h a) (sampled e (head_of e) b) (places_in h (head_of e) labels) t v) in
     let P : List (List ℕ) → Type 0 = λ all. behind ≡ before ++ serial_counts claim o h a b labels t (e ∷ all) in
     subst P (sym same)
     (rest
@@ -198,3 +205,32 @@ counted_more turn last o h k e parts more end before mid behind is some head end
     ∙ ap (λ ts. ts ++ serial_counts claim o h a b labels v more) here
     ∙ append_assoc before (first last ∷ []) (serial_counts claim o h a b labels v more)
     ∙ ap (λ l. before ++ (first l ∷ serial_counts claim o h a b labels v more)) (is ∙ sym some))
+
+-- ---- what was gathered
+
+-- of the last part
+pub gathered_last : (turn : Turn) (last : Bool) (o : List ℕ) (h : Head) (e : List ℕ) (parts : List (List ℕ)) (r : Reading) (held notes behind : List NoteValue) → last ≡ true → parts ≡ [] → (r.reader).head ≡ h
+    → behind ≡ held ++ notes → AreGathered (record turn { is_last = last }) o h (gathered_so_far r) e (head_of e) notes → AreGatheredBehind turn o h (e ∷ parts) r held behind
+gathered_last turn last o h e parts r held notes behind is none head added g = record {
+  head = head;
+  kept = g.kept is;
+  exported = added
+      ∙ ap (λ xs. held ++ xs) (g.exported ∙ sym (append-nil (gathered_of None (moved_export turn) (notes_of e (head_of e)))))
+      ∙ ap (λ ps. held ++ gathered_of_all (moved_export turn) (e ∷ ps)) (sym none);
+}
+
+-- of a part, and of those behind it
+pub gathered_more : (turn next : Turn) (last : Bool) (o : List ℕ) (h k : Head) (e : List ℕ) (parts more : List (List ℕ)) (q r : Reading) (held notes mid behind : List NoteValue) → next.setting ≡ turn.setting → parts ≡ more → k ≡ h
+    → mid ≡ held ++ notes → AreGathered (record turn { is_last = last }) o h (gathered_so_far q) e (head_of e) notes → AreGatheredBehind next o k more r mid behind → AreGatheredBehind turn o h (e ∷ parts) r held behind
+gathered_more turn next last o h k e parts more q r held notes mid behind setting same head added g rest = record {
+  head = rest.head ∙ head;
+  kept = rest.kept
+      ∙ ap (λ x. gathered_of (Some ((next.setting).claim).now) (moved_original next) (notes_of o x)) head
+      ∙ ap (λ (s : Setting). gathered_of (Some (s.claim).now) ((s.clock).original).ps (notes_of o h)) setting;
+  exported = rest.exported
+      ∙ ap (λ xs. xs ++ gathered_of_all (moved_export next) more) added
+      ∙ append_assoc held notes (gathered_of_all (moved_export next) more)
+      ∙ ap (λ xs. held ++ (xs ++ gathered_of_all (moved_export next) more)) g.exported
+      ∙ ap (λ (s : Setting). held ++ (gathered_of None (moved_export turn) (notes_of e (head_of e)) ++ gathered_of_all ((s.clock).export).ps more)) setting
+      ∙ ap (λ ps. held ++ gathered_of_all (moved_export turn) (e ∷ ps)) (sym same);
+}

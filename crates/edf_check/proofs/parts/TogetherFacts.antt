@@ -37,12 +37,13 @@ use Rattle.edf_check.specs.parts.PartsFirst.{IsFirstHead}
 use Rattle.edf_check.specs.parts.Parts.{AllConform, ExportedByOne, FollowOneAnother, exported_by_all, first_begin, last_end}
 use Rattle.edf_check.specs.parts.PartsFound.{AllAgree, AllConformAt, AreOrdered, IsEarlyFound, IsFirstEarly, IsHeadsFound, end_before_part}
 use Rattle.edf_check.specs.parts.PartsVerdicts.{AllAgreed, AllInOrder, HeadDiffers, IsFirstOverlap, IsPartsVerdict, IsVerdictOnParts, samples_of_all}
-use Rattle.edf_samples.specs.declared.counts.tally.Tally.{Tally}
-use Rattle.edf_check.specs.parts.Counted.{AreCounted, serial_counts}
+use Rattle.edf_check.specs.parts.Counted.{AreAllGathered, AreCounted, AreGatheredBehind, serial_counts}
+use Rattle.edf_pace.specs.declared.walk.reading.Reading.{Reading}
+use Rattle.edf_pace.specs.walk.Watching.{ExportCount}
 use Rattle.edf_pace.specs.walk.Gathered.{gathered_of}
 use Rattle.edf_pace.specs.walk.Readings.{IsSetting}
 use Rattle.edf_pace.specs.walk.Ends.{moved_export, moved_original}
-use Rattle.edf_check.specs.parts.Together.{AreRead, HaveFault, gathered_of_all, serial_difference, AreFoundIn, AreJudged, IsFirstOfAll, IsLeftBy}
+use Rattle.edf_check.specs.parts.Together.{AreRead, HaveFault, gathered_of_all, held_notes, serial_difference, AreFoundIn, AreJudged, IsFirstOfAll, IsLeftBy}
 use Rattle.edf_pace.specs.walk.Shown.{begin_by, last_end_by}
 use Rattle.edf_check.proofs.parts.FoundFacts.{faultless_part}
 use Rattle.edf_check.proofs.parts.SeriesFacts.{IsFirst, parts_first, moved_part}
@@ -281,7 +282,7 @@ not-early by t first parts (Some part) is near zero' cs follow e =
     let order = follow at.before at.one at.next at.one_is at.next_is in
     absurd (omega (arith, ints, before, order))
 
-pub counted_together : (turn : Turn) (o : List ℕ) (h k : Head) (left : List ℕ) (notes : List NoteValue) (parts lefts : List (List ℕ)) (before behind : Exported) (found : PartsFound) (held now : List (List Tally)) → AreRead turn o h left notes parts lefts before behind found
+pub counted_together : (turn : Turn) (o : List ℕ) (h k : Head) (left : List ℕ) (notes : List NoteValue) (parts lefts : List (List ℕ)) (before behind : Exported) (found : PartsFound) (held now : List ExportCount) → AreRead turn o h left notes parts lefts before behind found
     → (turn.from).ps ≡ neg_ℤ (pos (2 ^ 90)) → turn.part ≡ 0 → h ≡ head_of o → k ≡ head_of o → IsSetting k turn.setting → FollowOneAnother parts
     → (found.early ≡ None → Conforms o h → now ≡ held ++ serial_counts ((turn.setting).claim).now o h (moved_original turn) (moved_export turn) ((turn.setting).labels).now (turn.from).ps parts)
     → AreCounted o parts ((turn.setting).claim).now held now
@@ -300,6 +301,24 @@ counted_together turn o h k left notes parts lefts before behind found held now 
           ∙ ap (λ x. held ++ serial_counts claim o (head_of o) x (moved_export turn) labels (turn.from).ps parts) a
           ∙ ap (λ x. held ++ serial_counts claim o (head_of o) (neg_ℤ (origin_of o)) x labels (turn.from).ps parts) b
           ∙ ap (λ x. held ++ serial_counts claim o (head_of o) (neg_ℤ (origin_of o)) (neg_ℤ (origin_of o +ℤ shift_ps claim)) labels x parts) is;
+    }
+
+-- what was gathered of them is what is kept of the original, and what all of them hold
+pub gathered_together : (turn : Turn) (o : List ℕ) (h k : Head) (left : List ℕ) (notes : List NoteValue) (parts lefts : List (List ℕ)) (before behind : Exported) (found : PartsFound) (r : Reading) → AreRead turn o h left notes parts lefts before behind found
+    → (turn.from).ps ≡ neg_ℤ (pos (2 ^ 90)) → turn.part ≡ 0 → h ≡ head_of o → k ≡ head_of o → IsSetting k turn.setting → (before.notes).items ≡ [] → FollowOneAnother parts
+    → (found.early ≡ None → Conforms o h → AreGatheredBehind turn o h parts r (held_notes before) (held_notes behind))
+    → AreAllGathered o parts ((turn.setting).claim).now r (held_notes behind)
+gathered_together turn o h k left notes parts lefts before behind found r read is zero' head head' setting none follow gathered =
+    let claim = ((turn.setting).claim).now in
+    let clock = setting.clock in
+    let early = not-early (moved_export turn) (turn.from).ps turn.part parts found.early is (((turn.setting).clock).export).near zero' read.conform follow read.early_is in
+    let all = gathered early (read.through).conforms in
+    let a : moved_original turn ≡ neg_ℤ (origin_of o) = clock.original ∙ ap (λ x. neg_ℤ (file_start x)) head' in
+    let b : moved_export turn ≡ moved_part o claim = clock.export ∙ ap (λ x. neg_ℤ (file_start x +ℤ shift_ps claim)) head' in
+    record {
+      head = all.head ∙ head;
+      kept_are = all.kept ∙ ap (λ x. gathered_of (Some claim) (moved_original turn) (notes_of o x)) head ∙ ap (λ x. gathered_of (Some claim) x (notes_of o (head_of o))) a;
+      exported_are = all.exported ∙ ap (λ ns. map note_value ns ++ gathered_of_all (moved_export turn) parts) none ∙ ap (λ x. gathered_of_all x parts) b ∙ gathered-is o claim parts;
     }
 
 no-fault : (file : List ℕ) (fault : Fault) → file_fault file ≡ Some fault → file_fault file ≡ None → ⊥

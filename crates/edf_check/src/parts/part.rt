@@ -116,8 +116,9 @@ fn compare_on<O: Source, E: Source, L: Onlooker>(
     ensures looks { L.looks shown.new.onlooker.now ≡ L.looks shown.old.onlooker.now }
     ensures before { L.counted shown.new.onlooker.now ≡ L.counted shown.old.onlooker.now }
     ensures beside { IfRead result (StaysBeside (L.looks shown.old.onlooker.now) shown.old.turn) }
-    ensures counted { IfRead result (λ c. TurnCounted O.Source E.Source original.old o.old export.old e.old
-        shown.old.turn (L.looks shown.old.onlooker.now) (L.tallies shown.new.onlooker.now)) }
+    ensures counted { IfRead result (λ c. TurnCounted O.Source E.Source original.old o.old original.new
+        export.old e.old export.new shown.old.turn (L.looks shown.old.onlooker.now)
+        (L.tallies shown.new.onlooker.now)) }
     ensures fault { IfFaulty result (FaultyOn O.Source E.Source original.old o.old o.new export.old e.old
         shown.old.turn) }
     ensures failures { OnOk result ((O.reads o.new ≡ O.reads o.old) × (E.reads e.new ≡ E.reads e.old)) }
@@ -198,8 +199,9 @@ fn compare<O: Source, E: Source, L: Onlooker>(
     ensures looks { L.looks shown.new.onlooker.now ≡ L.looks shown.old.onlooker.now }
     ensures before { L.counted shown.new.onlooker.now ≡ L.counted shown.old.onlooker.now }
     ensures beside { IfRead result (StaysBeside (L.looks shown.old.onlooker.now) shown.old.turn) }
-    ensures counted { IfRead result (PartCounted O.Source E.Source original.old o.old export.old e.old
-        shown.old.turn (L.looks shown.old.onlooker.now) (L.tallies shown.new.onlooker.now)) }
+    ensures counted { IfRead result (PartCounted O.Source E.Source original.old o.old original.new export.old
+        e.old export.new shown.old.turn (L.looks shown.old.onlooker.now)
+        (L.tallies shown.new.onlooker.now)) }
     ensures fault { IfFaulty result (PartFaulty O.Source E.Source original.old o.old o.new export.old e.old
         shown.old.turn) }
     ensures failures { OnOk result ((O.reads o.new ≡ O.reads o.old) × (E.reads e.new ≡ E.reads e.old)) }
@@ -317,8 +319,9 @@ fn read_course<O: Source, E: Source, L: Onlooker>(
     ensures looks { L.looks shown.new.onlooker.now ≡ L.looks shown.old.onlooker.now }
     ensures before { L.counted shown.new.onlooker.now ≡ L.counted shown.old.onlooker.now }
     ensures beside { IfRead result (StaysBeside (L.looks shown.old.onlooker.now) shown.old.turn) }
-    ensures counted { IfRead result (PartCounted O.Source E.Source original.old o.old export.old e.old
-        shown.old.turn (L.looks shown.old.onlooker.now) (L.tallies shown.new.onlooker.now)) }
+    ensures counted { IfRead result (PartCounted O.Source E.Source original.old o.old original.new export.old
+        e.old export.new shown.old.turn (L.looks shown.old.onlooker.now)
+        (L.tallies shown.new.onlooker.now)) }
     ensures fault { IfFaulty result (PartFaulty O.Source E.Source original.old o.old o.new export.old e.old
         shown.old.turn) }
     ensures failures { OnOk result ((O.reads o.new ≡ O.reads o.old) × (E.reads e.new ≡ E.reads e.old)) }
@@ -358,8 +361,8 @@ pub(crate) fn read_part<O: Source, E: Source, L: Onlooker>(
     ensures stays { IfRead result (PartStays turn.entry) }
     ensures looks { L.looks onlooker.new ≡ L.looks onlooker.old }
     ensures beside { IfRead result (λ p. StaysBeside (L.looks onlooker.old) turn.entry p.course) }
-    ensures counted { IfRead result (PartCountedBy O.Source E.Source turn.entry original.old o.old e.old
-        (L.looks onlooker.old) (L.counted onlooker.old) (L.counted onlooker.new)) }
+    ensures counted { IfRead result (PartCountedBy O.Source E.Source turn.entry original.old o.old original.new
+        e.old (L.looks onlooker.old) (L.counted onlooker.old) (L.counted onlooker.new)) }
     ensures read { IfRead result (PartReadBy O.Source E.Source turn.entry original.old o.old original.new
         o.new e.old e.new) }
     ensures fault { IfFaulty result

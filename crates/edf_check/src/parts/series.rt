@@ -95,7 +95,7 @@ pub(crate) fn read_parts<O: Source, E: Source, L: Onlooker>(
         o.new part.old part.new others.old others.new) }
     ensures lender { shown.new.onlooker.ghost_name ≡ shown.old.onlooker.ghost_name }
     ensures looks { L.looks shown.new.onlooker.now ≡ L.looks shown.old.onlooker.now }
-    ensures counted { IfRead result (AreCountedBehind O.Source E.Source shown.old.turn so_far.old.original
+    ensures counted { IfRead result (AreCountedBehind O.Source E.Source shown.old.turn so_far.old so_far.new
         o.old (part.old ∷ others.old) (L.looks shown.old.onlooker.now) (L.counted shown.old.onlooker.now)
         (L.counted shown.new.onlooker.now)) }
     ensures fault { IfFaulty result (SeriesFault O.Source E.Source shown.old.turn so_far.old o.old o.new

@@ -1,6 +1,7 @@
 //! An original and several exports, from the start of the original to the verdict on all of them together.
 
 ghost use Rattle.std.specs.Prelude.{◌≡◌, ◌<◌, ◌∷◌, [], map, length, None, IfErr, IfOk, IfSome, OnOk};
+ghost use Rattle.std.specs.List.Sorted.{IsPermutation};
 ghost use Rattle.edf_stream.specs.records.Readers.{HasBegun};
 ghost use Rattle.edf_stream.specs.Views.{note_value};
 ghost use Rattle.edf_pace.specs.PartsStops.{NoneFailed, StopsOfAll};
@@ -54,9 +55,9 @@ pub(crate) fn walk_parts<O: Source, E: Source, L: Onlooker>(
         others.old others.new) }
     ensures lender { stage.new.onlooker.ghost_name ≡ stage.old.onlooker.ghost_name }
     ensures looks { L.looks stage.new.onlooker.now ≡ L.looks stage.old.onlooker.now }
-    ensures counted { IfRead result (λ f. SeriesCounted O.Source E.Source stage.old.setting so_far.old o.old
-        (part.old ∷ others.old) (L.looks stage.old.onlooker.now) (L.counted stage.old.onlooker.now)
-        (L.counted stage.new.onlooker.now)) }
+    ensures counted { IfRead result (λ f. SeriesCounted O.Source E.Source stage.old.setting so_far.old
+        so_far.new o.old (part.old ∷ others.old) (L.looks stage.old.onlooker.now)
+        (L.counted stage.old.onlooker.now) (L.counted stage.new.onlooker.now)) }
     ensures fault { IfFaulty result (IsFirstFrom O.Source E.Source so_far.old.original o.old o.new
         (part.old ∷ others.old)) }
     ensures failures { OnOk result (NoneFailed O.Source o.old o.new E.Source part.old part.new others.old
@@ -111,7 +112,10 @@ fn first_finding(
     exported: &mut Exported,
 ) -> Result<Option<Finding>, AllocError>
     requires { IfSome found.found (IsFoundAmong (length (setting.labels).now)) }
-    ensures { IfOk result (IsFindingOf setting.entry (map note_value kept.old.items) exported.old found) }
+    ensures value { IfOk result (IsFindingOf setting.entry (map note_value kept.old.items) exported.old
+        found) }
+    ensures kept { OnOk result (IsPermutation kept.old.items kept.new.items) }
+    ensures exported { OnOk result (IsPermutation (exported.old.notes).items (exported.new.notes).items) }
 {
     let PartsFound {
         heads,
@@ -144,7 +148,10 @@ pub(crate) fn conclude_parts(
     exported: &mut Exported,
 ) -> Result<PartsVerdict, AllocError>
     requires { IfSome found.found (IsFoundAmong (length (setting.labels).now)) }
-    ensures { IfOk result (FollowsFrom setting.entry (map note_value kept.old.items) exported.old found) }
+    ensures value { IfOk result (FollowsFrom setting.entry (map note_value kept.old.items) exported.old
+        found) }
+    ensures kept { OnOk result (IsPermutation kept.old.items kept.new.items) }
+    ensures exported { OnOk result (IsPermutation (exported.old.notes).items (exported.new.notes).items) }
 {
     let yes = Verdict::Yes {
         channels: channels_of(setting.claim),

@@ -3,7 +3,7 @@ use Rattle.std.proofs.Common.{Ordering, Less, Equal, Greater, ◌≡◌, ◌≢�
 use Rattle.std.specs.List.Sorted.{IsSorted, IsPermutation}
 use Rattle.std.specs.Ordering.{is_eq, is_lt, is_ne, ordering_reverse}
 use Rattle.std.proofs.lemmas.Cmp.{tied_itself}
-use Rattle.std.proofs.lemmas.List.Sorted.{sum_by-IsPermutation, IsPermutation-map, sorted_far, ranks_by}
+use Rattle.std.proofs.lemmas.List.Sorted.{sum_by-IsPermutation, IsPermutation-append_right, IsPermutation-map, sorted_far, ranks_by}
 use Rattle.std.proofs.Math.Seq.{take-suc, take-length}
 use Rattle.std.proofs.lemmas.List.{map-append, take-append-drop}
 use Rattle.std.proofs.lemmas.List.Sums.{sum_by-cons}
@@ -18,6 +18,12 @@ use Rattle.edf_pace.specs.Annotations.{note_cmp, times, IsMore, IsFirstNote, Sam
 use Rattle.edf_pace.specs.notes.NoteOrder.{NoteMismatch, by_order, first_unequal_of}
 use Rattle.edf_pace.proofs.notes.NoteFacts.{note-total, note-exact}
 use Rattle.edf_pace.proofs.notes.RearrangedFacts.{times-append}
+
+-- one front, and what stands behind it in another order
+pub behind-permuted : {X : Type 0} (n : ℕ) (xs ys : List X) → take n ys ≡ take n xs → IsPermutation (drop n xs) (drop n ys) → IsPermutation xs ys
+behind-permuted n xs ys front rest =
+    subst (λ zs. IsPermutation zs ys) (take-append-drop n xs)
+    (subst (IsPermutation (take n xs ++ drop n xs)) (ap (λ zs. zs ++ drop n ys) (sym front) ∙ take-append-drop n ys) (IsPermutation-append_right (take n xs) (drop n xs) (drop n ys) rest))
 
 -- no annotation is before one that stands ahead of it
 abbrev pub AreInOrder : List NoteValue → Type 0

@@ -192,8 +192,7 @@ module _ (frame : Frame) (x : List ℕ) (h : Head) (ns : List NoteValue) (y : Li
             (none
             ∙ at_end claim x y h g a b ps t None (rest s) co ce places o.past e.past
             (rest_parts claim x y h g a b ps s t co ce places (let le : s ≤ℤ t = omega (arith, ints, from, at) in le) ∙ ap (λ z. option_or z (rest t)) (subst P at (seen co ce) ∙ none)));
-        gathered = λ z. e.gathered;
-        kept = λ l z. o.gathered;
+        gathered = λ z. record { exported = e.gathered; kept = λ l. o.gathered };
       }
 
   pub matched_on : {le : List ℕ} → turn.is_last ≡ false → found ≡ None → (w.seen).ps ≡ (w.reached).ps → HasEnded le ms y g None b (w.reached).ps → IsMatched turn x h ns y g ms found
@@ -201,15 +200,13 @@ module _ (frame : Frame) (x : List ℕ) (h : Head) (ns : List NoteValue) (y : Li
       let P : ℤ → Type 0 = λ u. window_difference claim (sampled x h a) (sampled y g b) ps s u ≡ found in
       record {
         first = λ co. over false last (sym (subst P (at ∙ is.ends (ap is_some none) last) (seen co (e.through).conforms)));
-        gathered = λ z. e.gathered;
-        kept = λ l z. absurd (other_way turn.is_last l last);
+        gathered = λ z. record { exported = e.gathered; kept = λ l. absurd (other_way turn.is_last l last) };
       }
 
   pub matched_behind : (first : Found) → found ≡ Some first → Conforms y g → IsMatched turn x h ns y g ms found
   matched_behind first some ce = record {
     first = λ co. by turn.is_last refl co;
     gathered = λ z. absurd (let e : Some first ≡ None = sym some ∙ z in cc);
-    kept = λ l z. absurd (let e : Some first ≡ None = sym some ∙ z in cc);
   }
     where
       by : (last : Bool) → turn.is_last ≡ last → Conforms x h → Spans turn.is_last (places_in h g ((turn.setting).labels).now)

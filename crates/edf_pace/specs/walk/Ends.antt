@@ -134,13 +134,17 @@ abbrev pub WalkedBy : Both → Turn → (TwoFiles → ℤ → ℤ → Type 0) �
 WalkedBy both turn Held Holds enough walked = OfFiles both.original both.export
     (λ o e. IsWalked turn (two_files o (both.original).head e (both.export).head) Held Holds enough walked)
 
--- it was compared; where it doesn't differ its annotations were gathered, and behind the last part those that are kept of the original
+-- the part's annotations were gathered, and behind the last part those that are kept of the original
+pub record AreGathered (turn : Turn) (o : List ℕ) (h : Head) (notes : List NoteValue) (e : List ℕ) (g : Head) (notes' : List NoteValue) : Type 0 where
+  pub exported : notes' ≡ gathered_of None (moved_export turn) (notes_of e g)
+  pub kept : turn.is_last ≡ true → notes ≡ gathered_of (Some ((turn.setting).claim).now) (moved_original turn) (notes_of o h)
+
+-- it was compared; where it doesn't differ, annotations were gathered
 pub record IsMatched (turn : Turn) (o : List ℕ) (h : Head) (notes : List NoteValue) (e : List ℕ) (g : Head) (notes' : List NoteValue) (found : Option Found) : Type 0 where
   pub first : Conforms o h
       → found ≡ span_difference turn.is_last ((turn.setting).claim).now (sampled o h (moved_original turn)) (sampled e g (moved_export turn))
       (places_in h g ((turn.setting).labels).now) (turn.from).ps (last_end_by e g (moved_export turn))
-  pub gathered : found ≡ None → notes' ≡ gathered_of None (moved_export turn) (notes_of e g)
-  pub kept : turn.is_last ≡ true → found ≡ None → notes ≡ gathered_of (Some ((turn.setting).claim).now) (moved_original turn) (notes_of o h)
+  pub gathered : found ≡ None → AreGathered turn o h notes e g notes'
 
 -- its samples were counted by channel
 abbrev pub IsCounted : Turn → List ℕ → Head → List ℕ → Head → List Tally → Type 0

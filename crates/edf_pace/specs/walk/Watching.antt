@@ -1,6 +1,6 @@
 -- What a watcher of two files that are read in step gets to see.
 use Rattle.std.specs.Prelude.{◌≡◌, ℕ, ℤ, ◌≤ℤ◌, Bool, List, map, Option}
-use Rattle.edf_pace.specs.Words.{Found, Frame, Head, Reader, Turn, Window}
+use Rattle.edf_pace.specs.Words.{Found, Frame, Head, Note, NoteValue, Reader, Reading, Turn, Window, note_value}
 use Rattle.edf_samples.specs.declared.counts.tally.Tally.{Tally}
 use Rattle.edf_pace.specs.walk.Pairs.{places_of}
 use Rattle.edf_pace.specs.walk.Shown.{Covers}
@@ -23,10 +23,29 @@ moved_original turn = ((turn.setting).clock.original).ps
 abbrev pub moved_export : Turn → ℤ
 moved_export turn = ((turn.setting).clock.export).ps
 
+-- what an onlooker has of an export that was read to its end: its header, and what was counted of each channel
+pub record ExportCount : Type 0 where
+  pub head : Head
+  pub tallies : List Tally
+
+-- what it has of all files once the original was read to its end: the original's header, those of its annotations that are kept, and the
+-- annotations of all exports
+pub record WholeShown : Type 0 where
+  pub head : Head
+  pub kept : List NoteValue
+  pub exported : List NoteValue
+
+abbrev pub shown_whole : Reading → List Note → WholeShown
+shown_whole original exported = record {
+  head = (original.reader).head;
+  kept = map note_value original.notes.items;
+  exported = map note_value exported;
+}
+
 -- what stays as it is while a watcher sees: whether it has an onlooker that looks on, and what that one counted of the exports before
 pub record Kept : Type 0 where
   pub looks : Bool
-  pub counted : List (List Tally)
+  pub counted : List ExportCount
 
 -- who held what there is in two files before t, then holds what there is before u: in any two files of which two readers show all that
 -- stands from t on and before u

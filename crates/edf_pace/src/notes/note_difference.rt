@@ -26,6 +26,7 @@ pub struct NoteDifference {
 /// Puts annotations in order, from this place on.
 fn sort_notes(notes: &mut Vec<Note>, from: usize)
     requires { from ≤ length notes.old.items }
+    ensures front { take from notes.new.items ≡ take from notes.old.items }
     ensures same { IsPermutation (drop from notes.old.items) (drop from notes.new.items) }
     ensures order { IsSorted (λ x y. note_cmp (note_value x) (note_value y)) (drop from notes.new.items) }
     ensures size { length notes.new.items ≡ length notes.old.items }
@@ -132,8 +133,10 @@ pub fn note_difference(
     kept: &mut Vec<Note>,
     exported: &mut Vec<Note>,
 ) -> Result<Option<NoteDifference>, AllocError>
-    ensures { IfOk result
+    ensures value { IfOk result
         (IsNoteDifference (map note_value kept.old.items) (map note_value exported.old.items)) }
+    ensures kept { IsPermutation kept.old.items kept.new.items }
+    ensures exported { IsPermutation exported.old.items exported.new.items }
 {
     let same = same_front(kept, exported);
     sort_notes(kept, same);

@@ -1,10 +1,14 @@
-use Rattle.std.proofs.Common.{◌≡◌, ◌∷◌, ◌∙◌, map, sym, subst}
+use Rattle.std.proofs.Common.{rules, ◌≡◌, ◌∷◌, ◌∙◌, MatchOption, Some, map, sym, subst, true}
+use Rattle.std.specs.List.Sorted.{IsPermutation}
+use Rattle.std.proofs.lemmas.List.Sorted.{IsPermutation-map}
+use Rattle.edf_stream.specs.Views.{note_value}
+use Rattle.edf_pace.specs.walk.Watching.{WholeShown}
 use Rattle.std.specs.List.{AllByRecursion}
 use Rattle.edf_check.specs.Checks.{AreRead}
 use Rattle.edf_pace.specs.declared.walk.fault_of.FaultOf.TheVariants as faults
 use Rattle.edf_check.specs.parts.PartsVerdicts.{IsPartsVerdict}
 use Rattle.edf_check.proofs.parts.LeftFacts.{read_all, read_fault}
-use Rattle.edf_check.specs.parts.Counted.{AreCounted}
+use Rattle.edf_check.specs.parts.Counted.{AreCounted, IsWhole}
 use Rattle.edf_check.proofs.parts.TogetherFacts.{fault_verdict, none_faulty}
 use Rattle.edf_check.proofs.of_several.check_series.Goals as goal
 
@@ -27,7 +31,7 @@ returns-in-Ok-Ok-walk_parts-clause-verdict g c = λ ho he.
     let honesty = rw c.in-Ok-Ok.field-0-is at c.in-Ok-Ok.ensures.honesty in
     let o = g.O.Source.left c.args.original.now in
     let judged = (rw c.in-Ok-Ok-walk_parts.field-0-is at c.in-Ok-Ok-walk_parts.ensures.judged) (honesty ho) o (stands ho) he in
-    c.in_ok-verdict-in-Ok-Ok-walk_parts.ensures o (g.E.Source.left c.args.part.now ∷ map g.E.Source.left c.args.others.now) judged
+    c.in_ok-verdict-in-Ok-Ok-walk_parts.ensures.value o (g.E.Source.left c.args.part.now ∷ map g.E.Source.left c.args.others.now) judged
 
 pub returns-in-Ok-Ok-walk_parts-clause-read : goal.returns-in-Ok-Ok-walk_parts-clause-read
 returns-in-Ok-Ok-walk_parts-clause-read g c = λ ho he.
@@ -66,7 +70,25 @@ returns-in-Ok-Ok-walk_parts-clause-counted g c = λ looks ho he all follow.
     let o = g.O.Source.left c.args.original.now in
     let parts = g.E.Source.left c.args.part.now ∷ map g.E.Source.left c.args.others.now in
     let counted = (rw c.in-Ok-Ok-walk_parts.field-0-is at c.in-Ok-Ok-walk_parts.ensures.counted) looks (honesty ho) o (stands ho) he follow in
-    subst (AreCounted o parts c.args.asked.now.claim.now (g.L.Onlooker.counted c.args.asked.now.onlooker.now)) (sym c.take_original.ensures.counted) counted
+    let claim = c.args.asked.now.claim.now in
+    let whole : WholeShown = record {
+      head = (c.walk_parts.new.so_far.original.reader).head;
+      kept = map note_value c.conclude_parts.new.kept.items;
+      exported = map note_value (c.conclude_parts.new.exported.notes).items;
+    } in
+    let given : g.L.Onlooker.looks c.walk_parts.new.stage.onlooker.now ≡ true → g.L.Onlooker.shown c.take_original.new.self ≡ Some whole =
+    search rules in
+    let shown = given (c.walk_parts.ensures.looks ∙ looks) in
+    let all = counted.1 in
+    record {
+      counted = subst (AreCounted o parts claim (g.L.Onlooker.counted c.args.asked.now.onlooker.now)) (sym c.take_original.ensures.counted) counted.0;
+      whole = subst (λ s. MatchOption s ⊥ (IsWhole o parts claim)) (sym shown)
+          (record {
+            head = all.head;
+            kept = subst (λ ns. IsPermutation ns (map note_value c.conclude_parts.new.kept.items)) all.kept_are (IsPermutation-map note_value _ _ c.in_ok-verdict-in-Ok-Ok-walk_parts.ensures.kept);
+            exported = subst (λ ns. IsPermutation ns (map note_value (c.conclude_parts.new.exported.notes).items)) all.exported_are (IsPermutation-map note_value _ _ c.in_ok-verdict-in-Ok-Ok-walk_parts.ensures.exported);
+          });
+    }
 
 pub returns-in-Ok-Err-walk_parts-clause-counted : goal.returns-in-Ok-Err-walk_parts-clause-counted
 returns-in-Ok-Err-walk_parts-clause-counted g c = λ looks ho he all follow.

@@ -1,11 +1,11 @@
 //! Who looks on while a check compares two files.
 
-ghost use Rattle.std.specs.Prelude.{◌≡◌, ◌++◌, ◌∷◌, [], ℤ, Bool, List, OnOk, length, true};
+ghost use Rattle.std.specs.Prelude.{◌≡◌, ◌++◌, ◌∷◌, [], ℤ, Bool, List, OnOk, Option, Some, length, true};
 ghost use Rattle.edf_claim.specs.KeepsReading.{IsUncut};
 ghost use Rattle.edf_samples.specs.declared.counts.tally.Tally.{Tally};
 ghost use Rattle.edf_pace.specs.walk.Counting.{AreTallies};
 ghost use Rattle.edf_pace.specs.walk.Pairs.{IsFrame};
-ghost use Rattle.edf_pace.specs.walk.Watching.{HasSeenIn, TwoFiles};
+ghost use Rattle.edf_pace.specs.walk.Watching.{ExportCount, HasSeenIn, TwoFiles, WholeShown, shown_whole};
 
 use crate::walk::frame::Frame;
 use crate::walk::reading::Reading;
@@ -22,8 +22,11 @@ pub trait Onlooker {
     /// What it counted so far of each channel of the export that is compared.
     ghost tallies: { Self → List Tally };
 
-    /// What it counted of each export that was read to its end.
-    ghost counted: { Self → List (List Tally) };
+    /// What it counted of each export that was read to its end, with the export's header.
+    ghost counted: { Self → List ExportCount };
+
+    /// What it got of all files, once the original was read to its end.
+    ghost shown: { Self → Option WholeShown };
 
     /// Whether it looks on at all.
     fn looks(&self) -> bool
@@ -57,13 +60,16 @@ pub trait Onlooker {
     fn take_export(&mut self, export: FileReader) -> Result<(), AllocError>
         ensures looks { looks self.new ≡ looks self.old }
         ensures counted { OnOk result (looks self.old ≡ true →
-            counted self.new ≡ counted self.old ++ (tallies self.old ∷ [])) };
+            counted self.new ≡ counted self.old ++
+            (record { head = export.head; tallies = tallies self.old } ∷ [])) };
 
     /// Gets the original, which was read to its end, with those of its annotations that are kept; and the annotations of all
     /// exports. Behind a difference at which nobody looked on, they are those of a front.
     fn take_original(&mut self, original: Reading, exported: Vec<Note>)
         ensures looks { looks self.new ≡ looks self.old }
-        ensures counted { counted self.new ≡ counted self.old };
+        ensures counted { counted self.new ≡ counted self.old }
+        ensures shown { looks self.old ≡ true →
+            shown self.new ≡ Some (shown_whole original exported.items) };
 }
 
 /// Nobody looks on.
@@ -71,13 +77,15 @@ pub trait Onlooker {
 pub struct Nobody;
 
 impl Onlooker for Nobody {
-    ghost use Rattle.std.specs.Prelude.{[], false};
+    ghost use Rattle.std.specs.Prelude.{[], None, false};
 
     ghost looks = { λ _. false };
 
     ghost tallies = { λ _. [] };
 
     ghost counted = { λ _. [] };
+
+    ghost shown = { λ _. None };
 
     #[inline(always)]
     fn looks(&self) -> bool {

@@ -2,10 +2,11 @@ use Rattle.std.proofs.Common.{◌≡◌, ◌∙◌, ◌<ℤ◌, true, false, Non
 use Rattle.std.proofs.lemmas.Int.{ints}
 use Rattle.edf_stream.specs.Views.{note_value}
 use Rattle.edf_check.specs.parts.Ends.{IsEnded}
-use Rattle.edf_pace.specs.walk.Ends.{IsCounted, IsMatched, IsReadThrough, moved_export}
+use Rattle.edf_pace.specs.walk.Ends.{IsMatched, IsReadThrough, moved_export}
 use Rattle.edf_pace.specs.walk.Readings.{beginning}
 use Rattle.edf_pace.specs.walk.Shown.{last_end_by}
 use Rattle.edf_pace.proofs.ForCallers.{fault_after, fault_of_heads, other_way, begin_is, at_later}
+use Rattle.edf_check.specs.parts.Counted.{IsShown}
 use Rattle.edf_check.proofs.parts.part.compare.Goals as goal
 
 pub returns-in-Ok-clause-fault : goal.returns-in-Ok-clause-fault
@@ -89,4 +90,6 @@ returns-in-Ok-Ok-clause-counted g c = λ looks compared early ho he a b bo se.
     let follows = rw c.in-Ok-None.field-0-is at c.in-Ok-None.ensures.follows in
     let counted = rw c.in-Ok-Ok.field-0-is at c.in-Ok-Ok.ensures.counted in
     let whole = counted looks ho (follows.honesty he) a b (bo.at compared) (at_later c.start.new.reading.reader _ _ b None (moved_export turn) beginning (turn.from).ps (turn.from).low (follows.comes he b se)) in
-    subst (λ k. IsCounted turn a (c.args.original.now.reader).head b k (g.L.Onlooker.tallies c.compare_on.new.shown.onlooker.now)) follows.head whole
+    let h = (c.args.original.now.reader).head in
+    let ms = map note_value (c.compare_on.new.export.notes).items in
+    subst (λ k. IsShown turn a h c.compare_on.new.original b k ms (g.L.Onlooker.tallies c.compare_on.new.shown.onlooker.now)) follows.head whole

@@ -15,7 +15,7 @@ use Rattle.edf_pace.specs.walk.Shown.{last_end_by}
 use Rattle.edf_check.specs.parts.Counted.{TurnCounted}
 use Rattle.edf_check.proofs.parts.CompareFacts.{is_alone, last-over, never-enough, not-over, passes_moved, passes_on}
 use Rattle.edf_pace.specs.walk.Watching.{IsFirst, Kept, two_files}
-use Rattle.edf_pace.proofs.ForCallers.{are_places, counted_end, counted_on, first_walked, has_ended, matched_behind, matched_end, matched_on, tallies_walked}
+use Rattle.edf_pace.proofs.ForCallers.{are_places, counted_end, counted_on, first_walked, has_ended, matched_behind, matched_end, matched_on, other_way, tallies_walked}
 use Rattle.edf_check.proofs.parts.part.compare_on.Goals as goal
 
 abbrev framed : Turn → Bor (List Pair) → Option ℕ → Frame
@@ -159,7 +159,7 @@ returns-in-Ok-Ok-end_both-clause-matched g c = λ compared early ho he a b ao ae
 pub returns-then-not-is_over-clause-counted : goal.returns-then-not-is_over-clause-counted
 returns-then-not-is_over-clause-counted g c =
     let there : (ts : List Tally) → g.L.Onlooker.tallies c.walk_on.new.watch.watcher.onlooker.now ≡ ts
-    → TurnCounted g.O.Source g.E.Source c.args.original.now c.args.o.now c.args.export.now c.args.e.now c.args.shown.now.turn (g.L.Onlooker.looks c.args.shown.now.onlooker.now) ts = λ ts is looks ho he a b ao ae.
+    → TurnCounted g.O.Source g.E.Source c.args.original.now c.args.o.now c.walk_on.new.original c.args.export.now c.args.e.now c.walk_on.new.export c.args.shown.now.turn (g.L.Onlooker.looks c.args.shown.now.onlooker.now) ts = λ ts is looks ho he a b ao ae.
     let turn = c.args.shown.now.turn in
     let read = c.in-Ok-Ok.read in
     let found = c.walk_on.new.watch.watcher.found in
@@ -180,14 +180,18 @@ returns-then-not-is_over-clause-counted g c =
     let places = are_places h k c.deref.result.now (paired h c.header-here.result.now k c.header-there.result.now c.in_ok-pairs.pairs.items c.deref.result.now c.header-here.ensures c.header-there.ensures c.deref.ensures.value c.in_ok-pairs.ensures.pairs) in
     let ended = has_ended c.args.export.now.reader c.walk_on.new.export.reader _ _ b None (moved_export turn) read.reached.ps e.head e.going (over.1).0 (e.comes he b ae) in
     let last = (not-over (is_some found && quiet) turn.is_last (ap (λ z. z || turn.is_last) (sym c.has_enough.ensures) ∙ sym c.is_over.ensures ∙ c.if-not-is_over.true)).1 in
-    subst (λ (xs : List Tally). IsCounted turn a h b k xs) is (counted_on frame a h b k read (is_some found && quiet) _ _ same places later over.0 begun walked last more (ended.through).conforms)
+    record {
+      counted = subst (λ (xs : List Tally). IsCounted turn a h b k xs) is (counted_on frame a h b k read (is_some found && quiet) _ _ same places later over.0 begun walked last more (ended.through).conforms);
+      gathered = record { exported = ended.gathered; kept = λ l. absurd (other_way turn.is_last l last) };
+      head = o.head;
+    }
     in
     there _ (search rules)
 
 pub returns-in-Ok-Ok-end_both-clause-counted : goal.returns-in-Ok-Ok-end_both-clause-counted
 returns-in-Ok-Ok-end_both-clause-counted g c =
     let there : (ts : List Tally) → g.L.Onlooker.tallies c.walk_on.new.watch.watcher.onlooker.now ≡ ts
-    → TurnCounted g.O.Source g.E.Source c.args.original.now c.args.o.now c.args.export.now c.args.e.now c.args.shown.now.turn (g.L.Onlooker.looks c.args.shown.now.onlooker.now) ts = λ ts is looks ho he a b ao ae.
+    → TurnCounted g.O.Source g.E.Source c.args.original.now c.args.o.now (record c.walk_on.new.original { reader = c.end_both.new.original }) c.args.export.now c.args.e.now (record c.walk_on.new.export { reader = c.end_both.new.export }) c.args.shown.now.turn (g.L.Onlooker.looks c.args.shown.now.onlooker.now) ts = λ ts is looks ho he a b ao ae.
     let turn = c.args.shown.now.turn in
     let read = c.in-Ok-Ok.read in
     let found = c.walk_on.new.watch.watcher.found in
@@ -209,6 +213,11 @@ returns-in-Ok-Ok-end_both-clause-counted g c =
     let ended = has_ended c.args.export.now.reader c.walk_on.new.export.reader _ _ b None (moved_export turn) read.reached.ps e.head e.going (over.1).0 (e.comes he b ae) in
     let last : turn.is_last ≡ true = ap (λ z. z || turn.is_last) (sym more ∙ sym c.has_enough.ensures) ∙ sym c.is_over.ensures ∙ c.if-not-is_over.false in
     let ended' = has_ended c.args.original.now.reader c.walk_on.new.original.reader _ _ a (Some turn.setting.claim.now) (moved_original turn) read.reached.ps o.head o.going ((over.1).1 last) (o.comes ho a ao) in
-    subst (λ (xs : List Tally). IsCounted turn a h b k xs) is (counted_end frame a h b k read (is_some found && quiet) _ _ same places later over.0 begun walked last ended' ended)
+    let goes = rw c.in-Ok-Ok-end_both.field-0-is at c.in-Ok-Ok-end_both.ensures.goes in
+    record {
+      counted = subst (λ (xs : List Tally). IsCounted turn a h b k xs) is (counted_end frame a h b k read (is_some found && quiet) _ _ same places later over.0 begun walked last ended' ended);
+      gathered = record { exported = ended.gathered; kept = λ l. ended'.gathered };
+      head = goes.head ∙ o.head;
+    }
     in
     there _ (search rules)

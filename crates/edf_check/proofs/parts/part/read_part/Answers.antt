@@ -1,7 +1,12 @@
-use Rattle.std.proofs.Common.{rules, ◌≡◌, ◌∙◌, ◌++◌, ◌∷◌, [], true, sym, ap, subst}
+use Rattle.std.proofs.Common.{rules, ◌≡◌, ◌∙◌, ◌++◌, ◌∷◌, [], List, map, true, sym, ap, subst}
 use Rattle.edf_check.specs.parts.PartsVerdicts.{samples_in}
-use Rattle.edf_pace.specs.walk.Ends.{IsCounted, moved_original}
-use Rattle.edf_check.proofs.parts.CompareFacts.{and-left, beside_less, compared-beside, compared-so, heads_match, matched_less, passed_less, passes_less}
+use Rattle.edf_header.specs.Heads.{Head}
+use Rattle.edf_header.specs.HeadsReading.{head_of}
+use Rattle.edf_samples.specs.declared.counts.tally.Tally.{Tally}
+use Rattle.edf_stream.specs.Views.{note_value}
+use Rattle.edf_pace.specs.walk.Ends.{moved_original}
+use Rattle.edf_pace.specs.walk.Watching.{ExportCount}
+use Rattle.edf_check.proofs.parts.CompareFacts.{and-left, beside_less, compared-beside, compared-so, heads_match, matched_less, passed_less, passes_less, shown_less}
 use Rattle.edf_check.proofs.parts.SerialFacts.{same-parts}
 use Rattle.edf_pace.proofs.ForCallers.{fault_by, fault_by_header}
 use Rattle.edf_check.proofs.parts.part.read_part.Goals as goal
@@ -73,7 +78,7 @@ returns-in_ok-take_export-in-Ok-Ok-read_course-clause-beside g c = λ looks last
     beside looks last (c.is_compared.ensures ∙ compared-beside c.args.turn.is_compared _ _ compared (c.looks.ensures ∙ looks)) early
 
 pub returns-in_ok-take_export-in-Ok-Ok-read_course-clause-counted : goal.returns-in_ok-take_export-in-Ok-Ok-read_course-clause-counted
-returns-in_ok-take_export-in-Ok-Ok-read_course-clause-counted g c = λ looks compared early ho a bo he co.
+returns-in_ok-take_export-in-Ok-Ok-read_course-clause-counted g c = λ looks compared early ho a bo he.
     let turn = c.args.turn in
     let e = g.E.Source.left c.args.e.now in
     let h = (c.args.original.now.reader).head in
@@ -84,9 +89,17 @@ returns-in_ok-take_export-in-Ok-Ok-read_course-clause-counted g c = λ looks com
     let tallies = g.L.Onlooker.tallies c.read_course.new.shown.onlooker.now in
     let before = g.L.Onlooker.counted c.args.onlooker.now in
     let whole = counted looks (c.is_compared.ensures ∙ compared-beside turn.is_compared _ _ compared (c.looks.ensures ∙ looks)) early ho honest a e less stands in
+    let notes = map note_value (c.read_course.new.export.notes).items in
+    let shown = shown_less turn c.is_compared.result a h c.read_course.new.original e _ (head_of e) notes tallies (stands.passed).head whole in
+    let head = (rw c.in-Ok-Ok-read_course.field-0-is at c.in-Ok-Ok-read_course.ensures.head) ∙ (stands.passed).head in
+    let with : Head → List Tally → List ExportCount = λ k ts. record { head = k; tallies = ts } ∷ [] in
     let told : g.L.Onlooker.looks c.read_course.new.shown.onlooker.now ≡ true
-    → g.L.Onlooker.counted c.take_export.new.self ≡ g.L.Onlooker.counted c.read_course.new.shown.onlooker.now ++ (g.L.Onlooker.tallies c.read_course.new.shown.onlooker.now ∷ []) =
-    subst (λ x. g.L.Onlooker.looks x ≡ true → g.L.Onlooker.counted c.take_export.new.self ≡ g.L.Onlooker.counted x ++ (g.L.Onlooker.tallies x ∷ [])) (search rules) c.in_ok-take_export-in-Ok-Ok-read_course.ensures.counted in
-    told (c.read_course.ensures.looks ∙ looks)
-    ∙ ap (λ ts. ts ++ (tallies ∷ [])) c.read_course.ensures.before
-    ∙ ap (λ t. before ++ (t ∷ [])) ((subst (λ k. IsCounted turn a h e k tallies) (stands.passed).head whole) co)
+    → g.L.Onlooker.counted c.take_export.new.self ≡ g.L.Onlooker.counted c.read_course.new.shown.onlooker.now ++ with (c.read_course.new.export.reader).head (g.L.Onlooker.tallies c.read_course.new.shown.onlooker.now) =
+    subst (λ x. g.L.Onlooker.looks x ≡ true → g.L.Onlooker.counted c.take_export.new.self ≡ g.L.Onlooker.counted x ++ with (c.read_course.new.export.reader).head (g.L.Onlooker.tallies x)) (search rules) c.in_ok-take_export-in-Ok-Ok-read_course.ensures.counted in (
+      λ co. told (c.read_course.ensures.looks ∙ looks)
+          ∙ ap (λ ts. ts ++ with (c.read_course.new.export.reader).head tallies) c.read_course.ensures.before
+          ∙ ap (λ k. before ++ with k tallies) head
+          ∙ ap (λ t. before ++ with (head_of e) t) (shown.counted co),
+      shown.gathered,
+      shown.head,
+    )

@@ -2,14 +2,14 @@ use Rattle.std.proofs.Common.{rules, ◌≡◌, ◌++◌, ◌+◌, ◌&&◌, ◌
 use Rattle.std.specs.List.{AllByRecursion}
 use Rattle.edf_stream.specs.Views.{note_value}
 use Rattle.edf_check.specs.declared.parts.found.PartsFound.{PartsFound}
-use Rattle.edf_check.specs.parts.Together.{AreRead, HaveFault}
+use Rattle.edf_check.specs.parts.Together.{AreRead, HaveFault, held_notes}
 use Rattle.edf_pace.specs.walk.Windows.{is_last}
 use Rattle.edf_pace.specs.walk.Ends.{moved_export, moved_original}
 use Rattle.edf_check.specs.parts.Counted.{serial_counts}
 use Rattle.edf_stream.specs.Conforming.{Conforms}
 use Rattle.edf_check.specs.parts.Ends.{is_same}
 use Rattle.edf_check.proofs.parts.CompareFacts.{and-left, and-right}
-use Rattle.edf_check.proofs.parts.SerialFacts.{counted_last, counted_more, fault_behind, fault_first, next_turn, none-early, read_more, read_none}
+use Rattle.edf_check.proofs.parts.SerialFacts.{counted_last, counted_more, fault_behind, fault_first, gathered_last, gathered_more, next_turn, none-early, read_more, read_none}
 use Rattle.edf_check.proofs.parts.series.+read_parts.Goals as goal
 
 none-of : {X : Type 0} (xs : List X) → length xs ≡ 0 → xs ≡ []
@@ -100,9 +100,12 @@ returns-in-None-clause-counted g t c = λ looks compared early ho a bo he co.
     let L : List _ → Type 0 = λ all. c.are_none.result ≡ is_last (map g.E.Source.left all) in
     let last : c.are_none.result ≡ true = subst L none c.are_none.ensures.value in
     let none-early' = none-early turn.part (read.course).is_early c.nothing.result.early (sym (ap (λ (f : PartsFound). f.early) c.found_with.ensures) ∙ early) in
-    let here = (rw c.in-Ok-Ok.field-0-is at c.in-Ok-Ok.ensures.counted) looks compared none-early'.0 ho a bo he.0 co in
-    subst (λ x. g.L.Onlooker.counted x ≡ before ++ serial_counts (turn.setting.claim).now a h (moved_original turn) (moved_export turn) (turn.setting.labels).now (turn.from).ps (e ∷ map g.E.Source.left c.args.others.now)) (search rules)
-    (counted_last turn c.are_none.result a h e (map g.E.Source.left c.args.others.now) before (g.L.Onlooker.counted c.read_part.new.onlooker) last (ap (map g.E.Source.left) none) here)
+    let here = (rw c.in-Ok-Ok.field-0-is at c.in-Ok-Ok.ensures.counted) looks compared none-early'.0 ho a bo he.0 in
+    let others = map g.E.Source.left c.args.others.now in (
+      subst (λ x. g.L.Onlooker.counted x ≡ before ++ serial_counts (turn.setting.claim).now a h (moved_original turn) (moved_export turn) (turn.setting.labels).now (turn.from).ps (e ∷ others)) (search rules)
+          (counted_last turn c.are_none.result a h e others before (g.L.Onlooker.counted c.read_part.new.onlooker) last (ap (map g.E.Source.left) none) (here.0 co)),
+      gathered_last turn c.are_none.result a h e others c.read_part.new.original (held_notes c.args.so_far.now.exported) (map note_value (read.notes).items) (held_notes c.take.new.self) last (ap (map g.E.Source.left) none) here.2 c.in_ok-take.ensures.notes here.1,
+    )
 
 pub returns-in-Ok-Ok-read_parts-clause-counted : goal.returns-in-Ok-Ok-read_parts-clause-counted
 returns-in-Ok-Ok-read_parts-clause-counted g t c = λ looks compared early ho a bo he co.
@@ -118,10 +121,13 @@ returns-in-Ok-Ok-read_parts-clause-counted g t c = λ looks compared early ho a 
     let passed = (rw c.in-Ok-Ok.field-0-is at c.in-Ok-Ok.ensures.passes) last in
     let part = (rw c.in-Ok-Ok.field-0-is at c.in-Ok-Ok.ensures.read) ho a bo he.0 in
     let not-early = none-early turn.part (read.course).is_early c.in-Ok-Ok-read_parts.rest.early (sym (ap (λ (f : PartsFound). f.early) c.found_with-in-Ok-Ok-read_parts.ensures) ∙ early) in
-    let here = (rw c.in-Ok-Ok.field-0-is at c.in-Ok-Ok.ensures.counted) looks compared not-early.0 ho a bo he.0 co in
+    let here = (rw c.in-Ok-Ok.field-0-is at c.in-Ok-Ok.ensures.counted) looks compared not-early.0 ho a bo he.0 in
     let beside = (rw c.in-Ok-Ok.field-0-is at c.in-Ok-Ok.ensures.beside) looks last compared not-early.0 in
     let H : List _ → Type 0 = λ all. AllByRecursion IsTrue (map g.E.Source.is_honest all) in
     let behind = (rw c.in-Ok-Ok-read_parts.field-0-is at c.in-Ok-Ok-read_parts.ensures.counted) (c.read_part.ensures.looks ∙ looks) beside not-early.1 (passed.honesty ho) a (passed.comes ho a bo) (subst H others he.1) (subst (Conforms a) (sym passed.head) co) in
-    let behind' = subst (λ x. g.L.Onlooker.counted c.read_parts.new.shown.onlooker.now ≡ g.L.Onlooker.counted x ++ serial_counts (turn.setting.claim).now a (c.read_part.new.original.reader).head (moved_original turn) (moved_export turn) (turn.setting.labels).now ((read.course).end).ps parts) (search rules) behind in
-    subst (λ x. g.L.Onlooker.counted x ≡ before ++ serial_counts (turn.setting.claim).now a h (moved_original turn) (moved_export turn) (turn.setting.labels).now (turn.from).ps (e ∷ map g.E.Source.left c.args.others.now)) (search rules)
-    (counted_more turn c.are_none.result a h _ e (map g.E.Source.left c.args.others.now) parts (read.course).end before (g.L.Onlooker.counted c.read_part.new.onlooker) (g.L.Onlooker.counted c.read_parts.new.shown.onlooker.now) last refl passed.head ((part.passed).ended).end_is (ap (map g.E.Source.left) others) here behind')
+    let behind' = subst (λ x. g.L.Onlooker.counted c.read_parts.new.shown.onlooker.now ≡ g.L.Onlooker.counted x ++ serial_counts (turn.setting.claim).now a (c.read_part.new.original.reader).head (moved_original turn) (moved_export turn) (turn.setting.labels).now ((read.course).end).ps parts) (search rules) behind.0 in
+    let next = next_turn turn c.are_none.result read (read.course).is_beside in (
+      subst (λ x. g.L.Onlooker.counted x ≡ before ++ serial_counts (turn.setting.claim).now a h (moved_original turn) (moved_export turn) (turn.setting.labels).now (turn.from).ps (e ∷ map g.E.Source.left c.args.others.now)) (search rules)
+          (counted_more turn c.are_none.result a h _ e (map g.E.Source.left c.args.others.now) parts (read.course).end before (g.L.Onlooker.counted c.read_part.new.onlooker) (g.L.Onlooker.counted c.read_parts.new.shown.onlooker.now) last refl passed.head ((part.passed).ended).end_is (ap (map g.E.Source.left) others) (here.0 co) behind'),
+      gathered_more turn next c.are_none.result a h _ e (map g.E.Source.left c.args.others.now) parts c.read_part.new.original c.read_parts.new.so_far.original (held_notes c.args.so_far.now.exported) (map note_value (read.notes).items) (held_notes c.take.new.self) (held_notes c.read_parts.new.so_far.exported) refl (ap (map g.E.Source.left) others) passed.head c.in_ok-take.ensures.notes here.1 behind.1,
+    )
