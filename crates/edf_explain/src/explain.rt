@@ -16,7 +16,7 @@ use crate::tried::shifts::TriedShifts;
 use crate::words::files::READ_ANEW;
 use edf_claim::Claim;
 use edf_fields::{Fault, Sink, put_all};
-use edf_findings::{Findings, Looker, OnlyInOne, Wanted, findings_of};
+use edf_findings::{Checked, Findings, OnlyInOne, Wanted, findings_of};
 use edf_sentences::Text;
 use edf_stop::{RunStop, Side};
 use edf_trial::{Asked, OneExport, Recordings, with_shift};
@@ -39,13 +39,6 @@ impl<'a> Fronts<'a> {
             Side::Export => self.export,
         }
     }
-}
-
-/// Who looks on while a check is run under the claim of a text.
-///
-/// The error is want of memory.
-pub fn looker_for(alloc: Global, claim_text: &[u8]) -> Result<Looker, AllocError> {
-    Ok(Looker::new(alloc, asks_for_texts(alloc, claim_text)?))
 }
 
 /// What was seen of two files under their claim, and what their samples and annotations are reckoned by: the same, or what
@@ -131,7 +124,8 @@ fn seen_anew<'c, R: Recordings>(
 ) -> Result<Option<Findings<'c>>, RunStop> {
     let mut original = asked.tries.recordings.open_original()?;
     let mut export = asked.tries.recordings.open_export()?;
-    findings_of(alloc, &mut original, &mut export, wanted)
+    let Checked { found, .. } = findings_of(alloc, &mut original, &mut export, wanted)?;
+    Ok(found)
 }
 
 /// The same where samples and annotations are reckoned by another shift, in seconds.
@@ -199,7 +193,7 @@ fn fault_in(verdict: &Verdict) -> Option<(Side, Fault)> {
 fn sentences<R: Recordings>(
     alloc: Global,
     asked: &Asked<'_, OneExport<'_, R>>,
-    looker: Looker,
+    found: Option<Findings<'_>>,
     fronts: Fronts<'_>,
 ) -> Result<Text, RunStop> {
     let mut text = Text::new(alloc);
@@ -210,8 +204,7 @@ fn sentences<R: Recordings>(
         }
         return Ok(text);
     }
-    let claim = Claim::read(alloc, asked.claim_text)?;
-    if let Some(seen) = looker.findings(&claim)? {
+    if let Some(seen) = found {
         say_seen(&mut text, asked, seen)?;
     }
     Ok(text)
@@ -221,21 +214,21 @@ fn sentences<R: Recordings>(
 /// makes them, and what to do; where there is none, what to read before the export goes out. A remedy is named only where the
 /// check was run with it, and then with what it answers.
 ///
-/// The verdict is that of the check, and `looker` looked on. Both recordings are opened anew for each of at most three tries: of
+/// The verdict is that of the check, and what was found is what it showed (`findings_of`). Both recordings are opened anew for each of at most three tries: of
 /// other shifts, of the channels that both files have, or of the end of an interval; and once more where all samples are as
 /// claimed with another shift. The sentences are made before the first of them is written, so that nothing is written where
 /// a file fails or memory runs out. What the sink held stays in front of them.
 pub fn explain_to<R: Recordings, K: Sink>(
     alloc: Global,
     asked: &Asked<'_, OneExport<'_, R>>,
-    looker: Looker,
+    found: Option<Findings<'_>>,
     fronts: Fronts<'_>,
     sink: &mut K,
 ) -> Result<(), RunStop>
     ensures appended { IsTrue (K.is_honest sink.old) → Appended (K.held sink.old) (K.held sink.new) }
     ensures honesty { IsTrue (K.is_honest sink.old) → IsTrue (K.is_honest sink.new) }
 {
-    let text = sentences(alloc, asked, looker, fronts)?;
+    let text = sentences(alloc, asked, found, fronts)?;
     put_all(sink, text.bytes())?;
     Ok(())
 }

@@ -12,7 +12,7 @@ mod parts;
 mod tried;
 mod words;
 
-pub use explain::{Fronts, explain_to, looker_for};
+pub use explain::{Fronts, explain_to};
 pub use front_source::FrontSource;
 pub use opening::{explain_opening, explain_reading};
 pub use parts::{PartsAsked, explain_parts_to, fault_in};

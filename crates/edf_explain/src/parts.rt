@@ -1,7 +1,6 @@
 //! Sentences behind the line of a check of several exports, for whoever has to act on it.
 
-ghost use Rattle.std.specs.Prelude.{IfOk, IsTrue};
-ghost use Rattle.edf_claim.specs.Claims.{SaysClaimText};
+ghost use Rattle.std.specs.Prelude.{IsTrue};
 ghost use Rattle.edf_explain.specs.Appending.{Appended};
 
 use crate::differences::annotations::say_annotations;
@@ -17,9 +16,10 @@ use crate::tried::other_end::say_other_end;
 use crate::tried::shifts::TriedShifts;
 use crate::words::files::READ_ANEW;
 use crate::words::parts as words;
-use edf_claim::{Claim, ClaimStop};
 use edf_fields::{Fault, Sink, put_all};
-use edf_findings::{Findings, Looker, OnlyInOne, PartFindings, Wanted, findings_of_parts};
+use edf_findings::{
+    CheckedParts, Findings, OnlyInOne, PartFindings, Wanted, claim_of, findings_of_parts,
+};
 use edf_sentences::{Piece, Text};
 use edf_stop::{PartsRunStop, Side};
 use edf_trial::{Asked, PartsRecordings, SeveralExports, with_shift};
@@ -218,7 +218,8 @@ fn seen_anew<'c, R: PartsRecordings>(
     let recordings = parts.asked.tries.recordings;
     let mut original = recordings.open_original()?;
     let mut exports = recordings.open_exports(alloc)?;
-    findings_of_parts(alloc, &mut original, &mut exports, wanted)
+    let CheckedParts { found, .. } = findings_of_parts(alloc, &mut original, &mut exports, wanted)?;
+    Ok(found)
 }
 
 /// Says the same where samples and annotations are reckoned by another shift, in seconds.
@@ -272,30 +273,18 @@ fn say_seen<R: PartsRecordings>(
     }
 }
 
-/// The claim that a text says.
-fn claim_of(alloc: Global, text: &[u8]) -> Result<Claim, PartsRunStop>
-    ensures { IfOk result (SaysClaimText text.now) }
-{
-    match Claim::read(alloc, text) {
-        Ok(claim) => Ok(claim),
-        Err(ClaimStop::OutOfMemory) => Err(PartsRunStop::OutOfMemory),
-        Err(cause) => Err(PartsRunStop::Claim(cause)),
-    }
-}
-
 /// The sentences on an original, its exports and a claim: of each export all that differs, and of the annotations of all together.
 fn sentences_on_parts<R: PartsRecordings>(
     alloc: Global,
     parts: &PartsAsked<'_, R>,
-    looker: Looker,
+    found: Option<Findings<'_>>,
 ) -> Result<Text, PartsRunStop> {
     let mut text = Text::new(alloc);
     if let Some((side, fault)) = fault_in(parts.asked.verdict) {
         say_faults(&mut text, parts, side, fault)?;
         return Ok(text);
     }
-    let claim = claim_of(alloc, parts.asked.claim_text)?;
-    if let Some(seen) = looker.findings(&claim)? {
+    if let Some(seen) = found {
         say_seen(&mut text, parts, seen)?;
     }
     Ok(text)
@@ -303,19 +292,19 @@ fn sentences_on_parts<R: PartsRecordings>(
 
 /// Writes sentences for whoever has to act on the line of a check of several exports.
 ///
-/// The verdict is that of the check, and `looker` looked on. All files are opened anew for each of at most three tries, once more
+/// The verdict is that of the check, and what was found is what it showed (`findings_of_parts`). All files are opened anew for each of at most three tries, once more
 /// where all samples are as claimed with another shift, and for the faults of exports that the check left aside. The sentences are
 /// made before the first of them is written. What the sink held stays in front of them.
 pub fn explain_parts_to<R: PartsRecordings, K: Sink>(
     alloc: Global,
     parts: &PartsAsked<'_, R>,
-    looker: Looker,
+    found: Option<Findings<'_>>,
     sink: &mut K,
 ) -> Result<(), PartsRunStop>
     ensures appended { IsTrue (K.is_honest sink.old) → Appended (K.held sink.old) (K.held sink.new) }
     ensures honesty { IsTrue (K.is_honest sink.old) → IsTrue (K.is_honest sink.new) }
 {
-    let text = sentences_on_parts(alloc, parts, looker)?;
+    let text = sentences_on_parts(alloc, parts, found)?;
     put_all(sink, text.bytes())?;
     Ok(())
 }

@@ -5,12 +5,14 @@ ghost use Rattle.edf_explained.specs.Explained.{IsExplained};
 
 use crate::lent::Lent;
 use crate::question::Question;
-use edf_check::judge_beside;
-use edf_explain::{FrontSource, Fronts, explain_to, looker_for};
+use edf_claim::Claim;
+use edf_explain::{FrontSource, Fronts, explain_to};
 use edf_fields::{Sink, Source, put_all};
+use edf_findings::{Checked, Wanted, findings_of};
 use edf_stop::RunStop;
 use edf_trial::{Asked, OneExport, Recordings};
 use edf_verdict::Outcome;
+use edf_warnings::asks_for_texts;
 use std::alloc::Global;
 
 /// Checks the export against the original as `run` does and writes its line; then writes sentences for whoever has to act on it.
@@ -32,10 +34,15 @@ pub fn run_explained<O: Source, E: Source, K: Sink, R: Recordings>(
     ensures honesty { IsTrue (K.is_honest sink.old) → IsTrue (K.is_honest sink.new) }
 {
     let Question { claim_text, again } = question;
+    let claim = Claim::read(alloc, claim_text)?;
+    let wanted = Wanted {
+        claim_text,
+        claim: &claim,
+        hidden: asks_for_texts(alloc, claim_text)?,
+    };
     let mut first = FrontSource::new(alloc, Lent::new(original));
     let mut second = FrontSource::new(alloc, Lent::new(export));
-    let mut looker = looker_for(alloc, claim_text)?;
-    let verdict = judge_beside(alloc, &mut first, &mut second, claim_text, &mut looker)?;
+    let Checked { verdict, found } = findings_of(alloc, &mut first, &mut second, wanted)?;
     let line = verdict.line(alloc)?;
     put_all(sink, &line)?;
     let asked = Asked {
@@ -47,6 +54,6 @@ pub fn run_explained<O: Source, E: Source, K: Sink, R: Recordings>(
         original: first.front(),
         export: second.front(),
     };
-    explain_to(alloc, &asked, looker, fronts, sink)?;
+    explain_to(alloc, &asked, found, fronts, sink)?;
     Ok(verdict.outcome())
 }

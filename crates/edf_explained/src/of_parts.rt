@@ -5,12 +5,13 @@ ghost use Rattle.std.specs.List.{AllByRecursion};
 ghost use Rattle.edf_explained.specs.Explained.{ArePartsExplained};
 
 use crate::question::Question;
-use edf_check::judge_parts_beside;
-use edf_explain::{FrontSource, PartsAsked, explain_parts_to, fault_in, looker_for};
+use edf_explain::{FrontSource, PartsAsked, explain_parts_to, fault_in};
 use edf_fields::{Sink, Source, put_all};
+use edf_findings::{CheckedParts, Wanted, claim_of, findings_of_parts};
 use edf_stop::PartsRunStop;
 use edf_trial::{Asked, PartsRecordings, SeveralExports};
 use edf_verdict::{Outcome, Verdict};
+use edf_warnings::asks_for_texts;
 use std::alloc::{AllocError, Global};
 
 /// What stands in front of each export, where a file has a fault; else nothing.
@@ -57,8 +58,13 @@ pub fn run_explained_parts<O: Source + Drop, E: Source + Drop, K: Sink, R: Parts
 {
     let count = parts.len() as u16;
     let Question { claim_text, again } = question;
-    let mut looker = looker_for(alloc, claim_text)?;
-    let verdict = judge_parts_beside(alloc, original, parts, claim_text, &mut looker)?;
+    let claim = claim_of(alloc, claim_text)?;
+    let wanted = Wanted {
+        claim_text,
+        claim: &claim,
+        hidden: asks_for_texts(alloc, claim_text)?,
+    };
+    let CheckedParts { verdict, found } = findings_of_parts(alloc, original, parts, wanted)?;
     let line = verdict.line(alloc, count)?;
     put_all(sink, &line)?;
     let fronts = fronts_of(alloc, parts, &verdict.verdict)?;
@@ -72,6 +78,6 @@ pub fn run_explained_parts<O: Source + Drop, E: Source + Drop, K: Sink, R: Parts
         original_front: original.front(),
         fronts: &fronts,
     };
-    explain_parts_to(alloc, &asked, looker, sink)?;
+    explain_parts_to(alloc, &asked, found, sink)?;
     Ok(verdict.verdict.outcome())
 }

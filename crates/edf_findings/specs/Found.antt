@@ -1,10 +1,14 @@
 -- What is found in an original and its exports, of what was counted of each.
-use Rattle.std.specs.Prelude.{◌≡◌, ℕ, List, [], ◌∷◌, map, length, true, Some, MatchOption}
+use Rattle.std.specs.Prelude.{◌≡◌, ℕ, List, [], ◌∷◌, map, length, true, IsTrue, is_some, Option, Some, MatchOption}
+use Rattle.std.specs.List.{AllByRecursion}
+use Rattle.std.specs.Option.{option_map}
 use Rattle.std.specs.Borrow.{Bor}
-use Rattle.edf_check.specs.parts.Counted.{AreCountedOfAll, IsCountedOfTwo}
+use Rattle.edf_check.specs.parts.Counted.{AreCountedOfAll, IsCountedOfTwo, looked_on}
+use Rattle.edf_check.specs.parts.Parts.{AllConform, FollowOneAnother}
 use Rattle.edf_claim.specs.ClaimValues.{ClaimValue}
 use Rattle.edf_fields.specs.declared.in_out.source.Source.{Ghosts}
 use Rattle.edf_header.specs.Heads.{Head}
+use Rattle.edf_header.specs.HeadsReading.{head_of}
 use Rattle.edf_heads.specs.Comparisons.{AreSorted}
 use Rattle.edf_findings.specs.declared.findings.Findings.{Findings}
 use Rattle.edf_findings.specs.declared.looker.Looker.{Looker}
@@ -12,7 +16,9 @@ use Rattle.edf_findings.specs.declared.notes.both.Notes.{Notes}
 use Rattle.edf_findings.specs.declared.part.PartFindings.{PartFindings}
 use Rattle.edf_findings.specs.declared.part.ReadPart.{ReadPart}
 use Rattle.edf_findings.specs.Told.{AreTold}
-use Rattle.edf_samples.specs.declared.counts.tally.Tally.{Tally}
+use Rattle.edf_pace.specs.walk.Watching.{ExportCount, WholeShown}
+use Rattle.edf_stream.specs.Conforming.{Conforms}
+use Rattle.edf_stream.specs.Views.{note_value}
 
 -- of an export that was read this is found: where something was counted of each label, it is told of the claimed channels that both files have
 pub record IsFoundIn (claim : ClaimValue) (labels : List (Bor (List ℕ))) (h : Head) (part : ReadPart) (found : PartFindings) : Type 0 where
@@ -35,8 +41,13 @@ pub record AreFindings (claim : ClaimValue) (original : Head) (parts : List Part
   pub notes_are : found.notes ≡ notes
 
 -- what somebody who looked on counted of each export that was read to its end
-abbrev pub counted_by : Looker → List (List Tally)
-counted_by looker = map (λ (part : ReadPart). part.tallies.items) looker.parts.items
+abbrev pub counted_by : Looker → List ExportCount
+counted_by looker = map (λ (part : ReadPart). record { head = part.header; tallies = part.tallies.items }) looker.parts.items
+
+-- what somebody who looked on has of all files, where the original was read to its end
+abbrev pub shown_by : Looker → Option WholeShown
+shown_by looker =
+    option_map (λ head. record { head = head; kept = map note_value looker.notes.kept.items; exported = map note_value looker.notes.exported.items }) looker.original
 
 -- the findings are those of somebody who looked on, under a claim: of each export, with the labels of the claim in their order
 pub record AreFoundBy (claim : ClaimValue) (looker : Looker) (found : Findings) : Type 0 where
@@ -49,8 +60,18 @@ pub record AreFoundBy (claim : ClaimValue) (looker : Looker) (found : Findings) 
 
 -- they are the findings in two files, as a check under this claim shows them
 abbrev pub AreFindingsOf : {O E : Type 0} → Ghosts O → Ghosts E → O → E → ClaimValue → Findings → Type 0
-AreFindingsOf original export o e claim found = (looker : Looker) × IsCountedOfTwo original export o e claim true [] (counted_by looker) × AreFoundBy claim looker found
+AreFindingsOf original export o e claim found = (looker : Looker) × IsCountedOfTwo original export o e claim true (looked_on [] (counted_by looker) (shown_by looker)) × AreFoundBy claim looker found
 
 -- the same of several exports
 abbrev pub AreFindingsOfAll : {O E : Type 0} → Ghosts O → Ghosts E → O → List E → ClaimValue → Findings → Type 0
-AreFindingsOfAll original export o parts claim found = (looker : Looker) × AreCountedOfAll original export o parts claim true [] (counted_by looker) × AreFoundBy claim looker found
+AreFindingsOfAll original export o parts claim found = (looker : Looker) × AreCountedOfAll original export o parts claim true (looked_on [] (counted_by looker) (shown_by looker)) × AreFoundBy claim looker found
+
+-- there are findings, if two files conform
+abbrev pub HasFindingsOf : {O E : Type 0} → Ghosts O → Ghosts E → O → E → Option Findings → Type 0
+HasFindingsOf original export o e found = IsTrue (original.is_honest o) → IsTrue (export.is_honest e)
+    → Conforms (original.left o) (head_of (original.left o)) → Conforms (export.left e) (head_of (export.left e)) → IsTrue (is_some found)
+
+-- there are findings, if an original and several exports conform, and these follow one another
+abbrev pub HasFindingsOfAll : {O E : Type 0} → Ghosts O → Ghosts E → O → List E → Option Findings → Type 0
+HasFindingsOfAll original export o parts found = IsTrue (original.is_honest o) → AllByRecursion IsTrue (map export.is_honest parts)
+    → AllConform (original.left o) (map export.left parts) → FollowOneAnother (map export.left parts) → IsTrue (is_some found)

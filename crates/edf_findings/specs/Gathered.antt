@@ -1,16 +1,14 @@
 -- Which annotations are gathered while somebody looks on.
-use Rattle.std.specs.Prelude.{◌≡◌, ◌&&◌, ◌||◌, ℕ, ℤ, not, Bool, List, [], ◌∷◌, map, if◌then◌else◌}
+use Rattle.std.specs.Prelude.{◌≡◌, ◌&&◌, ◌||◌, ℕ, ℤ, not, Bool, List, [], ◌∷◌, if◌then◌else◌}
 use Rattle.edf_claim.specs.Keeps.{keeps_annotation, keeps_instant}
 use Rattle.edf_claim.specs.KeepsReading.{blanks}
 use Rattle.edf_claim.specs.ClaimValues.{ClaimValue}
-use Rattle.edf_header.specs.Heads.{Head}
 use Rattle.edf_stream.specs.annotation.Notes.{NoteValue}
 use Rattle.edf_stream.specs.annotation.NotesReading.{notes_in}
 use Rattle.edf_stream.specs.records.Readers.{Reader}
 use Rattle.edf_findings.specs.Hands.{is_another}
 use Rattle.edf_findings.specs.declared.looker.Looker.{Looker}
 use Rattle.edf_findings.specs.declared.notes.both.Notes.{Notes}
-use Rattle.edf_findings.specs.declared.part.ReadPart.{ReadPart}
 
 -- none is there
 pub record HaveNone (notes : Notes) : Type 0 where
@@ -26,10 +24,6 @@ is_hidden claim onset text = keeps_instant claim onset 1 && (not (keeps_annotati
 abbrev pub hidden_texts : ClaimValue → List NoteValue → List (List ℕ)
 hidden_texts claim [] = []
 hidden_texts claim (note ∷ notes) = if is_hidden claim note.onset note.text then note.text ∷ hidden_texts claim notes else hidden_texts claim notes
-
--- the headers of the exports that were read to their ends
-abbrev pub exports_of : Looker → List Head
-exports_of looker = map (λ (part : ReadPart). part.header) looker.parts.items
 
 -- the hidden texts of the data record of the original at hand, where they are wanted and it is another one than before
 abbrev pub hidden_at : Looker → ClaimValue → Reader → List (List ℕ)

@@ -6,3 +6,6 @@ pub mod Gathered
 pub mod Shifts
 pub mod Likeness
 pub mod Hands
+pub mod Laws
+pub mod OneWays
+pub mod ClaimStops

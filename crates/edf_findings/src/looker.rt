@@ -2,8 +2,8 @@
 
 ghost use Rattle.std.specs.Prelude.{◌≡◌, ◌&&◌, ◌++◌, ◌∷◌, [], is_some, length, nat_lt, IfOk, IfSome, OnOk, None, Some, true};
 ghost use Rattle.edf_heads.specs.Comparisons.{AreSorted};
-ghost use Rattle.edf_findings.specs.Found.{AreFoundBy, AreFoundIn, counted_by};
-ghost use Rattle.edf_findings.specs.Gathered.{HaveNone, exports_of, hidden_at};
+ghost use Rattle.edf_findings.specs.Found.{AreFoundBy, AreFoundIn, counted_by, shown_by};
+ghost use Rattle.edf_findings.specs.Gathered.{HaveNone, hidden_at};
 
 use crate::findings::Findings;
 use crate::notes::both::Notes;
@@ -20,7 +20,7 @@ use std::mem;
 /// Looks on while an original and its exports are checked: it counts the samples that differ (`Counts` of `edf_pace`), notes in
 /// which data records they were found, and keeps the annotations of all files.
 #[derive(Drop)]
-pub struct Looker {
+pub(crate) struct Looker {
     alloc: Global,
     /// Whether texts are remembered that the claim removes or blanks.
     wants_hidden: bool,
@@ -59,7 +59,7 @@ fn findings_in(
 impl Looker {
     /// Nothing was seen so far. Of the texts of annotations that are removed or blanked it is remembered that they are there, if that
     /// is wanted.
-    pub fn new(alloc: Global, wants_hidden: bool) -> Looker
+    pub(crate) fn new(alloc: Global, wants_hidden: bool) -> Looker
         ensures counted { counted_by result ≡ [] }
         ensures original { result.original ≡ None }
         ensures notes { HaveNone result.notes }
@@ -126,9 +126,8 @@ impl Looker {
     ///
     /// The error is want of memory.
     fn keep_export(&mut self, export: FileReader) -> Result<(), AllocError>
-        ensures counted { OnOk result (counted_by self.new ≡
-            counted_by self.old ++ (self.old.counts.tallies.items ∷ [])) }
-        ensures export { OnOk result (exports_of self.new ≡ exports_of self.old ++ (export.head ∷ [])) }
+        ensures counted { OnOk result (counted_by self.new ≡ counted_by self.old ++
+            (record { head = export.head; tallies = self.old.counts.tallies.items } ∷ [])) }
         ensures notes { self.new.notes ≡ self.old.notes }
     {
         let tallies = mem::replace(&mut self.counts.tallies, Vec::new(self.alloc));
@@ -158,8 +157,8 @@ impl Looker {
     /// has a fault.
     ///
     /// The error is want of memory.
-    pub fn findings(self, claim: &Claim) -> Result<Option<Findings<'_>>, AllocError>
-        ensures whole { OnOk result (self.is_whole ≡ true) }
+    pub(crate) fn findings(self, claim: &Claim) -> Result<Option<Findings<'_>>, AllocError>
+        ensures whole { IfOk result (λ found. IfSome found (λ seen. self.is_whole ≡ true)) }
         ensures some { IfOk result (λ found.
             is_some found ≡ (is_some self.original && nat_lt 0 (length self.parts.items))) }
         ensures found { IfOk result (λ found. IfSome found (AreFoundBy claim.entry.now self)) }
@@ -172,12 +171,12 @@ impl Looker {
             original,
             ..
         } = self;
-        if !is_whole {
-            return Err(AllocError);
-        }
         let Some(original) = original else {
             return Ok(None);
         };
+        if !is_whole {
+            return Err(AllocError);
+        }
         let labels = in_order(alloc, claim.channels())?;
         let under = Under {
             original: &original,
@@ -197,6 +196,8 @@ impl Onlooker for Looker {
     ghost tallies = { λ w. w.counts.tallies.items };
 
     ghost counted = { counted_by };
+
+    ghost shown = { shown_by };
 
     fn looks(&self) -> bool {
         true

@@ -1,8 +1,8 @@
-//! What an original and its exports differ in, as a check of them shows it.
+//! What a check of an original and its exports answers, and what it shows that they differ in.
 
 ghost use Rattle.std.specs.Prelude.{◌≡◌, ◌<◌, ◌≤◌, map, length, IfErr, IfOk, IfSome, OnOk};
-ghost use Rattle.edf_check.specs.Runs.{JudgeStopsOf, JudgeStopsOfAll};
-ghost use Rattle.edf_findings.specs.Found.{AreFindingsOf, AreFindingsOfAll};
+ghost use Rattle.edf_check.specs.Runs.{ArePartsJudgedBy, IsJudgedBy, JudgeStopsOf, JudgeStopsOfAll};
+ghost use Rattle.edf_findings.specs.Found.{AreFindingsOf, AreFindingsOfAll, HasFindingsOf, HasFindingsOfAll};
 
 use crate::findings::Findings;
 use crate::looker::Looker;
@@ -10,28 +10,50 @@ use crate::wanted::Wanted;
 use edf_check::{judge_beside, judge_parts_beside};
 use edf_fields::Source;
 use edf_stop::{PartsRunStop, RunStop};
+use edf_verdict::{PartsVerdict, Verdict};
 use std::alloc::Global;
 
-/// What an export differs in from what the claim keeps of an original. There is none where one of them has a fault.
+/// What a check of an original and an export answers.
+#[derive(Drop)]
+pub struct Checked<'c> {
+    pub verdict: Verdict,
+    /// What the export differs in from what the claim keeps of the original. There is none where one of them has a fault.
+    pub found: Option<Findings<'c>>,
+}
+
+/// What a check of an original and several exports answers.
+#[derive(Drop)]
+pub struct CheckedParts<'c> {
+    pub verdict: PartsVerdict,
+    /// What the exports differ in from what the claim keeps of the original. There is none where one of the files has a fault.
+    pub found: Option<Findings<'c>>,
+}
+
+/// The verdict on an export, and what it differs in from what the claim keeps of an original.
 ///
-/// Both are read to their ends by a check, on which a `Looker` looks. The error is that of the check, or want of memory where no
+/// Both are read to their ends by one check, on which a `Looker` looks. The error is that of the check, or want of memory where no
 /// read failed.
 pub fn findings_of<'c, O: Source, E: Source>(
     alloc: Global,
     original: &mut O,
     export: &mut E,
     wanted: Wanted<'_, 'c>,
-) -> Result<Option<Findings<'c>>, RunStop>
-    ensures value { IfOk result (λ found. IfSome found (AreFindingsOf O.Source E.Source original.old
-        export.old (wanted.entry.claim).now)) }
+) -> Result<Checked<'c>, RunStop>
+    ensures verdict { IfOk result (λ checked. IsJudgedBy O.Source E.Source original.old export.old
+        wanted.entry.claim_text.now checked.verdict) }
+    ensures found { IfOk result (λ checked. IfSome checked.found (AreFindingsOf O.Source E.Source
+        original.old export.old (wanted.entry.claim).now)) }
+    ensures some { IfOk result (λ checked. HasFindingsOf O.Source E.Source original.old export.old
+        checked.found) }
     ensures failures { OnOk result ((O.reads original.new ≡ O.reads original.old)
         × (E.reads export.new ≡ E.reads export.old)) }
     ensures stop { IfErr result (JudgeStopsOf O.Source E.Source original.old original.new export.old
         export.new wanted.entry.claim_text.now) }
 {
     let mut looker = Looker::new(alloc, wanted.hidden);
-    judge_beside(alloc, original, export, wanted.claim_text, &mut looker)?;
-    Ok(looker.findings(wanted.claim)?)
+    let verdict = judge_beside(alloc, original, export, wanted.claim_text, &mut looker)?;
+    let found = looker.findings(wanted.claim)?;
+    Ok(Checked { verdict, found })
 }
 
 /// The same of one to 64 exports, in the order of time.
@@ -40,11 +62,15 @@ pub fn findings_of_parts<'c, O: Source, E: Source>(
     original: &mut O,
     parts: &mut [E],
     wanted: Wanted<'_, 'c>,
-) -> Result<Option<Findings<'c>>, PartsRunStop>
+) -> Result<CheckedParts<'c>, PartsRunStop>
     requires some { 0 < length parts.old }
     requires few { length parts.old ≤ 64 }
-    ensures value { IfOk result (λ found. IfSome found (AreFindingsOfAll O.Source E.Source original.old
-        parts.old (wanted.entry.claim).now)) }
+    ensures verdict { IfOk result (λ checked. ArePartsJudgedBy O.Source E.Source original.old parts.old
+        wanted.entry.claim_text.now checked.verdict) }
+    ensures found { IfOk result (λ checked. IfSome checked.found (AreFindingsOfAll O.Source E.Source
+        original.old parts.old (wanted.entry.claim).now)) }
+    ensures some { IfOk result (λ checked. HasFindingsOfAll O.Source E.Source original.old parts.old
+        checked.found) }
     ensures failures { OnOk result ((O.reads original.new ≡ O.reads original.old)
         × (map E.reads parts.new ≡ map E.reads parts.old)) }
     ensures size { length parts.new ≡ length parts.old }
@@ -52,6 +78,7 @@ pub fn findings_of_parts<'c, O: Source, E: Source>(
         parts.new wanted.entry.claim_text.now) }
 {
     let mut looker = Looker::new(alloc, wanted.hidden);
-    judge_parts_beside(alloc, original, parts, wanted.claim_text, &mut looker)?;
-    Ok(looker.findings(wanted.claim)?)
+    let verdict = judge_parts_beside(alloc, original, parts, wanted.claim_text, &mut looker)?;
+    let found = looker.findings(wanted.claim)?;
+    Ok(CheckedParts { verdict, found })
 }

@@ -9,9 +9,9 @@ returns-clause-report g c = λ original parts sink.
     record {
       held = g.K.Sink.held c.put_all.new.sink;
       line = record {
-        verdict = c.in_ok-verdict.verdict;
-        under = c.in_ok-verdict.ensures.under original parts;
-        text_is = c.in_ok-put_all.ensures.bytes sink ∙ ap (λ t. g.K.Sink.held c.args.sink.now ++ t) (c.deref.ensures.value ∙ c.in_ok-line.ensures ∙ ap (λ n. parts_verdict_line n c.in_ok-verdict.verdict) size);
+        verdict = c.in_ok-verdict.field-0.verdict;
+        under = c.in_ok-verdict.ensures.verdict original parts;
+        text_is = c.in_ok-put_all.ensures.bytes sink ∙ ap (λ t. g.K.Sink.held c.args.sink.now ++ t) (c.deref.ensures.value ∙ c.in_ok-line.ensures ∙ ap (λ n. parts_verdict_line n c.in_ok-verdict.field-0.verdict) size);
         outcome_is = c.outcome.ensures;
       };
       sentences = c.in_ok-explain_parts_to.ensures.appended (c.in_ok-put_all.ensures.honesty sink);
