@@ -64,7 +64,7 @@ word-cut w a b x y h k e =
     cut-end a b x y h k (tails-same 32 32 _ _ (append_cancel_left w (32 ∷ (a ++ (10 ∷ x))) (32 ∷ (b ++ (10 ∷ y))) (sym (word-flat w a x) ∙ e ∙ word-flat w b y)))
 
 -- a decimal number
-digit-high : (c : ℕ) → digit_value c < 10 → 43 ≤ c
+pub digit-high : (c : ℕ) → digit_value c < 10 → 43 ≤ c
 digit-high c h = elim (cases_lt c 48) [
   | inl low ↦ absurd (let value : digit_value c ≡ 36 = rw (lt-ltb c 48 low) refl in omega (arith, value, h))
   | inr high ↦ omega arith

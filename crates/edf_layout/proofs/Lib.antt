@@ -11,3 +11,4 @@ pub mod TextLawFacts
 pub mod TellsFacts
 pub mod plain
 pub mod body
+pub mod lanes

@@ -154,14 +154,15 @@ abbrev AllWritten : List SignalLayout → Type 0
 AllWritten [] = Unit {0}
 AllWritten (l ∷ ls) = SignalWritten l × AllWritten ls
 
-lines-cut : (s : ℕ) (ls ms : List SignalLayout) (x y : List ℕ) → length ls ≡ length ms → AllWritten ls → AllWritten ms → signal_lines s ls ++ x ≡ signal_lines s ms ++ y → ls ≡ ms
-lines-cut s [] [] x y long h k e = refl
+lines-cut : (s : ℕ) (ls ms : List SignalLayout) (x y : List ℕ) → length ls ≡ length ms → AllWritten ls → AllWritten ms → signal_lines s ls ++ x ≡ signal_lines s ms ++ y → (ls ≡ ms) × (x ≡ y)
+lines-cut s [] [] x y long h k e = (refl, e)
 lines-cut s [] (m ∷ ms) x y long h k e = absurd (omega arith)
 lines-cut s (l ∷ ls) [] x y long h k e = absurd (omega arith)
 lines-cut s (l ∷ ls) (m ∷ ms) x y long h k e =
     let one = signal-cut s l m (signal_lines (s + 1) ls ++ x) (signal_lines (s + 1) ms ++ y) h.0 k.0
     (sym (append_assoc (signal_line s l) (signal_lines (s + 1) ls) x) ∙ e ∙ append_assoc (signal_line s m) (signal_lines (s + 1) ms) y) in
-    ap (λ z. z ∷ ls) one.0 ∙ ap (λ r. m ∷ r) (lines-cut (s + 1) ls ms x y (omega arith) h.1 k.1 one.1)
+    let rest = lines-cut (s + 1) ls ms x y (omega arith) h.1 k.1 one.1 in
+    (ap (λ z. z ∷ ls) one.0 ∙ ap (λ r. m ∷ r) rest.0, rest.1)
 
 -- the texts of a header that is in order
 small-spaces : (t : List ℕ) → length t ≤ 80 → Small (spaces_of t)
@@ -239,24 +240,31 @@ counts-same file other h g c d same =
     let value : pos (length h.signals) ≡ pos (length g.signals) = cc in
     omega (arith, ints, value)
 
-pub text_tells_layout : TextTellsLayout
+-- the lines of two headers, with what stands behind them
+pub head-cut : (file other : List ℕ) (h g : Head) (x y : List ℕ) → HeaderConforms file h → HeaderConforms other g
+    → head_lines (head_layout_of file h) ++ x ≡ head_lines (head_layout_of other g) ++ y → (head_layout_of file h ≡ head_layout_of other g) × (x ≡ y)
 unfolding head_layout_of head_lines
-text_tells_layout file other h g c d same =
+head-cut file other h g x y c d same =
     let n = length h.signals in
     let m = length g.signals in
     let xs = columns_part n file in
     let ys = columns_part m other in
     let ls = signal_layouts xs n 0 n in
     let ms = signal_layouts ys m 0 m in
-    let one = text-begins file h c in
-    let two = text-begins other g d in
-    let front = front-cut (front_layout (fixed_part file)) (front_layout (fixed_part other)) (signal_lines 0 ls ++ one.0) (signal_lines 0 ms ++ two.0) (front-written file h c) (front-written other g d)
-    (sym (append_assoc (front_lines (front_layout (fixed_part file))) (signal_lines 0 ls) one.0) ∙ sym one.1 ∙ same ∙ two.1
-    ∙ append_assoc (front_lines (front_layout (fixed_part other))) (signal_lines 0 ms) two.0) in
+    let front = front-cut (front_layout (fixed_part file)) (front_layout (fixed_part other)) (signal_lines 0 ls ++ x) (signal_lines 0 ms ++ y) (front-written file h c) (front-written other g d)
+    (sym (append_assoc (front_lines (front_layout (fixed_part file))) (signal_lines 0 ls) x) ∙ same
+    ∙ append_assoc (front_lines (front_layout (fixed_part other))) (signal_lines 0 ms) y) in
     let count = counts-same file other h g c d front.0 in
     let long : length ls ≡ length ms = layouts-long xs n 0 n ∙ count ∙ sym (layouts-long ys m 0 m) in
-    let signals = lines-cut 0 ls ms one.0 two.0 long (signals-written file h c) (signals-written other g d) front.1 in
-    ap (λ f. joined f ls) front.0 ∙ ap (λ s. joined (front_layout (fixed_part other)) s) signals
+    let signals = lines-cut 0 ls ms x y long (signals-written file h c) (signals-written other g d) front.1 in
+    (ap (λ f. joined f ls) front.0 ∙ ap (λ s. joined (front_layout (fixed_part other)) s) signals.0, signals.1)
   where
     joined : FrontLayout → List SignalLayout → HeadLayout
     joined f s = record { front = f; signals = s }
+
+pub text_tells_layout : TextTellsLayout
+unfolding head_layout_of
+text_tells_layout file other h g c d same =
+    let one = text-begins file h c in
+    let two = text-begins other g d in
+    (head-cut file other h g one.0 two.0 c d (sym one.1 ∙ same ∙ two.1)).0

@@ -8,3 +8,7 @@ pub mod PlainFacts
 pub mod PlainTalFacts
 pub mod ExampleFacts
 pub mod RoomFacts
+pub mod TalLineFacts
+pub mod OddLaneFacts
+pub mod FileLayoutFacts
+pub mod LineLawFacts

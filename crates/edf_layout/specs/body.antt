@@ -6,3 +6,10 @@ pub mod BodyLayouts
 pub mod MeaningLaws
 pub mod PlainOrders
 pub mod PlainBodyLaws
+pub mod OddLanes
+pub mod FileLayouts
+pub mod LayoutLaws
+pub mod LaneReading
+pub mod LaidTals
+pub mod LaidNotes
+pub mod PlainLanes

@@ -25,7 +25,11 @@ fn push_line(text: &mut Vec<u8>, word: &str, said: &[u8]) -> Result<(), AllocErr
 }
 
 /// Puts each number behind a space behind the text.
-fn push_counts(text: &mut Vec<u8>, alloc: Global, counts: &[usize]) -> Result<(), AllocError>
+pub(crate) fn push_counts(
+    text: &mut Vec<u8>,
+    alloc: Global,
+    counts: &[usize],
+) -> Result<(), AllocError>
     ensures { OnOk result (text.new.items ≡ text.old.items ++ spaces_text counts.now) }
 {
     for count in counts {

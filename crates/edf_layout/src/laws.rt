@@ -5,6 +5,7 @@ ghost use Rattle.edf_layout.specs.PlainLaws.{OnePlainHeaderNumber, OnePlainOnset
 ghost use Rattle.edf_layout.specs.body.FileLaws.{FileIsItsParts, LaneIsItsTals, LanesHaveLayouts};
 ghost use Rattle.edf_layout.specs.HeadLaws.{LayoutIsTheRest, TextTellsLayout};
 ghost use Rattle.edf_layout.specs.body.MeaningLaws.{BodyHasOneLayout, LayoutAndMeaningAreTheFile, OneOrder, PlacesTell};
+ghost use Rattle.edf_layout.specs.body.LayoutLaws.{FileHasOneLayout, LinesAndMeaningAreTheFile, LinesTellLayout};
 ghost use Rattle.edf_layout.specs.body.PlainBodyLaws.{OneOrderAtMost, OnePlainTal, PlainBodiesAreOne, PlainLanesHoldAll};
 
 /// Two headers in order are the same bytes exactly where they say the same and have the same layout.
@@ -84,4 +85,13 @@ pub fn a_tal_has_one_plain_spelling()
 /// Where there is room for all annotations, a plain order has the TAL of each, and that of each start of a data record.
 pub fn plain_lanes_hold_all()
     ensures { PlainLanesHoldAll }
+{}
+
+/// A file that conforms has one layout; the lines of it are the same for two files only where their layouts are; and two
+/// files that conform and mean the same are the same bytes exactly where these lines are the same: there is no third
+/// thing in the bytes of a file.
+pub fn lines_and_meaning_are_the_file()
+    ensures one { FileHasOneLayout }
+    ensures told { LinesTellLayout }
+    ensures all { LinesAndMeaningAreTheFile }
 {}

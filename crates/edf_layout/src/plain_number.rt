@@ -30,7 +30,7 @@ fn dot_place(text: &[u8]) -> Option<usize>
 
 /// Whether a number without a sign is spelled in its plain way.
 #[tactic(auto, using(edf_fields::proofs::ForCallers::before_at, edf_fields::proofs::ForCallers::behind_at, edf_fields::proofs::ForCallers::before_none), unfolding(crate::specs::PlainNumbers::is_plain_unsigned))]
-fn is_plain_unsigned(text: &[u8]) -> bool
+pub(crate) fn is_plain_unsigned(text: &[u8]) -> bool
     ensures { result ≡ is_unsigned text.now }
 {
     match dot_place(text) {
@@ -50,7 +50,7 @@ fn unsigned(text: &[u8]) -> &[u8]
 }
 
 /// Whether the text begins with this byte.
-fn begins_with(text: &[u8], byte: u8) -> bool
+pub(crate) fn begins_with(text: &[u8], byte: u8) -> bool
     requires { 0 < byte }
     ensures { result ≡ (slice_index text.now 0 == byte) }
 {

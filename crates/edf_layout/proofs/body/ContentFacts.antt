@@ -6,7 +6,7 @@ use Rattle.edf_fields.specs.Lists.{Has}
 use Rattle.edf_fields.proofs.ForCallers.{has-front, has-back, has-permutation}
 use Rattle.std.proofs.lemmas.List.Sorted.{IsPermutation-sym}
 use Rattle.edf_tal.specs.Tals.{TalValue}
-use Rattle.edf_stream.specs.annotation.Notes.{NoteValue, notes_of_tal}
+use Rattle.edf_stream.specs.annotation.Notes.{NoteValue, notes_of_tal, tal_with}
 use Rattle.edf_layout.specs.body.NoteOrders.{place_of}
 use Rattle.edf_layout.specs.body.BodyLayouts.{TalContent, KeepsTime, SaysNothing, Annotates, content_with, content_of, lane_contents, first_contents, record_contents}
 use Rattle.edf_layout.proofs.body.OrderFacts.{place-tells, place-permuted}
@@ -40,9 +40,6 @@ notes-same notes others p (x ∷ xs) (y ∷ ys) h k e =
     ap (λ (z : NoteValue). z ∷ xs) first ∙ ap (λ zs. y ∷ zs) rest
 
 -- a TAL by its annotations
-abbrev pub tal_with : ℤ → Option ℤ → List (List ℕ) → TalValue
-tal_with onset duration texts = record { onset = onset; duration = duration; texts = texts }
-
 texts-told : (onset : ℤ) (duration : Option ℤ) (texts : List (List ℕ)) → map (λ (n : NoteValue). n.text) (notes_of_tal (tal_with onset duration texts)) ≡ texts
 texts-told onset duration [] = refl
 texts-told onset duration (text ∷ texts) = ap (λ ts. text ∷ ts) (texts-told onset duration texts)

@@ -21,7 +21,7 @@ abbrev pub Lacks : ℕ → List ℕ → Type 0
 Lacks c [] = Unit {0}
 Lacks c (b ∷ bs) = (b ≢ c) × Lacks c bs
 
-lacks-append : (c : ℕ) (xs ys : List ℕ) → Lacks c xs → Lacks c ys → Lacks c (xs ++ ys)
+pub lacks-append : (c : ℕ) (xs ys : List ℕ) → Lacks c xs → Lacks c ys → Lacks c (xs ++ ys)
 lacks-append c [] ys h k = k
 lacks-append c (x ∷ xs) ys h k = (h.0, lacks-append c xs ys h.1 k)
 
@@ -39,10 +39,10 @@ split-same c (x ∷ xs) ys (u ∷ us) vs h k e =
     let rest = split-same c xs ys us vs h.1 k.1 (cons-rest x u (xs ++ c ∷ ys) (us ++ c ∷ vs) e) in
     (ap (λ z. z ∷ xs) first ∙ ap (λ zs. u ∷ zs) rest.0, rest.1)
 
-onset-lacks : (c : ℕ) (t : List ℕ) (v : ℤ) → c ≤ 42 → SpellsOnset t v → Lacks c t
+pub onset-lacks : (c : ℕ) (t : List ℕ) (v : ℤ) → c ≤ 42 → SpellsOnset t v → Lacks c t
 onset-lacks c t v low h = lacks-low c t (λ k within. let b = onset_bytes_from t v ((onset_is_spelled t v).1 h) k within in omega (arith, b, low))
 
-duration-lacks : (c : ℕ) (t : List ℕ) (v : Option ℤ) → c ≤ 20 → SpellsDuration t v → Lacks c t
+pub duration-lacks : (c : ℕ) (t : List ℕ) (v : Option ℤ) → c ≤ 20 → SpellsDuration t v → Lacks c t
 duration-lacks c t None low h = subst (Lacks c) (sym h) tt
 duration-lacks c t (Some v) low (span, is, time, value) =
     let bytes : Lacks c span = lacks-low c span (λ k within. let b = span_bytes_from span v ((span_is_spelled span v).1 (time, value)) k within in omega (arith, b, low)) in
@@ -66,7 +66,7 @@ texts-lack (text ∷ texts) h =
     (lacks-append 0 text (20 ∷ []) (text-lacks text (All-head IsText text texts h).1) (λ e. omega (arith, e), tt))
     (texts-lack texts (All-tail IsText text texts h))
 
-tal-lacks : (bytes : List ℕ) (tal : TalValue) → SpellsTal bytes tal → Lacks 0 bytes
+pub tal-lacks : (bytes : List ℕ) (tal : TalValue) → SpellsTal bytes tal → Lacks 0 bytes
 tal-lacks bytes tal s =
     subst (Lacks 0) (sym s.whole)
     (lacks-append 0 (s.onset ++ s.duration) (20 ∷ ended tal.texts)

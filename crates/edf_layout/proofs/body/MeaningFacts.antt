@@ -9,7 +9,7 @@ use Rattle.edf_header.specs.Heads.{SignalHead, Head, is_annotations}
 use Rattle.edf_header.proofs.ForCallers.{one_head, some_channel}
 use Rattle.edf_tal.specs.Tals.{TalValue}
 use Rattle.edf_stream.specs.Conforming.{Conforms}
-use Rattle.edf_stream.specs.annotation.Notes.{NoteValue, SaysRecord, HasNotes, together, notes_of_tal}
+use Rattle.edf_stream.specs.annotation.Notes.{NoteValue, SaysRecord, HasNotes, together, notes_of_tal, tal_with}
 use Rattle.edf_stream.specs.records.Records.{lane_of, record_at, annotation_lanes}
 use Rattle.edf_stream.specs.records.RecordsReading.{lane_at}
 use Rattle.edf_stream.proofs.ForCallers.{notes_are_read}
@@ -23,7 +23,7 @@ use Rattle.edf_layout.specs.body.MeaningLaws.{HaveSameNotes, HaveSameBodyLayout,
 use Rattle.edf_layout.proofs.body.BodyFacts.{lane-is, starts-equal, sound-at}
 use Rattle.edf_layout.proofs.HeadFacts.{head-same, layout_is_the_rest}
 use Rattle.edf_layout.proofs.body.LaneFacts.{bool-cases, lanes-first, lanes-other, file_is_its_parts}
-use Rattle.edf_layout.proofs.body.ContentFacts.{AreAmong, tal_with, said_in, record_told}
+use Rattle.edf_layout.proofs.body.ContentFacts.{AreAmong, said_in, record_told}
 use Rattle.edf_layout.proofs.body.LayoutFacts.{lanes_one, lanes_hold, one_layout, some_layout}
 
 -- ---- one layout
@@ -44,7 +44,7 @@ some-same : {X : Type 0} (y x : X) → Some y ≡ Some x → y ≡ x
 some-same y x e = cc
 
 -- a list of members that there are
-collected : {X : Type 0} (P : ℕ → X → Type 0) (n : ℕ) → ((k : ℕ) → k < n → (x : X) × P k x) → (xs : List X) × (length xs ≡ n) × ((k : ℕ) (x : X) → slice_get xs k ≡ Some x → P k x)
+pub collected : {X : Type 0} (P : ℕ → X → Type 0) (n : ℕ) → ((k : ℕ) → k < n → (x : X) × P k x) → (xs : List X) × (length xs ≡ n) × ((k : ℕ) (x : X) → slice_get xs k ≡ Some x → P k x)
 collected P zero each = ([], refl, λ k x e. absurd (let z : None ≡ Some x = e in cc))
 collected {X} P (suc n) each =
     let rest = collected (λ k x. P (suc k) x) n (λ k low. each (suc k) (omega arith)) in
@@ -73,10 +73,10 @@ record-has h notes bytes start said s =
 
 at-least : (file : List ℕ) (h : Head) → Conforms file h → (layout : BodyLayout) × HasBodyLayout file h layout
 at-least file h c =
-    let notes : List NoteValue = together (c.says).notes h.records in
+    let notes : List NoteValue = c.notes in
     let r = collected (λ k one. IsRecordLayout h notes (record_at file h k) one) h.records (λ k within. record-has h notes (record_at file h k) ((c.says).starts k) ((c.says).notes k) ((c.says).say k within)) in (
       r.0,
-      record { notes = notes; has_notes = record { starts = (c.says).starts; notes = (c.says).notes; say = (c.says).say; all_are = refl }; count = r.1; records = r.2 },
+      record { notes = notes; has_notes = c.says; count = r.1; records = r.2 },
     )
 
 pub body_has_one_layout : BodyHasOneLayout

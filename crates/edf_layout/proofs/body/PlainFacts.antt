@@ -23,7 +23,7 @@ of-order OneByOne notes sizes starts layout h = h
 of-order ByTime notes sizes starts layout h = h.0
 
 -- the starts of data records
-starts-alike : (file other : List ℕ) (h : Head) → Conforms file h → Conforms other h → HaveSameSamples file h other h → (xs ys : List ℤ) → HaveStarts file h xs → HaveStarts other h ys → xs ≡ ys
+pub starts-alike : (file other : List ℕ) (h : Head) → Conforms file h → Conforms other h → HaveSameSamples file h other h → (xs ys : List ℤ) → HaveStarts file h xs → HaveStarts other h ys → xs ≡ ys
 starts-alike file other h c d same xs ys a b =
     members-same xs ys (a.count ∙ sym b.count)
     (λ k x y e f.

@@ -31,7 +31,7 @@ use Rattle.edf_layout.proofs.plain.LawFacts.{no-dot, digit-no-dot}
 own : IsNumeralModel AreDigits weight
 own = numerals_by_weight AreDigits tells_by_index weight (record { empty = refl; more = λ c cs k. refl })
 
-ten-power : (n : ℕ) → 0 < 10 ^ n
+pub ten-power : (n : ℕ) → 0 < 10 ^ n
 ten-power zero = lit< tt
 ten-power (suc n) = let less = ten-power n in let more : 10 ^ suc n ≡ 10 * 10 ^ n = pow-succ' 10 n in omega (arith, less, more)
 
@@ -53,7 +53,7 @@ digits-more : (c : ℕ) (cs : List ℕ) → 48 ≤ c → c ≤ 57 → AreDigits 
 digits-more c cs low high h zero within = (low, high)
 digits-more c cs low high h (suc k) within = h k (omega arith)
 
-opened : (p n : ℕ) → (n == 0) ≡ false → last_digits (suc p) n ≡ (48 + n / 10 ^ p) ∷ last_digits p (n % 10 ^ p)
+pub opened : (p n : ℕ) → (n == 0) ≡ false → last_digits (suc p) n ≡ (48 + n / 10 ^ p) ∷ last_digits p (n % 10 ^ p)
 opened p n other = ap (λ b. cond b [] ((48 + n / 10 ^ p) ∷ last_digits p (n % 10 ^ p))) other
 
 closed : (p n : ℕ) → (n == 0) ≡ true → last_digits (suc p) n ≡ []

@@ -144,7 +144,7 @@ bodies-tals sizes (start ∷ starts) some =
     ∙ ap (λ xs. xs ++ tals_in (flat_map (bare_record sizes) starts)) (bare-tals sizes start some)
     ∙ ap (λ xs. tal_of_start start ∷ xs) (bodies-tals sizes starts some)
 
-bodies-long : (sizes : List ℕ) (starts : List ℤ) → length (flat_map (bare_record sizes) starts) ≡ length starts * length sizes
+pub bodies-long : (sizes : List ℕ) (starts : List ℤ) → length (flat_map (bare_record sizes) starts) ≡ length starts * length sizes
 bodies-long sizes [] = (let e : 0 ≡ 0 * length sizes = omega arith in e)
 bodies-long sizes (start ∷ starts) =
     let one = length-append (bare_record sizes start) (flat_map (bare_record sizes) starts) in

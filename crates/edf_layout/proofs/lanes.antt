@@ -1,0 +1,4 @@
+pub mod PlainLaneFacts
+pub mod PlaceFacts
+pub mod LaneReadFacts
+pub mod LayLaneFacts

@@ -1,0 +1,38 @@
+-- Lanes that a plain order fills, as the code holds them.
+use Rattle.std.specs.Prelude.{ℕ, ℤ, ◌+◌, ◌<◌, ◌≤◌, ◌≤ℤ◌, nat_le, List, length, slice_index_or, take, drop, map, slice_get, Option, Some, pos}
+use Rattle.std.specs.List.{position}
+use Rattle.std.specs.Option.{option_map_or}
+use Rattle.edf_tal.specs.Tals.{TalValue}
+use Rattle.edf_stream.specs.annotation.Notes.{NoteValue}
+use Rattle.edf_layout.specs.body.PlainOrders.{PlainOrder, OneByOne, ByTime, FilledLane, tal_of_note, tal_of_start}
+use Rattle.edf_layout.specs.declared.plain_lanes.Order.{Order}
+use Rattle.edf_layout.specs.declared.plain_lanes.Order.TheVariants as orders
+use Rattle.edf_layout.specs.declared.plain_lanes.PlainTal.{PlainTal}
+use Rattle.edf_layout.specs.declared.plain_lanes.PlainTal.TheVariants as tals
+use Rattle.edf_layout.specs.declared.plain_lanes.PlainLane.{PlainLane}
+
+-- the order
+abbrev pub order_view : Order → PlainOrder
+order_view orders.OneByOne = OneByOne
+order_view orders.ByTime = ByTime
+
+-- a TAL, by the annotations in order
+abbrev pub plain_view : List NoteValue → PlainTal → TalValue
+plain_view notes (tals.KeepsTime start) = tal_of_start start
+plain_view notes (tals.Annotates n) = option_map_or tal_of_note (slice_get notes n) (tal_of_start (pos 0))
+
+-- a lane
+abbrev pub lane_view : List NoteValue → PlainLane → FilledLane
+lane_view notes lane = record { free = lane.free; tals = map (plain_view notes) lane.tals.items }
+
+-- the first of some lanes that has so much room
+abbrev pub room_in : List PlainLane → ℕ → Option ℕ
+room_in lanes need = position (λ (lane : PlainLane). nat_le need lane.free) lanes
+
+-- the first from a place on, or else the first of those before
+abbrev pub room_from : List PlainLane → ℕ → ℕ → Option ℕ
+room_from lanes at need = option_map_or (λ k. Some (at + k)) (room_in (drop at lanes) need) (room_in (take at lanes) need)
+
+-- no start is before the one ahead of it
+abbrev pub AreRising : List ℤ → Type 0
+AreRising starts = (i j : ℕ) (d : ℤ) → i ≤ j → j < length starts → slice_index_or starts i d ≤ℤ slice_index_or starts j d

@@ -1,0 +1,190 @@
+//! Where the plain orders put annotations.
+
+ghost use Rattle.std.specs.Prelude.{◌≡◌, ◌≤◌, ◌<◌, ◌*◌, ◌^◌, ◌++◌, List, length, map, IfSome, IfOk, OnOk};
+ghost use Rattle.std.specs.List.{flat_map};
+ghost use Rattle.edf_stream.specs.Views.{note_value};
+ghost use Rattle.edf_stream.specs.annotation.Notes.{NoteValue};
+ghost use Rattle.edf_layout.specs.body.PlainLanes.{order_view, plain_view, lane_view, room_in, room_from as room_from_place, AreRising};
+ghost use Rattle.edf_layout.specs.body.PlainOrders.{bare_lane, bare_record, filled, put_from as put_from_place, record_for as record_in, record_of_onset as record_of, tal_bytes, tal_of_start, with_tal};
+
+use crate::note_places::laid;
+use crate::plain_tal::{note_bytes, start_bytes};
+use edf_stream::Note;
+use std::alloc::{AllocError, Global};
+
+/// A plain order of the annotations in data records.
+#[derive(Debug, Clone, Copy, PartialEq, Eq)]
+pub enum Order {
+    /// One in each data record, from the first data record on, and behind the last one from the first one on again.
+    OneByOne,
+    /// Each in the data record in whose time its onset lies.
+    ByTime,
+}
+
+/// A TAL that is spelled plainly.
+#[derive(Debug, Clone, Copy)]
+pub enum PlainTal {
+    /// It keeps the time alone: where its data record starts, in picoseconds after the start of the file.
+    KeepsTime(i128),
+    /// It has the annotation of this number, among all in order.
+    Annotates(usize),
+}
+
+/// A lane that a plain order fills.
+#[derive(Debug, Drop)]
+pub struct PlainLane {
+    /// How many bytes are free behind its TALs.
+    pub free: usize,
+    /// Its TALs.
+    pub tals: Vec<PlainTal>,
+}
+
+/// The first of these lanes that has so many bytes free.
+fn room_in(lanes: &[PlainLane], need: usize) -> Option<usize>
+    ensures place { result ≡ room_in lanes.now need }
+    ensures within { IfSome result (λ k. k < length lanes.now) }
+{
+    lanes.iter().position(|lane| need <= lane.free)
+}
+
+/// The first lane from a place on that has so many bytes free, or else the first of those before.
+fn room_from(lanes: &[PlainLane], at: usize, need: usize) -> Option<usize>
+    requires { at ≤ length lanes.now }
+    ensures place { result ≡ room_from_place lanes.now at need }
+    ensures within { IfSome result (λ k. k < length lanes.now) }
+{
+    match room_in(&lanes[at..], need) {
+        Some(place) => Some(at + place),
+        None => room_in(&lanes[..at], need),
+    }
+}
+
+/// Puts a TAL that takes so many bytes into the first lane from a place on that has room for it, and behind the last
+/// lane from the first one on; nowhere, where no lane has room.
+fn put_from(
+    lanes: &mut [PlainLane],
+    at: usize,
+    need: usize,
+    tal: PlainTal,
+) -> Result<(), AllocError>
+    requires { at ≤ length lanes.old }
+    ensures filled { OnOk result ((notes : List NoteValue) → tal_bytes (plain_view notes tal) ≡ need →
+        map (lane_view notes) lanes.new ≡
+        put_from_place at (plain_view notes tal) (map (lane_view notes) lanes.old)) }
+    ensures size { length lanes.new ≡ length lanes.old }
+{
+    if let Some(place) = room_from(lanes, at, need) {
+        let lane = &mut lanes[place];
+        lane.free = lane.free.saturating_sub(need);
+        lane.tals.push(tal)?;
+    }
+    Ok(())
+}
+
+/// A lane of this size that holds the TAL that keeps the time of a data record with this start.
+fn timed_lane(alloc: Global, size: usize, start: i128) -> Result<PlainLane, AllocError>
+    ensures { IfOk result (λ lane. (notes : List NoteValue) →
+        lane_view notes lane ≡ with_tal (tal_of_start start) (bare_lane size)) }
+{
+    let mut tals = Vec::new(alloc);
+    tals.push(PlainTal::KeepsTime(start))?;
+    Ok(PlainLane {
+        free: size.saturating_sub(start_bytes(alloc, start)?),
+        tals,
+    })
+}
+
+/// Puts lanes of these sizes with nothing in them behind the lanes.
+fn push_empty(lanes: &mut Vec<PlainLane>, alloc: Global, sizes: &[usize]) -> Result<(), AllocError>
+    ensures { OnOk result ((notes : List NoteValue) → map (lane_view notes) lanes.new.items ≡
+        map (lane_view notes) lanes.old.items ++ map bare_lane sizes.now) }
+{
+    for size in sizes {
+        lanes.push(PlainLane {
+            free: *size,
+            tals: Vec::new(alloc),
+        })?;
+    }
+    Ok(())
+}
+
+/// Puts the lanes of a data record with this start behind the lanes, before any annotation stands there.
+fn push_bare(
+    lanes: &mut Vec<PlainLane>,
+    alloc: Global,
+    sizes: &[usize],
+    start: i128,
+) -> Result<(), AllocError>
+    ensures { OnOk result ((notes : List NoteValue) → map (lane_view notes) lanes.new.items ≡
+        map (lane_view notes) lanes.old.items ++ bare_record sizes.now start) }
+{
+    if let [size, rest @ ..] = sizes {
+        lanes.push(timed_lane(alloc, *size, start)?)?;
+        push_empty(lanes, alloc, rest)?;
+    }
+    Ok(())
+}
+
+/// The lanes of data records with these starts, before any annotation stands there.
+fn bare_lanes(alloc: Global, sizes: &[usize], starts: &[i128]) -> Result<Vec<PlainLane>, AllocError>
+    ensures { IfOk result (λ lanes. (notes : List NoteValue) → map (lane_view notes) lanes.items ≡
+        flat_map (bare_record sizes.now) starts.now) }
+{
+    let mut lanes = Vec::new(alloc);
+    for start in starts {
+        push_bare(&mut lanes, alloc, sizes, *start)?;
+    }
+    Ok(lanes)
+}
+
+/// The data record in whose time an onset lies: the last one of those with these starts that doesn't start behind it, or
+/// the first one.
+fn record_of_onset(starts: &[i128], onset: i128) -> usize
+    requires { AreRising starts.now }
+    ensures place { result ≡ record_of starts.now onset }
+    ensures within { 0 < length starts.now → result < length starts.now }
+{
+    let count = starts.partition_point(|start| *start <= onset);
+    count.saturating_sub(1)
+}
+
+/// The data record into which an order puts an annotation of this number, at this onset.
+fn record_for(order: Order, starts: &[i128], number: usize, onset: i128) -> usize
+    requires some { 0 < length starts.now }
+    requires rising { AreRising starts.now }
+    ensures place { (note : NoteValue) → note.onset ≡ onset →
+        result ≡ record_in (order_view order) starts.now number note }
+    ensures within { result < length starts.now }
+{
+    match order {
+        Order::OneByOne => number % starts.len(),
+        Order::ByTime => record_of_onset(starts, onset),
+    }
+}
+
+/// The lanes of data records with these starts, with annotation lanes of these sizes, as an order fills them with
+/// annotations that are in order.
+///
+/// The error is want of memory.
+pub fn filled_lanes(
+    alloc: Global,
+    order: Order,
+    notes: &[Note],
+    sizes: &[usize],
+    starts: &[i128],
+) -> Result<Vec<PlainLane>, AllocError>
+    requires some { 0 < length starts.now }
+    requires rising { AreRising starts.now }
+    ensures { IfOk result (λ lanes. map (lane_view (map note_value notes.now)) lanes.items ≡
+        filled (order_view order) starts.now (length sizes.now) 0 (map note_value notes.now)
+        (flat_map (bare_record sizes.now) starts.now)) }
+{
+    let mut lanes = bare_lanes(alloc, sizes, starts)?;
+    for (number, note) in notes.iter().enumerate() {
+        let note = laid(note);
+        let at = sizes.len() * record_for(order, starts, number, note.onset);
+        let need = note_bytes(alloc, note)?;
+        put_from(&mut lanes, at, need, PlainTal::Annotates(number))?;
+    }
+    Ok(lanes)
+}
