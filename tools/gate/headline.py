@@ -142,8 +142,8 @@ NOTATION = [
      " for the others: so IsSample says that there are a signal, a data record, a place, .. of which the rest holds"),
     ("record { a = x }, r.a", "the value with this field; its field a, also of a statement. p.0 and p.1 are the two parts"
      " of a pair"),
-    ("fixed.Version, Yes n", "a value of a type that the code declares (FixedField, and so signal of SignalField), here"
-     " with its part n"),
+    ("fixed.Version, Yes n", "a value of a type that the code declares: Version of FixedField, as signal.Label is one of"
+     " SignalField; Yes with its part n"),
     ("several lines", "of one word: one for each form of its arguments, of which the first that fits counts"),
     ("{X : Type 0}", "an argument that isn't written where the word is used"),
     ("x.old, x.new, x.now", "in a contract: what x stood for as the call began; as it ended; what it stands for"),
