@@ -214,10 +214,10 @@ fn sentences<R: Recordings>(
 /// makes them, and what to do; where there is none, what to read before the export goes out. A remedy is named only where the
 /// check was run with it, and then with what it answers.
 ///
-/// The verdict is that of the check, and what was found is what it showed (`findings_of`). Both recordings are opened anew for each of at most three tries: of
-/// other shifts, of the channels that both files have, or of the end of an interval; and once more where all samples are as
-/// claimed with another shift. The sentences are made before the first of them is written, so that nothing is written where
-/// a file fails or memory runs out. What the sink held stays in front of them.
+/// The verdict is that of the check, and what was found is what it showed (`findings_of`). Both recordings are opened anew for
+/// each of at most three tries: of other shifts, of the channels that both files have, or of the end of an interval; and once
+/// more where all samples are as claimed with another shift. The sentences are made before the first of them is written, so that
+/// nothing is written where a file fails or memory runs out. What the sink held stays in front of them.
 pub fn explain_to<R: Recordings, K: Sink>(
     alloc: Global,
     asked: &Asked<'_, OneExport<'_, R>>,

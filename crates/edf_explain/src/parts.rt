@@ -292,9 +292,9 @@ fn sentences_on_parts<R: PartsRecordings>(
 
 /// Writes sentences for whoever has to act on the line of a check of several exports.
 ///
-/// The verdict is that of the check, and what was found is what it showed (`findings_of_parts`). All files are opened anew for each of at most three tries, once more
-/// where all samples are as claimed with another shift, and for the faults of exports that the check left aside. The sentences are
-/// made before the first of them is written. What the sink held stays in front of them.
+/// The verdict is that of the check, and what was found is what it showed (`findings_of_parts`). All files are opened anew for
+/// each of at most three tries, once more where all samples are as claimed with another shift, and for the faults of exports that
+/// the check left aside. The sentences are made before the first of them is written. What the sink held stays in front of them.
 pub fn explain_parts_to<R: PartsRecordings, K: Sink>(
     alloc: Global,
     parts: &PartsAsked<'_, R>,

@@ -31,8 +31,8 @@ pub struct CheckedParts<'c> {
 
 /// The verdict on an export, and what it differs in from what the claim keeps of an original.
 ///
-/// Both are read to their ends by one check, on which a `Looker` looks. The error is that of the check, or want of memory where no
-/// read failed.
+/// Both are read to their ends by one check, on which a `Looker` looks. The error is that of the check, or want of memory where
+/// no read failed.
 pub fn findings_of<'c, O: Source, E: Source>(
     alloc: Global,
     original: &mut O,
