@@ -40,6 +40,7 @@ LINES = [
     ("help", ["help", "rec"], ["receipt", "receipt-parts"]),
     ("claim_of_claim", ["claim", ""], ["claim.toml", "folder"]),
     ("file_of_read", ["read", ""], ["a night.edf", "folder", "part.EDF"]),
+    ("file_of_layout", ["layout", ""], ["a night.edf", "folder", "part.EDF"]),
     ("vectors", ["vectors", ""], []),
     ("no_command", ["other", ""], []),
 ]

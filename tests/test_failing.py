@@ -72,12 +72,14 @@ COMMANDS = {
     "show": Command(0, 0, "show original.edf"),
     "notes": Command(0, MOST, "notes original.edf"),
     "read": Command(0, 0, "read original.edf"),
+    "layout": Command(0, 0, "layout original.edf"),
     "claim": Command(0, 0, "claim cut.toml"),
     # a data record with forty long texts and then a bad TAL, and one without the texts
     "check_of_a_bad_tal": Command(
         1, 0, "check original.edf ROOM/bad.edf cut.toml", "NO 2 export fault: BadTal(NoEnd) at record 0\n"),
     "notes_of_a_bad_tal_alone": Command(1, 0, "notes ROOM/bare.edf", "FAULT BadTal(NoEnd) at record 0\n"),
     "read_of_a_bad_tal": Command(1, 0, "read ROOM/bad.edf", "FAULT BadTal(NoEnd) at record 0\n"),
+    "layout_of_a_bad_tal": Command(1, 0, "layout ROOM/bad.edf", "FAULT BadTal(NoEnd) at record 0\n"),
     "notes_of_a_bad_tal": Command(1, 0, "notes ROOM/bad.edf", "FAULT BadTal(NoEnd) at record 0\n"),
 }
 
@@ -87,7 +89,7 @@ ROWS = list(COMMANDS.items())
 
 def role_of(command, name):
     """The role of a file by its name, for a command."""
-    if command in ("conform", "show", "notes", "read"):
+    if command in ("conform", "show", "notes", "read", "layout"):
         return "file"
     if name.endswith(".toml") and command not in ("draft", "draft-parts"):
         return "claim"

@@ -44,6 +44,7 @@ NO_COMMAND = {
     "dashes_before_the_files_of_explain": ["explain", "--", "original.edf", "cut.edf", "cut.toml"],
     "dashes_before_a_claim": ["claim", "--", "cut.toml"],
     "dashes_before_the_file_of_read": ["read", "--", "cut.edf"],
+    "dashes_before_the_file_of_layout": ["layout", "--", "cut.edf"],
 }
 
 # Words that `clap` doesn't take.
@@ -90,6 +91,10 @@ FAULTS = {
     "read_of_no_file": ["read"],
     "read_of_two_files": ["read", "original.edf", "cut.edf"],
     "read_of_a_name_with_a_dash": ["read", "-night.edf"],
+    "layout_of_no_file": ["layout"],
+    "layout_of_two_files": ["layout", "original.edf", "cut.edf"],
+    "layouts": ["layouts"],
+    "layout_of_a_name_with_a_dash": ["layout", "-night.edf"],
     "dashes_before_a_command": ["--", "vectors"],
     "show_of_a_name_with_a_dash": ["show", "-night.edf"],
     "show_of_two_files": ["show", "original.edf", "cut.edf"],
@@ -97,7 +102,7 @@ FAULTS = {
 
 HELPS = [
     "--help", "-h", "help", "help check", "check --help", "check-parts --help", "receipt --help", "receipt-parts --help",
-    "draft --help", "explain --help", "claim --help", "read --help", "--version", "-V",
+    "draft --help", "explain --help", "claim --help", "read --help", "layout --help", "--version", "-V",
 ]
 
 # What can't be opened or read, and the words. The claim comes first, then the original, then the export, and all of them
@@ -128,6 +133,7 @@ FILES = [
     ("cannot open file", "show none.edf"),
     ("cannot open file", "notes none.edf"),
     ("cannot open file", "read none.edf"),
+    ("cannot open file", "layout none.edf"),
     ("cannot open claim", "claim none.toml"),
     ("reading claim failed", "check original.edf cut.edf ."),
     ("reading original failed", "check . cut.edf cut.toml"),
@@ -160,6 +166,7 @@ FILES = [
     ("reading file failed", "show ."),
     ("reading file failed", "notes ."),
     ("reading file failed", "read ."),
+    ("reading file failed", "layout ."),
     ("reading claim failed", "claim ."),
     ("claim refused: BadKeep", "claim refused.toml"),
 ]
@@ -178,13 +185,14 @@ CLOSED = [
     ("file", "show CLOSED"),
     ("file", "notes CLOSED"),
     ("file", "read CLOSED"),
+    ("file", "layout CLOSED"),
     ("claim", "claim CLOSED"),
 ]
 
 COMMANDS = [
     "check original.edf cut.edf cut.toml", "check-parts original.edf cut.toml cut.edf",
     "receipt original.edf cut.edf cut.toml", "receipt-parts original.edf cut.toml cut.edf", "draft original.edf cut.edf", "explain original.edf cut.edf cut.toml",
-    "conform cut.edf", "show cut.edf", "notes cut.edf", "read cut.edf", "claim cut.toml", "vectors",
+    "conform cut.edf", "show cut.edf", "notes cut.edf", "read cut.edf", "layout cut.edf", "claim cut.toml", "vectors",
 ]
 
 

@@ -110,6 +110,10 @@ pub enters_read : Enters (codes "read") (file_app (codes "read"))
 unfolding clap_on_literals
 enters_read = record { walks = walks_to (codes "read"); passes = passes_to (codes "read"); whole = λ rest. refl; finds = λ rest h. h }
 
+pub enters_layout : Enters (codes "layout") (file_app (codes "layout"))
+unfolding clap_on_literals
+enters_layout = record { walks = walks_to (codes "layout"); passes = passes_to (codes "layout"); whole = λ rest. refl; finds = λ rest h. h }
+
 pub enters_claim : Enters (codes "claim") (claim_app (codes "claim"))
 unfolding clap_on_literals
 enters_claim = record { walks = walks_to (codes "claim"); passes = passes_to (codes "claim"); whole = λ rest. refl; finds = λ rest h. h }

@@ -5,7 +5,7 @@ use Rattle.std.specs.Borrow.{Bor}
 use Rattle.clap.specs.Lexer.{usize_max}
 use Rattle.clap.specs.Simple.{new_app}
 use Rattle.clap.specs.Takes.{takes}
-use Rattle.edf_command_line.proofs.EnterFacts.{Enters, enters_check, enters_check_parts, enters_claim, enters_conform, enters_draft, enters_draft_parts, enters_explain, enters_explain_parts, enters_notes, enters_read, enters_receipt, enters_receipt_parts, enters_show, enters_vectors, takes_by}
+use Rattle.edf_command_line.proofs.EnterFacts.{Enters, enters_check, enters_check_parts, enters_claim, enters_conform, enters_draft, enters_draft_parts, enters_explain, enters_explain_parts, enters_layout, enters_notes, enters_read, enters_receipt, enters_receipt_parts, enters_show, enters_vectors, takes_by}
 use Rattle.edf_command_line.proofs.ExportFacts.{claim_passes, export_passes, file_passes, none_passes, pair_passes}
 use Rattle.edf_command_line.proofs.PartsFacts.{parts_passes}
 use Rattle.edf_command_line.proofs.PlainFacts.{tail_plain}
@@ -13,7 +13,7 @@ use Rattle.edf_command_line.proofs.SeriesFacts.{series_passes}
 use Rattle.edf_command_line.specs.Commands.{claim_app, export_app, file_app, pair_app, parts_app, program_app, series_app}
 use Rattle.edf_jobs.specs.Jobs.{ArePlain, SaysJob}
 use Rattle.edf_jobs.specs.declared.jobs.Job.{Job}
-use Rattle.edf_jobs.specs.declared.jobs.Job.TheVariants.{Check, CheckParts, Receipt, ReceiptParts, Draft, DraftParts, Explain, ExplainParts, Conform, Show, Notes, Read, Claim, Vectors}
+use Rattle.edf_jobs.specs.declared.jobs.Job.TheVariants.{Check, CheckParts, Receipt, ReceiptParts, Draft, DraftParts, Explain, ExplainParts, Conform, Show, Notes, Read, Layout, Claim, Vectors}
 
 -- the words behind the program's name are taken
 abbrev Taken : List ℕ → List (List ℕ) → Type 0
@@ -85,6 +85,7 @@ job_taken w ws (Conform f) small plain says = file_taken (codes "conform") enter
 job_taken w ws (Show f) small plain says = file_taken (codes "show") enters_show w ws f.now plain says
 job_taken w ws (Notes f) small plain says = file_taken (codes "notes") enters_notes w ws f.now plain says
 job_taken w ws (Read f) small plain says = file_taken (codes "read") enters_read w ws f.now plain says
+job_taken w ws (Layout f) small plain says = file_taken (codes "layout") enters_layout w ws f.now plain says
 job_taken w ws (Claim f) small plain says = claim_taken (codes "claim") enters_claim w ws f.now plain says
 job_taken w ws Vectors small plain says = subst (Taken w) (sym says) (takes_by (codes "vectors") (new_app (codes "vectors")) enters_vectors w [] (none_passes (codes "vectors")))
 
@@ -101,6 +102,7 @@ no_words (Conform f) says = cc
 no_words (Show f) says = cc
 no_words (Notes f) says = cc
 no_words (Read f) says = cc
+no_words (Layout f) says = cc
 no_words (Claim f) says = cc
 no_words Vectors says = cc
 

@@ -65,5 +65,9 @@ abbrev pub reporting_app : App
 reporting_app = with_subcommand (with_subcommand (with_subcommand (with_subcommand explain_app
     (file_app (codes "conform")).top) (file_app (codes "show")).top) (file_app (codes "notes")).top) (file_app (codes "read")).top
 
+-- the same with the layout of one recording
+abbrev pub layout_app : App
+layout_app = with_subcommand reporting_app (file_app (codes "layout")).top
+
 abbrev pub program_app : App
-program_app = with_subcommand (with_subcommand reporting_app (claim_app (codes "claim")).top) (new_app (codes "vectors")).top
+program_app = with_subcommand (with_subcommand layout_app (claim_app (codes "claim")).top) (new_app (codes "vectors")).top

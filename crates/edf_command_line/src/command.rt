@@ -6,7 +6,7 @@ ghost use Rattle.std.specs.Prelude.{◌≡◌, ◌≢◌, codes, false, IfOk, If
 ghost use Rattle.clap.specs.Simple.{app_of, new_app, with_rule, with_subcommand};
 ghost use Rattle.clap.specs.Values.{kind_of};
 ghost use Rattle.clap.specs.declared.builder.command.Command.TheViews.{out-Command as fields_of};
-ghost use Rattle.edf_command_line.specs.Commands.{needed, needed_some, bare_app, checking_app, claim_app, draft_app, explain_app, export_app, file_app, pair_app, parts_app, program_app, receipt_app, reporting_app, series_app, with_both};
+ghost use Rattle.edf_command_line.specs.Commands.{needed, needed_some, bare_app, checking_app, claim_app, draft_app, explain_app, export_app, file_app, layout_app, pair_app, parts_app, program_app, receipt_app, reporting_app, series_app, with_both};
 ghost use Rattle.edf_jobs.specs.Jobs.{ArePlain, HasExports, SaysJob, SaysNoJob, behind_first};
 
 use crate::VERSION;
@@ -138,7 +138,7 @@ fn claim_command<'a>(alloc: Global) -> Result<Command<'a>, AllocError>
     let claim = Named {
         name: "claim",
         about: "Prints a claim as it is understood, in its plainest form",
-        place: 4,
+        place: 5,
     };
     let named = named_command(alloc, claim);
     needing(alloc, named, "CLAIM", "The claim, a TOML document")
@@ -165,7 +165,7 @@ fn vectors_command<'a>(alloc: Global) -> Command<'a>
     let vectors = Named {
         name: "vectors",
         about: "Runs the worked examples that are built in, and looks whether each gives its stored line",
-        place: 12,
+        place: 13,
     };
     named_command(alloc, vectors)
 }
@@ -204,12 +204,12 @@ fn checking_program<'a>(alloc: Global) -> Result<Command<'a>, AllocError>
     let check = Named {
         name: "check",
         about: "Checks an export beside its original: Yes, or No with the first difference",
-        place: 5,
+        place: 6,
     };
     let parts = Named {
         name: "check-parts",
         about: "Checks an export that goes out in several files, all of them together",
-        place: 9,
+        place: 10,
     };
     with_both(alloc, bare_program(alloc), check, parts)
 }
@@ -222,12 +222,12 @@ fn receipt_program<'a>(alloc: Global) -> Result<Command<'a>, AllocError>
     let receipt = Named {
         name: "receipt",
         about: "Checks as check does, and writes the SHA-256 of each file above the answer",
-        place: 7,
+        place: 8,
     };
     let parts = Named {
         name: "receipt-parts",
         about: "Writes such a receipt of an export that goes out in several files",
-        place: 11,
+        place: 12,
     };
     with_both(alloc, checking, receipt, parts)
 }
@@ -240,14 +240,14 @@ fn draft_program<'a>(alloc: Global) -> Result<Command<'a>, AllocError>
     let draft = Named {
         name: "draft",
         about: "Drafts the claim by which this export would be the original's, for a person to confirm",
-        place: 4,
+        place: 5,
     };
     let pair = pair_command(alloc, draft)?;
     let drafting = receipts.subcommand(pair)?;
     let parts = Named {
         name: "draft-parts",
         about: "Drafts the claim by which several files together would be the export of the original",
-        place: 8,
+        place: 9,
     };
     let series = series_command(alloc, parts)?;
     drafting.subcommand(series)
@@ -262,17 +262,17 @@ fn explain_program<'a>(alloc: Global) -> Result<Command<'a>, AllocError>
     let explain = Named {
         name: "explain",
         about: "Checks as check does, and explains the answer in plain sentences",
-        place: 6,
+        place: 7,
     };
     let parts = Named {
         name: "explain-parts",
         about: "Explains the answer on an export that goes out in several files",
-        place: 10,
+        place: 11,
     };
     with_both(alloc, drafting, explain, parts)
 }
 
-/// The program with all of its commands but those on a claim alone and on no file.
+/// The program with all of its commands but the layout of a recording and those on a claim alone and on no file.
 fn reporting_program<'a>(alloc: Global) -> Result<Command<'a>, AllocError>
     ensures { IfOk result (λ c. app_of c ≡ reporting_app) }
 {
@@ -303,11 +303,24 @@ fn reporting_program<'a>(alloc: Global) -> Result<Command<'a>, AllocError>
     with_report(alloc, fourth, read)
 }
 
+/// The program with all of its commands but those on a claim alone and on no file.
+fn layout_program<'a>(alloc: Global) -> Result<Command<'a>, AllocError>
+    ensures { IfOk result (λ c. app_of c ≡ layout_app) }
+{
+    let reporting = reporting_program(alloc)?;
+    let layout = Named {
+        name: "layout",
+        about: "Prints what a recording's bytes hold besides what it says, such as how numbers are spelled",
+        place: 4,
+    };
+    with_report(alloc, reporting, layout)
+}
+
 /// The program with all of its commands.
 fn program<'a>(alloc: Global) -> Result<Command<'a>, AllocError>
     ensures { IfOk result (λ c. app_of c ≡ program_app) }
 {
-    let reporting = reporting_program(alloc)?;
+    let reporting = layout_program(alloc)?;
     let claim = claim_command(alloc)?;
     let claiming = reporting.subcommand(claim)?;
     claiming.subcommand(vectors_command(alloc))

@@ -8,7 +8,7 @@ use Rattle.std.specs.List.{Contains, IsAnyAnswer}
 use Rattle.std.specs.Str.{bytes_eq}
 use Rattle.edf_jobs.specs.Jobs.{IsCheckOfParts, IsOfExport, IsOfParts, IsDraftOfParts, SaysNoCheckOfParts, SaysNoExport, SaysNoFile, SaysNoParts, SaysNoJob, SaysNoOther, SaysNoDraftOfParts}
 use Rattle.edf_jobs.specs.declared.jobs.Job.{Job}
-use Rattle.edf_jobs.specs.declared.jobs.Job.TheVariants.{Check, CheckParts, Receipt, ReceiptParts, Draft, DraftParts, Explain, ExplainParts, Conform, Show, Notes, Read, Claim, Vectors}
+use Rattle.edf_jobs.specs.declared.jobs.Job.TheVariants.{Check, CheckParts, Receipt, ReceiptParts, Draft, DraftParts, Explain, ExplainParts, Conform, Show, Notes, Read, Layout, Claim, Vectors}
 
 abbrev no_word : Bor (List ℕ)
 no_word = record { ref_ptr = (0, 0); now = [] }
@@ -50,6 +50,7 @@ kind_of_parts (Conform f) is = absurd is
 kind_of_parts (Show f) is = absurd is
 kind_of_parts (Notes f) is = absurd is
 kind_of_parts (Read f) is = absurd is
+kind_of_parts (Layout f) is = absurd is
 kind_of_parts (Claim f) is = absurd is
 kind_of_parts Vectors is = absurd is
 

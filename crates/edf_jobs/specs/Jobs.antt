@@ -3,7 +3,7 @@ use Rattle.std.specs.Prelude.{◌≡◌, ◌≢◌, ◌⊎◌, ℕ, ◌<◌, Lis
 use Rattle.std.specs.Borrow.{Bor}
 use Rattle.std.specs.List.{Contains}
 use Rattle.edf_jobs.specs.declared.jobs.Job.{Job}
-use Rattle.edf_jobs.specs.declared.jobs.Job.TheVariants.{Check, CheckParts, Receipt, ReceiptParts, Draft, DraftParts, Explain, ExplainParts, Conform, Show, Notes, Read, Claim, Vectors}
+use Rattle.edf_jobs.specs.declared.jobs.Job.TheVariants.{Check, CheckParts, Receipt, ReceiptParts, Draft, DraftParts, Explain, ExplainParts, Conform, Show, Notes, Read, Layout, Claim, Vectors}
 
 -- the words behind the first, which is the program's name
 abbrev pub behind_first : List (Bor (List ℕ)) → List (List ℕ)
@@ -31,6 +31,7 @@ SaysJob words (Conform path) = words ≡ codes "conform" ∷ path.now ∷ []
 SaysJob words (Show path) = words ≡ codes "show" ∷ path.now ∷ []
 SaysJob words (Notes path) = words ≡ codes "notes" ∷ path.now ∷ []
 SaysJob words (Read path) = words ≡ codes "read" ∷ path.now ∷ []
+SaysJob words (Layout path) = words ≡ codes "layout" ∷ path.now ∷ []
 SaysJob words (Claim claim) = words ≡ codes "claim" ∷ claim.now ∷ []
 SaysJob words Vectors = words ≡ codes "vectors" ∷ []
 

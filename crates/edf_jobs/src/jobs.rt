@@ -57,6 +57,8 @@ pub enum Job<'a> {
     Notes(&'a str),
     /// Prints what the header of a file says and its annotations, for reading.
     Read(&'a str),
+    /// Prints what the bytes of a file hold besides what it means.
+    Layout(&'a str),
     /// Prints a claim as it is understood.
     Claim(&'a str),
     /// Runs the worked rows.

@@ -107,6 +107,7 @@ fn file_job<'a>(words: &'a [&'a str]) -> Option<Job<'a>>
         [_, "show", path] => Some(Job::Show(path)),
         [_, "notes", path] => Some(Job::Notes(path)),
         [_, "read", path] => Some(Job::Read(path)),
+        [_, "layout", path] => Some(Job::Layout(path)),
         [_, "claim", path] => Some(Job::Claim(path)),
         [_, "vectors"] => Some(Job::Vectors),
         _ => None,

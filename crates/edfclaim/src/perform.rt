@@ -18,6 +18,7 @@ use edf_explain::FrontSource;
 use edf_explained::{Question, run_explained, run_explained_parts};
 use edf_fields::{Sink, WriteSink};
 use edf_jobs::Job;
+use edf_layout::head_layout_to;
 use edf_read::read_to;
 use edf_receipt::{DigestSource, Printed, receipt_parts_to, receipt_to};
 use edf_refusal::{Refusal, Role};
@@ -256,6 +257,18 @@ fn read<'a, R: Files + Eprint + Clock + AllocGlobal, K: Sink>(
     Ok(read_to(signs.rt().alloc(), &mut source, sink)?)
 }
 
+/// Prints what the bytes of a file hold besides what it means.
+fn layout<'a, R: Files + Eprint + Clock + AllocGlobal, K: Sink>(
+    signs: &'a Signs<'a, R>,
+    path: &str,
+    sink: &mut K,
+) -> Result<Outcome, Refusal>
+    ensures stop { IfErr result ReportIsRefused }
+{
+    let mut source = watched(signs, path, Role::File)?;
+    Ok(head_layout_to(signs.rt().alloc(), &mut source, sink)?)
+}
+
 /// Prints a claim as it is understood.
 fn claim<R: Files + AllocGlobal, K: Sink>(
     rt: &R,
@@ -313,6 +326,7 @@ fn write_job<'a, R: Files + Eprint + Clock + AllocGlobal, K: Sink>(
         Job::Show(path) => show(signs.rt(), path, sink),
         Job::Notes(path) => notes(signs.rt(), path, sink),
         Job::Read(path) => read(signs, path, sink),
+        Job::Layout(path) => layout(signs, path, sink),
         Job::Claim(path) => claim(signs.rt(), path, sink),
         Job::Vectors => Ok(vectors_to(signs.rt().alloc(), sink)?),
     }
