@@ -9,12 +9,13 @@
 # 1700 cases for the readers, 1000 for the run on two files, 2000 for that on several exports, and 10,000 honest exports
 # for the drafts, under each of which the second reading has to say the Yes that it says under the claim itself. The
 # toolchain lets a program run for 120 seconds and print 1 MB, so the cases of the last two are cut into several runs.
-# Each of the four ends with a line 'N passed, M failed'. Where the proved program stands, four more follow, each with a
+# Each of the four ends with a line 'N passed, M failed'. Where the proved program stands, five more follow, each with a
 # line of the same kind: 10,000 wrong exports, of which what it explains is recounted from how they were made
 # (tests/oracle/honesty.py), and 2,000 in one to four parts (tests/oracle/honest_parts.py); 10,000 honest ones that were
 # moved by any number of seconds, of which fewer than one in 100 has a draft that isn't a Yes
-# (tests/oracle/moved_drafts.py); and 2,000 honest ones in two to four parts, each with a draft that is a Yes
-# (tests/oracle/drafted_parts.py).
+# (tests/oracle/moved_drafts.py); 2,000 honest ones in two to four parts, each with a draft that is a Yes
+# (tests/oracle/drafted_parts.py); and 2,000 files, of which the lines of the layout are worked out anew, and no two that
+# mean the same have the same lines (tests/oracle/layouts.py).
 set -euo pipefail
 
 seed=${1:-1}
@@ -98,7 +99,8 @@ if [ -x "$program" ]; then
     python3 -m tests.oracle.honest_parts "$program" 2000 "$seed" || failed=1
     python3 -m tests.oracle.moved_drafts "$program" 10000 "$seed" || failed=1
     python3 -m tests.oracle.drafted_parts "$program" 2000 "$seed" || failed=1
+    python3 -m tests.oracle.layouts "$program" 2000 "$seed" || failed=1
 else
-    echo "no proved program: what it explains of wrong exports, and drafts of moved ones and of several, are left out"
+    echo "no proved program: what it explains of wrong exports, drafts of moved ones and of several, and layouts, are left out"
 fi
 exit "$failed"
