@@ -9,3 +9,4 @@ pub mod HeadFiles
 pub mod HeadReports
 pub mod body
 pub mod PlainLaws
+pub mod whole

@@ -39,7 +39,7 @@ fn signal_count(front: &[u8]) -> usize
 }
 
 /// One text behind the other.
-fn joined(alloc: Global, first: &[u8], second: &[u8]) -> Result<Vec<u8>, AllocError>
+pub(crate) fn joined(alloc: Global, first: &[u8], second: &[u8]) -> Result<Vec<u8>, AllocError>
     ensures { IfOk result (λ v. v.items ≡ first.now ++ second.now) }
 {
     let mut bytes = Vec::with_capacity(alloc, first.len().saturating_add(second.len()))?;

@@ -14,6 +14,7 @@ mod plain_number;
 mod plain_tal;
 mod signal_fields;
 mod spaces;
+mod whole;
 
 pub use head_file::{HeadFile, read_head};
 pub use head_layout::head_layout_to;

@@ -1,0 +1,4 @@
+//! A whole file: what is kept of it while it is read, and its layout.
+
+pub mod file_body;
+pub mod whole_file;
