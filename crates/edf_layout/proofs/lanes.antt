@@ -2,3 +2,8 @@ pub mod PlainLaneFacts
 pub mod PlaceFacts
 pub mod LaneReadFacts
 pub mod LayLaneFacts
+pub mod OddRowFacts
+pub mod KeptLayoutFacts
+pub mod PlainBodyFacts
+pub mod SizeFacts
+pub mod ReportMadeFacts

@@ -8,5 +8,5 @@ pub mod RawSignals
 pub mod HeadFiles
 pub mod HeadReports
 pub mod body
-pub mod PlainLaws
 pub mod whole
+pub mod PlainLaws

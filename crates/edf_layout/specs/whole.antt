@@ -1,1 +1,3 @@
 pub mod FileBodies
+pub mod LaneRows
+pub mod LayoutTexts

@@ -24,7 +24,7 @@ use edf_verdict::Outcome;
 use std::alloc::{AllocError, Global};
 
 /// Puts the lines behind the text, each with its end.
-fn push_places(text: &mut Vec<u8>, places: &[Vec<u8>]) -> Result<(), AllocError>
+pub(crate) fn push_places(text: &mut Vec<u8>, places: &[Vec<u8>]) -> Result<(), AllocError>
     ensures { OnOk result (text.new.items ≡ text.old.items ++ place_lines (map (λ v. v.items) places.now)) }
 {
     for place in places {
@@ -48,7 +48,7 @@ fn last_line(alloc: Global, count: usize) -> Result<Vec<u8>, AllocError>
 }
 
 /// The outcome of so many places that aren't plain.
-fn plain_outcome(count: usize) -> Outcome
+pub(crate) fn plain_outcome(count: usize) -> Outcome
     ensures { result ≡ plain_outcome count }
 {
     if count == 0 {

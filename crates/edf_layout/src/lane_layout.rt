@@ -100,7 +100,7 @@ fn spelling_at(lane: &[u8]) -> Spelling<'_>
 }
 
 /// Whether the next TAL of a lane keeps the time, where the first one does or doesn't and these stand before it.
-fn keeps_now(keeps_time: bool, laid: &[LaidTal<'_>]) -> bool
+pub(crate) fn keeps_now(keeps_time: bool, laid: &[LaidTal<'_>]) -> bool
     ensures { result ≡ keeps_now keeps_time (map laid_view laid.now) }
 {
     keeps_time && laid.is_empty()

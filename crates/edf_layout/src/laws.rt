@@ -5,7 +5,7 @@ ghost use Rattle.edf_layout.specs.PlainLaws.{OnePlainHeaderNumber, OnePlainOnset
 ghost use Rattle.edf_layout.specs.body.FileLaws.{FileIsItsParts, LaneIsItsTals, LanesHaveLayouts};
 ghost use Rattle.edf_layout.specs.HeadLaws.{LayoutIsTheRest, TextTellsLayout};
 ghost use Rattle.edf_layout.specs.body.MeaningLaws.{BodyHasOneLayout, LayoutAndMeaningAreTheFile, OneOrder, PlacesTell};
-ghost use Rattle.edf_layout.specs.body.LayoutLaws.{FileHasOneLayout, LinesAndMeaningAreTheFile, LinesTellLayout};
+ghost use Rattle.edf_layout.specs.body.LayoutLaws.{FileHasOneLayout, LinesAndMeaningAreTheFile, LinesTellLayout, PlainBodiesHaveNoOddLane};
 ghost use Rattle.edf_layout.specs.body.PlainBodyLaws.{OneOrderAtMost, OnePlainTal, PlainBodiesAreOne, PlainLanesHoldAll};
 
 /// Two headers in order are the same bytes exactly where they say the same and have the same layout.
@@ -94,4 +94,10 @@ pub fn lines_and_meaning_are_the_file()
     ensures one { FileHasOneLayout }
     ensures told { LinesTellLayout }
     ensures all { LinesAndMeaningAreTheFile }
+{}
+
+/// The annotations of a file that conforms stand in a plain order exactly where this is the order that its layout names
+/// and no lane is odd.
+pub fn plain_bodies_have_no_odd_lane()
+    ensures { PlainBodiesHaveNoOddLane }
 {}

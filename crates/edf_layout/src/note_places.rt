@@ -35,7 +35,7 @@ fn is_before(note: LaidNote<'_>, other: LaidNote<'_>) -> bool
 }
 
 /// The place of an annotation among those in order: how many come before it.
-fn place_of(notes: &[Note], note: LaidNote<'_>) -> usize
+pub(crate) fn place_of(notes: &[Note], note: LaidNote<'_>) -> usize
     requires { AreInOrder (map note_value notes.now) }
     ensures { result ≡ place_among (map note_value notes.now) (laid_note note.entry) }
 {

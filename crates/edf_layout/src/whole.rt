@@ -1,4 +1,6 @@
 //! A whole file: what is kept of it while it is read, and its layout.
 
 pub mod file_body;
+pub mod layout;
+pub mod odd_lanes;
 pub mod whole_file;

@@ -18,7 +18,7 @@ use edf_explain::FrontSource;
 use edf_explained::{Question, run_explained, run_explained_parts};
 use edf_fields::{Sink, WriteSink};
 use edf_jobs::Job;
-use edf_layout::head_layout_to;
+use edf_layout::layout_to;
 use edf_read::read_to;
 use edf_receipt::{DigestSource, Printed, receipt_parts_to, receipt_to};
 use edf_refusal::{Refusal, Role};
@@ -266,7 +266,7 @@ fn layout<'a, R: Files + Eprint + Clock + AllocGlobal, K: Sink>(
     ensures stop { IfErr result ReportIsRefused }
 {
     let mut source = watched(signs, path, Role::File)?;
-    Ok(head_layout_to(signs.rt().alloc(), &mut source, sink)?)
+    Ok(layout_to(signs.rt().alloc(), &mut source, sink)?)
 }
 
 /// Prints a claim as it is understood.

@@ -10,7 +10,7 @@ use Rattle.edf_header.specs.Heads.{SignalHead, Head, is_annotations}
 use Rattle.edf_header.proofs.ForCallers.{conforming_is_sound}
 use Rattle.edf_tal.specs.Tals.{TalValue, SpellsDuration, SpellsTal}
 use Rattle.edf_stream.specs.Conforming.{Conforms}
-use Rattle.edf_stream.specs.annotation.Notes.{NoteValue, HasNotes, together, notes_of_tal}
+use Rattle.edf_stream.specs.annotation.Notes.{NoteValue, notes_of_tal}
 use Rattle.edf_stream.specs.records.Records.{record_at, lane_of, annotation_lanes}
 use Rattle.edf_layout.specs.PlainLaws.{is_plain_onset}
 use Rattle.edf_layout.specs.body.BodyLayouts.{PlacedTal, RecordLayout, BodyLayout, AreLaidLanes, spellings_in, contents_in, content_with, content_of, timekeeping_of, lane_contents, first_contents, record_contents, IsRecordLayout, HasBodyLayout}
@@ -39,7 +39,7 @@ place-low (x ∷ xs) n =
     most true = omega arith
     most false = omega arith
 
-places-few : (notes some : List NoteValue) → length notes < 10 ^ 64 → AllFew (map (place_of notes) some)
+pub places-few : (notes some : List NoteValue) → length notes < 10 ^ 64 → AllFew (map (place_of notes) some)
 places-few notes [] few = tt
 places-few notes (n ∷ some) few = ((let low = place-low notes n in omega (arith, low, few)), places-few notes some few)
 
@@ -51,7 +51,7 @@ near-span : (v : ℤ) → pos 0 ≤ℤ v → v <ℤ pos (10 ^ 21) → Near v
 near-span (pos n) least low = (let e : n < 10 ^ 21 = omega (arith, ints, low) in omega (arith, e))
 near-span (negsuc n) least low = absurd (omega (arith, ints, least))
 
-near-duration : (t : List ℕ) (v : Option ℤ) → SpellsDuration t v → NearIf v
+pub near-duration : (t : List ℕ) (v : Option ℤ) → SpellsDuration t v → NearIf v
 near-duration t None h = tt
 near-duration t (Some v) (span, is, time, value) = (let small = span_small span v (time, value) in near-span v small.0 small.1)
 

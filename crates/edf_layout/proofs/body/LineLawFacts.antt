@@ -11,7 +11,7 @@ use Rattle.edf_fields.specs.declared.faults.fault.Place.{Place}
 use Rattle.edf_fields.specs.declared.fields.layout.FixedField.{FixedField}
 use Rattle.edf_header.specs.Heads.{Head}
 use Rattle.edf_stream.specs.Conforming.{Conforms}
-use Rattle.edf_stream.specs.annotation.Notes.{NoteValue, SaysRecord, together}
+use Rattle.edf_stream.specs.annotation.Notes.{NoteValue, SaysRecord}
 use Rattle.edf_stream.specs.records.Records.{record_at}
 use Rattle.edf_layout.specs.HeadLaws.{SayTheSame}
 use Rattle.edf_layout.specs.HeadLayouts.{SignalLayout, FrontLayout, HeadLayout, head_layout_of}

@@ -1,11 +1,12 @@
 -- What a file means and the lines of its layout are the file: there is no third thing in its bytes.
-use Rattle.std.specs.Prelude.{◌≡◌, ℕ, ◌↔◌, List}
+use Rattle.std.specs.Prelude.{◌≡◌, ℕ, ◌↔◌, List, []}
 use Rattle.edf_header.specs.Heads.{Head}
 use Rattle.edf_stream.specs.Conforming.{Conforms}
 use Rattle.edf_layout.specs.HeadLaws.{SayTheSame}
 use Rattle.edf_layout.specs.body.BodyLaws.{AreBytes, HaveSameSamples}
 use Rattle.edf_layout.specs.body.FileLayouts.{FileLayout, HasLayout, layout_text}
 use Rattle.edf_layout.specs.body.MeaningLaws.{HaveSameNotes}
+use Rattle.edf_layout.specs.body.PlainOrders.{PlainOrder, IsPlainBody}
 
 -- a file that conforms has a layout, and no other
 abbrev pub FileHasOneLayout : Type 0
@@ -28,3 +29,8 @@ LinesAndMeaningAreTheFile = (file other : List ℕ) (h g : Head) → AreBytes fi
     (file ≡ other)
     ↔ (SayTheSame h g × HaveSameSamples file h other g × HaveSameNotes file h other g
     × (layout_text layout h ≡ layout_text more g))
+
+-- the annotations of a file stand in a plain order exactly where this is the order that fits best and no lane is odd
+abbrev pub PlainBodiesHaveNoOddLane : Type 0
+PlainBodiesHaveNoOddLane = (file : List ℕ) (h : Head) → Conforms file h → (layout : FileLayout) → HasLayout file h layout → (order : PlainOrder) →
+    IsPlainBody order file h ↔ ((layout.order ≡ order) × (layout.odd ≡ []))

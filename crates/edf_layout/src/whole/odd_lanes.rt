@@ -1,0 +1,228 @@
+//! The annotation lanes of a file that a plain order has otherwise.
+
+ghost use Rattle.std.specs.Prelude.{◌≡◌, ◌++◌, ◌==◌, true, false, List, map, IfOk, OnOk};
+ghost use Rattle.std.specs.Str.{bytes_eq};
+ghost use Rattle.edf_stream.specs.Views.{note_value};
+ghost use Rattle.edf_layout.specs.body.BodyLayouts.{PlacedTal, RecordLayout, BodyLayout, content_of, timekeeping_of};
+ghost use Rattle.edf_layout.specs.body.LaidNotes.{laid_note};
+ghost use Rattle.edf_layout.specs.body.LaidTals.{content_view, laid_view};
+ghost use Rattle.edf_layout.specs.body.MeaningLaws.{AreInOrder};
+ghost use Rattle.edf_layout.specs.body.OddLanes.{odd_lane, odd_in, odd_lanes as odd_lanes_of, tal_lines};
+ghost use Rattle.edf_layout.specs.body.PlainLanes.{order_view, plain_view};
+ghost use Rattle.edf_layout.specs.body.PlainOrders.{plain_record, tal_of_note};
+ghost use Rattle.edf_layout.specs.whole.FileBodies.{IsSoundBody, lanes_kept, notes_kept};
+ghost use Rattle.edf_layout.specs.whole.LaneRows.{HasLaneLayout, HaveLaneLayouts, HaveRowLayouts, plainly_laid, plain_tals, odd_view, tals_at as tals_placed};
+
+use crate::laid_tal::{Content, LaidTal, push_tals};
+use crate::lane_layout::{keeps_now, lay_lane};
+use crate::note_places::{laid, place_of};
+use crate::plain_lanes::{Order, PlainLane, PlainTal, filled_lanes};
+use crate::plain_tal::LaidNote;
+use crate::whole::file_body::FileBody;
+use edf_stream::Note;
+use std::alloc::{AllocError, Global};
+
+/// An annotation lane that a plain order has otherwise.
+#[derive(Debug, Drop)]
+pub struct OddLane<'a> {
+    /// The number of its data record, from 0 on.
+    pub data_record: usize,
+    /// Its number among the annotation signals, from 0 on.
+    pub number: usize,
+    /// Its TALs.
+    pub tals: Vec<LaidTal<'a>>,
+}
+
+/// A lane of a file, with its place.
+#[derive(Clone, Copy)]
+struct LaneAt<'a> {
+    data_record: usize,
+    number: usize,
+    bytes: &'a [u8],
+}
+
+/// The lanes of a data record of a file, with its number.
+#[derive(Clone, Copy)]
+struct LanesAt<'a> {
+    data_record: usize,
+    lanes: &'a [Vec<u8>],
+}
+
+/// The annotation that a plain TAL has; of one that keeps the time, its start and no text.
+fn plain_note(notes: &[Note], tal: PlainTal) -> LaidNote<'_>
+    ensures { tal_of_note (laid_note result) ≡ plain_view (map note_value notes.entry.now) tal }
+{
+    let onset = match tal {
+        PlainTal::KeepsTime(start) => start,
+        PlainTal::Annotates(number) => match notes.get(number) {
+            Some(note) => return laid(note),
+            None => 0,
+        },
+    };
+    LaidNote {
+        onset,
+        duration: None,
+        text: &[],
+    }
+}
+
+/// What a plain TAL says.
+fn plain_content(
+    alloc: Global,
+    notes: &[Note],
+    tal: PlainTal,
+    keeps_time: bool,
+) -> Result<Content, AllocError>
+    requires { AreInOrder (map note_value notes.now) }
+    ensures time { IfOk result (λ content. keeps_time ≡ true →
+        content_view content ≡ timekeeping_of (map note_value notes.now)
+        (plain_view (map note_value notes.now) tal)) }
+    ensures other { IfOk result (λ content. keeps_time ≡ false →
+        content_view content ≡ content_of (map note_value notes.now)
+        (plain_view (map note_value notes.now) tal)) }
+{
+    let note = plain_note(notes, tal);
+    let mut places = Vec::new(alloc);
+    if keeps_time {
+        return Ok(Content::KeepsTime(note.duration, places));
+    }
+    places.push(place_of(notes, note))?;
+    Ok(Content::Annotates(places))
+}
+
+/// The layout of the TALs that a plain order puts into a lane; `keeps_time` says whether the first of them keeps
+/// the time of its data record.
+fn lay_plain(
+    alloc: Global,
+    notes: &[Note],
+    tals: &[PlainTal],
+    keeps_time: bool,
+) -> Result<Vec<LaidTal<'static>>, AllocError>
+    requires { AreInOrder (map note_value notes.now) }
+    ensures { IfOk result (λ laid. map laid_view laid.items ≡ plainly_laid (map note_value notes.now)
+        keeps_time (map (plain_view (map note_value notes.now)) tals.now)) }
+{
+    let mut laid = Vec::new(alloc);
+    for tal in tals {
+        let keeps = keeps_now(keeps_time, &laid);
+        laid.push(LaidTal {
+            onset: None,
+            duration: None,
+            content: plain_content(alloc, notes, *tal, keeps)?,
+        })?;
+    }
+    Ok(laid)
+}
+
+/// Whether the same lines are written of these TALs as of others.
+fn have_same_lines(
+    alloc: Global,
+    tals: &[LaidTal<'_>],
+    others: &[LaidTal<'_>],
+) -> Result<bool, AllocError>
+    ensures { IfOk result (λ same. same ≡ bytes_eq (tal_lines (map laid_view tals.now))
+        (tal_lines (map laid_view others.now))) }
+{
+    let mut lines = Vec::new(alloc);
+    push_tals(&mut lines, alloc, tals)?;
+    let mut other_lines = Vec::new(alloc);
+    push_tals(&mut other_lines, alloc, others)?;
+    Ok(lines == other_lines)
+}
+
+/// Puts a lane behind the odd ones, where other lines are written of it than of these plain TALs.
+fn push_odd<'a>(
+    odd: &mut Vec<OddLane<'a>>,
+    alloc: Global,
+    notes: &[Note],
+    lane: LaneAt<'a>,
+    plain: &[PlainTal],
+) -> Result<(), AllocError>
+    requires { AreInOrder (map note_value notes.now) }
+    ensures { OnOk result ((laid : List PlacedTal) →
+        HasLaneLayout (map note_value notes.now) (lane.entry.number == 0) lane.entry.bytes.now laid →
+        map odd_view odd.new.items ≡ map odd_view odd.old.items ++ odd_lane lane.entry.data_record
+        lane.entry.number laid (plainly_laid (map note_value notes.now) (lane.entry.number == 0)
+        (map (plain_view (map note_value notes.now)) plain.now))) }
+{
+    let keeps_time = lane.number == 0;
+    let tals = lay_lane(alloc, notes, lane.bytes, keeps_time)?;
+    let expected = lay_plain(alloc, notes, plain, keeps_time)?;
+    if !have_same_lines(alloc, &tals, &expected)? {
+        odd.push(OddLane {
+            data_record: lane.data_record,
+            number: lane.number,
+            tals,
+        })?;
+    }
+    Ok(())
+}
+
+/// The TALs that a plain order puts into the lane of this number of a data record; none where there is no such
+/// lane.
+fn tals_at(plain: &[PlainLane], number: usize) -> &[PlainTal]
+    ensures { result.now ≡ tals_placed plain.entry.now number }
+{
+    match plain.get(number) {
+        Some(lane) => &lane.tals,
+        None => &[],
+    }
+}
+
+/// Puts the lanes of a data record behind the odd ones that a plain order, which puts these into it, has
+/// otherwise.
+fn push_odd_in<'a>(
+    odd: &mut Vec<OddLane<'a>>,
+    alloc: Global,
+    notes: &[Note],
+    at: LanesAt<'a>,
+    plain: &[PlainLane],
+) -> Result<(), AllocError>
+    requires { AreInOrder (map note_value notes.now) }
+    ensures { OnOk result ((layout : RecordLayout) →
+        HaveLaneLayouts (map note_value notes.now) 0 (map (λ lane. lane.items) at.entry.lanes.now) layout →
+        map odd_view odd.new.items ≡ map odd_view odd.old.items ++ odd_in at.entry.data_record 0 layout
+        (plain_record (map note_value notes.now) (map (plain_tals (map note_value notes.now)) plain.now))) }
+{
+    for (number, bytes) in at.lanes.iter().enumerate() {
+        let lane = LaneAt {
+            data_record: at.data_record,
+            number,
+            bytes,
+        };
+        push_odd(odd, alloc, notes, lane, tals_at(plain, number))?;
+    }
+    Ok(())
+}
+
+/// The annotation lanes of a file that a plain order has otherwise, where a data record has lanes of these
+/// sizes.
+///
+/// The error is want of memory.
+pub fn odd_lanes<'a>(
+    alloc: Global,
+    order: Order,
+    body: &'a FileBody,
+    sizes: &[usize],
+) -> Result<Vec<OddLane<'a>>, AllocError>
+    requires { IsSoundBody body.now }
+    ensures { IfOk result (λ odd. (layout : BodyLayout) →
+        HaveRowLayouts (notes_kept body.entry.now) (lanes_kept body.entry.now) layout →
+        map odd_view odd.items ≡ odd_lanes_of (order_view order) (notes_kept body.entry.now) sizes.now
+        body.entry.now.starts.items layout) }
+{
+    let mut odd = Vec::new(alloc);
+    let starts: &[i128] = &body.starts;
+    if starts.is_empty() {
+        return Ok(odd);
+    }
+    let plain = filled_lanes(alloc, order, &body.notes, sizes, starts)?;
+    let mut rest: &[PlainLane] = &plain;
+    for (data_record, lanes) in body.lanes.iter().enumerate() {
+        let (here, behind) = rest.split_at(sizes.len().min(rest.len()));
+        let at = LanesAt { data_record, lanes };
+        push_odd_in(&mut odd, alloc, &body.notes, at, here)?;
+        rest = behind;
+    }
+    Ok(odd)
+}
