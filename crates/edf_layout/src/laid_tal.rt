@@ -11,7 +11,7 @@ use edf_verdict::NoteTimes;
 use std::alloc::{AllocError, Global};
 
 /// What a TAL says; annotations by their places among all of the file in order.
-#[derive(Debug, Drop)]
+#[derive(Debug, Drop, PartialEq, Eq)]
 pub enum Content {
     /// It keeps the time: its duration, in picoseconds, and the annotations that its further texts are.
     KeepsTime(Option<i128>, Vec<usize>),

@@ -1,6 +1,6 @@
 //! The annotation lanes of a file that a plain order has otherwise.
 
-ghost use Rattle.std.specs.Prelude.{◌≡◌, ◌++◌, ◌==◌, true, false, List, map, IfOk, OnOk};
+ghost use Rattle.std.specs.Prelude.{◌≡◌, ◌++◌, ◌==◌, true, false, List, map, IfOk, IsTrue, OnOk};
 ghost use Rattle.std.specs.Str.{bytes_eq};
 ghost use Rattle.edf_stream.specs.Views.{note_value};
 ghost use Rattle.edf_layout.specs.body.BodyLayouts.{PlacedTal, RecordLayout, BodyLayout, content_of, timekeeping_of};
@@ -114,6 +114,32 @@ fn lay_plain(
     Ok(laid)
 }
 
+/// Whether both TALs are spelled plainly and say the same.
+fn are_plain(tal: &LaidTal<'_>, other: &LaidTal<'_>) -> bool
+    ensures { IsTrue result → laid_view tal.now ≡ laid_view other.now }
+{
+    tal.onset.is_none()
+        && tal.duration.is_none()
+        && other.onset.is_none()
+        && other.duration.is_none()
+        && tal.content == other.content
+}
+
+/// Whether these TALs are spelled plainly, and are the same.
+fn are_same(tals: &[LaidTal<'_>], others: &[LaidTal<'_>]) -> bool
+    ensures { IsTrue result → map laid_view tals.now ≡ map laid_view others.now }
+{
+    if tals.len() != others.len() {
+        return false;
+    }
+    for place in 0..tals.len() {
+        if !are_plain(&tals[place], &others[place]) {
+            return false;
+        }
+    }
+    true
+}
+
 /// Whether the same lines are written of these TALs as of others.
 fn have_same_lines(
     alloc: Global,
@@ -123,6 +149,9 @@ fn have_same_lines(
     ensures { IfOk result (λ same. same ≡ bytes_eq (tal_lines (map laid_view tals.now))
         (tal_lines (map laid_view others.now))) }
 {
+    if are_same(tals, others) {
+        return Ok(true);
+    }
     let mut lines = Vec::new(alloc);
     push_tals(&mut lines, alloc, tals)?;
     let mut other_lines = Vec::new(alloc);
