@@ -15,7 +15,8 @@
 # moved by any number of seconds, of which fewer than one in 100 has a draft that isn't a Yes
 # (tests/oracle/moved_drafts.py); 2,000 honest ones in two to four parts, each with a draft that is a Yes
 # (tests/oracle/drafted_parts.py); and 2,000 files, of which the lines of the layout are worked out anew, and no two that
-# mean the same have the same lines (tests/oracle/layouts.py).
+# mean the same have the same lines (tests/oracle/layouts.py). Last, of 4 files each byte is changed in several ways: where
+# the meaning stays, the lines don't (tests/oracle/layout_bytes.py).
 set -euo pipefail
 
 seed=${1:-1}
@@ -103,4 +104,5 @@ if [ -x "$program" ]; then
 else
     echo "no proved program: what it explains of wrong exports, drafts of moved ones and of several, and layouts, are left out"
 fi
+python3 -m tests.oracle.layout_bytes 4 "$seed" || failed=1
 exit "$failed"
