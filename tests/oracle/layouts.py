@@ -59,7 +59,7 @@ def plain_header(records, samples):
     choose.shuffle(columns)
     fixed = {
         "patient": one_of("X X X X", "MCH F 02-MAY-1951 Harry", "X M X X Ward7 X"),
-        "recording": one_of("Startdate X X X X", "Startdate 02-MAR-2002 PSG NN T3 a"), "startdate": "02.03.02",
+        "recording": one_of("Startdate X X X X", "Startdate 02-MAR-2002 PSG NN cup a"), "startdate": "02.03.02",
         "starttime": "22.00.00", "records": str(records), "duration": one_of("1", "0.5", "30"),
     }
     return edf.header({**fixed, "reserved": one_of("EDF+C", "EDF+D", "EDF+D free")}, columns)
