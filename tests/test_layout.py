@@ -8,7 +8,8 @@ reading of the definitions does (tests/oracle/layout.py).
 from tests import edf, faults, night
 from tests.edf import field, signal, tal, values
 from tests.harness import Case, ProgramCase, each, slug
-from tests.oracle.layout import printed
+from tests.oracle.layout import meaning, printed
+from tests.oracle.layout_written import written
 from tests.recordings import LANES, bytes_of, recorded, recording
 
 ONE_BY_ONE = "annotations one in each data record"
@@ -232,11 +233,15 @@ def of_night():
 
 
 class SecondReading(Case):
-    """What the second reading of the definitions prints."""
+    """What the second reading of the definitions prints; and the file that has these lines and this meaning."""
 
     @each(ROWS)
     def prints(self, file, lines, status):
         self.assertEqual(printed(file), (status, lines.encode()))
+
+    @each(ROWS)
+    def is_written(self, file, lines, status):
+        self.assertEqual(written(meaning(file), lines.encode()), file)
 
 
 class Layout(ProgramCase):

@@ -1,5 +1,6 @@
-"""Looks whether `layout` prints of random files what a second reading of its definitions does (layout.py), and that no two
-files with one meaning have the same lines.
+"""Looks whether `layout` prints of random files what a second reading of its definitions does (layout.py), that each file is
+written anew of what it means and these lines, byte for byte (layout_written.py), and that no two files with one meaning have
+the same lines.
 
 usage: python3 -m tests.oracle.layouts PROGRAM [COUNT [SEED]]
 
@@ -24,6 +25,7 @@ import tempfile
 from tests import edf
 from tests.oracle import cases
 from tests.oracle.layout import BY_TIME, ONE_BY_ONE, Tal, meaning, plain_lanes, printed, rank
+from tests.oracle.layout_written import written
 from tests.reading import rules
 
 choose = random.Random()
@@ -371,10 +373,12 @@ class Layouts:
         last = want.splitlines()[-1].split()[:2 if status else 1]
         self.seen[b" ".join(last).decode() if last[0] != b"FAULT" else "FAULT"] += 1
         self.seen["an order by time"] += BY_TIME + b"\n" in want
-        if (ran.returncode, ran.stdout) == (status, want):
-            return ran.stdout, None
-        return ran.stdout, f"{file.hex()}\nstatus {ran.returncode}, wanted {status}; given and wanted:\n" \
-            f"{ran.stdout.decode(errors='replace')}----\n{want.decode(errors='replace')}"
+        if (ran.returncode, ran.stdout) != (status, want):
+            return ran.stdout, f"{file.hex()}\nstatus {ran.returncode}, wanted {status}; given and wanted:\n" \
+                f"{ran.stdout.decode(errors='replace')}----\n{want.decode(errors='replace')}"
+        if last[0] != b"FAULT" and written(meaning(file), ran.stdout) != file:
+            return ran.stdout, f"another file is written of what it means and its lines: {file.hex()}"
+        return ran.stdout, None
 
     def family(self, size):
         """What is wrong with each file of a family, or none."""

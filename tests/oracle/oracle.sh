@@ -14,9 +14,10 @@
 # (tests/oracle/honesty.py), and 2,000 in one to four parts (tests/oracle/honest_parts.py); 10,000 honest ones that were
 # moved by any number of seconds, of which fewer than one in 100 has a draft that isn't a Yes
 # (tests/oracle/moved_drafts.py); 2,000 honest ones in two to four parts, each with a draft that is a Yes
-# (tests/oracle/drafted_parts.py); and 2,000 files, of which the lines of the layout are worked out anew, and no two that
-# mean the same have the same lines (tests/oracle/layouts.py). Last, of 4 files each byte is changed in several ways: where
-# the meaning stays, the lines don't (tests/oracle/layout_bytes.py).
+# (tests/oracle/drafted_parts.py); and 2,000 files, of which the lines of the layout are worked out anew and
+# each file out of these and of what it means, and no two that mean the same have the same lines (tests/oracle/layouts.py).
+# Last, of 2,000 files each byte is changed in several ways: where the meaning stays, the lines don't
+# (tests/oracle/layout_bytes.py).
 set -euo pipefail
 
 seed=${1:-1}
@@ -104,5 +105,5 @@ if [ -x "$program" ]; then
 else
     echo "no proved program: what it explains of wrong exports, drafts of moved ones and of several, and layouts, are left out"
 fi
-python3 -m tests.oracle.layout_bytes 4 "$seed" || failed=1
+python3 -m tests.oracle.layout_bytes 2000 "$seed" || failed=1
 exit "$failed"
