@@ -7,7 +7,7 @@ reading of the definitions does (tests/oracle/layout.py).
 
 from tests import edf, faults, night
 from tests.edf import field, signal, tal, values
-from tests.harness import Case, ProgramCase, each, slug
+from tests.harness import NIGHT, Case, ProgramCase, each, slug
 from tests.oracle.layout import meaning, printed
 from tests.oracle.layout_written import written
 from tests.recordings import LANES, bytes_of, recorded, recording
@@ -253,6 +253,16 @@ class Layout(ProgramCase):
 
     def test_night(self):
         self.assert_ran(self.run_program("layout", "original.edf"), 0, "".join(f"{line}\n" for line in of_night()))
+
+
+    @each((slug(path.stem), path) for path in sorted(NIGHT.glob("*.edf")))
+    def export(self, path):
+        """The exports of the night are plain, as they were made, and nothing else is in them."""
+        file = path.read_bytes()
+        status, text = printed(file)
+        self.assertEqual((status, text.splitlines()[-2:]), (0, [BY_TIME.encode(), b"PLAIN"]))
+        self.assertEqual(written(meaning(file), text), file)
+        self.assert_ran(self.run_program("layout", path), 0, text)
 
 
 class Faulty(ProgramCase):
