@@ -12,6 +12,9 @@ from tests.oracle.layout import meaning, printed
 from tests.oracle.layout_written import written
 from tests.recordings import LANES, bytes_of, recorded, recording
 
+# How many data records the crowded files have.
+MANY = 200_000
+
 ONE_BY_ONE = "annotations one in each data record"
 BY_TIME = "annotations by time"
 TIME = "  onset plain duration plain time lasting none annotations"
@@ -263,6 +266,24 @@ class Layout(ProgramCase):
         self.assertEqual((status, text.splitlines()[-2:]), (0, [BY_TIME.encode(), b"PLAIN"]))
         self.assertEqual(written(meaning(file), text), file)
         self.assert_ran(self.run_program("layout", path), 0, text)
+
+
+class Crowded(ProgramCase):
+    """Small files with many annotations that have no room where they belong: the answer comes, and in time."""
+
+    def layout_of(self, name, lane_of):
+        """What is printed of a file with so many data records of 1 s, each with two samples and a lane of 32 bytes."""
+        parts = [values([1, 2]) + edf.lane(32, lane_of(at)) for at in range(MANY)]
+        file = recording(signals=[3, 4], edits=[(field("records"), str(MANY))], parts=parts)
+        return self.run_program("layout", self.file(name, bytes_of(file)))
+
+    def test_no_room_anywhere(self):
+        ran = self.layout_of("no_room.edf", lambda at: tal(f"+{at}.123456789012", "", "a", "b", "c"))
+        self.assertEqual((ran.status, ran.out.splitlines()[-1]), (1, b"NOT PLAIN %d" % MANY))
+
+    def test_all_at_one_time(self):
+        ran = self.layout_of("one_time.edf", lambda at: keeper(at) + tal("+0", "a"))
+        self.assertEqual((ran.status, ran.out.splitlines()[-2:]), (0, [ONE_BY_ONE.encode(), b"PLAIN"]))
 
 
 class Faulty(ProgramCase):

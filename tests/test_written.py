@@ -1,7 +1,8 @@
 """Files that other programs wrote (tests/written): what `conform` and `layout` say of them, and what `check` says of an export
 that EDFbrowser cut out of a night which EDFlib wrote.
 
-The lines are those of the second reading, and follow from how the files were made (tests/written/README.md).
+The lines follow from how the files were made (tests/written/README.md), but for what was read off them: which texts are spelled
+how, and how many bytes the annotation signals have.
 """
 
 import pathlib

@@ -3,10 +3,11 @@ reading of their definitions (layout.py).
 
 usage: python3 -m tests.oracle.layout_bytes [COUNT [SEED]]
 
-It makes COUNT random files of 6,000 bytes at most (2,000 where none is said; SEED is a number, 1 if none is said, and the same
-number makes the same files), and of each of them files in which one byte has another value: a byte is tried with six others
-at most, one of a sample with one. Files with a fault, and those that mean something else, are left aside. The last line
-counts the others that passed and failed. 2,000 files take some half an hour of one processor.
+It makes COUNT random files of 6,000 bytes at most, as layouts.py makes them, half of them rearranged (2,000 where none is
+said; SEED is a number, 1 if none is said, and the same number makes the same files), and of each of them files in which one
+byte has another value: a byte is tried with six others at most, one of a sample with one. Files with a fault, and those that
+mean something else, are left aside. The last line counts the others that passed and failed. 2,000 files take some half an
+hour of one processor.
 """
 
 import collections
@@ -94,7 +95,9 @@ def made(number):
     """A file that conforms, by the number that makes it, and what other choices are made of."""
     layouts.choose.seed(number)
     while True:
-        file = layouts.first_of_family()[0].bytes()
+        first = layouts.first_of_family()[0]
+        # half of them are as a family begins, and half are rearranged
+        file = (layouts.rearranged(first, layouts.WAYS) if number % 2 else first).bytes()
         if len(file) <= MOST and not printed(file)[1].startswith(FAULT):
             return file, random.Random(number)
 

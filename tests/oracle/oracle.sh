@@ -9,7 +9,7 @@
 # 1700 cases for the readers, 1000 for the run on two files, 2000 for that on several exports, and 10,000 honest exports
 # for the drafts, under each of which the second reading has to say the Yes that it says under the claim itself. The
 # toolchain lets a program run for 120 seconds and print 1 MB, so the cases of the last two are cut into several runs.
-# Each of the four ends with a line 'N passed, M failed'. Where the proved program stands, five more follow, each with a
+# Each of the four ends with a line 'N passed, M failed'. Where the proved program stands, five more follow (where it doesn't, that is a failure), each with a
 # line of the same kind: 10,000 wrong exports, of which what it explains is recounted from how they were made
 # (tests/oracle/honesty.py), and 2,000 in one to four parts (tests/oracle/honest_parts.py); 10,000 honest ones that were
 # moved by any number of seconds, of which fewer than one in 100 has a draft that isn't a Yes
@@ -104,6 +104,7 @@ if [ -x "$program" ]; then
     python3 -m tests.oracle.layouts "$program" 2000 "$seed" || failed=1
 else
     echo "no proved program: what it explains of wrong exports, drafts of moved ones and of several, and layouts, are left out"
+    failed=1
 fi
 python3 -m tests.oracle.layout_bytes 2000 "$seed" || failed=1
 exit "$failed"

@@ -7,3 +7,6 @@ pub mod KeptLayoutFacts
 pub mod PlainBodyFacts
 pub mod SizeFacts
 pub mod ReportMadeFacts
+pub mod StartBytesFacts
+pub mod BestOrderFacts
+pub mod RoomSearchFacts

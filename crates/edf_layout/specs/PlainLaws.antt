@@ -34,7 +34,8 @@ OnePlainOnset = (t u : List ℕ) (v : ℤ) → SpellsOnset t v → SpellsOnset u
 abbrev pub OnePlainSpan : Type 0
 OnePlainSpan = (t u : List ℕ) (v : ℤ) → SpellsSpan t v → SpellsSpan u v → is_plain_unsigned t ≡ true → is_plain_unsigned u ≡ true → t ≡ u
 
--- two headers in order that say the same and have no place that isn't plain are the same bytes
+-- two headers in order that are read as one header, signals and numbers included, and have no place that isn't
+-- plain are the same bytes
 abbrev pub PlainHeadersAreOne : Type 0
 PlainHeadersAreOne = (file other : List ℕ) (h : Head) → HeaderConforms file h → HeaderConforms other h →
     places_of (head_layout_of file h) h ≡ [] → places_of (head_layout_of other h) h ≡ [] → header_of file h ≡ header_of other h

@@ -31,7 +31,8 @@ pub fn spellings_are_plain_in_one_way()
     ensures span { OnePlainSpan }
 {}
 
-/// Two headers in order that say the same and have no place that isn't plain are the same bytes.
+/// Two headers in order that are read as one header, signals and numbers included, and have no place that isn't plain are
+/// the same bytes.
 pub fn plain_headers_are_one()
     ensures { PlainHeadersAreOne }
 {}

@@ -1,10 +1,10 @@
 //! Where the plain orders put annotations.
 
-ghost use Rattle.std.specs.Prelude.{◌≡◌, ◌≤◌, ◌<◌, ◌*◌, ◌^◌, ◌++◌, List, length, map, IfSome, IfOk, OnOk};
+ghost use Rattle.std.specs.Prelude.{◌≡◌, ◌≤◌, ◌<◌, ◌+◌, ◌*◌, ◌/◌, ◌^◌, ◌++◌, List, length, map, IfSome, IfOk, OnOk};
 ghost use Rattle.std.specs.List.{flat_map};
 ghost use Rattle.edf_stream.specs.Views.{note_value};
 ghost use Rattle.edf_stream.specs.annotation.Notes.{NoteValue};
-ghost use Rattle.edf_layout.specs.body.PlainLanes.{order_view, plain_view, lane_view, room_in, room_from as room_from_place, AreRising};
+ghost use Rattle.edf_layout.specs.body.PlainLanes.{order_view, plain_view, lane_view, room_from as room_from_place, is_known_full, AreUnknown, AreFull, IsFirstRoom, AreRising};
 ghost use Rattle.edf_layout.specs.body.PlainOrders.{bare_lane, bare_record, filled, put_from as put_from_place, record_for as record_in, record_of_onset as record_of, tal_bytes, tal_of_start, with_tal};
 
 use crate::note_places::laid;
@@ -39,41 +39,100 @@ pub struct PlainLane {
     pub tals: Vec<PlainTal>,
 }
 
-/// The first of these lanes that has so many bytes free.
-fn room_in(lanes: &[PlainLane], need: usize) -> Option<usize>
-    ensures place { result ≡ room_in lanes.now need }
-    ensures within { IfSome result (λ k. k < length lanes.now) }
+/// How many lanes stand in a block, for which it is noted that none of them has so many bytes free.
+const BLOCK: usize = 1024;
+
+/// For each block of so many lanes how many bytes none of them has free; nothing is known of them at first.
+fn unknown_blocks(alloc: Global, lanes: usize) -> Result<Vec<Option<usize>>, AllocError>
+    ensures long { IfOk result (λ full. length full.items ≡ lanes / 1024 + 1) }
+    ensures none { IfOk result (λ full. AreUnknown full.items) }
 {
-    lanes.iter().position(|lane| need <= lane.free)
+    vec![in alloc; None; lanes / BLOCK + 1]
+}
+
+/// Whether it is known of a block that none of its lanes has so many bytes free.
+fn is_full(full: Option<usize>, need: usize) -> bool
+    ensures { result ≡ is_known_full full need }
+{
+    match full {
+        Some(least) => least <= need,
+        None => false,
+    }
+}
+
+/// The first lane from a place on that has so many bytes free, before another place; or that other place. Of each block
+/// that was looked through it is noted that it has no such lane.
+fn room_or(
+    lanes: &[PlainLane],
+    full: &mut [Option<usize>],
+    from: usize,
+    to: usize,
+    need: usize,
+) -> usize
+    requires order { from ≤ to }
+    requires within { to ≤ length lanes.now }
+    requires full { AreFull lanes.now full.old }
+    ensures first { IsFirstRoom lanes.now need from to result }
+    ensures full { AreFull lanes.now full.new }
+    ensures long { length full.new ≡ length full.old }
+{
+    let mut at = from;
+    while at < to {
+        if at % BLOCK == 0 && is_full(full[at / BLOCK], need) {
+            at = to.min(at.saturating_add(BLOCK));
+        } else if need <= lanes[at].free {
+            return at;
+        } else {
+            at += 1;
+            if at % BLOCK == 0 && at - from >= BLOCK {
+                full[at / BLOCK - 1] = Some(need);
+            }
+        }
+    }
+    at
 }
 
 /// The first lane from a place on that has so many bytes free, or else the first of those before.
-fn room_from(lanes: &[PlainLane], at: usize, need: usize) -> Option<usize>
-    requires { at ≤ length lanes.now }
+fn room_from(
+    lanes: &[PlainLane],
+    full: &mut [Option<usize>],
+    at: usize,
+    need: usize,
+) -> Option<usize>
+    requires within { at ≤ length lanes.now }
+    requires full { AreFull lanes.now full.old }
     ensures place { result ≡ room_from_place lanes.now at need }
     ensures within { IfSome result (λ k. k < length lanes.now) }
+    ensures full { AreFull lanes.now full.new }
+    ensures long { length full.new ≡ length full.old }
 {
-    match room_in(&lanes[at..], need) {
-        Some(place) => Some(at + place),
-        None => room_in(&lanes[..at], need),
+    let place = room_or(lanes, full, at, lanes.len(), need);
+    if place < lanes.len() {
+        return Some(place);
     }
+    let before = room_or(lanes, full, 0, at, need);
+    if before < at { Some(before) } else { None }
 }
 
 /// Puts a TAL that takes so many bytes into the first lane from a place on that has room for it, and behind the last
 /// lane from the first one on; nowhere, where no lane has room.
 fn put_from(
     lanes: &mut [PlainLane],
+    full: &mut [Option<usize>],
     at: usize,
     need: usize,
     tal: PlainTal,
 ) -> Result<(), AllocError>
-    requires { at ≤ length lanes.old }
+    requires within { at ≤ length lanes.old }
+    requires full { AreFull lanes.old full.old }
     ensures filled { OnOk result ((notes : List NoteValue) → tal_bytes (plain_view notes tal) ≡ need →
         map (lane_view notes) lanes.new ≡
         put_from_place at (plain_view notes tal) (map (lane_view notes) lanes.old)) }
     ensures size { length lanes.new ≡ length lanes.old }
+    ensures full { OnOk result (AreFull lanes.new full.new) }
+    ensures long { length full.new ≡ length full.old }
 {
-    if let Some(place) = room_from(lanes, at, need) {
+    if let Some(place) = room_from(lanes, full, at, need) {
         let lane = &mut lanes[place];
         lane.free = lane.free.saturating_sub(need);
         lane.tals.push(tal)?;
@@ -86,7 +145,8 @@ fn timed_lane(alloc: Global, size: usize, start: i128) -> Result<PlainLane, Allo
     ensures { IfOk result (λ lane. (notes : List NoteValue) →
         lane_view notes lane ≡ with_tal (tal_of_start start) (bare_lane size)) }
 {
-    let mut tals = Vec::new(alloc);
+    // most lanes get no other
+    let mut tals = Vec::with_capacity(alloc, 1)?;
     tals.push(PlainTal::KeepsTime(start))?;
     Ok(PlainLane {
         free: size.saturating_sub(start_bytes(alloc, start)?),
@@ -180,11 +240,12 @@ pub fn filled_lanes(
         (flat_map (bare_record sizes.now) starts.now)) }
 {
     let mut lanes = bare_lanes(alloc, sizes, starts)?;
+    let mut full = unknown_blocks(alloc, lanes.len())?;
     for (number, note) in notes.iter().enumerate() {
         let note = laid(note);
         let at = sizes.len() * record_for(order, starts, number, note.onset);
         let need = note_bytes(alloc, note)?;
-        put_from(&mut lanes, at, need, PlainTal::Annotates(number))?;
+        put_from(&mut lanes, &mut full, at, need, PlainTal::Annotates(number))?;
     }
     Ok(lanes)
 }

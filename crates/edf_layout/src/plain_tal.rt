@@ -1,6 +1,7 @@
 //! The plain spelling of a TAL.
 
-ghost use Rattle.std.specs.Prelude.{◌≡◌, ◌<◌, ◌^◌, ◌++◌, ◌∷◌, [], unsigned_abs, IfOk, OnOk};
+ghost use Rattle.std.specs.Prelude.{◌≡◌, ◌<◌, ◌≤◌, ◌^◌, ◌/◌, ◌%◌, ◌++◌, ◌∷◌, [], length, unsigned_abs, IfSome, IfOk, OnOk};
+ghost use Rattle.std.specs.Fmt.{decimal};
 ghost use Rattle.edf_layout.specs.body.LaidNotes.{laid_note};
 ghost use Rattle.edf_layout.specs.body.PlainOrders.{last_digits, plain_time, plain_onset, plain_duration, plain_tal, tal_bytes, tal_of_note, tal_of_start};
 
@@ -113,11 +114,39 @@ pub fn note_bytes(alloc: Global, note: LaidNote<'_>) -> Result<usize, AllocError
     Ok(note_tal(alloc, note)?.len() + 1)
 }
 
+/// How many digits a number has.
+fn digit_count(number: u64) -> usize
+    ensures count { result ≡ length (decimal number) }
+    ensures few { result ≤ 20 }
+{
+    let mut rest = number;
+    let mut count = 1;
+    while rest >= 10 {
+        rest /= 10;
+        count += 1;
+    }
+    count
+}
+
+/// The seconds of so many picoseconds, where these are whole seconds.
+fn whole_seconds(ps: u128) -> Option<u64>
+    ensures { IfSome result (λ seconds. (seconds ≡ ps / 10 ^ 12) × (ps % 10 ^ 12 ≡ 0)) }
+{
+    if ps % SECOND != 0 {
+        return None;
+    }
+    u64::try_from(ps / SECOND).ok()
+}
+
 /// How many bytes the TAL takes that only keeps the time of a data record with this start, where it is spelled plainly.
 ///
 /// The error is want of memory.
 pub fn start_bytes(alloc: Global, start: i128) -> Result<usize, AllocError>
     ensures { IfOk result (λ n. n ≡ tal_bytes (tal_of_start start)) }
 {
-    Ok(start_tal(alloc, start)?.len() + 1)
+    match whole_seconds(start.unsigned_abs()) {
+        // the sign, the bytes 20 and 20, and the byte 0
+        Some(seconds) => Ok(digit_count(seconds) + 4),
+        None => Ok(start_tal(alloc, start)?.len() + 1),
+    }
 }

@@ -4,6 +4,7 @@ use Rattle.std.specs.List.{flat_map}
 use Rattle.std.specs.Str.{bytes_eq}
 use Rattle.std.proofs.Math.Seq.{drop-nil, drop-cons}
 use Rattle.std.proofs.lemmas.Bool.Decides.{nat_tests}
+use Rattle.std.proofs.lemmas.Slice.Eq.{bytes_eq-Decides}
 use Rattle.std.proofs.lemmas.List.{append-nil, take-map, drop-map, drop-drop, take_min, drop_min}
 use Rattle.edf_tal.specs.Tals.{TalValue}
 use Rattle.edf_stream.specs.annotation.Notes.{NoteValue}
@@ -74,6 +75,12 @@ pub odd-same : (k j : ℕ) (laid plain got expected : List PlacedTal) (b : Bool)
 odd-same k j laid plain got expected b one two same is =
     ap (λ t. cond t [] (record { data_record = k; number = j; tals = laid } ∷ []))
     (ap (λ xs. bytes_eq (tal_lines xs) (tal_lines plain)) (sym one) ∙ ap (λ xs. bytes_eq (tal_lines got) (tal_lines xs)) (sym two) ∙ sym same ∙ is)
+
+-- what is laid as the plain order has it isn't odd
+pub odd-none : (k j : ℕ) (laid plain : List PlacedTal) → laid ≡ plain → odd_lane k j laid plain ≡ []
+odd-none k j laid plain same =
+    ap (λ t. cond t [] (record { data_record = k; number = j; tals = laid } ∷ []))
+    ((bytes_eq-Decides (tal_lines laid) (tal_lines plain)).1 (ap tal_lines same))
 
 pub odd-other : (k j : ℕ) (laid plain got expected : List PlacedTal) (b : Bool) → got ≡ laid → expected ≡ plain
     → b ≡ bytes_eq (tal_lines got) (tal_lines expected) → b ≡ false → odd_lane k j laid plain ≡ record { data_record = k; number = j; tals = got } ∷ []

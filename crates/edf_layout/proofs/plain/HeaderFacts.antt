@@ -1,4 +1,4 @@
--- Plain headers that say the same are the same bytes.
+-- Plain headers that are read as one header are the same bytes.
 use Rattle.std.proofs.Common.{◌≡◌, ℕ, zero, suc, ℤ, pos, Bool, true, false, cond, ◌==◌, ◌+◌, List, [], ◌∷◌, ◌++◌, length, replicate, slice_get, Some, codes, arith, refl, ap, ◌∙◌, sym, subst, ◌*◌}
 use Rattle.edf_header.proofs.ForCallers.{head_in_parts, in_parts}
 use Rattle.std.specs.Prelude.{◌*ℤ◌}

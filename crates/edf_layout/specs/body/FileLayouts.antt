@@ -14,7 +14,8 @@ use Rattle.edf_layout.specs.body.MeaningLaws.{AreInOrder}
 use Rattle.edf_layout.specs.body.OddLanes.{OddLane, tal_lines, odd_lanes, base_order}
 use Rattle.edf_layout.specs.body.PlainOrders.{PlainOrder, OneByOne, ByTime, HaveStarts, lane_sizes}
 
--- of a file: the layout of its header, the plain order that fits best, and the lanes that this order has otherwise
+-- of a file: the layout of its header, the plain order that fits best, and the lanes that this order has otherwise;
+-- whether several additional subfields are `X` is what the header says, and is written besides
 pub record FileLayout : Type 0 where
   pub head : HeadLayout
   pub order : PlainOrder

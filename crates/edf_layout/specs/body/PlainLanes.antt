@@ -1,5 +1,5 @@
 -- Lanes that a plain order fills, as the code holds them.
-use Rattle.std.specs.Prelude.{ℕ, ℤ, ◌+◌, ◌<◌, ◌≤◌, ◌≤ℤ◌, nat_le, List, length, slice_index_or, take, drop, map, slice_get, Option, Some, pos}
+use Rattle.std.specs.Prelude.{◌≡◌, ℕ, ℤ, Bool, false, ◌+◌, ◌/◌, ◌<◌, ◌≤◌, ◌≤ℤ◌, nat_le, List, length, slice_index_or, take, drop, map, slice_get, Option, Some, None, pos}
 use Rattle.std.specs.List.{position}
 use Rattle.std.specs.Option.{option_map_or}
 use Rattle.edf_tal.specs.Tals.{TalValue}
@@ -32,6 +32,27 @@ room_in lanes need = position (λ (lane : PlainLane). nat_le need lane.free) lan
 -- the first from a place on, or else the first of those before
 abbrev pub room_from : List PlainLane → ℕ → ℕ → Option ℕ
 room_from lanes at need = option_map_or (λ k. Some (at + k)) (room_in (drop at lanes) need) (room_in (take at lanes) need)
+
+-- the first lane between two places that has so much room, or the second place
+pub record IsFirstRoom (lanes : List PlainLane) (need begin end place : ℕ) : Type 0 where
+  pub least : begin ≤ place
+  pub most : place ≤ end
+  pub none : (i : ℕ) (d : PlainLane) → begin ≤ i → i < place → (slice_index_or lanes i d).free < need
+  pub some : (d : PlainLane) → place < end → need ≤ (slice_index_or lanes place d).free
+
+-- nothing is known of some blocks of lanes
+abbrev pub AreUnknown : List (Option ℕ) → Type 0
+AreUnknown full = (i : ℕ) (d : Option ℕ) → i < length full → slice_index_or full i d ≡ None
+
+-- it is known of a block that none of its lanes has so much room
+abbrev pub is_known_full : Option ℕ → ℕ → Bool
+is_known_full full need = option_map_or (λ least. nat_le least need) full false
+
+-- what is known of each block of 1,024 lanes is so: none of them has so much room
+pub record AreFull (lanes : List PlainLane) (full : List (Option ℕ)) : Type 0 where
+  pub long : (i : ℕ) → i < length lanes → i / 1024 < length full
+  pub none : (i least : ℕ) (d : PlainLane) (o : Option ℕ) → i < length lanes → slice_index_or full (i / 1024) o ≡ Some least
+      → (slice_index_or lanes i d).free < least
 
 -- no start is before the one ahead of it
 abbrev pub AreRising : List ℤ → Type 0

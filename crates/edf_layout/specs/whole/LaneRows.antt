@@ -1,5 +1,5 @@
 -- The layout of annotation lanes, as the code holds them.
-use Rattle.std.specs.Prelude.{◌≡◌, ℕ, ℤ, Bool, ◌+◌, ◌==◌, List, [], ◌∷◌, map, slice_get}
+use Rattle.std.specs.Prelude.{◌≡◌, ℕ, ℤ, Bool, ◌+◌, ◌==◌, ◌≤◌, List, [], ◌∷◌, ◌++◌, length, map, slice_get}
 use Rattle.std.specs.Option.{option_map_or}
 use Rattle.edf_tal.specs.Tals.{TalValue}
 use Rattle.edf_stream.specs.annotation.Notes.{NoteValue}
@@ -49,6 +49,12 @@ plain_tals notes lane = map (plain_view notes) lane.tals.items
 -- a lane that a plain order has otherwise
 abbrev pub odd_view : OddLane → OddLaneValue
 odd_view lane = record { data_record = lane.data_record; number = lane.number; tals = map laid_view lane.tals.items }
+
+-- the first of some: all of them, where they are `most` at the most
+pub record AreFirst {X : Type 0} (most : ℕ) (first whole : List X) : Type 0 where
+  pub rest : List X
+  pub told : first ++ rest ≡ whole
+  pub ends : length first ≤ most → rest ≡ []
 
 -- the order that fits data records with this layout best, and the lanes that it has otherwise
 pub record IsLaidBody (notes : List NoteValue) (sizes : List ℕ) (starts : List ℤ) (layout : BodyLayout) (order : PlainOrder) (odd : List OddLaneValue) : Type 0 where

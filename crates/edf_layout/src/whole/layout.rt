@@ -60,7 +60,6 @@ fn lane_sizes(alloc: Global, header: &Header) -> Result<Vec<usize>, AllocError>
 }
 
 /// The order that fewer lanes differ from, and these lanes; where as many do, the first order.
-#[tactic(auto, unfolding(crate::specs::body::OddLanes::base_order))]
 fn lay_body<'a>(
     alloc: Global,
     body: &'a FileBody,
@@ -72,8 +71,9 @@ fn lay_body<'a>(
         IsLaidBody (notes_kept body.entry.now) sizes.now body.entry.now.starts.items layout
         (order_view laid.order) (map odd_view laid.odd.items)) }
 {
-    let one_by_one = odd_lanes(alloc, Order::OneByOne, body, sizes)?;
-    let by_time = odd_lanes(alloc, Order::ByTime, body, sizes)?;
+    let by_time = odd_lanes(alloc, Order::ByTime, body, sizes, usize::MAX)?;
+    // the first order fits worse, once more lanes differ from it
+    let one_by_one = odd_lanes(alloc, Order::OneByOne, body, sizes, by_time.len())?;
     if by_time.len() < one_by_one.len() {
         Ok(LaidBody {
             order: Order::ByTime,

@@ -3,6 +3,7 @@
 ghost use Rattle.std.specs.Prelude.{◌≡◌, ◌++◌, ◌==◌, true, false, List, map, IfOk, IsTrue, OnOk};
 ghost use Rattle.std.specs.Str.{bytes_eq};
 ghost use Rattle.edf_stream.specs.Views.{note_value};
+ghost use Rattle.edf_stream.specs.annotation.Notes.{NoteValue};
 ghost use Rattle.edf_layout.specs.body.BodyLayouts.{PlacedTal, RecordLayout, BodyLayout, content_of, timekeeping_of};
 ghost use Rattle.edf_layout.specs.body.LaidNotes.{laid_note};
 ghost use Rattle.edf_layout.specs.body.LaidTals.{content_view, laid_view};
@@ -11,7 +12,7 @@ ghost use Rattle.edf_layout.specs.body.OddLanes.{odd_lane, odd_in, odd_lanes as 
 ghost use Rattle.edf_layout.specs.body.PlainLanes.{order_view, plain_view};
 ghost use Rattle.edf_layout.specs.body.PlainOrders.{plain_record, tal_of_note};
 ghost use Rattle.edf_layout.specs.whole.FileBodies.{IsSoundBody, lanes_kept, notes_kept};
-ghost use Rattle.edf_layout.specs.whole.LaneRows.{HasLaneLayout, HaveLaneLayouts, HaveRowLayouts, plainly_laid, plain_tals, odd_view, tals_at as tals_placed};
+ghost use Rattle.edf_layout.specs.whole.LaneRows.{AreFirst, HasLaneLayout, HaveLaneLayouts, HaveRowLayouts, plainly_laid, plain_tals, odd_view, tals_at as tals_placed};
 
 use crate::laid_tal::{Content, LaidTal, push_tals};
 use crate::lane_layout::{keeps_now, lay_lane};
@@ -159,6 +160,25 @@ fn have_same_lines(
     Ok(lines == other_lines)
 }
 
+/// Whether these TALs, and those that a plain order puts there, are one that only keeps the time, spelled plainly.
+fn only_keep_time(tals: &[LaidTal<'_>], plain: &[PlainTal]) -> bool
+    ensures { IsTrue result → (notes : List NoteValue) →
+        map laid_view tals.now ≡ plainly_laid notes true (map (plain_view notes) plain.now) }
+{
+    let [tal] = tals else {
+        return false;
+    };
+    let [PlainTal::KeepsTime(_)] = plain else {
+        return false;
+    };
+    match &tal.content {
+        Content::KeepsTime(None, places) => {
+            tal.onset.is_none() && tal.duration.is_none() && places.is_empty()
+        }
+        _ => false,
+    }
+}
+
 /// Puts a lane behind the odd ones, where other lines are written of it than of these plain TALs.
 fn push_odd<'a>(
     odd: &mut Vec<OddLane<'a>>,
@@ -176,6 +196,9 @@ fn push_odd<'a>(
 {
     let keeps_time = lane.number == 0;
     let tals = lay_lane(alloc, notes, lane.bytes, keeps_time)?;
+    if keeps_time && only_keep_time(&tals, plain) {
+        return Ok(());
+    }
     let expected = lay_plain(alloc, notes, plain, keeps_time)?;
     if !have_same_lines(alloc, &tals, &expected)? {
         odd.push(OddLane {
@@ -225,7 +248,7 @@ fn push_odd_in<'a>(
 }
 
 /// The annotation lanes of a file that a plain order has otherwise, where a data record has lanes of these
-/// sizes.
+/// sizes; or the first of them, where there are more than `most`, and then more than so many.
 ///
 /// The error is want of memory.
 pub fn odd_lanes<'a>(
@@ -233,12 +256,13 @@ pub fn odd_lanes<'a>(
     order: Order,
     body: &'a FileBody,
     sizes: &[usize],
+    most: usize,
 ) -> Result<Vec<OddLane<'a>>, AllocError>
     requires { IsSoundBody body.now }
     ensures { IfOk result (λ odd. (layout : BodyLayout) →
         HaveRowLayouts (notes_kept body.entry.now) (lanes_kept body.entry.now) layout →
-        map odd_view odd.items ≡ odd_lanes_of (order_view order) (notes_kept body.entry.now) sizes.now
-        body.entry.now.starts.items layout) }
+        AreFirst most (map odd_view odd.items) (odd_lanes_of (order_view order) (notes_kept body.entry.now)
+        sizes.now body.entry.now.starts.items layout)) }
 {
     let mut odd = Vec::new(alloc);
     let starts: &[i128] = &body.starts;
@@ -248,6 +272,9 @@ pub fn odd_lanes<'a>(
     let plain = filled_lanes(alloc, order, &body.notes, sizes, starts)?;
     let mut rest: &[PlainLane] = &plain;
     for (data_record, lanes) in body.lanes.iter().enumerate() {
+        if odd.len() > most {
+            return Ok(odd);
+        }
         let (here, behind) = rest.split_at(sizes.len().min(rest.len()));
         let at = LanesAt { data_record, lanes };
         push_odd_in(&mut odd, alloc, &body.notes, at, here)?;

@@ -4,8 +4,8 @@ use Rattle.edf_layout.proofs.plain_lanes.put_from.Goals as goal
 pub returns-in_ok-push-clause-filled : goal.returns-in_ok-push-clause-filled
 returns-in_ok-push-clause-filled c = λ notes is.
     put-some notes c.args.lanes.now c.args.at c.args.need c.in-Some.place c.args.tal c.index-lanes-place.result (record { free = c.saturating_sub-lane.result; tals = c.push.new.self })
-    c.requires c.in-Some.ensures.place c.in-Some.ensures.within c.saturating_sub-lane.ensures c.in_ok-push.ensures.items is
+    c.requires.within c.in-Some.ensures.place c.in-Some.ensures.within c.saturating_sub-lane.ensures c.in_ok-push.ensures.items is
 
 pub returns-in_default-clause-filled : goal.returns-in_default-clause-filled
 returns-in_default-clause-filled c = λ notes is.
-    put-none notes c.args.lanes.now c.args.at c.args.need c.args.tal c.requires c.in_default.ensures.place is
+    put-none notes c.args.lanes.now c.args.at c.args.need c.args.tal c.requires.within c.in_default.ensures.place is

@@ -11,6 +11,7 @@ use Rattle.edf_layout.specs.declared.plain_lanes.PlainLane.{PlainLane}
 use Rattle.edf_layout.specs.declared.whole.odd_lanes.OddLane.{OddLane}
 use Rattle.edf_layout.specs.whole.FileBodies.{lanes_kept, notes_kept}
 use Rattle.edf_layout.specs.whole.LaneRows.{HaveLaneLayouts, odd_view, plain_tals}
+use Rattle.edf_layout.proofs.lanes.BestOrderFacts.{all-first}
 use Rattle.edf_layout.proofs.lanes.OddRowFacts.{RowsLeft, plains_of, rows-step, rows-begun, no-rows, all-rows}
 use Rattle.edf_layout.proofs.whole.odd_lanes.odd_lanes.Goals as goal
 
@@ -23,9 +24,10 @@ items_of row = map (λ (lane : Vec ℕ Global). lane.items) row.items
 pub returns-then-is_empty : goal.returns-then-is_empty
 returns-then-is_empty c = λ layout h.
     let body = c.args.body.now in
-    ap (map odd_view) c.new-odd.ensures.items
+    all-first c.args.most (map odd_view c.new-odd.result.items) (odd_lanes (order_view c.args.order) (notes_kept body) c.args.sizes.now body.starts.items layout)
+    (ap (map odd_view) c.new-odd.ensures.items
     ∙ no-rows items_of (order_view c.args.order) (notes_kept body) c.args.sizes.now body.starts.items (length body.starts.items) body.lanes.items layout
-    (ap (λ (ss : List ℤ). length ss == 0) (sym c.deref-starts.ensures.value) ∙ sym c.is_empty.ensures ∙ c.if-is_empty.true) c.requires.alike h
+    (ap (λ (ss : List ℤ). length ss == 0) (sym c.deref-starts.ensures.value) ∙ sym c.is_empty.ensures ∙ c.if-is_empty.true) c.requires.alike h)
 
 pub loop-data_record-init : goal.loop-data_record-init
 loop-data_record-init c = λ layout h.
@@ -62,6 +64,7 @@ pub returns : goal.returns
 returns c = λ layout h.
     let body = c.args.body.now in
     let ended = drop_all c.loop-data_record.data_record body.lanes.items (subst (λ rows. length rows ≤ c.loop-data_record.data_record) c.deref-lanes-items.ensures.value c.loop-data_record-test.false) in
-    all-rows items_of (notes_kept body) c.loop-data_record.data_record body.lanes.items
+    all-first c.args.most (map odd_view c.loop-data_record.odd.items) (odd_lanes (order_view c.args.order) (notes_kept body) c.args.sizes.now body.starts.items layout)
+    (all-rows items_of (notes_kept body) c.loop-data_record.data_record body.lanes.items
     (plains_of (notes_kept body) (length c.args.sizes.now) (length body.starts.items - c.loop-data_record.data_record) c.loop-data_record.rest.now)
-    (map odd_view c.loop-data_record.odd.items) (odd_lanes (order_view c.args.order) (notes_kept body) c.args.sizes.now body.starts.items layout) ended (c.loop-data_record.invariant layout h)
+    (map odd_view c.loop-data_record.odd.items) (odd_lanes (order_view c.args.order) (notes_kept body) c.args.sizes.now body.starts.items layout) ended (c.loop-data_record.invariant layout h))
