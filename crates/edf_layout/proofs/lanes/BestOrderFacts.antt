@@ -1,10 +1,11 @@
 -- The order that fits best is found by the lanes that one order has otherwise, and by the first that the other has.
-use Rattle.std.proofs.Common.{◌≡◌, ℕ, ℤ, cond, ◌+◌, ◌<◌, ◌≤◌, List, [], ◌++◌, length, map, arith, refl, ap, ◌∙◌, sym, length-append, lt-ltb, le-ltb}
+use Rattle.std.proofs.Common.{◌≡◌, inl, inr, ℕ, ℤ, cond, ◌+◌, ◌<◌, ◌≤◌, List, [], ◌++◌, length, map, arith, refl, ap, ◌∙◌, sym, subst, length-append, lt-ltb, le-ltb}
+use Rattle.std.proofs.lemmas.Bool.{cases_lt}
 use Rattle.std.proofs.lemmas.List.{append-nil, length-map}
 use Rattle.edf_stream.specs.annotation.Notes.{NoteValue}
 use Rattle.edf_layout.specs.body.BodyLayouts.{BodyLayout}
 use Rattle.edf_layout.specs.body.OddLanes.{OddLane, odd_lanes, base_order}
-use Rattle.edf_layout.specs.body.PlainOrders.{OneByOne, ByTime}
+use Rattle.edf_layout.specs.body.PlainOrders.{PlainOrder, OneByOne, ByTime}
 use Rattle.edf_layout.specs.whole.LaneRows.{AreFirst, IsLaidBody}
 
 -- they are all
@@ -23,7 +24,7 @@ at-least most first whole f =
     omega (arith, long, told)
 
 -- as the code holds them
-pub by-time-fits : {X : Type 0} (view : X → OddLane) (notes : List NoteValue) (sizes : List ℕ) (starts : List ℤ) (layout : BodyLayout) (most n : ℕ) (by one : List X)
+by-time-fits : {X : Type 0} (view : X → OddLane) (notes : List NoteValue) (sizes : List ℕ) (starts : List ℤ) (layout : BodyLayout) (most n : ℕ) (by one : List X)
     → n ≡ length by → length by ≤ most → AreFirst most (map view by) (odd_lanes ByTime notes sizes starts layout)
     → AreFirst n (map view one) (odd_lanes OneByOne notes sizes starts layout)
     → length by < length one → IsLaidBody notes sizes starts layout ByTime (map view by)
@@ -41,7 +42,7 @@ by-time-fits view notes sizes starts layout most n by one count low f g less =
       odd_is = all;
     }
 
-pub one-by-one-fits : {X : Type 0} (view : X → OddLane) (notes : List NoteValue) (sizes : List ℕ) (starts : List ℤ) (layout : BodyLayout) (most n : ℕ) (by one : List X)
+one-by-one-fits : {X : Type 0} (view : X → OddLane) (notes : List NoteValue) (sizes : List ℕ) (starts : List ℤ) (layout : BodyLayout) (most n : ℕ) (by one : List X)
     → n ≡ length by → length by ≤ most → AreFirst most (map view by) (odd_lanes ByTime notes sizes starts layout)
     → AreFirst n (map view one) (odd_lanes OneByOne notes sizes starts layout)
     → length one ≤ length by → IsLaidBody notes sizes starts layout OneByOne (map view one)
@@ -59,3 +60,20 @@ one-by-one-fits view notes sizes starts layout most n by one count low f g less 
       order_is = sym (ap (λ b. cond b ByTime OneByOne) (le-ltb (length those) (length others) (omega (arith, here, there, same, other, less))));
       odd_is = each;
     }
+
+-- the one that was chosen of both
+pub best-fits : {X : Type 0} (view : X → OddLane) (notes : List NoteValue) (sizes : List ℕ) (starts : List ℤ) (layout : BodyLayout) (most n : ℕ) (by one odd : List X) (order : PlainOrder)
+    → n ≡ length by → length by ≤ most → AreFirst most (map view by) (odd_lanes ByTime notes sizes starts layout)
+    → AreFirst n (map view one) (odd_lanes OneByOne notes sizes starts layout)
+    → (length by < length one → (order ≡ ByTime) × (odd ≡ by)) → (length one ≤ length by → (order ≡ OneByOne) × (odd ≡ one))
+    → IsLaidBody notes sizes starts layout order (map view odd)
+best-fits view notes sizes starts layout most n by one odd order count low f g first second = elim (cases_lt (length by) (length one)) [
+  | inl less ↦
+      let chosen = first less in
+      subst (λ o. IsLaidBody notes sizes starts layout o (map view odd)) (sym chosen.0)
+      (subst (λ xs. IsLaidBody notes sizes starts layout ByTime (map view xs)) (sym chosen.1) (by-time-fits view notes sizes starts layout most n by one count low f g less))
+  | inr more ↦
+      let chosen = second more in
+      subst (λ o. IsLaidBody notes sizes starts layout o (map view odd)) (sym chosen.0)
+      (subst (λ xs. IsLaidBody notes sizes starts layout OneByOne (map view xs)) (sym chosen.1) (one-by-one-fits view notes sizes starts layout most n by one count low f g more))
+]

@@ -16,7 +16,7 @@ ghost use Rattle.edf_layout.specs.OddPlaces.{place_lines};
 ghost use Rattle.edf_layout.specs.body.BodyLayouts.{BodyLayout};
 ghost use Rattle.edf_layout.specs.body.FileLayouts.{ending, lane_line, lane_lines, order_line};
 ghost use Rattle.edf_layout.specs.body.PlainLanes.{order_view};
-ghost use Rattle.edf_layout.specs.body.PlainOrders.{lane_sizes as sizes_of};
+ghost use Rattle.edf_layout.specs.body.PlainOrders.{OneByOne, ByTime, lane_sizes as sizes_of};
 ghost use Rattle.edf_layout.specs.whole.FileBodies.{IsSoundBody, lanes_kept, notes_kept};
 ghost use Rattle.edf_layout.specs.whole.LaneRows.{HaveRowLayouts, IsLaidBody, odd_view};
 ghost use Rattle.edf_layout.specs.whole.LayoutTexts.{IsLayoutOf, IsLayoutText, IsTextOf, layout_kept, layout_made};
@@ -60,6 +60,26 @@ fn lane_sizes(alloc: Global, header: &Header) -> Result<Vec<usize>, AllocError>
 }
 
 /// The order that fewer lanes differ from, and these lanes; where as many do, the first order.
+fn best_of<'a>(by_time: Vec<OddLane<'a>>, one_by_one: Vec<OddLane<'a>>) -> LaidBody<'a>
+    ensures by_time { length by_time.entry.items < length one_by_one.entry.items →
+        (order_view result.order ≡ ByTime) × (result.odd.items ≡ by_time.entry.items) }
+    ensures one_by_one { length one_by_one.entry.items ≤ length by_time.entry.items →
+        (order_view result.order ≡ OneByOne) × (result.odd.items ≡ one_by_one.entry.items) }
+{
+    if by_time.len() < one_by_one.len() {
+        LaidBody {
+            order: Order::ByTime,
+            odd: by_time,
+        }
+    } else {
+        LaidBody {
+            order: Order::OneByOne,
+            odd: one_by_one,
+        }
+    }
+}
+
+/// The order that fewer lanes of a file differ from, and these lanes; where as many do, the first order.
 fn lay_body<'a>(
     alloc: Global,
     body: &'a FileBody,
@@ -74,17 +94,7 @@ fn lay_body<'a>(
     let by_time = odd_lanes(alloc, Order::ByTime, body, sizes, usize::MAX)?;
     // the first order fits worse, once more lanes differ from it
     let one_by_one = odd_lanes(alloc, Order::OneByOne, body, sizes, by_time.len())?;
-    if by_time.len() < one_by_one.len() {
-        Ok(LaidBody {
-            order: Order::ByTime,
-            odd: by_time,
-        })
-    } else {
-        Ok(LaidBody {
-            order: Order::OneByOne,
-            odd: one_by_one,
-        })
-    }
+    Ok(best_of(by_time, one_by_one))
 }
 
 /// Puts the line of an order behind the text.
