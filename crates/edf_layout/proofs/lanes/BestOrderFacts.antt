@@ -1,5 +1,5 @@
 -- The order that fits best is found by the lanes that one order has otherwise, and by the first that the other has.
-use Rattle.std.proofs.Common.{◌≡◌, inl, inr, ℕ, ℤ, cond, ◌+◌, ◌<◌, ◌≤◌, List, [], ◌++◌, length, map, arith, refl, ap, ◌∙◌, sym, subst, length-append, lt-ltb, le-ltb}
+use Rattle.std.proofs.Common.{◌≡◌, inl, inr, ℕ, ℤ, cond, ◌<◌, ◌≤◌, List, [], ◌++◌, length, map, arith, refl, ap, ◌∙◌, sym, subst, length-append, lt-ltb, le-ltb}
 use Rattle.std.proofs.lemmas.Bool.{cases_lt}
 use Rattle.std.proofs.lemmas.List.{append-nil, length-map}
 use Rattle.edf_stream.specs.annotation.Notes.{NoteValue}
