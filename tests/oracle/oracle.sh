@@ -17,7 +17,8 @@
 # (tests/oracle/drafted_parts.py); and 2,000 files, of which the lines of the layout are worked out anew and
 # each file out of these and of what it means, and no two that mean the same have the same lines (tests/oracle/layouts.py).
 # Last, of 2,000 files each byte is changed in several ways: where the meaning stays, the lines don't
-# (tests/oracle/layout_bytes.py).
+# (tests/oracle/layout_bytes.py); and of 40 honest exports: where the answer stays a Yes, the lines don't
+# (tests/oracle/layout_exports.py).
 set -euo pipefail
 
 seed=${1:-1}
@@ -107,4 +108,5 @@ else
     failed=1
 fi
 python3 -m tests.oracle.layout_bytes 2000 "$seed" || failed=1
+python3 -m tests.oracle.layout_exports 40 "$seed" || failed=1
 exit "$failed"

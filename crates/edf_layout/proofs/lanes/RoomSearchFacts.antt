@@ -1,11 +1,10 @@
 -- The first lane with room is found where blocks of lanes without it are passed over.
-use Rattle.std.proofs.Common.{◌≡◌, ◌≢◌, inl, inr, ℕ, zero, suc, Bool, true, false, cond, ◌+◌, ◌-◌, ◌*◌, ◌/◌, ◌%◌, ◌<◌, ◌≤◌, nat_lt, nat_le, List, [], ◌∷◌, length, get_or, take, drop, Option, Some, None, arith, refl, ap, ◌∙◌, sym, subst, lt-ltb, le-ltb}
+use Rattle.std.proofs.Common.{◌≡◌, inl, inr, ℕ, zero, suc, true, false, cond, ◌+◌, ◌-◌, ◌*◌, ◌/◌, ◌%◌, ◌<◌, ◌≤◌, nat_lt, nat_le, List, [], ◌∷◌, length, get_or, take, drop, Option, Some, None, arith, refl, ap, ◌∙◌, sym, subst, lt-ltb, le-ltb}
 use Rattle.std.specs.Option.{option_map_or}
-use Rattle.std.proofs.Math.ListN.{set}
 use Rattle.std.proofs.Math.Nat.{div-add-mod, div-eq_of_lt-le, mod-lt}
 use Rattle.std.proofs.lemmas.Bool.{cases_lt}
 use Rattle.std.proofs.lemmas.Bool.Decides.{nat_tests}
-use Rattle.std.proofs.lemmas.List.{get_or-drop, get_or-take, get_or-set_same, get_or-set_other, get_or_default, length-set, length-drop, length-take-le}
+use Rattle.std.proofs.lemmas.List.{get_or-drop, get_or-take, length-drop, length-take-le}
 use Rattle.std.proofs.lemmas.List.Sums.{position_or_len_is}
 use Rattle.edf_layout.specs.body.PlainLanes.{room_in, room_from, is_known_full, AreUnknown, AreFull, IsFirstRoom}
 use Rattle.edf_layout.specs.declared.plain_lanes.PlainLane.{PlainLane}
@@ -25,15 +24,6 @@ pub record AreLooked (lanes : List PlainLane) (full : List (Option ℕ)) (need b
   pub none : (i : ℕ) (d : PlainLane) → begin ≤ i → i < at → (get_or lanes i d).free < need
   pub known : AreFull lanes full
   pub long : length full ≡ count
-
-pub looked-none : (lanes : List PlainLane) (full : List (Option ℕ)) (need begin end : ℕ) → begin ≤ end → AreFull lanes full → AreLooked lanes full need begin end begin (length full)
-looked-none lanes full need begin end order known = record {
-  least = omega arith;
-  most = order;
-  none = λ i d from to. absurd (omega (arith, from, to));
-  known = known;
-  long = refl;
-}
 
 -- the block has none
 pub looked-block : (lanes : List PlainLane) (full : List (Option ℕ)) (need begin end at after count : ℕ) (o : Option ℕ) → end ≤ length lanes → at < end → at % 1024 ≡ 0
@@ -60,84 +50,7 @@ looked-block lanes full need begin end at after count o within low first known m
         let small : n ≤ need = grind (arith, nat_tests, k) in
         omega (arith, under, small)
 
--- one more lane has none
-pub looked-lane : (lanes : List PlainLane) (full : List (Option ℕ)) (need begin end at after count : ℕ) (lane : PlainLane) → end ≤ length lanes → at < end → lane ≡ get_or lanes at lane
-    → lane.free < need → after ≡ at + 1 → AreLooked lanes full need begin end at count → AreLooked lanes full need begin end after count
-looked-lane lanes full need begin end at after count lane within low is under more l =
-    let least = l.least in
-    record {
-      least = omega (arith, least, more);
-      most = omega (arith, low, more);
-      none = λ i d from to. elim (cases_lt i at) [
-        | inl before ↦ l.none i d from before
-        | inr behind ↦
-            let here : i ≡ at = omega (arith, to, behind, more) in
-            let same : get_or lanes i d ≡ lane = ap (λ k. get_or lanes k d) here ∙ get_or_default lanes at d lane (omega (arith, low, within)) ∙ sym is in
-            subst (λ (x : PlainLane). x.free < need) (sym same) under
-      ];
-      known = l.known;
-      long = l.long;
-    }
-
--- a whole block was looked through
-pub looked-through : (lanes : List PlainLane) (full after : List (Option ℕ)) (need begin end at block count : ℕ) → at % 1024 ≡ 0 → 1024 ≤ at - begin → block ≡ at / 1024 - 1 → block < length full
-    → after ≡ set full block (Some need) → AreLooked lanes full need begin end at count → AreLooked lanes after need begin end at count
-looked-through lanes full after need begin end at block count first wide is within put l =
-    let long = ap length put ∙ length-set full block (Some need) in
-    record {
-      least = l.least;
-      most = l.most;
-      none = l.none;
-      known = record {
-        long = λ i low. (let z = l.known.long i low in omega (arith, z, long));
-        none = λ i least d o low e. elim (cases_lt (i / 1024) block) [
-          | inl less ↦ other i least d o low e (let z : (i / 1024) ≢ block = λ same. omega (arith, same, less) in z)
-          | inr from ↦ elim (cases_lt block (i / 1024)) [
-            | inl more ↦ other i least d o low e (let z : (i / 1024) ≢ block = λ same. omega (arith, same, more) in z)
-            | inr to ↦ here i least d o (let z : i / 1024 ≡ block = omega (arith, from, to) in z) e
-          ]
-        ];
-      };
-      long = long ∙ l.long;
-    }
-  where
-    other : (i least : ℕ) (d : PlainLane) (o : Option ℕ) → i < length lanes → get_or after (i / 1024) o ≡ Some least → (i / 1024) ≢ block → (get_or lanes i d).free < least
-    other i least d o low e apart =
-        l.known.none i least d o low (sym (get_or-set_other full block (i / 1024) (Some need) o apart) ∙ ap (λ xs. get_or xs (i / 1024) o) (sym put) ∙ e)
-
-    here : (i least : ℕ) (d : PlainLane) (o : Option ℕ) → i / 1024 ≡ block → get_or after (i / 1024) o ≡ Some least → (get_or lanes i d).free < least
-    here i least d o same e =
-        let some : Some need ≡ Some least =
-        sym (ap (λ xs. get_or xs (i / 1024) o) put ∙ ap (λ b. get_or (set full block (Some need)) b o) same ∙ get_or-set_same full block (Some need) o within) ∙ e in
-        let number : need ≡ least = cc in
-        let parts = div-add-mod at 1024 in
-        let own = div-add-mod i 1024 in
-        let rest : i % 1024 < 1024 = mod-lt i (let z : 0 < 1024 = omega arith in z) in
-        let before : i < at = omega (arith, parts, own, rest, first, same, is, wide) in
-        let behind : begin ≤ i = omega (arith, parts, own, rest, first, same, is, wide) in
-        subst (λ n. (get_or lanes i d).free < n) number (l.none i d behind before)
-
 -- ---- the place that was found
-
-pub looked-all : (lanes : List PlainLane) (full : List (Option ℕ)) (need begin end at count : ℕ) → end ≤ at → AreLooked lanes full need begin end at count → IsFirstRoom lanes need begin end at
-looked-all lanes full need begin end at count over l = record {
-  least = l.least;
-  most = l.most;
-  none = l.none;
-  some = λ d low. absurd (omega (arith, over, low));
-}
-
-pub looked-found : (lanes : List PlainLane) (full : List (Option ℕ)) (need begin end at count : ℕ) (lane : PlainLane) → end ≤ length lanes → at < end → lane ≡ get_or lanes at lane → need ≤ lane.free
-    → AreLooked lanes full need begin end at count → IsFirstRoom lanes need begin end at
-looked-found lanes full need begin end at count lane within low is room l = record {
-  least = l.least;
-  most = l.most;
-  none = l.none;
-  some = λ d less. subst (λ (x : PlainLane). need ≤ x.free) (is ∙ get_or_default lanes at lane d (omega (arith, low, within))) room;
-}
-
-has-room : ℕ → PlainLane → Bool
-has-room need lane = nat_le need lane.free
 
 -- among lanes that aren't none
 place-in : (need n : ℕ) (d : PlainLane) (xs : List PlainLane) → n ≤ length xs → ((i : ℕ) → i < n → (get_or xs i d).free < need) → (n < length xs → need ≤ (get_or xs n d).free)
@@ -227,33 +140,6 @@ none-known lanes full n is long none = record {
         let rest : n % 1024 < 1024 = mod-lt n (let z : 0 < 1024 = omega arith in z) in
         let own = div-add-mod i 1024 in
         omega (arith, parts, rest, own, low, is, long)
-
--- a lane that gets less room
-pub full-still : (lanes after : List PlainLane) (full : List (Option ℕ)) (place : ℕ) (lane less : PlainLane) → place < length lanes → lane ≡ get_or lanes place lane → less.free ≤ lane.free
-    → after ≡ set lanes place less → AreFull lanes full → AreFull after full
-full-still lanes after full place lane less low is fewer put f =
-    let long = ap length put ∙ length-set lanes place less in
-    record {
-      long = λ i h. f.long i (omega (arith, h, long));
-      none = λ i least d o h e. elim (cases_lt i place) [
-        | inl before ↦ other i least d o (omega (arith, h, long)) e (let z : i ≢ place = λ same. omega (arith, same, before) in z)
-        | inr from ↦ elim (cases_lt place i) [
-          | inl behind ↦ other i least d o (omega (arith, h, long)) e (let z : i ≢ place = λ same. omega (arith, same, behind) in z)
-          | inr to ↦ here i least d o (let z : i ≡ place = omega (arith, from, to) in z) (omega (arith, h, long)) e
-        ]
-      ];
-    }
-  where
-    other : (i least : ℕ) (d : PlainLane) (o : Option ℕ) → i < length lanes → get_or full (i / 1024) o ≡ Some least → i ≢ place → (get_or after i d).free < least
-    other i least d o h e apart =
-        subst (λ (x : PlainLane). x.free < least) (sym (ap (λ xs. get_or xs i d) put ∙ get_or-set_other lanes place i less d apart)) (f.none i least d o h e)
-
-    here : (i least : ℕ) (d : PlainLane) (o : Option ℕ) → i ≡ place → i < length lanes → get_or full (i / 1024) o ≡ Some least → (get_or after i d).free < least
-    here i least d o same h e =
-        let before = f.none i least lane o h e in
-        let old : (get_or lanes i lane).free ≡ lane.free = ap (λ k. (get_or lanes k lane).free) same ∙ ap (λ (x : PlainLane). x.free) (sym is) in
-        let new : (get_or after i d).free ≡ less.free = ap (λ (x : PlainLane). x.free) (ap (λ xs. get_or xs i d) put ∙ ap (λ k. get_or (set lanes place less) k d) same ∙ get_or-set_same lanes place less d low) in
-        omega (arith, before, old, new, fewer)
 
 pub full-as : (lanes others : List PlainLane) (full known : List (Option ℕ)) → others ≡ lanes → known ≡ full → AreFull lanes full → AreFull others known
 full-as lanes others full known same is f = subst (λ ls. AreFull ls known) (sym same) (subst (λ fs. AreFull lanes fs) (sym is) f)
