@@ -112,5 +112,5 @@ channels = ["EEG Fpz-Cz", "Resp oro-nasal"]
 anonymous = []
 keep = [{{ from = "{begin}", to = "{end}" }}]
 """)
-        ran = self.run_program("check", WRITTEN / f"edflib-{name}.edf", claim, WRITTEN / f"edfbrowser-{name}.edf")
+        ran = self.run_program("check", WRITTEN / f"edflib-{name}.edf", WRITTEN / f"edfbrowser-{name}.edf", claim)
         self.assert_ran(ran, 0, f"YES channels 2 samples {samples} annotations {annotations}\n")
