@@ -4,7 +4,6 @@ pub mod DigitFacts
 pub mod StartFacts
 pub mod HeadFacts
 pub mod LineFacts
-pub mod CutFacts
 pub mod ReportFacts
 pub mod CutLineFacts
 pub mod TextLawFacts

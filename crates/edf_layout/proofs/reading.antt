@@ -4,3 +4,4 @@ pub mod LaneFacts
 pub mod BodyFacts
 pub mod StopFacts
 pub mod HeadFacts
+pub mod CutFacts

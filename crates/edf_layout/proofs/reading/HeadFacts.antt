@@ -13,7 +13,7 @@ use Rattle.edf_stream.specs.records.Readers.{Reader, HasBegun, StandsIn}
 use Rattle.edf_stream.specs.records.RecordsReading.{record_place}
 use Rattle.edf_stream.specs.times.StartsReading.{end_before}
 use Rattle.edf_layout.specs.HeadFiles.{IsHeadFile}
-use Rattle.edf_layout.proofs.CutFacts.{cut, cut-fault, cut-head, signals-said, IsCount}
+use Rattle.edf_layout.proofs.reading.CutFacts.{cut, cut-fault, cut-head, signals-said, IsCount}
 
 enough : (file left front columns : List ℕ) (h : Head) → IsHeadFile file left front columns h → IsCount file (length h.signals)
 enough file left front columns h is = let said = signals-said file h is.conforms in inl (omega (arith, said))

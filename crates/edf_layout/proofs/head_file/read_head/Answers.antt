@@ -4,7 +4,7 @@ use Rattle.edf_fields.specs.in_out.Sources.{Fails}
 use Rattle.edf_header.specs.Conforming.{HeaderConforms}
 use Rattle.edf_header.specs.Faults.{header_fault}
 use Rattle.edf_header.specs.HeadsReading.{head_of, signals_of}
-use Rattle.edf_layout.proofs.CutFacts.{whole-read, head-file, fault-read, stops-weaker}
+use Rattle.edf_layout.proofs.reading.CutFacts.{whole-read, head-file, fault-read, stops-weaker}
 use Rattle.edf_layout.proofs.head_file.read_head.Goals as goal
 
 pub returns-clause-whole : goal.returns-clause-whole

@@ -7,7 +7,7 @@ use Rattle.edf_stream.specs.Faults.{body_fault, file_fault}
 use Rattle.edf_stream.specs.records.Readers.{StandsIn}
 use Rattle.edf_stream.proofs.ForCallers.{header_first, fault_is_of_body}
 use Rattle.edf_layout.specs.whole.FileBodies.{IsBody}
-use Rattle.edf_layout.proofs.CutFacts.{stops-weaker}
+use Rattle.edf_layout.proofs.reading.CutFacts.{stops-weaker}
 use Rattle.edf_layout.proofs.reading.HeadFacts.{no-fault, one-header, stands-in-file}
 use Rattle.edf_layout.proofs.reading.StopFacts.{handed-on}
 use Rattle.edf_layout.proofs.whole.whole_file.read_file.Goals as goal
