@@ -6,8 +6,8 @@ usage: python3 -m tests.oracle.layout_bytes [COUNT [SEED]]
 It makes COUNT random files of 6,000 bytes at most, as layouts.py makes them, half of them rearranged (2,000 where none is
 said; SEED is a number, 1 if none is said, and the same number makes the same files), and of each of them files in which one
 byte has another value: a byte is tried with six others at most, one of a sample with one. Files with a fault, and those that
-mean something else, are left aside. The last line counts the others that passed and failed. 2,000 files take some half an
-hour of one processor.
+mean something else, are left aside. The last line counts the others that passed and failed. 2,000 files take an hour of
+one processor.
 """
 
 import collections
