@@ -61,7 +61,7 @@ fn is_full(full: Option<usize>, need: usize) -> bool
 }
 
 /// The first lane from a place on that has so many bytes free, before another place; or that other place. Of each block
-/// that was looked through it is noted that it has no such lane.
+/// that was looked through as a whole it is noted that it has no such lane.
 fn room_or(
     lanes: &[PlainLane],
     full: &mut [Option<usize>],
