@@ -104,7 +104,7 @@ layouts-long bytes n s (suc m) = ap suc (layouts-long bytes n (s + 1) m)
 cons-same : (a b : SignalLayout) (us vs : List SignalLayout) → a ∷ us ≡ b ∷ vs → (a ≡ b) × (us ≡ vs)
 cons-same a b us vs h = (cc, cc)
 
-layout-at : (xs ys : List ℕ) (n s m : ℕ) → signal_layouts xs n s m ≡ signal_layouts ys n s m → (k : ℕ) → k < m → signal_layout xs n (s + k) ≡ signal_layout ys n (s + k)
+pub layout-at : (xs ys : List ℕ) (n s m : ℕ) → signal_layouts xs n s m ≡ signal_layouts ys n s m → (k : ℕ) → k < m → signal_layout xs n (s + k) ≡ signal_layout ys n (s + k)
 layout-at xs ys n s zero same k low = absurd (omega arith)
 layout-at xs ys n s (suc m) same zero low =
     subst (λ j. signal_layout xs n j ≡ signal_layout ys n j) (let e : s ≡ s + 0 = omega arith in e)
@@ -117,10 +117,10 @@ layout-at xs ys n s (suc m) same (suc k) low =
 abbrev AreLabelledAlike : List SignalHead → List SignalHead → Type 0
 AreLabelledAlike hs gs = (k : ℕ) (a b : SignalHead) → slice_get hs k ≡ Some a → slice_get gs k ≡ Some b → a.label ≡ b.label
 
-annotation-first : (x : SignalHead) (xs : List SignalHead) → is_annotations x.label ≡ true → annotation_texts (x ∷ xs) ≡ texts_of x ∷ annotation_texts xs
+pub annotation-first : (x : SignalHead) (xs : List SignalHead) → is_annotations x.label ≡ true → annotation_texts (x ∷ xs) ≡ texts_of x ∷ annotation_texts xs
 annotation-first x xs h = rw h refl
 
-other-first : (x : SignalHead) (xs : List SignalHead) → is_annotations x.label ≡ false → annotation_texts (x ∷ xs) ≡ annotation_texts xs
+pub other-first : (x : SignalHead) (xs : List SignalHead) → is_annotations x.label ≡ false → annotation_texts (x ∷ xs) ≡ annotation_texts xs
 other-first x xs h = rw h refl
 
 texts-first : (a b : SignalTexts) (us vs : List SignalTexts) → a ∷ us ≡ b ∷ vs → (a ≡ b) × (us ≡ vs)

@@ -12,3 +12,4 @@ pub mod plain
 pub mod body
 pub mod lanes
 pub mod reading
+pub mod ForCallers

@@ -18,7 +18,7 @@ one-byte [] k low = absurd (omega arith)
 one-byte (b ∷ bs) zero low = refl
 one-byte (b ∷ bs) (suc k) low = one-byte bs k (omega arith)
 
-same-byte : (t u : List ℕ) (k b : ℕ) → k < length t → k < length u → get_or t k 0 ≡ b → get_or u k 0 ≡ b → part t k 1 ≡ part u k 1
+pub same-byte : (t u : List ℕ) (k b : ℕ) → k < length t → k < length u → get_or t k 0 ≡ b → get_or u k 0 ≡ b → part t k 1 ≡ part u k 1
 same-byte t u k b low less e f = one-byte t k low ∙ ap (λ c. c ∷ []) (e ∙ sym f) ∙ sym (one-byte u k less)
 
 two-long : (t : List ℕ) (at : ℕ) → at + 2 ≤ length t → length (part t at 2) ≡ 2
