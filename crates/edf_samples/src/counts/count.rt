@@ -59,6 +59,9 @@ fn count_both(
 {
     let x_count = count_in(x.bytes);
     let y_count = count_in(y.bytes);
+    if x_from >= x_count || y_from >= y_count {
+        return (x_from, y_from);
+    }
     let mut here = head_at(x, x_from, y.den);
     let mut there = head_at(y, y_from, x.den);
     while here.place < x_count && there.place < y_count {

@@ -1,6 +1,4 @@
-use Rattle.std.proofs.Common.{◌≡◌, ◌*◌, ◌<◌, ◌≤◌, ◌∙◌, cond, nat_lt, not, length, arith, sym, ap, Option}
-use Rattle.std.specs.Ordering.{int_eq}
-use Rattle.edf_stream.specs.samples.Values.{digital_value}
+use Rattle.std.proofs.Common.{◌*◌, ◌<◌, ◌≤◌, ◌∙◌, cond, length, arith, ap, Option}
 use Rattle.edf_samples.specs.declared.counts.places.Places.{Places}
 use Rattle.edf_samples.specs.declared.counts.tally.Tally.{Tally}
 use Rattle.edf_samples.specs.declared.difference.PointDifference.{PointDifference}
