@@ -28,7 +28,7 @@ use Rattle.edf_samples.proofs.FilterFacts.{by_test}
 use Rattle.edf_samples.proofs.FractionFacts.{before_below, false-is_before, same_above, same_below, true-is_before}
 use Rattle.edf_samples.proofs.PlaceCountFacts.{places_within}
 use Rattle.edf_samples.proofs.StretchFacts.{behind-end, behind_step, next-instant, none-on, one-on}
-use Rattle.edf_samples.proofs.TallyFacts.{behind-extra, behind-missing, behind-other, behind-same, joined_twice, kind_same, only-missing}
+use Rattle.edf_samples.proofs.TallyFacts.{behind-extra, behind-missing, behind-other, behind-same, joined_none, joined_twice, kind_same, only-missing}
 
 -- ---- the samples at two places, and what is behind them
 
@@ -261,8 +261,8 @@ rest-range mismatch x from a (suc n) le ge =
     ap (λ ps. map (λ (p : Point). record { at = instant x.den p; mismatch = mismatch }) ps) (behind_step x (from + a) (omega (arith, le)))
     ∙ ap (λ ds. alone mismatch x (from + a) ∷ ds) (ap (each_is mismatch x) next ∙ rest-range mismatch x from (a + 1) n (omega (arith, le)) (omega (arith, ge)))
 
-pub rest_ended : (mismatch : SampleMismatch) (x : Stretch) (from : ℕ) → length x.bytes.now ≤ 2 * from + 1 → counted [] ≡ counted (each_is mismatch x from)
-rest_ended mismatch x from le = ap (λ ps. counted (map (λ (p : Point). record { at = instant x.den p; mismatch = mismatch }) ps)) (sym (behind-end x from le))
+pub rest_ended : (mismatch : SampleMismatch) (x : Stretch) (from : ℕ) (a : Tally) → length x.bytes.now ≤ 2 * from + 1 → a ≡ joined a (tally_of (each_is mismatch x from))
+rest_ended mismatch x from a le = sym (joined_none a) ∙ ap (λ ps. joined a (tally_of (map (λ (p : Point). record { at = instant x.den p; mismatch = mismatch }) ps))) (sym (behind-end x from le))
 
 pub rest_counted : (mismatch : SampleMismatch) (x : Stretch) (from end : ℕ) (c : Counted) → from ≤ end → 2 * end ≤ length x.bytes.now → length x.bytes.now ≤ 2 * end + 1
     → c ≡ counted (map (λ k. alone mismatch x (from + k)) (range_with_len 0 (end - from))) → c ≡ counted (each_is mismatch x from)
