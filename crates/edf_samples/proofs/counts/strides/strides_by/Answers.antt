@@ -7,7 +7,7 @@ returns c =
     let px : 0 < c.args.x.den = omega (arith, c.requires.x) in
     let py : 0 < c.args.y.den = omega (arith, c.requires.y) in
     are_strides c.args.x c.args.y c.args.a c.args.b c.common_divisor-divisor.result _ _ c.requires.rises_here c.requires.rises_there px py c.requires.proportion
-    c.common_divisor-divisor.ensures.value refl refl c.if-here-there.false
+    c.common_divisor-divisor.ensures.value c.strides_over-strides.ensures.here c.strides_over-strides.ensures.there c.if-strides.false
 
 pub returns-then-is_twice : goal.returns-then-is_twice
 returns-then-is_twice c =
