@@ -1,14 +1,17 @@
 -- Which of 16 values differ, by the words that their bytes make.
-use Rattle.std.proofs.Common.{◌≡◌, ℕ, suc, ◌+◌, ◌*◌, ◌^◌, ◌%◌, ◌<◌, ◌≤◌, ◌==◌, ◌&&◌, Bool, false, not, cond, List, [], ◌∷◌, ◌++◌, length, map, take, drop, get_or, get_or-drop, ◌⊎◌, inl, inr, ⊎_elim, refl, sym, ap, ◌∙◌, subst, arith, nat_eq, Fits, w8, w16}
+use Rattle.std.proofs.Common.{◌≡◌, ℕ, zero, suc, ◌+◌, ◌*◌, ◌/◌, ◌^◌, ◌%◌, ◌<◌, ◌≤◌, ◌==◌, ◌&&◌, Bool, false, not, cond, List, [], ◌∷◌, ◌++◌, length, map, take, drop, get_or, get_or-drop, ◌⊎◌, inl, inr, ⊎_elim, refl, sym, ap, ◌∙◌, subst, arith, nat_eq, bit_or, Fits, w8, w16}
 use Rattle.std.specs.Bool.{Decides}
 use Rattle.std.specs.List.{range_with_len}
 use Rattle.std.proofs.Math.ListN.{get_or-eq_default}
+use Rattle.std.proofs.Math.Nat.{pow-succ'}
 use Rattle.std.proofs.Math.Seq.{drop-cons, take-add}
 use Rattle.std.proofs.lemmas.Bool.{cases_lt}
 use Rattle.std.proofs.lemmas.Bool.Decides.{Decides-and, Decides-eqb, same_from_decides}
+use Rattle.std.proofs.lemmas.Grind.{or_before_shift}
 use Rattle.std.proofs.lemmas.List.{ext_get_or, get_or-map, get_or-take, length-take, length-take-le}
-use Rattle.std.proofs.lemmas.List.FromFn.{get_or-map-range_with_len}
-use Rattle.std.proofs.lemmas.Simd.{Each1-from_get_or, get_or-zip2, get_or_wider, mask_l-mod, tops_compared}
+use Rattle.std.proofs.lemmas.List.FromFn.{get_or-map-range_with_len, length-map-range_with_len}
+use Rattle.std.proofs.lemmas.Nat.{div-mul-add}
+use Rattle.std.proofs.lemmas.Simd.{Each1-from_get_or, get_or-zip2, get_or_wider, mask_l-lt, mask_l-mod, tops_compared}
 use lib.Lanes.{chunk, digits_l, mask_l, number_l, top, zip2}
 use Rattle.edf_samples.specs.Others.{differs}
 
@@ -159,38 +162,109 @@ masks-same f g h = ap mask_l (ext_get_or false (map f (range_with_len 0 16)) (ma
     at i lt = let here : 0 + i ≡ i = omega arith in get_or-map-range_with_len f 0 16 i i false lt here ∙ h i lt ∙ sym (get_or-map-range_with_len g 0 16 i i false lt here)
 
 -- the value of a place behind others is that of a later place
-later : (s : ℕ) (long short : List ℕ) (block k : ℕ) → (s ≡ 1) ⊎ (s ≡ 2) → differs s (drop (32 * (s * block)) long) (drop (32 * block) short) k ≡ differs s long short (16 * block + k)
-later s long short block k is =
-    ap (λ x. not ((x == get_or (drop (32 * block) short) (2 * k) 0) && (get_or (drop (32 * (s * block)) long) (2 * (s * k) + 1) 0 == get_or (drop (32 * block) short) (2 * k + 1) 0))) (at (32 * (s * block)) long (2 * (s * k)) (2 * (s * (16 * block + k))) (far is))
-    ∙ ap (λ x. not ((get_or long (2 * (s * (16 * block + k))) 0 == get_or (drop (32 * block) short) (2 * k) 0) && (x == get_or (drop (32 * block) short) (2 * k + 1) 0))) (at (32 * (s * block)) long (2 * (s * k) + 1) (2 * (s * (16 * block + k)) + 1) (further is))
-    ∙ ap (λ x. not ((get_or long (2 * (s * (16 * block + k))) 0 == x) && (get_or long (2 * (s * (16 * block + k)) + 1) 0 == get_or (drop (32 * block) short) (2 * k + 1) 0))) (at (32 * block) short (2 * k) (2 * (16 * block + k)) (omega arith))
-    ∙ ap (λ x. not ((get_or long (2 * (s * (16 * block + k))) 0 == get_or short (2 * (16 * block + k)) 0) && (get_or long (2 * (s * (16 * block + k)) + 1) 0 == x))) (at (32 * block) short (2 * k + 1) (2 * (16 * block + k) + 1) (omega arith))
+later : (s : ℕ) (long short : List ℕ) (number k : ℕ) → (s ≡ 1) ⊎ (s ≡ 2) → differs s (drop (2 * (s * number)) long) (drop (2 * number) short) k ≡ differs s long short (number + k)
+later s long short number k is =
+    ap (λ x. not ((x == get_or (drop (2 * number) short) (2 * k) 0) && (get_or (drop (2 * (s * number)) long) (2 * (s * k) + 1) 0 == get_or (drop (2 * number) short) (2 * k + 1) 0))) (at (2 * (s * number)) long (2 * (s * k)) (2 * (s * (number + k))) (far is))
+    ∙ ap (λ x. not ((get_or long (2 * (s * (number + k))) 0 == get_or (drop (2 * number) short) (2 * k) 0) && (x == get_or (drop (2 * number) short) (2 * k + 1) 0))) (at (2 * (s * number)) long (2 * (s * k) + 1) (2 * (s * (number + k)) + 1) (further is))
+    ∙ ap (λ x. not ((get_or long (2 * (s * (number + k))) 0 == x) && (get_or long (2 * (s * (number + k)) + 1) 0 == get_or (drop (2 * number) short) (2 * k + 1) 0))) (at (2 * number) short (2 * k) (2 * (number + k)) (omega arith))
+    ∙ ap (λ x. not ((get_or long (2 * (s * (number + k))) 0 == get_or short (2 * (number + k)) 0) && (get_or long (2 * (s * (number + k)) + 1) 0 == x))) (at (2 * number) short (2 * k + 1) (2 * (number + k) + 1) (omega arith))
   where
     at : (a : ℕ) (xs : List ℕ) (i j : ℕ) → a + i ≡ j → get_or (drop a xs) i 0 ≡ get_or xs j 0
     at a xs i j e = get_or-drop a xs i 0 ∙ ap (λ x. get_or xs x 0) e
 
-    far : (s ≡ 1) ⊎ (s ≡ 2) → 32 * (s * block) + 2 * (s * k) ≡ 2 * (s * (16 * block + k))
-    far (inl e) = subst (λ x. 32 * (x * block) + 2 * (x * k) ≡ 2 * (x * (16 * block + k))) (sym e) (omega arith)
-    far (inr e) = subst (λ x. 32 * (x * block) + 2 * (x * k) ≡ 2 * (x * (16 * block + k))) (sym e) (omega arith)
+    far : (s ≡ 1) ⊎ (s ≡ 2) → 2 * (s * number) + 2 * (s * k) ≡ 2 * (s * (number + k))
+    far (inl e) = subst (λ x. 2 * (x * number) + 2 * (x * k) ≡ 2 * (x * (number + k))) (sym e) (omega arith)
+    far (inr e) = subst (λ x. 2 * (x * number) + 2 * (x * k) ≡ 2 * (x * (number + k))) (sym e) (omega arith)
 
-    further : (s ≡ 1) ⊎ (s ≡ 2) → 32 * (s * block) + (2 * (s * k) + 1) ≡ 2 * (s * (16 * block + k)) + 1
+    further : (s ≡ 1) ⊎ (s ≡ 2) → 2 * (s * number) + (2 * (s * k) + 1) ≡ 2 * (s * (number + k)) + 1
     further h = let f = far h in omega (arith, f)
 
-pub others_each : (s : ℕ) (long short old new : List ℕ) (block m : ℕ) → s ≡ 1 → old ≡ drop (32 * (s * block)) long → new ≡ drop (32 * block) short → m ≡ mask_l (map (differs 1 old new) (range_with_len 0 16))
-    → m ≡ mask_l (map (λ k. differs s long short (16 * block + k)) (range_with_len 0 16))
-others_each s long short old new block m is f g e =
+pub others_each : (s : ℕ) (long short old new : List ℕ) (number m : ℕ) → s ≡ 1 → old ≡ drop (2 * (s * number)) long → new ≡ drop (2 * number) short → m ≡ mask_l (map (differs 1 old new) (range_with_len 0 16))
+    → m ≡ mask_l (map (λ k. differs s long short (number + k)) (range_with_len 0 16))
+others_each s long short old new number m is f g e =
     e ∙ ap (λ x. mask_l (map (differs x old new) (range_with_len 0 16))) (sym is)
     ∙ ap (λ xs. mask_l (map (differs s xs new) (range_with_len 0 16))) f
-    ∙ ap (λ ys. mask_l (map (differs s (drop (32 * (s * block)) long) ys) (range_with_len 0 16))) g
-    ∙ masks-same (differs s (drop (32 * (s * block)) long) (drop (32 * block) short)) (λ k. differs s long short (16 * block + k)) (λ k lt. later s long short block k (inl is))
+    ∙ ap (λ ys. mask_l (map (differs s (drop (2 * (s * number)) long) ys) (range_with_len 0 16))) g
+    ∙ masks-same (differs s (drop (2 * (s * number)) long) (drop (2 * number) short)) (λ k. differs s long short (number + k)) (λ k lt. later s long short number k (inl is))
 
-pub others_half : (s : ℕ) (long short old new : List ℕ) (block m : ℕ) → (s ≡ 1) ⊎ (s ≡ 2) → (s ≡ 1 → ⊥) → old ≡ drop (32 * (s * block)) long → new ≡ drop (32 * block) short
-    → m ≡ mask_l (map (differs 2 old new) (range_with_len 0 16)) → m ≡ mask_l (map (λ k. differs s long short (16 * block + k)) (range_with_len 0 16))
-others_half s long short old new block m is no-one f g e =
+pub others_half : (s : ℕ) (long short old new : List ℕ) (number m : ℕ) → (s ≡ 1) ⊎ (s ≡ 2) → (s ≡ 1 → ⊥) → old ≡ drop (2 * (s * number)) long → new ≡ drop (2 * number) short
+    → m ≡ mask_l (map (differs 2 old new) (range_with_len 0 16)) → m ≡ mask_l (map (λ k. differs s long short (number + k)) (range_with_len 0 16))
+others_half s long short old new number m is no-one f g e =
     e ∙ ap (λ x. mask_l (map (differs x old new) (range_with_len 0 16))) (sym two)
     ∙ ap (λ xs. mask_l (map (differs s xs new) (range_with_len 0 16))) f
-    ∙ ap (λ ys. mask_l (map (differs s (drop (32 * (s * block)) long) ys) (range_with_len 0 16))) g
-    ∙ masks-same (differs s (drop (32 * (s * block)) long) (drop (32 * block) short)) (λ k. differs s long short (16 * block + k)) (λ k lt. later s long short block k is)
+    ∙ ap (λ ys. mask_l (map (differs s (drop (2 * (s * number)) long) ys) (range_with_len 0 16))) g
+    ∙ masks-same (differs s (drop (2 * (s * number)) long) (drop (2 * number) short)) (λ k. differs s long short (number + k)) (λ k lt. later s long short number k is)
   where
     two : s ≡ 2
     two = ⊎_elim (λ one. absurd (no-one one)) (λ t. t) is
+
+-- ---- bits behind bits
+
+abbrev bits : (ℕ → Bool) → ℕ → ℕ → ℕ
+bits test a n = mask_l (map test (range_with_len a n))
+
+bits-shift : (f g : ℕ → Bool) (a b n : ℕ) → ((k : ℕ) → f (a + k) ≡ g (b + k)) → bits f a n ≡ bits g b n
+bits-shift f g a b zero same = refl
+bits-shift f g a b (suc n) same =
+    let here : a ≡ a + 0 = omega arith in
+    let there : b + 0 ≡ b = omega arith in
+    let head : f a ≡ g b = ap f here ∙ same 0 ∙ ap g there in
+    let rest = bits-shift f g (a + 1) (b + 1) n (λ k. let e : a + 1 + k ≡ a + (1 + k) = omega arith in let h : b + (1 + k) ≡ b + 1 + k = omega arith in ap f e ∙ same (1 + k) ∙ ap g h) in
+    ap (λ t. mask_l (t ∷ map f (range_with_len (a + 1) n))) head ∙ ap (λ m. cond (g b) 1 0 + 2 * m) rest
+
+bits-cut : (f : ℕ → Bool) (a n m : ℕ) → bits f a (n + m) ≡ bits f (a + n) m * 2 ^ n + bits f a n
+bits-cut f a zero m =
+    let e : zero + m ≡ m = omega arith in
+    let h : a ≡ a + zero = omega arith in
+    let once : bits f (a + zero) m ≡ bits f (a + zero) m * 2 ^ zero + 0 = omega arith in
+    ap (bits f a) e ∙ ap (λ x. bits f x m) h ∙ once
+bits-cut f a (suc n) m =
+    let e : suc n + m ≡ suc (n + m) = omega arith in
+    let h : a + 1 + n ≡ a + suc n = omega arith in
+    let rest = bits-cut f (a + 1) n m ∙ ap (λ x. bits f x m * 2 ^ n + bits f (a + 1) n) h in
+    let twice : 2 ^ suc n ≡ 2 * 2 ^ n = pow-succ' 2 n in
+    let product : 2 * (bits f (a + suc n) m * 2 ^ n) ≡ bits f (a + suc n) m * (2 * 2 ^ n) = omega arith in
+    let sum : cond (f a) 1 0 + 2 * (bits f (a + suc n) m * 2 ^ n + bits f (a + 1) n) ≡ bits f (a + suc n) m * (2 * 2 ^ n) + (cond (f a) 1 0 + 2 * bits f (a + 1) n) = omega (arith, product) in
+    ap (bits f a) e ∙ ap (λ x. cond (f a) 1 0 + 2 * x) rest ∙ sum ∙ ap (λ x. bits f (a + suc n) m * x + (cond (f a) 1 0 + 2 * bits f (a + 1) n)) (sym twice)
+
+-- the bits of the values from a number on
+abbrev from : (ℕ → Bool) → ℕ → ℕ → ℕ
+from test a n = bits (λ k. test (a + k)) 0 n
+
+from-cut : (test : ℕ → Bool) (a n m : ℕ) → from test a (n + m) ≡ from test (a + n) m * 2 ^ n + from test a n
+from-cut test a n m =
+    bits-cut (λ k. test (a + k)) 0 n m
+    ∙ ap (λ x. x * 2 ^ n + from test a n) (bits-shift (λ k. test (a + k)) (λ k. test (a + n + k)) (0 + n) 0 m (λ k. let e : a + (0 + n + k) ≡ a + n + (0 + k) = omega arith in ap test e))
+
+pub bits_small : (test : ℕ → Bool) (n : ℕ) → mask_l (map test (range_with_len 0 n)) < 2 ^ n
+bits_small test n = subst (λ k. bits test 0 n < 2 ^ k) (length-map-range_with_len test 0 n) (mask_l-lt (map test (range_with_len 0 n)))
+
+pub bits_joined : (test : ℕ → Bool) (a n low high m : ℕ) → low ≡ mask_l (map (λ k. test (a + k)) (range_with_len 0 n)) → high ≡ mask_l (map (λ k. test (a + n + k)) (range_with_len 0 n)) → m ≡ high * 2 ^ n + low
+    → m ≡ mask_l (map (λ k. test (a + k)) (range_with_len 0 (n + n)))
+bits_joined test a n low high m l h e = e ∙ ap (λ x. x * 2 ^ n + low) h ∙ ap (λ x. from test (a + n) n * 2 ^ n + x) l ∙ sym (from-cut test a n n)
+
+-- the bits of two masks, each of 16 or each of 32
+pub joined_16 : (test : ℕ → Bool) (a low high : ℕ) → low ≡ mask_l (map (λ k. test (a + k)) (range_with_len 0 16)) → high ≡ mask_l (map (λ k. test (a + 16 + k)) (range_with_len 0 16))
+    → bit_or low (high * 65536 % 18446744073709551616) ≡ mask_l (map (λ k. test (a + k)) (range_with_len 0 32))
+joined_16 test a low high l h =
+    let f = bits_small (λ k. test (a + k)) 16 in
+    let g = bits_small (λ k. test (a + 16 + k)) 16 in
+    let less : low < 65536 = subst (λ m. m < 65536) (sym l) f in
+    let also : high < 65536 = subst (λ m. m < 65536) (sym h) g in
+    bits_joined test a 16 low high (bit_or low (high * 65536 % 18446744073709551616)) l h (or_before_shift low high 65536 18446744073709551616 refl less (omega (arith, also)))
+
+pub joined_32 : (test : ℕ → Bool) (a low high : ℕ) → low ≡ mask_l (map (λ k. test (a + k)) (range_with_len 0 32)) → high ≡ mask_l (map (λ k. test (a + 32 + k)) (range_with_len 0 32))
+    → bit_or low (high * 4294967296 % 18446744073709551616) ≡ mask_l (map (λ k. test (a + k)) (range_with_len 0 64))
+joined_32 test a low high l h =
+    let f = bits_small (λ k. test (a + k)) 32 in
+    let g = bits_small (λ k. test (a + 32 + k)) 32 in
+    let less : low < 4294967296 = subst (λ m. m < 4294967296) (sym l) f in
+    let also : high < 4294967296 = subst (λ m. m < 4294967296) (sym h) g in
+    bits_joined test a 32 low high (bit_or low (high * 4294967296 % 18446744073709551616)) l h (or_before_shift low high 4294967296 18446744073709551616 refl less (omega (arith, also)))
+
+-- the first of them left out
+pub bits_behind : (test : ℕ → Bool) (a b n passed size m : ℕ) → passed + size ≡ n → a + passed ≡ b → m ≡ mask_l (map (λ k. test (a + k)) (range_with_len 0 n)) → m / 2 ^ passed ≡ mask_l (map (λ k. test (b + k)) (range_with_len 0 size))
+bits_behind test a b n passed size m whole far e =
+    ap (λ x. x / 2 ^ passed) (e ∙ ap (from test a) (sym whole) ∙ from-cut test a passed size)
+    ∙ div-mul-add (from test (a + passed) size) (2 ^ passed) (from test a passed) (bits_small (λ k. test (a + k)) passed)
+    ∙ ap (λ x. from test x size) far

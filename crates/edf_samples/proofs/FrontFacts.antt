@@ -1,11 +1,10 @@
 -- The differences at the front of two stretches, sample by sample, and of those whose samples stand at the same instants.
-use Rattle.std.proofs.Common.{◌≡◌, ℕ, zero, suc, ◌+◌, ◌-◌, ◌*◌, ◌^◌, ◌<◌, ◌≤◌, min, Bool, true, false, cond, not, int_lt, ℤ, pos, ◌+ℤ◌, ◌*ℤ◌, ◌<ℤ◌, ⊎_elim, List, [], ◌∷◌, ◌++◌, map, filter, length, Option, Some, None, refl, sym, ap, ◌∙◌, subst, arith, Fits, w64}
+use Rattle.std.proofs.Common.{◌≡◌, ℕ, zero, suc, ◌+◌, ◌-◌, ◌*◌, ◌^◌, ◌<◌, ◌≤◌, min, Bool, true, false, cond, not, ℤ, pos, ◌+ℤ◌, ◌*ℤ◌, ⊎_elim, List, [], ◌∷◌, ◌++◌, map, filter, length, Some, refl, sym, ap, ◌∙◌, arith, Fits, w64}
 use Rattle.std.specs.List.{range_with_len}
 use Rattle.std.specs.Ordering.{int_eq}
 use Rattle.std.specs.Option.{option_or}
 use Rattle.std.proofs.lemmas.Bool.{cases_lt}
 use Rattle.std.proofs.lemmas.Bool.Decides.{Decides-int_eq, same_from_decides}
-use Rattle.std.proofs.lemmas.Int.{ints}
 use Rattle.std.proofs.lemmas.List.{length-map}
 use Rattle.std.proofs.lemmas.List.FromFn.{length-range_with_len}
 use Rattle.edf_fields.proofs.ForCallers.{and-true}
@@ -26,10 +25,10 @@ use Rattle.edf_samples.specs.Differences.{instant}
 use Rattle.edf_samples.specs.Stretches.{are_on_one_grid, points_behind, sample_at}
 use Rattle.edf_samples.specs.Tallies.{all_behind, all_changed, all_extra, all_missing, alone, change, counted, differences_of, each_is, first_of, is_changed, is_extra, is_missing, joined, last_of, of_kind, tally_of}
 use Rattle.edf_samples.proofs.FilterFacts.{by_test}
-use Rattle.edf_samples.proofs.FractionFacts.{before-not_before, before_below, before_over, false-is_before, same_above, same_back, same_below, true-is_before}
+use Rattle.edf_samples.proofs.FractionFacts.{before_below, false-is_before, same_above, same_below, true-is_before}
 use Rattle.edf_samples.proofs.PlaceCountFacts.{places_within}
 use Rattle.edf_samples.proofs.StretchFacts.{behind-end, behind_step, next-instant, none-on, one-on}
-use Rattle.edf_samples.proofs.TallyFacts.{behind-extra, behind-missing, behind-other, behind-same, joined_twice, kind_same, only-missing}
+use Rattle.edf_samples.proofs.TallyFacts.{behind-extra, behind-missing, behind-other, behind-same, joined_none, joined_twice, kind_same, only-missing}
 
 -- ---- the samples at two places, and what is behind them
 
@@ -262,8 +261,8 @@ rest-range mismatch x from a (suc n) le ge =
     ap (λ ps. map (λ (p : Point). record { at = instant x.den p; mismatch = mismatch }) ps) (behind_step x (from + a) (omega (arith, le)))
     ∙ ap (λ ds. alone mismatch x (from + a) ∷ ds) (ap (each_is mismatch x) next ∙ rest-range mismatch x from (a + 1) n (omega (arith, le)) (omega (arith, ge)))
 
-pub rest_ended : (mismatch : SampleMismatch) (x : Stretch) (from : ℕ) → length x.bytes.now ≤ 2 * from + 1 → counted [] ≡ counted (each_is mismatch x from)
-rest_ended mismatch x from le = ap (λ ps. counted (map (λ (p : Point). record { at = instant x.den p; mismatch = mismatch }) ps)) (sym (behind-end x from le))
+pub rest_ended : (mismatch : SampleMismatch) (x : Stretch) (from : ℕ) (a : Tally) → length x.bytes.now ≤ 2 * from + 1 → a ≡ joined a (tally_of (each_is mismatch x from))
+rest_ended mismatch x from a le = sym (joined_none a) ∙ ap (λ ps. joined a (tally_of (map (λ (p : Point). record { at = instant x.den p; mismatch = mismatch }) ps))) (sym (behind-end x from le))
 
 pub rest_counted : (mismatch : SampleMismatch) (x : Stretch) (from end : ℕ) (c : Counted) → from ≤ end → 2 * end ≤ length x.bytes.now → length x.bytes.now ≤ 2 * end + 1
     → c ≡ counted (map (λ k. alone mismatch x (from + k)) (range_with_len 0 (end - from))) → c ≡ counted (each_is mismatch x from)

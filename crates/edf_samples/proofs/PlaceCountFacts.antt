@@ -1,17 +1,17 @@
--- Of the numbers below one that pass a test, and of the 16 behind them by their bits: how many, the first and the last.
+-- Of the numbers below one that pass a test, and of up to 64 behind them by their bits: how many, the first and the last.
 use Rattle.std.proofs.Common.{◌≡◌, ℕ, zero, suc, ◌+◌, ◌-◌, ◌*◌, ◌/◌, ◌%◌, ◌^◌, ◌<◌, ◌≤◌, Bool, true, false, not, cond, List, [], ◌∷◌, ◌++◌, length, map, filter, get_or, Option, Some, None, IfSome, ⊎_elim, refl, sym, ap, ◌∙◌, subst, arith}
 use Rattle.std.specs.Int.RustNames.{count_ones}
 use Rattle.std.specs.List.{prefix_len, range_with_len}
 use Rattle.std.proofs.Math.Nat.{pow-le-pow_right, pow-succ'}
 use Rattle.std.proofs.lemmas.Bool.{cases_lt}
-use Rattle.std.proofs.lemmas.List.{length-append}
+use Rattle.std.proofs.lemmas.List.{length-append, take_all}
 use Rattle.std.proofs.lemmas.List.Elements.{filter-append}
-use Rattle.std.proofs.lemmas.List.FromFn.{get_or-map-range_with_len, get_or-range_with_len, length-range_with_len}
+use Rattle.std.proofs.lemmas.List.FromFn.{get_or-map-range_with_len, get_or-range_with_len, length-map-range_with_len, length-range_with_len}
 use Rattle.std.proofs.lemmas.List.Sums.{count_by-le-length, length-filter}
 use Rattle.std.proofs.lemmas.Nat.{div-mul-add, leading_top, pow_pos}
 use Rattle.std.proofs.lemmas.Simd.{bit_mask_l, mask_l-lt, ones-mask_l, run_in_chunk_fails, run_in_chunk_stops, trailing_mask_l}
 use lib.Count.{count_leading_zeros, count_trailing_zeros}
-use lib.Lanes.{mask_l}
+use lib.Lanes.{chunk, mask_l}
 use Rattle.edf_samples.specs.Others.{AreOthers, ArePlaces}
 use Rattle.edf_samples.specs.declared.counts.places.Places.{Places}
 
@@ -40,21 +40,21 @@ count-shift test a b c (suc m) e =
     ∙ ap (λ x. cond (test x) 1 0 + length (filter (λ k. test (a + k)) (range_with_len (b + 1) m))) (sym e)
     ∙ sym (one-more (test (a + b)) b (filter (λ k. test (a + k)) (range_with_len (b + 1) m)))
 
--- the numbers behind n, and the bits that say which of them pass
+-- the numbers behind n, and the bits that say which of so many of them pass
 abbrev behind : (ℕ → Bool) → ℕ → ℕ → Bool
 behind test n k = test (n + k)
 
-abbrev mask : (ℕ → Bool) → ℕ → ℕ
-mask test n = mask_l (map (behind test n) (range_with_len 0 16))
+abbrev mask : (ℕ → Bool) → ℕ → ℕ → ℕ
+mask test n s = mask_l (map (behind test n) (range_with_len 0 s))
 
-counted : (test : ℕ → Bool) (n : ℕ) → length (filter test (range_with_len 0 (n + 16))) ≡ length (filter test (range_with_len 0 n)) + count_ones (mask test n)
-counted test n =
+counted : (test : ℕ → Bool) (n s : ℕ) → length (filter test (range_with_len 0 (n + s))) ≡ length (filter test (range_with_len 0 n)) + count_ones (mask test n s)
+counted test n s =
     let e : n + 0 ≡ 0 + n = omega arith in
-    ap (λ xs. length (filter test xs)) (range-cut 0 n 16)
-    ∙ ap length (filter-append test (range_with_len 0 n) (range_with_len (0 + n) 16))
-    ∙ length-append (filter test (range_with_len 0 n)) (filter test (range_with_len (0 + n) 16))
+    ap (λ xs. length (filter test xs)) (range-cut 0 n s)
+    ∙ ap length (filter-append test (range_with_len 0 n) (range_with_len (0 + n) s))
+    ∙ length-append (filter test (range_with_len 0 n)) (filter test (range_with_len (0 + n) s))
     ∙ ap (λ k. length (filter test (range_with_len 0 n)) + k)
-    (count-shift test n 0 (0 + n) 16 e ∙ length-filter (behind test n) (range_with_len 0 16) ∙ sym (ones-mask_l (behind test n) (range_with_len 0 16)))
+    (count-shift test n 0 (0 + n) s e ∙ length-filter (behind test n) (range_with_len 0 s) ∙ sym (ones-mask_l (behind test n) (range_with_len 0 s)))
 
 -- ---- single bits
 
@@ -66,10 +66,10 @@ off : (b : Bool) → ◌≡◌ {A = ℕ} (cond b 1 0) 0 → b ≡ false
 off true e = absurd (omega (arith, e))
 off false e = refl
 
-bit-at : (test : ℕ → Bool) (n k : ℕ) → k < 16 → mask test n / 2 ^ k % 2 ≡ cond (test (n + k)) 1 0
-bit-at test n k lt =
+bit-at : (test : ℕ → Bool) (n s k : ℕ) → k < s → mask test n s / 2 ^ k % 2 ≡ cond (test (n + k)) 1 0
+bit-at test n s k lt =
     let e : 0 + k ≡ k = omega arith in
-    bit_mask_l (map (behind test n) (range_with_len 0 16)) k ∙ ap (λ b. cond b 1 0) (get_or-map-range_with_len (behind test n) 0 16 k k false lt e)
+    bit_mask_l (map (behind test n) (range_with_len 0 s)) k ∙ ap (λ b. cond b 1 0) (get_or-map-range_with_len (behind test n) 0 s k k false lt e)
 
 top-bit : (m j : ℕ) → 2 ^ j ≤ m → m < 2 ^ suc j → m / 2 ^ j % 2 ≡ 1
 top-bit m j low high =
@@ -85,89 +85,98 @@ above-top m j k high lt =
     let e : m ≡ 0 * 2 ^ k + m = omega arith in
     ap (λ x. x / 2 ^ k % 2) e ∙ ap (λ x. x % 2) (div-mul-add 0 (2 ^ k) m below)
 
--- where no bit is set none of the 16 passes
-none-in : (test : ℕ → Bool) (n k : ℕ) → mask test n ≡ 0 → k < 16 → test (n + k) ≡ false
-none-in test n k e lt =
+-- where no bit is set none of them passes
+none-in : (test : ℕ → Bool) (n s k : ℕ) → mask test n s ≡ 0 → k < s → test (n + k) ≡ false
+none-in test n s k e lt =
     let f : 0 ≡ 0 * 2 ^ k + 0 = omega arith in
-    off (test (n + k)) (sym (bit-at test n k lt) ∙ ap (λ x. x / 2 ^ k % 2) (e ∙ f) ∙ ap (λ x. x % 2) (div-mul-add 0 (2 ^ k) 0 (pow_pos k)))
+    off (test (n + k)) (sym (bit-at test n s k lt) ∙ ap (λ x. x / 2 ^ k % 2) (e ∙ f) ∙ ap (λ x. x % 2) (div-mul-add 0 (2 ^ k) 0 (pow_pos k)))
 
--- ---- the first and the last of the 16
+-- ---- the first and the last of them
 
-record InBlock (test : ℕ → Bool) (n : ℕ) : Type 0 where
-  first_in : count_trailing_zeros 64 (mask test n) < 16
-  first_passes : test (n + count_trailing_zeros 64 (mask test n)) ≡ true
-  none_before : (k : ℕ) → k < count_trailing_zeros 64 (mask test n) → test (n + k) ≡ false
+record InBlock (test : ℕ → Bool) (n s : ℕ) : Type 0 where
+  first_in : count_trailing_zeros 64 (mask test n s) < s
+  first_passes : test (n + count_trailing_zeros 64 (mask test n s)) ≡ true
+  none_before : (k : ℕ) → k < count_trailing_zeros 64 (mask test n s) → test (n + k) ≡ false
   last : ℕ
-  last_is : count_leading_zeros 64 (mask test n) + suc last ≡ 64
-  last_in : last < 16
+  last_is : count_leading_zeros 64 (mask test n s) + suc last ≡ 64
+  last_in : last < s
   last_passes : test (n + last) ≡ true
-  none_behind : (k : ℕ) → last < k → k < 16 → test (n + k) ≡ false
+  none_behind : (k : ℕ) → last < k → k < s → test (n + k) ≡ false
 
-in-block : (test : ℕ → Bool) (n : ℕ) → 0 < mask test n → InBlock test n
-in-block test n some = record {
+in-block : (test : ℕ → Bool) (n s : ℕ) → s ≤ 64 → 0 < mask test n s → InBlock test n s
+in-block test n s few some = record {
   first_in = within;
-  first_passes = ap test (ap (λ k. n + k) (sym (at trailing within))) ∙ ap (λ k. test (n + get_or xs k 0)) from-zero ∙ run_in_chunk_stops (behind test n) xs 0 16 trailing 0 (omega arith) found within;
+  first_passes = ap test (ap (λ k. n + k) (sym (at trailing within))) ∙ ap (λ k. test (n + get_or xs k 0)) from-zero ∙ run_in_chunk_stops (behind test n) xs 0 s trailing 0 room found within;
   none_before = λ k lt. fails k lt;
   last = top.0;
   last_is = top.1;
   last_in = low;
   last_passes = passes;
-  none_behind = λ k lt le. off (test (n + k)) (sym (bit-at test n k le) ∙ above-top (mask test n) top.0 k top.3 lt);
+  none_behind = λ k lt le. off (test (n + k)) (sym (bit-at test n s k le) ∙ above-top (mask test n s) top.0 k top.3 lt);
 }
   where
     xs : List ℕ
-    xs = range_with_len 0 16
+    xs = range_with_len 0 s
+
+    long : length xs ≡ s
+    long = length-range_with_len 0 s
+
+    room : 0 + s ≤ length xs
+    room = let l = long in omega (arith, l)
 
     trailing : ℕ
-    trailing = count_trailing_zeros 64 (mask test n)
+    trailing = count_trailing_zeros 64 (mask test n s)
 
-    found : trailing ≡ prefix_len (λ x. not (behind test n x)) xs
-    found = trailing_mask_l (behind test n) 64 xs (omega arith) some
+    whole : xs ≡ chunk 0 s xs
+    whole = sym (take_all s xs (let l = long in omega (arith, l)))
+
+    found : trailing ≡ prefix_len (λ x. not (behind test n x)) (chunk 0 s xs)
+    found = trailing_mask_l (behind test n) 64 xs (let l = long in omega (arith, l, few)) some ∙ ap (prefix_len (λ x. not (behind test n x))) whole
 
     from-zero : trailing ≡ 0 + trailing
     from-zero = omega arith
 
-    small : mask test n < 2 ^ 16
-    small = mask_l-lt (map (behind test n) xs)
+    small : mask test n s < 2 ^ s
+    small = subst (λ k. mask test n s < 2 ^ k) (length-map-range_with_len (behind test n) 0 s) (mask_l-lt (map (behind test n) xs))
 
-    top : (j : ℕ) × (count_leading_zeros 64 (mask test n) + suc j ≡ 64) × (2 ^ j ≤ mask test n) × (mask test n < 2 ^ suc j)
-    top = leading_top 64 (mask test n) some (omega (arith, small))
+    top : (j : ℕ) × (count_leading_zeros 64 (mask test n s) + suc j ≡ 64) × (2 ^ j ≤ mask test n s) × (mask test n s < 2 ^ suc j)
+    top = leading_top 64 (mask test n s) some (let less = small in let rises : 2 ^ s ≤ 2 ^ 64 = pow-le-pow_right (omega arith) few in omega (arith, less, rises))
 
-    low : top.0 < 16
-    low = ⊎_elim (λ lt. lt) (λ le. let rises : 2 ^ 16 ≤ 2 ^ top.0 = pow-le-pow_right (omega arith) le in let l = top.2 in absurd (omega (arith, rises, l, small))) (cases_lt top.0 16)
+    low : top.0 < s
+    low = ⊎_elim (λ lt. lt) (λ le. let rises : 2 ^ s ≤ 2 ^ top.0 = pow-le-pow_right (omega arith) le in let l = top.2 in let less = small in absurd (omega (arith, rises, l, less))) (cases_lt top.0 s)
 
     passes : test (n + top.0) ≡ true
-    passes = on (test (n + top.0)) (sym (bit-at test n top.0 low) ∙ top-bit (mask test n) top.0 top.2 top.3)
+    passes = on (test (n + top.0)) (sym (bit-at test n s top.0 low) ∙ top-bit (mask test n s) top.0 top.2 top.3)
 
-    at : (k : ℕ) → k < 16 → get_or xs k 0 ≡ k
-    at k lt = let e : 0 + k ≡ k = omega arith in get_or-range_with_len 0 16 k 0 lt ∙ e
+    at : (k : ℕ) → k < s → get_or xs k 0 ≡ k
+    at k lt = let e : 0 + k ≡ k = omega arith in get_or-range_with_len 0 s k 0 lt ∙ e
 
-    fails-in : (k : ℕ) → k < 16 → k < trailing → test (n + k) ≡ false
-    fails-in k le lt = ap (λ j. test (n + j)) (sym (at k le)) ∙ run_in_chunk_fails (behind test n) xs 0 16 trailing 0 (omega arith) found k (omega arith) (omega (arith, lt))
+    fails-in : (k : ℕ) → k < s → k < trailing → test (n + k) ≡ false
+    fails-in k le lt = ap (λ j. test (n + j)) (sym (at k le)) ∙ run_in_chunk_fails (behind test n) xs 0 s trailing 0 room found k (omega arith) (omega (arith, lt))
 
-    within : trailing < 16
-    within = ⊎_elim (λ lt. lt) (λ le. let f : true ≡ false = sym passes ∙ fails-in top.0 low (let l = low in omega (arith, l, le)) in cc) (cases_lt trailing 16)
+    within : trailing < s
+    within = ⊎_elim (λ lt. lt) (λ le. let f : true ≡ false = sym passes ∙ fails-in top.0 low (let l = low in omega (arith, l, le)) in cc) (cases_lt trailing s)
 
     fails : (k : ℕ) → k < trailing → test (n + k) ≡ false
     fails k lt = fails-in k (let w = within in omega (arith, lt, w)) lt
 
--- ---- those before a number, and those of the 16 behind it
+-- ---- those before a number, and so many behind it
 
 behind-is : (test : ℕ → Bool) (n k : ℕ) → n ≤ k → test (n + (k - n)) ≡ test k
 behind-is test n k le = let e : n + (k - n) ≡ k = omega (arith, le) in ap test e
 
-pub no_more : (test : ℕ → Bool) (n m : ℕ) (places : Option Places) → m ≡ 0 → m ≡ mask test n → AreOthers test n places → AreOthers test (n + 16) places
+pub no_more : (test : ℕ → Bool) (n s m : ℕ) (places : Option Places) → m ≡ 0 → m ≡ mask test n s → AreOthers test n places → AreOthers test (n + s) places
 unfolding count_ones
-no_more test n m None z e h = λ k lt. ⊎_elim (λ l. h k l) (λ le. sym (behind-is test n k le) ∙ none-in test n (k - n) (sym e ∙ z) (omega (arith, lt, le))) (cases_lt k n)
-no_more test n m (Some p) z e h =
+no_more test n s m None z e h = λ k lt. ⊎_elim (λ l. h k l) (λ le. sym (behind-is test n k le) ∙ none-in test n s (k - n) (sym e ∙ z) (omega (arith, lt, le))) (cases_lt k n)
+no_more test n s m (Some p) z e h =
     let within = h.last_within in
     record {
-      count_is = h.count_is ∙ sym (counted test n ∙ ap (λ x. length (filter test (range_with_len 0 n)) + count_ones x) (sym e ∙ z) ∙ none-set);
+      count_is = h.count_is ∙ sym (counted test n s ∙ ap (λ x. length (filter test (range_with_len 0 n)) + count_ones x) (sym e ∙ z) ∙ none-set);
       first_passes = h.first_passes;
       none_before = h.none_before;
       last_passes = h.last_passes;
       last_within = omega (arith, within);
-      none_behind = λ k l lt. ⊎_elim (λ less. h.none_behind k l less) (λ le. sym (behind-is test n k le) ∙ none-in test n (k - n) (sym e ∙ z) (omega (arith, lt, le))) (cases_lt k n);
+      none_behind = λ k l lt. ⊎_elim (λ less. h.none_behind k l less) (λ le. sym (behind-is test n k le) ∙ none-in test n s (k - n) (sym e ∙ z) (omega (arith, lt, le))) (cases_lt k n);
     }
   where
     none-set : length (filter test (range_with_len 0 n)) + count_ones 0 ≡ length (filter test (range_with_len 0 n))
@@ -182,52 +191,52 @@ none-counted test a (suc n) h =
     ∙ ap (λ b. cond b 1 0 + length (filter test (range_with_len (a + 1) n))) (h a (omega arith) (omega arith))
     ∙ ap (λ k. 0 + k) rest
 
--- the last of the 16 of which a bit is set
-last-at : (test : ℕ → Bool) (n last : ℕ) (b : InBlock test n) → last ≡ n + 63 - count_leading_zeros 64 (mask test n) → last ≡ n + b.last
-last-at test n last b e = let f = b.last_is in omega (arith, e, f)
+-- the last of those of which a bit is set
+last-at : (test : ℕ → Bool) (n s last : ℕ) (b : InBlock test n s) → last ≡ n + 63 - count_leading_zeros 64 (mask test n s) → last ≡ n + b.last
+last-at test n s last b e = let f = b.last_is in omega (arith, e, f)
 
-last-none : (test : ℕ → Bool) (n last : ℕ) (b : InBlock test n) → last ≡ n + b.last → (k : ℕ) → last < k → k < n + 16 → test k ≡ false
-last-none test n last b e k l lt = sym (behind-is test n k (omega (arith, e, l))) ∙ b.none_behind (k - n) (omega (arith, e, l)) (omega (arith, e, l, lt))
+last-none : (test : ℕ → Bool) (n s last : ℕ) (b : InBlock test n s) → last ≡ n + b.last → (k : ℕ) → last < k → k < n + s → test k ≡ false
+last-none test n s last b e k l lt = sym (behind-is test n k (omega (arith, e, l))) ∙ b.none_behind (k - n) (omega (arith, e, l)) (omega (arith, e, l, lt))
 
 positive : (m : ℕ) → (m ≡ 0 → ⊥) → 0 < m
 positive m h = ⊎_elim (λ lt. lt) (λ le. absurd (h (omega (arith, le)))) (cases_lt 0 m)
 
 -- where a bit is set and none passed before, the first one passes first, and the last one last
-pub first_ones : (test : ℕ → Bool) (n m count last : ℕ) → (m ≡ 0 → ⊥) → m ≡ mask test n → count ≡ count_ones m → last ≡ n + 63 - count_leading_zeros 64 m → AreOthers test n None
-    → ArePlaces test (n + 16) (record { count = count; first = n + count_trailing_zeros 64 m; last = last })
-first_ones test n m count last some e counts lasts h =
-    subst (λ x. ArePlaces test (n + 16) (record { count = count; first = n + count_trailing_zeros 64 x; last = last })) (sym e) (record {
-      count_is = counts ∙ ap count_ones e ∙ sym (counted test n ∙ ap (λ k. k + count_ones (mask test n)) (none-counted test 0 n (λ k le lt. h k (omega (arith, lt)))) ∙ (omega arith));
+pub first_ones : (test : ℕ → Bool) (n s m count last : ℕ) → s ≤ 64 → (m ≡ 0 → ⊥) → m ≡ mask test n s → count ≡ count_ones m → last ≡ n + 63 - count_leading_zeros 64 m → AreOthers test n None
+    → ArePlaces test (n + s) (record { count = count; first = n + count_trailing_zeros 64 m; last = last })
+first_ones test n s m count last few some e counts lasts h =
+    subst (λ x. ArePlaces test (n + s) (record { count = count; first = n + count_trailing_zeros 64 x; last = last })) (sym e) (record {
+      count_is = counts ∙ ap count_ones e ∙ sym (counted test n s ∙ ap (λ k. k + count_ones (mask test n s)) (none-counted test 0 n (λ k le lt. h k (omega (arith, lt)))) ∙ (omega arith));
       first_passes = b.first_passes;
       none_before = λ k lt. ⊎_elim (λ less. h k less) (λ le. sym (behind-is test n k le) ∙ b.none_before (k - n) (omega (arith, lt, le))) (cases_lt k n);
       last_passes = ap test is ∙ b.last_passes;
       last_within = let low = b.last_in in omega (arith, is, low);
-      none_behind = last-none test n last b is;
+      none_behind = last-none test n s last b is;
     })
   where
-    b : InBlock test n
-    b = in-block test n (positive (mask test n) (λ z. some (e ∙ z)))
+    b : InBlock test n s
+    b = in-block test n s few (positive (mask test n s) (λ z. some (e ∙ z)))
 
     is : last ≡ n + b.last
-    is = last-at test n last b (lasts ∙ ap (λ x. n + 63 - count_leading_zeros 64 x) e)
+    is = last-at test n s last b (lasts ∙ ap (λ x. n + 63 - count_leading_zeros 64 x) e)
 
 -- or these are behind those that passed before
-pub more_ones : (test : ℕ → Bool) (n m count last : ℕ) (p : Places) → (m ≡ 0 → ⊥) → m ≡ mask test n → count ≡ p.count + count_ones m → last ≡ n + 63 - count_leading_zeros 64 m → ArePlaces test n p
-    → ArePlaces test (n + 16) (record { count = count; first = p.first; last = last })
-more_ones test n m count last p some e counts lasts h = record {
-  count_is = counts ∙ ap (λ x. p.count + count_ones x) e ∙ ap (λ k. k + count_ones (mask test n)) h.count_is ∙ sym (counted test n);
+pub more_ones : (test : ℕ → Bool) (n s m count last : ℕ) (p : Places) → s ≤ 64 → (m ≡ 0 → ⊥) → m ≡ mask test n s → count ≡ p.count + count_ones m → last ≡ n + 63 - count_leading_zeros 64 m → ArePlaces test n p
+    → ArePlaces test (n + s) (record { count = count; first = p.first; last = last })
+more_ones test n s m count last p few some e counts lasts h = record {
+  count_is = counts ∙ ap (λ x. p.count + count_ones x) e ∙ ap (λ k. k + count_ones (mask test n s)) h.count_is ∙ sym (counted test n s);
   first_passes = h.first_passes;
   none_before = h.none_before;
   last_passes = ap test is ∙ b.last_passes;
   last_within = let low = b.last_in in omega (arith, is, low);
-  none_behind = last-none test n last b is;
+  none_behind = last-none test n s last b is;
 }
   where
-    b : InBlock test n
-    b = in-block test n (positive (mask test n) (λ z. some (e ∙ z)))
+    b : InBlock test n s
+    b = in-block test n s few (positive (mask test n s) (λ z. some (e ∙ z)))
 
     is : last ≡ n + b.last
-    is = last-at test n last b (lasts ∙ ap (λ x. n + 63 - count_leading_zeros 64 x) e)
+    is = last-at test n s last b (lasts ∙ ap (λ x. n + 63 - count_leading_zeros 64 x) e)
 
 -- how many pass below a number is no more than that
 pub few_pass : (test : ℕ → Bool) (n : ℕ) (p : Places) → ArePlaces test n p → p.count ≤ n

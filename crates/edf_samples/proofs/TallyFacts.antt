@@ -140,6 +140,14 @@ changed_joined a c more e =
     tally_same (record { missing = a.missing; extra = a.extra; changed = c; first = option_or a.first more.first }) (joined a (all_changed more))
     (sym (kind_none a.missing)) (sym (kind_none a.extra)) e refl
 
+-- those of each kind, where the first of all was kept before
+pub kinds_joined : (a t : Tally) (first : Option PointDifference) → joined (record { missing = a.missing; extra = a.extra; changed = a.changed; first = option_or a.first first }) (record { missing = t.missing; extra = t.extra; changed = t.changed; first = None })
+    ≡ joined a (record { missing = t.missing; extra = t.extra; changed = t.changed; first = first })
+unfolding joined
+kinds_joined a t first =
+    tally_same (joined (record { missing = a.missing; extra = a.extra; changed = a.changed; first = option_or a.first first }) (record { missing = t.missing; extra = t.extra; changed = t.changed; first = None }))
+    (joined a (record { missing = t.missing; extra = t.extra; changed = t.changed; first = first })) refl refl refl (or_nothing (option_or a.first first))
+
 -- one difference more, and of each kind
 pub one_joined : (a : Counted) (d : PointDifference) (k : ℕ) → Fits w64 a.count → k ≡ min (a.count + 1) (2 ^ 64 - 1) → record { count = k; first = option_or a.first (Some d); last = Some d } ≡ joined_kind a (counted (d ∷ []))
 unfolding counted joined_kind

@@ -1,5 +1,5 @@
 -- Samples of a channel at two rates: how many of each lie from one common instant to the next, and the differences of whole strides of them.
-use Rattle.std.proofs.Common.{◌≡◌, ◌≢◌, ℕ, zero, suc, ◌+◌, ◌-◌, ◌*◌, ◌/◌, ◌%◌, ◌^◌, ◌<◌, ◌≤◌, min, Bool, true, false, cond, not, nat_lt, ℤ, pos, ◌+ℤ◌, ◌*ℤ◌, ◌<ℤ◌, unsigned_abs, List, [], ◌∷◌, ◌++◌, map, filter, length, Option, Some, None, refl, sym, ap, ◌∙◌, subst, arith, Fits, w64}
+use Rattle.std.proofs.Common.{◌≡◌, ◌≢◌, ℕ, zero, suc, ◌+◌, ◌-◌, ◌*◌, ◌/◌, ◌%◌, ◌^◌, ◌<◌, ◌≤◌, min, Bool, true, false, cond, not, nat_lt, ℤ, pos, ◌+ℤ◌, ◌*ℤ◌, ◌<ℤ◌, unsigned_abs, List, [], ◌∷◌, ◌++◌, map, filter, length, Option, Some, refl, sym, ap, ◌∙◌, subst, arith, Fits, w64}
 use Rattle.std.specs.Int.{IsGcd, ◌∣◌}
 use Rattle.std.specs.List.{range_with_len}
 use Rattle.std.specs.Ordering.{int_eq}
@@ -11,14 +11,13 @@ use Rattle.std.proofs.lemmas.Int.{ints}
 use Rattle.std.proofs.lemmas.List.{append_assoc, append-nil, length-append, length-map, map-append}
 use Rattle.std.proofs.lemmas.List.Elements.{filter-append}
 use Rattle.std.proofs.lemmas.List.FromFn.{length-range_with_len}
-use Rattle.std.proofs.lemmas.Nat.Gcd.{IsGcd-from_mod, IsGcd-from_zero, le_of_dvd}
+use Rattle.std.proofs.lemmas.Nat.Gcd.{IsGcd-from_mod, IsGcd-from_zero, IsGcd-swap, dvd_refl, le_of_dvd}
 use Rattle.edf_stream.specs.samples.Values.{digital_value}
 use Rattle.edf_stream.specs.times.Instants.{IsSame}
 use Rattle.edf_verdict.specs.declared.verdict.SampleMismatch.{SampleMismatch}
 use Rattle.edf_verdict.specs.declared.verdict.SampleMismatch.TheVariants.{Missing, Extra}
 use Rattle.edf_samples.specs.declared.difference.PointDifference.{PointDifference}
 use Rattle.edf_samples.specs.declared.counts.counted.Counted.{Counted}
-use Rattle.edf_samples.specs.declared.counts.strides.Strides.{Strides}
 use Rattle.edf_samples.specs.declared.counts.tally.Tally.{Tally}
 use Rattle.edf_samples.specs.declared.stretch.Stretch.{Stretch}
 use Rattle.edf_samples.specs.InstantOrder.{IsBefore}
@@ -118,13 +117,11 @@ above-none zero g b e some = absurd (omega (arith, e, some))
 above-none (suc p) zero b e some = absurd (omega (arith, e, some))
 above-none (suc p) (suc g) b e some = (omega arith, omega arith)
 
-pub are_strides : (x y : Stretch) (a b g p q : ℕ) → pos 0 <ℤ x.step → pos 0 <ℤ y.step → 0 < x.den → 0 < y.den → IsProportion x y a b → IsCommonDivisor a b g
-    → p ≡ b / g → q ≡ a / g → p ≢ q → AreStrides x y (record { here = p; there = q })
-are_strides x y a b g p q forward behind px py proportion divides ep eq other =
+strides-by : (x y : Stretch) (a b g p q : ℕ) → pos 0 <ℤ x.step → pos 0 <ℤ y.step → 0 < x.den → 0 < y.den → IsProportion x y a b → IsCommonDivisor a b g
+    → b ≡ p * g → a ≡ q * g → p ≢ q → AreStrides x y (record { here = p; there = q })
+strides-by x y a b g p q forward behind px py proportion divides eb ea other =
     let u = distance-of x y forward py in
     let v = distance-of y x behind px in
-    let eb : b ≡ p * g = sym (div-mul_cancel g divides.0.1) ∙ ap (λ z. z * g) (sym ep) in
-    let ea : a ≡ q * g = sym (div-mul_cancel g divides.0.0) ∙ ap (λ z. z * g) (sym eq) in
     let pb = above-none p g b eb proportion.1 in
     let pa = above-none q g a ea proportion.0 in
     let h : u.ps * b ≡ v.ps * a =
@@ -144,6 +141,27 @@ are_strides x y a b g p q forward behind px py proportion divides ep eq other =
           let e : pos i *ℤ pos u.ps ≡ pos j *ℤ pos v.ps = ap (λ z. pos i *ℤ z) (sym u.is) ∙ meets ∙ ap (λ z. pos j *ℤ z) v.is in
           meet-before u.ps v.ps a b g p i j h v.some eb pb.1 divides some less (omega (arith, ints, e));
     }
+
+pub are_strides : (x y : Stretch) (a b g p q : ℕ) → pos 0 <ℤ x.step → pos 0 <ℤ y.step → 0 < x.den → 0 < y.den → IsProportion x y a b → IsCommonDivisor a b g
+    → p ≡ b / g → q ≡ a / g → p ≢ q → AreStrides x y (record { here = p; there = q })
+are_strides x y a b g p q forward behind px py proportion divides ep eq other =
+    strides-by x y a b g p q forward behind px py proportion divides (sym (div-mul_cancel g divides.0.1) ∙ ap (λ z. z * g) (sym ep)) (sym (div-mul_cancel g divides.0.0) ∙ ap (λ z. z * g) (sym eq)) other
+
+-- where one number is twice the other
+twice-gcd : (a : ℕ) → IsGcd a (2 * a) a
+twice-gcd a = (dvd_refl a, dvd-mul_left a 2, λ d p q. p)
+
+twice : (a b : ℕ) → b ≡ 2 * a → IsCommonDivisor a b a
+twice a b e = (subst (λ z. IsGcd a z a) (sym e) (twice-gcd a), λ k d p q. p)
+
+pub strides_of_half : (x y : Stretch) (a b : ℕ) → pos 0 <ℤ x.step → pos 0 <ℤ y.step → 0 < x.den → 0 < y.den → IsProportion x y a b → b ≡ 2 * a → AreStrides x y (record { here = 2; there = 1 })
+strides_of_half x y a b forward behind px py proportion e =
+    strides-by x y a b a 2 1 forward behind px py proportion (twice a b e) e (omega arith) (λ h. absurd (omega (arith, h)))
+
+pub strides_of_double : (x y : Stretch) (a b : ℕ) → pos 0 <ℤ x.step → pos 0 <ℤ y.step → 0 < x.den → 0 < y.den → IsProportion x y a b → a ≡ 2 * b → AreStrides x y (record { here = 1; there = 2 })
+strides_of_double x y a b forward behind px py proportion e =
+    let divides = twice b a e in
+    strides-by x y a b b 1 2 forward behind px py proportion (IsGcd-swap b a b divides.0, λ k d p q. q) (omega arith) e (λ h. absurd (omega (arith, h)))
 
 -- ---- the instants of two stretches that begin at one
 

@@ -1,4 +1,4 @@
-//! Values of two files that are compared 16 at a time: each sample of one with each of the other, or with every second one.
+//! Values of two files that are compared 64 or 16 at a time: each sample of one with each of the other, or with every second one.
 
 ghost use Rattle.std.specs.Prelude.{◌≡◌, ◌≤◌, ◌<◌, ◌^◌, ◌+◌, ◌*◌, ◌-◌, ◌⊎◌, ℕ, Bool, IfSome, length, map, drop};
 ghost use Rattle.std.specs.List.{range_with_len};
@@ -8,9 +8,12 @@ ghost use Rattle.edf_samples.specs.Others.{AreOthers, differs, values_differ};
 use crate::counts::places::Places;
 use std::simd::prelude::*;
 
-/// How many values are compared at a time, and how many bytes they have.
-const SAMPLES: usize = 16;
+/// How many values are compared at a time where there are so many, and where there are fewer.
+const MANY: usize = 64;
 
+const SOME: usize = 16;
+
+/// How many bytes are loaded at a time.
 const BLOCK: usize = 32;
 
 /// Which of 16 values differ from as many others: a bit each, the first one the lowest.
@@ -45,11 +48,12 @@ fn others_at_half(long: &[u8], short: &[u8]) -> u64
     u16x16::from_le_bytes(one).simd_ne(two).to_bitmask()
 }
 
-/// Those of the values before a number that differ, and of the 16 behind it, of which these bits say it.
-fn with_block(places: Option<Places>, number: usize, others: u64) -> Option<Places>
+/// Those of the values before a number that differ, and of up to 64 from it on, of which these bits say it.
+fn with_others(places: Option<Places>, number: usize, others: u64) -> Option<Places>
     requires { number < 2 ^ 62 }
-    ensures { (differ : ℕ → Bool) → others ≡ mask_l (map (λ k. differ (number + k)) (range_with_len 0 16)) →
-        AreOthers differ number places → AreOthers differ (number + 16) result }
+    ensures { (differ : ℕ → Bool) (size : ℕ) → size ≤ 64 →
+        others ≡ mask_l (map (λ k. differ (number + k)) (range_with_len 0 size)) →
+        AreOthers differ number places → AreOthers differ (number + size) result }
 {
     if others == 0 {
         return places;
@@ -113,17 +117,17 @@ fn bytes_from(bytes: &[u8], place: usize) -> &[u8]
     &bytes[place..]
 }
 
-/// Which of the 16 values of a block differ, of which there are so many before it.
+/// Which of the 16 values from a number on differ.
 #[inline(always)]
-fn others_of<const STRIDE: usize>(long: &[u8], short: &[u8], block: usize) -> u64
+fn others_of_16<const STRIDE: usize>(long: &[u8], short: &[u8], number: usize) -> u64
     requires stride { (STRIDE ≡ 1) ⊎ (STRIDE ≡ 2) }
-    requires long { 32 * (STRIDE * (block + 1)) ≤ length long.now }
-    requires short { 32 * (block + 1) ≤ length short.now }
-    ensures { result ≡ mask_l (map (λ k. differs STRIDE long.now short.now (16 * block + k))
+    requires long { 2 * (STRIDE * (number + 16)) ≤ length long.now }
+    requires short { 2 * (number + 16) ≤ length short.now }
+    ensures { result ≡ mask_l (map (λ k. differs STRIDE long.now short.now (number + k))
         (range_with_len 0 16)) }
 {
-    let old = bytes_from(long, BLOCK * (STRIDE * block));
-    let new = bytes_from(short, BLOCK * block);
+    let old = bytes_from(long, 2 * (STRIDE * number));
+    let new = bytes_from(short, 2 * number);
     if STRIDE == 1 {
         others_in(old, new)
     } else {
@@ -131,23 +135,104 @@ fn others_of<const STRIDE: usize>(long: &[u8], short: &[u8], block: usize) -> u6
     }
 }
 
-/// Those of the values of so many blocks that differ.
-fn numbers_in_blocks<const STRIDE: usize>(
+/// Which of the 32 values from a number on differ.
+#[inline(always)]
+fn others_of_32<const STRIDE: usize>(long: &[u8], short: &[u8], number: usize) -> u64
+    requires stride { (STRIDE ≡ 1) ⊎ (STRIDE ≡ 2) }
+    requires long { 2 * (STRIDE * (number + 32)) ≤ length long.now }
+    requires short { 2 * (number + 32) ≤ length short.now }
+    ensures { result ≡ mask_l (map (λ k. differs STRIDE long.now short.now (number + k))
+        (range_with_len 0 32)) }
+{
+    let front = others_of_16::<STRIDE>(long, short, number);
+    let back = others_of_16::<STRIDE>(long, short, number + 16);
+    front | back << 16
+}
+
+/// Which of the 64 values from a number on differ.
+#[inline(always)]
+fn others_of_64<const STRIDE: usize>(long: &[u8], short: &[u8], number: usize) -> u64
+    requires stride { (STRIDE ≡ 1) ⊎ (STRIDE ≡ 2) }
+    requires long { 2 * (STRIDE * (number + 64)) ≤ length long.now }
+    requires short { 2 * (number + 64) ≤ length short.now }
+    ensures { result ≡ mask_l (map (λ k. differs STRIDE long.now short.now (number + k))
+        (range_with_len 0 64)) }
+{
+    let front = others_of_32::<STRIDE>(long, short, number);
+    let back = others_of_32::<STRIDE>(long, short, number + 32);
+    front | back << 32
+}
+
+/// Which of so many values from a number on differ.
+#[inline(always)]
+fn others_of<const STRIDE: usize, const WIDTH: usize>(
     long: &[u8],
     short: &[u8],
-    blocks: usize,
+    number: usize,
+) -> u64
+    requires stride { (STRIDE ≡ 1) ⊎ (STRIDE ≡ 2) }
+    requires width { (WIDTH ≡ 16) ⊎ (WIDTH ≡ 64) }
+    requires long { 2 * (STRIDE * (number + WIDTH)) ≤ length long.now }
+    requires short { 2 * (number + WIDTH) ≤ length short.now }
+    ensures { result ≡ mask_l (map (λ k. differs STRIDE long.now short.now (number + k))
+        (range_with_len 0 WIDTH)) }
+{
+    if WIDTH == 16 {
+        others_of_16::<STRIDE>(long, short, number)
+    } else {
+        others_of_64::<STRIDE>(long, short, number)
+    }
+}
+
+/// Those of the values before a number that differ, and of fewer behind it than are compared at a time: the last of those that are
+/// compared at once are these, and those in front of them were counted.
+#[inline(always)]
+fn with_last<const STRIDE: usize, const WIDTH: usize>(
+    long: &[u8],
+    short: &[u8],
+    from: usize,
+    count: usize,
+    before: Option<Places>,
 ) -> Option<Places>
     requires stride { (STRIDE ≡ 1) ⊎ (STRIDE ≡ 2) }
-    requires long { 32 * (STRIDE * blocks) ≤ length long.now }
-    requires short { 32 * blocks ≤ length short.now }
-    ensures { AreOthers (differs STRIDE long.now short.now) (16 * blocks) result }
+    requires width { (WIDTH ≡ 16) ⊎ (WIDTH ≡ 64) }
+    requires from { from ≤ count }
+    requires few { count < from + WIDTH }
+    requires many { WIDTH ≤ count }
+    requires long { 2 * (STRIDE * count) ≤ length long.now }
+    requires short { 2 * count ≤ length short.now }
+    requires before { AreOthers (differs STRIDE long.now short.now) from before }
+    ensures { AreOthers (differs STRIDE long.now short.now) count result }
+{
+    if from == count {
+        return before;
+    }
+    let passed = WIDTH - (count - from);
+    let others = others_of::<STRIDE, WIDTH>(long, short, count - WIDTH) >> passed;
+    with_others(before, from, others)
+}
+
+/// Those of so many values that differ, at least as many as are compared at a time.
+fn numbers_at_once<const STRIDE: usize, const WIDTH: usize>(
+    long: &[u8],
+    short: &[u8],
+    count: usize,
+) -> Option<Places>
+    requires stride { (STRIDE ≡ 1) ⊎ (STRIDE ≡ 2) }
+    requires width { (WIDTH ≡ 16) ⊎ (WIDTH ≡ 64) }
+    requires many { WIDTH ≤ count }
+    requires long { 2 * (STRIDE * count) ≤ length long.now }
+    requires short { 2 * count ≤ length short.now }
+    ensures { AreOthers (differs STRIDE long.now short.now) count result }
 {
     let mut places = None;
-    for block in 0..blocks {
-        let others = others_of::<STRIDE>(long, short, block);
-        places = with_block(places, SAMPLES * block, others);
+    let mut number = 0;
+    while count - number >= WIDTH {
+        let others = others_of::<STRIDE, WIDTH>(long, short, number);
+        places = with_others(places, number, others);
+        number += WIDTH;
     }
-    places
+    with_last::<STRIDE, WIDTH>(long, short, number, count, places)
 }
 
 /// Those of the values before a number that differ, and of those behind it up to another.
@@ -172,6 +257,22 @@ fn numbers_behind<const STRIDE: usize>(
     places
 }
 
+/// Those of so many values that differ, where behind the last of them there is room for all of its stride.
+fn numbers_in_room<const STRIDE: usize>(long: &[u8], short: &[u8], count: usize) -> Option<Places>
+    requires stride { (STRIDE ≡ 1) ⊎ (STRIDE ≡ 2) }
+    requires long { 2 * (STRIDE * count) ≤ length long.now }
+    requires short { 2 * count ≤ length short.now }
+    ensures { AreOthers (differs STRIDE long.now short.now) count result }
+{
+    if count >= MANY {
+        numbers_at_once::<STRIDE, MANY>(long, short, count)
+    } else if count >= SOME {
+        numbers_at_once::<STRIDE, SOME>(long, short, count)
+    } else {
+        numbers_behind::<STRIDE>(long, short, 0, count, None)
+    }
+}
+
 /// The numbers of those of so many values that differ: with a stride of 2 every second sample of one file, and each of the
 /// other. Behind the last of them no other sample needs to stand.
 #[tactic(auto, using(crate::proofs::PlaceCountFacts::first_within, crate::proofs::PlaceCountFacts::last_within))]
@@ -185,11 +286,10 @@ pub fn numbers_of<const STRIDE: usize>(long: &[u8], short: &[u8], count: usize) 
     ensures last { IfSome result (λ places. places.last < count) }
 {
     let whole = if STRIDE == 1 {
-        long.len() / BLOCK
+        count
     } else {
-        long.len() / (2 * BLOCK)
+        count.min(long.len() / 4)
     };
-    let blocks = (count / SAMPLES).min(whole);
-    let places = numbers_in_blocks::<STRIDE>(long, short, blocks);
-    numbers_behind::<STRIDE>(long, short, blocks * SAMPLES, count, places)
+    let places = numbers_in_room::<STRIDE>(long, short, whole);
+    numbers_behind::<STRIDE>(long, short, whole, count, places)
 }

@@ -2,7 +2,7 @@
 
 ghost use Rattle.std.specs.Prelude.{◌≡◌, ◌≤◌, ◌+◌, ◌*◌, ◌⊎◌, length};
 ghost use Rattle.edf_samples.specs.Stretches.{IsPart};
-ghost use Rattle.edf_samples.specs.Tallies.{all_of, joined, lacks_first, lacks_second, tally_of, with_rest};
+ghost use Rattle.edf_samples.specs.Tallies.{all_of, each_is, joined, lacks_first, lacks_second, tally_of, with_rest};
 
 use crate::counts::front::{alone_behind, count_front};
 use crate::counts::head::{difference_at, head_at, head_behind};
@@ -59,6 +59,9 @@ fn count_both(
 {
     let x_count = count_in(x.bytes);
     let y_count = count_in(y.bytes);
+    if x_from >= x_count || y_from >= y_count {
+        return (x_from, y_from);
+    }
     let mut here = head_at(x, x_from, y.den);
     let mut there = head_at(y, y_from, x.den);
     while here.place < x_count && there.place < y_count {
@@ -73,6 +76,28 @@ fn count_both(
     (here.place, there.place)
 }
 
+/// Counts what is left of the first stretch behind a place, which it has alone.
+fn count_missing(x: Stretch, from: usize, tally: &mut Tally)
+    requires x { IsPart x }
+    requires from { 2 * from ≤ length x.bytes.now }
+    ensures { tally.new ≡ joined tally.old (tally_of (each_is SampleMismatch.Missing x.entry from)) }
+{
+    if from < count_in(x.bytes) {
+        tally.add_missing(alone_behind(x, from, SampleMismatch::Missing));
+    }
+}
+
+/// Counts what is left of the second one.
+fn count_extra(y: Stretch, from: usize, tally: &mut Tally)
+    requires y { IsPart y }
+    requires from { 2 * from ≤ length y.bytes.now }
+    ensures { tally.new ≡ joined tally.old (tally_of (each_is SampleMismatch.Extra y.entry from)) }
+{
+    if from < count_in(y.bytes) {
+        tally.add_extra(alone_behind(y, from, SampleMismatch::Extra));
+    }
+}
+
 /// Counts all differences of two stretches of one channel.
 pub fn count_differences(x: Stretch, y: Stretch, tally: &mut Tally)
     requires x { IsPart x }
@@ -81,6 +106,6 @@ pub fn count_differences(x: Stretch, y: Stretch, tally: &mut Tally)
 {
     let (x_from, y_from) = count_front(x, y, tally);
     let (i, j) = count_both(x, x_from, y, y_from, tally);
-    tally.add_missing(alone_behind(x, i, SampleMismatch::Missing));
-    tally.add_extra(alone_behind(y, j, SampleMismatch::Extra));
+    count_missing(x, i, tally);
+    count_extra(y, j, tally);
 }

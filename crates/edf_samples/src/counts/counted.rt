@@ -29,7 +29,7 @@ pub(crate) fn keep_first(first: &mut Option<PointDifference>, difference: PointD
 pub(crate) fn keep_first_of(first: &mut Option<PointDifference>, others: Option<PointDifference>)
     ensures { first.new ≡ option_or first.old others }
 {
-    if first.is_none() {
+    if first.is_none() && others.is_some() {
         *first = others;
     }
 }

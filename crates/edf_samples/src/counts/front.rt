@@ -2,6 +2,7 @@
 
 ghost use Rattle.std.specs.Prelude.{◌≡◌, ◌<◌, ◌≤◌, ◌+◌, ◌-◌, ◌*◌, ◌^◌, ℕ, Bool, true, not, pos, ◌*ℤ◌, nat_lt, IfSome, if◌then◌else◌, length, map, filter};
 ghost use Rattle.std.specs.List.{range_with_len};
+ghost use Rattle.std.specs.Option.{option_or};
 ghost use Rattle.std.specs.Ordering.{int_eq};
 ghost use Rattle.edf_stream.specs.samples.Values.{digital_value};
 ghost use Rattle.edf_samples.specs.Others.{AreOthers};
@@ -54,13 +55,10 @@ fn alone_among(x: Stretch, places: Places, mismatch: SampleMismatch) -> Counted
 #[inline(always)]
 pub(crate) fn alone_behind(x: Stretch, from: usize, mismatch: SampleMismatch) -> Counted
     requires x { IsPart x }
-    requires from { 2 * from ≤ length x.bytes.now }
+    requires from { 2 * from + 1 < length x.bytes.now }
     ensures { result ≡ counted (each_is mismatch x.entry from) }
 {
     let end = count_in(x.bytes);
-    if from >= end {
-        return Counted::none();
-    }
     let places = Places {
         count: end - from,
         first: from,
@@ -160,6 +158,30 @@ fn first_of_both(
     if differ { changed.first } else { alone }
 }
 
+/// Keeps the first difference of whole strides of two stretches, of which these are those of each kind, as the first one, if there is
+/// none before it: elsewhere it isn't looked for.
+#[inline(always)]
+fn keep_first_apart(
+    x: Stretch,
+    y: Stretch,
+    strides: Strides,
+    kinds: Tally,
+    first: &mut Option<PointDifference>,
+)
+    requires x { 1 < length x.bytes.now }
+    requires y { 1 < length y.bytes.now }
+    ensures { first.new ≡ option_or first.old
+        (if not (int_eq (digital_value x.entry.bytes.now 0) (digital_value y.entry.bytes.now 0))
+        then kinds.changed.first
+        else (if nat_lt strides.there strides.here then kinds.missing.first else kinds.extra.first)) }
+{
+    if first.is_none() {
+        let differ = begin_apart(x.bytes, y.bytes);
+        let alone = first_alone(strides, kinds.missing, kinds.extra);
+        *first = first_of_both(differ, kinds.changed, alone);
+    }
+}
+
 /// Counts the differences of as many samples of two stretches as both have, each of which stands at the instant of the
 /// other's, and answers how many these are.
 fn count_each(x: Stretch, y: Stretch, tally: &mut Tally) -> (usize, usize)
@@ -197,14 +219,14 @@ fn count_strided(x: Stretch, y: Stretch, strides: Strides, tally: &mut Tally) ->
     let changed = changes_at(x, strides.here, y, strides.there, numbers);
     let missing = alone_between(x, strides.here, count, SampleMismatch::Missing);
     let extra = alone_between(y, strides.there, count, SampleMismatch::Extra);
-    let differ = begin_apart(x.bytes, y.bytes);
-    let alone = first_alone(strides, missing, extra);
-    tally.add(Tally {
+    let kinds = Tally {
         missing,
         extra,
         changed,
-        first: first_of_both(differ, changed, alone),
-    });
+        first: None,
+    };
+    keep_first_apart(x, y, strides, kinds, &mut tally.first);
+    tally.add(kinds);
     (strides.here * count, strides.there * count)
 }
 

@@ -8,6 +8,18 @@ use crate::counts::places::Places;
 use crate::counts::strides::Strides;
 use edf_stream::value_at;
 
+/// How many whole strides so many samples have. Of the shortest no division is made.
+fn strides_in(count: usize, stride: usize) -> usize
+    requires { 0 < stride }
+    ensures { stride * result ≤ count }
+{
+    match stride {
+        1 => count,
+        2 => count / 2,
+        _ => count / stride,
+    }
+}
+
 /// How many whole strides both of two stretches have, of so many samples each.
 #[tactic(auto, using(crate::proofs::rates::NumberFacts::strides_within))]
 pub(crate) fn whole_strides(here: usize, there: usize, strides: Strides) -> usize
@@ -16,7 +28,7 @@ pub(crate) fn whole_strides(here: usize, there: usize, strides: Strides) -> usiz
     ensures here { strides.here * result ≤ here }
     ensures there { strides.there * result ≤ there }
 {
-    (here / strides.here).min(there / strides.there)
+    strides_in(here, strides.here).min(strides_in(there, strides.there))
 }
 
 /// Whether the values of a number differ.

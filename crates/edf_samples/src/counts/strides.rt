@@ -1,6 +1,6 @@
 //! Samples of a channel at two rates: how many of each lie from one instant that both have to the next.
 
-ghost use Rattle.std.specs.Prelude.{◌≡◌, ◌<◌, ◌*ℤ◌, ◌<ℤ◌, pos, IfSome};
+ghost use Rattle.std.specs.Prelude.{◌≡◌, ◌<◌, ◌*◌, ◌/◌, ◌*ℤ◌, ◌<ℤ◌, ◌↔◌, pos, IfSome, IsTrue};
 ghost use Rattle.edf_samples.specs.Stretches.{IsPart};
 ghost use Rattle.edf_samples.specs.Strides.{AreStrides, IsCommonDivisor, IsProportion};
 
@@ -66,7 +66,26 @@ fn proportion(x: Stretch, y: Stretch) -> Option<(u64, u64)>
     None
 }
 
-/// How many samples of each stretch lie from one common instant to the next, by the proportion of the distances between them.
+/// Whether one number is twice another.
+fn is_twice(number: u64, half: u64) -> bool
+    ensures { IsTrue result ↔ (number ≡ 2 * half) }
+{
+    number % 2 == 0 && number / 2 == half
+}
+
+/// How many times a divisor goes into the second of two numbers, and into the first one.
+fn strides_over(a: u64, b: u64, divisor: u64) -> Strides
+    requires { 0 < divisor }
+    ensures here { result.here ≡ b / divisor }
+    ensures there { result.there ≡ a / divisor }
+{
+    let here = (b / divisor) as usize;
+    let there = (a / divisor) as usize;
+    Strides { here, there }
+}
+
+/// How many samples of each stretch lie from one common instant to the next, by the proportion of the distances between them. That
+/// of two rates of which one is twice the other takes no division.
 fn strides_by(x: Stretch, y: Stretch, a: u64, b: u64) -> Option<Strides>
     requires x { IsPart x }
     requires y { IsPart y }
@@ -75,13 +94,18 @@ fn strides_by(x: Stretch, y: Stretch, a: u64, b: u64) -> Option<Strides>
     requires proportion { IsProportion x y a b }
     ensures { IfSome result (AreStrides x.entry y.entry) }
 {
+    if is_twice(b, a) {
+        return Some(Strides { here: 2, there: 1 });
+    }
+    if is_twice(a, b) {
+        return Some(Strides { here: 1, there: 2 });
+    }
     let divisor = common_divisor(a, b);
-    let here = (b / divisor) as usize;
-    let there = (a / divisor) as usize;
-    if here == there {
+    let strides = strides_over(a, b, divisor);
+    if strides.here == strides.there {
         return None;
     }
-    Some(Strides { here, there })
+    Some(strides)
 }
 
 /// How many samples of each stretch lie from one common instant to the next, where both begin at one and have other rates.

@@ -1,12 +1,13 @@
-use Rattle.std.proofs.Common.{◌≡◌, ◌*◌, ◌<◌, ◌≤◌, ◌∙◌, cond, nat_lt, not, length, arith, sym, ap, Option}
-use Rattle.std.specs.Ordering.{int_eq}
-use Rattle.edf_stream.specs.samples.Values.{digital_value}
+use Rattle.std.proofs.Common.{◌≡◌, ◌*◌, ◌<◌, ◌≤◌, ◌∙◌, cond, nat_lt, length, arith, refl, ap, Option, None}
+use Rattle.std.specs.Option.{option_or}
 use Rattle.edf_samples.specs.declared.counts.places.Places.{Places}
 use Rattle.edf_samples.specs.declared.counts.tally.Tally.{Tally}
 use Rattle.edf_samples.specs.declared.difference.PointDifference.{PointDifference}
 use Rattle.edf_samples.specs.Others.{values_differ_at}
+use Rattle.edf_samples.specs.Tallies.{joined}
 use Rattle.edf_samples.proofs.rates.NumberFacts.{some_within}
 use Rattle.edf_samples.proofs.rates.StrideFacts.{begins_apart, strided_counted}
+use Rattle.edf_samples.proofs.TallyFacts.{kinds_joined}
 use Rattle.edf_samples.proofs.counts.front.count_strided.Goals as goal
 
 pub changes_at-changed-requires-clause-first_here : goal.changes_at-changed-requires-clause-first_here
@@ -54,8 +55,13 @@ returns-clause-value c =
     let missing = c.alone_between-missing.result in
     let extra = c.alone_between-extra.result in
     let test = values_differ_at p q x.bytes.now y.bytes.now in
+    let a = c.args.tally.now in
     let made : Option PointDifference → Tally = λ first. record { missing = missing; extra = extra; changed = changed; first = first } in
-    strided_counted c.args.tally.now c.add.new.self (made c.first_of_both.result) changed missing extra x y p q n px py c.requires.start c.requires.strides some lx ly
+    let held : Option PointDifference → Tally = λ first. record { missing = a.missing; extra = a.extra; changed = a.changed; first = first } in
+    let alone = cond (nat_lt q p) missing.first extra.first in
+    let first = cond (test 0) changed.first alone in
+    let kept : c.keep_first_apart.new.first ≡ option_or a.first first =
+    c.keep_first_apart.ensures ∙ ap (λ b. option_or a.first (cond b changed.first alone)) (begins_apart p q x.bytes.now y.bytes.now) in
+    strided_counted a c.add.new.self (made first) changed missing extra x y p q n px py c.requires.start c.requires.strides some lx ly
     (c.changes_at-changed.ensures test n c.numbers_at-numbers.ensures.value) c.alone_between-missing.ensures c.alone_between-extra.ensures
-    (ap made (c.first_of_both.ensures ∙ ap (λ b. cond b changed.first c.first_alone-alone.result) (c.begin_apart-differ.ensures ∙ begins_apart p q x.bytes.now y.bytes.now)
-    ∙ ap (λ o. cond (test 0) changed.first o) c.first_alone-alone.ensures)) c.add.ensures
+    refl (c.add.ensures ∙ ap (λ o. joined (held o) (made None)) kept ∙ kinds_joined a (made None) first)

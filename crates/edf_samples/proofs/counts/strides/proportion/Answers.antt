@@ -1,4 +1,4 @@
-use Rattle.std.proofs.Common.{◌<◌, ◌*◌, ◌*ℤ◌, ◌∙◌, ◌≡◌, pos, ap, sym, subst, arith}
+use Rattle.std.proofs.Common.{◌<◌, ◌*◌, sym, subst, arith}
 use Rattle.edf_samples.specs.Strides.{IsProportion}
 use Rattle.edf_samples.proofs.rates.StrideFacts.{proportion_long, proportion_short}
 use Rattle.edf_samples.proofs.counts.strides.proportion.Goals as goal
