@@ -5,3 +5,4 @@ pub mod LabelFacts
 pub mod NoneFacts
 pub mod SeenFacts
 pub mod OneWayFacts
+pub mod NotedFacts

@@ -34,15 +34,16 @@ use Rattle.std.specs.Ordering.{is_eq}
 use Rattle.edf_verdict.specs.declared.verdict.SampleMismatch.{SampleMismatch}
 use Rattle.edf_verdict.specs.declared.verdict.SampleMismatch.TheVariants.{Missing, Extra, Value}
 use Rattle.edf_findings.specs.Exports.{channels_of, compared_channels, is_clean}
-use Rattle.edf_findings.specs.Found.{AreFoundBy, AreFoundIn, IsFoundIn, counted_by}
+use Rattle.edf_findings.specs.Found.{AreFoundBy, AreFoundIn, IsFoundIn, counted_by, seen_in}
 use Rattle.edf_findings.specs.Laws.{NoFindingIsYes}
 use Rattle.edf_findings.specs.declared.looker.Looker.{Looker}
 use Rattle.edf_findings.specs.declared.notes.both.Notes.{Notes}
-use Rattle.edf_findings.specs.Told.{AreTold, IsToldAt, is_in_both, places_from}
+use Rattle.edf_findings.specs.Told.{AreTold, IsToldAt, Seen, is_in_both, places_from}
 use Rattle.edf_findings.specs.declared.part.ComparedPart.{ComparedPart}
 use Rattle.edf_findings.specs.declared.part.PartFindings.{PartFindings}
 use Rattle.edf_findings.specs.declared.part.ReadPart.{ReadPart}
 use Rattle.edf_findings.specs.declared.samples.compared.ComparedChannel.{ComparedChannel}
+use Rattle.edf_findings.specs.declared.samples.found_in.FoundOf.{FoundOf}
 use Rattle.edf_findings.proofs.LabelFacts.{one-order}
 
 -- ---- the tally of no difference
@@ -176,21 +177,24 @@ module _ (D : Places → List PointDifference) (no-first : (p : Places) → p.0 
       sym this ∙ ap tally_at same
   tally-of-label (x ∷ xs) (suc at) label t there is = tally-of-label xs at label t there is
 
-  told-tally : (label : List ℕ) (c : ComparedChannel) (told : IsToldAt others tallies label c) → told.tally ≡ tally_at label
-  told-tally label c told =
+  abbrev seen : List FoundOf → Seen
+  seen found = record { original = h; export = g; tallies = tallies; found = found }
+
+  told-tally : (found : List FoundOf) (label : List ℕ) (c : ComparedChannel) (told : IsToldAt others (seen found) label c) → told.tally ≡ tally_at label
+  told-tally found label c told =
       tally-of-label labels told.at label told.tally (ap (λ xs. slice_get xs told.at) (one-order claimed labels others sorted also) ∙ told.label_is) told.tally_is
 
-  told-has : (label : List ℕ) (c : ComparedChannel) (told : IsToldAt others tallies label c) → Has tallies told.tally
-  told-has label c told = has-at tallies told.at told.tally told.tally_is
+  told-has : (found : List FoundOf) (label : List ℕ) (c : ComparedChannel) (told : IsToldAt others (seen found) label c) → Has tallies told.tally
+  told-has found label c told = has-at tallies told.at told.tally told.tally_is
 
-  clean-where-none : (channels : List ComparedChannel) → AreTold claimed others tallies h g channels → AllByRecursion IsNone tallies → list_all is_clean channels ≡ true
-  clean-where-none channels are none = all-true is_clean channels (λ c has.
+  clean-where-none : (found : List FoundOf) (channels : List ComparedChannel) → AreTold claimed others (seen found) channels → AllByRecursion IsNone tallies → list_all is_clean channels ≡ true
+  clean-where-none found channels are none = all-true is_clean channels (λ c has.
       let told = (are.each c has).2 in
       let t = told.told in
-      told-clean told.tally c (all-there IsNone tallies none told.tally (told-has (are.each c has).0 c told)) (t.0).0 (t.1).0 (t.2).0)
+      told-clean told.tally c (all-there IsNone tallies none told.tally (told-has found (are.each c has).0 c told)) (t.0).0 (t.1).0 (t.2).0)
 
-  none-where-clean : (channels : List ComparedChannel) → AreTold claimed others tallies h g channels → list_all is_clean channels ≡ true → AllByRecursion IsNone tallies
-  none-where-clean channels are clean =
+  none-where-clean : (hands : List FoundOf) (channels : List ComparedChannel) → AreTold claimed others (seen hands) channels → list_all is_clean channels ≡ true → AllByRecursion IsNone tallies
+  none-where-clean hands channels are clean =
       all-mapped tally_by IsNone (places_in h g labels) (λ p has.
       let at = map-has (λ (label : Bor (List ℕ)). (channel_at label.now h, channel_at label.now g)) labels p has in
       subst (λ (q : Places). tally_by q ≡ tally_of []) at.2 (by at.0 at.1 (is_in_both h g (at.0).now) refl))
@@ -211,7 +215,7 @@ module _ (D : Places → List PointDifference) (no-first : (p : Places) → p.0 
           let told = each.2 in
           let k : c.place ≡ place.0 = (let z = found.2 in omega (arith, z)) in
           let same : each.0 ≡ label.now = (let e : Some each.0 ≡ Some label.now = sym each.1 ∙ ap (slice_get claimed) k ∙ place.1 in cc) in
-          let tally : told.tally ≡ tally_at label.now = told-tally each.0 c told ∙ ap tally_at same in
+          let tally : told.tally ≡ tally_at label.now = told-tally hands each.0 c told ∙ ap tally_at same in
           let counts = clean-counts c (each-true is_clean channels clean c found.1) in
           let t = told.told in
           let m = ap (λ (z : Tally). z.missing.count) (sym tally) ∙ sym (t.0).0 ∙ counts.0 in
@@ -227,18 +231,20 @@ module _ (D : Places → List PointDifference) (no-first : (p : Places) → p.0 
       in
       by f.compared (found.channels many) refl
     where
-      by : (compared : Option ComparedPart) → MatchOption compared ⊥ (λ compared. AreTold claim.channels others part.tallies.items o part.header compared.channels.items) → f.compared ≡ compared
+      by : (compared : Option ComparedPart) → MatchOption compared ⊥ (λ compared. AreTold claim.channels others (seen_in o part) compared.channels.items) → f.compared ≡ compared
           → AllByRecursion IsNone tallies ↔ (list_all is_clean (channels_of f) ≡ true)
       by None m e = absurd m
       by (Some compared) m e =
           let cs = compared.channels.items in
-          let are : AreTold claimed others tallies h g cs =
-          subst (λ x. AreTold x others tallies h g cs) is-claim (subst (λ x. AreTold claim.channels others x h g cs) is-tallies (subst (λ x. AreTold claim.channels others part.tallies.items x g cs) is-head
-          (subst (λ x. AreTold claim.channels others part.tallies.items o x cs) is-header m)))
+          let hands = part.so_far.found.items in
+          let made : Head → Head → List Tally → Seen = λ x y z. record { original = x; export = y; tallies = z; found = hands } in
+          let are : AreTold claimed others (seen hands) cs =
+          subst (λ x. AreTold x others (seen hands) cs) is-claim (subst (λ x. AreTold claim.channels others (made h g x) cs) is-tallies (subst (λ x. AreTold claim.channels others (made x g part.tallies.items) cs) is-head
+          (subst (λ x. AreTold claim.channels others (made o x part.tallies.items) cs) is-header m)))
           in
           let shown : channels_of f ≡ cs = ap compared_channels e in (
-            λ none. ap (list_all is_clean) shown ∙ clean-where-none cs are none,
-            λ clean. none-where-clean cs are (sym (ap (list_all is_clean) shown) ∙ clean),
+            λ none. ap (list_all is_clean) shown ∙ clean-where-none hands cs are none,
+            λ clean. none-where-clean hands cs are (sym (ap (list_all is_clean) shown) ∙ clean),
           )
 
 -- ---- several exports

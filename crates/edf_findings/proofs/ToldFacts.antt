@@ -6,7 +6,6 @@ use Rattle.std.proofs.Common.{IfSome, take, ◌≡◌, ◌∙◌, ◌++◌, ◌+
 use Rattle.edf_claim.specs.ClaimValues.{ClaimValue}
 use Rattle.edf_fields.specs.Lists.{Has}
 use Rattle.edf_fields.proofs.ForCallers.{has-append}
-use Rattle.edf_samples.specs.declared.counts.tally.Tally.{Tally}
 use Rattle.edf_findings.specs.declared.samples.compared.ComparedChannel.{ComparedChannel}
 use Rattle.edf_header.specs.Heads.{Head}
 use Rattle.edf_heads.specs.Comparisons.{IsPlaceOf}
@@ -17,7 +16,7 @@ use Rattle.edf_pace.specs.walk.Pairs.{Places, places_in, places_of}
 use Rattle.edf_findings.specs.declared.part.PartFindings.{PartFindings}
 use Rattle.edf_findings.specs.declared.part.ReadPart.{ReadPart}
 use Rattle.edf_findings.specs.Found.{AreFoundIn, IsFoundIn}
-use Rattle.edf_findings.specs.Told.{IsToldAt, IsToldOf, is_in_both, places_from, with_one}
+use Rattle.edf_findings.specs.Told.{IsToldAt, IsToldOf, Seen, is_in_both, places_from, with_one}
 
 -- the pair at the place of a label has the channels of this label
 pub pair-at : (h g : Head) (labels : List (Bor (List ℕ))) (pairs : List Pair) (label : List ℕ) (at : ℕ) (pair : Pair) → map places_of pairs ≡ places_in h g labels → IsPlaceOf labels label at → slice_get pairs at ≡ Some pair
@@ -115,18 +114,18 @@ which-more h g claimed k label r channels at both place before =
     ∙ sym (places-more h g 0 (take k claimed) label)
     ∙ ap (places_from h g 0) (sym (take-more claimed k label at))
 
-pub each-more : (claimed : List (List ℕ)) (labels : List (Bor (List ℕ))) (tallies : List Tally) (k : ℕ) (label : List ℕ) (r : Option ComparedChannel) (channels : List ComparedChannel) → slice_get claimed k ≡ Some label
-    → IfSome r (λ (channel : ComparedChannel). channel.place ≡ k) → IfSome r (IsToldAt labels tallies label) → ((channel : ComparedChannel) → Has channels channel → IsToldOf claimed labels tallies channel)
-    → (channel : ComparedChannel) → Has (with_one channels r) channel → IsToldOf claimed labels tallies channel
-each-more claimed labels tallies k label None channels at place told before channel has = before channel has
-each-more claimed labels tallies k label (Some one) channels at place told before channel has = by (has-append channels (one ∷ []) channel has)
+pub each-more : (claimed : List (List ℕ)) (labels : List (Bor (List ℕ))) (seen : Seen) (k : ℕ) (label : List ℕ) (r : Option ComparedChannel) (channels : List ComparedChannel) → slice_get claimed k ≡ Some label
+    → IfSome r (λ (channel : ComparedChannel). channel.place ≡ k) → IfSome r (IsToldAt labels seen label) → ((channel : ComparedChannel) → Has channels channel → IsToldOf claimed labels seen channel)
+    → (channel : ComparedChannel) → Has (with_one channels r) channel → IsToldOf claimed labels seen channel
+each-more claimed labels seen k label None channels at place told before channel has = before channel has
+each-more claimed labels seen k label (Some one) channels at place told before channel has = by (has-append channels (one ∷ []) channel has)
   where
     stands : slice_get claimed one.place ≡ Some label
     stands = ap (slice_get claimed) place ∙ at
 
-    by : Has channels channel ⊎ Has (one ∷ []) channel → IsToldOf claimed labels tallies channel
+    by : Has channels channel ⊎ Has (one ∷ []) channel → IsToldOf claimed labels seen channel
     by (inl there) = before channel there
-    by (inr (inl same)) = subst (IsToldOf claimed labels tallies) same (label, stands, told)
+    by (inr (inl same)) = subst (IsToldOf claimed labels seen) same (label, stands, told)
     by (inr (inr none)) = absurd none
 
 -- one export more

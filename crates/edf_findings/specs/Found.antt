@@ -11,20 +11,37 @@ use Rattle.edf_header.specs.Heads.{Head}
 use Rattle.edf_header.specs.HeadsReading.{head_of}
 use Rattle.edf_heads.specs.Comparisons.{AreSorted}
 use Rattle.edf_findings.specs.declared.findings.Findings.{Findings}
+use Rattle.edf_findings.specs.Hands.{AreHandsOf, all_noted}
 use Rattle.edf_findings.specs.declared.looker.Looker.{Looker}
 use Rattle.edf_findings.specs.declared.notes.both.Notes.{Notes}
 use Rattle.edf_findings.specs.declared.part.PartFindings.{PartFindings}
+use Rattle.edf_findings.specs.declared.part.PartSoFar.{PartSoFar}
+use Rattle.edf_findings.specs.declared.record_time.Hands.{Hands}
+use Rattle.edf_pace.specs.declared.walk.frame.Frame.{Frame}
+use Rattle.edf_samples.specs.declared.counts.tally.Tally.{Tally}
+use Rattle.edf_stream.specs.records.Readers.{Reader}
 use Rattle.edf_findings.specs.declared.part.ReadPart.{ReadPart}
-use Rattle.edf_findings.specs.Told.{AreTold}
+use Rattle.edf_findings.specs.Told.{AreTold, Seen}
 use Rattle.edf_pace.specs.walk.Watching.{ExportCount, WholeShown}
 use Rattle.edf_stream.specs.Conforming.{Conforms}
 use Rattle.edf_stream.specs.Views.{note_value}
+
+-- between two moments a look at both files was taken, with what was counted then: the data records at hand of each were noted with the
+-- samples of which more were counted
+abbrev pub AreNotedAt : Reader → Reader → Frame → List Tally → PartSoFar → PartSoFar → Type 0
+AreNotedAt original export frame tallies old new =
+    (hands : Hands) × AreHandsOf original ((frame.turn).setting.clock.original).ps export ((frame.turn).setting.clock.export).ps hands
+    × (new.found.items ≡ all_noted hands old.found.items tallies)
+
+-- what was seen of an export that was read, beside an original with this header
+abbrev pub seen_in : Head → ReadPart → Seen
+seen_in h part = record { original = h; export = part.header; tallies = part.tallies.items; found = part.so_far.found.items }
 
 -- of an export that was read this is found: where something was counted of each label, it is told of the claimed channels that both files have
 pub record IsFoundIn (claim : ClaimValue) (labels : List (Bor (List ℕ))) (h : Head) (part : ReadPart) (found : PartFindings) : Type 0 where
   pub header : found.header ≡ part.header
   pub channels : length part.tallies.items ≡ length labels
-      → MatchOption found.compared ⊥ (λ compared. AreTold claim.channels labels part.tallies.items h part.header compared.channels.items)
+      → MatchOption found.compared ⊥ (λ compared. AreTold claim.channels labels (seen_in h part) compared.channels.items)
 
 -- of each of these exports
 abbrev pub AreFoundIn : ClaimValue → List (Bor (List ℕ)) → Head → List ReadPart → List PartFindings → Type 0

@@ -2,7 +2,7 @@
 
 ghost use Rattle.std.specs.Prelude.{◌≡◌, ◌&&◌, ◌++◌, ◌∷◌, [], is_some, length, nat_lt, IfOk, IfSome, OnOk, None, Some, true};
 ghost use Rattle.edf_heads.specs.Comparisons.{AreSorted};
-ghost use Rattle.edf_findings.specs.Found.{AreFoundBy, AreFoundIn, counted_by, shown_by};
+ghost use Rattle.edf_findings.specs.Found.{AreFoundBy, AreFoundIn, AreNotedAt, counted_by, shown_by};
 ghost use Rattle.edf_findings.specs.Gathered.{HaveNone, hidden_at};
 
 use crate::findings::Findings;
@@ -85,6 +85,7 @@ impl Looker {
     fn take_record(&mut self, original: &FileReader, claim: &Claim) -> Result<(), AllocError>
         ensures counts { self.new.counts ≡ self.old.counts }
         ensures parts { self.new.parts ≡ self.old.parts }
+        ensures part { self.new.part ≡ self.old.part }
         ensures notes { OnOk result (self.new.notes.hidden.items ≡
             self.old.notes.hidden.items ++ hidden_at self.old claim.now original.now) }
     {
@@ -110,6 +111,8 @@ impl Looker {
         ensures parts { self.new.parts ≡ self.old.parts }
         ensures notes { OnOk result (self.new.notes.hidden.items ≡ self.old.notes.hidden.items ++
             hidden_at self.old ((frame.entry.turn).setting.claim).now original.now) }
+        ensures noted { OnOk result (AreNotedAt original.now export.now frame.entry
+            self.old.counts.tallies.items self.old.part self.new.part) }
     {
         let setting = frame.turn.setting;
         self.take_record(original, setting.claim)?;
@@ -128,6 +131,11 @@ impl Looker {
     fn keep_export(&mut self, export: FileReader) -> Result<(), AllocError>
         ensures counted { OnOk result (counted_by self.new ≡ counted_by self.old ++
             (record { head = export.head; tallies = self.old.counts.tallies.items } ∷ [])) }
+        ensures parts { OnOk result (self.new.parts.items ≡ self.old.parts.items ++ (record {
+          header = export.head;
+          so_far = self.old.part;
+          tallies = self.old.counts.tallies;
+        } ∷ [])) }
         ensures notes { self.new.notes ≡ self.old.notes }
     {
         let tallies = mem::replace(&mut self.counts.tallies, Vec::new(self.alloc));

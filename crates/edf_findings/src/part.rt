@@ -6,6 +6,7 @@ ghost use Rattle.edf_heads.specs.Comparisons.{AreSorted};
 ghost use Rattle.edf_findings.specs.Told.{AreTold};
 ghost use Rattle.edf_findings.specs.Exports.{channels_of, has_all_of, head_in, is_clean, keeps_between_in, moved_in, starts_of};
 ghost use Rattle.edf_findings.specs.Found.{IsFoundIn};
+ghost use Rattle.edf_findings.specs.Hands.{AreHandsOf, all_noted};
 
 use crate::record_time::Hands;
 use crate::samples::claimed::CountedLabels;
@@ -77,7 +78,9 @@ impl PartSoFar {
     }
 
     /// Takes in the data record of the export at hand, if it is another one than before.
-    fn take_record(&mut self, export: &FileReader) {
+    fn take_record(&mut self, export: &FileReader)
+        ensures { self.new.found ≡ self.old.found }
+    {
         if !self.records.take_in(export) {
             return;
         }
@@ -88,7 +91,9 @@ impl PartSoFar {
 
     /// Sees when the first sample of the original is taken that is kept between two times, where all are and none was seen so
     /// far.
-    fn see_first(&mut self, pairs: &[Pair], original: Stand<'_>, within: Window) {
+    fn see_first(&mut self, pairs: &[Pair], original: Stand<'_>, within: Window)
+        ensures { self.new.found ≡ self.old.found }
+    {
         if self.first_ps.is_some() || !original.has_begun_before(within.to.ps) {
             return;
         }
@@ -97,9 +102,11 @@ impl PartSoFar {
     }
 
     /// Notes in which data records at hand samples were found, of which there are so many now.
-    pub(crate) fn note(&mut self, tallies: &[Tally], hands: &Hands) {
-        for (found, tally) in self.found.iter_mut().zip(tallies) {
-            found.note(tally, hands);
+    pub(crate) fn note(&mut self, tallies: &[Tally], hands: &Hands)
+        ensures { self.new.found.items ≡ all_noted hands.now self.old.found.items tallies.now }
+    {
+        for at in 0..self.found.len().min(tallies.len()) {
+            self.found[at].note(&tallies[at], hands);
         }
     }
 
@@ -111,7 +118,11 @@ impl PartSoFar {
         export: &FileReader,
         frame: Frame<'_>,
         within: Window,
-    ) -> Hands {
+    ) -> Hands
+        ensures hands { AreHandsOf original.entry.reader.now original.entry.by.ps
+            export.now ((frame.entry.turn).setting.clock.export).ps result }
+        ensures found { self.new.found ≡ self.old.found }
+    {
         let setting = frame.turn.setting;
         self.take_record(export);
         if setting.claim.keeps_instant(within.from.ps, 1) {
@@ -175,8 +186,12 @@ impl ComparedPart {
     ) -> Result<ComparedPart, AllocError>
         requires sorted { AreSorted (under.claim).now.channels under.labels.now }
         requires tallies { length tallies.now ≡ length under.labels.now }
-        ensures { IfOk result (λ part. AreTold (under.entry.claim).now.channels under.entry.labels.now
-            tallies.now (under.entry.original).now export.now part.channels.items) }
+        ensures { IfOk result (λ part. AreTold (under.entry.claim).now.channels under.entry.labels.now (record {
+          original = (under.entry.original).now;
+          export = export.now;
+          tallies = tallies.now;
+          found = so_far.now.found.items;
+        }) part.channels.items) }
     {
         let headers = (under.original, export);
         let pairs = pairs_of(alloc, under.original, export, under.labels)?;

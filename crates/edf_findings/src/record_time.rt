@@ -1,7 +1,7 @@
 //! The data records that are at hand while two files are compared.
 
-ghost use Rattle.std.specs.Prelude.{IfSome};
-ghost use Rattle.edf_findings.specs.Hands.{IsRecordAt};
+ghost use Rattle.std.specs.Prelude.{◌≡◌, IfSome};
+ghost use Rattle.edf_findings.specs.Hands.{IsRecordAt, number_at};
 
 /// From when to when a data record lasts, in picoseconds after the second at which the original starts.
 #[derive(Clone, Copy)]
@@ -47,7 +47,8 @@ impl Hand {
 
     /// The number of the data record, which lasts so long, where a time lies in it.
     pub(crate) fn record_at(self, duration_ps: i128, at_ps: i128) -> Option<u64>
-        ensures { IfSome result (IsRecordAt self duration_ps at_ps) }
+        ensures exact { result ≡ number_at self duration_ps at_ps }
+        ensures within { IfSome result (IsRecordAt self duration_ps at_ps) }
     {
         let number = self.number?;
         if self.from_ps <= at_ps && at_ps < self.from_ps.saturating_add(duration_ps) {

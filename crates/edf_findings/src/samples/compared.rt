@@ -3,7 +3,7 @@
 ghost use Rattle.std.specs.Prelude.{◌≡◌, ◌*◌, ◌-◌, not};
 ghost use Rattle.std.specs.Ordering.{int_eq};
 ghost use Rattle.edf_findings.specs.Exports.{is_clean};
-ghost use Rattle.edf_findings.specs.Told.{AreThose, IsTold, floor_of, samples_last, values_in};
+ghost use Rattle.edf_findings.specs.Told.{AreThose, IsTold, floor_of, records_of, samples_last, spot_of, values_in};
 
 use crate::record_time::Hands;
 use crate::samples::found_in::{FoundIn, FoundOf};
@@ -36,9 +36,12 @@ fn floor(difference: PointDifference) -> i128
 /// In which data records of files with these headers a time lies, of those at hand.
 fn records_at(
     hands: Option<Hands>,
-    (original, export): (&Header, &Header),
+    headers: (&Header, &Header),
     at_ps: i128,
-) -> (Option<u64>, Option<u64>) {
+) -> (Option<u64>, Option<u64>)
+    ensures { result ≡ records_of hands (headers.entry.0).now (headers.entry.1).now at_ps }
+{
+    let (original, export) = headers;
     match hands {
         Some(hands) => (
             hands.original.record_at(original.duration_ps(), at_ps),
@@ -51,7 +54,7 @@ fn records_at(
 impl Spot {
     /// That of a difference, found in the data records at hand of files with these headers.
     fn of(difference: PointDifference, hands: Option<Hands>, headers: (&Header, &Header)) -> Spot
-        ensures { result.difference ≡ difference }
+        ensures { result ≡ spot_of hands (headers.entry.0).now (headers.entry.1).now difference }
     {
         let (original_record, export_record) = records_at(hands, headers, floor(difference));
         Spot {
@@ -89,7 +92,7 @@ pub struct Samples {
 impl Samples {
     /// Those that were counted, of which the first and the last were found in these data records.
     fn of(counted: Counted, found: FoundIn, headers: (&Header, &Header)) -> Samples
-        ensures { AreThose counted result }
+        ensures { AreThose found (headers.entry.0).now (headers.entry.1).now counted result }
     {
         let count = counted.count;
         match (counted.first, counted.last) {
@@ -164,7 +167,7 @@ impl ComparedChannel {
             (samples_last (headers.entry.1).now.duration ((tracks.0).place).samples)) }
         ensures compared { result.compared ≡
             (headers.entry.1).now.records * ((tracks.1).place).samples - (tally.now.extra).count }
-        ensures told { IsTold tally.now result }
+        ensures told { IsTold found.now (headers.entry.0).now (headers.entry.1).now tally.now result }
     {
         ComparedChannel {
             place,

@@ -2,6 +2,7 @@
 
 ghost use Rattle.std.specs.Prelude.{◌≡◌, if◌then◌else◌, nat_eq, Some};
 ghost use Rattle.std.specs.Option.{option_or};
+ghost use Rattle.edf_findings.specs.Hands.{noted_in, noted_of};
 
 use crate::record_time::Hands;
 use edf_pace::{Counted, Tally};
@@ -30,6 +31,7 @@ impl FoundIn {
             else Some hands.now }
         ensures first { self.new.first ≡ if nat_eq counted.now.count self.old.count then self.old.first
             else option_or self.old.first (Some hands.now) }
+        ensures all { self.new ≡ noted_in hands.now self.old counted.now }
     {
         if counted.count == self.count {
             return;
@@ -70,7 +72,9 @@ impl FoundOf {
     }
 
     /// Notes the data records at hand, if more samples of the channel were counted in them.
-    pub(crate) fn note(&mut self, tally: &Tally, hands: &Hands) {
+    pub(crate) fn note(&mut self, tally: &Tally, hands: &Hands)
+        ensures { self.new ≡ noted_of hands.now self.old tally.now }
+    {
         self.missing.note(&tally.missing, hands);
         self.extra.note(&tally.extra, hands);
         self.changed.note(&tally.changed, hands);

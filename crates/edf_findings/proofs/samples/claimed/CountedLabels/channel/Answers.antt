@@ -18,7 +18,7 @@ returns-in-Some-Some-clause-told c =
       label_is = c.in_ok-at.ensures;
       tally = c.in_ok-tally.tally.now;
       tally_is = slice_get_read c.args.self.tallies.now (length c.args.self.tallies.now) c.in_ok-at.at c.in_ok-tally.tally.now refl (got.3).0 got.1;
-      told = c.of.ensures.told;
+      told = rw (← c.found_at-found.ensures) c.of.ensures.told;
     }
 
 pub returns-in_default-clause-both : goal.returns-in_default-clause-both

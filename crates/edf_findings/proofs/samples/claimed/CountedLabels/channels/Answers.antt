@@ -16,7 +16,7 @@ pub loop-place-preserved : goal.loop-place-preserved
 loop-place-preserved c =
     let at = slice_get_read c.channels-labels.result.now (length c.channels-labels.result.now) c.loop-place.place c.index-labels-place.result refl c.loop-place-test.true c.index-labels-place.is ∙ ap Some (sym c.text.ensures) in
     let which = which-more c.args.self.headers.0.now c.args.self.headers.1.now c.channels-labels.result.now c.loop-place.place c.text.result.now c.channel.result c.loop-place.channels.items at c.channel.ensures.both c.channel.ensures.place c.loop-place.invariant.which in
-    let each = each-more c.channels-labels.result.now c.args.self.labels.now c.args.self.tallies.now c.loop-place.place c.text.result.now c.channel.result c.loop-place.channels.items at c.channel.ensures.place c.channel.ensures.told c.loop-place.invariant.each in
+    let each = each-more c.channels-labels.result.now c.args.self.labels.now _ c.loop-place.place c.text.result.now c.channel.result c.loop-place.channels.items at c.channel.ensures.place c.channel.ensures.told c.loop-place.invariant.each in
     let items = c.in_ok-take_in.ensures in
     record {
       which = ap (map place_of) items ∙ which;
