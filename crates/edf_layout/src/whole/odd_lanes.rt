@@ -1,6 +1,7 @@
 //! The annotation lanes of a file that a plain order has otherwise.
 
-ghost use Rattle.std.specs.Prelude.{◌≡◌, ◌++◌, ◌==◌, true, false, List, map, IfOk, IsTrue, OnOk};
+ghost use Rattle.std.specs.Prelude.{◌≡◌, ◌++◌, ◌==◌, ◌<◌, ◌^◌, true, false, ℕ, ℤ, List, length, map, unsigned_abs, IfOk, IsTrue, OnOk};
+ghost use Rattle.std.specs.Option.{option_map_or};
 ghost use Rattle.std.specs.Str.{bytes_eq};
 ghost use Rattle.edf_stream.specs.Views.{note_value};
 ghost use Rattle.edf_stream.specs.annotation.Notes.{NoteValue};
@@ -12,6 +13,7 @@ ghost use Rattle.edf_layout.specs.body.OddLanes.{odd_lane, odd_in, odd_lanes as 
 ghost use Rattle.edf_layout.specs.body.PlainLanes.{order_view, plain_view};
 ghost use Rattle.edf_layout.specs.body.PlainOrders.{plain_record, tal_of_note};
 ghost use Rattle.edf_layout.specs.whole.FileBodies.{IsSoundBody, lanes_kept, notes_kept};
+ghost use Rattle.edf_layout.specs.whole.KeptLanes.{bare_bytes, bare_layout, record_kept};
 ghost use Rattle.edf_layout.specs.whole.LaneRows.{AreFirst, HasLaneLayout, HaveLaneLayouts, HaveRowLayouts, plainly_laid, plain_tals, odd_view, tals_at as tals_placed};
 
 use crate::laid_tal::{Content, LaidTal, push_tals};
@@ -20,6 +22,7 @@ use crate::note_places::{laid, place_of};
 use crate::plain_lanes::{Order, PlainLane, PlainTal, filled_lanes};
 use crate::plain_tal::LaidNote;
 use crate::whole::file_body::FileBody;
+use crate::whole::kept_lane::{KeptLane, own_bytes};
 use edf_stream::Note;
 use std::alloc::{AllocError, Global};
 
@@ -34,19 +37,20 @@ pub struct OddLane<'a> {
     pub tals: Vec<LaidTal<'a>>,
 }
 
-/// A lane of a file, with its place.
+/// A lane of a file, with its place, and its bytes where it isn't bare.
 #[derive(Clone, Copy)]
 struct LaneAt<'a> {
     data_record: usize,
     number: usize,
-    bytes: &'a [u8],
+    bytes: Option<&'a [u8]>,
 }
 
-/// The lanes of a data record of a file, with its number.
+/// The lanes of a data record of a file, with its number: how many they are, and those that are kept.
 #[derive(Clone, Copy)]
 struct LanesAt<'a> {
     data_record: usize,
-    lanes: &'a [Vec<u8>],
+    count: usize,
+    lanes: &'a [KeptLane],
 }
 
 /// The annotation that a plain TAL has; of one that keeps the time, its start and no text.
@@ -160,21 +164,44 @@ fn have_same_lines(
     Ok(lines == other_lines)
 }
 
-/// Whether these TALs, and those that a plain order puts there, are one that only keeps the time, spelled plainly.
-fn only_keep_time(tals: &[LaidTal<'_>], plain: &[PlainTal]) -> bool
-    ensures { IsTrue result → (notes : List NoteValue) →
-        map laid_view tals.now ≡ plainly_laid notes true (map (plain_view notes) plain.now) }
+/// The layout of the TALs of a bare lane; `keeps_time` says whether it is the first one of its data record.
+fn lay_bare(alloc: Global, keeps_time: bool) -> Result<Vec<LaidTal<'static>>, AllocError>
+    ensures { IfOk result (λ laid. map laid_view laid.items ≡ bare_layout keeps_time) }
 {
-    let [tal] = tals else {
-        return false;
-    };
-    let [PlainTal::KeepsTime(_)] = plain else {
-        return false;
-    };
-    match &tal.content {
-        Content::KeepsTime(None, places) => {
-            tal.onset.is_none() && tal.duration.is_none() && places.is_empty()
-        }
+    let mut laid = Vec::new(alloc);
+    if keeps_time {
+        laid.push(LaidTal {
+            onset: None,
+            duration: None,
+            content: Content::KeepsTime(None, Vec::new(alloc)),
+        })?;
+    }
+    Ok(laid)
+}
+
+/// The layout of the TALs of a lane.
+fn lay<'a>(alloc: Global, notes: &[Note], lane: LaneAt<'a>) -> Result<Vec<LaidTal<'a>>, AllocError>
+    requires { AreInOrder (map note_value notes.now) }
+    ensures { IfOk result (λ tals. (start : ℤ) (size : ℕ) (laid : List PlacedTal) →
+        unsigned_abs start < 10 ^ 21 → HasLaneLayout (map note_value notes.now) (lane.entry.number == 0)
+        (option_map_or (λ bytes. bytes.now) lane.entry.bytes (bare_bytes (lane.entry.number == 0) start size))
+        laid → map laid_view tals.items ≡ laid) }
+{
+    let keeps_time = lane.number == 0;
+    if let Some(bytes) = lane.bytes {
+        return lay_lane(alloc, notes, bytes, keeps_time);
+    }
+    lay_bare(alloc, keeps_time)
+}
+
+/// Whether a plain order puts into a lane only what a bare one has.
+fn are_bare(plain: &[PlainTal], keeps_time: bool) -> bool
+    ensures { IsTrue result → (notes : List NoteValue) →
+        plainly_laid notes keeps_time (map (plain_view notes) plain.now) ≡ bare_layout keeps_time }
+{
+    match plain {
+        [] => !keeps_time,
+        [PlainTal::KeepsTime(_)] => keeps_time,
         _ => false,
     }
 }
@@ -188,17 +215,18 @@ fn push_odd<'a>(
     plain: &[PlainTal],
 ) -> Result<(), AllocError>
     requires { AreInOrder (map note_value notes.now) }
-    ensures { OnOk result ((laid : List PlacedTal) →
-        HasLaneLayout (map note_value notes.now) (lane.entry.number == 0) lane.entry.bytes.now laid →
-        map odd_view odd.new.items ≡ map odd_view odd.old.items ++ odd_lane lane.entry.data_record
+    ensures { OnOk result ((start : ℤ) (size : ℕ) (laid : List PlacedTal) → unsigned_abs start < 10 ^ 21 →
+        HasLaneLayout (map note_value notes.now) (lane.entry.number == 0)
+        (option_map_or (λ bytes. bytes.now) lane.entry.bytes (bare_bytes (lane.entry.number == 0) start size))
+        laid → map odd_view odd.new.items ≡ map odd_view odd.old.items ++ odd_lane lane.entry.data_record
         lane.entry.number laid (plainly_laid (map note_value notes.now) (lane.entry.number == 0)
         (map (plain_view (map note_value notes.now)) plain.now))) }
 {
     let keeps_time = lane.number == 0;
-    let tals = lay_lane(alloc, notes, lane.bytes, keeps_time)?;
-    if keeps_time && only_keep_time(&tals, plain) {
+    if lane.bytes.is_none() && are_bare(plain, keeps_time) {
         return Ok(());
     }
+    let tals = lay(alloc, notes, lane)?;
     let expected = lay_plain(alloc, notes, plain, keeps_time)?;
     if !have_same_lines(alloc, &tals, &expected)? {
         odd.push(OddLane {
@@ -231,16 +259,17 @@ fn push_odd_in<'a>(
     plain: &[PlainLane],
 ) -> Result<(), AllocError>
     requires { AreInOrder (map note_value notes.now) }
-    ensures { OnOk result ((layout : RecordLayout) →
-        HaveLaneLayouts (map note_value notes.now) 0 (map (λ lane. lane.items) at.entry.lanes.now) layout →
+    ensures { OnOk result ((start : ℤ) (sizes : List ℕ) (layout : RecordLayout) →
+        unsigned_abs start < 10 ^ 21 → length sizes ≡ at.entry.count →
+        HaveLaneLayouts (map note_value notes.now) 0 (record_kept true start sizes at.entry.lanes.now) layout →
         map odd_view odd.new.items ≡ map odd_view odd.old.items ++ odd_in at.entry.data_record 0 layout
         (plain_record (map note_value notes.now) (map (plain_tals (map note_value notes.now)) plain.now))) }
 {
-    for (number, bytes) in at.lanes.iter().enumerate() {
+    for number in 0..at.count {
         let lane = LaneAt {
             data_record: at.data_record,
             number,
-            bytes,
+            bytes: own_bytes(at.lanes, number),
         };
         push_odd(odd, alloc, notes, lane, tals_at(plain, number))?;
     }
@@ -260,7 +289,7 @@ pub fn odd_lanes<'a>(
 ) -> Result<Vec<OddLane<'a>>, AllocError>
     requires { IsSoundBody body.now }
     ensures { IfOk result (λ odd. (layout : BodyLayout) →
-        HaveRowLayouts (notes_kept body.entry.now) (lanes_kept body.entry.now) layout →
+        HaveRowLayouts (notes_kept body.entry.now) (lanes_kept sizes.now body.entry.now) layout →
         AreFirst most (map odd_view odd.items) (odd_lanes_of (order_view order) (notes_kept body.entry.now)
         sizes.now body.entry.now.starts.items layout)) }
 {
@@ -276,7 +305,11 @@ pub fn odd_lanes<'a>(
             return Ok(odd);
         }
         let (here, behind) = rest.split_at(sizes.len().min(rest.len()));
-        let at = LanesAt { data_record, lanes };
+        let at = LanesAt {
+            data_record,
+            count: sizes.len(),
+            lanes,
+        };
         push_odd_in(&mut odd, alloc, &body.notes, at, here)?;
         rest = behind;
     }
