@@ -1,9 +1,14 @@
 -- A bare lane has one layout, and is told by its first TAL.
-use Rattle.std.proofs.Common.{◌≡◌, ◌↔◌, ℕ, zero, suc, ℤ, ◌-◌, ◌<◌, ◌^◌, ◌==◌, Bool, true, false, not, IsTrue, List, [], ◌∷◌, ◌++◌, map, unsigned_abs, Option, None, Some, Result, Ok, Err, IfOk, refl, ap, ◌∙◌, sym, subst}
+use Rattle.std.proofs.Common.{◌≡◌, ◌↔◌, ℕ, zero, suc, ℤ, ◌-◌, ◌<◌, ◌^◌, ◌==◌, Bool, true, false, not, IsTrue, List, [], ◌∷◌, ◌++◌, map, drop, unsigned_abs, Option, None, Some, Result, Ok, Err, IfOk, refl, ap, ◌∙◌, sym, subst}
 use Rattle.std.specs.Option.{is_some, option_map, option_map_or}
 use Rattle.std.proofs.lemmas.List.Elements.{All-nil, All-cons}
 use Rattle.std.proofs.lemmas.Str.{IsUtf8-nil}
+use Rattle.std.proofs.lemmas.List.{append-nil}
+use Rattle.edf_header.specs.Heads.{Head}
 use Rattle.edf_stream.specs.annotation.Notes.{NoteValue}
+use Rattle.edf_stream.specs.annotation.NotesReading.{notes_of_items, notes_of_lanes, notes_in}
+use Rattle.edf_stream.specs.records.Records.{annotation_lanes}
+use Rattle.edf_layout.specs.declared.whole.kept_lane.KeptLane.{KeptLane}
 use Rattle.edf_tal.specs.Reading.{are_zeros, Item, items_of}
 use Rattle.edf_tal.specs.Tals.{TalValue, IsText}
 use Rattle.edf_tal.specs.Timekeeping.{IsTimeAlone, time_tal}
@@ -15,7 +20,7 @@ use Rattle.edf_layout.specs.body.LaneLayouts.{TalLayout, IsLaidTal, IsLaidLane, 
 use Rattle.edf_layout.specs.body.LaneReading.{layout_at, IsLaidAs, contents_by}
 use Rattle.edf_layout.specs.body.PlainBodyLaws.{CanStand}
 use Rattle.edf_layout.specs.body.PlainOrders.{plain_tal, tal_bytes, tal_of_start}
-use Rattle.edf_layout.specs.whole.KeptLanes.{IsBare, zeros, bare_bytes, bare_layout}
+use Rattle.edf_layout.specs.whole.KeptLanes.{IsBare, zeros, bare_bytes, record_kept, bare_layout}
 use Rattle.edf_layout.specs.whole.LaneRows.{HasLaneLayout}
 use Rattle.edf_layout.specs.body.OddLanes.{odd_lane}
 use Rattle.edf_layout.proofs.body.ContentFacts.{cons-first, not-nil}
@@ -132,6 +137,31 @@ pub bare-read : (notes : List NoteValue) (keeps : Bool) (start : ℤ) (size : �
     → HasLaneLayout notes keeps (bare_bytes keeps start size) laid → bare_layout keeps ≡ laid
 bare-read notes true start size laid near h = time-read notes start size laid near h
 bare-read notes false start size laid near h = nothing-read notes start size laid h
+
+-- lanes that are all bare have no annotation but the time
+time-items : (start : ℤ) (size : ℕ) → unsigned_abs start < 10 ^ 21 → items_of (bare_bytes true start size) ≡ Ok (tal_of_start start) ∷ []
+time-items start size near =
+    let tal : TalValue = tal_of_start start in
+    let bare : IsBare true start (bare_bytes true start size) = (zeros (size - tal_bytes tal), refl, zeros-none (size - tal_bytes tal)) in
+    lane-read (tal ∷ []) (bare_bytes true start size) (bare-alone (bare_bytes true start size) start near bare).0
+
+others-silent : (start : ℤ) (sizes : List ℕ) → notes_of_lanes (record_kept false start sizes []) ≡ []
+others-silent start [] = refl
+others-silent start (size ∷ sizes) =
+    ap (λ items. notes_of_items items ++ notes_of_lanes (record_kept false start sizes [])) (lane-read [] (zeros size) (zeros-none size)) ∙ others-silent start sizes
+
+bare-silent : (start : ℤ) (sizes : List ℕ) → unsigned_abs start < 10 ^ 21 → drop 1 (notes_of_lanes (record_kept true start sizes [])) ≡ []
+bare-silent start [] near = refl
+bare-silent start (size ∷ sizes) near =
+    ap (λ items. drop 1 (notes_of_items items ++ notes_of_lanes (record_kept false start sizes []))) (time-items start size near) ∙ others-silent start sizes
+
+pub none_noted : {X : Type 0} (h : Head) (bytes : List ℕ) (start : ℤ) (sizes : List ℕ) (kept : List KeptLane) (view : X → NoteValue) (notes : List X) → unsigned_abs start < 10 ^ 21
+    → kept ≡ [] → record_kept true start sizes kept ≡ annotation_lanes h.signals bytes → map view notes ≡ map view notes ++ notes_in h bytes
+unfolding notes_in
+none_noted h bytes start sizes kept view notes near none are =
+    let silent : drop 1 (notes_of_lanes (annotation_lanes h.signals bytes)) ≡ [] =
+    ap (λ lanes. drop 1 (notes_of_lanes lanes)) (sym are) ∙ ap (λ ls. drop 1 (notes_of_lanes (record_kept true start sizes ls))) none ∙ bare-silent start sizes near in
+    sym (ap (λ xs. map view notes ++ xs) silent ∙ append-nil (map view notes))
 
 -- ---- a lane is laid out
 

@@ -188,12 +188,22 @@ rows-more sizes [] (r ∷ rs) start row long = absurd (omega (arith, long))
 rows-more sizes (s ∷ ss) [] start row long = absurd (omega (arith, long))
 rows-more sizes (s ∷ ss) (r ∷ rs) start row long = ap (λ xs. record_kept true s sizes r.items ∷ xs) (rows-more sizes ss rs start row (omega (arith, long)))
 
+pub one-added : (sizes : List ℕ) (starts more : List ℤ) (rows others : List (Vec KeptLane)) (start : ℤ) (row : Vec KeptLane) (lanes : List (List ℕ))
+    → length rows ≡ length starts → more ≡ starts ++ start ∷ [] → others ≡ rows ++ row ∷ [] → record_kept true start sizes row.items ≡ lanes
+    → rows_kept sizes more others ≡ rows_kept sizes starts rows ++ lanes ∷ []
+one-added sizes starts more rows others start row lanes long one two is =
+    ap (λ ss. rows_kept sizes ss others) one ∙ ap (rows_kept sizes (starts ++ start ∷ [])) two ∙ rows-more sizes starts rows start row long ∙ ap (λ ls. rows_kept sizes starts rows ++ ls ∷ []) is
+
 pub rows-added : {V E : Type 0} (r : Result V E) (sizes : List ℕ) (starts more : List ℤ) (rows others : List (Vec KeptLane)) (start : ℤ) (row : Vec KeptLane) (lanes : List (List ℕ))
     → length rows ≡ length starts → more ≡ starts ++ start ∷ [] → others ≡ rows ++ row ∷ [] → record_kept true start sizes row.items ≡ lanes
     → OnOk r (rows_kept sizes more others ≡ rows_kept sizes starts rows ++ lanes ∷ [])
 rows-added (Err e) sizes starts more rows others start row lanes long one two is = tt
-rows-added (Ok v) sizes starts more rows others start row lanes long one two is =
-    ap (λ ss. rows_kept sizes ss others) one ∙ ap (rows_kept sizes (starts ++ start ∷ [])) two ∙ rows-more sizes starts rows start row long ∙ ap (λ ls. rows_kept sizes starts rows ++ ls ∷ []) is
+rows-added (Ok v) sizes starts more rows others start row lanes long one two is = one-added sizes starts more rows others start row lanes long one two is
+
+-- nothing is kept
+pub none-there : {X : Type 0} (xs : List X) → true ≡ (length xs == 0) → xs ≡ []
+none-there [] e = refl
+none-there (x ∷ xs) e = absurd (let z : true ≡ false = e ∙ later (length xs) in cc)
 
 pub rows-long : (sizes : List ℕ) (starts : List ℤ) (rows : List (Vec KeptLane)) → length rows ≡ length starts → length (rows_kept sizes starts rows) ≡ length rows
 rows-long sizes [] [] long = refl

@@ -91,8 +91,14 @@ impl FileBody {
             notes_in reader.now.head reader.now.current) }
     {
         let start = reader.start_ps();
+        let lanes = lanes_at_hand(alloc, reader, start)?;
+        let are_bare = lanes.is_empty();
         self.starts.push(start)?;
-        self.lanes.push(lanes_at_hand(alloc, reader, start)?)?;
+        self.lanes.push(lanes)?;
+        // bare lanes have no annotation
+        if are_bare {
+            return Ok(());
+        }
         push_notes(alloc, &mut self.notes, reader.annotations())
     }
 

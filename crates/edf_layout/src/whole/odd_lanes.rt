@@ -1,20 +1,22 @@
 //! The annotation lanes of a file that a plain order has otherwise.
 
-ghost use Rattle.std.specs.Prelude.{◌≡◌, ◌++◌, ◌==◌, ◌<◌, ◌^◌, true, false, ℕ, ℤ, List, length, map, unsigned_abs, IfOk, IsTrue, OnOk};
+ghost use Rattle.std.specs.Prelude.{◌≡◌, ◌++◌, ◌∷◌, ◌==◌, ◌<◌, ◌^◌, true, false, ℕ, ℤ, List, length, map, unsigned_abs, IfOk, IsTrue, OnOk};
 ghost use Rattle.std.specs.Option.{option_map_or};
 ghost use Rattle.std.specs.Str.{bytes_eq};
 ghost use Rattle.edf_stream.specs.Views.{note_value};
 ghost use Rattle.edf_stream.specs.annotation.Notes.{NoteValue};
+ghost use Rattle.edf_tal.specs.Tals.{TalValue};
+ghost use Rattle.edf_layout.specs.body.LaneReading.{keeps_now as keeps_now_of};
 ghost use Rattle.edf_layout.specs.body.BodyLayouts.{PlacedTal, RecordLayout, BodyLayout, content_of, timekeeping_of};
 ghost use Rattle.edf_layout.specs.body.LaidNotes.{laid_note};
 ghost use Rattle.edf_layout.specs.body.LaidTals.{content_view, laid_view};
 ghost use Rattle.edf_layout.specs.body.MeaningLaws.{AreInOrder};
 ghost use Rattle.edf_layout.specs.body.OddLanes.{odd_lane, odd_in, odd_lanes as odd_lanes_of, tal_lines};
-ghost use Rattle.edf_layout.specs.body.PlainLanes.{order_view, plain_view};
+ghost use Rattle.edf_layout.specs.body.PlainLanes.{order_view, plain_view, tals_in, time_in};
 ghost use Rattle.edf_layout.specs.body.PlainOrders.{plain_record, tal_of_note};
 ghost use Rattle.edf_layout.specs.whole.FileBodies.{IsSoundBody, lanes_kept, notes_kept};
 ghost use Rattle.edf_layout.specs.whole.KeptLanes.{bare_bytes, bare_layout, record_kept};
-ghost use Rattle.edf_layout.specs.whole.LaneRows.{AreFirst, HasLaneLayout, HaveLaneLayouts, HaveRowLayouts, plainly_laid, plain_tals, odd_view, tals_at as tals_placed};
+ghost use Rattle.edf_layout.specs.whole.LaneRows.{AreFirst, HasLaneLayout, HaveLaneLayouts, HaveRowLayouts, plainly_laid, plain_tals, odd_view, tals_at};
 
 use crate::laid_tal::{Content, LaidTal, push_tals};
 use crate::lane_layout::{keeps_now, lay_lane};
@@ -95,28 +97,98 @@ fn plain_content(
     Ok(Content::Annotates(places))
 }
 
-/// The layout of the TALs that a plain order puts into a lane; `keeps_time` says whether the first of them keeps
-/// the time of its data record.
+/// Puts the layout of a plain TAL behind the TALs of its lane that are laid out; `keeps_time` says whether the first
+/// of them keeps the time of its data record.
+fn push_plain<'a>(
+    laid: &mut Vec<LaidTal<'a>>,
+    alloc: Global,
+    notes: &[Note],
+    tal: PlainTal,
+    keeps_time: bool,
+) -> Result<(), AllocError>
+    requires { AreInOrder (map note_value notes.now) }
+    ensures { OnOk result ((rest : List TalValue) → map laid_view laid.new.items ++
+        plainly_laid (map note_value notes.now) (keeps_now_of keeps_time (map laid_view laid.new.items)) rest ≡
+        map laid_view laid.old.items ++ plainly_laid (map note_value notes.now)
+        (keeps_now_of keeps_time (map laid_view laid.old.items))
+        (plain_view (map note_value notes.now) tal ∷ rest)) }
+{
+    let keeps = keeps_now(keeps_time, laid);
+    laid.push(LaidTal {
+        onset: None,
+        duration: None,
+        content: plain_content(alloc, notes, tal, keeps)?,
+    })?;
+    Ok(())
+}
+
+/// The layout of the TAL that keeps the time of a data record with this start, where there is one.
+fn lay_start(
+    alloc: Global,
+    notes: &[Note],
+    start: Option<i128>,
+    keeps_time: bool,
+) -> Result<Vec<LaidTal<'static>>, AllocError>
+    requires { AreInOrder (map note_value notes.now) }
+    ensures { IfOk result (λ laid. (rest : List TalValue) → map laid_view laid.items ++
+        plainly_laid (map note_value notes.now) (keeps_now_of keeps_time (map laid_view laid.items)) rest ≡
+        plainly_laid (map note_value notes.now) keeps_time
+        (map (plain_view (map note_value notes.now)) (time_in start) ++ rest)) }
+{
+    let mut laid = Vec::new(alloc);
+    if let Some(start) = start {
+        push_plain(
+            &mut laid,
+            alloc,
+            notes,
+            PlainTal::KeepsTime(start),
+            keeps_time,
+        )?;
+    }
+    Ok(laid)
+}
+
+/// The layout of the TALs of a lane that a plain order fills; `keeps_time` says whether the first of them keeps the
+/// time of its data record.
 fn lay_plain(
     alloc: Global,
     notes: &[Note],
-    tals: &[PlainTal],
+    plain: &PlainLane,
     keeps_time: bool,
 ) -> Result<Vec<LaidTal<'static>>, AllocError>
     requires { AreInOrder (map note_value notes.now) }
     ensures { IfOk result (λ laid. map laid_view laid.items ≡ plainly_laid (map note_value notes.now)
-        keeps_time (map (plain_view (map note_value notes.now)) tals.now)) }
+        keeps_time (map (plain_view (map note_value notes.now)) (tals_in plain.now))) }
 {
-    let mut laid = Vec::new(alloc);
-    for tal in tals {
-        let keeps = keeps_now(keeps_time, &laid);
-        laid.push(LaidTal {
-            onset: None,
-            duration: None,
-            content: plain_content(alloc, notes, *tal, keeps)?,
-        })?;
+    let mut laid = lay_start(alloc, notes, plain.start, keeps_time)?;
+    for number in &plain.notes {
+        push_plain(
+            &mut laid,
+            alloc,
+            notes,
+            PlainTal::Annotates(*number),
+            keeps_time,
+        )?;
     }
     Ok(laid)
+}
+
+/// The layout of the TALs that a plain order puts into the lane of this number of a data record; of none where there
+/// is no such lane.
+fn lay_plain_at(
+    alloc: Global,
+    notes: &[Note],
+    plain: &[PlainLane],
+    number: usize,
+) -> Result<Vec<LaidTal<'static>>, AllocError>
+    requires { AreInOrder (map note_value notes.now) }
+    ensures { IfOk result (λ laid. map laid_view laid.items ≡ plainly_laid (map note_value notes.now)
+        (number == 0) (map (plain_view (map note_value notes.now)) (tals_at plain.now number))) }
+{
+    match plain.get(number) {
+        Some(lane) => lay_plain(alloc, notes, lane, number == 0),
+        None => Ok(Vec::new(alloc)),
+    }
 }
 
 /// Whether both TALs are spelled plainly and say the same.
@@ -194,25 +266,33 @@ fn lay<'a>(alloc: Global, notes: &[Note], lane: LaneAt<'a>) -> Result<Vec<LaidTa
     lay_bare(alloc, keeps_time)
 }
 
-/// Whether a plain order puts into a lane only what a bare one has.
-fn are_bare(plain: &[PlainTal], keeps_time: bool) -> bool
+/// Whether a lane that a plain order fills has only what a bare one has, which keeps the time or doesn't.
+fn has_no_note(plain: &PlainLane, keeps_time: bool) -> bool
     ensures { IsTrue result → (notes : List NoteValue) →
-        plainly_laid notes keeps_time (map (plain_view notes) plain.now) ≡ bare_layout keeps_time }
+        plainly_laid notes keeps_time (map (plain_view notes) (tals_in plain.now)) ≡ bare_layout keeps_time }
 {
-    match plain {
-        [] => !keeps_time,
-        [PlainTal::KeepsTime(_)] => keeps_time,
-        _ => false,
+    plain.notes.is_empty() && plain.start.is_some() == keeps_time
+}
+
+/// Whether a plain order puts into the lane of this number of a data record only what a bare one has.
+fn are_bare(plain: &[PlainLane], number: usize) -> bool
+    ensures { IsTrue result → (notes : List NoteValue) → plainly_laid notes (number == 0)
+        (map (plain_view notes) (tals_at plain.now number)) ≡ bare_layout (number == 0) }
+{
+    match plain.get(number) {
+        Some(lane) => has_no_note(lane, number == 0),
+        None => false,
     }
 }
 
-/// Puts a lane behind the odd ones, where other lines are written of it than of these plain TALs.
+/// Puts a lane behind the odd ones, where other lines are written of it than of the one that a plain order, which
+/// fills these of its data record, has in its place.
 fn push_odd<'a>(
     odd: &mut Vec<OddLane<'a>>,
     alloc: Global,
     notes: &[Note],
     lane: LaneAt<'a>,
-    plain: &[PlainTal],
+    plain: &[PlainLane],
 ) -> Result<(), AllocError>
     requires { AreInOrder (map note_value notes.now) }
     ensures { OnOk result ((start : ℤ) (size : ℕ) (laid : List PlacedTal) → unsigned_abs start < 10 ^ 21 →
@@ -220,14 +300,13 @@ fn push_odd<'a>(
         (option_map_or (λ bytes. bytes.now) lane.entry.bytes (bare_bytes (lane.entry.number == 0) start size))
         laid → map odd_view odd.new.items ≡ map odd_view odd.old.items ++ odd_lane lane.entry.data_record
         lane.entry.number laid (plainly_laid (map note_value notes.now) (lane.entry.number == 0)
-        (map (plain_view (map note_value notes.now)) plain.now))) }
+        (map (plain_view (map note_value notes.now)) (tals_at plain.now lane.entry.number)))) }
 {
-    let keeps_time = lane.number == 0;
-    if lane.bytes.is_none() && are_bare(plain, keeps_time) {
+    if lane.bytes.is_none() && are_bare(plain, lane.number) {
         return Ok(());
     }
     let tals = lay(alloc, notes, lane)?;
-    let expected = lay_plain(alloc, notes, plain, keeps_time)?;
+    let expected = lay_plain_at(alloc, notes, plain, lane.number)?;
     if !have_same_lines(alloc, &tals, &expected)? {
         odd.push(OddLane {
             data_record: lane.data_record,
@@ -236,17 +315,6 @@ fn push_odd<'a>(
         })?;
     }
     Ok(())
-}
-
-/// The TALs that a plain order puts into the lane of this number of a data record; none where there is no such
-/// lane.
-fn tals_at(plain: &[PlainLane], number: usize) -> &[PlainTal]
-    ensures { result.now ≡ tals_placed plain.entry.now number }
-{
-    match plain.get(number) {
-        Some(lane) => &lane.tals,
-        None => &[],
-    }
 }
 
 /// Puts the lanes of a data record behind the odd ones that a plain order, which puts these into it, has
@@ -271,7 +339,7 @@ fn push_odd_in<'a>(
             number,
             bytes: own_bytes(at.lanes, number),
         };
-        push_odd(odd, alloc, notes, lane, tals_at(plain, number))?;
+        push_odd(odd, alloc, notes, lane, plain)?;
     }
     Ok(())
 }

@@ -1,10 +1,10 @@
-use Rattle.std.proofs.Common.{◌≡◌, ◌<◌, ◌≤◌, ◌==◌, ◌++◌, true, ℕ, List, Option, length, get_or, slice_get, map, arith, sym, ap, ◌∙◌, subst}
+use Rattle.std.proofs.Common.{◌≡◌, ◌<◌, ◌≤◌, ◌==◌, ◌++◌, true, ℕ, List, Option, length, get_or, slice_get, map, arith, refl, sym, ap, ◌∙◌, subst}
 use Rattle.std.specs.Option.{option_map_or}
 use Rattle.edf_stream.specs.Views.{note_value}
 use Rattle.edf_layout.specs.body.OddLanes.{odd_in}
 use Rattle.edf_layout.specs.body.PlainOrders.{plain_record}
 use Rattle.edf_layout.specs.whole.KeptLanes.{bare_bytes, own_bytes, record_kept}
-use Rattle.edf_layout.specs.whole.LaneRows.{HasLaneLayout, odd_view, plain_tals}
+use Rattle.edf_layout.specs.whole.LaneRows.{HasLaneLayout, odd_view, plain_tals, tals_at}
 use Rattle.edf_layout.proofs.lanes.OddRowFacts.{lanes-step, all-lanes}
 use Rattle.edf_layout.proofs.reading.KeptFacts.{record-long, lane-at, own-mapped}
 use Rattle.edf_layout.proofs.whole.odd_lanes.push_odd_in.Goals as goal
@@ -23,9 +23,9 @@ loop-number-preserved c = λ start sizes layout near count h.
     let long : length lanes ≡ length sizes = record-long true start sizes kept in
     let same : option_map_or (λ bytes. bytes.now) c.own_bytes.result bare ≡ lane =
     own-mapped (λ bytes. bytes.now) c.own_bytes.result bare ∙ ap (λ (o : Option (List ℕ)). option_map_or (λ bytes. bytes) o bare) c.own_bytes.ensures in
-    lanes-step notes at.data_record j lanes lane c.args.plain.now c.tals_at.result.now (map odd_view c.loop-number.odd.items) (map odd_view c.push_odd.new.odd.items)
+    lanes-step notes at.data_record j lanes lane c.args.plain.now (tals_at c.args.plain.now j) (map odd_view c.loop-number.odd.items) (map odd_view c.push_odd.new.odd.items)
     (map odd_view c.args.odd.now.items ++ odd_in at.data_record 0 layout (plain_record notes (map (plain_tals notes) c.args.plain.now)))
-    (let z : j < length lanes = omega (arith, low, long) in z) (sym (lane-at start sizes kept j lane low)) c.tals_at.ensures
+    (let z : j < length lanes = omega (arith, low, long) in z) (sym (lane-at start sizes kept j lane low)) refl
     (λ laid has. c.in_ok-push_odd.ensures start size laid near (subst (λ bytes. HasLaneLayout notes (j == 0) bytes laid) (sym same) has))
     (c.loop-number.invariant start sizes layout near count h)
 
